@@ -1,0 +1,121 @@
+-- Reading the items of a body.
+use Rattle.std.proofs.Common.{◌≡◌, ℕ, List, [], ◌∷◌, Bool, true, false, Option, Some, None, option_map, Result, Ok, Err, refl, sym, ap, ◌∙◌}
+use Rattle.vcd_read.specs.declared.body.Body.{Body}
+use Rattle.vcd_read.specs.declared.fault.FaultKind.{FaultKind}
+use Rattle.vcd_read.specs.declared.fault.FaultKind.TheVariants.{Memory, BadToken, UnfinishedSection}
+use Rattle.vcd_read.specs.declared.fault.VcdFault.{VcdFault}
+use Rattle.vcd_read.specs.Tokens.{Token}
+use Rattle.vcd_read.specs.Reading.{left_at}
+use Rattle.vcd_read.specs.Header.{◌>>=◌, Net, is_end}
+use Rattle.vcd_read.specs.Body.{BodyItem, time_item, change, skipped, bracket_open, bracket_end, wrong, Shape, time_shape, scalar, vector, foreign, comment, open_shape, end_shape, none, ready, code_of_vector, code_of_foreign, in_comment, body_from, shape_of}
+use Rattle.vcd_read.specs.Meaning.{Fails, FailsAs, Gives}
+use Rattle.vcd_read.specs.Progress.{Progress, State, step, steps}
+use Rattle.vcd_read.specs.Bodies.{Leaves, state_of}
+
+-- ---- the cut, by what a token is
+
+abbrev pub items_of : Shape → ℕ → List Token → List BodyItem
+items_of (time_shape digits) line ts = time_item line digits ∷ body_from ready ts
+items_of (scalar digits code) line ts = change line digits code ∷ body_from ready ts
+items_of (vector digits) line ts = body_from (code_of_vector line digits) ts
+items_of foreign line ts = body_from (code_of_foreign line) ts
+items_of comment line ts = body_from (in_comment line) ts
+items_of open_shape line ts = bracket_open line ∷ body_from ready ts
+items_of end_shape line ts = bracket_end line ∷ body_from ready ts
+items_of none line ts = wrong line BadToken ∷ body_from ready ts
+
+pub shape_read : (t : Token) (ts : List Token) (shape : Shape) → shape ≡ shape_of t.bytes → body_from ready (t ∷ ts) ≡ items_of shape t.line ts
+unfolding body_from
+shape_read t ts (time_shape digits) e = rw (body_from, ← e) refl
+shape_read t ts (scalar digits code) e = rw (body_from, ← e) refl
+shape_read t ts (vector digits) e = rw (body_from, ← e) refl
+shape_read t ts foreign e = rw (body_from, ← e) refl
+shape_read t ts comment e = rw (body_from, ← e) refl
+shape_read t ts open_shape e = rw (body_from, ← e) refl
+shape_read t ts end_shape e = rw (body_from, ← e) refl
+shape_read t ts none e = rw (body_from, ← e) refl
+
+pub vector_read : (line : ℕ) (digits : List ℕ) (before ts : List Token) (t : Token) → before ≡ t ∷ ts → body_from (code_of_vector line digits) before ≡ change line digits t.bytes ∷ body_from ready ts
+unfolding body_from
+vector_read line digits before ts t cut = ap (body_from (code_of_vector line digits)) cut
+
+pub foreign_read : (line : ℕ) (before ts : List Token) (t : Token) → before ≡ t ∷ ts → body_from (code_of_foreign line) before ≡ skipped line t.bytes ∷ body_from ready ts
+unfolding body_from
+foreign_read line before ts t cut = ap (body_from (code_of_foreign line)) cut
+
+pub vector_unfinished : (line : ℕ) (digits : List ℕ) (before : List Token) → before ≡ [] → body_from (code_of_vector line digits) before ≡ wrong line UnfinishedSection ∷ []
+unfolding body_from
+vector_unfinished line digits before cut = ap (body_from (code_of_vector line digits)) cut
+
+pub foreign_unfinished : (line : ℕ) (before : List Token) → before ≡ [] → body_from (code_of_foreign line) before ≡ wrong line UnfinishedSection ∷ []
+unfolding body_from
+foreign_unfinished line before cut = ap (body_from (code_of_foreign line)) cut
+
+comment_step : (line : ℕ) (t : Token) (ts : List Token) (test : Bool) → is_end t.bytes ≡ test → body_from (in_comment line) (t ∷ ts) ≡ elim test [ true ↦ body_from ready ts | false ↦ body_from (in_comment line) ts ]
+unfolding body_from
+comment_step line t ts test e = ap (λ (b : Bool). elim b [ true ↦ body_from ready ts | false ↦ body_from (in_comment line) ts ]) e
+
+pub comment_end : (line : ℕ) (before ts : List Token) (t : Token) → before ≡ t ∷ ts → is_end t.bytes ≡ true → body_from (in_comment line) before ≡ body_from ready ts
+comment_end line before ts t cut e = ap (body_from (in_comment line)) cut ∙ comment_step line t ts true e
+
+pub comment_more : (line : ℕ) (before ts : List Token) (t : Token) → before ≡ t ∷ ts → is_end t.bytes ≡ false → body_from (in_comment line) before ≡ body_from (in_comment line) ts
+comment_more line before ts t cut e = ap (body_from (in_comment line)) cut ∙ comment_step line t ts false e
+
+pub comment_unfinished : (line : ℕ) (before : List Token) → before ≡ [] → body_from (in_comment line) before ≡ wrong line UnfinishedSection ∷ []
+unfolding body_from
+comment_unfinished line before cut = ap (body_from (in_comment line)) cut
+
+-- ---- what reading gives
+
+pub fails_same : {Y : Type 0} (fault : VcdFault) (a b : Result Y VcdFault) → a ≡ b → Fails fault b → Fails fault a
+fails_same fault a b e h = fails_as_same fault.line fault.kind a b e h
+  where
+    fails_as_same : {Y : Type 0} (line : ℕ) (kind : FaultKind) (a b : Result Y VcdFault) → a ≡ b → FailsAs line kind b → FailsAs line kind a
+    fails_as_same line Memory a b e h = h
+    fails_as_same line kind a b e h = e ∙ h
+
+-- a fault that isn't want of memory
+pub fails_with : {Y : Type 0} (fault : VcdFault) (read : Result Y VcdFault) → read ≡ Err fault → (fault.kind ≡ Memory → fault.line ≡ 0) → Fails fault read
+fails_with fault read e memory = from_kind fault.line fault.kind read e memory
+  where
+    from_kind : {Y : Type 0} (line : ℕ) (kind : FaultKind) (read : Result Y VcdFault) → read ≡ Err (record { line = line; kind = kind }) → (kind ≡ Memory → line ≡ 0) → FailsAs line kind read
+    from_kind line Memory read e memory = memory refl
+    from_kind line kind read e memory = e
+
+pub leaves_same : {X : Type 0} (before before2 after : Result State VcdFault) (r : Result X VcdFault) → before ≡ before2 → Leaves before2 after r → Leaves before after r
+leaves_same before before2 after (Ok x) e h = e ∙ h
+leaves_same before before2 after (Err fault) e h = fails_same fault before before2 e h
+
+steps_item : (nets : List Net) (s : State) (item : BodyItem) (items : List BodyItem) → steps nets s (item ∷ items) ≡ (step nets s item >>= λ next. steps nets next items)
+unfolding steps
+steps_item nets s item items = refl
+
+fails_more : (nets : List Net) (s : State) (item : BodyItem) (items : List BodyItem) (line : ℕ) (kind : FaultKind) → FailsAs line kind (step nets s item) → FailsAs line kind (steps nets s (item ∷ items))
+fails_more nets s item items line Memory h = h
+fails_more nets s item items line kind h = steps_item nets s item items ∙ ap (λ (r : Result State VcdFault). r >>= λ next. steps nets next items) h
+
+item_leaves : {X : Type 0} (nets : List Net) (s s2 : State) (item : BodyItem) (after : List BodyItem) (r : Result X VcdFault) → Gives (λ _. s2) r (step nets s item) → Leaves (steps nets s (item ∷ after)) (steps nets s2 after) r
+item_leaves nets s s2 item after (Ok x) h = steps_item nets s item after ∙ ap (λ (r : Result State VcdFault). r >>= λ next. steps nets next after) h
+item_leaves nets s s2 item after (Err fault) h = fails_more nets s item after fault.line fault.kind h
+
+-- one item is read by a function that leaves the reader where it was
+pub read_item : {X : Type 0} (nets nets2 : List Net) (s s2 : State) (text text2 : List ℕ) (at at2 : ℕ) (item : BodyItem) (before : List BodyItem) (r : Result X VcdFault)
+    → nets2 ≡ nets → text2 ≡ text → at2 ≡ at
+    → before ≡ item ∷ body_from ready (left_at text at)
+    → Gives (λ _. s2) r (step nets s item)
+    → Leaves (steps nets s before) (steps nets2 s2 (body_from ready (left_at text2 at2))) r
+read_item nets nets2 s s2 text text2 at at2 item before r n t a is h =
+    rw (n, t, a, is) (item_leaves nets s s2 item (body_from ready (left_at text at)) r h)
+
+-- an item that is none
+pub read_wrong : (nets : List Net) (s : State) (line : ℕ) (kind : FaultKind) (before after : List BodyItem) → before ≡ wrong line kind ∷ after → steps nets s before ≡ Err (record { line = line; kind = kind })
+unfolding steps
+read_wrong nets s line kind before after e = ap (steps nets s) e
+
+pub nothing_left : (nets : List Net) (s : State) (before : List Token) → before ≡ [] → steps nets s (body_from ready before) ≡ Ok s
+unfolding steps body_from
+nothing_left nets s before e = ap (λ (ts : List Token). steps nets s (body_from ready ts)) e
+
+pub same_left : (nets nets2 : List Net) (text text2 : List ℕ) (waves waves2 : Progress) (bracket bracket2 : Option ℕ) (at : ℕ) → nets2 ≡ nets → text2 ≡ text → waves2 ≡ waves → bracket2 ≡ bracket
+    → steps nets (state_of text waves bracket) (body_from ready (left_at text at)) ≡ steps nets2 (state_of text2 waves2 bracket2) (body_from ready (left_at text2 at))
+same_left nets nets2 text text2 waves waves2 bracket bracket2 at n t w b = rw (n, t, w, b) refl

@@ -1,0 +1,59 @@
+-- The nets by their codes, and one more of them.
+use Rattle.std.proofs.Common.{◌≡◌, ℕ, zero, suc, ◌+◌, ◌^◌, ◌≤◌, ◌<◌, Bool, true, false, not, cond, eqb, ltb, List, [], ◌∷◌, ◌++◌, length, get_or, Option, Some, None, refl, sym, ap, ◌∙◌, arith}
+use Rattle.std.specs.Prelude.{bytes_eq}
+use Rattle.std.specs.Map.{update}
+use Rattle.std.specs.List.{position, position_or_len}
+use Rattle.std.proofs.lemmas.Bool.Decides.{nat_tests}
+use Rattle.std.proofs.lemmas.List.{length_push}
+use Rattle.std.proofs.lemmas.List.Folds.{position_or_len_push}
+use Rattle.std.proofs.lemmas.List.Sums.{prefix_len-le-length}
+use Rattle.std.proofs.lemmas.Option.{none-some}
+use Rattle.std.proofs.lemmas.Slice.Eq.{bytes_eq-Decides}
+use Rattle.vcd_read.specs.declared.code_index.CodeIndex.{CodeIndex}
+use Rattle.vcd_read.specs.Header.{Net, has_code, net_of, size_of}
+use Rattle.vcd_read.specs.CodeIndexes.{net_at}
+use Rattle.vcd_read.specs.Nets.{AreIndexed}
+
+pub size_of-at : (nets : List Net) (i : ℕ) (n : Net) → i < length nets → n ≡ get_or nets i n → size_of nets i ≡ n.size
+unfolding size_of
+size_of-at [] i n lt e = absurd (omega (arith, lt))
+size_of-at (m ∷ nets) zero n lt e = ap (λ (x : Net). x.size) (sym e)
+size_of-at (m ∷ nets) (suc i) n lt e = size_of-at nets i n (omega (arith, lt)) e
+
+abbrev place_below : ℕ → ℕ → Option ℕ
+place_below k n = cond (ltb k n) (Some k) None
+
+place_push : (k n k2 n2 : ℕ) (b : Bool) → k ≤ n → n2 ≡ n + 1 → k2 ≡ cond (eqb k n) (n + cond b 0 1) k → place_below k2 n2 ≡ cond (ltb k n) (place_below k n) (cond b (Some n) None)
+place_push k n k2 n2 true le e is = grind (arith, nat_tests)
+place_push k n k2 n2 false le e is = grind (arith, nat_tests)
+
+position-push : {X : Type 0} (p : X → Bool) (xs : List X) (y : X) → position p (xs ++ y ∷ []) ≡ cond (ltb (position_or_len p xs) (length xs)) (position p xs) (cond (p y) (Some (length xs)) None)
+position-push p xs y =
+    place_push (position_or_len p xs) (length xs) (position_or_len p (xs ++ y ∷ [])) (length (xs ++ y ∷ [])) (p y) (prefix_len-le-length (λ x. not (p x)) xs) (length_push xs y) (position_or_len_push p xs y)
+
+kept_or_new : (b c : Bool) (k n : ℕ) (o before : Option ℕ) → before ≡ cond b (Some k) None → o ≡ cond b before (cond c (Some n) None) → (c ≡ true → before ≡ None) → o ≡ cond c (Some n) before
+kept_or_new true true k n o before e is h = absurd (none-some k (sym (h refl) ∙ e))
+kept_or_new true false k n o before e is h = is
+kept_or_new false true k n o before e is h = is
+kept_or_new false false k n o before e is h = is ∙ sym e
+
+net_of-push : (nets : List Net) (code : List ℕ) (size : ℕ) → net_of nets code ≡ None → (other : List ℕ) → net_of (nets ++ record { code = code; size = size } ∷ []) other ≡ update bytes_eq (net_of nets) code (Some (length nets)) other
+net_of-push nets code size none other =
+    kept_or_new (ltb (position_or_len (has_code other) nets) (length nets)) (bytes_eq code other) (position_or_len (has_code other) nets) (length nets)
+    (net_of (nets ++ record { code = code; size = size } ∷ []) other) (net_of nets other)
+    refl
+    (position-push (has_code other) nets (record { code = code; size = size }))
+    (λ same. ap (net_of nets) (sym ((bytes_eq-Decides code other).0 same)) ∙ none)
+
+-- one more net
+pub indexed_push : (nets : List Net) (old new : CodeIndex) (code : List ℕ) (size net : ℕ) → AreIndexed nets old → net_of nets code ≡ None → net ≡ length nets → net + 1 < 2 ^ 32
+    → ((other : List ℕ) → net_at new other ≡ update bytes_eq (net_at old) code (Some net) other) → AreIndexed (nets ++ record { code = code; size = size } ∷ []) new
+indexed_push nets old new code size net was none last room changed = record {
+  few = omega (arith, length_push nets (record { code = code; size = size }));
+  found = λ other.
+      let before : net_at old other ≡ net_of nets other = was.found other in
+      changed other
+      ∙ ap (λ (o : Option ℕ). cond (bytes_eq code other) (Some net) o) before
+      ∙ ap (λ (n : ℕ). cond (bytes_eq code other) (Some n) (net_of nets other)) last
+      ∙ sym (net_of-push nets code size none other);
+}

@@ -1,0 +1,14 @@
+pub mod TokenLemmas
+pub mod NumberLemmas
+pub mod BodyLemmas
+pub mod CodesLemmas
+pub mod CodeIndexLemmas
+pub mod BitsLemmas
+pub mod WavesLemmas
+pub mod InstantsLaw
+pub mod ReadLemmas
+pub mod DumpLemmas
+pub mod ScopesLemmas
+pub mod ReferenceLemmas
+pub mod SectionLemmas
+pub mod HeaderLemmas

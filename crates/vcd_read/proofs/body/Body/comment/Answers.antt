@@ -1,0 +1,47 @@
+use Rattle.std.proofs.Common.{◌≡◌, ◌∙◌, sym, ap, true, false, arith}
+use Rattle.vcd_read.specs.Reading.{line_at, left_at, token_at}
+use Rattle.vcd_read.specs.Progress.{steps}
+use Rattle.vcd_read.specs.Bodies.{state}
+use Rattle.vcd_read.proofs.BodyLemmas.{comment_end, comment_more, comment_unfinished, read_wrong, same_left}
+use Rattle.vcd_read.proofs.body.Body.comment.Goals as goal
+
+pub returns-then-is_end-clause-rest : goal.returns-then-is_end-clause-rest
+returns-then-is_end-clause-rest c =
+    let old = c.args.self.now in
+    let text = old.reader.text.now in
+    let line = line_at text c.args.at in
+    let inv = c.loop-word.invariant in
+    let after = c.next.new.self.at in
+    let t = token_at text c.in-Some.word.at c.in-Some.word.bytes.now in
+    let cut = rw inv.text at c.in-Some.ensures.token in
+    let ended = comment_end line (left_at text c.loop-word.self.reader.at) (left_at text after) t cut (sym c.is_end.ensures ∙ c.if-is_end.true) in
+    ap (steps old.codes.now (state old)) (inv.rest ∙ ended)
+    ∙ same_left old.codes.now c.loop-word.self.codes.now text c.next.new.self.text.now old.waves _ old.bracket c.loop-word.self.bracket after (cc) (cc) inv.waves inv.bracket
+
+pub loop-word-preserved : goal.loop-word-preserved
+loop-word-preserved c =
+    let text = c.args.self.now.reader.text.now in
+    let line = line_at text c.args.at in
+    let inv = c.loop-word.invariant in
+    let after = c.next.new.self.at in
+    let t = token_at text c.in-Some.word.at c.in-Some.word.bytes.now in
+    let cut = rw inv.text at c.in-Some.ensures.token in
+    let more = comment_more line (left_at text c.loop-word.self.reader.at) (left_at text after) t cut (sym c.is_end.ensures ∙ c.if-is_end.false) in
+    record {
+      codes = inv.codes;
+      text = c.in-Some.ensures.text ∙ inv.text;
+      waves = inv.waves;
+      bracket = inv.bracket;
+      forward = omega (arith, c.in-Some.ensures.forward, inv.forward);
+      rest = inv.rest ∙ more;
+    }
+
+pub returns-clause-rest : goal.returns-clause-rest
+returns-clause-rest c =
+    let old = c.args.self.now in
+    let text = old.reader.text.now in
+    let line = line_at text c.args.at in
+    let inv = c.loop-word.invariant in
+    let cut = rw inv.text at c.in_default.ensures.token in
+    let whole = comment_unfinished line (left_at text c.loop-word.self.reader.at) cut in
+    rw (c.fault.ensures, c.in_default.ensures.text, inv.text) (read_wrong old.codes.now (state old) line _ _ _ (inv.rest ∙ whole))

@@ -1,0 +1,12 @@
+use Rattle.std.proofs.Common.{sym, ◌∙◌}
+use Rattle.vcd_read.specs.Reading.{left_at}
+use Rattle.vcd_read.specs.Sections.{declared_in}
+use Rattle.vcd_read.proofs.HeaderLemmas.{header_ends}
+use Rattle.vcd_read.proofs.header.read_header.Goals as goal
+
+pub returns-clause-header : goal.returns-clause-header
+returns-clause-header c =
+    let text = c.args.reader.now.text.now in
+    rw (c.fault.ensures, c.in_default.ensures.text, c.loop-token.invariant.same) (
+    sym c.loop-token.invariant.left
+    ∙ header_ends text (declared_in c.loop-token.definitions) (left_at text c.loop-token.reader.at) (rw c.loop-token.invariant.same at c.in_default.ensures.token))

@@ -1,0 +1,21 @@
+use Rattle.std.proofs.Common.{◌≡◌, ◌≤◌, ◌<◌, ◌-◌, length}
+use Rattle.std.specs.List.{All}
+use Rattle.vcd_read.specs.Reading.{line_at, left_at}
+use Rattle.vcd_read.specs.Scopes.{texts}
+use Rattle.vcd_read.specs.Sections.{section_from}
+use Rattle.vcd_read.proofs.SectionLemmas.{behind_words}
+use Rattle.vcd_read.proofs.header.words_of.Given as goal
+
+abbrev pub invariant-loop-token : goal.invariant-loop-token
+invariant-loop-token l =
+    let text = l.fn.reader.text.now in
+    let line = line_at text l.first in
+    record {
+      same : l.reader.text ≡ l.fn.reader.text;
+      moves : l.fn.reader.at ≤ l.reader.at;
+      so_far : section_from line (left_at text l.fn.reader.at) ≡ behind_words (texts l.words.items) (section_from line (left_at text l.reader.at));
+      each : All (λ word. 0 < length word.now) l.words.items;
+    }
+
+abbrev pub decreases-loop-token : goal.decreases-loop-token
+decreases-loop-token l = length l.reader.text.now - l.reader.at

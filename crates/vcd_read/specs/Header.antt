@@ -1,0 +1,224 @@
+-- The header: sections, and what they declare.
+use Rattle.std.specs.Prelude.{◌≡◌, ℕ, zero, suc, ◌+◌, ◌-◌, ◌^◌, ◌<◌, ◌≤◌, nat_lt, nat_le, max, min, Bool, true, false, ◌&&◌, ◌||◌, not, ◌==◌, if◌then◌else◌, List, [], ◌∷◌, ◌++◌, length, take, drop, get_or, Option, Some, None, option_map, option_and_then, unwrap_or, Result, Ok, Err, codes, bytes_eq, flat_map, position, reverse}
+use Rattle.std.specs.List.{list_all, concat, before_first, after_first, before_last, after_last, list_any}
+use Rattle.vcd_read.specs.declared.dump.Variable.{Variable}
+use Rattle.vcd_read.specs.declared.fault.FaultKind.{FaultKind}
+use Rattle.vcd_read.specs.declared.fault.FaultKind.TheVariants.{BadToken, UnfinishedSection, BadVar, ScopeUnderflow, NoEndDefinitions, SizeConflict, NumberTooLarge}
+use Rattle.vcd_read.specs.declared.fault.VcdFault.{VcdFault}
+use Rattle.vcd_read.specs.Tokens.{Token}
+use Rattle.vcd_read.specs.Numbers.{is_empty, is_number, number, number_below}
+
+infixl 10 ◌>>=◌
+abbrev pub ◌>>=◌ : {A B E : Type 0} → Result A E → (A → Result B E) → Result B E
+(Ok x) >>= f = f x
+(Err e) >>= f = Err e
+
+-- a kind of fault at a line
+abbrev pub at_line : {A : Type 0} → ℕ → Result A FaultKind → Result A VcdFault
+at_line line (Ok x) = Ok x
+at_line line (Err kind) = Err (record { line = line; kind = kind })
+
+-- ---- the cut into items
+
+-- A section has its first token and the words up to its end.
+pub record Section : Type 0 where
+  pub line : ℕ
+  pub keyword : List ℕ
+  pub words : List (List ℕ)
+
+pub data HeaderItem : Type 0 where
+  whole : Section → HeaderItem
+  -- a section that the text ends in
+  unfinished : ℕ → HeaderItem
+  -- a token outside a section that opens none
+  stray : ℕ → HeaderItem
+
+-- The items up to the end of the definitions, and the tokens behind it, if there is one.
+pub record Header : Type 0 where
+  pub items : List HeaderItem
+  pub body : Option (List Token)
+
+abbrev pub with_item : HeaderItem → Header → Header
+with_item item header = record { items = item ∷ header.items; body = header.body }
+
+abbrev pub is_end : List ℕ → Bool
+is_end word = bytes_eq word (codes "$end")
+
+abbrev pub opens_section : List ℕ → Bool
+opens_section [] = false
+opens_section (b ∷ word) = b == 36 && not (is_end (b ∷ word))
+
+abbrev pub ends_definitions : Section → Bool
+ends_definitions section = bytes_eq section.keyword (codes "$enddefinitions")
+
+-- between two sections, or inside one with the words so far
+pub data Place : Type 0 where
+  between : Place
+  inside : Section → Place
+
+abbrev pub opened : Token → Section
+opened token = record { line = token.line; keyword = token.bytes; words = [] }
+
+abbrev pub with_word : Section → List ℕ → Section
+with_word section word = record section { words = section.words ++ word ∷ [] }
+
+unfoldable pub header_from : Place → List Token → Header
+header_from between [] = record { items = []; body = None }
+header_from between (t ∷ ts) =
+    elim (opens_section t.bytes) [
+      | true ↦ header_from (inside (opened t)) ts
+      | false ↦ with_item (stray t.line) (header_from between ts)
+    ]
+header_from (inside section) [] = record { items = unfinished section.line ∷ []; body = None }
+header_from (inside section) (t ∷ ts) =
+    elim (is_end t.bytes) [
+      | true ↦ elim (ends_definitions section) [
+        | true ↦ record { items = []; body = Some ts }
+        | false ↦ with_item (whole section) (header_from between ts)
+      ]
+      | false ↦ header_from (inside (with_word section t.bytes)) ts
+    ]
+
+-- ---- what the items declare
+
+-- a code, and the size of its variables
+pub record Net : Type 0 where
+  pub code : List ℕ
+  pub size : ℕ
+
+-- the nets are in the order of their first declarations
+pub record Declared : Type 0 where
+  -- the names of the open scopes, the innermost first
+  pub scopes : List (List ℕ)
+  pub nets : List Net
+  pub variables : List Variable
+
+abbrev pub has_code : List ℕ → Net → Bool
+has_code code net = bytes_eq net.code code
+
+abbrev pub net_of : List Net → List ℕ → Option ℕ
+net_of nets code = position (has_code code) nets
+
+unfoldable pub size_of : List Net → ℕ → ℕ
+size_of [] net = 0
+size_of (n ∷ nets) zero = n.size
+size_of (n ∷ nets) (suc net) = size_of nets net
+
+abbrev pub is_code_byte : ℕ → Bool
+is_code_byte b = nat_le 33 b && nat_le b 126
+
+abbrev pub is_code : List ℕ → Bool
+is_code word = list_all is_code_byte word
+
+-- the names in order, empty ones left out, joined by dots
+abbrev pub joined_by_dots : List (List ℕ) → List ℕ
+joined_by_dots [] = []
+joined_by_dots ([] ∷ names) = joined_by_dots names
+joined_by_dots ((b ∷ name) ∷ names) = (b ∷ name) ++ dotted (joined_by_dots names)
+  where
+    dotted : List ℕ → List ℕ
+    dotted [] = []
+    dotted (c ∷ path) = 46 ∷ c ∷ path
+
+abbrev pub path_of : List (List ℕ) → List ℕ → List ℕ
+path_of scopes name = joined_by_dots (reverse scopes ++ name ∷ [])
+
+-- one to nine digits
+abbrev pub index_number : List ℕ → Option ℕ
+index_number text = if is_number text && nat_le (length text) 9 then Some (number text) else None
+
+-- the numbers between brackets
+abbrev pub index_between : List ℕ → Option (ℕ × ℕ)
+index_between text =
+    if list_any (λ b. b == 58) text then
+    option_and_then (λ (m : ℕ). option_map (λ (l : ℕ). (m, l)) (index_number (after_first (λ b. b == 58) text))) (index_number (before_first (λ b. b == 58) text))
+    else option_map (λ (n : ℕ). (n, n)) (index_number text)
+
+-- how many indices there are from one to the other
+abbrev pub index_count : ℕ × ℕ → ℕ
+index_count index = max index.0 index.1 - min index.0 index.1 + 1
+
+pub record Reference : Type 0 where
+  pub name : List ℕ
+  pub index : Option (ℕ × ℕ)
+
+abbrev pub without_index : List ℕ → Reference
+without_index text = record { name = text; index = None }
+
+-- what stands before a last bracket that closes at the end, and what stands in it
+abbrev pub bracketed : List ℕ → Option (List ℕ × List ℕ)
+bracketed text =
+    let inner = take (length text - 1) text in
+    if get_or text (length text - 1) 0 == 93 && list_any (λ b. b == 91) inner
+    then Some (before_last (λ b. b == 91) inner, after_last (λ b. b == 91) inner) else None
+
+abbrev pub index_of : ℕ → List ℕ → Option (ℕ × ℕ)
+index_of size text = option_and_then (λ (index : ℕ × ℕ). if index_count index == size then Some index else None) (index_between text)
+
+abbrev pub reference_parts : ℕ → List ℕ → Option (List ℕ × List ℕ) → Reference
+reference_parts size text None = without_index text
+reference_parts size text (Some parts) =
+    if is_empty parts.0 then without_index text
+    else (elim (index_of size parts.1) [ None ↦ without_index text | Some index ↦ record { name = parts.0; index = Some index } ])
+
+abbrev pub reference_of : ℕ → List ℕ → Reference
+reference_of size text = reference_parts size text (bracketed text)
+
+-- a variable in the open scopes
+abbrev pub variable_in : List (List ℕ) → ℕ → ℕ → Reference → Variable
+variable_in scopes net size reference = record { path = path_of scopes reference.name; index = reference.index; size = size; net = net }
+
+-- a net, and the nets with it
+pub record Joined : Type 0 where
+  pub net : ℕ
+  pub nets : List Net
+
+-- the net of a code, which may have been declared before, and then with the same size
+abbrev pub net_for : List Net → List ℕ → ℕ → Option ℕ → Result Joined FaultKind
+net_for nets code size None = Ok (record { net = length nets; nets = nets ++ record { code = code; size = size } ∷ [] })
+net_for nets code size (Some net) = if size_of nets net == size then Ok (record { net = net; nets = nets }) else Err SizeConflict
+
+-- what the section of a variable says: its size, its code, and its reference without the spaces
+pub record VarWords : Type 0 where
+  pub size : ℕ
+  pub code : List ℕ
+  pub reference : List ℕ
+
+-- the words of such a section: the type, the size, the code and at least one of the reference
+abbrev pub var_words : List (List ℕ) → Result VarWords FaultKind
+var_words (type ∷ size ∷ code ∷ first ∷ others) = do
+  n ← number_below 65537 BadVar size
+  if is_code code then Ok (record { size = n; code = code; reference = concat (first ∷ others) }) else Err BadVar
+var_words words = Err BadVar
+
+abbrev pub declare_var : Declared → List (List ℕ) → Result Declared FaultKind
+declare_var d words = do
+  var ← var_words words
+  joined ← net_for d.nets var.code var.size (net_of d.nets var.code)
+  Ok (record d { nets = joined.nets; variables = d.variables ++ variable_in d.scopes joined.net var.size (reference_of var.size var.reference) ∷ [] })
+
+abbrev pub open_scope : Declared → List (List ℕ) → Declared
+open_scope d words = record d { scopes = concat (drop 1 words) ∷ d.scopes }
+
+abbrev pub close_scope : Declared → List (List ℕ) → Result Declared FaultKind
+close_scope d [] = Err ScopeUnderflow
+close_scope d (scope ∷ scopes) = Ok (record d { scopes = scopes })
+
+abbrev pub declare_section : Declared → Section → Result Declared FaultKind
+declare_section d section =
+    if bytes_eq section.keyword (codes "$var") then declare_var d section.words
+    else if bytes_eq section.keyword (codes "$scope") then Ok (open_scope d section.words)
+    else if bytes_eq section.keyword (codes "$upscope") then close_scope d d.scopes
+    else Ok d
+
+-- the first fault of the items, or all that they declare
+unfoldable pub declare_all : Declared → List HeaderItem → Result Declared VcdFault
+declare_all d [] = Ok d
+declare_all d (whole section ∷ items) = do
+  next ← at_line section.line (declare_section d section)
+  declare_all next items
+declare_all d (unfinished line ∷ items) = Err (record { line = line; kind = UnfinishedSection })
+declare_all d (stray line ∷ items) = Err (record { line = line; kind = BadToken })
+
+abbrev pub nothing_declared : Declared
+nothing_declared = record { scopes = []; nets = []; variables = [] }

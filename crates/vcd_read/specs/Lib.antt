@@ -1,0 +1,17 @@
+pub mod Contents
+pub mod Tokens
+pub mod Numbers
+pub mod Header
+pub mod Body
+pub mod Meaning
+pub mod Rows
+pub mod Reading
+pub mod Progress
+pub mod Touched
+pub mod Nets
+pub mod CodeNumbers
+pub mod CodeIndexes
+pub mod Shapes
+pub mod Bodies
+pub mod Scopes
+pub mod Sections

@@ -1,0 +1,101 @@
+-- The dump that a text is.
+use Rattle.std.specs.Prelude.{◌≡◌, ℕ, ◌+◌, ◌<◌, Bool, ◌&&◌, ◌==◌, if◌then◌else◌, List, [], ◌∷◌, ◌++◌, length, map, Option, Some, None, option_map, unwrap_or, Result, Ok, Err, filter_map, nat_eq}
+use Rattle.std.specs.List.{range_with_len, dedup}
+use Rattle.vcd_read.specs.declared.dump.Bit.{Bit}
+use Rattle.vcd_read.specs.declared.dump.Value.{Value}
+use Rattle.vcd_read.specs.declared.dump.Instant.{Instant}
+use Rattle.vcd_read.specs.declared.fault.FaultKind.{FaultKind}
+use Rattle.vcd_read.specs.declared.fault.FaultKind.TheVariants.{NoEndDefinitions, Memory}
+use Rattle.vcd_read.specs.declared.fault.VcdFault.{VcdFault}
+use Rattle.vcd_read.specs.Contents.{Contents}
+use Rattle.vcd_read.specs.Tokens.{Token, tokens, line_after}
+use Rattle.vcd_read.specs.Numbers.{number, extended}
+use Rattle.vcd_read.specs.Header.{◌>>=◌, Net, net_of, size_of, Header, between, header_from, Declared, declare_all, nothing_declared}
+use Rattle.vcd_read.specs.Body.{BodyItem, time_item, change, skipped, bracket_open, bracket_end, wrong, ready, body_from, first_standing, stand_after_all, at_the_end}
+
+-- ---- the instants
+
+-- a change with the time that it has
+pub record Change : Type 0 where
+  pub time : ℕ
+  pub net : ℕ
+  pub bits : List Bit
+
+abbrev pub change_of : List Net → ℕ → List ℕ → List ℕ → Change
+change_of nets now digits code =
+    let net = unwrap_or (net_of nets code) 0 in
+    record { time = now; net = net; bits = extended (size_of nets net) digits }
+
+-- a change has the time of the last time item before it, or else this one
+unfoldable pub changes_from : List Net → ℕ → List BodyItem → List Change
+changes_from nets now [] = []
+changes_from nets now (time_item line digits ∷ items) = changes_from nets (number digits) items
+changes_from nets now (change line digits code ∷ items) = change_of nets now digits code ∷ changes_from nets now items
+changes_from nets now (item ∷ items) = changes_from nets now items
+
+-- the time of each time item and each change
+unfoldable pub times_from : ℕ → List BodyItem → List ℕ
+times_from now [] = []
+times_from now (time_item line digits ∷ items) = number digits ∷ times_from (number digits) items
+times_from now (change line digits code ∷ items) = now ∷ times_from now items
+times_from now (item ∷ items) = times_from now items
+
+-- the bits of the last of these changes that is of this net at this time
+unfoldable pub last_at : ℕ → ℕ → List Change → Option (List Bit)
+last_at t net [] = None
+last_at t net (c ∷ changes) = elim (last_at t net changes) [
+  | Some bits ↦ Some bits
+  | None ↦ if c.time == t && c.net == net then Some c.bits else None
+]
+
+abbrev pub value_of : ℕ → List Bit → Value
+value_of net bits = record { net = net; bits = bits }
+
+abbrev pub value_at : ℕ → List Change → ℕ → Option Value
+value_at t changes net = option_map (value_of net) (last_at t net changes)
+
+abbrev pub values_at : ℕ → ℕ → List Change → List Value
+values_at count t changes = filter_map (value_at t changes) (range_with_len 0 count)
+
+abbrev pub instant_at : ℕ → List Change → ℕ → Instant
+instant_at count changes t = record { time = t; values = values_at count t changes }
+
+abbrev pub instants_of : List Net → List BodyItem → List Instant
+instants_of nets items = map (instant_at (length nets) (changes_from nets 0 items)) (dedup nat_eq (times_from 0 items))
+
+-- ---- the whole text
+
+abbrev pub body_of : List ℕ → Option (List Token) → Result (List Token) VcdFault
+body_of text None = Err (record { line = line_after text; kind = NoEndDefinitions })
+body_of text (Some body) = Ok body
+
+-- the instants of a body, or else its first fault
+abbrev pub instants_from : List Net → List Token → Result (List Instant) VcdFault
+instants_from nets body = do
+  end ← stand_after_all nets first_standing (body_from ready body)
+  stood ← at_the_end end
+  Ok (instants_of nets (body_from ready body))
+
+-- the dump that a text is, or else its first fault
+unfoldable pub dump_of : List ℕ → Result Contents VcdFault
+dump_of text =
+    let header = header_from between (tokens text) in do
+      declared ← declare_all nothing_declared header.items
+      body ← body_of text header.body
+      instants ← instants_from declared.nets body
+      Ok (record { variables = declared.variables; instants = instants })
+
+-- ---- what a reader answers
+
+abbrev pub FailsAs : {Y : Type 0} → ℕ → FaultKind → Result Y VcdFault → Type 0
+FailsAs line Memory read = line ≡ 0
+FailsAs line kind read = read ≡ Err (record { line = line; kind = kind })
+
+-- the fault is what reading gives, unless memory ran out
+abbrev pub Fails : {Y : Type 0} → VcdFault → Result Y VcdFault → Type 0
+Fails fault read = FailsAs fault.line fault.kind read
+
+-- what a function returned, seen by view, is what reading gives, unless memory ran out
+abbrev pub Gives : {X Y : Type 0} → (X → Y) → Result X VcdFault → Result Y VcdFault → Type 0
+Gives view (Ok x) read = read ≡ Ok (view x)
+Gives view (Err fault) read = Fails fault read

@@ -1,0 +1,83 @@
+-- Reading the header section by section.
+use Rattle.std.specs.Prelude.{◌≡◌, ℕ, Bool, true, false, if◌then◌else◌, List, [], ◌∷◌, ◌++◌, option_map, Option, Some, None, Result, Ok, Err, codes, bytes_eq}
+use Rattle.std.specs.List.{concat}
+use Rattle.vcd_read.specs.declared.dump.Variable.{Variable}
+use Rattle.vcd_read.specs.declared.fault.FaultKind.TheVariants.{UnfinishedSection}
+use Rattle.vcd_read.specs.declared.fault.VcdFault.{VcdFault}
+use Rattle.vcd_read.specs.declared.header.Definitions.{Definitions}
+use Rattle.vcd_read.specs.declared.header.Opening.{Opening}
+use Rattle.vcd_read.specs.declared.header.Opening.TheVariants.{Var, Scope, Upscope, EndDefinitions, Skipped, Nothing}
+use Rattle.vcd_read.specs.declared.header.VarSection.{VarSection}
+use Rattle.vcd_read.specs.Tokens.{Token}
+use Rattle.vcd_read.specs.Header.{◌>>=◌, VarWords, Header, header_from, between, is_end, opens_section, Net, Declared, declare_all}
+use Rattle.vcd_read.specs.Scopes.{texts}
+use Rattle.vcd_read.specs.Meaning.{body_of, Fails}
+
+-- ---- a section
+
+-- The words of a section up to its end, and the tokens behind it.
+pub record Ended : Type 0 where
+  pub words : List (List ℕ)
+  pub rest : List Token
+
+abbrev pub after_word : List ℕ → Ended → Ended
+after_word word ended = record { words = word ∷ ended.words; rest = ended.rest }
+
+unfoldable pub ended_in : List Token → Option Ended
+ended_in [] = None
+ended_in (t ∷ ts) = elim (is_end t.bytes) [ true ↦ Some (record { words = []; rest = ts }) | false ↦ option_map (after_word t.bytes) (ended_in ts) ]
+
+-- a section without an end is a fault at its line
+abbrev pub section_from : ℕ → List Token → Result Ended VcdFault
+section_from line ts = elim (ended_in ts) [ None ↦ Err (record { line = line; kind = UnfinishedSection }) | Some ended ↦ Ok ended ]
+
+-- the tokens behind a section
+abbrev pub behind_section : ℕ → List Token → Result (List Token) VcdFault
+behind_section line ts = section_from line ts >>= λ ended. Ok ended.rest
+
+-- what a token opens
+abbrev pub opening_of : List ℕ → Opening
+opening_of word =
+    if opens_section word then (
+    if bytes_eq word (codes "$var") then Var
+    else if bytes_eq word (codes "$scope") then Scope
+    else if bytes_eq word (codes "$upscope") then Upscope
+    else if bytes_eq word (codes "$enddefinitions") then EndDefinitions
+    else Skipped)
+    else Nothing
+
+-- what the section of a variable says
+abbrev pub var_of : VarSection → VarWords
+var_of var = record { size = var.size; code = var.code.now; reference = concat (texts var.reference.now) }
+
+-- what a function returned, seen by view, is this
+abbrev pub Answers : {X Y E : Type 0} → (X → Y) → Result X E → Result Y E → Type 0
+Answers view (Ok x) read = read ≡ Ok (view x)
+Answers view (Err e) read = read ≡ Err e
+
+-- ---- the whole header
+
+abbrev pub declared_in : Definitions → Declared
+declared_in d = record { scopes = d.scopes; nets = d.codes; variables = d.variables.items }
+
+-- What a header declares, and the tokens behind it.
+pub record Headed : Type 0 where
+  pub nets : List Net
+  pub variables : List Variable
+  pub body : List Token
+
+abbrev pub headed : Declared → List Token → Headed
+headed d body = record { nets = d.nets; variables = d.variables; body = body }
+
+-- the header of a text, where this much is declared and these items and tokens are left
+abbrev pub rest_of_header : List ℕ → Declared → Header → Result Headed VcdFault
+rest_of_header text d header = declare_all d header.items >>= λ declared. body_of text header.body >>= λ body. Ok (headed declared body)
+
+abbrev pub header_of : List ℕ → Declared → List Token → Result Headed VcdFault
+header_of text d ts = rest_of_header text d (header_from between ts)
+
+-- whether the definitions go on behind a section: reading the header gives then what it gave before, and otherwise it gives this
+abbrev pub Continues : Result Headed VcdFault → Result Headed VcdFault → Headed → Result Bool VcdFault → Type 0
+Continues before after end (Ok true) = before ≡ after
+Continues before after end (Ok false) = before ≡ Ok end
+Continues before after end (Err fault) = Fails fault before

@@ -1,0 +1,50 @@
+//! Digits as the bits of a value.
+
+ghost use Rattle.std.specs.Prelude.{◌≡◌, ◌<◌, ◌≤◌, length, IfOk};
+ghost use Rattle.vcd_read.specs.Numbers.{bit_of, fill_of, extended};
+
+use crate::dump::{Bit, Bits};
+use smallvec::SmallVec;
+use std::alloc::{AllocError, Global};
+
+/// The bits of a value of this size, extended on the left (IEEE Std 1364-2005, 18.2.2).
+pub(crate) fn extended(alloc: Global, size: u32, digits: &[u8]) -> Result<Bits, AllocError>
+    requires some { 0 < length digits.now }
+    requires fits { length digits.now ≤ size }
+    ensures { IfOk result (λ bits. bits ≡ extended size digits.now) }
+{
+    let width = size as usize;
+    let fill = fill_of(bit_of(digits[0]));
+    let missing = width - digits.len();
+    let mut bits = SmallVec::with_capacity(alloc, width)?;
+    for place in 0..width {
+        if place < missing {
+            bits.push_reserved(fill);
+        } else {
+            bits.push_reserved(bit_of(digits[place - missing]));
+        }
+    }
+    Ok(Bits::from_small_vec(bits))
+}
+
+fn bit_of(digit: u8) -> Bit
+    ensures { result ≡ bit_of digit }
+{
+    match digit {
+        b'0' => Bit::Zero,
+        b'1' => Bit::One,
+        b'x' | b'X' => Bit::X,
+        _ => Bit::Z,
+    }
+}
+
+/// What stands on the left of a value with too few digits.
+fn fill_of(bit: Bit) -> Bit
+    ensures { result ≡ fill_of bit }
+{
+    match bit {
+        Bit::Zero | Bit::One => Bit::Zero,
+        Bit::X => Bit::X,
+        Bit::Z => Bit::Z,
+    }
+}

@@ -1,0 +1,125 @@
+//! The nets by their codes.
+
+ghost use Rattle.std.specs.Prelude.{◌≡◌, ◌<◌, ◌++◌, ◌∷◌, [], None, length, IfOk, OnOk, OnErr};
+ghost use Rattle.vcd_read.specs.Header.{net_of, size_of};
+
+use crate::code_index::CodeIndex;
+use std::alloc::{AllocError, Global};
+use std::marker::Model;
+
+/// The code of a net, and how many bits it has.
+#[derive(Drop)]
+pub(crate) struct NetCode {
+    code: Vec<u8>,
+    size: u32,
+}
+
+/// The nets that are declared, in the order of their first declarations.
+#[derive(Drop)]
+pub(crate) struct Codes {
+    nets: Vec<NetCode>,
+    /// The net of each code.
+    index: CodeIndex,
+}
+
+impl Model for Codes {
+    ghost use Rattle.std.specs.Prelude.{List, map};
+    ghost use Rattle.vcd_read.specs.Header.{Net};
+    ghost use Rattle.vcd_read.specs.Nets.{net_code, AreIndexed};
+
+    ghost Value = { List Net };
+
+    ghost view = { λ c. map net_code c.nets.items };
+
+    ghost invariant = { λ c. AreIndexed (map net_code c.nets.items) c.index };
+}
+
+impl Codes {
+    /// No code yet.
+    pub fn new(alloc: Global) -> Result<Codes, AllocError>
+        ensures { IfOk result (λ c. c ≡ []) }
+    {
+        Ok(Codes {
+            nets: Vec::new(alloc),
+            index: CodeIndex::new(alloc),
+        })
+    }
+
+    /// How many nets there are.
+    pub fn len(&self) -> usize
+        ensures { result ≡ length self.now }
+    {
+        self.nets.len()
+    }
+
+    /// The net of a code, where it has one.
+    pub fn net(&self, code: &[u8]) -> Option<u32>
+        ensures { result ≡ net_of self.now code.now }
+    {
+        self.index.get(code)
+    }
+
+    /// The size of a net.
+    pub fn size(&self, net: u32) -> u32
+        requires { net < length self.now }
+        ensures { result ≡ size_of self.now net }
+    {
+        self.nets[net as usize].size
+    }
+
+    /// Adds the net of a new code, which is the number of nets before it. It fails where memory runs out or
+    /// 2^32 - 1 nets are there, and then the nets are as they were.
+    pub fn add(&mut self, alloc: Global, code: &[u8], size: u32) -> Result<u32, AllocError>
+        requires { net_of self.old code.now ≡ None }
+        ensures added { OnOk result (self.new ≡ self.old ++ record { code = code.now; size = size } ∷ []) }
+        ensures net { IfOk result (λ n. n ≡ length self.old) }
+        ensures err { OnErr result (self.new ≡ self.old) }
+    {
+        let net = self.nets.len();
+        if net >= u32::MAX as usize {
+            return Err(AllocError);
+        }
+        let net = net as u32;
+        let bytes = Vec::from_slice(alloc, code)?;
+        self.nets.reserve(1)?;
+        self.index.insert(alloc, code, net)?;
+        self.nets.push_reserved(NetCode { code: bytes, size });
+        Ok(net)
+    }
+}
+
+#[cfg(test)]
+mod tests {
+    use super::*;
+    use std::test::Fail;
+
+    #[test]
+    fn nets_are_found_by_their_codes(rt: HostRuntime) -> Result<(), Fail> {
+        let declared: [(&[u8], u32); 6] = [
+            (b"!", 1),
+            (b"\"", 8),
+            (b"!!", 3),
+            (b"~~~", 1),
+            (b"!!!!", 65536),
+            (b"clock", 1),
+        ];
+        let mut codes = Codes::new(rt.alloc())?;
+        for (net, (code, size)) in declared.iter().enumerate() {
+            assert!(rt; codes.net(code).is_none());
+            assert_eq!(rt; codes.add(rt.alloc(), code, *size)? as usize, net);
+        }
+        for (net, (code, size)) in declared.iter().enumerate() {
+            let found = codes.net(code);
+            assert!(rt; found.is_some());
+            if let Some(found) = found {
+                assert_eq!(rt; found as usize, net);
+                assert_eq!(rt; codes.size(found), *size);
+            }
+        }
+        let others: [&[u8]; 6] = [b"", b"#", b"!\"", b"!!!", b"!!!!!", b"\x7f"];
+        for code in others {
+            assert!(rt; codes.net(code).is_none());
+        }
+        Ok(())
+    }
+}

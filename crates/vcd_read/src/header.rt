@@ -1,0 +1,293 @@
+//! The header: sections, and what they declare.
+
+ghost use Rattle.std.specs.Prelude.{MatchOption, Some, Err, drop, ◌≡◌, ◌≤◌, ◌<◌, ◌∷◌, ℕ, [], length, map, IfOk, OnOk, Ok, true};
+ghost use Rattle.std.specs.List.{All, concat};
+ghost use Rattle.vcd_read.specs.Reading.{line_at, left_at, token_at};
+ghost use Rattle.vcd_read.specs.Header.{is_code, is_end, opens_section, var_words, reference_of, net_of, net_for, variable_in, at_line, declare_var, nothing_declared, header_from, between};
+ghost use Rattle.vcd_read.specs.Scopes.{texts};
+ghost use Rattle.vcd_read.specs.Meaning.{Gives};
+ghost use Rattle.vcd_read.specs.declared.fault.FaultKind.TheVariants.{SizeConflict};
+ghost use Rattle.vcd_read.specs.Sections.{opening_of, var_of, Answers, section_from, behind_section, declared_in, Continues, headed, header_of};
+
+use crate::codes::Codes;
+use crate::dump::{Path, Variable};
+use crate::fault::{FaultKind, VcdFault};
+use crate::number::decimal;
+use crate::reference::{Reference, reference_of};
+use crate::scopes::Scopes;
+use crate::shape::is_end;
+use crate::token::{Reader, Token};
+use std::alloc::{AllocError, Global};
+
+/// The most bits that a variable has.
+const MAX_SIZE: u64 = 65_536;
+
+/// What the sections so far declare.
+#[derive(Drop)]
+pub(crate) struct Definitions {
+    pub scopes: Scopes,
+    pub codes: Codes,
+    /// In the order of their sections.
+    pub variables: Vec<Variable>,
+}
+
+/// What the first token of a section opens.
+#[derive(Clone, Copy)]
+enum Opening {
+    Var,
+    Scope,
+    Upscope,
+    EndDefinitions,
+    /// A section that says nothing of the variables.
+    Skipped,
+    /// No section.
+    Nothing,
+}
+
+/// The words of a variable's section behind its type.
+#[derive(Clone, Copy)]
+struct VarSection<'w> {
+    size: u32,
+    code: &'w [u8],
+    reference: &'w [&'w [u8]],
+}
+
+fn is_code(word: &[u8]) -> bool
+    ensures { result ≡ is_code word.now }
+{
+    word.iter().all(|b| matches!(*b, b'!'..=b'~'))
+}
+
+/// Whether a token opens a section.
+fn opens_section(word: &[u8]) -> bool
+    ensures { result ≡ opens_section word.now }
+{
+    matches!(word, [b'$', ..]) && !is_end(word)
+}
+
+fn opening_of(word: &[u8]) -> Opening
+    ensures { result ≡ opening_of word.now }
+{
+    if !opens_section(word) {
+        Opening::Nothing
+    } else if word == b"$var".as_slice() {
+        Opening::Var
+    } else if word == b"$scope".as_slice() {
+        Opening::Scope
+    } else if word == b"$upscope".as_slice() {
+        Opening::Upscope
+    } else if word == b"$enddefinitions".as_slice() {
+        Opening::EndDefinitions
+    } else {
+        Opening::Skipped
+    }
+}
+
+/// Reads the section of a variable, by its words.
+fn var_section<'w>(words: &'w [&'w [u8]]) -> Result<VarSection<'w>, FaultKind>
+    ensures { Answers var_of result (var_words (texts words.now)) }
+{
+    let [_, size, code, reference @ ..] = words else {
+        return Err(FaultKind::BadVar);
+    };
+    if reference.is_empty() {
+        return Err(FaultKind::BadVar);
+    }
+    let size = decimal(size, MAX_SIZE, FaultKind::BadVar)? as u32;
+    if !is_code(code) {
+        return Err(FaultKind::BadVar);
+    }
+    Ok(VarSection {
+        size,
+        code,
+        reference,
+    })
+}
+
+/// The words of a section up to its end.
+fn words_of<'a>(
+    alloc: Global,
+    reader: &mut Reader<'a>,
+    first: usize,
+) -> Result<Vec<&'a [u8]>, VcdFault>
+    requires { first ≤ length reader.old.text.now }
+    ensures text { reader.new.text ≡ reader.old.text }
+    ensures moves { OnOk result (reader.old.at ≤ reader.new.at) }
+    ensures words { Gives (λ words. record { words = texts words.items; rest = left_at reader.old.text.now reader.new.at }) result
+        (section_from (line_at reader.old.text.now first) (left_at reader.old.text.now reader.old.at)) }
+    ensures each { IfOk result (λ words. All (λ word. 0 < length word.now) words.items) }
+{
+    let mut words = Vec::new(alloc);
+    while let Some(token) = reader.next() {
+        if is_end(token.bytes) {
+            return Ok(words);
+        }
+        words.push(token.bytes)?;
+    }
+    Err(reader.fault(first, FaultKind::UnfinishedSection))
+}
+
+/// Reads past the end of a section.
+fn skip_section(reader: &mut Reader<'_>, first: usize) -> Result<(), VcdFault>
+    requires { first ≤ length reader.old.text.now }
+    ensures text { reader.new.text ≡ reader.old.text }
+    ensures moves { OnOk result (reader.old.at ≤ reader.new.at) }
+    ensures rest { Gives (λ _. left_at reader.old.text.now reader.new.at) result
+        (behind_section (line_at reader.old.text.now first) (left_at reader.old.text.now reader.old.at)) }
+{
+    while let Some(token) = reader.next() {
+        if is_end(token.bytes) {
+            return Ok(());
+        }
+    }
+    Err(reader.fault(first, FaultKind::UnfinishedSection))
+}
+
+/// Words without anything between them.
+fn joined(alloc: Global, words: &[&[u8]]) -> Result<Vec<u8>, AllocError>
+    ensures { IfOk result (λ text. text.items ≡ concat (texts words.now)) }
+{
+    words.concat(alloc)
+}
+
+/// The name of a scope, by the words of its section.
+fn scope_name(alloc: Global, words: &[&[u8]]) -> Result<Vec<u8>, AllocError>
+    ensures { IfOk result (λ name. name.items ≡ concat (drop 1 (texts words.now))) }
+{
+    match words {
+        [_, name @ ..] => joined(alloc, name),
+        [] => Ok(Vec::new(alloc)),
+    }
+}
+
+/// The net of a variable's code: a new one, or that of the variables before it, if they have its size.
+fn net_for(
+    codes: &mut Codes,
+    alloc: Global,
+    code: &[u8],
+    size: u32,
+) -> Result<Option<u32>, AllocError>
+    ensures { IfOk result (λ net. MatchOption net
+        (net_for codes.old code.now size (net_of codes.old code.now) ≡ Err SizeConflict)
+        (λ n. net_for codes.old code.now size (net_of codes.old code.now) ≡ Ok (record { net = n; nets = codes.new }))) }
+{
+    match codes.net(code) {
+        Some(net) if codes.size(net) == size => Ok(Some(net)),
+        Some(_) => Ok(None),
+        None => Ok(Some(codes.add(alloc, code, size)?)),
+    }
+}
+
+/// The variable that a section declares in these scopes, on this net.
+fn variable_in(
+    scopes: &Scopes,
+    alloc: Global,
+    var: VarSection<'_>,
+    net: u32,
+) -> Result<Variable, AllocError>
+    requires { 0 < length (concat (texts var.reference.now)) }
+    ensures { IfOk result (λ variable. variable ≡ variable_in scopes.now net var.entry.size
+        (reference_of var.entry.size (concat (texts var.entry.reference.now)))) }
+{
+    let text = joined(alloc, var.reference)?;
+    let Reference { name, index } = reference_of(&text, var.size);
+    let path = scopes.path_of(alloc, name)?;
+    Ok(Variable {
+        path: Path::from_vec(path),
+        index,
+        size: var.size,
+        net,
+    })
+}
+
+impl Definitions {
+    fn new(alloc: Global) -> Result<Definitions, AllocError>
+        ensures { IfOk result (λ d. declared_in d ≡ nothing_declared) }
+    {
+        Ok(Definitions {
+            scopes: Scopes::new(alloc),
+            codes: Codes::new(alloc)?,
+            variables: Vec::new(alloc),
+        })
+    }
+
+    /// Declares a variable, by the words of its section.
+    fn declare(
+        &mut self,
+        alloc: Global,
+        reader: &Reader<'_>,
+        first: usize,
+        words: &[&[u8]],
+    ) -> Result<(), VcdFault>
+        requires first { first ≤ length reader.now.text.now }
+        requires each { All (λ word. 0 < length word.now) words.now }
+        ensures { Gives (λ _. declared_in self.new) result
+            (at_line (line_at reader.now.text.now first) (declare_var (declared_in self.old) (texts words.now))) }
+    {
+        let var = match var_section(words) {
+            Ok(var) => var,
+            Err(kind) => return Err(reader.fault(first, kind)),
+        };
+        let Some(net) = net_for(&mut self.codes, alloc, var.code, var.size)? else {
+            return Err(reader.fault(first, FaultKind::SizeConflict));
+        };
+        let variable = variable_in(&self.scopes, alloc, var, net)?;
+        self.variables.push(variable)?;
+        Ok(())
+    }
+
+    /// Reads the section that this token opens. Answers whether the definitions go on behind it.
+    fn section<'a>(
+        &mut self,
+        alloc: Global,
+        reader: &mut Reader<'a>,
+        first: Token<'a>,
+    ) -> Result<bool, VcdFault>
+        requires { first.at ≤ length reader.old.text.now }
+        ensures text { reader.new.text ≡ reader.old.text }
+        ensures moves { result ≡ Ok true → reader.old.at ≤ reader.new.at }
+        ensures rest { let text = reader.old.text.now in
+            Continues (header_of text (declared_in self.old) (token_at text first.entry.at first.entry.bytes.now ∷ left_at text reader.old.at))
+            (header_of text (declared_in self.new) (left_at text reader.new.at))
+            (headed (declared_in self.new) (left_at text reader.new.at)) result }
+    {
+        match opening_of(first.bytes) {
+            Opening::Nothing => return Err(reader.fault(first.at, FaultKind::BadToken)),
+            Opening::Var => {
+                let words = words_of(alloc, reader, first.at)?;
+                self.declare(alloc, reader, first.at, &words)?;
+            }
+            Opening::Scope => {
+                let words = words_of(alloc, reader, first.at)?;
+                self.scopes.open(scope_name(alloc, &words)?)?;
+            }
+            Opening::Upscope => {
+                skip_section(reader, first.at)?;
+                if !self.scopes.close() {
+                    return Err(reader.fault(first.at, FaultKind::ScopeUnderflow));
+                }
+            }
+            Opening::EndDefinitions => {
+                skip_section(reader, first.at)?;
+                return Ok(false);
+            }
+            Opening::Skipped => skip_section(reader, first.at)?,
+        }
+        Ok(true)
+    }
+}
+
+/// Reads the header of a text, up to the end of its definitions. The first fault met is named.
+pub(crate) fn read_header(alloc: Global, reader: &mut Reader<'_>) -> Result<Definitions, VcdFault>
+    ensures text { reader.new.text ≡ reader.old.text }
+    ensures header { let text = reader.old.text.now in
+        Gives (λ d. headed (declared_in d) (left_at text reader.new.at)) result (header_of text nothing_declared (left_at text reader.old.at)) }
+{
+    let mut definitions = Definitions::new(alloc)?;
+    while let Some(token) = reader.next() {
+        if !definitions.section(alloc, reader, token)? {
+            return Ok(definitions);
+        }
+    }
+    Err(reader.fault(reader.text.len(), FaultKind::NoEndDefinitions))
+}

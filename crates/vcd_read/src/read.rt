@@ -1,0 +1,28 @@
+//! The whole dump of a text.
+
+ghost use Rattle.vcd_read.specs.Meaning.{Gives, dump_of};
+
+use crate::body::read_body;
+use crate::dump::Dump;
+use crate::fault::VcdFault;
+use crate::header::{Definitions, read_header};
+use crate::token::Reader;
+use std::alloc::Global;
+
+/// Reads the text of a four-state value change dump.
+///
+/// The text is read from the left, and an error names the first fault met and its line; a bracket such as
+/// `$dumpvars` that is never closed is met at the end of the text. Where memory runs out, that is the fault,
+/// at line 0.
+pub fn read_vcd(alloc: Global, text: &[u8]) -> Result<Dump, VcdFault>
+    ensures { Gives (λ dump. dump) result (dump_of text.now) }
+{
+    let mut reader = Reader::new(text);
+    let Definitions {
+        codes,
+        variables,
+        ..
+    } = read_header(alloc, &mut reader)?;
+    let instants = read_body(alloc, reader, &codes)?;
+    Ok(Dump::new(variables, instants))
+}

@@ -1,0 +1,84 @@
+//! The scopes that are open.
+
+ghost use Rattle.std.specs.Prelude.{◌≡◌, ℕ, ◌<◌, List, [], ◌∷◌, length, OnOk, IfOk, MatchBool};
+ghost use Rattle.vcd_read.specs.Header.{path_of};
+ghost use Rattle.vcd_read.specs.Scopes.{with_dot};
+
+use std::alloc::{AllocError, Global};
+use std::marker::Model;
+
+/// The names of the open scopes, as one text that grows and shrinks at its end.
+#[derive(Drop)]
+pub(crate) struct Scopes {
+    /// The names that aren't empty, from the outermost, each with a dot behind it.
+    path: Vec<u8>,
+    /// For each open scope, the length of the path before it.
+    starts: Vec<usize>,
+}
+
+impl Model for Scopes {
+    ghost use Rattle.std.specs.Prelude.{List, ℕ, reverse};
+    ghost use Rattle.vcd_read.specs.Scopes.{names_at, IsLaidOut};
+
+    ghost Value = { List (List ℕ) };
+
+    ghost view = { λ s. names_at s.path.items (reverse s.starts.items) };
+
+    ghost invariant = { λ s. IsLaidOut s.path.items (reverse s.starts.items) };
+}
+
+impl Scopes {
+    pub fn new(alloc: Global) -> Scopes
+        ensures { result ≡ [] }
+    {
+        Scopes {
+            path: Vec::new(alloc),
+            starts: Vec::new(alloc),
+        }
+    }
+
+    /// Opens a scope of this name.
+    pub fn open(&mut self, name: Vec<u8>) -> Result<(), AllocError>
+        ensures { OnOk result (self.new ≡ name.items ∷ self.old) }
+    {
+        let part = with_dot(name)?;
+        self.starts.push(self.path.len())?;
+        self.path.extend_from_slice(&part)?;
+        Ok(())
+    }
+
+    /// Closes the innermost scope, if one is open.
+    pub fn close(&mut self) -> bool
+        ensures { MatchBool result ((name : List ℕ) × (self.old ≡ name ∷ self.new)) (self.old ≡ []) }
+    {
+        match self.starts.pop() {
+            Some(start) => {
+                self.path.truncate(start);
+                true
+            }
+            None => false,
+        }
+    }
+
+    /// The path of a name in the open scopes.
+    pub fn path_of(&self, alloc: Global, name: &[u8]) -> Result<Vec<u8>, AllocError>
+        requires { 0 < length name.now }
+        ensures { IfOk result (λ path. path.items ≡ path_of self.now name.now) }
+    {
+        let mut path = Vec::with_capacity(alloc, self.path.len() + name.len())?;
+        path.extend_from_slice(&self.path)?;
+        path.extend_from_slice(name)?;
+        Ok(path)
+    }
+}
+
+/// What a scope of this name puts behind the path.
+fn with_dot(name: Vec<u8>) -> Result<Vec<u8>, AllocError>
+    ensures { IfOk result (λ part. part.items ≡ with_dot name.items) }
+{
+    let mut part = name;
+    if !part.is_empty() {
+        part.push(b'.')?;
+    }
+    Ok(part)
+}

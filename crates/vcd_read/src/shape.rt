@@ -1,0 +1,104 @@
+//! What a token of the body is.
+
+ghost use Rattle.std.specs.Prelude.{◌≡◌};
+ghost use Rattle.std.specs.List.{list_all};
+ghost use Rattle.vcd_read.specs.Header.{is_end};
+ghost use Rattle.vcd_read.specs.Numbers.{is_bit};
+ghost use Rattle.vcd_read.specs.Body.{shape_of, keyword_shape, are_bits, opens_bracket};
+ghost use Rattle.vcd_read.specs.Shapes.{found_shape};
+
+/// What a token of the body is, or begins.
+#[derive(Clone, Copy)]
+pub(crate) enum Shape<'a> {
+    /// A time, by the digits behind its `#`.
+    Time(&'a [u8]),
+    /// A scalar change: its digit and its code.
+    Scalar(&'a [u8], &'a [u8]),
+    /// The digits of a vector change, whose code is the next token.
+    Vector(&'a [u8]),
+    /// A real number or a string, whose code is the next token.
+    Foreign,
+    /// The first token of a `$comment`.
+    Comment,
+    /// `$dumpvars` and the like, which open a bracket.
+    Opens,
+    /// `$end`.
+    Ends,
+    /// None of the format's.
+    Unknown,
+}
+
+pub(crate) fn shape_of(token: &[u8]) -> Shape<'_>
+    ensures { found_shape result ≡ shape_of token.now }
+{
+    if token.is_empty() {
+        return Shape::Unknown;
+    }
+    let rest = &token[1..];
+    match token[0] {
+        b'#' => Shape::Time(rest),
+        b'0' | b'1' | b'x' | b'X' | b'z' | b'Z' => {
+            if rest.is_empty() {
+                return Shape::Unknown;
+            }
+            Shape::Scalar(&token[..1], rest)
+        }
+        b'b' | b'B' => {
+            if !are_bits(rest) {
+                return Shape::Unknown;
+            }
+            Shape::Vector(rest)
+        }
+        b'r' | b'R' | b's' => Shape::Foreign,
+        b'$' => keyword_shape(token),
+        _ => Shape::Unknown,
+    }
+}
+
+fn keyword_shape(word: &[u8]) -> Shape<'_>
+    ensures { found_shape result ≡ keyword_shape word.now }
+{
+    if is_end(word) {
+        Shape::Ends
+    } else if opens_bracket(word) {
+        Shape::Opens
+    } else if word == b"$comment".as_slice() {
+        Shape::Comment
+    } else {
+        Shape::Unknown
+    }
+}
+
+pub(crate) fn is_end(word: &[u8]) -> bool
+    ensures { result ≡ is_end word.now }
+{
+    word == b"$end".as_slice()
+}
+
+fn opens_bracket(word: &[u8]) -> bool
+    ensures { result ≡ opens_bracket word.now }
+{
+    word == b"$dumpvars".as_slice()
+        || word == b"$dumpall".as_slice()
+        || word == b"$dumpon".as_slice()
+        || word == b"$dumpoff".as_slice()
+}
+
+/// Whether these are digits of a vector, at least one.
+fn are_bits(digits: &[u8]) -> bool
+    ensures { result ≡ are_bits digits.now }
+{
+    !digits.is_empty() && all_bits(digits)
+}
+
+fn all_bits(digits: &[u8]) -> bool
+    ensures { result ≡ list_all is_bit digits.now }
+{
+    digits.iter().all(|digit| is_bit(*digit))
+}
+
+fn is_bit(digit: u8) -> bool
+    ensures { result ≡ is_bit digit }
+{
+    matches!(digit, b'0' | b'1' | b'x' | b'X' | b'z' | b'Z')
+}

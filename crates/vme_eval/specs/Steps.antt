@@ -1,0 +1,69 @@
+-- How the worked recordings are written.
+use Rattle.std.specs.Prelude.{ℕ, zero, suc, ◌+◌, List, [], ◌∷◌, ◌++◌, replicate}
+use Rattle.vme_trace.specs.LineNumbers.{BBSY, BR, grant, iack, line_count}
+use Rattle.vme_trace.specs.Levels.{Levels}
+use Rattle.vme_trace.specs.Trace.{Trace, changed}
+use Rattle.vme_trace.specs.declared.level.Level.{Level}
+use Rattle.vme_trace.specs.declared.level.Level.TheVariants.{Low, High, Unknown}
+use Rattle.vme_trace.specs.declared.step.Change.{Change}
+use Rattle.vme_trace.specs.declared.step.Step.{Step}
+
+abbrev pub to : ℕ → Level → Change
+to l x = record { line = l; level = x }
+
+abbrev pub low : ℕ → Change
+low l = to l Low
+
+abbrev pub high : ℕ → Change
+high l = to l High
+
+abbrev pub unknown : ℕ → Change
+unknown l = to l Unknown
+
+abbrev pub at : ℕ → List Change → Step
+at time changes = record { time = time; changes = changes }
+
+-- steps ten units of time apart
+abbrev pub steps_from : ℕ → List (List Change) → List Step
+steps_from time [] = []
+steps_from time (changes ∷ later) = at time changes ∷ steps_from (time + 10) later
+
+-- a run of lines, high
+abbrev pub high_from : ℕ → ℕ → List Change
+high_from l zero = []
+high_from l (suc n) = high l ∷ high_from (l + 1) n
+
+-- three slots, of which nothing is known
+abbrev pub unknown_lines : Levels
+unknown_lines = record { slots = 3; levels = replicate line_count Unknown }
+
+-- every line of three slots high, but for address lines 24 to 31, of which nothing is known
+abbrev pub idle_changes : List Change
+idle_changes = high_from 0 37 ++ high_from BBSY 5 ++ high_from (grant 0 0) 4 ++ high_from (grant 1 0) 4 ++ high_from (grant 2 0) 4 ++ high_from (grant 3 0) 4 ++ high_from (iack 1) 3
+
+abbrev pub idle_step : Step
+idle_step = at 0 idle_changes
+
+unfoldable pub idle_lines : Levels
+unfolding changed
+idle_lines = changed unknown_lines idle_changes
+
+-- a requester in slot 2 gets the bus at level 3
+abbrev pub granted : List (List Change)
+granted = (low (BR 3) ∷ []) ∷ (low (grant 3 0) ∷ []) ∷ (low (grant 3 1) ∷ []) ∷ (low BBSY ∷ high (BR 3) ∷ []) ∷ (high (grant 3 0) ∷ []) ∷ (high (grant 3 1) ∷ []) ∷ []
+
+-- an idle bus, and these steps
+abbrev pub from_idle : List (List Change) → Trace
+from_idle later = record { opening = unknown_lines; steps = idle_step ∷ steps_from 10 later }
+
+-- an idle bus, the bus granted to slot 2, and these steps
+abbrev pub once_granted : List (List Change) → Trace
+once_granted later = from_idle (granted ++ later)
+
+-- one slot: the strobes, the answers and the interrupt acknowledge unknown, the address modifier 3D, the
+-- bus busy, and all else high
+abbrev pub dump_lines : Levels
+dump_lines = record {
+  slots = 1;
+  levels = replicate 6 Unknown ++ (High ∷ Low ∷ High ∷ High ∷ High ∷ High ∷ []) ++ replicate 33 High ++ (Low ∷ []) ++ replicate 113 High;
+}

@@ -1,0 +1,63 @@
+//! What the definitions of a break and of a verdict say of worked recordings, computed from the definitions alone.
+//! Each function is a law: its contract is what it says.
+#![tactic(auto)]
+
+ghost use Rattle.std.specs.Prelude.{◌≡◌};
+ghost use Rattle.vme_trace.specs.Verdict.{verdict};
+ghost use Rattle.vme_trace.specs.LineNumbers.{AS, DS0, DTACK, BBSY, AM, A, iack};
+ghost use Rattle.vme_trace.specs.declared.rule.Rule.TheVariants.{U1, U2, H2, H4, S1, C1, C2, B1, B2, B4, I1, I2, I3, I4};
+ghost use Rattle.vme_trace.specs.declared.verdict.Verdict.TheVariants.{Conforming, Broken, Unreadable, NeverIdle};
+ghost use Rattle.vme_eval.specs.Captures.{dumped_read, dumped_nothing, dumped_stray_answer, dumped_unknown_strobe, dumped_gap, read_cycle, read_cycle_from_idle, pipelined_cycles, stray_answer, strobes_rise_with_answer, strobes_rise_early, read_modify_write, write_then_read, block_turns, short_address, address_changes_early, address_changes_with_answer, unneeded_line_changes, unknown_modifier, floating_modifier, grant_taken_twice, bus_taken_ungranted, grant_past_last_slot, grant_withdrawn, acknowledge_cycle, acknowledge_write, acknowledge_skips_slot, acknowledge_before_strobe, acknowledge_after_answer};
+
+/// The verdicts on recordings of one slot, as from a dump.
+pub fn dumps()
+    ensures dumped_read { verdict dumped_read ≡ Conforming }
+    ensures dumped_nothing { verdict dumped_nothing ≡ NeverIdle }
+    ensures dumped_stray_answer { verdict dumped_stray_answer ≡ Broken (record { instant = 3; time = 20; rule = H4; line = DTACK }) }
+    ensures dumped_unknown_strobe { verdict dumped_unknown_strobe ≡ Unreadable (record { instant = 2; time = 10; rule = U1; line = AS }) }
+    ensures dumped_gap { verdict dumped_gap ≡ Unreadable (record { instant = 4; time = 25; rule = U1; line = AS }) }
+{}
+
+/// The verdicts on transfers of one cycle, and of two that overlap.
+pub fn transfers()
+    ensures read_cycle { verdict read_cycle ≡ Conforming }
+    ensures read_cycle_from_idle { verdict read_cycle_from_idle ≡ Conforming }
+    ensures pipelined_cycles { verdict pipelined_cycles ≡ Conforming }
+    ensures stray_answer { verdict stray_answer ≡ Broken (record { instant = 10; time = 90; rule = H4; line = DTACK }) }
+    ensures strobes_rise_with_answer { verdict strobes_rise_with_answer ≡ Conforming }
+    ensures strobes_rise_early { verdict strobes_rise_early ≡ Broken (record { instant = 11; time = 100; rule = H2; line = DS0 }) }
+{}
+
+/// The verdicts on cycles of several transfers.
+pub fn cycles()
+    ensures read_modify_write { verdict read_modify_write ≡ Conforming }
+    ensures write_then_read { verdict write_then_read ≡ Broken (record { instant = 16; time = 150; rule = C1; line = DTACK }) }
+    ensures block_turns { verdict block_turns ≡ Broken (record { instant = 15; time = 140; rule = C2; line = DTACK }) }
+{}
+
+/// The verdicts on cycles whose needed lines change or are unknown.
+pub fn held_lines()
+    ensures short_address { verdict short_address ≡ Conforming }
+    ensures address_changes_early { verdict address_changes_early ≡ Broken (record { instant = 10; time = 90; rule = S1; line = A 5 }) }
+    ensures address_changes_with_answer { verdict address_changes_with_answer ≡ Conforming }
+    ensures unneeded_line_changes { verdict unneeded_line_changes ≡ Conforming }
+    ensures unknown_modifier { verdict unknown_modifier ≡ Unreadable (record { instant = 9; time = 80; rule = U2; line = AM 3 }) }
+    ensures floating_modifier { verdict floating_modifier ≡ Conforming }
+{}
+
+/// The verdicts on bus grants.
+pub fn grants()
+    ensures grant_taken_twice { verdict grant_taken_twice ≡ Broken (record { instant = 8; time = 70; rule = B2; line = BBSY }) }
+    ensures bus_taken_ungranted { verdict bus_taken_ungranted ≡ Broken (record { instant = 11; time = 100; rule = B1; line = BBSY }) }
+    ensures grant_past_last_slot { verdict grant_past_last_slot ≡ Broken (record { instant = 7; time = 60; rule = B4; line = BBSY }) }
+    ensures grant_withdrawn { verdict grant_withdrawn ≡ Conforming }
+{}
+
+/// The verdicts on interrupt acknowledge cycles.
+pub fn acknowledges()
+    ensures acknowledge_cycle { verdict acknowledge_cycle ≡ Conforming }
+    ensures acknowledge_write { verdict acknowledge_write ≡ Broken (record { instant = 12; time = 110; rule = I4; line = DTACK }) }
+    ensures acknowledge_skips_slot { verdict acknowledge_skips_slot ≡ Broken (record { instant = 11; time = 100; rule = I1; line = iack 2 }) }
+    ensures acknowledge_before_strobe { verdict acknowledge_before_strobe ≡ Broken (record { instant = 10; time = 90; rule = I2; line = iack 1 }) }
+    ensures acknowledge_after_answer { verdict acknowledge_after_answer ≡ Broken (record { instant = 12; time = 110; rule = I3; line = iack 1 }) }
+{}

@@ -1,0 +1,239 @@
+//! Two monitors at once.
+
+ghost use Rattle.std.specs.Prelude.{◌≡◌, ℕ, IfOk, List, false, slice_get};
+ghost use Rattle.vme_trace.specs.declared.rule.Rule.{Rule};
+ghost use Rattle.vme_trace.specs.Trace.{Trace};
+ghost use Rattle.vme_trace.specs.Judged.{Span};
+ghost use Rattle.vme_monitor.specs.Joined.{AreApart, AreJoined, together};
+ghost use Rattle.vme_monitor.specs.declared.mark.Kinds.{Kinds};
+ghost use Rattle.vme_monitor.specs.Whole.{FindsLeast, ShowsAll};
+ghost use Rattle.std.specs.Option.{option_map_or};
+ghost use Rattle.vme_monitor.specs.BothSpec.{by_instant, fault_lt as fault_before, kind_number as kind_place, least as least_of, mark_lt as mark_before, merged, rule_number as rule_place, sooner as sooner_than};
+
+use crate::mark::{Kind, Mark};
+use crate::monitor::Monitor;
+use std::alloc::{AllocError, Global};
+use std::marker::PhantomData;
+use vme_trace::{Break, Lines, Rule, Step};
+
+fn rule_number(rule: Rule) -> u8
+    ensures { result ≡ rule_place rule }
+{
+    match rule {
+        Rule::U1 => 0,
+        Rule::U2 => 1,
+        Rule::U3 => 2,
+        Rule::H1 => 3,
+        Rule::H2 => 4,
+        Rule::H3 => 5,
+        Rule::H4 => 6,
+        Rule::H5 => 7,
+        Rule::H6 => 8,
+        Rule::H7 => 9,
+        Rule::H8 => 10,
+        Rule::S1 => 11,
+        Rule::S2 => 12,
+        Rule::C1 => 13,
+        Rule::C2 => 14,
+        Rule::G1 => 15,
+        Rule::G2 => 16,
+        Rule::G3 => 17,
+        Rule::G4 => 18,
+        Rule::G5 => 19,
+        Rule::B1 => 20,
+        Rule::B2 => 21,
+        Rule::B3 => 22,
+        Rule::B4 => 23,
+        Rule::I1 => 24,
+        Rule::I2 => 25,
+        Rule::I3 => 26,
+        Rule::I4 => 27,
+        Rule::I5 => 28,
+    }
+}
+
+fn kind_number(kind: Kind) -> u8
+    ensures { result ≡ kind_place kind }
+{
+    match kind {
+        Kind::Start => 0,
+        Kind::Open => 1,
+        Kind::Tenure { .. } => 2,
+        Kind::TenureEnd => 3,
+        Kind::Cycle { .. } => 4,
+        Kind::CycleEnd => 5,
+        Kind::Transfer { .. } => 6,
+        Kind::Answer { .. } => 7,
+        Kind::Close => 8,
+    }
+}
+
+fn fault_lt(f: &Break, g: &Break) -> bool
+    ensures { result ≡ fault_before f.now g.now }
+{
+    let a = rule_number(f.rule);
+    let b = rule_number(g.rule);
+    a < b || (a == b && f.line.number() < g.line.number())
+}
+
+fn sooner(a: &Break, b: &Break) -> bool
+    ensures { result ≡ sooner_than a.now b.now }
+{
+    let less = fault_lt(a, b);
+    a.instant < b.instant || (a.instant == b.instant && less)
+}
+
+fn mark_lt(a: &Mark, b: &Mark) -> bool
+    ensures { result ≡ mark_before a.now b.now }
+{
+    let i = kind_number(a.kind);
+    let j = kind_number(b.kind);
+    a.instant < b.instant || (a.instant == b.instant && i < j)
+}
+
+fn least(first: Option<Break>, second: Option<Break>) -> Option<Break>
+    ensures { result ≡ least_of first second }
+{
+    match first {
+        None => second,
+        Some(a) => match second {
+            None => Some(a),
+            Some(b) => { if sooner(&b, &a) { Some(b) } else { Some(a) } }
+        },
+    }
+}
+
+/// Whether there is a mark at a place, and it comes before another.
+fn is_before(marks: &[Mark], j: usize, a: Mark) -> bool
+    ensures { result ≡ option_map_or (λ b. mark_before b a) (slice_get marks.now j) false }
+{
+    if j < marks.len() {
+        mark_lt(&marks[j], &a)
+    } else {
+        false
+    }
+}
+
+/// Marks of two monitors, by instant and then kind.
+fn merge_marks(alloc: Global, first: &[Mark], second: &[Mark]) -> Result<Vec<Mark>, AllocError>
+    ensures { IfOk result (λ v. v.items ≡ merged first.now second.now) }
+{
+    let mut all = Vec::new(alloc);
+    let mut i = 0;
+    let mut j = 0;
+    while i < first.len() {
+        let a = first[i];
+        let before = is_before(second, j, a);
+        if before && j < second.len() {
+            all.push(second[j])?;
+            j += 1;
+        } else {
+            all.push(first[i])?;
+            i += 1;
+        }
+    }
+    let left = &second[j..];
+    all.extend_from_slice(left)?;
+    Ok(all)
+}
+
+/// Summaries of the same steps by two monitors.
+#[derive(Drop)]
+pub struct Pair<M: Monitor, N: Monitor> {
+    first: M::Summary,
+    second: N::Summary,
+    ghost same: { M.count first ≡ N.count second },
+}
+
+/// Both monitors.
+pub struct Both<M, N> {
+    of: PhantomData<(M, N)>,
+}
+
+impl<M: Monitor, N: Monitor> Monitor for Both<M, N> {
+    ghost use Rattle.std.specs.Prelude.{[], length};
+    ghost use Rattle.vme_monitor.specs.BothSpec.{both, both_nothing, both_runs, both_within, within_same};
+
+    type Memory = (M::Memory, N::Memory);
+
+    type Summary = Pair<M, N>;
+
+    ghost run = { λ p o x. both (M.run p.0 o x) (N.run p.1 o x) };
+
+    ghost begin = { λ o. (M.begin o, N.begin o) };
+
+    ghost count = { λ s. M.count s.first };
+
+    ghost outcome = { λ s p. both (M.outcome s.first p.0) (N.outcome s.second p.1) };
+
+    ghost nothing = { λ p o. both_nothing p.0 p.1 (M.run p.0 o []) (N.run p.1 o []) (M.nothing p.0 o) (N.nothing p.1 o) };
+
+    ghost joined = { λ p o x y. both_runs M.run N.run p.0 p.1 o x y (M.joined p.0 o x y) (N.joined p.1 o x y) M.within N.within };
+
+    ghost within = { λ p o x. both_within (length x) (M.run p.0 o x) (N.run p.1 o x) (M.within p.0 o x) (N.within p.1 o x) };
+
+    ghost inside = { λ s p. both_within (M.count s.first) (M.outcome s.first p.0) (N.outcome s.second p.1) (M.inside s.first p.0) (within_same (M.count s.first) (N.count s.second) (N.outcome s.second p.1) s.same (N.inside s.second p.1)) };
+
+    fn start(opening: &Lines) -> (M::Memory, N::Memory) {
+        (M::start(opening), N::start(opening))
+    }
+
+    fn summarise(alloc: Global, opening: &Lines, steps: &[Step]) -> Result<Pair<M, N>, AllocError> {
+        let first = M::summarise(alloc, opening, steps)?;
+        let second = N::summarise(alloc, opening, steps)?;
+        Ok(Pair { first, second })
+    }
+
+    fn compose(
+        alloc: Global,
+        first: &Pair<M, N>,
+        second: &Pair<M, N>,
+    ) -> Result<Pair<M, N>, AllocError> {
+        let a = M::compose(alloc, &first.first, &second.first)?;
+        let b = N::compose(alloc, &first.second, &second.second)?;
+        Ok(Pair {
+            first: a,
+            second: b,
+        })
+    }
+
+    fn unit(alloc: Global) -> Result<Pair<M, N>, AllocError> {
+        let first = M::unit(alloc)?;
+        let second = N::unit(alloc)?;
+        Ok(Pair { first, second })
+    }
+
+    fn steps(summary: &Pair<M, N>) -> u32 {
+        M::steps(&summary.first)
+    }
+
+    fn leaving(summary: &Pair<M, N>, memory: (M::Memory, N::Memory)) -> (M::Memory, N::Memory) {
+        (
+            M::leaving(&summary.first, memory.0),
+            N::leaving(&summary.second, memory.1),
+        )
+    }
+
+    fn event(summary: &Pair<M, N>, memory: (M::Memory, N::Memory)) -> Option<Break> {
+        least(
+            M::event(&summary.first, memory.0),
+            N::event(&summary.second, memory.1),
+        )
+    }
+
+    fn marks(
+        alloc: Global,
+        summary: &Pair<M, N>,
+        memory: (M::Memory, N::Memory),
+    ) -> Result<Vec<Mark>, AllocError> {
+        let first = M::marks(alloc, &summary.first, memory.0)?;
+        let second = N::marks(alloc, &summary.second, memory.1)?;
+        merge_marks(alloc, first.as_slice(), second.as_slice())
+    }
+}
+
+/// Over a whole capture, the event of both monitors is the least break of the rules of both, and their marks are what both show.
+pub fn both_over_captures<M: Monitor, N: Monitor>()
+    ensures event { (rs qs all : List Rule) → AreJoined rs qs all → FindsLeast M.run M.begin rs → FindsLeast N.run N.begin qs → FindsLeast ⟦<Both<M, N> as Monitor>⟧.run ⟦<Both<M, N> as Monitor>⟧.begin all }
+    ensures marks { (f g : Trace → Span → ℕ → Kinds) → ((t : Trace) (span : Span) (j : ℕ) → AreApart (f t span j) (g t span j)) → ShowsAll M.run M.begin f → ShowsAll N.run N.begin g → ShowsAll ⟦<Both<M, N> as Monitor>⟧.run ⟦<Both<M, N> as Monitor>⟧.begin (λ t span j. together (f t span j) (g t span j)) }
+{}

@@ -1,0 +1,231 @@
+//! The parts of a table.
+
+ghost use Rattle.std.specs.Prelude.{◌≡◌, ◌++◌, map, IfOk, OnOk};
+ghost use Rattle.std.specs.Option.{option_map, option_to_list};
+ghost use Rattle.vme_monitor.specs.Outcome.{unmoved};
+ghost use Rattle.vme_monitor.specs.Run.{break_at, cycle_kind as cycle_kind_of, extended, kinds_of, mark_at, outcome_at, tenure_kind as tenure_kind_of, when as when_shown};
+ghost use Rattle.vme_monitor.specs.declared.mark.Kind.TheVariants.{Answer, Transfer};
+ghost use Rattle.vme_monitor.specs.Walk.{bridge_of, hop_of, later_break as later_break_of, later_hop, later_mark, later_outcome, outcome_of};
+
+use crate::machine::Places;
+use crate::mark::{Asked, Fault, Kind, Kinds, Mark, Next, Taken};
+use std::alloc::{AllocError, Global};
+use vme_trace::{Break, Line};
+
+/// What runs show until they meet others, and which row of the next layer they go on in.
+#[derive(Debug, Drop)]
+pub struct Link {
+    pub event: Option<Break>,
+    pub marks: Vec<Mark>,
+    pub next: usize,
+}
+
+/// What runs show up to now, and the memory that they are in.
+#[derive(Debug, Drop)]
+pub struct Row<P> {
+    pub memory: P,
+    pub event: Option<Break>,
+    pub marks: Vec<Mark>,
+}
+
+impl Mark {
+    fn later(&self, by: u32) -> Mark
+        ensures { result ≡ later_mark by self.now }
+    {
+        Mark {
+            instant: self.instant.saturating_add(by),
+            kind: self.kind,
+        }
+    }
+}
+
+pub fn later_break(found: Option<Break>, by: u32) -> Option<Break>
+    ensures { result ≡ option_map (later_break_of by) found }
+{
+    match found {
+        Some(b) => Some(Break {
+            instant: b.instant.saturating_add(by),
+            time: b.time,
+            rule: b.rule,
+            line: b.line,
+        }),
+        None => None,
+    }
+}
+
+pub fn later_marks(alloc: Global, marks: &[Mark], by: u32) -> Result<Vec<Mark>, AllocError>
+    ensures { IfOk result (λ v. v.items ≡ map (later_mark by) marks.now) }
+{
+    let mut all = Vec::with_capacity(alloc, marks.len())?;
+    for mark in marks {
+        all.push(mark.later(by))?;
+    }
+    Ok(all)
+}
+
+pub fn later_links(alloc: Global, links: &[Link], by: u32) -> Result<Vec<Link>, AllocError>
+    ensures { IfOk result (λ v. map hop_of v.items ≡ map (later_hop by) (map hop_of links.now)) }
+{
+    let mut all = Vec::with_capacity(alloc, links.len())?;
+    for link in links {
+        let marks = later_marks(alloc, link.marks.as_slice(), by)?;
+        all.push(Link {
+            event: later_break(link.event, by),
+            marks,
+            next: link.next,
+        })?;
+    }
+    Ok(all)
+}
+
+pub fn later_rows<P: Copy>(
+    alloc: Global,
+    rows: &[Row<P>],
+    by: u32,
+) -> Result<Vec<Row<P>>, AllocError>
+    ensures { IfOk result (λ v. map outcome_of v.items ≡ map (later_outcome by) (map outcome_of rows.now)) }
+{
+    let mut all = Vec::new(alloc);
+    for row in rows {
+        let marks = later_marks(alloc, row.marks.as_slice(), by)?;
+        all.push(Row {
+            memory: row.memory,
+            event: later_break(row.event, by),
+            marks,
+        })?;
+    }
+    Ok(all)
+}
+
+/// A link from each row to the place of its memory.
+pub fn bridges<P: Places>(alloc: Global, rows: &[Row<P>], by: u32) -> Result<Vec<Link>, AllocError>
+    ensures { IfOk result (λ v. map hop_of v.items ≡ map (bridge_of P.place_of) (map (later_outcome by) (map outcome_of rows.now))) }
+{
+    let mut all = Vec::new(alloc);
+    for row in rows {
+        let marks = later_marks(alloc, row.marks.as_slice(), by)?;
+        all.push(Link {
+            event: later_break(row.event, by),
+            marks,
+            next: row.memory.place(),
+        })?;
+    }
+    Ok(all)
+}
+
+/// A row for each memory, with nothing shown yet.
+pub fn fresh_rows<P: Copy>(alloc: Global, memories: &[P]) -> Result<Vec<Row<P>>, AllocError>
+    ensures { IfOk result (λ v. map outcome_of v.items ≡ map unmoved memories.now) }
+{
+    let mut rows = Vec::new(alloc);
+    for memory in memories {
+        rows.push(Row {
+            memory: *memory,
+            event: None,
+            marks: Vec::new(alloc),
+        })?;
+    }
+    Ok(rows)
+}
+
+/// A kind, if it is shown.
+fn when(shown: bool, kind: Kind) -> Option<Kind>
+    ensures { result ≡ when_shown shown kind }
+{
+    if shown { Some(kind) } else { None }
+}
+
+fn show(marks: &mut Vec<Mark>, instant: u32, kind: Option<Kind>) -> Result<(), AllocError>
+    ensures { OnOk result (marks.new.items ≡ marks.old.items ++ map (mark_at instant) (option_to_list kind)) }
+{
+    if let Some(kind) = kind {
+        marks.push(Mark { instant, kind })?;
+    }
+    Ok(())
+}
+
+fn tenure_kind(shown: Option<Taken>) -> Option<Kind>
+    ensures { result ≡ option_map tenure_kind_of shown }
+{
+    match shown {
+        Some(taken) => Some(Kind::Tenure {
+            level: taken.level,
+            slot: taken.slot,
+        }),
+        None => None,
+    }
+}
+
+fn cycle_kind(shown: Option<Asked>) -> Option<Kind>
+    ensures { result ≡ option_map cycle_kind_of shown }
+{
+    match shown {
+        Some(asked) => Some(Kind::Cycle {
+            class: asked.class,
+            am: asked.modifier,
+            address: asked.address,
+        }),
+        None => None,
+    }
+}
+
+fn transfer_kind(shown: Option<bool>) -> Option<Kind>
+    ensures { result ≡ option_map Transfer shown }
+{
+    match shown {
+        Some(write) => Some(Kind::Transfer { write }),
+        None => None,
+    }
+}
+
+fn answer_kind(shown: Option<Line>) -> Option<Kind>
+    ensures { result ≡ option_map Answer shown }
+{
+    match shown {
+        Some(line) => Some(Kind::Answer { line }),
+        None => None,
+    }
+}
+
+/// Adds what a step shows.
+fn show_all(marks: &mut Vec<Mark>, instant: u32, kinds: Kinds) -> Result<(), AllocError>
+    ensures { OnOk result (marks.new.items ≡ marks.old.items ++ map (mark_at instant) (kinds_of kinds)) }
+{
+    show(marks, instant, when(kinds.start, Kind::Start))?;
+    show(marks, instant, when(kinds.opened, Kind::Open))?;
+    show(marks, instant, tenure_kind(kinds.tenure))?;
+    show(marks, instant, when(kinds.tenure_end, Kind::TenureEnd))?;
+    show(marks, instant, cycle_kind(kinds.cycle))?;
+    show(marks, instant, when(kinds.cycle_end, Kind::CycleEnd))?;
+    show(marks, instant, transfer_kind(kinds.transfer))?;
+    show(marks, instant, answer_kind(kinds.answer))?;
+    show(marks, instant, when(kinds.close, Kind::Close))
+}
+
+fn break_of(fault: Option<Fault>, instant: u32, time: u64) -> Option<Break>
+    ensures { result ≡ option_map (break_at instant time) fault }
+{
+    match fault {
+        Some(fault) => Some(Break {
+            instant,
+            time,
+            rule: fault.rule,
+            line: fault.line,
+        }),
+        None => None,
+    }
+}
+
+impl<P: Copy> Row<P> {
+    /// One step further.
+    pub fn extend(&mut self, next: Next<P>, instant: u32, time: u64) -> Result<(), AllocError>
+        ensures { OnOk result (outcome_of self.new ≡ extended (outcome_of self.old) (outcome_at instant time next)) }
+    {
+        if self.event.is_none() {
+            self.event = break_of(next.fault, instant, time);
+        }
+        show_all(&mut self.marks, instant, next.kinds)?;
+        self.memory = next.memory;
+        Ok(())
+    }
+}

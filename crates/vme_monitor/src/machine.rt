@@ -1,0 +1,67 @@
+//! A monitor as a machine with few memories.
+
+ghost use Rattle.std.specs.Prelude.{◌≡◌, ℕ, ◌<◌, ◌≤◌, List, Option};
+ghost use Rattle.vme_trace.specs.Levels.{Levels};
+ghost use Rattle.vme_trace.specs.declared.step.Change.{Change};
+ghost use Rattle.vme_monitor.specs.declared.mark.Next.{Next};
+
+use crate::mark::Next;
+use vme_trace::{Change, Lines};
+
+/// A type of few values, each with a place.
+pub trait Places: Copy + Eq {
+    ghost COUNT: { ℕ };
+
+    ghost place_of: { Self → ℕ };
+
+    ghost nth_of: { ℕ → Self };
+
+    const COUNT: usize;
+
+    fn place(self) -> usize
+        ensures { result ≡ place_of self };
+
+    fn nth(k: usize) -> Self
+        requires { k < COUNT }
+        ensures { result ≡ nth_of k };
+
+    ghost placed: { (p : Self) → place_of p < COUNT };
+
+    ghost found: { (p : Self) → nth_of (place_of p) ≡ p };
+}
+
+/// So few that two more are at most 512.
+pub trait Small: Places {
+    ghost small: { Self.Places.COUNT ≤ 510 };
+}
+
+/// One step at a time. What doesn't depend on the memory is looked at once a step; where there is nothing to see,
+/// no memory changes and nothing is shown.
+pub trait Machine {
+    type Memory: Places;
+
+    type Seen: Drop;
+
+    ghost begin: { Levels → Self.Memory };
+
+    ghost sight: { Levels → Levels → List Change → Option Self.Seen };
+
+    ghost next: { Self.Memory → Levels → Levels → Self.Seen → Next Self.Memory };
+
+    fn start(opening: &Lines) -> Self::Memory
+        ensures { result ≡ begin opening.now };
+
+    fn see(before: &Lines, after: &Lines, changes: &[Change]) -> Option<Self::Seen>
+        ensures { result ≡ sight before.now after.now changes.now };
+
+    fn step(
+        memory: Self::Memory,
+        before: &Lines,
+        after: &Lines,
+        seen: &Self::Seen,
+    ) -> Next<Self::Memory>
+        ensures { result ≡ next memory before.now after.now seen.now };
+
+    /// The memories are at most 512.
+    ghost few: { Self.Memory.COUNT ≤ 512 };
+}

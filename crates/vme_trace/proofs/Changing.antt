@@ -1,0 +1,151 @@
+-- What changes leave as it was, and the control lines that they lose.
+use Rattle.std.proofs.Common.{◌≡◌, ℕ, ◌+◌, ◌<◌, ◌≤◌, Bool, true, false, ◌||◌, ◌&&◌, not, List, [], ◌∷◌, refl, sym, ◌∙◌, ap, arith, inl, inr, ◌⊎◌, length, ◌≢◌, cond}
+use Rattle.std.specs.Prelude.{Option, None, Some, ◌==◌, nat_le, nat_lt, slice_get, slice_set, unwrap_or}
+use Rattle.std.proofs.lemmas.Bool.Decides.{nat_tests}
+use Rattle.std.proofs.lemmas.List.{get_or-set_other}
+use Rattle.std.proofs.lemmas.Option.{unwrap_or-slice_get}
+use Rattle.vme_trace.specs.Instants.{any, every, least}
+use Rattle.vme_trace.specs.LineNumbers.{line_count, has_line, is_control}
+use Rattle.vme_trace.specs.Levels.{Levels, level_at, set_level, is_idle, is_idle_on, is_lost, is_high, is_known, same_level, loses_control}
+use Rattle.vme_trace.specs.Trace.{changed}
+use Rattle.vme_trace.specs.WellFormed.{are_changes}
+use Rattle.vme_trace.specs.Changes.{is_changed, touches_control, lost_among}
+use Rattle.vme_trace.specs.declared.level.Level.{Level}
+use Rattle.vme_trace.specs.declared.level.Level.TheVariants.{Unknown}
+use Rattle.vme_trace.specs.declared.step.Change.{Change}
+use Rattle.vme_trace.proofs.Ranges.{any-fails, fails-any, any-alike, least-is, least-none, clash}
+use Rattle.vme_trace.proofs.OpenTransfers.{bool_cases}
+
+or_false : (a b : Bool) → (a || b) ≡ false → (a ≡ false) × (b ≡ false)
+or_false true b h = absurd (cc)
+or_false false b h = (refl, h)
+
+and_true : (a b : Bool) → (a && b) ≡ true → (a ≡ true) × (b ≡ true)
+and_true true b h = (refl, h)
+and_true false b h = absurd (cc)
+
+differs : (m l : ℕ) → (m == l) ≡ false → l ≢ m
+differs m l h e = absurd (same m l h e)
+  where
+    same : (m l : ℕ) → (m == l) ≡ false → l ≡ m → ⊥
+    same m l h e = grind (arith, nat_tests)
+
+kept_set : (v : Levels) (m l : ℕ) (x : Level) → (m == l) ≡ false → level_at (set_level v m x) l ≡ level_at v l
+kept_set v m l x h = unwrap_or-slice_get (slice_set v.levels m x) l Unknown ∙ (get_or-set_other v.levels m l x Unknown (differs m l h) ∙ sym (unwrap_or-slice_get v.levels l Unknown))
+
+pub slots-kept : (v : Levels) (cs : List Change) → (changed v cs).slots ≡ v.slots
+unfolding changed
+slots-kept v [] = refl
+slots-kept v (c ∷ cs) = slots-kept (set_level v c.line c.level) cs
+
+-- a line that isn't changed keeps its level
+pub level-kept : (v : Levels) (cs : List Change) (l : ℕ) → is_changed cs l ≡ false → level_at (changed v cs) l ≡ level_at v l
+unfolding changed
+level-kept v [] l h = refl
+level-kept v (c ∷ cs) l h =
+    let both = or_false (c.line == l) (is_changed cs l) h in
+    level-kept (set_level v c.line c.level) cs l both.1 ∙ kept_set v c.line l c.level both.0
+
+untouched : (slots : ℕ) (cs : List Change) (l : ℕ) → touches_control slots cs ≡ false → is_control slots l ≡ true → is_changed cs l ≡ false
+untouched slots [] l h k = refl
+untouched slots (c ∷ cs) l h k =
+    let both = or_false (is_control slots c.line) (touches_control slots cs) h in
+    rw (untouched slots cs l both.1 k) (other (c.line == l) refl)
+  where
+    other : (b : Bool) → (c.line == l) ≡ b → (b || false) ≡ false
+    other false e = refl
+    other true e = absurd (clash (is_control slots l) k (ap (is_control slots) (sym (equal c.line l e)) ∙ (or_false (is_control slots c.line) (touches_control slots cs) h).0))
+      where
+        equal : (a b : ℕ) → (a == b) ≡ true → a ≡ b
+        equal a b h = grind (arith, nat_tests)
+
+idle_on-kept : (v : Levels) (cs : List Change) (l : ℕ) → touches_control v.slots cs ≡ false → is_idle_on (changed v cs) l ≡ is_idle_on v l
+idle_on-kept v cs l h = rw (slots-kept v cs) (by_control (is_control v.slots l) refl)
+  where
+    by_control : (b : Bool) → is_control v.slots l ≡ b → cond (not b) true (cond (nat_le l 4 || nat_le 50 l) (is_high (level_at (changed v cs) l)) (is_known (level_at (changed v cs) l))) ≡ cond (not b) true (cond (nat_le l 4 || nat_le 50 l) (is_high (level_at v l)) (is_known (level_at v l)))
+    by_control false e = refl
+    by_control true e = rw (level-kept v cs l (untouched v.slots cs l h e)) refl
+
+-- where no control line changes, a bus stays idle or not
+pub idle-kept : (v : Levels) (cs : List Change) → touches_control v.slots cs ≡ false → is_idle (changed v cs) ≡ is_idle v
+unfolding is_idle
+idle-kept v cs h = ap not (any-alike (λ l. not (is_idle_on (changed v cs) l)) (λ l. not (is_idle_on v l)) 0 line_count (λ l a b. ap not (idle_on-kept v cs l h)))
+
+lost-kept : (v : Levels) (cs : List Change) (l : ℕ) → is_lost v l ≡ false → is_changed cs l ≡ false → is_lost (changed v cs) l ≡ false
+lost-kept v cs l h k = rw (slots-kept v cs, level-kept v cs l k) h
+
+-- no change stands before the least that may
+below_changes : (v : Levels) (lowest l : ℕ) (cs : List Change) → are_changes v lowest cs ≡ true → l < lowest → is_changed cs l ≡ false
+unfolding are_changes
+below_changes v lowest l [] h b = refl
+below_changes v lowest l (c ∷ cs) h b =
+    let parts = and_true _ _ h in
+    let low = and_true _ _ (and_true _ _ parts.0).0 in
+    rw (below_changes v (c.line + 1) l cs parts.1 (past lowest c.line l low.0 b).0) (past lowest c.line l low.0 b).1
+  where
+    past : (k m l : ℕ) → nat_le k m ≡ true → l < k → (l < m + 1) × (((m == l) || false) ≡ false)
+    past k m l h b = (before k m l h b, unlike k m l h b)
+      where
+        before : (k m l : ℕ) → nat_le k m ≡ true → l < k → l < m + 1
+        before k m l h b = grind (arith, nat_tests)
+
+        unlike : (k m l : ℕ) → nat_le k m ≡ true → l < k → ((m == l) || false) ≡ false
+        unlike k m l h b = grind (arith, nat_tests)
+
+exists_below : (slots l : ℕ) → slots ≤ 21 → has_line slots l ≡ true → l < 159
+exists_below slots l few h = grind (arith, nat_tests)
+
+one_more : (l k : ℕ) → l < k → l < k + 1
+one_more l k h = omega arith
+
+module _ (v now : Levels) (few : v.slots ≤ 21) where
+  lost_here : (c : Change) (cs : List Change) (b : Bool) → is_lost now c.line ≡ b → c.line < line_count → any (is_lost now) 0 c.line ≡ false → (b ≡ false → lost_among now cs ≡ least (is_lost now) 0 line_count)
+      → cond b (Some c.line) (lost_among now cs) ≡ least (is_lost now) 0 line_count
+  lost_here c cs true e below before rest = sym (least-is (is_lost now) 0 line_count c.line (omega arith) below e before)
+  lost_here c cs false e below before rest = rest refl
+
+  unlike : (a b : ℕ) → b < a → (a == b) ≡ false
+  unlike a b h = grind (arith, nat_tests)
+
+  kept_else : (c : Change) (cs : List Change) → ((l : ℕ) → is_changed (c ∷ cs) l ≡ false → is_lost now l ≡ false) → is_lost now c.line ≡ false → (l : ℕ) → is_changed cs l ≡ false → is_lost now l ≡ false
+  kept_else c cs kept here l h = by_line (c.line == l) refl
+    where
+      equal : (a b : ℕ) → (a == b) ≡ true → a ≡ b
+      equal a b h = grind (arith, nat_tests)
+
+      by_line : (b : Bool) → (c.line == l) ≡ b → is_lost now l ≡ false
+      by_line true e = ap (is_lost now) (sym (equal c.line l e)) ∙ here
+      by_line false e = kept l (rw (e, h) refl)
+
+  first_lost : (lowest : ℕ) (cs : List Change) → are_changes v lowest cs ≡ true → ((l : ℕ) → is_changed cs l ≡ false → is_lost now l ≡ false) → lost_among now cs ≡ least (is_lost now) 0 line_count
+  unfolding are_changes
+  first_lost lowest [] h kept = sym (least-none (is_lost now) 0 line_count (fails-any (is_lost now) 0 line_count (λ l a b. kept l refl)))
+  first_lost lowest (c ∷ cs) h kept =
+      let parts = and_true _ _ h in
+      let exists = (and_true _ _ (and_true _ _ parts.0).0).1 in
+      lost_here c cs (is_lost now c.line) refl (exists_below v.slots c.line few exists)
+      (fails-any (is_lost now) 0 c.line (λ l a b. kept l (rw (unlike c.line l b, below_changes v (c.line + 1) l cs parts.1 (one_more l c.line b)) refl)))
+      (λ e. first_lost (c.line + 1) cs parts.1 (kept_else c cs kept e))
+
+none_lost : (v : Levels) (l : ℕ) → v.slots ≤ 21 → loses_control v ≡ false → is_lost v l ≡ false
+unfolding loses_control
+none_lost v l few h = by_test (is_lost v l) refl
+  where
+    control_exists : (a b : Bool) → (a && b) ≡ true → a ≡ true
+    control_exists true b h = refl
+    control_exists false b h = absurd (cc)
+
+    by_test : (b : Bool) → is_lost v l ≡ b → b ≡ false
+    by_test false e = refl
+    by_test true e = absurd (clash (is_lost v l) e (any-fails (is_lost v) 0 line_count l h (omega arith) (exists_below v.slots l few (control_exists (has_line v.slots l) _ (control_exists (is_control v.slots l) _ e)))))
+
+-- so the first changed line that is lost is the least lost line
+pub lost-least : (v : Levels) (cs : List Change) → v.slots ≤ 21 → are_changes v 0 cs ≡ true → loses_control v ≡ false → lost_among (changed v cs) cs ≡ least (is_lost (changed v cs)) 0 line_count
+lost-least v cs few h held = first_lost v (changed v cs) few 0 cs h (λ l k. lost-kept v cs l (none_lost v l few held) k)
+
+-- and where no control line is among the changes, none is lost
+pub lost-untouched : (now : Levels) (cs : List Change) → touches_control now.slots cs ≡ false → lost_among now cs ≡ None
+lost-untouched now [] h = refl
+lost-untouched now (c ∷ cs) h =
+    let both = or_false (is_control now.slots c.line) (touches_control now.slots cs) h in
+    rw (both.0, lost-untouched now cs both.1) refl

@@ -1,0 +1,142 @@
+-- Lines and rules differ in their names.
+use Rattle.std.proofs.Common.{◌≡◌, ℕ, ◌+◌, ◌<◌, ◌≤◌, Bool, true, false, not, List, [], ◌∷◌, map, refl, sym, ◌∙◌, ap, arith, inl, inr, ◌⊎◌, get_or, cond}
+use Rattle.std.specs.Prelude.{Option, None, Some, IfSome, bytes_eq, decimal, find, nat_lt}
+use Rattle.std.specs.Fmt.{digits}
+use Rattle.std.specs.List.{range_with_len}
+use Rattle.std.proofs.lemmas.Bool.Decides.{nat_tests}
+use Rattle.std.proofs.lemmas.List.FromFn.{get_or-map-range_with_len}
+use Rattle.std.proofs.lemmas.Slice.Eq.{bytes_eq-Decides}
+use Rattle.vme_trace.specs.Instants.{any, none, every, least}
+use Rattle.vme_trace.specs.LineNumbers.{line_count}
+use Rattle.vme_trace.specs.Names.{two_digits, line_name, line_named, is_line_name, rule_name, rule_named, is_rule_name}
+use Rattle.vme_trace.specs.Verdict.{all_rules}
+use Rattle.vme_trace.specs.declared.rule.Rule.{Rule}
+use Rattle.vme_trace.specs.declared.rule.Rule.TheVariants.{U1, U2, U3, H1, H2, H3, H4, H5, H6, H7, H8, S1, S2, C1, C2, G1, G2, G3, G4, G5, B1, B2, B3, B4, I1, I2, I3, I4, I5}
+use Rattle.vme_trace.proofs.Ranges.{any-fails, least-is, least-none, least-found, fails-any, clash}
+
+numbers : map (λ n. cond (nat_lt n 10) (two_digits n) (decimal n)) (range_with_len 0 100) ≡ map two_digits (range_with_len 0 100)
+unfolding digits
+numbers = refl
+
+-- from 10 on two digits are what is written
+pub decimal-two_digits : (n : ℕ) → 10 ≤ n → n < 100 → decimal n ≡ two_digits n
+decimal-two_digits n low high =
+    sym (later (nat_lt n 10) (not_below n low))
+    ∙ sym (get_or-map-range_with_len (λ n. cond (nat_lt n 10) (two_digits n) (decimal n)) 0 100 n n [] high (omega arith))
+    ∙ ap (λ t. get_or t n []) numbers
+    ∙ get_or-map-range_with_len two_digits 0 100 n n [] high (omega arith)
+  where
+    not_below : (n : ℕ) → 10 ≤ n → nat_lt n 10 ≡ false
+    not_below n h = grind (arith, nat_tests)
+
+    later : (b : Bool) → b ≡ false → cond b (two_digits n) (decimal n) ≡ decimal n
+    later b h = rw h refl
+
+pub same_text : (a b : List ℕ) → bytes_eq a b ≡ true → a ≡ b
+same_text a b h = (bytes_eq-Decides a b).0 h
+
+pub text-same : (a b : List ℕ) → a ≡ b → bytes_eq a b ≡ true
+text-same a b h = (bytes_eq-Decides a b).1 h
+
+-- each line's name differs from those of the lines before
+all_differ : every (λ m. none (λ n. bytes_eq (line_name n) (line_name m)) 0 m) 0 line_count ≡ true
+unfolding any digits
+all_differ = refl
+
+true_of_not : (b : Bool) → not b ≡ false → b ≡ true
+true_of_not true h = refl
+true_of_not false h = absurd (cc)
+
+false_of_not : (b : Bool) → not b ≡ true → b ≡ false
+false_of_not true h = absurd (cc)
+false_of_not false h = refl
+
+later_differs : (n m : ℕ) → n < m → m < line_count → line_name n ≡ line_name m → ⊥
+later_differs n m before below e =
+    let alone = true_of_not (none (λ k. bytes_eq (line_name k) (line_name m)) 0 m) (any-fails (λ k. not (none (λ n. bytes_eq (line_name n) (line_name k)) 0 k)) 0 line_count m (false_of_not _ all_differ) (omega arith) below) in
+    clash (bytes_eq (line_name n) (line_name m)) (text-same _ _ e) (any-fails (λ k. bytes_eq (line_name k) (line_name m)) 0 m n (false_of_not _ alone) (omega arith) before)
+
+order_of : (n m : ℕ) → (n < m) ⊎ ((n ≡ m) ⊎ (m < n))
+order_of n m = grind arith
+
+-- lines of one name are one line
+pub line_name-injective : (n m : ℕ) → n < line_count → m < line_count → line_name n ≡ line_name m → n ≡ m
+line_name-injective n m a b e =
+    elim (order_of n m) [
+      | inl before ↦ absurd (later_differs n m before b e)
+      | inr not_before ↦ elim not_before [ inl same ↦ same | inr after ↦ absurd (later_differs m n after a (sym e)) ]
+    ]
+
+not_true : (b : Bool) → (b ≡ true → ⊥) → b ≡ false
+not_true true h = absurd (h refl)
+not_true false h = refl
+
+-- the line of a name is the one that has it
+pub line_named-is : (n : ℕ) (name : List ℕ) → n < line_count → line_name n ≡ name → line_named name ≡ Some n
+unfolding line_named
+line_named-is n name below e =
+    least-is (is_line_name name) 0 line_count n (omega arith) below (text-same _ _ e)
+    (fails-any (is_line_name name) 0 n (λ l a b. not_true _ (λ h. apart l b (line_name-injective l n (omega arith) below (same_text _ _ h ∙ sym e)))))
+  where
+    apart : (l : ℕ) → l < n → l ≡ n → ⊥
+    apart l b e = omega arith
+
+pub line_named-none : (name : List ℕ) → ((n : ℕ) → n < line_count → line_name n ≡ name → ⊥) → line_named name ≡ None
+unfolding line_named
+line_named-none name unlike = least-none (is_line_name name) 0 line_count (fails-any (is_line_name name) 0 line_count (λ l a b. not_true _ (λ h. unlike l b (same_text _ _ h))))
+
+pub line_named-found : (n : ℕ) (name : List ℕ) → line_named name ≡ Some n → (n < line_count) × (line_name n ≡ name)
+unfolding line_named
+line_named-found n name e = let found = least-found (is_line_name name) 0 line_count n e in (found.below, same_text _ _ found.holds)
+
+own : (r : Rule) → rule_named (rule_name r) ≡ Some r
+unfolding rule_named
+own U1 = refl
+own U2 = refl
+own U3 = refl
+own H1 = refl
+own H2 = refl
+own H3 = refl
+own H4 = refl
+own H5 = refl
+own H6 = refl
+own H7 = refl
+own H8 = refl
+own S1 = refl
+own S2 = refl
+own C1 = refl
+own C2 = refl
+own G1 = refl
+own G2 = refl
+own G3 = refl
+own G4 = refl
+own G5 = refl
+own B1 = refl
+own B2 = refl
+own B3 = refl
+own B4 = refl
+own I1 = refl
+own I2 = refl
+own I3 = refl
+own I4 = refl
+own I5 = refl
+
+pub rule_named-is : (r : Rule) (name : List ℕ) → rule_name r ≡ name → rule_named name ≡ Some r
+rule_named-is r name e = ap rule_named (sym e) ∙ own r
+
+find-step : (p : Rule → Bool) (q r : Rule) (later : Option Rule) (b : Bool) → p q ≡ b → cond b (Some q) later ≡ Some r → (later ≡ Some r → p r ≡ true) → p r ≡ true
+find-step p q r later true h e rest = let same : q ≡ r = cc in ap p (sym same) ∙ h
+find-step p q r later false h e rest = rest e
+
+find-holds : (p : Rule → Bool) (rs : List Rule) (r : Rule) → find p rs ≡ Some r → p r ≡ true
+find-holds p [] r e = absurd (cc)
+find-holds p (q ∷ rs) r e = find-step p q r (find p rs) (p q) refl e (find-holds p rs r)
+
+pub rule_named-found : (r : Rule) (name : List ℕ) → rule_named name ≡ Some r → rule_name r ≡ name
+unfolding rule_named
+rule_named-found r name e = same_text _ _ (find-holds (is_rule_name name) all_rules r e)
+
+-- so of what is found it is the name
+pub named_by : (o : Option Rule) (name : List ℕ) → o ≡ rule_named name → IfSome o (λ r. rule_name r ≡ name)
+named_by None name e = tt
+named_by (Some r) name e = rule_named-found r name (sym e)

@@ -1,0 +1,209 @@
+-- Laws of the searches over a range.
+use Rattle.std.proofs.Common.{◌≡◌, ℕ, zero, suc, ◌+◌, ◌<◌, ◌≤◌, Bool, true, false, ◌&&◌, ◌||◌, not, refl, sym, ◌∙◌, ap, arith, add-one, inl, inr, ◌⊎◌, cond, subst}
+use Rattle.std.specs.Prelude.{Option, None, Some, nat_le}
+use Rattle.std.proofs.lemmas.Bool.Decides.{nat_tests}
+use Rattle.vme_trace.specs.Instants.{any, every, least}
+
+-- one more at the end
+pub any-step : (p : ℕ → Bool) (f n : ℕ) → any p f (n + 1) ≡ (any p f n || (nat_le f n && p n))
+unfolding any
+any-step p f n = rw add-one refl
+
+or_holds : (p : ℕ → Bool) (f n i : ℕ) (a : Bool) → f ≤ i → i < suc n → p i ≡ true → (i < n → a ≡ true) → (a || (nat_le f n && p n)) ≡ true
+or_holds p f n i a in_range below h rest = grind (arith, nat_tests)
+
+or_fails : (p : ℕ → Bool) (f n i : ℕ) (a : Bool) → (a || (nat_le f n && p n)) ≡ false → f ≤ i → i < suc n → (a ≡ false → i < n → p i ≡ false) → p i ≡ false
+or_fails p f n i a none in_range below rest = grind (arith, nat_tests)
+
+last_or_before : (n i : ℕ) → i < suc n → (i ≡ n) ⊎ (i < n)
+last_or_before n i h = grind arith
+
+le_from : (f n : ℕ) → nat_le f n ≡ true → f ≤ n
+le_from f n h = grind (arith, nat_tests)
+
+here : (p : ℕ → Bool) (f i : ℕ) → f ≤ i → p i ≡ true → (nat_le f i && p i) ≡ true
+here p f i in_range h = grind (arith, nat_tests)
+
+or_none : (a b : Bool) → (a || b) ≡ false → (a ≡ false) × (b ≡ false)
+or_none true b h = absurd (cc)
+or_none false b h = (refl, h)
+
+-- where one of the range holds, the test finds it
+pub any-holds : (p : ℕ → Bool) (f n i : ℕ) → f ≤ i → i < n → p i ≡ true → any p f n ≡ true
+unfolding any
+any-holds p f zero i in_range below h = absurd (omega arith)
+any-holds p f (suc n) i in_range below h = or_holds p f n i (any p f n) in_range below h (λ b. any-holds p f n i in_range b h)
+
+-- where the test finds none, none holds
+pub any-fails : (p : ℕ → Bool) (f n i : ℕ) → any p f n ≡ false → f ≤ i → i < n → p i ≡ false
+unfolding any
+any-fails p f zero i none in_range below = absurd (omega arith)
+any-fails p f (suc n) i none in_range below = or_fails p f n i (any p f n) none in_range below (λ e b. any-fails p f n i e in_range b)
+
+and_fails : (p : ℕ → Bool) (f n : ℕ) → (f ≤ n → p n ≡ false) → (nat_le f n && p n) ≡ false
+and_fails p f n h = grind (arith, nat_tests)
+
+-- where none holds, the test finds none
+pub fails-any : (p : ℕ → Bool) (f n : ℕ) → ((i : ℕ) → f ≤ i → i < n → p i ≡ false) → any p f n ≡ false
+unfolding any
+fails-any p f zero h = refl
+fails-any p f (suc n) h = rw (fails-any p f n (λ i a b. h i a (omega arith)), and_fails p f n (λ a. h n a (omega arith))) refl
+
+pub any-empty : (p : ℕ → Bool) (f : ℕ) → any p f 0 ≡ false
+unfolding any
+any-empty p f = refl
+
+-- the least is found where none before holds
+pub least-is : (p : ℕ → Bool) (f n i : ℕ) → f ≤ i → i < n → p i ≡ true → any p f i ≡ false → least p f n ≡ Some i
+unfolding least any
+least-is p f zero i in_range below h first = absurd (omega arith)
+least-is p f (suc n) i in_range below h first =
+    elim (last_or_before n i below) [
+      | inl e ↦ rw (← e) (rw (first, here p f i in_range h) refl)
+      | inr b ↦ rw (any-holds p f n i in_range b h) (least-is p f n i in_range b h first)
+    ]
+
+least_nowhere : (a b : Bool) (o : Option ℕ) (n : ℕ) → o ≡ None → a ≡ false → b ≡ false → (cond a o (cond b (Some n) None)) ≡ None
+least_nowhere a b o n e h k = rw (h, k) refl
+
+-- where one of the range fails, not every one holds
+pub every-fails : (p : ℕ → Bool) (f n i : ℕ) → f ≤ i → i < n → p i ≡ false → every p f n ≡ false
+every-fails p f n i in_range below h = rw (any-holds (λ k. not (p k)) f n i in_range below (rw h refl)) refl
+
+-- there is no least where none holds
+pub least-none : (p : ℕ → Bool) (f n : ℕ) → any p f n ≡ false → least p f n ≡ None
+unfolding least any
+least-none p f zero none = refl
+least-none p f (suc n) none = least_nowhere _ _ _ _ (least-none p f n (or_none _ _ none).0) (or_none _ _ none).0 (or_none _ _ none).1
+
+chosen : (b : Bool) (x y z : Option ℕ) → cond b x y ≡ z → ((b ≡ true) × (x ≡ z)) ⊎ ((b ≡ false) × (y ≡ z))
+chosen true x y z h = inl (refl, h)
+chosen false x y z h = inr (refl, h)
+
+and_holds : (a b : Bool) → (a && b) ≡ true → (a ≡ true) × (b ≡ true)
+and_holds true b h = (refl, h)
+and_holds false b h = absurd (cc)
+
+-- what it is to be the least
+pub record IsLeast (p : ℕ → Bool) (f n i : ℕ) : Type 0 where
+  pub first : f ≤ i
+  pub below : i < n
+  pub holds : p i ≡ true
+  pub least : any p f i ≡ false
+
+is_least_more : (p : ℕ → Bool) (f n i : ℕ) → IsLeast p f n i → IsLeast p f (suc n) i
+is_least_more p f n i h = record { first = h.first; below = omega arith; holds = h.holds; least = h.least }
+
+last_is : (n i : ℕ) (b : Bool) → cond b (Some n) None ≡ Some i → (b ≡ true) × (n ≡ i)
+last_is n i true h = (refl, cc)
+last_is n i false h = absurd (cc)
+
+-- the least that was found is the least
+pub least-found : (p : ℕ → Bool) (f n i : ℕ) → least p f n ≡ Some i → IsLeast p f n i
+unfolding least any
+least-found p f zero i h = absurd (cc)
+least-found p f (suc n) i h =
+    elim (chosen (any p f n) (least p f n) (cond (nat_le f n && p n) (Some n) None) (Some i) h) [
+      | inl found ↦ is_least_more p f n i (least-found p f n i found.1)
+      | inr none ↦
+          let here = last_is n i (nat_le f n && p n) none.1 in
+          let both = and_holds (nat_le f n) (p n) here.0 in
+          subst (λ k. IsLeast p f (suc n) k) here.1 (record { first = le_from f n both.0; below = omega arith; holds = both.1; least = none.0 })
+    ]
+
+both_alike : (p q : ℕ → Bool) (f n : ℕ) → (f ≤ n → p n ≡ q n) → (nat_le f n && p n) ≡ (nat_le f n && q n)
+both_alike p q f n alike = grind (arith, nat_tests)
+
+some_or_none : (o : Option ℕ) → (o ≡ None → ⊥) → (i : ℕ) × (o ≡ Some i)
+some_or_none None not_none = absurd (not_none refl)
+some_or_none (Some i) not_none = (i, refl)
+
+pub clash : (b : Bool) → b ≡ true → b ≡ false → ⊥
+clash b h k = cc
+
+cond_none : (n : ℕ) (b : Bool) → cond b (Some n) None ≡ None → b ≡ false
+cond_none n true h = absurd (cc)
+cond_none n false h = refl
+
+-- tests that agree in the range find the same
+pub any-alike : (p q : ℕ → Bool) (f n : ℕ) → ((i : ℕ) → f ≤ i → i < n → p i ≡ q i) → any p f n ≡ any q f n
+unfolding any
+any-alike p q f zero alike = refl
+any-alike p q f (suc n) alike = rw (any-alike p q f n (λ i a b. alike i a (omega arith))) (ap (λ b. any q f n || b) (both_alike p q f n (λ a. alike n a (omega arith))))
+
+-- and have the same least
+pub least-alike : (p q : ℕ → Bool) (f n : ℕ) → ((i : ℕ) → f ≤ i → i < n → p i ≡ q i) → least p f n ≡ least q f n
+unfolding least
+least-alike p q f zero alike = refl
+least-alike p q f (suc n) alike =
+    rw (any-alike p q f n (λ i a b. alike i a (omega arith)), least-alike p q f n (λ i a b. alike i a (omega arith)), both_alike p q f n (λ a. alike n a (omega arith))) refl
+
+-- where there is no least, none holds
+pub least-none-any : (p : ℕ → Bool) (f n : ℕ) → least p f n ≡ None → any p f n ≡ false
+unfolding least any
+least-none-any p f zero e = refl
+least-none-any p f (suc n) e =
+    elim (chosen (any p f n) (least p f n) (cond (nat_le f n && p n) (Some n) None) None e) [
+      | inl found ↦ absurd (clash (any p f n) found.0 (least-none-any p f n found.1))
+      | inr none ↦ rw (none.0, cond_none n (nat_le f n && p n) none.1) refl
+    ]
+
+-- where some holds, there is a least
+pub any-least : (p : ℕ → Bool) (f n : ℕ) → any p f n ≡ true → (i : ℕ) × (least p f n ≡ Some i)
+any-least p f n h = some_or_none (least p f n) (λ e. clash (any p f n) h (least-none-any p f n e))
+
+-- one more holds
+pub every-more : (p : ℕ → Bool) (f n : ℕ) → every p f n ≡ true → p n ≡ true → every p f (n + 1) ≡ true
+every-more p f n so_far here = ap not (any-step (λ k. not (p k)) f n) ∙ more (any (λ k. not (p k)) f n) (nat_le f n) (p n) so_far here
+  where
+    more : (a b c : Bool) → not a ≡ true → c ≡ true → not (a || (b && not c)) ≡ true
+    more true b c h k = absurd (cc)
+    more false true c h k = rw k refl
+    more false false c h k = refl
+
+or_splits : (a b : Bool) → not (a || b) ≡ (not a && not b)
+or_splits true b = refl
+or_splits false b = refl
+
+pub every-empty : (p : ℕ → Bool) (f : ℕ) → every p f f ≡ true
+every-empty p f = ap not (fails-any (λ k. not (p k)) f f (λ i a b. absurd (omega arith)))
+
+any-split : (p : ℕ → Bool) (f m n : ℕ) → f ≤ m → m ≤ n → any p f n ≡ (any p f m || any p m n)
+unfolding any
+any-split p f zero zero a b = refl
+any-split p f (suc m) zero a b = absurd (omega arith)
+any-split p f m (suc n) a b =
+    elim (same_or_below m n b) [
+      | inl e ↦ subst (λ k. any p f (suc n) ≡ (any p f k || any p k (suc n))) (sym e) (or_false (any p f (suc n)) (any p (suc n) (suc n)) (any_after p (suc n)))
+      | inr c ↦ rw (any-split p f m n a c) (regroup (any p f m) (any p m n) (nat_le f n) (nat_le m n) (p n) (from f n (omega arith)) (from m n c))
+    ]
+  where
+    same_or_below : (m n : ℕ) → m ≤ suc n → (m ≡ suc n) ⊎ (m ≤ n)
+    same_or_below m n h = grind arith
+
+    any_after : (p : ℕ → Bool) (m : ℕ) → any p m m ≡ false
+    any_after p m = fails-any p m m (λ i a b. absurd (omega arith))
+
+    or_false : (a b : Bool) → b ≡ false → a ≡ (a || b)
+    or_false true b h = refl
+    or_false false b h = sym h
+
+    from : (f n : ℕ) → f ≤ n → nat_le f n ≡ true
+    from f n h = grind (arith, nat_tests)
+
+    regroup : (a b x y z : Bool) → x ≡ true → y ≡ true → (a || b || (x && z)) ≡ (a || (b || (y && z)))
+    regroup true b x y z h k = refl
+    regroup false b x y z h k = rw (h, k) refl
+
+-- a range in two parts
+pub every-split : (p : ℕ → Bool) (f m n : ℕ) → f ≤ m → m ≤ n → every p f n ≡ (every p f m && every p m n)
+every-split p f m n a b = ap not (any-split (λ k. not (p k)) f m n a b) ∙ or_splits (any (λ k. not (p k)) f m) (any (λ k. not (p k)) m n)
+
+pub every-alike : (p q : ℕ → Bool) (f n : ℕ) → ((i : ℕ) → f ≤ i → i < n → p i ≡ q i) → every p f n ≡ every q f n
+every-alike p q f n alike = ap not (any-alike (λ k. not (p k)) (λ k. not (q k)) f n (λ i a b. ap not (alike i a b)))
+
+pub every-holds : (p : ℕ → Bool) (f n : ℕ) → ((i : ℕ) → f ≤ i → i < n → p i ≡ true) → every p f n ≡ true
+every-holds p f n h = ap not (fails-any (λ k. not (p k)) f n (λ i a b. ap not (h i a b)))
+
+-- for the goals of a loop that searches a range
+pub ruleset searches = (any-step, any-holds, any-fails, any-empty, every-empty, every-fails, least-is, least-none, nat_tests)

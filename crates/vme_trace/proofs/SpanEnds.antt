@@ -1,0 +1,125 @@
+-- Where a span ends, what can be read within it, and what breaks there.
+use Rattle.std.proofs.Common.{lit<, lit≤, ◌≡◌, ℕ, zero, suc, ◌+◌, ◌<◌, ◌≤◌, Bool, true, false, ◌||◌, ◌&&◌, not, List, refl, sym, ◌∙◌, ap, arith, inl, inr, ◌⊎◌}
+use Rattle.std.specs.Prelude.{Option, None, Some, slice_get, ◌==◌, nat_le, unwrap_or}
+use Rattle.std.proofs.lemmas.Bool.Decides.{nat_tests}
+use Rattle.vme_trace.specs.Instants.{any, least}
+use Rattle.vme_trace.specs.LineNumbers.{line_count, has_line}
+use Rattle.vme_trace.specs.Levels.{Levels, is_idle, is_idle_on, is_lost, loses_control}
+use Rattle.vme_trace.specs.Trace.{Trace, levels_at, after, last_instant}
+use Rattle.vme_trace.specs.Signals.{high, known}
+use Rattle.vme_trace.specs.Judged.{Span, span_from, span_end, is_idle_at, loses_control_at}
+use Rattle.vme_trace.specs.Rules.{breaks, is_broken}
+use Rattle.vme_trace.specs.Verdict.{break_before}
+use Rattle.vme_trace.specs.declared.step.Step.{Step}
+use Rattle.vme_trace.specs.declared.rule.Rule.{Rule}
+use Rattle.vme_trace.specs.declared.rule.Rule.TheVariants.{U1}
+use Rattle.vme_trace.specs.declared.verdict.Break.{Break}
+use Rattle.vme_trace.proofs.Ranges.{any-fails, least-is, least-found, least-none-any, clash}
+use Rattle.vme_trace.proofs.OpenTransfers.{ReadsStrobes}
+use Rattle.vme_trace.proofs.Changing.{slots-kept}
+
+suc-is : (n : ℕ) → suc n ≡ n + 1
+suc-is n = omega arith
+
+-- the end of a span is past the instants at which nothing was lost
+pub end-past : (t : Trace) (s n : ℕ) → any (loses_control_at t) (s + 1) (n + 1) ≡ false → n ≤ last_instant t → n < span_end t s
+unfolding span_end
+end-past t s n held within = past (least (loses_control_at t) (s + 1) (last_instant t + 1)) refl
+  where
+    below_or_not : (n w : ℕ) → (n < w) ⊎ (w ≤ n)
+    below_or_not n w = grind arith
+
+    past : (o : Option ℕ) → least (loses_control_at t) (s + 1) (last_instant t + 1) ≡ o → n < unwrap_or o (last_instant t + 1)
+    past None e = omega arith
+    past (Some w) e = let found = least-found (loses_control_at t) (s + 1) (last_instant t + 1) w e in
+        elim (below_or_not n w) [
+          | inl below ↦ below
+          | inr above ↦ absurd (clash (loses_control_at t w) found.holds (any-fails (loses_control_at t) (s + 1) (n + 1) w held found.first (omega arith)))
+        ]
+
+-- and is the first at which something is
+pub end-is : (t : Trace) (s n : ℕ) → any (loses_control_at t) (s + 1) (n + 1) ≡ false → s ≤ n → n < last_instant t → loses_control_at t (suc n) ≡ true → span_end t s ≡ suc n
+unfolding span_end
+end-is t s n held from within lost =
+    rw (least-is (loses_control_at t) (s + 1) (last_instant t + 1) (suc n) (omega arith) (omega arith) lost (ap (any (loses_control_at t) (s + 1)) (suc-is n) ∙ held)) refl
+
+slots-after : (v : Levels) (step : Option Step) → (after v step).slots ≡ v.slots
+slots-after v None = refl
+slots-after v (Some step) = slots-kept v step.changes
+
+-- the slots don't change
+pub slots_at : (t : Trace) (n : ℕ) → (levels_at t n).slots ≡ t.opening.slots
+unfolding levels_at
+slots_at t zero = refl
+slots_at t (suc n) = slots-after (levels_at t n) (slice_get t.steps n) ∙ slots_at t n
+
+ends_in_false : (a b c d : Bool) → d ≡ false → (a && (b && c && d)) ≡ false
+ends_in_false a b c d h = grind (arith, nat_tests)
+
+all_but_last : (a b c d e f : Bool) → a ≡ d → b ≡ true → c ≡ true → (a && (b && c && (d && e && f))) ≡ (d && e && f)
+all_but_last a b c true e f h k m = rw (h, k, m) refl
+all_but_last a b c false e f h k m = rw h refl
+
+module _ (t : Trace) (s n : ℕ) where
+  -- at a judged instant U1 isn't broken
+  pub u1-held : loses_control_at t (suc n) ≡ false → (l : ℕ) → l < line_count → breaks t (span_from t s) U1 (suc n) l ≡ false
+  unfolding breaks is_broken loses_control_at loses_control
+  u1-held held l below = ends_in_false (has_line t.opening.slots l) (suc n == span_end t s) (nat_le (suc n) (last_instant t)) (is_lost (levels_at t (suc n)) l) (any-fails (is_lost (levels_at t (suc n))) 0 line_count l held (omega arith) below)
+
+  -- at the end of the span it is, on each lost line
+  pub u1-lost : span_end t s ≡ suc n → n < last_instant t → (l : ℕ) → breaks t (span_from t s) U1 (suc n) l ≡ is_lost (levels_at t (suc n)) l
+  unfolding breaks is_broken
+  u1-lost ends within l =
+      all_but_last (has_line t.opening.slots l) (suc n == span_end t s) (nat_le (suc n) (last_instant t)) (has_line (levels_at t (suc n)).slots l) _ _
+      (ap (λ slots. has_line slots l) (sym (slots_at t (suc n)))) (equal_test (suc n) (span_end t s) (sym ends)) (le_test n (last_instant t) within)
+    where
+      equal_test : (a b : ℕ) → a ≡ b → (a == b) ≡ true
+      equal_test a b h = grind (arith, nat_tests)
+
+      le_test : (a b : ℕ) → a < b → nat_le (suc a) b ≡ true
+      le_test a b h = grind (arith, nat_tests)
+
+true_of_not : (b : Bool) → not b ≡ false → b ≡ true
+true_of_not true h = refl
+true_of_not false h = absurd (cc)
+
+false_of_not : (b : Bool) → not b ≡ true → b ≡ false
+false_of_not true h = absurd (cc)
+false_of_not false h = refl
+
+-- within a span nothing is lost
+pub not_lost : (t : Trace) (s j : ℕ) → s < j → j < span_end t s → loses_control_at t j ≡ false
+unfolding span_end
+not_lost t s j after before = by_end (least (loses_control_at t) (s + 1) (last_instant t + 1)) refl before
+  where
+    by_end : (o : Option ℕ) → least (loses_control_at t) (s + 1) (last_instant t + 1) ≡ o → j < unwrap_or o (last_instant t + 1) → loses_control_at t j ≡ false
+    by_end None e b = any-fails (loses_control_at t) (s + 1) (last_instant t + 1) j (least-none-any (loses_control_at t) (s + 1) (last_instant t + 1) e) (omega arith) b
+    by_end (Some w) e b = let found = least-found (loses_control_at t) (s + 1) (last_instant t + 1) w e in any-fails (loses_control_at t) (s + 1) w j found.least (omega arith) b
+
+-- after an idle instant the strobes can be read
+pub reads_strobes : (t : Trace) (s : ℕ) → is_idle_at t s ≡ true → ReadsStrobes t (span_from t s)
+unfolding is_idle_at is_idle high known loses_control_at loses_control
+reads_strobes t s idle = record {
+  opens = both (idle_line 1 (lit< tt)) (idle_line 2 (lit< tt));
+  first = λ j a b. true_of_not _ (any-fails (is_lost (levels_at t j)) 0 line_count 1 (not_lost t s j a b) (lit≤ tt) (lit< tt));
+  second = λ j a b. true_of_not _ (any-fails (is_lost (levels_at t j)) 0 line_count 2 (not_lost t s j a b) (lit≤ tt) (lit< tt));
+}
+  where
+    idle_line : (l : ℕ) → l < 159 → is_idle_on (levels_at t s) l ≡ true
+    idle_line l below = true_of_not _ (any-fails (λ k. not (is_idle_on (levels_at t s) k)) 0 line_count l (false_of_not _ idle) (omega arith) below)
+
+    both : {a b : Bool} → a ≡ true → b ≡ true → (a && b) ≡ true
+    both h k = rw (h, k) refl
+
+last_or_before : (j k : ℕ) → j ≤ suc k → (j ≡ suc k) ⊎ (j ≤ k)
+last_or_before j k h = grind arith
+
+-- a break stays the least, whatever comes later
+pub break_before-stays : (t : Trace) (span : Span) (rules : List Rule) (b : Break) (j k : ℕ) → break_before t span rules j ≡ Some b → j ≤ k → break_before t span rules k ≡ Some b
+unfolding break_before
+break_before-stays t span rules b j zero first order = let e : j ≡ 0 = omega arith in rw e at first
+break_before-stays t span rules b j (suc k) first order =
+    elim (last_or_before j k order) [
+      | inl e ↦ rw e at first
+      | inr before ↦ rw (break_before-stays t span rules b j k first before) refl
+    ]

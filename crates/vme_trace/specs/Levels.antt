@@ -1,0 +1,69 @@
+-- The levels that the lines of a backplane show at one instant, and what they say by themselves.
+use Rattle.std.specs.Prelude.{ℕ, Bool, true, false, not, ◌+◌, ◌&&◌, ◌||◌, List, slice_set, slice_get, unwrap_or, nat_le, if◌then◌else◌}
+use Rattle.vme_trace.specs.Instants.{any, every}
+use Rattle.vme_trace.specs.LineNumbers.{line_count, AS, BERR, IACK, BBSY, BR, grant, iack, is_net, is_control}
+use Rattle.vme_trace.specs.declared.level.Level.{Level}
+use Rattle.vme_trace.specs.declared.level.Level.TheVariants.{Low, High, Unknown}
+
+pub record Levels : Type 0 where
+  pub slots : ℕ
+  pub levels : List Level
+
+abbrev pub level_at : Levels → ℕ → Level
+level_at v l = unwrap_or (slice_get v.levels l) Unknown
+
+abbrev pub set_level : Levels → ℕ → Level → Levels
+set_level v l x = record v { levels = slice_set v.levels l x }
+
+abbrev pub is_low : Level → Bool
+is_low Low = true
+is_low High = false
+is_low Unknown = false
+
+abbrev pub is_high : Level → Bool
+is_high Low = false
+is_high High = true
+is_high Unknown = false
+
+abbrev pub is_known : Level → Bool
+is_known Low = true
+is_known High = true
+is_known Unknown = false
+
+abbrev pub same_level : Level → Level → Bool
+same_level a b = (is_low a && is_low b) || (is_high a && is_high b) || (not (is_known a) && not (is_known b))
+
+abbrev pub is_high_on : Levels → ℕ → Bool
+is_high_on v l = is_high (level_at v l)
+
+abbrev pub is_known_on : Levels → ℕ → Bool
+is_known_on v l = is_known (level_at v l)
+
+-- the line shows what an idle bus shows on it: a control line is known, and the address strobe, a data
+-- strobe, an answer or a net is high
+abbrev pub is_idle_on : Levels → ℕ → Bool
+is_idle_on v l = if not (is_control v.slots l) then true else if nat_le l BERR || is_net l then is_high_on v l else is_known_on v l
+
+-- each line shows what an idle bus shows on it
+unfoldable pub is_idle : Levels → Bool
+is_idle v = every (is_idle_on v) 0 line_count
+
+-- the same, by the ranges of lines that the backplane has
+abbrev pub idle_by_ranges : Levels → Bool
+idle_by_ranges v =
+    every (is_high_on v) AS (BERR + 1)
+    && every (is_known_on v) IACK (IACK + 1)
+    && every (is_known_on v) BBSY (BR 3 + 1)
+    && every (is_high_on v) (grant 0 0) (grant 0 v.slots + 1)
+    && every (is_high_on v) (grant 1 0) (grant 1 v.slots + 1)
+    && every (is_high_on v) (grant 2 0) (grant 2 v.slots + 1)
+    && every (is_high_on v) (grant 3 0) (grant 3 v.slots + 1)
+    && every (is_high_on v) (iack 1) (iack v.slots + 1)
+
+-- a control line of which nothing is known
+abbrev pub is_lost : Levels → ℕ → Bool
+is_lost v l = is_control v.slots l && not (is_known_on v l)
+
+-- some control line is unknown
+unfoldable pub loses_control : Levels → Bool
+loses_control v = any (is_lost v) 0 line_count

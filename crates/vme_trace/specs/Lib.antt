@@ -1,0 +1,17 @@
+pub mod Block
+pub mod Blocks
+pub mod Changes
+pub mod Cycle
+pub mod Cycles
+pub mod Instants
+pub mod Judged
+pub mod Levels
+pub mod LineNumbers
+pub mod Names
+pub mod Rules
+pub mod Signals
+pub mod Tenures
+pub mod Trace
+pub mod Transfers
+pub mod Verdict
+pub mod WellFormed

@@ -1,0 +1,67 @@
+-- The verdict on a recording: its least break, by instant, then rule, then line.
+use Rattle.std.specs.Prelude.{ℕ, zero, suc, Bool, true, false, ◌+◌, List, [], ◌∷◌, Option, None, Some, option_map, if◌then◌else◌}
+use Rattle.std.specs.Option.{option_or}
+use Rattle.vme_trace.specs.Instants.{least}
+use Rattle.vme_trace.specs.LineNumbers.{line_count}
+use Rattle.vme_trace.specs.Trace.{Trace, time_at, last_instant}
+use Rattle.vme_trace.specs.Judged.{Span, judged_spans}
+use Rattle.vme_trace.specs.Rules.{breaks}
+use Rattle.vme_trace.specs.declared.rule.Rule.{Rule}
+use Rattle.vme_trace.specs.declared.rule.Rule.TheVariants.{U1, U2, U3, H1, H2, H3, H4, H5, H6, H7, H8, S1, S2, C1, C2, G1, G2, G3, G4, G5, B1, B2, B3, B4, I1, I2, I3, I4, I5}
+use Rattle.vme_trace.specs.declared.verdict.Break.{Break}
+use Rattle.vme_trace.specs.declared.verdict.Verdict.{Verdict}
+use Rattle.vme_trace.specs.declared.verdict.Verdict.TheVariants.{Conforming, Broken, Unreadable, NeverIdle}
+
+-- every rule, in the order in which breaks at one instant are named
+abbrev pub all_rules : List Rule
+all_rules = U1 ∷ U2 ∷ U3 ∷ H1 ∷ H2 ∷ H3 ∷ H4 ∷ H5 ∷ H6 ∷ H7 ∷ H8 ∷ S1 ∷ S2 ∷ C1 ∷ C2 ∷ G1 ∷ G2 ∷ G3 ∷ G4 ∷ G5 ∷ B1 ∷ B2 ∷ B3 ∷ B4 ∷ I1 ∷ I2 ∷ I3 ∷ I4 ∷ I5 ∷ []
+
+-- the rules that are in force
+abbrev pub rules_in_force : List Rule
+rules_in_force = U1 ∷ H4 ∷ []
+
+module _ (t : Trace) (span : Span) where
+  -- the least line on which a rule is broken at an instant
+  unfoldable pub rule_break : ℕ → Rule → Option Break
+  rule_break j r = option_map (λ l. record { instant = j; time = time_at t j; rule = r; line = l }) (least (breaks t span r j) 0 line_count)
+
+  -- the first of some rules that is broken at an instant
+  unfoldable pub break_at : List Rule → ℕ → Option Break
+  break_at [] j = None
+  break_at (r ∷ rs) j = option_or (rule_break j r) (break_at rs j)
+
+  -- the first break before an instant
+  unfoldable pub break_before : List Rule → ℕ → Option Break
+  break_before rules zero = None
+  break_before rules (suc j) = option_or (break_before rules j) (break_at rules j)
+
+  -- the least break of some rules
+  unfoldable pub least_break : List Rule → Option Break
+  least_break rules = break_before rules (last_instant t + 1)
+
+abbrev pub is_unreadable : Rule → Bool
+is_unreadable U1 = true
+is_unreadable U2 = true
+is_unreadable U3 = true
+is_unreadable r = false
+
+abbrev pub verdict_on : Option Break → Verdict
+verdict_on None = Conforming
+verdict_on (Some b) = if is_unreadable b.rule then Unreadable b else Broken b
+
+-- the least break of some rules in stretches that follow one another
+abbrev pub least_of : List Rule → Trace → List Span → Option Break
+least_of rules t [] = None
+least_of rules t (span ∷ []) = least_break t span rules
+least_of rules t (span ∷ next ∷ spans) = option_or (least_break t span rules) (least_of rules t (next ∷ spans))
+
+abbrev pub judge : List Rule → Trace → List Span → Verdict
+judge rules t [] = NeverIdle
+judge rules t (span ∷ spans) = verdict_on (least_of rules t (span ∷ spans))
+
+-- the verdict by some rules
+unfoldable pub verdict_by : List Rule → Trace → Verdict
+verdict_by rules t = judge rules t (judged_spans t)
+
+abbrev pub verdict : Trace → Verdict
+verdict t = verdict_by all_rules t

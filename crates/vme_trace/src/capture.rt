@@ -1,0 +1,119 @@
+ghost use Rattle.std.specs.Prelude.{◌≡◌, ◌≤◌, ◌<◌, ◌↔◌, ◌⊎◌, length, MatchResult, IfOk, Err, None, Some};
+ghost use Rattle.vme_trace.specs.Blocks.{block_count, blocks_of, joined_steps};
+ghost use Rattle.vme_trace.specs.WellFormed.{IsCapture, uncaptured_step, capture_limit};
+
+use crate::block::{Block, Malformed, check_steps};
+use crate::lines::Lines;
+use crate::step::{Step, Steps};
+use std::alloc::{AllocError, Global};
+use std::marker::Model;
+
+/// How many steps a capture has at most.
+const LIMIT: usize = 268435456;
+
+/// How many blocks a capture is cut into at most.
+const MOST_BLOCKS: usize = 4096;
+
+/// Why a capture isn't cut.
+#[derive(Clone, Copy, Debug, PartialEq, Eq)]
+pub enum CutFault {
+    /// The size is 0 or over 65,536.
+    BadSize,
+    /// There would be over 4,096 blocks.
+    TooManyBlocks,
+    /// There is no memory.
+    Memory,
+}
+
+/// A recording of a backplane: the levels at its opening, and the steps that follow it.
+#[derive(Drop)]
+pub struct Capture {
+    opening: Lines,
+    steps: Steps,
+}
+
+impl Model for Capture {
+    ghost use Rattle.vme_trace.specs.Trace.{Trace};
+    ghost use Rattle.vme_trace.specs.WellFormed.{IsCapture};
+
+    ghost Value = { Trace };
+
+    ghost view = { λ a. record { opening = a.opening; steps = a.steps } };
+
+    ghost invariant = { λ a. IsCapture (record { opening = a.opening; steps = a.steps }) };
+}
+
+impl Capture {
+    /// A capture of the steps, or the steps again with the first one that no capture has there: one that
+    /// doesn't follow those before it, or the first past 268,435,456.
+    pub fn new(opening: Lines, steps: Vec<Step>) -> Result<Capture, (Vec<Step>, Malformed)>
+        ensures ok { MatchResult result (λ capture. capture ≡ record { opening = opening; steps = steps.items }) (λ e. e.0 ≡ steps) }
+        ensures err { MatchResult result (λ capture. IsCapture capture) (λ e. uncaptured_step (record { opening = opening; steps = steps.items }) ≡ Some e.1.step) }
+    {
+        let checked = check_steps(&opening, steps.as_slice());
+        match checked {
+            Err(malformed) if malformed.step <= LIMIT => Err((steps, malformed)),
+            Err(_) => Err((steps, Malformed { step: LIMIT })),
+            Ok(()) if steps.len() > LIMIT => Err((steps, Malformed { step: LIMIT })),
+            Ok(()) => Ok(Capture {
+                opening,
+                steps: Steps::new(steps),
+            }),
+        }
+    }
+
+    /// The levels before the first step.
+    pub fn opening(&self) -> &Lines
+        ensures opening { result.now ≡ self.now.opening }
+        ensures sound { IsCapture self.now }
+    {
+        &self.opening
+    }
+
+    /// The steps.
+    pub fn steps(&self) -> &[Step]
+        ensures steps { result.now ≡ self.now.steps }
+        ensures sound { IsCapture self.now }
+    {
+        self.steps.as_slice()
+    }
+
+    /// The capture as blocks of `size` steps, 1 to 65,536, numbered from 0; the last block may have fewer. A
+    /// capture without steps gives one empty block. There may be 4,096 blocks at most.
+    pub fn cut(&self, alloc: Global, size: u32) -> Result<Vec<Block>, CutFault>
+        ensures bad_size { (result ≡ Err CutFault.BadSize) ↔ ((size ≡ 0) ⊎ (65536 < size)) }
+        ensures too_many { (result ≡ Err CutFault.TooManyBlocks) ↔ ((0 < size) × (size ≤ 65536) × (4096 < block_count size self.now)) }
+        ensures blocks { IfOk result (λ blocks. blocks.items ≡ blocks_of size self.now) }
+        ensures joined { IfOk result (λ blocks. joined_steps blocks.items ≡ self.now.steps) }
+    {
+        if size == 0 || size > 65536 {
+            return Err(CutFault::BadSize);
+        }
+        let size = size as usize;
+        let count = self.steps().len().div_ceil(size).max(1);
+        if count > MOST_BLOCKS {
+            return Err(CutFault::TooManyBlocks);
+        }
+        self.blocks(alloc, size, count)
+            .map_err(|_| CutFault::Memory)
+    }
+
+    fn blocks(&self, alloc: Global, size: usize, count: usize) -> Result<Vec<Block>, AllocError>
+        requires size { 0 < size }
+        requires count { count ≡ block_count size self.now }
+        requires few { count ≤ MOST_BLOCKS }
+        ensures blocks { IfOk result (λ blocks. blocks.items ≡ blocks_of size self.now) }
+        ensures joined { IfOk result (λ blocks. joined_steps blocks.items ≡ self.now.steps) }
+    {
+        let steps = self.steps();
+        let mut lines = *self.opening();
+        let mut blocks = Vec::with_capacity(alloc, count)?;
+        for number in 0..count {
+            let start = number * size;
+            let end = steps.len().min(start + size);
+            let block = Block::copied(alloc, number as u32, &mut lines, &steps[start..end])?;
+            blocks.push(block)?;
+        }
+        Ok(blocks)
+    }
+}

@@ -1,0 +1,29 @@
+//! Recordings of a VMEbus backplane (ANSI/IEEE Std 1014-1987): its lines, their levels over time, and what it
+//! is to break one of its rules.
+#![tactic(auto)]
+
+pub mod block;
+pub mod capture;
+pub mod class;
+pub mod cycle;
+pub mod level;
+pub mod line;
+pub mod lines;
+pub mod name;
+pub mod rule;
+pub mod step;
+#[cfg(test)]
+mod tests;
+pub mod verdict;
+
+pub use block::{Block, Malformed};
+pub use capture::{Capture, CutFault};
+pub use class::Class;
+pub use cycle::{LineSet, am_class, am_code, needed};
+pub use level::Level;
+pub use line::Line;
+pub use lines::Lines;
+pub use name::Name;
+pub use rule::Rule;
+pub use step::{Change, Changes, Step, Steps};
+pub use verdict::{Break, Verdict};
