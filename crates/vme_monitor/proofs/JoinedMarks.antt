@@ -1,21 +1,20 @@
 -- The marks of two monitors that never show the same kind at once, merged.
-use Rattle.std.proofs.Common.{◌≡◌, ℕ, zero, suc, ◌+◌, ◌<◌, ◌≤◌, Bool, true, false, ◌&&◌, ◌||◌, List, [], ◌∷◌, ◌++◌, map, refl, sym, ◌∙◌, ap, arith, Option, Some, None, cond, inl, inr, ◌⊎◌, append_assoc, append-nil, add-one}
-use Rattle.std.specs.Prelude.{nat_lt, nat_le, ◌==◌}
+use Rattle.std.proofs.Common.{◌≡◌, ℕ, zero, suc, ◌+◌, ◌<◌, ◌≤◌, Bool, true, false, ◌&&◌, ◌||◌, List, [], ◌∷◌, ◌++◌, map, refl, ◌∙◌, ap, arith, Option, Some, None, cond, inl, inr, ◌⊎◌, append_assoc, append-nil, add-one}
+use Rattle.std.specs.Prelude.{nat_lt, nat_le}
 use Rattle.std.specs.Option.{option_map, option_or, option_to_list}
 use Rattle.std.proofs.lemmas.Bool.Decides.{nat_tests}
-use Rattle.std.proofs.lemmas.List.{map-append}
 use Rattle.vme_trace.specs.Levels.{Levels}
 use Rattle.vme_trace.specs.Trace.{Trace, last_instant}
-use Rattle.vme_trace.specs.Judged.{Span, judged_spans}
+use Rattle.vme_trace.specs.Judged.{Span}
 use Rattle.vme_trace.specs.declared.step.Step.{Step}
 use Rattle.vme_monitor.specs.Outcome.{Outcome, MarksWithin, shifted_mark}
 use Rattle.vme_monitor.specs.Run.{mark_at, kinds_of, when, tenure_kind, cycle_kind}
-use Rattle.vme_monitor.specs.Shows.{marks_on, marks_until, marks_within, marks_over}
-use Rattle.vme_monitor.specs.BothSpec.{both, front, kind_number, mark_lt, merged, merged_joined, rest}
+use Rattle.vme_monitor.specs.Shows.{marks_on, marks_until, marks_within}
+use Rattle.vme_monitor.specs.BothSpec.{both, kind_number, merged, merged_joined}
 use Rattle.vme_monitor.specs.Joined.{AreApart, together}
 use Rattle.vme_monitor.specs.Whole.{ShowsAll}
 use Rattle.vme_monitor.specs.declared.mark.Kind.{Kind}
-use Rattle.vme_monitor.specs.declared.mark.Kind.TheVariants.{Start, Open, Tenure, TenureEnd, Cycle, CycleEnd, Transfer, Answer, Close}
+use Rattle.vme_monitor.specs.declared.mark.Kind.TheVariants.{Start, Open, TenureEnd, CycleEnd, Transfer, Answer, Close}
 use Rattle.vme_monitor.specs.declared.mark.Kinds.{Kinds}
 use Rattle.vme_monitor.specs.declared.mark.Mark.{Mark}
 use Rattle.vme_monitor.proofs.Spans.{spans_are}

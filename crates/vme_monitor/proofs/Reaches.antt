@@ -3,14 +3,12 @@ use Rattle.std.specs.Prelude.{slice_get, IsTrue}
 use Rattle.std.specs.Option.{option_map, option_and_then, option_map_or, is_some}
 use Rattle.std.proofs.lemmas.List.{map-append}
 use Rattle.std.proofs.lemmas.Option.{slice_get-map}
-use Rattle.vme_trace.specs.declared.verdict.Break.{Break}
 use Rattle.vme_monitor.specs.Outcome.{Outcome, unmoved, earlier}
 use Rattle.vme_trace.specs.Levels.{Levels}
 use Rattle.vme_trace.specs.declared.step.Change.{Change}
 use Rattle.vme_monitor.specs.Run.{extended, advanced, outcome_at}
 use Rattle.vme_monitor.specs.declared.mark.Next.{Next}
 use Rattle.vme_monitor.specs.Walk.{Hop, through, walk, reach, AllRejoin, later_break, later_mark, later_hop, later_outcome, bridge_of}
-use Rattle.vme_monitor.specs.declared.mark.Mark.{Mark}
 
 earlier-assoc : {A : Type 0} (a b c : Option A) → earlier (earlier a b) c ≡ earlier a (earlier b c)
 earlier-assoc None b c = refl

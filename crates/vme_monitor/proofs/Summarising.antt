@@ -1,10 +1,10 @@
 use Rattle.std.proofs.Common.{◌≡◌, ℕ, ◌+◌, ◌<◌, List, [], ◌∷◌, ◌++◌, length, map, refl, ap, sym, ◌∙◌, Option, Some, None}
-use Rattle.std.specs.Option.{option_map, option_map_or}
+use Rattle.std.specs.Option.{option_map}
 use Rattle.vme_trace.specs.Trace.{levels_after, changed}
 use Rattle.vme_trace.specs.Levels.{Levels}
 use Rattle.vme_trace.specs.declared.step.Change.{Change}
 use Rattle.vme_trace.specs.declared.step.Step.{Step}
-use Rattle.vme_monitor.specs.Outcome.{Outcome, StandsFor, IsWithin, unmoved}
+use Rattle.vme_monitor.specs.Outcome.{Outcome, IsWithin, unmoved}
 use Rattle.vme_monitor.specs.Run.{run_of, advanced, extended, noticed, outcome_at}
 use Rattle.vme_monitor.specs.Walk.{Hop, reach, walk}
 use Rattle.vme_monitor.specs.declared.mark.Next.{Next}

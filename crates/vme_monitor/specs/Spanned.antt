@@ -4,7 +4,7 @@ use Rattle.std.specs.Option.{option_map_or, is_some}
 use Rattle.vme_trace.specs.Levels.{Levels, is_idle}
 use Rattle.vme_trace.specs.Changes.{touches_control, lost_among}
 use Rattle.vme_trace.specs.declared.step.Change.{Change}
-use Rattle.vme_monitor.specs.Run.{quiet, nothing, noticed}
+use Rattle.vme_monitor.specs.Run.{quiet, nothing}
 use Rattle.vme_monitor.specs.declared.mark.Fault.{Fault}
 use Rattle.vme_monitor.specs.declared.mark.Kinds.{Kinds}
 use Rattle.vme_monitor.specs.declared.mark.Next.{Next}

@@ -1,4 +1,4 @@
-use Rattle.std.proofs.Common.{◌≡◌, ℕ, suc, ◌+◌, ◌-◌, ◌^◌, ◌<◌, ◌≤◌, min, List, [], ◌∷◌, ◌++◌, length, map, refl, ap, sym, ◌∙◌, arith, add-zero, length-append, Option, Some, None}
+use Rattle.std.proofs.Common.{◌≡◌, ℕ, suc, ◌+◌, ◌^◌, ◌<◌, ◌≤◌, List, [], ◌∷◌, ◌++◌, length, map, refl, sym, ◌∙◌, arith, add-zero, length-append, Option, Some, None}
 use Rattle.std.specs.Option.{option_map}
 use Rattle.vme_trace.specs.Trace.{levels_after, changed}
 use Rattle.vme_trace.specs.Levels.{Levels}
@@ -12,7 +12,6 @@ use Rattle.vme_monitor.specs.Walk.{later, later_break, later_mark, later_outcome
 use Rattle.vme_monitor.specs.declared.mark.Kind.{Kind}
 use Rattle.vme_monitor.specs.declared.mark.Mark.{Mark}
 use Rattle.vme_monitor.specs.declared.mark.Next.{Next}
-use Rattle.vme_monitor.specs.Runs.{run_joined}
 
 event_earlier : (n : ℕ) (a b : Option Break) → EventWithin n a → EventWithin n b → EventWithin n (earlier a b)
 event_earlier n None b p q = q

@@ -10,6 +10,7 @@ pub mod LineNumbers
 pub mod Names
 pub mod Rules
 pub mod Signals
+pub mod Streams
 pub mod Tenures
 pub mod Trace
 pub mod Transfers

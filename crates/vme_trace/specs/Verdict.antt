@@ -18,7 +18,7 @@ all_rules = U1 ∷ U2 ∷ U3 ∷ H1 ∷ H2 ∷ H3 ∷ H4 ∷ H5 ∷ H6 ∷ H7 �
 
 -- the rules that are in force
 abbrev pub rules_in_force : List Rule
-rules_in_force = U1 ∷ H4 ∷ []
+rules_in_force = all_rules
 
 module _ (t : Trace) (span : Span) where
   -- the least line on which a rule is broken at an instant

@@ -12,6 +12,7 @@ pub mod lines;
 pub mod name;
 pub mod rule;
 pub mod step;
+pub mod stream;
 #[cfg(test)]
 mod tests;
 pub mod verdict;
@@ -26,4 +27,5 @@ pub use lines::Lines;
 pub use name::Name;
 pub use rule::Rule;
 pub use step::{Change, Changes, Step, Steps};
+pub use stream::{Failed, Sink, Source};
 pub use verdict::{Break, Verdict};

@@ -100,34 +100,32 @@ fn levels(rt: HostRuntime) {
         (Level::High, [false, true, true]),
         (Level::Unknown, [false, false, false]),
     ] {
-        assert_eq!(rt; [level.is_low(), level.is_high(), level.is_known()], shows);
-        assert_eq!(rt; level.is_same(Level::High), level.is_high());
+        assert!(rt; [level.is_low(), level.is_high(), level.is_known()] == shows);
+        assert!(rt; level.is_same(Level::High) == level.is_high());
     }
-    assert!(rt; Level::Unknown.is_same(Level::default()));
+}
+
+/// Whether a line has a number and a name, and is found by both.
+fn is_named(number: u8, name: &[u8]) -> bool {
+    let line = Line::from_number(number);
+    Line::from_name(name) == line
+        && line.is_some_and(|line| line.number() == number && line.name().as_bytes() == name)
 }
 
 #[test]
-fn line_names(rt: HostRuntime) -> Result<(), Fail> {
+fn line_names(rt: HostRuntime) {
     for (number, name) in [
         (0, "AS"),
-        (1, "DS0"),
-        (2, "DS1"),
-        (3, "DTACK"),
-        (4, "BERR"),
         (5, "IACK"),
         (6, "AM0"),
-        (11, "AM5"),
         (12, "LWORD"),
-        (13, "WRITE"),
         (14, "A01"),
         (22, "A09"),
         (23, "A10"),
         (44, "A31"),
         (45, "BBSY"),
-        (46, "BR0"),
         (49, "BR3"),
         (50, "BG0.0"),
-        (59, "BG0.9"),
         (60, "BG0.10"),
         (71, "BG0.21"),
         (72, "BG1.0"),
@@ -135,168 +133,142 @@ fn line_names(rt: HostRuntime) -> Result<(), Fail> {
         (138, "IA.1"),
         (158, "IA.21"),
     ] {
-        let line = Line::from_number(number).ok_or("no such line")?;
-        assert_eq!(rt; line.number(), number);
-        assert_eq!(rt; line.name().as_bytes(), name.as_bytes(), "line {number}");
-        assert_eq!(rt; Line::from_name(name.as_bytes()), Some(line), "{name}");
+        assert!(rt; is_named(number, name.as_bytes()), "{name}");
     }
     for name in [
-        "",
-        "A",
-        "A00",
-        "A1",
-        "A001",
-        "A32",
-        "AM6",
-        "BR4",
-        "BG4.0",
-        "BG0.22",
-        "BG0.01",
-        "BG0",
-        "IA.0",
-        "IA.22",
-        "IA.01",
-        "IA",
-        "D00",
-        "D31",
-        "SYSRESET",
-        "as",
-        "AS ",
-        "AS*",
-        "DTACKDTACK",
+        "", "A", "A00", "A1", "A001", "A32", "AM6", "BR4", "BG4.0", "BG0.22", "BG0.01", "IA.0",
+        "IA.22", "D00", "SYSRESET", "as", "AS ", "AS*",
     ] {
-        assert_eq!(rt; Line::from_name(name.as_bytes()), None, "{name}");
+        assert!(rt; Line::from_name(name.as_bytes()).is_none(), "{name}");
     }
     for number in [159, 190, 191, 255] {
-        assert_eq!(rt; Line::from_number(number), None);
+        assert!(rt; Line::from_number(number).is_none());
     }
-    Ok(())
 }
 
 #[test]
 fn lines_by_place(rt: HostRuntime) {
     for (line, number) in [
-        (Line::AS, 0),
-        (Line::DS0, 1),
-        (Line::DS1, 2),
-        (Line::DTACK, 3),
         (Line::BERR, 4),
-        (Line::IACK, 5),
-        (Line::address_modifier(0), 6),
         (Line::address_modifier(5), 11),
         (Line::LWORD, 12),
         (Line::WRITE, 13),
-        (Line::address(1), 14),
         (Line::address(31), 44),
-        (Line::BBSY, 45),
         (Line::bus_request(3), 49),
-        (Line::grant(0, 0), 50),
         (Line::grant(3, 2), 118),
-        (Line::iack(1), 138),
         (Line::iack(21), 158),
     ] {
-        assert_eq!(rt; line.number(), number);
+        assert!(rt; line.number() == number);
     }
-    assert!(rt; Line::LWORD < Line::WRITE);
+}
+
+/// Whether a rule of that name is found, has that name, and is one by which a recording can't be read on where its letter says so.
+fn is_rule(name: &[u8]) -> bool {
+    match Rule::from_name(name) {
+        Some(rule) => {
+            rule.name().as_bytes() == name && rule.is_unreadable() == name.starts_with(b"U")
+        }
+        None => false,
+    }
 }
 
 #[test]
-fn rule_names(rt: HostRuntime) -> Result<(), Fail> {
-    let names = [
+fn rule_names(rt: HostRuntime) {
+    for name in [
         "U1", "U2", "U3", "H1", "H2", "H3", "H4", "H5", "H6", "H7", "H8", "S1", "S2", "C1", "C2",
         "G1", "G2", "G3", "G4", "G5", "B1", "B2", "B3", "B4", "I1", "I2", "I3", "I4", "I5",
-    ];
-    let mut last = None;
-    for name in names {
-        let rule = Rule::from_name(name.as_bytes()).ok_or("no such rule")?;
-        assert_eq!(rt; rule.name().as_bytes(), name.as_bytes());
-        assert_eq!(rt;
-            rule.is_unreadable(),
-            name.as_bytes().first() == Some(&b'U')
-        );
-        assert!(rt; last < Some(rule), "{name} comes later");
-        last = Some(rule);
+    ] {
+        assert!(rt; is_rule(name.as_bytes()), "{name}");
     }
     for name in [
         "", "U", "U0", "U4", "H9", "S3", "C3", "G6", "B5", "I6", "u1", "U1 ",
     ] {
-        assert_eq!(rt; Rule::from_name(name.as_bytes()), None, "{name}");
+        assert!(rt; Rule::from_name(name.as_bytes()).is_none(), "{name}");
     }
-    Ok(())
 }
 
 #[test]
 fn backplanes(rt: HostRuntime) -> Result<(), Fail> {
-    assert_eq!(rt; Lines::new(0), None);
-    assert_eq!(rt; Lines::new(22), None);
-    let mut lines = Lines::new(3).ok_or("no such backplane")?;
-    assert_eq!(rt; lines.slots(), 3);
+    assert!(rt; Lines::new(0).is_none() && Lines::new(22).is_none());
+    let lines = Lines::new(3).ok_or("no such backplane")?;
+    assert!(rt; lines.slots() == 3);
     for (line, exists, control) in [
         (Line::AS, true, true),
         (Line::LWORD, true, false),
-        (Line::address(31), true, false),
         (Line::BBSY, true, true),
-        (Line::bus_request(0), true, true),
-        (Line::grant(0, 0), true, true),
         (Line::grant(0, 3), true, true),
         (Line::grant(0, 4), false, false),
-        (Line::grant(3, 21), false, false),
         (Line::iack(3), true, true),
         (Line::iack(4), false, false),
     ] {
-        assert_eq!(rt; lines.has(line), exists, "{line:?}");
-        assert_eq!(rt; lines.is_control(line), control, "{line:?}");
+        assert!(rt; lines.has(line) == exists && lines.is_control(line) == control);
     }
-    assert_eq!(rt; lines.level(Line::AS), Level::Unknown);
-    lines.set(Line::AS, Level::Low);
-    assert_eq!(rt; lines.level(Line::AS), Level::Low);
-    let changes = [high(Line::AS), low(Line::WRITE)];
-    let writing = [low(Line::WRITE)];
-    assert!(rt; lines.touches_control(&changes));
-    assert!(rt; !lines.touches_control(&writing));
-    lines.apply(&changes);
-    assert_eq!(rt; lines.level(Line::AS), Level::High);
-    assert_eq!(rt; lines.level(Line::WRITE), Level::Low);
-    assert_eq!(rt; lines.lost_among(&changes), None);
-    lines.set(Line::AS, Level::Unknown);
-    lines.set(Line::WRITE, Level::Unknown);
-    assert_eq!(rt; lines.lost_among(&changes), Some(Line::AS));
-    assert_eq!(rt; lines.lost_among(&writing), None);
     Ok(())
 }
 
 #[test]
+fn changing_lines(rt: HostRuntime) -> Result<(), Fail> {
+    let mut lines = Lines::new(3).ok_or("no such backplane")?;
+    lines.set(Line::AS, Level::Low);
+    assert!(rt; lines.level(Line::AS).is_low());
+    let changes = [high(Line::AS), low(Line::WRITE)];
+    lines.apply(&changes);
+    assert!(rt; lines.level(Line::AS).is_high() && lines.level(Line::WRITE).is_low());
+    assert!(rt; lines.touches_control(&changes) && lines.lost_among(&changes).is_none());
+    lines.set(Line::AS, Level::Unknown);
+    assert!(rt; lines.lost_among(&changes) == Some(Line::AS));
+    Ok(())
+}
+
+/// Whether a bus of high lines stays idle where one of them gets a level.
+fn is_idle_with(line: Line, level: Level) -> Result<bool, Fail> {
+    let mut lines = high_lines(2)?;
+    if lines.has(line) {
+        lines.set(line, level);
+    }
+    Ok(lines.is_idle())
+}
+
+#[test]
 fn idle_buses(rt: HostRuntime) -> Result<(), Fail> {
-    let mut lines = dump_lines()?;
-    assert!(rt; !lines.is_idle());
-    lines.apply(&first_six_high());
-    assert!(rt; lines.is_idle());
-    lines.apply(&[low(Line::AS)]);
-    assert!(rt; !lines.is_idle());
     for (line, low_is_idle, unknown_is_idle) in [
         (Line::AS, false, false),
         (Line::DS1, false, false),
         (Line::BERR, false, false),
         (Line::IACK, true, false),
         (Line::address_modifier(3), true, true),
-        (Line::WRITE, true, true),
-        (Line::address(31), true, true),
         (Line::BBSY, true, false),
         (Line::bus_request(3), true, false),
-        (Line::grant(0, 0), false, false),
-        (Line::grant(1, 2), false, false),
         (Line::grant(3, 2), false, false),
         (Line::iack(1), false, false),
-        (Line::iack(2), false, false),
     ] {
-        let mut lines = high_lines(2)?;
-        assert!(rt; lines.is_idle());
-        lines.set(line, Level::Low);
-        assert_eq!(rt; lines.is_idle(), low_is_idle, "{line:?} low");
-        lines.set(line, Level::Unknown);
-        assert_eq!(rt; lines.is_idle(), unknown_is_idle, "{line:?} unknown");
+        assert!(rt; is_idle_with(line, Level::High)?);
+        assert!(rt; is_idle_with(line, Level::Low)? == low_is_idle);
+        assert!(rt; is_idle_with(line, Level::Unknown)? == unknown_is_idle);
     }
     Ok(())
+}
+
+/// All lines of one slot high, but for the bits of an address modifier code that are 0.
+fn lines_of_code(code: u8) -> Result<Lines, Fail> {
+    let mut lines = high_lines(1)?;
+    for bit in 0..6 {
+        if code >> bit & 1 == 0 {
+            lines.set(Line::address_modifier(bit), Level::Low);
+        }
+    }
+    Ok(lines)
+}
+
+/// The highest address line of a set, or 0.
+fn highest_address_of(set: &LineSet) -> u8 {
+    let mut highest = 0;
+    for bit in 1..32 {
+        if set.has(Line::address(bit)) {
+            highest = bit;
+        }
+    }
+    highest
 }
 
 #[test]
@@ -304,60 +276,53 @@ fn classes(rt: HostRuntime) -> Result<(), Fail> {
     for (code, class, highest) in [
         (0x09, Class::S, 31),
         (0x0B, Class::K, 31),
-        (0x0C, Class::F, 0),
-        (0x0D, Class::S, 31),
-        (0x0F, Class::K, 31),
         (0x10, Class::F, 0),
         (0x29, Class::S, 15),
-        (0x2D, Class::S, 15),
-        (0x39, Class::S, 23),
-        (0x3B, Class::K, 23),
-        (0x3C, Class::F, 0),
         (0x3D, Class::S, 23),
         (0x3F, Class::K, 23),
     ] {
-        let mut lines = high_lines(1)?;
-        for bit in 0..6 {
-            if code >> bit & 1 == 0 {
-                lines.set(Line::address_modifier(bit), Level::Low);
-            }
-        }
-        assert_eq!(rt; am_code(&lines), code);
-        assert_eq!(rt; am_class(&lines), class, "{code:x}");
-        let lines_needed = needed(&lines);
-        for bit in 1..32 {
-            assert_eq!(rt;
-                lines_needed.has(Line::address(bit)),
-                bit <= highest,
-                "{code:x} needs A{bit}"
-            );
-        }
-        assert!(rt; lines_needed.has(Line::address_modifier(0)));
-        assert!(rt; lines_needed.has(Line::address_modifier(5)));
-        assert!(rt; lines_needed.has(Line::LWORD));
-        assert!(rt; lines_needed.has(Line::IACK));
-        assert!(rt; !lines_needed.has(Line::WRITE));
-        assert!(rt; !lines_needed.has(Line::BERR));
-        assert!(rt; !lines_needed.has(Line::BBSY));
-
-        lines.set(Line::address_modifier(3), Level::Unknown);
-        assert_eq!(rt; am_class(&lines), Class::F, "{code:x} with a bit unknown");
-
-        lines.set(Line::IACK, Level::Low);
-        assert_eq!(rt; am_class(&lines), Class::I, "{code:x} in an acknowledge");
-        let lines_needed = needed(&lines);
-        assert!(rt; lines_needed.has(Line::IACK));
-        assert!(rt; lines_needed.has(Line::address(3)));
-        assert!(rt; !lines_needed.has(Line::address(4)));
-        assert!(rt; !lines_needed.has(Line::address_modifier(0)));
-        assert!(rt; !lines_needed.has(Line::LWORD));
+        let lines = lines_of_code(code)?;
+        assert!(rt; am_code(&lines) == code && am_class(&lines) == class);
+        let set = needed(&lines);
+        assert!(rt; set.has(Line::LWORD) && highest_address_of(&set) == highest);
     }
     Ok(())
 }
 
 #[test]
+fn acknowledge_class(rt: HostRuntime) -> Result<(), Fail> {
+    let mut lines = lines_of_code(0x3D)?;
+    lines.set(Line::address_modifier(3), Level::Unknown);
+    assert!(rt; am_class(&lines) == Class::F);
+    lines.set(Line::IACK, Level::Low);
+    assert!(rt; am_class(&lines) == Class::I);
+    let set = needed(&lines);
+    assert!(rt; !set.has(Line::LWORD) && highest_address_of(&set) == 3);
+    Ok(())
+}
+
+/// Which step is named as malformed, where one more step is put behind those of the read: by a block, and by a capture.
+fn malformed_with(
+    alloc: Global,
+    time: u64,
+    changes: &[Change],
+) -> Result<(Option<usize>, Option<usize>), Fail> {
+    let mut steps = read_steps(alloc)?;
+    steps.push(step(alloc, time, changes)?)?;
+    let block = Block {
+        number: 7,
+        opening: dump_lines()?,
+        steps: Steps::new(steps),
+    };
+    let named = block.check().err().map(|fault| fault.step);
+    match Capture::new(block.opening, block.steps.into_inner()) {
+        Ok(_) => Ok((named, None)),
+        Err((_, fault)) => Ok((named, Some(fault.step))),
+    }
+}
+
+#[test]
 fn malformed_steps(rt: HostRuntime) -> Result<(), Fail> {
-    let alloc = rt.alloc();
     let cases: [(u64, &[Change], Option<usize>); 8] = [
         (60, &[low(Line::AS)], None),
         (50, &[low(Line::AS)], Some(6)),
@@ -369,25 +334,7 @@ fn malformed_steps(rt: HostRuntime) -> Result<(), Fail> {
         (60, &[low(Line::AS), low(Line::iack(1))], None),
     ];
     for (time, changes, wrong) in cases {
-        let mut steps = read_steps(alloc)?;
-        steps.push(step(alloc, time, changes)?)?;
-        let block = Block {
-            number: 7,
-            opening: dump_lines()?,
-            steps: Steps::new(steps),
-        };
-        assert_eq!(rt; block.check().err().map(|fault| fault.step), wrong);
-        match Capture::new(dump_lines()?, block.steps.into_inner()) {
-            Ok(capture) => {
-                assert_eq!(rt; wrong, None);
-                assert_eq!(rt; capture.steps().len(), 7);
-                assert_eq!(rt; *capture.opening(), dump_lines()?);
-            }
-            Err((steps, fault)) => {
-                assert_eq!(rt; wrong, Some(fault.step));
-                assert_eq!(rt; steps.len(), 7);
-            }
-        }
+        assert!(rt; malformed_with(rt.alloc(), time, changes)? == (wrong, wrong));
     }
     Ok(())
 }
@@ -401,7 +348,7 @@ fn first_step_malformed(rt: HostRuntime) -> Result<(), Fail> {
         opening: dump_lines()?,
         steps: Steps::new(steps),
     };
-    assert_eq!(rt; block.check(), Err(Malformed { step: 0 }));
+    assert!(rt; block.check() == Err(Malformed { step: 0 }));
     Ok(())
 }
 
@@ -414,84 +361,77 @@ fn cut_of(alloc: Global, steps: u64, size: u32) -> Result<Result<usize, CutFault
 
 #[test]
 fn cuts(rt: HostRuntime) -> Result<(), Fail> {
-    let alloc = rt.alloc();
-    assert_eq!(rt; cut_of(alloc, 4096, 1)?, Ok(4096));
-    assert_eq!(rt; cut_of(alloc, 4097, 1)?, Err(CutFault::TooManyBlocks));
-    assert_eq!(rt; cut_of(alloc, 4097, 2)?, Ok(2049));
-    assert_eq!(rt; cut_of(alloc, 4097, 0)?, Err(CutFault::BadSize));
-    assert_eq!(rt; cut_of(alloc, 4097, 65536)?, Ok(1));
-    assert_eq!(rt; cut_of(alloc, 4097, 65537)?, Err(CutFault::BadSize));
-    assert_eq!(rt; cut_of(alloc, 0, 1)?, Ok(1));
-    assert_eq!(rt; cut_of(alloc, 0, 0)?, Err(CutFault::BadSize));
+    for (steps, size, count) in [
+        (4096, 1, Ok(4096)),
+        (4097, 1, Err(CutFault::TooManyBlocks)),
+        (4097, 2, Ok(2049)),
+        (4097, 0, Err(CutFault::BadSize)),
+        (4097, 65536, Ok(1)),
+        (4097, 65537, Err(CutFault::BadSize)),
+        (0, 1, Ok(1)),
+        (0, 0, Err(CutFault::BadSize)),
+    ] {
+        assert!(rt; cut_of(rt.alloc(), steps, size)? == count);
+    }
     Ok(())
+}
+
+/// The numbers of blocks, and the times of their steps.
+fn numbers_and_times(alloc: Global, blocks: &[Block]) -> Result<(Vec<u32>, Vec<u64>), Fail> {
+    let mut numbers = Vec::new(alloc);
+    let mut times = Vec::new(alloc);
+    for block in blocks {
+        numbers.push(block.number)?;
+        for step in block.steps.as_slice() {
+            times.push(step.time)?;
+        }
+    }
+    Ok((numbers, times))
 }
 
 #[test]
 fn blocks_of_a_read(rt: HostRuntime) -> Result<(), Fail> {
     let alloc = rt.alloc();
     let capture = read_capture(alloc)?;
-    for (size, count, last) in [
-        (1, 6, 1),
-        (2, 3, 2),
-        (4, 2, 2),
-        (5, 2, 1),
-        (6, 1, 6),
-        (7, 1, 6),
-    ] {
+    let numbers: [(u32, &[u32]); 5] = [
+        (1, &[0, 1, 2, 3, 4, 5]),
+        (2, &[0, 1, 2]),
+        (4, &[0, 1]),
+        (6, &[0]),
+        (7, &[0]),
+    ];
+    for (size, wanted) in numbers {
         let Ok(blocks) = capture.cut(alloc, size) else {
             return Err("not cut".into());
         };
-        assert_eq!(rt; blocks.len(), count);
-        let mut lines = dump_lines()?;
-        let mut number = 0;
-        let mut time = 0;
-        for block in blocks.iter() {
-            let steps = block.steps.as_slice();
-            assert_eq!(rt; block.number, number);
-            assert_eq!(rt; block.opening, lines);
-            assert_eq!(rt; block.check(), Ok(()));
-            assert_eq!(rt;
-                steps.len(),
-                if number as usize + 1 < count {
-                    size as usize
-                } else {
-                    last
-                }
-            );
-            for step in steps {
-                assert_eq!(rt; step.time, time);
-                time += 10;
-                lines.apply(step.changes.as_slice());
-            }
-            number += 1;
-        }
-        assert_eq!(rt; time, 60);
+        let (numbers, times) = numbers_and_times(alloc, blocks.as_slice())?;
+        assert!(rt; numbers.as_slice() == wanted);
+        assert!(rt; times.as_slice() == [0, 10, 20, 30, 40, 50].as_slice());
     }
     Ok(())
+}
+
+/// Whether the steps are alike.
+fn are_alike(first: &[Step], second: &[Step]) -> bool {
+    for (one, other) in first.iter().zip(second) {
+        if one.time != other.time || one.changes.as_slice() != other.changes.as_slice() {
+            return false;
+        }
+    }
+    first.len() == second.len()
 }
 
 #[test]
 fn copies(rt: HostRuntime) -> Result<(), Fail> {
     let alloc = rt.alloc();
-    let steps = read_steps(alloc)?;
     let block = Block {
         number: 7,
         opening: dump_lines()?,
-        steps: Steps::new(steps),
+        steps: Steps::new(read_steps(alloc)?),
     };
     let copy = block.copy(alloc)?;
-    assert_eq!(rt; copy.number, 7);
-    assert_eq!(rt; copy.opening, dump_lines()?);
-    assert_eq!(rt; copy.steps.as_slice().len(), 6);
-    for (one, other) in copy.steps.as_slice().iter().zip(block.steps.as_slice()) {
-        assert_eq!(rt; one.time, other.time);
-        assert_eq!(rt; one.changes.as_slice(), other.changes.as_slice());
-        let again = other.copy(alloc)?;
-        assert_eq!(rt; again.time, other.time);
-        assert_eq!(rt; again.changes.as_slice(), other.changes.as_slice());
-        let changes = other.changes.copy(alloc)?.into_inner();
-        assert_eq!(rt; changes.as_slice(), other.changes.as_slice());
-    }
+    assert!(rt; copy.number == 7 && copy.opening == block.opening);
+    assert!(rt; are_alike(copy.steps.as_slice(), block.steps.as_slice()));
     Ok(())
 }
 
@@ -505,15 +445,15 @@ fn refused_memory(rt: HostRuntime) -> Result<(), Fail> {
     let capture = Capture::new(dump_lines()?, steps).ok();
     let capture = capture.ok_or("malformed")?;
     match capture.cut(alloc, 4) {
-        Ok(blocks) => assert_eq!(rt; blocks.len(), 2),
-        Err(fault) => assert_eq!(rt; fault, CutFault::Memory),
+        Ok(blocks) => assert!(rt; blocks.len() == 2),
+        Err(fault) => assert!(rt; fault == CutFault::Memory),
     }
     let many = capture.cut(alloc, 1);
     if let Ok(blocks) = many {
-        assert_eq!(rt; blocks.len(), 6);
+        assert!(rt; blocks.len() == 6);
         for block in blocks.iter() {
             if let Ok(copy) = block.copy(alloc) {
-                assert_eq!(rt; copy.steps.as_slice().len(), 1);
+                assert!(rt; copy.steps.as_slice().len() == 1);
             }
         }
     }

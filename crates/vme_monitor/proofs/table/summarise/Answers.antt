@@ -1,4 +1,4 @@
-use Rattle.std.proofs.Common.{rules, ◌≡◌, ◌∷◌, ◌<◌, ◌≤◌, ◌+◌, [], ◌++◌, map, refl, ap, sym, ◌∙◌, arith, length, take, drop, Some, min}
+use Rattle.std.proofs.Common.{rules, ◌≡◌, ◌∷◌, ◌<◌, ◌+◌, [], ◌++◌, map, ap, sym, ◌∙◌, arith, length, take, drop}
 use Rattle.std.proofs.lemmas.Grind.{common_steps}
 use Rattle.std.proofs.lemmas.List.{take_more, length-take, take_all}
 use Rattle.vme_trace.specs.Trace.{levels_after}

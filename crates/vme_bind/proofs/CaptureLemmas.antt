@@ -1,0 +1,230 @@
+-- The levels after each instant of a dump, and the steps between them.
+use Rattle.std.proofs.Common.{◌≡◌, ◌≢◌, ℕ, zero, suc, ◌+◌, ◌<◌, ◌≤◌, Bool, true, false, cond, ◌&&◌, List, [], ◌∷◌, ◌++◌, length, map, refl, sym, ap, ◌∙◌, arith, add-one, inl, inr, ◌⊎◌, Option, Some, None}
+use Rattle.std.specs.Prelude.{nat_lt, ◌==◌, slice_get, is_some, option_and_then}
+use Rattle.std.specs.List.{range_with_len}
+use Rattle.std.specs.Option.{option_or, option_map_or}
+use Rattle.std.proofs.lemmas.Bool.{cases_eq}
+use Rattle.std.proofs.lemmas.Bool.Decides.{nat_tests}
+use Rattle.std.proofs.lemmas.List.{length-set}
+use Rattle.std.proofs.lemmas.List.FromFn.{get_or-map-range_with_len, length-map-range_with_len}
+use Rattle.std.proofs.lemmas.Option.{unwrap_or-slice_get}
+use Rattle.vme_trace.specs.Instants.{greatest, those}
+use Rattle.vme_trace.specs.Levels.{Levels, level_at, set_level}
+use Rattle.vme_trace.specs.LineNumbers.{line_count}
+use Rattle.vme_trace.specs.Trace.{changed}
+use Rattle.vme_trace.specs.declared.level.Level.{Level}
+use Rattle.vme_trace.specs.declared.level.Level.TheVariants.{Unknown}
+use Rattle.vme_trace.specs.declared.step.Change.{Change}
+use Rattle.vme_trace.proofs.Changing.{slots-kept}
+use Rattle.vcd_read.specs.declared.dump.Bit.{Bit}
+use Rattle.vcd_read.specs.declared.dump.Instant.{Instant}
+use Rattle.vcd_read.specs.declared.dump.Value.{Value}
+use Rattle.vme_bind.specs.declared.taps.Tap.{Tap}
+use Rattle.vme_bind.specs.declared.taps.Taps.{Taps}
+use Rattle.vme_bind.specs.declared.wires.Wire.{Wire}
+use Rattle.vme_bind.specs.declared.wires.LineSource.{LineSource}
+use Rattle.vme_bind.specs.declared.wires.LineSource.TheVariants.{Always, Bit as AtBit}
+use Rattle.vme_bind.specs.Wires.{line_source}
+use Rattle.vme_bind.specs.Taps.{taps_of, is_on, place_in, is_tap, tap_at, taps_below}
+use Rattle.vme_bind.specs.Capture.{level_in, last_bits, values_of, bits_at, last_change, level_by, level_after, levels_after}
+use Rattle.vme_bind.specs.Recording.{tapped, valued}
+use Rattle.vme_bind.proofs.RecorderLemmas.{zero_le, those-yes, those-no, set_same, set_other, same_levels}
+
+-- ---- changes to those of a range
+
+pub changed-more : (v : Levels) (cs : List Change) (c : Change) → changed v (cs ++ c ∷ []) ≡ set_level (changed v cs) c.line c.level
+unfolding changed
+changed-more v [] c = refl
+changed-more v (d ∷ cs) c = changed-more (set_level v d.line d.level) cs c
+
+pub length-changed : (v : Levels) (cs : List Change) → length (changed v cs).levels ≡ length v.levels
+unfolding changed
+length-changed v [] = refl
+length-changed v (c ∷ cs) = length-changed (set_level v c.line c.level) cs ∙ length-set v.levels c.line c.level
+
+map-more : {X : Type 0} (f : ℕ → X) (xs : List ℕ) (x : ℕ) → map f (xs ++ x ∷ []) ≡ map f xs ++ f x ∷ []
+map-more f [] x = refl
+map-more {X = X} f (y ∷ xs) x = ap (λ (ys : List X). f y ∷ ys) (map-more f xs x)
+
+abbrev to_level : (ℕ → Level) → ℕ → Change
+to_level g l = record { line = l; level = g l }
+
+and_false : (b : Bool) → (b && false) ≡ false
+and_false true = refl
+and_false false = refl
+
+yes_cond : {X : Type 0} (b : Bool) (x y : X) → b ≡ true → x ≡ cond b x y
+yes_cond true x y e = refl
+yes_cond false x y e = absurd cc
+
+lt_next : (l n : ℕ) → l ≢ n → nat_lt l n ≡ nat_lt l (n + 1)
+lt_next l n ne = grind (arith, nat_tests)
+
+lt_itself : (l n : ℕ) → l ≡ n → nat_lt l (n + 1) ≡ true
+lt_itself l n e = grind (arith, nat_tests)
+
+is_below : (l n : ℕ) → l < n → nat_lt l n ≡ true
+is_below l n lt = grind (arith, nat_tests)
+
+both_true : (a b : Bool) → a ≡ true → b ≡ true → (a && b) ≡ true
+both_true a b e h = rw (e, h) refl
+
+tests_alike : (p : ℕ → Bool) (l n : ℕ) → (l ≢ n) ⊎ (p l ≡ false) → (nat_lt l n && p l) ≡ (nat_lt l (n + 1) && p l)
+tests_alike p l n (inl ne) = ap (λ (b : Bool). b && p l) (lt_next l n ne)
+tests_alike p l n (inr off) = ap (λ (b : Bool). nat_lt l n && b) off ∙ and_false (nat_lt l n) ∙ sym (and_false (nat_lt l (n + 1))) ∙ ap (λ (b : Bool). nat_lt l (n + 1) && b) (sym off)
+
+abbrev at_those : (ℕ → Level) → Levels → ℕ → List ℕ → Level
+at_those g v l xs = level_at (changed v (map (to_level g) xs)) l
+
+at_more : (g : ℕ → Level) (v : Levels) (l n : ℕ) (xs : List ℕ) → at_those g v l (xs ++ n ∷ []) ≡ level_at (set_level (changed v (map (to_level g) xs)) n (g n)) l
+at_more g v l n xs = ap (λ (cs : List Change). level_at (changed v cs) l) (map-more (to_level g) xs n) ∙ ap (λ (w : Levels). level_at w l) (changed-more v (map (to_level g) xs) (to_level g n))
+
+one_those : (p : ℕ → Bool) (g : ℕ → Level) (v : Levels) (n l : ℕ) (b : Bool) → p n ≡ b → n < length v.levels
+    → at_those g v l (those p 0 n) ≡ cond (nat_lt l n && p l) (g l) (level_at v l)
+    → at_those g v l (those p 0 (n + 1)) ≡ cond (nat_lt l (n + 1) && p l) (g l) (level_at v l)
+one_those p g v n l true e lt so_far =
+    ap (at_those g v l) (those-yes p n e) ∙ at_more g v l n (those p 0 n)
+    ∙ elim (cases_eq l n) [
+      | inl same ↦
+          ap (level_at (set_level (changed v (map (to_level g) (those p 0 n))) n (g n))) same
+          ∙ set_same (changed v (map (to_level g) (those p 0 n))) n (g n) (omega (arith, length-changed v (map (to_level g) (those p 0 n)), lt))
+          ∙ ap g (sym same) ∙ yes_cond (nat_lt l (n + 1) && p l) (g l) (level_at v l) (both_true _ _ (lt_itself l n same) (ap p same ∙ e))
+      | inr ne ↦
+          set_other (changed v (map (to_level g) (those p 0 n))) n l (g n) ne ∙ so_far
+          ∙ ap (λ (b : Bool). cond b (g l) (level_at v l)) (tests_alike p l n (inl ne))
+    ]
+one_those p g v n l false e lt so_far =
+    ap (at_those g v l) (those-no p n e) ∙ so_far
+    ∙ ap (λ (b : Bool). cond b (g l) (level_at v l)) (tests_alike p l n (elim (cases_eq l n) [ inl same ↦ inr (ap p same ∙ e) | inr ne ↦ inl ne ]))
+
+none_below : (l : ℕ) → nat_lt l 0 ≡ false
+none_below l = grind (arith, nat_tests)
+
+-- those below n get new levels
+pub changed-those : (p : ℕ → Bool) (g : ℕ → Level) (v : Levels) (n : ℕ) → n ≤ length v.levels → (l : ℕ)
+    → level_at (changed v (map (λ k. record { line = k; level = g k }) (those p 0 n))) l ≡ cond (nat_lt l n && p l) (g l) (level_at v l)
+unfolding changed those
+changed-those p g v zero le l = ap (λ (b : Bool). cond (b && p l) (g l) (level_at v l)) (sym (none_below l))
+changed-those p g v (suc n) le l =
+    let more : n + 1 ≡ suc n = omega arith in
+    ap (λ (m : ℕ). at_those g v l (those p 0 m)) (sym more)
+    ∙ one_those p g v n l (p n) refl (omega (arith, le)) (changed-those p g v n (omega (arith, le)) l)
+    ∙ ap (λ (m : ℕ). cond (nat_lt l m && p l) (g l) (level_at v l)) more
+
+-- ---- the values of an instant
+
+-- what values of an instant say of a line that shows a level
+abbrev pub by_values : ℕ → Option LineSource → List Value → Level → Level
+by_values l None values base = base
+by_values l (Some (Always level)) values base = base
+by_values l (Some (AtBit bit)) values base = option_map_or (level_in l bit.place) (last_bits bit.net values) base
+
+abbrev tap_level : ℕ → Option LineSource → List Bit → Level
+tap_level l source bits = level_in l (place_in source) bits
+
+one_value : (l : ℕ) (source : Option LineSource) (v : Value) (values : List Value) (base : Level)
+    → by_values l source values (cond (is_on v.net source) (tap_level l source v.bits) base) ≡ by_values l source (v ∷ values) base
+one_value l None v values base = refl
+one_value l (Some (Always level)) v values base = refl
+one_value l (Some (AtBit bit)) v values base = by_last (last_bits bit.net values) (v.net == bit.net)
+  where
+    by_last : (later : Option (List Bit)) (here : Bool)
+        → option_map_or (level_in l bit.place) later (cond here (level_in l bit.place v.bits) base) ≡ option_map_or (level_in l bit.place) (option_or later (cond here (Some v.bits) None)) base
+    by_last None true = refl
+    by_last None false = refl
+    by_last (Some bits) here = refl
+
+nothing_said : (l : ℕ) (source : Option LineSource) (base : Level) → by_values l source [] base ≡ base
+nothing_said l None base = refl
+nothing_said l (Some (Always level)) base = refl
+nothing_said l (Some (AtBit bit)) base = refl
+
+-- the taps are those of some wires
+abbrev pub AreTaps : ℕ → List Wire → Taps → Type 0
+AreTaps slots wires taps = (net : ℕ) → taps_of taps net ≡ taps_below slots wires net line_count
+
+tapped_twice : (slots : ℕ) (wires : List Wire) (bits : List Bit) (xs : List ℕ) → map (tapped bits) (map (tap_at slots wires) xs) ≡ map (to_level (λ l. tap_level l (line_source slots wires l) bits)) xs
+tapped_twice slots wires bits [] = refl
+tapped_twice slots wires bits (x ∷ xs) = ap (λ (cs : List Change). to_level (λ l. tap_level l (line_source slots wires l) bits) x ∷ cs) (tapped_twice slots wires bits xs)
+
+abbrev one_valued : Taps → Value → Levels → Levels
+one_valued taps v now = changed now (map (tapped v.bits) (taps_of taps v.net))
+
+one_valued-at : (slots : ℕ) (wires : List Wire) (taps : Taps) → AreTaps slots wires taps → (v : Value) (now : Levels) → length now.levels ≡ line_count → (l : ℕ) → l < line_count
+    → level_at (one_valued taps v now) l ≡ cond (is_on v.net (line_source slots wires l)) (tap_level l (line_source slots wires l) v.bits) (level_at now l)
+unfolding is_tap
+one_valued-at slots wires taps all v now e l lt =
+    ap (λ (ts : List Tap). level_at (changed now (map (tapped v.bits) ts)) l) (all v.net)
+    ∙ ap (λ (cs : List Change). level_at (changed now cs) l) (tapped_twice slots wires v.bits (those (is_tap slots wires v.net) 0 line_count))
+    ∙ changed-those (is_tap slots wires v.net) (λ k. tap_level k (line_source slots wires k) v.bits) now line_count (omega (arith, e)) l
+    ∙ ap (λ (b : Bool). cond (b && is_tap slots wires v.net l) (tap_level l (line_source slots wires l) v.bits) (level_at now l)) (is_below l line_count lt)
+
+pub length-valued : (taps : Taps) (values : List Value) (now : Levels) → length (valued taps values now).levels ≡ length now.levels
+length-valued taps [] now = refl
+length-valued taps (v ∷ values) now = length-valued taps values (one_valued taps v now) ∙ length-changed now (map (tapped v.bits) (taps_of taps v.net))
+
+pub slots-valued : (taps : Taps) (values : List Value) (now : Levels) → (valued taps values now).slots ≡ now.slots
+slots-valued taps [] now = refl
+slots-valued taps (v ∷ values) now = slots-valued taps values (one_valued taps v now) ∙ slots-kept now (map (tapped v.bits) (taps_of taps v.net))
+
+pub valued-at : (slots : ℕ) (wires : List Wire) (taps : Taps) → AreTaps slots wires taps → (values : List Value) (now : Levels) → length now.levels ≡ line_count → (l : ℕ) → l < line_count
+    → level_at (valued taps values now) l ≡ by_values l (line_source slots wires l) values (level_at now l)
+valued-at slots wires taps all [] now e l lt = sym (nothing_said l (line_source slots wires l) (level_at now l))
+valued-at slots wires taps all (v ∷ values) now e l lt =
+    valued-at slots wires taps all values (one_valued taps v now) (length-changed now (map (tapped v.bits) (taps_of taps v.net)) ∙ e) l lt
+    ∙ ap (by_values l (line_source slots wires l) values) (one_valued-at slots wires taps all v now e l lt)
+    ∙ one_value l (line_source slots wires l) v values (level_at now l)
+
+-- ---- one instant more
+
+greatest-yes : (p : ℕ → Bool) (n : ℕ) → p n ≡ true → greatest p 0 (n + 1) ≡ Some n
+unfolding greatest
+greatest-yes p n h = rw (add-one, zero_le n, h) refl
+
+greatest-no : (p : ℕ → Bool) (n : ℕ) → p n ≡ false → greatest p 0 (n + 1) ≡ greatest p 0 n
+unfolding greatest
+greatest-no p n h = rw (add-one, zero_le n, h) refl
+
+module _ (slots : ℕ) (wires : List Wire) (instants : List Instant) where
+  bit_more : (n l net place : ℕ) (here : Option (List Bit)) → bits_at slots wires instants net n ≡ here
+      → option_map_or (level_in l place) (option_and_then (bits_at slots wires instants net) (last_change slots wires instants net (n + 1))) Unknown
+      ≡ option_map_or (level_in l place) here (option_map_or (level_in l place) (option_and_then (bits_at slots wires instants net) (last_change slots wires instants net n)) Unknown)
+  bit_more n l net place None e =
+      ap (λ (o : Option ℕ). option_map_or (level_in l place) (option_and_then (bits_at slots wires instants net) o) Unknown) (greatest-no (λ i. is_some (bits_at slots wires instants net i)) n (ap is_some e))
+  bit_more n l net place (Some bits) e =
+      ap (λ (o : Option ℕ). option_map_or (level_in l place) (option_and_then (bits_at slots wires instants net) o) Unknown) (greatest-yes (λ i. is_some (bits_at slots wires instants net i)) n (ap is_some e))
+      ∙ ap (λ (o : Option (List Bit)). option_map_or (level_in l place) o Unknown) e
+
+  by_source : (n l : ℕ) (source : Option LineSource) → level_by slots wires instants (n + 1) l source ≡ by_values l source (values_of (slice_get instants n)) (level_by slots wires instants n l source)
+  by_source n l None = refl
+  by_source n l (Some (Always level)) = refl
+  by_source n l (Some (AtBit bit)) = bit_more n l bit.net bit.place (bits_at slots wires instants bit.net n) refl
+
+  pub after-more : (n l : ℕ) → level_after slots wires instants (n + 1) l ≡ by_values l (line_source slots wires l) (values_of (slice_get instants n)) (level_after slots wires instants n l)
+  unfolding level_after
+  after-more n l = by_source n l (line_source slots wires l)
+
+  pub levels-at : (n l : ℕ) → l < line_count → level_at (levels_after slots wires instants n) l ≡ level_after slots wires instants n l
+  unfolding levels_after
+  levels-at n l lt = unwrap_or-slice_get (map (level_after slots wires instants n) (range_with_len 0 line_count)) l Unknown ∙ get_or-map-range_with_len (level_after slots wires instants n) 0 line_count l l Unknown lt (omega arith)
+
+  pub levels-all : (n : ℕ) → length (levels_after slots wires instants n).levels ≡ line_count
+  unfolding levels_after
+  levels-all n = length-map-range_with_len (level_after slots wires instants n) 0 line_count
+
+  pub levels-slots : (n : ℕ) → (levels_after slots wires instants n).slots ≡ slots
+  unfolding levels_after
+  levels-slots n = refl
+
+  -- the values of an instant lead from the levels before it to those after it
+  pub valued-more : (taps : Taps) → AreTaps slots wires taps → (n : ℕ) (values : List Value) → values ≡ values_of (slice_get instants n)
+      → valued taps values (levels_after slots wires instants n) ≡ levels_after slots wires instants (n + 1)
+  valued-more taps all n values e =
+      same_levels (valued taps values (levels_after slots wires instants n)) (levels_after slots wires instants (n + 1))
+      (slots-valued taps values (levels_after slots wires instants n) ∙ levels-slots n ∙ sym (levels-slots (n + 1)))
+      (length-valued taps values (levels_after slots wires instants n) ∙ levels-all n) (levels-all (n + 1))
+      (λ l lt.
+      valued-at slots wires taps all values (levels_after slots wires instants n) (levels-all n) l lt
+      ∙ ap (λ (vs : List Value). by_values l (line_source slots wires l) vs (level_at (levels_after slots wires instants n) l)) e
+      ∙ ap (by_values l (line_source slots wires l) (values_of (slice_get instants n))) (levels-at n l lt)
+      ∙ sym (after-more n l) ∙ sym (levels-at (n + 1) l lt))

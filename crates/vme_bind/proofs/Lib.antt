@@ -1,0 +1,9 @@
+pub mod TextLemmas
+pub mod BindingLemmas
+pub mod WiresLemmas
+pub mod RecorderLemmas
+pub mod CaptureLemmas
+pub mod StepsLemmas
+pub mod TapsLemmas
+pub mod EndLemmas
+pub mod OpeningLemmas

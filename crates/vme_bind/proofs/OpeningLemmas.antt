@@ -1,0 +1,170 @@
+-- The levels before any change, and the recording from one instant to the next.
+use Rattle.std.proofs.Common.{◌≡◌, ◌≢◌, ℕ, zero, suc, ◌+◌, ◌<◌, ◌≤◌, List, [], ◌∷◌, ◌++◌, length, get_or, refl, sym, ap, ◌∙◌, subst, arith, inl, inr, Option, Some, None, Result, Ok, Err}
+use Rattle.std.specs.Prelude.{replicate, slice_get}
+use Rattle.std.proofs.lemmas.Bool.{cases_lt, cases_eq}
+use Rattle.std.proofs.lemmas.List.{length-replicate}
+use Rattle.std.proofs.lemmas.Option.{unwrap_or-slice_get}
+use Rattle.vme_trace.specs.Instants.{those, greatest}
+use Rattle.vme_trace.specs.Levels.{Levels, level_at, set_level}
+use Rattle.vme_trace.specs.LineNumbers.{line_count}
+use Rattle.vme_trace.specs.Trace.{Trace}
+use Rattle.vme_trace.specs.WellFormed.{IsCapture, uncaptured_step}
+use Rattle.vme_trace.specs.declared.level.Level.{Level}
+use Rattle.vme_trace.specs.declared.level.Level.TheVariants.{Unknown}
+use Rattle.vme_trace.specs.declared.step.Step.{Step}
+use Rattle.vcd_read.specs.declared.dump.Instant.{Instant}
+use Rattle.vcd_read.specs.declared.dump.Value.{Value}
+use Rattle.vcd_read.specs.Contents.{Contents, TimesAscend}
+use Rattle.vcd_read.specs.Header.{◌>>=◌}
+use Rattle.vme_bind.specs.declared.fault.BindFault.{BindFault}
+use Rattle.vme_bind.specs.declared.fault.BindKind.TheVariants.{TooManySteps}
+use Rattle.vme_bind.specs.declared.taps.Taps.{Taps}
+use Rattle.vme_bind.specs.declared.wires.Wire.{Wire}
+use Rattle.vme_bind.specs.declared.wires.LineSource.{LineSource}
+use Rattle.vme_bind.specs.declared.wires.LineSource.TheVariants.{Always, Bit}
+use Rattle.vme_bind.specs.Binding.{BoundLines}
+use Rattle.vme_bind.specs.Wires.{wires_in, line_source}
+use Rattle.vme_bind.specs.Taps.{taps_of}
+use Rattle.vme_bind.specs.Capture.{values_of, time_of, level_by, level_after, levels_after, recording, limited, capture_of}
+use Rattle.vme_bind.specs.Recording.{Progress, AreLines, valued, step_between}
+use Rattle.vme_bind.proofs.RecorderLemmas.{set_same, set_other, set_all, same_levels}
+use Rattle.vme_bind.proofs.CaptureLemmas.{AreTaps, levels-at, levels-all, levels-slots, valued-more}
+use Rattle.vme_bind.proofs.StepsLemmas.{steps-more, well_formed, limited-ok, limited-err}
+use Rattle.vme_bind.proofs.TapsLemmas.{taps-lines}
+
+-- ---- the opening
+
+-- the level of a line before any change
+abbrev pub first_level : Option LineSource → Level
+first_level None = Unknown
+first_level (Some (Always level)) = level
+first_level (Some (Bit bit)) = Unknown
+
+unknown_at : (n k : ℕ) → get_or (replicate n Unknown) k Unknown ≡ Unknown
+unknown_at zero k = refl
+unknown_at (suc n) zero = refl
+unknown_at (suc n) (suc k) = unknown_at n k
+
+-- the lines below n have their first levels, and the others none yet
+pub record IsOpened (slots : ℕ) (wires : List Wire) (n : ℕ) (v : Levels) : Type 0 where
+  pub same_slots : v.slots ≡ slots
+  pub all : length v.levels ≡ line_count
+  pub below : (l : ℕ) → l < n → level_at v l ≡ first_level (line_source slots wires l)
+  pub above : (l : ℕ) → n ≤ l → level_at v l ≡ Unknown
+
+pub opened-first : (wires : List Wire) (v : Levels) → v.levels ≡ replicate 159 Unknown → IsOpened v.slots wires 0 v
+opened-first wires v e = record {
+  same_slots = refl;
+  all = ap length e ∙ length-replicate 159 Unknown;
+  below = λ l lt. absurd (omega (arith, lt));
+  above = λ l le. unwrap_or-slice_get v.levels l Unknown ∙ ap (λ (xs : List Level). get_or xs l Unknown) e ∙ unknown_at 159 l;
+}
+
+pub opened-same : (slots : ℕ) (wires : List Wire) (n : ℕ) (v : Levels) → Unknown ≡ first_level (line_source slots wires n) → IsOpened slots wires n v → IsOpened slots wires (n + 1) v
+opened-same slots wires n v e h = record {
+  same_slots = h.same_slots;
+  all = h.all;
+  below = λ l lt. elim (cases_lt l n) [
+    | inl less ↦ h.below l less
+    | inr more ↦ let is : n ≡ l = omega (arith, lt, more) in h.above l more ∙ e ∙ ap (λ (k : ℕ). first_level (line_source slots wires k)) is
+  ];
+  above = λ l le. h.above l (omega (arith, le));
+}
+
+pub opened-set : (slots : ℕ) (wires : List Wire) (n : ℕ) (v : Levels) (x : Level) → n < line_count → x ≡ first_level (line_source slots wires n) → IsOpened slots wires n v → IsOpened slots wires (n + 1) (set_level v n x)
+opened-set slots wires n v x in' e h = record {
+  same_slots = h.same_slots;
+  all = set_all v n x h.all;
+  below = λ l lt. elim (cases_eq l n) [
+    | inl is ↦ ap (level_at (set_level v n x)) is ∙ set_same v n x (omega (arith, in', h.all)) ∙ e ∙ ap (λ (k : ℕ). first_level (line_source slots wires k)) (sym is)
+    | inr ne ↦ set_other v n l x ne ∙ h.below l (omega (arith, lt, ne))
+  ];
+  above = λ l le. let ne : l ≢ n = omega (arith, le) in set_other v n l x ne ∙ h.above l (omega (arith, le));
+}
+
+first_is : (slots : ℕ) (wires : List Wire) (instants : List Instant) (l : ℕ) (source : Option LineSource) → first_level source ≡ level_by slots wires instants 0 l source
+unfolding greatest
+first_is slots wires instants l None = refl
+first_is slots wires instants l (Some (Always level)) = refl
+first_is slots wires instants l (Some (Bit bit)) = refl
+
+first_after : (slots : ℕ) (wires : List Wire) (instants : List Instant) (l : ℕ) → first_level (line_source slots wires l) ≡ level_after slots wires instants 0 l
+unfolding level_after
+first_after slots wires instants l = first_is slots wires instants l (line_source slots wires l)
+
+pub opened-all : (slots : ℕ) (wires : List Wire) (n : ℕ) (v : Levels) → n ≡ line_count → IsOpened slots wires n v → (instants : List Instant) → v ≡ levels_after slots wires instants 0
+opened-all slots wires n v e h instants =
+    same_levels v (levels_after slots wires instants 0) (h.same_slots ∙ sym (levels-slots slots wires instants 0)) h.all (levels-all slots wires instants 0)
+    (λ l lt. h.below l (omega (arith, lt, e)) ∙ first_after slots wires instants l ∙ sym (levels-at slots wires instants 0 l lt))
+
+-- ---- one instant more
+
+get-in : (instants : List Instant) (i : ℕ) (x : Instant) → i < length instants → x ≡ get_or instants i x → slice_get instants i ≡ Some x
+get-in [] i x lt e = absurd (omega (arith, lt))
+get-in (y ∷ instants) zero x lt e = ap Some (sym e)
+get-in (y ∷ instants) (suc i) x lt e = get-in instants i x (omega (arith, lt)) e
+
+module _ (slots : ℕ) (wires : List Wire) (instants : List Instant) where
+  -- the recording of the first instants
+  abbrev pub recorded : ℕ → Progress
+  recorded n = record { shown = levels_after slots wires instants n; now = levels_after slots wires instants n; steps = (recording slots wires instants n).steps }
+
+  pub recorded-first : (p : Progress) (opening : Levels) → opening ≡ levels_after slots wires instants 0 → p ≡ record { shown = opening; now = opening; steps = [] } → p ≡ recorded 0
+  unfolding recording those
+  recorded-first p opening e h = h ∙ ap (λ (v : Levels). record { shown = v; now = v; steps = [] }) e
+
+  abbrev next_of : Taps → ℕ → List Value → Progress → Progress
+  next_of taps time values p = record {
+    shown = valued taps values p.now;
+    now = valued taps values p.now;
+    steps = p.steps ++ step_between time p.shown (valued taps values p.now);
+  }
+
+  abbrev with_levels : ℕ → List Step → Levels → Levels → Progress
+  with_levels time steps before now = record { shown = now; now = now; steps = steps ++ step_between time before now }
+
+  pub recorded-more : (taps : Taps) → AreTaps slots wires taps → (i : ℕ) (x : Instant) (p next : Progress) → i < length instants → x ≡ get_or instants i x → p ≡ recorded i
+      → next ≡ record { shown = valued taps x.values p.now; now = valued taps x.values p.now; steps = p.steps ++ step_between x.time p.shown (valued taps x.values p.now) }
+      → next ≡ recorded (i + 1)
+  recorded-more taps all i x p next lt e is h =
+      let found = get-in instants i x lt e in
+      h ∙ ap (next_of taps x.time x.values) is
+      ∙ ap (with_levels x.time (recording slots wires instants i).steps (levels_after slots wires instants i)) (valued-more slots wires instants taps all i x.values (sym (ap values_of found)))
+      ∙ ap (λ (ss : List Step). record { shown = levels_after slots wires instants (i + 1); now = levels_after slots wires instants (i + 1); steps = ss }) (sym (steps-more slots wires instants i x.time (sym (ap time_of found))))
+
+  pub recorded-lines : (taps : Taps) → AreTaps slots wires taps → (i : ℕ) (p : Progress) → p ≡ recorded i → (net : ℕ) → AreLines p.now.slots (taps_of taps net)
+  recorded-lines taps all i p is net =
+      subst (λ (s : ℕ). AreLines s (taps_of taps net)) (sym (ap (λ (q : Progress). q.now.slots) is ∙ levels-slots slots wires instants i)) (taps-lines slots wires taps all net)
+
+-- ---- the whole recording
+
+pub capture_of-is : (b : BoundLines) (dump : Contents) → capture_of b dump ≡ (wires_in dump.variables b.assignments >>= λ wires. limited (recording b.slots wires dump.instants (length dump.instants)))
+unfolding capture_of
+capture_of-is b dump = refl
+
+pub recording-is : (slots : ℕ) (wires : List Wire) (instants : List Instant) (n : ℕ) (opening : Levels) (steps : List Step) → opening ≡ levels_after slots wires instants 0 → steps ≡ (recording slots wires instants n).steps → recording slots wires instants n ≡ record { opening = opening; steps = steps }
+unfolding recording
+recording-is slots wires instants n opening steps e h =
+    ap (λ (v : Levels). with_both v (recording slots wires instants n).steps) (sym e) ∙ ap (with_both opening) (sym h)
+  where
+    with_both : Levels → List Step → Trace
+    with_both v ss = record { opening = v; steps = ss }
+
+over_all : BoundLines → Contents → List Wire → Result Trace BindFault
+over_all b dump wires = limited (recording b.slots wires dump.instants (length dump.instants))
+
+by_wires : (b : BoundLines) (dump : Contents) (wires : List Wire) → wires_in dump.variables b.assignments ≡ Ok wires → capture_of b dump ≡ over_all b dump wires
+unfolding over_all
+by_wires b dump wires e = capture_of-is b dump ∙ ap (λ (r : Result (List Wire) BindFault). r >>= λ wires. limited (recording b.slots wires dump.instants (length dump.instants))) e
+
+pub whole-ok : (b : BoundLines) (dump : Contents) (wires : List Wire) (capture made : Trace) → wires_in dump.variables b.assignments ≡ Ok wires
+    → recording b.slots wires dump.instants (length dump.instants) ≡ made → capture ≡ made → IsCapture capture → capture_of b dump ≡ Ok capture
+unfolding over_all
+whole-ok b dump wires capture made e is h sound = by_wires b dump wires e ∙ ap limited (is ∙ sym h) ∙ limited-ok capture sound
+
+pub whole-err : (b : BoundLines) (dump : Contents) (wires : List Wire) (made : Trace) (n : ℕ) → TimesAscend dump.instants → wires_in dump.variables b.assignments ≡ Ok wires
+    → recording b.slots wires dump.instants (length dump.instants) ≡ made → uncaptured_step made ≡ Some n → capture_of b dump ≡ Err (record { line = 0; kind = TooManySteps })
+unfolding over_all
+whole-err b dump wires made n up e is over =
+    by_wires b dump wires e
+    ∙ limited-err (recording b.slots wires dump.instants (length dump.instants)) n (well_formed b.slots wires dump.instants up) (ap uncaptured_step is ∙ over)

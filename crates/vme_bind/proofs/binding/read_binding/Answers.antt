@@ -1,0 +1,41 @@
+use Rattle.std.proofs.Common.{sym, ◌∙◌}
+use Rattle.vme_bind.specs.Text.{end_line}
+use Rattle.vme_bind.specs.Reading.{left, saying}
+use Rattle.vme_bind.specs.Binding.{bound_all, all_bound, no_assignments}
+use Rattle.vme_bind.proofs.BindingLemmas.{says_nothing, no_slots, some_slots, is_whole, lacks, fails_first, gives_err}
+use Rattle.vme_bind.proofs.binding.read_binding.Goals as goal
+
+pub returns-in_default : goal.returns-in_default
+returns-in_default c =
+    says_nothing c.args.text.now c.line.result (sym c.new-statements.ensures.left ∙ c.in_default.ensures.left) (c.line.ensures ∙ c.in_default.ensures.end ∙ c.new-statements.ensures.last)
+
+pub returns-in_default-lines_of : goal.returns-in_default-lines_of
+returns-in_default-lines_of c =
+    no_slots c.args.text.now (saying c.in-Some.first) (left c.next.new.self) (sym c.new-statements.ensures.left ∙ c.in-Some.ensures.left) c.in_default-lines_of.ensures.slots
+
+pub returns-in_err-bind_all : goal.returns-in_err-bind_all
+returns-in_err-bind_all c =
+    let text = c.args.text.now in
+    let slots = c.in-Some-lines_of.lines.slots in
+    let fault = c.in_err-bind_all.field-0.0 in
+    let whole = some_slots text (saying c.in-Some.first) (left c.next.new.self) slots (sym c.new-statements.ensures.left ∙ c.in-Some.ensures.left) c.in-Some-lines_of.ensures.slots in
+    let h = rw c.new-binding.ensures at c.in_err-bind_all.ensures.bound in
+    gives_err _ c.from_residual.result fault _ c.from_residual.ensures.1
+    (fails_first fault (bound_all (no_assignments slots) (left c.next.new.self)) (all_bound (end_line text)) _ whole h)
+
+pub returns-in-Some-least_unbound : goal.returns-in-Some-least_unbound
+returns-in-Some-least_unbound c =
+    let text = c.args.text.now in
+    let slots = c.in-Some-lines_of.lines.slots in
+    let whole = some_slots text (saying c.in-Some.first) (left c.next.new.self) slots (sym c.new-statements.ensures.left ∙ c.in-Some.ensures.left) c.in-Some-lines_of.ensures.slots in
+    let h = rw c.new-binding.ensures at c.in_ok-bind_all.ensures.bound in
+    whole ∙ lacks (end_line text) c.line-in-Some-least_unbound.result (bound_all (no_assignments slots) (left c.next.new.self)) c.bind_all.new.self c.in-Some-least_unbound.unbound h c.in-Some-least_unbound.ensures
+    (c.line-in-Some-least_unbound.ensures ∙ c.in_ok-bind_all.ensures.end ∙ c.in-Some.ensures.last ∙ c.new-statements.ensures.last)
+
+pub returns-in-None : goal.returns-in-None
+returns-in-None c =
+    let text = c.args.text.now in
+    let slots = c.in-Some-lines_of.lines.slots in
+    let whole = some_slots text (saying c.in-Some.first) (left c.next.new.self) slots (sym c.new-statements.ensures.left ∙ c.in-Some.ensures.left) c.in-Some-lines_of.ensures.slots in
+    let h = rw c.new-binding.ensures at c.in_ok-bind_all.ensures.bound in
+    whole ∙ is_whole (end_line text) (bound_all (no_assignments slots) (left c.next.new.self)) c.bind_all.new.self h c.in-None.ensures

@@ -1,0 +1,11 @@
+use Rattle.std.proofs.Common.{◌≡◌, drop}
+use Rattle.vme_bind.specs.Recording.{valued}
+use Rattle.vme_bind.proofs.recorder.Recorder.set_values.Given as goal
+
+abbrev pub invariant-loop-value : goal.invariant-loop-value
+invariant-loop-value l = record {
+  now : valued l.taps (drop l.value-index l.values) l.self.now ≡ valued l.taps l.values l.fn.self.now;
+  slots : l.self.now.slots ≡ l.fn.self.now.slots;
+  shown : l.self.shown ≡ l.fn.self.shown;
+  steps : l.self.steps ≡ l.fn.self.steps;
+}

@@ -1,0 +1,5 @@
+use Rattle.vme_bind.proofs.RecorderLemmas.{AreShown}
+use Rattle.vme_bind.proofs.recorder.show.Given as goal
+
+abbrev pub invariant-loop-line : goal.invariant-loop-line
+invariant-loop-line l = AreShown l.touched l.line-index l.fn.shown l.now l.shown l.changes.items

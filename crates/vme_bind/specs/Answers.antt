@@ -1,0 +1,23 @@
+-- What a function answers that gives a value or the first fault.
+use Rattle.std.specs.Prelude.{◌≡◌, ℕ, Result, Ok, Err}
+use Rattle.vme_bind.specs.declared.fault.BindFault.{BindFault}
+use Rattle.vme_bind.specs.declared.fault.BindKind.{BindKind}
+use Rattle.vme_bind.specs.declared.fault.BindKind.TheVariants.{Memory}
+
+-- a kind of fault at a line
+abbrev pub at_line : {A : Type 0} → ℕ → Result A BindKind → Result A BindFault
+at_line line (Ok x) = Ok x
+at_line line (Err kind) = Err (record { line = line; kind = kind })
+
+abbrev pub FailsAs : {Y : Type 0} → ℕ → BindKind → Result Y BindFault → Type 0
+FailsAs line Memory answer = line ≡ 0
+FailsAs line kind answer = answer ≡ Err (record { line = line; kind = kind })
+
+-- the fault is the answer, unless memory ran out
+abbrev pub Fails : {Y : Type 0} → BindFault → Result Y BindFault → Type 0
+Fails fault answer = FailsAs fault.line fault.kind answer
+
+-- what a function returned, seen by view, is the answer, unless memory ran out
+abbrev pub Gives : {X Y : Type 0} → (X → Y) → Result X BindFault → Result Y BindFault → Type 0
+Gives view (Ok x) answer = answer ≡ Ok (view x)
+Gives view (Err fault) answer = Fails fault answer

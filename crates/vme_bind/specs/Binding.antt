@@ -1,0 +1,107 @@
+-- The binding that a text says.
+use Rattle.std.specs.Prelude.{ℕ, ◌+◌, ◌-◌, ◌*◌, Bool, not, ◌&&◌, nat_le, if◌then◌else◌, List, [], ◌∷◌, ◌++◌, codes, bytes_eq, Option, Some, None, Result, Ok, Err}
+use Rattle.std.specs.List.{list_any}
+use Rattle.vme_trace.specs.Instants.{least}
+use Rattle.vme_trace.specs.LineNumbers.{line_count, has_line}
+use Rattle.vcd_read.specs.Header.{◌>>=◌}
+use Rattle.vme_bind.specs.declared.assignment.Assignment.{Assignment}
+use Rattle.vme_bind.specs.declared.fault.BindFault.{BindFault}
+use Rattle.vme_bind.specs.declared.fault.BindKind.{BindKind}
+use Rattle.vme_bind.specs.declared.fault.BindKind.TheVariants.{BadLine, SlotsFirst, UnknownName, NamedTwice, Unbound}
+use Rattle.vme_bind.specs.declared.group.Group.{Group}
+use Rattle.vme_bind.specs.Answers.{at_line}
+use Rattle.vme_bind.specs.Text.{Saying, all_said, end_line}
+use Rattle.vme_bind.specs.Groups.{holds, share, group_named}
+use Rattle.vme_bind.specs.Sources.{source_of}
+
+-- how many slots the backplane has, and what its lines are bound to, in the order of the text
+pub record BoundLines : Type 0 where
+  pub slots : ℕ
+  pub assignments : List Assignment
+
+-- ---- the number of slots
+
+-- a decimal digit
+abbrev pub is_digit : ℕ → Bool
+is_digit b = nat_le 48 b && nat_le b 57
+
+-- one digit or two, the first not 0: 1 to 21
+abbrev pub slot_count : List ℕ → Option ℕ
+slot_count (d ∷ []) = if is_digit d && nat_le 49 d then Some (d - 48) else None
+slot_count (t ∷ d ∷ []) = if is_digit t && nat_le 49 t && is_digit d && nat_le ((t - 48) * 10 + (d - 48)) 21 then Some ((t - 48) * 10 + (d - 48)) else None
+slot_count word = None
+
+abbrev pub counted : Option ℕ → Result ℕ BindKind
+counted None = Err SlotsFirst
+counted (Some slots) = Ok slots
+
+abbrev pub slots_behind : List ℕ → List (List ℕ) → Result ℕ BindKind
+slots_behind first (count ∷ []) = if bytes_eq first (codes "slots") then counted (slot_count count) else Err SlotsFirst
+slots_behind first others = Err SlotsFirst
+
+-- ---- an assignment
+
+abbrev pub name_and_source : List ℕ → List (List ℕ) → Result (List ℕ × List ℕ) BindKind
+name_and_source name (equals ∷ source ∷ []) = if bytes_eq equals (codes "=") then Ok (name, source) else Err BadLine
+name_and_source name others = Err BadLine
+
+abbrev pub group_of : Option Group → Result Group BindKind
+group_of None = Err UnknownName
+group_of (Some group) = Ok group
+
+-- some line of the group is bound before
+abbrev pub is_taken : List Assignment → Group → Bool
+is_taken assignments group = list_any (λ (a : Assignment). share a.group group) assignments
+
+abbrev pub once : List Assignment → Group → Result Group BindKind
+once assignments group = if is_taken assignments group then Err NamedTwice else Ok group
+
+abbrev pub with_assignment : BoundLines → ℕ → Group → List ℕ → BoundLines
+with_assignment b line group source =
+    record b { assignments = b.assignments ++ record { line = line; group = group; source = source_of source } ∷ [] }
+
+abbrev pub bound : BoundLines → Saying → Result BoundLines BindKind
+bound b s = do
+  words ← name_and_source s.first s.others
+  group ← group_of (group_named b.slots words.0)
+  new ← once b.assignments group
+  Ok (with_assignment b s.line new words.1)
+
+-- the first fault of some lines, or all that they bind
+unfoldable pub bound_all : BoundLines → List Saying → Result BoundLines BindFault
+bound_all b [] = Ok b
+bound_all b (s ∷ ss) = do
+  next ← at_line s.line (bound b s)
+  bound_all next ss
+
+-- ---- the whole text
+
+abbrev pub is_bound : List Assignment → ℕ → Bool
+is_bound assignments l = list_any (λ (a : Assignment). holds a.group l) assignments
+
+-- the least line of the backplane that nothing is bound to
+abbrev pub least_unbound : BoundLines → Option ℕ
+least_unbound b = least (λ l. has_line b.slots l && not (is_bound b.assignments l)) 0 line_count
+
+abbrev pub unless_unbound : ℕ → BoundLines → Option ℕ → Result BoundLines BindFault
+unless_unbound line b None = Ok b
+unless_unbound line b (Some l) = Err (record { line = line; kind = Unbound l })
+
+-- each line has to be bound at the end of the text, which is at this line
+abbrev pub all_bound : ℕ → BoundLines → Result BoundLines BindFault
+all_bound line b = unless_unbound line b (least_unbound b)
+
+abbrev pub no_assignments : ℕ → BoundLines
+no_assignments slots = record { slots = slots; assignments = [] }
+
+-- what the first line that says something and the others bind
+abbrev pub binding_from : ℕ → List Saying → Result BoundLines BindFault
+binding_from line [] = Err (record { line = line; kind = SlotsFirst })
+binding_from line (s ∷ ss) = do
+  slots ← at_line s.line (slots_behind s.first s.others)
+  b ← bound_all (no_assignments slots) ss
+  all_bound line b
+
+-- the binding that a text says, or else its first fault
+unfoldable pub binding_of : List ℕ → Result BoundLines BindFault
+binding_of text = binding_from (end_line text) (all_said text)

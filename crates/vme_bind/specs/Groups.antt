@@ -1,0 +1,34 @@
+-- The lines that a name stands for.
+use Rattle.std.specs.Prelude.{ℕ, ◌+◌, Bool, ◌&&◌, nat_le, nat_lt, if◌then◌else◌, List, codes, bytes_eq, Option, Some, None, option_and_then}
+use Rattle.vme_trace.specs.LineNumbers.{AM, A, BR, grant, iack, has_line}
+use Rattle.vme_trace.specs.Names.{line_named}
+use Rattle.vme_bind.specs.declared.group.Group.{Group}
+
+-- so many lines, from the first one down
+abbrev pub down_from : ℕ → ℕ → Group
+down_from first count = record { first = first; count = count }
+
+-- the group holds the line
+abbrev pub holds : Group → ℕ → Bool
+holds g l = nat_le l g.first && nat_lt g.first (l + g.count)
+
+-- two groups have a line in common
+abbrev pub share : Group → Group → Bool
+share g h = nat_lt g.first (h.first + g.count) && nat_lt h.first (g.first + h.count)
+
+-- a line by its own name, if the backplane has it
+abbrev pub single : ℕ → ℕ → Option Group
+single slots l = if has_line slots l then Some (down_from l 1) else None
+
+-- the lines that a name stands for on a backplane of so many slots, the leftmost first
+abbrev pub group_named : ℕ → List ℕ → Option Group
+group_named slots name =
+    if bytes_eq name (codes "AM") then Some (down_from (AM 5) 6)
+    else if bytes_eq name (codes "A") then Some (down_from (A 31) 31)
+    else if bytes_eq name (codes "BR") then Some (down_from (BR 3) 4)
+    else if bytes_eq name (codes "BG0") then Some (down_from (grant 0 slots) (slots + 1))
+    else if bytes_eq name (codes "BG1") then Some (down_from (grant 1 slots) (slots + 1))
+    else if bytes_eq name (codes "BG2") then Some (down_from (grant 2 slots) (slots + 1))
+    else if bytes_eq name (codes "BG3") then Some (down_from (grant 3 slots) (slots + 1))
+    else if bytes_eq name (codes "IA") then Some (down_from (iack slots) slots)
+    else option_and_then (single slots) (line_named name)

@@ -1,0 +1,10 @@
+pub mod Answers
+pub mod Text
+pub mod Groups
+pub mod Sources
+pub mod Binding
+pub mod Reading
+pub mod Wires
+pub mod Taps
+pub mod Capture
+pub mod Recording

@@ -1,0 +1,62 @@
+-- How the levels of the lines change from one instant to the next.
+use Rattle.std.specs.Prelude.{◌≡◌, ℕ, ◌<◌, Bool, true, not, if◌then◌else◌, List, [], ◌∷◌, length, map, All, Contains, IsTrue}
+use Rattle.vme_trace.specs.Instants.{any, those}
+use Rattle.vme_trace.specs.Levels.{Levels, level_at, same_level}
+use Rattle.vme_trace.specs.LineNumbers.{line_count, has_line}
+use Rattle.vme_trace.specs.Trace.{changed}
+use Rattle.vme_trace.specs.declared.step.Change.{Change}
+use Rattle.vme_trace.specs.declared.step.Step.{Step}
+use Rattle.vcd_read.specs.declared.dump.Bit.{Bit}
+use Rattle.vcd_read.specs.declared.dump.Value.{Value}
+use Rattle.vme_bind.specs.declared.taps.Tap.{Tap}
+use Rattle.vme_bind.specs.declared.taps.Taps.{Taps}
+use Rattle.vme_bind.specs.Capture.{level_in}
+use Rattle.vme_bind.specs.Taps.{taps_of}
+
+-- the levels of the steps so far, and those after some values of the instant at hand
+pub record Progress : Type 0 where
+  pub shown : Levels
+  pub now : Levels
+  pub steps : List Step
+
+-- a line of the backplane
+pub record IsLine (slots l : ℕ) : Type 0 where
+  pub below : l < line_count
+  pub exists : IsTrue (has_line slots l)
+
+-- a line has another level
+abbrev pub differs : Levels → Levels → ℕ → Bool
+differs a b l = not (same_level (level_at a l) (level_at b l))
+
+-- both are levels of one backplane, and each line on which they differ is listed
+pub record AreTouched (shown now : Levels) (touched : List ℕ) : Type 0 where
+  pub slots : now.slots ≡ shown.slots
+  pub shown_all : length shown.levels ≡ line_count
+  pub now_all : length now.levels ≡ line_count
+  pub lines : All (IsLine shown.slots) touched
+  pub listed : (l : ℕ) → differs shown now l ≡ true → Contains touched l
+
+-- what the bits of a net do to the line of a tap
+abbrev pub tapped : List Bit → Tap → Change
+tapped bits tap = record { line = tap.line; level = level_in tap.line tap.place bits }
+
+-- what some values do to the levels
+abbrev pub valued : Taps → List Value → Levels → Levels
+valued taps [] now = now
+valued taps (v ∷ values) now = valued taps values (changed now (map (tapped v.bits) (taps_of taps v.net)))
+
+-- the lines of all taps are the backplane's
+abbrev pub AreLines : ℕ → List Tap → Type 0
+AreLines slots taps = All (λ (tap : Tap). IsLine slots tap.line) taps
+
+abbrev pub change_to : Levels → ℕ → Change
+change_to now l = record { line = l; level = level_at now l }
+
+-- the changes from some levels to others, in the order of their lines
+abbrev pub changes_between : Levels → Levels → List Change
+changes_between shown now = map (change_to now) (those (differs shown now) 0 line_count)
+
+-- the step from some levels to others, if they differ
+abbrev pub step_between : ℕ → Levels → Levels → List Step
+step_between time shown now =
+    if any (differs shown now) 0 line_count then record { time = time; changes = changes_between shown now } ∷ [] else []

@@ -1,0 +1,44 @@
+-- A binding text as its statements: the words of each line that says something.
+use Rattle.std.specs.Prelude.{ℕ, ◌+◌, ◌-◌, Bool, ◌||◌, not, ◌==◌, if◌then◌else◌, List, [], ◌∷◌, ◌++◌, length, take, get_or, filter, count_by}
+use Rattle.std.specs.List.{slice_split}
+use Rattle.vcd_read.specs.Numbers.{is_empty}
+
+abbrev pub is_feed : ℕ → Bool
+is_feed b = b == 10
+
+-- a space or a tab
+abbrev pub is_blank : ℕ → Bool
+is_blank b = b == 32 || b == 9
+
+-- the longest runs of bytes that are no blanks
+abbrev pub words : List ℕ → List (List ℕ)
+words line = filter (λ word. not (is_empty word)) (slice_split is_blank line)
+
+-- what ends at a line feed, without a carriage return before it
+abbrev pub without_return : List ℕ → List ℕ
+without_return line = if get_or line (length line - 1) 0 == 13 then take (length line - 1) line else line
+
+-- a line's first word, and the others
+pub record Saying : Type 0 where
+  pub line : ℕ
+  pub first : List ℕ
+  pub others : List (List ℕ)
+
+-- what the words of a line say: nothing where there are none, or the first begins with #
+abbrev pub said : ℕ → List (List ℕ) → List Saying
+said line [] = []
+said line (first ∷ others) = if get_or first 0 0 == 35 then [] else record { line = line; first = first; others = others } ∷ []
+
+-- what the parts between line feeds say, the first of which is this line
+unfoldable pub said_from : ℕ → List (List ℕ) → List Saying
+said_from line [] = []
+said_from line (part ∷ []) = said line (words part)
+said_from line (part ∷ next ∷ parts) = said line (words (without_return part)) ++ said_from (line + 1) (next ∷ parts)
+
+-- what a text says, from its first line on
+abbrev pub all_said : List ℕ → List Saying
+all_said text = said_from 1 (slice_split is_feed text)
+
+-- the line that a text ends in
+abbrev pub end_line : List ℕ → ℕ
+end_line text = 1 + count_by is_feed text

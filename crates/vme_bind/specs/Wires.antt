@@ -1,0 +1,96 @@
+-- The bits of a dump that the lines of a backplane are bound to.
+use Rattle.std.specs.Prelude.{ℕ, ◌+◌, ◌-◌, Bool, ◌&&◌, ◌||◌, ◌==◌, nat_le, max, min, if◌then◌else◌, List, [], ◌∷◌, bytes_eq, Option, Some, None, option_and_then, Result, Ok, Err}
+use Rattle.std.specs.List.{filter_map, list_all}
+use Rattle.vme_trace.specs.LineNumbers.{has_line}
+use Rattle.vcd_read.specs.declared.dump.Variable.{Variable}
+use Rattle.vcd_read.specs.Header.{◌>>=◌}
+use Rattle.vme_bind.specs.declared.assignment.Assignment.{Assignment}
+use Rattle.vme_bind.specs.declared.fault.BindFault.{BindFault}
+use Rattle.vme_bind.specs.declared.fault.BindKind.{BindKind}
+use Rattle.vme_bind.specs.declared.fault.BindKind.TheVariants.{NoSuchPath, AmbiguousPath, WrongWidth}
+use Rattle.vme_bind.specs.declared.source.Source.{Source}
+use Rattle.vme_bind.specs.declared.source.Source.TheVariants.{Constant, Variable as Named}
+use Rattle.vme_bind.specs.declared.source.Variables.{Variables}
+use Rattle.vme_bind.specs.declared.wires.BitRange.{BitRange}
+use Rattle.vme_bind.specs.declared.wires.Wire.{Wire}
+use Rattle.vme_bind.specs.declared.wires.WireSource.{WireSource}
+use Rattle.vme_bind.specs.declared.wires.WireSource.TheVariants.{Fixed, Bits}
+use Rattle.vme_bind.specs.declared.wires.LineSource.{LineSource}
+use Rattle.vme_bind.specs.declared.wires.LineSource.TheVariants.{Always, Bit}
+use Rattle.vme_bind.specs.Answers.{at_line}
+use Rattle.vme_bind.specs.Groups.{holds}
+
+-- ---- the bits that a source names
+
+-- how far two indices are from each other
+abbrev pub distance : ℕ → ℕ → ℕ
+distance m l = max m l - min m l
+
+-- an index holds both ends of a selection, in the same direction
+abbrev pub selects : ℕ × ℕ → ℕ × ℕ → Bool
+selects index selection =
+    (nat_le selection.0 index.0 && nat_le selection.1 selection.0 && nat_le index.1 selection.1)
+    || (nat_le index.0 selection.0 && nat_le selection.0 selection.1 && nat_le selection.1 index.1)
+
+-- so many bits of a net, from the one at this place on, where the leftmost is at place 0
+abbrev pub bit_range : ℕ → ℕ → ℕ → BitRange
+bit_range net first count = record { net = net; first = first; count = count }
+
+abbrev pub selected : ℕ → ℕ × ℕ → ℕ × ℕ → Option BitRange
+selected net selection index =
+    if selects index selection then Some (bit_range net (distance index.0 selection.0) (distance selection.0 selection.1 + 1)) else None
+
+-- the bits of a variable that a selection means: all, where there is none
+abbrev pub bits_in : Option (ℕ × ℕ) → Variable → Option BitRange
+bits_in None v = Some (bit_range v.net 0 v.size)
+bits_in (Some selection) v = option_and_then (selected v.net selection) v.index
+
+-- a candidate of a source: a variable of its path, whole or in part
+abbrev pub candidate : Variables → Variable → Option BitRange
+candidate named v = if bytes_eq v.path named.path then bits_in named.selection v else None
+
+abbrev pub same_bits : BitRange → BitRange → Bool
+same_bits a b = a.net == b.net && a.first == b.first && a.count == b.count
+
+-- candidates that are the same bits are one
+abbrev pub only : List BitRange → Result BitRange BindKind
+only [] = Err NoSuchPath
+only (bits ∷ others) = if list_all (same_bits bits) others then Ok bits else Err AmbiguousPath
+
+abbrev pub as_wide_as : ℕ → BitRange → Result BitRange BindKind
+as_wide_as count bits = if bits.count == count then Ok bits else Err WrongWidth
+
+-- ---- the wires of a binding
+
+abbrev pub source_in : List Variable → ℕ → Source → Result WireSource BindKind
+source_in variables count (Constant level) = Ok (Fixed level)
+source_in variables count (Named named) = do
+  bits ← only (filter_map (candidate named) variables)
+  fitting ← as_wide_as count bits
+  Ok (Bits fitting)
+
+abbrev pub wire_in : List Variable → Assignment → Result Wire BindFault
+wire_in variables a = at_line a.line (source_in variables a.group.count a.source) >>= λ source. Ok (record { group = a.group; source = source })
+
+-- the wires of all assignments, or the first fault
+unfoldable pub wires_in : List Variable → List Assignment → Result (List Wire) BindFault
+wires_in variables [] = Ok []
+wires_in variables (a ∷ as') = do
+  wire ← wire_in variables a
+  wires ← wires_in variables as'
+  Ok (wire ∷ wires)
+
+-- ---- where the level of one line comes from
+
+-- the first line of a group has its leftmost bit
+abbrev pub source_on : ℕ → WireSource → LineSource
+source_on place (Fixed level) = Always level
+source_on place (Bits bits) = Bit (record { net = bits.net; place = bits.first + place })
+
+abbrev pub wire_source : List Wire → ℕ → Option LineSource
+wire_source [] l = None
+wire_source (w ∷ wires) l = if holds w.group l then Some (source_on (w.group.first - l) w.source) else wire_source wires l
+
+-- nothing, where the backplane lacks the line
+abbrev pub line_source : ℕ → List Wire → ℕ → Option LineSource
+line_source slots wires l = if has_line slots l then wire_source wires l else None

@@ -1,0 +1,13 @@
+//! What one line of a text binds.
+
+use crate::group::Group;
+use crate::source::Source;
+
+/// Lines of the backplane, and where their levels come from.
+#[derive(Drop)]
+pub(crate) struct Assignment {
+    /// The line of the text.
+    pub line: u64,
+    pub group: Group,
+    pub source: Source,
+}

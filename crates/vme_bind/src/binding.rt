@@ -1,0 +1,235 @@
+//! A binding, and how its text is read.
+
+ghost use Rattle.std.specs.Prelude.{◌≡◌, ◌++◌, ◌∷◌, [], MatchOption, IfSome, OnOk, Ok, Err, replicate};
+ghost use Rattle.vme_trace.specs.declared.level.Level.TheVariants.{Unknown};
+ghost use Rattle.vme_bind.specs.declared.fault.BindKind.TheVariants.{BadLine, SlotsFirst};
+ghost use Rattle.vme_bind.specs.Answers.{Gives, at_line};
+ghost use Rattle.vme_bind.specs.Binding.{binding_of};
+
+use crate::assignment::Assignment;
+use crate::fault::{BindFault, BindKind};
+use crate::group::{Group, LINE_COUNT};
+use crate::source::Source;
+use crate::statements::{Statement, Statements};
+use std::alloc::Global;
+use std::marker::Model;
+use vme_trace::{Line, Lines};
+
+/// What each line of a backplane is bound to.
+#[derive(Drop)]
+pub struct Binding {
+    /// The backplane, with all lines unknown.
+    lines: Lines,
+    /// In the order of the text.
+    assignments: Vec<Assignment>,
+}
+
+impl Model for Binding {
+    ghost use Rattle.std.specs.Prelude.{◌≡◌, replicate};
+    ghost use Rattle.vme_trace.specs.declared.level.Level.TheVariants.{Unknown};
+    ghost use Rattle.vme_bind.specs.Binding.{BoundLines};
+
+    ghost Value = { BoundLines };
+
+    ghost view = { λ b. record { slots = b.lines.slots; assignments = b.assignments.items } };
+
+    ghost invariant = { λ b. b.lines.levels ≡ replicate 159 Unknown };
+}
+
+impl Binding {
+    ghost use Rattle.vme_bind.specs.Reading.{saying, left, last_line};
+    ghost use Rattle.vme_bind.specs.Binding.{slot_count, slots_behind, name_and_source, is_taken, is_bound, bound, bound_all, least_unbound, no_assignments};
+
+    /// The number of slots that a word is: 1 to 21, without a leading zero.
+    fn slot_count(word: &[u8]) -> Option<u8>
+        ensures { result ≡ slot_count word.now }
+    {
+        match word {
+            [digit @ b'1'..=b'9'] => Some(*digit - b'0'),
+            [ten @ b'1'..=b'9', digit @ b'0'..=b'9'] => {
+                let count = (*ten - b'0') * 10 + (*digit - b'0');
+                if count <= 21 { Some(count) } else { None }
+            }
+            _ => None,
+        }
+    }
+
+    /// The backplane that the first statement is of.
+    fn lines_of(statement: Statement<'_>) -> Option<Lines>
+        ensures slots { MatchOption result
+            (slots_behind (saying statement.entry).first (saying statement.entry).others ≡ Err SlotsFirst)
+            (λ lines. slots_behind (saying statement.entry).first (saying statement.entry).others ≡ Ok lines.slots) }
+        ensures unknown { IfSome result (λ lines. lines.levels ≡ replicate 159 Unknown) }
+    {
+        let Statement {
+            first,
+            mut others,
+            ..
+        } = statement;
+        let count = others.next()?;
+        if others.next().is_some() || first != b"slots".as_slice() {
+            return None;
+        }
+        Lines::new(Binding::slot_count(count)?)
+    }
+
+    /// The name and the source that a statement has, if it is an assignment.
+    fn name_and_source<'a>(statement: Statement<'a>) -> Option<(&'a [u8], &'a [u8])>
+        ensures { MatchOption result
+            (name_and_source (saying statement.entry).first (saying statement.entry).others ≡ Err BadLine)
+            (λ parts. name_and_source (saying statement.entry).first (saying statement.entry).others ≡ Ok (parts.0.now, parts.1.now)) }
+    {
+        let Statement {
+            first,
+            mut others,
+            ..
+        } = statement;
+        let equals = others.next()?;
+        let source = others.next()?;
+        if others.next().is_some() || equals != b"=".as_slice() {
+            return None;
+        }
+        Some((first, source))
+    }
+
+    /// Nothing is bound yet.
+    fn new(alloc: Global, lines: Lines) -> Binding
+        requires { lines.levels ≡ replicate 159 Unknown }
+        ensures { result ≡ no_assignments lines.slots }
+    {
+        Binding {
+            lines,
+            assignments: Vec::new(alloc),
+        }
+    }
+
+    /// The backplane, with all lines unknown.
+    pub(crate) fn lines(&self) -> &Lines
+        ensures slots { result.now.slots ≡ self.now.slots }
+        ensures unknown { result.now.levels ≡ replicate 159 Unknown }
+    {
+        &self.lines
+    }
+
+    /// What is bound, in the order of the text.
+    pub(crate) fn assignments(&self) -> &[Assignment]
+        ensures { result.now ≡ self.now.assignments }
+    {
+        &self.assignments
+    }
+
+    /// Whether a line of the group is bound.
+    fn is_taken(&self, group: Group) -> bool
+        ensures { result ≡ is_taken self.now.assignments group }
+    {
+        self.assignments.iter().any(|a| a.group.shares(group))
+    }
+
+    fn is_bound(&self, line: Line) -> bool
+        ensures { result ≡ is_bound self.now.assignments line }
+    {
+        self.assignments.iter().any(|a| a.group.holds(line))
+    }
+
+    /// What a statement binds, where nothing is wrong with it.
+    fn assignment(&self, alloc: Global, statement: Statement<'_>) -> Result<Assignment, BindFault>
+        ensures { Gives (λ a. record self.entry.now { assignments = self.entry.now.assignments ++ a ∷ [] }) result
+            (at_line statement.entry.line (bound self.entry.now (saying statement.entry))) }
+    {
+        let line = statement.line;
+        let Some((name, word)) = Binding::name_and_source(statement) else {
+            return Err(BindFault {
+                line,
+                kind: BindKind::BadLine,
+            });
+        };
+        let Some(group) = Group::named(&self.lines, name) else {
+            return Err(BindFault {
+                line,
+                kind: BindKind::UnknownName,
+            });
+        };
+        if self.is_taken(group) {
+            return Err(BindFault {
+                line,
+                kind: BindKind::NamedTwice,
+            });
+        }
+        Ok(Assignment {
+            line,
+            group,
+            source: Source::of(alloc, word)?,
+        })
+    }
+
+    /// Binds what a statement says.
+    fn bind(&mut self, alloc: Global, statement: Statement<'_>) -> Result<(), BindFault>
+        ensures { Gives (λ _. self.new) result (at_line statement.entry.line (bound self.old (saying statement.entry))) }
+    {
+        let assignment = self.assignment(alloc, statement)?;
+        self.assignments.push(assignment)?;
+        Ok(())
+    }
+
+    /// Binds what the rest of a text says.
+    fn bind_all(&mut self, alloc: Global, statements: &mut Statements<'_>) -> Result<(), BindFault>
+        ensures bound { Gives (λ _. self.new) result (bound_all self.old (left statements.old)) }
+        ensures end { OnOk result (statements.new.line ≡ last_line statements.old) }
+    {
+        while let Some(statement) = statements.next() {
+            // The fault is taken apart, since the checker can't carry it out of a loop whole.
+            if let Err(BindFault { line, kind }) = self.bind(alloc, statement) {
+                return Err(BindFault { line, kind });
+            }
+        }
+        Ok(())
+    }
+
+    /// The least line that isn't bound.
+    #[tactic(auto, using(vme_trace::proofs::Ranges::searches))]
+    fn least_unbound(&self) -> Option<Line>
+        ensures { result ≡ least_unbound self.now }
+    {
+        for number in 0..LINE_COUNT {
+            if let Some(line) = Line::from_number(number) {
+                if self.lines.has(line) && !self.is_bound(line) {
+                    return Some(line);
+                }
+            }
+        }
+        None
+    }
+}
+
+/// Reads the text of a binding: a line `slots N`, and behind it lines `NAME = SOURCE` that bind each line of the
+/// backplane once.
+///
+/// The text is read from the top, and an error names the first fault met and its line. A line that isn't bound is
+/// met at the end of the text. Where memory runs out, that is the fault, at line 0.
+pub fn read_binding(alloc: Global, text: &[u8]) -> Result<Binding, BindFault>
+    ensures { Gives (λ binding. binding) result (binding_of text.now) }
+{
+    let mut statements = Statements::new(text);
+    let Some(first) = statements.next() else {
+        return Err(BindFault {
+            line: statements.line(),
+            kind: BindKind::SlotsFirst,
+        });
+    };
+    let line = first.line;
+    let Some(lines) = Binding::lines_of(first) else {
+        return Err(BindFault {
+            line,
+            kind: BindKind::SlotsFirst,
+        });
+    };
+    let mut binding = Binding::new(alloc, lines);
+    binding.bind_all(alloc, &mut statements)?;
+    match binding.least_unbound() {
+        Some(unbound) => Err(BindFault {
+            line: statements.line(),
+            kind: BindKind::Unbound(unbound),
+        }),
+        None => Ok(binding),
+    }
+}

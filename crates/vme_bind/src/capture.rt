@@ -1,0 +1,79 @@
+//! The recording that a binding makes of a dump.
+
+ghost use Rattle.std.specs.Prelude.{◌≡◌, List, IfOk, length, replicate};
+ghost use Rattle.vme_trace.specs.declared.level.Level.TheVariants.{Unknown};
+ghost use Rattle.vcd_read.specs.declared.dump.Instant.{Instant};
+ghost use Rattle.vcd_read.specs.Contents.{TimesAscend};
+ghost use Rattle.vme_bind.specs.Answers.{Gives};
+ghost use Rattle.vme_bind.specs.Capture.{levels_after, recording, capture_of};
+
+use crate::binding::Binding;
+use crate::fault::{BindFault, BindKind};
+use crate::group::LINE_COUNT;
+use crate::recorder::Recorder;
+use crate::taps::{Taps, line_source};
+use crate::wires::{LineSource, Wire};
+use std::alloc::{AllocError, Global};
+use vcd_read::{Dump, Instant as DumpInstant};
+use vme_trace::{Capture, Line, Lines, Step};
+
+/// The levels before any change: a line has a level where it is bound to one for good.
+fn opening_of(lines: &Lines, wires: &[Wire]) -> Lines
+    requires { lines.now.levels ≡ replicate 159 Unknown }
+    ensures { (instants : List Instant) → result ≡ levels_after lines.now.slots wires.now instants 0 }
+{
+    let mut opening = *lines;
+    for number in 0..LINE_COUNT {
+        if let Some(line) = Line::from_number(number) {
+            match line_source(lines, wires, line) {
+                Some(LineSource::Always(level)) => opening.set(line, level),
+                Some(LineSource::Bit(_)) => {}
+                None => {}
+            }
+        }
+    }
+    opening
+}
+
+/// The opening, and the steps at the instants of a dump.
+fn record_all(
+    alloc: Global,
+    lines: &Lines,
+    wires: &[Wire],
+    instants: &[DumpInstant],
+) -> Result<(Lines, Vec<Step>), AllocError>
+    requires { lines.now.levels ≡ replicate 159 Unknown }
+    ensures { IfOk result (λ made. recording lines.now.slots wires.now instants.now (length instants.now) ≡ record { opening = made.0; steps = made.1.items }) }
+{
+    let taps = Taps::of_wires(alloc, lines, wires)?;
+    let opening = opening_of(lines, wires);
+    let mut recorder = Recorder::new(alloc, opening);
+    for instant in instants {
+        recorder.record(alloc, &taps, instant.time, instant.values.as_slice())?;
+    }
+    Ok((opening, recorder.into_steps()))
+}
+
+impl Binding {
+    /// The recording that the binding makes of a dump.
+    ///
+    /// Each line has the level of the last change of its bit; before the first, and where the bit is x, it is unknown.
+    /// A bit z is high on a bused line and unknown on a net of a daisy chain. A line that is bound to a level has it
+    /// from the opening on. A step stands at each time of the dump at which some line has another level than before.
+    ///
+    /// An error names the first line of the binding whose source the dump lacks, has twice, or has in another width
+    /// than its lines. Over 268,435,456 steps, and want of memory, are faults at line 0.
+    pub fn capture(&self, alloc: Global, dump: &Dump) -> Result<Capture, BindFault>
+        ensures { Gives (λ capture. capture) result (capture_of self.now dump.now) }
+    {
+        let wires = Wire::all(alloc, self.assignments(), dump.variables())?;
+        let (opening, steps) = record_all(alloc, self.lines(), &wires, dump.instants())?;
+        match Capture::new(opening, steps) {
+            Ok(capture) => Ok(capture),
+            Err(_) => Err(BindFault {
+                line: 0,
+                kind: BindKind::TooManySteps,
+            }),
+        }
+    }
+}

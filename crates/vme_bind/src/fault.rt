@@ -1,0 +1,89 @@
+//! Why a text binds nothing, or a binding no dump.
+
+ghost use Rattle.std.specs.Prelude.{◌≡◌};
+ghost use Rattle.vme_bind.specs.declared.fault.BindKind.TheVariants.{Memory};
+
+use std::alloc::{AllocError, AllocFailed};
+use std::fmt::{self, Display, Formatter, Write};
+use thiserror::Error;
+use vme_trace::Line;
+
+/// A line, shown by its name.
+#[derive(Clone, Copy)]
+struct LineName(Line);
+
+impl Display for LineName {
+    fn fmt<W: Write>(&self, f: &mut Formatter<W>) -> fmt::Result {
+        for byte in self.0.name().as_bytes() {
+            f.write_char(char::from(*byte))?;
+        }
+        Ok(())
+    }
+}
+
+/// What is wrong with a binding.
+#[derive(Clone, Copy, Debug, Error, PartialEq, Eq)]
+pub enum BindKind {
+    /// A line of the text isn't `NAME = SOURCE`.
+    #[error("BadLine")]
+    BadLine,
+    /// The first line that says something isn't `slots N`, N from 1 to 21, or there is none.
+    #[error("SlotsFirst")]
+    SlotsFirst,
+    /// A name of no line of the backplane, and of no group.
+    #[error("UnknownName")]
+    UnknownName,
+    /// A line of the backplane that is bound before.
+    #[error("NamedTwice")]
+    NamedTwice,
+    /// The least line of the backplane that isn't bound.
+    #[error("Unbound {}", LineName(*.0))]
+    Unbound(Line),
+    /// Memory ran out; the line is then 0.
+    #[error("Memory")]
+    Memory,
+    /// The dump has no such variable, or none with such bits.
+    #[error("NoSuchPath")]
+    NoSuchPath,
+    /// The dump has several such variables, and they aren't the same bits.
+    #[error("AmbiguousPath")]
+    AmbiguousPath,
+    /// The count of bits isn't that of the lines.
+    #[error("WrongWidth")]
+    WrongWidth,
+    /// The recording has over 268,435,456 steps; the line is then 0.
+    #[error("TooManySteps")]
+    TooManySteps,
+}
+
+/// The first fault of a binding.
+#[derive(Clone, Copy, Debug, Error, PartialEq, Eq)]
+#[error("binding line {line}: {kind}")]
+pub struct BindFault {
+    /// The line of the binding text that the fault is at, from 1.
+    pub line: u64,
+    /// What is wrong there.
+    pub kind: BindKind,
+}
+
+impl From<AllocError> for BindFault {
+    ghost from_gives = { λ _ e. e ≡ record { line = 0; kind = Memory } };
+
+    fn from(_e: AllocError) -> BindFault {
+        BindFault {
+            line: 0,
+            kind: BindKind::Memory,
+        }
+    }
+}
+
+impl<T: Drop> From<AllocFailed<T>> for BindFault {
+    ghost from_gives = { λ _ e. e ≡ record { line = 0; kind = Memory } };
+
+    fn from(_e: AllocFailed<T>) -> BindFault {
+        BindFault {
+            line: 0,
+            kind: BindKind::Memory,
+        }
+    }
+}

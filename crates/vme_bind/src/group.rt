@@ -1,0 +1,80 @@
+//! Groups of lines.
+
+ghost use Rattle.std.specs.Prelude.{◌≡◌, option_and_then};
+ghost use Rattle.vme_trace.specs.Names.{line_named};
+
+use vme_trace::{Line, Lines};
+
+/// One more than the greatest number of a line.
+pub(crate) const LINE_COUNT: u8 = 159;
+
+/// Lines that one name stands for.
+#[derive(Clone, Copy)]
+pub(crate) struct Group {
+    /// The first of them, which has the greatest number.
+    pub first: Line,
+    /// How many there are, from the first one down.
+    pub count: u8,
+}
+
+impl Group {
+    ghost use Rattle.vme_bind.specs.Groups.{holds, share, group_named, single};
+
+    /// Whether the line is one of them.
+    pub fn holds(self, line: Line) -> bool
+        ensures { result ≡ holds self line }
+    {
+        let first = u16::from(self.first.number());
+        let line = u16::from(line.number());
+        line <= first && first < line + u16::from(self.count)
+    }
+
+    /// Whether there is a line of both.
+    pub fn shares(self, other: Group) -> bool
+        ensures { result ≡ share self other }
+    {
+        let first = u16::from(self.first.number());
+        let other_first = u16::from(other.first.number());
+        first < other_first + u16::from(self.count) && other_first < first + u16::from(other.count)
+    }
+
+    /// The lines that a name stands for on a backplane.
+    pub fn named(lines: &Lines, name: &[u8]) -> Option<Group>
+        ensures { result ≡ group_named lines.now.slots name.now }
+    {
+        let slots = lines.slots();
+        let (first, count) = if name == b"AM".as_slice() {
+            (Line::address_modifier(5), 6)
+        } else if name == b"A".as_slice() {
+            (Line::address(31), 31)
+        } else if name == b"BR".as_slice() {
+            (Line::bus_request(3), 4)
+        } else if name == b"BG0".as_slice() {
+            (Line::grant(0, slots), slots + 1)
+        } else if name == b"BG1".as_slice() {
+            (Line::grant(1, slots), slots + 1)
+        } else if name == b"BG2".as_slice() {
+            (Line::grant(2, slots), slots + 1)
+        } else if name == b"BG3".as_slice() {
+            (Line::grant(3, slots), slots + 1)
+        } else if name == b"IA".as_slice() {
+            (Line::iack(slots), slots)
+        } else {
+            return Group::single(lines, name);
+        };
+        Some(Group { first, count })
+    }
+
+    fn single(lines: &Lines, name: &[u8]) -> Option<Group>
+        ensures { result ≡ option_and_then (single lines.now.slots) (line_named name.now) }
+    {
+        let line = Line::from_name(name)?;
+        if !lines.has(line) {
+            return None;
+        }
+        Some(Group {
+            first: line,
+            count: 1,
+        })
+    }
+}

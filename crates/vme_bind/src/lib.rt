@@ -1,0 +1,20 @@
+//! Bindings of the lines of a VMEbus backplane to the variables of a dump, and the recordings that they make of dumps.
+#![tactic(auto)]
+
+mod assignment;
+mod binding;
+mod capture;
+mod fault;
+mod group;
+mod recorder;
+mod selection;
+mod source;
+mod statements;
+mod taps;
+#[cfg(test)]
+mod tests;
+mod wires;
+mod words;
+
+pub use binding::{Binding, read_binding};
+pub use fault::{BindFault, BindKind};

@@ -1,0 +1,171 @@
+//! The levels of the lines as a dump goes on, and the steps at which they change.
+
+ghost use Rattle.std.specs.Prelude.{◌≡◌, ◌≤◌, ◌<◌, ◌++◌, [], ℕ, IfOk, OnOk, map, length, get_or};
+ghost use Rattle.std.specs.List.Sorted.{IsNonDecreasing};
+ghost use Rattle.vme_trace.specs.LineNumbers.{line_count};
+ghost use Rattle.vme_trace.specs.Trace.{changed};
+ghost use Rattle.vme_bind.specs.Capture.{level_of, level_in};
+ghost use Rattle.vme_bind.specs.Taps.{taps_of};
+ghost use Rattle.vme_bind.specs.Recording.{AreTouched, AreLines, tapped, valued, changes_between, step_between};
+
+use crate::taps::{Tap, Taps};
+use smallvec::SmallVec;
+use std::alloc::{AllocError, Global};
+use std::marker::Model;
+use vcd_read::{Bit, Value};
+use vme_trace::{Change, Changes, Level, Line, Lines, Step};
+
+/// The steps so far, and the levels of the lines.
+#[derive(Drop)]
+pub(crate) struct Recorder {
+    /// The levels after the steps.
+    shown: Lines,
+    /// The levels after the values so far.
+    now: Lines,
+    /// The lines that got another level since the last step, some of them perhaps more than once.
+    touched: Vec<Line>,
+    steps: Vec<Step>,
+}
+
+impl Model for Recorder {
+    ghost use Rattle.vme_bind.specs.Recording.{Progress, AreTouched};
+
+    ghost Value = { Progress };
+
+    ghost view = { λ r. record { shown = r.shown; now = r.now; steps = r.steps.items } };
+
+    ghost invariant = { λ r. AreTouched r.shown r.now r.touched.items };
+}
+
+/// What a bit says of a line: a bused line floats high, and a net to nowhere.
+fn level_of(line: Line, bit: Bit) -> Level
+    ensures { result ≡ level_of line bit }
+{
+    match bit {
+        Bit::Zero => Level::Low,
+        Bit::One => Level::High,
+        Bit::X => Level::Unknown,
+        Bit::Z => {
+            if line.number() < Line::grant(0, 0).number() {
+                Level::High
+            } else {
+                Level::Unknown
+            }
+        }
+    }
+}
+
+/// What the bit of a tap says of its line.
+fn level_in(tap: Tap, bits: &[Bit]) -> Level
+    ensures { result ≡ level_in tap.line tap.place bits.now }
+{
+    level_of(tap.line, bits.get(tap.place).copied().unwrap_or(Bit::X))
+}
+
+/// The changes from the levels that were shown to those of now, on the lines that were touched, in the order of their
+/// numbers. All of them are then shown.
+fn show(
+    alloc: Global,
+    touched: &[Line],
+    now: &Lines,
+    shown: &mut Lines,
+) -> Result<SmallVec<Change, 8>, AllocError>
+    requires sorted { IsNonDecreasing touched.now }
+    requires touched { AreTouched shown.old now.now touched.now }
+    ensures changes { IfOk result (λ changes. changes.items ≡ changes_between shown.old now.now) }
+    ensures shown { OnOk result (shown.new ≡ now.now) }
+    ensures touched { AreTouched shown.new now.now touched.now }
+{
+    let mut changes = SmallVec::new(alloc);
+    for line in touched {
+        let level = now.level(*line);
+        if !shown.level(*line).is_same(level) {
+            changes.push(Change { line: *line, level })?;
+            shown.set(*line, level);
+        }
+    }
+    Ok(changes)
+}
+
+impl Recorder {
+    /// No step yet.
+    pub fn new(alloc: Global, opening: Lines) -> Recorder
+        requires { length opening.levels ≡ line_count }
+        ensures { result ≡ record { shown = opening; now = opening; steps = [] } }
+    {
+        Recorder {
+            shown: opening,
+            now: opening,
+            touched: Vec::new(alloc),
+            steps: Vec::new(alloc),
+        }
+    }
+
+    /// The steps so far.
+    pub fn into_steps(self) -> Vec<Step>
+        ensures { result.items ≡ self.steps }
+    {
+        self.steps
+    }
+
+    /// Gives the lines of a net the levels that these bits are.
+    fn set_lines(&mut self, taps: &[Tap], bits: &[Bit]) -> Result<(), AllocError>
+        requires { AreLines self.old.now.slots taps.now }
+        ensures { OnOk result (self.new ≡ record self.old { now = changed self.old.now (map (tapped bits.now) taps.now) }) }
+    {
+        for tap in taps {
+            let level = level_in(*tap, bits);
+            if !self.shown.level(tap.line).is_same(level) {
+                self.touched.push(tap.line)?;
+            }
+            self.now.set(tap.line, level);
+        }
+        Ok(())
+    }
+
+    /// Takes the values of an instant.
+    fn set_values(&mut self, taps: &Taps, values: &[Value]) -> Result<(), AllocError>
+        requires { (net : ℕ) → AreLines self.old.now.slots (taps_of taps.now net) }
+        ensures { OnOk result (self.new ≡ record self.old { now = valued taps.now values.now self.old.now }) }
+    {
+        for value in values {
+            self.set_lines(taps.of(value.net), value.bits.as_slice())?;
+        }
+        Ok(())
+    }
+
+    /// Ends an instant, which is a step if some line has another level than before.
+    fn end_instant(&mut self, alloc: Global, time: u64) -> Result<(), AllocError>
+        ensures { OnOk result (self.new ≡ record { shown = self.old.now; now = self.old.now; steps = self.old.steps ++ step_between time self.old.shown self.old.now }) }
+    {
+        self.touched.sort_unstable_by_key(|line| line.number());
+        let changes = show(alloc, &self.touched, &self.now, &mut self.shown)?;
+        self.touched.clear();
+        if !changes.is_empty() {
+            self.steps.push(Step {
+                time,
+                changes: Changes::new(changes),
+            })?;
+        }
+        Ok(())
+    }
+
+    /// Takes an instant of a dump.
+    pub fn record(
+        &mut self,
+        alloc: Global,
+        taps: &Taps,
+        time: u64,
+        values: &[Value],
+    ) -> Result<(), AllocError>
+        requires { (net : ℕ) → AreLines self.old.now.slots (taps_of taps.now net) }
+        ensures { OnOk result (self.new ≡ record {
+          shown = valued taps.now values.now self.old.now;
+          now = valued taps.now values.now self.old.now;
+          steps = self.old.steps ++ step_between time self.old.shown (valued taps.now values.now self.old.now);
+        }) }
+    {
+        self.set_values(taps, values)?;
+        self.end_instant(alloc, time)
+    }
+}

@@ -1,0 +1,63 @@
+//! What lines are bound to.
+
+ghost use Rattle.std.specs.Prelude.{◌≡◌, IfOk};
+ghost use Rattle.vcd_read.specs.Header.{bracketed};
+
+use crate::selection::{bracketed, index_between};
+use std::alloc::{AllocError, Global};
+use vcd_read::Path;
+use vme_trace::Level;
+
+/// Variables of a dump, or some of their bits.
+#[derive(Drop)]
+pub(crate) struct Variables {
+    /// The path that they all have.
+    pub path: Path,
+    /// The indices of the leftmost and of the rightmost bit, where not all bits are meant.
+    pub selection: Option<(u32, u32)>,
+}
+
+/// Where the levels of some lines come from.
+#[derive(Drop)]
+pub(crate) enum Source {
+    /// A level for good.
+    Constant(Level),
+    /// The bits of a variable.
+    Variable(Variables),
+}
+
+impl Source {
+    ghost use Rattle.vme_bind.specs.Sources.{source_of, path_and_selection};
+
+    /// The source that a word is.
+    pub fn of(alloc: Global, word: &[u8]) -> Result<Source, AllocError>
+        ensures { IfOk result (λ source. source ≡ source_of word.now) }
+    {
+        if word == b"0".as_slice() {
+            return Ok(Source::Constant(Level::Low));
+        }
+        if word == b"1".as_slice() {
+            return Ok(Source::Constant(Level::High));
+        }
+        if word == b"x".as_slice() {
+            return Ok(Source::Constant(Level::Unknown));
+        }
+        let (path, selection) = Source::path_and_selection(word);
+        Ok(Source::Variable(Variables {
+            path: Path::from_vec(Vec::from_slice(alloc, path)?),
+            selection,
+        }))
+    }
+
+    /// The path that a word is, and the selection at its end, if there is one.
+    fn path_and_selection(word: &[u8]) -> (&[u8], Option<(u32, u32)>)
+        ensures { (result.0.now, result.1) ≡ path_and_selection word.now (bracketed word.now) }
+    {
+        if let Some((path, inner)) = bracketed(word) {
+            if let Some(selection) = index_between(inner) {
+                return (path, Some(selection));
+            }
+        }
+        (word, None)
+    }
+}

@@ -1,0 +1,98 @@
+//! The lines of a text that say something.
+
+ghost use Rattle.std.specs.Prelude.{◌≡◌, ◌<◌, ◌≤◌, ◌+◌, ◌^◌, ◌∷◌, ◌++◌, [], length, MatchOption, IfNone};
+ghost use Rattle.vme_bind.specs.Text.{words, said, without_return, all_said, end_line};
+
+use crate::words::Words;
+use memchr::memchr;
+
+/// A line that says something: its first word, and those behind it.
+#[derive(Drop)]
+pub(crate) struct Statement<'a> {
+    /// The line's number, from 1.
+    pub line: u64,
+    pub first: &'a [u8],
+    pub others: Words<'a>,
+}
+
+/// What is left of a text, and the number of its first line.
+#[derive(Drop)]
+pub(crate) struct Statements<'a> {
+    rest: &'a [u8],
+    line: u64,
+    ghost fits: { line + length rest.now < 2 ^ 64 },
+}
+
+/// A line without a carriage return at its end.
+fn without_return(line: &[u8]) -> &[u8]
+    ensures { result.now ≡ without_return line.now }
+{
+    match line {
+        [front @ .., b'\r'] => front,
+        _ => line,
+    }
+}
+
+impl<'a> Statements<'a> {
+    ghost use Rattle.vme_bind.specs.Reading.{left, last_line, saying};
+
+    pub fn new(text: &'a [u8]) -> Statements<'a>
+        ensures left { left result ≡ all_said text.now }
+        ensures last { last_line result ≡ end_line text.now }
+    {
+        Statements {
+            rest: text,
+            line: 1,
+        }
+    }
+
+    /// The number of the line that comes next, or of the last one.
+    pub fn line(&self) -> u64
+        ensures { result ≡ self.now.line }
+    {
+        self.line
+    }
+
+    /// Goes on behind a line.
+    fn next_line(&mut self) -> &'a [u8]
+        requires { 0 < length self.old.rest.now }
+        ensures left { left self.old ≡ said self.old.line (words result.now) ++ left self.new }
+        ensures last { last_line self.new ≡ last_line self.old }
+        ensures shorter { length self.new.rest.now < length self.old.rest.now }
+    {
+        let rest = self.rest;
+        match memchr(b'\n', rest) {
+            Some(feed) => {
+                self.rest = &rest[feed + 1..];
+                self.line += 1;
+                without_return(&rest[..feed])
+            }
+            None => {
+                self.rest = &rest[rest.len()..];
+                rest
+            }
+        }
+    }
+
+    /// The next line that says something, if there is one.
+    pub fn next(&mut self) -> Option<Statement<'a>>
+        ensures left { MatchOption result (left self.old ≡ []) (λ s. left self.old ≡ saying s ∷ left self.new) }
+        ensures last { last_line self.new ≡ last_line self.old }
+        ensures end { IfNone result (self.new.line ≡ last_line self.old) }
+    {
+        while !self.rest.is_empty() {
+            let line = self.line;
+            let mut others = Words::new(self.next_line());
+            if let Some(first) = others.next() {
+                if !matches!(first, [b'#', ..]) {
+                    return Some(Statement {
+                        line,
+                        first,
+                        others,
+                    });
+                }
+            }
+        }
+        None
+    }
+}

@@ -1,0 +1,210 @@
+//! The bits of a dump that lines are bound to.
+
+ghost use Rattle.std.specs.Prelude.{◌≡◌};
+ghost use Rattle.std.specs.List.{filter_map};
+ghost use Rattle.vme_bind.specs.Answers.{Gives, at_line};
+ghost use Rattle.vme_bind.specs.Wires.{same_bits, selected, selects, candidate, only, wire_in, wires_in, source_on, wire_source};
+
+use crate::assignment::Assignment;
+use crate::fault::{BindFault, BindKind};
+use crate::group::Group;
+use crate::source::{Source, Variables};
+use std::alloc::Global;
+use vcd_read::Variable;
+use vme_trace::{Level, Line, Lines};
+
+/// Some bits of a net that follow one another.
+#[derive(Clone, Copy)]
+pub(crate) struct BitRange {
+    pub net: u32,
+    /// The place of the first of them; the leftmost bit of the net is at place 0.
+    pub first: u32,
+    /// How many there are.
+    pub count: usize,
+}
+
+/// One bit of a net, by its place from the left.
+#[derive(Clone, Copy)]
+pub(crate) struct BitPlace {
+    pub net: u32,
+    pub place: usize,
+}
+
+/// Where the levels of some lines come from.
+#[derive(Clone, Copy)]
+pub(crate) enum WireSource {
+    /// A level for good.
+    Fixed(Level),
+    /// As many bits as there are lines.
+    Bits(BitRange),
+}
+
+/// Some lines, and where their levels come from.
+#[derive(Clone, Copy)]
+pub(crate) struct Wire {
+    pub group: Group,
+    pub source: WireSource,
+}
+
+/// Where the level of a line comes from.
+#[derive(Clone, Copy)]
+pub(crate) enum LineSource {
+    /// A level for good.
+    Always(Level),
+    /// A bit of a net.
+    Bit(BitPlace),
+}
+
+impl BitRange {
+    /// Whether both are the same bits.
+    fn is_same(self, other: BitRange) -> bool
+        ensures { result ≡ same_bits self other }
+    {
+        self.net == other.net && self.first == other.first && self.count == other.count
+    }
+
+    /// Whether an index holds both ends of a selection, in the same direction.
+    fn selects(index: (u32, u32), selection: (u32, u32)) -> bool
+        ensures { result ≡ selects index selection }
+    {
+        let (left, right) = index;
+        let (first, last) = selection;
+        (first <= left && last <= first && right <= last)
+            || (left <= first && first <= last && last <= right)
+    }
+
+    /// The bits of a net that a selection means, where its leftmost and rightmost bit have these indices.
+    fn selected(net: u32, selection: (u32, u32), index: (u32, u32)) -> Option<BitRange>
+        ensures { result ≡ selected net selection index }
+    {
+        if !BitRange::selects(index, selection) {
+            return None;
+        }
+        Some(BitRange {
+            net,
+            first: index.0.abs_diff(selection.0),
+            count: selection.0.abs_diff(selection.1) as usize + 1,
+        })
+    }
+
+    /// The bits of a variable, if it is one that is named.
+    fn candidate(named: &Variables, variable: &Variable) -> Option<BitRange>
+        ensures { result ≡ candidate named.now variable.now }
+    {
+        if variable.path.as_bytes() != named.path.as_bytes() {
+            return None;
+        }
+        match named.selection {
+            None => Some(BitRange {
+                net: variable.net,
+                first: 0,
+                count: variable.size as usize,
+            }),
+            Some(selection) => match variable.index {
+                None => None,
+                Some(index) => BitRange::selected(variable.net, selection, index),
+            },
+        }
+    }
+
+    /// The bits that are named, which must be the same wherever they are found. A fault is at a line of the text.
+    fn of(line: u64, named: &Variables, variables: &[Variable]) -> Result<BitRange, BindFault>
+        ensures { Gives (λ bits. bits) result (at_line line (only (filter_map (candidate named.now) variables.now))) }
+    {
+        let mut found: Option<BitRange> = None;
+        for variable in variables {
+            if let Some(bits) = BitRange::candidate(named, variable) {
+                if let Some(first) = found {
+                    if !first.is_same(bits) {
+                        return Err(BindFault {
+                            line,
+                            kind: BindKind::AmbiguousPath,
+                        });
+                    }
+                } else {
+                    found = Some(bits);
+                }
+            }
+        }
+        match found {
+            Some(bits) => Ok(bits),
+            None => Err(BindFault {
+                line,
+                kind: BindKind::NoSuchPath,
+            }),
+        }
+    }
+}
+
+impl Wire {
+    /// The wire of an assignment, for a dump with these variables.
+    fn of(assignment: &Assignment, variables: &[Variable]) -> Result<Wire, BindFault>
+        ensures { Gives (λ wire. wire) result (wire_in variables.now assignment.now) }
+    {
+        let group = assignment.group;
+        let line = assignment.line;
+        match &assignment.source {
+            Source::Constant(level) => Ok(Wire {
+                group,
+                source: WireSource::Fixed(*level),
+            }),
+            Source::Variable(named) => {
+                let bits = BitRange::of(line, named, variables)?;
+                if bits.count != group.count as usize {
+                    return Err(BindFault {
+                        line,
+                        kind: BindKind::WrongWidth,
+                    });
+                }
+                Ok(Wire {
+                    group,
+                    source: WireSource::Bits(bits),
+                })
+            }
+        }
+    }
+
+    /// The wires of all assignments.
+    pub fn all(
+        alloc: Global,
+        assignments: &[Assignment],
+        variables: &[Variable],
+    ) -> Result<Vec<Wire>, BindFault>
+        ensures { Gives (λ wires. wires.items) result (wires_in variables.now assignments.now) }
+    {
+        let mut wires = Vec::with_capacity(alloc, assignments.len())?;
+        for assignment in assignments {
+            match Wire::of(assignment, variables) {
+                Ok(wire) => wires.push_reserved(wire),
+                // The fault is taken apart, since the checker can't carry it out of a loop whole.
+                Err(BindFault { line, kind }) => return Err(BindFault { line, kind }),
+            }
+        }
+        Ok(wires)
+    }
+
+    /// Where the level of one of the group's lines comes from, by its place in the group.
+    fn source_on(self, place: u8) -> LineSource
+        ensures { result ≡ source_on place self.source }
+    {
+        match self.source {
+            WireSource::Fixed(level) => LineSource::Always(level),
+            WireSource::Bits(bits) => LineSource::Bit(BitPlace {
+                net: bits.net,
+                place: bits.first as usize + place as usize,
+            }),
+        }
+    }
+}
+
+/// Where the level of a line comes from, if some wire goes to it.
+pub(crate) fn wire_source(wires: &[Wire], line: Line) -> Option<LineSource>
+    ensures { result ≡ wire_source wires.now line }
+{
+    for wire in wires {
+        if wire.group.holds(line) {
+            return Some(wire.source_on(wire.group.first.number() - line.number()));
+        }
+    }
+    None
+}

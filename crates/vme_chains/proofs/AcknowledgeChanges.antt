@@ -1,0 +1,133 @@
+-- What the changes of a step say of the lines that are watched.
+use Rattle.std.proofs.Common.{◌≡◌, ℕ, ◌+◌, ◌<◌, ◌≤◌, Bool, true, false, ◌||◌, ◌&&◌, List, [], ◌∷◌, refl, sym, ◌∙◌, ap, arith, cond}
+use Rattle.std.specs.Prelude.{None, Some, ◌==◌, nat_le}
+use Rattle.std.proofs.lemmas.Bool.Decides.{nat_tests}
+use Rattle.vme_trace.specs.Instants.{any, least}
+use Rattle.vme_trace.specs.LineNumbers.{line_count, has_line}
+use Rattle.vme_trace.specs.Levels.{Levels, level_at, is_low, is_high}
+use Rattle.vme_trace.specs.Trace.{changed}
+use Rattle.vme_trace.specs.WellFormed.{are_changes}
+use Rattle.vme_trace.specs.Changes.{is_changed}
+use Rattle.vme_trace.specs.declared.level.Level.{Level}
+use Rattle.vme_trace.specs.declared.level.Level.TheVariants.{Low, High, Unknown}
+use Rattle.vme_trace.specs.declared.step.Change.{Change}
+use Rattle.vme_trace.proofs.Ranges.{fails-any, least-is, least-none, least-alike, clash}
+use Rattle.vme_trace.proofs.Changing.{level-kept}
+use Rattle.vme_monitor.specs.OutsideSpec.{falls_between}
+use Rattle.vme_chains.specs.AcknowledgeSpec.{first_changed, is_watched, touches_watched, passes_on, passes_unasked}
+
+and_true : (a b : Bool) → (a && b) ≡ true → (a ≡ true) × (b ≡ true)
+and_true true b h = (refl, h)
+and_true false b h = absurd (cc)
+
+or_false : (a b : Bool) → (a || b) ≡ false → (a ≡ false) × (b ≡ false)
+or_false true b h = absurd (cc)
+or_false false b h = (refl, h)
+
+and_none : (a b : Bool) → a ≡ false → (a && b) ≡ false
+and_none a b h = rw h refl
+
+none_last : (a : Bool) → (a && false) ≡ false
+none_last true = refl
+none_last false = refl
+
+equal : (a b : ℕ) → (a == b) ≡ true → a ≡ b
+equal a b h = grind (arith, nat_tests)
+
+-- no change stands before the least that may
+below_changes : (v : Levels) (lowest l : ℕ) (cs : List Change) → are_changes v lowest cs ≡ true → l < lowest → is_changed cs l ≡ false
+unfolding are_changes
+below_changes v lowest l [] h b = refl
+below_changes v lowest l (c ∷ cs) h b =
+    let parts = and_true _ _ h in
+    let low = and_true _ _ (and_true _ _ parts.0).0 in
+    rw (below_changes v (c.line + 1) l cs parts.1 (before lowest c.line l low.0 b)) (unlike lowest c.line l low.0 b)
+  where
+    before : (k m l : ℕ) → nat_le k m ≡ true → l < k → l < m + 1
+    before k m l h b = grind (arith, nat_tests)
+
+    unlike : (k m l : ℕ) → nat_le k m ≡ true → l < k → ((m == l) || false) ≡ false
+    unlike k m l h b = grind (arith, nat_tests)
+
+exists_below : (slots l : ℕ) → slots ≤ 21 → has_line slots l ≡ true → l < 159
+exists_below slots l few h = grind (arith, nat_tests)
+
+-- the first changed line that has a property is the least that has it, if changed lines alone have it
+module _ (v : Levels) (p : ℕ → Bool) (few : v.slots ≤ 21) where
+  here_or_later : (c : Change) (cs : List Change) (b : Bool) → p c.line ≡ b → c.line < line_count → any p 0 c.line ≡ false → (b ≡ false → first_changed p cs ≡ least p 0 line_count)
+      → cond b (Some c.line) (first_changed p cs) ≡ least p 0 line_count
+  here_or_later c cs true e below before rest = sym (least-is p 0 line_count c.line (omega arith) below e before)
+  here_or_later c cs false e below before rest = rest refl
+
+  unlike : (a b : ℕ) → b < a → (a == b) ≡ false
+  unlike a b h = grind (arith, nat_tests)
+
+  past_first : (l k : ℕ) → l < k → l < k + 1
+  past_first l k h = omega arith
+
+  kept_else : (c : Change) (cs : List Change) → ((l : ℕ) → is_changed (c ∷ cs) l ≡ false → p l ≡ false) → p c.line ≡ false → (l : ℕ) → is_changed cs l ≡ false → p l ≡ false
+  kept_else c cs kept here l h = by_line (c.line == l) refl
+    where
+      by_line : (b : Bool) → (c.line == l) ≡ b → p l ≡ false
+      by_line true e = ap p (sym (equal c.line l e)) ∙ here
+      by_line false e = kept l (rw (e, h) refl)
+
+  pub first-least : (lowest : ℕ) (cs : List Change) → are_changes v lowest cs ≡ true → ((l : ℕ) → is_changed cs l ≡ false → p l ≡ false) → first_changed p cs ≡ least p 0 line_count
+  unfolding are_changes
+  first-least lowest [] h kept = sym (least-none p 0 line_count (fails-any p 0 line_count (λ l a b. kept l refl)))
+  first-least lowest (c ∷ cs) h kept =
+      let parts = and_true _ _ h in
+      let exists = (and_true _ _ (and_true _ _ parts.0).0).1 in
+      here_or_later c cs (p c.line) refl (exists_below v.slots c.line few exists)
+      (fails-any p 0 c.line (λ l a b. kept l (rw (unlike c.line l b, below_changes v (c.line + 1) l cs parts.1 (past_first l c.line b)) refl)))
+      (λ e. first-least (c.line + 1) cs parts.1 (kept_else c cs kept e))
+
+-- the least line of those that have a property, where something else is so too
+pub least-when : (p : ℕ → Bool) (b : Bool) (n : ℕ) → least (λ l. p l && b) 0 n ≡ cond b (least p 0 n) None
+least-when p true n = least-alike (λ l. p l && true) p 0 n (λ l from to. true_last (p l))
+  where
+    true_last : (a : Bool) → (a && true) ≡ a
+    true_last true = refl
+    true_last false = refl
+least-when p false n = least-none (λ l. p l && false) 0 n (fails-any (λ l. p l && false) 0 n (λ l from to. none_last (p l)))
+
+pub still_level : (x : Level) → (is_high x && is_low x) ≡ false
+still_level Low = refl
+still_level High = refl
+still_level Unknown = refl
+
+-- a line that isn't changed doesn't fall
+pub falls_not : (v w : Levels) (l : ℕ) → level_at w l ≡ level_at v l → falls_between v w l ≡ false
+falls_not v w l e = rw e (still_level (level_at v l))
+
+pub passes_not : (v : Levels) (cs : List Change) (l : ℕ) → is_changed cs l ≡ false → passes_on v (changed v cs) l ≡ false
+passes_not v cs l h = rw (falls_not v (changed v cs) l (level-kept v cs l h)) (none_last _)
+
+pub unasked_not : (v : Levels) (cs : List Change) (l : ℕ) → is_changed cs l ≡ false → passes_unasked v (changed v cs) l ≡ false
+unasked_not v cs l h = and_none (passes_on v (changed v cs) l) _ (passes_not v cs l h)
+
+-- where no change is of a watched line, each of them keeps its level, and no slot passes an acknowledge on
+pub unwatched : (cs : List Change) (l : ℕ) → touches_watched cs ≡ false → is_watched l ≡ true → is_changed cs l ≡ false
+unwatched [] l h k = refl
+unwatched (c ∷ cs) l h k =
+    let both = or_false (is_watched c.line) (touches_watched cs) h in
+    rw (unwatched cs l both.1 k) (other (c.line == l) refl)
+  where
+    other : (b : Bool) → (c.line == l) ≡ b → (b || false) ≡ false
+    other false e = refl
+    other true e = absurd (clash (is_watched l) k (ap is_watched (sym (equal c.line l e)) ∙ (or_false (is_watched c.line) (touches_watched cs) h).0))
+
+unwatched_passes : (v w : Levels) (l : ℕ) → is_watched l ≡ false → passes_on v w l ≡ false
+unwatched_passes v w l h = rw (or_false (nat_le l 4) (nat_le 138 l) h).1 refl
+
+pub none_passes : (v w : Levels) (cs : List Change) → touches_watched cs ≡ false → first_changed (passes_on v w) cs ≡ None
+none_passes v w [] h = refl
+none_passes v w (c ∷ cs) h =
+    let both = or_false (is_watched c.line) (touches_watched cs) h in
+    rw (unwatched_passes v w c.line both.0, none_passes v w cs both.1) refl
+
+pub none_unasked : (v w : Levels) (cs : List Change) → touches_watched cs ≡ false → first_changed (passes_unasked v w) cs ≡ None
+none_unasked v w [] h = refl
+none_unasked v w (c ∷ cs) h =
+    let both = or_false (is_watched c.line) (touches_watched cs) h in
+    rw (unwatched_passes v w c.line both.0, none_unasked v w cs both.1) refl

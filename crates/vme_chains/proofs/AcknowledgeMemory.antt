@@ -1,0 +1,233 @@
+-- What the memory means at an instant, and that it means the same at the next.
+use Rattle.std.proofs.Common.{◌≡◌, ℕ, zero, suc, ◌+◌, ◌<◌, ◌≤◌, Bool, true, false, ◌||◌, ◌&&◌, not, refl, ◌∙◌, ap, arith, cond, add-one, lit<}
+use Rattle.std.specs.Prelude.{Option, Some, nat_le}
+use Rattle.std.proofs.lemmas.Bool.Decides.{nat_tests}
+use Rattle.vme_trace.specs.Instants.{any, greatest}
+use Rattle.vme_trace.specs.LineNumbers.{line_count, AS, DS0, DS1, DTACK, BERR}
+use Rattle.vme_trace.specs.Levels.{Levels, level_at, is_low, is_high, is_known, is_idle, is_idle_on}
+use Rattle.vme_trace.specs.Trace.{Trace, levels_at}
+use Rattle.vme_trace.specs.Signals.{low, high, falls}
+use Rattle.vme_trace.specs.Judged.{Span}
+use Rattle.vme_trace.specs.Transfers.{strobes_high, is_answer}
+use Rattle.vme_trace.specs.Cycles.{cycle_starts, cycle_of, in_cycle}
+use Rattle.vme_trace.specs.declared.level.Level.{Level}
+use Rattle.vme_trace.specs.declared.level.Level.TheVariants.{Low, High, Unknown}
+use Rattle.vme_trace.proofs.Ranges.{any-fails, fails-any}
+use Rattle.vme_trace.proofs.OpenTransfers.{is_judged-holds, suc-sub-one}
+use Rattle.vme_monitor.specs.OutsideSpec.{falls_between}
+use Rattle.vme_monitor.specs.Tracked.{Says}
+use Rattle.vme_monitor.specs.Tracking.{strobes_high_in, entered, tracked, is_unanswered}
+use Rattle.vme_monitor.specs.declared.tracking.Pending.{Pending}
+use Rattle.vme_monitor.specs.declared.tracking.Pending.TheVariants.{Closed, Reading, Writing, Answered}
+use Rattle.vme_monitor.proofs.SpanFacts.{IsSpan}
+use Rattle.vme_monitor.proofs.TrackedTransfers.{says_start, tracked_is, is_answer_is}
+use Rattle.vme_chains.specs.AcknowledgeSpec.{acknowledge_begin, acknowledged_after, is_acknowledged, memory_after}
+use Rattle.vme_chains.specs.declared.acknowledge.Acknowledgement.{Acknowledgement}
+use Rattle.vme_chains.proofs.AcknowledgeChanges.{falls_not, still_level}
+
+-- the greatest of one more
+greatest-step : (p : ℕ → Bool) (f n : ℕ) → greatest p f (n + 1) ≡ cond (nat_le f n && p n) (Some n) (greatest p f n)
+unfolding greatest
+greatest-step p f n = rw add-one refl
+
+chosen : (n i : ℕ) (b : Bool) (o : Option ℕ) → (o ≡ Some i → i < n) → cond b (Some n) o ≡ Some i → i < suc n
+chosen n i true o rest e = let same : n ≡ i = cc in omega arith
+chosen n i false o rest e = let below : i < n = rest e in omega arith
+
+-- the greatest is in the range
+greatest-below : (p : ℕ → Bool) (f n i : ℕ) → greatest p f n ≡ Some i → i < n
+unfolding greatest
+greatest-below p f zero i e = absurd (cc)
+greatest-below p f (suc n) i e = chosen n i (nat_le f n && p n) (greatest p f n) (λ found. greatest-below p f n i found) e
+
+any_suc : (p : ℕ → Bool) (f n : ℕ) → any p f (suc n) ≡ (any p f n || (nat_le f n && p n))
+unfolding any
+any_suc p f n = refl
+
+module _ (t : Trace) (span : Span) where
+  -- a transfer is answered by DTACK* at r
+  abbrev pub acknowledges : ℕ → Bool
+  acknowledges r = is_answer t span r && falls t DTACK r
+
+  -- the cycle of instant n, and whether it was acknowledged by then
+  pub record IsOn (n : ℕ) (acknowledged : Bool) : Type 0 where
+    pub start : ℕ
+    pub last : cycle_of t span n ≡ Some start
+    pub reply : any acknowledges start (suc n) ≡ acknowledged
+
+  -- what the memory means after instant n
+  pub record Holds (n : ℕ) (m : Acknowledgement) : Type 0 where
+    pub transfer : Says t span n m.transfer
+    pub cycle : low t AS n ≡ true → IsOn n m.acknowledged
+
+  -- so it says of the cycle what is asked
+  pub in_cycle_is : (n : ℕ) (m : Acknowledgement) → Holds n m → low t AS n ≡ true → in_cycle t span (λ i. any acknowledges i (suc n)) n ≡ m.acknowledged
+  unfolding in_cycle
+  in_cycle_is n m h on = let o = h.cycle on in rw (o.last) o.reply
+
+  start_after : (n : ℕ) → cycle_of t span (suc n) ≡ cond (nat_le (span.start + 1) (suc n) && cycle_starts t span (suc n)) (Some (suc n)) (cycle_of t span n)
+  unfolding cycle_of
+  start_after n =
+      greatest-step (cycle_starts t span) (span.start + 1) (suc n)
+      ∙ ap (cond (nat_le (span.start + 1) (suc n) && cycle_starts t span (suc n)) (Some (suc n))) (ap (greatest (cycle_starts t span) (span.start + 1)) (more n))
+    where
+      more : (n : ℕ) → suc n ≡ n + 1
+      more n = omega arith
+
+  start_within : (n i : ℕ) → cycle_of t span n ≡ Some i → i < n + 1
+  unfolding cycle_of
+  start_within n i e = greatest-below (cycle_starts t span) (span.start + 1) (n + 1) i e
+
+  module _ (facts : IsSpan t span) where
+    idle_address : is_high (level_at (levels_at t span.start) AS) ≡ true
+    unfolding is_idle
+    idle_address = true_of_not _ (any-fails (λ k. not (is_idle_on (levels_at t span.start) k)) 0 line_count AS (false_of_not _ facts.idle) (omega arith) (lit< tt))
+      where
+        true_of_not : (b : Bool) → not b ≡ false → b ≡ true
+        true_of_not true h = refl
+        true_of_not false h = absurd (cc)
+
+        false_of_not : (b : Bool) → not b ≡ true → b ≡ false
+        false_of_not true h = absurd (cc)
+        false_of_not false h = refl
+
+    high_not_low : (x : Level) → is_high x ≡ true → is_low x ≡ true → ⊥
+    high_not_low High h k = cc
+    high_not_low Low h k = cc
+    high_not_low Unknown h k = cc
+
+    -- at the start of a span nothing is open
+    pub holds_start : Holds span.start (acknowledge_begin (levels_at t span.start))
+    unfolding low
+    holds_start = record { transfer = says_start t span facts.reads; cycle = λ on. absurd (high_not_low (level_at (levels_at t span.start) AS) idle_address on) }
+
+    -- the step to suc n
+    module _ (n : ℕ) (from : span.start ≤ n) (before : suc n < span.end) where
+      abbrev pub old : Levels
+      old = levels_at t n
+
+      abbrev pub new : Levels
+      new = levels_at t (suc n)
+
+      falls_is : (l : ℕ) → falls t l (suc n) ≡ falls_between old new l
+      unfolding falls high low
+      falls_is l = rw (suc-sub-one n) refl
+
+      acknowledges_is : (m : Pending) → Says t span n m → acknowledges (suc n) ≡ is_acknowledged m old new
+      acknowledges_is m says = rw (is_answer_is t span facts.reads n from before m says, falls_is DTACK) (by_tests (is_unanswered (entered m old new)) (falls_between old new DTACK) (falls_between old new BERR))
+        where
+          by_tests : (u d b : Bool) → ((u && (d || b)) && d) ≡ (u && d)
+          by_tests true true b = refl
+          by_tests true false true = refl
+          by_tests true false false = refl
+          by_tests false d b = refl
+
+      starts_is : cycle_starts t span (suc n) ≡ falls_between old new AS
+      unfolding cycle_starts
+      starts_is = rw (is_judged-holds span (suc n) (omega arith) before, falls_is AS) refl
+
+      in_range : nat_le (span.start + 1) (suc n) ≡ true
+      in_range = grind (arith, nat_tests)
+
+      next_cycle : cycle_of t span (suc n) ≡ cond (falls_between old new AS) (Some (suc n)) (cycle_of t span n)
+      next_cycle = start_after n ∙ rw (in_range, starts_is) refl
+
+      -- the cycle of n goes on
+      goes_on : (m : Acknowledgement) → Holds n m → falls_between old new AS ≡ false → low t AS n ≡ true → IsOn (suc n) (acknowledged_after m old new)
+      goes_on m h no_fall on =
+          let o = h.cycle on in
+          record {
+            start = o.start;
+            last = next_cycle ∙ rw no_fall o.last;
+            reply =
+                any_suc acknowledges o.start (suc n)
+                ∙ rw (o.reply, within o.start n (start_within n o.start o.last), acknowledges_is m.transfer h.transfer, no_fall) (either m.acknowledged (is_acknowledged m.transfer old new));
+          }
+        where
+          within : (i n : ℕ) → i < n + 1 → nat_le i (suc n) ≡ true
+          within i n h = grind (arith, nat_tests)
+
+          either : (a b : Bool) → (a || b) ≡ (b || (a && true))
+          either true true = refl
+          either true false = refl
+          either false true = refl
+          either false false = refl
+
+      -- another starts
+      starts_here : (m : Acknowledgement) → Says t span n m.transfer → falls_between old new AS ≡ true → IsOn (suc n) (acknowledged_after m old new)
+      starts_here m says fall =
+          let empty : any acknowledges (suc n) (suc n) ≡ false = fails-any acknowledges (suc n) (suc n) (λ i a b. absurd (omega arith)) in
+          record {
+            start = suc n;
+            last = next_cycle ∙ rw fall refl;
+            reply =
+                any_suc acknowledges (suc n) (suc n)
+                ∙ rw (empty, itself (suc n), acknowledges_is m.transfer says, fall) (alone m.acknowledged (is_acknowledged m.transfer old new));
+          }
+        where
+          itself : (i : ℕ) → nat_le i i ≡ true
+          itself i = grind (arith, nat_tests)
+
+          alone : (a b : Bool) → b ≡ (b || (a && false))
+          alone true true = refl
+          alone true false = refl
+          alone false true = refl
+          alone false false = refl
+
+      fell : (x y : Level) → is_known x ≡ true → is_low x ≡ false → is_low y ≡ true → (is_high x && is_low y) ≡ true
+      fell High y h k e = e
+      fell Low y h k e = absurd (cc)
+      fell Unknown y h k e = absurd (cc)
+
+      held : (x y : Level) → is_low x ≡ true → (is_high x && is_low y) ≡ false
+      held Low y h = refl
+      held High y h = absurd (cc)
+      held Unknown y h = absurd (cc)
+
+      address_known : is_known (level_at old AS) ≡ true
+      address_known = facts.known n AS from (omega arith) (lit< tt) refl
+
+      cycle_next : (m : Acknowledgement) → Holds n m → low t AS (suc n) ≡ true → IsOn (suc n) (acknowledged_after m old new)
+      unfolding low
+      cycle_next m h on = by_level (is_low (level_at old AS)) refl
+        where
+          by_level : (b : Bool) → is_low (level_at old AS) ≡ b → IsOn (suc n) (acknowledged_after m old new)
+          by_level true e = goes_on m h (held (level_at old AS) (level_at new AS) e) e
+          by_level false e = starts_here m h.transfer (fell (level_at old AS) (level_at new AS) address_known e on)
+
+      -- so the memory means the same one instant later
+      pub holds_next : (m : Acknowledgement) → Holds n m → Holds (suc n) (memory_after m old new)
+      holds_next m h = record { transfer = tracked_is t span facts.reads n from before m.transfer h.transfer; cycle = cycle_next m h }
+
+      high_is : strobes_high_in old ≡ strobes_high t n
+      unfolding high
+      high_is = refl
+
+      high_is_not_low : (x y : Level) → ((is_high x && is_high y) && (is_low x || is_low y)) ≡ false
+      high_is_not_low High High = refl
+      high_is_not_low High Low = refl
+      high_is_not_low High Unknown = refl
+      high_is_not_low Low y = refl
+      high_is_not_low Unknown y = refl
+
+      keeps : (p : Pending) → Says t span n p → cond (strobes_high t n) Closed p ≡ p
+      keeps Closed h = rw h refl
+      keeps Reading o = rw (o.1.still n o.1.within (omega arith)) refl
+      keeps Writing o = rw (o.1.still n o.1.within (omega arith)) refl
+      keeps Answered o = rw (o.2.still n o.2.within (omega arith)) refl
+
+      module _ (first : level_at new DS0 ≡ level_at old DS0) (second : level_at new DS1 ≡ level_at old DS1) (done : level_at new DTACK ≡ level_at old DTACK) (failed : level_at new BERR ≡ level_at old BERR) where
+        tracked_same : (p : Pending) → Says t span n p → tracked p old new ≡ p
+        tracked_same p says =
+            rw (first, second, done, failed, high_is_not_low (level_at old DS0) (level_at old DS1), still_level (level_at old DTACK), still_level (level_at old BERR), high_is) (keeps p says)
+
+        -- where no watched line changes, the memory stays
+        pub memory_same : (m : Acknowledgement) → Holds n m → level_at new AS ≡ level_at old AS → memory_after m old new ≡ m
+        memory_same m h address =
+            rw (tracked_same m.transfer h.transfer, falls_not old new DTACK done, falls_not old new AS address, same (is_unanswered (entered m.transfer old new)) m.acknowledged) refl
+          where
+            same : (u a : Bool) → ((u && false) || (a && true)) ≡ a
+            same true true = refl
+            same true false = refl
+            same false true = refl
+            same false false = refl

@@ -1,0 +1,98 @@
+-- The lines of one step: what its changes leave as it was, and the first of them with a property.
+use Rattle.std.proofs.Common.{◌≡◌, ℕ, ◌+◌, ◌-◌, ◌<◌, ◌≤◌, Bool, true, false, ◌&&◌, ◌||◌, List, [], ◌∷◌, refl, sym, ◌∙◌, ap, arith, Some, cond}
+use Rattle.std.specs.Prelude.{◌==◌, nat_le}
+use Rattle.std.proofs.lemmas.Bool.Decides.{nat_tests}
+use Rattle.vme_trace.specs.Instants.{any, least}
+use Rattle.vme_trace.specs.LineNumbers.{line_count, has_line, is_slot_grant, input_of, grant, BR}
+use Rattle.vme_trace.specs.Levels.{Levels, is_low, is_high}
+use Rattle.vme_trace.specs.Changes.{is_changed}
+use Rattle.vme_trace.specs.Trace.{changed}
+use Rattle.vme_trace.specs.WellFormed.{are_changes}
+use Rattle.vme_trace.specs.declared.level.Level.{Level}
+use Rattle.vme_trace.specs.declared.level.Level.TheVariants.{Low, High, Unknown}
+use Rattle.vme_trace.specs.declared.step.Change.{Change}
+use Rattle.vme_trace.proofs.Ranges.{fails-any, least-is, least-none}
+use Rattle.vme_trace.proofs.Changing.{slots-kept, level-kept}
+use Rattle.vme_chains.specs.GrantLevels.{shown, falls_between, rises_between, first_changed}
+use Rattle.vme_chains.proofs.GrantTests.{equal, unlike}
+
+and_true : (a b : Bool) → (a && b) ≡ true → (a ≡ true) × (b ≡ true)
+and_true true b h = (refl, h)
+and_true false b h = absurd (cc)
+
+exists_below : (slots l : ℕ) → slots ≤ 21 → has_line slots l ≡ true → l < 159
+exists_below slots l few h = grind (arith, nat_tests)
+
+one_more : (l k : ℕ) → l < k → l < k + 1
+one_more l k h = omega arith
+
+-- no change stands before the least that may
+below_changes : (v : Levels) (lowest l : ℕ) (cs : List Change) → are_changes v lowest cs ≡ true → l < lowest → is_changed cs l ≡ false
+unfolding are_changes
+below_changes v lowest l [] h b = refl
+below_changes v lowest l (c ∷ cs) h b =
+    let parts = and_true _ _ h in
+    let low = and_true _ _ (and_true _ _ parts.0).0 in
+    rw (below_changes v (c.line + 1) l cs parts.1 (past lowest c.line l low.0 b).0) (past lowest c.line l low.0 b).1
+  where
+    past : (k m l : ℕ) → nat_le k m ≡ true → l < k → (l < m + 1) × (((m == l) || false) ≡ false)
+    past k m l h b = (before k m l h b, other k m l h b)
+      where
+        before : (k m l : ℕ) → nat_le k m ≡ true → l < k → l < m + 1
+        before k m l h b = grind (arith, nat_tests)
+
+        other : (k m l : ℕ) → nat_le k m ≡ true → l < k → ((m == l) || false) ≡ false
+        other k m l h b = grind (arith, nat_tests)
+
+-- where only changed lines have a property, the first changed line that has it is the least line that has it
+module _ (p : ℕ → Bool) (v : Levels) (few : v.slots ≤ 21) where
+  first_here : (c : Change) (cs : List Change) (b : Bool) → p c.line ≡ b → c.line < line_count → any p 0 c.line ≡ false → (b ≡ false → first_changed p cs ≡ least p 0 line_count)
+      → cond b (Some c.line) (first_changed p cs) ≡ least p 0 line_count
+  first_here c cs true e below before rest = sym (least-is p 0 line_count c.line (omega arith) below e before)
+  first_here c cs false e below before rest = rest refl
+
+  kept_else : (c : Change) (cs : List Change) → ((l : ℕ) → is_changed (c ∷ cs) l ≡ false → p l ≡ false) → p c.line ≡ false → (l : ℕ) → is_changed cs l ≡ false → p l ≡ false
+  kept_else c cs kept here l h = by_line (c.line == l) refl
+    where
+      by_line : (b : Bool) → (c.line == l) ≡ b → p l ≡ false
+      by_line true e = ap p (sym (equal c.line l e)) ∙ here
+      by_line false e = kept l (rw (e, h) refl)
+
+  pub first-least : (lowest : ℕ) (cs : List Change) → are_changes v lowest cs ≡ true → ((l : ℕ) → is_changed cs l ≡ false → p l ≡ false) → first_changed p cs ≡ least p 0 line_count
+  unfolding are_changes
+  first-least lowest [] h kept = sym (least-none p 0 line_count (fails-any p 0 line_count (λ l a b. kept l refl)))
+  first-least lowest (c ∷ cs) h kept =
+      let parts = and_true _ _ h in
+      let exists = (and_true _ _ (and_true _ _ parts.0).0).1 in
+      first_here c cs (p c.line) refl (exists_below v.slots c.line few exists)
+      (fails-any p 0 c.line (λ l a b. kept l (rw (unlike c.line l b, below_changes v (c.line + 1) l cs parts.1 (one_more l c.line b)) refl)))
+      (λ e. first-least (c.line + 1) cs parts.1 (kept_else c cs kept e))
+
+-- a line that isn't changed shows the same
+pub shown-kept : (v : Levels) (cs : List Change) (l : ℕ) → is_changed cs l ≡ false → shown (changed v cs) l ≡ shown v l
+shown-kept v cs l h = rw (slots-kept v cs, level-kept v cs l h) refl
+
+no_edge : (x : Level) → ((is_high x && is_low x) ≡ false) × ((is_low x && is_high x) ≡ false)
+no_edge Low = (refl, refl)
+no_edge High = (refl, refl)
+no_edge Unknown = (refl, refl)
+
+-- and has no edge
+pub no-fall : (v : Levels) (cs : List Change) (l : ℕ) → is_changed cs l ≡ false → falls_between v (changed v cs) l ≡ false
+no-fall v cs l h = ap (λ x. is_high (shown v l) && is_low x) (shown-kept v cs l h) ∙ (no_edge (shown v l)).0
+
+pub no-rise : (v : Levels) (cs : List Change) (l : ℕ) → is_changed cs l ≡ false → rises_between v (changed v cs) l ≡ false
+no-rise v cs l h = ap (λ x. is_low (shown v l) && is_high x) (shown-kept v cs l h) ∙ (no_edge (shown v l)).1
+
+-- what lines there are
+pub net_exists : (slots n k : ℕ) → n < 4 → k ≤ slots → slots ≤ 21 → has_line slots (grant n k) ≡ true
+net_exists slots n k level place few = grind (arith, nat_tests)
+
+pub request_exists : (slots n : ℕ) → n < 4 → has_line slots (BR n) ≡ true
+request_exists slots n level = grind (arith, nat_tests)
+
+pub input_exists : (slots l : ℕ) → is_slot_grant l ≡ true → has_line slots l ≡ true → has_line slots (l - 1) ≡ true
+input_exists slots l slot h = grind (arith, nat_tests)
+
+pub input_is : (l : ℕ) → is_slot_grant l ≡ true → input_of l ≡ l - 1
+input_is l slot = grind (arith, nat_tests)

@@ -1,0 +1,88 @@
+-- What the memory of the grant monitor means at an instant, and that it goes on to mean it.
+use Rattle.std.proofs.Common.{◌≡◌, ℕ, suc, ◌+◌, ◌<◌, ◌≤◌, Bool, true, false, ◌&&◌, ◌||◌, not, refl, ◌∙◌, ap, arith, cond}
+use Rattle.std.specs.Prelude.{nat_le}
+use Rattle.std.proofs.lemmas.Bool.Decides.{nat_tests}
+use Rattle.vme_trace.specs.Instants.{any}
+use Rattle.vme_trace.specs.LineNumbers.{BBSY, BR}
+use Rattle.vme_trace.specs.Trace.{Trace}
+use Rattle.vme_trace.specs.Signals.{low, falls}
+use Rattle.vme_trace.specs.Judged.{Span}
+use Rattle.vme_trace.specs.Tenures.{grant_falls, last_before}
+use Rattle.vme_trace.proofs.Ranges.{fails-any, any-holds}
+use Rattle.vme_chains.specs.GrantMemory.{is_in}
+use Rattle.vme_chains.specs.declared.grant_memory.Arbitration.{Arbitration}
+use Rattle.vme_chains.proofs.GrantRanges.{last-start, last-here, last-kept, last-within}
+
+any_suc : (p : ℕ → Bool) (f n : ℕ) → f ≤ n → any p f (suc n) ≡ (any p f n || p n)
+unfolding any
+any_suc p f n from = ap (λ b. any p f n || (b && p n)) (from_holds f n from)
+  where
+    from_holds : (f n : ℕ) → f ≤ n → nat_le f n ≡ true
+    from_holds f n h = grind (arith, nat_tests)
+
+any_one : (p : ℕ → Bool) (n : ℕ) → any p n (suc n) ≡ p n
+any_one p n = any_suc p n n (omega arith) ∙ ap (λ b. b || p n) (fails-any p n n (λ i a b. absurd (omega arith)))
+
+module _ (t : Trace) (span : Span) where
+  -- the level was requested since the last grant up to n, or the start, that instant included
+  abbrev pub requested_since : ℕ → ℕ → Bool
+  requested_since n l = any (low t (BR l)) (last_before t span (grant_falls t) (suc n)) (suc n)
+
+  -- a grant fell after the last fall of the busy line up to n, or the start
+  abbrev pub granted_since : ℕ → Bool
+  granted_since n = any (grant_falls t) (last_before t span (falls t BBSY) (suc n) + 1) (suc n)
+
+  pub record Holds (n : ℕ) (m : Arbitration) : Type 0 where
+    pub requests : (l : ℕ) → l < 4 → is_in m.requests l ≡ requested_since n l
+    pub granted : m.granted ≡ granted_since n
+
+  pub requested-start : (l : ℕ) → requested_since span.start l ≡ low t (BR l) span.start
+  requested-start l = ap (λ f. any (low t (BR l)) f (suc span.start)) (last-start t span (grant_falls t)) ∙ any_one (low t (BR l)) span.start
+
+  pub granted-start : granted_since span.start ≡ false
+  granted-start = ap (λ f. any (grant_falls t) (f + 1) (suc span.start)) (last-start t span (falls t BBSY)) ∙ fails-any (grant_falls t) (span.start + 1) (suc span.start) (λ i a b. absurd (omega arith))
+
+  -- up to the next instant too, from the same one on
+  pub requested-more : (n l : ℕ) → span.start ≤ n → any (low t (BR l)) (last_before t span (grant_falls t) (suc n)) (suc (suc n)) ≡ (requested_since n l || low t (BR l) (suc n))
+  requested-more n l from =
+      let h = last-within t span (grant_falls t) n from in
+      any_suc (low t (BR l)) (last_before t span (grant_falls t) (suc n)) (suc n) (omega arith)
+
+  pub granted-more : (n : ℕ) → span.start ≤ n → any (grant_falls t) (last_before t span (falls t BBSY) (suc n) + 1) (suc (suc n)) ≡ (granted_since n || grant_falls t (suc n))
+  granted-more n from =
+      let h = last-within t span (falls t BBSY) n from in
+      any_suc (grant_falls t) (last_before t span (falls t BBSY) (suc n) + 1) (suc n) (omega arith)
+
+  -- one instant later
+  pub requested-next : (n l : ℕ) → span.start ≤ n → requested_since (suc n) l ≡ cond (grant_falls t (suc n)) (low t (BR l) (suc n)) (requested_since n l || low t (BR l) (suc n))
+  requested-next n l from = by_grant (grant_falls t (suc n)) refl
+    where
+      by_grant : (b : Bool) → grant_falls t (suc n) ≡ b → requested_since (suc n) l ≡ cond b (low t (BR l) (suc n)) (requested_since n l || low t (BR l) (suc n))
+      by_grant true e = ap (λ f. any (low t (BR l)) f (suc (suc n))) (last-here t span (grant_falls t) (suc n) (omega arith) e) ∙ any_one (low t (BR l)) (suc n)
+      by_grant false e = ap (λ f. any (low t (BR l)) f (suc (suc n))) (last-kept t span (grant_falls t) (suc n) e) ∙ requested-more n l from
+
+  pub granted-next : (n : ℕ) → span.start ≤ n → granted_since (suc n) ≡ (not (falls t BBSY (suc n)) && (granted_since n || grant_falls t (suc n)))
+  granted-next n from = by_fall (falls t BBSY (suc n)) refl
+    where
+      by_fall : (b : Bool) → falls t BBSY (suc n) ≡ b → granted_since (suc n) ≡ (not b && (granted_since n || grant_falls t (suc n)))
+      by_fall true e =
+          ap (λ f. any (grant_falls t) (f + 1) (suc (suc n))) (last-here t span (falls t BBSY) (suc n) (omega arith) e)
+          ∙ fails-any (grant_falls t) (suc n + 1) (suc (suc n)) (λ i a b. absurd (omega arith))
+      by_fall false e = ap (λ f. any (grant_falls t) (f + 1) (suc (suc n))) (last-kept t span (falls t BBSY) (suc n) e) ∙ granted-more n from
+
+  -- a request that is still there is one since then
+  pub requested-now : (n l : ℕ) → span.start ≤ n → (requested_since n l || low t (BR l) n) ≡ requested_since n l
+  requested-now n l from = by_level (low t (BR l) n) refl
+    where
+      or_true : (a : Bool) → a ≡ true → (a || true) ≡ a
+      or_true a h = rw h refl
+
+      or_false : (a : Bool) → (a || false) ≡ a
+      or_false true = refl
+      or_false false = refl
+
+      by_level : (b : Bool) → low t (BR l) n ≡ b → (requested_since n l || b) ≡ requested_since n l
+      by_level true e =
+          let h = last-within t span (grant_falls t) n from in
+          or_true (requested_since n l) (any-holds (low t (BR l)) (last_before t span (grant_falls t) (suc n)) (suc n) n (omega arith) (omega arith) e)
+      by_level false e = or_false (requested_since n l)

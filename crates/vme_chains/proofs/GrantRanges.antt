@@ -1,0 +1,88 @@
+-- The greatest of a range, and the last instant before another.
+use Rattle.std.proofs.Common.{◌≡◌, ℕ, zero, suc, ◌+◌, ◌<◌, ◌≤◌, Bool, true, false, ◌&&◌, refl, ◌∙◌, arith, inl, inr, ◌⊎◌}
+use Rattle.std.specs.Prelude.{None, Some, nat_le}
+use Rattle.std.proofs.lemmas.Bool.Decides.{nat_tests}
+use Rattle.vme_trace.specs.Instants.{greatest}
+use Rattle.vme_trace.specs.Judged.{Span}
+use Rattle.vme_trace.specs.Tenures.{last_before}
+use Rattle.vme_trace.specs.Trace.{Trace}
+use Rattle.vme_chains.proofs.GrantTests.{start_or_after}
+
+in_range : (p : ℕ → Bool) (f n : ℕ) → f ≤ n → p n ≡ true → (nat_le f n && p n) ≡ true
+in_range p f n from h = grind (arith, nat_tests)
+
+out_of_range : (f n : ℕ) (b : Bool) → n < f → (nat_le f n && b) ≡ false
+out_of_range f n b past = grind (arith, nat_tests)
+
+and_false : (a b : Bool) → b ≡ false → (a && b) ≡ false
+and_false a b h = grind (arith, nat_tests)
+
+pub greatest-here : (p : ℕ → Bool) (f n : ℕ) → f ≤ n → p n ≡ true → greatest p f (suc n) ≡ Some n
+unfolding greatest
+greatest-here p f n from h = rw (in_range p f n from h) refl
+
+pub greatest-before : (p : ℕ → Bool) (f n : ℕ) → p n ≡ false → greatest p f (suc n) ≡ greatest p f n
+unfolding greatest
+greatest-before p f n h = rw (and_false (nat_le f n) (p n) h) refl
+
+pub greatest-empty : (p : ℕ → Bool) (f n : ℕ) → n ≤ f → greatest p f n ≡ None
+unfolding greatest
+greatest-empty p f zero h = refl
+greatest-empty p f (suc n) h = rw (out_of_range f n (p n) (omega arith)) (greatest-empty p f n (omega arith))
+
+last_or_before : (i n : ℕ) → i < suc n → (i ≡ n) ⊎ (i < n)
+last_or_before i n h = grind arith
+
+-- the greatest is the one after which none holds
+pub greatest-is : (p : ℕ → Bool) (f n i : ℕ) → f ≤ i → i < n → p i ≡ true → ((k : ℕ) → i < k → k < n → p k ≡ false) → greatest p f n ≡ Some i
+greatest-is p f zero i from below h none = absurd (omega arith)
+greatest-is p f (suc n) i from below h none =
+    elim (last_or_before i n below) [
+      | inl e ↦ rw (← e) (greatest-here p f i from h)
+      | inr b ↦ greatest-before p f n (none n b (omega arith)) ∙ greatest-is p f n i from b h (λ k x y. none k x (omega arith))
+    ]
+
+both_alike : (p q : ℕ → Bool) (f n : ℕ) → (f ≤ n → p n ≡ q n) → (nat_le f n && p n) ≡ (nat_le f n && q n)
+both_alike p q f n alike = grind (arith, nat_tests)
+
+-- tests that agree in the range have the same greatest
+pub greatest-alike : (p q : ℕ → Bool) (f n : ℕ) → ((i : ℕ) → f ≤ i → i < n → p i ≡ q i) → greatest p f n ≡ greatest q f n
+unfolding greatest
+greatest-alike p q f zero alike = refl
+greatest-alike p q f (suc n) alike =
+    rw (both_alike p q f n (λ a. alike n a (omega arith)), greatest-alike p q f n (λ i a b. alike i a (omega arith))) refl
+
+module _ (t : Trace) (span : Span) (p : ℕ → Bool) where
+  -- at the start there is none
+  pub last-start : last_before t span p (suc span.start) ≡ span.start
+  unfolding last_before
+  last-start = rw (greatest-empty p (span.start + 1) (suc span.start) (omega arith)) refl
+
+  pub last-here : (n : ℕ) → span.start < n → p n ≡ true → last_before t span p (suc n) ≡ n
+  unfolding last_before
+  last-here n after h = rw (greatest-here p (span.start + 1) n (omega arith) h) refl
+
+  pub last-kept : (n : ℕ) → p n ≡ false → last_before t span p (suc n) ≡ last_before t span p n
+  unfolding last_before
+  last-kept n h = rw (greatest-before p (span.start + 1) n h) refl
+
+  -- the last instant before the next is no later than this one
+  pub last-within : (n : ℕ) → span.start ≤ n → last_before t span p (suc n) ≤ n
+  last-within n from = by_test n (p n) refl from
+    where
+      zero_start : (n : ℕ) → span.start ≤ n → (span.start ≡ n) ⊎ (span.start < n)
+      zero_start n h = grind arith
+
+      at_start : (n : ℕ) → span.start ≡ n → last_before t span p (suc n) ≤ n
+      at_start n e = rw (← e) (rw last-start (omega arith))
+
+      by_test : (n : ℕ) (b : Bool) → p n ≡ b → span.start ≤ n → last_before t span p (suc n) ≤ n
+      by_test n true e from = elim (zero_start n from) [
+        | inl s ↦ at_start n s
+        | inr after ↦ rw (last-here n after e) (omega arith)
+      ]
+      by_test zero false e from = at_start zero (omega arith)
+      by_test (suc n) false e from = elim (start_or_after span.start n from) [
+        | inl s ↦ at_start (suc n) s
+        | inr earlier ↦ rw (last-kept (suc n) e) (let h = by_test n (p n) refl earlier in omega arith)
+      ]

@@ -1,0 +1,16 @@
+pub mod GrantTests
+pub mod GrantRanges
+pub mod GrantChains
+pub mod GrantLines
+pub mod GrantMeaning
+pub mod GrantEdges
+pub mod GrantNets
+pub mod GrantArbiter
+pub mod GrantTenures
+pub mod GrantSkips
+pub mod GrantFaults
+pub mod GrantJudges
+pub mod AcknowledgeChanges
+pub mod AcknowledgeMemory
+pub mod AcknowledgeBreaks
+pub mod AcknowledgeJudges

@@ -1,0 +1,142 @@
+-- How slots pass an acknowledge on, as the levels on both sides of a step and the changes between them show it.
+use Rattle.std.specs.Prelude.{◌≡◌, refl, ℕ, ◌+◌, ◌-◌, ◌==◌, ◌<◌, Bool, true, false, not, ◌&&◌, ◌||◌, nat_le, nat_lt, List, [], ◌∷◌, Option, None, Some, if◌then◌else◌}
+use Rattle.std.proofs.Common.{lit<}
+use Rattle.vme_trace.specs.LineNumbers.{AS, DS0, DS1, DTACK, BERR, is_slot_iack, input_of, has_line}
+use Rattle.vme_trace.specs.Levels.{Levels, level_at, is_low}
+use Rattle.vme_trace.specs.Trace.{Trace}
+use Rattle.vme_trace.specs.Judged.{Span}
+use Rattle.vme_trace.specs.declared.step.Change.{Change}
+use Rattle.vme_trace.specs.declared.rule.Rule.{Rule}
+use Rattle.vme_trace.specs.declared.rule.Rule.TheVariants.{I1, I2, I3}
+use Rattle.vme_monitor.specs.Run.{nothing}
+use Rattle.vme_monitor.specs.OutsideSpec.{falls_between}
+use Rattle.vme_monitor.specs.Tracking.{entered, tracked, is_unanswered}
+use Rattle.vme_monitor.specs.declared.mark.Fault.{Fault}
+use Rattle.vme_monitor.specs.declared.mark.Kinds.{Kinds}
+use Rattle.vme_monitor.specs.declared.mark.Next.{Next}
+use Rattle.vme_monitor.specs.declared.tracking.Pending.{Pending}
+use Rattle.vme_monitor.specs.declared.tracking.Pending.TheVariants.{Closed, Reading, Writing, Answered}
+use Rattle.vme_chains.specs.declared.acknowledge.Acknowledgement.{Acknowledgement}
+use Rattle.vme_chains.specs.declared.acknowledge.Passing.{Passing}
+
+abbrev pub acknowledge_rules : List Rule
+acknowledge_rules = I1 ∷ I2 ∷ I3 ∷ []
+
+-- the memories, counted: those of a cycle that wasn't acknowledged first
+abbrev pub pending_place : Pending → ℕ
+pending_place Closed = 0
+pending_place Reading = 1
+pending_place Writing = 2
+pending_place Answered = 3
+
+abbrev pub pending_nth : ℕ → Pending
+pending_nth k = if k == 0 then Closed else if k == 1 then Reading else if k == 2 then Writing else Answered
+
+abbrev pub acknowledgement_place : Acknowledgement → ℕ
+acknowledgement_place m = if m.acknowledged then 4 + pending_place m.transfer else pending_place m.transfer
+
+abbrev pub acknowledgement_nth : ℕ → Acknowledgement
+acknowledgement_nth k =
+    if nat_lt k 4 then record { transfer = pending_nth k; acknowledged = false } else record { transfer = pending_nth (k - 4); acknowledged = true }
+
+-- the line is low on one side of the step
+abbrev pub low_near : Levels → Levels → ℕ → Bool
+low_near v w l = is_low (level_at v l) || is_low (level_at w l)
+
+-- the line is the acknowledge output of a slot, and falls
+abbrev pub passes_on : Levels → Levels → ℕ → Bool
+passes_on v w l = is_slot_iack l && has_line v.slots l && has_line w.slots l && falls_between v w l
+
+-- it falls while the slot's input isn't low
+abbrev pub passes_unasked : Levels → Levels → ℕ → Bool
+passes_unasked v w l = passes_on v w l && not (low_near v w (input_of l))
+
+-- the address strobe is low, and a data strobe
+abbrev pub is_strobed : Levels → Levels → Bool
+is_strobed v w = low_near v w AS && (low_near v w DS0 || low_near v w DS1)
+
+-- the address strobe is low before the step and after it
+abbrev pub is_addressed : Levels → Levels → Bool
+is_addressed v w = is_low (level_at v AS) && is_low (level_at w AS)
+
+-- the first changed line that has a property
+abbrev pub first_changed : (ℕ → Bool) → List Change → Option ℕ
+first_changed p [] = None
+first_changed p (c ∷ cs) = if p c.line then Some c.line else first_changed p cs
+
+-- the address strobe, the data strobes, the answers and the acknowledge outputs
+abbrev pub is_watched : ℕ → Bool
+is_watched l = nat_le l BERR || is_slot_iack l
+
+abbrev pub touches_watched : List Change → Bool
+touches_watched [] = false
+touches_watched (c ∷ cs) = is_watched c.line || touches_watched cs
+
+-- a transfer is answered by DTACK*
+abbrev pub is_acknowledged : Pending → Levels → Levels → Bool
+is_acknowledged m v w = is_unanswered (entered m v w) && falls_between v w DTACK
+
+-- what is kept of the cycle that is on after the step: a new one starts where the address strobe falls
+abbrev pub acknowledged_after : Acknowledgement → Levels → Levels → Bool
+acknowledged_after m v w = is_acknowledged m.transfer v w || (m.acknowledged && not (falls_between v w AS))
+
+abbrev pub memory_after : Acknowledgement → Levels → Levels → Acknowledgement
+memory_after m v w = record { transfer = tracked m.transfer v w; acknowledged = acknowledged_after m v w }
+
+abbrev pub fault_on : Rule → ℕ → Fault
+fault_on r l = record { rule = r; line = l }
+
+-- what is broken by the first slot that passes an acknowledge on
+abbrev pub fault_of_first : Acknowledgement → Levels → Levels → Option ℕ → Option Fault
+fault_of_first m v w None = None
+fault_of_first m v w (Some l) = if not (is_strobed v w) then Some (fault_on I2 l) else if is_addressed v w && m.acknowledged then Some (fault_on I3 l) else None
+
+abbrev pub fault_among : Acknowledgement → Levels → Levels → Option ℕ → Option ℕ → Option Fault
+fault_among m v w (Some l) first = Some (fault_on I1 l)
+fault_among m v w None first = fault_of_first m v w first
+
+abbrev pub acknowledge_begin : Levels → Acknowledgement
+acknowledge_begin v = record { transfer = Closed; acknowledged = false }
+
+abbrev pub acknowledge_opens : Levels → Kinds
+acknowledge_opens v = nothing
+
+abbrev pub acknowledge_ends : ℕ → Option Fault
+acknowledge_ends l = None
+
+abbrev pub acknowledge_sight : Levels → Levels → List Change → Option Passing
+acknowledge_sight v w cs =
+    if touches_watched cs then Some (record { first = first_changed (passes_on v w) cs; unasked = first_changed (passes_unasked v w) cs }) else None
+
+abbrev pub acknowledge_next : Acknowledgement → Levels → Levels → Passing → Next Acknowledgement
+acknowledge_next m v w seen = record { memory = memory_after m v w; fault = fault_among m v w seen.unasked seen.first; kinds = nothing }
+
+-- an acknowledge isn't shown
+abbrev pub acknowledge_shown : Trace → Span → ℕ → Kinds
+acknowledge_shown t span j = nothing
+
+pub acknowledgement_placed : (m : Acknowledgement) → acknowledgement_place m < 8
+acknowledgement_placed m = placed_at m.transfer m.acknowledged
+  where
+    placed_at : (p : Pending) (b : Bool) → (if b then 4 + pending_place p else pending_place p) < 8
+    placed_at Closed true = lit< tt
+    placed_at Reading true = lit< tt
+    placed_at Writing true = lit< tt
+    placed_at Answered true = lit< tt
+    placed_at Closed false = lit< tt
+    placed_at Reading false = lit< tt
+    placed_at Writing false = lit< tt
+    placed_at Answered false = lit< tt
+
+pub acknowledgement_found : (m : Acknowledgement) → acknowledgement_nth (acknowledgement_place m) ≡ m
+acknowledgement_found m = found_at m.transfer m.acknowledged
+  where
+    found_at : (p : Pending) (b : Bool) → acknowledgement_nth (if b then 4 + pending_place p else pending_place p) ≡ record { transfer = p; acknowledged = b }
+    found_at Closed true = refl
+    found_at Reading true = refl
+    found_at Writing true = refl
+    found_at Answered true = refl
+    found_at Closed false = refl
+    found_at Reading false = refl
+    found_at Writing false = refl
+    found_at Answered false = refl

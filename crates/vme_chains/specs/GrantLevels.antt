@@ -1,0 +1,101 @@
+-- What the levels on both sides of a step show of grants, of requests and of the busy line.
+use Rattle.std.specs.Prelude.{ℕ, ◌+◌, ◌-◌, ◌==◌, Bool, false, not, ◌&&◌, ◌||◌, List, [], ◌∷◌, Option, None, Some, option_map, option_and_then, nat_le, nat_lt, if◌then◌else◌}
+use Rattle.std.specs.Option.{is_some}
+use Rattle.vme_trace.specs.Instants.{any, every, least, greatest}
+use Rattle.vme_trace.specs.LineNumbers.{AS, BBSY, BR, grant, iack, is_grant, is_slot_grant, is_arbiter_grant, has_line}
+use Rattle.vme_trace.specs.Levels.{Levels, level_at, is_low, is_high}
+use Rattle.vme_trace.specs.declared.level.Level.{Level}
+use Rattle.vme_trace.specs.declared.level.Level.TheVariants.{Unknown}
+use Rattle.vme_trace.specs.declared.rule.Rule.{Rule}
+use Rattle.vme_trace.specs.declared.rule.Rule.TheVariants.{G1, G2, G3, G4}
+use Rattle.vme_trace.specs.declared.step.Change.{Change}
+use Rattle.vme_monitor.specs.declared.mark.Taken.{Taken}
+use Rattle.vme_chains.specs.declared.grant_memory.LevelSet.{LevelSet}
+
+-- the level of a line, and nothing known of a line that the backplane hasn't
+abbrev pub shown : Levels → ℕ → Level
+shown v l = if has_line v.slots l then level_at v l else Unknown
+
+abbrev pub is_low_in : Levels → ℕ → Bool
+is_low_in v l = is_low (shown v l)
+
+abbrev pub is_high_in : Levels → ℕ → Bool
+is_high_in v l = is_high (shown v l)
+
+abbrev pub falls_between : Levels → Levels → ℕ → Bool
+falls_between v w l = is_high_in v l && is_low_in w l
+
+abbrev pub rises_between : Levels → Levels → ℕ → Bool
+rises_between v w l = is_low_in v l && is_high_in w l
+
+-- low before the step or after it
+abbrev pub low_near : Levels → Levels → ℕ → Bool
+low_near v w l = is_low_in v l || is_low_in w l
+
+abbrev pub high_near : Levels → Levels → ℕ → Bool
+high_near v w l = is_high_in v l || is_high_in w l
+
+-- the levels that are requested
+abbrev pub requested_in : Levels → LevelSet
+requested_in v = record { zero = is_low_in v (BR 0); one = is_low_in v (BR 1); two = is_low_in v (BR 2); three = is_low_in v (BR 3) }
+
+-- the arbiter begins to grant some level
+abbrev pub grant_begins : Levels → Levels → Bool
+grant_begins v w = any (λ n. falls_between v w (grant n 0)) 0 4
+
+-- it grants a level on another net than this
+abbrev pub is_other_granted : Levels → ℕ → Bool
+is_other_granted v l = any (λ n. not (grant n 0 == l) && is_low_in v (grant n 0)) 0 4
+
+-- the least level that it grants
+abbrev pub granted_level : Levels → Option ℕ
+granted_level v = least (λ n. is_low_in v (grant n 0)) 0 4
+
+-- the grant of the level has come as far as net k of its chain
+abbrev pub reaches : Levels → ℕ → ℕ → Bool
+reaches v n k = every (λ net. is_low_in v (grant n net)) 0 (k + 1)
+
+abbrev pub reached_slot : Levels → Option ℕ
+reached_slot v = option_map (λ k. 1 + k) (option_and_then (λ n. greatest (reaches v n) 0 (v.slots + 1)) (granted_level v))
+
+-- a grant by its level and slot
+abbrev pub taken_at : Option ℕ → Option ℕ → Option Taken
+taken_at None slot = None
+taken_at (Some n) None = None
+taken_at (Some n) (Some s) = Some (record { level = n; slot = s })
+
+abbrev pub taken_in : Levels → Option Taken
+taken_in v = taken_at (granted_level v) (reached_slot v)
+
+-- the grant that a tenure takes which starts with the step: one that is there after it, or else one that was there before it
+abbrev pub taken_between : Levels → Levels → Option Taken
+taken_between v w = if is_some (granted_level w) then taken_in w else taken_in v
+
+-- no level is granted, neither before the step nor after it
+abbrev pub is_ungranted : Levels → Levels → Bool
+is_ungranted v w = not (is_some (granted_level v) || is_some (granted_level w))
+
+-- the change of line l breaks a rule on the nets of grants
+abbrev pub is_net_broken : Rule → Levels → Levels → ℕ → Bool
+is_net_broken G1 v w l = is_slot_grant l && falls_between v w l && not (low_near v w (l - 1))
+is_net_broken G2 v w l = is_slot_grant l && rises_between v w l && not (high_near v w (l - 1))
+is_net_broken G3 v w l = is_arbiter_grant l && falls_between v w l && is_other_granted w l
+is_net_broken G4 v w l = is_grant l && falls_between v w l && not (high_near v w BBSY)
+is_net_broken r v w l = false
+
+-- the first changed line of some
+abbrev pub first_changed : (ℕ → Bool) → List Change → Option ℕ
+first_changed p [] = None
+first_changed p (c ∷ cs) = if p c.line then Some c.line else first_changed p cs
+
+-- a line of the arbitration bus: the busy line, a request or a grant
+abbrev pub is_arbitration : ℕ → Bool
+is_arbitration l = nat_le BBSY l && nat_lt l (iack 1)
+
+abbrev pub touches_arbitration : List Change → Bool
+touches_arbitration [] = false
+touches_arbitration (c ∷ cs) = is_arbitration c.line || touches_arbitration cs
+
+-- a cycle starts while the bus isn't busy
+abbrev pub is_cycle_unowned : Levels → Levels → Bool
+is_cycle_unowned v w = falls_between v w AS && not (low_near v w BBSY)

@@ -1,0 +1,89 @@
+-- The rules of grants and tenures, as a machine judges them.
+use Rattle.std.specs.Prelude.{ℕ, ◌+◌, Bool, false, not, ◌&&◌, ◌||◌, List, [], ◌∷◌, Option, None, Some, option_map, if◌then◌else◌}
+use Rattle.std.specs.Option.{option_or}
+use Rattle.vme_trace.specs.Instants.{least}
+use Rattle.vme_trace.specs.LineNumbers.{AS, BBSY, grant}
+use Rattle.vme_trace.specs.Levels.{Levels}
+use Rattle.vme_trace.specs.Rules.{is_option_equal}
+use Rattle.vme_trace.specs.declared.step.Change.{Change}
+use Rattle.vme_trace.specs.declared.rule.Rule.{Rule}
+use Rattle.vme_trace.specs.declared.rule.Rule.TheVariants.{G1, G2, G3, G4, G5, B1, B2, B3, B4}
+use Rattle.vme_monitor.specs.Run.{nothing}
+use Rattle.vme_monitor.specs.declared.mark.Fault.{Fault}
+use Rattle.vme_monitor.specs.declared.mark.Kinds.{Kinds}
+use Rattle.vme_monitor.specs.declared.mark.Next.{Next}
+use Rattle.vme_monitor.specs.declared.mark.Taken.{Taken}
+use Rattle.vme_chains.specs.GrantLevels.{falls_between, rises_between, is_low_in, first_changed, is_net_broken, grant_begins, requested_in, taken_between, is_ungranted, touches_arbitration, is_cycle_unowned}
+use Rattle.vme_chains.specs.GrantMemory.{is_in, union}
+use Rattle.vme_chains.specs.declared.grant.Arbitrated.{Arbitrated}
+use Rattle.vme_chains.specs.declared.grant_memory.Arbitration.{Arbitration}
+use Rattle.vme_chains.specs.declared.grant_memory.LevelSet.{LevelSet}
+
+abbrev pub grant_rules : List Rule
+grant_rules = G1 ∷ G2 ∷ G3 ∷ G4 ∷ G5 ∷ B1 ∷ B2 ∷ B3 ∷ B4 ∷ []
+
+-- the rule is broken on the line, if there is one
+abbrev pub fault_on : Rule → Option ℕ → Option Fault
+fault_on r lines = option_map (λ l. record { rule = r; line = l }) lines
+
+abbrev pub line_if : Bool → ℕ → Option ℕ
+line_if b l = if b then Some l else None
+
+-- what the changes break on the nets, whatever is remembered
+abbrev pub nets_fault : Levels → Levels → List Change → Option Fault
+nets_fault v w cs =
+    option_or (fault_on G1 (first_changed (is_net_broken G1 v w) cs))
+    (option_or (fault_on G2 (first_changed (is_net_broken G2 v w) cs))
+    (option_or (fault_on G3 (first_changed (is_net_broken G3 v w) cs)) (fault_on G4 (first_changed (is_net_broken G4 v w) cs))))
+
+-- the first level that is granted without being requested
+abbrev pub unrequested : Levels → Levels → LevelSet → Option ℕ
+unrequested v w requests = least (λ n. falls_between v w (grant n 0) && not (is_in requests n)) 0 4
+
+abbrev pub seen_between : Levels → Levels → List Change → Arbitrated
+seen_between v w cs =
+    record {
+      nets = nets_fault v w cs;
+      requests = requested_in w;
+      grants = grant_begins v w;
+      takes = falls_between v w BBSY;
+      ungranted = falls_between v w BBSY && is_ungranted v w;
+      tenure = (if falls_between v w BBSY then taken_between v w else None);
+      ends = rises_between v w BBSY;
+      unowned = is_cycle_unowned v w;
+    }
+
+abbrev pub slot_of : Option Taken → Option ℕ
+slot_of o = option_map (λ x. x.slot) o
+
+-- what a step breaks, after these requests since the last grant, and with or without a grant since the bus became busy
+abbrev pub step_fault : Levels → Levels → LevelSet → Bool → Arbitrated → Option Fault
+step_fault v w requests granted seen =
+    option_or seen.nets
+    (option_or (fault_on G5 (if seen.grants then option_map (λ n. grant n 0) (unrequested v w requests) else None))
+    (option_or (fault_on B1 (line_if seen.ungranted BBSY))
+    (option_or (fault_on B2 (line_if (seen.takes && not granted) BBSY))
+    (option_or (fault_on B3 (line_if seen.unowned AS)) (fault_on B4 (line_if (is_option_equal (slot_of seen.tenure) (w.slots + 1)) BBSY))))))
+
+abbrev pub grant_begin : Levels → Arbitration
+grant_begin v = record { requests = requested_in v; granted = false }
+
+abbrev pub grant_opens : Levels → Kinds
+grant_opens v = record nothing { opened = is_low_in v BBSY }
+
+abbrev pub grant_ends : ℕ → Option Fault
+grant_ends l = None
+
+abbrev pub grant_sight : Levels → Levels → List Change → Option Arbitrated
+grant_sight v w cs = if touches_arbitration cs || is_cycle_unowned v w then Some (seen_between v w cs) else None
+
+abbrev pub grant_next : Arbitration → Levels → Levels → Arbitrated → Next Arbitration
+grant_next m v w seen =
+    record {
+      memory = record {
+        requests = (if seen.grants then seen.requests else union m.requests seen.requests);
+        granted = not seen.takes && (m.granted || seen.grants);
+      };
+      fault = step_fault v w (union m.requests seen.requests) (m.granted || seen.grants) seen;
+      kinds = record nothing { tenure = seen.tenure; tenure_end = seen.ends };
+    }

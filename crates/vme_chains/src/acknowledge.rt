@@ -1,0 +1,318 @@
+//! Interrupt acknowledge: a slot passes it on only while it is asked, within a cycle and a transfer, and before the answer.
+
+ghost use Rattle.std.specs.Prelude.{◌≡◌, ◌<◌, IsTrue};
+ghost use Rattle.vme_trace.specs.LineNumbers.{has_line, input_of as input_line, is_slot_iack};
+ghost use Rattle.vme_monitor.specs.OutsideSpec.{falls_between};
+ghost use Rattle.vme_monitor.specs.Whole.{FindsLeast, ShowsAll};
+ghost use Rattle.vme_chains.specs.AcknowledgeSpec.{acknowledge_rules, acknowledge_shown, fault_among, first_changed, is_acknowledged, is_addressed as addressed_near, is_strobed as strobed_near, is_watched as watched_line, low_near, memory_after, passes_on as passes, passes_unasked, pending_nth, pending_place, touches_watched as touches};
+
+use vme_monitor::machine::{Places, Small};
+use vme_monitor::mark::{Fault, Kinds, NOTHING, Next};
+use vme_monitor::monitor::Monitor;
+use vme_monitor::spanned::{Rules, Within};
+use vme_monitor::tracking::Pending;
+use vme_trace::{Change, Line, Lines, Rule};
+
+/// What the transfer is doing, and whether a transfer of the cycle that started last was answered by DTACK*; the latter says
+/// nothing while AS* isn't low.
+#[derive(Clone, Copy, PartialEq, Eq, Debug)]
+pub struct Acknowledgement {
+    pub transfer: Pending,
+    pub acknowledged: bool,
+}
+
+fn transfer_place(transfer: Pending) -> usize
+    ensures place { result ≡ pending_place transfer }
+    ensures few { result < 4 }
+{
+    match transfer {
+        Pending::Closed => 0,
+        Pending::Reading => 1,
+        Pending::Writing => 2,
+        Pending::Answered => 3,
+    }
+}
+
+fn nth_transfer(k: usize) -> Pending
+    ensures { result ≡ pending_nth k }
+{
+    if k == 0 {
+        Pending::Closed
+    } else if k == 1 {
+        Pending::Reading
+    } else if k == 2 {
+        Pending::Writing
+    } else {
+        Pending::Answered
+    }
+}
+
+impl Places for Acknowledgement {
+    ghost use Rattle.vme_chains.specs.AcknowledgeSpec.{acknowledgement_found, acknowledgement_nth, acknowledgement_place, acknowledgement_placed};
+
+    ghost COUNT = { 8 };
+
+    ghost place_of = { acknowledgement_place };
+
+    ghost nth_of = { acknowledgement_nth };
+
+    ghost placed = { acknowledgement_placed };
+
+    ghost found = { acknowledgement_found };
+
+    const COUNT: usize = 8;
+
+    fn place(self) -> usize {
+        let place = transfer_place(self.transfer);
+        if self.acknowledged { 4 + place } else { place }
+    }
+
+    fn nth(k: usize) -> Acknowledgement {
+        if k < 4 {
+            Acknowledgement {
+                transfer: nth_transfer(k),
+                acknowledged: false,
+            }
+        } else {
+            Acknowledgement {
+                transfer: nth_transfer(k - 4),
+                acknowledged: true,
+            }
+        }
+    }
+}
+
+impl Small for Acknowledgement {
+    ghost use Rattle.std.proofs.Common.{lit≤};
+
+    ghost small = { lit≤ tt };
+}
+
+impl Acknowledgement {
+    /// What is left after a step.
+    fn after(self, before: &Lines, after: &Lines) -> Acknowledgement
+        ensures { result ≡ memory_after self before.now after.now }
+    {
+        let answered = acknowledges(self.transfer, before, after);
+        Acknowledgement {
+            transfer: self.transfer.tracked(before, after),
+            acknowledged: answered || (self.acknowledged && !falls(before, after, Line::AS)),
+        }
+    }
+}
+
+/// The slots that pass an acknowledge on at a step, by their outputs.
+#[derive(Drop)]
+pub struct Passing {
+    /// The first of them.
+    pub first: Option<Line>,
+    /// The first whose input isn't low.
+    pub unasked: Option<Line>,
+}
+
+fn falls(before: &Lines, after: &Lines, line: Line) -> bool
+    requires before { IsTrue (has_line before.now.slots line) }
+    requires after { IsTrue (has_line after.now.slots line) }
+    ensures { result ≡ falls_between before.now after.now line }
+{
+    before.level(line).is_high() && after.level(line).is_low()
+}
+
+fn is_low_near(before: &Lines, after: &Lines, line: Line) -> bool
+    requires before { IsTrue (has_line before.now.slots line) }
+    requires after { IsTrue (has_line after.now.slots line) }
+    ensures { result ≡ low_near before.now after.now line }
+{
+    before.level(line).is_low() || after.level(line).is_low()
+}
+
+fn is_output(line: Line) -> bool
+    ensures { result ≡ is_slot_iack line }
+{
+    line.number() >= Line::iack(1).number()
+}
+
+/// The acknowledge input of the slot that has an acknowledge output.
+fn input_of(output: Line) -> Line
+    requires { IsTrue (is_slot_iack output) }
+    ensures { result ≡ input_line output }
+{
+    let number = output.number();
+    if number == Line::iack(1).number() {
+        Line::IACK
+    } else {
+        Line::iack(number - 138)
+    }
+}
+
+/// Whether a line is an acknowledge output that falls.
+fn passes_on(before: &Lines, after: &Lines, line: Line) -> bool
+    ensures { result ≡ passes before.now after.now line }
+{
+    is_output(line) && before.has(line) && after.has(line) && falls(before, after, line)
+}
+
+/// Whether it falls while the slot's input isn't low.
+fn passes_on_unasked(before: &Lines, after: &Lines, line: Line) -> bool
+    ensures { result ≡ passes_unasked before.now after.now line }
+{
+    passes_on(before, after, line) && !is_low_near(before, after, input_of(line))
+}
+
+fn first_passing(before: &Lines, after: &Lines, changes: &[Change]) -> Option<Line>
+    ensures { result ≡ first_changed (passes before.now after.now) changes.now }
+{
+    for change in changes {
+        if passes_on(before, after, change.line) {
+            return Some(change.line);
+        }
+    }
+    None
+}
+
+fn first_unasked(before: &Lines, after: &Lines, changes: &[Change]) -> Option<Line>
+    ensures { result ≡ first_changed (passes_unasked before.now after.now) changes.now }
+{
+    for change in changes {
+        if passes_on_unasked(before, after, change.line) {
+            return Some(change.line);
+        }
+    }
+    None
+}
+
+fn is_watched(line: Line) -> bool
+    ensures { result ≡ watched_line line }
+{
+    line.number() <= Line::BERR.number() || is_output(line)
+}
+
+fn touches_watched(changes: &[Change]) -> bool
+    ensures { result ≡ touches changes.now }
+{
+    for change in changes {
+        if is_watched(change.line) {
+            return true;
+        }
+    }
+    false
+}
+
+fn is_strobed(before: &Lines, after: &Lines) -> bool
+    ensures { result ≡ strobed_near before.now after.now }
+{
+    is_low_near(before, after, Line::AS)
+        && (is_low_near(before, after, Line::DS0) || is_low_near(before, after, Line::DS1))
+}
+
+fn is_addressed(before: &Lines, after: &Lines) -> bool
+    ensures { result ≡ addressed_near before.now after.now }
+{
+    before.level(Line::AS).is_low() && after.level(Line::AS).is_low()
+}
+
+/// Whether a transfer is answered by DTACK*.
+fn acknowledges(transfer: Pending, before: &Lines, after: &Lines) -> bool
+    ensures { result ≡ is_acknowledged transfer before.now after.now }
+{
+    let entered = transfer.entered(before, after);
+    matches!(entered, Pending::Reading | Pending::Writing) && falls(before, after, Line::DTACK)
+}
+
+/// The first rule that is broken, on its first line.
+fn fault_of(memory: Acknowledgement, before: &Lines, after: &Lines, seen: &Passing) -> Option<Fault>
+    ensures { result ≡ fault_among memory before.now after.now seen.now.unasked seen.now.first }
+{
+    match (seen.unasked, seen.first) {
+        (Some(line), _) => Some(Fault {
+            rule: Rule::I1,
+            line,
+        }),
+        (None, Some(line)) => {
+            if !is_strobed(before, after) {
+                Some(Fault {
+                    rule: Rule::I2,
+                    line,
+                })
+            } else if is_addressed(before, after) && memory.acknowledged {
+                Some(Fault {
+                    rule: Rule::I3,
+                    line,
+                })
+            } else {
+                None
+            }
+        }
+        (None, None) => None,
+    }
+}
+
+/// The rules on how a slot passes an interrupt acknowledge on.
+pub struct AcknowledgeRules;
+
+impl Rules for AcknowledgeRules {
+    ghost use Rattle.vme_chains.specs.AcknowledgeSpec.{acknowledge_begin, acknowledge_ends, acknowledge_next, acknowledge_opens, acknowledge_sight};
+
+    type Memory = Acknowledgement;
+
+    type Seen = Passing;
+
+    ghost begin = { acknowledge_begin };
+
+    ghost opens = { acknowledge_opens };
+
+    ghost ends = { acknowledge_ends };
+
+    ghost sight = { acknowledge_sight };
+
+    ghost next = { acknowledge_next };
+
+    fn at_start(_lines: &Lines) -> Acknowledgement {
+        Acknowledgement {
+            transfer: Pending::Closed,
+            acknowledged: false,
+        }
+    }
+
+    fn shown_at_start(_lines: &Lines) -> Kinds {
+        NOTHING
+    }
+
+    fn fault_at_end(_lost: Line) -> Option<Fault> {
+        None
+    }
+
+    fn see(before: &Lines, after: &Lines, changes: &[Change]) -> Option<Passing> {
+        if touches_watched(changes) {
+            Some(Passing {
+                first: first_passing(before, after, changes),
+                unasked: first_unasked(before, after, changes),
+            })
+        } else {
+            None
+        }
+    }
+
+    fn step(
+        memory: Acknowledgement,
+        before: &Lines,
+        after: &Lines,
+        seen: &Passing,
+    ) -> Next<Acknowledgement> {
+        Next {
+            memory: memory.after(before, after),
+            fault: fault_of(memory, before, after, seen),
+            kinds: NOTHING,
+        }
+    }
+}
+
+/// The monitor of the rules on interrupt acknowledge: IACKOUT* of a slot falls while its input isn't low (I1), while AS* isn't
+/// low or neither data strobe is (I2), or after DTACK* answered in the cycle (I3).
+pub type Iack = Within<AcknowledgeRules>;
+
+/// Over a whole capture, the event is the least break of I1, I2 and I3, and there are no marks.
+pub fn acknowledge_over_captures()
+    ensures event { FindsLeast ⟦<Iack as Monitor>⟧.run ⟦<Iack as Monitor>⟧.begin acknowledge_rules }
+    ensures marks { ShowsAll ⟦<Iack as Monitor>⟧.run ⟦<Iack as Monitor>⟧.begin acknowledge_shown }
+{}

@@ -1,0 +1,219 @@
+//! Bus grants, and the tenures that they lead to (ANSI/IEEE Std 1014-1987, chapter 3: data transfer bus arbitration).
+
+ghost use Rattle.std.specs.Prelude.{◌≡◌, ◌+◌, ◌≤◌, option_map};
+ghost use Rattle.vme_trace.specs.LineNumbers.{grant};
+ghost use Rattle.vme_trace.specs.Rules.{is_option_equal};
+ghost use Rattle.vme_monitor.specs.Whole.{FindsLeast, ShowsAll};
+ghost use Rattle.vme_chains.specs.GrantMarks.{tenures_shown};
+ghost use Rattle.vme_chains.specs.GrantSpec.{grant_rules, seen_between as seen_between_of, fault_on as fault_on_of, line_if as line_if_of, nets_fault as nets_fault_of, slot_of, step_fault as step_fault_of, unrequested as unrequested_of};
+
+use crate::grant_levels::{
+    falls, first_broken, grant_begins, is_cycle_unowned, is_low, is_ungranted, requested, rises,
+    taken_between, touches_arbitration,
+};
+use crate::grant_memory::{Arbitration, LevelSet};
+use vme_monitor::mark::{Fault, Kinds, NOTHING, Next, Taken};
+use vme_monitor::monitor::Monitor;
+use vme_monitor::spanned::{Rules, Within};
+use vme_trace::{Change, Line, Lines, Rule};
+
+/// What a step shows of grants and tenures, whatever is remembered.
+#[derive(Drop)]
+pub struct Arbitrated {
+    /// What the changes break of the rules G1 to G4.
+    pub nets: Option<Fault>,
+    /// The levels that are requested after it.
+    pub requests: LevelSet,
+    /// The arbiter begins to grant some level.
+    pub grants: bool,
+    /// BBSY* falls.
+    pub takes: bool,
+    /// BBSY* falls, and no level is granted before the step or after it.
+    pub ungranted: bool,
+    /// The grant that the fall of BBSY* takes.
+    pub tenure: Option<Taken>,
+    /// BBSY* rises.
+    pub ends: bool,
+    /// A cycle starts while the bus isn't busy.
+    pub unowned: bool,
+}
+
+/// The rule is broken on the line, if there is one.
+fn fault_on(rule: Rule, line: Option<Line>) -> Option<Fault>
+    ensures { result ≡ fault_on_of rule line }
+{
+    match line {
+        Some(line) => Some(Fault { rule, line }),
+        None => None,
+    }
+}
+
+fn line_if(broken: bool, line: Line) -> Option<Line>
+    ensures { result ≡ line_if_of broken line }
+{
+    if broken { Some(line) } else { None }
+}
+
+/// What the changes break on the nets of grants.
+fn nets_fault(before: &Lines, after: &Lines, changes: &[Change]) -> Option<Fault>
+    ensures { result ≡ nets_fault_of before.now after.now changes.now }
+{
+    let extended = fault_on(Rule::G1, first_broken(Rule::G1, before, after, changes));
+    let ended = fault_on(Rule::G2, first_broken(Rule::G2, before, after, changes));
+    let doubled = fault_on(Rule::G3, first_broken(Rule::G3, before, after, changes));
+    let busy = fault_on(Rule::G4, first_broken(Rule::G4, before, after, changes));
+    extended.or(ended.or(doubled.or(busy)))
+}
+
+/// The first level that is granted without being requested.
+#[tactic(auto, using(vme_trace::proofs::Ranges::searches))]
+fn unrequested(before: &Lines, after: &Lines, requests: LevelSet) -> Option<Line>
+    ensures { result ≡ option_map (λ n. grant n 0) (unrequested_of before.now after.now requests) }
+{
+    for level in 0..4 {
+        let net = Line::grant(level, 0);
+        if falls(before, after, net) && !requests.has(level) {
+            return Some(net);
+        }
+    }
+    None
+}
+
+/// What a step shows of grants and tenures.
+fn seen_between(before: &Lines, after: &Lines, changes: &[Change]) -> Arbitrated
+    ensures { result ≡ seen_between_of before.now after.now changes.now }
+{
+    let takes = falls(before, after, Line::BBSY);
+    Arbitrated {
+        nets: nets_fault(before, after, changes),
+        requests: requested(after),
+        grants: grant_begins(before, after),
+        takes,
+        ungranted: takes && is_ungranted(before, after),
+        tenure: if takes {
+            taken_between(before, after)
+        } else {
+            None
+        },
+        ends: rises(before, after, Line::BBSY),
+        unowned: is_cycle_unowned(before, after),
+    }
+}
+
+impl Arbitrated {
+    /// Whether the grant that is taken has gone past the last slot.
+    fn is_past(&self, slots: u8) -> bool
+        requires { slots ≤ 21 }
+        ensures { result ≡ is_option_equal (slot_of self.now.tenure) (slots + 1) }
+    {
+        match &self.tenure {
+            Some(taken) => taken.slot == slots + 1,
+            None => false,
+        }
+    }
+
+    /// What a step breaks, after these requests since the last grant, and with or without a grant since the bus became busy.
+    fn fault(
+        &self,
+        before: &Lines,
+        after: &Lines,
+        requests: LevelSet,
+        granted: bool,
+    ) -> Option<Fault>
+        ensures { result ≡ step_fault_of before.now after.now requests granted self.now }
+    {
+        let unasked = if self.grants {
+            unrequested(before, after, requests)
+        } else {
+            None
+        };
+        let ungranted = line_if(self.ungranted, Line::BBSY);
+        let twice = line_if(self.takes && !granted, Line::BBSY);
+        let unowned = line_if(self.unowned, Line::AS);
+        let past = line_if(self.is_past(after.slots()), Line::BBSY);
+        let last = fault_on(Rule::B3, unowned).or(fault_on(Rule::B4, past));
+        let taking = fault_on(Rule::B1, ungranted).or(fault_on(Rule::B2, twice).or(last));
+        self.nets.or(fault_on(Rule::G5, unasked).or(taking))
+    }
+}
+
+/// The rules of grants and tenures. A slot grants on only while it is granted, and for as long (G1, G2). The arbiter grants one level
+/// at a time, while the bus isn't busy, after a request since the grant before (G3 to G5). The bus becomes busy by a grant, each
+/// grant makes it so once, and a grant doesn't go past the last slot (B1, B2, B4). A cycle starts only while the bus is busy (B3).
+pub struct GrantRules;
+
+impl Rules for GrantRules {
+    ghost use Rattle.vme_chains.specs.GrantSpec.{grant_begin, grant_ends, grant_next, grant_opens, grant_sight};
+
+    type Memory = Arbitration;
+
+    type Seen = Arbitrated;
+
+    ghost begin = { grant_begin };
+
+    ghost opens = { grant_opens };
+
+    ghost ends = { grant_ends };
+
+    ghost sight = { grant_sight };
+
+    ghost next = { grant_next };
+
+    fn at_start(lines: &Lines) -> Arbitration {
+        Arbitration {
+            requests: requested(lines),
+            granted: false,
+        }
+    }
+
+    fn shown_at_start(lines: &Lines) -> Kinds {
+        Kinds {
+            opened: is_low(lines, Line::BBSY),
+            ..NOTHING
+        }
+    }
+
+    fn fault_at_end(_lost: Line) -> Option<Fault> {
+        None
+    }
+
+    fn see(before: &Lines, after: &Lines, changes: &[Change]) -> Option<Arbitrated> {
+        if touches_arbitration(changes) || is_cycle_unowned(before, after) {
+            Some(seen_between(before, after, changes))
+        } else {
+            None
+        }
+    }
+
+    fn step(
+        memory: Arbitration,
+        before: &Lines,
+        after: &Lines,
+        seen: &Arbitrated,
+    ) -> Next<Arbitration> {
+        let requests = memory.requests.union(seen.requests);
+        let granted = memory.granted || seen.grants;
+        Next {
+            memory: Arbitration {
+                requests: if seen.grants { seen.requests } else { requests },
+                granted: !seen.takes && granted,
+            },
+            fault: seen.fault(before, after, requests, granted),
+            kinds: Kinds {
+                tenure: seen.tenure,
+                tenure_end: seen.ends,
+                ..NOTHING
+            },
+        }
+    }
+}
+
+/// The monitor of grants and tenures.
+pub type Grant = Within<GrantRules>;
+
+/// Over a whole capture, the event is the least break of the rules G1 to G5 and B1 to B4, and the marks are the tenures: an open one
+/// at the start, each start with its level and slot, and each end.
+pub fn grants_over_captures()
+    ensures event { FindsLeast ⟦<Grant as Monitor>⟧.run ⟦<Grant as Monitor>⟧.begin grant_rules }
+    ensures marks { ShowsAll ⟦<Grant as Monitor>⟧.run ⟦<Grant as Monitor>⟧.begin tenures_shown }
+{}

@@ -1,0 +1,12 @@
+pub mod Addresses
+pub mod Searches
+pub mod CycleMemory
+pub mod FreedAnswers
+pub mod StepFacts
+pub mod OpenState
+pub mod Held
+pub mod HandshakeBreaks
+pub mod CycleBreaks
+pub mod StillSteps
+pub mod Holding
+pub mod Judging

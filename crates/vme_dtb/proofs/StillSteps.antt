@@ -1,0 +1,239 @@
+-- Where the address strobe, the strobes and the answer lines stay as they are, nothing happens.
+use Rattle.std.proofs.Common.{◌≡◌, ℕ, Bool, true, false, ◌&&◌, ◌||◌, not, refl, sym, ◌∙◌, ap, arith, List, Option, Some, None, cond}
+use Rattle.std.specs.Prelude.{is_some}
+use Rattle.std.specs.Option.{option_or, option_map_or}
+use Rattle.vme_trace.specs.LineNumbers.{AS, DS0, DS1, DTACK, BERR, WRITE}
+use Rattle.vme_trace.specs.Levels.{Levels, level_at, is_low, is_high, same_level}
+use Rattle.vme_trace.specs.Trace.{Trace}
+use Rattle.vme_trace.specs.Signals.{low, high}
+use Rattle.vme_trace.specs.Judged.{Span}
+use Rattle.vme_trace.specs.declared.level.Level.{Level}
+use Rattle.vme_trace.specs.declared.level.Level.TheVariants.{Low, High, Unknown}
+use Rattle.vme_trace.specs.declared.rule.Rule.{Rule}
+use Rattle.vme_trace.specs.declared.rule.Rule.TheVariants.{H1, H2, H3, H4, H5, H6, H7, H8, C1, C2, I4, I5}
+use Rattle.vme_trace.specs.declared.step.Change.{Change}
+use Rattle.vme_monitor.specs.Run.{noticed, nothing, quiet}
+use Rattle.vme_monitor.specs.Tracked.{Says}
+use Rattle.vme_monitor.specs.Tracking.{answer_between, answered_by, entered, is_unanswered, is_within, is_writing, strobe_low_in, strobes_high_in, tracked}
+use Rattle.vme_monitor.specs.declared.mark.Asked.{Asked}
+use Rattle.vme_monitor.specs.declared.mark.Fault.{Fault}
+use Rattle.vme_monitor.specs.declared.tracking.Pending.{Pending}
+use Rattle.vme_monitor.specs.declared.tracking.Pending.TheVariants.{Closed, Reading, Writing, Answered}
+use Rattle.vme_dtb.specs.CycleState.{after_answer, is_acknowledge, is_acknowledged, is_pair_spoiled, is_turned}
+use Rattle.vme_dtb.specs.Edge.{asked_of, edges_between, falls_between, first_of, is_still, is_unready, rises_between, starts_transfer}
+use Rattle.vme_dtb.specs.Machine.{answer_in, broken, cycle_fault, dtb_next, dtb_sight, handshake_fault, is_doubled, is_replied, is_unserved, memory_after}
+use Rattle.vme_dtb.specs.declared.cycle.Cycle.{Cycle}
+use Rattle.vme_dtb.specs.declared.edges.Edges.{Edges}
+use Rattle.vme_dtb.specs.declared.memory.Memory.{Memory}
+use Rattle.vme_dtb.proofs.Held.{Holds}
+use Rattle.vme_dtb.proofs.StepFacts.{old, new}
+
+same_is : (x y : Level) → same_level x y ≡ true → y ≡ x
+same_is Low Low h = refl
+same_is Low High h = absurd (cc)
+same_is Low Unknown h = absurd (cc)
+same_is High Low h = absurd (cc)
+same_is High High h = refl
+same_is High Unknown h = absurd (cc)
+same_is Unknown Low h = absurd (cc)
+same_is Unknown High h = absurd (cc)
+same_is Unknown Unknown h = refl
+
+never_falls : (x : Level) → (is_high x && is_low x) ≡ false
+never_falls Low = refl
+never_falls High = refl
+never_falls Unknown = refl
+
+never_rises : (x : Level) → (is_low x && is_high x) ≡ false
+never_rises Low = refl
+never_rises High = refl
+never_rises Unknown = refl
+
+never_starts : (x y : Level) → ((is_high x && is_high y) && (is_low x || is_low y)) ≡ false
+never_starts Low y = refl
+never_starts Unknown y = refl
+never_starts High Low = refl
+never_starts High High = refl
+never_starts High Unknown = refl
+
+and_not : (b : Bool) → (b && not b) ≡ false
+and_not true = refl
+and_not false = refl
+
+all_five : (a b c d e : Bool) → (a && b && c && d && e) ≡ true → (a ≡ true) × (b ≡ true) × (c ≡ true) × (d ≡ true) × (e ≡ true)
+all_five true true true true true h = (refl, refl, refl, refl, refl)
+all_five false b c d e h = absurd (cc)
+all_five true false c d e h = absurd (cc)
+all_five true true false d e h = absurd (cc)
+all_five true true true false e h = absurd (cc)
+all_five true true true true false h = absurd (cc)
+
+nowhere : {A : Type 0} (b : Bool) (o : Option A) → o ≡ None → cond b o None ≡ None
+nowhere true o e = e
+nowhere false o e = refl
+
+unbroken : (r : Rule) (b : Bool) → broken r b None ≡ None
+unbroken r true = refl
+unbroken r false = refl
+
+unbroken_and : (r : Rule) (b : Bool) (o : Option ℕ) → broken r (b && false) o ≡ None
+unbroken_and r true o = refl
+unbroken_and r false o = refl
+
+all_unbroken : (b2 b3 b4 b5 b7 b8 c1 c2 i4 i5 : Bool)
+    → option_or
+    (option_or
+    (option_or
+    (option_or
+    (option_or
+    (option_or
+    (option_or
+    (option_or (broken H1 true None) (broken H2 b2 None))
+    (broken H3 b3 None))
+    (broken H4 b4 None))
+    (broken H5 b5 None))
+    (broken H6 true None))
+    (broken H7 (b7 && false) (Some AS)))
+    (broken H8 b8 None))
+    (option_or
+    (option_or
+    (option_or (broken C1 c1 None) (broken C2 c2 None))
+    (broken I4 i4 None))
+    (broken I5 i5 None))
+    ≡ None
+all_unbroken b2 b3 b4 b5 b7 b8 c1 c2 i4 i5 =
+    rw (unbroken H2 b2, unbroken H3 b3, unbroken H4 b4, unbroken H5 b5, unbroken_and H7 b7 (Some AS), unbroken H8 b8, unbroken C1 c1, unbroken C2 c2, unbroken I4 i4, unbroken I5 i5) refl
+
+-- the edges of a step, by the tests that they rest on
+abbrev built : (as_falls as_rises starts closes rise0 rise1 fall0 fall1 dtack_falls berr_falls dtack_rises berr_rises unaddressed : Bool) → Asked → Bool → Option ℕ → Edges
+built as_falls as_rises starts closes rise0 rise1 fall0 fall1 dtack_falls berr_falls dtack_rises berr_rises unaddressed asked write unready =
+    record {
+      shown = record nothing { cycle = cond as_falls (Some asked) None; cycle_end = as_rises; transfer = cond starts (Some write) None; close = closes };
+      unready = cond starts unready None;
+      strobe_rise = first_of rise0 DS0 rise1 DS1;
+      strobe_fall = first_of fall0 DS0 fall1 DS1;
+      answer_fall = first_of dtack_falls DTACK berr_falls BERR;
+      both_fall = (dtack_falls && berr_falls);
+      dtack_rises = dtack_rises;
+      berr_rises = berr_rises;
+      unaddressed = unaddressed;
+    }
+
+-- the edges of a step that has none
+abbrev silent : Bool → Edges
+silent u = record { shown = nothing; unready = None; strobe_rise = None; strobe_fall = None; answer_fall = None; both_fall = false; dtack_rises = false; berr_rises = false; unaddressed = u }
+
+same_silent : (a b s c r0 r1 f0 f1 d e g h u : Bool) (x : Asked) (y : Bool) (o : Option ℕ) → a ≡ false → b ≡ false → s ≡ false → c ≡ false → r0 ≡ false → r1 ≡ false → f0 ≡ false → f1 ≡ false → d ≡ false → e ≡ false → g ≡ false → h ≡ false
+    → built a b s c r0 r1 f0 f1 d e g h u x y o ≡ silent u
+same_silent a b s c r0 r1 f0 f1 d e g h u x y o pa pb ps pc p0 p1 q0 q1 pd pe pg ph = rw (pa, pb, ps, pc, p0, p1, q0, q1, pd, pe, pg, ph) refl
+
+module _ (v w : Levels) (still : is_still v w ≡ true) where
+  each : (level_at w AS ≡ level_at v AS) × (level_at w DS0 ≡ level_at v DS0) × (level_at w DS1 ≡ level_at v DS1) × (level_at w DTACK ≡ level_at v DTACK) × (level_at w BERR ≡ level_at v BERR)
+  each =
+      let all = all_five (same_level (level_at v AS) (level_at w AS)) (same_level (level_at v DS0) (level_at w DS0)) (same_level (level_at v DS1) (level_at w DS1)) (same_level (level_at v DTACK) (level_at w DTACK)) (same_level (level_at v BERR) (level_at w BERR)) still in
+      (same_is (level_at v AS) (level_at w AS) all.0, same_is (level_at v DS0) (level_at w DS0) all.1, same_is (level_at v DS1) (level_at w DS1) all.2, same_is (level_at v DTACK) (level_at w DTACK) all.3, same_is (level_at v BERR) (level_at w BERR) all.4)
+
+  no_fall : (l : ℕ) → level_at w l ≡ level_at v l → falls_between v w l ≡ false
+  no_fall l e = ap (λ x. is_high (level_at v l) && is_low x) e ∙ never_falls (level_at v l)
+
+  no_rise : (l : ℕ) → level_at w l ≡ level_at v l → rises_between v w l ≡ false
+  no_rise l e = ap (λ x. is_low (level_at v l) && is_high x) e ∙ never_rises (level_at v l)
+
+  high_kept : strobes_high_in w ≡ strobes_high_in v
+  high_kept = ap (λ x. is_high x && is_high (level_at w DS1)) each.1 ∙ ap (λ x. is_high (level_at v DS0) && is_high x) each.2
+
+  low_kept : strobe_low_in w ≡ strobe_low_in v
+  low_kept = ap (λ x. is_low x || is_low (level_at w DS1)) each.1 ∙ ap (λ x. is_low (level_at v DS0) || is_low x) each.2
+
+  no_start : starts_transfer v w ≡ false
+  no_start = ap (λ b. strobes_high_in v && b) low_kept ∙ never_starts (level_at v DS0) (level_at v DS1)
+
+  no_close : (strobes_high_in w && not (strobes_high_in v)) ≡ false
+  no_close = ap (λ b. b && not (strobes_high_in v)) high_kept ∙ and_not (strobes_high_in v)
+
+  abbrev unaddressed_in : Bool
+  unaddressed_in = not (is_low (level_at v AS) || is_low (level_at w AS))
+
+  edges_still : edges_between v w ≡ silent unaddressed_in
+  edges_still =
+      same_silent (falls_between v w AS) (rises_between v w AS) (starts_transfer v w) (strobes_high_in w && not (strobes_high_in v)) (rises_between v w DS0) (rises_between v w DS1) (falls_between v w DS0) (falls_between v w DS1) (falls_between v w DTACK)
+      (falls_between v w BERR) (rises_between v w DTACK) (rises_between v w BERR) unaddressed_in (asked_of w) (is_low (level_at w WRITE)) (first_of (is_unready v w DTACK) DTACK (is_unready v w BERR) BERR) (no_fall AS each.0) (no_rise AS each.0) no_start no_close
+      (no_rise DS0 each.1) (no_rise DS1 each.2) (no_fall DS0 each.1) (no_fall DS1 each.2) (no_fall DTACK each.3) (no_fall BERR each.4) (no_rise DTACK each.3) (no_rise BERR each.4)
+
+  same_tracked : (h a s x : Bool) (p : Pending) (q : Pending) → h ≡ x → a ≡ false → s ≡ false → cond h Closed (answered_by a (cond s q p)) ≡ cond x Closed p
+  same_tracked h a s x p q e f g = rw (e, f, g) refl
+
+  no_answer : answer_between v w ≡ false
+  no_answer = neither (falls_between v w DTACK) (falls_between v w BERR) (no_fall DTACK each.3) (no_fall BERR each.4)
+    where
+      neither : (a b : Bool) → a ≡ false → b ≡ false → (a || b) ≡ false
+      neither a b e f = rw (e, f) refl
+
+  tracked_still : (p : Pending) → tracked p v w ≡ cond (strobes_high_in v) Closed p
+  tracked_still p = same_tracked (strobes_high_in w) (answer_between v w) (starts_transfer v w) (strobes_high_in v) p (cond (is_low (level_at w WRITE)) Writing Reading) high_kept no_answer no_start
+
+module _ (t : Trace) (span : Span) (n : ℕ) (m : Memory) (holds : Holds t span n m) where
+  pending_kept : (p : Pending) → Says t span n p → cond (strobes_high_in (old t n)) Closed p ≡ p
+  unfolding high
+  pending_kept Closed h = rw h refl
+  pending_kept Reading o = rw (o.1.still n o.1.within (omega arith)) refl
+  pending_kept Writing o = rw (o.1.still n o.1.within (omega arith)) refl
+  pending_kept Answered o = rw (o.2.still n o.2.within (omega arith)) refl
+
+  freed_kept : (after before rest was : Bool) → after ≡ before → was ≡ (before && rest) → (after && (was || false)) ≡ was
+  freed_kept after before rest was e f = rw (e, f) (by_level before rest)
+    where
+      by_level : (a b : Bool) → (a && ((a && b) || false)) ≡ (a && b)
+      by_level true true = refl
+      by_level true false = refl
+      by_level false b = refl
+
+  same_next : (k : Memory) (f : Option Fault) (a : Option ℕ) → k ≡ m → f ≡ None → a ≡ None → record { memory = k; fault = f; kinds = record nothing { answer = a } } ≡ quiet m
+  same_next k f a x y z = rw (x, y, z) refl
+
+  same_memory : (p : Pending) (c : Cycle) (a b : Bool) → p ≡ m.pending → c ≡ m.cycle → a ≡ m.dtack_freed → b ≡ m.berr_freed → record { pending = p; cycle = c; dtack_freed = a; berr_freed = b } ≡ m
+  same_memory p c a b x y z u = rw (x, y, z, u) refl
+
+  -- a step without edges leaves all as it is
+  pub next_still : is_still (old t n) (new t n) ≡ true → dtb_next m (old t n) (new t n) (edges_between (old t n) (new t n)) ≡ quiet m
+  unfolding low
+  next_still still =
+      let v = old t n in
+      let w = new t n in
+      let u = not (is_low (level_at v AS) || is_low (level_at w AS)) in
+      let e = entered m.pending v w in
+      let kept = each v w still in
+      let none : answer_in e (silent u) ≡ None = nowhere (is_unanswered e) None refl in
+      ap (dtb_next m v w) (edges_still v w still)
+      ∙ same_next (memory_after m v w (silent u)) (option_or (handshake_fault m e (silent u)) (cycle_fault m.cycle (is_writing e) (answer_in e (silent u)))) (answer_in e (silent u))
+      (same_memory (tracked m.pending v w) (cond (is_some (answer_in e (silent u))) (after_answer m.cycle (is_writing e)) m.cycle) (is_low (level_at w DTACK) && (m.dtack_freed || false)) (is_low (level_at w BERR) && (m.berr_freed || false))
+      (tracked_still v w still m.pending ∙ pending_kept m.pending holds.transfer) (ap (λ o. cond (is_some o) (after_answer m.cycle (is_writing e)) m.cycle) none)
+      (freed_kept (is_low (level_at w DTACK)) (is_low (level_at v DTACK)) _ m.dtack_freed (ap is_low kept.3) holds.dtack) (freed_kept (is_low (level_at w BERR)) (is_low (level_at v BERR)) _ m.berr_freed (ap is_low kept.4) holds.berr))
+      (ap (λ o.
+      option_or
+      (option_or
+      (option_or
+      (option_or
+      (option_or
+      (option_or
+      (option_or
+      (option_or (broken H1 true None) (broken H2 (is_unserved m.pending (silent u)) None))
+      (broken H3 (is_replied m.pending) None))
+      (broken H4 (not (is_within e)) None))
+      (broken H5 (is_doubled e (silent u)) None))
+      (broken H6 true None))
+      (broken H7 (is_unserved m.pending (silent u) && false) (Some AS)))
+      (broken H8 u o))
+      (cycle_fault m.cycle (is_writing e) o)) none
+      ∙ all_unbroken (is_unserved m.pending (silent u)) (is_replied m.pending) (not (is_within e)) (is_doubled e (silent u)) (is_unserved m.pending (silent u)) u (is_pair_spoiled m.cycle (is_writing e)) (is_turned m.cycle (is_writing e)) (is_acknowledge m.cycle && is_writing e)
+      (is_acknowledged m.cycle))
+      none
+
+  -- so a step that isn't noticed is done all the same
+  pub noticed_is : (cs : List Change) → noticed dtb_sight dtb_next m (old t n) (new t n) cs ≡ dtb_next m (old t n) (new t n) (edges_between (old t n) (new t n))
+  noticed_is cs = by_still (is_still (old t n) (new t n)) refl
+    where
+      by_still : (b : Bool) → is_still (old t n) (new t n) ≡ b
+          → option_map_or (dtb_next m (old t n) (new t n)) (cond b None (Some (edges_between (old t n) (new t n)))) (quiet m) ≡ dtb_next m (old t n) (new t n) (edges_between (old t n) (new t n))
+      by_still true e = sym (next_still e)
+      by_still false e = refl

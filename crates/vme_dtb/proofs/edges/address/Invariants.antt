@@ -1,0 +1,7 @@
+use Rattle.std.proofs.Common.{◌≡◌, ◌<◌, ◌^◌}
+use Rattle.vme_dtb.specs.Edge.{address_below}
+use Rattle.vme_dtb.proofs.edges.address.Given as goal
+
+-- the address of the bits so far
+abbrev pub invariant-loop-bit : goal.invariant-loop-bit
+invariant-loop-bit l = (l.address ≡ address_below l.lines l.bit) × (l.address < 2 ^ l.bit)

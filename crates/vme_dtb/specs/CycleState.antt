@@ -1,0 +1,54 @@
+-- What the cycle that started last still admits, from its class and the directions of its answers.
+use Rattle.std.specs.Prelude.{Bool, true, false, not, Option, None, Some}
+use Rattle.vme_trace.specs.declared.class.Class.{Class}
+use Rattle.vme_trace.specs.declared.class.Class.TheVariants as class
+use Rattle.vme_monitor.specs.declared.mark.Asked.{Asked}
+use Rattle.vme_dtb.specs.declared.cycle.Cycle.{Cycle}
+use Rattle.vme_dtb.specs.declared.cycle.Cycle.TheVariants.{Free, Single, SingleRead, SingleDone, Block, BlockReading, BlockWriting, Interrupt, InterruptDone}
+
+-- a cycle of the class, without an answer
+abbrev pub unanswered_of : Class → Cycle
+unanswered_of class.S = Single
+unanswered_of class.K = Block
+unanswered_of class.I = Interrupt
+unanswered_of class.F = Free
+
+-- the cycle in which an instant is, where another may start
+abbrev pub cycle_entered : Cycle → Option Asked → Cycle
+cycle_entered c None = c
+cycle_entered c (Some asked) = unanswered_of asked.class
+
+-- the same cycle after one more answer, of a write or of a read
+abbrev pub after_answer : Cycle → Bool → Cycle
+after_answer Free w = Free
+after_answer Single true = SingleDone
+after_answer Single false = SingleRead
+after_answer SingleRead w = SingleDone
+after_answer SingleDone w = SingleDone
+after_answer Block true = BlockWriting
+after_answer Block false = BlockReading
+after_answer BlockReading w = BlockReading
+after_answer BlockWriting w = BlockWriting
+after_answer Interrupt w = InterruptDone
+after_answer InterruptDone w = InterruptDone
+
+-- one more answer makes a single cycle other than a read and then a write
+abbrev pub is_pair_spoiled : Cycle → Bool → Bool
+is_pair_spoiled SingleRead w = not w
+is_pair_spoiled SingleDone w = true
+is_pair_spoiled c w = false
+
+-- one more answer turns the direction of a block transfer
+abbrev pub is_turned : Cycle → Bool → Bool
+is_turned BlockReading w = w
+is_turned BlockWriting w = not w
+is_turned c w = false
+
+abbrev pub is_acknowledge : Cycle → Bool
+is_acknowledge Interrupt = true
+is_acknowledge InterruptDone = true
+is_acknowledge c = false
+
+abbrev pub is_acknowledged : Cycle → Bool
+is_acknowledged InterruptDone = true
+is_acknowledged c = false

@@ -1,0 +1,72 @@
+-- What one step shows of the handshake, from the levels on both sides of it.
+use Rattle.std.specs.Prelude.{ℕ, zero, suc, ◌+◌, ◌^◌, Bool, not, ◌&&◌, ◌||◌, Option, None, Some, nat_le, if◌then◌else◌}
+use Rattle.vme_trace.specs.LineNumbers.{AS, DS0, DS1, DTACK, BERR, WRITE, A}
+use Rattle.vme_trace.specs.Levels.{Levels, level_at, is_low, is_high, is_high_on, same_level}
+use Rattle.vme_trace.specs.Cycle.{class_of, modifier_of}
+use Rattle.vme_monitor.specs.Run.{nothing}
+use Rattle.vme_monitor.specs.Tracking.{strobes_high_in, strobe_low_in}
+use Rattle.vme_monitor.specs.declared.mark.Asked.{Asked}
+use Rattle.vme_monitor.specs.declared.mark.Kinds.{Kinds}
+use Rattle.vme_dtb.specs.declared.edges.Edges.{Edges}
+
+-- the address by its lines below a number, bit n being of the weight 2 ^ n and a high line being 1
+unfoldable pub address_below : Levels → ℕ → ℕ
+address_below v zero = 0
+address_below v (suc n) = address_below v n + (if nat_le 1 n && is_high_on v (A n) then 2 ^ n else 0)
+
+-- the address on A01 to A31
+abbrev pub address_of : Levels → ℕ
+address_of v = address_below v 32
+
+-- what the lines say as a cycle starts
+abbrev pub asked_of : Levels → Asked
+asked_of v = record { class = class_of v; modifier = modifier_of v; address = address_of v }
+
+-- the first of two lines of which something holds
+abbrev pub first_of : Bool → ℕ → Bool → ℕ → Option ℕ
+first_of a x b y = if a then Some x else if b then Some y else None
+
+module _ (v w : Levels) where
+  abbrev pub falls_between : ℕ → Bool
+  falls_between l = is_high (level_at v l) && is_low (level_at w l)
+
+  abbrev pub rises_between : ℕ → Bool
+  rises_between l = is_low (level_at v l) && is_high (level_at w l)
+
+  abbrev pub stays_on : ℕ → Bool
+  stays_on l = same_level (level_at v l) (level_at w l)
+
+  -- the address strobe, the strobes and the answer lines stay as they are
+  abbrev pub is_still : Bool
+  is_still = stays_on AS && stays_on DS0 && stays_on DS1 && stays_on DTACK && stays_on BERR
+
+  abbrev pub starts_transfer : Bool
+  starts_transfer = strobes_high_in v && strobe_low_in w
+
+  -- the line isn't high on either side
+  abbrev pub is_unready : ℕ → Bool
+  is_unready l = not (is_high (level_at v l) || is_high (level_at w l))
+
+  -- the marks of the step, but for the answer
+  abbrev pub shown_between : Kinds
+  shown_between =
+      record nothing {
+        cycle = (if falls_between AS then Some (asked_of w) else None);
+        cycle_end = rises_between AS;
+        transfer = (if starts_transfer then Some (is_low (level_at w WRITE)) else None);
+        close = (strobes_high_in w && not (strobes_high_in v));
+      }
+
+  abbrev pub edges_between : Edges
+  edges_between =
+      record {
+        shown = shown_between;
+        unready = (if starts_transfer then first_of (is_unready DTACK) DTACK (is_unready BERR) BERR else None);
+        strobe_rise = first_of (rises_between DS0) DS0 (rises_between DS1) DS1;
+        strobe_fall = first_of (falls_between DS0) DS0 (falls_between DS1) DS1;
+        answer_fall = first_of (falls_between DTACK) DTACK (falls_between BERR) BERR;
+        both_fall = (falls_between DTACK && falls_between BERR);
+        dtack_rises = rises_between DTACK;
+        berr_rises = rises_between BERR;
+        unaddressed = not (is_low (level_at v AS) || is_low (level_at w AS));
+      }

@@ -1,0 +1,110 @@
+-- What the machine of the handshake does with a step.
+use Rattle.std.specs.Prelude.{ℕ, Bool, true, false, not, ◌&&◌, ◌||◌, List, Option, None, Some, option_map, is_some, if◌then◌else◌}
+use Rattle.std.specs.Option.{option_or}
+use Rattle.vme_trace.specs.LineNumbers.{AS, DTACK, BERR}
+use Rattle.vme_trace.specs.Levels.{Levels, level_at, is_low}
+use Rattle.vme_trace.specs.declared.rule.Rule.{Rule}
+use Rattle.vme_trace.specs.declared.rule.Rule.TheVariants.{H1, H2, H3, H4, H5, H6, H7, H8, C1, C2, I4, I5}
+use Rattle.vme_trace.specs.declared.step.Change.{Change}
+use Rattle.vme_monitor.specs.Run.{nothing}
+use Rattle.vme_monitor.specs.Tracking.{entered, is_unanswered, is_within, is_writing, tracked}
+use Rattle.vme_monitor.specs.declared.mark.Fault.{Fault}
+use Rattle.vme_monitor.specs.declared.mark.Kinds.{Kinds}
+use Rattle.vme_monitor.specs.declared.mark.Next.{Next}
+use Rattle.vme_monitor.specs.declared.tracking.Pending.{Pending}
+use Rattle.vme_monitor.specs.declared.tracking.Pending.TheVariants.{Closed, Answered}
+use Rattle.vme_dtb.specs.CycleState.{after_answer, cycle_entered, is_acknowledge, is_acknowledged, is_pair_spoiled, is_turned}
+use Rattle.vme_dtb.specs.Edge.{edges_between, first_of, is_still}
+use Rattle.vme_dtb.specs.declared.cycle.Cycle.{Cycle}
+use Rattle.vme_dtb.specs.declared.cycle.Cycle.TheVariants.{Free}
+use Rattle.vme_dtb.specs.declared.edges.Edges.{Edges}
+use Rattle.vme_dtb.specs.declared.memory.Memory.{Memory}
+
+abbrev pub is_replied : Pending → Bool
+is_replied Answered = true
+is_replied e = false
+
+-- a rule is broken on a line, if there is one, where it applies
+abbrev pub broken : Rule → Bool → Option ℕ → Option Fault
+broken r applies line = if applies then option_map (λ l. record { rule = r; line = l }) line else None
+
+-- the line that answers the transfer in which the step ends, if any
+abbrev pub answer_in : Pending → Edges → Option ℕ
+answer_in e s = if is_unanswered e then s.answer_fall else None
+
+-- a strobe has risen since the answer line fell
+abbrev pub freed : Bool → Edges → Bool
+freed was s = was || is_some s.strobe_rise
+
+-- the transfer that was open before the step stays without an answer
+abbrev pub is_unserved : Pending → Edges → Bool
+is_unserved p s = is_unanswered p && not (is_some s.answer_fall)
+
+-- an answer line falls in a transfer that has its answer, or both fall in one
+abbrev pub is_doubled : Pending → Edges → Bool
+is_doubled e s = is_replied e || (is_unanswered e && s.both_fall)
+
+-- the first answer line that rises while no strobe has risen since it fell
+abbrev pub dropped : Memory → Edges → Option ℕ
+dropped m s = first_of (s.dtack_rises && not (freed m.dtack_freed s)) DTACK (s.berr_rises && not (freed m.berr_freed s)) BERR
+
+abbrev pub handshake_fault : Memory → Pending → Edges → Option Fault
+handshake_fault m e s =
+    option_or
+    (option_or
+    (option_or
+    (option_or
+    (option_or
+    (option_or
+    (option_or (broken H1 true s.unready) (broken H2 (is_unserved m.pending s) s.strobe_rise))
+    (broken H3 (is_replied m.pending) s.strobe_fall))
+    (broken H4 (not (is_within e)) s.answer_fall))
+    (broken H5 (is_doubled e s) s.answer_fall))
+    (broken H6 true (dropped m s)))
+    (broken H7 (is_unserved m.pending s && s.shown.cycle_end) (Some AS)))
+    (broken H8 s.unaddressed (answer_in e s))
+
+-- w: the transfer is a write
+abbrev pub cycle_fault : Cycle → Bool → Option ℕ → Option Fault
+cycle_fault c w answer =
+    option_or
+    (option_or
+    (option_or (broken C1 (is_pair_spoiled c w) answer) (broken C2 (is_turned c w) answer))
+    (broken I4 (is_acknowledge c && w) answer))
+    (broken I5 (is_acknowledged c) answer)
+
+abbrev pub memory_after : Memory → Levels → Levels → Edges → Memory
+memory_after m v w s =
+    let e = entered m.pending v w in
+    let c = cycle_entered m.cycle s.shown.cycle in
+    record {
+      pending = tracked m.pending v w;
+      cycle = (if is_some (answer_in e s) then after_answer c (is_writing e) else c);
+      dtack_freed = (is_low (level_at w DTACK) && freed m.dtack_freed s);
+      berr_freed = (is_low (level_at w BERR) && freed m.berr_freed s);
+    }
+
+abbrev pub fault_in : Memory → Levels → Levels → Edges → Option Fault
+fault_in m v w s =
+    let e = entered m.pending v w in
+    option_or (handshake_fault m e s) (cycle_fault (cycle_entered m.cycle s.shown.cycle) (is_writing e) (answer_in e s))
+
+abbrev pub dtb_begin : Levels → Memory
+dtb_begin v = record { pending = Closed; cycle = Free; dtack_freed = false; berr_freed = false }
+
+abbrev pub dtb_opens : Levels → Kinds
+dtb_opens v = nothing
+
+abbrev pub dtb_ends : ℕ → Option Fault
+dtb_ends l = None
+
+abbrev pub dtb_sight : Levels → Levels → List Change → Option Edges
+dtb_sight v w cs = if is_still v w then None else Some (edges_between v w)
+
+abbrev pub dtb_next : Memory → Levels → Levels → Edges → Next Memory
+dtb_next m v w s =
+    record {
+      memory = memory_after m v w s;
+      fault = fault_in m v w s;
+      kinds = record s.shown { answer = answer_in (entered m.pending v w) s };
+    }

@@ -1,0 +1,124 @@
+-- Where each memory stands among all of them.
+use Rattle.std.proofs.Common.{◌≡◌, ℕ, ◌+◌, ◌*◌, ◌/◌, ◌%◌, ◌<◌, ◌≤◌, Bool, true, false, refl, ap, ◌∙◌, arith}
+use Rattle.std.specs.Prelude.{◌==◌, if◌then◌else◌}
+use Rattle.vme_monitor.specs.declared.tracking.Pending.{Pending}
+use Rattle.vme_monitor.specs.declared.tracking.Pending.TheVariants.{Closed, Reading, Writing, Answered}
+use Rattle.vme_dtb.specs.declared.cycle.Cycle.{Cycle}
+use Rattle.vme_dtb.specs.declared.cycle.Cycle.TheVariants.{Free, Single, SingleRead, SingleDone, Block, BlockReading, BlockWriting, Interrupt, InterruptDone}
+use Rattle.vme_dtb.specs.declared.memory.Memory.{Memory}
+
+abbrev pub pending_place : Pending → ℕ
+pending_place Closed = 0
+pending_place Reading = 1
+pending_place Writing = 2
+pending_place Answered = 3
+
+abbrev pub pending_nth : ℕ → Pending
+pending_nth k = if k == 0 then Closed else if k == 1 then Reading else if k == 2 then Writing else Answered
+
+abbrev pub cycle_place : Cycle → ℕ
+cycle_place Free = 0
+cycle_place Single = 1
+cycle_place SingleRead = 2
+cycle_place SingleDone = 3
+cycle_place Block = 4
+cycle_place BlockReading = 5
+cycle_place BlockWriting = 6
+cycle_place Interrupt = 7
+cycle_place InterruptDone = 8
+
+abbrev pub cycle_nth : ℕ → Cycle
+cycle_nth k =
+    if k == 0 then Free else if k == 1 then Single else if k == 2 then SingleRead else if k == 3 then SingleDone
+    else if k == 4 then Block else if k == 5 then BlockReading else if k == 6 then BlockWriting else if k == 7 then Interrupt else InterruptDone
+
+abbrev pub bit : Bool → ℕ
+bit true = 1
+bit false = 0
+
+abbrev pub memory_place : Memory → ℕ
+memory_place m = 36 * pending_place m.pending + 4 * cycle_place m.cycle + 2 * bit m.dtack_freed + bit m.berr_freed
+
+abbrev pub memory_nth : ℕ → Memory
+memory_nth k = record { pending = pending_nth (k / 36); cycle = cycle_nth ((k / 4) % 9); dtack_freed = ((k / 2) % 2 == 1); berr_freed = (k % 2 == 1) }
+
+pending_below : (p : Pending) → pending_place p < 4
+pending_below Closed = omega arith
+pending_below Reading = omega arith
+pending_below Writing = omega arith
+pending_below Answered = omega arith
+
+cycle_below : (c : Cycle) → cycle_place c < 9
+cycle_below Free = omega arith
+cycle_below Single = omega arith
+cycle_below SingleRead = omega arith
+cycle_below SingleDone = omega arith
+cycle_below Block = omega arith
+cycle_below BlockReading = omega arith
+cycle_below BlockWriting = omega arith
+cycle_below Interrupt = omega arith
+cycle_below InterruptDone = omega arith
+
+bit_below : (b : Bool) → bit b < 2
+bit_below true = omega arith
+bit_below false = omega arith
+
+all_below : (p c a b : ℕ) → p < 4 → c < 9 → a < 2 → b < 2 → 36 * p + 4 * c + 2 * a + b < 144
+all_below p c a b hp hc ha hb = omega arith
+
+pub memory_placed : (m : Memory) → memory_place m < 144
+memory_placed m = all_below (pending_place m.pending) (cycle_place m.cycle) (bit m.dtack_freed) (bit m.berr_freed) (pending_below m.pending) (cycle_below m.cycle) (bit_below m.dtack_freed) (bit_below m.berr_freed)
+
+pending_found : (p : Pending) → pending_nth (pending_place p) ≡ p
+pending_found Closed = refl
+pending_found Reading = refl
+pending_found Writing = refl
+pending_found Answered = refl
+
+cycle_found : (c : Cycle) → cycle_nth (cycle_place c) ≡ c
+cycle_found Free = refl
+cycle_found Single = refl
+cycle_found SingleRead = refl
+cycle_found SingleDone = refl
+cycle_found Block = refl
+cycle_found BlockReading = refl
+cycle_found BlockWriting = refl
+cycle_found Interrupt = refl
+cycle_found InterruptDone = refl
+
+bit_found : (b : Bool) → (bit b == 1) ≡ b
+bit_found true = refl
+bit_found false = refl
+
+first_part : (p c a b : ℕ) → c < 9 → a < 2 → b < 2 → (36 * p + 4 * c + 2 * a + b) / 36 ≡ p
+first_part p c a b hc ha hb = omega arith
+
+second_part : (p c a b : ℕ) → c < 9 → a < 2 → b < 2 → ((36 * p + 4 * c + 2 * a + b) / 4) % 9 ≡ c
+second_part p c a b hc ha hb = omega arith
+
+third_part : (p c a b : ℕ) → a < 2 → b < 2 → ((36 * p + 4 * c + 2 * a + b) / 2) % 2 ≡ a
+third_part p c a b ha hb = omega arith
+
+fourth_part : (p c a b : ℕ) → b < 2 → (36 * p + 4 * c + 2 * a + b) % 2 ≡ b
+fourth_part p c a b hb = omega arith
+
+same_memory : (m : Memory) (p : Pending) (c : Cycle) (a b : Bool) → p ≡ m.pending → c ≡ m.cycle → a ≡ m.dtack_freed → b ≡ m.berr_freed → record { pending = p; cycle = c; dtack_freed = a; berr_freed = b } ≡ m
+same_memory m p c a b hp hc ha hb = rw (hp, hc, ha, hb) refl
+
+pub memory_found : (m : Memory) → memory_nth (memory_place m) ≡ m
+memory_found m =
+    let p = pending_place m.pending in
+    let c = cycle_place m.cycle in
+    let a = bit m.dtack_freed in
+    let b = bit m.berr_freed in
+    let hc = cycle_below m.cycle in
+    let ha = bit_below m.dtack_freed in
+    let hb = bit_below m.berr_freed in
+    same_memory m _ _ _ _
+    (ap pending_nth (first_part p c a b hc ha hb) ∙ pending_found m.pending)
+    (ap cycle_nth (second_part p c a b hc ha hb) ∙ cycle_found m.cycle)
+    (ap (λ k. k == 1) (third_part p c a b ha hb) ∙ bit_found m.dtack_freed)
+    (ap (λ k. k == 1) (fourth_part p c a b hb) ∙ bit_found m.berr_freed)
+
+pub memories_few : 144 ≤ 510
+memories_few = omega arith

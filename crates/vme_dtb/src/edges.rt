@@ -1,0 +1,192 @@
+//! What one step shows of the handshake.
+
+ghost use Rattle.std.specs.Prelude.{◌≡◌, ◌<◌};
+ghost use Rattle.vme_trace.specs.LineNumbers.{grant, AS, DS0, DS1, DTACK, BERR};
+ghost use Rattle.vme_monitor.specs.Tracking.{strobe_low_in};
+ghost use Rattle.vme_dtb.specs.Edge.{address_of, asked_of, edges_between, falls_between, first_of, is_still, is_unready, rises_between, shown_between, starts_transfer, stays_on};
+
+use vme_monitor::mark::{Asked, Kinds, NOTHING};
+use vme_monitor::tracking::has_strobes_high;
+use vme_trace::{Line, Lines, am_class, am_code};
+
+/// What a step shows of the handshake, whatever was before it.
+#[derive(Clone, Copy, PartialEq, Eq, Debug, Drop)]
+pub struct Edges {
+    /// What happens, but for the answer of a transfer.
+    pub shown: Kinds,
+    /// A transfer starts, and this answer line is the first that isn't high before or after the step.
+    pub unready: Option<Line>,
+    /// The first strobe that rises.
+    pub strobe_rise: Option<Line>,
+    /// The first strobe that falls.
+    pub strobe_fall: Option<Line>,
+    /// The first answer line that falls.
+    pub answer_fall: Option<Line>,
+    /// Whether both answer lines fall.
+    pub both_fall: bool,
+    /// Whether DTACK* rises.
+    pub dtack_rises: bool,
+    /// Whether BERR* rises.
+    pub berr_rises: bool,
+    /// Whether AS* is low neither before nor after the step.
+    pub unaddressed: bool,
+}
+
+/// Whether a bused line falls.
+fn falls(before: &Lines, after: &Lines, line: Line) -> bool
+    requires { line < grant 0 0 }
+    ensures { result ≡ falls_between before.now after.now line }
+{
+    before.level(line).is_high() && after.level(line).is_low()
+}
+
+/// Whether a bused line rises.
+fn rises(before: &Lines, after: &Lines, line: Line) -> bool
+    requires { line < grant 0 0 }
+    ensures { result ≡ rises_between before.now after.now line }
+{
+    before.level(line).is_low() && after.level(line).is_high()
+}
+
+/// Whether a bused line keeps its level.
+fn stays(before: &Lines, after: &Lines, line: Line) -> bool
+    requires { line < grant 0 0 }
+    ensures { result ≡ stays_on before.now after.now line }
+{
+    before.level(line).is_same(after.level(line))
+}
+
+/// Whether AS*, the strobes and the answer lines stay as they are.
+pub(crate) fn is_handshake_still(before: &Lines, after: &Lines) -> bool
+    ensures { result ≡ is_still before.now after.now }
+{
+    stays(before, after, Line::AS)
+        && stays(before, after, Line::DS0)
+        && stays(before, after, Line::DS1)
+        && stays(before, after, Line::DTACK)
+        && stays(before, after, Line::BERR)
+}
+
+/// The first of the strobes of which something holds.
+fn first_strobe(first: bool, second: bool) -> Option<Line>
+    ensures { result ≡ first_of first DS0 second DS1 }
+{
+    if first {
+        Some(Line::DS0)
+    } else if second {
+        Some(Line::DS1)
+    } else {
+        None
+    }
+}
+
+/// The first of the answer lines of which something holds.
+pub(crate) fn first_answer(dtack: bool, berr: bool) -> Option<Line>
+    ensures { result ≡ first_of dtack DTACK berr BERR }
+{
+    if dtack {
+        Some(Line::DTACK)
+    } else if berr {
+        Some(Line::BERR)
+    } else {
+        None
+    }
+}
+
+/// The address on A01 to A31: a line that isn't high counts 0.
+#[tactic(auto, unfolding(crate::specs::Edge::address_below))]
+fn address(lines: &Lines) -> u32
+    ensures { result ≡ address_of lines.now }
+{
+    let mut address: u32 = 0;
+    for bit in 1..32u8 {
+        if lines.level(Line::address(bit)).is_high() {
+            address += 1 << bit;
+        }
+    }
+    address
+}
+
+/// What the lines say where a cycle starts.
+fn asked(lines: &Lines) -> Asked
+    ensures { result ≡ asked_of lines.now }
+{
+    Asked {
+        class: am_class(lines),
+        modifier: am_code(lines),
+        address: address(lines),
+    }
+}
+
+/// Whether a transfer starts: both strobes were high, and one is low.
+fn is_transfer_start(before: &Lines, after: &Lines) -> bool
+    ensures { result ≡ starts_transfer before.now after.now }
+{
+    has_strobes_high(before) && (after.level(Line::DS0).is_low() || after.level(Line::DS1).is_low())
+}
+
+/// Whether an answer line isn't high before or after the step.
+fn is_unready(before: &Lines, after: &Lines, line: Line) -> bool
+    requires { line < grant 0 0 }
+    ensures { result ≡ is_unready before.now after.now line }
+{
+    !(before.level(line).is_high() || after.level(line).is_high())
+}
+
+/// What happens, but for the answer of a transfer.
+fn shown(before: &Lines, after: &Lines) -> Kinds
+    ensures { result ≡ shown_between before.now after.now }
+{
+    let cycle = if falls(before, after, Line::AS) {
+        Some(asked(after))
+    } else {
+        None
+    };
+    let transfer = if is_transfer_start(before, after) {
+        Some(after.level(Line::WRITE).is_low())
+    } else {
+        None
+    };
+    Kinds {
+        cycle,
+        cycle_end: rises(before, after, Line::AS),
+        transfer,
+        close: has_strobes_high(after) && !has_strobes_high(before),
+        ..NOTHING
+    }
+}
+
+impl Edges {
+    /// What the levels on both sides of a step show.
+    pub(crate) fn between(before: &Lines, after: &Lines) -> Edges
+        ensures { result ≡ edges_between before.now after.now }
+    {
+        let unready = if is_transfer_start(before, after) {
+            first_answer(
+                is_unready(before, after, Line::DTACK),
+                is_unready(before, after, Line::BERR),
+            )
+        } else {
+            None
+        };
+        let dtack_falls = falls(before, after, Line::DTACK);
+        let berr_falls = falls(before, after, Line::BERR);
+        Edges {
+            shown: shown(before, after),
+            unready,
+            strobe_rise: first_strobe(
+                rises(before, after, Line::DS0),
+                rises(before, after, Line::DS1),
+            ),
+            strobe_fall: first_strobe(
+                falls(before, after, Line::DS0),
+                falls(before, after, Line::DS1),
+            ),
+            answer_fall: first_answer(dtack_falls, berr_falls),
+            both_fall: dtack_falls && berr_falls,
+            dtack_rises: rises(before, after, Line::DTACK),
+            berr_rises: rises(before, after, Line::BERR),
+            unaddressed: !(before.level(Line::AS).is_low() || after.level(Line::AS).is_low()),
+        }
+    }
+}

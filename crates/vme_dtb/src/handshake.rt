@@ -1,0 +1,207 @@
+//! The handshake of data transfers, and the answers that cycles admit (ANSI/IEEE Std 1014-1987, chapter 2, the data transfer bus).
+//!
+//! A strobe stays low until an answer comes, a new transfer starts with both answer lines high, and an answer line stays low until
+//! a strobe has risen. A single cycle has a transfer, or a read and then a write; a block transfer keeps its direction; an
+//! interrupt acknowledge is one read.
+
+ghost use Rattle.std.specs.Prelude.{◌≡◌};
+ghost use Rattle.vme_monitor.specs.Tracking.{is_unanswered, is_within, is_writing};
+ghost use Rattle.vme_monitor.specs.Whole.{FindsLeast, ShowsAll};
+ghost use Rattle.vme_dtb.specs.Machine.{answer_in, broken as broken_on, cycle_fault as fault_of_cycle, dropped as dropped_line, freed as is_freed, handshake_fault as fault_of_handshake, is_doubled, is_replied, is_unserved};
+ghost use Rattle.vme_dtb.specs.Shown.{handshake_rules, handshake_shown};
+
+use crate::cycle::Cycle;
+use crate::edges::{Edges, first_answer, is_handshake_still};
+use crate::memory::Memory;
+use vme_monitor::mark::{Fault, Kinds, NOTHING, Next};
+use vme_monitor::monitor::Monitor;
+use vme_monitor::spanned::{Rules, Within};
+use vme_monitor::tracking::Pending;
+use vme_trace::{Change, Line, Lines, Rule};
+
+/// The rules of the handshake, H1 to H8, and of the answers that a cycle admits, C1, C2, I4 and I5.
+pub struct HandshakeRules;
+
+/// Whether a transfer is open and has no answer.
+fn is_unanswered(pending: Pending) -> bool
+    ensures { result ≡ is_unanswered pending }
+{
+    matches!(pending, Pending::Reading | Pending::Writing)
+}
+
+/// Whether a transfer is open and has its answer.
+fn is_answered(pending: Pending) -> bool
+    ensures { result ≡ is_replied pending }
+{
+    matches!(pending, Pending::Answered)
+}
+
+/// Whether a transfer is open.
+fn is_open(pending: Pending) -> bool
+    ensures { result ≡ is_within pending }
+{
+    !matches!(pending, Pending::Closed)
+}
+
+/// Whether a write is open and has no answer.
+fn is_writing(pending: Pending) -> bool
+    ensures { result ≡ is_writing pending }
+{
+    matches!(pending, Pending::Writing)
+}
+
+/// The fault that a rule is broken on a line, if there is one and the rule applies.
+fn broken(rule: Rule, applies: bool, line: Option<Line>) -> Option<Fault>
+    ensures { result ≡ broken_on rule applies line }
+{
+    match line {
+        Some(line) if applies => Some(Fault { rule, line }),
+        _ => None,
+    }
+}
+
+/// The line that answers the transfer in which a step ends, if any.
+fn answer_of(entered: Pending, seen: &Edges) -> Option<Line>
+    ensures { result ≡ answer_in entered seen.now }
+{
+    if is_unanswered(entered) {
+        seen.answer_fall
+    } else {
+        None
+    }
+}
+
+/// Whether a strobe has risen since an answer line fell, if `was` says so of the time before the step.
+fn freed(was: bool, seen: &Edges) -> bool
+    ensures { result ≡ is_freed was seen.now }
+{
+    was || seen.strobe_rise.is_some()
+}
+
+impl Memory {
+    /// Whether the transfer that was open before the step stays without an answer.
+    fn is_unserved(self, seen: &Edges) -> bool
+        ensures { result ≡ is_unserved self.pending seen.now }
+    {
+        is_unanswered(self.pending) && !seen.answer_fall.is_some()
+    }
+
+    /// The first answer line that rises while no strobe has risen since it fell.
+    fn dropped(self, seen: &Edges) -> Option<Line>
+        ensures { result ≡ dropped_line self seen.now }
+    {
+        first_answer(
+            seen.dtack_rises && !freed(self.dtack_freed, seen),
+            seen.berr_rises && !freed(self.berr_freed, seen),
+        )
+    }
+
+    /// The first rule of the handshake that is broken, where the step ends in the transfer `entered`.
+    fn handshake_fault(self, entered: Pending, seen: &Edges) -> Option<Fault>
+        ensures { result ≡ fault_of_handshake self entered seen.now }
+    {
+        let unserved = self.is_unserved(seen);
+        let doubled = is_answered(entered) || (is_unanswered(entered) && seen.both_fall);
+        broken(Rule::H1, true, seen.unready)
+            .or(broken(Rule::H2, unserved, seen.strobe_rise))
+            .or(broken(Rule::H3, is_answered(self.pending), seen.strobe_fall))
+            .or(broken(Rule::H4, !is_open(entered), seen.answer_fall))
+            .or(broken(Rule::H5, doubled, seen.answer_fall))
+            .or(broken(Rule::H6, true, self.dropped(seen)))
+            .or(broken(Rule::H7, unserved && seen.shown.cycle_end, Some(Line::AS)))
+            .or(broken(Rule::H8, seen.unaddressed, answer_of(entered, seen)))
+    }
+}
+
+/// The first rule that an answer in a cycle breaks.
+fn cycle_fault(cycle: Cycle, write: bool, answer: Option<Line>) -> Option<Fault>
+    ensures { result ≡ fault_of_cycle cycle write answer }
+{
+    broken(Rule::C1, cycle.is_pair_spoiled(write), answer)
+        .or(broken(Rule::C2, cycle.is_turned(write), answer))
+        .or(broken(Rule::I4, cycle.is_acknowledge() && write, answer))
+        .or(broken(Rule::I5, cycle.is_acknowledged(), answer))
+}
+
+impl Rules for HandshakeRules {
+    ghost use Rattle.vme_dtb.specs.Machine.{dtb_begin, dtb_ends, dtb_next, dtb_opens, dtb_sight};
+
+    type Memory = Memory;
+
+    type Seen = Edges;
+
+    ghost begin = { dtb_begin };
+
+    ghost opens = { dtb_opens };
+
+    ghost ends = { dtb_ends };
+
+    ghost sight = { dtb_sight };
+
+    ghost next = { dtb_next };
+
+    fn at_start(_lines: &Lines) -> Memory {
+        Memory {
+            pending: Pending::Closed,
+            cycle: Cycle::Free,
+            dtack_freed: false,
+            berr_freed: false,
+        }
+    }
+
+    fn shown_at_start(_lines: &Lines) -> Kinds {
+        NOTHING
+    }
+
+    fn fault_at_end(_lost: Line) -> Option<Fault> {
+        None
+    }
+
+    fn see(before: &Lines, after: &Lines, _changes: &[Change]) -> Option<Edges> {
+        if is_handshake_still(before, after) {
+            None
+        } else {
+            Some(Edges::between(before, after))
+        }
+    }
+
+    fn step(memory: Memory, before: &Lines, after: &Lines, seen: &Edges) -> Next<Memory> {
+        let entered = memory.pending.entered(before, after);
+        let write = is_writing(entered);
+        let cycle = memory.cycle.entered(seen.shown.cycle);
+        let answer = answer_of(entered, seen);
+        let fault = memory
+            .handshake_fault(entered, seen)
+            .or(cycle_fault(cycle, write, answer));
+        let cycle = if answer.is_some() {
+            cycle.answered(write)
+        } else {
+            cycle
+        };
+        Next {
+            memory: Memory {
+                pending: memory.pending.tracked(before, after),
+                cycle,
+                dtack_freed: after.level(Line::DTACK).is_low() && freed(memory.dtack_freed, seen),
+                berr_freed: after.level(Line::BERR).is_low() && freed(memory.berr_freed, seen),
+            },
+            fault,
+            kinds: Kinds {
+                answer,
+                ..seen.shown
+            },
+        }
+    }
+}
+
+/// The monitor of the handshake and of the answers that cycles admit.
+///
+/// Over a whole capture its event is the least break of the rules H1 to H8, C1, C2, I4 and I5; [`handshake_over_captures`] says so.
+pub type Dtb = Within<HandshakeRules>;
+
+/// Over a whole capture, the event is the least break of H1 to H8, C1, C2, I4 and I5, and the marks are the starts and ends of
+/// cycles, and the starts, answers and closes of transfers.
+pub fn handshake_over_captures()
+    ensures event { FindsLeast ⟦<Dtb as Monitor>⟧.run ⟦<Dtb as Monitor>⟧.begin handshake_rules }
+    ensures marks { ShowsAll ⟦<Dtb as Monitor>⟧.run ⟦<Dtb as Monitor>⟧.begin handshake_shown }
+{}

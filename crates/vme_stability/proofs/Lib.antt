@@ -1,0 +1,10 @@
+pub mod Edges
+pub mod Needed
+pub mod Lasting
+pub mod LackedLines
+pub mod Holds
+pub mod AskedLines
+pub mod HeldDirection
+pub mod HeldAddress
+pub mod Unnoticed
+pub mod StabilityJudges

@@ -1,0 +1,114 @@
+-- What the monitor finds at each judged instant is what the rules say.
+use Rattle.std.proofs.Common.{◌≡◌, ℕ, zero, suc, ◌<◌, ◌≤◌, Bool, true, false, List, refl, sym, arith, cond, inl, inr, ◌⊎◌, length, subst}
+use Rattle.std.specs.Prelude.{Option, None, Some, option_map, slice_get, nat_lt}
+use Rattle.std.specs.Option.{option_map_or, option_or}
+use Rattle.std.proofs.lemmas.Bool.Decides.{nat_tests}
+use Rattle.vme_trace.specs.Levels.{Levels}
+use Rattle.vme_trace.specs.Trace.{Trace, levels_at, time_at}
+use Rattle.vme_trace.specs.WellFormed.{malformed_step}
+use Rattle.vme_trace.specs.Judged.{Span}
+use Rattle.vme_trace.specs.Verdict.{break_at as rules_break_at, break_before, rule_break}
+use Rattle.vme_trace.specs.declared.rule.Rule.TheVariants.{U2, U3, S1, S2}
+use Rattle.vme_trace.specs.declared.step.Change.{Change}
+use Rattle.vme_monitor.specs.Along.{changes_of, memory_from, next_at}
+use Rattle.vme_monitor.specs.Run.{break_at, nothing, noticed, quiet, run_of}
+use Rattle.vme_monitor.specs.Spanned.{noted, spanned, start_in}
+use Rattle.vme_monitor.specs.Whole.{FindsLeast, ShowsAll}
+use Rattle.vme_monitor.specs.declared.mark.Next.{Next}
+use Rattle.vme_monitor.proofs.OwnRules.{own_event, own_marks}
+use Rattle.vme_monitor.proofs.SpanFacts.{IsSpan}
+use Rattle.vme_monitor.proofs.Spans.{changes_fit, levels_step, memory_early}
+use Rattle.vme_stability.specs.StabilitySpec.{fault_on, is_noticed, moved_fault, sight_of, stability_begin, stability_ends, stability_next, stability_opens, stability_rules, stability_shown, stability_sight, turned_fault, unknown_address, unknown_direction}
+use Rattle.vme_stability.specs.declared.holding.Holding.{Holding}
+use Rattle.vme_stability.specs.declared.sight.Sight.{Sight}
+use Rattle.vme_stability.proofs.AskedLines.{address_least, direction_least}
+use Rattle.vme_stability.proofs.HeldAddress.{moved_least}
+use Rattle.vme_stability.proofs.HeldDirection.{turned_least}
+use Rattle.vme_stability.proofs.Holds.{Holds, holds_next, holds_start}
+use Rattle.vme_stability.proofs.Unnoticed.{quiet_there}
+
+abbrev step : Holding → Levels → Levels → List Change → Next Holding
+step = noticed stability_sight stability_next
+
+-- the least rule, of four, that is broken on a line
+first_fault : (n time : ℕ) (a b c d : Option ℕ)
+    → option_map (break_at n time) (option_or (option_or (fault_on U2 a) (fault_on U3 b)) (option_or (fault_on S1 c) (fault_on S2 d)))
+    ≡ option_or (option_map (λ (l : ℕ). record { instant = n; time = time; rule = U2; line = l }) a) (option_or (option_map (λ (l : ℕ). record { instant = n; time = time; rule = U3; line = l }) b) (option_or (option_map (λ (l : ℕ). record { instant = n; time = time; rule = S1; line = l }) c) (option_or (option_map (λ (l : ℕ). record { instant = n; time = time; rule = S2; line = l }) d) None)))
+first_fault n time (Some l) b c d = refl
+first_fault n time None (Some l) c d = refl
+first_fault n time None None (Some l) d = refl
+first_fault n time None None None (Some l) = refl
+first_fault n time None None None None = refl
+
+module _ (t : Trace) (span : Span) (ok : malformed_step t ≡ None) (facts : IsSpan t span) where
+  abbrev memory_at : ℕ → Holding
+  memory_at n = memory_from step t (stability_begin (levels_at t span.start)) span.start n
+
+  abbrev changes_at : ℕ → List Change
+  changes_at n = changes_of (slice_get t.steps n)
+
+  module _ (n : ℕ) (from : span.start ≤ n) (before : suc n < span.end) (within : n < length t.steps) (m : Holding) (holds : Holds t span n m) where
+    abbrev full : Next Holding
+    full = stability_next m (levels_at t n) (levels_at t (suc n)) (sight_of (levels_at t n) (levels_at t (suc n)) (changes_at n))
+
+    -- a step that isn't noticed would change nothing
+    next_is : next_at step t m n ≡ full
+    next_is = by_test (is_noticed (levels_at t n) (levels_at t (suc n)) (changes_at n)) refl
+      where
+        by_test : (b : Bool) → is_noticed (levels_at t n) (levels_at t (suc n)) (changes_at n) ≡ b
+            → option_map_or (stability_next m (levels_at t n) (levels_at t (suc n))) (cond b (Some (sight_of (levels_at t n) (levels_at t (suc n)) (changes_at n))) None) (quiet m) ≡ full
+        by_test true e = refl
+        by_test false e = sym (quiet_there t span n m (changes_at n) holds.transfer (levels_step t n within) (changes_fit t n ok within) e)
+
+    fault_is : break_before t span stability_rules (suc n) ≡ None → option_map (break_at (suc n) (time_at t (suc n))) full.fault ≡ rules_break_at t span stability_rules (suc n)
+    unfolding rules_break_at rule_break
+    fault_is unbroken =
+        rw (
+          address_least t span facts.reads n from before,
+          direction_least t span facts.reads n from before,
+          moved_least t span facts n from before unbroken (changes_at n) (levels_step t n within) (changes_fit t n ok within) m holds,
+          turned_least t span facts.reads n from before m holds (changes_at n),
+        )
+        (first_fault (suc n) (time_at t (suc n)) (unknown_address (levels_at t n) (levels_at t (suc n))) (unknown_direction (levels_at t n) (levels_at t (suc n)))
+        (moved_fault m (levels_at t n) (levels_at t (suc n)) (sight_of (levels_at t n) (levels_at t (suc n)) (changes_at n)))
+        (turned_fault m (levels_at t n) (levels_at t (suc n)) (sight_of (levels_at t n) (levels_at t (suc n)) (changes_at n))))
+
+  after_test : (n s : ℕ) → s ≤ n → nat_lt n s ≡ false
+  after_test n s h = grind (arith, nat_tests)
+
+  first_or_later : (s n : ℕ) → s ≤ suc n → (s ≡ suc n) ⊎ (s ≤ n)
+  first_or_later s n h = grind arith
+
+  -- at each judged instant the memory says what it should
+  holds_at : (n : ℕ) → span.start ≤ n → n < span.end → n ≤ length t.steps → Holds t span n (memory_at n)
+  holds_at zero from before within = let e : span.start ≡ 0 = omega arith in subst (λ k. Holds t span k (stability_begin (levels_at t span.start))) e (holds_start t span facts.reads (levels_at t span.start))
+  holds_at (suc n) from before within =
+      elim (first_or_later span.start n from) [
+        | inl e ↦ at_start e
+        | inr later ↦ let holds = holds_at n later (omega arith) (omega arith) in
+            rw (after_test n span.start later, next_is n later before (omega arith) (memory_at n) holds) (holds_next t span facts.reads n later before (memory_at n) holds)
+      ]
+    where
+      at_start : span.start ≡ suc n → Holds t span (suc n) (memory_at (suc n))
+      at_start e = rw (memory_early step t (stability_begin (levels_at t span.start)) span.start (suc n) (omega arith), ← e) (holds_start t span facts.reads (levels_at t span.start))
+
+  judges_inside : (n : ℕ) → span.start ≤ n → suc n < span.end → n < length t.steps → break_before t span stability_rules (suc n) ≡ None
+      → option_map (break_at (suc n) (time_at t (suc n))) (next_at step t (memory_at n) n).fault ≡ rules_break_at t span stability_rules (suc n)
+  judges_inside n from before within unbroken =
+      let holds = holds_at n from (omega arith) (omega arith) in
+      rw (next_is n from before within (memory_at n) holds) (fault_is n from before within (memory_at n) holds unbroken)
+
+pub stability_event : FindsLeast (run_of (noticed (noted stability_sight) (spanned stability_begin stability_opens (λ l. None) stability_next))) (start_in stability_begin) stability_rules
+stability_event = own_event stability_begin stability_opens stability_sight stability_next stability_rules refl (λ t span ok few facts n from before within unbroken. judges_inside t span ok facts n from before within unbroken)
+
+pub stability_marks : ShowsAll (run_of (noticed (noted stability_sight) (spanned stability_begin stability_opens stability_ends stability_next))) (start_in stability_begin) stability_shown
+stability_marks =
+    own_marks stability_begin stability_opens stability_sight stability_next stability_ends stability_shown
+    (λ t span ok few facts. record {
+      at_start = refl;
+      inside = λ n from before within. by_sight (stability_sight (levels_at t n) (levels_at t (suc n)) (changes_of (slice_get t.steps n))) (memory_from step t (stability_begin (levels_at t span.start)) span.start n) (levels_at t n) (levels_at t (suc n));
+    })
+  where
+    by_sight : (o : Option Sight) (m : Holding) (v w : Levels) → (option_map_or (stability_next m v w) o (quiet m)).kinds ≡ nothing
+    by_sight None m v w = refl
+    by_sight (Some seen) m v w = refl

@@ -1,0 +1,158 @@
+//! What a step shows of the lines that are asked for and held, whatever is remembered.
+
+ghost use Rattle.std.specs.Prelude.{◌≡◌, IsTrue};
+ghost use Rattle.vme_trace.specs.LineNumbers.{has_line};
+ghost use Rattle.vme_monitor.specs.OutsideSpec.{falls_between};
+ghost use Rattle.vme_stability.specs.StabilitySpec.{address_moved, changes_handshake, direction_turned, fault_on as fault_on_line, faults_unknown, first_needed as first_needed_of, rises_between, starts_between, strobe_rises_between, unknown_direction as unknown_direction_of, unknown_need};
+
+use vme_monitor::mark::Fault;
+use vme_monitor::tracking::has_strobes_high;
+use vme_trace::{Change, Line, LineSet, Lines, Rule, needed};
+
+/// What one step shows.
+#[derive(Drop)]
+pub struct Sight {
+    /// A line is unknown that is asked for at this step.
+    pub unknown: Option<Fault>,
+    /// The first changed line that a cycle needs whose address strobe was low before.
+    pub moved: Option<Line>,
+    /// WRITE* changes.
+    pub turned: bool,
+}
+
+/// Whether a line that the backplane has falls.
+pub(crate) fn falls(line: Line, before: &Lines, after: &Lines) -> bool
+    requires before { IsTrue (has_line before.now.slots line) }
+    requires after { IsTrue (has_line after.now.slots line) }
+    ensures { result ≡ falls_between before.now after.now line }
+{
+    before.level(line).is_high() && after.level(line).is_low()
+}
+
+/// Whether a line that the backplane has rises.
+pub(crate) fn rises(line: Line, before: &Lines, after: &Lines) -> bool
+    requires before { IsTrue (has_line before.now.slots line) }
+    requires after { IsTrue (has_line after.now.slots line) }
+    ensures { result ≡ rises_between before.now after.now line }
+{
+    before.level(line).is_low() && after.level(line).is_high()
+}
+
+/// Whether a data strobe rises.
+pub(crate) fn strobe_rises(before: &Lines, after: &Lines) -> bool
+    ensures { result ≡ strobe_rises_between before.now after.now }
+{
+    rises(Line::DS0, before, after) || rises(Line::DS1, before, after)
+}
+
+/// Whether a transfer starts: both data strobes were high, and one is low.
+pub(crate) fn starts_transfer(before: &Lines, after: &Lines) -> bool
+    ensures { result ≡ starts_between before.now after.now }
+{
+    has_strobes_high(before) && (after.level(Line::DS0).is_low() || after.level(Line::DS1).is_low())
+}
+
+/// A rule that is broken on a line, if there is one.
+pub(crate) fn fault_on(rule: Rule, line: Option<Line>) -> Option<Fault>
+    ensures { result ≡ fault_on_line rule line }
+{
+    match line {
+        Some(line) => Some(Fault { rule, line }),
+        None => None,
+    }
+}
+
+/// The least line of which nothing is known, among those that a cycle needs whose address strobe falls at these levels.
+fn unknown_needed(lines: &Lines) -> Option<Line>
+    ensures { result ≡ unknown_need lines.now }
+{
+    let needed = needed(lines);
+    for number in 5..45 {
+        if let Some(line) = Line::from_number(number) {
+            if needed.has(line) && !lines.level(line).is_known() {
+                return Some(line);
+            }
+        }
+    }
+    None
+}
+
+/// WRITE*, where a transfer starts and WRITE* is unknown.
+fn unknown_direction(before: &Lines, after: &Lines) -> Option<Line>
+    ensures { result ≡ unknown_direction_of before.now after.now }
+{
+    if starts_transfer(before, after) && !after.level(Line::WRITE).is_known() {
+        Some(Line::WRITE)
+    } else {
+        None
+    }
+}
+
+/// The rule that is broken by a line that isn't known as it is asked for.
+fn fault_of_unknown(before: &Lines, after: &Lines) -> Option<Fault>
+    ensures { result ≡ faults_unknown before.now after.now }
+{
+    if falls(Line::AS, before, after) {
+        if let Some(line) = unknown_needed(after) {
+            return Some(Fault {
+                rule: Rule::U2,
+                line,
+            });
+        }
+    }
+    fault_on(Rule::U3, unknown_direction(before, after))
+}
+
+/// The first changed line of a set.
+fn first_needed(needed: &LineSet, changes: &[Change]) -> Option<Line>
+    ensures { result ≡ first_needed_of needed.now changes.now }
+{
+    for change in changes {
+        if needed.has(change.line) {
+            return Some(change.line);
+        }
+    }
+    None
+}
+
+/// The first changed line that a cycle needs whose address strobe was low before.
+fn moved_line(before: &Lines, changes: &[Change]) -> Option<Line>
+    ensures { result ≡ address_moved before.now changes.now }
+{
+    if before.level(Line::AS).is_low() {
+        first_needed(&needed(before), changes)
+    } else {
+        None
+    }
+}
+
+/// Whether AS*, a data strobe or an answer is among changes that ascend by line.
+fn touches_handshake(changes: &[Change]) -> bool
+    ensures { result ≡ changes_handshake changes.now }
+{
+    match changes.first() {
+        Some(change) => change.line.number() <= Line::BERR.number(),
+        None => false,
+    }
+}
+
+impl Sight {
+    ghost use Rattle.vme_stability.specs.StabilitySpec.{stability_sight};
+
+    /// What a step shows, if it shows anything.
+    pub fn of(before: &Lines, after: &Lines, changes: &[Change]) -> Option<Sight>
+        ensures { result ≡ stability_sight before.now after.now changes.now }
+    {
+        let moved = moved_line(before, changes);
+        let turned = !before.level(Line::WRITE).is_same(after.level(Line::WRITE));
+        if turned || moved.is_some() || touches_handshake(changes) {
+            Some(Sight {
+                unknown: fault_of_unknown(before, after),
+                moved,
+                turned,
+            })
+        } else {
+            None
+        }
+    }
+}

@@ -1,0 +1,116 @@
+-- Two extents, of blocks that join or don't.
+use Rattle.std.proofs.Common.{◌≡◌, ℕ, zero, suc, ◌+◌, ◌<◌, ◌↔◌, IsTrue, Bool, true, false, List, [], ◌∷◌, ◌++◌, refl, sym, ◌∙◌, ap, subst, arith, length, Option, Some, None}
+use Rattle.std.specs.Prelude.{All, option_map, slice_index_or}
+use Rattle.std.specs.List.{last_or}
+use Rattle.std.proofs.lemmas.List.Elements.{All-append}
+use Rattle.vme_trace.specs.Levels.{Levels}
+use Rattle.vme_trace.specs.Trace.{levels_after}
+use Rattle.vme_trace.specs.Block.{trace_of}
+use Rattle.vme_trace.specs.Blocks.{joined_steps}
+use Rattle.vme_trace.specs.WellFormed.{malformed_step}
+use Rattle.vme_trace.specs.declared.block.Block.{Block}
+use Rattle.vme_trace.specs.declared.step.Step.{Step}
+use Rattle.vme_trace.proofs.CutBlocks.{levels_after-append}
+use Rattle.vme_monitor.specs.Outcome.{Outcome, StandsFor}
+use Rattle.vme_summary.specs.Joins.{BlocksJoin, first_time, is_later, last_time, left_by}
+use Rattle.vme_summary.specs.Stands.{IsExtent, Meets, SpanStandsFor, joined_extent}
+use Rattle.vme_summary.specs.declared.extent.Extent.{Extent}
+use Rattle.vme_summary.specs.declared.span.Span.{Span}
+use Rattle.vme_summary.proofs.Times.{first_time-append, last_or-append, last_time-append}
+use Rattle.vme_summary.proofs.Chains.{Boundary, chain_joins, chain_of, joins_apart, joins_together, last_left, last_number, left_after, left_by_all, number_after, steps-append}
+
+-- what an extent says of the block at its head and of those that follow it
+record Reads (e : Extent) (a : Block) (rest : List Block) : Type 0 where
+  first : a.number ≡ e.first
+  last : number_after a.number rest ≡ e.last
+  opening : a.opening ≡ e.opening
+  left : left_after (left_by a) rest ≡ e.left
+
+reads : (e : Extent) (a : Block) (rest : List Block) → IsExtent e (a ∷ rest) → Reads e a rest
+reads e a rest p =
+    let first : Some a.number ≡ Some e.first = p.first in
+    let last : Some (number_after a.number rest) ≡ Some e.last = sym (last_number a rest) ∙ p.last in
+    let opening : Some a.opening ≡ Some e.opening = p.opening in
+    let left : Some (left_after (left_by a) rest) ≡ Some e.left = sym (last_left a rest) ∙ p.left in
+    record { first = cc; last = cc; opening = cc; left = cc }
+
+boundary : (e f : Extent) (a b : Block) (rest bs : List Block) → IsExtent e (a ∷ rest) → IsExtent f (b ∷ bs) → Meets e f → Boundary a rest b bs
+boundary e f a b rest bs p q m =
+    let r = reads e a rest p in
+    let s = reads f b bs q in
+    record {
+      numbered = s.first ∙ m.numbered ∙ ap (λ n. n + 1) (sym r.last);
+      opened = s.opening ∙ m.opened ∙ sym r.left;
+      later = rw (← p.ends, ← q.starts) m.later;
+    }
+
+pub join_meets : (e f : Extent) (x y : List Block) → IsExtent e x → IsExtent f y → BlocksJoin (x ++ y) → Meets e f
+join_meets e f [] y p q j = let none : None ≡ Some e.first = p.first in absurd (cc)
+join_meets e f (a ∷ rest) [] p q j = let none : None ≡ Some f.first = q.first in absurd (cc)
+join_meets e f (a ∷ rest) (b ∷ bs) p q j =
+    let m = (joins_apart a rest b bs j).2 in
+    let r = reads e a rest p in
+    let s = reads f b bs q in
+    record {
+      numbered = sym s.first ∙ m.numbered ∙ ap (λ n. n + 1) r.last;
+      opened = sym s.opening ∙ m.opened ∙ r.left;
+      later = rw (p.ends, q.starts) m.later;
+    }
+
+pub meets_join : (e f : Extent) (x y : List Block) → IsExtent e x → IsExtent f y → Meets e f → BlocksJoin (x ++ y)
+meets_join e f [] y p q m = let none : None ≡ Some e.first = p.first in absurd (cc)
+meets_join e f (a ∷ rest) [] p q m = let none : None ≡ Some f.first = q.first in absurd (cc)
+meets_join e f (a ∷ rest) (b ∷ bs) p q m = joins_together a rest b bs p.join q.join (boundary e f a b rest bs p q m)
+
+pub extent_joined : (e f : Extent) (x y : List Block) → IsExtent e x → IsExtent f y → Meets e f → IsExtent (joined_extent e f) (x ++ y)
+extent_joined e f [] y p q m = let none : None ≡ Some e.first = p.first in absurd (cc)
+extent_joined e f (a ∷ rest) [] p q m = let none : None ≡ Some f.first = q.first in absurd (cc)
+extent_joined e f (a ∷ rest) (b ∷ bs) p q m =
+    record {
+      join = meets_join e f (a ∷ rest) (b ∷ bs) p q m;
+      sound = All-append (λ (b : Block). malformed_step (trace_of b) ≡ None) (a ∷ rest) (b ∷ bs) p.sound q.sound;
+      first = p.first;
+      last = ap (option_map (λ (b : Block). b.number)) (last_or-append None (a ∷ rest) (b ∷ bs)) ∙ q.last;
+      opening = p.opening;
+      left = ap (option_map left_by) (last_or-append None (a ∷ rest) (b ∷ bs)) ∙ q.left;
+      starts = rw (p.starts, q.starts) (sym (ap first_time (steps-append (a ∷ rest) (b ∷ bs)) ∙ first_time-append (joined_steps (a ∷ rest)) (joined_steps (b ∷ bs))));
+      ends = rw (p.ends, q.ends) (sym (ap last_time (steps-append (a ∷ rest) (b ∷ bs)) ∙ last_time-append (joined_steps (a ∷ rest)) (joined_steps (b ∷ bs))));
+    }
+
+-- the lines that all steps leave are those that the last block leaves
+pub left_by_steps : (e : Extent) (x : List Block) → IsExtent e x → levels_after e.opening (joined_steps x) ≡ e.left
+left_by_steps e [] p = let none : None ≡ Some e.first = p.first in absurd (cc)
+left_by_steps e (a ∷ rest) p =
+    let r = reads e a rest p in
+    ap (λ v. levels_after v (joined_steps (a ∷ rest))) (sym r.opening) ∙ levels_after-append a.opening a.steps (joined_steps rest)
+    ∙ left_by_all a.number (left_by a) (last_time a.steps) rest (chain_of a rest p.join) ∙ r.left
+
+-- a test that tells whether extents meet tells whether their blocks join
+pub test_torn : (e f : Extent) (test : Bool) (x y : List Block) → (IsTrue test ↔ Meets e f) → test ≡ false → IsExtent e x → IsExtent f y → ¬ BlocksJoin (x ++ y)
+test_torn e f test x y t off p q j = let on : test ≡ true = t.1 (join_meets e f x y p q j) in absurd (cc)
+
+pub test_meets : (e f : Extent) (test : Bool) → (IsTrue test ↔ Meets e f) → test ≡ true → Meets e f
+test_meets e f test t on = t.0 on
+
+-- a single block
+pub one_joins : (b : Block) → BlocksJoin (b ∷ [])
+one_joins b = chain_joins b [] tt
+
+pub one_sound : (b : Block) → malformed_step (trace_of b) ≡ None → All (λ (b : Block). malformed_step (trace_of b) ≡ None) (b ∷ [])
+one_sound b e zero d below = e
+one_sound b e (suc k) d below = absurd (omega arith)
+
+module _ {M P S : Type 0} (run : P → Levels → List Step → Outcome P) (outcome : S → P → Outcome P) (count : S → ℕ) where
+  pub spans_joined : (s t : Span M P S) (e : Extent) (r : S) → e ≡ joined_extent s.extent t.extent → Meets s.extent t.extent
+      → ((o : Levels) (x y : List Step) → StandsFor run (outcome s.summary) (count s.summary) o x → StandsFor run (outcome t.summary) (count t.summary) (levels_after o x) y → StandsFor run (outcome r) (count r) o (x ++ y))
+      → (x y : List Block) → SpanStandsFor run outcome count s x → SpanStandsFor run outcome count t y → SpanStandsFor {M = M} run outcome count (record { extent = e; summary = r }) (x ++ y)
+  spans_joined s t e r same m stands x y p q =
+      let opens : t.extent.opening ≡ levels_after s.extent.opening (joined_steps x) = m.opened ∙ sym (left_by_steps s.extent x p.extent) in
+      let second : StandsFor run (outcome t.summary) (count t.summary) (levels_after s.extent.opening (joined_steps x)) (joined_steps y) =
+      subst (λ v. StandsFor run (outcome t.summary) (count t.summary) v (joined_steps y)) opens q.summary in
+      let whole = stands s.extent.opening (joined_steps x) (joined_steps y) p.summary second in
+      record {
+        extent = subst (λ (k : Extent). IsExtent k (x ++ y)) (sym same) (extent_joined s.extent t.extent x y p.extent q.extent m);
+        summary = subst (λ (k : Extent). StandsFor run (outcome r) (count r) k.opening (joined_steps (x ++ y))) (sym same)
+            (subst (λ steps. StandsFor run (outcome r) (count r) s.extent.opening steps) (sym (steps-append x y)) whole);
+      }

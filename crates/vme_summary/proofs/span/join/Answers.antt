@@ -1,0 +1,31 @@
+-- The extents meet exactly where the blocks join.
+use Rattle.std.proofs.Common.{refl}
+use Rattle.vme_summary.proofs.Extents.{meets_join, spans_joined, test_meets, test_torn}
+use Rattle.vme_summary.proofs.span.join.Goals as goal
+
+pub returns-then-not-meets-clause-torn : goal.returns-then-not-meets-clause-torn
+returns-then-not-meets-clause-torn g c =
+    λ x y p q. (λ e. test_torn c.args.first.now.extent c.args.second.now.extent c.meets.result x y c.meets.ensures c.if-not-meets.true p.extent q.extent, λ e. refl)
+
+pub returns-in_default-clause-torn : goal.returns-in_default-clause-torn
+returns-in_default-clause-torn g c =
+    λ x y p q. (
+      λ e. absurd (cc),
+      λ torn.
+          absurd
+          (torn (meets_join c.args.first.now.extent c.args.second.now.extent x y p.extent q.extent (test_meets c.args.first.now.extent c.args.second.now.extent c.meets.result c.meets.ensures c.if-not-meets.false))),
+    )
+
+pub returns-clause-joined : goal.returns-clause-joined
+returns-clause-joined g c =
+    spans_joined g.M.Monitor.run g.M.Monitor.outcome g.M.Monitor.count c.args.first.now c.args.second.now c.joined.result c.in-Ok.summary c.joined.ensures
+    (test_meets c.args.first.now.extent c.args.second.now.extent c.meets.result c.meets.ensures c.if-not-meets.false) c.in-Ok.ensures
+
+pub returns-clause-torn : goal.returns-clause-torn
+returns-clause-torn g c =
+    λ x y p q. (
+      λ e. absurd (cc),
+      λ torn.
+          absurd
+          (torn (meets_join c.args.first.now.extent c.args.second.now.extent x y p.extent q.extent (test_meets c.args.first.now.extent c.args.second.now.extent c.meets.result c.meets.ensures c.if-not-meets.false))),
+    )

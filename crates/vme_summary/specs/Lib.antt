@@ -1,0 +1,4 @@
+pub mod Joins
+pub mod Stands
+pub mod Tells
+pub mod Joint

@@ -1,0 +1,83 @@
+//! The monitors that judge together, and what they say of a whole recording.
+
+ghost use Rattle.std.specs.Prelude.{◌≡◌, Bool};
+ghost use Rattle.vme_monitor.specs.Spanned.{has_started};
+ghost use Rattle.vme_monitor.specs.Whole.{FindsLeast};
+ghost use Rattle.vme_summary.specs.Joint.{chain_rules, held_rules, started_rules};
+ghost use Rattle.vme_summary.specs.Tells.{JudgesAll};
+
+use vme_chains::acknowledge::{Iack, acknowledge_over_captures};
+use vme_chains::grant::{Grant, grants_over_captures};
+use vme_dtb::handshake::{Dtb, handshake_over_captures};
+use vme_monitor::both::{Both, both_over_captures};
+use vme_monitor::known::{Known, known_over_captures};
+use vme_monitor::monitor::Monitor;
+use vme_stability::stability::{Stability, stability_over_captures};
+
+/// The monitors of the daisy chains.
+type Chains = Both<Grant, Iack>;
+
+/// Those, and the monitor of held lines.
+type Held = Both<Stability, Chains>;
+
+/// Those, and the monitor of the handshake and of cycles: all that judge from the start of a span on.
+type Started = Both<Dtb, Held>;
+
+/// The monitor of all rules in force.
+pub type All = Both<Known, Started>;
+
+/// Over a whole recording, the event of the two is the least break of the rules of the daisy chains.
+fn chains_over_captures()
+    ensures { FindsLeast ⟦<Chains as Monitor>⟧.run ⟦<Chains as Monitor>⟧.begin chain_rules }
+{
+    grants_over_captures();
+    acknowledge_over_captures();
+    both_over_captures::<Grant, Iack>();
+}
+
+/// And with the rules of held lines.
+fn held_over_captures()
+    ensures { FindsLeast ⟦<Held as Monitor>⟧.run ⟦<Held as Monitor>⟧.begin held_rules }
+{
+    stability_over_captures();
+    chains_over_captures();
+    both_over_captures::<Stability, Chains>();
+}
+
+/// And with those of the handshake and of cycles.
+fn started_over_captures()
+    ensures { FindsLeast ⟦<Started as Monitor>⟧.run ⟦<Started as Monitor>⟧.begin started_rules }
+{
+    handshake_over_captures();
+    held_over_captures();
+    both_over_captures::<Dtb, Held>();
+}
+
+/// A monitor of all rules in force, which knows whether anything was judged.
+pub trait Judging: Monitor {
+    /// Whether anything was judged, by the memory that a whole recording leaves.
+    ghost judged: { Self.Memory → Bool };
+
+    /// Whether anything was judged, by the memory that a whole recording leaves.
+    fn has_judged(memory: Self::Memory) -> bool
+        ensures { result ≡ judged memory };
+
+    /// Over a whole recording, the event is the least break of the rules in force, and the memory that is left tells whether
+    /// anything was judged.
+    fn over_captures()
+        ensures { JudgesAll Self.run Self.begin judged };
+}
+
+impl Judging for All {
+    ghost judged = { λ m. has_started m.0 };
+
+    fn has_judged(memory: <All as Monitor>::Memory) -> bool {
+        Known::started(memory.0)
+    }
+
+    fn over_captures() {
+        known_over_captures();
+        started_over_captures();
+        both_over_captures::<Known, Started>();
+    }
+}

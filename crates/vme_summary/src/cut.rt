@@ -1,0 +1,101 @@
+//! The verdict on a capture that is cut into blocks.
+
+ghost use Rattle.std.specs.Prelude.{◌≡◌, ◌<◌, ◌≤◌, ◌↔◌, ◌⊎◌, List, [], ◌∷◌, ◌++◌, All, length, IfOk, IfErr, Err, None};
+ghost use Rattle.vme_trace.specs.Block.{trace_of};
+ghost use Rattle.vme_trace.specs.Blocks.{block_count, joined_steps};
+ghost use Rattle.vme_trace.specs.Verdict.{rules_in_force, verdict_by};
+ghost use Rattle.vme_trace.specs.WellFormed.{malformed_step};
+ghost use Rattle.vme_trace.specs.declared.block.Block.{Block};
+ghost use Rattle.vme_summary.specs.Joins.{BlocksJoin};
+ghost use Rattle.vme_summary.specs.Stands.{SpanStandsFor};
+
+use crate::all::{All, Judging};
+use crate::judged::judge_block;
+use crate::span::{JoinFault, Span, join};
+use std::alloc::Global;
+use vme_monitor::monitor::Monitor;
+use vme_trace::{Block, Capture, CutFault, Verdict};
+
+/// The span of one block.
+fn span_of<M: Monitor>(alloc: Global, block: Block) -> Result<Span<M>, JoinFault>
+    requires accepted { malformed_step (trace_of block) ≡ None }
+    requires short { length block.steps ≤ 65536 }
+    ensures span { IfOk result (λ s. SpanStandsFor M.run M.outcome M.count s (block ∷ [])) }
+    ensures memory { IfErr result (λ fault. fault ≡ JoinFault.Memory) }
+{
+    match judge_block::<M>(alloc, block) {
+        Ok(judged) => Ok(judged.into_span()),
+        Err(_) => Err(JoinFault::Memory),
+    }
+}
+
+/// Takes the last blocks off, so many, and joins them: first those of each half, then the two halves. So what a block says is
+/// joined again no more often than the count can be halved. Where blocks don't join, Torn or Memory comes, whichever is met first.
+fn join_last<M: Monitor>(
+    alloc: Global,
+    blocks: &mut Vec<Block>,
+    count: usize,
+) -> Result<Span<M>, JoinFault>
+    requires some { 0 < count }
+    requires there { count ≤ length blocks.old.items }
+    requires accepted { All (λ b. malformed_step (trace_of b) ≡ None) blocks.old.items }
+    requires short { All (λ b. length b.steps ≤ 65536) blocks.old.items }
+    requires few { length (joined_steps blocks.old.items) ≤ 268435456 }
+    ensures joined { (front back : List Block) → blocks.old.items ≡ front ++ back → length back ≡ count → IfOk result (λ s. (blocks.new.items ≡ front) × SpanStandsFor M.run M.outcome M.count s back) }
+    ensures torn { (front back : List Block) → blocks.old.items ≡ front ++ back → length back ≡ count → result ≡ Err JoinFault.Torn → ¬ BlocksJoin back }
+{
+    if count == 1 {
+        let Some(block) = blocks.pop() else {
+            unreachable!()
+        };
+        return span_of(alloc, block);
+    }
+    let half = count / 2;
+    let second = join_last(alloc, blocks, half)?;
+    let first = join_last(alloc, blocks, count - half)?;
+    join(alloc, &first, &second)
+}
+
+/// Judges blocks that follow one another, each by itself, and joins them. Where they don't join, Torn or Memory comes, whichever
+/// is met first.
+pub fn judge_blocks<M: Monitor>(alloc: Global, blocks: Vec<Block>) -> Result<Span<M>, JoinFault>
+    requires some { 0 < length blocks.items }
+    requires accepted { All (λ b. malformed_step (trace_of b) ≡ None) blocks.items }
+    requires short { All (λ b. length b.steps ≤ 65536) blocks.items }
+    requires few { length (joined_steps blocks.items) ≤ 268435456 }
+    ensures joined { IfOk result (λ s. SpanStandsFor M.run M.outcome M.count s blocks.items) }
+    ensures torn { result ≡ Err JoinFault.Torn → ¬ BlocksJoin blocks.items }
+{
+    let mut blocks = blocks;
+    let count = blocks.len();
+    join_last(alloc, &mut blocks, count)
+}
+
+/// The verdict on a capture by a monitor of all rules in force.
+fn verdict_in_blocks<M: Judging>(
+    alloc: Global,
+    capture: &Capture,
+    size: u32,
+) -> Result<Verdict, CutFault>
+    ensures bad_size { (result ≡ Err CutFault.BadSize) ↔ ((size ≡ 0) ⊎ (65536 < size)) }
+    ensures too_many { (result ≡ Err CutFault.TooManyBlocks) ↔ ((0 < size) × (size ≤ 65536) × (4096 < block_count size capture.now)) }
+    ensures verdict { IfOk result (λ verdict. verdict ≡ verdict_by rules_in_force capture.now) }
+{
+    prove!(capture.steps().len() <= 268435456);
+    let blocks = capture.cut(alloc, size)?;
+    match judge_blocks::<M>(alloc, blocks) {
+        Ok(span) => Ok(span.verdict()),
+        Err(JoinFault::Memory) => Err(CutFault::Memory),
+        Err(JoinFault::Torn) => unreachable!(),
+    }
+}
+
+/// The verdict on a capture by the rules in force: it is cut into blocks of `size` steps, 1 to 65,536, at most 4,096 of them, each
+/// is judged by itself, and they are joined. Memory stands for want of memory in any of this.
+pub fn verdict_by_blocks(alloc: Global, capture: &Capture, size: u32) -> Result<Verdict, CutFault>
+    ensures bad_size { (result ≡ Err CutFault.BadSize) ↔ ((size ≡ 0) ⊎ (65536 < size)) }
+    ensures too_many { (result ≡ Err CutFault.TooManyBlocks) ↔ ((0 < size) × (size ≤ 65536) × (4096 < block_count size capture.now)) }
+    ensures verdict { IfOk result (λ verdict. verdict ≡ verdict_by rules_in_force capture.now) }
+{
+    verdict_in_blocks::<All>(alloc, capture, size)
+}

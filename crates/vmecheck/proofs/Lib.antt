@@ -1,0 +1,6 @@
+pub mod AnswerLemmas
+pub mod CheckLemmas
+pub mod InputLemmas
+pub mod MessageLemmas
+pub mod OrderLemmas
+pub mod OutputLemmas

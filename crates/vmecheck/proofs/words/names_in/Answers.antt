@@ -1,0 +1,18 @@
+use Rattle.std.proofs.Common.{◌≡◌, ℕ, List, ap, refl, sym, ◌∙◌}
+use Rattle.std.specs.Prelude.{Option, Some, codes, option_map}
+use Rattle.std.specs.Borrow.{Bor}
+use Rattle.clap.specs.Words.{first_of, found_of, rows_of}
+use Rattle.clap.proofs.WalkLemmas.{first_value-rows}
+use Rattle.vmecheck.proofs.words.names_in.Goals as goal
+
+abbrev text_of : Option (Bor (List ℕ)) → Option (List ℕ)
+text_of o = option_map (λ (s : Bor (List ℕ)). s.now) o
+
+pub returns : goal.returns
+returns c =
+    let found = found_of c.args.found.now in
+    let binding : first_of (codes "BINDING") (rows_of found) ≡ Some c.in-Some-Some.binding.now =
+    sym (first_value-rows found (codes "BINDING")) ∙ sym c.get_str.ensures ∙ ap text_of c.in-Some-Some.is-0 in
+    let dump : first_of (codes "DUMP") (rows_of found) ≡ Some c.in-Some-Some.dump.now =
+    sym (first_value-rows found (codes "DUMP")) ∙ sym c.get_str-2.ensures ∙ ap text_of c.in-Some-Some.is-1 in
+    rw (c.in_ok-push-2.ensures.items, c.in_ok-push.ensures.items, c.in_ok-names.ensures.items, c.in_ok-from_str.ensures.ok, c.in_ok-from_str-2.ensures.ok, binding, dump) refl

@@ -1,0 +1,10 @@
+pub mod Answers
+pub mod Commands
+pub mod Ends
+pub mod InFaults
+pub mod Inputs
+pub mod OrderFaults
+pub mod Orders
+pub mod Outputs
+pub mod Refusals
+pub mod Texts

@@ -1,0 +1,31 @@
+-- The order that the matches of the words are.
+use Rattle.std.specs.Prelude.{◌≡◌, ℕ, List, [], ◌∷◌, map, codes, Option, Some, option_map, string_bytes}
+use Rattle.std.specs.Str.Parse.{digits_value, without_leading_plus}
+use Rattle.clap.specs.Words.{Row, Text, first_of, one_of}
+use Rattle.vmecheck.specs.declared.order.Order.{Order}
+use Rattle.vmecheck.specs.declared.order.Task.TheVariants.{Check}
+
+-- the number that a text says, which may begin with a plus sign
+abbrev pub number_of : Text → ℕ
+number_of text = digits_value 10 (without_leading_plus text)
+
+-- the number of an option
+abbrev pub number_in : Text → List Row → Option ℕ
+number_in name rows = option_map number_of (one_of name rows)
+
+-- the words that stand for the files
+abbrev pub names_in : List Row → List (Option Text)
+names_in rows = first_of (codes "BINDING") rows ∷ first_of (codes "DUMP") rows ∷ []
+
+-- the matches of the subcommand that checks are this order
+pub record SaysOrder (order : Order) (rows : List Row) : Type 0 where
+  pub task : order.command ≡ Check
+  pub block : number_in (codes "block") rows ≡ Some order.block
+  pub workers : number_in (codes "workers") rows ≡ Some order.workers
+  pub names : map (λ name. Some (string_bytes name)) order.names.items ≡ names_in rows
+
+-- the subcommand that was met, with its matches, is this order
+pub record IsOrder (order : Order) (met : Option (Text × List Row)) : Type 0 where
+  pub rows : List Row
+  pub command : met ≡ Some (codes "check", rows)
+  pub says : SaysOrder order rows

@@ -1,0 +1,69 @@
+//! The command line of the program.
+
+ghost use Rattle.std.specs.Prelude.{◌≡◌, IfOk, codes, false};
+ghost use Rattle.clap.specs.Words.{app_of, rule_of};
+ghost use Rattle.clap.specs.declared.builder.command.Command.TheViews.{out-Command};
+ghost use Rattle.vmecheck.specs.Commands.{check_app, vmecheck_app, number_rule, file_rule};
+
+use clap::{Arg, Command, value_parser};
+use std::alloc::{AllocError, Global};
+
+/// The program, with a subcommand for each task.
+pub fn vmecheck_command<'a>(alloc: Global) -> Result<Command<'a>, AllocError>
+    ensures { IfOk result (λ command. app_of command ≡ vmecheck_app) }
+{
+    let check = check_command(alloc)?;
+    let command = Command::new(alloc, "vmecheck")
+        .subcommand(check)?
+        .subcommand_required(true);
+    Ok(command)
+}
+
+fn check_command<'a>(alloc: Global) -> Result<Command<'a>, AllocError>
+    ensures app { IfOk result (λ command. app_of command ≡ check_app) }
+    ensures local { IfOk result (λ command. (out-Command command).has_globals ≡ false) }
+{
+    let command = Command::new(alloc, "check")
+        .arg(block_option(alloc))?
+        .arg(workers_option(alloc))?
+        .arg(file(
+            alloc,
+            "BINDING",
+            "The file that binds the lines of the backplane",
+        ))?
+        .arg(file(
+            alloc,
+            "DUMP",
+            "The file of the recording, a value change dump",
+        ))?;
+    Ok(command)
+}
+
+fn block_option<'a>(alloc: Global) -> Arg<'a>
+    ensures rule { rule_of result ≡ number_rule (codes "block") 65536 (codes "16384") }
+    ensures local { result.global ≡ false }
+{
+    Arg::new(alloc, "block")
+        .long("block")
+        .value_parser(value_parser!(u32).range(1..=65536))
+        .default_value("16384")
+        .help("How many steps are judged at once, 1 to 65536")
+}
+
+fn workers_option<'a>(alloc: Global) -> Arg<'a>
+    ensures rule { rule_of result ≡ number_rule (codes "workers") 64 (codes "4") }
+    ensures local { result.global ≡ false }
+{
+    Arg::new(alloc, "workers")
+        .long("workers")
+        .value_parser(value_parser!(u32).range(1..=64))
+        .default_value("4")
+        .help("How many workers judge, 1 to 64")
+}
+
+fn file<'a>(alloc: Global, name: &'a str, help: &'a str) -> Arg<'a>
+    ensures rule { rule_of result ≡ file_rule name.entry.now }
+    ensures local { result.global ≡ false }
+{
+    Arg::new(alloc, name).required(true).help(help)
+}

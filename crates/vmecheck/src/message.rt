@@ -1,0 +1,99 @@
+//! A line of text that is made without taking memory.
+
+ghost use Rattle.std.specs.Prelude.{◌≡◌, ◌+◌, ◌<◌, ◌≤◌, ◌∷◌, ◌++◌, [], length, decimal};
+
+use std::marker::Model;
+
+/// A text of at most 128 bytes.
+#[derive(Debug, Drop)]
+pub struct Message {
+    bytes: [u8; 128],
+    len: usize,
+}
+
+impl Model for Message {
+    ghost use Rattle.std.specs.Prelude.{ℕ, ◌≤◌, List, take};
+
+    ghost Value = { List ℕ };
+
+    ghost view = { λ a. take a.len a.bytes };
+
+    ghost invariant = { λ a. a.len ≤ 128 };
+}
+
+impl Message {
+    /// The empty text.
+    pub fn new() -> Message
+        ensures { result ≡ [] }
+    {
+        Message {
+            bytes: [0; 128],
+            len: 0,
+        }
+    }
+
+    /// The bytes of the text.
+    pub fn as_bytes(&self) -> &[u8]
+        ensures { result.now ≡ self.now }
+    {
+        &self.bytes[..self.len]
+    }
+
+    fn push(&mut self, byte: u8)
+        requires { length self.old < 128 }
+        ensures { self.new ≡ self.old ++ byte ∷ [] }
+    {
+        self.bytes[self.len] = byte;
+        self.len += 1;
+    }
+
+    /// The text with a byte more.
+    fn with_byte(mut self, byte: u8) -> Message
+        requires { length self < 128 }
+        ensures { result ≡ self ++ byte ∷ [] }
+    {
+        self.push(byte);
+        self
+    }
+
+    /// The text with some bytes more.
+    pub fn with(mut self, text: &[u8]) -> Message
+        requires { length self + length text.now ≤ 128 }
+        ensures text { result ≡ self ++ text.now }
+        ensures long { length result ≡ length self + length text.now }
+    {
+        for byte in text {
+            self.push(*byte);
+        }
+        self
+    }
+
+    fn with_digits(self, number: u64) -> Message
+        requires { length self + length (decimal number) ≤ 128 }
+        ensures { result ≡ self ++ decimal number }
+    {
+        if number < 10 {
+            self.with_byte(b'0' + number as u8)
+        } else {
+            self.with_digits(number / 10)
+                .with_byte(b'0' + (number % 10) as u8)
+        }
+    }
+
+    /// The text with a number more, in decimal.
+    pub fn with_decimal(self, number: u64) -> Message
+        requires { length self + 20 ≤ 128 }
+        ensures text { result ≡ self ++ decimal number }
+        ensures short { length result ≤ length self + 20 }
+    {
+        self.with_digits(number)
+    }
+
+    /// The text with a line feed behind it.
+    pub fn with_line_feed(self) -> Message
+        requires { length self < 128 }
+        ensures { result ≡ self ++ 10 ∷ [] }
+    {
+        self.with_byte(b'\n')
+    }
+}

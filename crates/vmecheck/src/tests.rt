@@ -1,0 +1,375 @@
+ghost use Rattle.std.specs.Prelude.{◌≤◌, None};
+
+use crate::check::check;
+use crate::io::Bytes;
+use crate::order::{Order, Task};
+use crate::order_fault::OrderFault;
+use crate::words::order;
+use crate::{BLOCK, BUILT_IN};
+use std::alloc::{AllocError, Global};
+use std::process::Abort;
+use std::test::Fail;
+use vme_trace::{Failed, Sink, Source};
+
+const HEAD: &str = "$timescale 1 ns $end\n$scope module bus $end\n\
+$var wire 1 p AS $end\n$var wire 1 q DS0 $end\n$var wire 1 r DS1 $end\n\
+$var wire 1 s DTACK $end\n$var wire 1 t BERR $end\n$var wire 1 u IACK $end\n\
+$upscope $end\n$enddefinitions $end\n";
+
+const BODY: &str = "#0 1p 1q 1r 1s 1t 1u\n#10 0p\n#20 0q\n#30 0s\n#40 1p 1q\n#50 1s\n";
+
+/// A sink that holds what it took, up to a count of bytes at which writes fail.
+#[derive(Drop)]
+struct Page {
+    bytes: Vec<u8>,
+    room: usize,
+    failures: u64,
+}
+
+impl Page {
+    fn new(alloc: Global, room: usize) -> Page {
+        Page {
+            bytes: Vec::new(alloc),
+            room,
+            failures: 0,
+        }
+    }
+}
+
+impl Sink for Page {
+    ghost contents = { λ _. None };
+
+    ghost failures = { λ page. page.failures };
+
+    fn write(&mut self, bytes: &[u8]) -> Result<usize, Failed> {
+        if self.bytes.len() < self.room && self.bytes.extend_from_slice(bytes).is_ok() {
+            return Ok(bytes.len());
+        }
+        match self.failures.checked_add(1) {
+            Some(failures) => {
+                self.failures = failures;
+                Err(Failed)
+            }
+            None => Ok(bytes.len()),
+        }
+    }
+}
+
+/// A source of which each read fails.
+#[derive(Drop)]
+struct Broken {
+    failures: u64,
+}
+
+impl Source for Broken {
+    ghost remaining = { λ _. None };
+
+    ghost failures = { λ broken. broken.failures };
+
+    fn read(&mut self, buffer: &mut [u8]) -> Result<usize, Failed> {
+        match self.failures.checked_add(1) {
+            Some(failures) => {
+                self.failures = failures;
+                Err(Failed)
+            }
+            None => Ok(0),
+        }
+    }
+}
+
+/// What the check of a dump by a binding writes, and its status.
+fn check_text(alloc: Global, binding: &[u8], dump: &[u8], block: u32) -> (Page, Page, u8)
+    requires { (1 ≤ block) × (block ≤ 65536) }
+{
+    let mut out = Page::new(alloc, 1000);
+    let mut err = Page::new(alloc, 1000);
+    let status = check(
+        alloc,
+        &mut Bytes::new(binding),
+        &mut Bytes::new(dump),
+        block,
+        1,
+        &mut out,
+        &mut err,
+    );
+    (out, err, status)
+}
+
+fn expect_verdict<R: Abort + AllocGlobal>(rt: &R, dump: &str, text: &str, status: u8) {
+    expect_in_blocks(rt, dump, 1, text, status);
+    expect_in_blocks(rt, dump, 3, text, status);
+    expect_in_blocks(rt, dump, BLOCK, text, status);
+}
+
+fn expect_in_blocks<R: Abort + AllocGlobal>(rt: &R, dump: &str, block: u32, text: &str, status: u8)
+    requires { (1 ≤ block) × (block ≤ 65536) }
+{
+    let (out, err, ended) = check_text(rt.alloc(), BUILT_IN, dump.as_bytes(), block);
+    assert!(rt; out.bytes.as_slice() == text.as_bytes(), "{dump}");
+    assert!(rt; err.bytes.is_empty());
+    assert_eq!(rt; ended, status);
+}
+
+fn expect_refusal<R: Abort + AllocGlobal>(rt: &R, binding: &str, dump: &str, text: &str) {
+    let (out, err, ended) = check_text(rt.alloc(), binding.as_bytes(), dump.as_bytes(), BLOCK);
+    assert!(rt; out.bytes.is_empty());
+    assert!(rt; err.bytes.as_slice() == text.as_bytes(), "{text}");
+    assert_eq!(rt; ended, 3);
+}
+
+fn dump_of(alloc: Global, head: &str, body: &str) -> Result<String, AllocError> {
+    let mut dump = String::from_str(alloc, head)?;
+    dump.push_str(body)?;
+    Ok(dump)
+}
+
+#[test]
+fn verdicts(rt: HostRuntime) -> Result<(), Fail> {
+    for (body, text, status) in [
+        (BODY, "conforming\n", 0),
+        ("", "never idle\n", 2),
+        (
+            "#0 1p 1q 1r 1s 1t 1u\n#10 0p\n#20 0s\n#40 1p 1q\n#50 1s\n",
+            "broken H4 at instant 3 time 20 line DTACK\n",
+            1,
+        ),
+        (
+            "#0 1p 1q 1r 1s 1t 1u\n#10 xp\n#20 0q\n#30 0s\n#40 1p 1q\n#50 1s\n",
+            "unreadable U1 at instant 2 time 10 line AS\n",
+            2,
+        ),
+        (
+            "#0 1p 1q 1r 1s 1t 1u\n#10 0p\n#20 0q\n#25 $dumpoff xp xq xr xs xt xu $end\n#30 0s\n#40 1p 1q\n#50 1s\n",
+            "unreadable U1 at instant 4 time 25 line AS\n",
+            2,
+        ),
+    ] {
+        let dump = dump_of(rt.alloc(), HEAD, body)?;
+        expect_verdict(&rt, dump.as_str(), text, status);
+    }
+    Ok(())
+}
+
+#[test]
+fn aliases(rt: HostRuntime) -> Result<(), Fail> {
+    let head = "$scope module bus $end $var wire 1 p AS $end $var wire 1 p AS2 $end\n\
+$var wire 1 q DS0 $end $var wire 1 r DS1 $end $var wire 1 s DTACK $end\n\
+$var wire 1 t BERR $end $var wire 1 u IACK $end $enddefinitions $end\n";
+    let dump = dump_of(rt.alloc(), head, BODY)?;
+    expect_verdict(&rt, dump.as_str(), "conforming\n", 0);
+    Ok(())
+}
+
+#[test]
+fn dump_faults(rt: HostRuntime) -> Result<(), Fail> {
+    let head = "$var wire 1 p AS $end\n$enddefinitions $end\n";
+    for (head, body, text) in [
+        (head, "1q", "vmecheck: dump line 3: UndeclaredCode\n"),
+        (head, "b10 p", "vmecheck: dump line 3: TooWide\n"),
+        (head, "#5\n#4", "vmecheck: dump line 4: TimeBackwards\n"),
+        (
+            head,
+            "#18446744073709551616",
+            "vmecheck: dump line 3: NumberTooLarge\n",
+        ),
+        (head, "2p", "vmecheck: dump line 3: BadToken\n"),
+        (
+            head,
+            "$dumpvars 1p",
+            "vmecheck: dump line 3: UnfinishedSection\n",
+        ),
+        (
+            "",
+            "$upscope $end",
+            "vmecheck: dump line 1: ScopeUnderflow\n",
+        ),
+        ("", "$var wire 1 p $end", "vmecheck: dump line 1: BadVar\n"),
+        (
+            "",
+            "$var wire 1 p AS $end\n",
+            "vmecheck: dump line 2: NoEndDefinitions\n",
+        ),
+        (
+            "$var wire 1 p AS $end\n",
+            "$var wire 2 p B $end",
+            "vmecheck: dump line 2: SizeConflict\n",
+        ),
+        ("", "", "vmecheck: dump line 1: NoEndDefinitions\n"),
+    ] {
+        let dump = dump_of(rt.alloc(), head, body)?;
+        let (out, err, ended) = check_text(rt.alloc(), BUILT_IN, dump.as_bytes(), BLOCK);
+        assert!(rt; out.bytes.is_empty());
+        assert!(rt; err.bytes.as_slice() == text.as_bytes(), "{text}");
+        assert_eq!(rt; ended, 3);
+    }
+    Ok(())
+}
+
+#[test]
+fn binding_faults(rt: HostRuntime) {
+    for (binding, text) in [
+        ("AS = 0", "vmecheck: binding line 1: SlotsFirst\n"),
+        ("slots 22", "vmecheck: binding line 1: SlotsFirst\n"),
+        (
+            "slots 1\nBG0.2 = 1",
+            "vmecheck: binding line 2: UnknownName\n",
+        ),
+        ("slots 1\nAS 0", "vmecheck: binding line 2: BadLine\n"),
+        (
+            "slots 1\nAM = 1\nAM3 = 0",
+            "vmecheck: binding line 3: NamedTwice\n",
+        ),
+        ("slots 1\n", "vmecheck: binding line 2: Unbound AS\n"),
+    ] {
+        expect_refusal(&rt, binding, "", text);
+    }
+}
+
+#[test]
+fn paths(rt: HostRuntime) -> Result<(), Fail> {
+    let built_in = str::from_utf8(BUILT_IN).ok().ok_or("no text")?;
+    let v = dump_of(rt.alloc(), HEAD, BODY)?;
+    let no_as = HEAD.replace(rt.alloc(), "$var wire 1 p AS $end\n", "")?;
+    expect_refusal(
+        &rt,
+        built_in,
+        no_as.as_str(),
+        "vmecheck: binding line 2: NoSuchPath\n",
+    );
+    let two = HEAD.replace(rt.alloc(), "$upscope", "$var wire 1 v AS $end $upscope")?;
+    expect_refusal(
+        &rt,
+        built_in,
+        two.as_str(),
+        "vmecheck: binding line 2: AmbiguousPath\n",
+    );
+    let indexed = built_in.replace(rt.alloc(), "= bus.AS\n", "= bus.AS[3]\n")?;
+    expect_refusal(
+        &rt,
+        indexed.as_str(),
+        v.as_str(),
+        "vmecheck: binding line 2: NoSuchPath\n",
+    );
+    let narrow = built_in.replace(rt.alloc(), "BR = 1\n", "BR = bus.AS\n")?;
+    expect_refusal(
+        &rt,
+        narrow.as_str(),
+        v.as_str(),
+        "vmecheck: binding line 18: WrongWidth\n",
+    );
+    Ok(())
+}
+
+#[test]
+fn blocks(rt: HostRuntime) -> Result<(), Fail> {
+    let mut dump = dump_of(rt.alloc(), HEAD, "")?;
+    for time in 0..4097u32 {
+        let level = if time % 2 == 0 { "1" } else { "0" };
+        dump.push_str(format!(in rt.alloc(); "#{time} {level}p\n")?.as_str())?;
+    }
+    let (_, err, ended) = check_text(rt.alloc(), BUILT_IN, dump.as_bytes(), 1);
+    assert!(rt; err.bytes.as_slice() == b"vmecheck: too many blocks\n".as_slice());
+    assert_eq!(rt; ended, 3);
+    expect_in_blocks(&rt, dump.as_str(), 2, "never idle\n", 2);
+    Ok(())
+}
+
+#[test]
+fn failing_reader(rt: HostRuntime) {
+    let mut out = Page::new(rt.alloc(), 1000);
+    let mut err = Page::new(rt.alloc(), 1000);
+    let ended = check(
+        rt.alloc(),
+        &mut Bytes::new(BUILT_IN),
+        &mut Broken { failures: 0 },
+        BLOCK,
+        1,
+        &mut out,
+        &mut err,
+    );
+    assert!(rt; out.bytes.is_empty());
+    assert!(rt; err.bytes.as_slice() == b"vmecheck: cannot read dump\n".as_slice());
+    assert_eq!(rt; ended, 3);
+}
+
+#[test]
+fn failing_writer(rt: HostRuntime) -> Result<(), Fail> {
+    let dump = dump_of(rt.alloc(), HEAD, BODY)?;
+    let mut out = Page::new(rt.alloc(), 0);
+    let mut err = Page::new(rt.alloc(), 1000);
+    let ended = check(
+        rt.alloc(),
+        &mut Bytes::new(BUILT_IN),
+        &mut Bytes::new(dump.as_bytes()),
+        BLOCK,
+        1,
+        &mut out,
+        &mut err,
+    );
+    assert!(rt; err.bytes.as_slice() == b"vmecheck: cannot write\n".as_slice());
+    assert_eq!(rt; ended, 5);
+    Ok(())
+}
+
+/// The words of a line, the program's name first.
+fn words_of(alloc: Global, line: &str) -> Result<Vec<String>, AllocError> {
+    let mut words = Vec::new(alloc);
+    for word in line.split(' ') {
+        words.push(String::from_str(alloc, word)?)?;
+    }
+    Ok(words)
+}
+
+#[test]
+fn orders(rt: HostRuntime) -> Result<(), Fail> {
+    for (line, block, workers) in [
+        ("vmecheck check --block 5 --workers 3 B V", 5, 3),
+        ("vmecheck check B V", 16384, 4),
+        ("vmecheck check B --block=65536 V --workers=64", 65536, 64),
+    ] {
+        let words = words_of(rt.alloc(), line)?;
+        match order(rt.alloc(), words.as_slice()) {
+            Ok(order) => {
+                assert_eq!(rt; order.command, Task::Check);
+                assert_eq!(rt; (order.block, order.workers), (block, workers), "{line}");
+                assert_eq!(rt; order.names.len(), 2);
+                assert!(rt; order.names[0].as_str() == "B" && order.names[1].as_str() == "V");
+            }
+            Err(_) => assert!(rt; false, "{line}"),
+        }
+    }
+    Ok(())
+}
+
+/// Whether a text is for standard error, if it is one for the user.
+fn goes_to_errors(answer: Result<Order, OrderFault>) -> Option<bool> {
+    match answer {
+        Err(OrderFault::Usage(error)) => Some(error.use_stderr()),
+        Err(OrderFault::Memory) | Ok(_) => None,
+    }
+}
+
+#[test]
+fn usage(rt: HostRuntime) -> Result<(), Fail> {
+    for (line, is_help) in [
+        ("vmecheck check --block 0 B V", false),
+        ("vmecheck check --block 65537 B V", false),
+        ("vmecheck check --workers 0 B V", false),
+        ("vmecheck check --workers 65 B V", false),
+        ("vmecheck check B", false),
+        ("vmecheck check", false),
+        ("vmecheck check B V W", false),
+        ("vmecheck list B V", false),
+        ("vmecheck confirm B V L", false),
+        ("vmecheck B V", false),
+        ("vmecheck check --blocks 5 B V", false),
+        ("vmecheck help", true),
+        ("vmecheck --help", true),
+        ("vmecheck check -h", true),
+    ] {
+        let words = words_of(rt.alloc(), line)?;
+        let answer = order(rt.alloc(), words.as_slice());
+        assert_eq!(rt; goes_to_errors(answer), Some(!is_help), "{line}");
+    }
+    Ok(())
+}

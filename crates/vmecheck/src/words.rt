@@ -1,0 +1,99 @@
+//! How the words of the command line are read.
+
+ghost use Rattle.std.specs.Prelude.{◌≡◌, ◌≤◌, IfErr, IfOk, IfSome, Some, map, string_bytes};
+ghost use Rattle.clap.specs.Words.{found_of, kind_of, rows_of, subcommand_of, subcommand_rows_of};
+ghost use Rattle.vmecheck.specs.Commands.{vmecheck_app};
+ghost use Rattle.vmecheck.specs.OrderFaults.{IsOfWords};
+ghost use Rattle.vmecheck.specs.Orders.{IsOrder, SaysOrder, names_in, number_in};
+
+use crate::command::vmecheck_command;
+use crate::order::{Order, Task};
+use crate::order_fault::OrderFault;
+use clap::ArgMatches;
+use clap::error::ErrorKind;
+use std::alloc::{AllocError, Global};
+
+/// Reads the words of the command line, the program's name first.
+///
+/// An order is what clap's meaning of the program's command gives the words. Wrong words, and a call for help, are
+/// `Usage`, and want of memory is `Memory`.
+pub fn order(alloc: Global, words: &[String]) -> Result<Order, OrderFault>
+    ensures ok { IfOk result (λ order. IsOrder order (subcommand_of vmecheck_app (map string_bytes words.now))) }
+    ensures err { IfErr result IsOfWords }
+{
+    let matches = vmecheck_command(alloc)?.try_get_matches_from(words)?;
+    match order_in(alloc, &matches)? {
+        Some(order) => Ok(order),
+        None => Err(usage_fault(alloc, "no task")),
+    }
+}
+
+/// The order that the matches are, if they are one.
+fn order_in(alloc: Global, matches: &ArgMatches<'_>) -> Result<Option<Order>, AllocError>
+    ensures { IfOk result (λ o. IfSome o (λ order. IsOrder order (subcommand_rows_of matches.now))) }
+{
+    match matches.subcommand() {
+        Some((name, found)) if name == "check" => check_order(alloc, found),
+        _ => Ok(None),
+    }
+}
+
+/// The order that the matches of `check` are, if they are one.
+fn check_order(alloc: Global, found: &ArgMatches<'_>) -> Result<Option<Order>, AllocError>
+    ensures { IfOk result (λ o. IfSome o (λ order. SaysOrder order (rows_of (found_of found.now)))) }
+{
+    let (Some(block), Some(workers)) = (number(found, "block", 65536), number(found, "workers", 64))
+    else {
+        return Ok(None);
+    };
+    match names_in(alloc, found)? {
+        Some(names) => Ok(Some(Order {
+            command: Task::Check,
+            block,
+            workers,
+            names,
+        })),
+        None => Ok(None),
+    }
+}
+
+/// The files of `check`, if both have names.
+fn names_in(alloc: Global, found: &ArgMatches<'_>) -> Result<Option<Vec<String>>, AllocError>
+    ensures { IfOk result (λ o. IfSome o (λ names. map (λ name. Some (string_bytes name)) names.items ≡ names_in (rows_of (found_of found.now)))) }
+{
+    let (Some(binding), Some(dump)) = (found.get_str("BINDING"), found.get_str("DUMP")) else {
+        return Ok(None);
+    };
+    let mut names = Vec::with_capacity(alloc, 2)?;
+    names.push(String::from_str(alloc, binding)?)?;
+    names.push(String::from_str(alloc, dump)?)?;
+    Ok(Some(names))
+}
+
+/// The number of an option, if it has one from 1 to the greatest.
+fn number(found: &ArgMatches<'_>, name: &str, greatest: u32) -> Option<u32>
+    ensures value { IfSome result (λ n. number_in name.now (rows_of (found_of found.now)) ≡ Some n) }
+    ensures range { IfSome result (λ n. (1 ≤ n) × (n ≤ greatest)) }
+{
+    match found.get_one::<u32>(name) {
+        Some(number) if 1 <= number && number <= greatest => Some(number),
+        _ => None,
+    }
+}
+
+/// A fault of the words that the program finds itself.
+pub fn usage_fault(alloc: Global, message: &str) -> OrderFault
+    ensures { IsOfWords result }
+{
+    match usage_error(alloc, message) {
+        Ok(error) => OrderFault::Usage(error),
+        Err(_) => OrderFault::Memory,
+    }
+}
+
+fn usage_error(alloc: Global, message: &str) -> Result<clap::Error, AllocError>
+    ensures { IfOk result (λ error. kind_of error ≡ ErrorKind.InvalidSubcommand) }
+{
+    let mut command = vmecheck_command(alloc)?;
+    command.error(ErrorKind::InvalidSubcommand, message)
+}
