@@ -1,0 +1,47 @@
+use Rattle.std.proofs.Common.{◌≡◌, ◌+◌, ◌++◌, drop, sym, ap, ◌∙◌, subst, arith}
+use Rattle.std.specs.Prelude.{flat_map}
+use Rattle.vme_listing.specs.RowText.{line_of, text_of}
+use Rattle.vme_listing.specs.Written.{AppendsFront}
+use Rattle.vme_listing.proofs.Fronts.{on_ok, on_err, on_any_err, front_of, line_more, whole_of, lines_more, lines_none}
+use Rattle.vme_listing.proofs.write.write_listing.Goals as goal
+
+pub loop-row-preserved : goal.loop-row-preserved
+loop-row-preserved g c =
+    let (done, split, appended, same) = c.loop-row.invariant in
+    let rows = c.rows-rows.result.now in
+    let i = c.loop-row.row-index in
+    let rest = flat_map line_of (drop (i + 1) rows) in
+    let more : flat_map line_of (drop i rows) ≡ line_of c.row-item.result ++ rest = lines_more line_of rows i c.row-item.result c.loop-row-test.true c.row-item.is in
+    let (gone, left, went) =
+    line_more (g.W.Sink.contents c.args.sink.now) (g.W.Sink.contents c.loop-row.sink) (g.W.Sink.contents c.with_room.new.sink) (text_of rows) done c.loop-row.piece c.in_ok-piece.piece (line_of c.row-item.result) rest
+    (split ∙ ap (λ l. done ++ (c.loop-row.piece ++ l)) more) appended c.in_ok-piece.ensures.moves in
+    (gone, left ∙ ap (λ l. gone ++ (l ++ rest)) (sym c.push_line.ensures), went, c.in_ok-piece.ensures.failures ∙ same)
+
+pub returns-in_err-piece-clause-front : goal.returns-in_err-piece-clause-front
+returns-in_err-piece-clause-front g c =
+    let (done, split, appended, same) = c.loop-row.invariant in
+    let rows = c.rows-rows.result.now in
+    on_any_err c.from_residual.result
+    (front_of (g.W.Sink.contents c.args.sink.now) (g.W.Sink.contents c.loop-row.sink) (g.W.Sink.contents c.with_room.new.sink) (text_of c.args.listing.now) done c.loop-row.piece (flat_map line_of (drop c.loop-row.row-index rows))
+    (ap text_of (sym c.rows-rows.ensures) ∙ split) appended c.in_err-piece.ensures.front)
+
+pub returns-clause-whole : goal.returns-clause-whole
+returns-clause-whole g c =
+    let (done, split, appended, same) = c.loop-row.invariant in
+    let rows = c.rows-rows.result.now in
+    on_ok c.put.result
+    (whole_of (g.W.Sink.contents c.args.sink.now) (g.W.Sink.contents c.loop-row.sink) (g.W.Sink.contents c.put.new.sink) (text_of c.args.listing.now) done c.loop-row.piece c.as_bytes.result.now (flat_map line_of (drop c.loop-row.row-index rows))
+    (ap text_of (sym c.rows-rows.ensures) ∙ split) (lines_none line_of rows c.loop-row.row-index (omega arith)) c.as_bytes.ensures appended)
+    c.put.ensures.whole
+
+pub returns-clause-front : goal.returns-clause-front
+returns-clause-front g c =
+    let (done, split, appended, same) = c.loop-row.invariant in
+    let rows = c.rows-rows.result.now in
+    let mid = g.W.Sink.contents c.loop-row.sink in
+    let new = g.W.Sink.contents c.put.new.sink in
+    on_err c.put.result
+    (λ (h : AppendsFront mid new c.as_bytes.result.now).
+    front_of (g.W.Sink.contents c.args.sink.now) mid new (text_of c.args.listing.now) done c.loop-row.piece (flat_map line_of (drop c.loop-row.row-index rows))
+    (ap text_of (sym c.rows-rows.ensures) ∙ split) appended (subst (λ l. AppendsFront mid new l) c.as_bytes.ensures h))
+    c.put.ensures.front

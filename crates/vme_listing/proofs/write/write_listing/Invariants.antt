@@ -1,0 +1,12 @@
+-- What went out, what the piece holds and the lines of the rows to come are the text, and no write has failed.
+use Rattle.std.proofs.Common.{◌≡◌, ℕ, List, ◌++◌, drop}
+use Rattle.std.specs.Prelude.{flat_map}
+use Rattle.std.specs.Io.KnownBytes.{Appends}
+use Rattle.vme_listing.specs.RowText.{line_of, text_of}
+use Rattle.vme_listing.proofs.write.write_listing.Given as goal
+
+abbrev pub invariant-loop-row : goal.invariant-loop-row
+invariant-loop-row g l =
+    (done : List ℕ) × (text_of l.rows ≡ done ++ (l.piece ++ flat_map line_of (drop l.row-index l.rows)))
+    × Appends (g.W.Sink.contents l.initial.sink) (g.W.Sink.contents l.sink) done
+    × (g.W.Sink.failures l.sink ≡ g.W.Sink.failures l.initial.sink)

@@ -1,0 +1,4 @@
+pub mod Places
+pub mod Recorded
+pub mod RowText
+pub mod Written

@@ -1,0 +1,132 @@
+-- Which listings are well placed: each row is one that its table allows and stands where it may, and the rows
+-- between the first and the last ascend by their first instant and then by their kind.
+use Rattle.std.specs.Prelude.{ℕ, Bool, true, false, not, ◌+◌, ◌^◌, ◌%◌, ◌==◌, ◌&&◌, ◌||◌, List, [], ◌∷◌, Option, None, Some, nat_lt, nat_le}
+use Rattle.vme_trace.specs.Cycle.{highest_address, is_block}
+use Rattle.vme_trace.specs.LineNumbers.{line_count}
+use Rattle.vme_trace.specs.Verdict.{is_unreadable}
+use Rattle.vme_trace.specs.declared.class.Class.{Class}
+use Rattle.vme_trace.specs.declared.class.Class.TheVariants as class
+use Rattle.vme_listing.specs.declared.row.Outcome.{Outcome}
+use Rattle.vme_listing.specs.declared.row.Outcome.TheVariants.{Conforming, NeverIdle, Broken, Unreadable}
+use Rattle.vme_listing.specs.declared.row.Row.{Row}
+use Rattle.vme_listing.specs.declared.row.Row.TheVariants.{Start, OpenTenure, Tenure, AddressedCycle, FreeCycle, InterruptCycle, Transfer, PendingTransfer, Verdict}
+
+-- a number is at most 4,294,967,295
+abbrev pub is_number : ℕ → Bool
+is_number n = nat_lt n (2 ^ 32)
+
+abbrev pub is_edge : Option ℕ → Bool
+is_edge None = true
+is_edge (Some n) = is_number n
+
+-- the class of the cycles that have a modifier code and an address: S, or K where the code is of block transfers
+abbrev pub has_class : ℕ → Class → Bool
+has_class modifier class.S = not (is_block modifier)
+has_class modifier class.K = is_block modifier
+has_class modifier class.I = false
+has_class modifier class.F = false
+
+-- the code makes address lines meaningful, and the address is one of these: bit 0 is 0
+abbrev pub is_address : ℕ → ℕ → Bool
+is_address modifier address = not (highest_address modifier == 0) && nat_lt address (2 ^ (highest_address modifier + 1)) && (address % 2 == 0)
+
+abbrev pub is_outcome : Outcome → Bool
+is_outcome Conforming = true
+is_outcome NeverIdle = true
+is_outcome (Broken rule instant line) = not (is_unreadable rule) && is_number instant && nat_lt line line_count
+is_outcome (Unreadable rule instant line) = is_unreadable rule && is_number instant && nat_lt line line_count
+
+-- the row is one that its form allows
+unfoldable pub is_row : Row → Bool
+is_row (Start instant) = is_number instant
+is_row (OpenTenure start end) = is_number start && is_edge end
+is_row (Tenure start level slot end) = is_number start && nat_lt level 4 && nat_le 1 slot && nat_le slot 21 && is_edge end
+is_row (AddressedCycle start class modifier address end) = is_number start && has_class modifier class && is_address modifier address && is_edge end
+is_row (FreeCycle start modifier end) = is_number start && nat_lt modifier 64 && (highest_address modifier == 0) && is_edge end
+is_row (InterruptCycle start level end) = is_number start && nat_lt level 8 && is_edge end
+is_row (Transfer start cycle direction line answer close) = is_number start && is_number cycle && is_number answer && is_edge close
+is_row (PendingTransfer start direction) = is_number start
+is_row (Verdict outcome) = is_outcome outcome
+
+abbrev pub is_start : Row → Bool
+is_start (Start instant) = true
+is_start (OpenTenure start end) = false
+is_start (Tenure start level slot end) = false
+is_start (AddressedCycle start class modifier address end) = false
+is_start (FreeCycle start modifier end) = false
+is_start (InterruptCycle start level end) = false
+is_start (Transfer start cycle direction line answer close) = false
+is_start (PendingTransfer start direction) = false
+is_start (Verdict outcome) = false
+
+abbrev pub is_verdict : Row → Bool
+is_verdict (Start instant) = false
+is_verdict (OpenTenure start end) = false
+is_verdict (Tenure start level slot end) = false
+is_verdict (AddressedCycle start class modifier address end) = false
+is_verdict (FreeCycle start modifier end) = false
+is_verdict (InterruptCycle start level end) = false
+is_verdict (Transfer start cycle direction line answer close) = false
+is_verdict (PendingTransfer start direction) = false
+is_verdict (Verdict outcome) = true
+
+abbrev pub never_idles : Outcome → Bool
+never_idles Conforming = false
+never_idles NeverIdle = true
+never_idles (Broken rule instant line) = false
+never_idles (Unreadable rule instant line) = false
+
+abbrev pub is_never_idle : Row → Bool
+is_never_idle (Start instant) = false
+is_never_idle (OpenTenure start end) = false
+is_never_idle (Tenure start level slot end) = false
+is_never_idle (AddressedCycle start class modifier address end) = false
+is_never_idle (FreeCycle start modifier end) = false
+is_never_idle (InterruptCycle start level end) = false
+is_never_idle (Transfer start cycle direction line answer close) = false
+is_never_idle (PendingTransfer start direction) = false
+is_never_idle (Verdict outcome) = never_idles outcome
+
+-- a row of a tenure, a cycle or a transfer: its first instant, and the order of its kind
+abbrev pub place_of : Row → Option (ℕ × ℕ)
+place_of (Start instant) = None
+place_of (OpenTenure start end) = Some (start, 0)
+place_of (Tenure start level slot end) = Some (start, 0)
+place_of (AddressedCycle start class modifier address end) = Some (start, 1)
+place_of (FreeCycle start modifier end) = Some (start, 1)
+place_of (InterruptCycle start level end) = Some (start, 1)
+place_of (Transfer start cycle direction line answer close) = Some (start, 2)
+place_of (PendingTransfer start direction) = Some (start, 2)
+place_of (Verdict outcome) = None
+
+-- by its form a row may stand behind the one before it, or as the first: a listing is the one row that the bus is
+-- never idle, or a start, then tenures, cycles and transfers, and then another verdict
+abbrev pub may_follow : Option Row → Row → Bool
+may_follow None row = is_start row || is_never_idle row
+may_follow (Some before) row = not (is_verdict before) && not (is_start row) && not (is_never_idle row)
+
+abbrev pub is_later : Option (ℕ × ℕ) → Option (ℕ × ℕ) → Bool
+is_later None after = true
+is_later (Some before) None = true
+is_later (Some before) (Some after) = nat_lt before.0 after.0 || ((before.0 == after.0) && nat_lt before.1 after.1)
+
+-- of two tenures, cycles or transfers the second has the later instant, or at one instant the later kind
+abbrev pub ascends : Option Row → Row → Bool
+ascends None row = true
+ascends (Some before) row = is_later (place_of before) (place_of row)
+
+-- the row may stand behind the one before it
+unfoldable pub follows : Option Row → Row → Bool
+follows before row = is_row row && may_follow before row && ascends before row
+
+abbrev pub ends_listing : Option Row → Bool
+ends_listing None = false
+ends_listing (Some row) = is_verdict row
+
+-- the rows may stand behind one another and behind the one before them, and the last is the verdict
+unfoldable pub is_rest : Option Row → List Row → Bool
+is_rest before [] = ends_listing before
+is_rest before (row ∷ rows) = follows before row && is_rest (Some row) rows
+
+abbrev pub is_well_placed : List Row → Bool
+is_well_placed rows = is_rest None rows

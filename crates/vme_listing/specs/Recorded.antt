@@ -1,0 +1,110 @@
+-- The listing of a recording: its judged tenures, cycles and transfers before the least break, and the verdict.
+use Rattle.std.specs.Prelude.{ℕ, zero, suc, ◌+◌, ◌/◌, ◌^◌, ◌==◌, ◌&&◌, List, [], ◌∷◌, ◌++◌, Option, None, Some, if◌then◌else◌}
+use Rattle.vme_trace.specs.Instants.{least}
+use Rattle.vme_trace.specs.LineNumbers.{AS, DTACK, BBSY, A}
+use Rattle.vme_trace.specs.Levels.{Levels, level_at, is_high}
+use Rattle.vme_trace.specs.Cycle.{modifier_of, highest_address, class_of}
+use Rattle.vme_trace.specs.Trace.{Trace, levels_at, last_instant}
+use Rattle.vme_trace.specs.Signals.{low, falls, rises}
+use Rattle.vme_trace.specs.Judged.{Span, judged_spans}
+use Rattle.vme_trace.specs.Transfers.{strobes_high, transfer_starts, answers, is_write}
+use Rattle.vme_trace.specs.Cycles.{cycle_starts, cycle_of}
+use Rattle.vme_trace.specs.Tenures.{tenure_starts, tenure_level, tenure_slot}
+use Rattle.vme_trace.specs.Verdict.{all_rules, least_break, is_unreadable}
+use Rattle.vme_trace.specs.declared.class.Class.{Class}
+use Rattle.vme_trace.specs.declared.class.Class.TheVariants as class
+use Rattle.vme_trace.specs.declared.rule.Rule.{Rule}
+use Rattle.vme_trace.specs.declared.verdict.Break.{Break}
+use Rattle.vme_listing.specs.declared.row.AnswerLine.{AnswerLine}
+use Rattle.vme_listing.specs.declared.row.AnswerLine.TheVariants.{Dtack, Berr}
+use Rattle.vme_listing.specs.declared.row.Direction.{Direction}
+use Rattle.vme_listing.specs.declared.row.Direction.TheVariants.{Read, Write}
+use Rattle.vme_listing.specs.declared.row.Outcome.{Outcome}
+use Rattle.vme_listing.specs.declared.row.Outcome.TheVariants.{Conforming, NeverIdle, Broken, Unreadable}
+use Rattle.vme_listing.specs.declared.row.Row.{Row}
+use Rattle.vme_listing.specs.declared.row.Row.TheVariants.{Start, OpenTenure, Tenure, AddressedCycle, FreeCycle, InterruptCycle, Transfer, PendingTransfer, Verdict}
+
+-- the address on lines 1 to n, a high line being 1 and any other 0
+abbrev pub address_to : Levels → ℕ → ℕ
+address_to v zero = 0
+address_to v (suc n) = address_to v n + (if is_high (level_at v (A (suc n))) then 2 ^ (suc n) else 0)
+
+-- a cycle with an address: its class, the modifier code, and the address on the lines that the code makes meaningful
+abbrev pub addressed : ℕ → Class → Levels → Option ℕ → Row
+addressed i class v end = AddressedCycle i class (modifier_of v) (address_to v (highest_address (modifier_of v))) end
+
+-- what the row of a cycle says of the levels as the address strobe falls. The level of an interrupt acknowledge is on
+-- address lines 3, 2 and 1
+abbrev pub cycle_row : ℕ → Levels → Option ℕ → Class → Row
+cycle_row i v end class.S = addressed i class.S v end
+cycle_row i v end class.K = addressed i class.K v end
+cycle_row i v end class.F = FreeCycle i (modifier_of v) end
+cycle_row i v end class.I = InterruptCycle i (address_to v 3 / 2) end
+
+-- a tenure is listed by its level and its slot; where there are none, a rule is broken as it starts
+abbrev pub tenure_row : ℕ → Option ℕ → Option ℕ → Option ℕ → List Row
+tenure_row i None slot end = []
+tenure_row i (Some level) None end = []
+tenure_row i (Some level) (Some slot) end = Tenure i level slot end ∷ []
+
+-- end: the first instant that isn't listed
+module _ (t : Trace) (span : Span) (end : ℕ) where
+  -- a tenure starts where the bus becomes busy, and is open at the start of the span where the bus is busy there; it
+  -- ends where the bus is next free
+  unfoldable pub tenure_rows : ℕ → List Row
+  tenure_rows i =
+      if (i == span.start) && low t BBSY i then OpenTenure i (least (rises t BBSY) (i + 1) end) ∷ []
+      else if tenure_starts t span i then tenure_row i (tenure_level t i) (tenure_slot t i) (least (rises t BBSY) (i + 1) end)
+      else []
+
+  unfoldable pub cycle_rows : ℕ → List Row
+  cycle_rows i = if cycle_starts t span i then cycle_row i (levels_at t i) (least (rises t AS) (i + 1) end) (class_of (levels_at t i)) ∷ [] else []
+
+  abbrev pub direction_of : ℕ → Direction
+  direction_of i = if is_write t span i then Write else Read
+
+  abbrev pub answer_line : ℕ → AnswerLine
+  answer_line r = if falls t DTACK r then Dtack else Berr
+
+  -- an answer outside every cycle breaks a rule, so it isn't listed
+  abbrev pub answered_row : ℕ → ℕ → Option ℕ → Row
+  answered_row i r None = PendingTransfer i (direction_of i)
+  answered_row i r (Some cycle) = Transfer i cycle (direction_of i) (answer_line r) r (least (strobes_high t) (i + 1) end)
+
+  abbrev pub transfer_row : ℕ → Option ℕ → Row
+  transfer_row i None = PendingTransfer i (direction_of i)
+  transfer_row i (Some r) = answered_row i r (cycle_of t span r)
+
+  unfoldable pub transfer_rows : ℕ → List Row
+  transfer_rows i = if transfer_starts t span i then transfer_row i (least (answers t span i) i end) ∷ [] else []
+
+  -- the rows that begin before an instant
+  unfoldable pub rows_before : ℕ → List Row
+  rows_before zero = []
+  rows_before (suc i) = rows_before i ++ tenure_rows i ++ cycle_rows i ++ transfer_rows i
+
+-- listed are the instants before the break, or all
+abbrev pub listed_end : Trace → Option Break → ℕ
+listed_end t None = last_instant t + 1
+listed_end t (Some b) = b.instant
+
+abbrev pub outcome_of : Option Break → Outcome
+outcome_of None = Conforming
+outcome_of (Some b) = if is_unreadable b.rule then Unreadable b.rule b.instant b.line else Broken b.rule b.instant b.line
+
+abbrev pub listing_of_span : List Rule → Trace → Span → List Row
+listing_of_span rules t span =
+    let found = least_break t span rules in
+    Start span.start ∷ rows_before t span (listed_end t found) (listed_end t found) ++ Verdict (outcome_of found) ∷ []
+
+abbrev pub listing_of_spans : List Rule → Trace → List Span → List Row
+listing_of_spans rules t [] = Verdict NeverIdle ∷ []
+listing_of_spans rules t (span ∷ spans) = listing_of_span rules t span
+
+-- the listing of a recording by some rules
+unfoldable pub listing_by : List Rule → Trace → List Row
+listing_by rules t = listing_of_spans rules t (judged_spans t)
+
+-- the listing of a recording
+abbrev pub listing_of : Trace → List Row
+listing_of t = listing_by all_rules t

@@ -1,0 +1,86 @@
+-- The text of a listing, version 1: ASCII, a header, and then one line for each row. Every line ends with one
+-- line feed, words are separated by one space, and numbers are decimal without leading zeros.
+use Rattle.std.specs.Prelude.{ℕ, zero, suc, true, ◌+◌, ◌/◌, ◌%◌, List, [], ◌∷◌, ◌++◌, Option, None, Some, codes, decimal, flat_map}
+use Rattle.std.specs.Fmt.{digit_glyph}
+use Rattle.vme_trace.specs.Cycle.{highest_address}
+use Rattle.vme_trace.specs.Names.{line_name, rule_name}
+use Rattle.vme_trace.specs.declared.rule.Rule.{Rule}
+use Rattle.vme_trace.specs.declared.class.Class.{Class}
+use Rattle.vme_trace.specs.declared.class.Class.TheVariants as class
+use Rattle.vme_listing.specs.declared.row.AnswerLine.{AnswerLine}
+use Rattle.vme_listing.specs.declared.row.AnswerLine.TheVariants.{Dtack, Berr}
+use Rattle.vme_listing.specs.declared.row.Direction.{Direction}
+use Rattle.vme_listing.specs.declared.row.Direction.TheVariants.{Read, Write}
+use Rattle.vme_listing.specs.declared.row.Outcome.{Outcome}
+use Rattle.vme_listing.specs.declared.row.Outcome.TheVariants.{Conforming, NeverIdle, Broken, Unreadable}
+use Rattle.vme_listing.specs.declared.row.Row.{Row}
+use Rattle.vme_listing.specs.declared.row.Row.TheVariants.{Start, OpenTenure, Tenure, AddressedCycle, FreeCycle, InterruptCycle, Transfer, PendingTransfer, Verdict}
+
+-- an end or a close: its instant, or a hyphen where it isn't at a listed instant
+abbrev pub edge_text : Option ℕ → List ℕ
+edge_text None = codes "-"
+edge_text (Some n) = decimal n
+
+-- so many digits in base 16, the letters in upper case
+unfoldable pub hexadecimal : ℕ → ℕ → List ℕ
+hexadecimal zero n = []
+hexadecimal (suc k) n = hexadecimal k (n / 16) ++ digit_glyph true (n % 16) ∷ []
+
+-- how many digits an address has, by the modifier code: 8 in the extended space, 6 in the standard, 4 in the short
+abbrev pub address_digits : ℕ → ℕ
+address_digits modifier = (highest_address modifier + 1) / 4
+
+abbrev pub class_text : Class → List ℕ
+class_text class.S = codes "S"
+class_text class.K = codes "K"
+class_text class.I = codes "I"
+class_text class.F = codes "F"
+
+abbrev pub direction_text : Direction → List ℕ
+direction_text Read = codes "read"
+direction_text Write = codes "write"
+
+abbrev pub answer_text : AnswerLine → List ℕ
+answer_text Dtack = codes "DTACK"
+answer_text Berr = codes "BERR"
+
+-- a break: its rule, its instant and its line
+abbrev pub break_text : Rule → ℕ → ℕ → List ℕ
+break_text rule instant line = rule_name rule ++ codes " " ++ decimal instant ++ codes " " ++ line_name line
+
+abbrev pub verdict_text : Outcome → List ℕ
+verdict_text Conforming = codes "verdict conforming"
+verdict_text NeverIdle = codes "verdict never-idle"
+verdict_text (Broken rule instant line) = codes "verdict broken " ++ break_text rule instant line
+verdict_text (Unreadable rule instant line) = codes "verdict unreadable " ++ break_text rule instant line
+
+-- the line of a row, without its line feed
+unfoldable pub row_text : Row → List ℕ
+row_text (Start instant) = codes "start " ++ decimal instant
+row_text (OpenTenure start end) = codes "tenure " ++ decimal start ++ codes " open end " ++ edge_text end
+row_text (Tenure start level slot end) =
+    codes "tenure " ++ decimal start ++ codes " level " ++ decimal level ++ codes " slot " ++ decimal slot ++ codes " end " ++ edge_text end
+row_text (AddressedCycle start class modifier address end) =
+    codes "cycle " ++ decimal start ++ codes " " ++ class_text class ++ codes " " ++ hexadecimal 2 modifier ++ codes " "
+    ++ hexadecimal (address_digits modifier) address ++ codes " end " ++ edge_text end
+row_text (FreeCycle start modifier end) = codes "cycle " ++ decimal start ++ codes " F " ++ hexadecimal 2 modifier ++ codes " end " ++ edge_text end
+row_text (InterruptCycle start level end) = codes "cycle " ++ decimal start ++ codes " I " ++ decimal level ++ codes " end " ++ edge_text end
+row_text (Transfer start cycle direction line answer close) =
+    codes "transfer " ++ decimal start ++ codes " of " ++ decimal cycle ++ codes " " ++ direction_text direction ++ codes " "
+    ++ answer_text line ++ codes " " ++ decimal answer ++ codes " close " ++ edge_text close
+row_text (PendingTransfer start direction) = codes "transfer " ++ decimal start ++ codes " " ++ direction_text direction ++ codes " pending"
+row_text (Verdict outcome) = verdict_text outcome
+
+abbrev pub line_feed : ℕ
+line_feed = 10
+
+abbrev pub header : List ℕ
+header = codes "vmecheck listing 1" ++ line_feed ∷ []
+
+-- the line of a row
+abbrev pub line_of : Row → List ℕ
+line_of row = row_text row ++ line_feed ∷ []
+
+-- the text of a listing
+abbrev pub text_of : List Row → List ℕ
+text_of rows = header ++ flat_map line_of rows

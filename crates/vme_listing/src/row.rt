@@ -1,0 +1,116 @@
+use vme_trace::{Class, Line, Rule};
+
+/// The direction of a transfer.
+#[derive(Clone, Copy, Debug, PartialEq, Eq)]
+pub enum Direction {
+    /// From the slave to the master.
+    Read,
+    /// From the master to the slave.
+    Write,
+}
+
+/// The line that answers a transfer.
+#[derive(Clone, Copy, Debug, PartialEq, Eq)]
+pub enum AnswerLine {
+    /// DTACK*: the transfer was done.
+    Dtack,
+    /// BERR*: it wasn't.
+    Berr,
+}
+
+/// What a listing says of the rules, in its last row.
+#[derive(Clone, Copy, Debug, PartialEq, Eq)]
+pub enum Outcome {
+    /// No rule is broken.
+    Conforming,
+    /// The bus is idle at no instant, so nothing was judged.
+    NeverIdle,
+    /// The rule is the first that is broken, at this instant and on this line.
+    Broken(Rule, u32, Line),
+    /// The recording can't be read on: the rule says so, of this instant and this line.
+    Unreadable(Rule, u32, Line),
+}
+
+/// A row of a listing. Instants are those of the recording: 0 is its opening, and instant i is the step before
+/// which i - 1 others stand. An end or a close is None where it is at no listed instant.
+#[derive(Clone, Copy, Debug, PartialEq, Eq)]
+pub enum Row {
+    /// The idle instant from which on the recording is judged.
+    Start {
+        /// That instant.
+        instant: u32,
+    },
+    /// A tenure of the bus that is open at the start.
+    OpenTenure {
+        /// The instant of the start.
+        start: u32,
+        /// Where BBSY* rises.
+        end: Option<u32>,
+    },
+    /// A tenure of the bus.
+    Tenure {
+        /// Where BBSY* falls.
+        start: u32,
+        /// The level by which the bus was granted, 0 to 3.
+        level: u8,
+        /// The slot that took the grant, 1 to 21.
+        slot: u8,
+        /// Where BBSY* rises.
+        end: Option<u32>,
+    },
+    /// A cycle of single transfers or of a block transfer.
+    AddressedCycle {
+        /// Where AS* falls.
+        start: u32,
+        /// S or K.
+        class: Class,
+        /// The address modifier code.
+        modifier: u8,
+        /// The address, whose bit 0 is 0.
+        address: u32,
+        /// Where AS* rises.
+        end: Option<u32>,
+    },
+    /// A cycle whose address modifier code is free.
+    FreeCycle {
+        /// Where AS* falls.
+        start: u32,
+        /// The address modifier code.
+        modifier: u8,
+        /// Where AS* rises.
+        end: Option<u32>,
+    },
+    /// An interrupt acknowledge cycle.
+    InterruptCycle {
+        /// Where AS* falls.
+        start: u32,
+        /// The level that is acknowledged, on A03 to A01: 0 to 7.
+        level: u8,
+        /// Where AS* rises.
+        end: Option<u32>,
+    },
+    /// A transfer that is answered.
+    Transfer {
+        /// Where the first strobe falls.
+        start: u32,
+        /// The start of the cycle to which it belongs.
+        cycle: u32,
+        /// Its direction.
+        direction: Direction,
+        /// The line that answers it.
+        line: AnswerLine,
+        /// Where that line falls.
+        answer: u32,
+        /// Where both strobes are high again.
+        close: Option<u32>,
+    },
+    /// A transfer that isn't answered at a listed instant.
+    PendingTransfer {
+        /// Where the first strobe falls.
+        start: u32,
+        /// Its direction.
+        direction: Direction,
+    },
+    /// What the rules say.
+    Verdict(Outcome),
+}
