@@ -1,8 +1,8 @@
 -- Computed from the definitions.
 use Rattle.std.proofs.Common.{◌≡◌, refl}
-use Rattle.vme_trace.specs.LineNumbers.{AS, DS0, DTACK, BBSY, AM, A, iack}
+use Rattle.vme_trace.specs.LineNumbers.{AS, DTACK}
 use Rattle.vme_trace.specs.Verdict.{verdict}
-use Rattle.vme_trace.specs.declared.rule.Rule.TheVariants.{U1, U2, H2, H4, S1, C1, C2, B1, B2, B4, I1, I2, I3, I4}
+use Rattle.vme_trace.specs.declared.rule.Rule.TheVariants.{U1, H4}
 use Rattle.vme_trace.specs.declared.verdict.Verdict.TheVariants.{Conforming, Broken, Unreadable, NeverIdle}
 use Rattle.vme_eval.specs.Captures.{dumped_read, dumped_nothing, dumped_stray_answer, dumped_unknown_strobe, dumped_gap}
 use Rattle.vme_eval.proofs.Everything.{everything}

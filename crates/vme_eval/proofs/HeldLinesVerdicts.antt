@@ -1,9 +1,9 @@
 -- Computed from the definitions.
 use Rattle.std.proofs.Common.{◌≡◌, refl}
-use Rattle.vme_trace.specs.LineNumbers.{AS, DS0, DTACK, BBSY, AM, A, iack}
+use Rattle.vme_trace.specs.LineNumbers.{AM, A}
 use Rattle.vme_trace.specs.Verdict.{verdict}
-use Rattle.vme_trace.specs.declared.rule.Rule.TheVariants.{U1, U2, H2, H4, S1, C1, C2, B1, B2, B4, I1, I2, I3, I4}
-use Rattle.vme_trace.specs.declared.verdict.Verdict.TheVariants.{Conforming, Broken, Unreadable, NeverIdle}
+use Rattle.vme_trace.specs.declared.rule.Rule.TheVariants.{U2, S1}
+use Rattle.vme_trace.specs.declared.verdict.Verdict.TheVariants.{Conforming, Broken, Unreadable}
 use Rattle.vme_eval.specs.Captures.{short_address, address_changes_early, address_changes_with_answer, unneeded_line_changes, unknown_modifier, floating_modifier}
 use Rattle.vme_eval.proofs.Everything.{everything}
 

@@ -1,4 +1,6 @@
 pub mod AcknowledgesVerdicts
+pub mod BrokenRows
+pub mod ConformingRows
 pub mod CyclesVerdicts
 pub mod DumpsVerdicts
 pub mod Everything

@@ -1,9 +1,9 @@
 -- Computed from the definitions.
 use Rattle.std.proofs.Common.{◌≡◌, refl}
-use Rattle.vme_trace.specs.LineNumbers.{AS, DS0, DTACK, BBSY, AM, A, iack}
+use Rattle.vme_trace.specs.LineNumbers.{DS0, DTACK}
 use Rattle.vme_trace.specs.Verdict.{verdict}
-use Rattle.vme_trace.specs.declared.rule.Rule.TheVariants.{U1, U2, H2, H4, S1, C1, C2, B1, B2, B4, I1, I2, I3, I4}
-use Rattle.vme_trace.specs.declared.verdict.Verdict.TheVariants.{Conforming, Broken, Unreadable, NeverIdle}
+use Rattle.vme_trace.specs.declared.rule.Rule.TheVariants.{H2, H4}
+use Rattle.vme_trace.specs.declared.verdict.Verdict.TheVariants.{Conforming, Broken}
 use Rattle.vme_eval.specs.Captures.{read_cycle, read_cycle_from_idle, pipelined_cycles, stray_answer, strobes_rise_with_answer, strobes_rise_early}
 use Rattle.vme_eval.proofs.Everything.{everything}
 

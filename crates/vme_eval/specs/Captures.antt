@@ -1,10 +1,9 @@
 -- Worked recordings, each named for what it shows. Where nothing else is said the bus is granted to slot 2
 -- at level 3, its master reads at address FFFFDE by address modifier 39, and the slave answers by DTACK*.
-use Rattle.std.specs.Prelude.{ℕ, List, [], ◌∷◌, ◌++◌}
+use Rattle.std.specs.Prelude.{List, [], ◌∷◌, ◌++◌}
 use Rattle.vme_trace.specs.LineNumbers.{AS, DS0, DS1, DTACK, BERR, IACK, WRITE, AM, A, BR, BBSY, grant, iack}
 use Rattle.vme_trace.specs.Trace.{Trace}
 use Rattle.vme_trace.specs.declared.step.Change.{Change}
-use Rattle.vme_trace.specs.declared.step.Step.{Step}
 use Rattle.vme_eval.specs.Steps.{low, high, unknown, at, steps_from, idle_lines, granted, from_idle, once_granted, dump_lines}
 
 -- the first six lines become high

@@ -1,12 +1,13 @@
-//! What the definitions of a break and of a verdict say of worked recordings, computed from the definitions alone.
+//! What the definitions of a break, of a verdict and of a listing say of worked recordings, computed from the definitions alone.
 //! Each function is a law: its contract is what it says.
 #![tactic(auto)]
 
-ghost use Rattle.std.specs.Prelude.{◌≡◌};
+ghost use Rattle.std.specs.Prelude.{◌≡◌, ◌∷◌, [], codes};
 ghost use Rattle.vme_trace.specs.Verdict.{verdict};
 ghost use Rattle.vme_trace.specs.LineNumbers.{AS, DS0, DTACK, BBSY, AM, A, iack};
 ghost use Rattle.vme_trace.specs.declared.rule.Rule.TheVariants.{U1, U2, H2, H4, S1, C1, C2, B1, B2, B4, I1, I2, I3, I4};
 ghost use Rattle.vme_trace.specs.declared.verdict.Verdict.TheVariants.{Conforming, Broken, Unreadable, NeverIdle};
+ghost use Rattle.vme_eval.specs.Told.{told};
 ghost use Rattle.vme_eval.specs.Captures.{dumped_read, dumped_nothing, dumped_stray_answer, dumped_unknown_strobe, dumped_gap, read_cycle, read_cycle_from_idle, pipelined_cycles, stray_answer, strobes_rise_with_answer, strobes_rise_early, read_modify_write, write_then_read, block_turns, short_address, address_changes_early, address_changes_with_answer, unneeded_line_changes, unknown_modifier, floating_modifier, grant_taken_twice, bus_taken_ungranted, grant_past_last_slot, grant_withdrawn, acknowledge_cycle, acknowledge_write, acknowledge_skips_slot, acknowledge_before_strobe, acknowledge_after_answer};
 
 /// The verdicts on recordings of one slot, as from a dump.
@@ -60,4 +61,28 @@ pub fn acknowledges()
     ensures acknowledge_skips_slot { verdict acknowledge_skips_slot ≡ Broken (record { instant = 11; time = 100; rule = I1; line = iack 2 }) }
     ensures acknowledge_before_strobe { verdict acknowledge_before_strobe ≡ Broken (record { instant = 10; time = 90; rule = I2; line = iack 1 }) }
     ensures acknowledge_after_answer { verdict acknowledge_after_answer ≡ Broken (record { instant = 12; time = 110; rule = I3; line = iack 1 }) }
+{}
+
+/// The listings of recordings that conform.
+pub fn listings()
+    ensures dumped_read { told dumped_read ≡ codes "start 1" ∷ codes "tenure 1 open end -" ∷ codes "cycle 2 S 3D FFFFFE end 5" ∷ codes "transfer 3 of 2 read DTACK 4 close 5" ∷ codes "verdict conforming" ∷ [] }
+    ensures dumped_nothing { told dumped_nothing ≡ codes "verdict never-idle" ∷ [] }
+    ensures read_cycle { told read_cycle ≡ codes "start 1" ∷ codes "tenure 5 level 3 slot 2 end 14" ∷ codes "cycle 9 S 39 FFFFDE end 12" ∷ codes "transfer 10 of 9 read DTACK 11 close 12" ∷ codes "verdict conforming" ∷ [] }
+    ensures read_cycle_from_idle { told read_cycle_from_idle ≡ codes "start 0" ∷ codes "tenure 4 level 3 slot 2 end 13" ∷ codes "cycle 8 S 39 FFFFDE end 11" ∷ codes "transfer 9 of 8 read DTACK 10 close 11" ∷ codes "verdict conforming" ∷ [] }
+    ensures pipelined_cycles { told pipelined_cycles ≡ codes "start 1" ∷ codes "tenure 5 level 3 slot 2 end 20" ∷ codes "cycle 9 S 39 FFFFDE end 12" ∷ codes "transfer 10 of 9 read DTACK 11 close 15" ∷ codes "cycle 14 S 39 FFFFFE end 19" ∷ codes "transfer 17 of 14 read DTACK 18 close 19" ∷ codes "verdict conforming" ∷ [] }
+    ensures read_modify_write { told read_modify_write ≡ codes "start 1" ∷ codes "tenure 5 level 3 slot 2 end -" ∷ codes "cycle 9 S 3D FFFFDE end 17" ∷ codes "transfer 10 of 9 read DTACK 11 close 12" ∷ codes "transfer 15 of 9 write DTACK 16 close 17" ∷ codes "verdict conforming" ∷ [] }
+    ensures short_address { told short_address ≡ codes "start 1" ∷ codes "tenure 5 level 3 slot 2 end 14" ∷ codes "cycle 9 S 29 FFDE end 12" ∷ codes "transfer 10 of 9 read DTACK 11 close 12" ∷ codes "verdict conforming" ∷ [] }
+    ensures floating_modifier { told floating_modifier ≡ codes "start 1" ∷ codes "tenure 5 level 3 slot 2 end 14" ∷ codes "cycle 9 K 3F FFFFDE end 12" ∷ codes "transfer 10 of 9 read DTACK 11 close 12" ∷ codes "verdict conforming" ∷ [] }
+    ensures grant_withdrawn { told grant_withdrawn ≡ codes "start 1" ∷ codes "verdict conforming" ∷ [] }
+    ensures acknowledge_cycle { told acknowledge_cycle ≡ codes "start 1" ∷ codes "tenure 5 level 3 slot 2 end 15" ∷ codes "cycle 9 I 5 end 13" ∷ codes "transfer 10 of 9 read DTACK 12 close 13" ∷ codes "verdict conforming" ∷ [] }
+{}
+
+/// The listings of recordings in which a rule is broken: what was before.
+pub fn broken_listings()
+    ensures dumped_stray_answer { told dumped_stray_answer ≡ codes "start 1" ∷ codes "tenure 1 open end -" ∷ codes "cycle 2 S 3D FFFFFE end -" ∷ codes "verdict broken H4 3 DTACK" ∷ [] }
+    ensures write_then_read { told write_then_read ≡ codes "start 1" ∷ codes "tenure 5 level 3 slot 2 end -" ∷ codes "cycle 9 S 3D FFFFDE end -" ∷ codes "transfer 10 of 9 write DTACK 11 close 12" ∷ codes "transfer 15 read pending" ∷ codes "verdict broken C1 16 DTACK" ∷ [] }
+    ensures block_turns { told block_turns ≡ codes "start 1" ∷ codes "tenure 5 level 3 slot 2 end -" ∷ codes "cycle 9 K 3B FFFFDE end -" ∷ codes "transfer 10 of 9 read DTACK 11 close 12" ∷ codes "transfer 14 write pending" ∷ codes "verdict broken C2 15 DTACK" ∷ [] }
+    ensures stray_answer { told stray_answer ≡ codes "start 1" ∷ codes "tenure 5 level 3 slot 2 end -" ∷ codes "cycle 9 S 39 FFFFDE end -" ∷ codes "verdict broken H4 10 DTACK" ∷ [] }
+    ensures unknown_modifier { told unknown_modifier ≡ codes "start 1" ∷ codes "tenure 5 level 3 slot 2 end -" ∷ codes "verdict unreadable U2 9 AM3" ∷ [] }
+    ensures grant_taken_twice { told grant_taken_twice ≡ codes "start 1" ∷ codes "tenure 6 level 3 slot 3 end 7" ∷ codes "verdict broken B2 8 BBSY" ∷ [] }
 {}

@@ -1,2 +1,9 @@
+pub mod Addresses
+pub mod Candidates
+pub mod Cuts
 pub mod Digits
 pub mod Fronts
+pub mod LineFeeds
+pub mod Numerals
+pub mod Readings
+pub mod RowWords

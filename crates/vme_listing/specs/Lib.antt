@@ -1,4 +1,6 @@
 pub mod Places
+pub mod Reading
 pub mod Recorded
 pub mod RowText
+pub mod Words
 pub mod Written

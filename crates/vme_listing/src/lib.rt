@@ -2,13 +2,19 @@
 //! values, as text, and what the listing of a recording is.
 #![tactic(auto)]
 
+pub mod fault;
 pub mod listing;
+mod place;
+pub mod read;
 pub mod row;
 #[cfg(test)]
 mod tests;
 pub mod text;
+mod words;
 pub mod write;
 
+pub use fault::ListFault;
 pub use listing::Listing;
+pub use read::read_listing;
 pub use row::{AnswerLine, Direction, Outcome, Row};
 pub use write::{Write, write_listing};

@@ -251,3 +251,126 @@ fn pieces(rt: HostRuntime) -> Result<(), Fail> {
     );
     Ok(())
 }
+
+/// A listing of five rows: a read in the standard space.
+const WORKED: &[u8] =
+    b"vmecheck listing 1\nstart 1\ntenure 5 level 3 slot 2 end 14\ncycle 9 S 39 FFFFDE end 12\ntransfer 10 of 9 read DTACK 11 close 12\nverdict conforming\n";
+
+/// The fault of a text, or none.
+fn fault_of(alloc: Global, text: &[u8]) -> Option<ListFault> {
+    read_listing(alloc, text).err()
+}
+
+/// Listings that are read, and written back as the same bytes.
+#[test]
+fn read_back(rt: HostRuntime) -> Result<(), Fail> {
+    let alloc = rt.alloc();
+    let idle = b"vmecheck listing 1\nverdict never-idle\n".as_slice();
+    for text in [WORKED, idle] {
+        let mut page = Page {
+            bytes: Vec::new(alloc),
+            most: 10000,
+            failures: 0,
+        };
+        match read_listing(alloc, text) {
+            Ok(listing) => assert!(rt; write_listing(&listing, &mut page) == Ok(())),
+            Err(fault) => assert!(rt; fault == ListFault::Memory),
+        }
+        assert!(rt; page.bytes.as_slice() == text);
+    }
+    Ok(())
+}
+
+/// Texts with a fault: its kind and its row.
+#[test]
+fn faults(rt: HostRuntime) {
+    let texts: [(&[u8], ListFault); 10] = [
+        (b"", ListFault::BadHeader),
+        (b"vmecheck listing 1", ListFault::BadHeader),
+        (
+            b"vmecheck listing 2\nverdict never-idle\n",
+            ListFault::BadHeader,
+        ),
+        (b"vmecheck listing 1\n", ListFault::BadRow { row: 1 }),
+        (
+            b"vmecheck listing 1\ntenure 5 open end 7\n",
+            ListFault::BadRow { row: 1 },
+        ),
+        (
+            b"vmecheck listing 1\nverdict conforming\n",
+            ListFault::BadRow { row: 1 },
+        ),
+        (
+            b"vmecheck listing 1\nstart 1\nverdict conforming\nverdict conforming\n",
+            ListFault::BadRow { row: 3 },
+        ),
+        (
+            b"vmecheck listing 1\nstart 1\ntenure 5 level 3 slot 2 end 14\ncycle 9 S 39 FFFFDE end 12\ntransfer 10 of 9 read DTACK 11 close 12\n",
+            ListFault::BadRow { row: 5 },
+        ),
+        (
+            b"vmecheck listing 1\nstart 1\ncycle 9 S 39 FFFFDE end 12\ntenure 5 level 3 slot 2 end 14\ntransfer 10 of 9 read DTACK 11 close 12\nverdict conforming\n",
+            ListFault::Unsorted { row: 3 },
+        ),
+        (
+            b"vmecheck listing 1\nstart 1\ntransfer 9 read pending\ncycle 9 F 1F end -\n",
+            ListFault::Unsorted { row: 3 },
+        ),
+    ];
+    for (text, fault) in texts {
+        assert!(rt; fault_of(rt.alloc(), text) == Some(fault));
+    }
+}
+
+/// Lines that are no row behind `start 1`.
+const BAD_LINES: [&[u8]; 28] = [
+    b"",
+    b"start 2",
+    b"tenure 05 level 3 slot 2 end 14",
+    b"tenure 5 level 4 slot 2 end 14",
+    b"tenure 5 level 3 slot 0 end 14",
+    b"tenure 5 level 3 slot 22 end 14",
+    b"tenure 5 level 3 slot 2 end",
+    b"tenure 5 level 3 slot 2 end 14 ",
+    b"tenure 5  level 3 slot 2 end 14",
+    b"tenure 5 level 3 slot 2 end +14",
+    b"tenure 4294967296 level 3 slot 2 end -",
+    b"tenure 5 open end",
+    b"cycle 9 S 39 ffffde end 12",
+    b"cycle 9 S 39 FFFFDF end 12",
+    b"cycle 9 S 39 00FFFFDE end 12",
+    b"cycle 9 K 39 FFFFDE end 12",
+    b"cycle 9 S 3B FFFFDE end 12",
+    b"cycle 9 S 1F FFFFDE end 12",
+    b"cycle 9 F 39 end 12",
+    b"cycle 9 F 40 end 12",
+    b"cycle 9 I 8 end 12",
+    b"transfer 10 of 9 read AS 11 close 12",
+    b"transfer 10 of 9 read DTACK 11 close 12\r",
+    b"transfer 10 read",
+    b"verdict never-idle",
+    b"verdict broken U1 10 AS",
+    b"verdict unreadable H4 10 DTACK",
+    b"verdict broken H4 10 D00",
+];
+
+#[test]
+fn bad_lines(rt: HostRuntime) -> Result<(), Fail> {
+    for line in BAD_LINES {
+        let mut text = Vec::from_slice(rt.alloc(), b"vmecheck listing 1\nstart 1\n")?;
+        text.extend_from_slice(line)?;
+        text.extend_from_slice(b"\nverdict conforming\n")?;
+        let fault = fault_of(rt.alloc(), text.as_slice());
+        assert!(rt; fault == Some(ListFault::BadRow { row: 2 }));
+    }
+    Ok(())
+}
+
+/// Each front of a listing has a fault in its text, or is the listing.
+#[test]
+fn fronts(rt: HostRuntime) {
+    for end in 0..=WORKED.len() {
+        let fault = fault_of(rt.alloc(), &WORKED[..end]);
+        assert!(rt; fault != Some(ListFault::Memory) && fault.is_none() == (end == WORKED.len()));
+    }
+}

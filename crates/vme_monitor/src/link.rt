@@ -8,7 +8,7 @@ ghost use Rattle.vme_monitor.specs.declared.mark.Kind.TheVariants.{Answer, Trans
 ghost use Rattle.vme_monitor.specs.Walk.{bridge_of, hop_of, later_break as later_break_of, later_hop, later_mark, later_outcome, outcome_of};
 
 use crate::machine::Places;
-use crate::mark::{Asked, Fault, Kind, Kinds, Mark, Next, Taken};
+use crate::mark::{Asked, Fault, Kind, Kinds, Mark, NOTHING, Next, Taken};
 use std::alloc::{AllocError, Global};
 use vme_trace::{Break, Line};
 
@@ -221,11 +221,18 @@ impl<P: Copy> Row<P> {
     pub fn extend(&mut self, next: Next<P>, instant: u32, time: u64) -> Result<(), AllocError>
         ensures { OnOk result (outcome_of self.new ≡ extended (outcome_of self.old) (outcome_at instant time next)) }
     {
+        let Next {
+            memory,
+            fault,
+            kinds,
+        } = next;
         if self.event.is_none() {
-            self.event = break_of(next.fault, instant, time);
+            self.event = break_of(fault, instant, time);
         }
-        show_all(&mut self.marks, instant, next.kinds)?;
-        self.memory = next.memory;
+        if kinds != NOTHING {
+            show_all(&mut self.marks, instant, kinds)?;
+        }
+        self.memory = memory;
         Ok(())
     }
 }

@@ -4,6 +4,7 @@ ghost use Rattle.std.specs.Prelude.{◌≡◌, ℕ, ◌<◌, ◌≤◌, List, Op
 ghost use Rattle.vme_trace.specs.Levels.{Levels};
 ghost use Rattle.vme_trace.specs.declared.step.Change.{Change};
 ghost use Rattle.vme_monitor.specs.declared.mark.Next.{Next};
+ghost use Rattle.vme_monitor.specs.Run.{quiet};
 
 use crate::mark::Next;
 use vme_trace::{Change, Lines};
@@ -48,6 +49,12 @@ pub trait Machine {
 
     ghost next: { Self.Memory → Levels → Levels → Self.Seen → Next Self.Memory };
 
+    /// How much a memory notices.
+    ghost alertness_of: { Self.Memory → ℕ };
+
+    /// How alert a memory has to be at least that notices what is seen.
+    ghost faintness_of: { Self.Seen → ℕ };
+
     fn start(opening: &Lines) -> Self::Memory
         ensures { result ≡ begin opening.now };
 
@@ -61,6 +68,15 @@ pub trait Machine {
         seen: &Self::Seen,
     ) -> Next<Self::Memory>
         ensures { result ≡ next memory before.now after.now seen.now };
+
+    fn alertness(memory: Self::Memory) -> u8
+        ensures { result ≡ alertness_of memory };
+
+    fn faintness(seen: &Self::Seen) -> u8
+        ensures { result ≡ faintness_of seen.now };
+
+    /// What is too faint for a memory leaves it as it is, and shows nothing.
+    ghost unmoved: { (p : Self.Memory) (before after : Levels) (seen : Self.Seen) → alertness_of p < faintness_of seen → next p before after seen ≡ quiet p };
 
     /// The memories are at most 512.
     ghost few: { Self.Memory.COUNT ≤ 512 };

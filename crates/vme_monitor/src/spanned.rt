@@ -123,8 +123,8 @@ pub struct Spanned<R> {
 }
 
 impl<R: Rules> Machine for Spanned<R> {
-    ghost use Rattle.vme_monitor.specs.Spanned.{noted, spanned, start_in};
-    ghost use Rattle.vme_monitor.specs.SpannedLaws.{phases_few};
+    ghost use Rattle.vme_monitor.specs.Spanned.{noted, noted_faintness, phase_alertness, spanned, start_in};
+    ghost use Rattle.vme_monitor.specs.SpannedLaws.{phases_few, spanned_unmoved};
 
     type Memory = Phase<R::Memory>;
 
@@ -135,6 +135,12 @@ impl<R: Rules> Machine for Spanned<R> {
     ghost sight = { noted R.sight };
 
     ghost next = { spanned R.begin R.opens R.ends R.next };
+
+    ghost alertness_of = { phase_alertness };
+
+    ghost faintness_of = { noted_faintness };
+
+    ghost unmoved = { spanned_unmoved R.begin R.opens R.ends R.next };
 
     ghost few = { phases_few R.Memory.COUNT R.Memory.small };
 
@@ -196,6 +202,22 @@ impl<R: Rules> Machine for Spanned<R> {
                 },
             },
             Phase::Ended => quiet(Phase::Ended),
+        }
+    }
+
+    fn alertness(memory: Phase<R::Memory>) -> u8 {
+        match memory {
+            Phase::Waiting => 2,
+            Phase::Judging(_) => 1,
+            Phase::Ended => 0,
+        }
+    }
+
+    fn faintness(seen: &Noted<R::Seen>) -> u8 {
+        if seen.lost.is_some() || seen.inner.is_some() {
+            1
+        } else {
+            2
         }
     }
 }

@@ -13,7 +13,7 @@ ghost use Rattle.vme_monitor.specs.Tables.{outcome};
 use crate::link::{Link, Row, bridges, fresh_rows, later_links, later_rows};
 use crate::machine::{Machine, Places};
 use crate::mark::Mark;
-use crate::merge::{advance, have_met, memories, merge};
+use crate::merge::{advance, have_met, memories, merge, most_alert};
 use std::alloc::{AllocError, Global};
 use vme_trace::{Break, Lines, Step};
 
@@ -26,7 +26,7 @@ pub struct Table<P: Places> {
     ghost inside: { (p : P) → IsWithin steps (outcome layers.items rows.items p (P.place_of p)) } by { inside-prop steps (λ (p : P). outcome layers.items rows.items p (P.place_of p)) },
 }
 
-/// Rows whose runs have met go on as one, in a layer of their own.
+/// Rows whose runs have met go on as one, in a layer of their own. The last two are left apart: little is won by joining them.
 fn settle<P: Places>(
     alloc: Global,
     layers: &mut Vec<Vec<Link>>,
@@ -36,7 +36,7 @@ fn settle<P: Places>(
 ) -> Result<(), AllocError>
     ensures { OnOk result ((k : ℕ) → reach (hops layers.new.items) (map outcome_of rows.new.items) k ≡ reach (hops layers.old.items) (map outcome_of rows.old.items) k) }
 {
-    if rows.len() > 1 && have_met(rows.as_slice(), seats, stamp) {
+    if rows.len() > 2 && have_met(rows.as_slice(), seats, stamp) {
         let links = merge(alloc, rows)?;
         layers.push(links)?;
     }
@@ -60,13 +60,17 @@ pub fn summarise<M: Machine>(
     let mut before = *opening;
     let mut after = *opening;
     let mut instant = 0;
+    let mut most = most_alert::<M>(rows.as_slice());
     for step in steps {
         let changes = step.changes.as_slice();
         after.apply(changes);
         instant += 1;
         if let Some(seen) = M::see(&before, &after, changes) {
-            advance::<M>(rows.as_mut_slice(), &before, &after, &seen, step, instant)?;
-            settle(alloc, &mut layers, &mut rows, seats.as_mut_slice(), instant)?;
+            if M::faintness(&seen) <= most {
+                advance::<M>(rows.as_mut_slice(), &before, &after, &seen, step, instant)?;
+                settle(alloc, &mut layers, &mut rows, seats.as_mut_slice(), instant)?;
+                most = most_alert::<M>(rows.as_slice());
+            }
         }
         before.apply(changes);
     }

@@ -1,112 +1,138 @@
 use crate::both::Both;
 use crate::finite::Finite;
 use crate::known::Known;
-use crate::mark::Kind;
+use crate::mark::{Kind, Mark};
 use crate::monitor::{Monitor, join, none};
 use crate::outside::Outside;
 use smallvec::SmallVec;
 use std::alloc::Global;
 use std::process::Abort;
 use std::test::Fail;
-use vme_trace::{Block, Break, Change, Changes, Level, Line, Lines, Rule, Step, Steps};
+use vme_trace::{Block, Break, Capture, Change, Changes, Level, Line, Lines, Rule, Step};
 
-/// A time, and the numbers of the lines that change at it, with their new levels.
-type Row<'a> = (u64, &'a [(u8, Level)]);
-
-type Judges = Both<Known, Outside>;
-
-const AS: u8 = 0;
-
-const DS0: u8 = 1;
-
-const DS1: u8 = 2;
-
-const DTACK: u8 = 3;
-
-const BERR: u8 = 4;
-
-const IACK: u8 = 5;
-
-const A24: u8 = 37;
-
-const A31: u8 = 44;
-
-const BBSY: u8 = 45;
-
-const HIGH: Level = Level::High;
-
-const LOW: Level = Level::Low;
-
-fn line_of(rt: &impl Abort, number: u8) -> Line {
-    Line::from_number(number).expect(rt, "a line")
+/// A recording: its slots, the levels of its opening, and its steps, ten units apart. A step is the lines that change, with their
+/// new levels. `high` is every line high, and `quiet` every line but A24 to A31.
+#[derive(Clone, Copy)]
+struct Recording {
+    slots: u8,
+    opening: &'static str,
+    steps: &'static str,
 }
 
-fn step_of(rt: &impl Abort, alloc: Global, row: Row<'_>) -> Result<Step, Fail> {
-    let mut list = SmallVec::new(alloc);
-    for (number, level) in row.1 {
-        list.push(Change {
-            line: line_of(rt, *number),
-            level: *level,
-        })?;
-    }
-    Ok(Step {
-        time: row.0,
-        changes: Changes::new(list),
+/// Six lines are unknown, and all others as in an idle bus that is busy.
+const DUMPED: &str = "high AM1=0 BBSY=0 AS=x DS0=x DS1=x DTACK=x BERR=x IACK=x";
+
+const READ: Recording = Recording {
+    slots: 1,
+    opening: DUMPED,
+    steps: "AS=1 DS0=1 DS1=1 DTACK=1 BERR=1 IACK=1;AS=0;DS0=0;DTACK=0;AS=1 DS0=1;DTACK=1",
+};
+
+const NOTHING: Recording = Recording {
+    slots: 1,
+    opening: DUMPED,
+    steps: "",
+};
+
+const STRAY_ANSWER: Recording = Recording {
+    slots: 1,
+    opening: DUMPED,
+    steps: "AS=1 DS0=1 DS1=1 DTACK=1 BERR=1 IACK=1;AS=0;DTACK=0;AS=1;DTACK=1",
+};
+
+const LOST_STROBE: Recording = Recording {
+    slots: 1,
+    opening: DUMPED,
+    steps: "AS=1 DS0=1 DS1=1 DTACK=1 BERR=1 IACK=1;AS=x;DS0=0;DTACK=0;AS=1 DS0=1;DTACK=1",
+};
+
+/// A request, a grant of level 3 to slot 2, and a cycle in which an answer comes before a strobe.
+const EARLY_ANSWER: Recording = Recording {
+    slots: 3,
+    opening: "",
+    steps: "quiet;BR3=0;BG3.0=0;BG3.1=0;BBSY=0 BR3=1;BG3.0=1;BG3.1=1;AM1=0 AM2=0 A05=0;AS=0;DTACK=0",
+};
+
+/// The change that a word says, as BR3=0.
+fn change_of(word: &str) -> Option<Change> {
+    let (name, level) = word.split_once('=')?;
+    let level = match level.as_bytes() {
+        [b'0'] => Level::Low,
+        [b'1'] => Level::High,
+        _ => Level::Unknown,
+    };
+    Some(Change {
+        line: Line::from_name(name.as_bytes())?,
+        level,
     })
 }
 
-fn block_of(
-    rt: &impl Abort,
-    alloc: Global,
-    opening: &Lines,
-    rows: &[Row<'_>],
-) -> Result<Block, Fail> {
+/// Adds that each line gets high, but those of some numbers.
+fn push_high(changes: &mut Vec<Change>, lines: &Lines, first: u8, last: u8) -> Result<(), Fail> {
+    for number in 0..159 {
+        let line = Line::from_number(number).ok_or("no such line")?;
+        if lines.has(line) && (number < first || last < number) {
+            changes.push(Change {
+                line,
+                level: Level::High,
+            })?;
+        }
+    }
+    Ok(())
+}
+
+/// The changes that a text says.
+fn changes_of(alloc: Global, lines: &Lines, text: &str) -> Result<Vec<Change>, Fail> {
+    let mut changes = Vec::new(alloc);
+    for word in text.split_whitespace() {
+        if word == "high" {
+            push_high(&mut changes, lines, 159, 159)?;
+        } else if word == "quiet" {
+            push_high(&mut changes, lines, 37, 44)?;
+        } else {
+            changes.push(change_of(word).ok_or("no change")?)?;
+        }
+    }
+    Ok(changes)
+}
+
+/// The steps that a text says.
+fn steps_of(alloc: Global, lines: &Lines, text: &str) -> Result<Vec<Step>, Fail> {
     let mut steps = Vec::new(alloc);
-    for row in rows {
-        steps.push(step_of(rt, alloc, *row)?)?;
+    for part in text.split(';') {
+        let changes = changes_of(alloc, lines, part)?;
+        if !changes.is_empty() {
+            let time = (steps.len() as u64).saturating_mul(10);
+            let list = SmallVec::from_slice(alloc, changes.as_slice())?;
+            steps.push(Step {
+                time,
+                changes: Changes::new(list),
+            })?;
+        }
     }
-    Ok(Block {
-        number: 0,
-        opening: *opening,
-        steps: Steps::new(steps),
-    })
+    Ok(steps)
 }
 
-/// The summary of some rows, and the levels that they leave.
+fn capture_of(alloc: Global, recording: Recording) -> Result<Capture, Fail> {
+    let mut opening = Lines::new(recording.slots).ok_or("no such backplane")?;
+    for change in changes_of(alloc, &opening, recording.opening)? {
+        if opening.has(change.line) {
+            opening.set(change.line, change.level);
+        }
+    }
+    let steps = steps_of(alloc, &opening, recording.steps)?;
+    Ok(Capture::new(opening, steps).ok().ok_or("malformed")?)
+}
+
 fn summary_of<M: Monitor>(
     rt: &impl Abort,
     alloc: Global,
-    opening: &Lines,
-    rows: &[Row<'_>],
-) -> Result<(M::Summary, Lines), Fail> {
-    let block = block_of(rt, alloc, opening, rows)?;
+    block: &Block,
+) -> Result<M::Summary, Fail> {
     block.check().expect(rt, "well formed");
-    assert!(rt; block.steps.as_slice().len() <= 1000);
-    let summary = M::summarise(alloc, &block.opening, block.steps.as_slice())?;
-    let mut left = *opening;
-    for step in block.steps.as_slice() {
-        left.apply(step.changes.as_slice());
-    }
-    Ok((summary, left))
-}
-
-/// The summaries of rows cut by a size.
-fn parts_of<M: Monitor>(
-    rt: &impl Abort,
-    alloc: Global,
-    opening: &Lines,
-    rows: &[Row<'_>],
-    size: usize,
-) -> Result<Vec<M::Summary>, Fail> {
-    assert!(rt; size > 0);
-    let mut parts = Vec::new(alloc);
-    let mut lines = *opening;
-    for piece in rows.chunks(size) {
-        let (summary, left) = summary_of::<M>(rt, alloc, &lines, piece)?;
-        parts.push(summary)?;
-        lines = left;
-    }
-    Ok(parts)
+    let steps = block.steps.as_slice();
+    assert!(rt; steps.len() <= 1000);
+    Ok(M::summarise(alloc, &block.opening, steps)?)
 }
 
 fn joined<M: Monitor>(
@@ -120,207 +146,82 @@ fn joined<M: Monitor>(
     Ok(join::<M>(alloc, first, second)?)
 }
 
-fn from_left<M: Monitor>(
+/// The summary of a recording that is cut into blocks.
+fn whole<M: Monitor>(
     rt: &impl Abort,
     alloc: Global,
-    parts: &[M::Summary],
+    capture: &Capture,
+    size: u32,
 ) -> Result<M::Summary, Fail> {
     let mut all = none::<M>(alloc)?;
-    for part in parts {
-        all = joined::<M>(rt, alloc, &all, part)?;
+    for block in capture.cut(alloc, size)? {
+        let part = summary_of::<M>(rt, alloc, &block)?;
+        all = joined::<M>(rt, alloc, &all, &part)?;
     }
     Ok(all)
 }
 
-fn from_right<M: Monitor>(
+/// What is found in a recording, whatever the size of the blocks: the first break, and that judging starts with its first step.
+fn assert_judged<M: Monitor>(
     rt: &impl Abort,
     alloc: Global,
-    parts: &[M::Summary],
-) -> Result<M::Summary, Fail> {
-    let mut all = none::<M>(alloc)?;
-    for part in parts.iter().rev() {
-        all = joined::<M>(rt, alloc, part, &all)?;
-    }
-    Ok(all)
-}
-
-/// The first half and the second, each from the left.
-fn by_halves<M: Monitor>(
-    rt: &impl Abort,
-    alloc: Global,
-    parts: &[M::Summary],
-) -> Result<M::Summary, Fail> {
-    let middle = parts.len() / 2;
-    let first = from_left::<M>(rt, alloc, &parts[..middle])?;
-    let second = from_right::<M>(rt, alloc, &parts[middle..])?;
-    joined::<M>(rt, alloc, &first, &second)
-}
-
-/// Lines of which nothing is known but that some are high, and BBSY* low.
-fn bound_lines(rt: &impl Abort) -> Lines {
-    let mut lines = Lines::new(1).expect(rt, "one slot");
-    for number in 6..159u8 {
-        let line = line_of(rt, number);
-        if lines.has(line) {
-            lines.set(
-                line,
-                if number == BBSY {
-                    Level::Low
-                } else {
-                    Level::High
-                },
-            );
-        }
-    }
-    lines
-}
-
-/// Every line of three slots high, but address lines 24 to 31.
-fn all_high(rt: &impl Abort, alloc: Global) -> Result<Vec<(u8, Level)>, Fail> {
-    let lines = Lines::new(3).expect(rt, "three slots");
-    let mut changes = Vec::new(alloc);
-    for number in 0..159u8 {
-        if (number < A24 || A31 < number) && lines.has(line_of(rt, number)) {
-            changes.push((number, Level::High))?;
-        }
-    }
-    Ok(changes)
-}
-
-fn assert_found(
-    rt: &impl Abort,
-    summary: &<Judges as Monitor>::Summary,
-    opening: &Lines,
-    want: Option<(u32, u64, Rule, u8)>,
-    started: bool,
-) {
-    let start = Judges::start(opening);
-    let found = Judges::event(summary, start);
-    let left = Judges::leaving(summary, start);
-    assert_eq!(rt; Known::started(left.0), started);
-    match want {
-        Some(want) => {
-            let found = found.expect(rt, "a break");
-            assert_eq!(rt; found.instant, want.0);
-            assert_eq!(rt; found.time, want.1);
-            assert_eq!(rt; found.rule, want.2);
-            assert_eq!(rt; found.line.number(), want.3);
-        }
-        None => assert!(rt; found.is_none()),
-    }
-}
-
-/// The same is found however the rows are cut and the parts are bracketed.
-fn assert_judged(
-    rt: &impl Abort,
-    alloc: Global,
-    opening: &Lines,
-    rows: &[Row<'_>],
-    want: Option<(u32, u64, Rule, u8)>,
-    starts: &[u32],
+    recording: Recording,
+    event: Option<Break>,
+    starts: &[Mark],
 ) -> Result<(), Fail> {
-    for size in [1, 2, 3, 9, 1000] {
-        let parts = parts_of::<Judges>(rt, alloc, opening, rows, size)?;
-        let left = from_left::<Judges>(rt, alloc, parts.as_slice())?;
-        let right = from_right::<Judges>(rt, alloc, parts.as_slice())?;
-        let halves = by_halves::<Judges>(rt, alloc, parts.as_slice())?;
-        for summary in [&left, &right, &halves] {
-            assert_found(rt, summary, opening, want, !starts.is_empty());
-            let marks = Judges::marks(alloc, summary, Judges::start(opening))?;
-            assert_eq!(rt; marks.len(), starts.len());
-            for (mark, start) in marks.iter().zip(starts) {
-                assert_eq!(rt; mark.instant, *start);
-                assert_eq!(rt; mark.kind, Kind::Start);
-            }
-        }
+    let capture = capture_of(alloc, recording)?;
+    for size in [1, 2, 3, 9, 65536] {
+        let all = whole::<M>(rt, alloc, &capture, size)?;
+        let start = M::start(capture.opening());
+        assert!(rt; M::event(&all, start) == event);
+        assert!(rt; M::marks(alloc, &all, start)?.as_slice() == starts);
     }
     Ok(())
 }
 
-#[test]
-fn judges_a_short_capture(rt: HostRuntime) -> Result<(), Fail> {
-    let alloc = rt.alloc();
-    let opening = bound_lines(&rt);
-    let highs = [
-        (AS, HIGH),
-        (DS0, HIGH),
-        (DS1, HIGH),
-        (DTACK, HIGH),
-        (BERR, HIGH),
-        (IACK, HIGH),
-    ];
-    let stray: [Row<'_>; 5] = [
-        (0, &highs),
-        (10, &[(AS, LOW)]),
-        (20, &[(DTACK, LOW)]),
-        (40, &[(AS, HIGH)]),
-        (50, &[(DTACK, HIGH)]),
-    ];
-    let lost: [Row<'_>; 6] = [
-        (0, &highs),
-        (10, &[(AS, Level::Unknown)]),
-        (20, &[(DS0, LOW)]),
-        (30, &[(DTACK, LOW)]),
-        (40, &[(AS, HIGH), (DS0, HIGH)]),
-        (50, &[(DTACK, HIGH)]),
-    ];
-    let whole: [Row<'_>; 6] = [
-        (0, &highs),
-        (10, &[(AS, LOW)]),
-        (20, &[(DS0, LOW)]),
-        (30, &[(DTACK, LOW)]),
-        (40, &[(AS, HIGH), (DS0, HIGH)]),
-        (50, &[(DTACK, HIGH)]),
-    ];
-    assert_judged(&rt, alloc, &opening, &[], None, &[])?;
-    assert_judged(
-        &rt,
-        alloc,
-        &opening,
-        &stray,
-        Some((3, 20, Rule::H4, DTACK)),
-        &[1],
-    )?;
-    assert_judged(
-        &rt,
-        alloc,
-        &opening,
-        &lost,
-        Some((2, 10, Rule::U1, AS)),
-        &[1],
-    )?;
-    assert_judged(&rt, alloc, &opening, &whole, None, &[1])
+/// The break of a rule on a line, in a recording whose steps stand ten units apart.
+fn break_of(instant: u32, rule: Rule, line: Line) -> Option<Break> {
+    Some(Break {
+        instant,
+        time: 10 * u64::from(instant.saturating_sub(1)),
+        rule,
+        line,
+    })
 }
 
-/// A request, a grant of level 3 to slot 2, and a cycle, in which an answer comes before a strobe.
-fn early_answer<'a>(highs: &'a [(u8, Level)]) -> [Row<'a>; 10] {
-    [
-        (0, highs),
-        (10, &[(49, LOW)]),
-        (20, &[(116, LOW)]),
-        (30, &[(117, LOW)]),
-        (40, &[(BBSY, LOW), (49, HIGH)]),
-        (50, &[(116, HIGH)]),
-        (60, &[(117, HIGH)]),
-        (70, &[(7, LOW), (8, LOW), (18, LOW)]),
-        (80, &[(AS, LOW)]),
-        (90, &[(DTACK, LOW)]),
-    ]
+/// What the monitors of lost lines and of stray answers find together.
+fn assert_verdicts<M: Monitor>(rt: &impl Abort, alloc: Global) -> Result<(), Fail> {
+    let start = [Mark {
+        instant: 1,
+        kind: Kind::Start,
+    }];
+    assert_judged::<M>(rt, alloc, READ, None, &start)?;
+    assert_judged::<M>(rt, alloc, NOTHING, None, &[])?;
+    let stray = break_of(3, Rule::H4, Line::DTACK);
+    assert_judged::<M>(rt, alloc, STRAY_ANSWER, stray, &start)?;
+    let lost = break_of(2, Rule::U1, Line::AS);
+    assert_judged::<M>(rt, alloc, LOST_STROBE, lost, &start)?;
+    let early = break_of(10, Rule::H4, Line::DTACK);
+    assert_judged::<M>(rt, alloc, EARLY_ANSWER, early, &start)
 }
 
 #[test]
-fn judges_an_early_answer(rt: HostRuntime) -> Result<(), Fail> {
-    let opening = Lines::new(3).expect(&rt, "three slots");
-    let highs = all_high(&rt, rt.alloc())?;
-    let rows = early_answer(highs.as_slice());
-    assert_judged(
-        &rt,
-        rt.alloc(),
-        &opening,
-        &rows,
-        Some((10, 90, Rule::H4, DTACK)),
-        &[1],
-    )
+fn judges_whatever_the_cut(rt: HostRuntime) -> Result<(), Fail> {
+    assert_verdicts::<Both<Known, Outside>>(&rt, rt.alloc())
+}
+
+/// Whether judging starts in a recording.
+fn is_started(rt: &impl Abort, alloc: Global, recording: Recording) -> Result<bool, Fail> {
+    let capture = capture_of(alloc, recording)?;
+    let all = whole::<Known>(rt, alloc, &capture, 2)?;
+    Ok(Known::started(Known::leaving(&all, Known::start(capture.opening()))))
+}
+
+#[test]
+fn tells_whether_judging_started(rt: HostRuntime) -> Result<(), Fail> {
+    assert!(rt; !is_started(&rt, rt.alloc(), NOTHING)?);
+    assert!(rt; is_started(&rt, rt.alloc(), LOST_STROBE)?);
+    Ok(())
 }
 
 /// From every memory, two summaries say the same.
@@ -343,17 +244,15 @@ fn assert_alike<M: Finite>(
     Ok(())
 }
 
+/// A summary of no steps, before or after any other, changes nothing that this says.
 fn assert_unit<M: Finite>(rt: &impl Abort, alloc: Global) -> Result<(), Fail> {
-    let opening = Lines::new(3).expect(rt, "three slots");
-    let highs = all_high(rt, alloc)?;
-    let rows = early_answer(highs.as_slice());
     let unit = none::<M>(alloc)?;
-    let parts = parts_of::<M>(rt, alloc, &opening, &rows, 1)?;
-    for part in &parts {
-        let before = joined::<M>(rt, alloc, &unit, part)?;
-        let after = joined::<M>(rt, alloc, part, &unit)?;
-        assert_alike::<M>(rt, alloc, &before, part)?;
-        assert_alike::<M>(rt, alloc, &after, part)?;
+    for block in capture_of(alloc, EARLY_ANSWER)?.cut(alloc, 1)? {
+        let part = summary_of::<M>(rt, alloc, &block)?;
+        let before = joined::<M>(rt, alloc, &unit, &part)?;
+        assert_alike::<M>(rt, alloc, &before, &part)?;
+        let after = joined::<M>(rt, alloc, &part, &unit)?;
+        assert_alike::<M>(rt, alloc, &after, &part)?;
     }
     Ok(())
 }

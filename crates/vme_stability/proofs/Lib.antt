@@ -8,3 +8,4 @@ pub mod HeldDirection
 pub mod HeldAddress
 pub mod Unnoticed
 pub mod StabilityJudges
+pub mod PassedNeeds

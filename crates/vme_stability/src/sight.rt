@@ -1,6 +1,7 @@
 //! What a step shows of the lines that are asked for and held, whatever is remembered.
 
-ghost use Rattle.std.specs.Prelude.{◌≡◌, IsTrue};
+ghost use Rattle.std.specs.Prelude.{◌≡◌, IsTrue, None, false};
+ghost use Rattle.vme_trace.specs.Cycle.{Needs};
 ghost use Rattle.vme_trace.specs.LineNumbers.{has_line};
 ghost use Rattle.vme_monitor.specs.OutsideSpec.{falls_between};
 ghost use Rattle.vme_stability.specs.StabilitySpec.{address_moved, changes_handshake, direction_turned, fault_on as fault_on_line, faults_unknown, first_needed as first_needed_of, rises_between, starts_between, strobe_rises_between, unknown_direction as unknown_direction_of, unknown_need};
@@ -115,11 +116,23 @@ fn first_needed(needed: &LineSet, changes: &[Change]) -> Option<Line>
     None
 }
 
+/// Whether another line than AS*, the strobes and the answers is among the changes: no cycle needs those.
+fn touches_others(changes: &[Change]) -> bool
+    ensures { result ≡ false → (needs : Needs) → first_needed_of needs changes.now ≡ None }
+{
+    for change in changes {
+        if change.line.number() > Line::BERR.number() {
+            return true;
+        }
+    }
+    false
+}
+
 /// The first changed line that a cycle needs whose address strobe was low before.
 fn moved_line(before: &Lines, changes: &[Change]) -> Option<Line>
     ensures { result ≡ address_moved before.now changes.now }
 {
-    if before.level(Line::AS).is_low() {
+    if before.level(Line::AS).is_low() && touches_others(changes) {
         first_needed(&needed(before), changes)
     } else {
         None

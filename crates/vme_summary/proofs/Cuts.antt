@@ -1,21 +1,17 @@
 -- The blocks of a cut.
-use Rattle.std.proofs.Common.{◌≡◌, ℕ, zero, suc, ◌+◌, ◌*◌, ◌<◌, ◌≤◌, true, List, [], ◌∷◌, ◌++◌, get_or, length, map, max, min, take, drop, refl, sym, ◌∙◌, ap, subst, arith, append-nil, append_assoc, length-append, Option, Some, None}
+use Rattle.std.proofs.Common.{◌≡◌, ℕ, zero, suc, ◌+◌, ◌*◌, ◌<◌, ◌≤◌, true, List, [], ◌∷◌, ◌++◌, get_or, length, map, take, drop, refl, sym, ◌∙◌, ap, subst, arith, append-nil, append_assoc, length-append, Some, None}
 use Rattle.std.specs.Prelude.{All, option_map, slice_get}
-use Rattle.std.specs.Int.{div_ceil}
 use Rattle.std.specs.List.{range_with_len}
 use Rattle.std.proofs.Math.Seq.{get_or-append_seam, take-add, take-append_seam}
-use Rattle.std.proofs.lemmas.Grind.{flat_map-append}
 use Rattle.std.proofs.lemmas.List.{length-take, take-append-drop}
 use Rattle.std.proofs.lemmas.List.FromFn.{get_or-map-range_with_len, length-map-range_with_len, map-range_with_len_more, take-map-range_with_len}
 use Rattle.vme_trace.specs.Blocks.{block_at, block_count, blocks_of, joined_steps}
-use Rattle.vme_trace.specs.Levels.{Levels}
-use Rattle.vme_trace.specs.Trace.{Trace, levels_after, levels_at}
+use Rattle.vme_trace.specs.Trace.{Trace, levels_at}
 use Rattle.vme_trace.specs.Block.{trace_of}
 use Rattle.vme_trace.specs.WellFormed.{malformed_step}
 use Rattle.vme_trace.specs.declared.block.Block.{Block}
-use Rattle.vme_trace.specs.declared.step.Step.{Step}
 use Rattle.vme_trace.proofs.CutBlocks.{joined-blocks, levels_at-first, levels_at-more, levels_at-taken}
-use Rattle.vme_summary.specs.Joins.{BlocksJoin, Follows, first_time, is_later, joined_trace, last_time, left_by}
+use Rattle.vme_summary.specs.Joins.{BlocksJoin, Follows, first_time, is_later, joined_trace, last_time}
 use Rattle.vme_summary.proofs.Times.{later_first}
 use Rattle.vme_summary.proofs.Chains.{steps-append}
 use Rattle.vme_summary.proofs.Sound.{SoundParts, sound_apart}

@@ -1,7 +1,6 @@
 -- Two extents, of blocks that join or don't.
-use Rattle.std.proofs.Common.{◌≡◌, ℕ, zero, suc, ◌+◌, ◌<◌, ◌↔◌, IsTrue, Bool, true, false, List, [], ◌∷◌, ◌++◌, refl, sym, ◌∙◌, ap, subst, arith, length, Option, Some, None}
-use Rattle.std.specs.Prelude.{All, option_map, slice_index_or}
-use Rattle.std.specs.List.{last_or}
+use Rattle.std.proofs.Common.{◌≡◌, ℕ, zero, suc, ◌+◌, ◌↔◌, IsTrue, Bool, true, false, List, [], ◌∷◌, ◌++◌, sym, ◌∙◌, ap, subst, arith, Some, None}
+use Rattle.std.specs.Prelude.{All, option_map}
 use Rattle.std.proofs.lemmas.List.Elements.{All-append}
 use Rattle.vme_trace.specs.Levels.{Levels}
 use Rattle.vme_trace.specs.Trace.{levels_after}
@@ -12,7 +11,7 @@ use Rattle.vme_trace.specs.declared.block.Block.{Block}
 use Rattle.vme_trace.specs.declared.step.Step.{Step}
 use Rattle.vme_trace.proofs.CutBlocks.{levels_after-append}
 use Rattle.vme_monitor.specs.Outcome.{Outcome, StandsFor}
-use Rattle.vme_summary.specs.Joins.{BlocksJoin, first_time, is_later, last_time, left_by}
+use Rattle.vme_summary.specs.Joins.{BlocksJoin, first_time, last_time, left_by}
 use Rattle.vme_summary.specs.Stands.{IsExtent, Meets, SpanStandsFor, joined_extent}
 use Rattle.vme_summary.specs.declared.extent.Extent.{Extent}
 use Rattle.vme_summary.specs.declared.span.Span.{Span}

@@ -6,3 +6,13 @@ pub mod Whole
 pub mod Cuts
 pub mod Halves
 pub mod SameLines
+pub mod Apart
+pub mod InstantMarks
+pub mod Forward
+pub mod ListedTransfers
+pub mod MarkedAddresses
+pub mod ListedEnd
+pub mod MarkedKinds
+pub mod MarkedRowsFound
+pub mod MarkedListing
+pub mod Listed

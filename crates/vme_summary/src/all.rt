@@ -2,7 +2,8 @@
 
 ghost use Rattle.std.specs.Prelude.{◌≡◌, Bool};
 ghost use Rattle.vme_monitor.specs.Spanned.{has_started};
-ghost use Rattle.vme_monitor.specs.Whole.{FindsLeast};
+ghost use Rattle.vme_monitor.specs.Whole.{FindsLeast, ShowsAll};
+ghost use Rattle.vme_summary.specs.AllShown.{chains_shown, held_shown, started_shown};
 ghost use Rattle.vme_summary.specs.Joint.{chain_rules, held_rules, started_rules};
 ghost use Rattle.vme_summary.specs.Tells.{JudgesAll};
 
@@ -26,9 +27,11 @@ type Started = Both<Dtb, Held>;
 /// The monitor of all rules in force.
 pub type All = Both<Known, Started>;
 
-/// Over a whole recording, the event of the two is the least break of the rules of the daisy chains.
+/// Over a whole recording, the event of the two is the least break of the rules of the daisy chains, and the marks are what both
+/// show.
 fn chains_over_captures()
-    ensures { FindsLeast ⟦<Chains as Monitor>⟧.run ⟦<Chains as Monitor>⟧.begin chain_rules }
+    ensures event { FindsLeast ⟦<Chains as Monitor>⟧.run ⟦<Chains as Monitor>⟧.begin chain_rules }
+    ensures marks { ShowsAll ⟦<Chains as Monitor>⟧.run ⟦<Chains as Monitor>⟧.begin chains_shown }
 {
     grants_over_captures();
     acknowledge_over_captures();
@@ -37,7 +40,8 @@ fn chains_over_captures()
 
 /// And with the rules of held lines.
 fn held_over_captures()
-    ensures { FindsLeast ⟦<Held as Monitor>⟧.run ⟦<Held as Monitor>⟧.begin held_rules }
+    ensures event { FindsLeast ⟦<Held as Monitor>⟧.run ⟦<Held as Monitor>⟧.begin held_rules }
+    ensures marks { ShowsAll ⟦<Held as Monitor>⟧.run ⟦<Held as Monitor>⟧.begin held_shown }
 {
     stability_over_captures();
     chains_over_captures();
@@ -46,7 +50,8 @@ fn held_over_captures()
 
 /// And with those of the handshake and of cycles.
 fn started_over_captures()
-    ensures { FindsLeast ⟦<Started as Monitor>⟧.run ⟦<Started as Monitor>⟧.begin started_rules }
+    ensures event { FindsLeast ⟦<Started as Monitor>⟧.run ⟦<Started as Monitor>⟧.begin started_rules }
+    ensures marks { ShowsAll ⟦<Started as Monitor>⟧.run ⟦<Started as Monitor>⟧.begin started_shown }
 {
     handshake_over_captures();
     held_over_captures();
@@ -62,8 +67,8 @@ pub trait Judging: Monitor {
     fn has_judged(memory: Self::Memory) -> bool
         ensures { result ≡ judged memory };
 
-    /// Over a whole recording, the event is the least break of the rules in force, and the memory that is left tells whether
-    /// anything was judged.
+    /// Over a whole recording, the event is the least break of the rules in force, the marks are what all of them show, and the
+    /// memory that is left tells whether anything was judged.
     fn over_captures()
         ensures { JudgesAll Self.run Self.begin judged };
 }

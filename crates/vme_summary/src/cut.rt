@@ -1,18 +1,20 @@
-//! The verdict on a capture that is cut into blocks.
+//! The verdict on a capture that is cut into blocks, and its listing.
 
-ghost use Rattle.std.specs.Prelude.{◌≡◌, ◌<◌, ◌≤◌, ◌↔◌, ◌⊎◌, List, [], ◌∷◌, ◌++◌, All, length, IfOk, IfErr, Err, None};
+ghost use Rattle.std.specs.Prelude.{◌≡◌, ◌<◌, ◌≤◌, ◌↔◌, ◌⊎◌, List, [], ◌∷◌, ◌++◌, All, length, IfOk, IfErr, Err, None, Some};
 ghost use Rattle.vme_trace.specs.Block.{trace_of};
-ghost use Rattle.vme_trace.specs.Blocks.{block_count, joined_steps};
+ghost use Rattle.vme_trace.specs.Blocks.{block_count, blocks_of, joined_steps};
 ghost use Rattle.vme_trace.specs.Verdict.{rules_in_force, verdict_by};
 ghost use Rattle.vme_trace.specs.WellFormed.{malformed_step};
 ghost use Rattle.vme_trace.specs.declared.block.Block.{Block};
-ghost use Rattle.vme_summary.specs.Joins.{BlocksJoin};
-ghost use Rattle.vme_summary.specs.Stands.{SpanStandsFor};
+ghost use Rattle.vme_listing.specs.Recorded.{listing_of};
+ghost use Rattle.vme_summary.specs.Joins.{BlocksJoin, joined_trace};
+ghost use Rattle.vme_summary.specs.Stands.{SpanStandsFor, first_number};
 
 use crate::all::{All, Judging};
 use crate::judged::judge_block;
 use crate::span::{JoinFault, Span, join};
 use std::alloc::Global;
+use vme_listing::Listing;
 use vme_monitor::monitor::Monitor;
 use vme_trace::{Block, Capture, CutFault, Verdict};
 
@@ -71,6 +73,27 @@ pub fn judge_blocks<M: Monitor>(alloc: Global, blocks: Vec<Block>) -> Result<Spa
     join_last(alloc, &mut blocks, count)
 }
 
+/// The span of the blocks of a capture.
+fn span_in_blocks<M: Monitor>(
+    alloc: Global,
+    capture: &Capture,
+    size: u32,
+) -> Result<Span<M>, CutFault>
+    ensures bad_size { (result ≡ Err CutFault.BadSize) ↔ ((size ≡ 0) ⊎ (65536 < size)) }
+    ensures too_many { (result ≡ Err CutFault.TooManyBlocks) ↔ ((0 < size) × (size ≤ 65536) × (4096 < block_count size capture.now)) }
+    ensures first { IfOk result (λ span. first_number span ≡ 0) }
+    ensures stands { IfOk result (λ span. SpanStandsFor M.run M.outcome M.count span (blocks_of size capture.now)) }
+    ensures whole { IfOk result (λ span. joined_trace (blocks_of size capture.now) ≡ Some capture.now) }
+{
+    prove!(capture.steps().len() <= 268435456);
+    let blocks = capture.cut(alloc, size)?;
+    match judge_blocks::<M>(alloc, blocks) {
+        Ok(span) => Ok(span),
+        Err(JoinFault::Memory) => Err(CutFault::Memory),
+        Err(JoinFault::Torn) => unreachable!(),
+    }
+}
+
 /// The verdict on a capture by a monitor of all rules in force.
 fn verdict_in_blocks<M: Judging>(
     alloc: Global,
@@ -81,12 +104,24 @@ fn verdict_in_blocks<M: Judging>(
     ensures too_many { (result ≡ Err CutFault.TooManyBlocks) ↔ ((0 < size) × (size ≤ 65536) × (4096 < block_count size capture.now)) }
     ensures verdict { IfOk result (λ verdict. verdict ≡ verdict_by rules_in_force capture.now) }
 {
-    prove!(capture.steps().len() <= 268435456);
-    let blocks = capture.cut(alloc, size)?;
-    match judge_blocks::<M>(alloc, blocks) {
-        Ok(span) => Ok(span.verdict()),
-        Err(JoinFault::Memory) => Err(CutFault::Memory),
-        Err(JoinFault::Torn) => unreachable!(),
+    let span = span_in_blocks::<M>(alloc, capture, size)?;
+    Ok(span.verdict())
+}
+
+/// The listing of a capture by a monitor of all rules in force.
+fn listing_in_blocks<M: Judging>(
+    alloc: Global,
+    capture: &Capture,
+    size: u32,
+) -> Result<Listing, CutFault>
+    ensures bad_size { (result ≡ Err CutFault.BadSize) ↔ ((size ≡ 0) ⊎ (65536 < size)) }
+    ensures too_many { (result ≡ Err CutFault.TooManyBlocks) ↔ ((0 < size) × (size ≤ 65536) × (4096 < block_count size capture.now)) }
+    ensures listing { IfOk result (λ listing. listing ≡ listing_of capture.now) }
+{
+    let span = span_in_blocks::<M>(alloc, capture, size)?;
+    match span.listing(alloc) {
+        Ok(listing) => Ok(listing),
+        Err(_) => Err(CutFault::Memory),
     }
 }
 
@@ -98,4 +133,14 @@ pub fn verdict_by_blocks(alloc: Global, capture: &Capture, size: u32) -> Result<
     ensures verdict { IfOk result (λ verdict. verdict ≡ verdict_by rules_in_force capture.now) }
 {
     verdict_in_blocks::<All>(alloc, capture, size)
+}
+
+/// The listing of a capture by the rules in force: its tenures, cycles and transfers before the least break, and the verdict. It
+/// is cut and judged as [`verdict_by_blocks`] does, with the same faults.
+pub fn listing_by_blocks(alloc: Global, capture: &Capture, size: u32) -> Result<Listing, CutFault>
+    ensures bad_size { (result ≡ Err CutFault.BadSize) ↔ ((size ≡ 0) ⊎ (65536 < size)) }
+    ensures too_many { (result ≡ Err CutFault.TooManyBlocks) ↔ ((0 < size) × (size ≤ 65536) × (4096 < block_count size capture.now)) }
+    ensures listing { IfOk result (λ listing. listing ≡ listing_of capture.now) }
+{
+    listing_in_blocks::<All>(alloc, capture, size)
 }

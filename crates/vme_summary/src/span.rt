@@ -6,13 +6,17 @@ ghost use Rattle.vme_trace.specs.Blocks.{joined_steps};
 ghost use Rattle.vme_trace.specs.Trace.{Trace};
 ghost use Rattle.vme_trace.specs.Verdict.{rules_in_force, verdict_by, verdict_on};
 ghost use Rattle.vme_trace.specs.declared.block.Block.{Block};
+ghost use Rattle.vme_listing.specs.Recorded.{listing_of};
 ghost use Rattle.vme_summary.specs.Joins.{BlocksJoin, joined_trace};
 ghost use Rattle.vme_summary.specs.Stands.{SpanStandsFor, first_number, step_count};
-ghost use Rattle.vme_summary.specs.Tells.{Tells};
+ghost use Rattle.vme_summary.specs.Tells.{Shows, Tells};
 
 use crate::all::{All, Judging};
 use crate::extent::Extent;
-use std::alloc::Global;
+use crate::rows::listing_by;
+use std::alloc::{AllocError, Global};
+use vme_listing::Listing;
+use vme_monitor::mark::Mark;
 use vme_monitor::monitor::{Monitor, join as join_summaries};
 use vme_trace::{Break, Verdict};
 
@@ -68,6 +72,13 @@ impl<M: Monitor> Span<M> {
             M::event(&self.summary, start),
         )
     }
+
+    /// What is shown over a recording that these blocks make, break or not.
+    fn shown(&self, alloc: Global) -> Result<Vec<Mark>, AllocError>
+        ensures { IfOk result (λ marks. (blocks : List Block) (t : Trace) → SpanStandsFor M.run M.outcome M.count self.now blocks → joined_trace blocks ≡ Some t → Shows M.run M.begin t self.now.extent.opening marks.items) }
+    {
+        M::marks(alloc, &self.summary, M::start(&self.extent.opening))
+    }
 }
 
 /// The verdict that an event gives.
@@ -95,6 +106,24 @@ impl<M: Judging> Span<M> {
         } else {
             Verdict::NeverIdle
         }
+    }
+
+    /// The listing, by the rules in force, of the recording that the blocks make. The first of them has to be the recording's
+    /// first. It takes time proportional to what is shown.
+    pub fn listing(&self, alloc: Global) -> Result<Listing, AllocError>
+        requires { first_number self.now ≡ 0 }
+        ensures { IfOk result (λ listing. (blocks : List Block) → SpanStandsFor M.run M.outcome M.count self.now blocks → option_map listing_of (joined_trace blocks) ≡ Some listing) }
+    {
+        M::over_captures();
+        let (memory, event) = self.told();
+        let marks = self.shown(alloc)?;
+        listing_by(
+            alloc,
+            &self.extent.opening,
+            M::has_judged(memory),
+            event,
+            marks.as_slice(),
+        )
     }
 }
 

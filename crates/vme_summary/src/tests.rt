@@ -1,4 +1,4 @@
-use crate::all::All;
+use crate::all::{All, Judging};
 use crate::cut::verdict_by_blocks;
 use crate::judged::{Judged, judge_block};
 use crate::span::{JoinFault, Span, join};
@@ -13,100 +13,349 @@ use vme_trace::{
     Verdict,
 };
 
-/// The lines that change at a step, in their order, and the levels that they get.
-type Row<'a> = &'a [(Line, Level)];
+/// How a recording starts: its slots, the levels of its opening, and its first steps. A step is the lines that change, with their
+/// new levels, and they stand ten units apart. `high` is every line high, and `quiet` every line but A24 to A31.
+#[derive(Clone, Copy)]
+struct Start {
+    slots: u8,
+    opening: &'static str,
+    steps: &'static str,
+}
 
-const HIGH: Level = Level::High;
+/// The verdict on a recording, with the line by its name.
+#[derive(Clone, Copy)]
+enum Expected {
+    Conforming,
+    NeverIdle,
+    Broken(u32, Rule, &'static str),
+    Unreadable(u32, Rule, &'static str),
+}
 
-const LOW: Level = Level::Low;
+use Expected::{Broken, Conforming, NeverIdle, Unreadable};
 
-fn step_of(alloc: Global, time: u64, row: Row<'_>) -> Result<Step, Fail> {
-    let mut list = SmallVec::new(alloc);
-    for (line, level) in row {
-        list.push(Change {
-            line: *line,
-            level: *level,
-        })?;
-    }
-    Ok(Step {
-        time,
-        changes: Changes::new(list),
+/// Six lines are unknown, and all others as in an idle bus that is busy.
+const DUMPED: Start = Start {
+    slots: 1,
+    opening: "high AM1=0 BBSY=0 AS=x DS0=x DS1=x DTACK=x BERR=x IACK=x",
+    steps: "",
+};
+
+/// The bus gets quiet, and a requester in slot 2 takes it by level 3.
+const GRANTED: Start = Start {
+    slots: 3,
+    opening: "",
+    steps: "quiet;BR3=0;BG3.0=0;BG3.1=0;BBSY=0 BR3=1;BG3.0=1;BG3.1=1",
+};
+
+/// The same on a bus that is quiet from the opening on.
+const GRANTED_FROM_IDLE: Start = Start {
+    slots: 3,
+    opening: "quiet",
+    steps: "BR3=0;BG3.0=0;BG3.1=0;BBSY=0 BR3=1;BG3.0=1;BG3.1=1",
+};
+
+/// The bus gets quiet, and a grant goes on to slot 3.
+const PASSED_ON: Start = Start {
+    slots: 3,
+    opening: "",
+    steps: "quiet;BR3=0;BG3.0=0;BG3.1=0;BG3.2=0",
+};
+
+/// A read by modifier 39.
+const READ: &str = "AM1=0 AM2=0 A05=0;AS=0;DS0=0 DS1=0;DTACK=0;AS=1 DS0=1 DS1=1;DTACK=1;BBSY=1";
+
+/// Recordings as a dump gives them.
+const DUMPS: [(Start, &'static str, Expected); 4] = [
+    (
+        DUMPED,
+        "AS=1 DS0=1 DS1=1 DTACK=1 BERR=1 IACK=1;AS=0;DS0=0;DTACK=0;AS=1 DS0=1;DTACK=1",
+        Conforming,
+    ),
+    (DUMPED, "", NeverIdle),
+    (
+        DUMPED,
+        "AS=1 DS0=1 DS1=1 DTACK=1 BERR=1 IACK=1;AS=0;DTACK=0;AS=1;DTACK=1",
+        Broken(3, Rule::H4, "DTACK"),
+    ),
+    (
+        DUMPED,
+        "AS=1 DS0=1 DS1=1 DTACK=1 BERR=1 IACK=1;AS=x;DS0=0;DTACK=0;AS=1 DS0=1;DTACK=1",
+        Unreadable(2, Rule::U1, "AS"),
+    ),
+];
+
+/// Transfers and cycles.
+const CYCLES: [(Start, &'static str, Expected); 9] = [
+    (GRANTED, READ, Conforming),
+    (GRANTED_FROM_IDLE, READ, Conforming),
+    (
+        GRANTED,
+        "AM1=0 AM2=0 A05=0;AS=0;DS0=0 DS1=0;DTACK=0;AS=1;A05=1;AS=0;DS0=1 DS1=1;DTACK=1;DS0=0 DS1=0;DTACK=0;AS=1 DS0=1 DS1=1;DTACK=1 BBSY=1",
+        Conforming,
+    ),
+    (
+        GRANTED,
+        "AM1=0 A05=0;AS=0;DS0=0 DS1=0;DTACK=0;DS0=1 DS1=1;DTACK=1;WRITE=0;DS0=0 DS1=0;DTACK=0;AS=1 DS0=1 DS1=1;DTACK=1",
+        Conforming,
+    ),
+    (
+        GRANTED,
+        "AM1=0 WRITE=0 A05=0;AS=0;DS0=0 DS1=0;DTACK=0;DS0=1 DS1=1;DTACK=1;WRITE=1;DS0=0 DS1=0;DTACK=0;AS=1 DS0=1 DS1=1;DTACK=1",
+        Broken(16, Rule::C1, "DTACK"),
+    ),
+    (
+        GRANTED,
+        "AM2=0 A05=0;AS=0;DS0=0 DS1=0;DTACK=0;DS0=1 DS1=1;DTACK=1 WRITE=0;DS0=0 DS1=0;DTACK=0",
+        Broken(15, Rule::C2, "DTACK"),
+    ),
+    (
+        GRANTED,
+        "AM1=0 AM2=0 A05=0;AS=0;DTACK=0",
+        Broken(10, Rule::H4, "DTACK"),
+    ),
+    (
+        GRANTED,
+        "AM1=0 AM2=0 A05=0;AS=0;DS0=0 DS1=0;DS0=1 DS1=1 DTACK=0;AS=1;DTACK=1;BBSY=1",
+        Conforming,
+    ),
+    (
+        GRANTED,
+        "AM1=0 AM2=0 A05=0;AS=0;DS0=0 DS1=0;DS0=1 DS1=1;DTACK=0",
+        Broken(11, Rule::H2, "DS0"),
+    ),
+];
+
+/// Lines that a cycle needs.
+const HELD: [(Start, &'static str, Expected); 6] = [
+    (
+        GRANTED,
+        "AM1=0 AM2=0 AM4=0 A05=0;AS=0;DS0=0 DS1=0;DTACK=0;AS=1 DS0=1 DS1=1;DTACK=1;BBSY=1",
+        Conforming,
+    ),
+    (
+        GRANTED,
+        "AM1=0 AM2=0 AM4=0 A05=0;AS=0;DS0=0 DS1=0 A05=1;DTACK=0;AS=1 DS0=1 DS1=1;DTACK=1;BBSY=1",
+        Broken(10, Rule::S1, "A05"),
+    ),
+    (
+        GRANTED,
+        "AM1=0 AM2=0 AM4=0 A05=0;AS=0;DS0=0 DS1=0;DTACK=0 A05=1;AS=1 DS0=1 DS1=1;DTACK=1;BBSY=1",
+        Conforming,
+    ),
+    (
+        GRANTED,
+        "AM1=0 AM2=0 AM4=0 A05=0;AS=0;DS0=0 DS1=0 A16=0;DTACK=0;AS=1 DS0=1 DS1=1;DTACK=1;BBSY=1",
+        Conforming,
+    ),
+    (
+        GRANTED,
+        "AM1=0 AM2=0 AM3=x A05=0;AS=0;DS0=0 DS1=0;DTACK=0;AS=1 DS0=1 DS1=1;DTACK=1;BBSY=1",
+        Unreadable(9, Rule::U2, "AM3"),
+    ),
+    (
+        GRANTED,
+        "A05=0;AS=0;DS0=0 DS1=0;DTACK=0;AS=1 DS0=1 DS1=1;DTACK=1;BBSY=1",
+        Conforming,
+    ),
+];
+
+/// Grants and interrupt acknowledges.
+const CHAINS: [(Start, &'static str, Expected); 9] = [
+    (
+        PASSED_ON,
+        "BBSY=0 BR3=1;BBSY=1;BBSY=0",
+        Broken(8, Rule::B2, "BBSY"),
+    ),
+    (
+        PASSED_ON,
+        "BBSY=0 BR3=1;BG3.0=1;BG3.1=1;BG3.2=1;BBSY=1;BBSY=0",
+        Broken(11, Rule::B1, "BBSY"),
+    ),
+    (PASSED_ON, "BG3.3=0;BBSY=0", Broken(7, Rule::B4, "BBSY")),
+    (
+        PASSED_ON,
+        "BG3.3=0;BG3.0=1;BG3.1=1 BG3.2=1 BG3.3=1",
+        Conforming,
+    ),
+    (
+        GRANTED,
+        "IACK=0 A02=0;AS=0;DS0=0;IA.1=0;DTACK=0;AS=1 DS0=1 IA.1=1;DTACK=1 IACK=1;BBSY=1",
+        Conforming,
+    ),
+    (
+        GRANTED,
+        "IACK=0 WRITE=0 A02=0;AS=0;DS0=0;IA.1=0;DTACK=0;AS=1 DS0=1 IA.1=1;DTACK=1 IACK=1;BBSY=1",
+        Broken(12, Rule::I4, "DTACK"),
+    ),
+    (
+        GRANTED,
+        "IACK=0 A02=0;AS=0;DS0=0;IA.2=0",
+        Broken(11, Rule::I1, "IA.2"),
+    ),
+    (
+        GRANTED,
+        "IACK=0 A02=0;AS=0;IA.1=0",
+        Broken(10, Rule::I2, "IA.1"),
+    ),
+    (
+        GRANTED,
+        "IACK=0 A02=0;AS=0;DS0=0;DTACK=0;IA.1=0",
+        Broken(12, Rule::I3, "IA.1"),
+    ),
+];
+
+/// The break of a recording whose steps stand ten units apart.
+fn break_of(instant: u32, rule: Rule, name: &str) -> Option<Break> {
+    Some(Break {
+        instant,
+        time: 10 * u64::from(instant.saturating_sub(1)),
+        rule,
+        line: Line::from_name(name.as_bytes())?,
     })
 }
 
-/// Every line high, except A24 to A31.
-fn quiet_step(alloc: Global, lines: &Lines) -> Result<Step, Fail> {
-    let mut list = SmallVec::new(alloc);
-    for number in 0..159 {
-        let line = Line::from_number(number).ok_or("no such line")?;
-        if lines.has(line) && (number < 37 || 44 < number) {
-            list.push(Change { line, level: HIGH })?;
+fn verdict_of(expected: Expected) -> Option<Verdict> {
+    match expected {
+        Conforming => Some(Verdict::Conforming),
+        NeverIdle => Some(Verdict::NeverIdle),
+        Broken(instant, rule, name) => Some(Verdict::Broken(break_of(instant, rule, name)?)),
+        Unreadable(instant, rule, name) => {
+            Some(Verdict::Unreadable(break_of(instant, rule, name)?))
         }
     }
-    Ok(Step {
-        time: 0,
-        changes: Changes::new(list),
+}
+
+/// The change that a word says, as BR3=0.
+fn change_of(word: &str) -> Option<Change> {
+    let (name, level) = word.split_once('=')?;
+    let level = match level.as_bytes() {
+        [b'0'] => Level::Low,
+        [b'1'] => Level::High,
+        _ => Level::Unknown,
+    };
+    Some(Change {
+        line: Line::from_name(name.as_bytes())?,
+        level,
     })
 }
 
-/// A capture of three slots, all lines unknown: the bus gets quiet, and then the rows follow, ten units apart.
-fn capture_of(rt: &impl Abort, alloc: Global, rows: &[Row<'_>]) -> Result<Capture, Fail> {
-    let lines = Lines::new(3).expect(rt, "three slots");
-    let mut steps = Vec::new(alloc);
-    steps.push(quiet_step(alloc, &lines)?)?;
-    let mut time = 0;
-    for row in rows {
-        assert!(rt; time < 1000);
-        time += 10;
-        steps.push(step_of(alloc, time, *row)?)?;
+/// Adds that each line gets high, but those of some numbers.
+fn push_high(changes: &mut Vec<Change>, lines: &Lines, first: u8, last: u8) -> Result<(), Fail> {
+    for number in 0..159 {
+        let line = Line::from_number(number).ok_or("no such line")?;
+        if lines.has(line) && (number < first || last < number) {
+            changes.push(Change {
+                line,
+                level: Level::High,
+            })?;
+        }
     }
-    Ok(Capture::new(lines, steps).ok().ok_or("malformed")?)
+    Ok(())
 }
 
-/// A requester takes the bus by level 3 in slot 2, and reads.
-fn read_capture(rt: &impl Abort, alloc: Global) -> Result<Capture, Fail> {
-    let request = Line::bus_request(3);
-    let rows: [Row<'_>; 13] = [
-        &[(request, LOW)],
-        &[(Line::grant(3, 0), LOW)],
-        &[(Line::grant(3, 1), LOW)],
-        &[(Line::BBSY, LOW), (request, HIGH)],
-        &[(Line::grant(3, 0), HIGH)],
-        &[(Line::grant(3, 1), HIGH)],
-        &[
-            (Line::address_modifier(1), LOW),
-            (Line::address_modifier(2), LOW),
-            (Line::address(5), LOW),
-        ],
-        &[(Line::AS, LOW)],
-        &[(Line::DS0, LOW), (Line::DS1, LOW)],
-        &[(Line::DTACK, LOW)],
-        &[(Line::AS, HIGH), (Line::DS0, HIGH), (Line::DS1, HIGH)],
-        &[(Line::DTACK, HIGH)],
-        &[(Line::BBSY, HIGH)],
-    ];
-    capture_of(rt, alloc, &rows)
+/// The changes that a text says.
+fn changes_of(alloc: Global, lines: &Lines, text: &str) -> Result<Vec<Change>, Fail> {
+    let mut changes = Vec::new(alloc);
+    for word in text.split_whitespace() {
+        if word == "high" {
+            push_high(&mut changes, lines, 159, 159)?;
+        } else if word == "quiet" {
+            push_high(&mut changes, lines, 37, 44)?;
+        } else {
+            changes.push(change_of(word).ok_or("no change")?)?;
+        }
+    }
+    Ok(changes)
 }
 
-/// The same up to the fall of AS*, and then an answer that nobody asked for.
-fn stray_capture(rt: &impl Abort, alloc: Global) -> Result<Capture, Fail> {
-    let request = Line::bus_request(3);
-    let rows: [Row<'_>; 9] = [
-        &[(request, LOW)],
-        &[(Line::grant(3, 0), LOW)],
-        &[(Line::grant(3, 1), LOW)],
-        &[(Line::BBSY, LOW), (request, HIGH)],
-        &[(Line::grant(3, 0), HIGH)],
-        &[(Line::grant(3, 1), HIGH)],
-        &[
-            (Line::address_modifier(1), LOW),
-            (Line::address_modifier(2), LOW),
-            (Line::address(5), LOW),
-        ],
-        &[(Line::AS, LOW)],
-        &[(Line::DTACK, LOW)],
-    ];
-    capture_of(rt, alloc, &rows)
+fn step_of(alloc: Global, lines: &Lines, time: u64, text: &str) -> Result<Step, Fail> {
+    let changes = changes_of(alloc, lines, text)?;
+    Ok(Step {
+        time,
+        changes: Changes::new(SmallVec::from_slice(alloc, changes.as_slice())?),
+    })
+}
+
+/// Adds the steps of a text.
+fn push_steps(alloc: Global, steps: &mut Vec<Step>, lines: &Lines, text: &str) -> Result<(), Fail> {
+    for part in text.split(';') {
+        if !part.is_empty() {
+            let time = (steps.len() as u64).saturating_mul(10);
+            steps.push(step_of(alloc, lines, time, part)?)?;
+        }
+    }
+    Ok(())
+}
+
+fn capture_of(alloc: Global, start: Start, text: &str) -> Result<Capture, Fail> {
+    let mut opening = Lines::new(start.slots).ok_or("no such backplane")?;
+    for change in changes_of(alloc, &opening, start.opening)? {
+        if opening.has(change.line) {
+            opening.set(change.line, change.level);
+        }
+    }
+    let mut steps = Vec::new(alloc);
+    push_steps(alloc, &mut steps, &opening, start.steps)?;
+    push_steps(alloc, &mut steps, &opening, text)?;
+    Ok(Capture::new(opening, steps).ok().ok_or("malformed")?)
+}
+
+/// The verdict. Where memory is short once, the capture is judged again.
+fn verdict_in(alloc: Global, capture: &Capture, size: u32) -> Result<Verdict, CutFault> {
+    match verdict_by_blocks(alloc, capture, size) {
+        Err(CutFault::Memory) => verdict_by_blocks(alloc, capture, size),
+        answer => answer,
+    }
+}
+
+/// A recording gets its verdict, whatever the size of the blocks.
+fn assert_verdict(
+    rt: &impl Abort,
+    alloc: Global,
+    capture: &Capture,
+    verdict: Verdict,
+) -> Result<(), Fail> {
+    for size in [1, 2, 5, 9, 65536] {
+        assert_eq!(rt;
+            verdict_in(alloc, capture, size)?,
+            verdict,
+            "in blocks of {size}"
+        );
+    }
+    Ok(())
+}
+
+fn assert_verdicts(
+    rt: &impl Abort,
+    alloc: Global,
+    recordings: &[(Start, &str, Expected)],
+) -> Result<(), Fail> {
+    for (start, text, expected) in recordings {
+        let capture = capture_of(alloc, *start, text)?;
+        let verdict = verdict_of(*expected).ok_or("no such line")?;
+        assert_verdict(rt, alloc, &capture, verdict)?;
+    }
+    Ok(())
+}
+
+#[test]
+fn verdicts(rt: HostRuntime) -> Result<(), Fail> {
+    assert_verdicts(&rt, rt.alloc(), &DUMPS)?;
+    assert_verdicts(&rt, rt.alloc(), &CYCLES)?;
+    assert_verdicts(&rt, rt.alloc(), &HELD)?;
+    assert_verdicts(&rt, rt.alloc(), &CHAINS)
+}
+
+#[test]
+fn bad_sizes(rt: HostRuntime) -> Result<(), Fail> {
+    let capture = capture_of(rt.alloc(), GRANTED, READ)?;
+    for size in [0, 65537] {
+        assert_eq!(rt;
+            verdict_in(rt.alloc(), &capture, size),
+            Err(CutFault::BadSize)
+        );
+    }
+    Ok(())
 }
 
 /// The span of a block. Where memory is short once, the block that comes back is judged again.
@@ -125,31 +374,18 @@ fn joined<M: Monitor>(
     alloc: Global,
     first: &Span<M>,
     second: &Span<M>,
-) -> Result<Result<Span<M>, JoinFault>, Fail> {
+) -> Result<Span<M>, JoinFault> {
     assert!(rt; first.steps() <= 1000);
     assert!(rt; second.steps() <= 1000);
     match join(alloc, first, second) {
-        Err(JoinFault::Memory) => Ok(join(alloc, first, second)),
-        answer => Ok(answer),
+        Err(JoinFault::Memory) => join(alloc, first, second),
+        answer => answer,
     }
 }
 
-fn together<M: Monitor>(
-    rt: &impl Abort,
-    alloc: Global,
-    first: &Span<M>,
-    second: &Span<M>,
-) -> Result<Span<M>, Fail> {
-    Ok(joined(rt, alloc, first, second)?.ok().ok_or("torn")?)
-}
-
-/// The spans of the blocks of a cut.
-fn spans_of<M: Monitor>(
-    rt: &impl Abort,
-    alloc: Global,
-    capture: &Capture,
-    size: u32,
-) -> Result<Vec<Span<M>>, Fail> {
+/// The spans of the blocks of a read that is cut.
+fn read_spans<M: Monitor>(rt: &impl Abort, alloc: Global, size: u32) -> Result<Vec<Span<M>>, Fail> {
+    let capture = capture_of(alloc, GRANTED, READ)?;
     let mut spans = Vec::new(alloc);
     for block in capture.cut(alloc, size)? {
         let number = block.number;
@@ -160,11 +396,14 @@ fn spans_of<M: Monitor>(
     Ok(spans)
 }
 
-/// How spans are put in brackets.
-#[derive(Clone, Copy)]
-enum Brackets {
-    Left,
-    Right,
+/// The join of two spans that aren't torn.
+fn together<M: Monitor>(
+    rt: &impl Abort,
+    alloc: Global,
+    first: &Span<M>,
+    second: &Span<M>,
+) -> Result<Span<M>, Fail> {
+    Ok(joined(rt, alloc, first, second).ok().ok_or("torn")?)
 }
 
 fn from_left<M: Monitor>(
@@ -197,104 +436,93 @@ fn from_right<M: Monitor>(
     Ok(all.ok_or("no spans")?)
 }
 
-/// The span of a read that is cut into single steps.
-fn read_span<M: Monitor>(
+/// The first span joined with the second, the third with the fourth, and so on.
+fn paired<M: Monitor>(
     rt: &impl Abort,
     alloc: Global,
-    brackets: Brackets,
+    spans: Vec<Span<M>>,
+) -> Result<Vec<Span<M>>, Fail> {
+    let mut pairs = Vec::new(alloc);
+    let mut odd = None;
+    for span in spans {
+        odd = match odd {
+            None => Some(span),
+            Some(first) => {
+                pairs.push(together(rt, alloc, &first, &span)?)?;
+                None
+            }
+        };
+    }
+    if let Some(last) = odd {
+        pairs.push(last)?;
+    }
+    Ok(pairs)
+}
+
+fn by_halves<M: Monitor>(
+    rt: &impl Abort,
+    alloc: Global,
+    spans: Vec<Span<M>>,
 ) -> Result<Span<M>, Fail> {
-    let capture = read_capture(rt, alloc)?;
-    let spans = spans_of::<M>(rt, alloc, &capture, 1)?;
-    assert_eq!(rt; spans.len(), 14);
-    let all = match brackets {
-        Brackets::Left => from_left(rt, alloc, spans)?,
-        Brackets::Right => from_right(rt, alloc, spans)?,
-    };
-    assert_eq!(rt; (all.first(), all.last(), all.steps()), (0, 13, 14));
-    Ok(all)
+    let mut spans = spans;
+    for _ in 0..4 {
+        spans = paired(rt, alloc, spans)?;
+    }
+    Ok(spans.pop().ok_or("no spans")?)
+}
+
+/// The span is that of the whole read, which conforms.
+fn assert_whole<M: Judging>(rt: &impl Abort, all: &Span<M>) {
+    assert_eq!(rt; (all.last(), all.steps()), (13, 14));
+    assert!(rt; all.first() == 0);
+    assert_eq!(rt; all.verdict(), Verdict::Conforming);
+}
+
+/// A read that is cut into single steps conforms, however they are joined.
+fn assert_bracketed<M: Judging>(rt: &impl Abort, alloc: Global) -> Result<(), Fail> {
+    let left = from_left(rt, alloc, read_spans::<M>(rt, alloc, 1)?)?;
+    assert_whole(rt, &left);
+    let right = from_right(rt, alloc, read_spans::<M>(rt, alloc, 1)?)?;
+    assert_whole(rt, &right);
+    let halves = by_halves(rt, alloc, read_spans::<M>(rt, alloc, 1)?)?;
+    assert_whole(rt, &halves);
+    Ok(())
 }
 
 #[test]
 fn joined_in_any_brackets(rt: HostRuntime) -> Result<(), Fail> {
-    for brackets in [Brackets::Left, Brackets::Right] {
-        let all = read_span::<All>(&rt, rt.alloc(), brackets)?;
-        assert!(rt; all.first() == 0);
-        assert_eq!(rt; all.verdict(), Verdict::Conforming);
-    }
-    Ok(())
+    assert_bracketed::<All>(&rt, rt.alloc())
 }
 
-#[test]
-fn cuts_by_halves(rt: HostRuntime) -> Result<(), Fail> {
-    let capture = read_capture(&rt, rt.alloc())?;
-    for size in [1, 5, 14, 65536] {
-        assert_eq!(rt;
-            verdict_by_blocks(rt.alloc(), &capture, size)?,
-            Verdict::Conforming
-        );
-    }
-    for size in [0, 65537] {
-        assert_eq!(rt;
-            verdict_by_blocks(rt.alloc(), &capture, size),
-            Err(CutFault::BadSize)
-        );
-    }
-    Ok(())
-}
-
-#[test]
-fn stray_answer(rt: HostRuntime) -> Result<(), Fail> {
-    let capture = stray_capture(&rt, rt.alloc())?;
-    let found = Break {
-        instant: 10,
-        time: 90,
-        rule: Rule::H4,
-        line: Line::DTACK,
-    };
-    assert_eq!(rt;
-        verdict_by_blocks(rt.alloc(), &capture, 9)?,
-        Verdict::Broken(found)
-    );
-    Ok(())
-}
-
-/// The block again, with another change alone in its last step.
-fn changed_last(rt: &impl Abort, alloc: Global, block: Block, row: Row<'_>) -> Result<Block, Fail> {
-    let Block {
-        number,
-        opening,
-        steps,
-    } = block;
-    let mut steps = steps.into_inner();
+/// The block again, with DS0* alone in its last step.
+fn strobe_last(rt: &impl Abort, alloc: Global, block: Block) -> Result<Block, Fail> {
+    let mut steps = block.steps.into_inner();
     let last = steps.pop().expect(rt, "a step");
-    steps.push(step_of(alloc, last.time, row)?)?;
+    steps.push(step_of(alloc, &block.opening, last.time, "DS0=0")?)?;
     Ok(Block {
-        number,
-        opening,
+        number: block.number,
+        opening: block.opening,
         steps: Steps::new(steps),
     })
 }
 
-/// Blocks 0, 1 and 2: the first two join, the first and the third don't.
-fn torn_by_numbers<M: Monitor>(rt: &impl Abort, alloc: Global) -> Result<(), Fail> {
-    let capture = read_capture(rt, alloc)?;
-    let spans = spans_of::<M>(rt, alloc, &capture, 5)?;
+/// Blocks 0 and 1 join, and blocks 0 and 2 don't.
+fn assert_torn_by_numbers<M: Monitor>(rt: &impl Abort, alloc: Global) -> Result<(), Fail> {
+    let spans = read_spans::<M>(rt, alloc, 5)?;
     assert_eq!(rt; spans.len(), 3);
-    assert!(rt; joined(rt, alloc, &spans[0], &spans[1])?.is_ok());
-    assert!(rt; joined(rt, alloc, &spans[0], &spans[2])?.err() == Some(JoinFault::Torn));
+    assert!(rt; joined(rt, alloc, &spans[0], &spans[1]).is_ok());
+    assert!(rt; joined(rt, alloc, &spans[0], &spans[2]).err() == Some(JoinFault::Torn));
     Ok(())
 }
 
 /// Block 1 with another last step leaves other lines than those that block 2 opens with.
-fn torn_by_lines<M: Monitor>(rt: &impl Abort, alloc: Global) -> Result<(), Fail> {
-    let capture = read_capture(rt, alloc)?;
-    let mut blocks = capture.cut(alloc, 5)?;
+fn assert_torn_by_lines<M: Monitor>(rt: &impl Abort, alloc: Global) -> Result<(), Fail> {
+    let mut blocks = capture_of(alloc, GRANTED, READ)?.cut(alloc, 5)?;
     let last = blocks.pop().expect(rt, "block 2");
     let middle = blocks.pop().expect(rt, "block 1");
-    let other = changed_last(rt, alloc, middle, &[(Line::DS0, LOW)])?;
-    let first = judged::<M>(rt, alloc, other)?;
+    let first = judged::<M>(rt, alloc, strobe_last(rt, alloc, middle)?)?;
     let second = judged::<M>(rt, alloc, last)?;
-    assert!(rt; joined(rt, alloc, first.span(), second.span())?.err() == Some(JoinFault::Torn));
+    assert!(rt; joined(rt, alloc, first.span(), second.span()).err() == Some(JoinFault::Torn));
     assert_eq!(rt; first.block().number, 1);
     assert_eq!(rt; first.into_block().steps.as_slice().len(), 5);
     Ok(())
@@ -302,7 +530,6 @@ fn torn_by_lines<M: Monitor>(rt: &impl Abort, alloc: Global) -> Result<(), Fail>
 
 #[test]
 fn torn(rt: HostRuntime) -> Result<(), Fail> {
-    torn_by_numbers::<Known>(&rt, rt.alloc())?;
-    torn_by_lines::<Known>(&rt, rt.alloc())?;
-    Ok(())
+    assert_torn_by_numbers::<Known>(&rt, rt.alloc())?;
+    assert_torn_by_lines::<Known>(&rt, rt.alloc())
 }

@@ -1,6 +1,7 @@
 pub mod AnswerLemmas
 pub mod CheckLemmas
 pub mod InputLemmas
+pub mod ListLemmas
 pub mod MessageLemmas
 pub mod OrderLemmas
 pub mod OutputLemmas

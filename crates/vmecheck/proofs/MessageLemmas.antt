@@ -1,6 +1,6 @@
 -- How long decimal numbers are.
 use Rattle.std.proofs.Common.{◌≡◌, ◌≤◌, ◌<◌, ◌+◌, ◌/◌, ◌%◌, ◌^◌, ◌∷◌, [], ◌++◌, ℕ, List, length, decimal, ap, sym, ◌∙◌, append_assoc, length-append, arith}
-use Rattle.std.proofs.lemmas.Fmt.{decimal_step, decimal_digit, decimal_nonempty, length-decimal-le}
+use Rattle.std.proofs.lemmas.Fmt.{decimal_step, length-decimal-le}
 
 pub length-decimal-more : (n : ℕ) → 10 ≤ n → n < 2 ^ 64 → length (decimal n) ≡ length (decimal (n / 10)) + 1
 length-decimal-more n more fits =

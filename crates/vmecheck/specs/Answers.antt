@@ -1,5 +1,5 @@
 -- What the program answers, by what its inputs say.
-use Rattle.std.specs.Prelude.{◌≡◌, ℕ, ◌++◌, ◌∷◌, [], List, length, nat_le, nat_lt, if◌then◌else◌, Option, None, Some, Result, Ok, Err}
+use Rattle.std.specs.Prelude.{◌≡◌, ℕ, [], List, length, nat_le, nat_lt, if◌then◌else◌, Option, None, Some, Result, Ok, Err}
 use Rattle.vcd_read.specs.Contents.{Contents}
 use Rattle.vcd_read.specs.Header.{◌>>=◌}
 use Rattle.vcd_read.specs.Meaning.{dump_of}
@@ -7,6 +7,8 @@ use Rattle.vcd_read.specs.declared.fault.VcdFault.{VcdFault}
 use Rattle.vme_bind.specs.Binding.{BoundLines, binding_of}
 use Rattle.vme_bind.specs.Capture.{capture_of}
 use Rattle.vme_bind.specs.declared.fault.BindFault.{BindFault}
+use Rattle.vme_listing.specs.Recorded.{listing_of}
+use Rattle.vme_listing.specs.RowText.{text_of}
 use Rattle.vme_trace.specs.Blocks.{block_count}
 use Rattle.vme_trace.specs.Trace.{Trace}
 use Rattle.vme_trace.specs.Verdict.{verdict_by, rules_in_force}
@@ -67,6 +69,16 @@ judgement_of binding dump block = do
   t ← capture_read binding dump
   verdict_in_blocks block t
 
+-- a recording, if it is cut into at most 4,096 blocks of so many steps
+abbrev pub in_blocks : ℕ → Trace → Result Trace Refusal
+in_blocks block t = if nat_lt 4096 (block_count block t) then Err TooManyBlocks else Ok t
+
+-- the recording that a binding makes of a dump, if it is cut so, or the first reason that there is none
+unfoldable pub recording_of : Option (List ℕ) → Option (List ℕ) → ℕ → Result Trace Refusal
+recording_of binding dump block = do
+  t ← capture_read binding dump
+  in_blocks block t
+
 -- What a function gives is what is to be read there, unless there was no memory.
 abbrev pub Gives : {X Y : Type 0} → (X → Y) → Result X Refusal → Result Y Refusal → Type 0
 Gives view (Ok x) read = read ≡ Ok (view x)
@@ -81,10 +93,22 @@ pub record Answer : Type 0 where
   pub error : List ℕ
   pub status : ℕ
 
+abbrev pub refusal_answer : Refusal → Answer
+refusal_answer refusal = record { out = []; error = line_of (refusal_text refusal); status = refusal_status refusal }
+
 abbrev pub answer_by : Result Verdict Refusal → Answer
 answer_by (Ok verdict) = record { out = line_of (verdict_text verdict); error = []; status = verdict_status verdict }
-answer_by (Err refusal) = record { out = []; error = line_of (refusal_text refusal); status = refusal_status refusal }
+answer_by (Err refusal) = refusal_answer refusal
 
 -- the answer to a binding and a dump, each by its bytes or unreadable
 abbrev pub answer_of : Option (List ℕ) → Option (List ℕ) → ℕ → Answer
 answer_of binding dump block = answer_by (judgement_of binding dump block)
+
+-- a listing is told with the status of the verdict
+abbrev pub listing_answer_by : Result Trace Refusal → Answer
+listing_answer_by (Ok t) = record { out = text_of (listing_of t); error = []; status = verdict_status (verdict_by rules_in_force t) }
+listing_answer_by (Err refusal) = refusal_answer refusal
+
+-- the answer to a binding and a dump that are to be listed, each by its bytes or unreadable
+abbrev pub listing_answer_of : Option (List ℕ) → Option (List ℕ) → ℕ → Answer
+listing_answer_of binding dump block = listing_answer_by (recording_of binding dump block)

@@ -12,13 +12,13 @@ number_rule name greatest default =
 abbrev pub file_rule : Text → Rule
 file_rule name = record (new_rule name) { required = true }
 
--- `check [--block N] [--workers N] BINDING DUMP`
-abbrev pub check_app : App
-check_app =
+-- `NAME [--block N] [--workers N] BINDING DUMP`
+abbrev pub recording_app : Text → App
+recording_app name =
     with_rule
     (with_rule
     (with_rule
-    (with_rule (new_app (codes "check")) (number_rule (codes "block") 65536 (codes "16384")))
+    (with_rule (new_app name) (number_rule (codes "block") 65536 (codes "16384")))
     (number_rule (codes "workers") 64 (codes "4")))
     (file_rule (codes "BINDING")))
     (file_rule (codes "DUMP"))
@@ -26,5 +26,7 @@ check_app =
 -- the program, with a subcommand for each task, one of which has to be there
 abbrev pub vmecheck_app : App
 vmecheck_app =
-    let a = with_subcommand (new_app (codes "vmecheck")) check_app.top in
+    let check = recording_app (codes "check") in
+    let list = recording_app (codes "list") in
+    let a = with_subcommand (with_subcommand (new_app (codes "vmecheck")) check.top) list.top in
     record a { top = record a.top { subcommand_required = true } }

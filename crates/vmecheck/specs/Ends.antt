@@ -1,8 +1,7 @@
--- How a check ends, by what it reads and finds.
+-- How a command ends, by what it reads and finds.
 use Rattle.std.specs.Prelude.{◌≡◌, ◌⊎◌, ℕ, List, Option, Result}
-use Rattle.vme_trace.specs.declared.verdict.Verdict.{Verdict}
 use Rattle.vmecheck.specs.declared.refusal.Refusal.{Refusal}
-use Rattle.vmecheck.specs.Answers.{Answer, Gives, answer_by, judgement_of}
+use Rattle.vmecheck.specs.Answers.{Answer, Gives, answer_by, judgement_of, listing_answer_by, recording_of}
 use Rattle.vmecheck.specs.Inputs.{IsReading}
 use Rattle.vmecheck.specs.Outputs.{Writes, FailsToWrite, TriesToWrite}
 use Rattle.vmecheck.specs.Texts.{cannot_write_text, line_of}
@@ -35,11 +34,19 @@ pub record FailsToTell (answer : Answer) (out err : Written) (status : ℕ) : Ty
 abbrev pub Ends : Answer → Written → Written → ℕ → Type 0
 Ends answer out err status = Tells answer out err status ⊎ FailsToTell answer out err status
 
--- Each input is read, or can't be; what they say is judged, unless there was no memory; and the answer is told, unless a
+-- Each input is read, or can't be; what they say is found, unless there was no memory; and the answer is told, unless a
 -- write of it fails.
-abbrev pub Checks : Read → Read → ℕ → Written → Written → ℕ → Type 0
-Checks binding dump block out err status = (binding_bytes dump_bytes : Option (List ℕ)) × (judged : Result Verdict Refusal)
+abbrev pub Does : {A : Type 0} → (Result A Refusal → Answer) → (Option (List ℕ) → Option (List ℕ) → Result A Refusal) → Read → Read → Written → Written → ℕ → Type 0
+Does {A} answer said binding dump out err status = (binding_bytes dump_bytes : Option (List ℕ)) × (found : Result A Refusal)
     × IsReading binding.told binding.failed binding.failures binding_bytes
     × IsReading dump.told dump.failed dump.failures dump_bytes
-    × Gives (λ verdict. verdict) judged (judgement_of binding_bytes dump_bytes block)
-    × Ends (answer_by judged) out err status
+    × Gives (λ (x : A). x) found (said binding_bytes dump_bytes)
+    × Ends (answer found) out err status
+
+-- what the inputs say is judged
+abbrev pub Checks : Read → Read → ℕ → Written → Written → ℕ → Type 0
+Checks binding dump block out err status = Does answer_by (λ b d. judgement_of b d block) binding dump out err status
+
+-- what the inputs say is listed
+abbrev pub Lists : Read → Read → ℕ → Written → Written → ℕ → Type 0
+Lists binding dump block out err status = Does listing_answer_by (λ b d. recording_of b d block) binding dump out err status

@@ -3,6 +3,7 @@ pub mod Commands
 pub mod Ends
 pub mod InFaults
 pub mod Inputs
+pub mod Listings
 pub mod OrderFaults
 pub mod Orders
 pub mod Outputs

@@ -3,7 +3,8 @@ use Rattle.std.specs.Prelude.{◌≡◌, ℕ, List, [], ◌∷◌, map, codes, O
 use Rattle.std.specs.Str.Parse.{digits_value, without_leading_plus}
 use Rattle.clap.specs.Words.{Row, Text, first_of, one_of}
 use Rattle.vmecheck.specs.declared.order.Order.{Order}
-use Rattle.vmecheck.specs.declared.order.Task.TheVariants.{Check}
+use Rattle.vmecheck.specs.declared.order.Task.{Task}
+use Rattle.vmecheck.specs.declared.order.Task.TheVariants.{Check, List as Listing}
 
 -- the number that a text says, which may begin with a plus sign
 abbrev pub number_of : Text → ℕ
@@ -17,9 +18,13 @@ number_in name rows = option_map number_of (one_of name rows)
 abbrev pub names_in : List Row → List (Option Text)
 names_in rows = first_of (codes "BINDING") rows ∷ first_of (codes "DUMP") rows ∷ []
 
--- the matches of the subcommand that checks are this order
+-- the word of a task
+abbrev pub task_name : Task → Text
+task_name Check = codes "check"
+task_name Listing = codes "list"
+
+-- the matches of a subcommand are this order
 pub record SaysOrder (order : Order) (rows : List Row) : Type 0 where
-  pub task : order.command ≡ Check
   pub block : number_in (codes "block") rows ≡ Some order.block
   pub workers : number_in (codes "workers") rows ≡ Some order.workers
   pub names : map (λ name. Some (string_bytes name)) order.names.items ≡ names_in rows
@@ -27,5 +32,5 @@ pub record SaysOrder (order : Order) (rows : List Row) : Type 0 where
 -- the subcommand that was met, with its matches, is this order
 pub record IsOrder (order : Order) (met : Option (Text × List Row)) : Type 0 where
   pub rows : List Row
-  pub command : met ≡ Some (codes "check", rows)
+  pub command : met ≡ Some (task_name order.command, rows)
   pub says : SaysOrder order rows

@@ -1,5 +1,4 @@
 -- What the faults of the inputs come to.
-use Rattle.std.specs.Prelude.{◌≡◌}
 use Rattle.vcd_read.specs.declared.fault.VcdFault.{VcdFault}
 use Rattle.vcd_read.specs.declared.fault.FaultKind.{FaultKind}
 use Rattle.vcd_read.specs.declared.fault.FaultKind.TheVariants as vcd

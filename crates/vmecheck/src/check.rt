@@ -2,7 +2,6 @@
 
 ghost use Rattle.std.specs.Prelude.{◌≡◌, ◌≢◌, ◌≤◌, ◌<◌, ◌↔◌, ℕ, suc, List, length, Option, Some, Ok};
 ghost use Rattle.vmecheck.specs.Inputs.{IsReading, most_reads};
-ghost use Rattle.vmecheck.specs.Outputs.{TriesToWrite};
 ghost use Rattle.vcd_read.specs.Meaning.{dump_of};
 ghost use Rattle.vme_bind.specs.Binding.{binding_of};
 ghost use Rattle.vme_bind.specs.Capture.{capture_of};
@@ -10,8 +9,7 @@ ghost use Rattle.vmecheck.specs.Answers.{Gives, answer_by, answer_of, or_bad_bin
 ghost use Rattle.vmecheck.specs.Ends.{Checks, Ends, Tells};
 
 use crate::input::read_all;
-use crate::message::Message;
-use crate::output::write_message;
+use crate::output::{complain, write_message};
 use crate::refusal::{Input, Refusal};
 use crate::text::{cannot_write_line, refusal_line, verdict_line, verdict_status};
 use std::alloc::Global;
@@ -80,7 +78,7 @@ fn answer<B: Source, D: Source, O: Sink, E: Sink>(
     match judge(alloc, binding, dump, block) {
         Ok(verdict) => tell(&verdict, out, err),
         Err(refusal) => {
-            complain(refusal_line(&refusal), err);
+            complain(err, refusal_line(&refusal));
             refusal.status()
         }
     }
@@ -96,17 +94,10 @@ fn tell<O: Sink, E: Sink>(verdict: &Verdict, out: &mut O, err: &mut E) -> u8
     match write_message(out, verdict_line(verdict)) {
         Ok(()) => verdict_status(verdict),
         Err(_) => {
-            complain(cannot_write_line(), err);
+            complain(err, cannot_write_line());
             5
         }
     }
-}
-
-/// Writes why there is no verdict. Where that fails, nothing else is done.
-fn complain<E: Sink>(line: Message, err: &mut E)
-    ensures { TriesToWrite (E.contents err.old) (E.failures err.old) (E.contents err.new) (E.failures err.new) line }
-{
-    let _ = write_message(err, line);
 }
 
 /// The verdict on the recording that a binding makes of a dump, or the first reason that there is none.
@@ -140,7 +131,7 @@ fn verdict_on(alloc: Global, capture: &Capture, block: u32) -> Result<Verdict, R
 }
 
 /// The recording that a binding makes of a dump: the binding is read first.
-fn capture_from<B: Source, D: Source>(
+pub fn capture_from<B: Source, D: Source>(
     alloc: Global,
     binding: &mut B,
     dump: &mut D,

@@ -3,7 +3,7 @@
 ghost use Rattle.std.specs.Prelude.{◌≡◌, IfOk, codes, false};
 ghost use Rattle.clap.specs.Words.{app_of, rule_of};
 ghost use Rattle.clap.specs.declared.builder.command.Command.TheViews.{out-Command};
-ghost use Rattle.vmecheck.specs.Commands.{check_app, vmecheck_app, number_rule, file_rule};
+ghost use Rattle.vmecheck.specs.Commands.{recording_app, vmecheck_app, number_rule, file_rule};
 
 use clap::{Arg, Command, value_parser};
 use std::alloc::{AllocError, Global};
@@ -12,18 +12,21 @@ use std::alloc::{AllocError, Global};
 pub fn vmecheck_command<'a>(alloc: Global) -> Result<Command<'a>, AllocError>
     ensures { IfOk result (λ command. app_of command ≡ vmecheck_app) }
 {
-    let check = check_command(alloc)?;
+    let check = recording_command(alloc, "check")?;
+    let list = recording_command(alloc, "list")?;
     let command = Command::new(alloc, "vmecheck")
         .subcommand(check)?
+        .subcommand(list)?
         .subcommand_required(true);
     Ok(command)
 }
 
-fn check_command<'a>(alloc: Global) -> Result<Command<'a>, AllocError>
-    ensures app { IfOk result (λ command. app_of command ≡ check_app) }
+/// A command on the recording that a binding makes of a dump.
+fn recording_command<'a>(alloc: Global, name: &'a str) -> Result<Command<'a>, AllocError>
+    ensures app { IfOk result (λ command. app_of command ≡ recording_app name.entry.now) }
     ensures local { IfOk result (λ command. (out-Command command).has_globals ≡ false) }
 {
-    let command = Command::new(alloc, "check")
+    let command = Command::new(alloc, name)
         .arg(block_option(alloc))?
         .arg(workers_option(alloc))?
         .arg(file(

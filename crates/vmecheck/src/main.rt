@@ -5,6 +5,7 @@ mod check;
 mod command;
 mod input;
 mod io;
+mod list;
 mod message;
 mod order;
 mod order_fault;
@@ -17,6 +18,7 @@ mod words;
 
 use check::check;
 use io::{Bytes, Io};
+use list::list;
 use order::{Order, Task};
 use order_fault::OrderFault;
 use output::write_message;
@@ -64,9 +66,7 @@ fn main(rt: HostRuntime) -> ExitCode {
 /// What the words ask for; the answer is the exit status.
 fn run(rt: &HostRuntime) -> u8 {
     match asked(rt) {
-        Ok(Some(order)) => match order.command {
-            Task::Check => check_files(rt, &order),
-        },
+        Ok(Some(order)) => judge_files(rt, &order),
         Ok(None) => check_input(rt),
         Err(OrderFault::Memory) => refuse(rt, &Refusal::Memory),
         Err(OrderFault::Usage(error)) => explain(rt, &error),
@@ -99,23 +99,36 @@ fn check_input(rt: &HostRuntime) -> u8 {
     )
 }
 
-/// Checks the dump of a file by the binding of another. Both are opened before one is read.
-fn check_files(rt: &HostRuntime, order: &Order) -> u8 {
+/// Checks or lists the dump of a file by the binding of another. Both are opened before one is read.
+fn judge_files(rt: &HostRuntime, order: &Order) -> u8 {
     let Some(binding) = open(rt, order, 0) else {
         return refuse(rt, &Refusal::CannotOpen(Input::Binding));
     };
     let Some(dump) = open(rt, order, 1) else {
         return refuse(rt, &Refusal::CannotOpen(Input::Dump));
     };
-    check(
-        rt.alloc(),
-        &mut Io::new(binding),
-        &mut Io::new(dump),
-        order.block,
-        order.workers,
-        &mut Io::new(rt.stdout()),
-        &mut Io::new(rt.stderr()),
-    )
+    let (mut binding, mut dump) = (Io::new(binding), Io::new(dump));
+    let (mut out, mut err) = (Io::new(rt.stdout()), Io::new(rt.stderr()));
+    match order.command {
+        Task::Check => check(
+            rt.alloc(),
+            &mut binding,
+            &mut dump,
+            order.block,
+            order.workers,
+            &mut out,
+            &mut err,
+        ),
+        Task::List => list(
+            rt.alloc(),
+            &mut binding,
+            &mut dump,
+            order.block,
+            order.workers,
+            &mut out,
+            &mut err,
+        ),
+    }
 }
 
 /// The file of a name of the order, opened, if that can be.

@@ -7,6 +7,8 @@ ghost use Rattle.std.specs.Prelude.{◌≤◌};
 pub enum Task {
     /// Judge a recording, and write the verdict.
     Check,
+    /// Judge a recording, and write its listing.
+    List,
 }
 
 /// What the words of the command line ask for.

@@ -1,7 +1,7 @@
 //! Writing to a sink.
 
 ghost use Rattle.std.specs.Prelude.{MatchResult};
-ghost use Rattle.vmecheck.specs.Outputs.{Writes, FailsToWrite};
+ghost use Rattle.vmecheck.specs.Outputs.{Writes, FailsToWrite, TriesToWrite};
 
 use crate::message::Message;
 use vme_trace::{Failed, Sink};
@@ -29,4 +29,11 @@ pub fn write_message<W: Sink>(sink: &mut W, message: Message) -> Result<(), Fail
         (λ _. FailsToWrite (W.contents sink.old) (W.failures sink.old) (W.contents sink.new) (W.failures sink.new) message) }
 {
     write_all(sink, message.as_bytes())
+}
+
+/// Writes why a command has no answer. Where that fails, nothing else is done.
+pub fn complain<W: Sink>(sink: &mut W, line: Message)
+    ensures { TriesToWrite (W.contents sink.old) (W.failures sink.old) (W.contents sink.new) (W.failures sink.new) line }
+{
+    let _ = write_message(sink, line);
 }

@@ -2,6 +2,7 @@ ghost use Rattle.std.specs.Prelude.{◌≤◌, None};
 
 use crate::check::check;
 use crate::io::Bytes;
+use crate::list::list;
 use crate::order::{Order, Task};
 use crate::order_fault::OrderFault;
 use crate::words::order;
@@ -147,6 +148,71 @@ fn verdicts(rt: HostRuntime) -> Result<(), Fail> {
         let dump = dump_of(rt.alloc(), HEAD, body)?;
         expect_verdict(&rt, dump.as_str(), text, status);
     }
+    Ok(())
+}
+
+/// What the listing of a dump by the built-in binding writes, and its status.
+fn list_text(alloc: Global, dump: &[u8], block: u32, room: usize) -> (Page, Page, u8)
+    requires { (1 ≤ block) × (block ≤ 65536) }
+{
+    let mut out = Page::new(alloc, room);
+    let mut err = Page::new(alloc, 1000);
+    let status = list(
+        alloc,
+        &mut Bytes::new(BUILT_IN),
+        &mut Bytes::new(dump),
+        block,
+        1,
+        &mut out,
+        &mut err,
+    );
+    (out, err, status)
+}
+
+fn expect_listing<R: Abort + AllocGlobal>(rt: &R, dump: &str, block: u32, text: &str, status: u8)
+    requires { (1 ≤ block) × (block ≤ 65536) }
+{
+    let (out, err, ended) = list_text(rt.alloc(), dump.as_bytes(), block, 1000);
+    assert!(rt; out.bytes.as_slice() == text.as_bytes(), "{dump}");
+    assert!(rt; err.bytes.is_empty());
+    assert_eq!(rt; ended, status);
+}
+
+#[test]
+fn listings(rt: HostRuntime) -> Result<(), Fail> {
+    for (body, text, status) in [
+        (
+            BODY,
+            "vmecheck listing 1\nstart 1\ntenure 1 open end -\ncycle 2 S 3D FFFFFE end 5\n\
+transfer 3 of 2 read DTACK 4 close 5\nverdict conforming\n",
+            0,
+        ),
+        ("", "vmecheck listing 1\nverdict never-idle\n", 2),
+        (
+            "#0 1p 1q 1r 1s 1t 1u\n#10 0p\n#20 0s\n#40 1p 1q\n#50 1s\n",
+            "vmecheck listing 1\nstart 1\ntenure 1 open end -\ncycle 2 S 3D FFFFFE end -\n\
+verdict broken H4 3 DTACK\n",
+            1,
+        ),
+        (
+            "#0 1p 1q 1r 1s 1t 1u\n#10 xp\n#20 0q\n#30 0s\n#40 1p 1q\n#50 1s\n",
+            "vmecheck listing 1\nstart 1\ntenure 1 open end -\nverdict unreadable U1 2 AS\n",
+            2,
+        ),
+    ] {
+        let dump = dump_of(rt.alloc(), HEAD, body)?;
+        expect_listing(&rt, dump.as_str(), 1, text, status);
+        expect_listing(&rt, dump.as_str(), BLOCK, text, status);
+    }
+    Ok(())
+}
+
+#[test]
+fn listing_not_written(rt: HostRuntime) -> Result<(), Fail> {
+    let dump = dump_of(rt.alloc(), HEAD, BODY)?;
+    let (_, err, ended) = list_text(rt.alloc(), dump.as_bytes(), BLOCK, 0);
+    assert!(rt; err.bytes.as_slice() == b"vmecheck: cannot write\n".as_slice());
+    assert_eq!(rt; ended, 5);
     Ok(())
 }
 
@@ -322,15 +388,25 @@ fn words_of(alloc: Global, line: &str) -> Result<Vec<String>, AllocError> {
 
 #[test]
 fn orders(rt: HostRuntime) -> Result<(), Fail> {
-    for (line, block, workers) in [
-        ("vmecheck check --block 5 --workers 3 B V", 5, 3),
-        ("vmecheck check B V", 16384, 4),
-        ("vmecheck check B --block=65536 V --workers=64", 65536, 64),
+    for (line, command, block, workers) in [
+        (
+            "vmecheck check --block 5 --workers 3 B V",
+            Task::Check,
+            5,
+            3,
+        ),
+        ("vmecheck check B V", Task::Check, 16384, 4),
+        (
+            "vmecheck list B --block=65536 V --workers=64",
+            Task::List,
+            65536,
+            64,
+        ),
     ] {
         let words = words_of(rt.alloc(), line)?;
         match order(rt.alloc(), words.as_slice()) {
             Ok(order) => {
-                assert_eq!(rt; order.command, Task::Check);
+                assert_eq!(rt; order.command, command);
                 assert_eq!(rt; (order.block, order.workers), (block, workers), "{line}");
                 assert_eq!(rt; order.names.len(), 2);
                 assert!(rt; order.names[0].as_str() == "B" && order.names[1].as_str() == "V");
@@ -359,13 +435,15 @@ fn usage(rt: HostRuntime) -> Result<(), Fail> {
         ("vmecheck check B", false),
         ("vmecheck check", false),
         ("vmecheck check B V W", false),
-        ("vmecheck list B V", false),
+        ("vmecheck list B", false),
+        ("vmecheck list --block 0 B V", false),
         ("vmecheck confirm B V L", false),
         ("vmecheck B V", false),
         ("vmecheck check --blocks 5 B V", false),
         ("vmecheck help", true),
         ("vmecheck --help", true),
         ("vmecheck check -h", true),
+        ("vmecheck list --help", true),
     ] {
         let words = words_of(rt.alloc(), line)?;
         let answer = order(rt.alloc(), words.as_slice());

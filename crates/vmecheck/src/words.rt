@@ -33,14 +33,20 @@ fn order_in(alloc: Global, matches: &ArgMatches<'_>) -> Result<Option<Order>, Al
     ensures { IfOk result (λ o. IfSome o (λ order. IsOrder order (subcommand_rows_of matches.now))) }
 {
     match matches.subcommand() {
-        Some((name, found)) if name == "check" => check_order(alloc, found),
+        Some((name, found)) if name == "check" => recording_order(alloc, Task::Check, found),
+        Some((name, found)) if name == "list" => recording_order(alloc, Task::List, found),
         _ => Ok(None),
     }
 }
 
-/// The order that the matches of `check` are, if they are one.
-fn check_order(alloc: Global, found: &ArgMatches<'_>) -> Result<Option<Order>, AllocError>
-    ensures { IfOk result (λ o. IfSome o (λ order. SaysOrder order (rows_of (found_of found.now)))) }
+/// The order on a recording that the matches of its subcommand are, if they are one.
+fn recording_order(
+    alloc: Global,
+    command: Task,
+    found: &ArgMatches<'_>,
+) -> Result<Option<Order>, AllocError>
+    ensures task { IfOk result (λ o. IfSome o (λ order. order.command ≡ command)) }
+    ensures says { IfOk result (λ o. IfSome o (λ order. SaysOrder order (rows_of (found_of found.now)))) }
 {
     let (Some(block), Some(workers)) = (number(found, "block", 65536), number(found, "workers", 64))
     else {
@@ -48,7 +54,7 @@ fn check_order(alloc: Global, found: &ArgMatches<'_>) -> Result<Option<Order>, A
     };
     match names_in(alloc, found)? {
         Some(names) => Ok(Some(Order {
-            command: Task::Check,
+            command,
             block,
             workers,
             names,
@@ -57,7 +63,7 @@ fn check_order(alloc: Global, found: &ArgMatches<'_>) -> Result<Option<Order>, A
     }
 }
 
-/// The files of `check`, if both have names.
+/// The binding and the dump, if both have names.
 fn names_in(alloc: Global, found: &ArgMatches<'_>) -> Result<Option<Vec<String>>, AllocError>
     ensures { IfOk result (λ o. IfSome o (λ names. map (λ name. Some (string_bytes name)) names.items ≡ names_in (rows_of (found_of found.now)))) }
 {

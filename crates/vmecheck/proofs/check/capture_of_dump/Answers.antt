@@ -1,4 +1,3 @@
-use Rattle.std.specs.Prelude.{Result, Ok}
 use Rattle.vmecheck.proofs.AnswerLemmas.{capture_by-refused}
 use Rattle.vmecheck.proofs.check.capture_of_dump.Goals as goal
 

@@ -1,4 +1,4 @@
-use Rattle.std.proofs.Common.{◌≡◌, ◌+◌, ◌≤◌, ◌<◌, length, take, rules, arith, ◌∙◌}
+use Rattle.std.proofs.Common.{◌+◌, ◌≤◌, length, take, rules, ◌∙◌}
 use Rattle.std.proofs.lemmas.List.{places}
 use Rattle.vmecheck.specs.Inputs.{longest_input}
 use Rattle.vmecheck.proofs.InputLemmas.{Consumes-grown, reads_more, front_longer}

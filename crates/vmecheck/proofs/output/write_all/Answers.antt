@@ -1,4 +1,4 @@
-use Rattle.std.proofs.Common.{◌≡◌, ◌++◌, suc, length, take, ap, subst, ◌∙◌}
+use Rattle.std.proofs.Common.{◌++◌, suc, length, take, ap, subst, ◌∙◌}
 use Rattle.std.specs.Io.KnownBytes.{Appends}
 use Rattle.std.proofs.KnownBytes.{Appends-trans, Appends-kept}
 use Rattle.vmecheck.proofs.OutputLemmas.{splits_later, front_is}

@@ -1,4 +1,4 @@
-use Rattle.std.proofs.Common.{◌≡◌, ◌≤◌, ◌<◌, ◌+◌, ◌/◌, ◌^◌, ◌++◌, length, decimal, ap, sym, ◌∙◌, length-append, arith}
+use Rattle.std.proofs.Common.{◌/◌, ◌++◌, length, decimal, ap, sym, ◌∙◌, length-append, arith}
 use Rattle.std.proofs.lemmas.Fmt.{decimal_digit, decimal_nonempty}
 use Rattle.vmecheck.proofs.MessageLemmas.{length-decimal-more, appends_digit}
 use Rattle.vmecheck.proofs.message.Message.+with_digits.Goals as goal

@@ -1,4 +1,4 @@
-use Rattle.std.proofs.Common.{◌≤◌, ◌+◌, length, decimal, ap, length-append, arith}
+use Rattle.std.proofs.Common.{length, decimal, ap, length-append, arith}
 use Rattle.vmecheck.proofs.MessageLemmas.{length-decimal-20}
 use Rattle.vmecheck.proofs.message.Message.with_decimal.Goals as goal
 

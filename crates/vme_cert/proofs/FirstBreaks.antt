@@ -1,0 +1,41 @@
+-- The first of some rules that is broken, and the first instant at which one is.
+use Rattle.std.proofs.Common.{◌≡◌, ℕ, ◌+◌, ◌≤◌, List, [], ◌∷◌, refl, add-one}
+use Rattle.std.specs.Prelude.{Option, None, Some}
+use Rattle.vme_trace.specs.Instants.{least}
+use Rattle.vme_trace.specs.LineNumbers.{line_count}
+use Rattle.vme_trace.specs.Trace.{Trace, time_at}
+use Rattle.vme_trace.specs.Judged.{Span}
+use Rattle.vme_trace.specs.Rules.{breaks}
+use Rattle.vme_trace.specs.Verdict.{rule_break, break_at, break_before}
+use Rattle.vme_trace.specs.declared.rule.Rule.{Rule}
+use Rattle.vme_trace.specs.declared.verdict.Break.{Break}
+use Rattle.vme_trace.proofs.SpanEnds.{break_before-stays}
+
+module _ (t : Trace) (span : Span) where
+  pub break_at-here : (r : Rule) (rs : List Rule) (j l : ℕ) → least (breaks t span r j) 0 line_count ≡ Some l → break_at t span (r ∷ rs) j ≡ Some (record { instant = j; time = time_at t j; rule = r; line = l })
+  unfolding break_at rule_break
+  break_at-here r rs j l e = rw e refl
+
+  pub break_at-next : (r : Rule) (rs : List Rule) (j : ℕ) → least (breaks t span r j) 0 line_count ≡ None → break_at t span (r ∷ rs) j ≡ break_at t span rs j
+  unfolding break_at rule_break
+  break_at-next r rs j e = rw e refl
+
+  pub before-start : (rules : List Rule) → break_before t span rules 0 ≡ None
+  unfolding break_before
+  before-start rules = refl
+
+  step : (rules : List Rule) (j : ℕ) (o : Option Break) → break_before t span rules j ≡ None → break_at t span rules j ≡ o → break_before t span rules (j + 1) ≡ o
+  unfolding break_before
+  step rules j o none e = rw (add-one, none, e) refl
+
+  -- none is broken before the next instant either
+  pub before-none : (rules : List Rule) (j : ℕ) → break_before t span rules j ≡ None → break_at t span rules j ≡ None → break_before t span rules (j + 1) ≡ None
+  before-none rules j none e = step rules j None none e
+
+  -- the first break that is found is the first by any later instant
+  pub before-found : (rules : List Rule) (b : Break) (j n : ℕ) → break_before t span rules j ≡ None → break_at t span rules j ≡ Some b → j + 1 ≤ n → break_before t span rules n ≡ Some b
+  before-found rules b j n none e order = break_before-stays t span rules b (j + 1) n (step rules j (Some b) none e) order
+
+  pub break_at-empty : (j : ℕ) → break_at t span [] j ≡ None
+  unfolding break_at
+  break_at-empty j = refl

@@ -1,0 +1,13 @@
+pub mod Addresses
+pub mod Agreeing
+pub mod AnswersInOrder
+pub mod AtTransfers
+pub mod Barriers
+pub mod Chains
+pub mod Finding
+pub mod FirstBreaks
+pub mod Kept
+pub mod Marking
+pub mod RowsGrow
+pub mod Searching
+pub mod StillLines

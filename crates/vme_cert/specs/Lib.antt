@@ -1,0 +1,5 @@
+pub mod Agreement
+pub mod Marks
+pub mod Tests
+pub mod TransferOf
+pub mod Watched

@@ -1,0 +1,78 @@
+//! The instants that are judged.
+#![tactic(auto, unfolding(vme_trace::specs::Judged::is_idle_at, vme_trace::specs::Judged::loses_control_at, vme_trace::specs::Judged::span_end, vme_trace::specs::Judged::judged_span))]
+
+ghost use Rattle.std.specs.Prelude.{◌≡◌, ◌+◌, ◌<◌, ◌≤◌, IfSome};
+ghost use Rattle.vme_trace.specs.LineNumbers.{line_count};
+ghost use Rattle.vme_trace.specs.Instants.{least};
+ghost use Rattle.vme_trace.specs.Judged.{is_idle_at, span_end, judged_span};
+ghost use Rattle.vme_trace.specs.Levels.{is_lost, loses_control};
+ghost use Rattle.vme_trace.specs.Trace.{last_instant};
+
+use crate::recording::Recording;
+use crate::search::least;
+use crate::span::Span;
+use vme_trace::{Line, Lines};
+
+/// How many lines there are, over all backplanes.
+const LINE_COUNT: u8 = 159;
+
+/// Whether the line is a control line of which nothing is known.
+fn is_lost(lines: &Lines, line: Line) -> bool
+    ensures { result ≡ is_lost lines.now line }
+{
+    lines.is_control(line) && !lines.level(line).is_known()
+}
+
+/// The line of a number.
+pub(crate) fn nth_line(number: u8) -> Line
+    requires { number < line_count }
+    ensures { result ≡ number }
+{
+    Line::from_number(number).unwrap()
+}
+
+/// Whether some control line is unknown.
+#[tactic(auto, using(vme_trace::proofs::Ranges::searches), unfolding(vme_trace::specs::Levels::loses_control))]
+fn loses_control(lines: &Lines) -> bool
+    ensures { result ≡ loses_control lines.now }
+{
+    for number in 0..LINE_COUNT {
+        if is_lost(lines, nth_line(number)) {
+            return true;
+        }
+    }
+    false
+}
+
+impl Recording<'_> {
+    /// The least instant at which the bus is idle.
+    fn least_idle(&self) -> Option<u32>
+        ensures idle { result ≡ least (is_idle_at self.now) 0 (last_instant self.now + 1) }
+        ensures within { IfSome result (λ start. start ≤ last_instant self.now) }
+    {
+        least(0, self.last_instant() + 1, |instant| {
+            self.levels(instant).is_idle()
+        })
+    }
+
+    /// The next instant after the start at which a control line is unknown, or past the last.
+    fn span_end(&self, start: u32) -> u32
+        requires { start ≤ last_instant self.now }
+        ensures { result ≡ span_end self.now start }
+    {
+        let end = self.last_instant() + 1;
+        let lost = least(start + 1, end, |instant| {
+            loses_control(&self.levels(instant))
+        });
+        lost.unwrap_or(end)
+    }
+
+    /// The stretch from the least idle instant on.
+    pub(crate) fn judged_span(&self) -> Option<Span>
+        ensures { result ≡ judged_span self.now }
+    {
+        let start = self.least_idle()?;
+        let end = self.span_end(start);
+        Some(Span { start, end })
+    }
+}

@@ -1,0 +1,99 @@
+//! Tenures of the bus, by their starts.
+#![tactic(auto, unfolding(vme_trace::specs::Tenures::is_granting, vme_trace::specs::Tenures::grant_falls, vme_trace::specs::Tenures::taken_grant, vme_trace::specs::Tenures::tenure_level, vme_trace::specs::Tenures::has_reached, vme_trace::specs::Tenures::tenure_slot, vme_trace::specs::Tenures::tenure_starts))]
+
+ghost use Rattle.std.specs.Prelude.{◌≡◌, ◌+◌, ◌<◌, ◌≤◌, IfSome};
+ghost use Rattle.vme_trace.specs.LineNumbers.{grant};
+ghost use Rattle.vme_trace.specs.Signals.{low};
+ghost use Rattle.vme_trace.specs.Tenures.{is_granting, grant_falls, taken_grant, tenure_level, has_reached, tenure_slot, tenure_starts};
+
+use crate::recording::Recording;
+use crate::search::{any, greatest, least};
+use crate::span::Span;
+use vme_trace::Line;
+
+/// How many grant levels there are.
+const LEVELS: u32 = 4;
+
+impl Recording<'_> {
+    /// Whether the arbiter grants some level.
+    pub(crate) fn is_granting(&self, instant: u32) -> bool
+        ensures { result ≡ is_granting self.now instant }
+    {
+        any(0, LEVELS, |level| {
+            self.low(Line::grant(level as u8, 0), instant)
+        })
+    }
+
+    /// Whether the arbiter begins to grant some level.
+    pub(crate) fn grant_falls(&self, instant: u32) -> bool
+        ensures { result ≡ grant_falls self.now instant }
+    {
+        any(0, LEVELS, |level| {
+            self.falls(Line::grant(level as u8, 0), instant)
+        })
+    }
+
+    /// The instant whose grant a tenure takes that starts at an instant.
+    fn taken_grant(&self, start: u32) -> u32
+        ensures { result ≡ taken_grant self.now start }
+    {
+        if self.is_granting(start) {
+            start
+        } else {
+            start.saturating_sub(1)
+        }
+    }
+
+    /// The level by which a tenure has its grant, 0 to 3.
+    pub(crate) fn tenure_level(&self, start: u32) -> Option<u8>
+        ensures level { result ≡ tenure_level self.now start }
+        ensures below { IfSome result (λ level. level < 4) }
+    {
+        let granted = self.taken_grant(start);
+        let level = least(0, LEVELS, |level| {
+            self.low(Line::grant(level as u8, 0), granted)
+        })?;
+        Some(level as u8)
+    }
+
+    /// Whether a net of a grant chain that the backplane has is low.
+    fn is_granted(&self, level: u8, place: u8, instant: u32) -> bool
+        requires level { level < 4 }
+        requires exists { place ≤ self.now.opening.slots }
+        requires place { place ≤ 21 }
+        ensures { result ≡ low self.now (grant level place) instant }
+    {
+        self.low(Line::grant(level, place), instant)
+    }
+
+    /// Whether the grant of a level has come as far as a net of its chain, of those that the backplane has.
+    fn has_reached(&self, instant: u32, level: u8, place: u8) -> bool
+        requires level { level < 4 }
+        requires exists { place ≤ self.now.opening.slots }
+        requires place { place ≤ 21 }
+        ensures { result ≡ has_reached self.now instant level place }
+    {
+        !any(0, u32::from(place) + 1, |net| {
+            !self.is_granted(level, net as u8, instant)
+        })
+    }
+
+    /// The slot that takes the grant of a tenure, counted from 1.
+    pub(crate) fn tenure_slot(&self, start: u32) -> Option<u8>
+        ensures { result ≡ tenure_slot self.now start }
+    {
+        let level = self.tenure_level(start)?;
+        let granted = self.taken_grant(start);
+        let last = greatest(0, u32::from(self.slots()) + 1, |place| {
+            self.has_reached(granted, level, place as u8)
+        })?;
+        Some(1 + last as u8)
+    }
+
+    /// Whether a tenure starts.
+    pub(crate) fn tenure_starts(&self, span: Span, instant: u32) -> bool
+        ensures { result ≡ tenure_starts self.now span instant }
+    {
+        span.contains(instant) && self.falls(Line::BBSY, instant)
+    }
+}

@@ -1,0 +1,153 @@
+//! Which rows there are, and where they may stand.
+#![tactic(auto)]
+
+ghost use Rattle.std.specs.Prelude.{◌≡◌, ◌==◌};
+ghost use Rattle.vme_trace.specs.Cycle.{highest_address, is_block};
+ghost use Rattle.vme_listing.specs.Places.{has_class, is_address, is_outcome, is_row, is_start, is_verdict, is_never_idle, place_of, may_follow, ascends};
+
+use crate::row::{Outcome, Row};
+use crate::text::address_digits;
+use vme_trace::Class;
+
+/// Whether a code of the address modifier is one of block transfers.
+fn is_block(modifier: u8) -> bool
+    ensures { result ≡ is_block modifier }
+{
+    matches!(modifier, 0x0B | 0x0F | 0x3B | 0x3F)
+}
+
+/// Whether cycles of the class have an address, and this code of the address modifier.
+fn has_class(modifier: u8, class: Class) -> bool
+    ensures { result ≡ has_class modifier class }
+{
+    match class {
+        Class::S => !is_block(modifier),
+        Class::K => is_block(modifier),
+        Class::I | Class::F => false,
+    }
+}
+
+/// Whether the code makes no address lines meaningful.
+#[tactic(auto, unfolding(vme_trace::specs::Cycle::highest_address))]
+fn is_free(modifier: u8) -> bool
+    ensures { result ≡ (highest_address modifier == 0) }
+{
+    address_digits(modifier) == 0
+}
+
+/// Whether the address is one of the space of the code: its bit 0 is 0, and it has no more digits than the space.
+#[tactic(auto, unfolding(vme_trace::specs::Cycle::highest_address))]
+fn is_address(modifier: u8, address: u32) -> bool
+    ensures { result ≡ is_address modifier address }
+{
+    let fits = match address_digits(modifier) {
+        8 => true,
+        6 => address < 0x100_0000,
+        4 => address < 0x1_0000,
+        _ => false,
+    };
+    fits && address % 2 == 0
+}
+
+impl Outcome {
+    /// Whether it is one that its form allows.
+    fn is_outcome(self) -> bool
+        ensures { result ≡ is_outcome self }
+    {
+        match self {
+            Outcome::Conforming | Outcome::NeverIdle => true,
+            Outcome::Broken(rule, _, _) => !rule.is_unreadable(),
+            Outcome::Unreadable(rule, _, _) => rule.is_unreadable(),
+        }
+    }
+}
+
+/// Whether the row is one that its form allows: the types bound its other numbers.
+#[tactic(auto, unfolding(crate::specs::Places::is_row))]
+fn is_allowed(row: Row) -> bool
+    ensures { result ≡ is_row row }
+{
+    match row {
+        Row::Start { .. }
+        | Row::OpenTenure { .. }
+        | Row::Transfer { .. }
+        | Row::PendingTransfer { .. } => true,
+        Row::Tenure { level, slot, .. } => level < 4 && 1 <= slot && slot <= 21,
+        Row::AddressedCycle {
+            class,
+            modifier,
+            address,
+            ..
+        } => has_class(modifier, class) && is_address(modifier, address),
+        Row::FreeCycle { modifier, .. } => modifier < 64 && is_free(modifier),
+        Row::InterruptCycle { level, .. } => level < 8,
+        Row::Verdict(outcome) => outcome.is_outcome(),
+    }
+}
+
+impl Row {
+    /// Whether the row is one that its form allows.
+    pub(crate) fn is_row(&self) -> bool
+        ensures { result ≡ is_row self.now }
+    {
+        is_allowed(*self)
+    }
+
+    fn is_start(&self) -> bool
+        ensures { result ≡ is_start self.now }
+    {
+        matches!(self, Row::Start { .. })
+    }
+
+    /// Whether the row is a verdict.
+    pub(crate) fn is_verdict(&self) -> bool
+        ensures { result ≡ is_verdict self.now }
+    {
+        matches!(self, Row::Verdict(_))
+    }
+
+    fn is_never_idle(&self) -> bool
+        ensures { result ≡ is_never_idle self.now }
+    {
+        matches!(self, Row::Verdict(Outcome::NeverIdle))
+    }
+
+    /// The first instant and the order of the kind of a tenure, a cycle or a transfer.
+    fn place(&self) -> Option<(u32, u8)>
+        ensures { result ≡ place_of self.now }
+    {
+        match *self {
+            Row::Start { .. } | Row::Verdict(_) => None,
+            Row::OpenTenure { start, .. } | Row::Tenure { start, .. } => Some((start, 0)),
+            Row::AddressedCycle { start, .. }
+            | Row::FreeCycle { start, .. }
+            | Row::InterruptCycle { start, .. } => Some((start, 1)),
+            Row::Transfer { start, .. } | Row::PendingTransfer { start, .. } => Some((start, 2)),
+        }
+    }
+
+    /// Whether by its form the row may stand behind the one before, or as the first.
+    pub(crate) fn may_follow(&self, before: Option<Row>) -> bool
+        ensures { result ≡ may_follow before self.now }
+    {
+        match before {
+            None => self.is_start() || self.is_never_idle(),
+            Some(row) => !row.is_verdict() && !self.is_start() && !self.is_never_idle(),
+        }
+    }
+
+    /// Whether the row doesn't stand before the one before by its instant and its kind.
+    pub(crate) fn ascends(&self, before: Option<Row>) -> bool
+        ensures { result ≡ ascends before self.now }
+    {
+        let Some(row) = before else {
+            return true;
+        };
+        match (row.place(), self.place()) {
+            (Some((first, earlier)), Some((second, later))) => {
+                first < second || (first == second && earlier < later)
+            }
+            _ => true,
+        }
+    }
+}

@@ -1,0 +1,89 @@
+//! A listing from its text.
+
+ghost use Rattle.std.specs.Prelude.{◌≡◌, ◌↔◌, ℕ, true, None, List, [], ◌++◌, IfSome, IsSomeAnd, IfOk, IsOkAnd, IfErr, IsTrue};
+ghost use Rattle.vme_listing.specs.Places.{is_row, follows, ends_listing, is_well_placed};
+ghost use Rattle.vme_listing.specs.Reading.{last_of, IsRowFault, IsFirstFault, IsNoListing, IsOnlyListing};
+ghost use Rattle.vme_listing.specs.RowText.{line_of, text_of};
+ghost use Rattle.vme_listing.specs.declared.row.Row.{Row};
+
+use crate::fault::ListFault;
+use crate::listing::Listing;
+use crate::row::Row;
+use crate::words::read_row;
+use memchr::memchr;
+use std::alloc::Global;
+
+/// The first line of a listing.
+const HEADER: &[u8] = b"vmecheck listing 1\n";
+
+/// The row whose line is at the front of the text, and what follows the line.
+fn front_row(text: &[u8]) -> Option<(Row, &[u8])>
+    ensures named { IfSome result (λ front. (is_row front.0 ≡ true) × (text.now ≡ line_of front.0 ++ front.1.now)) }
+    ensures found { (row : Row) (more : List ℕ) → is_row row ≡ true → text.now ≡ line_of row ++ more → IsSomeAnd result (λ front. (front.0 ≡ row) × (front.1.now ≡ more)) }
+{
+    let end = memchr(b'\n', text)?;
+    let row = read_row(&text[..end])?;
+    Some((row, &text[end + 1..]))
+}
+
+/// The last of the rows.
+fn last_row(rows: &[Row]) -> Option<Row>
+    ensures { result ≡ last_of None rows.now }
+{
+    rows.last().copied()
+}
+
+/// Whether the rows are a whole listing: the last is the verdict, and nothing follows.
+fn is_end(rows: &[Row], rest: &[u8]) -> bool
+    ensures { IsTrue result ↔ ((ends_listing (last_of None rows.now) ≡ true) × (rest.now ≡ [])) }
+{
+    match last_row(rows) {
+        Some(row) => row.is_verdict() && rest.is_empty(),
+        None => false,
+    }
+}
+
+/// The row that follows the rows before it, and what follows its line; or its fault.
+fn next_row<'a>(rows: &[Row], rest: &'a [u8]) -> Result<(Row, &'a [u8]), ListFault>
+    ensures placed { IfOk result (λ next. (follows (last_of None rows.now) next.0 ≡ true) × (rest.now ≡ line_of next.0 ++ next.1.now)) }
+    ensures found { (row : Row) (more : List ℕ) → follows (last_of None rows.now) row ≡ true → rest.now ≡ line_of row ++ more → IsOkAnd result (λ next. (next.0 ≡ row) × (next.1.now ≡ more)) }
+    ensures fault { IfErr result (λ fault. IsRowFault rows.now rest.now fault) }
+{
+    let number = rows.len() + 1;
+    let Some((row, more)) = front_row(rest) else {
+        return Err(ListFault::BadRow { row: number });
+    };
+    if !row.may_follow(last_row(rows)) {
+        return Err(ListFault::BadRow { row: number });
+    }
+    if !row.ascends(last_row(rows)) {
+        return Err(ListFault::Unsorted { row: number });
+    }
+    Ok((row, more))
+}
+
+/// Reads the text of a listing, version 1. The text is read from the top, and the first fault is named: the header, a
+/// row that isn't written so, may not stand there or is missing, a row out of order, or want of memory.
+pub fn read_listing(alloc: Global, text: &[u8]) -> Result<Listing, ListFault>
+    ensures listing { IfOk result (λ l. (is_well_placed l ≡ true) × (text_of l ≡ text.now)) }
+    ensures only { IfOk result (λ l. IsOnlyListing text.now l) }
+    ensures first { IfErr result (λ fault. IsFirstFault text.now fault) }
+    ensures none { IfErr result (λ fault. IsNoListing text.now fault) }
+{
+    let Some(mut rest) = text.strip_prefix(HEADER) else {
+        return Err(ListFault::BadHeader);
+    };
+    let mut rows: Vec<Row> = Vec::new(alloc);
+    while !is_end(rows.as_slice(), rest) {
+        match next_row(rows.as_slice(), rest) {
+            Ok((row, more)) => {
+                if rows.push(row).is_err() {
+                    return Err(ListFault::Memory);
+                }
+                rest = more;
+            }
+            Err(fault) => return Err(fault),
+        }
+    }
+    Ok(Listing::new(rows))
+}

@@ -1,0 +1,7 @@
+use Rattle.std.proofs.Common.{◌≡◌, drop}
+use Rattle.vme_trace.specs.Cycle.{Needs}
+use Rattle.vme_stability.specs.StabilitySpec.{first_needed}
+use Rattle.vme_stability.proofs.sight.touches_others.Given as goal
+
+abbrev pub invariant-loop-change : goal.invariant-loop-change
+invariant-loop-change l = (needs : Needs) → first_needed needs (drop l.change-index l.changes) ≡ first_needed needs l.changes

@@ -1,0 +1,160 @@
+//! The listing of one recording.
+
+ghost use Rattle.std.specs.Prelude.{◌≡◌, ◌≢◌, ◌≤◌, ◌<◌, ◌↔◌, ℕ, suc, List, length, Option, Some, Ok};
+ghost use Rattle.vme_listing.specs.Recorded.{listing_of};
+ghost use Rattle.vme_trace.specs.Trace.{Trace};
+ghost use Rattle.vmecheck.specs.Answers.{Gives, in_blocks, listing_answer_by, listing_answer_of, recording_of};
+ghost use Rattle.vmecheck.specs.Ends.{Ends, Lists, Tells};
+ghost use Rattle.vmecheck.specs.Inputs.{IsReading, most_reads};
+ghost use Rattle.vmecheck.specs.Listings.{GivesListing, listing_status, outcome_status, row_status};
+
+use crate::check::capture_from;
+use crate::output::complain;
+use crate::refusal::Refusal;
+use crate::text::{cannot_write_line, refusal_line};
+use std::alloc::Global;
+use vme_listing::{Listing, Outcome, Row, write_listing};
+use vme_summary::listing_by_blocks;
+use vme_trace::{Capture, CutFault, Sink, Source};
+
+/// Writes to `out` the listing of the recording that a binding makes of a dump, or to `err` why there is none. The answer is
+/// the exit status: that of the listing's verdict, 0 conforming, 1 broken, 2 unreadable or never idle; 3 where an input is
+/// refused, 4 for want of memory, 5 where the listing can't be written.
+///
+/// The binding is read, and then the dump. The recording is judged in blocks of `block` steps, and the listing is the
+/// same for each size that cuts it into at most 4,096 blocks. It is written in pieces of up to 4,096 bytes. A failure of `err`
+/// is ignored.
+pub fn list<B: Source, D: Source, O: Sink, E: Sink>(
+    alloc: Global,
+    binding: &mut B,
+    dump: &mut D,
+    block: u32,
+    workers: u32,
+    out: &mut O,
+    err: &mut E,
+) -> u8
+    requires block { (1 ≤ block) × (block ≤ 65536) }
+    requires workers { (1 ≤ workers) × (workers ≤ 64) }
+    ensures answer { Lists
+        (record { told = B.remaining binding.old; failed = B.failures binding.old; failures = B.failures binding.new })
+        (record { told = D.remaining dump.old; failed = D.failures dump.old; failures = D.failures dump.new })
+        block
+        (record { before = O.contents out.old; failed = O.failures out.old; after = O.contents out.new; failures = O.failures out.new })
+        (record { before = E.contents err.old; failed = E.failures err.old; after = E.contents err.new; failures = E.failures err.new })
+        result }
+    ensures unwritten { (result ≡ 5) ↔ (O.failures out.new ≡ suc (O.failures out.old)) }
+
+    // Inputs that are told whole, no failure, and memory give exactly the answer that is defined.
+    ensures exact { (b d : List ℕ) → B.remaining binding.old ≡ Some b → D.remaining dump.old ≡ Some d
+        → length b < most_reads → length d < most_reads
+        → B.failures binding.new ≡ B.failures binding.old → D.failures dump.new ≡ D.failures dump.old
+        → O.failures out.new ≡ O.failures out.old → result ≢ 4
+        → Tells (listing_answer_of (Some b) (Some d) block)
+        (record { before = O.contents out.old; failed = O.failures out.old; after = O.contents out.new; failures = O.failures out.new })
+        (record { before = E.contents err.old; failed = E.failures err.old; after = E.contents err.new; failures = E.failures err.new })
+        result }
+{
+    let _ = workers;
+    answer(alloc, binding, dump, block, out, err)
+}
+
+fn answer<B: Source, D: Source, O: Sink, E: Sink>(
+    alloc: Global,
+    binding: &mut B,
+    dump: &mut D,
+    block: u32,
+    out: &mut O,
+    err: &mut E,
+) -> u8
+    requires { (1 ≤ block) × (block ≤ 65536) }
+    ensures { Lists
+        (record { told = B.remaining binding.old; failed = B.failures binding.old; failures = B.failures binding.new })
+        (record { told = D.remaining dump.old; failed = D.failures dump.old; failures = D.failures dump.new })
+        block
+        (record { before = O.contents out.old; failed = O.failures out.old; after = O.contents out.new; failures = O.failures out.new })
+        (record { before = E.contents err.old; failed = E.failures err.old; after = E.contents err.new; failures = E.failures err.new })
+        result }
+{
+    match listing(alloc, binding, dump, block) {
+        Ok(listing) => tell(&listing, out, err),
+        Err(refusal) => {
+            complain(err, refusal_line(&refusal));
+            refusal.status()
+        }
+    }
+}
+
+/// Writes a listing.
+fn tell<O: Sink, E: Sink>(listing: &Listing, out: &mut O, err: &mut E) -> u8
+    ensures { (t : Trace) → listing.now ≡ listing_of t → Ends (listing_answer_by (Ok t))
+        (record { before = O.contents out.old; failed = O.failures out.old; after = O.contents out.new; failures = O.failures out.new })
+        (record { before = E.contents err.old; failed = E.failures err.old; after = E.contents err.new; failures = E.failures err.new })
+        result }
+{
+    match write_listing(listing, out) {
+        Ok(()) => status(listing),
+        Err(_) => {
+            complain(err, cannot_write_line());
+            5
+        }
+    }
+}
+
+/// The exit status of a listing: that of the verdict, its last row.
+fn status(listing: &Listing) -> u8
+    ensures { result ≡ listing_status listing.now }
+{
+    match listing.rows().last() {
+        Some(row) => row_code(row),
+        None => 2,
+    }
+}
+
+fn row_code(row: &Row) -> u8
+    ensures { result ≡ row_status row.now }
+{
+    match row {
+        Row::Verdict(outcome) => outcome_code(*outcome),
+        _ => 2,
+    }
+}
+
+fn outcome_code(outcome: Outcome) -> u8
+    ensures { result ≡ outcome_status outcome }
+{
+    match outcome {
+        Outcome::Conforming => 0,
+        Outcome::Broken(..) => 1,
+        Outcome::Unreadable(..) | Outcome::NeverIdle => 2,
+    }
+}
+
+/// The listing of the recording that a binding makes of a dump, or the first reason that there is none.
+fn listing<B: Source, D: Source>(
+    alloc: Global,
+    binding: &mut B,
+    dump: &mut D,
+    block: u32,
+) -> Result<Listing, Refusal>
+    requires { (1 ≤ block) × (block ≤ 65536) }
+    ensures { (binding_bytes dump_bytes : Option (List ℕ))
+        × IsReading (B.remaining binding.old) (B.failures binding.old) (B.failures binding.new) binding_bytes
+        × IsReading (D.remaining dump.old) (D.failures dump.old) (D.failures dump.new) dump_bytes
+        × GivesListing result (recording_of binding_bytes dump_bytes block) }
+{
+    match capture_from(alloc, binding, dump) {
+        Ok(capture) => listing_in_blocks(alloc, &capture, block),
+        Err(refusal) => Err(refusal),
+    }
+}
+
+fn listing_in_blocks(alloc: Global, capture: &Capture, block: u32) -> Result<Listing, Refusal>
+    requires { (1 ≤ block) × (block ≤ 65536) }
+    ensures { GivesListing result (in_blocks block capture.now) }
+{
+    match listing_by_blocks(alloc, capture, block) {
+        Ok(listing) => Ok(listing),
+        Err(CutFault::TooManyBlocks) => Err(Refusal::TooManyBlocks),
+        Err(CutFault::BadSize) | Err(CutFault::Memory) => Err(Refusal::Memory),
+    }
+}
