@@ -1,15 +1,14 @@
 -- The name and the index in a reference.
-use Rattle.std.proofs.Common.{◌≡◌, ℕ, zero, suc, ◌+◌, ◌-◌, ◌^◌, ◌<◌, ◌≤◌, Bool, true, false, cond, eqb, ltb, leb, not, ◌&&◌, List, [], ◌∷◌, length, get_or, take, drop, Option, Some, None, option_map, Result, Ok, Err, refl, sym, ap, ◌∙◌, arith}
+use Rattle.std.proofs.Common.{◌≡◌, ℕ, ◌+◌, ◌-◌, ◌<◌, ◌≤◌, Bool, true, false, cond, eqb, ltb, leb, not, ◌&&◌, List, length, get_or, take, drop, Option, Some, None, option_map, Result, Ok, Err, refl, sym, ap, ◌∙◌, arith}
 use Rattle.std.specs.Prelude.{option_and_then}
 use Rattle.std.specs.Str.{all_ascii_digits}
-use Rattle.std.specs.List.{list_any, position_or_len, suffix_len, All}
+use Rattle.std.specs.List.{list_any, position_or_len, suffix_len}
 use Rattle.std.proofs.lemmas.List.Sums.{position_or_len_is, suffix_len_is}
 use Rattle.std.proofs.lemmas.List.Folds.{list_any_at, list_any_none}
-use Rattle.std.proofs.lemmas.List.{take_rest, length-take, get_or_default}
+use Rattle.std.proofs.lemmas.List.{take_rest, get_or_default}
 use Rattle.std.proofs.lemmas.Str.Parse.{digits_value_short, numerals_by_value, tells_all_ascii_digits}
 use Rattle.vcd_read.proofs.NumberLemmas.{digits_of_number}
-use Rattle.std.proofs.lemmas.Bool.{lt-ltb, le-leb, false≢true}
-use Rattle.std.proofs.lemmas.Bool.Decides.{nat_tests}
+use Rattle.std.proofs.lemmas.Bool.{lt-ltb, false≢true}
 use Rattle.memchr.specs.Find.{Passes, Nowhere, NoneBefore, NoneAfter, is_byte}
 use Rattle.vcd_read.specs.declared.fault.FaultKind.{FaultKind}
 use Rattle.vcd_read.specs.declared.fault.FaultKind.TheVariants.{NumberTooLarge}

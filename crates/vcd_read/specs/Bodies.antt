@@ -5,7 +5,7 @@ use Rattle.vcd_read.specs.declared.dump.Instant.{Instant}
 use Rattle.vcd_read.specs.declared.fault.VcdFault.{VcdFault}
 use Rattle.vcd_read.specs.Reading.{line_at, left_at, token_at}
 use Rattle.vcd_read.specs.Header.{◌>>=◌}
-use Rattle.vcd_read.specs.Body.{Standing, BodyPlace, ready, body_from, at_the_end}
+use Rattle.vcd_read.specs.Body.{BodyPlace, ready, body_from, at_the_end}
 use Rattle.vcd_read.specs.Progress.{Progress, State, steps, ended}
 use Rattle.vcd_read.specs.Meaning.{Fails}
 

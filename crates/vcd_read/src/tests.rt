@@ -1,4 +1,5 @@
 use super::*;
+use smallvec::SmallVec;
 use std::alloc::{AllocError, Global};
 use std::process::Abort;
 use std::test::Fail;
@@ -144,6 +145,21 @@ fn an_index_of_another_count_belongs_to_the_name(rt: HostRuntime) -> Result<(), 
     Ok(())
 }
 
+#[test]
+fn bits_values_and_paths_are_given_back(rt: HostRuntime) -> Result<(), Fail> {
+    let bits = SmallVec::from_slice(rt.alloc(), &[Bit::Z, Bit::One])?;
+    let bits = Bits::from_small_vec(bits).into_inner();
+    assert!(rt; bits.as_slice() == [Bit::Z, Bit::One].as_slice());
+    let mut values = Vec::new(rt.alloc());
+    let bits = Bits::from_small_vec(bits);
+    values.push(Value { net: 3, bits })?;
+    let values = Values::from_vec(values).into_inner();
+    assert!(rt; values.len() == 1 && values[0].net == 3);
+    let path = Path::from_vec(Vec::from_slice(rt.alloc(), b"bus.AS")?).into_inner();
+    assert!(rt; path.as_slice() == b"bus.AS".as_slice());
+    Ok(())
+}
+
 /// One variable of one bit, in two lines.
 const ONE_BIT: &str = "$var wire 1 p AS $end\n$enddefinitions $end\n";
 
@@ -208,6 +224,15 @@ fn names_the_first_fault_of_a_header(rt: HostRuntime) {
             "{text}"
         );
     }
+}
+
+#[test]
+fn a_fault_is_shown_with_its_line(rt: HostRuntime) -> Result<(), Fail> {
+    let kind = FaultKind::BadVar;
+    let fault = VcdFault { line: 3, kind };
+    let shown = format!(in rt.alloc(); "{fault}")?;
+    assert!(rt; shown.as_str() == "dump line 3: BadVar");
+    Ok(())
 }
 
 #[test]

@@ -1,6 +1,8 @@
 //! Why a text binds nothing, or a binding no dump.
 
-ghost use Rattle.std.specs.Prelude.{◌≡◌};
+ghost use Rattle.std.specs.Prelude.{◌≡◌, Some, encode_utf8};
+ghost use Rattle.std.specs.List.{flat_map};
+ghost use Rattle.vme_trace.specs.Names.{line_name};
 ghost use Rattle.vme_bind.specs.declared.fault.BindKind.TheVariants.{Memory};
 
 use std::alloc::{AllocError, AllocFailed};
@@ -13,6 +15,8 @@ use vme_trace::Line;
 struct LineName(Line);
 
 impl Display for LineName {
+    ghost output = { λ shown. Some (flat_map encode_utf8 (line_name shown.0)) };
+
     fn fmt<W: Write>(&self, f: &mut Formatter<W>) -> fmt::Result {
         for byte in self.0.name().as_bytes() {
             f.write_char(char::from(*byte))?;

@@ -283,6 +283,25 @@ fn names_a_path_that_is_missing_or_ambiguous(rt: HostRuntime) -> Result<(), Fail
     Ok(())
 }
 
+#[test]
+fn a_fault_is_shown_with_its_line(rt: HostRuntime) -> Result<(), Fail> {
+    let kind = BindKind::Unbound(Line::iack(1));
+    let fault = BindFault { line: 3, kind };
+    let shown = format!(in rt.alloc(); "{fault}")?;
+    assert!(rt; shown.as_str() == "binding line 3: Unbound IA.1");
+    Ok(())
+}
+
+#[test]
+fn every_front_of_a_binding_is_one_or_has_a_fault(rt: HostRuntime) {
+    let text = BUS_LINES.as_bytes();
+    for end in 0..text.len() {
+        if let Err(fault) = read_binding(rt.alloc(), &text[..end]) {
+            assert!(rt; fault.kind != BindKind::Memory, "at {end}");
+        }
+    }
+}
+
 /// Run with each allocation refused in turn, this shows that the answer is then want of memory.
 #[test]
 fn want_of_memory_is_the_fault(rt: HostRuntime) {

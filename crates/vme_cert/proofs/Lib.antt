@@ -7,7 +7,10 @@ pub mod Chains
 pub mod Finding
 pub mod FirstBreaks
 pub mod Kept
+pub mod KeptRules
+pub mod Losing
 pub mod Marking
 pub mod RowsGrow
 pub mod Searching
+pub mod SilentRules
 pub mod StillLines

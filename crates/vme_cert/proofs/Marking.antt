@@ -8,10 +8,10 @@ use Rattle.vme_trace.specs.declared.step.Step.{Step}
 use Rattle.vme_trace.proofs.CutBlocks.{levels_at-taken, levels_at-more}
 use Rattle.vme_cert.specs.Marks.{HasMarks, mark_at}
 
-pub marks_count : (t : Trace) (marks : List Levels) → HasMarks t marks → length marks ≡ length t.steps / 16 + 1
-marks_count t marks h = ap length h ∙ length-map-range_with_len (mark_at t) 0 (length t.steps / 16 + 1)
+pub marks_count : (t : Trace) (marks : List Levels) → HasMarks t marks → length marks ≡ length t.steps / 1 + 1
+marks_count t marks h = ap length h ∙ length-map-range_with_len (mark_at t) 0 (length t.steps / 1 + 1)
 
-pub mark_within : (t : Trace) (marks : List Levels) (n : ℕ) → HasMarks t marks → n ≤ length t.steps → n / 16 < length marks
+pub mark_within : (t : Trace) (marks : List Levels) (n : ℕ) → HasMarks t marks → n ≤ length t.steps → n / 1 < length marks
 mark_within t marks n h within = let e = marks_count t marks h in omega (arith, e)
 
 -- after the last instant the levels stay
@@ -26,10 +26,10 @@ stays t n =
     order a b = grind arith
 
 -- the steps from a mark on lead to the levels at an instant
-pub from_mark : (t : Trace) (marks : List Levels) (steps : List Step) (n i : ℕ) (x : Levels) → HasMarks t marks → steps ≡ t.steps → n ≡ min (length steps) i → x ≡ get_or marks (n / 16) x
-    → levels_after x (take (n - n / 16 * 16) (drop (n / 16 * 16) steps)) ≡ levels_at t i
+pub from_mark : (t : Trace) (marks : List Levels) (steps : List Step) (n i : ℕ) (x : Levels) → HasMarks t marks → steps ≡ t.steps → n ≡ min (length steps) i → x ≡ get_or marks (n / 1) x
+    → levels_after x (take (n - n / 1 * 1) (drop (n / 1 * 1) steps)) ≡ levels_at t i
 from_mark t marks steps n i x h same is here =
     let last : n ≡ min (length t.steps) i = is ∙ ap (λ xs. min (length xs) i) same in
-    let mark : x ≡ levels_at t (n / 16 * 16) = here ∙ ap (λ xs. get_or xs (n / 16) x) h ∙ get_or-map-range_with_len (mark_at t) 0 (length t.steps / 16 + 1) (n / 16) (n / 16) x (omega (arith, last)) (omega arith) in
-    let whole : n / 16 * 16 + (n - n / 16 * 16) ≡ n = omega arith in
-    rw (mark, same) (sym (levels_at-more t (n / 16 * 16) (n - n / 16 * 16)) ∙ ap (levels_at t) (whole ∙ last) ∙ stays t i)
+    let mark : x ≡ levels_at t (n / 1 * 1) = here ∙ ap (λ xs. get_or xs (n / 1) x) h ∙ get_or-map-range_with_len (mark_at t) 0 (length t.steps / 1 + 1) (n / 1) (n / 1) x (omega (arith, last)) (omega arith) in
+    let whole : n / 1 * 1 + (n - n / 1 * 1) ≡ n = omega arith in
+    rw (mark, same) (sym (levels_at-more t (n / 1 * 1) (n - n / 1 * 1)) ∙ ap (levels_at t) (whole ∙ last) ∙ stays t i)

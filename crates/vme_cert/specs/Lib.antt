@@ -2,4 +2,5 @@ pub mod Agreement
 pub mod Marks
 pub mod Tests
 pub mod TransferOf
+pub mod Unknowns
 pub mod Watched

@@ -81,9 +81,9 @@ impl Recording<'_> {
         match self.transfer_of(span, instant) {
             Some(start) => {
                 self.is_answered(span, start, instant)
-                    || (self.answers(span, start, instant)
-                        && self.falls(Line::DTACK, instant)
-                        && self.falls(Line::BERR, instant))
+                    || (self.falls(Line::DTACK, instant)
+                        && self.falls(Line::BERR, instant)
+                        && self.answers(span, start, instant))
             }
             None => false,
         }

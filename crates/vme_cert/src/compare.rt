@@ -5,14 +5,13 @@ ghost use Rattle.std.specs.Option.{option_to_list};
 ghost use Rattle.vme_listing.specs.Recorded.{tenure_rows, cycle_rows, transfer_rows, rows_before, listed_end, outcome_of, listing_of};
 ghost use Rattle.vme_listing.specs.declared.row.Row.{Row};
 ghost use Rattle.vme_listing.specs.declared.row.Row.TheVariants.{Start, Verdict};
-ghost use Rattle.vme_trace.specs.Verdict.{is_unreadable};
 ghost use Rattle.vme_cert.specs.Agreement.{Agrees, Compared, Settles};
 
 use crate::recording::Recording;
 use crate::span::Span;
 use std::alloc::{AllocError, Global};
 use vme_listing::{Listing, Outcome, Row};
-use vme_trace::{Break, Capture, Rule};
+use vme_trace::{Break, Capture};
 
 /// What a check of a listing says.
 #[derive(Clone, Copy, Debug, PartialEq, Eq)]
@@ -60,13 +59,6 @@ fn follow_row(rows: &[Row], so_far: usize, row: Option<Row>) -> Result<usize, Di
     }
 }
 
-/// Whether a rule says that a recording can't be read on.
-fn is_unreadable(rule: Rule) -> bool
-    ensures { result ≡ is_unreadable rule }
-{
-    matches!(rule, Rule::U1 | Rule::U2 | Rule::U3)
-}
-
 /// The answer, by how far the rows agree with the right ones.
 fn answer_of(rows: &[Row], compared: Result<usize, Difference>) -> Answer
     requires { IfOk compared (λ n. n ≤ length rows.now) }
@@ -89,7 +81,7 @@ impl Recording<'_> {
     {
         match found {
             None => (self.last_instant() + 1, Outcome::Conforming),
-            Some(found) if is_unreadable(found.rule) => {
+            Some(found) if found.rule.is_unreadable() => {
                 let outcome = Outcome::Unreadable(found.rule, found.instant, found.line);
                 (found.instant, outcome)
             }

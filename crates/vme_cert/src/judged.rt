@@ -1,17 +1,18 @@
 //! The instants that are judged.
 #![tactic(auto, unfolding(vme_trace::specs::Judged::is_idle_at, vme_trace::specs::Judged::loses_control_at, vme_trace::specs::Judged::span_end, vme_trace::specs::Judged::judged_span))]
 
-ghost use Rattle.std.specs.Prelude.{◌≡◌, ◌+◌, ◌<◌, ◌≤◌, IfSome};
+ghost use Rattle.std.specs.Prelude.{◌≡◌, ◌+◌, ◌-◌, ◌<◌, ◌≤◌, true, false, IfSome};
 ghost use Rattle.vme_trace.specs.LineNumbers.{line_count};
 ghost use Rattle.vme_trace.specs.Instants.{least};
-ghost use Rattle.vme_trace.specs.Judged.{is_idle_at, span_end, judged_span};
+ghost use Rattle.vme_trace.specs.Judged.{is_idle_at, loses_control_at, span_end, judged_span};
 ghost use Rattle.vme_trace.specs.Levels.{is_lost, loses_control};
 ghost use Rattle.vme_trace.specs.Trace.{last_instant};
+ghost use Rattle.vme_cert.specs.Unknowns.{has_unknown};
 
 use crate::recording::Recording;
 use crate::search::least;
 use crate::span::Span;
-use vme_trace::{Line, Lines};
+use vme_trace::{Change, Line, Lines};
 
 /// How many lines there are, over all backplanes.
 const LINE_COUNT: u8 = 159;
@@ -44,6 +45,18 @@ fn loses_control(lines: &Lines) -> bool
     false
 }
 
+/// Whether a line becomes unknown by some changes.
+fn has_unknown(changes: &[Change]) -> bool
+    ensures { result ≡ has_unknown changes.now }
+{
+    for change in changes {
+        if !change.level.is_known() {
+            return true;
+        }
+    }
+    false
+}
+
 impl Recording<'_> {
     /// The least instant at which the bus is idle.
     fn least_idle(&self) -> Option<u32>
@@ -55,16 +68,29 @@ impl Recording<'_> {
         })
     }
 
+    /// Whether some control line is unknown at an instant. Where it follows one at which none is, a line has to become unknown.
+    fn is_control_lost(&self, follows: bool, instant: u32) -> bool
+        requires { follows ≡ true → loses_control_at self.now (instant - 1) ≡ false }
+        ensures { result ≡ loses_control_at self.now instant }
+    {
+        if follows && !has_unknown(self.changes_at(instant)) {
+            return false;
+        }
+        loses_control(&self.levels(instant))
+    }
+
     /// The next instant after the start at which a control line is unknown, or past the last.
     fn span_end(&self, start: u32) -> u32
         requires { start ≤ last_instant self.now }
         ensures { result ≡ span_end self.now start }
     {
         let end = self.last_instant() + 1;
-        let lost = least(start + 1, end, |instant| {
-            loses_control(&self.levels(instant))
-        });
-        lost.unwrap_or(end)
+        for instant in start + 1..end {
+            if self.is_control_lost(start + 1 < instant, instant) {
+                return instant;
+            }
+        }
+        end
     }
 
     /// The stretch from the least idle instant on.

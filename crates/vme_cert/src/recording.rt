@@ -4,17 +4,17 @@ ghost use Rattle.std.specs.Prelude.{◌≡◌, ◌-◌, ◌≤◌, false, IfOk, 
 ghost use Rattle.vme_trace.specs.Changes.{is_changed};
 ghost use Rattle.vme_trace.specs.LineNumbers.{has_line};
 ghost use Rattle.vme_trace.specs.Levels.{level_at};
-ghost use Rattle.vme_trace.specs.Trace.{levels_at, levels_after, last_instant, time_at};
+ghost use Rattle.vme_trace.specs.Trace.{changed, levels_at, levels_after, last_instant, time_at};
 ghost use Rattle.vme_trace.specs.WellFormed.{capture_limit};
 
 use std::alloc::{AllocError, Global};
 use std::marker::Model;
 use vme_trace::{Capture, Change, Level, Line, Lines, Step};
 
-/// How many steps stand between two marks.
-const STRIDE: usize = 16;
+/// How many steps stand between two marks. More would take less memory and more time.
+const STRIDE: usize = 1;
 
-/// A capture, and marks from which its levels at any instant are a few steps away.
+/// A capture, and marks from which its levels at any instant are at most a few steps away.
 #[derive(Drop)]
 pub(crate) struct Recording<'a> {
     capture: &'a Capture,
@@ -92,16 +92,23 @@ impl<'a> Recording<'a> {
         self.levels(instant).level(line)
     }
 
-    /// Whether a line is among the changes at an instant. If not, it shows what it did before.
-    pub(crate) fn changes(&self, line: Line, instant: u32) -> bool
-        ensures { result ≡ false → level_at (levels_at self.now instant) line ≡ level_at (levels_at self.now (instant - 1)) line }
+    /// The changes at an instant.
+    pub(crate) fn changes_at(&self, instant: u32) -> &[Change]
+        ensures { levels_at self.now instant ≡ changed (levels_at self.now (instant - 1)) result.now }
     {
         let steps = self.capture.steps();
         let number = instant as usize;
         if number == 0 || steps.len() < number {
-            return false;
+            return &[];
         }
-        is_changed(steps[number - 1].changes.as_slice(), line)
+        steps[number - 1].changes.as_slice()
+    }
+
+    /// Whether a line is among the changes at an instant. If not, it shows what it did before.
+    pub(crate) fn changes(&self, line: Line, instant: u32) -> bool
+        ensures { result ≡ false → level_at (levels_at self.now instant) line ≡ level_at (levels_at self.now (instant - 1)) line }
+    {
+        is_changed(self.changes_at(instant), line)
     }
 
     /// Whether the backplane has the line.

@@ -25,28 +25,28 @@ const FIRST_IACK: u8 = 138;
 const CHAIN: u8 = 22;
 
 /// Whether the line is a net of a grant chain.
-fn is_grant(line: Line) -> bool
+pub(crate) fn is_grant(line: Line) -> bool
     ensures { result ≡ is_grant_line line }
 {
     FIRST_GRANT <= line.number() && line.number() < FIRST_IACK
 }
 
 /// Whether the line is a grant net that the arbiter drives.
-fn is_arbiter_grant(line: Line) -> bool
+pub(crate) fn is_arbiter_grant(line: Line) -> bool
     ensures { result ≡ is_arbiter_net line }
 {
     is_grant(line) && (line.number() - FIRST_GRANT) % CHAIN == 0
 }
 
 /// Whether the line is a grant net that a slot drives.
-fn is_slot_grant(line: Line) -> bool
+pub(crate) fn is_slot_grant(line: Line) -> bool
     ensures { result ≡ is_slot_net line }
 {
     is_grant(line) && 0 < (line.number() - FIRST_GRANT) % CHAIN
 }
 
 /// Whether the line is an acknowledge net that a slot drives.
-fn is_slot_iack(line: Line) -> bool
+pub(crate) fn is_slot_iack(line: Line) -> bool
     ensures { result ≡ is_iack_net line }
 {
     FIRST_IACK <= line.number()

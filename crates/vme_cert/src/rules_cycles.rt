@@ -19,7 +19,6 @@ impl Recording<'_> {
     {
         is_answer_line(line)
             && self.falls(line, instant)
-            && self.is_answer(span, instant)
             && match self.cycle_of(span, instant) {
                 Some(start) => {
                     matches!(self.class_at(span, start), Class::S)
@@ -27,6 +26,7 @@ impl Recording<'_> {
                 }
                 None => false,
             }
+            && self.is_answer(span, instant)
     }
 
     /// C2: a block transfer turns its direction.
@@ -37,7 +37,6 @@ impl Recording<'_> {
     {
         is_answer_line(line)
             && self.falls(line, instant)
-            && self.is_answer(span, instant)
             && match self.cycle_of(span, instant) {
                 Some(start) => {
                     matches!(self.class_at(span, start), Class::K)
@@ -45,6 +44,7 @@ impl Recording<'_> {
                 }
                 None => false,
             }
+            && self.is_answer(span, instant)
     }
 
     /// I4: an interrupt acknowledge is a write.
@@ -55,11 +55,11 @@ impl Recording<'_> {
     {
         is_answer_line(line)
             && self.falls(line, instant)
-            && self.answers_write(span, instant)
             && match self.cycle_of(span, instant) {
                 Some(start) => matches!(self.class_at(span, start), Class::I),
                 None => false,
             }
+            && self.answers_write(span, instant)
     }
 
     /// I5: an interrupt acknowledge has a second transfer.
@@ -70,7 +70,6 @@ impl Recording<'_> {
     {
         is_answer_line(line)
             && self.falls(line, instant)
-            && self.is_answer(span, instant)
             && match self.cycle_of(span, instant) {
                 Some(start) => {
                     matches!(self.class_at(span, start), Class::I)
@@ -78,5 +77,6 @@ impl Recording<'_> {
                 }
                 None => false,
             }
+            && self.is_answer(span, instant)
     }
 }

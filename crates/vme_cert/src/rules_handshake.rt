@@ -11,7 +11,7 @@ use crate::span::Span;
 use vme_trace::{Line, Rule};
 
 /// Whether the line is a data strobe.
-fn is_strobe(line: Line) -> bool
+pub(crate) fn is_strobe(line: Line) -> bool
     ensures { result ≡ is_strobe_line line }
 {
     line == Line::DS0 || line == Line::DS1
@@ -102,7 +102,7 @@ impl Recording<'_> {
     {
         is_answer_line(line)
             && self.falls(line, instant)
-            && self.is_answer(span, instant)
             && !self.low_near(Line::AS, instant)
+            && self.is_answer(span, instant)
     }
 }

@@ -1,18 +1,20 @@
 //! The least break of the rules.
 
-ghost use Rattle.std.specs.Prelude.{◌≡◌, ◌+◌, ◌-◌, true, false, ◌<◌, ◌≤◌, IsTrue};
-ghost use Rattle.vme_trace.specs.Instants.{least};
+ghost use Rattle.std.specs.Prelude.{◌≡◌, ℕ, true, false, ◌<◌, ◌≤◌, IsTrue};
+ghost use Rattle.vme_trace.specs.Instants.{any, least};
+ghost use Rattle.vme_trace.specs.Cycle.{needs_of};
 ghost use Rattle.vme_trace.specs.LineNumbers.{has_line, line_count};
-ghost use Rattle.vme_trace.specs.Levels.{level_at, same_level};
-ghost use Rattle.vme_trace.specs.Trace.{last_instant, levels_at};
+ghost use Rattle.vme_trace.specs.Trace.{last_instant};
 ghost use Rattle.vme_trace.specs.Rules.{is_broken, breaks};
 ghost use Rattle.vme_trace.specs.Verdict.{all_rules, break_at, least_break};
-ghost use Rattle.vme_cert.specs.Watched.{watched_of};
+ghost use Rattle.vme_cert.specs.Watched.{lacks, is_kept_on, speaks_of};
 
 use crate::judged::nth_line;
 use crate::recording::Recording;
+use crate::rules_chains::{is_arbiter_grant, is_grant, is_slot_grant, is_slot_iack};
+use crate::rules_handshake::{is_answer_line, is_strobe};
 use crate::span::Span;
-use vme_trace::{Break, Line, Lines, Rule};
+use vme_trace::{Break, Change, Line, LineSet, Lines, Rule, needed};
 
 /// How many lines there are, over all backplanes.
 const LINE_COUNT: u8 = 159;
@@ -50,22 +52,48 @@ const RULES: [Rule; 29] = [
     Rule::I5,
 ];
 
-/// The line that has to have an edge where a rule is broken on a line, if it asks for one.
-fn watched(rule: Rule, line: Line) -> Option<Line>
-    ensures { result ≡ watched_of rule line }
+/// Whether a rule may be broken on a line at all.
+fn speaks_of(rule: Rule, line: Line) -> bool
+    ensures { result ≡ speaks_of rule line }
 {
     match rule {
-        Rule::U1 | Rule::U3 | Rule::H1 => None,
-        Rule::U2 => Some(Line::AS),
-        _ => Some(line),
+        Rule::U1 | Rule::U2 | Rule::U3 | Rule::H1 | Rule::S1 => true,
+        Rule::H2 | Rule::H3 => is_strobe(line),
+        Rule::H7 | Rule::B3 => line == Line::AS,
+        Rule::S2 => line == Line::WRITE,
+        Rule::G1 | Rule::G2 => is_slot_grant(line),
+        Rule::G3 | Rule::G5 => is_arbiter_grant(line),
+        Rule::G4 => is_grant(line),
+        Rule::B1 | Rule::B2 | Rule::B4 => line == Line::BBSY,
+        Rule::I1 | Rule::I2 | Rule::I3 => is_slot_iack(line),
+        _ => is_answer_line(line),
     }
 }
 
-/// Whether a line that there is shows the same before and after an instant.
-fn is_still(before: &Lines, after: &Lines, line: Line) -> bool
-    ensures { result ≡ true → same_level (level_at before.now line) (level_at after.now line) ≡ true }
+/// Whether nothing is known of a line that there is and that a cycle which starts at these levels needs.
+#[tactic(auto, unfolding(vme_trace::specs::Cycle::is_needed))]
+fn is_lacking(lines: &Lines, needs: LineSet, line: Line) -> bool
+    requires { needs ≡ needs_of lines.now }
+    ensures { result ≡ lacks lines.now line }
 {
-    before.has(line) && after.has(line) && before.level(line).is_same(after.level(line))
+    if !lines.has(line) {
+        return false;
+    }
+    !lines.level(line).is_known() && needs.has(line)
+}
+
+/// Whether nothing is known of some line that a cycle which starts at these levels needs.
+#[tactic(auto, using(vme_trace::proofs::Ranges::searches))]
+fn lacks_some(lines: &Lines) -> bool
+    ensures { result ≡ any (lacks lines.now) 0 line_count }
+{
+    let needs = needed(lines);
+    for number in 0..LINE_COUNT {
+        if is_lacking(lines, needs, nth_line(number)) {
+            return true;
+        }
+    }
+    false
 }
 
 impl Recording<'_> {
@@ -114,6 +142,9 @@ impl Recording<'_> {
     fn breaks(&self, span: Span, rule: Rule, instant: u32, line: Line) -> bool
         ensures { result ≡ breaks self.now span rule instant line }
     {
+        if !speaks_of(rule, line) {
+            return false;
+        }
         self.has(line)
             && match rule {
                 Rule::U1 => self.u1(span, instant, line),
@@ -121,46 +152,45 @@ impl Recording<'_> {
             }
     }
 
-    /// Whether a rule can't be broken at an instant on a line, since there is no edge, by the levels before and after it.
-    fn is_ruled_out(
-        &self,
-        span: Span,
-        rule: Rule,
-        instant: u32,
-        line: Line,
-        before: &Lines,
-        after: &Lines,
-    ) -> bool
-        requires before { before.now ≡ levels_at self.now (instant - 1) }
-        requires after { after.now ≡ levels_at self.now instant }
-        ensures { result ≡ true → breaks self.now span rule instant line ≡ false }
+    /// Whether a rule is broken at an instant on no line of some changes.
+    fn is_kept_on(&self, span: Span, rule: Rule, instant: u32, changes: &[Change]) -> bool
+        ensures { result ≡ is_kept_on self.now span rule instant changes.now }
     {
-        let _judged = (span, instant);
-        match watched(rule, line) {
-            Some(watched) => is_still(before, after, watched),
-            None => false,
+        for change in changes {
+            if self.breaks(span, rule, instant, change.line) {
+                return false;
+            }
+        }
+        true
+    }
+
+    /// Whether a rule is broken on none of the lines on which it may be at an instant: those that change, but for the rules
+    /// that speak of lines that stay.
+    fn is_kept(&self, span: Span, rule: Rule, instant: u32) -> bool
+        ensures { result ≡ true → (l : ℕ) → l < line_count → breaks self.now span rule instant l ≡ false }
+    {
+        match rule {
+            Rule::U1 => instant != span.end(),
+            Rule::U2 => !self.cycle_starts(span, instant) || !lacks_some(&self.levels(instant)),
+            Rule::U3 => !self.breaks(span, rule, instant, Line::WRITE),
+            Rule::H1 => {
+                !self.breaks(span, rule, instant, Line::DTACK)
+                    && !self.breaks(span, rule, instant, Line::BERR)
+            }
+            _ => self.is_kept_on(span, rule, instant, self.changes_at(instant)),
         }
     }
 
-    /// The least line on which a rule is broken at an instant, by the levels before and after it.
+    /// The least line on which a rule is broken at an instant.
     #[tactic(auto, using(vme_trace::proofs::Ranges::searches))]
-    fn broken_line(
-        &self,
-        span: Span,
-        rule: Rule,
-        instant: u32,
-        before: &Lines,
-        after: &Lines,
-    ) -> Option<Line>
-        requires before { before.now ≡ levels_at self.now (instant - 1) }
-        requires after { after.now ≡ levels_at self.now instant }
+    fn broken_line(&self, span: Span, rule: Rule, instant: u32) -> Option<Line>
         ensures { result ≡ least (breaks self.now span rule instant) 0 line_count }
     {
+        if self.is_kept(span, rule, instant) {
+            return None;
+        }
         for number in 0..LINE_COUNT {
             let line = nth_line(number);
-            if self.is_ruled_out(span, rule, instant, line, before, after) {
-                continue;
-            }
             if self.breaks(span, rule, instant, line) {
                 return Some(line);
             }
@@ -173,10 +203,8 @@ impl Recording<'_> {
         requires { instant ≤ last_instant self.now }
         ensures { result ≡ break_at self.now span rules.now instant }
     {
-        let before = self.levels(instant.saturating_sub(1));
-        let after = self.levels(instant);
         for rule in rules {
-            match self.broken_line(span, *rule, instant, &before, &after) {
+            match self.broken_line(span, *rule, instant) {
                 Some(line) => {
                     let time = self.time(instant);
                     let rule = *rule;

@@ -10,3 +10,5 @@ pub mod CycleBreaks
 pub mod StillSteps
 pub mod Holding
 pub mod Judging
+pub mod Faults
+pub mod SameLevel

@@ -49,11 +49,12 @@ fn rises(before: &Lines, after: &Lines, line: Line) -> bool
 }
 
 /// Whether a bused line keeps its level.
+#[tactic(auto, using(crate::proofs::SameLevel::same))]
 fn stays(before: &Lines, after: &Lines, line: Line) -> bool
     requires { line < grant 0 0 }
     ensures { result ≡ stays_on before.now after.now line }
 {
-    before.level(line).is_same(after.level(line))
+    before.level(line) == after.level(line)
 }
 
 /// Whether AS*, the strobes and the answer lines stay as they are.

@@ -4,7 +4,7 @@
 //! a strobe has risen. A single cycle has a transfer, or a read and then a write; a block transfer keeps its direction; an
 //! interrupt acknowledge is one read.
 
-ghost use Rattle.std.specs.Prelude.{◌≡◌};
+ghost use Rattle.std.specs.Prelude.{◌≡◌, is_some};
 ghost use Rattle.vme_monitor.specs.Tracking.{is_unanswered, is_within, is_writing};
 ghost use Rattle.vme_monitor.specs.Whole.{FindsLeast, ShowsAll};
 ghost use Rattle.vme_dtb.specs.Machine.{answer_in, broken as broken_on, cycle_fault as fault_of_cycle, dropped as dropped_line, freed as is_freed, handshake_fault as fault_of_handshake, is_doubled, is_replied, is_unserved};
@@ -71,6 +71,13 @@ fn answer_of(entered: Pending, seen: &Edges) -> Option<Line>
     }
 }
 
+/// Whether an answer line falls in a transfer that has its answer, or both fall in one.
+fn is_doubled(entered: Pending, seen: &Edges) -> bool
+    ensures { result ≡ is_doubled entered seen.now }
+{
+    is_answered(entered) || (is_unanswered(entered) && seen.both_fall)
+}
+
 /// Whether a strobe has risen since an answer line fell, if `was` says so of the time before the step.
 fn freed(was: bool, seen: &Edges) -> bool
     ensures { result ≡ is_freed was seen.now }
@@ -101,7 +108,7 @@ impl Memory {
         ensures { result ≡ fault_of_handshake self entered seen.now }
     {
         let unserved = self.is_unserved(seen);
-        let doubled = is_answered(entered) || (is_unanswered(entered) && seen.both_fall);
+        let doubled = is_doubled(entered, seen);
         broken(Rule::H1, true, seen.unready)
             .or(broken(Rule::H2, unserved, seen.strobe_rise))
             .or(broken(Rule::H3, is_answered(self.pending), seen.strobe_fall))
@@ -111,16 +118,52 @@ impl Memory {
             .or(broken(Rule::H7, unserved && seen.shown.cycle_end, Some(Line::AS)))
             .or(broken(Rule::H8, seen.unaddressed, answer_of(entered, seen)))
     }
+
+    /// Whether some rule of the handshake is broken.
+    fn breaks_handshake(self, entered: Pending, seen: &Edges) -> bool
+        ensures { result ≡ is_some (fault_of_handshake self entered seen.now) }
+    {
+        seen.unready.is_some()
+            | (self.is_unserved(seen) & seen.strobe_rise.is_some())
+            | (is_answered(self.pending) & seen.strobe_fall.is_some())
+            | (!is_open(entered) & seen.answer_fall.is_some())
+            | (is_doubled(entered, seen) & seen.answer_fall.is_some())
+            | self.dropped(seen).is_some()
+            | (self.is_unserved(seen) & seen.shown.cycle_end)
+            | (seen.unaddressed & answer_of(entered, seen).is_some())
+    }
+
+    /// The same as [`Memory::handshake_fault`], apart from the steps that break nothing.
+    #[cold]
+    #[inline(never)]
+    fn found_fault(self, entered: Pending, seen: Edges) -> Option<Fault>
+        ensures { result ≡ fault_of_handshake self entered seen }
+    {
+        self.handshake_fault(entered, &seen)
+    }
+
+    /// The same again: which rule it is is asked only where one is broken.
+    fn first_fault(self, entered: Pending, seen: &Edges) -> Option<Fault>
+        ensures { result ≡ fault_of_handshake self entered seen.now }
+    {
+        if !self.breaks_handshake(entered, seen) {
+            return None;
+        }
+        self.found_fault(entered, *seen)
+    }
 }
 
 /// The first rule that an answer in a cycle breaks.
 fn cycle_fault(cycle: Cycle, write: bool, answer: Option<Line>) -> Option<Fault>
     ensures { result ≡ fault_of_cycle cycle write answer }
 {
-    broken(Rule::C1, cycle.is_pair_spoiled(write), answer)
-        .or(broken(Rule::C2, cycle.is_turned(write), answer))
-        .or(broken(Rule::I4, cycle.is_acknowledge() && write, answer))
-        .or(broken(Rule::I5, cycle.is_acknowledged(), answer))
+    match answer {
+        None => None,
+        Some(_) => broken(Rule::C1, cycle.is_pair_spoiled(write), answer)
+            .or(broken(Rule::C2, cycle.is_turned(write), answer))
+            .or(broken(Rule::I4, cycle.is_acknowledge() && write, answer))
+            .or(broken(Rule::I5, cycle.is_acknowledged(), answer)),
+    }
 }
 
 impl Rules for HandshakeRules {
@@ -171,7 +214,7 @@ impl Rules for HandshakeRules {
         let cycle = memory.cycle.entered(seen.shown.cycle);
         let answer = answer_of(entered, seen);
         let fault = memory
-            .handshake_fault(entered, seen)
+            .first_fault(entered, seen)
             .or(cycle_fault(cycle, write, answer));
         let cycle = if answer.is_some() {
             cycle.answered(write)

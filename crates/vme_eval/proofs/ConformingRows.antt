@@ -1,7 +1,7 @@
 -- Computed from the definitions.
 use Rattle.std.proofs.Common.{◌≡◌, ◌∷◌, [], refl}
 use Rattle.std.specs.Prelude.{codes}
-use Rattle.vme_eval.specs.Captures.{dumped_read, dumped_nothing, read_cycle, read_cycle_from_idle, pipelined_cycles, read_modify_write, short_address, floating_modifier, grant_withdrawn, acknowledge_cycle}
+use Rattle.vme_eval.specs.Captures.{dumped_read, dumped_nothing, read_cycle, read_cycle_from_idle, pipelined_cycles, read_modify_write, short_address, floating_modifier, grant_withdrawn, acknowledge_cycle, strobes_rise_with_answer, address_changes_with_answer, unneeded_line_changes}
 use Rattle.vme_eval.specs.Told.{told}
 use Rattle.vme_eval.proofs.Everything.{everything, rows}
 
@@ -44,3 +44,15 @@ listing_of_grant_withdrawn = refl
 pub listing_of_acknowledge_cycle : told acknowledge_cycle ≡ codes "start 1" ∷ codes "tenure 5 level 3 slot 2 end 15" ∷ codes "cycle 9 I 5 end 13" ∷ codes "transfer 10 of 9 read DTACK 12 close 13" ∷ codes "verdict conforming" ∷ []
 unfolding everything rows acknowledge_cycle
 listing_of_acknowledge_cycle = refl
+
+pub listing_of_strobes_rise_with_answer : told strobes_rise_with_answer ≡ codes "start 1" ∷ codes "tenure 5 level 3 slot 2 end 14" ∷ codes "cycle 9 S 39 FFFFDE end 12" ∷ codes "transfer 10 of 9 read DTACK 11 close 11" ∷ codes "verdict conforming" ∷ []
+unfolding everything rows strobes_rise_with_answer
+listing_of_strobes_rise_with_answer = refl
+
+pub listing_of_address_changes_with_answer : told address_changes_with_answer ≡ codes "start 1" ∷ codes "tenure 5 level 3 slot 2 end 14" ∷ codes "cycle 9 S 29 FFDE end 12" ∷ codes "transfer 10 of 9 read DTACK 11 close 12" ∷ codes "verdict conforming" ∷ []
+unfolding everything rows address_changes_with_answer
+listing_of_address_changes_with_answer = refl
+
+pub listing_of_unneeded_line_changes : told unneeded_line_changes ≡ codes "start 1" ∷ codes "tenure 5 level 3 slot 2 end 14" ∷ codes "cycle 9 S 29 FFDE end 12" ∷ codes "transfer 10 of 9 read DTACK 11 close 12" ∷ codes "verdict conforming" ∷ []
+unfolding everything rows unneeded_line_changes
+listing_of_unneeded_line_changes = refl

@@ -1,4 +1,5 @@
 pub mod AcknowledgesVerdicts
+pub mod BrokenChainsRows
 pub mod BrokenRows
 pub mod ConformingRows
 pub mod CyclesVerdicts

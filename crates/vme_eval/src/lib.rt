@@ -75,6 +75,9 @@ pub fn listings()
     ensures floating_modifier { told floating_modifier ≡ codes "start 1" ∷ codes "tenure 5 level 3 slot 2 end 14" ∷ codes "cycle 9 K 3F FFFFDE end 12" ∷ codes "transfer 10 of 9 read DTACK 11 close 12" ∷ codes "verdict conforming" ∷ [] }
     ensures grant_withdrawn { told grant_withdrawn ≡ codes "start 1" ∷ codes "verdict conforming" ∷ [] }
     ensures acknowledge_cycle { told acknowledge_cycle ≡ codes "start 1" ∷ codes "tenure 5 level 3 slot 2 end 15" ∷ codes "cycle 9 I 5 end 13" ∷ codes "transfer 10 of 9 read DTACK 12 close 13" ∷ codes "verdict conforming" ∷ [] }
+    ensures strobes_rise_with_answer { told strobes_rise_with_answer ≡ codes "start 1" ∷ codes "tenure 5 level 3 slot 2 end 14" ∷ codes "cycle 9 S 39 FFFFDE end 12" ∷ codes "transfer 10 of 9 read DTACK 11 close 11" ∷ codes "verdict conforming" ∷ [] }
+    ensures address_changes_with_answer { told address_changes_with_answer ≡ codes "start 1" ∷ codes "tenure 5 level 3 slot 2 end 14" ∷ codes "cycle 9 S 29 FFDE end 12" ∷ codes "transfer 10 of 9 read DTACK 11 close 12" ∷ codes "verdict conforming" ∷ [] }
+    ensures unneeded_line_changes { told unneeded_line_changes ≡ codes "start 1" ∷ codes "tenure 5 level 3 slot 2 end 14" ∷ codes "cycle 9 S 29 FFDE end 12" ∷ codes "transfer 10 of 9 read DTACK 11 close 12" ∷ codes "verdict conforming" ∷ [] }
 {}
 
 /// The listings of recordings in which a rule is broken: what was before.
@@ -85,4 +88,18 @@ pub fn broken_listings()
     ensures stray_answer { told stray_answer ≡ codes "start 1" ∷ codes "tenure 5 level 3 slot 2 end -" ∷ codes "cycle 9 S 39 FFFFDE end -" ∷ codes "verdict broken H4 10 DTACK" ∷ [] }
     ensures unknown_modifier { told unknown_modifier ≡ codes "start 1" ∷ codes "tenure 5 level 3 slot 2 end -" ∷ codes "verdict unreadable U2 9 AM3" ∷ [] }
     ensures grant_taken_twice { told grant_taken_twice ≡ codes "start 1" ∷ codes "tenure 6 level 3 slot 3 end 7" ∷ codes "verdict broken B2 8 BBSY" ∷ [] }
+    ensures dumped_unknown_strobe { told dumped_unknown_strobe ≡ codes "start 1" ∷ codes "tenure 1 open end -" ∷ codes "verdict unreadable U1 2 AS" ∷ [] }
+    ensures dumped_gap { told dumped_gap ≡ codes "start 1" ∷ codes "tenure 1 open end -" ∷ codes "cycle 2 S 3D FFFFFE end -" ∷ codes "transfer 3 read pending" ∷ codes "verdict unreadable U1 4 AS" ∷ [] }
+    ensures strobes_rise_early { told strobes_rise_early ≡ codes "start 1" ∷ codes "tenure 5 level 3 slot 2 end -" ∷ codes "cycle 9 S 39 FFFFDE end -" ∷ codes "transfer 10 read pending" ∷ codes "verdict broken H2 11 DS0" ∷ [] }
+    ensures address_changes_early { told address_changes_early ≡ codes "start 1" ∷ codes "tenure 5 level 3 slot 2 end -" ∷ codes "cycle 9 S 29 FFDE end -" ∷ codes "verdict broken S1 10 A05" ∷ [] }
+{}
+
+/// The listings of recordings in which a grant or an acknowledge breaks a rule: what was before.
+pub fn broken_chains_listings()
+    ensures bus_taken_ungranted { told bus_taken_ungranted ≡ codes "start 1" ∷ codes "tenure 6 level 3 slot 3 end 10" ∷ codes "verdict broken B1 11 BBSY" ∷ [] }
+    ensures grant_past_last_slot { told grant_past_last_slot ≡ codes "start 1" ∷ codes "verdict broken B4 7 BBSY" ∷ [] }
+    ensures acknowledge_write { told acknowledge_write ≡ codes "start 1" ∷ codes "tenure 5 level 3 slot 2 end -" ∷ codes "cycle 9 I 5 end -" ∷ codes "transfer 10 write pending" ∷ codes "verdict broken I4 12 DTACK" ∷ [] }
+    ensures acknowledge_skips_slot { told acknowledge_skips_slot ≡ codes "start 1" ∷ codes "tenure 5 level 3 slot 2 end -" ∷ codes "cycle 9 I 5 end -" ∷ codes "transfer 10 read pending" ∷ codes "verdict broken I1 11 IA.2" ∷ [] }
+    ensures acknowledge_before_strobe { told acknowledge_before_strobe ≡ codes "start 1" ∷ codes "tenure 5 level 3 slot 2 end -" ∷ codes "cycle 9 I 5 end -" ∷ codes "verdict broken I2 10 IA.1" ∷ [] }
+    ensures acknowledge_after_answer { told acknowledge_after_answer ≡ codes "start 1" ∷ codes "tenure 5 level 3 slot 2 end -" ∷ codes "cycle 9 I 5 end -" ∷ codes "transfer 10 of 9 read DTACK 11 close -" ∷ codes "verdict broken I3 12 IA.1" ∷ [] }
 {}

@@ -1,12 +1,12 @@
 -- How a listing is read, row by row.
 use Rattle.std.proofs.Common.{◌≡◌, ◌≢◌, ℕ, ◌-◌, ◌<◌, Bool, true, false, List, [], ◌∷◌, ◌++◌, drop, length, refl, sym, ap, ◌∙◌, subst, arith, length-append}
-use Rattle.std.specs.Prelude.{Option, None, Some, ◌&&◌, ◌↔◌, flat_map}
+use Rattle.std.specs.Prelude.{Option, None, Some, not, ◌&&◌, ◌↔◌, flat_map}
 use Rattle.std.specs.List.{slice_get}
 use Rattle.std.proofs.lemmas.Bool.{and_from, and_parts, false_from_ne_true, false≢true, iff_false}
 use Rattle.std.proofs.lemmas.Grind.{flat_map-append}
 use Rattle.std.proofs.lemmas.List.{append_assoc, append-nil}
-use Rattle.vme_listing.specs.Places.{is_row, may_follow, ascends, follows, ends_listing, is_rest, is_well_placed}
-use Rattle.vme_listing.specs.Reading.{last_of, are_placed, IsRead, IsUnfinished, IsRowFault, IsFirstFault, IsNoListing, IsOnlyListing}
+use Rattle.vme_listing.specs.Places.{is_row, is_start, is_verdict, is_never_idle, may_follow, ascends, follows, ends_listing, is_rest, is_well_placed}
+use Rattle.vme_listing.specs.Reading.{last_of, are_placed, IsFront, IsRead, IsUnfinished, IsRowFault, IsFirstFault, IsNoListing, IsOnlyListing}
 use Rattle.vme_listing.specs.RowText.{header, line_of, text_of}
 use Rattle.vme_listing.specs.declared.fault.ListFault.{ListFault}
 use Rattle.vme_listing.specs.declared.fault.ListFault.TheVariants.{BadHeader, BadRow, Unsorted, Memory}
@@ -60,11 +60,11 @@ lines_more rows row more =
     ∙ ap (λ line. (flat_map line_of rows ++ line) ++ more) (sym (append-nil (line_of row)))
     ∙ ap (λ lines. lines ++ more) (sym (flat_map-append line_of rows (row ∷ [])))
 
-pub read_more : (text : List ℕ) (rows : List Row) (rest : List ℕ) (row : Row) (more : List ℕ) → IsRead text rows rest → follows (last_of None rows) row ≡ true → rest ≡ line_of row ++ more → IsRead text (rows ++ row ∷ []) more
+pub read_more : (text : List ℕ) (rows : List Row) (rest : List ℕ) (row : Row) (more : List ℕ) → IsRead text rows rest → follows (last_of None rows) row ≡ true → IsFront rest row more → IsRead text (rows ++ row ∷ []) more
 read_more text rows rest row more read f e =
     record {
       placed = placed_more None rows row read.placed f;
-      split = read.split ∙ ap (λ l. header ++ (flat_map line_of rows ++ l)) e ∙ ap (λ l. header ++ l) (lines_more rows row more);
+      split = read.split ∙ ap (λ l. header ++ (flat_map line_of rows ++ l)) e.0 ∙ ap (λ l. header ++ l) (lines_more rows row more);
     }
 
 -- each well placed listing that has the text begins with these rows, and the rest is the text of its other rows
@@ -80,20 +80,29 @@ AllBegin text rows rest = (all : List Row) → is_well_placed all ≡ true → t
 pub begin_none : (text rest : List ℕ) → text ≡ header ++ rest → AllBegin text [] rest
 begin_none text rest e all w t = record { others = all; split = refl; placed = w; lines = ap (drop 19) (t ∙ e) }
 
--- of what follows in such a listing, the first row follows and its line is at the front of the rest
-next_other : (rows : List Row) (rest : List ℕ) → IsUnfinished rows rest → (others : List Row) → is_rest (last_of None rows) others ≡ true → flat_map line_of others ≡ rest
-    → (row : Row) × (later : List Row) × (others ≡ row ∷ later) × (follows (last_of None rows) row ≡ true) × (is_rest (Some row) later ≡ true) × (rest ≡ line_of row ++ flat_map line_of later)
+-- behind a verdict there are no rows
+behind_verdict : (row : Row) (later : List Row) → is_rest (Some row) later ≡ true → is_verdict row ≡ true → flat_map line_of later ≡ []
 unfolding is_rest
-next_other rows rest unfinished [] placed lines = absurd (false≢true (sym (unfinished (sym lines)) ∙ placed))
+behind_verdict row [] placed verdict = refl
+behind_verdict row (next ∷ later) placed verdict =
+    let parts = and_parts (follows (Some row) next) (is_rest (Some next) later) placed in
+    let may = (follows_parts (Some row) next parts.0).1 in
+    absurd (false≢true (ap not (sym verdict) ∙ (three (not (is_verdict row)) (not (is_start next)) (not (is_never_idle next)) may).0))
+
+-- of what follows in such a listing, the first row follows and its line is at the front of the rest
+next_other : (rows : List Row) (rest : List ℕ) → IsUnfinished rows → (others : List Row) → is_rest (last_of None rows) others ≡ true → flat_map line_of others ≡ rest
+    → (row : Row) × (later : List Row) × (others ≡ row ∷ later) × (follows (last_of None rows) row ≡ true) × (is_rest (Some row) later ≡ true) × IsFront rest row (flat_map line_of later)
+unfolding is_rest
+next_other rows rest unfinished [] placed lines = absurd (false≢true (sym unfinished ∙ placed))
 next_other rows rest unfinished (row ∷ later) placed lines =
     let parts = and_parts (follows (last_of None rows) row) (is_rest (Some row) later) placed in
-    (row, later, refl, parts.0, parts.1, sym lines)
+    (row, later, refl, parts.0, parts.1, (sym lines, behind_verdict row later parts.1))
 
 regroup : (rows : List Row) (row : Row) (later : List Row) → rows ++ row ∷ later ≡ (rows ++ row ∷ []) ++ later
 regroup rows row later = sym (append_assoc rows (row ∷ []) later)
 
-pub begin_more : (text : List ℕ) (rows : List Row) (rest : List ℕ) (row : Row) (more : List ℕ) → AllBegin text rows rest → IsUnfinished rows rest
-    → ((other : Row) (behind : List ℕ) → follows (last_of None rows) other ≡ true → rest ≡ line_of other ++ behind → (row ≡ other) × (more ≡ behind)) → AllBegin text (rows ++ row ∷ []) more
+pub begin_more : (text : List ℕ) (rows : List Row) (rest : List ℕ) (row : Row) (more : List ℕ) → AllBegin text rows rest → IsUnfinished rows
+    → ((other : Row) (behind : List ℕ) → follows (last_of None rows) other ≡ true → IsFront rest other behind → (row ≡ other) × (more ≡ behind)) → AllBegin text (rows ++ row ∷ []) more
 begin_more text rows rest row more begin unfinished found all w t =
     let b = begin all w t in
     let (other, later, is, f, placed, lines) = next_other rows rest unfinished b.others b.placed b.lines in
@@ -105,8 +114,8 @@ begin_more text rows rest row more begin unfinished found all w t =
       lines = sym same.1;
     }
 
-pub begin_not : (text : List ℕ) (rows : List Row) (rest : List ℕ) → AllBegin text rows rest → IsUnfinished rows rest
-    → ((other : Row) (behind : List ℕ) → follows (last_of None rows) other ≡ true → rest ≡ line_of other ++ behind → ⊥) → (all : List Row) → is_well_placed all ≡ true → text_of all ≢ text
+pub begin_not : (text : List ℕ) (rows : List Row) (rest : List ℕ) → AllBegin text rows rest → IsUnfinished rows
+    → ((other : Row) (behind : List ℕ) → follows (last_of None rows) other ≡ true → IsFront rest other behind → ⊥) → (all : List Row) → is_well_placed all ≡ true → text_of all ≢ text
 begin_not text rows rest begin unfinished none all w t =
     let b = begin all w t in
     let (other, later, is, f, placed, lines) = next_other rows rest unfinished b.others b.placed b.lines in
@@ -131,14 +140,24 @@ no_listing text none (BadRow n) = none
 no_listing text none (Unsorted n) = none
 no_listing text none Memory = tt
 
-pub first_fault : (text : List ℕ) (rows : List Row) (rest : List ℕ) → IsRead text rows rest → IsUnfinished rows rest → (fault : ListFault) → IsRowFault rows rest fault → IsFirstFault text fault
+pub first_fault : (text : List ℕ) (rows : List Row) (rest : List ℕ) → IsRead text rows rest → IsUnfinished rows → (fault : ListFault) → IsRowFault rows rest fault → IsFirstFault text fault
 first_fault text rows rest read unfinished BadHeader h = absurd h
 first_fault text rows rest read unfinished (BadRow n) h = (rows, rest, (read, unfinished, h))
 first_fault text rows rest read unfinished (Unsorted n) h = (rows, rest, (read, unfinished, h))
 first_fault text rows rest read unfinished Memory h = absurd h
 
-pub unfinished_from : (whole : Bool) (rows slice : List Row) (rest : List ℕ) → slice ≡ rows → ((whole ≡ true) ↔ ((ends_listing (last_of None slice) ≡ true) × (rest ≡ []))) → whole ≡ false → IsUnfinished rows rest
-unfinished_from whole rows slice rest same iff not_whole e = false_from_ne_true (ends_listing (last_of None rows)) (λ h. iff_false iff not_whole (ap (λ l. ends_listing (last_of None l)) same ∙ h, e))
+-- a text ends with the verdict
+abbrev pub IsClosed : List Row → List ℕ → Type 0
+IsClosed rows rest = ends_listing (last_of None rows) ≡ true → rest ≡ []
 
-pub shorter : (rest : List ℕ) (row : Row) (more : List ℕ) → rest ≡ line_of row ++ more → length more < length rest
-shorter rest row more e = omega (arith, ap length e, length-append (line_of row) more, length-append {A = ℕ})
+pub closed_none : (rest : List ℕ) → IsClosed [] rest
+closed_none rest end = absurd (false≢true end)
+
+pub closed_more : (rows : List Row) (rest : List ℕ) (row : Row) (more : List ℕ) → IsFront rest row more → IsClosed (rows ++ row ∷ []) more
+closed_more rows rest row more e end = e.1 (ap ends_listing (sym (last_of_more None rows row)) ∙ end)
+
+pub unfinished_from : (whole : Bool) (rows slice : List Row) (rest : List ℕ) → IsClosed rows rest → slice ≡ rows → ((whole ≡ true) ↔ ((ends_listing (last_of None slice) ≡ true) × (rest ≡ []))) → whole ≡ false → IsUnfinished rows
+unfinished_from whole rows slice rest closed same iff not_whole = false_from_ne_true (ends_listing (last_of None rows)) (λ h. iff_false iff not_whole (ap (λ l. ends_listing (last_of None l)) same ∙ h, closed h))
+
+pub shorter : (rest : List ℕ) (row : Row) (more : List ℕ) → IsFront rest row more → length more < length rest
+shorter rest row more e = omega (arith, ap length e.0, length-append (line_of row) more, length-append {A = ℕ})

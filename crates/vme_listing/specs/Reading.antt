@@ -3,7 +3,7 @@ use Rattle.std.specs.Prelude.{◌≡◌, ◌≢◌, ℕ, ◌+◌, Bool, true, fa
 use Rattle.vme_listing.specs.declared.fault.ListFault.{ListFault}
 use Rattle.vme_listing.specs.declared.fault.ListFault.TheVariants.{BadHeader, BadRow, Unsorted, Memory}
 use Rattle.vme_listing.specs.declared.row.Row.{Row}
-use Rattle.vme_listing.specs.Places.{is_row, may_follow, ascends, follows, ends_listing, is_well_placed}
+use Rattle.vme_listing.specs.Places.{is_row, is_verdict, may_follow, ascends, follows, ends_listing, is_well_placed}
 use Rattle.vme_listing.specs.RowText.{header, line_of, text_of}
 
 -- the last of some rows, or the one before them
@@ -21,17 +21,21 @@ pub record IsRead (text : List ℕ) (rows : List Row) (rest : List ℕ) : Type 0
   pub placed : are_placed None rows ≡ true
   pub split : text ≡ header ++ (flat_map line_of rows ++ rest)
 
--- the rows aren't a listing that ends with the text: a rest follows, or the last row isn't the verdict
-abbrev pub IsUnfinished : List Row → List ℕ → Type 0
-IsUnfinished rows rest = rest ≡ [] → ends_listing (last_of None rows) ≡ false
+-- the line of the row is at the front of the text, with more behind it; behind a verdict there is nothing
+abbrev pub IsFront : List ℕ → Row → List ℕ → Type 0
+IsFront text row more = (text ≡ line_of row ++ more) × (is_verdict row ≡ true → more ≡ [])
+
+-- the last of the rows isn't the verdict
+abbrev pub IsUnfinished : List Row → Type 0
+IsUnfinished rows = ends_listing (last_of None rows) ≡ false
 
 -- no line of a row that by its form may stand behind the one before is at the front of the rest
 abbrev pub IsNoRow : Option Row → List ℕ → Type 0
-IsNoRow before rest = (row : Row) (more : List ℕ) → is_row row ≡ true → may_follow before row ≡ true → rest ≢ line_of row ++ more
+IsNoRow before rest = (row : Row) (more : List ℕ) → is_row row ≡ true → may_follow before row ≡ true → IsFront rest row more → ⊥
 
 -- the line of such a row is, and the row doesn't ascend
 abbrev pub IsUnsorted : Option Row → List ℕ → Type 0
-IsUnsorted before rest = (row : Row) × (more : List ℕ) × (is_row row ≡ true) × (may_follow before row ≡ true) × (ascends before row ≡ false) × (rest ≡ line_of row ++ more)
+IsUnsorted before rest = (row : Row) × (more : List ℕ) × (is_row row ≡ true) × (may_follow before row ≡ true) × (ascends before row ≡ false) × IsFront rest row more
 
 -- this is the fault of the row that should follow these, at the front of the rest
 abbrev pub IsRowFault : List Row → List ℕ → ListFault → Type 0
@@ -40,9 +44,9 @@ IsRowFault rows rest (BadRow n) = (n ≡ length rows + 1) × IsNoRow (last_of No
 IsRowFault rows rest (Unsorted n) = (n ≡ length rows + 1) × IsUnsorted (last_of None rows) rest
 IsRowFault rows rest Memory = ⊥
 
--- the rows before the fault are placed as they may be, no listing ends with them, and the next row has the fault
+-- the rows before the fault are placed as they may be, none is a verdict, and the next row has the fault
 abbrev pub IsFaultBehind : List ℕ → ListFault → List Row → List ℕ → Type 0
-IsFaultBehind text fault rows rest = IsRead text rows rest × IsUnfinished rows rest × IsRowFault rows rest fault
+IsFaultBehind text fault rows rest = IsRead text rows rest × IsUnfinished rows × IsRowFault rows rest fault
 
 -- the text has this fault, and none before it
 abbrev pub IsFirstFault : List ℕ → ListFault → Type 0

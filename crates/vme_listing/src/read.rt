@@ -2,28 +2,30 @@
 
 ghost use Rattle.std.specs.Prelude.{◌≡◌, ◌↔◌, ℕ, true, None, List, [], ◌++◌, IfSome, IsSomeAnd, IfOk, IsOkAnd, IfErr, IsTrue};
 ghost use Rattle.vme_listing.specs.Places.{is_row, follows, ends_listing, is_well_placed};
-ghost use Rattle.vme_listing.specs.Reading.{last_of, IsRowFault, IsFirstFault, IsNoListing, IsOnlyListing};
-ghost use Rattle.vme_listing.specs.RowText.{line_of, text_of};
+ghost use Rattle.vme_listing.specs.Reading.{last_of, IsFront, IsRowFault, IsFirstFault, IsNoListing, IsOnlyListing};
+ghost use Rattle.vme_listing.specs.RowText.{text_of};
 ghost use Rattle.vme_listing.specs.declared.row.Row.{Row};
 
 use crate::fault::ListFault;
 use crate::listing::Listing;
 use crate::row::Row;
+use crate::text::HEADER;
 use crate::words::read_row;
 use memchr::memchr;
 use std::alloc::Global;
 
-/// The first line of a listing.
-const HEADER: &[u8] = b"vmecheck listing 1\n";
-
-/// The row whose line is at the front of the text, and what follows the line.
+/// The row whose line is at the front of the text, and what follows the line. Nothing may follow a verdict.
 fn front_row(text: &[u8]) -> Option<(Row, &[u8])>
-    ensures named { IfSome result (λ front. (is_row front.0 ≡ true) × (text.now ≡ line_of front.0 ++ front.1.now)) }
-    ensures found { (row : Row) (more : List ℕ) → is_row row ≡ true → text.now ≡ line_of row ++ more → IsSomeAnd result (λ front. (front.0 ≡ row) × (front.1.now ≡ more)) }
+    ensures named { IfSome result (λ front. (is_row front.0 ≡ true) × IsFront text.now front.0 front.1.now) }
+    ensures found { (row : Row) (more : List ℕ) → is_row row ≡ true → IsFront text.now row more → IsSomeAnd result (λ front. (front.0 ≡ row) × (front.1.now ≡ more)) }
 {
     let end = memchr(b'\n', text)?;
     let row = read_row(&text[..end])?;
-    Some((row, &text[end + 1..]))
+    let more = &text[end + 1..];
+    if row.is_verdict() && !more.is_empty() {
+        return None;
+    }
+    Some((row, more))
 }
 
 /// The last of the rows.
@@ -45,8 +47,8 @@ fn is_end(rows: &[Row], rest: &[u8]) -> bool
 
 /// The row that follows the rows before it, and what follows its line; or its fault.
 fn next_row<'a>(rows: &[Row], rest: &'a [u8]) -> Result<(Row, &'a [u8]), ListFault>
-    ensures placed { IfOk result (λ next. (follows (last_of None rows.now) next.0 ≡ true) × (rest.now ≡ line_of next.0 ++ next.1.now)) }
-    ensures found { (row : Row) (more : List ℕ) → follows (last_of None rows.now) row ≡ true → rest.now ≡ line_of row ++ more → IsOkAnd result (λ next. (next.0 ≡ row) × (next.1.now ≡ more)) }
+    ensures placed { IfOk result (λ next. (follows (last_of None rows.now) next.0 ≡ true) × IsFront rest.now next.0 next.1.now) }
+    ensures found { (row : Row) (more : List ℕ) → follows (last_of None rows.now) row ≡ true → IsFront rest.now row more → IsOkAnd result (λ next. (next.0 ≡ row) × (next.1.now ≡ more)) }
     ensures fault { IfErr result (λ fault. IsRowFault rows.now rest.now fault) }
 {
     let number = rows.len() + 1;

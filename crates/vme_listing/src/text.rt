@@ -10,6 +10,9 @@ use crate::row::{AnswerLine, Direction, Outcome, Row};
 use std::marker::Model;
 use vme_trace::{Class, Line, Rule};
 
+/// The first line of a listing.
+pub(crate) const HEADER: &[u8] = b"vmecheck listing 1\n";
+
 /// How many bytes a line of a listing has at most.
 pub(crate) const LONGEST_LINE: usize = 96;
 

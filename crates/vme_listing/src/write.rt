@@ -8,16 +8,13 @@ ghost use Rattle.vme_listing.specs.Written.{AppendsFront, Moves};
 
 use crate::listing::Listing;
 use crate::row::Row;
-use crate::text::LONGEST_LINE;
+use crate::text::{HEADER, LONGEST_LINE};
 use std::marker::Model;
 use vme_trace::Sink;
 
 /// A write failed.
 #[derive(Clone, Copy, Debug, PartialEq, Eq)]
 pub struct Write;
-
-/// The first line of a listing.
-const HEADER: &[u8] = b"vmecheck listing 1\n";
 
 /// How many bytes go out by one write at most.
 const MOST: usize = 4096;

@@ -135,6 +135,7 @@ fn when(shown: bool, kind: Kind) -> Option<Kind>
     if shown { Some(kind) } else { None }
 }
 
+#[inline(always)]
 fn show(marks: &mut Vec<Mark>, instant: u32, kind: Option<Kind>) -> Result<(), AllocError>
     ensures { OnOk result (marks.new.items ≡ marks.old.items ++ map (mark_at instant) (option_to_list kind)) }
 {
@@ -187,7 +188,8 @@ fn answer_kind(shown: Option<Line>) -> Option<Kind>
     }
 }
 
-/// Adds what a step shows.
+/// Adds what a step shows. Where it is part of a monitor, the kinds that the monitor never shows cost nothing.
+#[inline(always)]
 fn show_all(marks: &mut Vec<Mark>, instant: u32, kinds: Kinds) -> Result<(), AllocError>
     ensures { OnOk result (marks.new.items ≡ marks.old.items ++ map (mark_at instant) (kinds_of kinds)) }
 {
@@ -202,17 +204,14 @@ fn show_all(marks: &mut Vec<Mark>, instant: u32, kinds: Kinds) -> Result<(), All
     show(marks, instant, when(kinds.close, Kind::Close))
 }
 
-fn break_of(fault: Option<Fault>, instant: u32, time: u64) -> Option<Break>
-    ensures { result ≡ option_map (break_at instant time) fault }
+fn break_of(fault: Fault, instant: u32, time: u64) -> Break
+    ensures { result ≡ break_at instant time fault }
 {
-    match fault {
-        Some(fault) => Some(Break {
-            instant,
-            time,
-            rule: fault.rule,
-            line: fault.line,
-        }),
-        None => None,
+    Break {
+        instant,
+        time,
+        rule: fault.rule,
+        line: fault.line,
     }
 }
 
@@ -226,8 +225,10 @@ impl<P: Copy> Row<P> {
             fault,
             kinds,
         } = next;
-        if self.event.is_none() {
-            self.event = break_of(fault, instant, time);
+        if let Some(fault) = fault {
+            if self.event.is_none() {
+                self.event = Some(break_of(fault, instant, time));
+            }
         }
         if kinds != NOTHING {
             show_all(&mut self.marks, instant, kinds)?;

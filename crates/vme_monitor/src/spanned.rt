@@ -154,8 +154,7 @@ impl<R: Rules> Machine for Spanned<R> {
 
     fn see(before: &Lines, after: &Lines, changes: &[Change]) -> Option<Noted<R::Seen>> {
         let inner = R::see(before, after, changes);
-        let touched = after.touches_control(changes);
-        if touched || inner.is_some() {
+        if inner.is_some() || after.touches_control(changes) {
             Some(Noted {
                 lost: after.lost_among(changes),
                 inner,

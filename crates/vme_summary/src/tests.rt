@@ -1,6 +1,7 @@
 use crate::all::{All, Judging};
 use crate::cut::verdict_by_blocks;
 use crate::judged::{Judged, judge_block};
+use crate::listing_tests::assert_rows;
 use crate::span::{JoinFault, Span, join};
 use smallvec::SmallVec;
 use std::alloc::Global;
@@ -16,7 +17,7 @@ use vme_trace::{
 /// How a recording starts: its slots, the levels of its opening, and its first steps. A step is the lines that change, with their
 /// new levels, and they stand ten units apart. `high` is every line high, and `quiet` every line but A24 to A31.
 #[derive(Clone, Copy)]
-struct Start {
+pub(crate) struct Start {
     slots: u8,
     opening: &'static str,
     steps: &'static str,
@@ -24,12 +25,15 @@ struct Start {
 
 /// The verdict on a recording, with the line by its name.
 #[derive(Clone, Copy)]
-enum Expected {
+pub(crate) enum Expected {
     Conforming,
     NeverIdle,
     Broken(u32, Rule, &'static str),
     Unreadable(u32, Rule, &'static str),
 }
+
+/// A worked recording: how it starts and goes on, its verdict, and the rows of its listing.
+pub(crate) type Worked = (Start, &'static str, Expected, &'static str);
 
 use Expected::{Broken, Conforming, NeverIdle, Unreadable};
 
@@ -64,143 +68,181 @@ const PASSED_ON: Start = Start {
 /// A read by modifier 39.
 const READ: &str = "AM1=0 AM2=0 A05=0;AS=0;DS0=0 DS1=0;DTACK=0;AS=1 DS0=1 DS1=1;DTACK=1;BBSY=1";
 
+/// What its listing says.
+const READ_ROWS: &str =
+    "start 1\ntenure 5 level 3 slot 2 end 14\ncycle 9 S 39 FFFFDE end 12\ntransfer 10 of 9 read DTACK 11 close 12\nverdict conforming\n";
+
 /// Recordings as a dump gives them.
-const DUMPS: [(Start, &'static str, Expected); 4] = [
+pub(crate) const DUMPS: [Worked; 4] = [
     (
         DUMPED,
         "AS=1 DS0=1 DS1=1 DTACK=1 BERR=1 IACK=1;AS=0;DS0=0;DTACK=0;AS=1 DS0=1;DTACK=1",
         Conforming,
+        "start 1\ntenure 1 open end -\ncycle 2 S 3D FFFFFE end 5\ntransfer 3 of 2 read DTACK 4 close 5\nverdict conforming\n",
     ),
-    (DUMPED, "", NeverIdle),
+    (DUMPED, "", NeverIdle, "verdict never-idle\n"),
     (
         DUMPED,
         "AS=1 DS0=1 DS1=1 DTACK=1 BERR=1 IACK=1;AS=0;DTACK=0;AS=1;DTACK=1",
         Broken(3, Rule::H4, "DTACK"),
+        "start 1\ntenure 1 open end -\ncycle 2 S 3D FFFFFE end -\nverdict broken H4 3 DTACK\n",
     ),
     (
         DUMPED,
         "AS=1 DS0=1 DS1=1 DTACK=1 BERR=1 IACK=1;AS=x;DS0=0;DTACK=0;AS=1 DS0=1;DTACK=1",
         Unreadable(2, Rule::U1, "AS"),
+        "start 1\ntenure 1 open end -\nverdict unreadable U1 2 AS\n",
     ),
 ];
 
 /// Transfers and cycles.
-const CYCLES: [(Start, &'static str, Expected); 9] = [
-    (GRANTED, READ, Conforming),
-    (GRANTED_FROM_IDLE, READ, Conforming),
+pub(crate) const CYCLES: [Worked; 9] = [
+    (GRANTED, READ, Conforming, READ_ROWS),
+    (
+        GRANTED_FROM_IDLE,
+        READ,
+        Conforming,
+        "start 0\ntenure 4 level 3 slot 2 end 13\ncycle 8 S 39 FFFFDE end 11\ntransfer 9 of 8 read DTACK 10 close 11\nverdict conforming\n",
+    ),
     (
         GRANTED,
         "AM1=0 AM2=0 A05=0;AS=0;DS0=0 DS1=0;DTACK=0;AS=1;A05=1;AS=0;DS0=1 DS1=1;DTACK=1;DS0=0 DS1=0;DTACK=0;AS=1 DS0=1 DS1=1;DTACK=1 BBSY=1",
         Conforming,
+        "start 1\ntenure 5 level 3 slot 2 end 20\ncycle 9 S 39 FFFFDE end 12\ntransfer 10 of 9 read DTACK 11 close 15\ncycle 14 S 39 FFFFFE end 19\ntransfer 17 of 14 read DTACK 18 close 19\nverdict conforming\n",
     ),
     (
         GRANTED,
         "AM1=0 A05=0;AS=0;DS0=0 DS1=0;DTACK=0;DS0=1 DS1=1;DTACK=1;WRITE=0;DS0=0 DS1=0;DTACK=0;AS=1 DS0=1 DS1=1;DTACK=1",
         Conforming,
+        "start 1\ntenure 5 level 3 slot 2 end -\ncycle 9 S 3D FFFFDE end 17\ntransfer 10 of 9 read DTACK 11 close 12\ntransfer 15 of 9 write DTACK 16 close 17\nverdict conforming\n",
     ),
     (
         GRANTED,
         "AM1=0 WRITE=0 A05=0;AS=0;DS0=0 DS1=0;DTACK=0;DS0=1 DS1=1;DTACK=1;WRITE=1;DS0=0 DS1=0;DTACK=0;AS=1 DS0=1 DS1=1;DTACK=1",
         Broken(16, Rule::C1, "DTACK"),
+        "start 1\ntenure 5 level 3 slot 2 end -\ncycle 9 S 3D FFFFDE end -\ntransfer 10 of 9 write DTACK 11 close 12\ntransfer 15 read pending\nverdict broken C1 16 DTACK\n",
     ),
     (
         GRANTED,
         "AM2=0 A05=0;AS=0;DS0=0 DS1=0;DTACK=0;DS0=1 DS1=1;DTACK=1 WRITE=0;DS0=0 DS1=0;DTACK=0",
         Broken(15, Rule::C2, "DTACK"),
+        "start 1\ntenure 5 level 3 slot 2 end -\ncycle 9 K 3B FFFFDE end -\ntransfer 10 of 9 read DTACK 11 close 12\ntransfer 14 write pending\nverdict broken C2 15 DTACK\n",
     ),
     (
         GRANTED,
         "AM1=0 AM2=0 A05=0;AS=0;DTACK=0",
         Broken(10, Rule::H4, "DTACK"),
+        "start 1\ntenure 5 level 3 slot 2 end -\ncycle 9 S 39 FFFFDE end -\nverdict broken H4 10 DTACK\n",
     ),
     (
         GRANTED,
         "AM1=0 AM2=0 A05=0;AS=0;DS0=0 DS1=0;DS0=1 DS1=1 DTACK=0;AS=1;DTACK=1;BBSY=1",
         Conforming,
+        "start 1\ntenure 5 level 3 slot 2 end 14\ncycle 9 S 39 FFFFDE end 12\ntransfer 10 of 9 read DTACK 11 close 11\nverdict conforming\n",
     ),
     (
         GRANTED,
         "AM1=0 AM2=0 A05=0;AS=0;DS0=0 DS1=0;DS0=1 DS1=1;DTACK=0",
         Broken(11, Rule::H2, "DS0"),
+        "start 1\ntenure 5 level 3 slot 2 end -\ncycle 9 S 39 FFFFDE end -\ntransfer 10 read pending\nverdict broken H2 11 DS0\n",
     ),
 ];
 
 /// Lines that a cycle needs.
-const HELD: [(Start, &'static str, Expected); 6] = [
+pub(crate) const HELD: [Worked; 6] = [
     (
         GRANTED,
         "AM1=0 AM2=0 AM4=0 A05=0;AS=0;DS0=0 DS1=0;DTACK=0;AS=1 DS0=1 DS1=1;DTACK=1;BBSY=1",
         Conforming,
+        "start 1\ntenure 5 level 3 slot 2 end 14\ncycle 9 S 29 FFDE end 12\ntransfer 10 of 9 read DTACK 11 close 12\nverdict conforming\n",
     ),
     (
         GRANTED,
         "AM1=0 AM2=0 AM4=0 A05=0;AS=0;DS0=0 DS1=0 A05=1;DTACK=0;AS=1 DS0=1 DS1=1;DTACK=1;BBSY=1",
         Broken(10, Rule::S1, "A05"),
+        "start 1\ntenure 5 level 3 slot 2 end -\ncycle 9 S 29 FFDE end -\nverdict broken S1 10 A05\n",
     ),
     (
         GRANTED,
         "AM1=0 AM2=0 AM4=0 A05=0;AS=0;DS0=0 DS1=0;DTACK=0 A05=1;AS=1 DS0=1 DS1=1;DTACK=1;BBSY=1",
         Conforming,
+        "start 1\ntenure 5 level 3 slot 2 end 14\ncycle 9 S 29 FFDE end 12\ntransfer 10 of 9 read DTACK 11 close 12\nverdict conforming\n",
     ),
     (
         GRANTED,
         "AM1=0 AM2=0 AM4=0 A05=0;AS=0;DS0=0 DS1=0 A16=0;DTACK=0;AS=1 DS0=1 DS1=1;DTACK=1;BBSY=1",
         Conforming,
+        "start 1\ntenure 5 level 3 slot 2 end 14\ncycle 9 S 29 FFDE end 12\ntransfer 10 of 9 read DTACK 11 close 12\nverdict conforming\n",
     ),
     (
         GRANTED,
         "AM1=0 AM2=0 AM3=x A05=0;AS=0;DS0=0 DS1=0;DTACK=0;AS=1 DS0=1 DS1=1;DTACK=1;BBSY=1",
         Unreadable(9, Rule::U2, "AM3"),
+        "start 1\ntenure 5 level 3 slot 2 end -\nverdict unreadable U2 9 AM3\n",
     ),
     (
         GRANTED,
         "A05=0;AS=0;DS0=0 DS1=0;DTACK=0;AS=1 DS0=1 DS1=1;DTACK=1;BBSY=1",
         Conforming,
+        "start 1\ntenure 5 level 3 slot 2 end 14\ncycle 9 K 3F FFFFDE end 12\ntransfer 10 of 9 read DTACK 11 close 12\nverdict conforming\n",
     ),
 ];
 
 /// Grants and interrupt acknowledges.
-const CHAINS: [(Start, &'static str, Expected); 9] = [
+pub(crate) const CHAINS: [Worked; 9] = [
     (
         PASSED_ON,
         "BBSY=0 BR3=1;BBSY=1;BBSY=0",
         Broken(8, Rule::B2, "BBSY"),
+        "start 1\ntenure 6 level 3 slot 3 end 7\nverdict broken B2 8 BBSY\n",
     ),
     (
         PASSED_ON,
         "BBSY=0 BR3=1;BG3.0=1;BG3.1=1;BG3.2=1;BBSY=1;BBSY=0",
         Broken(11, Rule::B1, "BBSY"),
+        "start 1\ntenure 6 level 3 slot 3 end 10\nverdict broken B1 11 BBSY\n",
     ),
-    (PASSED_ON, "BG3.3=0;BBSY=0", Broken(7, Rule::B4, "BBSY")),
+    (
+        PASSED_ON,
+        "BG3.3=0;BBSY=0",
+        Broken(7, Rule::B4, "BBSY"),
+        "start 1\nverdict broken B4 7 BBSY\n",
+    ),
     (
         PASSED_ON,
         "BG3.3=0;BG3.0=1;BG3.1=1 BG3.2=1 BG3.3=1",
         Conforming,
+        "start 1\nverdict conforming\n",
     ),
     (
         GRANTED,
         "IACK=0 A02=0;AS=0;DS0=0;IA.1=0;DTACK=0;AS=1 DS0=1 IA.1=1;DTACK=1 IACK=1;BBSY=1",
         Conforming,
+        "start 1\ntenure 5 level 3 slot 2 end 15\ncycle 9 I 5 end 13\ntransfer 10 of 9 read DTACK 12 close 13\nverdict conforming\n",
     ),
     (
         GRANTED,
         "IACK=0 WRITE=0 A02=0;AS=0;DS0=0;IA.1=0;DTACK=0;AS=1 DS0=1 IA.1=1;DTACK=1 IACK=1;BBSY=1",
         Broken(12, Rule::I4, "DTACK"),
+        "start 1\ntenure 5 level 3 slot 2 end -\ncycle 9 I 5 end -\ntransfer 10 write pending\nverdict broken I4 12 DTACK\n",
     ),
     (
         GRANTED,
         "IACK=0 A02=0;AS=0;DS0=0;IA.2=0",
         Broken(11, Rule::I1, "IA.2"),
+        "start 1\ntenure 5 level 3 slot 2 end -\ncycle 9 I 5 end -\ntransfer 10 read pending\nverdict broken I1 11 IA.2\n",
     ),
     (
         GRANTED,
         "IACK=0 A02=0;AS=0;IA.1=0",
         Broken(10, Rule::I2, "IA.1"),
+        "start 1\ntenure 5 level 3 slot 2 end -\ncycle 9 I 5 end -\nverdict broken I2 10 IA.1\n",
     ),
     (
         GRANTED,
         "IACK=0 A02=0;AS=0;DS0=0;DTACK=0;IA.1=0",
         Broken(12, Rule::I3, "IA.1"),
+        "start 1\ntenure 5 level 3 slot 2 end -\ncycle 9 I 5 end -\ntransfer 10 of 9 read DTACK 11 close -\nverdict broken I3 12 IA.1\n",
     ),
 ];
 
@@ -287,7 +329,8 @@ fn push_steps(alloc: Global, steps: &mut Vec<Step>, lines: &Lines, text: &str) -
     Ok(())
 }
 
-fn capture_of(alloc: Global, start: Start, text: &str) -> Result<Capture, Fail> {
+/// The recording that starts so and goes on with the steps of a text.
+pub(crate) fn capture_of(alloc: Global, start: Start, text: &str) -> Result<Capture, Fail> {
     let mut opening = Lines::new(start.slots).ok_or("no such backplane")?;
     for change in changes_of(alloc, &opening, start.opening)? {
         if opening.has(change.line) {
@@ -325,12 +368,8 @@ fn assert_verdict(
     Ok(())
 }
 
-fn assert_verdicts(
-    rt: &impl Abort,
-    alloc: Global,
-    recordings: &[(Start, &str, Expected)],
-) -> Result<(), Fail> {
-    for (start, text, expected) in recordings {
+fn assert_verdicts(rt: &impl Abort, alloc: Global, recordings: &[Worked]) -> Result<(), Fail> {
+    for (start, text, expected, _) in recordings {
         let capture = capture_of(alloc, *start, text)?;
         let verdict = verdict_of(*expected).ok_or("no such line")?;
         assert_verdict(rt, alloc, &capture, verdict)?;
@@ -472,21 +511,25 @@ fn by_halves<M: Monitor>(
 }
 
 /// The span is that of the whole read, which conforms.
-fn assert_whole<M: Judging>(rt: &impl Abort, all: &Span<M>) {
+fn assert_whole<M: Judging>(rt: &impl Abort, alloc: Global, all: &Span<M>) -> Result<(), Fail> {
     assert_eq!(rt; (all.last(), all.steps()), (13, 14));
     assert!(rt; all.first() == 0);
     assert_eq!(rt; all.verdict(), Verdict::Conforming);
+    let listing = match all.listing(alloc) {
+        Ok(listing) => listing,
+        Err(_) => all.listing(alloc)?,
+    };
+    assert_rows(rt, alloc, &listing, READ_ROWS)
 }
 
 /// A read that is cut into single steps conforms, however they are joined.
 fn assert_bracketed<M: Judging>(rt: &impl Abort, alloc: Global) -> Result<(), Fail> {
     let left = from_left(rt, alloc, read_spans::<M>(rt, alloc, 1)?)?;
-    assert_whole(rt, &left);
+    assert_whole(rt, alloc, &left)?;
     let right = from_right(rt, alloc, read_spans::<M>(rt, alloc, 1)?)?;
-    assert_whole(rt, &right);
+    assert_whole(rt, alloc, &right)?;
     let halves = by_halves(rt, alloc, read_spans::<M>(rt, alloc, 1)?)?;
-    assert_whole(rt, &halves);
-    Ok(())
+    assert_whole(rt, alloc, &halves)
 }
 
 #[test]

@@ -393,6 +393,7 @@ fn numbers_and_times(alloc: Global, blocks: &[Block]) -> Result<(Vec<u32>, Vec<u
 fn blocks_of_a_read(rt: HostRuntime) -> Result<(), Fail> {
     let alloc = rt.alloc();
     let capture = read_capture(alloc)?;
+    assert!(rt; *capture.opening() == dump_lines()? && capture.steps().len() == 6);
     let numbers: [(u32, &[u32]); 5] = [
         (1, &[0, 1, 2, 3, 4, 5]),
         (2, &[0, 1, 2]),
@@ -432,6 +433,8 @@ fn copies(rt: HostRuntime) -> Result<(), Fail> {
     let copy = block.copy(alloc)?;
     assert!(rt; copy.number == 7 && copy.opening == block.opening);
     assert!(rt; are_alike(copy.steps.as_slice(), block.steps.as_slice()));
+    let changes = step(alloc, 60, &[low(Line::AS)])?.changes.into_inner();
+    assert!(rt; changes.as_slice() == [low(Line::AS)].as_slice());
     Ok(())
 }
 

@@ -18,11 +18,11 @@ verdict_status-small (Broken b) = omega arith
 verdict_status-small (Unreadable b) = omega arith
 verdict_status-small NeverIdle = omega arith
 
-refusal_status-small : (r : Refusal) → refusal_status r ≤ 4
+pub refusal_status-small : (r : Refusal) → refusal_status r ≤ 4
 refusal_status-small Memory = omega arith
 refusal_status-small r = omega arith
 
-not_both : (a b : ℕ) → a ≡ b → a ≡ suc b → ⊥
+pub not_both : (a b : ℕ) → a ≡ b → a ≡ suc b → ⊥
 not_both a b same more = omega arith
 
 not_five : (status small : ℕ) → status ≡ small → small ≤ 4 → status ≡ 5 → ⊥
@@ -37,7 +37,7 @@ reading_is told failed failures (Some x) reading same short = ap (λ (l : List �
 reading_is told failed failures None (inl more) same short = absurd (not_both failures failed same more)
 reading_is told failed failures None (inr many) same short = absurd (too_many most_reads (length told) many.1 short)
 
-read_is : (input : Read) (bytes : Option (List ℕ)) (told : List ℕ) → IsReading input.told input.failed input.failures bytes → input.told ≡ Some told
+pub read_is : (input : Read) (bytes : Option (List ℕ)) (told : List ℕ) → IsReading input.told input.failed input.failures bytes → input.told ≡ Some told
     → input.failures ≡ input.failed → length told < most_reads → bytes ≡ Some told
 read_is input bytes told reading is same short =
     reading_is told input.failed input.failures bytes (subst (λ (t : Option (List ℕ)). IsReading t input.failed input.failures bytes) is reading) same short
@@ -45,7 +45,7 @@ read_is input bytes told reading is same short =
 -- ---- a command whose answer has a status of at most 4, and of 4 for want of memory
 
 module _ {A : Type 0} (answer : Result A Refusal → Answer) (small : (found : Result A Refusal) → (answer found).status ≤ 4) (no_memory : (answer (Err Memory)).status ≡ 4) where
-  unwritten_by : (found : Result A Refusal) (out err : Written) (status : ℕ) → Ends (answer found) out err status
+  pub unwritten_by : (found : Result A Refusal) (out err : Written) (status : ℕ) → Ends (answer found) out err status
       → (status ≡ 5) ↔ (out.failures ≡ suc out.failed)
   unwritten_by found out err status (inl told) = (
     λ five. absurd (not_five status _ told.status_is (small found) five),

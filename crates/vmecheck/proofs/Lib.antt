@@ -1,5 +1,6 @@
 pub mod AnswerLemmas
 pub mod CheckLemmas
+pub mod ConfirmLemmas
 pub mod InputLemmas
 pub mod ListLemmas
 pub mod MessageLemmas

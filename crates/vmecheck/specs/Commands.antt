@@ -23,10 +23,20 @@ recording_app name =
     (file_rule (codes "BINDING")))
     (file_rule (codes "DUMP"))
 
+-- `confirm BINDING DUMP LISTING`
+abbrev pub confirm_app : App
+confirm_app =
+    with_rule (with_rule (with_rule (new_app (codes "confirm")) (file_rule (codes "BINDING"))) (file_rule (codes "DUMP"))) (file_rule (codes "LISTING"))
+
+-- the program, with the subcommands on recordings
+abbrev pub recordings_app : App
+recordings_app =
+    let check = recording_app (codes "check") in
+    let list = recording_app (codes "list") in
+    with_subcommand (with_subcommand (new_app (codes "vmecheck")) check.top) list.top
+
 -- the program, with a subcommand for each task, one of which has to be there
 abbrev pub vmecheck_app : App
 vmecheck_app =
-    let check = recording_app (codes "check") in
-    let list = recording_app (codes "list") in
-    let a = with_subcommand (with_subcommand (new_app (codes "vmecheck")) check.top) list.top in
+    let a = with_subcommand recordings_app confirm_app.top in
     record a { top = record a.top { subcommand_required = true } }

@@ -1,7 +1,10 @@
 -- How a command ends, by what it reads and finds.
-use Rattle.std.specs.Prelude.{◌≡◌, ◌⊎◌, ℕ, List, Option, Result}
+use Rattle.std.specs.Prelude.{◌≡◌, ◌⊎◌, ℕ, List, Option, Some, Result}
+use Rattle.vme_listing.specs.declared.row.Row.{Row}
+use Rattle.vme_cert.specs.declared.compare.Answer.{Answer as Confirmation}
 use Rattle.vmecheck.specs.declared.refusal.Refusal.{Refusal}
-use Rattle.vmecheck.specs.Answers.{Answer, Gives, answer_by, judgement_of, listing_answer_by, recording_of}
+use Rattle.vmecheck.specs.Confirmations.{GivesConfirmation, GivesRows, IsConfirmation, compared, confirmation_answer_by, listing_text}
+use Rattle.vmecheck.specs.Answers.{Answer, Gives, answer_by, binding_read, dump_read, judgement_of, listing_answer_by, recording_of}
 use Rattle.vmecheck.specs.Inputs.{IsReading}
 use Rattle.vmecheck.specs.Outputs.{Writes, FailsToWrite, TriesToWrite}
 use Rattle.vmecheck.specs.Texts.{cannot_write_text, line_of}
@@ -50,3 +53,20 @@ Checks binding dump block out err status = Does answer_by (λ b d. judgement_of 
 -- what the inputs say is listed
 abbrev pub Lists : Read → Read → ℕ → Written → Written → ℕ → Type 0
 Lists binding dump block out err status = Does listing_answer_by (λ b d. recording_of b d block) binding dump out err status
+
+-- The binding, the dump and the listing are read, or can't be; the listing is compared with that of the recording, unless there
+-- was no memory; and the answer is told, unless a write of it fails.
+abbrev pub Confirms : Read → Read → Read → Written → Written → ℕ → Type 0
+Confirms binding dump listing out err status = (binding_bytes dump_bytes listing_bytes : Option (List ℕ)) × (given : Result (List Row) Refusal) × (found : Result Confirmation Refusal)
+    × IsReading binding.told binding.failed binding.failures binding_bytes
+    × IsReading dump.told dump.failed dump.failures dump_bytes
+    × IsReading listing.told listing.failed listing.failures listing_bytes
+    × GivesRows (listing_text listing_bytes) given
+    × GivesConfirmation found (compared (binding_read binding_bytes) (dump_read dump_bytes) given)
+    × Ends (confirmation_answer_by found) out err status
+
+-- the answer to a binding, a dump and a listing of these bytes was told
+abbrev pub TellsConfirmation : List ℕ → List ℕ → List ℕ → Written → Written → ℕ → Type 0
+TellsConfirmation binding dump listing out err status = (found : Result Confirmation Refusal)
+    × IsConfirmation (binding_read (Some binding)) (dump_read (Some dump)) (listing_text (Some listing)) found
+    × Tells (confirmation_answer_by found) out err status

@@ -1,5 +1,6 @@
 pub mod Answers
 pub mod Commands
+pub mod Confirmations
 pub mod Ends
 pub mod InFaults
 pub mod Inputs

@@ -1,10 +1,10 @@
 -- The order that the matches of the words are.
-use Rattle.std.specs.Prelude.{◌≡◌, ℕ, List, [], ◌∷◌, map, codes, Option, Some, option_map, string_bytes}
+use Rattle.std.specs.Prelude.{◌≡◌, ℕ, List, [], ◌∷◌, ◌++◌, map, codes, Option, Some, option_map, string_bytes}
 use Rattle.std.specs.Str.Parse.{digits_value, without_leading_plus}
 use Rattle.clap.specs.Words.{Row, Text, first_of, one_of}
 use Rattle.vmecheck.specs.declared.order.Order.{Order}
 use Rattle.vmecheck.specs.declared.order.Task.{Task}
-use Rattle.vmecheck.specs.declared.order.Task.TheVariants.{Check, List as Listing}
+use Rattle.vmecheck.specs.declared.order.Task.TheVariants.{Check, List as Listing, Confirm}
 
 -- the number that a text says, which may begin with a plus sign
 abbrev pub number_of : Text → ℕ
@@ -22,15 +22,27 @@ names_in rows = first_of (codes "BINDING") rows ∷ first_of (codes "DUMP") rows
 abbrev pub task_name : Task → Text
 task_name Check = codes "check"
 task_name Listing = codes "list"
+task_name Confirm = codes "confirm"
 
--- the matches of a subcommand are this order
+-- the matches of a subcommand on a recording are this order
 pub record SaysOrder (order : Order) (rows : List Row) : Type 0 where
   pub block : number_in (codes "block") rows ≡ Some order.block
   pub workers : number_in (codes "workers") rows ≡ Some order.workers
   pub names : map (λ name. Some (string_bytes name)) order.names.items ≡ names_in rows
 
+-- the matches of the subcommand on a listing are this order, whose numbers are those that the others have by default
+pub record SaysConfirmation (order : Order) (rows : List Row) : Type 0 where
+  pub block : order.block ≡ 16384
+  pub workers : order.workers ≡ 4
+  pub names : map (λ name. Some (string_bytes name)) order.names.items ≡ names_in rows ++ first_of (codes "LISTING") rows ∷ []
+
+abbrev pub Says : Task → Order → List Row → Type 0
+Says Check order rows = SaysOrder order rows
+Says Listing order rows = SaysOrder order rows
+Says Confirm order rows = SaysConfirmation order rows
+
 -- the subcommand that was met, with its matches, is this order
 pub record IsOrder (order : Order) (met : Option (Text × List Row)) : Type 0 where
   pub rows : List Row
   pub command : met ≡ Some (task_name order.command, rows)
-  pub says : SaysOrder order rows
+  pub says : Says order.command order rows

@@ -5,11 +5,13 @@ use Rattle.vcd_read.specs.declared.fault.FaultKind.TheVariants as vcd
 use Rattle.vme_bind.specs.declared.fault.BindFault.{BindFault}
 use Rattle.vme_bind.specs.declared.fault.BindKind.{BindKind}
 use Rattle.vme_bind.specs.declared.fault.BindKind.TheVariants as bind
+use Rattle.vme_listing.specs.declared.fault.ListFault.{ListFault}
+use Rattle.vme_listing.specs.declared.fault.ListFault.TheVariants as list
 use Rattle.vmecheck.specs.declared.input.InFault.{InFault}
 use Rattle.vmecheck.specs.declared.input.InFault.TheVariants as read
 use Rattle.vmecheck.specs.declared.refusal.Input.{Input}
 use Rattle.vmecheck.specs.declared.refusal.Refusal.{Refusal}
-use Rattle.vmecheck.specs.declared.refusal.Refusal.TheVariants.{CannotRead, TooLong, BadBinding, BadDump, Memory}
+use Rattle.vmecheck.specs.declared.refusal.Refusal.TheVariants.{CannotRead, TooLong, BadBinding, BadDump, BadListing, Memory}
 
 -- an input can't be had
 abbrev pub refused : Input → InFault → Refusal
@@ -32,3 +34,7 @@ binding_refusal_as kind refusal = refusal
 
 abbrev pub binding_refusal : BindFault → Refusal
 binding_refusal fault = binding_refusal_as fault.kind (BadBinding fault)
+
+abbrev pub listing_refusal : ListFault → Refusal
+listing_refusal list.Memory = Memory
+listing_refusal fault = BadListing fault

@@ -8,10 +8,12 @@ use Rattle.vcd_read.specs.declared.fault.FaultKind.{FaultKind}
 use Rattle.vcd_read.specs.declared.fault.FaultKind.TheVariants as vcd
 use Rattle.vme_bind.specs.declared.fault.BindKind.{BindKind}
 use Rattle.vme_bind.specs.declared.fault.BindKind.TheVariants as bind
+use Rattle.vme_listing.specs.declared.fault.ListFault.{ListFault}
+use Rattle.vme_listing.specs.declared.fault.ListFault.TheVariants as list
 use Rattle.vmecheck.specs.declared.refusal.Input.{Input}
-use Rattle.vmecheck.specs.declared.refusal.Input.TheVariants.{Binding, Dump}
+use Rattle.vmecheck.specs.declared.refusal.Input.TheVariants.{Binding, Dump, Listing}
 use Rattle.vmecheck.specs.declared.refusal.Refusal.{Refusal}
-use Rattle.vmecheck.specs.declared.refusal.Refusal.TheVariants.{CannotOpen, CannotRead, TooLong, BadBinding, BadDump, TooManyBlocks, Memory}
+use Rattle.vmecheck.specs.declared.refusal.Refusal.TheVariants.{CannotOpen, CannotRead, TooLong, BadBinding, BadDump, BadListing, TooManyBlocks, Memory}
 
 -- a line of text
 abbrev pub line_of : List ℕ → List ℕ
@@ -45,6 +47,7 @@ verdict_status NeverIdle = 2
 abbrev pub input_name : Input → List ℕ
 input_name Binding = codes "binding"
 input_name Dump = codes "dump"
+input_name Listing = codes "listing"
 
 abbrev pub dump_fault_name : FaultKind → List ℕ
 dump_fault_name vcd.BadToken = codes "BadToken"
@@ -78,12 +81,19 @@ binding_fault_behind head bind.TooManySteps = head ++ codes "TooManySteps"
 abbrev pub binding_fault_text : ℕ → BindKind → List ℕ
 binding_fault_text line kind = binding_fault_behind (codes "vmecheck: binding line " ++ decimal line ++ codes ": ") kind
 
+abbrev pub listing_fault_text : ListFault → List ℕ
+listing_fault_text list.BadHeader = codes "vmecheck: listing header"
+listing_fault_text (list.BadRow row) = codes "vmecheck: listing row " ++ decimal row ++ codes ": BadRow"
+listing_fault_text (list.Unsorted row) = codes "vmecheck: listing row " ++ decimal row ++ codes ": Unsorted"
+listing_fault_text list.Memory = codes "vmecheck: out of memory"
+
 abbrev pub refusal_text : Refusal → List ℕ
 refusal_text (CannotOpen input) = codes "vmecheck: cannot open " ++ input_name input
 refusal_text (CannotRead input) = codes "vmecheck: cannot read " ++ input_name input
 refusal_text (TooLong input) = codes "vmecheck: " ++ input_name input ++ codes " too long"
 refusal_text (BadBinding fault) = binding_fault_text fault.line fault.kind
 refusal_text (BadDump fault) = dump_fault_text fault.line fault.kind
+refusal_text (BadListing fault) = listing_fault_text fault
 refusal_text TooManyBlocks = codes "vmecheck: too many blocks"
 refusal_text Memory = codes "vmecheck: out of memory"
 

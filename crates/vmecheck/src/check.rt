@@ -163,7 +163,7 @@ fn capture_of_dump<D: Source>(
     }
 }
 
-fn captured(alloc: Global, bound: &Binding, contents: &Dump) -> Result<Capture, Refusal>
+pub fn captured(alloc: Global, bound: &Binding, contents: &Dump) -> Result<Capture, Refusal>
     ensures { Gives (λ capture. capture) result (or_bad_binding (capture_of bound.now contents.now)) }
 {
     match bound.capture(alloc, contents) {
@@ -172,7 +172,7 @@ fn captured(alloc: Global, bound: &Binding, contents: &Dump) -> Result<Capture, 
     }
 }
 
-fn binding_from<R: Source>(alloc: Global, source: &mut R) -> Result<Binding, Refusal>
+pub fn binding_from<R: Source>(alloc: Global, source: &mut R) -> Result<Binding, Refusal>
     ensures { (bytes : Option (List ℕ))
         × IsReading (R.remaining source.old) (R.failures source.old) (R.failures source.new) bytes
         × Gives (λ binding. binding) result (binding_read bytes) }
@@ -192,7 +192,7 @@ fn binding_in(alloc: Global, text: &[u8]) -> Result<Binding, Refusal>
     }
 }
 
-fn dump_from<R: Source>(alloc: Global, source: &mut R) -> Result<Dump, Refusal>
+pub fn dump_from<R: Source>(alloc: Global, source: &mut R) -> Result<Dump, Refusal>
     ensures { (bytes : Option (List ℕ))
         × IsReading (R.remaining source.old) (R.failures source.old) (R.failures source.new) bytes
         × Gives (λ dump. dump) result (dump_read bytes) }

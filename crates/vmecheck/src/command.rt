@@ -3,7 +3,7 @@
 ghost use Rattle.std.specs.Prelude.{◌≡◌, IfOk, codes, false};
 ghost use Rattle.clap.specs.Words.{app_of, rule_of};
 ghost use Rattle.clap.specs.declared.builder.command.Command.TheViews.{out-Command};
-ghost use Rattle.vmecheck.specs.Commands.{recording_app, vmecheck_app, number_rule, file_rule};
+ghost use Rattle.vmecheck.specs.Commands.{confirm_app, recording_app, recordings_app, vmecheck_app, number_rule, file_rule};
 
 use clap::{Arg, Command, value_parser};
 use std::alloc::{AllocError, Global};
@@ -12,12 +12,23 @@ use std::alloc::{AllocError, Global};
 pub fn vmecheck_command<'a>(alloc: Global) -> Result<Command<'a>, AllocError>
     ensures { IfOk result (λ command. app_of command ≡ vmecheck_app) }
 {
+    let confirm = confirm_command(alloc)?;
+    let command = recording_commands(alloc)?
+        .subcommand(confirm)?
+        .subcommand_required(true);
+    Ok(command)
+}
+
+/// The program, with the subcommands on recordings.
+fn recording_commands<'a>(alloc: Global) -> Result<Command<'a>, AllocError>
+    ensures app { IfOk result (λ command. app_of command ≡ recordings_app) }
+    ensures local { IfOk result (λ command. (out-Command command).has_globals ≡ false) }
+{
     let check = recording_command(alloc, "check")?;
     let list = recording_command(alloc, "list")?;
     let command = Command::new(alloc, "vmecheck")
         .subcommand(check)?
-        .subcommand(list)?
-        .subcommand_required(true);
+        .subcommand(list)?;
     Ok(command)
 }
 
@@ -29,17 +40,43 @@ fn recording_command<'a>(alloc: Global, name: &'a str) -> Result<Command<'a>, Al
     let command = Command::new(alloc, name)
         .arg(block_option(alloc))?
         .arg(workers_option(alloc))?
-        .arg(file(
-            alloc,
-            "BINDING",
-            "The file that binds the lines of the backplane",
-        ))?
-        .arg(file(
-            alloc,
-            "DUMP",
-            "The file of the recording, a value change dump",
-        ))?;
+        .arg(binding_file(alloc))?
+        .arg(dump_file(alloc))?;
     Ok(command)
+}
+
+/// The command on a listing of the recording that a binding makes of a dump.
+fn confirm_command<'a>(alloc: Global) -> Result<Command<'a>, AllocError>
+    ensures app { IfOk result (λ command. app_of command ≡ confirm_app) }
+    ensures local { IfOk result (λ command. (out-Command command).has_globals ≡ false) }
+{
+    let command = Command::new(alloc, "confirm")
+        .arg(binding_file(alloc))?
+        .arg(dump_file(alloc))?
+        .arg(file(alloc, "LISTING", "The file of the listing"))?;
+    Ok(command)
+}
+
+fn binding_file<'a>(alloc: Global) -> Arg<'a>
+    ensures rule { rule_of result ≡ file_rule (codes "BINDING") }
+    ensures local { result.global ≡ false }
+{
+    file(
+        alloc,
+        "BINDING",
+        "The file that binds the lines of the backplane",
+    )
+}
+
+fn dump_file<'a>(alloc: Global) -> Arg<'a>
+    ensures rule { rule_of result ≡ file_rule (codes "DUMP") }
+    ensures local { result.global ≡ false }
+{
+    file(
+        alloc,
+        "DUMP",
+        "The file of the recording, a value change dump",
+    )
 }
 
 fn block_option<'a>(alloc: Global) -> Arg<'a>

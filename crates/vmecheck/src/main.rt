@@ -3,6 +3,7 @@
 
 mod check;
 mod command;
+mod confirm;
 mod input;
 mod io;
 mod list;
@@ -12,11 +13,14 @@ mod order_fault;
 mod output;
 mod refusal;
 #[cfg(test)]
+mod stream_tests;
+#[cfg(test)]
 mod tests;
 mod text;
 mod words;
 
 use check::check;
+use confirm::confirm_with;
 use io::{Bytes, Io};
 use list::list;
 use order::{Order, Task};
@@ -66,7 +70,7 @@ fn main(rt: HostRuntime) -> ExitCode {
 /// What the words ask for; the answer is the exit status.
 fn run(rt: &HostRuntime) -> u8 {
     match asked(rt) {
-        Ok(Some(order)) => judge_files(rt, &order),
+        Ok(Some(order)) => work_on_files(rt, &order),
         Ok(None) => check_input(rt),
         Err(OrderFault::Memory) => refuse(rt, &Refusal::Memory),
         Err(OrderFault::Usage(error)) => explain(rt, &error),
@@ -99,8 +103,8 @@ fn check_input(rt: &HostRuntime) -> u8 {
     )
 }
 
-/// Checks or lists the dump of a file by the binding of another. Both are opened before one is read.
-fn judge_files(rt: &HostRuntime, order: &Order) -> u8 {
+/// Does what is asked for. All files are opened before one is read.
+fn work_on_files(rt: &HostRuntime, order: &Order) -> u8 {
     let Some(binding) = open(rt, order, 0) else {
         return refuse(rt, &Refusal::CannotOpen(Input::Binding));
     };
@@ -128,6 +132,19 @@ fn judge_files(rt: &HostRuntime, order: &Order) -> u8 {
             &mut out,
             &mut err,
         ),
+        Task::Confirm => {
+            let Some(listing) = open(rt, order, 2) else {
+                return refuse(rt, &Refusal::CannotOpen(Input::Listing));
+            };
+            confirm_with(
+                rt.alloc(),
+                &mut binding,
+                &mut dump,
+                &mut Io::new(listing),
+                &mut out,
+                &mut err,
+            )
+        }
     }
 }
 

@@ -9,6 +9,8 @@ pub enum Task {
     Check,
     /// Judge a recording, and write its listing.
     List,
+    /// Compare a listing with that of a recording.
+    Confirm,
 }
 
 /// What the words of the command line ask for.
@@ -20,7 +22,7 @@ pub struct Order {
     pub block: u32,
     /// How many workers judge, 1 to 64.
     pub workers: u32,
-    /// The files: the binding, and the dump.
+    /// The files: the binding, the dump, and what is to be confirmed, if anything is.
     pub names: Vec<String>,
     ghost block_in_range: { (1 ≤ block) × (block ≤ 65536) },
     ghost workers_in_range: { (1 ≤ workers) × (workers ≤ 64) },

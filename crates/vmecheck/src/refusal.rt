@@ -1,13 +1,14 @@
-//! Why a recording isn't judged.
+//! Why a recording isn't judged, or a listing compared with it.
 
 ghost use Rattle.std.specs.Prelude.{◌≡◌};
-ghost use Rattle.vmecheck.specs.Refusals.{refused, dump_refusal, binding_refusal};
+ghost use Rattle.vmecheck.specs.Refusals.{refused, dump_refusal, binding_refusal, listing_refusal};
 ghost use Rattle.vmecheck.specs.Texts.{refusal_status};
 
 use crate::input::InFault;
 use thiserror::Error;
 use vcd_read::{FaultKind, VcdFault};
 use vme_bind::{BindFault, BindKind};
+use vme_listing::ListFault;
 
 /// What the program reads.
 #[derive(Clone, Copy, Debug, PartialEq, Eq)]
@@ -16,9 +17,11 @@ pub enum Input {
     Binding,
     /// The recording.
     Dump,
+    /// What is to be confirmed of it.
+    Listing,
 }
 
-/// Why a recording isn't judged.
+/// Why a recording isn't judged, or a listing compared with it.
 #[derive(Clone, Copy, Debug, PartialEq, Eq)]
 pub enum Refusal {
     /// A file can't be opened.
@@ -31,6 +34,8 @@ pub enum Refusal {
     BadBinding(BindFault),
     /// The dump has a fault.
     BadDump(VcdFault),
+    /// The listing has a fault.
+    BadListing(ListFault),
     /// There would be over 4,096 blocks.
     TooManyBlocks,
     /// There is no memory.
@@ -66,6 +71,16 @@ impl Refusal {
         match fault.kind {
             BindKind::Memory => Refusal::Memory,
             _ => Refusal::BadBinding(fault),
+        }
+    }
+
+    /// What a fault of the listing is.
+    pub fn of_listing(fault: ListFault) -> Refusal
+        ensures { result ≡ listing_refusal fault }
+    {
+        match fault {
+            ListFault::Memory => Refusal::Memory,
+            _ => Refusal::BadListing(fault),
         }
     }
 

@@ -1,6 +1,7 @@
 ghost use Rattle.std.specs.Prelude.{◌≤◌, None};
 
 use crate::check::check;
+use crate::confirm::confirm_with;
 use crate::io::Bytes;
 use crate::list::list;
 use crate::order::{Order, Task};
@@ -19,6 +20,11 @@ $upscope $end\n$enddefinitions $end\n";
 
 const BODY: &str = "#0 1p 1q 1r 1s 1t 1u\n#10 0p\n#20 0q\n#30 0s\n#40 1p 1q\n#50 1s\n";
 
+/// The listing of the dump of this head and body by the built-in binding.
+const LISTING: &str =
+    "vmecheck listing 1\nstart 1\ntenure 1 open end -\ncycle 2 S 3D FFFFFE end 5\n\
+transfer 3 of 2 read DTACK 4 close 5\nverdict conforming\n";
+
 /// A sink that holds what it took, up to a count of bytes at which writes fail.
 #[derive(Drop)]
 struct Page {
@@ -34,6 +40,15 @@ impl Page {
             room,
             failures: 0,
         }
+    }
+
+    /// A sink whose memory is taken before the first write.
+    fn with_room(alloc: Global, room: usize) -> Result<Page, AllocError> {
+        Ok(Page {
+            bytes: Vec::with_capacity(alloc, room)?,
+            room,
+            failures: 0,
+        })
     }
 }
 
@@ -181,12 +196,7 @@ fn expect_listing<R: Abort + AllocGlobal>(rt: &R, dump: &str, block: u32, text: 
 #[test]
 fn listings(rt: HostRuntime) -> Result<(), Fail> {
     for (body, text, status) in [
-        (
-            BODY,
-            "vmecheck listing 1\nstart 1\ntenure 1 open end -\ncycle 2 S 3D FFFFFE end 5\n\
-transfer 3 of 2 read DTACK 4 close 5\nverdict conforming\n",
-            0,
-        ),
+        (BODY, LISTING, 0),
         ("", "vmecheck listing 1\nverdict never-idle\n", 2),
         (
             "#0 1p 1q 1r 1s 1t 1u\n#10 0p\n#20 0s\n#40 1p 1q\n#50 1s\n",
@@ -203,6 +213,7 @@ verdict broken H4 3 DTACK\n",
         let dump = dump_of(rt.alloc(), HEAD, body)?;
         expect_listing(&rt, dump.as_str(), 1, text, status);
         expect_listing(&rt, dump.as_str(), BLOCK, text, status);
+        expect_confirmation(&rt, dump.as_str(), text, "confirmed\n", 0);
     }
     Ok(())
 }
@@ -214,6 +225,173 @@ fn listing_not_written(rt: HostRuntime) -> Result<(), Fail> {
     assert!(rt; err.bytes.as_slice() == b"vmecheck: cannot write\n".as_slice());
     assert_eq!(rt; ended, 5);
     Ok(())
+}
+
+/// What the comparison of a listing with that of a dump writes, and its status.
+fn confirm_text<L: Source>(
+    alloc: Global,
+    binding: &[u8],
+    dump: &[u8],
+    listing: &mut L,
+    room: usize,
+) -> (Page, Page, u8) {
+    let mut out = Page::new(alloc, room);
+    let mut err = Page::new(alloc, 1000);
+    let status = confirm_with(
+        alloc,
+        &mut Bytes::new(binding),
+        &mut Bytes::new(dump),
+        listing,
+        &mut out,
+        &mut err,
+    );
+    (out, err, status)
+}
+
+fn expect_confirmation<R: Abort + AllocGlobal>(
+    rt: &R,
+    dump: &str,
+    listing: &str,
+    text: &str,
+    status: u8,
+) {
+    let mut listing = Bytes::new(listing.as_bytes());
+    let (out, err, ended) = confirm_text(rt.alloc(), BUILT_IN, dump.as_bytes(), &mut listing, 1000);
+    assert!(rt; out.bytes.as_slice() == text.as_bytes(), "{text}");
+    assert!(rt; err.bytes.is_empty());
+    assert_eq!(rt; ended, status);
+}
+
+#[test]
+fn confirmations(rt: HostRuntime) -> Result<(), Fail> {
+    let dump = dump_of(rt.alloc(), HEAD, BODY)?;
+    for (old, new, text) in [
+        ("tenure 1 open end -\n", "", "not confirmed at row 2\n"),
+        (
+            "cycle 2 S 3D FFFFFE end 5\n",
+            "",
+            "not confirmed at row 3\n",
+        ),
+        ("close 5", "close 6", "not confirmed at row 4\n"),
+        (
+            "conforming",
+            "broken H4 3 DTACK",
+            "not confirmed at row 5\n",
+        ),
+        (
+            "verdict",
+            "transfer 6 read pending\nverdict",
+            "not confirmed at row 5\n",
+        ),
+    ] {
+        let listing = LISTING.replace(rt.alloc(), old, new)?;
+        expect_confirmation(&rt, dump.as_str(), listing.as_str(), text, 1);
+    }
+    Ok(())
+}
+
+fn expect_unconfirmed<R: Abort + AllocGlobal, L: Source>(
+    rt: &R,
+    binding: &[u8],
+    dump: &str,
+    listing: &mut L,
+    text: &str,
+) {
+    let (out, err, ended) = confirm_text(rt.alloc(), binding, dump.as_bytes(), listing, 1000);
+    assert!(rt; out.bytes.is_empty());
+    assert!(rt; err.bytes.as_slice() == text.as_bytes(), "{text}");
+    assert_eq!(rt; ended, 3);
+}
+
+#[test]
+fn listing_faults(rt: HostRuntime) -> Result<(), Fail> {
+    let dump = dump_of(rt.alloc(), HEAD, BODY)?;
+    for (old, new, text) in [
+        (LISTING, "", "vmecheck: listing header\n"),
+        ("listing 1", "listing 2", "vmecheck: listing header\n"),
+        (
+            "verdict conforming\n",
+            "",
+            "vmecheck: listing row 5: BadRow\n",
+        ),
+        ("S 3D", "K 3D", "vmecheck: listing row 3: BadRow\n"),
+        ("cycle 2", "cycle 0", "vmecheck: listing row 3: Unsorted\n"),
+    ] {
+        let listing = LISTING.replace(rt.alloc(), old, new)?;
+        let mut listing = Bytes::new(listing.as_bytes());
+        expect_unconfirmed(&rt, BUILT_IN, dump.as_str(), &mut listing, text);
+    }
+    Ok(())
+}
+
+#[test]
+fn listing_is_read_last(rt: HostRuntime) -> Result<(), Fail> {
+    let dump = dump_of(rt.alloc(), HEAD, BODY)?;
+    let bad_binding = b"slots 22".as_slice();
+    for (binding, dump, text, failures) in [
+        (bad_binding, "", "vmecheck: binding line 1: SlotsFirst\n", 0),
+        (BUILT_IN, "", "vmecheck: dump line 1: NoEndDefinitions\n", 0),
+        (
+            BUILT_IN,
+            dump.as_str(),
+            "vmecheck: cannot read listing\n",
+            1,
+        ),
+    ] {
+        let mut listing = Broken { failures: 0 };
+        expect_unconfirmed(&rt, binding, dump, &mut listing, text);
+        assert_eq!(rt; listing.failures, failures, "{text}");
+    }
+    Ok(())
+}
+
+#[test]
+fn recording_is_made_last(rt: HostRuntime) {
+    let dump = "$enddefinitions $end\n";
+    for (listing, text) in [
+        ("", "vmecheck: listing header\n"),
+        (LISTING, "vmecheck: binding line 2: NoSuchPath\n"),
+    ] {
+        let mut listing = Bytes::new(listing.as_bytes());
+        expect_unconfirmed(&rt, BUILT_IN, dump, &mut listing, text);
+    }
+}
+
+#[test]
+fn confirmation_not_written(rt: HostRuntime) -> Result<(), Fail> {
+    let dump = dump_of(rt.alloc(), HEAD, BODY)?;
+    let mut listing = Bytes::new(LISTING.as_bytes());
+    let (_, err, ended) = confirm_text(rt.alloc(), BUILT_IN, dump.as_bytes(), &mut listing, 0);
+    assert!(rt; err.bytes.as_slice() == b"vmecheck: cannot write\n".as_slice());
+    assert_eq!(rt; ended, 5);
+    Ok(())
+}
+
+/// Run with each allocation refused in turn, this shows that the answer is then want of memory.
+#[test]
+fn want_of_memory_is_told(rt: HostRuntime) {
+    let (Ok(dump), Ok(mut out), Ok(mut err)) = (
+        dump_of(rt.alloc(), HEAD, BODY),
+        Page::with_room(rt.alloc(), 100),
+        Page::with_room(rt.alloc(), 100),
+    ) else {
+        return;
+    };
+    let ended = confirm_with(
+        rt.alloc(),
+        &mut Bytes::new(BUILT_IN),
+        &mut Bytes::new(dump.as_bytes()),
+        &mut Bytes::new(LISTING.as_bytes()),
+        &mut out,
+        &mut err,
+    );
+    if ended == 4 {
+        assert!(rt; out.bytes.is_empty());
+        assert!(rt; err.bytes.as_slice() == b"vmecheck: out of memory\n".as_slice());
+    } else {
+        assert!(rt; out.bytes.as_slice() == b"confirmed\n".as_slice());
+        assert!(rt; err.bytes.is_empty() && ended == 0);
+    }
 }
 
 #[test]
@@ -417,6 +595,22 @@ fn orders(rt: HostRuntime) -> Result<(), Fail> {
     Ok(())
 }
 
+#[test]
+fn order_to_confirm(rt: HostRuntime) -> Result<(), Fail> {
+    let words = words_of(rt.alloc(), "vmecheck confirm B V L")?;
+    match order(rt.alloc(), words.as_slice()) {
+        Ok(order) => {
+            assert_eq!(rt; order.command, Task::Confirm);
+            assert_eq!(rt; (order.block, order.workers), (16384, 4));
+            assert_eq!(rt; order.names.len(), 3);
+            assert!(rt; order.names[0].as_str() == "B" && order.names[1].as_str() == "V");
+            assert!(rt; order.names[2].as_str() == "L");
+        }
+        Err(_) => assert!(rt; false),
+    }
+    Ok(())
+}
+
 /// Whether a text is for standard error, if it is one for the user.
 fn goes_to_errors(answer: Result<Order, OrderFault>) -> Option<bool> {
     match answer {
@@ -437,13 +631,18 @@ fn usage(rt: HostRuntime) -> Result<(), Fail> {
         ("vmecheck check B V W", false),
         ("vmecheck list B", false),
         ("vmecheck list --block 0 B V", false),
-        ("vmecheck confirm B V L", false),
+        ("vmecheck confirm", false),
+        ("vmecheck confirm B V", false),
+        ("vmecheck confirm B V L M", false),
+        ("vmecheck confirm --block 5 B V L", false),
+        ("vmecheck confirm B V L --workers=2", false),
         ("vmecheck B V", false),
         ("vmecheck check --blocks 5 B V", false),
         ("vmecheck help", true),
         ("vmecheck --help", true),
         ("vmecheck check -h", true),
         ("vmecheck list --help", true),
+        ("vmecheck confirm -h", true),
     ] {
         let words = words_of(rt.alloc(), line)?;
         let answer = order(rt.alloc(), words.as_slice());

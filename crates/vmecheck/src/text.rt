@@ -1,12 +1,15 @@
 //! The lines that the program writes.
 
 ghost use Rattle.std.specs.Prelude.{◌≡◌, ◌+◌, ◌≤◌, ◌∷◌, ◌++◌, [], length};
-ghost use Rattle.vmecheck.specs.Texts.{break_text, verdict_text, verdict_status, dump_fault_text, binding_fault_text, cannot_write_text, input_name, line_of, refusal_text};
+ghost use Rattle.vmecheck.specs.Confirmations.{confirmation_text, confirmation_status};
+ghost use Rattle.vmecheck.specs.Texts.{break_text, verdict_text, verdict_status, dump_fault_text, binding_fault_text, listing_fault_text, cannot_write_text, input_name, line_of, refusal_text};
 
 use crate::message::Message;
 use crate::refusal::{Input, Refusal};
 use vcd_read::FaultKind;
 use vme_bind::BindKind;
+use vme_cert::Answer;
+use vme_listing::ListFault;
 use vme_trace::{Break, Verdict};
 
 /// The line that tells a verdict.
@@ -24,6 +27,29 @@ pub fn verdict_status(verdict: &Verdict) -> u8
         Verdict::Conforming => 0,
         Verdict::Broken(_) => 1,
         Verdict::Unreadable(_) | Verdict::NeverIdle => 2,
+    }
+}
+
+/// The line that tells whether a listing is confirmed.
+pub fn confirmation_line(found: Answer) -> Message
+    ensures { result ≡ line_of (confirmation_text found) }
+{
+    match found {
+        Answer::Yes => Message::new().with(b"confirmed").with_line_feed(),
+        Answer::No { row } => Message::new()
+            .with(b"not confirmed at row ")
+            .with_decimal(row as u64)
+            .with_line_feed(),
+    }
+}
+
+/// The exit status: 0 confirmed, 1 not.
+pub fn confirmation_status(found: Answer) -> u8
+    ensures { result ≡ confirmation_status found }
+{
+    match found {
+        Answer::Yes => 0,
+        Answer::No { .. } => 1,
     }
 }
 
@@ -90,6 +116,7 @@ fn refusal_message(refusal: &Refusal) -> Message
             .with(b" too long"),
         Refusal::BadBinding(fault) => binding_fault_message(fault.line, fault.kind),
         Refusal::BadDump(fault) => dump_fault_message(fault.line, fault.kind),
+        Refusal::BadListing(fault) => listing_fault_message(*fault),
         Refusal::TooManyBlocks => Message::new().with(b"vmecheck: too many blocks"),
         Refusal::Memory => Message::new().with(b"vmecheck: out of memory"),
     }
@@ -102,6 +129,7 @@ fn input_name(input: Input) -> &'static [u8]
     match input {
         Input::Binding => b"binding",
         Input::Dump => b"dump",
+        Input::Listing => b"listing",
     }
 }
 
@@ -125,6 +153,24 @@ fn dump_fault_message(line: u64, kind: FaultKind) -> Message
         FaultKind::TimeBackwards => head.with(b"TimeBackwards"),
         FaultKind::NumberTooLarge => head.with(b"NumberTooLarge"),
         FaultKind::Memory => head.with(b"Memory"),
+    }
+}
+
+fn listing_fault_message(fault: ListFault) -> Message
+    ensures text { result ≡ listing_fault_text fault }
+    ensures short { length result ≤ 120 }
+{
+    match fault {
+        ListFault::BadHeader => Message::new().with(b"vmecheck: listing header"),
+        ListFault::BadRow { row } => Message::new()
+            .with(b"vmecheck: listing row ")
+            .with_decimal(row as u64)
+            .with(b": BadRow"),
+        ListFault::Unsorted { row } => Message::new()
+            .with(b"vmecheck: listing row ")
+            .with_decimal(row as u64)
+            .with(b": Unsorted"),
+        ListFault::Memory => Message::new().with(b"vmecheck: out of memory"),
     }
 }
 

@@ -1,7 +1,7 @@
 //! How the words of the command line are read.
 
-ghost use Rattle.std.specs.Prelude.{◌≡◌, ◌≤◌, IfErr, IfOk, IfSome, Some, map, string_bytes};
-ghost use Rattle.clap.specs.Words.{found_of, kind_of, rows_of, subcommand_of, subcommand_rows_of};
+ghost use Rattle.std.specs.Prelude.{◌≡◌, ◌≤◌, ◌∷◌, ◌++◌, [], codes, IfErr, IfOk, IfSome, Some, map, string_bytes};
+ghost use Rattle.clap.specs.Words.{first_of, found_of, kind_of, rows_of, subcommand_of, subcommand_rows_of};
 ghost use Rattle.vmecheck.specs.Commands.{vmecheck_app};
 ghost use Rattle.vmecheck.specs.OrderFaults.{IsOfWords};
 ghost use Rattle.vmecheck.specs.Orders.{IsOrder, SaysOrder, names_in, number_in};
@@ -33,10 +33,27 @@ fn order_in(alloc: Global, matches: &ArgMatches<'_>) -> Result<Option<Order>, Al
     ensures { IfOk result (λ o. IfSome o (λ order. IsOrder order (subcommand_rows_of matches.now))) }
 {
     match matches.subcommand() {
-        Some((name, found)) if name == "check" => recording_order(alloc, Task::Check, found),
-        Some((name, found)) if name == "list" => recording_order(alloc, Task::List, found),
+        Some((name, found)) if name == "check" => check_order(alloc, found),
+        Some((name, found)) if name == "list" => list_order(alloc, found),
+        Some((name, found)) if name == "confirm" => confirm_order(alloc, found),
         _ => Ok(None),
     }
+}
+
+/// The order that the matches of `check` are, if they are one.
+#[tactic(auto, using(crate::proofs::OrderLemmas::is_check))]
+fn check_order(alloc: Global, found: &ArgMatches<'_>) -> Result<Option<Order>, AllocError>
+    ensures { IfOk result (λ o. IfSome o (λ order. IsOrder order (Some (codes "check", rows_of (found_of found.now))))) }
+{
+    recording_order(alloc, Task::Check, found)
+}
+
+/// The order that the matches of `list` are, if they are one.
+#[tactic(auto, using(crate::proofs::OrderLemmas::is_list))]
+fn list_order(alloc: Global, found: &ArgMatches<'_>) -> Result<Option<Order>, AllocError>
+    ensures { IfOk result (λ o. IfSome o (λ order. IsOrder order (Some (codes "list", rows_of (found_of found.now))))) }
+{
+    recording_order(alloc, Task::List, found)
 }
 
 /// The order on a recording that the matches of its subcommand are, if they are one.
@@ -61,6 +78,43 @@ fn recording_order(
         })),
         None => Ok(None),
     }
+}
+
+/// The order that the matches of `confirm` are, if they are one.
+#[tactic(auto, using(crate::proofs::OrderLemmas::is_confirmation))]
+fn confirm_order(alloc: Global, found: &ArgMatches<'_>) -> Result<Option<Order>, AllocError>
+    ensures { IfOk result (λ o. IfSome o (λ order. IsOrder order (Some (codes "confirm", rows_of (found_of found.now))))) }
+{
+    match all_names_in(alloc, found)? {
+        Some(names) => Ok(Some(Order {
+            command: Task::Confirm,
+            block: 16_384,
+            workers: 4,
+            names,
+        })),
+        None => Ok(None),
+    }
+}
+
+/// The binding, the dump and the listing, if each has a name.
+fn all_names_in(alloc: Global, found: &ArgMatches<'_>) -> Result<Option<Vec<String>>, AllocError>
+    ensures { IfOk result (λ o. IfSome o (λ names. map (λ name. Some (string_bytes name)) names.items ≡ names_in (rows_of (found_of found.now)) ++ first_of (codes "LISTING") (rows_of (found_of found.now)) ∷ [])) }
+{
+    let Some(listing) = found.get_str("LISTING") else {
+        return Ok(None);
+    };
+    match names_in(alloc, found)? {
+        Some(names) => Ok(Some(with_name(alloc, names, listing)?)),
+        None => Ok(None),
+    }
+}
+
+/// The names, with one more.
+fn with_name(alloc: Global, mut names: Vec<String>, name: &str) -> Result<Vec<String>, AllocError>
+    ensures { IfOk result (λ all. map (λ n. Some (string_bytes n)) all.items ≡ map (λ n. Some (string_bytes n)) names.items ++ Some name.now ∷ []) }
+{
+    names.push(String::from_str(alloc, name)?)?;
+    Ok(names)
 }
 
 /// The binding and the dump, if both have names.

@@ -1,4 +1,4 @@
-use Rattle.vme_eval.proofs.ConformingRows.{listing_of_dumped_read, listing_of_dumped_nothing, listing_of_read_cycle, listing_of_read_cycle_from_idle, listing_of_pipelined_cycles, listing_of_read_modify_write, listing_of_short_address, listing_of_floating_modifier, listing_of_grant_withdrawn, listing_of_acknowledge_cycle}
+use Rattle.vme_eval.proofs.ConformingRows.{listing_of_dumped_read, listing_of_dumped_nothing, listing_of_read_cycle, listing_of_read_cycle_from_idle, listing_of_pipelined_cycles, listing_of_read_modify_write, listing_of_short_address, listing_of_floating_modifier, listing_of_grant_withdrawn, listing_of_acknowledge_cycle, listing_of_strobes_rise_with_answer, listing_of_address_changes_with_answer, listing_of_unneeded_line_changes}
 use Rattle.vme_eval.proofs.listings.Goals as goal
 
 pub returns : goal.returns
@@ -13,4 +13,7 @@ returns c = record {
   floating_modifier = listing_of_floating_modifier;
   grant_withdrawn = listing_of_grant_withdrawn;
   acknowledge_cycle = listing_of_acknowledge_cycle;
+  strobes_rise_with_answer = listing_of_strobes_rise_with_answer;
+  address_changes_with_answer = listing_of_address_changes_with_answer;
+  unneeded_line_changes = listing_of_unneeded_line_changes;
 }

@@ -1,4 +1,4 @@
-use Rattle.std.proofs.Common.{◌≡◌, refl, ap, ◌∙◌, None, Result}
+use Rattle.std.proofs.Common.{refl, ap, ◌∙◌, None, Result}
 use Rattle.vcd_read.specs.Reading.{left_at}
 use Rattle.vcd_read.specs.Progress.{State}
 use Rattle.vcd_read.specs.Header.{◌>>=◌}

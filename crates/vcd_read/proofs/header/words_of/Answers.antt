@@ -1,8 +1,8 @@
-use Rattle.std.proofs.Common.{sym, ap, ◌∙◌, arith, ◌++◌, [], ◌∷◌, List, ℕ}
+use Rattle.std.proofs.Common.{sym, ap, ◌∙◌, arith, List, ℕ}
 use Rattle.vcd_read.specs.Reading.{line_at, left_at, token_at}
 use Rattle.vcd_read.specs.Scopes.{texts}
 use Rattle.vcd_read.specs.Sections.{section_from}
-use Rattle.vcd_read.proofs.SectionLemmas.{behind_words, words_end, words_word, words_unfinished, words_none, texts_push, All-push_word}
+use Rattle.vcd_read.proofs.SectionLemmas.{behind_words, words_end, words_word, words_unfinished, texts_push, All-push_word}
 use Rattle.vcd_read.proofs.header.words_of.Goals as goal
 
 pub returns-then-is_end-clause-words : goal.returns-then-is_end-clause-words

@@ -1,4 +1,4 @@
-use Rattle.std.proofs.Common.{◌≡◌, ◌∙◌, sym, ap, List, Result, Ok}
+use Rattle.std.proofs.Common.{◌∙◌, sym, ap, List, Result, Ok}
 use Rattle.vcd_read.specs.declared.dump.Instant.{Instant}
 use Rattle.vcd_read.specs.declared.fault.VcdFault.{VcdFault}
 use Rattle.vcd_read.specs.Header.{◌>>=◌, nothing_declared}

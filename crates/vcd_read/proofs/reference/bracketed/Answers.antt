@@ -1,4 +1,4 @@
-use Rattle.std.proofs.Common.{◌≡◌, ◌-◌, length, get_or, sym, ◌∙◌}
+use Rattle.std.proofs.Common.{◌≡◌, ◌-◌, length, get_or, sym}
 use Rattle.vcd_read.proofs.ReferenceLemmas.{bracketed-none, bracketed-some}
 use Rattle.vcd_read.proofs.reference.bracketed.Goals as goal
 

@@ -1,6 +1,5 @@
-use Rattle.std.proofs.Common.{◌≡◌, ◌<◌, None, Option, Some, List, ◌∷◌, [], ◌++◌, length, get_or, ap, sym, ◌∙◌, arith}
+use Rattle.std.proofs.Common.{◌≡◌, ◌<◌, None, Some, length, get_or, sym, ◌∙◌, arith}
 use Rattle.std.proofs.lemmas.List.{get_or_read}
-use Rattle.vcd_read.specs.declared.dump.Bit.{Bit}
 use Rattle.vcd_read.proofs.WavesLemmas.{moved_some, moved_none, moved_all}
 use Rattle.vcd_read.proofs.waves.move_values.Goals as goal
 use Rattle.vcd_read.proofs.waves.move_values.Goals.{in-Some, in_default}

@@ -1,4 +1,4 @@
-use Rattle.std.proofs.Common.{◌≡◌, ◌∙◌, sym, ap, true, false, arith}
+use Rattle.std.proofs.Common.{◌∙◌, sym, ap, arith}
 use Rattle.vcd_read.specs.Reading.{line_at, left_at, token_at}
 use Rattle.vcd_read.specs.Progress.{steps}
 use Rattle.vcd_read.specs.Bodies.{state}

@@ -1,5 +1,5 @@
-use Rattle.std.proofs.Common.{◌≡◌, ◌∷◌, [], ◌∙◌, sym, ap, refl}
-use Rattle.vcd_read.specs.Reading.{line_at, left_at, token_at}
+use Rattle.std.proofs.Common.{◌∙◌, sym, ap}
+use Rattle.vcd_read.specs.Reading.{left_at, token_at}
 use Rattle.vcd_read.specs.Body.{time_item, change, bracket_open, bracket_end, time_shape, scalar, vector, foreign, comment, open_shape, end_shape, none}
 use Rattle.vcd_read.specs.Progress.{steps}
 use Rattle.vcd_read.specs.Bodies.{state}

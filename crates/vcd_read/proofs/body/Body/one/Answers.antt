@@ -1,4 +1,3 @@
-use Rattle.std.proofs.Common.{◌≡◌}
 use Rattle.vcd_read.specs.Bodies.{state}
 use Rattle.vcd_read.proofs.BodyLemmas.{nothing_left}
 use Rattle.vcd_read.proofs.body.Body.one.Goals as goal

@@ -57,7 +57,7 @@ returns-then-not-close-clause-rest c =
     let d = declared_in c.args.self.now in
     let t = token_at text c.args.first.at c.args.first.bytes.now in
     let ts = left_at text c.args.reader.now.at in
-    rw (c.fault-then-not-close.ensures, c.in_ok-skip_section-in-Upscope.ensures.text) (upscope_refused text d t ts (left_at text c.skip_section.new.reader.at) c.in-Upscope.ensures c.in_ok-skip_section-in-Upscope.ensures.rest c.if-not-close.ensures)
+    rw (c.fault-then-not-close.ensures, c.in_ok-skip_section-in-Upscope.ensures.text) (upscope_refused text d t ts (left_at text c.skip_section.new.reader.at) c.in-Upscope.ensures c.in_ok-skip_section-in-Upscope.ensures.rest c.if-not-close.ensures.0)
 
 pub returns-in_err-skip_section-in-EndDefinitions-clause-rest : goal.returns-in_err-skip_section-in-EndDefinitions-clause-rest
 returns-in_err-skip_section-in-EndDefinitions-clause-rest c =

@@ -1,4 +1,4 @@
-use Rattle.std.proofs.Common.{sym, ap, ◌∙◌, drop, arith}
+use Rattle.std.proofs.Common.{sym, ◌∙◌, drop, arith}
 use Rattle.std.proofs.lemmas.List.{nil_from_length}
 use Rattle.vcd_read.specs.Scopes.{name_in}
 use Rattle.vcd_read.proofs.ScopesLemmas.{IsLaidOut-pop, names_at-pop, names_at-none}
@@ -19,4 +19,7 @@ returns-in-Some c =
 pub returns-in-None : goal.returns-in-None
 returns-in-None c =
     let s = c.self.inside in
-    sym c.self.view_is ∙ names_at-none s.path.items s.starts.items (nil_from_length s.starts.items (omega (arith, c.in-None.ensures.cases.0, s.starts.ok.0)))
+    let rest = c.pop.new.self in (
+      sym c.self.view_is ∙ names_at-none s.path.items s.starts.items (nil_from_length s.starts.items (omega (arith, c.in-None.ensures.cases.0, s.starts.ok.0))),
+      names_at-none s.path.items rest.items (nil_from_length rest.items (omega (arith, c.in-None.ensures.cases.1, rest.ok.0))),
+    )

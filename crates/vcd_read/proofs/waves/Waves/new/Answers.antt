@@ -1,4 +1,3 @@
-use Rattle.std.proofs.Common.{◌≡◌, [], sym}
 use Rattle.vcd_read.proofs.WavesLemmas.{none_touched}
 use Rattle.vcd_read.proofs.waves.Waves.new.Goals as goal
 

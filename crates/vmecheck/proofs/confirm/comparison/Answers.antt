@@ -1,0 +1,20 @@
+use Rattle.std.proofs.Common.{refl}
+use Rattle.std.specs.Prelude.{Err}
+use Rattle.vmecheck.specs.declared.refusal.Refusal.TheVariants.{Memory}
+use Rattle.vmecheck.specs.Answers.{binding_read, dump_read}
+use Rattle.vmecheck.proofs.InputLemmas.{unread}
+use Rattle.vmecheck.proofs.ConfirmLemmas.{binding_lacks}
+use Rattle.vmecheck.proofs.confirm.comparison.Goals as goal
+
+pub returns-in-Ok : goal.returns-in-Ok
+returns-in-Ok g c =
+    let (bound, bound_reading, bound_is) = c.in-Ok.ensures in
+    let (dump, listing, given, dump_reading, listing_reading, rows, answered) = c.comparison_bound.ensures in
+    (bound, dump, listing, given, bound_reading, dump_reading, listing_reading, rows, rw bound_is answered)
+
+pub returns-in-Err : goal.returns-in-Err
+returns-in-Err g c =
+    let (bound, bound_reading, refused) = c.in-Err.ensures in
+    let dump = unread (g.D.Source.remaining c.args.dump.now) (g.D.Source.failures c.args.dump.now) _ refl in
+    let listing = unread (g.L.Source.remaining c.args.listing.now) (g.L.Source.failures c.args.listing.now) _ refl in
+    (bound, dump.0, listing.0, Err Memory, bound_reading, dump.1, listing.1, tt, binding_lacks (binding_read bound) (dump_read dump.0) (Err Memory) c.in-Err.refusal refused)

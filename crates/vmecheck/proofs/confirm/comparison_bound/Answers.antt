@@ -1,0 +1,19 @@
+use Rattle.std.proofs.Common.{refl}
+use Rattle.std.specs.Prelude.{Err}
+use Rattle.vmecheck.specs.declared.refusal.Refusal.TheVariants.{Memory}
+use Rattle.vmecheck.specs.Answers.{dump_read}
+use Rattle.vmecheck.proofs.InputLemmas.{unread}
+use Rattle.vmecheck.proofs.ConfirmLemmas.{dump_lacks}
+use Rattle.vmecheck.proofs.confirm.comparison_bound.Goals as goal
+
+pub returns-in-Ok : goal.returns-in-Ok
+returns-in-Ok g c =
+    let (dump, dump_reading, dump_is) = c.in-Ok.ensures in
+    let (listing, given, listing_reading, rows, answered) = c.comparison_dumped.ensures in
+    (dump, listing, given, dump_reading, listing_reading, rows, rw dump_is answered)
+
+pub returns-in-Err : goal.returns-in-Err
+returns-in-Err g c =
+    let (dump, dump_reading, refused) = c.in-Err.ensures in
+    let listing = unread (g.L.Source.remaining c.args.listing.now) (g.L.Source.failures c.args.listing.now) _ refl in
+    (dump, listing.0, Err Memory, dump_reading, listing.1, tt, dump_lacks c.args.bound.now (dump_read dump) (Err Memory) c.in-Err.refusal refused)

@@ -1,0 +1,81 @@
+-- What the program answers of a listing that is to be confirmed.
+use Rattle.std.specs.Prelude.{◌≡◌, ◌≢◌, ℕ, true, ◌++◌, [], List, Option, Result, Ok, Err, codes, decimal}
+use Rattle.vcd_read.specs.Contents.{Contents}
+use Rattle.vcd_read.specs.Header.{◌>>=◌}
+use Rattle.vme_bind.specs.Binding.{BoundLines}
+use Rattle.vme_bind.specs.Capture.{capture_of}
+use Rattle.vme_trace.specs.Trace.{Trace}
+use Rattle.vme_listing.specs.Places.{is_well_placed}
+use Rattle.vme_listing.specs.Reading.{IsFirstFault, IsNoListing}
+use Rattle.vme_listing.specs.Recorded.{listing_of}
+use Rattle.vme_listing.specs.RowText.{text_of}
+use Rattle.vme_listing.specs.declared.fault.ListFault.{ListFault}
+use Rattle.vme_listing.specs.declared.row.Row.{Row}
+use Rattle.vme_cert.specs.Agreement.{Settles}
+use Rattle.vme_cert.specs.declared.compare.Answer.{Answer as Confirmation}
+use Rattle.vme_cert.specs.declared.compare.Answer.TheVariants.{Yes, No}
+use Rattle.vmecheck.specs.Answers.{Answer, or_bad_binding, refusal_answer, whole}
+use Rattle.vmecheck.specs.Refusals.{listing_refusal}
+use Rattle.vmecheck.specs.Texts.{line_of}
+use Rattle.vmecheck.specs.declared.refusal.Input.TheVariants.{Listing}
+use Rattle.vmecheck.specs.declared.refusal.Refusal.{Refusal}
+use Rattle.vmecheck.specs.declared.refusal.Refusal.TheVariants.{Memory}
+
+-- the bytes of a listing, where they can be read and aren't too many
+abbrev pub listing_text : Option (List ℕ) → Result (List ℕ) Refusal
+listing_text input = whole Listing input
+
+-- of the bytes of an input, or of why they can't be had, this is the listing, or the first reason that there is none
+abbrev pub IsListing : Result (List ℕ) Refusal → Result (List Row) Refusal → Type 0
+IsListing (Err refusal) given = given ≡ Err refusal
+IsListing (Ok text) (Ok rows) = (is_well_placed rows ≡ true) × (text_of rows ≡ text)
+IsListing (Ok text) (Err refusal) = (fault : ListFault) × (refusal ≡ listing_refusal fault) × IsFirstFault text fault × IsNoListing text fault
+
+-- the same, unless there was no memory
+abbrev pub GivesRows : Result (List ℕ) Refusal → Result (List Row) Refusal → Type 0
+GivesRows text (Err Memory) = Unit {0}
+GivesRows text given = IsListing text given
+
+-- a listing, and the recording that a binding makes of a dump, or the first reason that one is missing: the listing is read
+-- before the recording is made
+abbrev pub compared : Result BoundLines Refusal → Result Contents Refusal → Result (List Row) Refusal → Result (List Row × Trace) Refusal
+compared binding dump listing = do
+  bound ← binding
+  contents ← dump
+  rows ← listing
+  t ← or_bad_binding (capture_of bound contents)
+  Ok (rows, t)
+
+-- what is found says whether the rows are the listing of the recording, and which is the first that differs; or why there is
+-- no answer
+abbrev pub IsFound : Result Confirmation Refusal → Result (List Row × Trace) Refusal → Type 0
+IsFound (Ok found) said = (rows : List Row) × (t : Trace) × (said ≡ Ok (rows, t)) × Settles rows (listing_of t) found
+IsFound (Err refusal) said = said ≡ Err refusal
+
+-- the same, unless there was no memory
+abbrev pub GivesConfirmation : Result Confirmation Refusal → Result (List Row × Trace) Refusal → Type 0
+GivesConfirmation (Err Memory) said = Unit {0}
+GivesConfirmation found said = IsFound found said
+
+-- This is the answer to a binding, a dump and the text of a listing, or the first reason that there is none: where there are
+-- a binding and a dump, the text is read as a listing, or has a first fault.
+abbrev pub IsConfirmation : Result BoundLines Refusal → Result Contents Refusal → Result (List ℕ) Refusal → Result Confirmation Refusal → Type 0
+IsConfirmation (Err refusal) dump text found = found ≡ Err refusal
+IsConfirmation (Ok bound) (Err refusal) text found = found ≡ Err refusal
+IsConfirmation (Ok bound) (Ok contents) text found = (given : Result (List Row) Refusal) × (given ≢ Err Memory)
+    × IsListing text given
+    × IsFound found (compared (Ok bound) (Ok contents) given)
+
+-- ---- the answer
+
+abbrev pub confirmation_text : Confirmation → List ℕ
+confirmation_text Yes = codes "confirmed"
+confirmation_text (No row) = codes "not confirmed at row " ++ decimal row
+
+abbrev pub confirmation_status : Confirmation → ℕ
+confirmation_status Yes = 0
+confirmation_status (No row) = 1
+
+abbrev pub confirmation_answer_by : Result Confirmation Refusal → Answer
+confirmation_answer_by (Ok found) = record { out = line_of (confirmation_text found); error = []; status = confirmation_status found }
+confirmation_answer_by (Err refusal) = refusal_answer refusal

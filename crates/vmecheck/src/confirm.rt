@@ -1,0 +1,196 @@
+//! Whether a listing is that of a recording.
+
+ghost use Rattle.std.specs.Prelude.{◌≡◌, ◌≢◌, ◌<◌, ◌↔◌, ℕ, suc, List, length, Option, Some, Ok, Result};
+ghost use Rattle.vme_listing.specs.declared.row.Row.{Row};
+ghost use Rattle.vmecheck.specs.Answers.{binding_read, dump_read};
+ghost use Rattle.vmecheck.specs.Confirmations.{GivesConfirmation, GivesRows, compared, confirmation_answer_by, listing_text};
+ghost use Rattle.vmecheck.specs.Ends.{Confirms, Ends, TellsConfirmation};
+ghost use Rattle.vmecheck.specs.Inputs.{IsReading, most_reads};
+ghost use Rattle.vmecheck.specs.declared.refusal.Refusal.{Refusal};
+
+use crate::check::{binding_from, captured, dump_from};
+use crate::input::read_all;
+use crate::output::{complain, write_message};
+use crate::refusal::{Input, Refusal};
+use crate::text::{cannot_write_line, confirmation_line, confirmation_status, refusal_line};
+use std::alloc::Global;
+use vcd_read::Dump;
+use vme_bind::Binding;
+use vme_cert::{Answer, confirm};
+use vme_listing::{Listing, read_listing};
+use vme_trace::{Capture, Sink, Source};
+
+/// Whether a listing is that of the recording that a binding makes of a dump: writes the answer to `out`, or to `err` why there
+/// is none. The answer is the exit status: 0 confirmed, 1 not, 3 where an input is refused, 4 for want of memory, 5 where the
+/// answer can't be written.
+///
+/// The binding is read, then the dump, then the listing, and the recording is made after these. It is compared by the
+/// definitions alone, by no monitor. A failure of `err` is ignored.
+pub fn confirm_with<B: Source, D: Source, L: Source, O: Sink, E: Sink>(
+    alloc: Global,
+    binding: &mut B,
+    dump: &mut D,
+    listing: &mut L,
+    out: &mut O,
+    err: &mut E,
+) -> u8
+    ensures answer { Confirms
+        (record { told = B.remaining binding.old; failed = B.failures binding.old; failures = B.failures binding.new })
+        (record { told = D.remaining dump.old; failed = D.failures dump.old; failures = D.failures dump.new })
+        (record { told = L.remaining listing.old; failed = L.failures listing.old; failures = L.failures listing.new })
+        (record { before = O.contents out.old; failed = O.failures out.old; after = O.contents out.new; failures = O.failures out.new })
+        (record { before = E.contents err.old; failed = E.failures err.old; after = E.contents err.new; failures = E.failures err.new })
+        result }
+    ensures unwritten { (result ≡ 5) ↔ (O.failures out.new ≡ suc (O.failures out.old)) }
+
+    // Inputs that are told whole, no failure, and memory give exactly the answer that is defined.
+    ensures exact { (b d l : List ℕ) → B.remaining binding.old ≡ Some b → D.remaining dump.old ≡ Some d → L.remaining listing.old ≡ Some l
+        → length b < most_reads → length d < most_reads → length l < most_reads
+        → B.failures binding.new ≡ B.failures binding.old → D.failures dump.new ≡ D.failures dump.old
+        → L.failures listing.new ≡ L.failures listing.old → O.failures out.new ≡ O.failures out.old → result ≢ 4
+        → TellsConfirmation b d l
+        (record { before = O.contents out.old; failed = O.failures out.old; after = O.contents out.new; failures = O.failures out.new })
+        (record { before = E.contents err.old; failed = E.failures err.old; after = E.contents err.new; failures = E.failures err.new })
+        result }
+{
+    answer(alloc, binding, dump, listing, out, err)
+}
+
+fn answer<B: Source, D: Source, L: Source, O: Sink, E: Sink>(
+    alloc: Global,
+    binding: &mut B,
+    dump: &mut D,
+    listing: &mut L,
+    out: &mut O,
+    err: &mut E,
+) -> u8
+    ensures { Confirms
+        (record { told = B.remaining binding.old; failed = B.failures binding.old; failures = B.failures binding.new })
+        (record { told = D.remaining dump.old; failed = D.failures dump.old; failures = D.failures dump.new })
+        (record { told = L.remaining listing.old; failed = L.failures listing.old; failures = L.failures listing.new })
+        (record { before = O.contents out.old; failed = O.failures out.old; after = O.contents out.new; failures = O.failures out.new })
+        (record { before = E.contents err.old; failed = E.failures err.old; after = E.contents err.new; failures = E.failures err.new })
+        result }
+{
+    match comparison(alloc, binding, dump, listing) {
+        Ok(found) => tell(found, out, err),
+        Err(refusal) => {
+            complain(err, refusal_line(&refusal));
+            refusal.status()
+        }
+    }
+}
+
+/// Writes an answer.
+fn tell<O: Sink, E: Sink>(found: Answer, out: &mut O, err: &mut E) -> u8
+    ensures { Ends (confirmation_answer_by (Ok found))
+        (record { before = O.contents out.old; failed = O.failures out.old; after = O.contents out.new; failures = O.failures out.new })
+        (record { before = E.contents err.old; failed = E.failures err.old; after = E.contents err.new; failures = E.failures err.new })
+        result }
+{
+    match write_message(out, confirmation_line(found)) {
+        Ok(()) => confirmation_status(found),
+        Err(_) => {
+            complain(err, cannot_write_line());
+            5
+        }
+    }
+}
+
+/// Compares a listing with that of the recording that a binding makes of a dump.
+fn comparison<B: Source, D: Source, L: Source>(
+    alloc: Global,
+    binding: &mut B,
+    dump: &mut D,
+    listing: &mut L,
+) -> Result<Answer, Refusal>
+    ensures { (binding_bytes dump_bytes listing_bytes : Option (List ℕ)) × (given : Result (List Row) Refusal)
+        × IsReading (B.remaining binding.old) (B.failures binding.old) (B.failures binding.new) binding_bytes
+        × IsReading (D.remaining dump.old) (D.failures dump.old) (D.failures dump.new) dump_bytes
+        × IsReading (L.remaining listing.old) (L.failures listing.old) (L.failures listing.new) listing_bytes
+        × GivesRows (listing_text listing_bytes) given
+        × GivesConfirmation result (compared (binding_read binding_bytes) (dump_read dump_bytes) given) }
+{
+    match binding_from(alloc, binding) {
+        Ok(bound) => comparison_bound(alloc, &bound, dump, listing),
+        Err(refusal) => Err(refusal),
+    }
+}
+
+fn comparison_bound<D: Source, L: Source>(
+    alloc: Global,
+    bound: &Binding,
+    dump: &mut D,
+    listing: &mut L,
+) -> Result<Answer, Refusal>
+    ensures { (dump_bytes listing_bytes : Option (List ℕ)) × (given : Result (List Row) Refusal)
+        × IsReading (D.remaining dump.old) (D.failures dump.old) (D.failures dump.new) dump_bytes
+        × IsReading (L.remaining listing.old) (L.failures listing.old) (L.failures listing.new) listing_bytes
+        × GivesRows (listing_text listing_bytes) given
+        × GivesConfirmation result (compared (Ok bound.now) (dump_read dump_bytes) given) }
+{
+    match dump_from(alloc, dump) {
+        Ok(contents) => comparison_dumped(alloc, bound, &contents, listing),
+        Err(refusal) => Err(refusal),
+    }
+}
+
+fn comparison_dumped<L: Source>(
+    alloc: Global,
+    bound: &Binding,
+    contents: &Dump,
+    listing: &mut L,
+) -> Result<Answer, Refusal>
+    ensures { (listing_bytes : Option (List ℕ)) × (given : Result (List Row) Refusal)
+        × IsReading (L.remaining listing.old) (L.failures listing.old) (L.failures listing.new) listing_bytes
+        × GivesRows (listing_text listing_bytes) given
+        × GivesConfirmation result (compared (Ok bound.now) (Ok contents.now) given) }
+{
+    match listing_from(alloc, listing) {
+        Ok(rows) => comparison_listed(alloc, bound, contents, &rows),
+        Err(refusal) => Err(refusal),
+    }
+}
+
+fn comparison_listed(
+    alloc: Global,
+    bound: &Binding,
+    contents: &Dump,
+    listing: &Listing,
+) -> Result<Answer, Refusal>
+    ensures { GivesConfirmation result (compared (Ok bound.now) (Ok contents.now) (Ok listing.now)) }
+{
+    match captured(alloc, bound, contents) {
+        Ok(capture) => compare(alloc, &capture, listing),
+        Err(refusal) => Err(refusal),
+    }
+}
+
+fn compare(alloc: Global, capture: &Capture, listing: &Listing) -> Result<Answer, Refusal>
+    ensures { GivesConfirmation result (Ok (listing.now, capture.now)) }
+{
+    match confirm(alloc, capture, listing) {
+        Ok(found) => Ok(found),
+        Err(_) => Err(Refusal::Memory),
+    }
+}
+
+fn listing_from<R: Source>(alloc: Global, source: &mut R) -> Result<Listing, Refusal>
+    ensures { (bytes : Option (List ℕ))
+        × IsReading (R.remaining source.old) (R.failures source.old) (R.failures source.new) bytes
+        × GivesRows (listing_text bytes) result }
+{
+    match read_all(alloc, source) {
+        Ok(text) => listing_in(alloc, text.as_slice()),
+        Err(fault) => Err(Refusal::of_input(Input::Listing, fault)),
+    }
+}
+
+fn listing_in(alloc: Global, text: &[u8]) -> Result<Listing, Refusal>
+    ensures { GivesRows (Ok text.now) result }
+{
+    match read_listing(alloc, text) {
+        Ok(listing) => Ok(listing),
+        Err(fault) => Err(Refusal::of_listing(fault)),
+    }
+}

@@ -1,0 +1,309 @@
+//! Readers that fail or never end, and writers that fail, at each place.
+
+ghost use Rattle.std.specs.Prelude.{◌≡◌, suc, MatchResult, None};
+
+use crate::check::check;
+use crate::confirm::confirm_with;
+use crate::io::Bytes;
+use crate::list::list;
+use crate::order::Task;
+use crate::{BLOCK, BUILT_IN};
+use std::alloc::Global;
+use std::process::Abort;
+use std::test::Fail;
+use vme_trace::{Failed, Sink, Source};
+
+/// A dump of one read cycle.
+const DUMP: &str = "$timescale 1 ns $end
+$scope module bus $end
+$var wire 1 p AS $end
+$var wire 1 q DS0 $end
+$var wire 1 r DS1 $end
+$var wire 1 s DTACK $end
+$var wire 1 t BERR $end
+$var wire 1 u IACK $end
+$upscope $end
+$enddefinitions $end
+#0 1p 1q 1r 1s 1t 1u
+#10 0p
+#20 0q
+#30 0s
+#40 1p 1q
+#50 1s
+";
+
+/// Its listing.
+const LISTING: &str = "vmecheck listing 1
+start 1
+tenure 1 open end -
+cycle 2 S 3D FFFFFE end 5
+transfer 3 of 2 read DTACK 4 close 5
+verdict conforming
+";
+
+/// The listing without the strobe.
+const BROKEN: &str = "vmecheck listing 1
+start 1
+tenure 1 open end -
+cycle 2 S 3D FFFFFE end -
+verdict broken H4 3 DTACK
+";
+
+const TASKS: [Task; 3] = [Task::Check, Task::List, Task::Confirm];
+
+/// One failure more, or what stands for it where it can't be counted.
+fn fail(failures: &mut u64, otherwise: usize) -> Result<usize, Failed>
+    ensures { MatchResult result (λ n. (n ≡ otherwise) × (failures.new ≡ failures.old)) (λ _. failures.new ≡ suc failures.old) }
+{
+    match failures.checked_add(1) {
+        Some(more) => {
+            *failures = more;
+            Err(Failed)
+        }
+        None => Ok(otherwise),
+    }
+}
+
+/// A source that gives so many bytes a read, and fails behind the last.
+#[derive(Drop)]
+struct Torn<'a> {
+    left: &'a [u8],
+    piece: usize,
+    failures: u64,
+}
+
+impl Torn<'_> {
+    fn new(text: &str, place: usize, piece: usize) -> Torn<'_> {
+        Torn {
+            left: text.as_bytes().get(..place).unwrap_or_default(),
+            piece,
+            failures: 0,
+        }
+    }
+}
+
+impl Source for Torn<'_> {
+    ghost remaining = { λ _. None };
+
+    ghost failures = { λ torn. torn.failures };
+
+    fn read(&mut self, buffer: &mut [u8]) -> Result<usize, Failed> {
+        if self.left.is_empty() {
+            return fail(&mut self.failures, 0);
+        }
+        let count = self.left.len().min(buffer.len()).min(self.piece);
+        buffer[..count].copy_from_slice(&self.left[..count]);
+        self.left = &self.left[count..];
+        Ok(count)
+    }
+}
+
+/// A source of so many line feeds a read, without end.
+#[derive(Drop)]
+struct Endless {
+    piece: usize,
+}
+
+impl Source for Endless {
+    ghost remaining = { λ _. None };
+
+    ghost failures = { λ _. 0 };
+
+    fn read(&mut self, buffer: &mut [u8]) -> Result<usize, Failed> {
+        let count = buffer.len().min(self.piece);
+        buffer[..count].fill(b'\n');
+        Ok(count)
+    }
+}
+
+/// A sink that holds what it took, so many bytes a write, and fails once it has no room.
+#[derive(Drop)]
+struct Page {
+    bytes: Vec<u8>,
+    room: usize,
+    piece: usize,
+    failures: u64,
+}
+
+impl Page {
+    fn new(alloc: Global, room: usize, piece: usize) -> Page {
+        Page {
+            bytes: Vec::new(alloc),
+            room,
+            piece,
+            failures: 0,
+        }
+    }
+}
+
+impl Sink for Page {
+    ghost contents = { λ _. None };
+
+    ghost failures = { λ page. page.failures };
+
+    fn write(&mut self, bytes: &[u8]) -> Result<usize, Failed> {
+        let count = bytes.len().min(self.room).min(self.piece);
+        if count > 0 && self.bytes.extend_from_slice(&bytes[..count]).is_ok() {
+            self.room -= count;
+            return Ok(count);
+        }
+        fail(&mut self.failures, bytes.len())
+    }
+}
+
+/// The status with which a command ends.
+fn ended<B: Source, D: Source, L: Source>(
+    alloc: Global,
+    task: Task,
+    binding: &mut B,
+    dump: &mut D,
+    listing: &mut L,
+    out: &mut Page,
+    err: &mut Page,
+) -> u8 {
+    match task {
+        Task::Check => check(alloc, binding, dump, BLOCK, 1, out, err),
+        Task::List => list(alloc, binding, dump, BLOCK, 1, out, err),
+        Task::Confirm => confirm_with(alloc, binding, dump, listing, out, err),
+    }
+}
+
+fn expect_refusal<R: Abort + AllocGlobal, B: Source, D: Source, L: Source>(
+    rt: &R,
+    task: Task,
+    binding: &mut B,
+    dump: &mut D,
+    listing: &mut L,
+    text: &str,
+) {
+    let mut out = Page::new(rt.alloc(), 1000, 1000);
+    let mut err = Page::new(rt.alloc(), 1000, 1000);
+    let status = ended(rt.alloc(), task, binding, dump, listing, &mut out, &mut err);
+    assert!(rt; out.bytes.is_empty());
+    assert!(rt; err.bytes.as_slice() == text.as_bytes(), "{text}");
+    assert_eq!(rt; status, 3);
+}
+
+#[test]
+fn torn_bindings(rt: HostRuntime) -> Result<(), Fail> {
+    let text = str::from_utf8(BUILT_IN).ok().ok_or("no text")?;
+    for task in TASKS {
+        for place in 0..=text.len() {
+            let mut binding = Torn::new(text, place, 1000);
+            let mut dump = Bytes::new(DUMP.as_bytes());
+            let mut listing = Bytes::new(LISTING.as_bytes());
+            let wanted = "vmecheck: cannot read binding\n";
+            expect_refusal(&rt, task, &mut binding, &mut dump, &mut listing, wanted);
+        }
+    }
+    Ok(())
+}
+
+#[test]
+fn torn_dumps(rt: HostRuntime) {
+    for task in TASKS {
+        for place in 0..=DUMP.len() {
+            let mut binding = Bytes::new(BUILT_IN);
+            let mut dump = Torn::new(DUMP, place, 1);
+            let mut listing = Bytes::new(LISTING.as_bytes());
+            let wanted = "vmecheck: cannot read dump\n";
+            expect_refusal(&rt, task, &mut binding, &mut dump, &mut listing, wanted);
+        }
+    }
+}
+
+#[test]
+fn torn_listings(rt: HostRuntime) {
+    for place in 0..=LISTING.len() {
+        let mut binding = Bytes::new(BUILT_IN);
+        let mut dump = Bytes::new(DUMP.as_bytes());
+        let mut listing = Torn::new(LISTING, place, 7);
+        let wanted = "vmecheck: cannot read listing\n";
+        expect_refusal(
+            &rt,
+            Task::Confirm,
+            &mut binding,
+            &mut dump,
+            &mut listing,
+            wanted,
+        );
+    }
+}
+
+#[test]
+fn endless_dumps(rt: HostRuntime) {
+    for (piece, wanted) in [
+        (1, "vmecheck: cannot read dump\n"),
+        (1_000_000, "vmecheck: dump too long\n"),
+    ] {
+        let mut binding = Bytes::new(BUILT_IN);
+        let mut listing = Bytes::new(LISTING.as_bytes());
+        expect_refusal(
+            &rt,
+            Task::Check,
+            &mut binding,
+            &mut Endless { piece },
+            &mut listing,
+            wanted,
+        );
+    }
+}
+
+/// What a command wrote to a page with so much room, and its status, which are a front of a text and this one.
+fn expect_front<R: Abort + AllocGlobal>(
+    rt: &R,
+    task: Task,
+    dump: &str,
+    text: &str,
+    room: usize,
+    wanted: (&str, u8),
+) {
+    let mut out = Page::new(rt.alloc(), room, 5);
+    let mut err = Page::new(rt.alloc(), 1000, 1000);
+    let status = ended(
+        rt.alloc(),
+        task,
+        &mut Bytes::new(BUILT_IN),
+        &mut Bytes::new(dump.as_bytes()),
+        &mut Bytes::new(LISTING.as_bytes()),
+        &mut out,
+        &mut err,
+    );
+    assert!(rt;
+        Some(out.bytes.as_slice()) == text.as_bytes().get(..room),
+        "{text}"
+    );
+    assert!(rt;
+        (err.bytes.as_slice(), status) == (wanted.0.as_bytes(), wanted.1),
+        "{text}"
+    );
+}
+
+#[test]
+fn full_pages(rt: HostRuntime) -> Result<(), Fail> {
+    let broken = DUMP.replace(rt.alloc(), "#20 0q\n", "")?;
+    for (task, dump, text, status) in [
+        (Task::Check, DUMP, "conforming\n", 0),
+        (Task::List, DUMP, LISTING, 0),
+        (Task::Confirm, DUMP, "confirmed\n", 0),
+        (
+            Task::Check,
+            broken.as_str(),
+            "broken H4 at instant 3 time 30 line DTACK\n",
+            1,
+        ),
+        (Task::List, broken.as_str(), BROKEN, 1),
+        (
+            Task::Confirm,
+            broken.as_str(),
+            "not confirmed at row 3\n",
+            1,
+        ),
+    ] {
+        for room in 0..text.len() {
+            expect_front(&rt, task, dump, text, room, ("vmecheck: cannot write\n", 5));
+        }
+        expect_front(&rt, task, dump, text, text.len(), ("", status));
+    }
+    Ok(())
+}
