@@ -8,8 +8,9 @@ use Rattle.vcd_read.specs.Reading.{left_at}
 use Rattle.vcd_read.specs.Header.{◌>>=◌, Net, is_end}
 use Rattle.vcd_read.specs.Body.{BodyItem, time_item, change, skipped, bracket_open, bracket_end, wrong, Shape, time_shape, scalar, vector, foreign, comment, open_shape, end_shape, none, ready, code_of_vector, code_of_foreign, in_comment, body_from, shape_of}
 use Rattle.vcd_read.specs.Meaning.{Fails, FailsAs, Gives}
-use Rattle.vcd_read.specs.Progress.{Progress, State, step, steps}
-use Rattle.vcd_read.specs.Bodies.{Leaves, state_of}
+use Rattle.vcd_read.specs.declared.dump.Bit.{Bit}
+use Rattle.vcd_read.specs.Taking.{Taking, State, state_of, step, steps}
+use Rattle.vcd_read.specs.Bodies.{Leaves}
 
 -- ---- the cut, by what a token is
 
@@ -81,40 +82,41 @@ fails_with fault read e memory = from_kind fault.line fault.kind read e memory
     from_kind line Memory read e memory = memory refl
     from_kind line kind read e memory = e
 
-pub leaves_same : {X : Type 0} (before before2 after : Result State VcdFault) (r : Result X VcdFault) → before ≡ before2 → Leaves before2 after r → Leaves before after r
+pub leaves_same : {A X : Type 0} (before before2 after : Result (State A) VcdFault) (r : Result X VcdFault) → before ≡ before2 → Leaves before2 after r → Leaves before after r
 leaves_same before before2 after (Ok x) e h = e ∙ h
 leaves_same before before2 after (Err fault) e h = fails_same fault before before2 e h
 
-steps_item : (nets : List Net) (s : State) (item : BodyItem) (items : List BodyItem) → steps nets s (item ∷ items) ≡ (step nets s item >>= λ next. steps nets next items)
-unfolding steps
-steps_item nets s item items = refl
+module _ {A : Type 0} (with_change : A → ℕ → List Bit → A) (with_instant : A → ℕ → A) where
+  steps_item : (nets : List Net) (s : State A) (item : BodyItem) (items : List BodyItem) → steps with_change with_instant nets s (item ∷ items) ≡ (step with_change with_instant nets s item >>= λ next. steps with_change with_instant nets next items)
+  unfolding steps
+  steps_item nets s item items = refl
 
-fails_more : (nets : List Net) (s : State) (item : BodyItem) (items : List BodyItem) (line : ℕ) (kind : FaultKind) → FailsAs line kind (step nets s item) → FailsAs line kind (steps nets s (item ∷ items))
-fails_more nets s item items line Memory h = h
-fails_more nets s item items line kind h = steps_item nets s item items ∙ ap (λ (r : Result State VcdFault). r >>= λ next. steps nets next items) h
+  fails_more : (nets : List Net) (s : State A) (item : BodyItem) (items : List BodyItem) (line : ℕ) (kind : FaultKind) → FailsAs line kind (step with_change with_instant nets s item) → FailsAs line kind (steps with_change with_instant nets s (item ∷ items))
+  fails_more nets s item items line Memory h = h
+  fails_more nets s item items line kind h = steps_item nets s item items ∙ ap (λ (r : Result (State A) VcdFault). r >>= λ next. steps with_change with_instant nets next items) h
 
-item_leaves : {X : Type 0} (nets : List Net) (s s2 : State) (item : BodyItem) (after : List BodyItem) (r : Result X VcdFault) → Gives (λ _. s2) r (step nets s item) → Leaves (steps nets s (item ∷ after)) (steps nets s2 after) r
-item_leaves nets s s2 item after (Ok x) h = steps_item nets s item after ∙ ap (λ (r : Result State VcdFault). r >>= λ next. steps nets next after) h
-item_leaves nets s s2 item after (Err fault) h = fails_more nets s item after fault.line fault.kind h
+  item_leaves : {X : Type 0} (nets : List Net) (s s2 : State A) (item : BodyItem) (after : List BodyItem) (r : Result X VcdFault) → Gives (λ _. s2) r (step with_change with_instant nets s item) → Leaves (steps with_change with_instant nets s (item ∷ after)) (steps with_change with_instant nets s2 after) r
+  item_leaves nets s s2 item after (Ok x) h = steps_item nets s item after ∙ ap (λ (r : Result (State A) VcdFault). r >>= λ next. steps with_change with_instant nets next after) h
+  item_leaves nets s s2 item after (Err fault) h = fails_more nets s item after fault.line fault.kind h
 
--- one item is read by a function that leaves the reader where it was
-pub read_item : {X : Type 0} (nets nets2 : List Net) (s s2 : State) (text text2 : List ℕ) (at at2 : ℕ) (item : BodyItem) (before : List BodyItem) (r : Result X VcdFault)
-    → nets2 ≡ nets → text2 ≡ text → at2 ≡ at
-    → before ≡ item ∷ body_from ready (left_at text at)
-    → Gives (λ _. s2) r (step nets s item)
-    → Leaves (steps nets s before) (steps nets2 s2 (body_from ready (left_at text2 at2))) r
-read_item nets nets2 s s2 text text2 at at2 item before r n t a is h =
-    rw (n, t, a, is) (item_leaves nets s s2 item (body_from ready (left_at text at)) r h)
+  -- one item is read by a function that leaves the reader where it was
+  pub read_item : {X : Type 0} (nets nets2 : List Net) (s s2 : State A) (text text2 : List ℕ) (at at2 : ℕ) (item : BodyItem) (before : List BodyItem) (r : Result X VcdFault)
+      → nets2 ≡ nets → text2 ≡ text → at2 ≡ at
+      → before ≡ item ∷ body_from ready (left_at text at)
+      → Gives (λ _. s2) r (step with_change with_instant nets s item)
+      → Leaves (steps with_change with_instant nets s before) (steps with_change with_instant nets2 s2 (body_from ready (left_at text2 at2))) r
+  read_item nets nets2 s s2 text text2 at at2 item before r n t a is h =
+      rw (n, t, a, is) (item_leaves nets s s2 item (body_from ready (left_at text at)) r h)
 
--- an item that is none
-pub read_wrong : (nets : List Net) (s : State) (line : ℕ) (kind : FaultKind) (before after : List BodyItem) → before ≡ wrong line kind ∷ after → steps nets s before ≡ Err (record { line = line; kind = kind })
-unfolding steps
-read_wrong nets s line kind before after e = ap (steps nets s) e
+  -- an item that is none
+  pub read_wrong : (nets : List Net) (s : State A) (line : ℕ) (kind : FaultKind) (before after : List BodyItem) → before ≡ wrong line kind ∷ after → steps with_change with_instant nets s before ≡ Err (record { line = line; kind = kind })
+  unfolding steps
+  read_wrong nets s line kind before after e = ap (steps with_change with_instant nets s) e
 
-pub nothing_left : (nets : List Net) (s : State) (before : List Token) → before ≡ [] → steps nets s (body_from ready before) ≡ Ok s
-unfolding steps body_from
-nothing_left nets s before e = ap (λ (ts : List Token). steps nets s (body_from ready ts)) e
+  pub nothing_left : (nets : List Net) (s : State A) (before : List Token) → before ≡ [] → steps with_change with_instant nets s (body_from ready before) ≡ Ok s
+  unfolding steps body_from
+  nothing_left nets s before e = ap (λ (ts : List Token). steps with_change with_instant nets s (body_from ready ts)) e
 
-pub same_left : (nets nets2 : List Net) (text text2 : List ℕ) (waves waves2 : Progress) (bracket bracket2 : Option ℕ) (at : ℕ) → nets2 ≡ nets → text2 ≡ text → waves2 ≡ waves → bracket2 ≡ bracket
-    → steps nets (state_of text waves bracket) (body_from ready (left_at text at)) ≡ steps nets2 (state_of text2 waves2 bracket2) (body_from ready (left_at text2 at))
-same_left nets nets2 text text2 waves waves2 bracket bracket2 at n t w b = rw (n, t, w, b) refl
+  pub same_left : (nets nets2 : List Net) (text text2 : List ℕ) (waves waves2 : Taking A) (bracket bracket2 : Option ℕ) (at : ℕ) → nets2 ≡ nets → text2 ≡ text → waves2 ≡ waves → bracket2 ≡ bracket
+      → steps with_change with_instant nets (state_of text waves bracket) (body_from ready (left_at text at)) ≡ steps with_change with_instant nets2 (state_of text2 waves2 bracket2) (body_from ready (left_at text2 at))
+  same_left nets nets2 text text2 waves waves2 bracket bracket2 at n t w b = rw (n, t, w, b) refl

@@ -1,8 +1,9 @@
 -- The nets by their codes, and one more of them.
-use Rattle.std.proofs.Common.{◌≡◌, ℕ, zero, suc, ◌+◌, ◌^◌, ◌≤◌, ◌<◌, Bool, true, false, not, cond, eqb, ltb, List, [], ◌∷◌, ◌++◌, length, get_or, Option, Some, None, refl, sym, ap, ◌∙◌, arith}
-use Rattle.std.specs.Prelude.{bytes_eq}
+use Rattle.std.proofs.Common.{◌≡◌, ℕ, zero, suc, ◌+◌, ◌^◌, ◌≤◌, ◌<◌, Bool, true, false, not, cond, eqb, ltb, List, [], ◌∷◌, ◌++◌, length, get_or, Option, Some, None, IsSome, refl, sym, ap, ◌∙◌, arith}
+use Rattle.std.specs.Prelude.{bytes_eq, unwrap_or}
 use Rattle.std.specs.Map.{update}
 use Rattle.std.specs.List.{position, position_or_len}
+use Rattle.std.proofs.lemmas.Bool.{ltb-true}
 use Rattle.std.proofs.lemmas.Bool.Decides.{nat_tests}
 use Rattle.std.proofs.lemmas.List.{length_push}
 use Rattle.std.proofs.lemmas.List.Folds.{position_or_len_push}
@@ -44,6 +45,14 @@ net_of-push nets code size none other =
     refl
     (position-push (has_code other) nets (record { code = code; size = size }))
     (λ same. ap (net_of nets) (sym ((bytes_eq-Decides code other).0 same)) ∙ none)
+
+within_test : (b : Bool) (k n : ℕ) → ltb k n ≡ b → IsSome (cond b (Some k) None) → unwrap_or (cond b (Some k) None) 0 < n
+within_test true k n e h = ltb-true k n e
+within_test false k n e h = absurd (cc)
+
+-- the net of a code is one of the nets
+pub net_within : (nets : List Net) (code : List ℕ) → IsSome (net_of nets code) → unwrap_or (net_of nets code) 0 < length nets
+net_within nets code some = within_test (ltb (position_or_len (has_code code) nets) (length nets)) (position_or_len (has_code code) nets) (length nets) refl some
 
 -- one more net
 pub indexed_push : (nets : List Net) (old new : CodeIndex) (code : List ℕ) (size net : ℕ) → AreIndexed nets old → net_of nets code ≡ None → net ≡ length nets → net + 1 < 2 ^ 32

@@ -7,6 +7,7 @@ pub mod BitsLemmas
 pub mod WavesLemmas
 pub mod InstantsLaw
 pub mod ReadLemmas
+pub mod TakingLemmas
 pub mod DumpLemmas
 pub mod ScopesLemmas
 pub mod ReferenceLemmas

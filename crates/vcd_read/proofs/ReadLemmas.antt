@@ -10,9 +10,12 @@ use Rattle.vcd_read.specs.Header.{◌>>=◌, Net}
 use Rattle.vcd_read.specs.Body.{BodyItem, Standing, ready, body_from, stand_after, stand_after_all, at_the_end, first_standing}
 use Rattle.vcd_read.specs.Meaning.{Fails, FailsAs, Gives, instants_from, instants_of}
 use Rattle.vcd_read.specs.Progress.{Progress, State, steps, progress_after, ended}
-use Rattle.vcd_read.specs.Bodies.{at_end}
 use Rattle.vcd_read.specs.Contents.{TimesAscend}
 use Rattle.vcd_read.proofs.InstantsLaw.{at_start, instants_law, instants_rise}
+
+-- what a body gives that is read to its end
+abbrev pub at_end : State → Result (List Instant) VcdFault
+at_end s = at_the_end s.standing >>= λ stood. Ok (ended s.progress)
 
 abbrev with_standing : Progress → Standing → State
 with_standing progress standing = record { standing = standing; progress = progress }

@@ -7,6 +7,8 @@ pub mod Meaning
 pub mod Rows
 pub mod Reading
 pub mod Progress
+pub mod Taking
+pub mod Collected
 pub mod Touched
 pub mod Nets
 pub mod CodeNumbers

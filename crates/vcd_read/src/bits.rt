@@ -1,6 +1,7 @@
 //! Digits as the bits of a value.
 
-ghost use Rattle.std.specs.Prelude.{◌≡◌, ◌<◌, ◌≤◌, length, IfOk};
+ghost use Rattle.std.specs.Prelude.{◌≡◌, ◌<◌, ◌≤◌, length, get_or, IfOk};
+ghost use Rattle.vcd_read.specs.declared.dump.Bit.TheVariants.{X};
 ghost use Rattle.vcd_read.specs.Numbers.{bit_of, fill_of, extended};
 
 use crate::dump::{Bit, Bits};
@@ -25,6 +26,23 @@ pub(crate) fn extended(alloc: Global, size: u32, digits: &[u8]) -> Result<Bits, 
         }
     }
     Ok(Bits::from_small_vec(bits))
+}
+
+/// One bit of the value of this size that digits are, by its place from the left: x where the value has no such bit.
+#[tactic(auto, using(crate::proofs::BitsLemmas::bit_fill, crate::proofs::BitsLemmas::bit_digit, crate::proofs::BitsLemmas::bit_past))]
+pub fn bit_at(size: u32, digits: &[u8], place: usize) -> Bit
+    requires some { 0 < length digits.now }
+    requires fits { length digits.now ≤ size }
+    ensures { result ≡ get_or (extended size digits.now) place X }
+{
+    let missing = size as usize - digits.len();
+    if place < missing {
+        return fill_of(bit_of(digits[0]));
+    }
+    match digits.get(place - missing) {
+        Some(digit) => bit_of(*digit),
+        None => Bit::X,
+    }
 }
 
 fn bit_of(digit: u8) -> Bit

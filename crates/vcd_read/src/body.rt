@@ -3,41 +3,43 @@
 ghost use Rattle.std.specs.Prelude.{◌≡◌, ◌<◌, ◌≤◌, ◌∷◌, length, Ok, true};
 ghost use Rattle.std.specs.Option.{ForSome};
 ghost use Rattle.vcd_read.specs.Reading.{line_at, left_at};
-ghost use Rattle.vcd_read.specs.Body.{time_item, change, skipped, bracket_open, bracket_end, code_of_vector, code_of_foreign, in_comment};
-ghost use Rattle.vcd_read.specs.Progress.{step};
-ghost use Rattle.vcd_read.specs.Meaning.{Gives, instants_from};
+ghost use Rattle.vcd_read.specs.Body.{time_item, change, skipped, bracket_open, bracket_end, ready, code_of_vector, code_of_foreign, in_comment};
+ghost use Rattle.vcd_read.specs.Taking.{taking, state_of, step, at_end, taken_from};
+ghost use Rattle.vcd_read.specs.Meaning.{Gives};
 
-use crate::bits::extended;
 use crate::codes::Codes;
-use crate::dump::Instant;
 use crate::fault::{FaultKind, VcdFault};
 use crate::number::decimal;
 use crate::shape::{Shape, is_end, shape_of};
+use crate::taker::Taker;
 use crate::token::{Reader, Token};
 use crate::waves::Waves;
 use std::alloc::Global;
 
 /// A body that is read.
 #[derive(Drop)]
-pub(crate) struct Body<'a, 'c> {
+pub(crate) struct Body<'a, 'c, T: Taker> {
     reader: Reader<'a>,
     codes: &'c Codes,
-    waves: Waves,
+    waves: Waves<T>,
     /// The place of the bracket that is open.
     bracket: Option<usize>,
-    ghost room: { length codes.now ≡ length waves.current },
     ghost bracket_within: { ForSome bracket (λ at. at ≤ length reader.text.now) },
 }
 
-impl<'a, 'c> Body<'a, 'c> {
-    ghost use Rattle.vcd_read.specs.Bodies.{state, text_of, remaining, remaining_in, from_token, Leaves, GoesOn, at_end};
+impl<'a, 'c, T: Taker> Body<'a, 'c, T> {
+    ghost use Rattle.vcd_read.specs.Bodies.{remaining_in, from_token, Leaves, GoesOn};
 
     /// Reads one item, if there is one left.
     fn one(&mut self, alloc: Global) -> Result<bool, VcdFault>
         ensures codes { self.new.codes ≡ self.old.codes }
         ensures text { self.new.reader.text ≡ self.old.reader.text }
         ensures moves { result ≡ Ok true → self.old.reader.at < self.new.reader.at }
-        ensures rest { GoesOn (remaining self.old) (remaining self.new) (state self.new) result }
+        ensures rest { GoesOn (remaining_in T.with_change T.with_instant ready self.old.codes.now self.old.reader
+            (taking (T.taken self.old.waves.taker) self.old.waves.clock) self.old.bracket)
+            (remaining_in T.with_change T.with_instant ready self.new.codes.now self.new.reader
+            (taking (T.taken self.new.waves.taker) self.new.waves.clock) self.new.bracket)
+            (state_of self.new.reader.text.now (taking (T.taken self.new.waves.taker) self.new.waves.clock) self.new.bracket) result }
     {
         let Some(token) = self.reader.next() else {
             return Ok(false);
@@ -50,11 +52,15 @@ impl<'a, 'c> Body<'a, 'c> {
 
     /// Reads the item that a token is or begins.
     fn item(&mut self, alloc: Global, token: Token<'a>) -> Result<(), VcdFault>
-        requires { token.at ≤ length (text_of self.old) }
+        requires { token.at ≤ length self.old.reader.text.now }
         ensures codes { self.new.codes ≡ self.old.codes }
         ensures text { self.new.reader.text ≡ self.old.reader.text }
         ensures moves { self.old.reader.at ≤ self.new.reader.at }
-        ensures rest { Leaves (from_token self.old token.entry.at token.entry.bytes.now) (remaining self.new) result }
+        ensures rest { Leaves
+            (from_token T.with_change T.with_instant token.entry.at token.entry.bytes.now self.old.codes.now self.old.reader
+            (taking (T.taken self.old.waves.taker) self.old.waves.clock) self.old.bracket)
+            (remaining_in T.with_change T.with_instant ready self.new.codes.now self.new.reader
+            (taking (T.taken self.new.waves.taker) self.new.waves.clock) self.new.bracket) result }
     {
         match shape_of(token.bytes) {
             Shape::Time(digits) => self.time(alloc, token.at, digits),
@@ -69,14 +75,17 @@ impl<'a, 'c> Body<'a, 'c> {
     }
 
     fn time(&mut self, alloc: Global, at: usize, digits: &[u8]) -> Result<(), VcdFault>
-        requires { at ≤ length (text_of self.old) }
+        requires { at ≤ length self.old.reader.text.now }
         ensures same { (self.new.reader ≡ self.old.reader) × (self.new.codes ≡ self.old.codes) }
-        ensures step { Gives (λ _. state self.new) result
-            (step self.old.codes.now (state self.old) (time_item (line_at (text_of self.old) at) digits.now)) }
+        ensures step { Gives (λ _. state_of self.new.reader.text.now
+            (taking (T.taken self.new.waves.taker) self.new.waves.clock) self.new.bracket) result
+            (step T.with_change T.with_instant self.old.codes.now (state_of self.old.reader.text.now
+            (taking (T.taken self.old.waves.taker) self.old.waves.clock) self.old.bracket)
+            (time_item (line_at self.old.reader.text.now at) digits.now)) }
     {
         match decimal(digits, u64::MAX, FaultKind::BadToken) {
             Ok(time) => {
-                if time < self.waves.current_time() {
+                if time < self.waves.clock.time {
                     return Err(self.reader.fault(at, FaultKind::TimeBackwards));
                 }
                 self.waves.advance(alloc, time)?;
@@ -86,6 +95,7 @@ impl<'a, 'c> Body<'a, 'c> {
         }
     }
 
+    #[inline(always)]
     fn change(
         &mut self,
         alloc: Global,
@@ -93,11 +103,14 @@ impl<'a, 'c> Body<'a, 'c> {
         digits: &[u8],
         code: &[u8],
     ) -> Result<(), VcdFault>
-        requires place { at ≤ length (text_of self.old) }
+        requires place { at ≤ length self.old.reader.text.now }
         requires digits { 0 < length digits.now }
         ensures same { (self.new.reader ≡ self.old.reader) × (self.new.codes ≡ self.old.codes) }
-        ensures step { Gives (λ _. state self.new) result
-            (step self.old.codes.now (state self.old) (change (line_at (text_of self.old) at) digits.now code.now)) }
+        ensures step { Gives (λ _. state_of self.new.reader.text.now
+            (taking (T.taken self.new.waves.taker) self.new.waves.clock) self.new.bracket) result
+            (step T.with_change T.with_instant self.old.codes.now (state_of self.old.reader.text.now
+            (taking (T.taken self.old.waves.taker) self.old.waves.clock) self.old.bracket)
+            (change (line_at self.old.reader.text.now at) digits.now code.now)) }
     {
         let net = match self.codes.net(code) {
             Some(net) => net,
@@ -107,19 +120,22 @@ impl<'a, 'c> Body<'a, 'c> {
         if digits.len() > size as usize {
             return Err(self.reader.fault(at, FaultKind::TooWide));
         }
-        let bits = extended(alloc, size, digits)?;
-        self.waves.change(net, bits)?;
+        self.waves.change(alloc, net, size, digits)?;
         Ok(())
     }
 
     /// Reads the code of a vector, and changes its net.
     fn vector(&mut self, alloc: Global, at: usize, digits: &[u8]) -> Result<(), VcdFault>
-        requires place { at ≤ length (text_of self.old) }
+        requires place { at ≤ length self.old.reader.text.now }
         requires digits { 0 < length digits.now }
         ensures codes { self.new.codes ≡ self.old.codes }
         ensures text { self.new.reader.text ≡ self.old.reader.text }
         ensures moves { self.old.reader.at ≤ self.new.reader.at }
-        ensures rest { Leaves (remaining_in (code_of_vector (line_at (text_of self.old) at) digits.now) self.old) (remaining self.new) result }
+        ensures rest { Leaves
+            (remaining_in T.with_change T.with_instant (code_of_vector (line_at self.old.reader.text.now at) digits.now) self.old.codes.now self.old.reader
+            (taking (T.taken self.old.waves.taker) self.old.waves.clock) self.old.bracket)
+            (remaining_in T.with_change T.with_instant ready self.new.codes.now self.new.reader
+            (taking (T.taken self.new.waves.taker) self.new.waves.clock) self.new.bracket) result }
     {
         match self.reader.next() {
             Some(code) => self.change(alloc, at, digits, code.bytes),
@@ -129,11 +145,15 @@ impl<'a, 'c> Body<'a, 'c> {
 
     /// Reads the code of a value that is none of bits, and skips the change.
     fn foreign(&mut self, at: usize) -> Result<(), VcdFault>
-        requires { at ≤ length (text_of self.old) }
+        requires { at ≤ length self.old.reader.text.now }
         ensures codes { self.new.codes ≡ self.old.codes }
         ensures text { self.new.reader.text ≡ self.old.reader.text }
         ensures moves { self.old.reader.at ≤ self.new.reader.at }
-        ensures rest { Leaves (remaining_in (code_of_foreign (line_at (text_of self.old) at)) self.old) (remaining self.new) result }
+        ensures rest { Leaves
+            (remaining_in T.with_change T.with_instant (code_of_foreign (line_at self.old.reader.text.now at)) self.old.codes.now self.old.reader
+            (taking (T.taken self.old.waves.taker) self.old.waves.clock) self.old.bracket)
+            (remaining_in T.with_change T.with_instant ready self.new.codes.now self.new.reader
+            (taking (T.taken self.new.waves.taker) self.new.waves.clock) self.new.bracket) result }
     {
         match self.reader.next() {
             Some(code) => self.skip(at, code.bytes),
@@ -142,9 +162,12 @@ impl<'a, 'c> Body<'a, 'c> {
     }
 
     fn skip(&self, at: usize, code: &[u8]) -> Result<(), VcdFault>
-        requires { at ≤ length (text_of self.now) }
-        ensures step { Gives (λ _. state self.entry.now) result
-            (step self.entry.now.codes.now (state self.entry.now) (skipped (line_at (text_of self.entry.now) at) code.now)) }
+        requires { at ≤ length self.now.reader.text.now }
+        ensures step { Gives (λ _. state_of self.entry.now.reader.text.now
+            (taking (T.taken self.entry.now.waves.taker) self.entry.now.waves.clock) self.entry.now.bracket) result
+            (step T.with_change T.with_instant self.entry.now.codes.now (state_of self.entry.now.reader.text.now
+            (taking (T.taken self.entry.now.waves.taker) self.entry.now.waves.clock) self.entry.now.bracket)
+            (skipped (line_at self.entry.now.reader.text.now at) code.now)) }
     {
         match self.codes.net(code) {
             Some(_) => Ok(()),
@@ -154,11 +177,15 @@ impl<'a, 'c> Body<'a, 'c> {
 
     /// Reads the words of a comment up to its end.
     fn comment(&mut self, at: usize) -> Result<(), VcdFault>
-        requires { at ≤ length (text_of self.old) }
+        requires { at ≤ length self.old.reader.text.now }
         ensures codes { self.new.codes ≡ self.old.codes }
         ensures text { self.new.reader.text ≡ self.old.reader.text }
         ensures moves { self.old.reader.at ≤ self.new.reader.at }
-        ensures rest { Leaves (remaining_in (in_comment (line_at (text_of self.old) at)) self.old) (remaining self.new) result }
+        ensures rest { Leaves
+            (remaining_in T.with_change T.with_instant (in_comment (line_at self.old.reader.text.now at)) self.old.codes.now self.old.reader
+            (taking (T.taken self.old.waves.taker) self.old.waves.clock) self.old.bracket)
+            (remaining_in T.with_change T.with_instant ready self.new.codes.now self.new.reader
+            (taking (T.taken self.new.waves.taker) self.new.waves.clock) self.new.bracket) result }
     {
         while let Some(word) = self.reader.next() {
             if is_end(word.bytes) {
@@ -169,10 +196,13 @@ impl<'a, 'c> Body<'a, 'c> {
     }
 
     fn open(&mut self, at: usize) -> Result<(), VcdFault>
-        requires { at ≤ length (text_of self.old) }
+        requires { at ≤ length self.old.reader.text.now }
         ensures same { (self.new.reader ≡ self.old.reader) × (self.new.codes ≡ self.old.codes) }
-        ensures step { Gives (λ _. state self.new) result
-            (step self.old.codes.now (state self.old) (bracket_open (line_at (text_of self.old) at))) }
+        ensures step { Gives (λ _. state_of self.new.reader.text.now
+            (taking (T.taken self.new.waves.taker) self.new.waves.clock) self.new.bracket) result
+            (step T.with_change T.with_instant self.old.codes.now (state_of self.old.reader.text.now
+            (taking (T.taken self.old.waves.taker) self.old.waves.clock) self.old.bracket)
+            (bracket_open (line_at self.old.reader.text.now at))) }
     {
         if self.bracket.is_some() {
             return Err(self.reader.fault(at, FaultKind::BadToken));
@@ -182,10 +212,13 @@ impl<'a, 'c> Body<'a, 'c> {
     }
 
     fn close(&mut self, at: usize) -> Result<(), VcdFault>
-        requires { at ≤ length (text_of self.old) }
+        requires { at ≤ length self.old.reader.text.now }
         ensures same { (self.new.reader ≡ self.old.reader) × (self.new.codes ≡ self.old.codes) }
-        ensures step { Gives (λ _. state self.new) result
-            (step self.old.codes.now (state self.old) (bracket_end (line_at (text_of self.old) at))) }
+        ensures step { Gives (λ _. state_of self.new.reader.text.now
+            (taking (T.taken self.new.waves.taker) self.new.waves.clock) self.new.bracket) result
+            (step T.with_change T.with_instant self.old.codes.now (state_of self.old.reader.text.now
+            (taking (T.taken self.old.waves.taker) self.old.waves.clock) self.old.bracket)
+            (bracket_end (line_at self.old.reader.text.now at))) }
     {
         if self.bracket.is_none() {
             return Err(self.reader.fault(at, FaultKind::BadToken));
@@ -196,15 +229,19 @@ impl<'a, 'c> Body<'a, 'c> {
 
     /// Reads all that is left.
     fn all(&mut self, alloc: Global) -> Result<(), VcdFault>
-        ensures { Gives (λ _. state self.new) result (remaining self.old) }
+        ensures { Gives (λ _. state_of self.new.reader.text.now
+            (taking (T.taken self.new.waves.taker) self.new.waves.clock) self.new.bracket) result
+            (remaining_in T.with_change T.with_instant ready self.old.codes.now self.old.reader
+            (taking (T.taken self.old.waves.taker) self.old.waves.clock) self.old.bracket) }
     {
         while self.one(alloc)? {}
         Ok(())
     }
 
-    /// The instants of a body that is read to its end. A bracket that is still open is met there.
-    fn finish(self, alloc: Global) -> Result<Vec<Instant>, VcdFault>
-        ensures { Gives (λ instants. instants.items) result (at_end (state self.entry)) }
+    /// What took a body that is read to its end. A bracket that is still open is met there.
+    fn finish(self, alloc: Global) -> Result<T, VcdFault>
+        ensures { Gives (λ t. T.taken t) result (at_end T.with_instant (state_of self.entry.reader.text.now
+            (taking (T.taken self.entry.waves.taker) self.entry.waves.clock) self.entry.bracket)) }
     {
         if let Some(at) = self.bracket {
             return Err(self.reader.fault(at, FaultKind::UnfinishedSection));
@@ -213,19 +250,20 @@ impl<'a, 'c> Body<'a, 'c> {
     }
 }
 
-/// The instants of what is left of a text behind its definitions.
-pub(crate) fn read_body(
+/// Gives what is left of a text behind its definitions to a taker.
+pub(crate) fn read_body<T: Taker>(
     alloc: Global,
     reader: Reader<'_>,
     codes: &Codes,
-) -> Result<Vec<Instant>, VcdFault>
-    ensures { Gives (λ instants. instants.items) result
-        (instants_from codes.now (left_at reader.entry.text.now reader.entry.at)) }
+    taker: T,
+) -> Result<T, VcdFault>
+    ensures { Gives (λ t. T.taken t) result
+        (taken_from T.with_change T.with_instant codes.now (T.taken taker) (left_at reader.entry.text.now reader.entry.at)) }
 {
     let mut body = Body {
         reader,
         codes,
-        waves: Waves::new(alloc, codes.len())?,
+        waves: Waves::new(taker),
         bracket: None,
     };
     body.all(alloc)?;

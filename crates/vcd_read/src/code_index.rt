@@ -18,7 +18,7 @@ pub(crate) struct CodeIndex {
 }
 
 impl CodeIndex {
-    ghost use Rattle.vcd_read.specs.CodeIndexes.{net_at};
+    ghost use Rattle.vcd_read.specs.CodeIndexes.{found, net_at};
 
     /// No code has a net.
     pub fn new(alloc: Global) -> CodeIndex
@@ -31,13 +31,22 @@ impl CodeIndex {
     }
 
     /// The net of a code, where it has one.
+    #[inline(always)]
     pub fn get(&self, code: &[u8]) -> Option<u32>
         ensures { result ≡ net_at self.now code.now }
     {
         match short_number(code) {
             Some(number) => self.short.get(number).copied().flatten(),
-            None => self.long.get(code).copied(),
+            None => self.get_long(code),
         }
+    }
+
+    /// The net of a code without a number, where it has one.
+    #[inline(never)]
+    fn get_long(&self, code: &[u8]) -> Option<u32>
+        ensures { result ≡ found self.now.short.items self.now.long.entries code.now None }
+    {
+        self.long.get(code).copied()
     }
 
     /// Gives a code a net. Where memory runs out, each code has the net that it had.
@@ -81,6 +90,7 @@ fn digit(byte: u8) -> Option<usize>
 }
 
 /// The number of a code of at most three bytes.
+#[inline(always)]
 fn short_number(code: &[u8]) -> Option<usize>
     ensures is { result ≡ short_number code.now }
     ensures small { IfSome result (λ number. number ≤ 839514) }

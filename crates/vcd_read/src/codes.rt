@@ -53,6 +53,7 @@ impl Codes {
     }
 
     /// The net of a code, where it has one.
+    #[inline(always)]
     pub fn net(&self, code: &[u8]) -> Option<u32>
         ensures { result ≡ net_of self.now code.now }
     {

@@ -5,19 +5,25 @@ mod bits;
 mod body;
 mod code_index;
 mod codes;
+mod collector;
 mod dump;
 mod fault;
+mod head;
 mod header;
 mod number;
 mod read;
 mod reference;
 mod scopes;
 mod shape;
+mod taker;
 #[cfg(test)]
 mod tests;
 mod token;
 mod waves;
 
+pub use bits::bit_at;
 pub use dump::{Bit, Bits, Dump, Instant, Path, Value, Values, Variable};
 pub use fault::{FaultKind, VcdFault};
+pub use head::{Head, read_definitions};
 pub use read::read_vcd;
+pub use taker::Taker;

@@ -2,11 +2,10 @@
 
 ghost use Rattle.vcd_read.specs.Meaning.{Gives, dump_of};
 
-use crate::body::read_body;
+use crate::collector::Collector;
 use crate::dump::Dump;
 use crate::fault::VcdFault;
-use crate::header::{Definitions, read_header};
-use crate::token::Reader;
+use crate::head::read_definitions;
 use std::alloc::Global;
 
 /// Reads the text of a four-state value change dump.
@@ -17,12 +16,8 @@ use std::alloc::Global;
 pub fn read_vcd(alloc: Global, text: &[u8]) -> Result<Dump, VcdFault>
     ensures { Gives (λ dump. dump) result (dump_of text.now) }
 {
-    let mut reader = Reader::new(text);
-    let Definitions {
-        codes,
-        variables,
-        ..
-    } = read_header(alloc, &mut reader)?;
-    let instants = read_body(alloc, reader, &codes)?;
-    Ok(Dump::new(variables, instants))
+    let head = read_definitions(alloc, text)?;
+    let collector = Collector::new(alloc, head.net_count())?;
+    let collected = head.read_body(alloc, collector)?;
+    Ok(Dump::new(head.into_variables(), collected.into_instants()))
 }

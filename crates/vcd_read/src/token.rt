@@ -21,9 +21,14 @@ pub(crate) struct Reader<'a> {
     ghost within: { at ≤ length text.now },
 }
 
+/// Nearly all bytes are above the space, so that one test tells most of them.
+#[tactic(auto, using(crate::proofs::TokenLemmas::above_space))]
 fn is_space(b: u8) -> bool
     ensures { result ≡ is_space b }
 {
+    if b > b' ' {
+        return false;
+    }
     matches!(b, b' ' | b'\t' | b'\n' | b'\r')
 }
 
@@ -75,11 +80,12 @@ impl<'a> Reader<'a> {
         ensures within { IfSome result (λ t. (t.at < length self.old.text.now) × (0 < length t.bytes.now)) }
     {
         let start = word_start(self.text, self.at);
-        let end = word_end(self.text, start);
-        self.at = end;
-        if start == end {
+        if start == self.text.len() {
+            self.at = start;
             return None;
         }
+        let end = word_end(self.text, start + 1);
+        self.at = end;
         Some(Token {
             at: start,
             bytes: &self.text[start..end],

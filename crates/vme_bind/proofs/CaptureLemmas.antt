@@ -119,7 +119,7 @@ by_values l None values base = base
 by_values l (Some (Always level)) values base = base
 by_values l (Some (AtBit bit)) values base = option_map_or (level_in l bit.place) (last_bits bit.net values) base
 
-abbrev tap_level : ℕ → Option LineSource → List Bit → Level
+abbrev pub tap_level : ℕ → Option LineSource → List Bit → Level
 tap_level l source bits = level_in l (place_in source) bits
 
 one_value : (l : ℕ) (source : Option LineSource) (v : Value) (values : List Value) (base : Level)
@@ -147,10 +147,10 @@ tapped_twice : (slots : ℕ) (wires : List Wire) (bits : List Bit) (xs : List �
 tapped_twice slots wires bits [] = refl
 tapped_twice slots wires bits (x ∷ xs) = ap (λ (cs : List Change). to_level (λ l. tap_level l (line_source slots wires l) bits) x ∷ cs) (tapped_twice slots wires bits xs)
 
-abbrev one_valued : Taps → Value → Levels → Levels
+abbrev pub one_valued : Taps → Value → Levels → Levels
 one_valued taps v now = changed now (map (tapped v.bits) (taps_of taps v.net))
 
-one_valued-at : (slots : ℕ) (wires : List Wire) (taps : Taps) → AreTaps slots wires taps → (v : Value) (now : Levels) → length now.levels ≡ line_count → (l : ℕ) → l < line_count
+pub one_valued-at : (slots : ℕ) (wires : List Wire) (taps : Taps) → AreTaps slots wires taps → (v : Value) (now : Levels) → length now.levels ≡ line_count → (l : ℕ) → l < line_count
     → level_at (one_valued taps v now) l ≡ cond (is_on v.net (line_source slots wires l)) (tap_level l (line_source slots wires l) v.bits) (level_at now l)
 unfolding is_tap
 one_valued-at slots wires taps all v now e l lt =

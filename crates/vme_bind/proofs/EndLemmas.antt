@@ -1,5 +1,5 @@
 -- The end of an instant: a step, or none.
-use Rattle.std.proofs.Common.{◌≡◌, ℕ, ◌<◌, Bool, true, false, cond, List, [], ◌∷◌, ◌++◌, length, map, refl, sym, ap, ◌∙◌, arith}
+use Rattle.std.proofs.Common.{◌≡◌, ℕ, ◌<◌, Bool, true, false, cond, List, [], ◌∷◌, ◌++◌, length, map, refl, sym, ap, ◌∙◌, arith, inl, inr}
 use Rattle.std.specs.Prelude.{◌==◌}
 use Rattle.std.proofs.lemmas.Bool.Decides.{nat_tests}
 use Rattle.std.proofs.lemmas.Bool.{false≢true}
@@ -10,8 +10,8 @@ use Rattle.vme_trace.specs.LineNumbers.{line_count}
 use Rattle.vme_trace.specs.declared.step.Change.{Change}
 use Rattle.vme_trace.specs.declared.step.Step.{Step}
 use Rattle.vme_trace.proofs.Ranges.{any-fails}
-use Rattle.vme_bind.specs.Recording.{Progress, differs, change_to, changes_between, step_between}
-use Rattle.vme_bind.proofs.RecorderLemmas.{those-skip}
+use Rattle.vme_bind.specs.Recording.{Progress, differs, AreTouched, change_to, changes_between, step_between}
+use Rattle.vme_bind.proofs.RecorderLemmas.{those-skip, bool_cases, alike, same_levels}
 use Rattle.vme_bind.proofs.StepsLemmas.{some_of}
 
 none_those : (p : ℕ → Bool) (n : ℕ) → any p 0 n ≡ false → those p 0 n ≡ []
@@ -65,3 +65,27 @@ pub ended-none : (p : Progress) (shown_before now : Levels) (steps_before : List
 ended-none p shown_before now steps_before shown time cs e f g none =
     ended p shown now steps_before time (ap (λ (q : Progress). q.now) e) f
     (sym (append-nil steps_before) ∙ ap (λ (ss : List Step). steps_before ++ ss) (sym (step-none time shown_before now cs g none)) ∙ sym (ap (λ (q : Progress). q.steps ++ step_between time q.shown q.now) e))
+
+-- where no line is listed, all is shown
+none_differs : (shown now : Levels) (touched : List ℕ) → length touched ≡ 0 → AreTouched shown now touched → (l : ℕ) → differs shown now l ≡ false
+none_differs shown now touched none h l =
+    elim (bool_cases (differs shown now l)) [
+      | inl d ↦ let here = h.listed l d in absurd (omega (arith, here.1, none))
+      | inr same ↦ same
+    ]
+
+unchanged : (shown now : Levels) (touched : List ℕ) → length touched ≡ 0 → AreTouched shown now touched → [] ≡ changes_between shown now
+unfolding those
+unchanged shown now touched none h = ap (map (change_to now)) (sym (those-skip (differs shown now) 0 line_count (omega arith) (λ l low lt. none_differs shown now touched none h l)))
+
+no_length : (n : ℕ) → (n == 0) ≡ true → n ≡ 0
+no_length n e = grind (arith, nat_tests)
+
+pub ended-untouched : (p : Progress) (shown now : Levels) (steps : List Step) (touched : List ℕ) (time : ℕ) → p ≡ progress shown now steps → (length touched == 0) ≡ true → AreTouched shown now touched
+    → p ≡ progress p.now p.now (p.steps ++ step_between time p.shown p.now)
+ended-untouched p shown now steps touched time e empty h =
+    let none = no_length (length touched) empty in
+    e
+    ∙ ended-none p shown now steps shown time [] e
+    (same_levels shown now (sym h.slots) h.shown_all h.now_all (λ l lt. alike shown now l (none_differs shown now touched none h l)))
+    (unchanged shown now touched none h) refl

@@ -7,3 +7,5 @@ pub mod StepsLemmas
 pub mod TapsLemmas
 pub mod EndLemmas
 pub mod OpeningLemmas
+pub mod MakingLemmas
+pub mod TextCaptureLemmas

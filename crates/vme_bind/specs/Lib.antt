@@ -8,3 +8,5 @@ pub mod Wires
 pub mod Taps
 pub mod Capture
 pub mod Recording
+pub mod Made
+pub mod TextCapture

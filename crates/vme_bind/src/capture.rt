@@ -18,7 +18,7 @@ use vcd_read::{Dump, Instant as DumpInstant};
 use vme_trace::{Capture, Line, Lines, Step};
 
 /// The levels before any change: a line has a level where it is bound to one for good.
-fn opening_of(lines: &Lines, wires: &[Wire]) -> Lines
+pub(crate) fn opening_of(lines: &Lines, wires: &[Wire]) -> Lines
     requires { lines.now.levels ≡ replicate 159 Unknown }
     ensures { (instants : List Instant) → result ≡ levels_after lines.now.slots wires.now instants 0 }
 {

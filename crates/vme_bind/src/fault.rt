@@ -8,6 +8,7 @@ ghost use Rattle.vme_bind.specs.declared.fault.BindKind.TheVariants.{Memory};
 use std::alloc::{AllocError, AllocFailed};
 use std::fmt::{self, Display, Formatter, Write};
 use thiserror::Error;
+use vcd_read::VcdFault;
 use vme_trace::Line;
 
 /// A line, shown by its name.
@@ -68,6 +69,15 @@ pub struct BindFault {
     pub line: u64,
     /// What is wrong there.
     pub kind: BindKind,
+}
+
+/// Why a binding makes no recording of the text of a dump.
+#[derive(Clone, Copy, Debug, PartialEq, Eq)]
+pub enum CaptureFault {
+    /// The text is no dump.
+    Dump(VcdFault),
+    /// The binding doesn't fit the dump.
+    Binding(BindFault),
 }
 
 impl From<AllocError> for BindFault {

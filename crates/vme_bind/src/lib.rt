@@ -6,6 +6,7 @@ mod binding;
 mod capture;
 mod fault;
 mod group;
+mod making;
 mod recorder;
 mod selection;
 mod source;
@@ -13,8 +14,9 @@ mod statements;
 mod taps;
 #[cfg(test)]
 mod tests;
+mod text_capture;
 mod wires;
 mod words;
 
 pub use binding::{Binding, read_binding};
-pub use fault::{BindFault, BindKind};
+pub use fault::{BindFault, BindKind, CaptureFault};

@@ -4,6 +4,7 @@ ghost use Rattle.std.specs.Prelude.{◌≡◌, ◌≤◌, ◌<◌, ◌++◌, [],
 ghost use Rattle.std.specs.List.Sorted.{IsNonDecreasing};
 ghost use Rattle.vme_trace.specs.LineNumbers.{line_count};
 ghost use Rattle.vme_trace.specs.Trace.{changed};
+ghost use Rattle.vcd_read.specs.Numbers.{extended};
 ghost use Rattle.vme_bind.specs.Capture.{level_of, level_in};
 ghost use Rattle.vme_bind.specs.Taps.{taps_of};
 ghost use Rattle.vme_bind.specs.Recording.{AreTouched, AreLines, tapped, valued, changes_between, step_between};
@@ -12,7 +13,7 @@ use crate::taps::{Tap, Taps};
 use smallvec::SmallVec;
 use std::alloc::{AllocError, Global};
 use std::marker::Model;
-use vcd_read::{Bit, Value};
+use vcd_read::{Bit, Value, bit_at};
 use vme_trace::{Change, Changes, Level, Line, Lines, Step};
 
 /// The steps so far, and the levels of the lines.
@@ -60,6 +61,15 @@ fn level_in(tap: Tap, bits: &[Bit]) -> Level
     ensures { result ≡ level_in tap.line tap.place bits.now }
 {
     level_of(tap.line, bits.get(tap.place).copied().unwrap_or(Bit::X))
+}
+
+/// What the digits of a value say of the line of a tap.
+fn level_by_digits(tap: Tap, size: u32, digits: &[u8]) -> Level
+    requires some { 0 < length digits.now }
+    requires fits { length digits.now ≤ size }
+    ensures { result ≡ level_in tap.line tap.place (extended size digits.now) }
+{
+    level_of(tap.line, bit_at(size, digits, tap.place))
 }
 
 /// The changes from the levels that were shown to those of now, on the lines that were touched, in the order of their
@@ -123,6 +133,29 @@ impl Recorder {
         Ok(())
     }
 
+    /// Gives the lines of a net the levels that the digits of its value are, where so many bits are the net's.
+    pub fn set_by_digits(
+        &mut self,
+        taps: &[Tap],
+        size: u32,
+        digits: &[u8],
+    ) -> Result<(), AllocError>
+        requires some { 0 < length digits.now }
+        requires fits { length digits.now ≤ size }
+        requires lines { AreLines self.old.now.slots taps.now }
+        ensures slots { self.new.now.slots ≡ self.old.now.slots }
+        ensures ok { OnOk result (self.new ≡ record self.old { now = changed self.old.now (map (tapped (extended size digits.now)) taps.now) }) }
+    {
+        for tap in taps {
+            let level = level_by_digits(*tap, size, digits);
+            if !self.shown.level(tap.line).is_same(level) {
+                self.touched.push(tap.line)?;
+            }
+            self.now.set(tap.line, level);
+        }
+        Ok(())
+    }
+
     /// Takes the values of an instant.
     fn set_values(&mut self, taps: &Taps, values: &[Value]) -> Result<(), AllocError>
         requires { (net : ℕ) → AreLines self.old.now.slots (taps_of taps.now net) }
@@ -135,9 +168,13 @@ impl Recorder {
     }
 
     /// Ends an instant, which is a step if some line has another level than before.
-    fn end_instant(&mut self, alloc: Global, time: u64) -> Result<(), AllocError>
-        ensures { OnOk result (self.new ≡ record { shown = self.old.now; now = self.old.now; steps = self.old.steps ++ step_between time self.old.shown self.old.now }) }
+    pub fn end_instant(&mut self, alloc: Global, time: u64) -> Result<(), AllocError>
+        ensures slots { self.new.now.slots ≡ self.old.now.slots }
+        ensures ok { OnOk result (self.new ≡ record { shown = self.old.now; now = self.old.now; steps = self.old.steps ++ step_between time self.old.shown self.old.now }) }
     {
+        if self.touched.is_empty() {
+            return Ok(());
+        }
         self.touched.sort_unstable_by_key(|line| line.number());
         let changes = show(alloc, &self.touched, &self.now, &mut self.shown)?;
         self.touched.clear();

@@ -2,7 +2,7 @@ use super::*;
 use std::alloc::{AllocError, Global};
 use std::process::Abort;
 use std::test::Fail;
-use vcd_read::read_vcd;
+use vcd_read::{FaultKind, VcdFault, read_vcd};
 use vme_trace::{Capture, Level, Line};
 
 /// A binding of six lines to variables, and of the others to levels.
@@ -97,8 +97,7 @@ fn shown(alloc: Global, capture: &Capture) -> Result<Vec<u8>, AllocError> {
 
 fn captured(alloc: Global, binding: &str, dump: &str) -> Result<Capture, Fail> {
     let binding = read_binding(alloc, binding.as_bytes())?;
-    let dump = read_vcd(alloc, dump.as_bytes())?;
-    Ok(binding.capture(alloc, &dump)?)
+    Ok(binding.capture_text(alloc, dump.as_bytes())?)
 }
 
 /// Makes a recording, and tells whether its steps are those that are wanted.
@@ -284,6 +283,19 @@ fn names_a_path_that_is_missing_or_ambiguous(rt: HostRuntime) -> Result<(), Fail
 }
 
 #[test]
+fn a_fault_of_the_dump_comes_before_one_of_the_binding(rt: HostRuntime) -> Result<(), Fail> {
+    let binding = read_binding(rt.alloc(), BUS_LINES.as_bytes())?;
+    let (line, kind) = (2, BindKind::NoSuchPath);
+    let lacking = Some(CaptureFault::Binding(BindFault { line, kind }));
+    let (line, kind) = (3, FaultKind::BadToken);
+    let broken = Some(CaptureFault::Dump(VcdFault { line, kind }));
+    let text = b"$enddefinitions $end\n#1\n2p".as_slice();
+    assert!(rt; binding.capture_text(rt.alloc(), text).err() == broken);
+    assert!(rt; binding.capture_text(rt.alloc(), &text[..23]).err() == lacking);
+    Ok(())
+}
+
+#[test]
 fn a_fault_is_shown_with_its_line(rt: HostRuntime) -> Result<(), Fail> {
     let kind = BindKind::Unbound(Line::iack(1));
     let fault = BindFault { line: 3, kind };
@@ -321,5 +333,21 @@ fn want_of_memory_is_the_fault(rt: HostRuntime) {
             Err(fault) => assert!(rt; fault == memory, "{fault}"),
         },
         Err(fault) => assert!(rt; fault == memory, "{fault}"),
+    }
+}
+
+/// The same, where the text of the dump is read.
+#[test]
+fn want_of_memory_at_a_text_is_the_fault(rt: HostRuntime) {
+    let Ok(text) = bus_dump(rt.alloc(), AS, READ) else {
+        return;
+    };
+    let Ok(binding) = read_binding(rt.alloc(), BUS_LINES.as_bytes()) else {
+        return;
+    };
+    match binding.capture_text(rt.alloc(), text.as_bytes()) {
+        Ok(capture) => assert_eq!(rt; capture.steps().len(), 6),
+        Err(CaptureFault::Binding(fault)) => assert!(rt; fault.kind == BindKind::Memory),
+        Err(CaptureFault::Dump(fault)) => assert!(rt; fault.kind == FaultKind::Memory),
     }
 }

@@ -11,20 +11,27 @@ use Rattle.vme_trace.specs.Cycles.{cycle_starts, cycle_runs}
 use Rattle.vme_trace.proofs.Ranges.{any-holds}
 use Rattle.vme_cert.specs.Tests.{Bars}
 
-second_false : (a b c d : Bool) → b ≡ false → (a && b && c && d) ≡ false
-second_false true b c d h = rw h refl
-second_false false b c d h = refl
+second_false : (a b c : Bool) → b ≡ false → (a && b && c) ≡ false
+second_false true b c h = rw h refl
+second_false false b c h = refl
+
+first_false : (a b : Bool) → a ≡ false → (a && b) ≡ false
+first_false a b h = rw h refl
 
 last_false : (a b : Bool) → b ≡ false → (a && b) ≡ false
 last_false true b h = h
 last_false false b h = refl
 
 -- no cycle that started before the address strobe rose still runs
-pub held-bars : (t : Trace) (span : Span) (f j l : ℕ) → Bars (rises t AS) (λ i. cycle_starts t span i && cycle_runs t span i j && none (is_answer t span) i (j + 1) && is_needed (levels_at t i) l) f j
+pub cycle-bars : (t : Trace) (span : Span) (f j : ℕ) → Bars (rises t AS) (λ i. cycle_starts t span i && cycle_runs t span i j && none (is_answer t span) i (j + 1)) f j
 unfolding cycle_runs
-held-bars t span f j l i k from after before h =
-    second_false (cycle_starts t span i) (none (rises t AS) (i + 1) (j + 1)) (none (is_answer t span) i (j + 1)) (is_needed (levels_at t i) l)
+cycle-bars t span f j i k from after before h =
+    second_false (cycle_starts t span i) (none (rises t AS) (i + 1) (j + 1)) (none (is_answer t span) i (j + 1))
     (rw (any-holds (rises t AS) (i + 1) (j + 1) k (omega arith) (omega arith) h) refl)
+
+pub held-bars : (t : Trace) (span : Span) (f j l : ℕ) → Bars (rises t AS) (λ i. cycle_starts t span i && cycle_runs t span i j && none (is_answer t span) i (j + 1) && is_needed (levels_at t i) l) f j
+held-bars t span f j l i k from after before h =
+    first_false (cycle_starts t span i && cycle_runs t span i j && none (is_answer t span) i (j + 1)) (is_needed (levels_at t i) l) (cycle-bars t span f j i k from after before h)
 
 -- and no strobe stayed as it was from before one rose
 pub direction-bars : (t : Trace) (span : Span) (f j : ℕ) → Bars (strobe_rises t) (λ i. transfer_starts t span i && none (strobe_rises t) (i + 1) (j + 1)) f j

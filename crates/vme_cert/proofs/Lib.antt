@@ -8,9 +8,10 @@ pub mod Finding
 pub mod FirstBreaks
 pub mod Kept
 pub mod KeptRules
+pub mod LevelsThere
 pub mod Losing
-pub mod Marking
 pub mod RowsGrow
+pub mod RulesOnLines
 pub mod Searching
 pub mod SilentRules
 pub mod StillLines

@@ -1,5 +1,5 @@
 pub mod Agreement
-pub mod Marks
+pub mod LevelsAt
 pub mod Tests
 pub mod TransferOf
 pub mod Unknowns

@@ -15,7 +15,7 @@ use crate::span::Span;
 use vme_trace::{Change, Line, Lines};
 
 /// How many lines there are, over all backplanes.
-const LINE_COUNT: u8 = 159;
+pub(crate) const LINE_COUNT: u8 = 159;
 
 /// Whether the line is a control line of which nothing is known.
 fn is_lost(lines: &Lines, line: Line) -> bool
@@ -76,7 +76,7 @@ impl Recording<'_> {
         if follows && !has_unknown(self.changes_at(instant)) {
             return false;
         }
-        loses_control(&self.levels(instant))
+        loses_control(self.levels(instant))
     }
 
     /// The next instant after the start at which a control line is unknown, or past the last.

@@ -5,13 +5,12 @@
 mod answers;
 pub mod compare;
 mod cycles;
+mod held;
 mod judged;
+mod nets;
 mod recording;
 mod rows;
-mod rules_chains;
-mod rules_cycles;
-mod rules_handshake;
-mod rules_held;
+mod rules;
 mod search;
 mod signals;
 mod span;

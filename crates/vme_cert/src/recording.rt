@@ -1,56 +1,32 @@
 //! A recording of which every instant can be looked up.
 
-ghost use Rattle.std.specs.Prelude.{◌≡◌, ◌-◌, ◌≤◌, false, IfOk, IsTrue};
-ghost use Rattle.vme_trace.specs.Changes.{is_changed};
+ghost use Rattle.std.specs.Prelude.{◌≡◌, ◌-◌, ◌≤◌, IfOk, IsTrue};
 ghost use Rattle.vme_trace.specs.LineNumbers.{has_line};
 ghost use Rattle.vme_trace.specs.Levels.{level_at};
-ghost use Rattle.vme_trace.specs.Trace.{changed, levels_at, levels_after, last_instant, time_at};
+ghost use Rattle.vme_trace.specs.Trace.{changed, levels_at, last_instant, time_at};
 ghost use Rattle.vme_trace.specs.WellFormed.{capture_limit};
 
 use std::alloc::{AllocError, Global};
 use std::marker::Model;
-use vme_trace::{Capture, Change, Level, Line, Lines, Step};
+use vme_trace::{Capture, Change, Level, Line, Lines};
 
-/// How many steps stand between two marks. More would take less memory and more time.
-const STRIDE: usize = 1;
-
-/// A capture, and marks from which its levels at any instant are at most a few steps away.
+/// A capture, and the levels at each of its instants.
 #[derive(Drop)]
 pub(crate) struct Recording<'a> {
     capture: &'a Capture,
-    marks: Vec<Lines>,
+    levels: Vec<Lines>,
 }
 
 impl<'a> Model for Recording<'a> {
+    ghost use Rattle.std.specs.Prelude.{◌≡◌, length};
     ghost use Rattle.vme_trace.specs.Trace.{Trace};
-    ghost use Rattle.vme_cert.specs.Marks.{HasMarks};
+    ghost use Rattle.vme_cert.specs.LevelsAt.{levels_up_to};
 
     ghost Value = { Trace };
 
     ghost view = { λ a. a.capture.now };
 
-    ghost invariant = { λ a. HasMarks a.capture.now a.marks.items };
-}
-
-/// Makes the changes of some steps, one step after the other.
-fn follow(lines: &mut Lines, steps: &[Step])
-    ensures { lines.new ≡ levels_after lines.old steps.now }
-{
-    for step in steps {
-        lines.apply(step.changes.as_slice());
-    }
-}
-
-/// Whether a line is among some changes.
-fn is_changed(changes: &[Change], line: Line) -> bool
-    ensures { result ≡ is_changed changes.now line }
-{
-    for change in changes {
-        if change.line == line {
-            return true;
-        }
-    }
-    false
+    ghost invariant = { λ a. a.levels.items ≡ levels_up_to a.capture.now (length a.capture.now.steps) };
 }
 
 impl<'a> Recording<'a> {
@@ -59,29 +35,24 @@ impl<'a> Recording<'a> {
         ensures { IfOk result (λ recording. recording ≡ capture.now) }
     {
         let steps = capture.steps();
+        let mut levels = Vec::with_capacity(alloc, steps.len() + 1)?;
         let mut lines = *capture.opening();
-        let count = steps.len() / STRIDE + 1;
-        let mut marks = Vec::with_capacity(alloc, count)?;
-        for number in 0..count {
-            marks.push(lines)?;
-            let start = number * STRIDE;
-            let end = steps.len().min(start + STRIDE);
-            follow(&mut lines, &steps[start..end]);
+        levels.push(lines)?;
+        for step in steps {
+            lines.apply(step.changes.as_slice());
+            levels.push(lines)?;
         }
-        Ok(Recording { capture, marks })
+        Ok(Recording { capture, levels })
     }
 
     /// The levels at an instant; after the last one they stay as they are.
-    pub(crate) fn levels(&self, instant: u32) -> Lines
-        ensures { result ≡ levels_at self.now instant }
+    pub(crate) fn levels(&self, instant: u32) -> &Lines
+        ensures { result.now ≡ levels_at self.now instant }
     {
         let steps = self.capture.steps();
-        let instant = steps.len().min(instant as usize);
-        let number = instant / STRIDE;
-        let marks = self.marks.as_slice();
-        let mut lines = marks[number];
-        follow(&mut lines, &steps[number * STRIDE..instant]);
-        lines
+        let last = steps.len().min(instant as usize);
+        let levels = self.levels.as_slice();
+        &levels[last]
     }
 
     /// The level of a line at an instant.
@@ -102,13 +73,6 @@ impl<'a> Recording<'a> {
             return &[];
         }
         steps[number - 1].changes.as_slice()
-    }
-
-    /// Whether a line is among the changes at an instant. If not, it shows what it did before.
-    pub(crate) fn changes(&self, line: Line, instant: u32) -> bool
-        ensures { result ≡ false → level_at (levels_at self.now instant) line ≡ level_at (levels_at self.now (instant - 1)) line }
-    {
-        is_changed(self.changes_at(instant), line)
     }
 
     /// Whether the backplane has the line.

@@ -4,12 +4,12 @@ ghost use Rattle.std.specs.Prelude.{◌≡◌, ℕ, ◌<◌, ◌≤◌, Bool, If
 ghost use Rattle.vme_trace.specs.Instants.{any, least, greatest};
 ghost use Rattle.vme_cert.specs.Tests.{MayAsk, Tests, Bars};
 
-/// Whether an instant of the range meets the test.
+/// Whether an instant of the range meets the test, looked for from its end on: what is near the end is found soon.
 pub(crate) fn any<F: Fn(u32) -> bool>(first: u32, end: u32, test: F) -> bool
     requires { MayAsk (F.pre test) first end }
     ensures { (p : ℕ → Bool) → Tests (F.post test) first end p → result ≡ any p first end }
 {
-    for instant in first..end {
+    for instant in (first..end).rev() {
         if test(instant) {
             return true;
         }

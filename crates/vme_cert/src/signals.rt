@@ -1,5 +1,5 @@
 //! What a line shows at an instant, and its edges.
-#![tactic(auto, using(crate::proofs::Kept::no_fall, crate::proofs::Kept::no_rise, crate::proofs::Kept::no_edge), unfolding(vme_trace::specs::Signals::low, vme_trace::specs::Signals::high, vme_trace::specs::Signals::known, vme_trace::specs::Signals::falls, vme_trace::specs::Signals::rises, vme_trace::specs::Signals::has_edge))]
+#![tactic(auto, unfolding(vme_trace::specs::Signals::low, vme_trace::specs::Signals::high, vme_trace::specs::Signals::known, vme_trace::specs::Signals::falls, vme_trace::specs::Signals::rises, vme_trace::specs::Signals::has_edge))]
 
 ghost use Rattle.std.specs.Prelude.{◌≡◌, IsTrue};
 ghost use Rattle.vme_trace.specs.LineNumbers.{has_line};
@@ -38,9 +38,7 @@ impl Recording<'_> {
         requires { IsTrue (has_line self.now.opening.slots line) }
         ensures { result ≡ falls self.now line instant }
     {
-        self.changes(line, instant)
-            && self.high(line, instant.saturating_sub(1))
-            && self.low(line, instant)
+        self.high(line, instant.saturating_sub(1)) && self.low(line, instant)
     }
 
     /// Whether the line rises.
@@ -48,9 +46,7 @@ impl Recording<'_> {
         requires { IsTrue (has_line self.now.opening.slots line) }
         ensures { result ≡ rises self.now line instant }
     {
-        self.changes(line, instant)
-            && self.low(line, instant.saturating_sub(1))
-            && self.high(line, instant)
+        self.low(line, instant.saturating_sub(1)) && self.high(line, instant)
     }
 
     /// Whether the level of the line differs from that of the instant before.
@@ -58,10 +54,8 @@ impl Recording<'_> {
         requires { IsTrue (has_line self.now.opening.slots line) }
         ensures { result ≡ has_edge self.now line instant }
     {
-        self.changes(line, instant)
-            && !self
-                .level(line, instant.saturating_sub(1))
-                .is_same(self.level(line, instant))
+        let before = self.level(line, instant.saturating_sub(1));
+        !before.is_same(self.level(line, instant))
     }
 
     /// Whether the line is low at the instant or at the one before.

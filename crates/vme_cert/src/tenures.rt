@@ -1,10 +1,12 @@
 //! Tenures of the bus, by their starts.
-#![tactic(auto, unfolding(vme_trace::specs::Tenures::is_granting, vme_trace::specs::Tenures::grant_falls, vme_trace::specs::Tenures::taken_grant, vme_trace::specs::Tenures::tenure_level, vme_trace::specs::Tenures::has_reached, vme_trace::specs::Tenures::tenure_slot, vme_trace::specs::Tenures::tenure_starts))]
+#![tactic(auto, unfolding(vme_trace::specs::Tenures::is_granting, vme_trace::specs::Tenures::grant_falls, vme_trace::specs::Tenures::taken_grant, vme_trace::specs::Tenures::tenure_level, vme_trace::specs::Tenures::has_reached, vme_trace::specs::Tenures::tenure_slot, vme_trace::specs::Tenures::tenure_starts, vme_trace::specs::Tenures::last_before))]
 
-ghost use Rattle.std.specs.Prelude.{◌≡◌, ◌+◌, ◌<◌, ◌≤◌, IfSome};
-ghost use Rattle.vme_trace.specs.LineNumbers.{grant};
-ghost use Rattle.vme_trace.specs.Signals.{low};
-ghost use Rattle.vme_trace.specs.Tenures.{is_granting, grant_falls, taken_grant, tenure_level, has_reached, tenure_slot, tenure_starts};
+ghost use Rattle.std.specs.Prelude.{◌≡◌, ◌+◌, ◌<◌, ◌≤◌, ◌==◌, ◌&&◌, not, IfSome};
+ghost use Rattle.vme_trace.specs.Instants.{any, none};
+ghost use Rattle.vme_trace.specs.LineNumbers.{grant, BBSY, BR};
+ghost use Rattle.vme_trace.specs.Rules.{is_option_equal};
+ghost use Rattle.vme_trace.specs.Signals.{low, falls};
+ghost use Rattle.vme_trace.specs.Tenures.{is_granting, grant_falls, taken_grant, tenure_level, has_reached, tenure_slot, tenure_starts, last_before};
 
 use crate::recording::Recording;
 use crate::search::{any, greatest, least};
@@ -95,5 +97,70 @@ impl Recording<'_> {
         ensures { result ≡ tenure_starts self.now span instant }
     {
         span.contains(instant) && self.falls(Line::BBSY, instant)
+    }
+
+    /// Whether the arbiter grants a level on another net than this.
+    pub(crate) fn is_other_granted(&self, line: Line, instant: u32) -> bool
+        ensures { result ≡ any (λ n. not (grant n 0 == line) && low self.now (grant n 0) instant) 0 4 }
+    {
+        any(0, LEVELS, |level| {
+            let net = Line::grant(level as u8, 0);
+            net != line && self.low(net, instant)
+        })
+    }
+
+    /// The last instant before another at which some grant falls, or else the start of the span.
+    fn last_grant(&self, span: Span, instant: u32) -> u32
+        requires after { span.start < instant }
+        requires before { instant < span.end }
+        ensures last { result ≡ last_before self.now span (grant_falls self.now) instant }
+        ensures before { result < instant }
+    {
+        let _end = span.end();
+        greatest(span.start() + 1, instant, |before| self.grant_falls(before)).unwrap_or(
+            span.start(),
+        )
+    }
+
+    /// Whether the request of a level isn't low from the last grant before an instant on, through the instant.
+    pub(crate) fn is_unrequested(&self, span: Span, level: u8, instant: u32) -> bool
+        requires level { level < 4 }
+        requires after { span.start < instant }
+        requires before { instant < span.end }
+        ensures { result ≡ none (low self.now (BR level)) (last_before self.now span (grant_falls self.now) instant) (instant + 1) }
+    {
+        let _end = span.end();
+        let request = Line::bus_request(level);
+        !any(
+            self.last_grant(span, instant),
+            instant + 1,
+            |since| self.low(request, since),
+        )
+    }
+
+    /// Whether no grant fell since the bus last became busy, this instant included.
+    pub(crate) fn is_ungranted_since(&self, span: Span, instant: u32) -> bool
+        requires after { span.start < instant }
+        requires before { instant < span.end }
+        ensures { result ≡ none (grant_falls self.now) (last_before self.now span (falls self.now BBSY) instant + 1) (instant + 1) }
+    {
+        let _end = span.end();
+        let taken = greatest(
+            span.start() + 1,
+            instant,
+            |before| self.falls(Line::BBSY, before),
+        )
+        .unwrap_or(span.start());
+        !any(taken + 1, instant + 1, |since| self.grant_falls(since))
+    }
+
+    /// Whether the grant of a tenure that starts at an instant went past the last slot.
+    pub(crate) fn is_past_slots(&self, start: u32) -> bool
+        ensures { result ≡ is_option_equal (tenure_slot self.now start) (self.now.opening.slots + 1) }
+    {
+        match self.tenure_slot(start) {
+            Some(slot) => slot == self.slots() + 1,
+            None => false,
+        }
     }
 }

@@ -1,5 +1,5 @@
 //! Data transfers, by their starts.
-#![tactic(auto, using(crate::proofs::Kept::no_start), unfolding(vme_trace::specs::Transfers::transfer_starts, vme_trace::specs::Transfers::lasts, vme_trace::specs::Transfers::is_answered, vme_trace::specs::Transfers::answers, vme_trace::specs::Transfers::is_write))]
+#![tactic(auto, unfolding(vme_trace::specs::Transfers::transfer_starts, vme_trace::specs::Transfers::lasts, vme_trace::specs::Transfers::is_answered, vme_trace::specs::Transfers::answers, vme_trace::specs::Transfers::is_write))]
 
 ghost use Rattle.std.specs.Prelude.{◌≡◌};
 ghost use Rattle.vme_trace.specs.Transfers.{strobes_high, strobe_rises, answer_falls, transfer_starts, lasts, is_answered, answers, is_write};
@@ -35,9 +35,6 @@ impl Recording<'_> {
     pub(crate) fn transfer_starts(&self, span: Span, instant: u32) -> bool
         ensures { result ≡ transfer_starts self.now span instant }
     {
-        if !self.changes(Line::DS0, instant) && !self.changes(Line::DS1, instant) {
-            return false;
-        }
         span.contains(instant)
             && self.are_strobes_high(instant.saturating_sub(1))
             && (self.low(Line::DS0, instant) || self.low(Line::DS1, instant))

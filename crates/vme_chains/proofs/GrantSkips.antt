@@ -39,7 +39,7 @@ first_none p off (c ∷ cs) h =
 no_grant : (l : ℕ) → is_arbitration l ≡ false → is_grant l ≡ false
 no_grant l h = grind (arith, nat_tests)
 
-net_off : (kind edge rest : Bool) → kind ≡ false → (kind && edge && rest) ≡ false
+pub net_off : (kind edge rest : Bool) → kind ≡ false → (kind && edge && rest) ≡ false
 net_off kind edge rest h = rw h refl
 
 pub nets-none : (v w : Levels) (cs : List Change) → touches_arbitration cs ≡ false → nets_fault v w cs ≡ None

@@ -11,6 +11,8 @@ pub mod GrantSkips
 pub mod GrantFaults
 pub mod GrantJudges
 pub mod AcknowledgeChanges
+pub mod PassedOutputs
+pub mod PassedNets
 pub mod AcknowledgeMemory
 pub mod AcknowledgeBreaks
 pub mod AcknowledgeJudges

@@ -1,6 +1,6 @@
 //! Interrupt acknowledge: a slot passes it on only while it is asked, within a cycle and a transfer, and before the answer.
 
-ghost use Rattle.std.specs.Prelude.{◌≡◌, ◌<◌, IsTrue};
+ghost use Rattle.std.specs.Prelude.{◌≡◌, ◌<◌, ℕ, Bool, IsTrue, None, false};
 ghost use Rattle.vme_trace.specs.LineNumbers.{has_line, input_of as input_line, is_slot_iack};
 ghost use Rattle.vme_monitor.specs.OutsideSpec.{falls_between};
 ghost use Rattle.vme_monitor.specs.Whole.{FindsLeast, ShowsAll};
@@ -159,6 +159,18 @@ fn passes_on_unasked(before: &Lines, after: &Lines, line: Line) -> bool
     passes_on(before, after, line) && !is_low_near(before, after, input_of(line))
 }
 
+/// Whether an acknowledge output is among the changes: no other line passes an acknowledge on.
+fn touches_outputs(changes: &[Change]) -> bool
+    ensures { result ≡ false → (p : ℕ → Bool) → ((l : ℕ) → is_slot_iack l ≡ false → p l ≡ false) → first_changed p changes.now ≡ None }
+{
+    for change in changes {
+        if is_output(change.line) {
+            return true;
+        }
+    }
+    false
+}
+
 fn first_passing(before: &Lines, after: &Lines, changes: &[Change]) -> Option<Line>
     ensures { result ≡ first_changed (passes before.now after.now) changes.now }
 {
@@ -179,6 +191,24 @@ fn first_unasked(before: &Lines, after: &Lines, changes: &[Change]) -> Option<Li
         }
     }
     None
+}
+
+/// The slots that pass an acknowledge on, by the changes of a step.
+fn outputs_passing(before: &Lines, after: &Lines, changes: &[Change]) -> Passing
+    ensures first { result.first ≡ first_changed (passes before.now after.now) changes.now }
+    ensures unasked { result.unasked ≡ first_changed (passes_unasked before.now after.now) changes.now }
+{
+    if touches_outputs(changes) {
+        Passing {
+            first: first_passing(before, after, changes),
+            unasked: first_unasked(before, after, changes),
+        }
+    } else {
+        Passing {
+            first: None,
+            unasked: None,
+        }
+    }
 }
 
 fn is_watched(line: Line) -> bool
@@ -215,8 +245,11 @@ fn is_addressed(before: &Lines, after: &Lines) -> bool
 fn acknowledges(transfer: Pending, before: &Lines, after: &Lines) -> bool
     ensures { result ≡ is_acknowledged transfer before.now after.now }
 {
-    let entered = transfer.entered(before, after);
-    matches!(entered, Pending::Reading | Pending::Writing) && falls(before, after, Line::DTACK)
+    falls(before, after, Line::DTACK)
+        && matches!(
+            transfer.entered(before, after),
+            Pending::Reading | Pending::Writing
+        )
 }
 
 /// The first rule that is broken, on its first line.
@@ -284,10 +317,7 @@ impl Rules for AcknowledgeRules {
 
     fn see(before: &Lines, after: &Lines, changes: &[Change]) -> Option<Passing> {
         if touches_watched(changes) {
-            Some(Passing {
-                first: first_passing(before, after, changes),
-                unasked: first_unasked(before, after, changes),
-            })
+            Some(outputs_passing(before, after, changes))
         } else {
             None
         }

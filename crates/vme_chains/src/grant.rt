@@ -9,7 +9,7 @@ ghost use Rattle.vme_chains.specs.GrantSpec.{grant_rules, seen_between as seen_b
 
 use crate::grant_levels::{
     falls, first_broken, grant_begins, is_cycle_unowned, is_low, is_ungranted, requested, rises,
-    taken_between, touches_arbitration,
+    taken_between, touches_arbitration, touches_nets,
 };
 use crate::grant_memory::{Arbitration, LevelSet};
 use vme_monitor::mark::{Fault, Kinds, NOTHING, Next, Taken};
@@ -58,6 +58,9 @@ fn line_if(broken: bool, line: Line) -> Option<Line>
 fn nets_fault(before: &Lines, after: &Lines, changes: &[Change]) -> Option<Fault>
     ensures { result ≡ nets_fault_of before.now after.now changes.now }
 {
+    if !touches_nets(changes) {
+        return None;
+    }
     let extended = fault_on(Rule::G1, first_broken(Rule::G1, before, after, changes));
     let ended = fault_on(Rule::G2, first_broken(Rule::G2, before, after, changes));
     let doubled = fault_on(Rule::G3, first_broken(Rule::G3, before, after, changes));

@@ -1,6 +1,6 @@
 //! What the levels on both sides of a step show of grants, of requests and of the busy line.
 
-ghost use Rattle.std.specs.Prelude.{◌≡◌, ◌+◌, ◌-◌, ◌≤◌, ◌<◌, IfSome, true, if◌then◌else◌};
+ghost use Rattle.std.specs.Prelude.{◌≡◌, ℕ, Bool, ◌+◌, ◌-◌, ◌≤◌, ◌<◌, IfSome, None, true, false, if◌then◌else◌};
 ghost use Rattle.vme_trace.specs.Instants.{greatest};
 ghost use Rattle.vme_trace.specs.LineNumbers.{grant, is_grant as is_grant_line, is_slot_grant};
 ghost use Rattle.vme_chains.specs.GrantLevels.{falls_between, first_changed, grant_begins as grant_begins_of, granted_level as granted_level_of, high_near, is_arbitration as is_arbitration_line, is_cycle_unowned as is_cycle_unowned_of, is_high_in, is_low_in, is_net_broken as is_net_broken_of, is_other_granted as is_other_granted_of, is_ungranted as is_ungranted_of, low_near, reaches, requested_in, rises_between, shown as shown_of, taken_between as taken_between_of, taken_in as taken_in_of, touches_arbitration as touches_arbitration_of};
@@ -35,7 +35,7 @@ fn is_high(lines: &Lines, line: Line) -> bool
 pub(crate) fn falls(before: &Lines, after: &Lines, line: Line) -> bool
     ensures { result ≡ falls_between before.now after.now line }
 {
-    is_high(before, line) && is_low(after, line)
+    is_low(after, line) && is_high(before, line)
 }
 
 pub(crate) fn rises(before: &Lines, after: &Lines, line: Line) -> bool
@@ -222,6 +222,18 @@ pub(crate) fn first_broken(
         }
     }
     None
+}
+
+/// Whether a net of a grant is among the changes: the change of another line breaks no rule on those nets.
+pub(crate) fn touches_nets(changes: &[Change]) -> bool
+    ensures { result ≡ false → (p : ℕ → Bool) → ((l : ℕ) → is_grant_line l ≡ false → p l ≡ false) → first_changed p changes.now ≡ None }
+{
+    for change in changes {
+        if is_grant(change.line) {
+            return true;
+        }
+    }
+    false
 }
 
 /// Whether the line is the busy line, a request or a grant.

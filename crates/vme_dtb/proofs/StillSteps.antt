@@ -28,7 +28,7 @@ use Rattle.vme_dtb.specs.declared.memory.Memory.{Memory}
 use Rattle.vme_dtb.proofs.Held.{Holds}
 use Rattle.vme_dtb.proofs.StepFacts.{old, new}
 
-same_is : (x y : Level) → same_level x y ≡ true → y ≡ x
+pub same_is : (x y : Level) → same_level x y ≡ true → y ≡ x
 same_is Low Low h = refl
 same_is Low High h = absurd (cc)
 same_is Low Unknown h = absurd (cc)
@@ -39,24 +39,24 @@ same_is Unknown Low h = absurd (cc)
 same_is Unknown High h = absurd (cc)
 same_is Unknown Unknown h = refl
 
-never_falls : (x : Level) → (is_high x && is_low x) ≡ false
+pub never_falls : (x : Level) → (is_high x && is_low x) ≡ false
 never_falls Low = refl
 never_falls High = refl
 never_falls Unknown = refl
 
-never_rises : (x : Level) → (is_low x && is_high x) ≡ false
+pub never_rises : (x : Level) → (is_low x && is_high x) ≡ false
 never_rises Low = refl
 never_rises High = refl
 never_rises Unknown = refl
 
-never_starts : (x y : Level) → ((is_high x && is_high y) && (is_low x || is_low y)) ≡ false
+pub never_starts : (x y : Level) → ((is_high x && is_high y) && (is_low x || is_low y)) ≡ false
 never_starts Low y = refl
 never_starts Unknown y = refl
 never_starts High Low = refl
 never_starts High High = refl
 never_starts High Unknown = refl
 
-and_not : (b : Bool) → (b && not b) ≡ false
+pub and_not : (b : Bool) → (b && not b) ≡ false
 and_not true = refl
 and_not false = refl
 
@@ -105,7 +105,7 @@ all_unbroken b2 b3 b4 b5 b7 b8 c1 c2 i4 i5 =
     rw (unbroken H2 b2, unbroken H3 b3, unbroken H4 b4, unbroken H5 b5, unbroken_and H7 b7 (Some AS), unbroken H8 b8, unbroken C1 c1, unbroken C2 c2, unbroken I4 i4, unbroken I5 i5) refl
 
 -- the edges of a step, by the tests that they rest on
-abbrev built : (as_falls as_rises starts closes rise0 rise1 fall0 fall1 dtack_falls berr_falls dtack_rises berr_rises unaddressed : Bool) → Asked → Bool → Option ℕ → Edges
+abbrev pub built : (as_falls as_rises starts closes rise0 rise1 fall0 fall1 dtack_falls berr_falls dtack_rises berr_rises unaddressed : Bool) → Asked → Bool → Option ℕ → Edges
 built as_falls as_rises starts closes rise0 rise1 fall0 fall1 dtack_falls berr_falls dtack_rises berr_rises unaddressed asked write unready =
     record {
       shown = record nothing { cycle = cond as_falls (Some asked) None; cycle_end = as_rises; transfer = cond starts (Some write) None; close = closes };

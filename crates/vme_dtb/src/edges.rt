@@ -1,7 +1,8 @@
 //! What one step shows of the handshake.
 
-ghost use Rattle.std.specs.Prelude.{◌≡◌, ◌<◌};
-ghost use Rattle.vme_trace.specs.LineNumbers.{grant, AS, DS0, DS1, DTACK, BERR};
+ghost use Rattle.std.specs.Prelude.{◌≡◌, ◌<◌, Some, None, if◌then◌else◌};
+ghost use Rattle.vme_trace.specs.LineNumbers.{grant, AS, DS0, DS1, DTACK, BERR, WRITE};
+ghost use Rattle.vme_trace.specs.Levels.{is_low, level_at};
 ghost use Rattle.vme_monitor.specs.Tracking.{strobe_low_in};
 ghost use Rattle.vme_dtb.specs.Edge.{address_of, asked_of, edges_between, falls_between, first_of, is_still, is_unready, rises_between, shown_between, starts_transfer, stays_on};
 
@@ -33,7 +34,7 @@ pub struct Edges {
 }
 
 /// Whether a bused line falls.
-fn falls(before: &Lines, after: &Lines, line: Line) -> bool
+pub(crate) fn falls(before: &Lines, after: &Lines, line: Line) -> bool
     requires { line < grant 0 0 }
     ensures { result ≡ falls_between before.now after.now line }
 {
@@ -41,7 +42,7 @@ fn falls(before: &Lines, after: &Lines, line: Line) -> bool
 }
 
 /// Whether a bused line rises.
-fn rises(before: &Lines, after: &Lines, line: Line) -> bool
+pub(crate) fn rises(before: &Lines, after: &Lines, line: Line) -> bool
     requires { line < grant 0 0 }
     ensures { result ≡ rises_between before.now after.now line }
 {
@@ -50,7 +51,7 @@ fn rises(before: &Lines, after: &Lines, line: Line) -> bool
 
 /// Whether a bused line keeps its level.
 #[tactic(auto, using(crate::proofs::SameLevel::same))]
-fn stays(before: &Lines, after: &Lines, line: Line) -> bool
+pub(crate) fn stays(before: &Lines, after: &Lines, line: Line) -> bool
     requires { line < grant 0 0 }
     ensures { result ≡ stays_on before.now after.now line }
 {
@@ -69,7 +70,7 @@ pub(crate) fn is_handshake_still(before: &Lines, after: &Lines) -> bool
 }
 
 /// The first of the strobes of which something holds.
-fn first_strobe(first: bool, second: bool) -> Option<Line>
+pub(crate) fn first_strobe(first: bool, second: bool) -> Option<Line>
     ensures { result ≡ first_of first DS0 second DS1 }
 {
     if first {
@@ -109,7 +110,7 @@ fn address(lines: &Lines) -> u32
 }
 
 /// What the lines say where a cycle starts.
-fn asked(lines: &Lines) -> Asked
+pub(crate) fn asked(lines: &Lines) -> Asked
     ensures { result ≡ asked_of lines.now }
 {
     Asked {
@@ -120,10 +121,21 @@ fn asked(lines: &Lines) -> Asked
 }
 
 /// Whether a transfer starts: both strobes were high, and one is low.
-fn is_transfer_start(before: &Lines, after: &Lines) -> bool
+pub(crate) fn is_transfer_start(before: &Lines, after: &Lines) -> bool
     ensures { result ≡ starts_transfer before.now after.now }
 {
     has_strobes_high(before) && (after.level(Line::DS0).is_low() || after.level(Line::DS1).is_low())
+}
+
+/// Whether the transfer that starts is a write, if one starts.
+pub(crate) fn transfer_started(before: &Lines, after: &Lines) -> Option<bool>
+    ensures { result ≡ (if starts_transfer before.now after.now then Some (is_low (level_at after.now WRITE)) else None) }
+{
+    if is_transfer_start(before, after) {
+        Some(after.level(Line::WRITE).is_low())
+    } else {
+        None
+    }
 }
 
 /// Whether an answer line isn't high before or after the step.
@@ -143,21 +155,29 @@ fn shown(before: &Lines, after: &Lines) -> Kinds
     } else {
         None
     };
-    let transfer = if is_transfer_start(before, after) {
-        Some(after.level(Line::WRITE).is_low())
-    } else {
-        None
-    };
     Kinds {
         cycle,
         cycle_end: rises(before, after, Line::AS),
-        transfer,
+        transfer: transfer_started(before, after),
         close: has_strobes_high(after) && !has_strobes_high(before),
         ..NOTHING
     }
 }
 
 impl Edges {
+    /// Those of a step that has none, while AS* is low.
+    pub(crate) const STILL: Edges = Edges {
+        shown: NOTHING,
+        unready: None,
+        strobe_rise: None,
+        strobe_fall: None,
+        answer_fall: None,
+        both_fall: false,
+        dtack_rises: false,
+        berr_rises: false,
+        unaddressed: false,
+    };
+
     /// What the levels on both sides of a step show.
     pub(crate) fn between(before: &Lines, after: &Lines) -> Edges
         ensures { result ≡ edges_between before.now after.now }

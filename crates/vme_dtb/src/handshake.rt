@@ -4,16 +4,20 @@
 //! a strobe has risen. A single cycle has a transfer, or a read and then a write; a block transfer keeps its direction; an
 //! interrupt acknowledge is one read.
 
-ghost use Rattle.std.specs.Prelude.{◌≡◌, is_some};
+ghost use Rattle.std.specs.Prelude.{◌≡◌};
 ghost use Rattle.vme_monitor.specs.Tracking.{is_unanswered, is_within, is_writing};
 ghost use Rattle.vme_monitor.specs.Whole.{FindsLeast, ShowsAll};
-ghost use Rattle.vme_dtb.specs.Machine.{answer_in, broken as broken_on, cycle_fault as fault_of_cycle, dropped as dropped_line, freed as is_freed, handshake_fault as fault_of_handshake, is_doubled, is_replied, is_unserved};
+ghost use Rattle.vme_dtb.specs.Machine.{answer_in, broken as broken_on, cycle_fault as fault_of_cycle, dropped as dropped_line, dtb_next, freed as is_freed, handshake_fault as fault_of_handshake, is_doubled, is_replied, is_unserved};
+ghost use Rattle.vme_dtb.specs.UsualEdges.{edges_of};
+ghost use Rattle.vme_dtb.specs.UsualSteps.{is_hasty, memory_left};
+ghost use Rattle.vme_dtb.specs.declared.seen.Shape.TheVariants.{Answer, CycleStart, Ready, StrobesAlone};
 ghost use Rattle.vme_dtb.specs.Shown.{handshake_rules, handshake_shown};
 
 use crate::cycle::Cycle;
 use crate::edges::{Edges, first_answer, is_handshake_still};
 use crate::memory::Memory;
-use vme_monitor::mark::{Fault, Kinds, NOTHING, Next};
+use crate::seen::{Seen, Shape, Strobes};
+use vme_monitor::mark::{Asked, Fault, Kinds, NOTHING, Next, quiet};
 use vme_monitor::monitor::Monitor;
 use vme_monitor::spanned::{Rules, Within};
 use vme_monitor::tracking::Pending;
@@ -118,39 +122,6 @@ impl Memory {
             .or(broken(Rule::H7, unserved && seen.shown.cycle_end, Some(Line::AS)))
             .or(broken(Rule::H8, seen.unaddressed, answer_of(entered, seen)))
     }
-
-    /// Whether some rule of the handshake is broken.
-    fn breaks_handshake(self, entered: Pending, seen: &Edges) -> bool
-        ensures { result ≡ is_some (fault_of_handshake self entered seen.now) }
-    {
-        seen.unready.is_some()
-            | (self.is_unserved(seen) & seen.strobe_rise.is_some())
-            | (is_answered(self.pending) & seen.strobe_fall.is_some())
-            | (!is_open(entered) & seen.answer_fall.is_some())
-            | (is_doubled(entered, seen) & seen.answer_fall.is_some())
-            | self.dropped(seen).is_some()
-            | (self.is_unserved(seen) & seen.shown.cycle_end)
-            | (seen.unaddressed & answer_of(entered, seen).is_some())
-    }
-
-    /// The same as [`Memory::handshake_fault`], apart from the steps that break nothing.
-    #[cold]
-    #[inline(never)]
-    fn found_fault(self, entered: Pending, seen: Edges) -> Option<Fault>
-        ensures { result ≡ fault_of_handshake self entered seen }
-    {
-        self.handshake_fault(entered, &seen)
-    }
-
-    /// The same again: which rule it is is asked only where one is broken.
-    fn first_fault(self, entered: Pending, seen: &Edges) -> Option<Fault>
-        ensures { result ≡ fault_of_handshake self entered seen.now }
-    {
-        if !self.breaks_handshake(entered, seen) {
-            return None;
-        }
-        self.found_fault(entered, *seen)
-    }
 }
 
 /// The first rule that an answer in a cycle breaks.
@@ -166,12 +137,127 @@ fn cycle_fault(cycle: Cycle, write: bool, answer: Option<Line>) -> Option<Fault>
     }
 }
 
+impl Memory {
+    /// What follows from any edges.
+    #[cold]
+    #[inline(never)]
+    fn at_any(self, before: &Lines, after: &Lines, seen: Edges) -> Next<Memory>
+        ensures { result ≡ dtb_next self before.now after.now seen }
+    {
+        let entered = self.pending.entered(before, after);
+        let write = is_writing(entered);
+        let cycle = self.cycle.entered(seen.shown.cycle);
+        let answer = answer_of(entered, &seen);
+        let fault = self
+            .handshake_fault(entered, &seen)
+            .or(cycle_fault(cycle, write, answer));
+        let cycle = if answer.is_some() {
+            cycle.answered(write)
+        } else {
+            cycle
+        };
+        Next {
+            memory: self.left(before, after, cycle, seen.strobe_rise.is_some()),
+            fault,
+            kinds: Kinds {
+                answer,
+                ..seen.shown
+            },
+        }
+    }
+
+    /// What is remembered after a step, by the cycle that it leaves and whether a strobe rises.
+    fn left(self, before: &Lines, after: &Lines, cycle: Cycle, rises: bool) -> Memory
+        ensures { result ≡ memory_left self before.now after.now cycle rises }
+    {
+        Memory {
+            pending: self.pending.tracked(before, after),
+            cycle,
+            dtack_freed: after.level(Line::DTACK).is_low() && (self.dtack_freed || rises),
+            berr_freed: after.level(Line::BERR).is_low() && (self.berr_freed || rises),
+        }
+    }
+
+    /// What follows where AS* alone falls.
+    fn at_cycle_start(self, before: &Lines, after: &Lines, asked: Asked) -> Next<Memory>
+        ensures { result ≡ dtb_next self before.now after.now (edges_of (CycleStart asked)) }
+    {
+        Next {
+            memory: self.left(before, after, Cycle::of_class(asked.class), false),
+            fault: None,
+            kinds: Kinds {
+                cycle: Some(asked),
+                ..NOTHING
+            },
+        }
+    }
+
+    /// Whether strobes that move break a rule: one rises or the cycle ends before the answer, or one falls after it.
+    fn is_hasty(self, strobes: Strobes) -> bool
+        ensures { result ≡ is_hasty self.pending strobes }
+    {
+        match self.pending {
+            Pending::Closed => false,
+            Pending::Reading | Pending::Writing => strobes.rise.is_some() || strobes.cycle_end,
+            Pending::Answered => strobes.fall.is_some(),
+        }
+    }
+
+    /// What follows where strobes move and the answer lines stay.
+    fn at_strobes(self, before: &Lines, after: &Lines, strobes: Strobes) -> Next<Memory>
+        ensures { result ≡ dtb_next self before.now after.now (edges_of (StrobesAlone strobes)) }
+    {
+        if self.is_hasty(strobes) {
+            return self.at_any(before, after, Shape::StrobesAlone(strobes).edges());
+        }
+        Next {
+            memory: self.left(before, after, self.cycle, strobes.rise.is_some()),
+            fault: None,
+            kinds: Kinds {
+                cycle_end: strobes.cycle_end,
+                transfer: strobes.transfer,
+                close: strobes.close,
+                ..NOTHING
+            },
+        }
+    }
+
+    /// What follows where DTACK* alone falls while AS* is low.
+    fn at_answer(self, before: &Lines, after: &Lines) -> Next<Memory>
+        ensures { result ≡ dtb_next self before.now after.now (edges_of Answer) }
+    {
+        let entered = self.pending.entered(before, after);
+        if !is_unanswered(entered) {
+            return self.at_any(before, after, Shape::Answer.edges());
+        }
+        let write = is_writing(entered);
+        Next {
+            memory: self.left(before, after, self.cycle.answered(write), false),
+            fault: cycle_fault(self.cycle, write, Some(Line::DTACK)),
+            kinds: Kinds {
+                answer: Some(Line::DTACK),
+                ..NOTHING
+            },
+        }
+    }
+
+    /// What follows where DTACK* alone rises.
+    fn at_ready(self, before: &Lines, after: &Lines, unaddressed: bool) -> Next<Memory>
+        ensures { result ≡ dtb_next self before.now after.now (edges_of (Ready unaddressed)) }
+    {
+        if !self.dtack_freed {
+            return self.at_any(before, after, Shape::Ready(unaddressed).edges());
+        }
+        quiet(self.left(before, after, self.cycle, false))
+    }
+}
+
 impl Rules for HandshakeRules {
     ghost use Rattle.vme_dtb.specs.Machine.{dtb_begin, dtb_ends, dtb_next, dtb_opens, dtb_sight};
 
     type Memory = Memory;
 
-    type Seen = Edges;
+    type Seen = Seen;
 
     ghost begin = { dtb_begin };
 
@@ -200,39 +286,21 @@ impl Rules for HandshakeRules {
         None
     }
 
-    fn see(before: &Lines, after: &Lines, _changes: &[Change]) -> Option<Edges> {
+    fn see(before: &Lines, after: &Lines, _changes: &[Change]) -> Option<Seen> {
         if is_handshake_still(before, after) {
             None
         } else {
-            Some(Edges::between(before, after))
+            Some(Seen::between(before, after))
         }
     }
 
-    fn step(memory: Memory, before: &Lines, after: &Lines, seen: &Edges) -> Next<Memory> {
-        let entered = memory.pending.entered(before, after);
-        let write = is_writing(entered);
-        let cycle = memory.cycle.entered(seen.shown.cycle);
-        let answer = answer_of(entered, seen);
-        let fault = memory
-            .first_fault(entered, seen)
-            .or(cycle_fault(cycle, write, answer));
-        let cycle = if answer.is_some() {
-            cycle.answered(write)
-        } else {
-            cycle
-        };
-        Next {
-            memory: Memory {
-                pending: memory.pending.tracked(before, after),
-                cycle,
-                dtack_freed: after.level(Line::DTACK).is_low() && freed(memory.dtack_freed, seen),
-                berr_freed: after.level(Line::BERR).is_low() && freed(memory.berr_freed, seen),
-            },
-            fault,
-            kinds: Kinds {
-                answer,
-                ..seen.shown
-            },
+    fn step(memory: Memory, before: &Lines, after: &Lines, seen: &Seen) -> Next<Memory> {
+        match seen.shape {
+            Shape::CycleStart(asked) => memory.at_cycle_start(before, after, asked),
+            Shape::StrobesAlone(strobes) => memory.at_strobes(before, after, strobes),
+            Shape::Answer => memory.at_answer(before, after),
+            Shape::Ready(unaddressed) => memory.at_ready(before, after, unaddressed),
+            Shape::Any(edges) => memory.at_any(before, after, edges),
         }
     }
 }

@@ -5,5 +5,6 @@ pub mod cycle;
 pub mod edges;
 pub mod handshake;
 pub mod memory;
+pub mod seen;
 #[cfg(test)]
 mod tests;

@@ -140,8 +140,8 @@ fn merge_marks(alloc: Global, first: &[Mark], second: &[Mark]) -> Result<Vec<Mar
 /// Summaries of the same steps by two monitors.
 #[derive(Drop)]
 pub struct Pair<M: Monitor, N: Monitor> {
-    first: M::Summary,
-    second: N::Summary,
+    pub(crate) first: M::Summary,
+    pub(crate) second: N::Summary,
     ghost same: { M.count first ≡ N.count second },
 }
 

@@ -8,7 +8,7 @@ ghost use Rattle.vme_monitor.specs.declared.mark.Kind.TheVariants.{Answer, Trans
 ghost use Rattle.vme_monitor.specs.Walk.{bridge_of, hop_of, later_break as later_break_of, later_hop, later_mark, later_outcome, outcome_of};
 
 use crate::machine::Places;
-use crate::mark::{Asked, Fault, Kind, Kinds, Mark, NOTHING, Next, Taken};
+use crate::mark::{Asked, Fault, Kind, Kinds, Mark, Next, Taken};
 use std::alloc::{AllocError, Global};
 use vme_trace::{Break, Line};
 
@@ -230,7 +230,7 @@ impl<P: Copy> Row<P> {
                 self.event = Some(break_of(fault, instant, time));
             }
         }
-        if kinds != NOTHING {
+        if !kinds.is_nothing() {
             show_all(&mut self.marks, instant, kinds)?;
         }
         self.memory = memory;

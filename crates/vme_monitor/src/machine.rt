@@ -5,8 +5,10 @@ ghost use Rattle.vme_trace.specs.Levels.{Levels};
 ghost use Rattle.vme_trace.specs.declared.step.Change.{Change};
 ghost use Rattle.vme_monitor.specs.declared.mark.Next.{Next};
 ghost use Rattle.vme_monitor.specs.Run.{quiet};
+ghost use Rattle.vme_monitor.specs.Underway.{seen_in};
 
 use crate::mark::Next;
+use crate::view::View;
 use vme_trace::{Change, Lines};
 
 /// A type of few values, each with a place.
@@ -61,6 +63,11 @@ pub trait Machine {
     fn see(before: &Lines, after: &Lines, changes: &[Change]) -> Option<Self::Seen>
         ensures { result ≡ sight before.now after.now changes.now };
 
+    /// The same, where what the step looks like to all monitors is known already.
+    fn notice(view: &View, changes: &[Change]) -> Option<Self::Seen>
+        requires { view.now ≡ seen_in view.now.before changes.now }
+        ensures { result ≡ sight view.now.before view.now.after changes.now };
+
     fn step(
         memory: Self::Memory,
         before: &Lines,
@@ -77,6 +84,9 @@ pub trait Machine {
 
     /// What is too faint for a memory leaves it as it is, and shows nothing.
     ghost unmoved: { (p : Self.Memory) (before after : Levels) (seen : Self.Seen) → alertness_of p < faintness_of seen → next p before after seen ≡ quiet p };
+
+    /// No step makes a memory more alert.
+    ghost calm: { (p : Self.Memory) (before after : Levels) (seen : Self.Seen) → alertness_of (next p before after seen).memory ≤ alertness_of p };
 
     /// The memories are at most 512.
     ghost few: { Self.Memory.COUNT ≤ 512 };

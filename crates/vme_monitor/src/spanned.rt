@@ -23,6 +23,7 @@ use crate::machine::{Machine, Places, Small};
 use crate::mark::{Fault, Kinds, NOTHING, Next, quiet};
 use crate::monitor::Monitor;
 use crate::tabled::Tabled;
+use crate::view::View;
 use std::marker::PhantomData;
 use vme_trace::{Change, Line, Lines};
 
@@ -124,7 +125,7 @@ pub struct Spanned<R> {
 
 impl<R: Rules> Machine for Spanned<R> {
     ghost use Rattle.vme_monitor.specs.Spanned.{noted, noted_faintness, phase_alertness, spanned, start_in};
-    ghost use Rattle.vme_monitor.specs.SpannedLaws.{phases_few, spanned_unmoved};
+    ghost use Rattle.vme_monitor.specs.SpannedLaws.{phases_few, spanned_calm, spanned_unmoved};
 
     type Memory = Phase<R::Memory>;
 
@@ -142,6 +143,8 @@ impl<R: Rules> Machine for Spanned<R> {
 
     ghost unmoved = { spanned_unmoved R.begin R.opens R.ends R.next };
 
+    ghost calm = { spanned_calm R.begin R.opens R.ends R.next };
+
     ghost few = { phases_few R.Memory.COUNT R.Memory.small };
 
     fn start(opening: &Lines) -> Phase<R::Memory> {
@@ -157,6 +160,19 @@ impl<R: Rules> Machine for Spanned<R> {
         if inner.is_some() || after.touches_control(changes) {
             Some(Noted {
                 lost: after.lost_among(changes),
+                inner,
+            })
+        } else {
+            None
+        }
+    }
+
+    #[inline(always)]
+    fn notice(view: &View, changes: &[Change]) -> Option<Noted<R::Seen>> {
+        let inner = R::see(&view.before, &view.after, changes);
+        if inner.is_some() || view.control {
+            Some(Noted {
+                lost: view.lost,
                 inner,
             })
         } else {

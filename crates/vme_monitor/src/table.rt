@@ -1,7 +1,8 @@
 //! A table with one outcome for each entering memory. Runs that meet share what follows.
 
-ghost use Rattle.std.specs.Prelude.{◌≡◌, ℕ, ◌+◌, ◌≤◌, List, [], ◌++◌, length, map, IfOk, OnOk, IsTrue, None};
+ghost use Rattle.std.specs.Prelude.{◌≡◌, ℕ, ◌+◌, ◌≤◌, List, [], ◌∷◌, ◌++◌, All, length, map, IfOk, OnOk, IsTrue, None};
 ghost use Rattle.std.specs.Option.{is_some};
+ghost use Rattle.vme_trace.specs.Trace.{levels_after};
 ghost use Rattle.vme_trace.specs.WellFormed.{malformed_step};
 ghost use Rattle.vme_trace.specs.Levels.{Levels};
 ghost use Rattle.vme_trace.specs.declared.step.Step.{Step};
@@ -9,11 +10,13 @@ ghost use Rattle.vme_monitor.specs.Outcome.{IsWithin, inside-prop, StandsFor, fo
 ghost use Rattle.vme_monitor.specs.Run.{noticed, run_of};
 ghost use Rattle.vme_monitor.specs.Walk.{hops, later_hop, outcome_of, reach};
 ghost use Rattle.vme_monitor.specs.Tables.{outcome};
+ghost use Rattle.vme_monitor.specs.Underway.{GiveRuns, seen_in};
 
 use crate::link::{Link, Row, bridges, fresh_rows, later_links, later_rows};
 use crate::machine::{Machine, Places};
 use crate::mark::Mark;
 use crate::merge::{advance, have_met, memories, merge, most_alert};
+use crate::view::View;
 use std::alloc::{AllocError, Global};
 use vme_trace::{Break, Lines, Step};
 
@@ -27,20 +30,105 @@ pub struct Table<P: Places> {
 }
 
 /// Rows whose runs have met go on as one, in a layer of their own. The last two are left apart: little is won by joining them.
-fn settle<P: Places>(
+/// The answer is how alert the rows are at most, by what they were before: it is asked again only where that may be less.
+fn settle<M: Machine>(
     alloc: Global,
     layers: &mut Vec<Vec<Link>>,
-    rows: &mut Vec<Row<P>>,
+    rows: &mut Vec<Row<M::Memory>>,
     seats: &mut [u32],
     stamp: u32,
-) -> Result<(), AllocError>
-    ensures { OnOk result ((k : ℕ) → reach (hops layers.new.items) (map outcome_of rows.new.items) k ≡ reach (hops layers.old.items) (map outcome_of rows.old.items) k) }
+    most: u8,
+) -> Result<u8, AllocError>
+    ensures reached { OnOk result ((k : ℕ) → reach (hops layers.new.items) (map outcome_of rows.new.items) k ≡ reach (hops layers.old.items) (map outcome_of rows.old.items) k) }
+    ensures alert { IfOk result (λ highest. All (λ row. M.alertness_of row.memory ≤ most) rows.old.items → All (λ row. M.alertness_of row.memory ≤ highest) rows.new.items) }
 {
     if rows.len() > 2 && have_met(rows.as_slice(), seats, stamp) {
         let links = merge(alloc, rows)?;
         layers.push(links)?;
+        Ok(most_alert::<M>(rows.as_slice()))
+    } else if most > 1 {
+        Ok(most_alert::<M>(rows.as_slice()))
+    } else {
+        Ok(most)
     }
-    Ok(())
+}
+
+/// A table of the steps so far.
+#[derive(Drop)]
+pub struct Unfinished<M: Machine> {
+    layers: Vec<Vec<Link>>,
+    rows: Vec<Row<M::Memory>>,
+    /// The instant at which a row was last met in the memory of each place.
+    seats: Vec<u32>,
+    /// How alert the rows are at most.
+    most: u8,
+}
+
+impl<M: Machine> Unfinished<M> {
+    /// The table of no steps.
+    pub fn new(alloc: Global) -> Result<Unfinished<M>, AllocError>
+        ensures { IfOk result (λ t. (o : Levels) → GiveRuns (run_of (noticed M.sight M.next)) M.Memory.place_of M.alertness_of t.layers.items t.rows.items t.most o []) }
+    {
+        let all = memories::<M::Memory>(alloc)?;
+        let rows = fresh_rows(alloc, all.as_slice())?;
+        let seats = vec![in alloc; 0u32; rows.len()]?;
+        let most = most_alert::<M>(rows.as_slice());
+        Ok(Unfinished {
+            layers: Vec::new(alloc),
+            rows,
+            seats,
+            most,
+        })
+    }
+
+    /// One step more, at its instant after the opening.
+    #[inline(always)]
+    pub fn extend(
+        &mut self,
+        alloc: Global,
+        view: &View,
+        step: &Step,
+        instant: u32,
+    ) -> Result<(), AllocError>
+        requires { view.now ≡ seen_in view.now.before step.now.changes }
+        ensures { OnOk result ((o : Levels) (x : List Step) → view.now.before ≡ levels_after o x → instant ≡ length x + 1 → GiveRuns (run_of (noticed M.sight M.next)) M.Memory.place_of M.alertness_of self.old.layers.items self.old.rows.items self.old.most o x → GiveRuns (run_of (noticed M.sight M.next)) M.Memory.place_of M.alertness_of self.new.layers.items self.new.rows.items self.new.most o (x ++ step.now ∷ [])) }
+    {
+        let Some(seen) = M::notice(view, step.changes.as_slice()) else {
+            return Ok(());
+        };
+        if self.most < M::faintness(&seen) {
+            return Ok(());
+        }
+        let rows = self.rows.as_mut_slice();
+        advance::<M>(rows, &view.before, &view.after, &seen, step, instant)?;
+        self.most = settle::<M>(
+            alloc,
+            &mut self.layers,
+            &mut self.rows,
+            self.seats.as_mut_slice(),
+            instant,
+            self.most,
+        )?;
+        Ok(())
+    }
+
+    /// The table of the steps, as many as that.
+    pub fn finish(self, steps: u32) -> Table<M::Memory>
+        requires { (o : Levels) × (x : List Step) × (steps ≡ length x) × GiveRuns (run_of (noticed M.sight M.next)) M.Memory.place_of M.alertness_of self.layers.items self.rows.items self.most o x }
+        ensures { (o : Levels) (x : List Step) → steps ≡ length x → GiveRuns (run_of (noticed M.sight M.next)) M.Memory.place_of M.alertness_of self.layers.items self.rows.items self.most o x → StandsFor (run_of (noticed M.sight M.next)) (λ p. outcome result.layers.items result.rows.items p (M.Memory.place_of p)) result.steps o x }
+    {
+        let Unfinished {
+            layers,
+            rows,
+            seats: _,
+            most: _,
+        } = self;
+        Table {
+            steps,
+            layers,
+            rows,
+        }
+    }
 }
 
 /// The table of some steps after an opening.
@@ -53,32 +141,17 @@ pub fn summarise<M: Machine>(
     requires few { length steps.now ≤ 268435456 }
     ensures { IfOk result (λ t. StandsFor (run_of (noticed M.sight M.next)) (λ p. outcome t.layers.items t.rows.items p (M.Memory.place_of p)) t.steps opening.now steps.now) }
 {
-    let all = memories::<M::Memory>(alloc)?;
-    let mut rows = fresh_rows(alloc, all.as_slice())?;
-    let mut layers = Vec::new(alloc);
-    let mut seats = vec![in alloc; 0u32; rows.len()]?;
-    let mut before = *opening;
-    let mut after = *opening;
+    let mut table = Unfinished::<M>::new(alloc)?;
+    let mut view = View::new(opening);
     let mut instant = 0;
-    let mut most = most_alert::<M>(rows.as_slice());
     for step in steps {
         let changes = step.changes.as_slice();
-        after.apply(changes);
+        view.go_to(changes);
         instant += 1;
-        if let Some(seen) = M::see(&before, &after, changes) {
-            if M::faintness(&seen) <= most {
-                advance::<M>(rows.as_mut_slice(), &before, &after, &seen, step, instant)?;
-                settle(alloc, &mut layers, &mut rows, seats.as_mut_slice(), instant)?;
-                most = most_alert::<M>(rows.as_slice());
-            }
-        }
-        before.apply(changes);
+        table.extend(alloc, &view, step, instant)?;
+        view.go_past(changes);
     }
-    Ok(Table {
-        steps: instant,
-        layers,
-        rows,
-    })
+    Ok(table.finish(instant))
 }
 
 /// Adds layers, some instants later.

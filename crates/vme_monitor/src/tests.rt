@@ -4,6 +4,7 @@ use crate::known::Known;
 use crate::mark::{Kind, Mark};
 use crate::monitor::{Monitor, join, none};
 use crate::outside::Outside;
+use crate::stepping::{Stepping, walk};
 use smallvec::SmallVec;
 use std::alloc::Global;
 use std::process::Abort;
@@ -208,6 +209,31 @@ fn assert_verdicts<M: Monitor>(rt: &impl Abort, alloc: Global) -> Result<(), Fai
 #[test]
 fn judges_whatever_the_cut(rt: HostRuntime) -> Result<(), Fail> {
     assert_verdicts::<Both<Known, Outside>>(&rt, rt.alloc())
+}
+
+/// What one walk along a recording finds by two monitors, and the lines that it leaves.
+fn assert_walked<M: Stepping>(rt: &impl Abort, alloc: Global) -> Result<(), Fail> {
+    let capture = capture_of(alloc, EARLY_ANSWER)?;
+    let steps = capture.steps();
+    assert!(rt; steps.len() == 10);
+    let (summary, left) = walk::<M>(alloc, capture.opening(), steps)?;
+    assert_eq!(rt; M::steps(&summary), 10);
+    let event = M::event(&summary, M::start(capture.opening()));
+    assert!(rt; event == break_of(10, Rule::H4, Line::DTACK));
+    for (line, level) in [
+        (Line::DTACK, Level::Low),
+        (Line::DS0, Level::High),
+        (Line::BBSY, Level::Low),
+    ] {
+        assert!(rt; left.has(line));
+        assert!(rt; left.level(line) == level);
+    }
+    Ok(())
+}
+
+#[test]
+fn two_share_one_walk(rt: HostRuntime) -> Result<(), Fail> {
+    assert_walked::<Both<Known, Outside>>(&rt, rt.alloc())
 }
 
 /// Whether judging starts in a recording.

@@ -13,6 +13,10 @@ first_false : (a b : Bool) → (a ≡ true → ⊥) → (a && b) ≡ false
 first_false true b h = absurd (h refl)
 first_false false b h = refl
 
+and_false : (a : Bool) → (a && false) ≡ false
+and_false true = refl
+and_false false = refl
+
 module _ (v : Levels) where
   outside : (l : ℕ) → (5 ≤ l → l < 45 → ⊥) → lacks v l ≡ false
   unfolding is_needed
@@ -38,10 +42,6 @@ module _ (v : Levels) where
 
   pub lacks_more : (n : ℕ) → any (lacks v) 0 n ≡ false → lacks v n ≡ false → any (lacks v) 0 (n + 1) ≡ false
   lacks_more n h e = any-step (lacks v) 0 n ∙ rw (h, e) (and_false (nat_le 0 n))
-    where
-      and_false : (a : Bool) → (a && false) ≡ false
-      and_false true = refl
-      and_false false = refl
 
   -- what is seen of a line, of a set that is what a cycle needs
   module _ (needs : Needs) (n l : ℕ) (same : needs ≡ needs_of v) (there : l ≡ n) where
@@ -53,6 +53,5 @@ module _ (v : Levels) where
     unfolding is_needed
     not_needed h = rw (← there, ← same, h) refl
 
-    pub not_lacked : is_within needs l ≡ true → is_known_on v l ≡ true → lacks v n ≡ false
-    unfolding is_needed
-    not_lacked h k = rw (← there, ← same, h, k) refl
+  pub not_lacked : (n l : ℕ) → l ≡ n → is_known_on v l ≡ true → lacks v n ≡ false
+  not_lacked n l there k = rw (← there, k) (and_false (is_needed v l))

@@ -9,3 +9,4 @@ pub mod HeldAddress
 pub mod Unnoticed
 pub mod StabilityJudges
 pub mod PassedNeeds
+pub mod HeldFaults

@@ -1,6 +1,6 @@
 //! What a step shows of the lines that are asked for and held, whatever is remembered.
 
-ghost use Rattle.std.specs.Prelude.{◌≡◌, IsTrue, None, false};
+ghost use Rattle.std.specs.Prelude.{◌≡◌, IsTrue, None, false, true};
 ghost use Rattle.vme_trace.specs.Cycle.{Needs};
 ghost use Rattle.vme_trace.specs.LineNumbers.{has_line};
 ghost use Rattle.vme_monitor.specs.OutsideSpec.{falls_between};
@@ -27,7 +27,7 @@ pub(crate) fn falls(line: Line, before: &Lines, after: &Lines) -> bool
     requires after { IsTrue (has_line after.now.slots line) }
     ensures { result ≡ falls_between before.now after.now line }
 {
-    before.level(line).is_high() && after.level(line).is_low()
+    after.level(line).is_low() && before.level(line).is_high()
 }
 
 /// Whether a line that the backplane has rises.
@@ -50,7 +50,7 @@ pub(crate) fn strobe_rises(before: &Lines, after: &Lines) -> bool
 pub(crate) fn starts_transfer(before: &Lines, after: &Lines) -> bool
     ensures { result ≡ starts_between before.now after.now }
 {
-    has_strobes_high(before) && (after.level(Line::DS0).is_low() || after.level(Line::DS1).is_low())
+    (after.level(Line::DS0).is_low() || after.level(Line::DS1).is_low()) && has_strobes_high(before)
 }
 
 /// A rule that is broken on a line, if there is one.
@@ -63,14 +63,31 @@ pub(crate) fn fault_on(rule: Rule, line: Option<Line>) -> Option<Fault>
     }
 }
 
+/// Whether the lines that cycles need are all known: then no cycle lacks one.
+fn has_known_needs(lines: &Lines) -> bool
+    ensures { result ≡ true → unknown_need lines.now ≡ None }
+{
+    for number in 5..45 {
+        if let Some(line) = Line::from_number(number) {
+            if !lines.level(line).is_known() {
+                return false;
+            }
+        }
+    }
+    true
+}
+
 /// The least line of which nothing is known, among those that a cycle needs whose address strobe falls at these levels.
 fn unknown_needed(lines: &Lines) -> Option<Line>
     ensures { result ≡ unknown_need lines.now }
 {
+    if has_known_needs(lines) {
+        return None;
+    }
     let needed = needed(lines);
     for number in 5..45 {
         if let Some(line) = Line::from_number(number) {
-            if needed.has(line) && !lines.level(line).is_known() {
+            if !lines.level(line).is_known() && needed.has(line) {
                 return Some(line);
             }
         }
@@ -82,7 +99,7 @@ fn unknown_needed(lines: &Lines) -> Option<Line>
 fn unknown_direction(before: &Lines, after: &Lines) -> Option<Line>
     ensures { result ≡ unknown_direction_of before.now after.now }
 {
-    if starts_transfer(before, after) && !after.level(Line::WRITE).is_known() {
+    if !after.level(Line::WRITE).is_known() && starts_transfer(before, after) {
         Some(Line::WRITE)
     } else {
         None

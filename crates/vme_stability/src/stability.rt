@@ -10,7 +10,7 @@ use crate::sight::{Sight, falls, fault_on, rises, starts_transfer, strobe_rises}
 use vme_monitor::mark::{Fault, Kinds, NOTHING, Next};
 use vme_monitor::monitor::Monitor;
 use vme_monitor::spanned::{Rules, Within};
-use vme_monitor::tracking::{Pending, answer_between};
+use vme_monitor::tracking::Pending;
 use vme_trace::{Change, Line, Lines, Rule};
 
 /// The rules that lines are known as they are asked for, and then held.
@@ -30,7 +30,8 @@ impl Holding {
     fn is_answer(self, before: &Lines, after: &Lines) -> bool
         ensures { result ≡ answers_in self before.now after.now }
     {
-        is_unanswered(self.transfer.entered(before, after)) && answer_between(before, after)
+        (falls(Line::DTACK, before, after) || falls(Line::BERR, before, after))
+            && is_unanswered(self.transfer.entered(before, after))
     }
 
     /// Whether the lines that a cycle needs are still held.
@@ -63,9 +64,9 @@ impl Holding {
     fn broken(self, before: &Lines, after: &Lines, seen: &Sight) -> Option<Fault>
         ensures { result ≡ held_fault self before.now after.now seen.now }
     {
-        if self.keeps_address(before, after) && seen.moved.is_some() {
+        if seen.moved.is_some() && self.keeps_address(before, after) {
             fault_on(Rule::S1, seen.moved)
-        } else if self.keeps_direction(before, after) && seen.turned {
+        } else if seen.turned && self.keeps_direction(before, after) {
             fault_on(Rule::S2, Some(Line::WRITE))
         } else {
             None

@@ -1,8 +1,10 @@
 //! The verdict on a capture that is cut into blocks, and its listing.
 
-ghost use Rattle.std.specs.Prelude.{◌≡◌, ◌<◌, ◌≤◌, ◌↔◌, ◌⊎◌, List, [], ◌∷◌, ◌++◌, All, length, IfOk, IfErr, Err, None, Some};
+ghost use Rattle.std.specs.Prelude.{◌≡◌, ◌+◌, ◌*◌, ◌<◌, ◌≤◌, ◌↔◌, ◌⊎◌, List, [], ◌∷◌, ◌++◌, All, length, IfOk, IfErr, Err, None, Some, map};
+ghost use Rattle.std.specs.List.{range_with_len};
 ghost use Rattle.vme_trace.specs.Block.{trace_of};
-ghost use Rattle.vme_trace.specs.Blocks.{block_count, blocks_of, joined_steps};
+ghost use Rattle.vme_trace.specs.Blocks.{block_at, block_count, blocks_of, joined_steps};
+ghost use Rattle.vme_trace.specs.Trace.{levels_at};
 ghost use Rattle.vme_trace.specs.Verdict.{rules_in_force, verdict_by};
 ghost use Rattle.vme_trace.specs.WellFormed.{malformed_step};
 ghost use Rattle.vme_trace.specs.declared.block.Block.{Block};
@@ -11,12 +13,18 @@ ghost use Rattle.vme_summary.specs.Joins.{BlocksJoin, joined_trace};
 ghost use Rattle.vme_summary.specs.Stands.{SpanStandsFor, first_number};
 
 use crate::all::{All, Judging};
-use crate::judged::judge_block;
+use crate::judged::{judge_block, span_of_steps};
 use crate::span::{JoinFault, Span, join};
-use std::alloc::Global;
+use std::alloc::{AllocError, Global};
 use vme_listing::Listing;
 use vme_monitor::monitor::Monitor;
-use vme_trace::{Block, Capture, CutFault, Verdict};
+use vme_trace::{Block, Capture, CutFault, Lines, Verdict};
+
+/// How many steps a block of a cut has at most.
+const LONGEST: u32 = 65536;
+
+/// How many blocks a capture is cut into at most.
+const MOST_BLOCKS: usize = 4096;
 
 /// The span of one block.
 fn span_of<M: Monitor>(alloc: Global, block: Block) -> Result<Span<M>, JoinFault>
@@ -73,6 +81,80 @@ pub fn judge_blocks<M: Monitor>(alloc: Global, blocks: Vec<Block>) -> Result<Spa
     join_last(alloc, &mut blocks, count)
 }
 
+/// How many blocks of `size` steps a capture fills, at least one. The size and the number of blocks are those that
+/// `Capture::cut` takes.
+fn block_total(capture: &Capture, size: u32) -> Result<usize, CutFault>
+    ensures bad_size { (result ≡ Err CutFault.BadSize) ↔ ((size ≡ 0) ⊎ (65536 < size)) }
+    ensures too_many { (result ≡ Err CutFault.TooManyBlocks) ↔ ((0 < size) × (size ≤ 65536) × (4096 < block_count size capture.now)) }
+    ensures total { IfOk result (λ total. total ≡ block_count size capture.now) }
+{
+    if size == 0 || size > LONGEST {
+        return Err(CutFault::BadSize);
+    }
+    let total = capture.steps().len().div_ceil(size as usize).max(1);
+    if total > MOST_BLOCKS {
+        return Err(CutFault::TooManyBlocks);
+    }
+    Ok(total)
+}
+
+/// The span of block `number` of a capture that is cut into blocks of `size` steps, where these are the lines before it.
+fn span_at<M: Monitor>(
+    alloc: Global,
+    capture: &Capture,
+    size: usize,
+    number: usize,
+    opening: &Lines,
+) -> Result<Span<M>, AllocError>
+    requires size { size ≤ 65536 }
+    requires there { number < block_count size capture.now }
+    requires few { number < 4096 }
+    requires opening { opening.now ≡ levels_at capture.now (number * size) }
+    ensures { IfOk result (λ s. SpanStandsFor M.run M.outcome M.count s (block_at size capture.now number ∷ [])) }
+{
+    let steps = capture.steps();
+    let start = number * size;
+    let end = steps.len().min(start + size);
+    span_of_steps(alloc, number as u32, opening, &steps[start..end])
+}
+
+/// The span of `count` blocks of such a capture, from block `first` on: those of each half, joined. No block is copied.
+fn span_between<M: Monitor>(
+    alloc: Global,
+    capture: &Capture,
+    size: usize,
+    first: usize,
+    count: usize,
+    opening: &Lines,
+) -> Result<Span<M>, AllocError>
+    requires size { size ≤ 65536 }
+    requires some { 0 < count }
+    requires there { first + count ≤ block_count size capture.now }
+    requires few { first + count ≤ 4096 }
+    requires opening { opening.now ≡ levels_at capture.now (first * size) }
+    ensures { IfOk result (λ s. SpanStandsFor M.run M.outcome M.count s (map (block_at size capture.now) (range_with_len first count))) }
+{
+    if count == 1 {
+        return span_at(alloc, capture, size, first, opening);
+    }
+    prove!(capture.steps().len() <= 268435456);
+    let half = count / 2;
+    let front = span_between(alloc, capture, size, first, half, opening)?;
+    let back = span_between(
+        alloc,
+        capture,
+        size,
+        first + half,
+        count - half,
+        front.left(),
+    )?;
+    match join(alloc, &front, &back) {
+        Ok(span) => Ok(span),
+        Err(JoinFault::Memory) => Err(AllocError),
+        Err(JoinFault::Torn) => unreachable!(),
+    }
+}
+
 /// The span of the blocks of a capture.
 fn span_in_blocks<M: Monitor>(
     alloc: Global,
@@ -85,12 +167,10 @@ fn span_in_blocks<M: Monitor>(
     ensures stands { IfOk result (λ span. SpanStandsFor M.run M.outcome M.count span (blocks_of size capture.now)) }
     ensures whole { IfOk result (λ span. joined_trace (blocks_of size capture.now) ≡ Some capture.now) }
 {
-    prove!(capture.steps().len() <= 268435456);
-    let blocks = capture.cut(alloc, size)?;
-    match judge_blocks::<M>(alloc, blocks) {
+    let total = block_total(capture, size)?;
+    match span_between::<M>(alloc, capture, size as usize, 0, total, capture.opening()) {
         Ok(span) => Ok(span),
-        Err(JoinFault::Memory) => Err(CutFault::Memory),
-        Err(JoinFault::Torn) => unreachable!(),
+        Err(_) => Err(CutFault::Memory),
     }
 }
 

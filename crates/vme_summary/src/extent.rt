@@ -6,7 +6,7 @@ ghost use Rattle.vme_trace.specs.WellFormed.{malformed_step};
 ghost use Rattle.vme_summary.specs.Joins.{is_later as comes_later};
 ghost use Rattle.vme_summary.specs.Stands.{IsExtent, Meets, joined_extent};
 
-use vme_trace::{Block, Lines};
+use vme_trace::{Block, Lines, Step};
 
 /// Where blocks that join lie in a recording, and what they leave.
 #[derive(Clone, Copy)]
@@ -41,8 +41,15 @@ impl Extent {
         requires { malformed_step (trace_of block.now) ≡ None }
         ensures { IsExtent result (block.now ∷ []) }
     {
-        let steps = block.steps.as_slice();
-        let mut left = block.opening;
+        Extent::of_steps(block.number, &block.opening, block.steps.as_slice())
+    }
+
+    /// The extent of a block of these steps, in time proportional to their changes.
+    pub(crate) fn of_steps(number: u32, opening: &Lines, steps: &[Step]) -> Extent
+        requires { malformed_step (record { opening = opening.now; steps = steps.now }) ≡ None }
+        ensures { IsExtent result (record { number = number; opening = opening.now; steps = steps.now } ∷ []) }
+    {
+        let mut left = *opening;
         let mut starts = None;
         let mut ends = None;
         for step in steps {
@@ -51,9 +58,9 @@ impl Extent {
             ends = Some(step.time);
         }
         Extent {
-            first: block.number,
-            last: block.number,
-            opening: block.opening,
+            first: number,
+            last: number,
+            opening: *opening,
             left,
             starts,
             ends,

@@ -11,7 +11,7 @@ use crate::span::Span;
 use std::alloc::{AllocError, Global};
 use std::marker::Model;
 use vme_monitor::monitor::Monitor;
-use vme_trace::Block;
+use vme_trace::{Block, Lines, Step};
 
 /// A block and the span that stands for it.
 #[derive(Drop)]
@@ -75,14 +75,26 @@ pub fn judge_block<M: Monitor>(
     ensures judged { IfOk result (λ judged. judged ≡ block) }
     ensures handed_back { IfErr result (λ fault. fault.0 ≡ block) }
 {
-    match M::summarise(alloc, &block.opening, block.steps.as_slice()) {
-        Ok(summary) => Ok(Judged {
-            span: Span {
-                extent: Extent::of(&block),
-                summary,
-            },
-            block,
-        }),
+    match span_of_steps(alloc, block.number, &block.opening, block.steps.as_slice()) {
+        Ok(span) => Ok(Judged { block, span }),
         Err(fault) => Err((block, fault)),
     }
+}
+
+/// The span of a block of these steps, whatever stood before it.
+pub(crate) fn span_of_steps<M: Monitor>(
+    alloc: Global,
+    number: u32,
+    opening: &Lines,
+    steps: &[Step],
+) -> Result<Span<M>, AllocError>
+    requires accepted { malformed_step (record { opening = opening.now; steps = steps.now }) ≡ None }
+    requires short { length steps.now ≤ 65536 }
+    ensures { IfOk result (λ s. SpanStandsFor M.run M.outcome M.count s (record { number = number; opening = opening.now; steps = steps.now } ∷ [])) }
+{
+    let summary = M::summarise(alloc, opening, steps)?;
+    Ok(Span {
+        extent: Extent::of_steps(number, opening, steps),
+        summary,
+    })
 }

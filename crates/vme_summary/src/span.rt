@@ -18,7 +18,7 @@ use std::alloc::{AllocError, Global};
 use vme_listing::Listing;
 use vme_monitor::mark::Mark;
 use vme_monitor::monitor::{Monitor, join as join_summaries};
-use vme_trace::{Break, Verdict};
+use vme_trace::{Break, Lines, Verdict};
 
 /// Why two spans make none together.
 #[derive(Clone, Copy, Debug, PartialEq, Eq)]
@@ -59,6 +59,13 @@ impl<M: Monitor> Span<M> {
         ensures blocks { (blocks : List Block) → SpanStandsFor M.run M.outcome M.count self.now blocks → result ≡ length (joined_steps blocks) }
     {
         M::steps(&self.summary)
+    }
+
+    /// The lines that the last block leaves.
+    pub(crate) fn left(&self) -> &Lines
+        ensures { result.now ≡ self.now.extent.left }
+    {
+        &self.extent.left
     }
 
     /// What is left, and the first break, of a recording that these blocks make.

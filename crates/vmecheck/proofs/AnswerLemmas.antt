@@ -1,5 +1,5 @@
 -- What the steps of a check give, by what the definitions say of the inputs.
-use Rattle.std.proofs.Common.{◌≡◌, ◌≤◌, ◌<◌, ℕ, List, length, refl, ap}
+use Rattle.std.proofs.Common.{◌≡◌, ◌≤◌, ◌<◌, ℕ, List, length, refl, ap, ◌∙◌}
 use Rattle.std.specs.Prelude.{Option, Some, None, Result, Ok, Err}
 use Rattle.std.proofs.lemmas.Bool.{le-leb, lt-leb}
 use Rattle.vcd_read.specs.Contents.{Contents}
@@ -10,6 +10,11 @@ use Rattle.vcd_read.specs.declared.fault.FaultKind.{FaultKind}
 use Rattle.vcd_read.specs.declared.fault.FaultKind.TheVariants as vcd
 use Rattle.vme_bind.specs.Answers.{FailsAs}
 use Rattle.vme_bind.specs.Binding.{BoundLines, binding_of}
+use Rattle.vme_bind.specs.Capture.{capture_of}
+use Rattle.vme_bind.specs.TextCapture.{or_binding}
+use Rattle.vme_bind.specs.TextCapture as text
+use Rattle.vme_bind.specs.declared.fault.CaptureFault.{CaptureFault}
+use Rattle.vme_bind.specs.declared.fault.CaptureFault.TheVariants as capture
 use Rattle.vme_bind.specs.declared.fault.BindFault.{BindFault}
 use Rattle.vme_bind.specs.declared.fault.BindKind.{BindKind}
 use Rattle.vme_bind.specs.declared.fault.BindKind.TheVariants as bind
@@ -20,10 +25,10 @@ use Rattle.vmecheck.specs.declared.input.InFault.TheVariants as read
 use Rattle.vmecheck.specs.declared.refusal.Input.{Input}
 use Rattle.vmecheck.specs.declared.refusal.Input.TheVariants.{Binding, Dump}
 use Rattle.vmecheck.specs.declared.refusal.Refusal.{Refusal}
-use Rattle.vmecheck.specs.declared.refusal.Refusal.TheVariants.{TooLong, Memory}
+use Rattle.vmecheck.specs.declared.refusal.Refusal.TheVariants.{TooLong, BadBinding, BadDump, Memory}
 use Rattle.vmecheck.specs.Answers.{Gives, whole, or_bad_binding, or_bad_dump, binding_read, dump_read, capture_by, capture_read, judgement_of, verdict_in_blocks}
 use Rattle.vmecheck.specs.Inputs.{IsReading, longest_input}
-use Rattle.vmecheck.specs.Refusals.{refused, binding_refusal, dump_refusal}
+use Rattle.vmecheck.specs.Refusals.{refused, binding_refusal, dump_refusal, capture_refusal}
 use Rattle.vmecheck.proofs.InputLemmas.{unread}
 
 -- ---- an input
@@ -45,6 +50,50 @@ pub or_bad_dump-gives : {Y : Type 0} (line : ℕ) (kind : FaultKind) (answer : R
     → Gives (λ (y : Y). y) (Err (dump_refusal (record { line = line; kind = kind }))) (or_bad_dump answer)
 or_bad_dump-gives line vcd.Memory answer is = tt
 or_bad_dump-gives {Y} line kind answer is = ap (λ (r : Result Y VcdFault). or_bad_dump r) is
+
+-- what a recording of a text, or its first fault, is to the program
+abbrev by_either : {A : Type 0} → Result A CaptureFault → Result A Refusal
+by_either (Ok x) = Ok x
+by_either (Err (capture.Dump fault)) = Err (BadDump fault)
+by_either (Err (capture.Binding fault)) = Err (BadBinding fault)
+
+by_binding : {A : Type 0} (r : Result A BindFault) → or_bad_binding r ≡ by_either (or_binding r)
+by_binding (Ok x) = refl
+by_binding (Err fault) = refl
+
+by_dump : (bound : BoundLines) (r : Result Contents VcdFault) → capture_by bound (or_bad_dump r) ≡ by_either (text.capture_read bound r)
+by_dump bound (Ok dump) = by_binding (capture_of bound dump)
+by_dump bound (Err fault) = refl
+
+text_captured : (bound : BoundLines) (bytes : List ℕ) → capture_by bound (or_bad_dump (dump_of bytes)) ≡ by_either (text.capture_of_text bound bytes)
+unfolding text.capture_of_text
+text_captured bound bytes = by_dump bound (dump_of bytes)
+
+-- the recording of a text
+pub text_captured-ok : (bound : BoundLines) (bytes : List ℕ) (t : Trace) → text.capture_of_text bound bytes ≡ Ok t → capture_by bound (or_bad_dump (dump_of bytes)) ≡ Ok t
+text_captured-ok bound bytes t e = text_captured bound bytes ∙ ap by_either e
+
+refused_dump : {A : Type 0} (line : ℕ) (kind : FaultKind) (answer : Result A CaptureFault) → text.DumpFails line kind answer
+    → Gives (λ (x : A). x) (Err (dump_refusal (record { line = line; kind = kind }))) (by_either answer)
+refused_dump line vcd.Memory answer is = tt
+refused_dump line kind answer is = ap by_either is
+
+refused_binding : {A : Type 0} (line : ℕ) (kind : BindKind) (answer : Result A CaptureFault) → text.BindingFails line kind answer
+    → Gives (λ (x : A). x) (Err (binding_refusal (record { line = line; kind = kind }))) (by_either answer)
+refused_binding line bind.Memory answer is = tt
+refused_binding line kind answer is = ap by_either is
+
+gives_at : {A : Type 0} (r : Refusal) (a b : Result A Refusal) → a ≡ b → Gives (λ (x : A). x) (Err r) b → Gives (λ (x : A). x) (Err r) a
+gives_at r a b e h = rw e h
+
+refused_by : {A : Type 0} (fault : CaptureFault) (answer : Result A CaptureFault) → text.FailsBy fault answer → Gives (λ (x : A). x) (Err (capture_refusal fault)) (by_either answer)
+refused_by (capture.Dump fault) answer h = refused_dump fault.line fault.kind answer h
+refused_by (capture.Binding fault) answer h = refused_binding fault.line fault.kind answer h
+
+-- a fault of the text or of the binding
+pub text_captured-refused : (bound : BoundLines) (bytes : List ℕ) (fault : CaptureFault) → text.FailsBy fault (text.capture_of_text bound bytes)
+    → Gives (λ (t : Trace). t) (Err (capture_refusal fault)) (capture_by bound (or_bad_dump (dump_of bytes)))
+text_captured-refused bound bytes fault h = gives_at (capture_refusal fault) _ _ (text_captured bound bytes) (refused_by fault (text.capture_of_text bound bytes) h)
 
 -- a refusal passes through the next step
 passes_through : {X Y : Type 0} (r : Refusal) (first : Result X Refusal) (next : X → Result Y Refusal) → Gives (λ (x : X). x) (Err r) first

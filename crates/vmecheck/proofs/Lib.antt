@@ -6,3 +6,5 @@ pub mod ListLemmas
 pub mod MessageLemmas
 pub mod OrderLemmas
 pub mod OutputLemmas
+pub mod RowLemmas
+pub mod TakenLemmas

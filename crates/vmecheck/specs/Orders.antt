@@ -1,7 +1,7 @@
 -- The order that the matches of the words are.
-use Rattle.std.specs.Prelude.{◌≡◌, ℕ, List, [], ◌∷◌, ◌++◌, map, codes, Option, Some, option_map, string_bytes}
+use Rattle.std.specs.Prelude.{◌≡◌, ℕ, pos, true, List, [], ◌∷◌, ◌++◌, map, codes, Option, Some, is_some, option_map, string_bytes}
 use Rattle.std.specs.Str.Parse.{digits_value, without_leading_plus}
-use Rattle.clap.specs.Words.{Row, Text, first_of, one_of}
+use Rattle.clap.specs.Words.{IsSignedIn, Row, Text, first_of, one_of, without_minus}
 use Rattle.vmecheck.specs.declared.order.Order.{Order}
 use Rattle.vmecheck.specs.declared.order.Task.{Task}
 use Rattle.vmecheck.specs.declared.order.Task.TheVariants.{Check, List as Listing, Confirm}
@@ -46,3 +46,40 @@ pub record IsOrder (order : Order) (met : Option (Text × List Row)) : Type 0 wh
   pub rows : List Row
   pub command : met ≡ Some (task_name order.command, rows)
   pub says : Says order.command order rows
+
+-- ---- which matches have what an order needs
+
+-- the option has a text that says a number from 1 to the greatest, and is read without a minus sign, as clap reads such numbers
+pub record HasNumber (name : Text) (greatest : ℕ) (rows : List Row) : Type 0 where
+  pub text : Text
+  pub read : one_of name rows ≡ Some (without_minus text)
+  pub says : IsSignedIn (pos 1) (pos greatest) text
+
+-- the file is named
+abbrev pub HasName : Text → List Row → Type 0
+HasName name rows = is_some (first_of name rows) ≡ true
+
+pub record HasNames (rows : List Row) : Type 0 where
+  pub binding : HasName (codes "BINDING") rows
+  pub dump : HasName (codes "DUMP") rows
+
+pub record HasRecording (rows : List Row) : Type 0 where
+  pub block : HasNumber (codes "block") 65536 rows
+  pub workers : HasNumber (codes "workers") 64 rows
+  pub names : HasNames rows
+
+pub record HasConfirmation (rows : List Row) : Type 0 where
+  pub names : HasNames rows
+  pub listing : HasName (codes "LISTING") rows
+
+abbrev pub HasAll : Task → List Row → Type 0
+HasAll Check rows = HasRecording rows
+HasAll Listing rows = HasRecording rows
+HasAll Confirm rows = HasConfirmation rows
+
+-- a task was met, and its matches have all that its order needs
+pub record HasOrder (met : Option (Text × List Row)) : Type 0 where
+  pub task : Task
+  pub rows : List Row
+  pub command : met ≡ Some (task_name task, rows)
+  pub has : HasAll task rows

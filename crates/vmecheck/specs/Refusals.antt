@@ -5,6 +5,8 @@ use Rattle.vcd_read.specs.declared.fault.FaultKind.TheVariants as vcd
 use Rattle.vme_bind.specs.declared.fault.BindFault.{BindFault}
 use Rattle.vme_bind.specs.declared.fault.BindKind.{BindKind}
 use Rattle.vme_bind.specs.declared.fault.BindKind.TheVariants as bind
+use Rattle.vme_bind.specs.declared.fault.CaptureFault.{CaptureFault}
+use Rattle.vme_bind.specs.declared.fault.CaptureFault.TheVariants as capture
 use Rattle.vme_listing.specs.declared.fault.ListFault.{ListFault}
 use Rattle.vme_listing.specs.declared.fault.ListFault.TheVariants as list
 use Rattle.vmecheck.specs.declared.input.InFault.{InFault}
@@ -34,6 +36,11 @@ binding_refusal_as kind refusal = refusal
 
 abbrev pub binding_refusal : BindFault → Refusal
 binding_refusal fault = binding_refusal_as fault.kind (BadBinding fault)
+
+-- a fault of a dump, or of a binding
+abbrev pub capture_refusal : CaptureFault → Refusal
+capture_refusal (capture.Dump fault) = dump_refusal fault
+capture_refusal (capture.Binding fault) = binding_refusal fault
 
 abbrev pub listing_refusal : ListFault → Refusal
 listing_refusal list.Memory = Memory

@@ -157,9 +157,19 @@ fn capture_of_dump<D: Source>(
         × IsReading (D.remaining dump.old) (D.failures dump.old) (D.failures dump.new) bytes
         × Gives (λ capture. capture) result (capture_by bound.now (dump_read bytes)) }
 {
-    match dump_from(alloc, dump) {
-        Ok(contents) => captured(alloc, bound, &contents),
-        Err(refusal) => Err(refusal),
+    match read_all(alloc, dump) {
+        Ok(text) => captured_text(alloc, bound, text.as_slice()),
+        Err(fault) => Err(Refusal::of_input(Input::Dump, fault)),
+    }
+}
+
+/// The recording that a binding makes of the text of a dump, which is read once.
+fn captured_text(alloc: Global, bound: &Binding, text: &[u8]) -> Result<Capture, Refusal>
+    ensures { Gives (λ capture. capture) result (capture_by bound.now (or_bad_dump (dump_of text.now))) }
+{
+    match bound.capture_text(alloc, text) {
+        Ok(capture) => Ok(capture),
+        Err(fault) => Err(Refusal::of_capture(fault)),
     }
 }
 

@@ -1,6 +1,6 @@
 //! Sources and sinks: std's readers and writers, and the bytes of a slice.
 
-ghost use Rattle.std.specs.Prelude.{◌≡◌, ◌≤◌, ℕ, suc, length, MatchResult, None, Some};
+ghost use Rattle.std.specs.Prelude.{◌≡◌, ◌≤◌, ◌^◌, ℕ, suc, length, MatchResult, None, Some};
 ghost use Rattle.std.specs.Io.{ReadsAtMost, WritesAtMost};
 
 use std::io::{ErrorKind, Read, Write};
@@ -21,14 +21,17 @@ pub struct Io<T> {
 
 impl<T> Io<T> {
     /// A reader or a writer, of which no call has failed.
-    pub fn new(inner: T) -> Io<T> {
+    pub fn new(inner: T) -> Io<T>
+        ensures inner { result.inner ≡ inner }
+        ensures failures { result.failures ≡ 0 }
+    {
         Io { inner, failures: 0 }
     }
 
-    /// One failure more, or what stands for it where it can't be counted.
+    /// One failure more, or what stands for it where it can't be counted: from the 2^64th on.
     fn fail(&mut self, otherwise: usize) -> Result<usize, Failed>
         ensures { MatchResult result
-            (λ n. (n ≡ otherwise) × (self.new.failures ≡ self.old.failures))
+            (λ n. (n ≡ otherwise) × (self.new.failures ≡ self.old.failures) × (2 ^ 64 ≤ suc self.old.failures))
             (λ _. self.new.failures ≡ suc self.old.failures) }
     {
         match self.failures.checked_add(1) {

@@ -1,6 +1,12 @@
 //! A conformance checker for recordings of a VMEbus backplane.
 #![tactic(auto)]
 
+ghost use Rattle.std.specs.Prelude.{◌≡◌, ◌≢◌, ◌⊎◌, IfErr};
+ghost use Rattle.clap.specs.Words.{kind_of};
+ghost use Rattle.clap.specs.declared.error.kind.ErrorKind.TheVariants.{DisplayHelp, DisplayVersion};
+ghost use Rattle.vmecheck.specs.OrderFaults.{IsOfWords};
+ghost use Rattle.vmecheck.specs.Texts.{refusal_status};
+
 mod check;
 mod command;
 mod confirm;
@@ -78,7 +84,9 @@ fn run(rt: &HostRuntime) -> u8 {
 }
 
 /// The order of the command line, if it has words.
-fn asked(rt: &HostRuntime) -> Result<Option<Order>, OrderFault> {
+fn asked(rt: &HostRuntime) -> Result<Option<Order>, OrderFault>
+    ensures { IfErr result IsOfWords }
+{
     let words: Vec<String> = match env::args(rt) {
         Ok(args) => args.collect(rt.alloc())?,
         Err(error) if error.kind() == ErrorKind::OutOfMemory => return Err(OrderFault::Memory),
@@ -154,14 +162,20 @@ fn open(rt: &HostRuntime, order: &Order, place: usize) -> Option<File> {
     fs::open(rt, name.as_str()).ok()
 }
 
-/// Says why there is no verdict.
-fn refuse(rt: &HostRuntime, refusal: &Refusal) -> u8 {
+/// Says why there is no verdict. The answer is the refusal's status.
+fn refuse(rt: &HostRuntime, refusal: &Refusal) -> u8
+    ensures { result ≡ refusal_status refusal.now }
+{
     let _ = write_message(&mut Io::new(rt.stderr()), refusal_line(refusal));
     refusal.status()
 }
 
-/// Prints what is wrong with the words, or the help that they ask for.
-fn explain(rt: &HostRuntime, error: &clap::Error) -> u8 {
+/// Prints what is wrong with the words, or the help that they ask for. The status is 3 for wrong words; for help it is 0,
+/// or 5 where it can't be written.
+fn explain(rt: &HostRuntime, error: &clap::Error) -> u8
+    ensures wrong { (kind_of error.now ≢ DisplayHelp) → (kind_of error.now ≢ DisplayVersion) → result ≡ 3 }
+    ensures help { kind_of error.now ≡ DisplayHelp → (result ≡ 0) ⊎ (result ≡ 5) }
+{
     let printed = error.print(rt);
     if error.use_stderr() {
         return 3;

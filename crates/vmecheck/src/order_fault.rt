@@ -2,7 +2,7 @@
 
 ghost use Rattle.std.specs.Prelude.{◌≡◌};
 ghost use Rattle.vmecheck.specs.declared.order_fault.OrderFault.TheVariants.{Memory};
-ghost use Rattle.vmecheck.specs.OrderFaults.{IsOfWords};
+ghost use Rattle.vmecheck.specs.OrderFaults.{ComesOf};
 
 use clap::error::ErrorKind;
 use std::alloc::AllocError;
@@ -25,7 +25,7 @@ impl From<AllocError> for OrderFault {
 }
 
 impl From<clap::Error> for OrderFault {
-    ghost from_gives = { λ _ fault. IsOfWords fault };
+    ghost from_gives = { λ error fault. ComesOf error fault };
 
     fn from(error: clap::Error) -> OrderFault {
         match error.kind() {

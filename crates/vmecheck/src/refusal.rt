@@ -1,13 +1,13 @@
 //! Why a recording isn't judged, or a listing compared with it.
 
 ghost use Rattle.std.specs.Prelude.{◌≡◌};
-ghost use Rattle.vmecheck.specs.Refusals.{refused, dump_refusal, binding_refusal, listing_refusal};
+ghost use Rattle.vmecheck.specs.Refusals.{refused, dump_refusal, binding_refusal, capture_refusal, listing_refusal};
 ghost use Rattle.vmecheck.specs.Texts.{refusal_status};
 
 use crate::input::InFault;
 use thiserror::Error;
 use vcd_read::{FaultKind, VcdFault};
-use vme_bind::{BindFault, BindKind};
+use vme_bind::{BindFault, BindKind, CaptureFault};
 use vme_listing::ListFault;
 
 /// What the program reads.
@@ -71,6 +71,16 @@ impl Refusal {
         match fault.kind {
             BindKind::Memory => Refusal::Memory,
             _ => Refusal::BadBinding(fault),
+        }
+    }
+
+    /// What a fault of a dump or of a binding is.
+    pub fn of_capture(fault: CaptureFault) -> Refusal
+        ensures { result ≡ capture_refusal fault }
+    {
+        match fault {
+            CaptureFault::Dump(fault) => Refusal::of_dump(fault),
+            CaptureFault::Binding(fault) => Refusal::of_binding(fault),
         }
     }
 

@@ -1,10 +1,10 @@
 //! How the words of the command line are read.
 
-ghost use Rattle.std.specs.Prelude.{◌≡◌, ◌≤◌, ◌∷◌, ◌++◌, [], codes, IfErr, IfOk, IfSome, Some, map, string_bytes};
-ghost use Rattle.clap.specs.Words.{first_of, found_of, kind_of, rows_of, subcommand_of, subcommand_rows_of};
+ghost use Rattle.std.specs.Prelude.{◌≡◌, ◌≤◌, ◌∷◌, ◌++◌, [], codes, IfErr, IfOk, IfSome, Some, is_some, map, string_bytes, true};
+ghost use Rattle.clap.specs.Words.{fault_of, first_of, found_of, kind_of, rows_of, subcommand_of, subcommand_rows_of};
 ghost use Rattle.vmecheck.specs.Commands.{vmecheck_app};
-ghost use Rattle.vmecheck.specs.OrderFaults.{IsOfWords};
-ghost use Rattle.vmecheck.specs.Orders.{IsOrder, SaysOrder, names_in, number_in};
+ghost use Rattle.vmecheck.specs.OrderFaults.{HasUsageKind, IsFaultOf, IsOfWords};
+ghost use Rattle.vmecheck.specs.Orders.{HasConfirmation, HasNames, HasNumber, HasOrder, HasRecording, IsOrder, SaysOrder, names_in, number_in};
 
 use crate::command::vmecheck_command;
 use crate::order::{Order, Task};
@@ -15,11 +15,14 @@ use std::alloc::{AllocError, Global};
 
 /// Reads the words of the command line, the program's name first.
 ///
-/// An order is what clap's meaning of the program's command gives the words. Wrong words, and a call for help, are
-/// `Usage`, and want of memory is `Memory`.
+/// An order is what clap's meaning of the program's command gives the words, and comes only where clap's rules find no
+/// fault in them. Wrong words, and a call for help, are `Usage`, of a kind that those rules give the words, and want of
+/// memory is `Memory`: so words without a fault are an order unless memory runs out.
 pub fn order(alloc: Global, words: &[String]) -> Result<Order, OrderFault>
     ensures ok { IfOk result (λ order. IsOrder order (subcommand_of vmecheck_app (map string_bytes words.now))) }
     ensures err { IfErr result IsOfWords }
+    ensures taken { IfOk result (λ _. fault_of vmecheck_app (map string_bytes words.now) ≡ []) }
+    ensures faulty { IfErr result (IsFaultOf (map string_bytes words.now)) }
 {
     let matches = vmecheck_command(alloc)?.try_get_matches_from(words)?;
     match order_in(alloc, &matches)? {
@@ -30,7 +33,8 @@ pub fn order(alloc: Global, words: &[String]) -> Result<Order, OrderFault>
 
 /// The order that the matches are, if they are one.
 fn order_in(alloc: Global, matches: &ArgMatches<'_>) -> Result<Option<Order>, AllocError>
-    ensures { IfOk result (λ o. IfSome o (λ order. IsOrder order (subcommand_rows_of matches.now))) }
+    ensures said { IfOk result (λ o. IfSome o (λ order. IsOrder order (subcommand_rows_of matches.now))) }
+    ensures found { HasOrder (subcommand_rows_of matches.now) → IfOk result (λ o. is_some o ≡ true) }
 {
     match matches.subcommand() {
         Some((name, found)) if name == "check" => check_order(alloc, found),
@@ -43,7 +47,8 @@ fn order_in(alloc: Global, matches: &ArgMatches<'_>) -> Result<Option<Order>, Al
 /// The order that the matches of `check` are, if they are one.
 #[tactic(auto, using(crate::proofs::OrderLemmas::is_check))]
 fn check_order(alloc: Global, found: &ArgMatches<'_>) -> Result<Option<Order>, AllocError>
-    ensures { IfOk result (λ o. IfSome o (λ order. IsOrder order (Some (codes "check", rows_of (found_of found.now))))) }
+    ensures said { IfOk result (λ o. IfSome o (λ order. IsOrder order (Some (codes "check", rows_of (found_of found.now))))) }
+    ensures found { HasRecording (rows_of (found_of found.now)) → IfOk result (λ o. is_some o ≡ true) }
 {
     recording_order(alloc, Task::Check, found)
 }
@@ -51,7 +56,8 @@ fn check_order(alloc: Global, found: &ArgMatches<'_>) -> Result<Option<Order>, A
 /// The order that the matches of `list` are, if they are one.
 #[tactic(auto, using(crate::proofs::OrderLemmas::is_list))]
 fn list_order(alloc: Global, found: &ArgMatches<'_>) -> Result<Option<Order>, AllocError>
-    ensures { IfOk result (λ o. IfSome o (λ order. IsOrder order (Some (codes "list", rows_of (found_of found.now))))) }
+    ensures said { IfOk result (λ o. IfSome o (λ order. IsOrder order (Some (codes "list", rows_of (found_of found.now))))) }
+    ensures found { HasRecording (rows_of (found_of found.now)) → IfOk result (λ o. is_some o ≡ true) }
 {
     recording_order(alloc, Task::List, found)
 }
@@ -64,6 +70,7 @@ fn recording_order(
 ) -> Result<Option<Order>, AllocError>
     ensures task { IfOk result (λ o. IfSome o (λ order. order.command ≡ command)) }
     ensures says { IfOk result (λ o. IfSome o (λ order. SaysOrder order (rows_of (found_of found.now)))) }
+    ensures found { HasRecording (rows_of (found_of found.now)) → IfOk result (λ o. is_some o ≡ true) }
 {
     let (Some(block), Some(workers)) = (number(found, "block", 65536), number(found, "workers", 64))
     else {
@@ -83,7 +90,8 @@ fn recording_order(
 /// The order that the matches of `confirm` are, if they are one.
 #[tactic(auto, using(crate::proofs::OrderLemmas::is_confirmation))]
 fn confirm_order(alloc: Global, found: &ArgMatches<'_>) -> Result<Option<Order>, AllocError>
-    ensures { IfOk result (λ o. IfSome o (λ order. IsOrder order (Some (codes "confirm", rows_of (found_of found.now))))) }
+    ensures said { IfOk result (λ o. IfSome o (λ order. IsOrder order (Some (codes "confirm", rows_of (found_of found.now))))) }
+    ensures found { HasConfirmation (rows_of (found_of found.now)) → IfOk result (λ o. is_some o ≡ true) }
 {
     match all_names_in(alloc, found)? {
         Some(names) => Ok(Some(Order {
@@ -98,7 +106,8 @@ fn confirm_order(alloc: Global, found: &ArgMatches<'_>) -> Result<Option<Order>,
 
 /// The binding, the dump and the listing, if each has a name.
 fn all_names_in(alloc: Global, found: &ArgMatches<'_>) -> Result<Option<Vec<String>>, AllocError>
-    ensures { IfOk result (λ o. IfSome o (λ names. map (λ name. Some (string_bytes name)) names.items ≡ names_in (rows_of (found_of found.now)) ++ first_of (codes "LISTING") (rows_of (found_of found.now)) ∷ [])) }
+    ensures found { HasConfirmation (rows_of (found_of found.now)) → IfOk result (λ o. is_some o ≡ true) }
+    ensures said { IfOk result (λ o. IfSome o (λ names. map (λ name. Some (string_bytes name)) names.items ≡ names_in (rows_of (found_of found.now)) ++ first_of (codes "LISTING") (rows_of (found_of found.now)) ∷ [])) }
 {
     let Some(listing) = found.get_str("LISTING") else {
         return Ok(None);
@@ -119,7 +128,8 @@ fn with_name(alloc: Global, mut names: Vec<String>, name: &str) -> Result<Vec<St
 
 /// The binding and the dump, if both have names.
 fn names_in(alloc: Global, found: &ArgMatches<'_>) -> Result<Option<Vec<String>>, AllocError>
-    ensures { IfOk result (λ o. IfSome o (λ names. map (λ name. Some (string_bytes name)) names.items ≡ names_in (rows_of (found_of found.now)))) }
+    ensures said { IfOk result (λ o. IfSome o (λ names. map (λ name. Some (string_bytes name)) names.items ≡ names_in (rows_of (found_of found.now)))) }
+    ensures found { HasNames (rows_of (found_of found.now)) → IfOk result (λ o. is_some o ≡ true) }
 {
     let (Some(binding), Some(dump)) = (found.get_str("BINDING"), found.get_str("DUMP")) else {
         return Ok(None);
@@ -134,6 +144,7 @@ fn names_in(alloc: Global, found: &ArgMatches<'_>) -> Result<Option<Vec<String>>
 fn number(found: &ArgMatches<'_>, name: &str, greatest: u32) -> Option<u32>
     ensures value { IfSome result (λ n. number_in name.now (rows_of (found_of found.now)) ≡ Some n) }
     ensures range { IfSome result (λ n. (1 ≤ n) × (n ≤ greatest)) }
+    ensures found { HasNumber name.now greatest (rows_of (found_of found.now)) → is_some result ≡ true }
 {
     match found.get_one::<u32>(name) {
         Some(number) if 1 <= number && number <= greatest => Some(number),
@@ -143,7 +154,8 @@ fn number(found: &ArgMatches<'_>, name: &str, greatest: u32) -> Option<u32>
 
 /// A fault of the words that the program finds itself.
 pub fn usage_fault(alloc: Global, message: &str) -> OrderFault
-    ensures { IsOfWords result }
+    ensures of_words { IsOfWords result }
+    ensures kind { HasUsageKind ErrorKind.InvalidSubcommand result }
 {
     match usage_error(alloc, message) {
         Ok(error) => OrderFault::Usage(error),

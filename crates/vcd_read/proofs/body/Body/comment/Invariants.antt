@@ -4,7 +4,7 @@ use Rattle.vcd_read.specs.Body.{in_comment, body_from}
 use Rattle.vcd_read.proofs.body.Body.comment.Given as goal
 
 abbrev pub invariant-loop-word : goal.invariant-loop-word
-invariant-loop-word l = record {
+invariant-loop-word g l = record {
   codes : l.self.codes ≡ l.fn.self.codes;
   text : l.self.reader.text ≡ l.fn.self.reader.text;
   waves : l.self.waves ≡ l.fn.self.waves;
@@ -15,4 +15,4 @@ invariant-loop-word l = record {
 }
 
 abbrev pub decreases-loop-word : goal.decreases-loop-word
-decreases-loop-word l = length l.self.reader.text.now - l.self.reader.at
+decreases-loop-word g l = length l.self.reader.text.now - l.self.reader.at

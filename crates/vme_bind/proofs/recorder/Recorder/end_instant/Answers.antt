@@ -5,9 +5,16 @@ use Rattle.std.proofs.lemmas.List.Sorted.{IsNonDecreasingBy-from_sort_by_key}
 use Rattle.vme_trace.specs.declared.step.Change.{Change}
 use Rattle.vme_bind.specs.Recording.{AreTouched}
 use Rattle.vme_bind.proofs.RecorderLemmas.{touched-permuted}
-use Rattle.vme_bind.proofs.EndLemmas.{ended-step, ended-none}
+use Rattle.vme_bind.proofs.EndLemmas.{ended-step, ended-none, ended-untouched}
 use Rattle.vme_bind.proofs.recorder.Recorder.end_instant.Goals as goal
 use Rattle.vme_bind.proofs.recorder.Recorder.end_instant.Goals.{in-Heap-1, in-Inline-1}
+
+pub returns-then-is_empty-clause-ok : goal.returns-then-is_empty-clause-ok
+returns-then-is_empty-clause-ok c =
+    let inside = c.self.inside in
+    let view : c.args.self.now ≡ record { shown = inside.shown; now = inside.now; steps = inside.steps.items } = search rules in
+    let empty : (length inside.touched.items == 0) ≡ true = search rules in
+    ended-untouched c.args.self.now inside.shown inside.now inside.steps.items inside.touched.items c.args.time view empty c.self.invariant
 
 pub show-requires-clause-sorted : goal.show-requires-clause-sorted
 show-requires-clause-sorted c =
@@ -18,8 +25,8 @@ show-requires-clause-touched c =
     subst (AreTouched c.self.inside.shown c.self.inside.now) (sym c.deref.ensures.value)
     (touched-permuted c.self.inside.shown c.self.inside.now c.self.inside.touched.items c.sort_unstable_by_key.new.self.items c.self.invariant c.sort_unstable_by_key.ensures.permutation)
 
-pub returns-in_ok-push : goal.returns-in_ok-push
-returns-in_ok-push c =
+pub returns-in_ok-push-clause-ok : goal.returns-in_ok-push-clause-ok
+returns-in_ok-push-clause-ok c =
     let inside = c.self.inside in
     let view : c.args.self.now ≡ record { shown = inside.shown; now = inside.now; steps = inside.steps.items } = search rules in
     let some : (length c.in_ok-changes.changes.items == 0) ≡ false = search rules in
@@ -27,8 +34,8 @@ returns-in_ok-push c =
     view c.in_ok-changes.ensures.shown c.in_ok-changes.ensures.changes some
     (c.in_ok-push.ensures.items ∙ ap (λ (cs : List Change). inside.steps.items ++ record { time = c.args.time; changes = cs } ∷ []) c.new.ensures)
 
-pub returns-else-not-is_empty : goal.returns-else-not-is_empty
-returns-else-not-is_empty c =
+pub returns-else-not-is_empty-clause-ok : goal.returns-else-not-is_empty-clause-ok
+returns-else-not-is_empty-clause-ok c =
     let inside = c.self.inside in
     let view : c.args.self.now ≡ record { shown = inside.shown; now = inside.now; steps = inside.steps.items } = search rules in
     let none : (length c.in_ok-changes.changes.items == 0) ≡ true = search rules in

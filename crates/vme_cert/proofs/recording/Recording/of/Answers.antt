@@ -1,22 +1,24 @@
--- Each mark stands where the steps between two marks end.
-use Rattle.std.proofs.Common.{◌++◌, ◌∷◌, [], map, sym, ◌∙◌, ap, arith}
-use Rattle.std.specs.List.{range_with_len}
-use Rattle.std.proofs.lemmas.List.FromFn.{map-range_with_len_more}
-use Rattle.vme_trace.proofs.CutBlocks.{levels_at-first, levels_at-next}
-use Rattle.vme_cert.specs.Marks.{mark_at}
+-- One step more, and the levels after it.
+use Rattle.std.proofs.Common.{◌≡◌, Some, refl, sym, ◌∙◌}
+use Rattle.std.specs.Prelude.{slice_get}
+use Rattle.std.proofs.lemmas.Option.{slice_get_read}
+use Rattle.vme_cert.proofs.LevelsThere.{levels_start, levels_first, levels_step, levels_pushed}
 use Rattle.vme_cert.proofs.recording.Recording.of.Goals as goal
 
-pub loop-number-init : goal.loop-number-init
-loop-number-init c = record { marked = c.in_ok-marks.ensures.items; reached = c.opening.ensures.opening ∙ sym (levels_at-first c.args.capture.now 1) }
-
-pub loop-number-preserved : goal.loop-number-preserved
-loop-number-preserved c =
-    let t = c.args.capture.now in
-    let n = c.loop-number.number in
+pub loop-step-init : goal.loop-step-init
+loop-step-init c =
     record {
-      marked =
-          c.in_ok-push.ensures.items ∙ ap (λ xs. xs ++ c.loop-number.lines ∷ []) c.loop-number.invariant.marked
-          ∙ ap (λ v. map (mark_at t) (range_with_len 0 n) ++ v ∷ []) c.loop-number.invariant.reached
-          ∙ sym (map-range_with_len_more (mark_at t) 0 n n (omega arith));
-      reached = c.follow.ensures ∙ levels_at-next 1 t n _ _ _ c.loop-number.invariant.reached c.steps-steps.ensures.steps c.min-end.ensures;
+      so_far = c.in_ok-push.ensures.items ∙ levels_first c.args.capture.now _ _ c.in_ok-levels.ensures.items c.opening.ensures.opening;
+      reached = c.opening.ensures.opening ∙ sym (levels_start c.args.capture.now);
+    }
+
+pub loop-step-preserved : goal.loop-step-preserved
+loop-step-preserved c =
+    let t = c.args.capture.now in
+    let n = c.loop-step.step-index in
+    let found : slice_get c.steps-steps.result.now n ≡ Some c.step-item.result = slice_get_read c.steps-steps.result.now _ n c.step-item.result refl c.loop-step-test.true c.step-item.is in
+    let here = levels_step t c.steps-steps.result.now n c.step-item.result c.as_slice.result.now c.loop-step.lines _ c.steps-steps.ensures.steps found c.as_slice.ensures c.loop-step.invariant.reached c.apply.ensures in
+    record {
+      so_far = levels_pushed t n _ _ _ c.loop-step.invariant.so_far here c.in_ok-push-2.ensures.items;
+      reached = here;
     }

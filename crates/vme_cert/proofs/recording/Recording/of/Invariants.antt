@@ -1,8 +1,7 @@
-use Rattle.std.proofs.Common.{◌≡◌, ◌*◌, map}
-use Rattle.std.specs.List.{range_with_len}
+use Rattle.std.proofs.Common.{◌≡◌}
 use Rattle.vme_trace.specs.Trace.{levels_at}
-use Rattle.vme_cert.specs.Marks.{mark_at}
+use Rattle.vme_cert.specs.LevelsAt.{levels_up_to}
 use Rattle.vme_cert.proofs.recording.Recording.of.Given as goal
 
-abbrev pub invariant-loop-number : goal.invariant-loop-number
-invariant-loop-number l = record { marked : l.marks.items ≡ map (mark_at l.capture) (range_with_len 0 l.number); reached : l.lines ≡ levels_at l.capture (l.number * 1) }
+abbrev pub invariant-loop-step : goal.invariant-loop-step
+invariant-loop-step l = record { so_far : l.levels.items ≡ levels_up_to l.capture l.step-index; reached : l.lines ≡ levels_at l.capture l.step-index }

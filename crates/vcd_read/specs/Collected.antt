@@ -1,0 +1,17 @@
+-- What comes of changes that are all kept: the instants.
+use Rattle.std.specs.Prelude.{ℕ, List, [], ◌∷◌, ◌++◌, length, replicate, slice_set, Option, Some, None}
+use Rattle.vcd_read.specs.declared.dump.Bit.{Bit}
+use Rattle.vcd_read.specs.declared.dump.Instant.{Instant}
+use Rattle.vcd_read.specs.Progress.{values_from}
+
+-- The instants before the one at hand, and the last value of each net at that.
+pub record Collected : Type 0 where
+  pub done : List Instant
+  pub current : List (Option (List Bit))
+
+abbrev pub collected_change : Collected → ℕ → List Bit → Collected
+collected_change c net bits = record c { current = slice_set c.current net (Some bits) }
+
+abbrev pub collected_instant : Collected → ℕ → Collected
+collected_instant c time =
+    record { done = c.done ++ record { time = time; values = values_from 0 c.current } ∷ []; current = replicate (length c.current) None }

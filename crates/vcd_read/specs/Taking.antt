@@ -1,0 +1,67 @@
+-- What comes of the items of a body, for whatever takes its changes: a fold, whose parts the taker says.
+use Rattle.std.specs.Prelude.{ℕ, Bool, true, false, ◌&&◌, not, ◌==◌, if◌then◌else◌, List, [], ◌∷◌, Option, None, option_map, unwrap_or, Result, Ok}
+use Rattle.vcd_read.specs.declared.dump.Bit.{Bit}
+use Rattle.vcd_read.specs.declared.fault.VcdFault.{VcdFault}
+use Rattle.vcd_read.specs.declared.waves.Clock.{Clock}
+use Rattle.vcd_read.specs.Tokens.{Token}
+use Rattle.vcd_read.specs.Numbers.{number, extended}
+use Rattle.vcd_read.specs.Reading.{line_at}
+use Rattle.vcd_read.specs.Header.{◌>>=◌, Net, net_of, size_of}
+use Rattle.vcd_read.specs.Body.{BodyItem, time_item, change, Standing, stand_after, at_the_end, ready, body_from}
+
+-- what came of the changes, with the current time
+pub record Taking (A : Type 0) : Type 0 where
+  pub taken : A
+  pub time : ℕ
+  -- whether there is an instant at the current time
+  pub begun : Bool
+
+abbrev pub taking : {A : Type 0} → A → Clock → Taking A
+taking a clock = record { taken = a; time = clock.time; begun = clock.begun }
+
+pub record State (A : Type 0) : Type 0 where
+  pub standing : Standing
+  pub progress : Taking A
+
+-- how far a body is read, with the place of the bracket that is open
+abbrev pub state_of : {A : Type 0} → List ℕ → Taking A → Option ℕ → State A
+state_of text waves bracket = record { standing = record { now = waves.time; bracket = option_map (line_at text) bracket }; progress = waves }
+
+-- before any item
+abbrev pub at_first : {A : Type 0} → A → State A
+at_first a = record { standing = record { now = 0; bracket = None }; progress = record { taken = a; time = 0; begun = false } }
+
+-- the end of an instant
+module _ {A : Type 0} (with_instant : A → ℕ → A) where
+  abbrev pub advanced : Taking A → ℕ → Taking A
+  advanced p t =
+      if p.begun && not (t == p.time) then record { taken = with_instant p.taken p.time; time = t; begun = true } else record p { time = t; begun = true }
+
+  abbrev pub ended : Taking A → A
+  ended p = if p.begun then with_instant p.taken p.time else p.taken
+
+  -- what comes of a body that is read to its end
+  abbrev pub at_end : State A → Result A VcdFault
+  at_end s = at_the_end s.standing >>= λ stood. Ok (ended s.progress)
+
+abbrev pub changed : {A : Type 0} → (A → ℕ → List Bit → A) → Taking A → ℕ → List Bit → Taking A
+changed with_change p net bits = record p { taken = with_change p.taken net bits; begun = true }
+
+module _ {A : Type 0} (with_change : A → ℕ → List Bit → A) (with_instant : A → ℕ → A) (nets : List Net) where
+  abbrev pub progress_after : Taking A → BodyItem → Taking A
+  progress_after p (time_item line digits) = advanced with_instant p (number digits)
+  progress_after p (change line digits code) =
+      let net = unwrap_or (net_of nets code) 0 in
+      changed with_change p net (extended (size_of nets net) digits)
+  progress_after p item = p
+
+  abbrev pub step : State A → BodyItem → Result (State A) VcdFault
+  step s item = stand_after nets s.standing item >>= λ next. Ok (record { standing = next; progress = progress_after s.progress item })
+
+  unfoldable pub steps : State A → List BodyItem → Result (State A) VcdFault
+  steps s [] = Ok s
+  steps s (item ∷ items) = step s item >>= λ next. steps next items
+
+  -- what comes of a whole body, or else its first fault
+  abbrev pub taken_from : A → List Token → Result A VcdFault
+  taken_from a body = steps (at_first a) (body_from ready body) >>= at_end with_instant

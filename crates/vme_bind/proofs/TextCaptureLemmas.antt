@@ -1,0 +1,178 @@
+-- The recording that a binding makes of the text of a dump, from what is read of it.
+use Rattle.std.proofs.Common.{◌≡◌, ℕ, List, [], length, refl, sym, ap, ◌∙◌, subst, Some, Result, Ok, Err}
+use Rattle.std.specs.Result.{MatchResult}
+use Rattle.std.proofs.lemmas.List.{append-nil}
+use Rattle.vme_trace.specs.Levels.{Levels}
+use Rattle.vme_trace.specs.Trace.{Trace}
+use Rattle.vme_trace.specs.WellFormed.{IsCapture, uncaptured_step}
+use Rattle.vme_trace.specs.declared.step.Step.{Step}
+use Rattle.vcd_read.specs.declared.dump.Bit.{Bit}
+use Rattle.vcd_read.specs.declared.dump.Instant.{Instant}
+use Rattle.vcd_read.specs.declared.dump.Variable.{Variable}
+use Rattle.vcd_read.specs.declared.fault.FaultKind.{FaultKind}
+use Rattle.vcd_read.specs.declared.fault.FaultKind.TheVariants.{Memory}
+use Rattle.vcd_read.specs.declared.fault.VcdFault.{VcdFault}
+use Rattle.vcd_read.specs.Contents.{Contents}
+use Rattle.vcd_read.specs.Tokens.{tokens}
+use Rattle.vcd_read.specs.Header.{◌>>=◌, nothing_declared}
+use Rattle.vcd_read.specs.Sections.{Headed, header_of}
+use Rattle.vcd_read.specs.Meaning.{Fails, FailsAs, dump_of, instants_from}
+use Rattle.vcd_read.specs.Taking.{taken_from}
+use Rattle.vcd_read.proofs.ReadLemmas.{fails_first, body_rises}
+use Rattle.vcd_read.proofs.DumpLemmas.{contents_behind, with_variables, dump_of-header, dump_behind}
+use Rattle.vcd_read.proofs.TakingLemmas.{Current, Ends, Follows, taken-follows, fails-followed, gives-followed}
+use Rattle.vme_bind.specs.declared.fault.BindFault.{BindFault}
+use Rattle.vme_bind.specs.declared.fault.BindKind.{BindKind}
+use Rattle.vme_bind.specs.declared.fault.BindKind.TheVariants.{Memory as NoMemory}
+use Rattle.vme_bind.specs.declared.fault.CaptureFault.{CaptureFault}
+use Rattle.vme_bind.specs.declared.fault.CaptureFault.TheVariants.{Dump, Binding}
+use Rattle.vme_bind.specs.declared.wires.Wire.{Wire}
+use Rattle.vme_bind.specs.Answers.{Fails as BindFails, FailsAs as BindFailsAs}
+use Rattle.vme_bind.specs.Binding.{BoundLines}
+use Rattle.vme_bind.specs.Wires.{wires_in}
+use Rattle.vme_bind.specs.Capture.{recording, limited, capture_of}
+use Rattle.vme_bind.specs.Recording.{Progress}
+use Rattle.vme_bind.specs.Made.{Made, IsBegun, made_change, made_instant}
+use Rattle.vme_bind.specs.TextCapture.{or_binding, or_dump, too_many_steps, body_capture, capture_read, capture_behind, capture_of_text, DumpFails, BindingFails, FailsBy, GivesBy}
+use Rattle.vme_bind.proofs.OpeningLemmas.{capture_of-is, recording-is}
+use Rattle.vme_bind.proofs.StepsLemmas.{well_formed, limited-ok, limited-err}
+use Rattle.vme_bind.proofs.MakingLemmas.{Makes, makes-first, makes-change, makes-instant}
+
+-- ---- a body
+
+-- the instants of a body, if it has no fault
+abbrev instants_in : Result (List Instant) VcdFault → List Instant
+instants_in (Ok instants) = instants
+instants_in (Err fault) = []
+
+module _ (slots : ℕ) (wires : List Wire) (h : Headed) where
+  abbrev IsMadeOf : List Instant → Current → Made → Type 0
+  IsMadeOf = Makes slots wires (length h.nets) (instants_in (instants_from h.nets h.body))
+
+  making-follows : (m : Made) (opening : Levels) → IsBegun slots wires opening m
+      → Follows (Ends IsMadeOf) (instants_from h.nets h.body) (taken_from made_change made_instant h.nets m h.body)
+  making-follows m opening begun =
+      let all : List Instant = instants_in (instants_from h.nets h.body) in
+      taken-follows made_change made_instant h.nets IsMadeOf
+      (λ done current a net bits lt made. makes-change slots wires (length h.nets) all done current a net bits lt made)
+      (λ done current a time made. makes-instant slots wires (length h.nets) all done current a time made)
+      h.body m (makes-first slots wires (length h.nets) all m opening begun.taps (begun.first all) begun.progress)
+
+  -- a fault of the body, met by what makes the recording
+  pub body-fails : (m : Made) (opening : Levels) (fault : VcdFault) → IsBegun slots wires opening m
+      → Fails fault (taken_from made_change made_instant h.nets m h.body) → FailsBy (Dump fault) (body_capture slots wires h)
+  body-fails m opening fault begun fails =
+      dump_fails fault.line fault.kind (fails-followed (Ends IsMadeOf) (instants_from h.nets h.body) _ fault (making-follows m opening begun) fails)
+    where
+      dump_fails : (line : ℕ) (kind : FaultKind) → Fails (record { line = line; kind = kind }) (instants_from h.nets h.body) → DumpFails line kind (body_capture slots wires h)
+      dump_fails line Memory e = e
+      dump_fails line kind e = ap (λ (r : Result (List Instant) VcdFault). or_dump r >>= λ instants. or_binding (limited (recording slots wires instants (length instants)))) e
+
+  -- what is made of a body, and its instants
+  abbrev pub IsRecorded : Levels → List Step → Type 0
+  IsRecorded opening steps = (instants : List Instant) × (instants_from h.nets h.body ≡ Ok instants) × (recording slots wires instants (length instants) ≡ record { opening = opening; steps = steps })
+
+  pub body-recorded : (m end : Made) (opening : Levels) → IsBegun slots wires opening m
+      → taken_from made_change made_instant h.nets m h.body ≡ Ok end → IsRecorded opening end.progress.steps
+  body-recorded m end opening begun ok =
+      let gives = gives-followed (Ends IsMadeOf) (instants_from h.nets h.body) _ end (making-follows m opening begun) ok in
+      let instants : List Instant = gives.0 in
+      let all : instants_in (instants_from h.nets h.body) ≡ instants = ap instants_in gives.1 in
+      let made = gives.2.1 [] (all ∙ sym (append-nil instants)) in
+      let steps : end.progress.steps ≡ (recording slots wires (instants_in (instants_from h.nets h.body)) (length instants)).steps = ap (λ (p : Progress). p.steps) made.progress in (
+        instants,
+        gives.1,
+        recording-is slots wires instants (length instants) opening end.progress.steps (begun.first instants)
+            (steps ∙ ap (λ (xs : List Instant). (recording slots wires xs (length instants)).steps) all),
+      )
+
+  body_by : (instants : List Instant) (t : Trace) → instants_from h.nets h.body ≡ Ok instants → recording slots wires instants (length instants) ≡ t → body_capture slots wires h ≡ or_binding (limited t)
+  body_by instants t e is =
+      ap (λ (r : Result (List Instant) VcdFault). or_dump r >>= λ instants. or_binding (limited (recording slots wires instants (length instants)))) e ∙ ap (λ (t : Trace). or_binding (limited t)) is
+
+  pub body-ok : (opening : Levels) (steps : List Step) (capture : Trace) → IsRecorded opening steps → capture ≡ record { opening = opening; steps = steps } → IsCapture capture → body_capture slots wires h ≡ Ok capture
+  body-ok opening steps capture made is sound = body_by made.0 capture made.1 (made.2 ∙ sym is) ∙ ap or_binding (limited-ok capture sound)
+
+  pub body-over : (opening : Levels) (steps : List Step) (n : ℕ) → IsRecorded opening steps → uncaptured_step (record { opening = opening; steps = steps }) ≡ Some n
+      → body_capture slots wires h ≡ Err too_many_steps
+  body-over opening steps n made over =
+      let up = body_rises h.nets h.body made.0 made.1 in
+      body_by made.0 (recording slots wires made.0 (length made.0)) made.1 refl
+      ∙ ap or_binding (limited-err (recording slots wires made.0 (length made.0)) n (well_formed slots wires made.0 up) (ap uncaptured_step made.2 ∙ over))
+
+  -- what is made of the steps
+  pub body-captured : (opening : Levels) (steps : List Step) (r : Result Trace CaptureFault) → IsRecorded opening steps
+      → MatchResult r (λ capture. (capture ≡ record { opening = opening; steps = steps }) × IsCapture capture)
+      (λ fault. (fault ≡ too_many_steps) × ((n : ℕ) × (uncaptured_step (record { opening = opening; steps = steps }) ≡ Some n)))
+      → GivesBy (λ (t : Trace). t) r (body_capture slots wires h)
+  body-captured opening steps (Ok capture) made (is, sound) = body-ok opening steps capture made is sound
+  body-captured opening steps (Err fault) made (is, (n, over)) = subst (λ (f : CaptureFault). FailsBy f (body_capture slots wires h)) (sym is) (body-over opening steps n made over)
+
+-- ---- a text
+
+pub text-dump : (b : BoundLines) (text : List ℕ) (fault : VcdFault) → Fails fault (dump_of text) → FailsBy (Dump fault) (capture_of_text b text)
+unfolding capture_of_text
+text-dump b text fault h = by_kind fault.line fault.kind h
+  where
+    by_kind : (line : ℕ) (kind : FaultKind) → Fails (record { line = line; kind = kind }) (dump_of text) → DumpFails line kind (capture_of_text b text)
+    by_kind line Memory e = e
+    by_kind line kind e = ap (capture_read b) e
+
+-- the fault of the definitions
+pub text-head : (b : BoundLines) (text : List ℕ) (fault : VcdFault) → Fails fault (header_of text nothing_declared (tokens text)) → FailsBy (Dump fault) (capture_of_text b text)
+text-head b text fault h = text-dump b text fault (fails_first fault (header_of text nothing_declared (tokens text)) contents_behind _ (dump_of-header text) h)
+
+-- the body behind the definitions
+pub text-behind : (b : BoundLines) (text : List ℕ) (h : Headed) (r : Result Trace CaptureFault) → header_of text nothing_declared (tokens text) ≡ Ok h
+    → GivesBy (λ (t : Trace). t) r (capture_behind b h) → GivesBy (λ (t : Trace). t) r (capture_of_text b text)
+unfolding capture_of_text
+text-behind b text h r head given = subst (λ (d : Result Contents VcdFault). GivesBy (λ (t : Trace). t) r (capture_read b d)) (sym (dump_behind text h head)) given
+
+-- what wires make of the instants
+by_instants : (b : BoundLines) (variables : List Variable) (wires : List Wire) (r : Result (List Instant) VcdFault) → wires_in variables b.assignments ≡ Ok wires
+    → capture_read b (r >>= with_variables variables) ≡ (or_dump r >>= λ instants. or_binding (limited (recording b.slots wires instants (length instants))))
+by_instants b variables wires (Ok instants) e =
+    let dump : Contents = record { variables = variables; instants = instants } in
+    ap or_binding (capture_of-is b dump ∙ ap (λ (r : Result (List Wire) BindFault). r >>= λ wires. limited (recording b.slots wires instants (length instants))) e)
+by_instants b variables wires (Err fault) e = refl
+
+pub behind-body : (b : BoundLines) (h : Headed) (wires : List Wire) (r : Result Trace CaptureFault) → wires_in h.variables b.assignments ≡ Ok wires
+    → GivesBy (λ (t : Trace). t) r (body_capture b.slots wires h) → GivesBy (λ (t : Trace). t) r (capture_behind b h)
+behind-body b h wires r e given = subst (GivesBy (λ (t : Trace). t) r) (sym (by_instants b h.variables wires (instants_from h.nets h.body) e)) given
+
+-- ---- a binding that doesn't fit
+
+abbrev passed_change : Unit {0} → ℕ → List Bit → Unit {0}
+passed_change u net bits = u
+
+abbrev passed_instant : Unit {0} → ℕ → Unit {0}
+passed_instant u time = u
+
+abbrev Passes : List Instant → Current → Unit {0} → Type 0
+Passes done current u = Unit {0}
+
+passing-follows : (h : Headed) (u : Unit {0}) → Follows (Ends Passes) (instants_from h.nets h.body) (taken_from passed_change passed_instant h.nets u h.body)
+passing-follows h u = taken-follows passed_change passed_instant h.nets Passes (λ done current a net bits lt made. tt) (λ done current a time made. tt) h.body u tt
+
+behind_dump : (b : BoundLines) (h : Headed) (line : ℕ) (kind : FaultKind) → FailsAs line kind (instants_from h.nets h.body) → DumpFails line kind (capture_behind b h)
+behind_dump b h line Memory e = e
+behind_dump b h line kind e = ap (λ (r : Result (List Instant) VcdFault). capture_read b (r >>= with_variables h.variables)) e
+
+-- a fault of the body comes first
+pub behind-first : (b : BoundLines) (h : Headed) (u : Unit {0}) (fault : VcdFault) → Fails fault (taken_from passed_change passed_instant h.nets u h.body) → FailsBy (Dump fault) (capture_behind b h)
+behind-first b h u fault fails = behind_dump b h fault.line fault.kind (fails-followed (Ends Passes) (instants_from h.nets h.body) _ fault (passing-follows h u) fails)
+
+by_binding : (line : ℕ) (kind : BindKind) (b : BoundLines) (dump : Contents) (answer : Result Trace CaptureFault) → answer ≡ or_binding (capture_of b dump)
+    → BindFailsAs line kind (wires_in dump.variables b.assignments) → BindingFails line kind answer
+by_binding line NoMemory b dump answer is e = e
+by_binding line kind b dump answer is e =
+    is ∙ ap or_binding (capture_of-is b dump ∙ ap (λ (r : Result (List Wire) BindFault). r >>= λ wires. limited (recording b.slots wires dump.instants (length dump.instants))) e)
+
+-- the binding's own fault, where the body has none
+pub behind-binding : (b : BoundLines) (h : Headed) (u end : Unit {0}) (fault : BindFault) → taken_from passed_change passed_instant h.nets u h.body ≡ Ok end
+    → BindFails fault (wires_in h.variables b.assignments) → FailsBy (Binding fault) (capture_behind b h)
+behind-binding b h u end fault ok fails =
+    let gives = gives-followed (Ends Passes) (instants_from h.nets h.body) _ end (passing-follows h u) ok in
+    let dump : Contents = record { variables = h.variables; instants = gives.0 } in
+    let is : (instants_from h.nets h.body >>= with_variables h.variables) ≡ Ok dump = ap (λ (r : Result (List Instant) VcdFault). r >>= with_variables h.variables) gives.1 in
+    by_binding fault.line fault.kind b dump (capture_behind b h) (ap (capture_read b) is) fails

@@ -1,0 +1,38 @@
+-- The recording that is made as a dump is read.
+use Rattle.std.specs.Prelude.{◌≡◌, ℕ, List, [], ◌++◌, map}
+use Rattle.vme_trace.specs.Levels.{Levels}
+use Rattle.vme_trace.specs.LineNumbers.{line_count}
+use Rattle.vme_trace.specs.Trace.{changed}
+use Rattle.vcd_read.specs.declared.dump.Bit.{Bit}
+use Rattle.vcd_read.specs.declared.dump.Instant.{Instant}
+use Rattle.vme_bind.specs.declared.taps.Taps.{Taps}
+use Rattle.vme_bind.specs.declared.wires.Wire.{Wire}
+use Rattle.vme_bind.specs.Capture.{levels_after}
+use Rattle.vme_bind.specs.Taps.{taps_of, taps_below}
+use Rattle.vme_bind.specs.Recording.{Progress, tapped, step_between}
+
+-- the steps so far, and the lines of the nets
+pub record Made : Type 0 where
+  pub taps : Taps
+  pub progress : Progress
+
+-- a net gets these bits
+abbrev pub made_change : Made → ℕ → List Bit → Made
+made_change m net bits = record m { progress = record m.progress { now = changed m.progress.now (map (tapped bits) (taps_of m.taps net)) } }
+
+-- an instant ends
+abbrev pub made_instant : Made → ℕ → Made
+made_instant m time =
+    record m {
+      progress = record {
+        shown = m.progress.now;
+        now = m.progress.now;
+        steps = m.progress.steps ++ step_between time m.progress.shown m.progress.now;
+      };
+    }
+
+-- nothing is taken yet, for lines of so many slots with these wires
+pub record IsBegun (slots : ℕ) (wires : List Wire) (opening : Levels) (m : Made) : Type 0 where
+  pub first : (instants : List Instant) → opening ≡ levels_after slots wires instants 0
+  pub taps : (net : ℕ) → taps_of m.taps net ≡ taps_below slots wires net line_count
+  pub progress : m.progress ≡ record { shown = opening; now = opening; steps = [] }

@@ -1,0 +1,65 @@
+-- The recording that a binding makes of the text of a dump.
+use Rattle.std.specs.Prelude.{◌≡◌, ℕ, List, length, Result, Ok, Err}
+use Rattle.vme_trace.specs.Trace.{Trace}
+use Rattle.vcd_read.specs.Contents.{Contents}
+use Rattle.vcd_read.specs.Header.{◌>>=◌}
+use Rattle.vcd_read.specs.Sections.{Headed}
+use Rattle.vcd_read.specs.Meaning.{dump_of, instants_from}
+use Rattle.vcd_read.specs.declared.fault.VcdFault.{VcdFault}
+use Rattle.vcd_read.specs.declared.fault.FaultKind.{FaultKind}
+use Rattle.vcd_read.specs.declared.fault.FaultKind.TheVariants.{Memory}
+use Rattle.vme_bind.specs.declared.fault.BindFault.{BindFault}
+use Rattle.vme_bind.specs.declared.fault.BindKind.{BindKind}
+use Rattle.vme_bind.specs.declared.fault.BindKind.TheVariants.{TooManySteps, Memory as NoMemory}
+use Rattle.vme_bind.specs.declared.fault.CaptureFault.{CaptureFault}
+use Rattle.vme_bind.specs.declared.fault.CaptureFault.TheVariants.{Dump, Binding}
+use Rattle.vme_bind.specs.Binding.{BoundLines}
+use Rattle.vme_bind.specs.declared.wires.Wire.{Wire}
+use Rattle.vme_bind.specs.Capture.{recording, limited, capture_of}
+
+abbrev pub or_binding : {A : Type 0} → Result A BindFault → Result A CaptureFault
+or_binding (Ok x) = Ok x
+or_binding (Err fault) = Err (Binding fault)
+
+abbrev pub or_dump : {A : Type 0} → Result A VcdFault → Result A CaptureFault
+or_dump (Ok x) = Ok x
+or_dump (Err fault) = Err (Dump fault)
+
+-- the fault of a recording that has too many
+abbrev pub too_many_steps : CaptureFault
+too_many_steps = Binding (record { line = 0; kind = TooManySteps })
+
+-- what wires make of the body behind some definitions
+abbrev pub body_capture : ℕ → List Wire → Headed → Result Trace CaptureFault
+body_capture slots wires h = or_dump (instants_from h.nets h.body) >>= λ instants. or_binding (limited (recording slots wires instants (length instants)))
+
+-- what a binding makes of what reading a dump gave: a fault of the dump comes first
+abbrev pub capture_read : BoundLines → Result Contents VcdFault → Result Trace CaptureFault
+capture_read b (Ok dump) = or_binding (capture_of b dump)
+capture_read b (Err fault) = Err (Dump fault)
+
+-- what it makes of the body behind some definitions
+abbrev pub capture_behind : BoundLines → Headed → Result Trace CaptureFault
+capture_behind b h = capture_read b (instants_from h.nets h.body >>= λ instants. Ok (record { variables = h.variables; instants = instants }))
+
+-- the recording that a binding makes of the dump that a text is, or else the first fault
+unfoldable pub capture_of_text : BoundLines → List ℕ → Result Trace CaptureFault
+capture_of_text b text = capture_read b (dump_of text)
+
+abbrev pub DumpFails : {Y : Type 0} → ℕ → FaultKind → Result Y CaptureFault → Type 0
+DumpFails line Memory answer = line ≡ 0
+DumpFails line kind answer = answer ≡ Err (Dump (record { line = line; kind = kind }))
+
+abbrev pub BindingFails : {Y : Type 0} → ℕ → BindKind → Result Y CaptureFault → Type 0
+BindingFails line NoMemory answer = line ≡ 0
+BindingFails line kind answer = answer ≡ Err (Binding (record { line = line; kind = kind }))
+
+-- the fault is the answer, unless memory ran out
+abbrev pub FailsBy : {Y : Type 0} → CaptureFault → Result Y CaptureFault → Type 0
+FailsBy (Dump fault) answer = DumpFails fault.line fault.kind answer
+FailsBy (Binding fault) answer = BindingFails fault.line fault.kind answer
+
+-- what a function returned, seen by view, is the answer, unless memory ran out
+abbrev pub GivesBy : {X Y : Type 0} → (X → Y) → Result X CaptureFault → Result Y CaptureFault → Type 0
+GivesBy view (Ok x) answer = answer ≡ Ok (view x)
+GivesBy view (Err fault) answer = FailsBy fault answer

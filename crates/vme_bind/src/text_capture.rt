@@ -1,0 +1,119 @@
+//! The recording that a binding makes of the text of a dump.
+
+ghost use Rattle.std.specs.Prelude.{◌≡◌, ℕ, List, Some, IfOk, MatchResult, replicate};
+ghost use Rattle.vme_trace.specs.WellFormed.{IsCapture, uncaptured_step};
+ghost use Rattle.vme_trace.specs.declared.level.Level.TheVariants.{Unknown};
+ghost use Rattle.vme_bind.specs.Answers.{Fails};
+ghost use Rattle.vme_bind.specs.Binding.{BoundLines};
+ghost use Rattle.vme_bind.specs.Wires.{wires_in};
+ghost use Rattle.vme_bind.specs.declared.wires.Wire.{Wire};
+ghost use Rattle.vme_bind.specs.Made.{IsBegun};
+ghost use Rattle.vme_bind.specs.TextCapture.{FailsBy, GivesBy, too_many_steps, body_capture, capture_behind, capture_of_text};
+
+use crate::binding::Binding;
+use crate::capture::opening_of;
+use crate::fault::{BindFault, BindKind, CaptureFault};
+use crate::making::{Making, Passing};
+use crate::recorder::Recorder;
+use crate::taps::Taps;
+use crate::wires::Wire;
+use std::alloc::{AllocError, Global};
+use vcd_read::{Head, read_definitions};
+use vme_trace::{Capture, Lines, Step};
+
+/// The opening, and what takes the changes of a dump and has taken none.
+fn making_of(alloc: Global, lines: &Lines, wires: &[Wire]) -> Result<(Lines, Making), AllocError>
+    requires { lines.now.levels ≡ replicate 159 Unknown }
+    ensures { IfOk result (λ made. IsBegun lines.now.slots wires.now made.0 made.1) }
+{
+    let taps = Taps::of_wires(alloc, lines, wires)?;
+    let opening = opening_of(lines, wires);
+    let recorder = Recorder::new(alloc, opening);
+    let making = Making::new(taps, recorder);
+    Ok((opening, making))
+}
+
+/// The recording of these steps, if they aren't too many.
+fn captured(opening: Lines, steps: Vec<Step>) -> Result<Capture, CaptureFault>
+    ensures { MatchResult result
+        (λ capture. (capture ≡ record { opening = opening; steps = steps.items }) × IsCapture capture)
+        (λ fault. (fault ≡ too_many_steps)
+        × ((n : ℕ) × (uncaptured_step (record { opening = opening; steps = steps.items }) ≡ Some n))) }
+{
+    match Capture::new(opening, steps) {
+        Ok(capture) => Ok(capture),
+        Err(_) => Err(CaptureFault::Binding(BindFault {
+            line: 0,
+            kind: BindKind::TooManySteps,
+        })),
+    }
+}
+
+/// Reads the body behind some definitions.
+fn record_body(
+    alloc: Global,
+    made: (Lines, Making),
+    head: &Head<'_>,
+) -> Result<Capture, CaptureFault>
+    ensures { (slots : ℕ) (wires : List Wire) → IsBegun slots wires made.0 made.1 → GivesBy (λ capture. capture) result (body_capture slots wires head.now) }
+{
+    let (opening, making) = made;
+    match head.read_body(alloc, making) {
+        Ok(end) => captured(opening, end.into_steps()),
+        Err(fault) => Err(CaptureFault::Dump(fault)),
+    }
+}
+
+/// The recording that wires make of the body behind some definitions.
+fn capture_body(
+    alloc: Global,
+    lines: &Lines,
+    wires: &[Wire],
+    head: &Head<'_>,
+) -> Result<Capture, CaptureFault>
+    requires { lines.now.levels ≡ replicate 159 Unknown }
+    ensures { GivesBy (λ capture. capture) result (body_capture lines.now.slots wires.now head.now) }
+{
+    match making_of(alloc, lines, wires) {
+        Ok(made) => record_body(alloc, made, head),
+        Err(_) => Err(CaptureFault::Binding(BindFault {
+            line: 0,
+            kind: BindKind::Memory,
+        })),
+    }
+}
+
+/// A fault of the body behind some definitions, which comes first, or else this fault of a binding.
+fn first_fault(alloc: Global, head: &Head<'_>, fault: BindFault) -> CaptureFault
+    ensures { (b : BoundLines) → Fails fault (wires_in head.now.variables b.assignments) → FailsBy result (capture_behind b head.now) }
+{
+    match head.read_body(alloc, Passing) {
+        Ok(_) => CaptureFault::Binding(fault),
+        Err(first) => CaptureFault::Dump(first),
+    }
+}
+
+impl Binding {
+    /// The recording that the binding makes of the dump that a text is, which is read once and isn't kept.
+    ///
+    /// It is what `capture` gives for the dump that `read_vcd` reads. A fault of the dump comes before one of the
+    /// binding.
+    pub fn capture_text(&self, alloc: Global, text: &[u8]) -> Result<Capture, CaptureFault>
+        ensures { GivesBy (λ capture. capture) result (capture_of_text self.now text.now) }
+    {
+        match read_definitions(alloc, text) {
+            Ok(head) => self.capture_head(alloc, &head),
+            Err(fault) => Err(CaptureFault::Dump(fault)),
+        }
+    }
+
+    /// The recording of the body behind some definitions.
+    fn capture_head(&self, alloc: Global, head: &Head<'_>) -> Result<Capture, CaptureFault>
+        ensures { GivesBy (λ capture. capture) result (capture_behind self.now head.now) }
+    {
+        match Wire::all(alloc, self.assignments(), head.variables()) {
+            Ok(wires) => capture_body(alloc, self.lines(), &wires, head),
+            Err(fault) => Err(first_fault(alloc, head, fault)),
+        }
+    }
+}

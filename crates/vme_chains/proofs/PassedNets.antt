@@ -1,0 +1,31 @@
+-- Changes of lines that aren't nets of grants.
+use Rattle.std.proofs.Common.{◌≡◌, ℕ, ◌+◌, ◌<◌, Bool, false, List, ◌∷◌, length, get_or, drop, refl, ap, sym, ◌∙◌}
+use Rattle.std.specs.Prelude.{None}
+use Rattle.std.proofs.lemmas.List.{drop_more}
+use Rattle.vme_trace.specs.LineNumbers.{is_grant}
+use Rattle.vme_trace.specs.Levels.{Levels}
+use Rattle.vme_trace.specs.declared.rule.Rule.TheVariants.{G1, G2, G3, G4}
+use Rattle.vme_trace.specs.declared.step.Change.{Change}
+use Rattle.vme_chains.specs.GrantLevels.{first_changed, is_net_broken}
+use Rattle.vme_chains.specs.GrantSpec.{nets_fault}
+use Rattle.vme_chains.proofs.GrantSkips.{net_off}
+use Rattle.vme_chains.proofs.GrantTests.{first_false}
+
+passed_first : (p : ℕ → Bool) (c : Change) (cs : List Change) → p c.line ≡ false → first_changed p (c ∷ cs) ≡ first_changed p cs
+passed_first p c cs h = rw h refl
+
+-- one change more is passed
+pub passed_more : (p : ℕ → Bool) → ((k : ℕ) → is_grant k ≡ false → p k ≡ false) → (cs : List Change) (i : ℕ) (c : Change) → i < length cs → c ≡ get_or cs i c → is_grant c.line ≡ false → first_changed p (drop i cs) ≡ first_changed p cs → first_changed p (drop (i + 1) cs) ≡ first_changed p cs
+passed_more p none cs i c h e other so_far =
+    let split : drop i cs ≡ c ∷ drop (i + 1) cs = drop_more cs i c h ∙ ap (λ x. x ∷ drop (i + 1) cs) (sym e) in
+    sym (passed_first p c (drop (i + 1) cs) (none c.line other)) ∙ (sym (ap (first_changed p) split) ∙ so_far)
+
+-- they break no rule on the nets
+pub nets-passed : (v w : Levels) (cs : List Change) → ((p : ℕ → Bool) → ((k : ℕ) → is_grant k ≡ false → p k ≡ false) → first_changed p cs ≡ None) → nets_fault v w cs ≡ None
+nets-passed v w cs none =
+    rw (
+      none (is_net_broken G1 v w) (λ l k. net_off _ _ _ (first_false (is_grant l) _ k)),
+      none (is_net_broken G2 v w) (λ l k. net_off _ _ _ (first_false (is_grant l) _ k)),
+      none (is_net_broken G3 v w) (λ l k. net_off _ _ _ (first_false (is_grant l) _ k)),
+      none (is_net_broken G4 v w) (λ l k. net_off _ _ _ k),
+    ) refl
