@@ -1,7 +1,9 @@
 //! The body: times, changes and brackets.
 
-ghost use Rattle.std.specs.Prelude.{◌≡◌, ◌<◌, ◌≤◌, ◌∷◌, length, Ok, true};
+ghost use Rattle.std.specs.Prelude.{◌≡◌, ℕ, List, ◌<◌, ◌≤◌, ◌∷◌, length, slice_index, Ok, true, false};
 ghost use Rattle.std.specs.Option.{ForSome};
+ghost use Rattle.vcd_read.specs.Tokens.{is_space};
+ghost use Rattle.vcd_read.specs.Numbers.{time_of};
 ghost use Rattle.vcd_read.specs.Reading.{line_at, left_at};
 ghost use Rattle.vcd_read.specs.Body.{time_item, change, skipped, bracket_open, bracket_end, ready, code_of_vector, code_of_foreign, in_comment};
 ghost use Rattle.vcd_read.specs.Taking.{taking, state_of, step, at_end, taken_from};
@@ -41,13 +43,39 @@ impl<'a, 'c, T: Taker> Body<'a, 'c, T> {
             (taking (T.taken self.new.waves.taker) self.new.waves.clock) self.new.bracket)
             (state_of self.new.reader.text.now (taking (T.taken self.new.waves.taker) self.new.waves.clock) self.new.bracket) result }
     {
-        let Some(token) = self.reader.next() else {
+        let Some(at) = self.reader.start() else {
             return Ok(false);
         };
-        match self.item(alloc, token) {
+        match self.item_at(alloc, at) {
             Ok(()) => Ok(true),
             Err(fault) => Err(fault),
         }
+    }
+
+    /// Reads the item whose first token is at hand. Nearly all are short times and short changes, of which each byte is
+    /// looked at once.
+    #[inline(always)]
+    fn item_at(&mut self, alloc: Global, at: usize) -> Result<(), VcdFault>
+        requires hand { at ≡ self.old.reader.at }
+        requires within { at < length self.old.reader.text.now }
+        requires word { is_space (slice_index self.old.reader.text.now at) ≡ false }
+        ensures codes { self.new.codes ≡ self.old.codes }
+        ensures text { self.new.reader.text ≡ self.old.reader.text }
+        ensures moves { self.old.reader.at < self.new.reader.at }
+        ensures rest { Leaves
+            (remaining_in T.with_change T.with_instant ready self.old.codes.now self.old.reader
+            (taking (T.taken self.old.waves.taker) self.old.waves.clock) self.old.bracket)
+            (remaining_in T.with_change T.with_instant ready self.new.codes.now self.new.reader
+            (taking (T.taken self.new.waves.taker) self.new.waves.clock) self.new.bracket) result }
+    {
+        if let Some(short) = self.reader.short_time() {
+            return self.go_to(alloc, at, short.time);
+        }
+        if let Some(short) = self.reader.short_change() {
+            return self.change(alloc, at, short.digit, short.code);
+        }
+        let bytes = self.reader.word();
+        self.item(alloc, Token { at, bytes })
     }
 
     /// Reads the item that a token is or begins.
@@ -84,15 +112,27 @@ impl<'a, 'c, T: Taker> Body<'a, 'c, T> {
             (time_item (line_at self.old.reader.text.now at) digits.now)) }
     {
         match decimal(digits, u64::MAX, FaultKind::BadToken) {
-            Ok(time) => {
-                if time < self.waves.clock.time {
-                    return Err(self.reader.fault(at, FaultKind::TimeBackwards));
-                }
-                self.waves.advance(alloc, time)?;
-                Ok(())
-            }
+            Ok(time) => self.go_to(alloc, at, time),
             Err(kind) => Err(self.reader.fault(at, kind)),
         }
+    }
+
+    /// Goes on to the time of the digits at a place.
+    #[inline(always)]
+    fn go_to(&mut self, alloc: Global, at: usize, time: u64) -> Result<(), VcdFault>
+        requires { at ≤ length self.old.reader.text.now }
+        ensures same { (self.new.reader ≡ self.old.reader) × (self.new.codes ≡ self.old.codes) }
+        ensures step { (digits : List ℕ) → time_of digits ≡ Ok time → Gives (λ _. state_of self.new.reader.text.now
+            (taking (T.taken self.new.waves.taker) self.new.waves.clock) self.new.bracket) result
+            (step T.with_change T.with_instant self.old.codes.now (state_of self.old.reader.text.now
+            (taking (T.taken self.old.waves.taker) self.old.waves.clock) self.old.bracket)
+            (time_item (line_at self.old.reader.text.now at) digits)) }
+    {
+        if time < self.waves.clock.time {
+            return Err(self.reader.fault(at, FaultKind::TimeBackwards));
+        }
+        self.waves.advance(alloc, time)?;
+        Ok(())
     }
 
     #[inline(always)]

@@ -28,6 +28,7 @@ pub(crate) enum Shape<'a> {
     Unknown,
 }
 
+#[inline(always)]
 pub(crate) fn shape_of(token: &[u8]) -> Shape<'_>
     ensures { found_shape result ≡ shape_of token.now }
 {
@@ -97,7 +98,7 @@ fn all_bits(digits: &[u8]) -> bool
     digits.iter().all(|digit| is_bit(*digit))
 }
 
-fn is_bit(digit: u8) -> bool
+pub(crate) fn is_bit(digit: u8) -> bool
     ensures { result ≡ is_bit digit }
 {
     matches!(digit, b'0' | b'1' | b'x' | b'X' | b'z' | b'Z')

@@ -1,16 +1,34 @@
 //! The tokens of a text, from the left.
 
-ghost use Rattle.std.specs.Prelude.{◌≡◌, ℕ, true, false, ◌∷◌, [], ◌<◌, ◌≤◌, length, slice_index, IfSome, MatchOption};
+ghost use Rattle.std.specs.Prelude.{◌≡◌, ℕ, true, false, ◌∷◌, ◌++◌, [], ◌<◌, ◌≤◌, length, slice_index, Ok, IfSome, IfNone, MatchOption};
 ghost use Rattle.vcd_read.specs.Tokens.{is_space};
+ghost use Rattle.vcd_read.specs.Numbers.{time_of};
+ghost use Rattle.vcd_read.specs.Body.{shape_of, scalar};
 ghost use Rattle.vcd_read.specs.Reading.{left_at, line_at, token_at};
 
 use crate::fault::{FaultKind, VcdFault};
+use crate::number::{Leading, leading_number};
+use crate::shape::is_bit;
 
 /// A token, and the place of its first byte.
 #[derive(Clone, Copy)]
 pub(crate) struct Token<'a> {
     pub at: usize,
     pub bytes: &'a [u8],
+}
+
+/// A time of at most 19 digits, and those digits.
+#[derive(Clone, Copy)]
+pub(crate) struct ShortTime<'a> {
+    pub time: u64,
+    pub digits: &'a [u8],
+}
+
+/// A scalar change of a code of one byte: its digit and its code.
+#[derive(Clone, Copy)]
+pub(crate) struct ShortChange<'a> {
+    pub digit: &'a [u8],
+    pub code: &'a [u8],
 }
 
 /// A text, and the place up to which it is read.
@@ -62,12 +80,124 @@ fn word_end(text: &[u8], at: usize) -> usize
     i
 }
 
+/// Whether no word goes on at a place.
+#[inline(always)]
+fn ends_word(text: &[u8], at: usize) -> bool
+    ensures ends { result ≡ true → at < length text.now → is_space (slice_index text.now at) ≡ true }
+    ensures goes_on { result ≡ false → (at < length text.now) × (is_space (slice_index text.now at) ≡ false) }
+{
+    match text.get(at) {
+        Some(b) => is_space(*b),
+        None => true,
+    }
+}
+
+/// The place behind the space that ends a word here, or the end.
+#[tactic(auto, using(crate::proofs::TokenLemmas::left_step))]
+#[inline(always)]
+fn behind_word(text: &[u8], end: usize) -> usize
+    requires within { end ≤ length text.now }
+    requires space { end < length text.now → is_space (slice_index text.now end) ≡ true }
+    ensures low { end ≤ result }
+    ensures high { result ≤ length text.now }
+    ensures left { left_at text.now result ≡ left_at text.now end }
+{
+    if end < text.len() { end + 1 } else { end }
+}
+
 impl<'a> Reader<'a> {
     pub fn new(text: &'a [u8]) -> Reader<'a>
         ensures text { result.text.now ≡ text.now }
         ensures at { result.at ≡ 0 }
     {
         Reader { text, at: 0 }
+    }
+
+    /// Goes on to the next token, and gives its place.
+    #[inline(always)]
+    pub fn start(&mut self) -> Option<usize>
+        ensures text { self.new.text ≡ self.old.text }
+        ensures left { left_at self.old.text.now self.new.at ≡ left_at self.old.text.now self.old.at }
+        ensures forward { self.old.at ≤ self.new.at }
+        ensures at { MatchOption result (left_at self.old.text.now self.old.at ≡ []) (λ at. (at ≡ self.new.at) × (at < length self.old.text.now)) }
+        ensures word { IfSome result (λ at. is_space (slice_index self.old.text.now at) ≡ false) }
+    {
+        self.at = word_start(self.text, self.at);
+        if self.at < self.text.len() {
+            Some(self.at)
+        } else {
+            None
+        }
+    }
+
+    /// Reads the token at hand.
+    #[inline(always)]
+    pub fn word(&mut self) -> &'a [u8]
+        requires within { self.old.at < length self.old.text.now }
+        requires word { is_space (slice_index self.old.text.now self.old.at) ≡ false }
+        ensures text { self.new.text ≡ self.old.text }
+        ensures token { left_at self.old.text.now self.old.at ≡ token_at self.old.text.now self.old.at result.now ∷ left_at self.old.text.now self.new.at }
+        ensures moves { self.old.at < self.new.at }
+        ensures some { 0 < length result.now }
+    {
+        let start = self.at;
+        let end = word_end(self.text, start + 1);
+        self.at = behind_word(self.text, end);
+        &self.text[start..end]
+    }
+
+    /// Reads the token at hand where it is a time of at most 19 digits.
+    #[inline(always)]
+    pub fn short_time(&mut self) -> Option<ShortTime<'a>>
+        requires { self.old.at < length self.old.text.now }
+        ensures text { self.new.text ≡ self.old.text }
+        ensures none { IfNone result (self.new.at ≡ self.old.at) }
+        ensures token { IfSome result (λ t. left_at self.old.text.now self.old.at
+            ≡ token_at self.old.text.now self.old.at (35 ∷ t.digits.now) ∷ left_at self.old.text.now self.new.at) }
+        ensures time { IfSome result (λ t. time_of t.digits.now ≡ Ok t.time) }
+        ensures moves { IfSome result (λ t. self.old.at < self.new.at) }
+    {
+        if self.text[self.at] != b'#' {
+            return None;
+        }
+        let start = self.at + 1;
+        let Leading { number, count } = leading_number(&self.text[start..]);
+        let end = start + count;
+        if count == 0 || !ends_word(self.text, end) {
+            return None;
+        }
+        self.at = behind_word(self.text, end);
+        Some(ShortTime {
+            time: number,
+            digits: &self.text[start..end],
+        })
+    }
+
+    /// Reads the token at hand where it is a scalar change of a code of one byte.
+    #[inline(always)]
+    pub fn short_change(&mut self) -> Option<ShortChange<'a>>
+        requires { self.old.at < length self.old.text.now }
+        ensures text { self.new.text ≡ self.old.text }
+        ensures none { IfNone result (self.new.at ≡ self.old.at) }
+        ensures token { IfSome result (λ c. left_at self.old.text.now self.old.at
+            ≡ token_at self.old.text.now self.old.at (c.digit.now ++ c.code.now) ∷ left_at self.old.text.now self.new.at) }
+        ensures shape { IfSome result (λ c. shape_of (c.digit.now ++ c.code.now) ≡ scalar c.digit.now c.code.now) }
+        ensures moves { IfSome result (λ c. self.old.at < self.new.at) }
+        ensures some { IfSome result (λ c. 0 < length c.digit.now) }
+    {
+        let start = self.at;
+        if !is_bit(self.text[start]) || ends_word(self.text, start + 1) {
+            return None;
+        }
+        let end = start + 2;
+        if !ends_word(self.text, end) {
+            return None;
+        }
+        self.at = behind_word(self.text, end);
+        Some(ShortChange {
+            digit: &self.text[start..start + 1],
+            code: &self.text[start + 1..end],
+        })
     }
 
     pub fn next(&mut self) -> Option<Token<'a>>
@@ -79,17 +209,11 @@ impl<'a> Reader<'a> {
         ensures forward { self.old.at ≤ self.new.at }
         ensures within { IfSome result (λ t. (t.at < length self.old.text.now) × (0 < length t.bytes.now)) }
     {
-        let start = word_start(self.text, self.at);
-        if start == self.text.len() {
-            self.at = start;
+        let Some(at) = self.start() else {
             return None;
-        }
-        let end = word_end(self.text, start + 1);
-        self.at = end;
-        Some(Token {
-            at: start,
-            bytes: &self.text[start..end],
-        })
+        };
+        let bytes = self.word();
+        Some(Token { at, bytes })
     }
 
     /// The line of a place.
@@ -100,6 +224,8 @@ impl<'a> Reader<'a> {
         self.text[..at].iter().filter(|b| **b == b'\n').count() as u64 + 1
     }
 
+    #[cold]
+    #[inline(never)]
     pub fn fault(&self, at: usize, kind: FaultKind) -> VcdFault
         requires { at ≤ length self.now.text.now }
         ensures { result ≡ record { line = line_at self.now.text.now at; kind = kind } }

@@ -45,11 +45,13 @@ impl<T: Taker> Waves<T> {
         if self.clock.begun && time != self.clock.time {
             self.taker.end_instant(alloc, self.clock.time)?;
         }
-        self.clock = Clock { time, begun: true };
+        self.clock.time = time;
+        self.clock.begun = true;
         Ok(())
     }
 
     /// A change at the current time.
+    #[inline(always)]
     pub fn change(
         &mut self,
         alloc: Global,

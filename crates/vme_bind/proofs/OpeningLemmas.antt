@@ -1,6 +1,6 @@
 -- The levels before any change, and the recording from one instant to the next.
-use Rattle.std.proofs.Common.{◌≡◌, ◌≢◌, ℕ, zero, suc, ◌+◌, ◌<◌, ◌≤◌, List, [], ◌∷◌, ◌++◌, length, get_or, refl, sym, ap, ◌∙◌, subst, arith, inl, inr, Option, Some, None, Result, Ok, Err}
-use Rattle.std.specs.Prelude.{replicate, slice_get}
+use Rattle.std.proofs.Common.{◌≡◌, ◌≢◌, ℕ, zero, suc, ◌+◌, ◌<◌, ◌≤◌, Bool, true, false, cond, List, [], ◌∷◌, ◌++◌, length, get_or, refl, sym, ap, ◌∙◌, subst, arith, inl, inr, Option, Some, None, Result, Ok, Err}
+use Rattle.std.specs.Prelude.{nat_lt, replicate, slice_get}
 use Rattle.std.proofs.lemmas.Bool.{cases_lt, cases_eq}
 use Rattle.std.proofs.lemmas.List.{length-replicate}
 use Rattle.std.proofs.lemmas.Option.{unwrap_or-slice_get}
@@ -8,7 +8,7 @@ use Rattle.vme_trace.specs.Instants.{those, greatest}
 use Rattle.vme_trace.specs.Levels.{Levels, level_at, set_level}
 use Rattle.vme_trace.specs.LineNumbers.{line_count}
 use Rattle.vme_trace.specs.Trace.{Trace}
-use Rattle.vme_trace.specs.WellFormed.{IsCapture, uncaptured_step}
+use Rattle.vme_trace.specs.WellFormed.{malformed_step, capture_limit}
 use Rattle.vme_trace.specs.declared.level.Level.{Level}
 use Rattle.vme_trace.specs.declared.level.Level.TheVariants.{Unknown}
 use Rattle.vme_trace.specs.declared.step.Step.{Step}
@@ -22,6 +22,7 @@ use Rattle.vme_bind.specs.declared.taps.Taps.{Taps}
 use Rattle.vme_bind.specs.declared.wires.Wire.{Wire}
 use Rattle.vme_bind.specs.declared.wires.LineSource.{LineSource}
 use Rattle.vme_bind.specs.declared.wires.LineSource.TheVariants.{Always, Bit}
+use Rattle.vme_bind.specs.Answers.{Gives}
 use Rattle.vme_bind.specs.Binding.{BoundLines}
 use Rattle.vme_bind.specs.Wires.{wires_in, line_source}
 use Rattle.vme_bind.specs.Taps.{taps_of}
@@ -29,7 +30,7 @@ use Rattle.vme_bind.specs.Capture.{values_of, time_of, level_by, level_after, le
 use Rattle.vme_bind.specs.Recording.{Progress, AreLines, valued, step_between}
 use Rattle.vme_bind.proofs.RecorderLemmas.{set_same, set_other, set_all, same_levels}
 use Rattle.vme_bind.proofs.CaptureLemmas.{AreTaps, levels-at, levels-all, levels-slots, valued-more}
-use Rattle.vme_bind.proofs.StepsLemmas.{steps-more, well_formed, limited-ok, limited-err}
+use Rattle.vme_bind.proofs.StepsLemmas.{steps-more, well_formed}
 use Rattle.vme_bind.proofs.TapsLemmas.{taps-lines}
 
 -- ---- the opening
@@ -150,21 +151,22 @@ recording-is slots wires instants n opening steps e h =
     with_both : Levels → List Step → Trace
     with_both v ss = record { opening = v; steps = ss }
 
-over_all : BoundLines → Contents → List Wire → Result Trace BindFault
-over_all b dump wires = limited (recording b.slots wires dump.instants (length dump.instants))
+-- what wires make of the instants of a dump
+pub whole-is : (b : BoundLines) (dump : Contents) (wires : List Wire) (made : Trace) → wires_in dump.variables b.assignments ≡ Ok wires → recording b.slots wires dump.instants (length dump.instants) ≡ made
+    → capture_of b dump ≡ limited made
+whole-is b dump wires made e is =
+    capture_of-is b dump ∙ ap (λ (r : Result (List Wire) BindFault). r >>= λ wires. limited (recording b.slots wires dump.instants (length dump.instants))) e ∙ ap limited is
 
-by_wires : (b : BoundLines) (dump : Contents) (wires : List Wire) → wires_in dump.variables b.assignments ≡ Ok wires → capture_of b dump ≡ over_all b dump wires
-unfolding over_all
-by_wires b dump wires e = capture_of-is b dump ∙ ap (λ (r : Result (List Wire) BindFault). r >>= λ wires. limited (recording b.slots wires dump.instants (length dump.instants))) e
+-- they follow one another
+pub whole-formed : (slots : ℕ) (wires : List Wire) (instants : List Instant) (made : Trace) → TimesAscend instants → recording slots wires instants (length instants) ≡ made → malformed_step made ≡ None
+whole-formed slots wires instants made up is = sym (ap malformed_step is) ∙ well_formed slots wires instants up
 
-pub whole-ok : (b : BoundLines) (dump : Contents) (wires : List Wire) (capture made : Trace) → wires_in dump.variables b.assignments ≡ Ok wires
-    → recording b.slots wires dump.instants (length dump.instants) ≡ made → capture ≡ made → IsCapture capture → capture_of b dump ≡ Ok capture
-unfolding over_all
-whole-ok b dump wires capture made e is h sound = by_wires b dump wires e ∙ ap limited (is ∙ sym h) ∙ limited-ok capture sound
+pub gives_limited : (t : Trace) (r answer : Result Trace BindFault) → r ≡ limited t → answer ≡ limited t → Gives (λ (t : Trace). t) r answer
+gives_limited t r answer e h = subst (λ (r : Result Trace BindFault). Gives (λ (t : Trace). t) r answer) (sym e) (by_test (nat_lt capture_limit (length t.steps)) h)
+  where
+    limited_by : Bool → Result Trace BindFault
+    limited_by b = cond b (Err (record { line = 0; kind = TooManySteps })) (Ok t)
 
-pub whole-err : (b : BoundLines) (dump : Contents) (wires : List Wire) (made : Trace) (n : ℕ) → TimesAscend dump.instants → wires_in dump.variables b.assignments ≡ Ok wires
-    → recording b.slots wires dump.instants (length dump.instants) ≡ made → uncaptured_step made ≡ Some n → capture_of b dump ≡ Err (record { line = 0; kind = TooManySteps })
-unfolding over_all
-whole-err b dump wires made n up e is over =
-    by_wires b dump wires e
-    ∙ limited-err (recording b.slots wires dump.instants (length dump.instants)) n (well_formed b.slots wires dump.instants up) (ap uncaptured_step is ∙ over)
+    by_test : (b : Bool) → answer ≡ limited_by b → Gives (λ (t : Trace). t) (limited_by b) answer
+    by_test true h = h
+    by_test false h = h

@@ -1,5 +1,5 @@
 -- The steps of a recording follow its opening.
-use Rattle.std.proofs.Common.{◌≡◌, ℕ, zero, suc, ◌+◌, ◌<◌, ◌≤◌, Bool, true, false, cond, not, ◌&&◌, ◌||◌, List, [], ◌∷◌, ◌++◌, length, map, get_or, refl, sym, ap, ◌∙◌, subst, arith, inl, inr, ◌⊎◌, Option, Some, None, Ok, Err}
+use Rattle.std.proofs.Common.{◌≡◌, ℕ, zero, suc, ◌+◌, ◌<◌, ◌≤◌, Bool, true, false, cond, not, ◌&&◌, ◌||◌, List, [], ◌∷◌, ◌++◌, length, map, get_or, refl, sym, ap, ◌∙◌, subst, arith, inl, inr, ◌⊎◌, Some, None}
 use Rattle.std.specs.Prelude.{nat_le, nat_lt, ◌==◌, slice_get}
 use Rattle.std.specs.List.Sorted.{IsStrictlyIncreasing}
 use Rattle.std.proofs.lemmas.Bool.{cases_lt, false≢true}
@@ -9,7 +9,7 @@ use Rattle.vme_trace.specs.Instants.{any, those}
 use Rattle.vme_trace.specs.Levels.{Levels, level_at, same_level}
 use Rattle.vme_trace.specs.LineNumbers.{line_count, has_line}
 use Rattle.vme_trace.specs.Trace.{Trace, changed, levels_at}
-use Rattle.vme_trace.specs.WellFormed.{are_changes, is_empty, may_follow, malformed_step, uncaptured_step, lesser, capture_limit, IsCapture}
+use Rattle.vme_trace.specs.WellFormed.{are_changes, is_empty, may_follow, malformed_step}
 use Rattle.vme_trace.specs.declared.level.Level.{Level}
 use Rattle.vme_trace.specs.declared.level.Level.TheVariants.{Unknown}
 use Rattle.vme_trace.specs.declared.step.Change.{Change}
@@ -19,10 +19,9 @@ use Rattle.vme_trace.proofs.Changing.{slots-kept}
 use Rattle.vme_trace.proofs.WellFormedSteps.{HasChecked, HasChecked-step, malformed_step-none}
 use Rattle.vcd_read.specs.declared.dump.Instant.{Instant}
 use Rattle.vcd_read.specs.Contents.{TimesAscend}
-use Rattle.vme_bind.specs.declared.fault.BindKind.TheVariants.{TooManySteps}
 use Rattle.vme_bind.specs.declared.wires.Wire.{Wire}
 use Rattle.vme_bind.specs.Wires.{line_source}
-use Rattle.vme_bind.specs.Capture.{time_of, level_by, level_after, changes_at, is_step, change_at, step_at, levels_after, recording, limited}
+use Rattle.vme_bind.specs.Capture.{time_of, level_by, level_after, changes_at, is_step, change_at, step_at, levels_after, recording}
 use Rattle.vme_bind.specs.Recording.{differs, change_to, changes_between, step_between}
 use Rattle.vme_bind.proofs.RecorderLemmas.{those-yes, those-no, same-is, same_levels, bool_cases}
 use Rattle.vme_bind.proofs.CaptureLemmas.{changed-those, length-changed, levels-at, levels-all, levels-slots}
@@ -388,21 +387,3 @@ module _ (slots : ℕ) (wires : List Wire) (instants : List Instant) where
   well_formed up =
       let s = sound-all up (length instants) (omega arith) in
       malformed_step-none whole (count (length instants)) (levels_after slots wires instants (length instants)) s.clock s.checked (sym (length-map (those (is_step slots wires instants) 0 (length instants)) (step_at slots wires instants)))
-
-is_within : (a b : ℕ) → a ≤ b → nat_lt b a ≡ false
-is_within a b h = grind (arith, nat_tests)
-
-pub limited-ok : (t : Trace) → IsCapture t → limited t ≡ Ok t
-limited-ok t h = rw (is_within (length t.steps) capture_limit h.limited) refl
-
-over_none : (m : Option ℕ) (b : Bool) (n : ℕ) → m ≡ None → b ≡ false → lesser m (cond b (Some capture_limit) None) ≡ Some n → ⊥
-over_none None false n e h over = cc
-over_none None true n e h over = cc
-over_none (Some m) b n e h over = cc
-
-pub limited-err : (t : Trace) (n : ℕ) → malformed_step t ≡ None → uncaptured_step t ≡ Some n → limited t ≡ Err (record { line = 0; kind = TooManySteps })
-limited-err t n none over = by_test (nat_lt capture_limit (length t.steps)) refl
-  where
-    by_test : (b : Bool) → nat_lt capture_limit (length t.steps) ≡ b → limited t ≡ Err (record { line = 0; kind = TooManySteps })
-    by_test true e = rw e refl
-    by_test false e = absurd (over_none (malformed_step t) (nat_lt capture_limit (length t.steps)) n none e over)

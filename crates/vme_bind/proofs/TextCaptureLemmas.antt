@@ -1,10 +1,10 @@
 -- The recording that a binding makes of the text of a dump, from what is read of it.
-use Rattle.std.proofs.Common.{◌≡◌, ℕ, List, [], length, refl, sym, ap, ◌∙◌, subst, Some, Result, Ok, Err}
-use Rattle.std.specs.Result.{MatchResult}
+use Rattle.std.proofs.Common.{◌≡◌, ℕ, Bool, true, false, cond, List, [], length, refl, sym, ap, ◌∙◌, subst, None, Result, Ok, Err}
+use Rattle.std.specs.Prelude.{nat_lt}
 use Rattle.std.proofs.lemmas.List.{append-nil}
 use Rattle.vme_trace.specs.Levels.{Levels}
 use Rattle.vme_trace.specs.Trace.{Trace}
-use Rattle.vme_trace.specs.WellFormed.{IsCapture, uncaptured_step}
+use Rattle.vme_trace.specs.WellFormed.{malformed_step, capture_limit}
 use Rattle.vme_trace.specs.declared.step.Step.{Step}
 use Rattle.vcd_read.specs.declared.dump.Bit.{Bit}
 use Rattle.vcd_read.specs.declared.dump.Instant.{Instant}
@@ -23,7 +23,7 @@ use Rattle.vcd_read.proofs.DumpLemmas.{contents_behind, with_variables, dump_of-
 use Rattle.vcd_read.proofs.TakingLemmas.{Current, Ends, Follows, taken-follows, fails-followed, gives-followed}
 use Rattle.vme_bind.specs.declared.fault.BindFault.{BindFault}
 use Rattle.vme_bind.specs.declared.fault.BindKind.{BindKind}
-use Rattle.vme_bind.specs.declared.fault.BindKind.TheVariants.{Memory as NoMemory}
+use Rattle.vme_bind.specs.declared.fault.BindKind.TheVariants.{TooManySteps, Memory as NoMemory}
 use Rattle.vme_bind.specs.declared.fault.CaptureFault.{CaptureFault}
 use Rattle.vme_bind.specs.declared.fault.CaptureFault.TheVariants.{Dump, Binding}
 use Rattle.vme_bind.specs.declared.wires.Wire.{Wire}
@@ -33,9 +33,8 @@ use Rattle.vme_bind.specs.Wires.{wires_in}
 use Rattle.vme_bind.specs.Capture.{recording, limited, capture_of}
 use Rattle.vme_bind.specs.Recording.{Progress}
 use Rattle.vme_bind.specs.Made.{Made, IsBegun, made_change, made_instant}
-use Rattle.vme_bind.specs.TextCapture.{or_binding, or_dump, too_many_steps, body_capture, capture_read, capture_behind, capture_of_text, DumpFails, BindingFails, FailsBy, GivesBy}
-use Rattle.vme_bind.proofs.OpeningLemmas.{capture_of-is, recording-is}
-use Rattle.vme_bind.proofs.StepsLemmas.{well_formed, limited-ok, limited-err}
+use Rattle.vme_bind.specs.TextCapture.{or_binding, or_dump, body_capture, capture_read, capture_behind, capture_of_text, DumpFails, BindingFails, FailsBy, GivesBy}
+use Rattle.vme_bind.proofs.OpeningLemmas.{capture_of-is, recording-is, whole-formed}
 use Rattle.vme_bind.proofs.MakingLemmas.{Makes, makes-first, makes-change, makes-instant}
 
 -- ---- a body
@@ -86,27 +85,28 @@ module _ (slots : ℕ) (wires : List Wire) (h : Headed) where
             (steps ∙ ap (λ (xs : List Instant). (recording slots wires xs (length instants)).steps) all),
       )
 
-  body_by : (instants : List Instant) (t : Trace) → instants_from h.nets h.body ≡ Ok instants → recording slots wires instants (length instants) ≡ t → body_capture slots wires h ≡ or_binding (limited t)
-  body_by instants t e is =
-      ap (λ (r : Result (List Instant) VcdFault). or_dump r >>= λ instants. or_binding (limited (recording slots wires instants (length instants)))) e ∙ ap (λ (t : Trace). or_binding (limited t)) is
+  -- they follow one another
+  pub body-formed : (opening : Levels) (steps : List Step) → IsRecorded opening steps → malformed_step (record { opening = opening; steps = steps }) ≡ None
+  body-formed opening steps made = whole-formed slots wires made.0 (record { opening = opening; steps = steps }) (body_rises h.nets h.body made.0 made.1) made.2
 
-  pub body-ok : (opening : Levels) (steps : List Step) (capture : Trace) → IsRecorded opening steps → capture ≡ record { opening = opening; steps = steps } → IsCapture capture → body_capture slots wires h ≡ Ok capture
-  body-ok opening steps capture made is sound = body_by made.0 capture made.1 (made.2 ∙ sym is) ∙ ap or_binding (limited-ok capture sound)
-
-  pub body-over : (opening : Levels) (steps : List Step) (n : ℕ) → IsRecorded opening steps → uncaptured_step (record { opening = opening; steps = steps }) ≡ Some n
-      → body_capture slots wires h ≡ Err too_many_steps
-  body-over opening steps n made over =
-      let up = body_rises h.nets h.body made.0 made.1 in
-      body_by made.0 (recording slots wires made.0 (length made.0)) made.1 refl
-      ∙ ap or_binding (limited-err (recording slots wires made.0 (length made.0)) n (well_formed slots wires made.0 up) (ap uncaptured_step made.2 ∙ over))
+  body-is : (opening : Levels) (steps : List Step) → IsRecorded opening steps → body_capture slots wires h ≡ or_binding (limited (record { opening = opening; steps = steps }))
+  body-is opening steps made =
+      ap (λ (r : Result (List Instant) VcdFault). or_dump r >>= λ instants. or_binding (limited (recording slots wires instants (length instants)))) made.1
+      ∙ ap (λ (t : Trace). or_binding (limited t)) made.2
 
   -- what is made of the steps
-  pub body-captured : (opening : Levels) (steps : List Step) (r : Result Trace CaptureFault) → IsRecorded opening steps
-      → MatchResult r (λ capture. (capture ≡ record { opening = opening; steps = steps }) × IsCapture capture)
-      (λ fault. (fault ≡ too_many_steps) × ((n : ℕ) × (uncaptured_step (record { opening = opening; steps = steps }) ≡ Some n)))
-      → GivesBy (λ (t : Trace). t) r (body_capture slots wires h)
-  body-captured opening steps (Ok capture) made (is, sound) = body-ok opening steps capture made is sound
-  body-captured opening steps (Err fault) made (is, (n, over)) = subst (λ (f : CaptureFault). FailsBy f (body_capture slots wires h)) (sym is) (body-over opening steps n made over)
+  pub body-captured : (opening : Levels) (steps : List Step) (r : Result Trace BindFault) → IsRecorded opening steps
+      → r ≡ limited (record { opening = opening; steps = steps }) → GivesBy (λ (t : Trace). t) (or_binding r) (body_capture slots wires h)
+  body-captured opening steps r made e =
+      subst (λ (r : Result Trace BindFault). GivesBy (λ (t : Trace). t) (or_binding r) (body_capture slots wires h)) (sym e)
+      (by_test (nat_lt capture_limit (length steps)) (body-is opening steps made))
+    where
+      limited_by : Bool → Result Trace CaptureFault
+      limited_by b = or_binding (cond b (Err (record { line = 0; kind = TooManySteps })) (Ok (record { opening = opening; steps = steps })))
+
+      by_test : (b : Bool) → body_capture slots wires h ≡ limited_by b → GivesBy (λ (t : Trace). t) (limited_by b) (body_capture slots wires h)
+      by_test true h = h
+      by_test false h = h
 
 -- ---- a text
 

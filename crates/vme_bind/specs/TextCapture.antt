@@ -10,7 +10,7 @@ use Rattle.vcd_read.specs.declared.fault.FaultKind.{FaultKind}
 use Rattle.vcd_read.specs.declared.fault.FaultKind.TheVariants.{Memory}
 use Rattle.vme_bind.specs.declared.fault.BindFault.{BindFault}
 use Rattle.vme_bind.specs.declared.fault.BindKind.{BindKind}
-use Rattle.vme_bind.specs.declared.fault.BindKind.TheVariants.{TooManySteps, Memory as NoMemory}
+use Rattle.vme_bind.specs.declared.fault.BindKind.TheVariants.{Memory as NoMemory}
 use Rattle.vme_bind.specs.declared.fault.CaptureFault.{CaptureFault}
 use Rattle.vme_bind.specs.declared.fault.CaptureFault.TheVariants.{Dump, Binding}
 use Rattle.vme_bind.specs.Binding.{BoundLines}
@@ -24,10 +24,6 @@ or_binding (Err fault) = Err (Binding fault)
 abbrev pub or_dump : {A : Type 0} → Result A VcdFault → Result A CaptureFault
 or_dump (Ok x) = Ok x
 or_dump (Err fault) = Err (Dump fault)
-
--- the fault of a recording that has too many
-abbrev pub too_many_steps : CaptureFault
-too_many_steps = Binding (record { line = 0; kind = TooManySteps })
 
 -- what wires make of the body behind some definitions
 abbrev pub body_capture : ℕ → List Wire → Headed → Result Trace CaptureFault

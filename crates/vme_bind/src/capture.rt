@@ -1,11 +1,12 @@
 //! The recording that a binding makes of a dump.
 
-ghost use Rattle.std.specs.Prelude.{◌≡◌, List, IfOk, length, replicate};
+ghost use Rattle.std.specs.Prelude.{◌≡◌, List, None, IfOk, length, replicate};
+ghost use Rattle.vme_trace.specs.WellFormed.{malformed_step};
 ghost use Rattle.vme_trace.specs.declared.level.Level.TheVariants.{Unknown};
 ghost use Rattle.vcd_read.specs.declared.dump.Instant.{Instant};
 ghost use Rattle.vcd_read.specs.Contents.{TimesAscend};
 ghost use Rattle.vme_bind.specs.Answers.{Gives};
-ghost use Rattle.vme_bind.specs.Capture.{levels_after, recording, capture_of};
+ghost use Rattle.vme_bind.specs.Capture.{levels_after, recording, limited, capture_of};
 
 use crate::binding::Binding;
 use crate::fault::{BindFault, BindKind};
@@ -54,6 +55,17 @@ fn record_all(
     Ok((opening, recorder.into_steps()))
 }
 
+/// The recording of well-formed steps, if they aren't too many.
+pub(crate) fn captured(opening: Lines, steps: Vec<Step>) -> Result<Capture, BindFault>
+    requires { malformed_step (record { opening = opening; steps = steps.items }) ≡ None }
+    ensures { result ≡ limited (record { opening = opening; steps = steps.items }) }
+{
+    Capture::from_well_formed(opening, steps).ok_or(BindFault {
+        line: 0,
+        kind: BindKind::TooManySteps,
+    })
+}
+
 impl Binding {
     /// The recording that the binding makes of a dump.
     ///
@@ -68,12 +80,6 @@ impl Binding {
     {
         let wires = Wire::all(alloc, self.assignments(), dump.variables())?;
         let (opening, steps) = record_all(alloc, self.lines(), &wires, dump.instants())?;
-        match Capture::new(opening, steps) {
-            Ok(capture) => Ok(capture),
-            Err(_) => Err(BindFault {
-                line: 0,
-                kind: BindKind::TooManySteps,
-            }),
-        }
+        captured(opening, steps)
     }
 }

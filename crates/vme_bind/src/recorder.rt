@@ -1,13 +1,13 @@
 //! The levels of the lines as a dump goes on, and the steps at which they change.
 
-ghost use Rattle.std.specs.Prelude.{◌≡◌, ◌≤◌, ◌<◌, ◌++◌, [], ℕ, IfOk, OnOk, map, length, get_or};
+ghost use Rattle.std.specs.Prelude.{◌≡◌, ◌≢◌, ◌≤◌, ◌<◌, ◌++◌, [], ℕ, false, IfOk, OnOk, map, length, get_or};
 ghost use Rattle.std.specs.List.Sorted.{IsNonDecreasing};
 ghost use Rattle.vme_trace.specs.LineNumbers.{line_count};
 ghost use Rattle.vme_trace.specs.Trace.{changed};
 ghost use Rattle.vcd_read.specs.Numbers.{extended};
 ghost use Rattle.vme_bind.specs.Capture.{level_of, level_in};
 ghost use Rattle.vme_bind.specs.Taps.{taps_of};
-ghost use Rattle.vme_bind.specs.Recording.{AreTouched, AreLines, tapped, valued, changes_between, step_between};
+ghost use Rattle.vme_bind.specs.Recording.{IsLine, differs, AreTouched, AreLines, tapped, valued, changes_between, step_between};
 
 use crate::taps::{Tap, Taps};
 use smallvec::SmallVec;
@@ -86,11 +86,11 @@ fn show(
     ensures shown { OnOk result (shown.new ≡ now.now) }
     ensures touched { AreTouched shown.new now.now touched.now }
 {
-    let mut changes = SmallVec::new(alloc);
+    let mut changes = SmallVec::with_capacity(alloc, touched.len())?;
     for line in touched {
         let level = now.level(*line);
         if !shown.level(*line).is_same(level) {
-            changes.push(Change { line: *line, level })?;
+            changes.push_reserved(Change { line: *line, level });
             shown.set(*line, level);
         }
     }
@@ -172,9 +172,43 @@ impl Recorder {
         ensures slots { self.new.now.slots ≡ self.old.now.slots }
         ensures ok { OnOk result (self.new ≡ record { shown = self.old.now; now = self.old.now; steps = self.old.steps ++ step_between time self.old.shown self.old.now }) }
     {
-        if self.touched.is_empty() {
-            return Ok(());
+        match self.touched.len() {
+            0 => Ok(()),
+            1 => {
+                let line = self.touched[0];
+                self.end_with_line(alloc, time, line)
+            }
+            _ => self.end_with_lines(alloc, time),
         }
+    }
+
+    /// Ends an instant at which no line but this one may have another level than before.
+    fn end_with_line(&mut self, alloc: Global, time: u64, line: Line) -> Result<(), AllocError>
+        requires exists { IsLine self.old.now.slots line }
+        requires alone { (l : ℕ) → l ≢ line → differs self.old.shown self.old.now l ≡ false }
+        ensures slots { self.new.now.slots ≡ self.old.now.slots }
+        ensures ok { OnOk result (self.new ≡ record { shown = self.old.now; now = self.old.now; steps = self.old.steps ++ step_between time self.old.shown self.old.now }) }
+    {
+        let level = self.now.level(line);
+        if !self.shown.level(line).is_same(level) {
+            let mut changes = SmallVec::new(alloc);
+            changes.push_reserved(Change { line, level });
+            self.steps.push(Step {
+                time,
+                changes: Changes::new(changes),
+            })?;
+            self.shown.set(line, level);
+        }
+        self.touched.clear();
+        Ok(())
+    }
+
+    /// Ends an instant at which any lines may have.
+    #[inline(never)]
+    fn end_with_lines(&mut self, alloc: Global, time: u64) -> Result<(), AllocError>
+        ensures slots { self.new.now.slots ≡ self.old.now.slots }
+        ensures ok { OnOk result (self.new ≡ record { shown = self.old.now; now = self.old.now; steps = self.old.steps ++ step_between time self.old.shown self.old.now }) }
+    {
         self.touched.sort_unstable_by_key(|line| line.number());
         let changes = show(alloc, &self.touched, &self.now, &mut self.shown)?;
         self.touched.clear();

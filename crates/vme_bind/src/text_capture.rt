@@ -1,17 +1,16 @@
 //! The recording that a binding makes of the text of a dump.
 
-ghost use Rattle.std.specs.Prelude.{◌≡◌, ℕ, List, Some, IfOk, MatchResult, replicate};
-ghost use Rattle.vme_trace.specs.WellFormed.{IsCapture, uncaptured_step};
+ghost use Rattle.std.specs.Prelude.{◌≡◌, ℕ, List, IfOk, replicate};
 ghost use Rattle.vme_trace.specs.declared.level.Level.TheVariants.{Unknown};
 ghost use Rattle.vme_bind.specs.Answers.{Fails};
 ghost use Rattle.vme_bind.specs.Binding.{BoundLines};
 ghost use Rattle.vme_bind.specs.Wires.{wires_in};
 ghost use Rattle.vme_bind.specs.declared.wires.Wire.{Wire};
 ghost use Rattle.vme_bind.specs.Made.{IsBegun};
-ghost use Rattle.vme_bind.specs.TextCapture.{FailsBy, GivesBy, too_many_steps, body_capture, capture_behind, capture_of_text};
+ghost use Rattle.vme_bind.specs.TextCapture.{FailsBy, GivesBy, body_capture, capture_behind, capture_of_text};
 
 use crate::binding::Binding;
-use crate::capture::opening_of;
+use crate::capture::{captured, opening_of};
 use crate::fault::{BindFault, BindKind, CaptureFault};
 use crate::making::{Making, Passing};
 use crate::recorder::Recorder;
@@ -19,7 +18,7 @@ use crate::taps::Taps;
 use crate::wires::Wire;
 use std::alloc::{AllocError, Global};
 use vcd_read::{Head, read_definitions};
-use vme_trace::{Capture, Lines, Step};
+use vme_trace::{Capture, Lines};
 
 /// The opening, and what takes the changes of a dump and has taken none.
 fn making_of(alloc: Global, lines: &Lines, wires: &[Wire]) -> Result<(Lines, Making), AllocError>
@@ -33,33 +32,21 @@ fn making_of(alloc: Global, lines: &Lines, wires: &[Wire]) -> Result<(Lines, Mak
     Ok((opening, making))
 }
 
-/// The recording of these steps, if they aren't too many.
-fn captured(opening: Lines, steps: Vec<Step>) -> Result<Capture, CaptureFault>
-    ensures { MatchResult result
-        (λ capture. (capture ≡ record { opening = opening; steps = steps.items }) × IsCapture capture)
-        (λ fault. (fault ≡ too_many_steps)
-        × ((n : ℕ) × (uncaptured_step (record { opening = opening; steps = steps.items }) ≡ Some n))) }
-{
-    match Capture::new(opening, steps) {
-        Ok(capture) => Ok(capture),
-        Err(_) => Err(CaptureFault::Binding(BindFault {
-            line: 0,
-            kind: BindKind::TooManySteps,
-        })),
-    }
-}
-
 /// Reads the body behind some definitions.
 fn record_body(
     alloc: Global,
     made: (Lines, Making),
     head: &Head<'_>,
 ) -> Result<Capture, CaptureFault>
+    requires { (slots : ℕ) × ((wires : List Wire) × IsBegun slots wires made.0 made.1) }
     ensures { (slots : ℕ) (wires : List Wire) → IsBegun slots wires made.0 made.1 → GivesBy (λ capture. capture) result (body_capture slots wires head.now) }
 {
     let (opening, making) = made;
     match head.read_body(alloc, making) {
-        Ok(end) => captured(opening, end.into_steps()),
+        Ok(end) => match captured(opening, end.into_steps()) {
+            Ok(capture) => Ok(capture),
+            Err(fault) => Err(CaptureFault::Binding(fault)),
+        },
         Err(fault) => Err(CaptureFault::Dump(fault)),
     }
 }

@@ -1,10 +1,10 @@
 -- Where no changed line and no start breaks a rule, none is broken.
-use Rattle.std.proofs.Common.{◌≡◌, ℕ, ◌+◌, ◌-◌, ◌<◌, ◌≤◌, Bool, true, false, ◌&&◌, ◌||◌, not, List, [], ◌∷◌, inl, inr, ◌⊎◌, refl, sym, ◌∙◌, ap, arith}
+use Rattle.std.proofs.Common.{◌≡◌, ℕ, ◌+◌, ◌-◌, ◌<◌, ◌≤◌, Bool, true, false, ◌&&◌, ◌||◌, not, List, [], ◌∷◌, inl, inr, ◌⊎◌, refl, sym, ◌∙◌, ap, subst, arith}
 use Rattle.std.specs.Prelude.{None, ◌==◌, nat_le, nat_lt}
 use Rattle.std.proofs.lemmas.Bool.Decides.{nat_tests}
 use Rattle.vme_trace.specs.Instants.{any, none}
 use Rattle.vme_trace.specs.LineNumbers.{DTACK, BERR, IACK, WRITE, BBSY, line_count, has_line, is_answer_line}
-use Rattle.vme_trace.specs.Levels.{Levels, level_at, is_known}
+use Rattle.vme_trace.specs.Levels.{Levels, level_at, set_level, is_known}
 use Rattle.vme_trace.specs.Cycle.{is_needed}
 use Rattle.vme_trace.specs.Trace.{Trace, levels_at, changed}
 use Rattle.vme_trace.specs.Changes.{is_changed}
@@ -14,17 +14,18 @@ use Rattle.vme_trace.specs.Cycles.{cycle_starts, cycle_runs}
 use Rattle.vme_trace.specs.Transfers.{transfer_starts, is_answer}
 use Rattle.vme_trace.specs.Verdict.{break_at}
 use Rattle.vme_trace.specs.Rules.{is_broken, breaks, ends_span}
+use Rattle.vme_trace.specs.declared.level.Level.TheVariants.{Unknown}
 use Rattle.vme_trace.specs.declared.rule.Rule.{Rule}
 use Rattle.vme_trace.specs.declared.rule.Rule.TheVariants.{U1, U2, U3, H1, H2, H3, H4, H5, H6, H7, H8, S1, S2, C1, C2, G1, G2, G3, G4, G5, B1, B2, B3, B4, I1, I2, I3, I4, I5}
 use Rattle.vme_trace.specs.declared.step.Change.{Change}
 use Rattle.vme_trace.proofs.Changing.{level-kept}
 use Rattle.vme_trace.proofs.Ranges.{any-fails, fails-any, least-none}
 use Rattle.vme_trace.proofs.SpanEnds.{slots_at}
-use Rattle.vme_cert.specs.Watched.{asks_for_edge, speaks_of, may_be_needed, changes_needed, is_held, rules_on, lacks, has_needed, may_transfer, are_kept, are_kept_on, is_kept}
-use Rattle.vme_cert.proofs.StillLines.{breaks-still, at_1, at_2}
+use Rattle.vme_cert.specs.Watched.{asks_for_edge, edge_of, shows, speaks_of, may_be_needed, changes_needed, is_held, rules_on, lacks, has_needed, may_transfer, are_kept, are_kept_on, is_kept}
+use Rattle.vme_cert.proofs.StillLines.{breaks-still, shows-none, at_1, at_2}
 use Rattle.vme_cert.proofs.Losing.{not_true}
 use Rattle.vme_cert.proofs.SilentRules.{silent, not_needed}
-use Rattle.vme_cert.proofs.RulesOnLines.{kept-on}
+use Rattle.vme_cert.proofs.RulesOnLines.{KeptTo, kept-on, set_or_unknown}
 use Rattle.vme_cert.proofs.FirstBreaks.{break_at-next, break_at-empty}
 
 equal : (a b : ℕ) → (a == b) ≡ true → a ≡ b
@@ -54,14 +55,25 @@ not_answer l e f = rw (e, f) refl
 
 module _ (t : Trace) (span : Span) (j : ℕ) where
   -- the rules that an edge of a changed line may break are kept there
-  kept-changed : (held : Bool) (cs : List Change) (l : ℕ) → are_kept_on t span j held cs ≡ true → is_changed cs l ≡ true → are_kept t span j l (rules_on held l) ≡ true
-  kept-changed held [] l h k = absurd (cc)
-  kept-changed held (c ∷ cs) l h k = by_test (c.line == l) refl (and_true _ _ h) k (λ e f. kept-changed held cs l e f)
+  kept-changed : (held : Bool) (v : Levels) (cs : List Change) (l : ℕ) → are_kept_on t span j held cs ≡ true → is_changed cs l ≡ true → KeptTo t span j l held (level_at (changed v cs) l)
+  unfolding changed
+  kept-changed held v [] l h k = absurd (cc)
+  kept-changed held v (c ∷ cs) l h k = by_tests (c.line == l) refl (is_changed cs l) refl (and_true _ _ h) k (λ e f. kept-changed held (set_level v c.line c.level) cs l e f)
     where
-      by_test : (b : Bool) → (c.line == l) ≡ b → (are_kept t span j c.line (rules_on held c.line) ≡ true) × (are_kept_on t span j held cs ≡ true) → (b || is_changed cs l) ≡ true
-          → (are_kept_on t span j held cs ≡ true → is_changed cs l ≡ true → are_kept t span j l (rules_on held l) ≡ true) → are_kept t span j l (rules_on held l) ≡ true
-      by_test true e parts k later = ap (λ m. are_kept t span j m (rules_on held m)) (sym (equal c.line l e)) ∙ parts.0
-      by_test false e parts k later = later parts.1 k
+      by_tests : (a : Bool) → (c.line == l) ≡ a → (b : Bool) → is_changed cs l ≡ b → (are_kept t span j c.line (rules_on held c.line c.level) ≡ true) × (are_kept_on t span j held cs ≡ true) → (a || b) ≡ true
+          → (are_kept_on t span j held cs ≡ true → is_changed cs l ≡ true → KeptTo t span j l held (level_at (changed (set_level v c.line c.level) cs) l))
+          → KeptTo t span j l held (level_at (changed (set_level v c.line c.level) cs) l)
+      by_tests a e true f parts k later = later parts.1 f
+      by_tests true e false f parts k later = subst (λ m. KeptTo t span j m held (level_at (changed (set_level v c.line c.level) cs) m)) (equal c.line l e) (here parts.0 (ap (is_changed cs) (equal c.line l e) ∙ f))
+        where
+          here : are_kept t span j c.line (rules_on held c.line c.level) ≡ true → is_changed cs c.line ≡ false → KeptTo t span j c.line held (level_at (changed (set_level v c.line c.level) cs) c.line)
+          here kept f =
+              record {
+                to = c.level;
+                kept = kept;
+                shown = subst (λ x. (x ≡ c.level) ⊎ (x ≡ Unknown)) (sym (level-kept (set_level v c.line c.level) cs c.line f)) (set_or_unknown v.levels c.line c.level);
+              }
+      by_tests false e false f parts k later = absurd (cc)
 
   unbroken : (r : Rule) (l : ℕ) → is_broken t span r j l ≡ false → breaks t span r j l ≡ false
   unfolding breaks
@@ -98,17 +110,20 @@ module _ (t : Trace) (span : Span) (j : ℕ) where
 
   -- an edge breaks no rule
   kept-edges : (r : Rule) (cs : List Change) → asks_for_edge r ≡ true → levels_at t j ≡ changed (levels_at t (j - 1)) cs → are_kept_on t span j (changes_needed cs && is_judged span j && is_held t span j) cs ≡ true → (l : ℕ) → breaks t span r j l ≡ false
-  kept-edges r cs asks made h l = by_test (is_changed cs l) refl
+  kept-edges r cs asks made h l = by_tests (shows t l j (edge_of r)) refl (speaks_of r l) refl (is_changed cs l) refl
     where
-      by_speech : (b : Bool) → speaks_of r l ≡ b → is_changed cs l ≡ true → breaks t span r j l ≡ false
-      by_speech true e k =
-          kept-on t span j l (changes_needed cs && is_judged span j && is_held t span j) r (λ same. held-or cs l (ap (λ (q : Rule). speaks_of q l) (sym same) ∙ e) k) asks e
-          (kept-changed (changes_needed cs && is_judged span j && is_held t span j) cs l h k)
-      by_speech false e k = silent t span j l r e
+      held : Bool
+      held = changes_needed cs && is_judged span j && is_held t span j
 
-      by_test : (b : Bool) → is_changed cs l ≡ b → breaks t span r j l ≡ false
-      by_test true e = by_speech (speaks_of r l) refl e
-      by_test false e = breaks-still t span j l r asks (ap (λ (v : Levels). level_at v l) made ∙ level-kept (levels_at t (j - 1)) cs l e)
+      by_tests : (a : Bool) → shows t l j (edge_of r) ≡ a → (b : Bool) → speaks_of r l ≡ b → (d : Bool) → is_changed cs l ≡ d → breaks t span r j l ≡ false
+      by_tests false e b f d g = breaks-still t span j l r e
+      by_tests true e false f d g = silent t span j l r f
+      by_tests true e true f true g =
+          kept-on t span j l held
+          (subst (KeptTo t span j l held) (ap (λ (v : Levels). level_at v l) (sym made)) (kept-changed held (levels_at t (j - 1)) cs l h g)) r
+          (λ same. held-or cs l (ap (λ (q : Rule). speaks_of q l) (sym same) ∙ f) g) asks e f
+      by_tests true e true f false g =
+          breaks-still t span j l r (shows-none t span j l (edge_of r) asks (ap (λ (v : Levels). level_at v l) made ∙ level-kept (levels_at t (j - 1)) cs l g))
 
   not_ended : (l : ℕ) → (j == span.end) ≡ false → breaks t span U1 j l ≡ false
   unfolding is_broken

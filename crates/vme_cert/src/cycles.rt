@@ -27,7 +27,7 @@ impl Recording<'_> {
         ensures { result ≡ class_at self.now span start }
     {
         let _ = span;
-        am_class(self.levels(start))
+        am_class(&self.levels(start))
     }
 
     /// The cycle to which an answer at an instant before the end of the span belongs: the last one to start.

@@ -34,7 +34,7 @@ impl Recording<'_> {
     pub(crate) fn is_needed(&self, start: u32, line: Line) -> bool
         ensures { result ≡ is_needed_of (levels_at self.now start) line }
     {
-        needed(self.levels(start)).has(line)
+        needed(&self.levels(start)).has(line)
     }
 
     /// Whether a cycle goes on from its start through an instant.

@@ -76,7 +76,7 @@ impl Recording<'_> {
         if follows && !has_unknown(self.changes_at(instant)) {
             return false;
         }
-        loses_control(self.levels(instant))
+        loses_control(&self.levels(instant))
     }
 
     /// The next instant after the start at which a control line is unknown, or past the last.

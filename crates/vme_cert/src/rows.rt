@@ -113,7 +113,7 @@ impl Recording<'_> {
             return None;
         }
         let end = self.next_rise(Line::AS, instant, end);
-        Some(cycle_row(instant, self.levels(instant), end))
+        Some(cycle_row(instant, &self.levels(instant), end))
     }
 
     /// The direction of the transfer that starts at an instant.

@@ -7,13 +7,13 @@ ghost use Rattle.vme_trace.specs.LineNumbers.{IACK, BBSY, line_count};
 ghost use Rattle.vme_trace.specs.Trace.{last_instant};
 ghost use Rattle.vme_trace.specs.Rules.{breaks};
 ghost use Rattle.vme_trace.specs.Verdict.{all_rules, break_at, least_break};
-ghost use Rattle.vme_cert.specs.Watched.{lacks, may_be_needed, changes_needed, rules_on, has_needed, may_transfer, are_kept, are_kept_on, is_kept};
+ghost use Rattle.vme_cert.specs.Watched.{lacks, may_be_needed, changes_needed, by_edge, rules_on, has_needed, may_transfer, are_kept, are_kept_on, is_kept};
 
 use crate::judged::{LINE_COUNT, nth_line};
 use crate::nets::{is_answer_line, is_arbiter_grant, is_slot_grant, is_slot_iack, is_strobe};
 use crate::recording::Recording;
 use crate::span::Span;
-use vme_trace::{Break, Change, Line, LineSet, Lines, Rule, needed};
+use vme_trace::{Break, Change, Level, Line, LineSet, Lines, Rule, needed};
 
 /// The number of the first line that a cycle may need.
 const FIRST_NEEDED: u8 = 5;
@@ -73,37 +73,48 @@ fn changes_needed(changes: &[Change]) -> bool
     false
 }
 
-/// The rules that an edge of a line may break, where a cycle holds what it needs or where none does.
-fn rules_on(held: bool, line: Line) -> &'static [Rule]
-    ensures { result.now ≡ rules_on held line }
+/// The first rules where a line rises to a level, the second where it falls to it.
+fn by_edge(level: Level, rising: &'static [Rule], falling: &'static [Rule]) -> &'static [Rule]
+    ensures { result.now ≡ by_edge level rising.now falling.now }
+{
+    match level {
+        Level::Low => falling,
+        Level::High => rising,
+        Level::Unknown => &[],
+    }
+}
+
+/// The rules that an edge of a line to a level may break, where a cycle holds what it needs or where none does.
+fn rules_on(held: bool, line: Line, level: Level) -> &'static [Rule]
+    ensures { result.now ≡ rules_on held line level }
 {
     if line == Line::AS {
-        &[Rule::H7, Rule::B3]
+        by_edge(level, &[Rule::H7], &[Rule::B3])
     } else if is_strobe(line) {
-        &[Rule::H2, Rule::H3]
+        by_edge(level, &[Rule::H2], &[Rule::H3])
     } else if is_answer_line(line) {
-        &[
+        let falling = &[
             Rule::H4,
             Rule::H5,
-            Rule::H6,
             Rule::H8,
             Rule::C1,
             Rule::C2,
             Rule::I4,
             Rule::I5,
-        ]
+        ];
+        by_edge(level, &[Rule::H6], falling)
     } else if line == Line::WRITE {
         &[Rule::S2]
     } else if may_be_needed(line) {
         if held { &[Rule::S1] } else { &[] }
     } else if line == Line::BBSY {
-        &[Rule::B1, Rule::B2, Rule::B4]
+        by_edge(level, &[], &[Rule::B1, Rule::B2, Rule::B4])
     } else if is_arbiter_grant(line) {
-        &[Rule::G3, Rule::G4, Rule::G5]
+        by_edge(level, &[], &[Rule::G3, Rule::G4, Rule::G5])
     } else if is_slot_grant(line) {
-        &[Rule::G1, Rule::G2, Rule::G4]
+        by_edge(level, &[Rule::G2], &[Rule::G1, Rule::G4])
     } else if is_slot_iack(line) {
-        &[Rule::I1, Rule::I2, Rule::I3]
+        by_edge(level, &[], &[Rule::I1, Rule::I2, Rule::I3])
     } else {
         &[]
     }
@@ -165,7 +176,12 @@ impl Recording<'_> {
         ensures { result ≡ are_kept_on self.now span instant held changes.now }
     {
         for change in changes {
-            if !self.are_kept(span, instant, change.line, rules_on(held, change.line)) {
+            if !self.are_kept(
+                span,
+                instant,
+                change.line,
+                rules_on(held, change.line, change.level),
+            ) {
                 return false;
             }
         }
@@ -176,7 +192,7 @@ impl Recording<'_> {
     fn has_needed(&self, span: Span, instant: u32) -> bool
         ensures { result ≡ has_needed self.now span instant }
     {
-        !self.cycle_starts(span, instant) || !lacks_some(self.levels(instant))
+        !self.cycle_starts(span, instant) || !lacks_some(&self.levels(instant))
     }
 
     /// Whether the direction is known and both answers are high, if a transfer starts.

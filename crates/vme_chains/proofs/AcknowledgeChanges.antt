@@ -1,9 +1,10 @@
 -- What the changes of a step say of the lines that are watched.
-use Rattle.std.proofs.Common.{◌≡◌, ℕ, ◌+◌, ◌<◌, ◌≤◌, Bool, true, false, ◌||◌, ◌&&◌, List, [], ◌∷◌, refl, sym, ◌∙◌, ap, arith, cond}
-use Rattle.std.specs.Prelude.{None, Some, ◌==◌, nat_le}
+use Rattle.std.proofs.Common.{◌≡◌, ℕ, ◌+◌, ◌<◌, ◌≤◌, Bool, true, false, ◌||◌, ◌&&◌, not, List, [], ◌∷◌, refl, sym, ◌∙◌, ap, arith, cond}
+use Rattle.std.specs.Prelude.{Option, None, Some, ◌==◌, nat_le}
+use Rattle.std.specs.Option.{is_some}
 use Rattle.std.proofs.lemmas.Bool.Decides.{nat_tests}
 use Rattle.vme_trace.specs.Instants.{any, least}
-use Rattle.vme_trace.specs.LineNumbers.{line_count, has_line}
+use Rattle.vme_trace.specs.LineNumbers.{line_count, has_line, input_of}
 use Rattle.vme_trace.specs.Levels.{Levels, level_at, is_low, is_high}
 use Rattle.vme_trace.specs.Trace.{changed}
 use Rattle.vme_trace.specs.WellFormed.{are_changes}
@@ -11,16 +12,16 @@ use Rattle.vme_trace.specs.Changes.{is_changed}
 use Rattle.vme_trace.specs.declared.level.Level.{Level}
 use Rattle.vme_trace.specs.declared.level.Level.TheVariants.{Low, High, Unknown}
 use Rattle.vme_trace.specs.declared.step.Change.{Change}
-use Rattle.vme_trace.proofs.Ranges.{fails-any, least-is, least-none, least-alike, clash}
+use Rattle.vme_trace.proofs.Ranges.{fails-any, least-is, least-none, least-alike}
 use Rattle.vme_trace.proofs.Changing.{level-kept}
 use Rattle.vme_monitor.specs.OutsideSpec.{falls_between}
-use Rattle.vme_chains.specs.AcknowledgeSpec.{first_changed, is_watched, touches_watched, passes_on, passes_unasked}
+use Rattle.vme_chains.specs.AcknowledgeSpec.{first_changed, low_near, passes_on, passes_unasked}
 
 and_true : (a b : Bool) → (a && b) ≡ true → (a ≡ true) × (b ≡ true)
 and_true true b h = (refl, h)
 and_true false b h = absurd (cc)
 
-or_false : (a b : Bool) → (a || b) ≡ false → (a ≡ false) × (b ≡ false)
+pub or_false : (a b : Bool) → (a || b) ≡ false → (a ≡ false) × (b ≡ false)
 or_false true b h = absurd (cc)
 or_false false b h = (refl, h)
 
@@ -106,28 +107,16 @@ passes_not v cs l h = rw (falls_not v (changed v cs) l (level-kept v cs l h)) (n
 pub unasked_not : (v : Levels) (cs : List Change) (l : ℕ) → is_changed cs l ≡ false → passes_unasked v (changed v cs) l ≡ false
 unasked_not v cs l h = and_none (passes_on v (changed v cs) l) _ (passes_not v cs l h)
 
--- where no change is of a watched line, each of them keeps its level, and no slot passes an acknowledge on
-pub unwatched : (cs : List Change) (l : ℕ) → touches_watched cs ≡ false → is_watched l ≡ true → is_changed cs l ≡ false
-unwatched [] l h k = refl
-unwatched (c ∷ cs) l h k =
-    let both = or_false (is_watched c.line) (touches_watched cs) h in
-    rw (unwatched cs l both.1 k) (other (c.line == l) refl)
+pub none_of : {A : Type 0} (o : Option A) → is_some o ≡ false → o ≡ None
+none_of None h = refl
+none_of (Some x) h = absurd (cc)
+
+-- where no slot passes an acknowledge on, none does unasked
+pub unasked_none : (v w : Levels) (cs : List Change) → is_some (first_changed (passes_on v w) cs) ≡ false → first_changed (passes_unasked v w) cs ≡ None
+unasked_none v w [] h = refl
+unasked_none v w (c ∷ cs) h = past_first (passes_on v w c.line) refl h (unasked_none v w cs)
   where
-    other : (b : Bool) → (c.line == l) ≡ b → (b || false) ≡ false
-    other false e = refl
-    other true e = absurd (clash (is_watched l) k (ap is_watched (sym (equal c.line l e)) ∙ (or_false (is_watched c.line) (touches_watched cs) h).0))
-
-unwatched_passes : (v w : Levels) (l : ℕ) → is_watched l ≡ false → passes_on v w l ≡ false
-unwatched_passes v w l h = rw (or_false (nat_le l 4) (nat_le 138 l) h).1 refl
-
-pub none_passes : (v w : Levels) (cs : List Change) → touches_watched cs ≡ false → first_changed (passes_on v w) cs ≡ None
-none_passes v w [] h = refl
-none_passes v w (c ∷ cs) h =
-    let both = or_false (is_watched c.line) (touches_watched cs) h in
-    rw (unwatched_passes v w c.line both.0, none_passes v w cs both.1) refl
-
-pub none_unasked : (v w : Levels) (cs : List Change) → touches_watched cs ≡ false → first_changed (passes_unasked v w) cs ≡ None
-none_unasked v w [] h = refl
-none_unasked v w (c ∷ cs) h =
-    let both = or_false (is_watched c.line) (touches_watched cs) h in
-    rw (unwatched_passes v w c.line both.0, none_unasked v w cs both.1) refl
+    past_first : (b : Bool) → passes_on v w c.line ≡ b → is_some (cond b (Some c.line) (first_changed (passes_on v w) cs)) ≡ false
+        → (is_some (first_changed (passes_on v w) cs) ≡ false → first_changed (passes_unasked v w) cs ≡ None) → first_changed (passes_unasked v w) (c ∷ cs) ≡ None
+    past_first true e h rest = absurd (cc)
+    past_first false e h rest = rw (and_none (passes_on v w c.line) (not (low_near v w (input_of c.line))) e) (rest h)

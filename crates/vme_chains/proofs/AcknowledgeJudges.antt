@@ -1,18 +1,17 @@
 -- The machine's memory means what it should at each instant of the span, so its faults are the least breaks.
-use Rattle.std.proofs.Common.{◌≡◌, ℕ, zero, suc, ◌<◌, ◌≤◌, Bool, true, false, ◌&&◌, not, List, refl, sym, ◌∙◌, ap, arith, cond, length, subst, inl, inr, ◌⊎◌, Option, Some, None}
+use Rattle.std.proofs.Common.{◌≡◌, ℕ, zero, suc, ◌<◌, ◌≤◌, Bool, true, false, ◌&&◌, ◌||◌, not, List, refl, sym, ◌∙◌, ap, arith, cond, length, subst, inl, inr, ◌⊎◌, Option, Some, None}
 use Rattle.std.specs.Prelude.{option_map, slice_get, nat_lt}
-use Rattle.std.specs.Option.{option_or, option_map_or}
+use Rattle.std.specs.Option.{is_some, option_or, option_map_or}
 use Rattle.std.proofs.lemmas.Bool.Decides.{nat_tests}
 use Rattle.vme_trace.specs.Instants.{least}
-use Rattle.vme_trace.specs.LineNumbers.{line_count, AS, DS0, DS1, DTACK, BERR}
-use Rattle.vme_trace.specs.Levels.{Levels, level_at}
+use Rattle.vme_trace.specs.LineNumbers.{line_count}
+use Rattle.vme_trace.specs.Levels.{Levels}
 use Rattle.vme_trace.specs.Trace.{Trace, levels_at, time_at, changed}
 use Rattle.vme_trace.specs.WellFormed.{malformed_step}
 use Rattle.vme_trace.specs.Judged.{Span}
 use Rattle.vme_trace.specs.Verdict.{break_at as rules_break_at, rule_break}
 use Rattle.vme_trace.specs.declared.rule.Rule.TheVariants.{I1, I2, I3}
 use Rattle.vme_trace.specs.declared.step.Change.{Change}
-use Rattle.vme_trace.proofs.Changing.{level-kept}
 use Rattle.vme_trace.proofs.SpanEnds.{slots_at}
 use Rattle.vme_monitor.specs.Along.{changes_of, next_at, memory_from}
 use Rattle.vme_monitor.specs.Run.{break_at, noticed, nothing, run_of}
@@ -22,11 +21,11 @@ use Rattle.vme_monitor.specs.declared.mark.Next.{Next}
 use Rattle.vme_monitor.proofs.OwnRules.{own_event, own_marks}
 use Rattle.vme_monitor.proofs.SpanFacts.{IsSpan}
 use Rattle.vme_monitor.proofs.Spans.{levels_step, changes_fit, memory_early}
-use Rattle.vme_chains.specs.AcknowledgeSpec.{acknowledge_begin, acknowledge_ends, acknowledge_next, acknowledge_opens, acknowledge_rules, acknowledge_shown, acknowledge_sight, fault_among, fault_on, first_changed, is_watched, memory_after, passes_on, passes_unasked, is_strobed, is_addressed, touches_watched}
+use Rattle.vme_chains.specs.AcknowledgeSpec.{acknowledge_begin, acknowledge_ends, acknowledge_next, acknowledge_opens, acknowledge_rules, acknowledge_shown, acknowledge_sight, fault_among, fault_on, changes_memory, first_changed, memory_after, passes_on, passes_unasked, is_strobed, is_addressed}
 use Rattle.vme_chains.specs.declared.acknowledge.Acknowledgement.{Acknowledgement}
 use Rattle.vme_chains.specs.declared.acknowledge.Passing.{Passing}
 use Rattle.vme_chains.proofs.AcknowledgeBreaks.{least_input, least_strobes, least_answer}
-use Rattle.vme_chains.proofs.AcknowledgeChanges.{first-least, passes_not, unasked_not, unwatched, none_passes, none_unasked}
+use Rattle.vme_chains.proofs.AcknowledgeChanges.{first-least, none_of, or_false, passes_not, unasked_none, unasked_not}
 use Rattle.vme_chains.proofs.AcknowledgeMemory.{Holds, holds_start, holds_next, memory_same}
 
 module _ (t : Trace) (span : Span) (ok : malformed_step t ≡ None) (few : t.opening.slots ≤ 21) (facts : IsSpan t span) where
@@ -60,20 +59,18 @@ module _ (t : Trace) (span : Span) (ok : malformed_step t ≡ None) (few : t.ope
         subst (λ (w : Levels). first_changed (passes_unasked old w) cs ≡ least (passes_unasked old w) 0 line_count) (sym (levels_step t n within))
         (first-least old (passes_unasked old (changed old cs)) few_slots 0 cs (changes_fit t n ok within) (unasked_not old cs))
 
-    kept : touches_watched cs ≡ false → (l : ℕ) → is_watched l ≡ true → level_at new l ≡ level_at old l
-    kept h l k = ap (λ (w : Levels). level_at w l) (levels_step t n within) ∙ level-kept old cs l (unwatched cs l h k)
-
     -- the step, seen or not
     next_is : (m : Acknowledgement) → Holds t span n m
         → next_at step t m n ≡ record { memory = memory_after m old new; fault = fault_among m old new (first_changed (passes_unasked old new) cs) (first_changed (passes_on old new) cs); kinds = nothing }
-    next_is m h = by_sight (touches_watched cs) refl
+    next_is m h = by_sight (is_some (first_changed (passes_on old new) cs) || changes_memory old new) refl
       where
-        by_sight : (b : Bool) → touches_watched cs ≡ b
+        by_sight : (b : Bool) → (is_some (first_changed (passes_on old new) cs) || changes_memory old new) ≡ b
             → option_map_or (acknowledge_next m old new) (cond b (Some (record { first = first_changed (passes_on old new) cs; unasked = first_changed (passes_unasked old new) cs })) None) (record { memory = m; fault = None; kinds = nothing })
             ≡ record { memory = memory_after m old new; fault = fault_among m old new (first_changed (passes_unasked old new) cs) (first_changed (passes_on old new) cs); kinds = nothing }
         by_sight true e = refl
         by_sight false e =
-            rw (none_unasked old new cs e, none_passes old new cs e, memory_same t span facts n from before (kept e DS0 refl) (kept e DS1 refl) (kept e DTACK refl) (kept e BERR refl) m h (kept e AS refl)) refl
+            let still = or_false (is_some (first_changed (passes_on old new) cs)) (changes_memory old new) e in
+            rw (unasked_none old new cs still.0, none_of (first_changed (passes_on old new) cs) still.0, memory_same t span facts n from before m h still.1) refl
 
     holds_after : (m : Acknowledgement) → Holds t span n m → Holds t span (suc n) (next_at step t m n).memory
     holds_after m h = subst (λ (x : Next Acknowledgement). Holds t span (suc n) x.memory) (sym (next_is m h)) (holds_next t span facts n from before m h)

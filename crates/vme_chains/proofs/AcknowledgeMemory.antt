@@ -1,9 +1,9 @@
 -- What the memory means at an instant, and that it means the same at the next.
-use Rattle.std.proofs.Common.{◌≡◌, ℕ, zero, suc, ◌+◌, ◌<◌, ◌≤◌, Bool, true, false, ◌||◌, ◌&&◌, not, refl, ◌∙◌, ap, arith, cond, add-one, lit<}
+use Rattle.std.proofs.Common.{◌≡◌, ℕ, zero, suc, ◌+◌, ◌<◌, ◌≤◌, Bool, true, false, ◌||◌, ◌&&◌, not, refl, sym, ◌∙◌, ap, arith, cond, add-one, lit<}
 use Rattle.std.specs.Prelude.{Option, Some, nat_le}
 use Rattle.std.proofs.lemmas.Bool.Decides.{nat_tests}
 use Rattle.vme_trace.specs.Instants.{any, greatest}
-use Rattle.vme_trace.specs.LineNumbers.{line_count, AS, DS0, DS1, DTACK, BERR}
+use Rattle.vme_trace.specs.LineNumbers.{line_count, AS, DTACK, BERR, WRITE}
 use Rattle.vme_trace.specs.Levels.{Levels, level_at, is_low, is_high, is_known, is_idle, is_idle_on}
 use Rattle.vme_trace.specs.Trace.{Trace, levels_at}
 use Rattle.vme_trace.specs.Signals.{low, high, falls}
@@ -12,18 +12,18 @@ use Rattle.vme_trace.specs.Transfers.{strobes_high, is_answer}
 use Rattle.vme_trace.specs.Cycles.{cycle_starts, cycle_of, in_cycle}
 use Rattle.vme_trace.specs.declared.level.Level.{Level}
 use Rattle.vme_trace.specs.declared.level.Level.TheVariants.{Low, High, Unknown}
-use Rattle.vme_trace.proofs.Ranges.{any-fails, fails-any}
+use Rattle.vme_trace.proofs.Ranges.{any-fails, clash, fails-any}
 use Rattle.vme_trace.proofs.OpenTransfers.{is_judged-holds, suc-sub-one}
 use Rattle.vme_monitor.specs.OutsideSpec.{falls_between}
 use Rattle.vme_monitor.specs.Tracked.{Says}
-use Rattle.vme_monitor.specs.Tracking.{strobes_high_in, entered, tracked, is_unanswered}
+use Rattle.vme_monitor.specs.Tracking.{answer_between, answered_by, entered, is_unanswered, strobe_low_in, strobes_high_in}
 use Rattle.vme_monitor.specs.declared.tracking.Pending.{Pending}
 use Rattle.vme_monitor.specs.declared.tracking.Pending.TheVariants.{Closed, Reading, Writing, Answered}
 use Rattle.vme_monitor.proofs.SpanFacts.{IsSpan}
 use Rattle.vme_monitor.proofs.TrackedTransfers.{says_start, tracked_is, is_answer_is}
-use Rattle.vme_chains.specs.AcknowledgeSpec.{acknowledge_begin, acknowledged_after, is_acknowledged, memory_after}
+use Rattle.vme_chains.specs.AcknowledgeSpec.{acknowledge_begin, acknowledged_after, changes_memory, changes_strobes, is_acknowledged, memory_after}
 use Rattle.vme_chains.specs.declared.acknowledge.Acknowledgement.{Acknowledgement}
-use Rattle.vme_chains.proofs.AcknowledgeChanges.{falls_not, still_level}
+use Rattle.vme_chains.proofs.AcknowledgeChanges.{or_false}
 
 -- the greatest of one more
 greatest-step : (p : ℕ → Bool) (f n : ℕ) → greatest p f (n + 1) ≡ cond (nat_le f n && p n) (Some n) (greatest p f n)
@@ -58,6 +58,7 @@ module _ (t : Trace) (span : Span) where
   -- what the memory means after instant n
   pub record Holds (n : ℕ) (m : Acknowledgement) : Type 0 where
     pub transfer : Says t span n m.transfer
+    pub idle : low t AS n ≡ false → m.acknowledged ≡ false
     pub cycle : low t AS n ≡ true → IsOn n m.acknowledged
 
   -- so it says of the cycle what is asked
@@ -99,7 +100,7 @@ module _ (t : Trace) (span : Span) where
     -- at the start of a span nothing is open
     pub holds_start : Holds span.start (acknowledge_begin (levels_at t span.start))
     unfolding low
-    holds_start = record { transfer = says_start t span facts.reads; cycle = λ on. absurd (high_not_low (level_at (levels_at t span.start) AS) idle_address on) }
+    holds_start = record { transfer = says_start t span facts.reads; idle = λ off. refl; cycle = λ on. absurd (high_not_low (level_at (levels_at t span.start) AS) idle_address on) }
 
     -- the step to suc n
     module _ (n : ℕ) (from : span.start ≤ n) (before : suc n < span.end) where
@@ -133,46 +134,34 @@ module _ (t : Trace) (span : Span) where
       next_cycle = start_after n ∙ rw (in_range, starts_is) refl
 
       -- the cycle of n goes on
-      goes_on : (m : Acknowledgement) → Holds n m → falls_between old new AS ≡ false → low t AS n ≡ true → IsOn (suc n) (acknowledged_after m old new)
-      goes_on m h no_fall on =
+      goes_on : (m : Acknowledgement) → Holds n m → falls_between old new AS ≡ false → low t AS n ≡ true → is_low (level_at new AS) ≡ true → IsOn (suc n) (acknowledged_after m old new)
+      goes_on m h no_fall on stays =
           let o = h.cycle on in
           record {
             start = o.start;
             last = next_cycle ∙ rw no_fall o.last;
             reply =
                 any_suc acknowledges o.start (suc n)
-                ∙ rw (o.reply, within o.start n (start_within n o.start o.last), acknowledges_is m.transfer h.transfer, no_fall) (either m.acknowledged (is_acknowledged m.transfer old new));
+                ∙ rw (o.reply, within o.start n (start_within n o.start o.last), acknowledges_is m.transfer h.transfer, stays) refl;
           }
         where
           within : (i n : ℕ) → i < n + 1 → nat_le i (suc n) ≡ true
           within i n h = grind (arith, nat_tests)
 
-          either : (a b : Bool) → (a || b) ≡ (b || (a && true))
-          either true true = refl
-          either true false = refl
-          either false true = refl
-          either false false = refl
-
       -- another starts
-      starts_here : (m : Acknowledgement) → Says t span n m.transfer → falls_between old new AS ≡ true → IsOn (suc n) (acknowledged_after m old new)
-      starts_here m says fall =
+      starts_here : (m : Acknowledgement) → Says t span n m.transfer → m.acknowledged ≡ false → falls_between old new AS ≡ true → is_low (level_at new AS) ≡ true → IsOn (suc n) (acknowledged_after m old new)
+      starts_here m says fresh fall on =
           let empty : any acknowledges (suc n) (suc n) ≡ false = fails-any acknowledges (suc n) (suc n) (λ i a b. absurd (omega arith)) in
           record {
             start = suc n;
             last = next_cycle ∙ rw fall refl;
             reply =
                 any_suc acknowledges (suc n) (suc n)
-                ∙ rw (empty, itself (suc n), acknowledges_is m.transfer says, fall) (alone m.acknowledged (is_acknowledged m.transfer old new));
+                ∙ rw (empty, itself (suc n), acknowledges_is m.transfer says, fresh, on) refl;
           }
         where
           itself : (i : ℕ) → nat_le i i ≡ true
           itself i = grind (arith, nat_tests)
-
-          alone : (a b : Bool) → b ≡ (b || (a && false))
-          alone true true = refl
-          alone true false = refl
-          alone false true = refl
-          alone false false = refl
 
       fell : (x y : Level) → is_known x ≡ true → is_low x ≡ false → is_low y ≡ true → (is_high x && is_low y) ≡ true
       fell High y h k e = e
@@ -192,42 +181,53 @@ module _ (t : Trace) (span : Span) where
       cycle_next m h on = by_level (is_low (level_at old AS)) refl
         where
           by_level : (b : Bool) → is_low (level_at old AS) ≡ b → IsOn (suc n) (acknowledged_after m old new)
-          by_level true e = goes_on m h (held (level_at old AS) (level_at new AS) e) e
-          by_level false e = starts_here m h.transfer (fell (level_at old AS) (level_at new AS) address_known e on)
+          by_level true e = goes_on m h (held (level_at old AS) (level_at new AS) e) e on
+          by_level false e = starts_here m h.transfer (h.idle e) (fell (level_at old AS) (level_at new AS) address_known e on) on
+
+      idle_next : (m : Acknowledgement) → low t AS (suc n) ≡ false → acknowledged_after m old new ≡ false
+      unfolding low
+      idle_next m off = rw off refl
 
       -- so the memory means the same one instant later
       pub holds_next : (m : Acknowledgement) → Holds n m → Holds (suc n) (memory_after m old new)
-      holds_next m h = record { transfer = tracked_is t span facts.reads n from before m.transfer h.transfer; cycle = cycle_next m h }
+      holds_next m h = record { transfer = tracked_is t span facts.reads n from before m.transfer h.transfer; idle = idle_next m; cycle = cycle_next m h }
 
-      high_is : strobes_high_in old ≡ strobes_high t n
+      -- no transfer is open where both strobes are high
+      closed_there : (p : Pending) → Says t span n p → strobes_high_in old ≡ true → p ≡ Closed
       unfolding high
-      high_is = refl
+      closed_there Closed says h = refl
+      closed_there Reading says h = absurd (clash (strobes_high t n) h (says.1.still n says.1.within (omega arith)))
+      closed_there Writing says h = absurd (clash (strobes_high t n) h (says.1.still n says.1.within (omega arith)))
+      closed_there Answered says h = absurd (clash (strobes_high t n) h (says.2.still n says.2.within (omega arith)))
 
-      high_is_not_low : (x y : Level) → ((is_high x && is_high y) && (is_low x || is_low y)) ≡ false
-      high_is_not_low High High = refl
-      high_is_not_low High Low = refl
-      high_is_not_low High Unknown = refl
-      high_is_not_low Low y = refl
-      high_is_not_low Unknown y = refl
+      same_transfer : (p q : Pending) (b l h a : Bool) → (b ≡ true → p ≡ Closed) → cond b l h ≡ false → a ≡ false → cond h Closed (answered_by a (cond (b && l) q p)) ≡ p
+      same_transfer p q true l h a closed still none = let off : l ≡ false = still in rw (off, none) (either h (closed refl))
+        where
+          either : (h : Bool) → p ≡ Closed → cond h Closed p ≡ p
+          either true e = sym e
+          either false e = refl
+      same_transfer p q false l h a closed still none = let off : h ≡ false = still in rw (off, none) refl
 
-      keeps : (p : Pending) → Says t span n p → cond (strobes_high t n) Closed p ≡ p
-      keeps Closed h = rw h refl
-      keeps Reading o = rw (o.1.still n o.1.within (omega arith)) refl
-      keeps Writing o = rw (o.1.still n o.1.within (omega arith)) refl
-      keeps Answered o = rw (o.2.still n o.2.within (omega arith)) refl
+      same_acknowledged : (x y : Level) (a u : Bool) → is_known y ≡ true → (is_low x ≡ false → a ≡ false) → (is_low x && is_high y) ≡ false → (is_low y && (a || (u && false))) ≡ a
+      same_acknowledged x Unknown a u k idle r = absurd (cc)
+      same_acknowledged x High false u k idle r = refl
+      same_acknowledged x Low false true k idle r = refl
+      same_acknowledged x Low false false k idle r = refl
+      same_acknowledged x Low true u k idle r = refl
+      same_acknowledged Low High true u k idle r = absurd (cc)
+      same_acknowledged High High true u k idle r = sym (idle refl)
+      same_acknowledged Unknown High true u k idle r = sym (idle refl)
 
-      module _ (first : level_at new DS0 ≡ level_at old DS0) (second : level_at new DS1 ≡ level_at old DS1) (done : level_at new DTACK ≡ level_at old DTACK) (failed : level_at new BERR ≡ level_at old BERR) where
-        tracked_same : (p : Pending) → Says t span n p → tracked p old new ≡ p
-        tracked_same p says =
-            rw (first, second, done, failed, high_is_not_low (level_at old DS0) (level_at old DS1), still_level (level_at old DTACK), still_level (level_at old BERR), high_is) (keeps p says)
-
-        -- where no watched line changes, the memory stays
-        pub memory_same : (m : Acknowledgement) → Holds n m → level_at new AS ≡ level_at old AS → memory_after m old new ≡ m
-        memory_same m h address =
-            rw (tracked_same m.transfer h.transfer, falls_not old new DTACK done, falls_not old new AS address, same (is_unanswered (entered m.transfer old new)) m.acknowledged) refl
-          where
-            same : (u a : Bool) → ((u && false) || (a && true)) ≡ a
-            same true true = refl
-            same true false = refl
-            same false true = refl
-            same false false = refl
+      -- where nothing changes that counts for it, the memory stays
+      pub memory_same : (m : Acknowledgement) → Holds n m → changes_memory old new ≡ false → memory_after m old new ≡ m
+      unfolding low
+      memory_same m h still =
+          let address = or_false (changes_strobes old new || answer_between old new) (is_low (level_at old AS) && is_high (level_at new AS)) still in
+          let answer = or_false (changes_strobes old new) (answer_between old new) address.0 in
+          let done = or_false (falls_between old new DTACK) (falls_between old new BERR) answer.1 in
+          rw (
+            same_transfer m.transfer (cond (is_low (level_at new WRITE)) Writing Reading) (strobes_high_in old) (strobe_low_in new) (strobes_high_in new) (answer_between old new) (closed_there m.transfer h.transfer) answer.0 answer.1,
+            done.0,
+            same_acknowledged (level_at old AS) (level_at new AS) m.acknowledged (is_unanswered (entered m.transfer old new)) (facts.known (suc n) AS (omega arith) before (lit< tt) refl) h.idle address.1,
+          )
+          refl

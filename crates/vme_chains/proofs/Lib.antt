@@ -11,7 +11,6 @@ pub mod GrantSkips
 pub mod GrantFaults
 pub mod GrantJudges
 pub mod AcknowledgeChanges
-pub mod PassedOutputs
 pub mod PassedNets
 pub mod AcknowledgeMemory
 pub mod AcknowledgeBreaks

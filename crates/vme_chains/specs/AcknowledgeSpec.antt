@@ -1,8 +1,9 @@
 -- How slots pass an acknowledge on, as the levels on both sides of a step and the changes between them show it.
-use Rattle.std.specs.Prelude.{◌≡◌, refl, ℕ, ◌+◌, ◌-◌, ◌==◌, ◌<◌, Bool, true, false, not, ◌&&◌, ◌||◌, nat_le, nat_lt, List, [], ◌∷◌, Option, None, Some, if◌then◌else◌}
+use Rattle.std.specs.Prelude.{◌≡◌, refl, ℕ, ◌+◌, ◌-◌, ◌==◌, ◌<◌, Bool, true, false, not, ◌&&◌, ◌||◌, nat_lt, List, [], ◌∷◌, Option, None, Some, if◌then◌else◌}
 use Rattle.std.proofs.Common.{lit<}
-use Rattle.vme_trace.specs.LineNumbers.{AS, DS0, DS1, DTACK, BERR, is_slot_iack, input_of, has_line}
-use Rattle.vme_trace.specs.Levels.{Levels, level_at, is_low}
+use Rattle.std.specs.Option.{is_some}
+use Rattle.vme_trace.specs.LineNumbers.{AS, DS0, DS1, DTACK, is_slot_iack, input_of, has_line}
+use Rattle.vme_trace.specs.Levels.{Levels, level_at, is_low, is_high}
 use Rattle.vme_trace.specs.Trace.{Trace}
 use Rattle.vme_trace.specs.Judged.{Span}
 use Rattle.vme_trace.specs.declared.step.Change.{Change}
@@ -10,7 +11,7 @@ use Rattle.vme_trace.specs.declared.rule.Rule.{Rule}
 use Rattle.vme_trace.specs.declared.rule.Rule.TheVariants.{I1, I2, I3}
 use Rattle.vme_monitor.specs.Run.{nothing}
 use Rattle.vme_monitor.specs.OutsideSpec.{falls_between}
-use Rattle.vme_monitor.specs.Tracking.{entered, tracked, is_unanswered}
+use Rattle.vme_monitor.specs.Tracking.{strobes_high_in, strobe_low_in, answer_between, entered, tracked, is_unanswered}
 use Rattle.vme_monitor.specs.declared.mark.Fault.{Fault}
 use Rattle.vme_monitor.specs.declared.mark.Kinds.{Kinds}
 use Rattle.vme_monitor.specs.declared.mark.Next.{Next}
@@ -64,21 +65,21 @@ abbrev pub first_changed : (ℕ → Bool) → List Change → Option ℕ
 first_changed p [] = None
 first_changed p (c ∷ cs) = if p c.line then Some c.line else first_changed p cs
 
--- the address strobe, the data strobes, the answers and the acknowledge outputs
-abbrev pub is_watched : ℕ → Bool
-is_watched l = nat_le l BERR || is_slot_iack l
+-- a transfer starts, or none is open any more
+abbrev pub changes_strobes : Levels → Levels → Bool
+changes_strobes v w = if strobes_high_in v then strobe_low_in w else strobes_high_in w
 
-abbrev pub touches_watched : List Change → Bool
-touches_watched [] = false
-touches_watched (c ∷ cs) = is_watched c.line || touches_watched cs
+-- what is remembered may change: a transfer starts, is answered or ends, or the address strobe rises
+abbrev pub changes_memory : Levels → Levels → Bool
+changes_memory v w = changes_strobes v w || answer_between v w || (is_low (level_at v AS) && is_high (level_at w AS))
 
 -- a transfer is answered by DTACK*
 abbrev pub is_acknowledged : Pending → Levels → Levels → Bool
 is_acknowledged m v w = is_unanswered (entered m v w) && falls_between v w DTACK
 
--- what is kept of the cycle that is on after the step: a new one starts where the address strobe falls
+-- what is kept of the cycle that runs after the step
 abbrev pub acknowledged_after : Acknowledgement → Levels → Levels → Bool
-acknowledged_after m v w = is_acknowledged m.transfer v w || (m.acknowledged && not (falls_between v w AS))
+acknowledged_after m v w = is_low (level_at w AS) && (m.acknowledged || is_acknowledged m.transfer v w)
 
 abbrev pub memory_after : Acknowledgement → Levels → Levels → Acknowledgement
 memory_after m v w = record { transfer = tracked m.transfer v w; acknowledged = acknowledged_after m v w }
@@ -106,7 +107,7 @@ acknowledge_ends l = None
 
 abbrev pub acknowledge_sight : Levels → Levels → List Change → Option Passing
 acknowledge_sight v w cs =
-    if touches_watched cs then Some (record { first = first_changed (passes_on v w) cs; unasked = first_changed (passes_unasked v w) cs }) else None
+    if is_some (first_changed (passes_on v w) cs) || changes_memory v w then Some (record { first = first_changed (passes_on v w) cs; unasked = first_changed (passes_unasked v w) cs }) else None
 
 abbrev pub acknowledge_next : Acknowledgement → Levels → Levels → Passing → Next Acknowledgement
 acknowledge_next m v w seen = record { memory = memory_after m v w; fault = fault_among m v w seen.unasked seen.first; kinds = nothing }

@@ -1,20 +1,19 @@
 //! Interrupt acknowledge: a slot passes it on only while it is asked, within a cycle and a transfer, and before the answer.
 
-ghost use Rattle.std.specs.Prelude.{◌≡◌, ◌<◌, ℕ, Bool, IsTrue, None, false};
+ghost use Rattle.std.specs.Prelude.{◌≡◌, ◌<◌, IsTrue};
 ghost use Rattle.vme_trace.specs.LineNumbers.{has_line, input_of as input_line, is_slot_iack};
 ghost use Rattle.vme_monitor.specs.OutsideSpec.{falls_between};
 ghost use Rattle.vme_monitor.specs.Whole.{FindsLeast, ShowsAll};
-ghost use Rattle.vme_chains.specs.AcknowledgeSpec.{acknowledge_rules, acknowledge_shown, fault_among, first_changed, is_acknowledged, is_addressed as addressed_near, is_strobed as strobed_near, is_watched as watched_line, low_near, memory_after, passes_on as passes, passes_unasked, pending_nth, pending_place, touches_watched as touches};
+ghost use Rattle.vme_chains.specs.AcknowledgeSpec.{acknowledge_rules, acknowledge_shown, changes_memory as changes_memory_of, changes_strobes as changes_strobes_of, fault_among, first_changed, is_acknowledged, is_addressed as addressed_near, is_strobed as strobed_near, low_near, memory_after, passes_on as passes, passes_unasked, pending_nth, pending_place};
 
 use vme_monitor::machine::{Places, Small};
 use vme_monitor::mark::{Fault, Kinds, NOTHING, Next};
 use vme_monitor::monitor::Monitor;
 use vme_monitor::spanned::{Rules, Within};
-use vme_monitor::tracking::Pending;
+use vme_monitor::tracking::{Pending, answer_between, has_strobes_high};
 use vme_trace::{Change, Line, Lines, Rule};
 
-/// What the transfer is doing, and whether a transfer of the cycle that started last was answered by DTACK*; the latter says
-/// nothing while AS* isn't low.
+/// What the transfer is doing, and whether AS* is low and a transfer of the cycle was answered by DTACK*.
 #[derive(Clone, Copy, PartialEq, Eq, Debug)]
 pub struct Acknowledgement {
     pub transfer: Pending,
@@ -93,10 +92,10 @@ impl Acknowledgement {
     fn after(self, before: &Lines, after: &Lines) -> Acknowledgement
         ensures { result ≡ memory_after self before.now after.now }
     {
-        let answered = acknowledges(self.transfer, before, after);
         Acknowledgement {
             transfer: self.transfer.tracked(before, after),
-            acknowledged: answered || (self.acknowledged && !falls(before, after, Line::AS)),
+            acknowledged: after.level(Line::AS).is_low()
+                && (self.acknowledged || acknowledges(self.transfer, before, after)),
         }
     }
 }
@@ -159,18 +158,6 @@ fn passes_on_unasked(before: &Lines, after: &Lines, line: Line) -> bool
     passes_on(before, after, line) && !is_low_near(before, after, input_of(line))
 }
 
-/// Whether an acknowledge output is among the changes: no other line passes an acknowledge on.
-fn touches_outputs(changes: &[Change]) -> bool
-    ensures { result ≡ false → (p : ℕ → Bool) → ((l : ℕ) → is_slot_iack l ≡ false → p l ≡ false) → first_changed p changes.now ≡ None }
-{
-    for change in changes {
-        if is_output(change.line) {
-            return true;
-        }
-    }
-    false
-}
-
 fn first_passing(before: &Lines, after: &Lines, changes: &[Change]) -> Option<Line>
     ensures { result ≡ first_changed (passes before.now after.now) changes.now }
 {
@@ -198,34 +185,33 @@ fn outputs_passing(before: &Lines, after: &Lines, changes: &[Change]) -> Passing
     ensures first { result.first ≡ first_changed (passes before.now after.now) changes.now }
     ensures unasked { result.unasked ≡ first_changed (passes_unasked before.now after.now) changes.now }
 {
-    if touches_outputs(changes) {
-        Passing {
-            first: first_passing(before, after, changes),
-            unasked: first_unasked(before, after, changes),
-        }
+    let first = first_passing(before, after, changes);
+    let unasked = if first.is_some() {
+        first_unasked(before, after, changes)
     } else {
-        Passing {
-            first: None,
-            unasked: None,
-        }
+        None
+    };
+    Passing { first, unasked }
+}
+
+/// Whether a transfer starts, or none is open any more.
+fn changes_strobes(before: &Lines, after: &Lines) -> bool
+    ensures { result ≡ changes_strobes_of before.now after.now }
+{
+    if has_strobes_high(before) {
+        after.level(Line::DS0).is_low() || after.level(Line::DS1).is_low()
+    } else {
+        has_strobes_high(after)
     }
 }
 
-fn is_watched(line: Line) -> bool
-    ensures { result ≡ watched_line line }
+/// Whether what is remembered may change: a transfer starts, is answered or ends, or AS* rises.
+fn changes_memory(before: &Lines, after: &Lines) -> bool
+    ensures { result ≡ changes_memory_of before.now after.now }
 {
-    line.number() <= Line::BERR.number() || is_output(line)
-}
-
-fn touches_watched(changes: &[Change]) -> bool
-    ensures { result ≡ touches changes.now }
-{
-    for change in changes {
-        if is_watched(change.line) {
-            return true;
-        }
-    }
-    false
+    changes_strobes(before, after)
+        || answer_between(before, after)
+        || (before.level(Line::AS).is_low() && after.level(Line::AS).is_high())
 }
 
 fn is_strobed(before: &Lines, after: &Lines) -> bool
@@ -316,8 +302,9 @@ impl Rules for AcknowledgeRules {
     }
 
     fn see(before: &Lines, after: &Lines, changes: &[Change]) -> Option<Passing> {
-        if touches_watched(changes) {
-            Some(outputs_passing(before, after, changes))
+        let seen = outputs_passing(before, after, changes);
+        if seen.first.is_some() || changes_memory(before, after) {
+            Some(seen)
         } else {
             None
         }

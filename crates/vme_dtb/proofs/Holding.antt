@@ -18,7 +18,7 @@ use Rattle.vme_monitor.proofs.Spans.{memory_early}
 use Rattle.vme_monitor.proofs.TrackedTransfers.{says_start, tracked_is}
 use Rattle.vme_dtb.specs.CycleState.{after_answer, cycle_entered}
 use Rattle.vme_dtb.specs.Edge.{edges_between}
-use Rattle.vme_dtb.specs.Machine.{answer_in, dtb_begin, dtb_next, dtb_sight, freed, memory_after}
+use Rattle.vme_dtb.specs.Machine.{answer_in, dtb_begin, dtb_sight, dtb_step, freed, memory_after}
 use Rattle.vme_dtb.specs.declared.cycle.Cycle.{Cycle}
 use Rattle.vme_dtb.specs.declared.edges.Edges.{Edges}
 use Rattle.vme_dtb.specs.declared.memory.Memory.{Memory}
@@ -104,10 +104,10 @@ module _ (t : Trace) (span : Span) (facts : IsSpan t span) where
         }
 
   abbrev pub memory_at : ℕ → Memory
-  memory_at k = memory_from (noticed dtb_sight dtb_next) t (dtb_begin (levels_at t span.start)) span.start k
+  memory_at k = memory_from (noticed dtb_sight dtb_step) t (dtb_begin (levels_at t span.start)) span.start k
 
   held_start : Holds t span span.start (memory_at span.start)
-  held_start = subst (Holds t span span.start) (sym (memory_early (noticed dtb_sight dtb_next) t (dtb_begin (levels_at t span.start)) span.start span.start (omega arith))) holds_start
+  held_start = subst (Holds t span span.start) (sym (memory_early (noticed dtb_sight dtb_step) t (dtb_begin (levels_at t span.start)) span.start span.start (omega arith))) holds_start
 
   pub holds_at : (k : ℕ) → span.start ≤ k → k < span.end → Holds t span k (memory_at k)
   holds_at zero from before = let e : span.start ≡ 0 = omega arith in subst (λ (k : ℕ). Holds t span k (memory_at k)) e held_start

@@ -28,7 +28,7 @@ use Rattle.vme_monitor.proofs.LeastLines.{least_answer}
 use Rattle.vme_monitor.proofs.OwnRules.{own_event, own_marks}
 use Rattle.vme_monitor.proofs.SpanFacts.{IsSpan}
 use Rattle.vme_dtb.specs.Edge.{asked_of, edges_between, falls_between, rises_between, starts_transfer}
-use Rattle.vme_dtb.specs.Machine.{answer_in, broken, dropped, dtb_begin, dtb_ends, dtb_next, dtb_opens, dtb_sight, fault_in, is_doubled, is_replied, is_unserved}
+use Rattle.vme_dtb.specs.Machine.{answer_in, broken, dropped, dtb_begin, dtb_ends, dtb_next, dtb_opens, dtb_sight, dtb_step, fault_in, is_doubled, is_replied, is_unserved}
 use Rattle.vme_dtb.specs.declared.cycle.Cycle.{Cycle}
 use Rattle.vme_dtb.specs.CycleState.{cycle_entered, is_acknowledge, is_acknowledged, is_pair_spoiled, is_turned}
 use Rattle.vme_trace.specs.declared.rule.Rule.TheVariants.{H1, H2, H3, H4, H5, H6, H7, H8, C1, C2, I4, I5}
@@ -128,7 +128,7 @@ module _ (t : Trace) (span : Span) (facts : IsSpan t span) (n : ℕ) (from : spa
       (or_same _ _ _ _ (i4 t span facts.reads n from before m holds)
       (or_same _ _ _ _ (i5 t span facts.reads n from before m holds) refl)))))))))))
 
-  pub dtb_inside : option_map (break_at (suc n) (time_at t (suc n))) (next_at (noticed dtb_sight dtb_next) t m n).fault ≡ rules_break_at t span handshake_rules (suc n)
+  pub dtb_inside : option_map (break_at (suc n) (time_at t (suc n))) (next_at (noticed dtb_sight dtb_step) t m n).fault ≡ rules_break_at t span handshake_rules (suc n)
   dtb_inside = ap (λ (x : Next Memory). option_map (break_at (suc n) (time_at t (suc n))) x.fault) (noticed_is t span n m holds (changes_of (slice_get t.steps n))) ∙ breaks_are
 
   least_fall : least (λ l. is_answer_line l && falls t l (suc n)) 0 line_count ≡ seen.answer_fall
@@ -170,7 +170,7 @@ module _ (t : Trace) (span : Span) (facts : IsSpan t span) (n : ℕ) (from : spa
   kinds_are : (dtb_next m (old t n) (new t n) seen).kinds ≡ handshake_shown t span (suc n)
   kinds_are = same_kinds _ _ _ _ _ _ _ _ _ _ (sym cycle_is) (sym cycle_end_is) (sym transfer_is) (sym answer_line_is) (sym closes_is)
 
-  pub dtb_kinds : (next_at (noticed dtb_sight dtb_next) t m n).kinds ≡ handshake_shown t span (suc n)
+  pub dtb_kinds : (next_at (noticed dtb_sight dtb_step) t m n).kinds ≡ handshake_shown t span (suc n)
   dtb_kinds = ap (λ (x : Next Memory). x.kinds) (noticed_is t span n m holds (changes_of (slice_get t.steps n))) ∙ kinds_are
 
 module _ (t : Trace) (span : Span) where
@@ -189,14 +189,14 @@ module _ (t : Trace) (span : Span) where
   unfolding cycle_starts transfer_starts answer_line is_answer closes
   shown_start = rw (unjudged, in_none (λ i. answers t span i span.start), in_none (λ i. nat_lt i span.start), and_false (strobes_high t span.start)) refl
 
-pub dtb_event : FindsLeast (run_of (noticed (noted dtb_sight) (spanned dtb_begin dtb_opens (λ l. None) dtb_next))) (start_in dtb_begin) handshake_rules
+pub dtb_event : FindsLeast (run_of (noticed (noted dtb_sight) (spanned dtb_begin dtb_opens (λ l. None) dtb_step))) (start_in dtb_begin) handshake_rules
 dtb_event =
-    own_event dtb_begin dtb_opens dtb_sight dtb_next handshake_rules refl
+    own_event dtb_begin dtb_opens dtb_sight dtb_step handshake_rules refl
     (λ t span ok few facts n from before within unbroken. dtb_inside t span facts n from before (memory_at t span facts n) (holds_at t span facts n from (omega (arith, before))))
 
-pub dtb_marks : ShowsAll (run_of (noticed (noted dtb_sight) (spanned dtb_begin dtb_opens dtb_ends dtb_next))) (start_in dtb_begin) handshake_shown
+pub dtb_marks : ShowsAll (run_of (noticed (noted dtb_sight) (spanned dtb_begin dtb_opens dtb_ends dtb_step))) (start_in dtb_begin) handshake_shown
 dtb_marks =
-    own_marks dtb_begin dtb_opens dtb_sight dtb_next dtb_ends handshake_shown
+    own_marks dtb_begin dtb_opens dtb_sight dtb_step dtb_ends handshake_shown
     (λ t span ok few facts. record {
       at_start = shown_start t span;
       inside = λ n from before within. dtb_kinds t span facts n from before (memory_at t span facts n) (holds_at t span facts n from (omega (arith, before)));

@@ -12,5 +12,5 @@ pub mod Holding
 pub mod Judging
 pub mod Faults
 pub mod SameLevel
-pub mod UsualShapes
+pub mod UsualEdges
 pub mod UsualNexts

@@ -21,7 +21,7 @@ use Rattle.vme_monitor.specs.declared.tracking.Pending.{Pending}
 use Rattle.vme_monitor.specs.declared.tracking.Pending.TheVariants.{Closed, Reading, Writing, Answered}
 use Rattle.vme_dtb.specs.CycleState.{after_answer, is_acknowledge, is_acknowledged, is_pair_spoiled, is_turned}
 use Rattle.vme_dtb.specs.Edge.{asked_of, edges_between, falls_between, first_of, is_still, is_unready, rises_between, starts_transfer}
-use Rattle.vme_dtb.specs.Machine.{answer_in, broken, cycle_fault, dtb_next, dtb_sight, handshake_fault, is_doubled, is_replied, is_unserved, memory_after}
+use Rattle.vme_dtb.specs.Machine.{answer_in, broken, cycle_fault, dtb_next, dtb_sight, dtb_step, handshake_fault, is_doubled, is_replied, is_unserved, memory_after}
 use Rattle.vme_dtb.specs.declared.cycle.Cycle.{Cycle}
 use Rattle.vme_dtb.specs.declared.edges.Edges.{Edges}
 use Rattle.vme_dtb.specs.declared.memory.Memory.{Memory}
@@ -60,7 +60,7 @@ pub and_not : (b : Bool) → (b && not b) ≡ false
 and_not true = refl
 and_not false = refl
 
-all_five : (a b c d e : Bool) → (a && b && c && d && e) ≡ true → (a ≡ true) × (b ≡ true) × (c ≡ true) × (d ≡ true) × (e ≡ true)
+pub all_five : (a b c d e : Bool) → (a && b && c && d && e) ≡ true → (a ≡ true) × (b ≡ true) × (c ≡ true) × (d ≡ true) × (e ≡ true)
 all_five true true true true true h = (refl, refl, refl, refl, refl)
 all_five false b c d e h = absurd (cc)
 all_five true false c d e h = absurd (cc)
@@ -230,10 +230,10 @@ module _ (t : Trace) (span : Span) (n : ℕ) (m : Memory) (holds : Holds t span 
       none
 
   -- so a step that isn't noticed is done all the same
-  pub noticed_is : (cs : List Change) → noticed dtb_sight dtb_next m (old t n) (new t n) cs ≡ dtb_next m (old t n) (new t n) (edges_between (old t n) (new t n))
+  pub noticed_is : (cs : List Change) → noticed dtb_sight dtb_step m (old t n) (new t n) cs ≡ dtb_next m (old t n) (new t n) (edges_between (old t n) (new t n))
   noticed_is cs = by_still (is_still (old t n) (new t n)) refl
     where
       by_still : (b : Bool) → is_still (old t n) (new t n) ≡ b
-          → option_map_or (dtb_next m (old t n) (new t n)) (cond b None (Some (edges_between (old t n) (new t n)))) (quiet m) ≡ dtb_next m (old t n) (new t n) (edges_between (old t n) (new t n))
+          → option_map_or (dtb_step m (old t n) (new t n)) (cond b None (Some (record {}))) (quiet m) ≡ dtb_next m (old t n) (new t n) (edges_between (old t n) (new t n))
       by_still true e = sym (next_still e)
       by_still false e = refl

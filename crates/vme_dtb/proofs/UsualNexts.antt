@@ -2,13 +2,12 @@
 use Rattle.std.proofs.Common.{◌≡◌, ℕ, Bool, true, false, ◌&&◌, ◌||◌, not, refl, sym, ◌∙◌, ap, Option, Some, None, cond}
 use Rattle.std.specs.Prelude.{is_some}
 use Rattle.std.specs.Option.{option_or}
-use Rattle.vme_trace.specs.LineNumbers.{AS, DTACK}
-use Rattle.vme_trace.specs.Levels.{Levels}
+use Rattle.vme_trace.specs.LineNumbers.{AS, DS0, DS1, DTACK, BERR, WRITE}
+use Rattle.vme_trace.specs.Levels.{Levels, level_at, is_low, is_high}
 use Rattle.vme_trace.specs.declared.rule.Rule.{Rule}
 use Rattle.vme_trace.specs.declared.rule.Rule.TheVariants.{H2, H3, H4, H5, H7, H8}
 use Rattle.vme_monitor.specs.Run.{nothing, quiet}
-use Rattle.vme_monitor.specs.Tracking.{entered, is_unanswered, is_within, is_writing, tracked}
-use Rattle.vme_monitor.specs.declared.mark.Asked.{Asked}
+use Rattle.vme_monitor.specs.Tracking.{answered_by, entered, is_unanswered, is_within, is_writing, strobes_high_in, tracked}
 use Rattle.vme_monitor.specs.declared.mark.Fault.{Fault}
 use Rattle.vme_monitor.specs.declared.mark.Kinds.{Kinds}
 use Rattle.vme_monitor.specs.declared.mark.Next.{Next}
@@ -16,22 +15,22 @@ use Rattle.vme_monitor.specs.declared.tracking.Pending.{Pending}
 use Rattle.vme_monitor.specs.declared.tracking.Pending.TheVariants.{Closed, Reading, Writing, Answered}
 use Rattle.vme_dtb.specs.CycleState.{after_answer, unanswered_of}
 use Rattle.vme_dtb.specs.Machine.{broken, cycle_fault, dtb_next, handshake_fault, is_doubled, is_replied, is_unserved}
-use Rattle.vme_dtb.specs.UsualEdges.{edges_of}
-use Rattle.vme_dtb.specs.UsualSteps.{is_hasty, memory_left}
+use Rattle.vme_dtb.specs.Edge.{asked_of, closes_between, edges_between, falls_between, first_of, is_addressed, rises_between, starts_transfer, stays_on, strobe_falls_between, strobe_rises_between}
+use Rattle.vme_dtb.specs.UsualSteps.{is_answer_alone, is_hasty, is_start_alone, is_strobes_alone, memory_left}
 use Rattle.vme_dtb.specs.declared.cycle.Cycle.{Cycle}
 use Rattle.vme_dtb.specs.declared.memory.Memory.{Memory}
-use Rattle.vme_dtb.specs.declared.seen.Strobes.{Strobes}
-use Rattle.vme_dtb.specs.declared.seen.Shape.TheVariants.{Answer, CycleStart, Ready, StrobesAlone}
 use Rattle.vme_dtb.proofs.Faults.{unanswered, unnamed}
+use Rattle.vme_dtb.proofs.StillSteps.{all_five}
+use Rattle.vme_dtb.proofs.UsualEdges.{all_four, answer_edges, answer_is, no_fall, no_start, ready_edges, ready_is, rises_alone, start_edges, start_is, strobes_are, strobes_here}
 
 all_none : (h1 h2 h3 h4 h5 h6 h7 h8 : Option Fault) → h1 ≡ None → h2 ≡ None → h3 ≡ None → h4 ≡ None → h5 ≡ None → h6 ≡ None → h7 ≡ None → h8 ≡ None
     → option_or (option_or (option_or (option_or (option_or (option_or (option_or h1 h2) h3) h4) h5) h6) h7) h8 ≡ None
 all_none h1 h2 h3 h4 h5 h6 h7 h8 e1 e2 e3 e4 e5 e6 e7 e8 = rw (e1, e2, e3, e4, e5, e6, e7, e8) refl
 
-same_next : (p : Pending) (k : Kinds) (c d : Cycle) (x y : Bool) (h q r : Option Fault) (a b : Option ℕ) → c ≡ d → h ≡ None → q ≡ r → a ≡ b
+same_next : (p l : Pending) (k : Kinds) (c d : Cycle) (x y : Bool) (h q r : Option Fault) (a b : Option ℕ) → p ≡ l → c ≡ d → h ≡ None → q ≡ r → a ≡ b
     → ◌≡◌ {A = Next Memory} (record { memory = record { pending = p; cycle = c; dtack_freed = x; berr_freed = y }; fault = option_or h q; kinds = record k { answer = a } })
-    (record { memory = record { pending = p; cycle = d; dtack_freed = x; berr_freed = y }; fault = r; kinds = record k { answer = b } })
-same_next p k c d x y h q r a b e f g i = rw (e, f, g, i) refl
+    (record { memory = record { pending = l; cycle = d; dtack_freed = x; berr_freed = y }; fault = r; kinds = record k { answer = b } })
+same_next p l k c d x y h q r a b o e f g i = rw (o, e, f, g, i) refl
 
 nowhere : (b : Bool) → let none : Option ℕ = None in cond b none none ≡ none
 nowhere true = refl
@@ -44,43 +43,38 @@ and_false : (b : Bool) → (b && false) ≡ false
 and_false true = refl
 and_false false = refl
 
-hasty_rise : (p : Pending) (s : Strobes) → is_hasty p s ≡ false → broken H2 (is_unanswered p && true) s.rise ≡ None
-hasty_rise Closed s h = refl
-hasty_rise Answered s h = refl
-hasty_rise Reading s h = by_rise s.rise s.cycle_end h
-  where
-    by_rise : (o : Option ℕ) (b : Bool) → (is_some o || b) ≡ false → broken H2 true o ≡ None
-    by_rise None b h = refl
-    by_rise (Some l) b h = absurd (cc)
-hasty_rise Writing s h = by_rise s.rise s.cycle_end h
-  where
-    by_rise : (o : Option ℕ) (b : Bool) → (is_some o || b) ≡ false → broken H2 true o ≡ None
-    by_rise None b h = refl
-    by_rise (Some l) b h = absurd (cc)
+any_of : (a b : Bool) (k l : ℕ) → is_some (first_of a k b l) ≡ (a || b)
+any_of true b k l = refl
+any_of false true k l = refl
+any_of false false k l = refl
 
-hasty_fall : (p : Pending) (s : Strobes) → is_hasty p s ≡ false → broken H3 (is_replied p) s.fall ≡ None
-hasty_fall Closed s h = refl
-hasty_fall Reading s h = refl
-hasty_fall Writing s h = refl
-hasty_fall Answered s h = by_fall s.fall h
-  where
-    by_fall : (o : Option ℕ) → is_some o ≡ false → broken H3 true o ≡ None
-    by_fall None h = refl
-    by_fall (Some l) h = absurd (cc)
+calm_line : (r : Rule) (a b : Bool) (k l : ℕ) → (a || b) ≡ false → broken r true (first_of a k b l) ≡ None
+calm_line r false false k l h = refl
+calm_line r true b k l h = absurd (cc)
+calm_line r false true k l h = absurd (cc)
 
-hasty_end : (p : Pending) (s : Strobes) → is_hasty p s ≡ false → ((is_unanswered p && true) && s.cycle_end) ≡ false
-hasty_end Closed s h = refl
-hasty_end Answered s h = refl
-hasty_end Reading s h = by_end (is_some s.rise) s.cycle_end h
-  where
-    by_end : (a b : Bool) → (a || b) ≡ false → b ≡ false
-    by_end false b h = h
-    by_end true b h = absurd (cc)
-hasty_end Writing s h = by_end (is_some s.rise) s.cycle_end h
-  where
-    by_end : (a b : Bool) → (a || b) ≡ false → b ≡ false
-    by_end false b h = h
-    by_end true b h = absurd (cc)
+neither : (a b : Bool) → (a || b) ≡ false → (a ≡ false) × (b ≡ false)
+neither false false h = (refl, refl)
+neither true b h = absurd (cc)
+neither false true h = absurd (cc)
+
+hasty_rise : (p : Pending) (a b e f : Bool) → is_hasty p (a || b) e f ≡ false → broken H2 (is_unanswered p && true) (first_of a DS0 b DS1) ≡ None
+hasty_rise Closed a b e f h = refl
+hasty_rise Answered a b e f h = refl
+hasty_rise Reading a b e f h = calm_line H2 a b DS0 DS1 (neither (a || b) e h).0
+hasty_rise Writing a b e f h = calm_line H2 a b DS0 DS1 (neither (a || b) e h).0
+
+hasty_fall : (p : Pending) (r e a b : Bool) → is_hasty p r e (a || b) ≡ false → broken H3 (is_replied p) (first_of a DS0 b DS1) ≡ None
+hasty_fall Closed r e a b h = refl
+hasty_fall Reading r e a b h = refl
+hasty_fall Writing r e a b h = refl
+hasty_fall Answered r e a b h = calm_line H3 a b DS0 DS1 h
+
+hasty_end : (p : Pending) (r e f : Bool) → is_hasty p r e f ≡ false → ((is_unanswered p && true) && e) ≡ false
+hasty_end Closed r e f h = refl
+hasty_end Answered r e f h = refl
+hasty_end Reading r e f h = (neither r e h).1
+hasty_end Writing r e f h = (neither r e h).1
 
 -- the answer of a transfer without one is one line alone
 one_answer : (e : Pending) → is_unanswered e ≡ true → (not (is_within e) ≡ false) × ((is_replied e || (is_unanswered e && false)) ≡ false) × (cond (is_unanswered e) (Some DTACK) None ≡ Some DTACK)
@@ -88,6 +82,10 @@ one_answer Reading h = (refl, refl, refl)
 one_answer Writing h = (refl, refl, refl)
 one_answer Closed h = absurd (cc)
 one_answer Answered h = absurd (cc)
+
+pub closed_twice : (h : Bool) (p : Pending) → cond h Closed (cond h Closed p) ≡ cond h Closed p
+closed_twice true p = refl
+closed_twice false p = refl
 
 module _ (m : Memory) (v w : Levels) where
   abbrev within : Pending
@@ -103,35 +101,74 @@ module _ (m : Memory) (v w : Levels) where
   no_h8 : (u : Bool) → broken H8 u (cond (is_unanswered within) None None) ≡ None
   no_h8 u = ap (broken H8 u) (nowhere (is_unanswered within)) ∙ unnamed H8 u
 
-  pub start_next : (asked : Asked) → dtb_next m v w (edges_of (CycleStart asked)) ≡ record { memory = memory_left m v w (unanswered_of asked.class) false; fault = None; kinds = record nothing { cycle = Some asked } }
-  start_next asked =
-      let s = edges_of (CycleStart asked) in
-      let c = unanswered_of asked.class in
-      same_next (tracked m.pending v w) s.shown _ c _ _ (handshake_fault m within s) _ None _ None (kept_cycle c)
+  -- what is left open, by whether an answer line falls
+  unanswered_left : (o : Pending) → falls_between v w DTACK ≡ false → falls_between v w BERR ≡ false → within ≡ o → tracked m.pending v w ≡ cond (strobes_high_in w) Closed o
+  unanswered_left o d b e = left_by (strobes_high_in w) (falls_between v w DTACK) (falls_between v w BERR) within o d b e
+    where
+      left_by : (h d b : Bool) (e o : Pending) → d ≡ false → b ≡ false → e ≡ o → cond h Closed (answered_by (d || b) e) ≡ cond h Closed o
+      left_by h d b e o x y z = rw (x, y, z) refl
+
+  answered_left : falls_between v w DTACK ≡ true → is_unanswered within ≡ true → tracked m.pending v w ≡ cond (strobes_high_in w) Closed Answered
+  answered_left d u = ap (λ (b : Bool). cond (strobes_high_in w) Closed (answered_by (b || falls_between v w BERR) within)) d ∙ ap (cond (strobes_high_in w) Closed) (has_answer within u)
+    where
+      has_answer : (e : Pending) → is_unanswered e ≡ true → answered_by true e ≡ Answered
+      has_answer Reading h = refl
+      has_answer Writing h = refl
+      has_answer Closed h = absurd (cc)
+      has_answer Answered h = absurd (cc)
+
+  within_is : starts_transfer v w ≡ false → within ≡ m.pending
+  within_is s = ap (λ (b : Bool). cond b (cond (is_low (level_at w WRITE)) Writing Reading) m.pending) s
+
+  pub start_next : is_start_alone v w ≡ true
+      → record { memory = memory_left m w m.pending (unanswered_of (asked_of w).class) false; fault = None; kinds = record nothing { cycle = Some (asked_of w) } } ≡ dtb_next m v w (edges_between v w)
+  start_next alone =
+      let all = all_five (falls_between v w AS) (stays_on v w DS0) (stays_on v w DS1) (stays_on v w DTACK) (stays_on v w BERR) alone in
+      let s = start_edges (asked_of w) in
+      let c = unanswered_of (asked_of w).class in
+      sym
+      (same_next (tracked m.pending v w) _ s.shown _ c _ _ (handshake_fault m within s) _ None _ None (unanswered_left m.pending (no_fall v w DTACK all.3) (no_fall v w BERR all.4) (within_is (no_start v w all.1 all.2))) (kept_cycle c)
       (all_none _ _ _ _ _ _ _ _ refl (unnamed H2 (is_unserved m.pending s)) (unnamed H3 (is_replied m.pending)) (unnamed H4 (not (is_within within))) (unnamed H5 (is_doubled within s)) refl (not_applied H7 _ (Some AS) (and_false (is_unserved m.pending s))) (no_h8 false))
-      (unanswered_here c) (nowhere (is_unanswered within))
+      (unanswered_here c) (nowhere (is_unanswered within)))
+      ∙ ap (dtb_next m v w) (start_is v w alone)
 
-  pub strobes_next : (strobes : Strobes) → is_hasty m.pending strobes ≡ false
-      → dtb_next m v w (edges_of (StrobesAlone strobes)) ≡ record { memory = memory_left m v w m.cycle (is_some strobes.rise); fault = None; kinds = record nothing { cycle_end = strobes.cycle_end; transfer = strobes.transfer; close = strobes.close } }
-  strobes_next strobes calm =
-      let s = edges_of (StrobesAlone strobes) in
-      same_next (tracked m.pending v w) s.shown _ m.cycle _ _ (handshake_fault m within s) _ None _ None (kept_cycle m.cycle)
-      (all_none _ _ _ _ _ _ _ _ refl (hasty_rise m.pending strobes calm) (hasty_fall m.pending strobes calm) (unnamed H4 (not (is_within within))) (unnamed H5 (is_doubled within s)) refl (not_applied H7 _ (Some AS) (hasty_end m.pending strobes calm)) (no_h8 false))
-      (unanswered_here m.cycle) (nowhere (is_unanswered within))
+  pub strobes_next : is_strobes_alone v w ≡ true → is_hasty m.pending (strobe_rises_between v w) (rises_between v w AS) (strobe_falls_between v w) ≡ false
+      → record { memory = memory_left m w within m.cycle (strobe_rises_between v w); fault = None; kinds = record nothing { cycle_end = rises_between v w AS; transfer = cond (starts_transfer v w) (Some (is_low (level_at w WRITE))) None; close = closes_between v w } } ≡ dtb_next m v w (edges_between v w)
+  strobes_next alone calm =
+      let all = all_four (is_low (level_at v AS)) (stays_on v w DTACK) (stays_on v w BERR) (not (starts_transfer v w) || (is_high (level_at v DTACK) && is_high (level_at v BERR))) alone in
+      let s = strobes_here v w in
+      ap (λ (b : Bool). by_rise (memory_left m w within m.cycle b)) (sym (any_of (rises_between v w DS0) (rises_between v w DS1) DS0 DS1))
+      ∙ sym
+      (same_next (tracked m.pending v w) _ s.shown _ m.cycle _ _ (handshake_fault m within s) _ None _ None (unanswered_left within (no_fall v w DTACK all.1) (no_fall v w BERR all.2) refl) (kept_cycle m.cycle)
+      (all_none _ _ _ _ _ _ _ _ refl (hasty_rise m.pending (rises_between v w DS0) (rises_between v w DS1) (rises_between v w AS) (strobe_falls_between v w) calm) (hasty_fall m.pending (strobe_rises_between v w) (rises_between v w AS) (falls_between v w DS0) (falls_between v w DS1) calm)
+      (unnamed H4 (not (is_within within))) (unnamed H5 (is_doubled within s)) refl (not_applied H7 _ (Some AS) (hasty_end m.pending (strobe_rises_between v w) (rises_between v w AS) (strobe_falls_between v w) calm)) (no_h8 false))
+      (unanswered_here m.cycle) (nowhere (is_unanswered within)))
+      ∙ ap (dtb_next m v w) (strobes_are v w alone)
+    where
+      by_rise : Memory → Next Memory
+      by_rise left = record { memory = left; fault = None; kinds = record nothing { cycle_end = rises_between v w AS; transfer = cond (starts_transfer v w) (Some (is_low (level_at w WRITE))) None; close = closes_between v w } }
 
-  pub answer_next : is_unanswered within ≡ true
-      → dtb_next m v w (edges_of Answer) ≡ record { memory = memory_left m v w (after_answer m.cycle (is_writing within)) false; fault = cycle_fault m.cycle (is_writing within) (Some DTACK); kinds = record nothing { answer = Some DTACK } }
-  answer_next waits =
-      let s = edges_of Answer in
-      let one = one_answer within waits in
-      same_next (tracked m.pending v w) s.shown _ (after_answer m.cycle (is_writing within)) _ _ (handshake_fault m within s) _ (cycle_fault m.cycle (is_writing within) (Some DTACK)) _ (Some DTACK)
-      (ap (λ (o : Option ℕ). cond (is_some o) (after_answer m.cycle (is_writing within)) m.cycle) one.2)
+  pub answer_next : is_answer_alone v w ≡ true → falls_between v w DTACK ≡ true → is_addressed v w ≡ true → is_unanswered m.pending ≡ true
+      → record { memory = memory_left m w Answered (after_answer m.cycle (is_writing m.pending)) false; fault = cycle_fault m.cycle (is_writing m.pending) (Some DTACK); kinds = record nothing { answer = Some DTACK } } ≡ dtb_next m v w (edges_between v w)
+  answer_next alone falls addressed waits =
+      let all = all_four (stays_on v w AS) (stays_on v w DS0) (stays_on v w DS1) (stays_on v w BERR) alone in
+      let s = answer_edges in
+      let same = within_is (no_start v w all.1 all.2) in
+      let one = one_answer within (ap is_unanswered same ∙ waits) in
+      sym
+      (same_next (tracked m.pending v w) _ s.shown _ (after_answer m.cycle (is_writing m.pending)) _ _ (handshake_fault m within s) _ (cycle_fault m.cycle (is_writing m.pending) (Some DTACK)) _ (Some DTACK) (answered_left falls (ap is_unanswered same ∙ waits))
+      (ap (λ (o : Option ℕ). cond (is_some o) (after_answer m.cycle (is_writing within)) m.cycle) one.2 ∙ ap (λ (p : Pending). after_answer m.cycle (is_writing p)) same)
       (all_none _ _ _ _ _ _ _ _ refl (unnamed H2 (is_unserved m.pending s)) (unnamed H3 (is_replied m.pending)) (not_applied H4 _ (Some DTACK) one.0) (not_applied H5 _ (Some DTACK) one.1) refl (not_applied H7 _ (Some AS) (and_false (is_unserved m.pending s))) refl)
-      (ap (cycle_fault m.cycle (is_writing within)) one.2) one.2
+      (ap (cycle_fault m.cycle (is_writing within)) one.2 ∙ ap (λ (p : Pending). cycle_fault m.cycle (is_writing p) (Some DTACK)) same) one.2)
+      ∙ ap (dtb_next m v w) (answer_is v w alone falls addressed)
 
-  pub ready_next : (u : Bool) → m.dtack_freed ≡ true → dtb_next m v w (edges_of (Ready u)) ≡ quiet (memory_left m v w m.cycle false)
-  ready_next u gone =
-      let s = edges_of (Ready u) in
-      same_next (tracked m.pending v w) s.shown _ m.cycle _ _ (handshake_fault m within s) _ None _ None (kept_cycle m.cycle)
-      (all_none _ _ _ _ _ _ _ _ refl (unnamed H2 (is_unserved m.pending s)) (unnamed H3 (is_replied m.pending)) (unnamed H4 (not (is_within within))) (unnamed H5 (is_doubled within s)) (rw gone refl) (not_applied H7 _ (Some AS) (and_false (is_unserved m.pending s))) (no_h8 u))
-      (unanswered_here m.cycle) (nowhere (is_unanswered within))
+  pub ready_next : is_answer_alone v w ≡ true → rises_between v w DTACK ≡ true → m.dtack_freed ≡ true → quiet (memory_left m w m.pending m.cycle false) ≡ dtb_next m v w (edges_between v w)
+  ready_next alone rises gone =
+      let all = all_four (stays_on v w AS) (stays_on v w DS0) (stays_on v w DS1) (stays_on v w BERR) alone in
+      let s = ready_edges (not (is_addressed v w)) in
+      sym
+      (same_next (tracked m.pending v w) _ s.shown _ m.cycle _ _ (handshake_fault m within s) _ None _ None
+      (unanswered_left m.pending (rises_alone (level_at v DTACK) (level_at w DTACK) rises) (no_fall v w BERR all.3) (within_is (no_start v w all.1 all.2))) (kept_cycle m.cycle)
+      (all_none _ _ _ _ _ _ _ _ refl (unnamed H2 (is_unserved m.pending s)) (unnamed H3 (is_replied m.pending)) (unnamed H4 (not (is_within within))) (unnamed H5 (is_doubled within s)) (rw gone refl) (not_applied H7 _ (Some AS) (and_false (is_unserved m.pending s))) (no_h8 (not (is_addressed v w))))
+      (unanswered_here m.cycle) (nowhere (is_unanswered within)))
+      ∙ ap (dtb_next m v w) (ready_is v w alone rises)

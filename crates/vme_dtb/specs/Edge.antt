@@ -43,6 +43,22 @@ module _ (v w : Levels) where
   abbrev pub starts_transfer : Bool
   starts_transfer = strobes_high_in v && strobe_low_in w
 
+  -- both strobes are high, and weren't
+  abbrev pub closes_between : Bool
+  closes_between = strobes_high_in w && not (strobes_high_in v)
+
+  -- a strobe rises
+  abbrev pub strobe_rises_between : Bool
+  strobe_rises_between = rises_between DS0 || rises_between DS1
+
+  -- a strobe falls
+  abbrev pub strobe_falls_between : Bool
+  strobe_falls_between = falls_between DS0 || falls_between DS1
+
+  -- AS* is low on either side
+  abbrev pub is_addressed : Bool
+  is_addressed = is_low (level_at v AS) || is_low (level_at w AS)
+
   -- the line isn't high on either side
   abbrev pub is_unready : ℕ → Bool
   is_unready l = not (is_high (level_at v l) || is_high (level_at w l))
@@ -54,7 +70,7 @@ module _ (v w : Levels) where
         cycle = (if falls_between AS then Some (asked_of w) else None);
         cycle_end = rises_between AS;
         transfer = (if starts_transfer then Some (is_low (level_at w WRITE)) else None);
-        close = (strobes_high_in w && not (strobes_high_in v));
+        close = closes_between;
       }
 
   abbrev pub edges_between : Edges
@@ -68,5 +84,5 @@ module _ (v w : Levels) where
         both_fall = (falls_between DTACK && falls_between BERR);
         dtack_rises = rises_between DTACK;
         berr_rises = rises_between BERR;
-        unaddressed = not (is_low (level_at v AS) || is_low (level_at w AS));
+        unaddressed = not is_addressed;
       }

@@ -18,6 +18,7 @@ use Rattle.vme_dtb.specs.Edge.{edges_between, first_of, is_still}
 use Rattle.vme_dtb.specs.declared.cycle.Cycle.{Cycle}
 use Rattle.vme_dtb.specs.declared.cycle.Cycle.TheVariants.{Free}
 use Rattle.vme_dtb.specs.declared.edges.Edges.{Edges}
+use Rattle.vme_dtb.specs.declared.handshake.Moved.{Moved}
 use Rattle.vme_dtb.specs.declared.memory.Memory.{Memory}
 
 abbrev pub is_replied : Pending → Bool
@@ -98,9 +99,10 @@ dtb_opens v = nothing
 abbrev pub dtb_ends : ℕ → Option Fault
 dtb_ends l = None
 
-abbrev pub dtb_sight : Levels → Levels → List Change → Option Edges
-dtb_sight v w cs = if is_still v w then None else Some (edges_between v w)
+abbrev pub dtb_sight : Levels → Levels → List Change → Option Moved
+dtb_sight v w cs = if is_still v w then None else Some (record {})
 
+-- what follows from the edges of a step
 abbrev pub dtb_next : Memory → Levels → Levels → Edges → Next Memory
 dtb_next m v w s =
     record {
@@ -108,3 +110,6 @@ dtb_next m v w s =
       fault = fault_in m v w s;
       kinds = record s.shown { answer = answer_in (entered m.pending v w) s };
     }
+
+abbrev pub dtb_step : Memory → Levels → Levels → Moved → Next Memory
+dtb_step m v w moved = dtb_next m v w (edges_between v w)

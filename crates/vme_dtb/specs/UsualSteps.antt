@@ -1,27 +1,41 @@
--- What the usual kinds of steps leave.
-use Rattle.std.specs.Prelude.{Bool, false, ◌&&◌, ◌||◌, is_some}
-use Rattle.vme_trace.specs.LineNumbers.{DTACK, BERR}
-use Rattle.vme_trace.specs.Levels.{Levels, level_at, is_low}
-use Rattle.vme_monitor.specs.Tracking.{tracked}
+-- The usual kinds of steps, and what they leave.
+use Rattle.std.specs.Prelude.{Bool, false, not, ◌&&◌, ◌||◌, if◌then◌else◌}
+use Rattle.vme_trace.specs.LineNumbers.{AS, DS0, DS1, DTACK, BERR}
+use Rattle.vme_trace.specs.Levels.{Levels, level_at, is_low, is_high}
+use Rattle.vme_monitor.specs.Tracking.{strobes_high_in}
 use Rattle.vme_monitor.specs.declared.tracking.Pending.{Pending}
 use Rattle.vme_monitor.specs.declared.tracking.Pending.TheVariants.{Closed, Reading, Writing, Answered}
+use Rattle.vme_dtb.specs.Edge.{falls_between, starts_transfer, stays_on}
 use Rattle.vme_dtb.specs.declared.cycle.Cycle.{Cycle}
 use Rattle.vme_dtb.specs.declared.memory.Memory.{Memory}
-use Rattle.vme_dtb.specs.declared.seen.Strobes.{Strobes}
 
--- the memory after a step in the cycle c, in which a strobe rises or none does
-abbrev pub memory_left : Memory → Levels → Levels → Cycle → Bool → Memory
-memory_left m v w c rises =
+module _ (v w : Levels) where
+  -- the address strobe, the strobes and BERR* stay as they are
+  abbrev pub is_answer_alone : Bool
+  is_answer_alone = stays_on v w AS && stays_on v w DS0 && stays_on v w DS1 && stays_on v w BERR
+
+  -- AS* falls, and the strobes and the answer lines stay as they are
+  abbrev pub is_start_alone : Bool
+  is_start_alone = falls_between v w AS && stays_on v w DS0 && stays_on v w DS1 && stays_on v w DTACK && stays_on v w BERR
+
+  -- the answer lines stay as they are, AS* was low, and where a transfer starts both answer lines are high
+  abbrev pub is_strobes_alone : Bool
+  is_strobes_alone = is_low (level_at v AS) && stays_on v w DTACK && stays_on v w BERR && (not (starts_transfer v w) || (is_high (level_at v DTACK) && is_high (level_at v BERR)))
+
+-- the memory after a step to the levels w in which no answer line falls, or where p has its answer: in the cycle c, the transfer
+-- being p unless it closes, and a strobe rises or none does
+abbrev pub memory_left : Memory → Levels → Pending → Cycle → Bool → Memory
+memory_left m w p c rises =
     record {
-      pending = tracked m.pending v w;
+      pending = (if strobes_high_in w then Closed else p);
       cycle = c;
       dtack_freed = (is_low (level_at w DTACK) && (m.dtack_freed || rises));
       berr_freed = (is_low (level_at w BERR) && (m.berr_freed || rises));
     }
 
 -- a strobe rises or the cycle ends before the answer has come, or a strobe falls after it
-abbrev pub is_hasty : Pending → Strobes → Bool
-is_hasty Closed s = false
-is_hasty Reading s = is_some s.rise || s.cycle_end
-is_hasty Writing s = is_some s.rise || s.cycle_end
-is_hasty Answered s = is_some s.fall
+abbrev pub is_hasty : Pending → Bool → Bool → Bool → Bool
+is_hasty Closed rises ends falls = false
+is_hasty Reading rises ends falls = rises || ends
+is_hasty Writing rises ends falls = rises || ends
+is_hasty Answered rises ends falls = falls

@@ -1,17 +1,18 @@
 //! What one step shows of the handshake.
 
-ghost use Rattle.std.specs.Prelude.{◌≡◌, ◌<◌, Some, None, if◌then◌else◌};
+ghost use Rattle.std.specs.Prelude.{◌≡◌, ◌<◌, ◌&&◌, Some, None, if◌then◌else◌};
 ghost use Rattle.vme_trace.specs.LineNumbers.{grant, AS, DS0, DS1, DTACK, BERR, WRITE};
 ghost use Rattle.vme_trace.specs.Levels.{is_low, level_at};
 ghost use Rattle.vme_monitor.specs.Tracking.{strobe_low_in};
-ghost use Rattle.vme_dtb.specs.Edge.{address_of, asked_of, edges_between, falls_between, first_of, is_still, is_unready, rises_between, shown_between, starts_transfer, stays_on};
+ghost use Rattle.vme_dtb.specs.Edge.{address_of, asked_of, closes_between, edges_between, falls_between, first_of, is_addressed, is_still, is_unready, rises_between, shown_between, starts_transfer, stays_on, strobe_falls_between, strobe_rises_between};
+ghost use Rattle.vme_dtb.specs.UsualSteps.{is_answer_alone, is_start_alone, is_strobes_alone};
 
 use vme_monitor::mark::{Asked, Kinds, NOTHING};
 use vme_monitor::tracking::has_strobes_high;
 use vme_trace::{Line, Lines, am_class, am_code};
 
 /// What a step shows of the handshake, whatever was before it.
-#[derive(Clone, Copy, PartialEq, Eq, Debug, Drop)]
+#[derive(Clone, Copy, PartialEq, Eq, Debug)]
 pub struct Edges {
     /// What happens, but for the answer of a transfer.
     pub shown: Kinds,
@@ -49,6 +50,20 @@ pub(crate) fn rises(before: &Lines, after: &Lines, line: Line) -> bool
     before.level(line).is_low() && after.level(line).is_high()
 }
 
+/// Whether a strobe rises.
+pub(crate) fn strobe_rises(before: &Lines, after: &Lines) -> bool
+    ensures { result ≡ strobe_rises_between before.now after.now }
+{
+    rises(before, after, Line::DS0) || rises(before, after, Line::DS1)
+}
+
+/// Whether a strobe falls.
+pub(crate) fn strobe_falls(before: &Lines, after: &Lines) -> bool
+    ensures { result ≡ strobe_falls_between before.now after.now }
+{
+    falls(before, after, Line::DS0) || falls(before, after, Line::DS1)
+}
+
 /// Whether a bused line keeps its level.
 #[tactic(auto, using(crate::proofs::SameLevel::same))]
 pub(crate) fn stays(before: &Lines, after: &Lines, line: Line) -> bool
@@ -58,19 +73,66 @@ pub(crate) fn stays(before: &Lines, after: &Lines, line: Line) -> bool
     before.level(line) == after.level(line)
 }
 
+/// Whether the strobes stay as they are.
+fn do_strobes_stay(before: &Lines, after: &Lines) -> bool
+    ensures { result ≡ (stays_on before.now after.now DS0 && stays_on before.now after.now DS1) }
+{
+    stays(before, after, Line::DS0) && stays(before, after, Line::DS1)
+}
+
+/// Whether the answer lines stay as they are.
+fn do_answers_stay(before: &Lines, after: &Lines) -> bool
+    ensures { result ≡ (stays_on before.now after.now DTACK && stays_on before.now after.now BERR) }
+{
+    stays(before, after, Line::DTACK) && stays(before, after, Line::BERR)
+}
+
 /// Whether AS*, the strobes and the answer lines stay as they are.
 pub(crate) fn is_handshake_still(before: &Lines, after: &Lines) -> bool
     ensures { result ≡ is_still before.now after.now }
 {
     stays(before, after, Line::AS)
-        && stays(before, after, Line::DS0)
-        && stays(before, after, Line::DS1)
-        && stays(before, after, Line::DTACK)
+        && do_strobes_stay(before, after)
+        && do_answers_stay(before, after)
+}
+
+/// Whether AS*, the strobes and BERR* stay as they are.
+pub(crate) fn is_answer_alone(before: &Lines, after: &Lines) -> bool
+    ensures { result ≡ is_answer_alone before.now after.now }
+{
+    stays(before, after, Line::AS)
+        && do_strobes_stay(before, after)
         && stays(before, after, Line::BERR)
 }
 
+/// Whether AS* falls, and the strobes and the answer lines stay as they are.
+pub(crate) fn is_start_alone(before: &Lines, after: &Lines) -> bool
+    ensures { result ≡ is_start_alone before.now after.now }
+{
+    falls(before, after, Line::AS)
+        && do_strobes_stay(before, after)
+        && do_answers_stay(before, after)
+}
+
+/// Whether the answer lines stay as they are, AS* was low, and both answer lines are high if a transfer starts.
+pub(crate) fn is_strobes_alone(before: &Lines, after: &Lines) -> bool
+    ensures { result ≡ is_strobes_alone before.now after.now }
+{
+    before.level(Line::AS).is_low()
+        && do_answers_stay(before, after)
+        && (!is_transfer_start(before, after)
+            || (before.level(Line::DTACK).is_high() && before.level(Line::BERR).is_high()))
+}
+
+/// Whether AS* is low before or after the step.
+pub(crate) fn is_addressed(before: &Lines, after: &Lines) -> bool
+    ensures { result ≡ is_addressed before.now after.now }
+{
+    before.level(Line::AS).is_low() || after.level(Line::AS).is_low()
+}
+
 /// The first of the strobes of which something holds.
-pub(crate) fn first_strobe(first: bool, second: bool) -> Option<Line>
+fn first_strobe(first: bool, second: bool) -> Option<Line>
     ensures { result ≡ first_of first DS0 second DS1 }
 {
     if first {
@@ -138,6 +200,13 @@ pub(crate) fn transfer_started(before: &Lines, after: &Lines) -> Option<bool>
     }
 }
 
+/// Whether a transfer closes: both strobes are high, and weren't.
+pub(crate) fn closes(before: &Lines, after: &Lines) -> bool
+    ensures { result ≡ closes_between before.now after.now }
+{
+    has_strobes_high(after) && !has_strobes_high(before)
+}
+
 /// Whether an answer line isn't high before or after the step.
 fn is_unready(before: &Lines, after: &Lines, line: Line) -> bool
     requires { line < grant 0 0 }
@@ -159,25 +228,12 @@ fn shown(before: &Lines, after: &Lines) -> Kinds
         cycle,
         cycle_end: rises(before, after, Line::AS),
         transfer: transfer_started(before, after),
-        close: has_strobes_high(after) && !has_strobes_high(before),
+        close: closes(before, after),
         ..NOTHING
     }
 }
 
 impl Edges {
-    /// Those of a step that has none, while AS* is low.
-    pub(crate) const STILL: Edges = Edges {
-        shown: NOTHING,
-        unready: None,
-        strobe_rise: None,
-        strobe_fall: None,
-        answer_fall: None,
-        both_fall: false,
-        dtack_rises: false,
-        berr_rises: false,
-        unaddressed: false,
-    };
-
     /// What the levels on both sides of a step show.
     pub(crate) fn between(before: &Lines, after: &Lines) -> Edges
         ensures { result ≡ edges_between before.now after.now }
@@ -207,7 +263,7 @@ impl Edges {
             both_fall: dtack_falls && berr_falls,
             dtack_rises: rises(before, after, Line::DTACK),
             berr_rises: rises(before, after, Line::BERR),
-            unaddressed: !(before.level(Line::AS).is_low() || after.level(Line::AS).is_low()),
+            unaddressed: !is_addressed(before, after),
         }
     }
 }

@@ -4,27 +4,33 @@
 //! a strobe has risen. A single cycle has a transfer, or a read and then a write; a block transfer keeps its direction; an
 //! interrupt acknowledge is one read.
 
-ghost use Rattle.std.specs.Prelude.{◌≡◌};
+ghost use Rattle.std.specs.Prelude.{◌≡◌, true};
+ghost use Rattle.vme_trace.specs.LineNumbers.{DTACK};
 ghost use Rattle.vme_monitor.specs.Tracking.{is_unanswered, is_within, is_writing};
 ghost use Rattle.vme_monitor.specs.Whole.{FindsLeast, ShowsAll};
 ghost use Rattle.vme_dtb.specs.Machine.{answer_in, broken as broken_on, cycle_fault as fault_of_cycle, dropped as dropped_line, dtb_next, freed as is_freed, handshake_fault as fault_of_handshake, is_doubled, is_replied, is_unserved};
-ghost use Rattle.vme_dtb.specs.UsualEdges.{edges_of};
-ghost use Rattle.vme_dtb.specs.UsualSteps.{is_hasty, memory_left};
-ghost use Rattle.vme_dtb.specs.declared.seen.Shape.TheVariants.{Answer, CycleStart, Ready, StrobesAlone};
+ghost use Rattle.vme_dtb.specs.Edge.{edges_between, falls_between, is_addressed, rises_between};
+ghost use Rattle.vme_dtb.specs.UsualSteps.{is_answer_alone, is_hasty, is_start_alone, is_strobes_alone, memory_left};
 ghost use Rattle.vme_dtb.specs.Shown.{handshake_rules, handshake_shown};
 
 use crate::cycle::Cycle;
-use crate::edges::{Edges, first_answer, is_handshake_still};
+use crate::edges::{
+    Edges, asked, closes, falls, first_answer, is_addressed, is_answer_alone, is_handshake_still,
+    is_start_alone, is_strobes_alone, rises, strobe_falls, strobe_rises, transfer_started,
+};
 use crate::memory::Memory;
-use crate::seen::{Seen, Shape, Strobes};
-use vme_monitor::mark::{Asked, Fault, Kinds, NOTHING, Next, quiet};
+use vme_monitor::mark::{Fault, Kinds, NOTHING, Next, quiet};
 use vme_monitor::monitor::Monitor;
 use vme_monitor::spanned::{Rules, Within};
-use vme_monitor::tracking::Pending;
+use vme_monitor::tracking::{Pending, has_strobes_high};
 use vme_trace::{Change, Line, Lines, Rule};
 
 /// The rules of the handshake, H1 to H8, and of the answers that a cycle admits, C1, C2, I4 and I5.
 pub struct HandshakeRules;
+
+/// That AS*, a strobe or an answer line moves.
+#[derive(Clone, Copy, PartialEq, Eq, Debug, Drop)]
+pub struct Moved;
 
 /// Whether a transfer is open and has no answer.
 fn is_unanswered(pending: Pending) -> bool
@@ -138,12 +144,14 @@ fn cycle_fault(cycle: Cycle, write: bool, answer: Option<Line>) -> Option<Fault>
 }
 
 impl Memory {
-    /// What follows from any edges.
+    /// What follows from any edges, which few steps come to.
     #[cold]
     #[inline(never)]
-    fn at_any(self, before: &Lines, after: &Lines, seen: Edges) -> Next<Memory>
-        ensures { result ≡ dtb_next self before.now after.now seen }
+    #[tactic(auto, using(crate::proofs::UsualNexts::closed_twice))]
+    fn at_any(self, before: &Lines, after: &Lines) -> Next<Memory>
+        ensures { result ≡ dtb_next self before.now after.now (edges_between before.now after.now) }
     {
+        let seen = Edges::between(before, after);
         let entered = self.pending.entered(before, after);
         let write = is_writing(entered);
         let cycle = self.cycle.entered(seen.shown.cycle);
@@ -156,8 +164,9 @@ impl Memory {
         } else {
             cycle
         };
+        let pending = self.pending.tracked(before, after);
         Next {
-            memory: self.left(before, after, cycle, seen.strobe_rise.is_some()),
+            memory: self.left(after, pending, cycle, seen.strobe_rise.is_some()),
             fault,
             kinds: Kinds {
                 answer,
@@ -166,12 +175,16 @@ impl Memory {
         }
     }
 
-    /// What is remembered after a step, by the cycle that it leaves and whether a strobe rises.
-    fn left(self, before: &Lines, after: &Lines, cycle: Cycle, rises: bool) -> Memory
-        ensures { result ≡ memory_left self before.now after.now cycle rises }
+    /// What is remembered after a step, by the transfer and the cycle that it leaves and whether a strobe rises.
+    fn left(self, after: &Lines, pending: Pending, cycle: Cycle, rises: bool) -> Memory
+        ensures { result ≡ memory_left self after.now pending cycle rises }
     {
         Memory {
-            pending: self.pending.tracked(before, after),
+            pending: if has_strobes_high(after) {
+                Pending::Closed
+            } else {
+                pending
+            },
             cycle,
             dtack_freed: after.level(Line::DTACK).is_low() && (self.dtack_freed || rises),
             berr_freed: after.level(Line::BERR).is_low() && (self.berr_freed || rises),
@@ -179,11 +192,13 @@ impl Memory {
     }
 
     /// What follows where AS* alone falls.
-    fn at_cycle_start(self, before: &Lines, after: &Lines, asked: Asked) -> Next<Memory>
-        ensures { result ≡ dtb_next self before.now after.now (edges_of (CycleStart asked)) }
+    fn at_cycle_start(self, before: &Lines, after: &Lines) -> Next<Memory>
+        requires { is_start_alone before.now after.now ≡ true }
+        ensures { result ≡ dtb_next self before.now after.now (edges_between before.now after.now) }
     {
+        let asked = asked(after);
         Next {
-            memory: self.left(before, after, Cycle::of_class(asked.class), false),
+            memory: self.left(after, self.pending, Cycle::of_class(asked.class), false),
             fault: None,
             kinds: Kinds {
                 cycle: Some(asked),
@@ -193,30 +208,34 @@ impl Memory {
     }
 
     /// Whether strobes that move break a rule: one rises or the cycle ends before the answer, or one falls after it.
-    fn is_hasty(self, strobes: Strobes) -> bool
-        ensures { result ≡ is_hasty self.pending strobes }
+    fn is_hasty(self, rises: bool, ends: bool, falls: bool) -> bool
+        ensures { result ≡ is_hasty self.pending rises ends falls }
     {
         match self.pending {
             Pending::Closed => false,
-            Pending::Reading | Pending::Writing => strobes.rise.is_some() || strobes.cycle_end,
-            Pending::Answered => strobes.fall.is_some(),
+            Pending::Reading | Pending::Writing => rises || ends,
+            Pending::Answered => falls,
         }
     }
 
     /// What follows where strobes move and the answer lines stay.
-    fn at_strobes(self, before: &Lines, after: &Lines, strobes: Strobes) -> Next<Memory>
-        ensures { result ≡ dtb_next self before.now after.now (edges_of (StrobesAlone strobes)) }
+    fn at_strobes(self, before: &Lines, after: &Lines) -> Next<Memory>
+        requires { is_strobes_alone before.now after.now ≡ true }
+        ensures { result ≡ dtb_next self before.now after.now (edges_between before.now after.now) }
     {
-        if self.is_hasty(strobes) {
-            return self.at_any(before, after, Shape::StrobesAlone(strobes).edges());
+        let strobe_rises = strobe_rises(before, after);
+        let cycle_end = rises(before, after, Line::AS);
+        if self.is_hasty(strobe_rises, cycle_end, strobe_falls(before, after)) {
+            return self.at_any(before, after);
         }
+        let entered = self.pending.entered(before, after);
         Next {
-            memory: self.left(before, after, self.cycle, strobes.rise.is_some()),
+            memory: self.left(after, entered, self.cycle, strobe_rises),
             fault: None,
             kinds: Kinds {
-                cycle_end: strobes.cycle_end,
-                transfer: strobes.transfer,
-                close: strobes.close,
+                cycle_end,
+                transfer: transfer_started(before, after),
+                close: closes(before, after),
                 ..NOTHING
             },
         }
@@ -224,15 +243,17 @@ impl Memory {
 
     /// What follows where DTACK* alone falls while AS* is low.
     fn at_answer(self, before: &Lines, after: &Lines) -> Next<Memory>
-        ensures { result ≡ dtb_next self before.now after.now (edges_of Answer) }
+        requires alone { is_answer_alone before.now after.now ≡ true }
+        requires falls { falls_between before.now after.now DTACK ≡ true }
+        requires addressed { is_addressed before.now after.now ≡ true }
+        ensures { result ≡ dtb_next self before.now after.now (edges_between before.now after.now) }
     {
-        let entered = self.pending.entered(before, after);
-        if !is_unanswered(entered) {
-            return self.at_any(before, after, Shape::Answer.edges());
+        if !is_unanswered(self.pending) {
+            return self.at_any(before, after);
         }
-        let write = is_writing(entered);
+        let write = is_writing(self.pending);
         Next {
-            memory: self.left(before, after, self.cycle.answered(write), false),
+            memory: self.left(after, Pending::Answered, self.cycle.answered(write), false),
             fault: cycle_fault(self.cycle, write, Some(Line::DTACK)),
             kinds: Kinds {
                 answer: Some(Line::DTACK),
@@ -242,22 +263,38 @@ impl Memory {
     }
 
     /// What follows where DTACK* alone rises.
-    fn at_ready(self, before: &Lines, after: &Lines, unaddressed: bool) -> Next<Memory>
-        ensures { result ≡ dtb_next self before.now after.now (edges_of (Ready unaddressed)) }
+    fn at_ready(self, before: &Lines, after: &Lines) -> Next<Memory>
+        requires alone { is_answer_alone before.now after.now ≡ true }
+        requires rises { rises_between before.now after.now DTACK ≡ true }
+        ensures { result ≡ dtb_next self before.now after.now (edges_between before.now after.now) }
     {
         if !self.dtack_freed {
-            return self.at_any(before, after, Shape::Ready(unaddressed).edges());
+            return self.at_any(before, after);
         }
-        quiet(self.left(before, after, self.cycle, false))
+        quiet(self.left(after, self.pending, self.cycle, false))
+    }
+
+    /// What follows where neither AS*, the strobes nor BERR* move.
+    fn at_dtack(self, before: &Lines, after: &Lines) -> Next<Memory>
+        requires { is_answer_alone before.now after.now ≡ true }
+        ensures { result ≡ dtb_next self before.now after.now (edges_between before.now after.now) }
+    {
+        if rises(before, after, Line::DTACK) {
+            self.at_ready(before, after)
+        } else if falls(before, after, Line::DTACK) && is_addressed(before, after) {
+            self.at_answer(before, after)
+        } else {
+            self.at_any(before, after)
+        }
     }
 }
 
 impl Rules for HandshakeRules {
-    ghost use Rattle.vme_dtb.specs.Machine.{dtb_begin, dtb_ends, dtb_next, dtb_opens, dtb_sight};
+    ghost use Rattle.vme_dtb.specs.Machine.{dtb_begin, dtb_ends, dtb_opens, dtb_sight, dtb_step};
 
     type Memory = Memory;
 
-    type Seen = Seen;
+    type Seen = Moved;
 
     ghost begin = { dtb_begin };
 
@@ -267,7 +304,7 @@ impl Rules for HandshakeRules {
 
     ghost sight = { dtb_sight };
 
-    ghost next = { dtb_next };
+    ghost next = { dtb_step };
 
     fn at_start(_lines: &Lines) -> Memory {
         Memory {
@@ -286,21 +323,23 @@ impl Rules for HandshakeRules {
         None
     }
 
-    fn see(before: &Lines, after: &Lines, _changes: &[Change]) -> Option<Seen> {
+    fn see(before: &Lines, after: &Lines, _changes: &[Change]) -> Option<Moved> {
         if is_handshake_still(before, after) {
             None
         } else {
-            Some(Seen::between(before, after))
+            Some(Moved)
         }
     }
 
-    fn step(memory: Memory, before: &Lines, after: &Lines, seen: &Seen) -> Next<Memory> {
-        match seen.shape {
-            Shape::CycleStart(asked) => memory.at_cycle_start(before, after, asked),
-            Shape::StrobesAlone(strobes) => memory.at_strobes(before, after, strobes),
-            Shape::Answer => memory.at_answer(before, after),
-            Shape::Ready(unaddressed) => memory.at_ready(before, after, unaddressed),
-            Shape::Any(edges) => memory.at_any(before, after, edges),
+    fn step(memory: Memory, before: &Lines, after: &Lines, _seen: &Moved) -> Next<Memory> {
+        if is_answer_alone(before, after) {
+            memory.at_dtack(before, after)
+        } else if is_start_alone(before, after) {
+            memory.at_cycle_start(before, after)
+        } else if is_strobes_alone(before, after) {
+            memory.at_strobes(before, after)
+        } else {
+            memory.at_any(before, after)
         }
     }
 }

@@ -5,6 +5,5 @@ pub mod cycle;
 pub mod edges;
 pub mod handshake;
 pub mod memory;
-pub mod seen;
 #[cfg(test)]
 mod tests;

@@ -1,5 +1,5 @@
 -- The words of each row's text.
-use Rattle.std.proofs.Common.{◌≡◌, ℕ, true, List, [], ◌∷◌, refl, ap, ◌∙◌, append_assoc}
+use Rattle.std.proofs.Common.{◌≡◌, ℕ, ◌<◌, true, List, [], ◌∷◌, refl, ap, ◌∙◌, append_assoc, arith}
 use Rattle.std.specs.Prelude.{Option, Some, codes, decimal}
 use Rattle.vme_trace.specs.Names.{line_name, rule_name}
 use Rattle.vme_trace.specs.declared.class.Class.{Class}
@@ -10,8 +10,15 @@ use Rattle.vme_listing.specs.declared.row.Outcome.TheVariants.{Broken, Unreadabl
 use Rattle.vme_listing.specs.declared.row.Row.{Row}
 use Rattle.vme_listing.specs.declared.row.Row.TheVariants.{Start, OpenTenure, Tenure, AddressedCycle, FreeCycle, InterruptCycle, Transfer, PendingTransfer, Verdict}
 use Rattle.vme_listing.specs.RowText.{edge_text, hexadecimal, address_digits, class_text, direction_text, answer_text, row_text}
-use Rattle.vme_listing.specs.Words.{words, row_of}
+use Rattle.vme_listing.specs.Words.{words, word_at, tenure_of, cycle_of, transfer_of, outcome_of, row_of}
 use Rattle.vme_listing.proofs.Cuts.{are_plain, joined, words_joined}
+
+-- a row is read from its first nine words
+pub by_first_nine : (ws vs : List (List ℕ)) → ((place : ℕ) → place < 9 → word_at ws place ≡ word_at vs place) → row_of ws ≡ row_of vs
+unfolding row_of tenure_of cycle_of transfer_of outcome_of
+by_first_nine ws vs same =
+    rw (same 0 (omega arith), same 1 (omega arith), same 2 (omega arith), same 3 (omega arith), same 4 (omega arith), same 5 (omega arith), same 6 (omega arith), same 7 (omega arith), same 8 (omega arith))
+    refl
 
 -- a row is read from its words
 pub by_words : (row : Row) (first : List ℕ) (more : List (List ℕ)) → row_text row ≡ joined first more → are_plain (first ∷ more) ≡ true → row_of (first ∷ more) ≡ Some row

@@ -9,18 +9,19 @@ ghost use Rattle.vme_listing.specs.declared.row.Row.{Row};
 use crate::fault::ListFault;
 use crate::listing::Listing;
 use crate::row::Row;
-use crate::text::HEADER;
+use crate::text::{HEADER, Text};
 use crate::words::read_row;
 use memchr::memchr;
 use std::alloc::Global;
 
-/// The row whose line is at the front of the text, and what follows the line. Nothing may follow a verdict.
-fn front_row(text: &[u8]) -> Option<(Row, &[u8])>
+/// The row whose line is at the front of the text, and what follows the line. Nothing may follow a verdict. The buffer
+/// is for the text of the row.
+fn front_row<'a>(text: &'a [u8], buffer: &mut Text) -> Option<(Row, &'a [u8])>
     ensures named { IfSome result (λ front. (is_row front.0 ≡ true) × IsFront text.now front.0 front.1.now) }
     ensures found { (row : Row) (more : List ℕ) → is_row row ≡ true → IsFront text.now row more → IsSomeAnd result (λ front. (front.0 ≡ row) × (front.1.now ≡ more)) }
 {
     let end = memchr(b'\n', text)?;
-    let row = read_row(&text[..end])?;
+    let row = read_row(&text[..end], buffer)?;
     let more = &text[end + 1..];
     if row.is_verdict() && !more.is_empty() {
         return None;
@@ -45,14 +46,19 @@ fn is_end(rows: &[Row], rest: &[u8]) -> bool
     }
 }
 
-/// The row that follows the rows before it, and what follows its line; or its fault.
-fn next_row<'a>(rows: &[Row], rest: &'a [u8]) -> Result<(Row, &'a [u8]), ListFault>
+/// The row that follows the rows before it, and what follows its line; or its fault. The buffer is for the text of the
+/// row.
+fn next_row<'a>(
+    rows: &[Row],
+    rest: &'a [u8],
+    buffer: &mut Text,
+) -> Result<(Row, &'a [u8]), ListFault>
     ensures placed { IfOk result (λ next. (follows (last_of None rows.now) next.0 ≡ true) × IsFront rest.now next.0 next.1.now) }
     ensures found { (row : Row) (more : List ℕ) → follows (last_of None rows.now) row ≡ true → IsFront rest.now row more → IsOkAnd result (λ next. (next.0 ≡ row) × (next.1.now ≡ more)) }
     ensures fault { IfErr result (λ fault. IsRowFault rows.now rest.now fault) }
 {
     let number = rows.len() + 1;
-    let Some((row, more)) = front_row(rest) else {
+    let Some((row, more)) = front_row(rest, buffer) else {
         return Err(ListFault::BadRow { row: number });
     };
     if !row.may_follow(last_row(rows)) {
@@ -75,9 +81,10 @@ pub fn read_listing(alloc: Global, text: &[u8]) -> Result<Listing, ListFault>
     let Some(mut rest) = text.strip_prefix(HEADER) else {
         return Err(ListFault::BadHeader);
     };
+    let mut buffer = Text::new();
     let mut rows: Vec<Row> = Vec::new(alloc);
     while !is_end(rows.as_slice(), rest) {
-        match next_row(rows.as_slice(), rest) {
+        match next_row(rows.as_slice(), rest, &mut buffer) {
             Ok((row, more)) => {
                 if rows.push(row).is_err() {
                     return Err(ListFault::Memory);

@@ -2,22 +2,66 @@
 //! row's text is seen where the row is written again.
 #![tactic(auto)]
 
-ghost use Rattle.std.specs.Prelude.{◌≡◌, ◌%◌, ◌^◌, true, IfSome};
+ghost use Rattle.std.specs.Prelude.{◌≡◌, ◌+◌, ◌%◌, ◌^◌, ◌<◌, ◌↔◌, ℕ, true, IfSome, IsTrue};
 ghost use Rattle.vme_listing.specs.declared.row.Row.{Row};
 ghost use Rattle.vme_listing.specs.Places.{is_row};
 ghost use Rattle.vme_listing.specs.RowText.{row_text};
 ghost use Rattle.vme_listing.specs.Words.{words, word_at, digit_of, number_of, small_of, edge_of, direction_of, answer_of, class_of, tenure_of, cycle_of, transfer_of, outcome_of, row_of};
 
 use crate::row::{AnswerLine, Direction, Outcome, Row};
+use crate::text::Text;
+use memchr::memchr;
+use std::marker::Model;
 use vme_trace::{Class, Line, Rule};
 
-/// The word of a line at a place, from 0, or no bytes where it has fewer.
-fn word(line: &[u8], place: usize) -> &[u8]
-    ensures { result.now ≡ word_at (words line.now) place }
+/// The first nine words of a line: no row has more. Past the last they have no bytes.
+#[derive(Drop)]
+struct Words<'a> {
+    words: [&'a [u8]; 9],
+}
+
+impl<'a> Model for Words<'a> {
+    ghost use Rattle.std.specs.Prelude.{ℕ, List, map};
+
+    ghost Value = { List (List ℕ) };
+
+    ghost view = { λ a. map (λ word. word.now) a.words };
+}
+
+impl<'a> Words<'a> {
+    fn of(line: &'a [u8]) -> Words<'a>
+        ensures { (place : ℕ) → place < 9 → word_at result place ≡ word_at (words line.now) place }
+    {
+        let mut words = [b"".as_slice(); 9];
+        let mut rest = line;
+        let mut place = 0;
+        while place < 9 {
+            let (word, more) = cut(rest);
+            words[place] = word;
+            rest = more;
+            place += 1;
+        }
+        Words { words }
+    }
+
+    /// The word at a place, from 0.
+    fn at(&self, place: usize) -> &'a [u8]
+        requires { place < 9 }
+        ensures { result.now ≡ word_at self.now place }
+    {
+        self.words[place]
+    }
+}
+
+/// The first word of a line, and the line of its other words.
+fn cut(line: &[u8]) -> (&[u8], &[u8])
+    ensures first { result.0.now ≡ word_at (words line.now) 0 }
+    ensures others { (place : ℕ) → word_at (words result.1.now) place ≡ word_at (words line.now) (place + 1) }
 {
-    line.split(|byte| *byte == b' ')
-        .nth(place)
-        .unwrap_or(b"".as_slice())
+    match memchr(b' ', line) {
+        Some(end) => (&line[..end], &line[end + 1..]),
+        None => (line, b"".as_slice()),
+    }
 }
 
 /// A digit: 0 to 9, A to F. Any other byte counts as 0.
@@ -93,65 +137,65 @@ fn class(word: &[u8]) -> Class
 }
 
 #[tactic(auto, unfolding(crate::specs::Words::tenure_of))]
-fn tenure(line: &[u8]) -> Row
-    ensures { result ≡ tenure_of (words line.now) }
+fn tenure(words: &Words) -> Row
+    ensures { result ≡ tenure_of words.now }
 {
-    let start = number(10, word(line, 1));
-    if word(line, 2) == b"open".as_slice() {
+    let start = number(10, words.at(1));
+    if words.at(2) == b"open".as_slice() {
         Row::OpenTenure {
             start,
-            end: edge(word(line, 4)),
+            end: edge(words.at(4)),
         }
     } else {
         Row::Tenure {
             start,
-            level: small(10, word(line, 3)),
-            slot: small(10, word(line, 5)),
-            end: edge(word(line, 7)),
+            level: small(10, words.at(3)),
+            slot: small(10, words.at(5)),
+            end: edge(words.at(7)),
         }
     }
 }
 
 #[tactic(auto, unfolding(crate::specs::Words::cycle_of))]
-fn cycle(line: &[u8]) -> Row
-    ensures { result ≡ cycle_of (words line.now) }
+fn cycle(words: &Words) -> Row
+    ensures { result ≡ cycle_of words.now }
 {
-    let start = number(10, word(line, 1));
-    match word(line, 2) {
+    let start = number(10, words.at(1));
+    match words.at(2) {
         b"F" => Row::FreeCycle {
             start,
-            modifier: small(16, word(line, 3)),
-            end: edge(word(line, 5)),
+            modifier: small(16, words.at(3)),
+            end: edge(words.at(5)),
         },
         b"I" => Row::InterruptCycle {
             start,
-            level: small(10, word(line, 3)),
-            end: edge(word(line, 5)),
+            level: small(10, words.at(3)),
+            end: edge(words.at(5)),
         },
         kind => Row::AddressedCycle {
             start,
             class: class(kind),
-            modifier: small(16, word(line, 3)),
-            address: number(16, word(line, 4)),
-            end: edge(word(line, 6)),
+            modifier: small(16, words.at(3)),
+            address: number(16, words.at(4)),
+            end: edge(words.at(6)),
         },
     }
 }
 
 #[tactic(auto, unfolding(crate::specs::Words::transfer_of))]
-fn transfer(line: &[u8]) -> Row
-    ensures { result ≡ transfer_of (words line.now) }
+fn transfer(words: &Words) -> Row
+    ensures { result ≡ transfer_of words.now }
 {
-    let start = number(10, word(line, 1));
-    let second = word(line, 2);
+    let start = number(10, words.at(1));
+    let second = words.at(2);
     if second == b"of".as_slice() {
         Row::Transfer {
             start,
-            cycle: number(10, word(line, 3)),
-            direction: direction(word(line, 4)),
-            line: answer_line(word(line, 5)),
-            answer: number(10, word(line, 6)),
-            close: edge(word(line, 8)),
+            cycle: number(10, words.at(3)),
+            direction: direction(words.at(4)),
+            line: answer_line(words.at(5)),
+            answer: number(10, words.at(6)),
+            close: edge(words.at(8)),
         }
     } else {
         Row::PendingTransfer {
@@ -162,19 +206,19 @@ fn transfer(line: &[u8]) -> Row
 }
 
 #[tactic(auto, unfolding(crate::specs::Words::outcome_of))]
-fn outcome(line: &[u8]) -> Option<Outcome>
-    ensures { result ≡ outcome_of (words line.now) }
+fn outcome(words: &Words) -> Option<Outcome>
+    ensures { result ≡ outcome_of words.now }
 {
-    let kind = word(line, 1);
+    let kind = words.at(1);
     if kind == b"conforming".as_slice() {
         return Some(Outcome::Conforming);
     }
     if kind == b"never-idle".as_slice() {
         return Some(Outcome::NeverIdle);
     }
-    let rule = Rule::from_name(word(line, 2))?;
-    let instant = number(10, word(line, 3));
-    let named = Line::from_name(word(line, 4))?;
+    let rule = Rule::from_name(words.at(2))?;
+    let instant = number(10, words.at(3));
+    let named = Line::from_name(words.at(4))?;
     if kind == b"broken".as_slice() {
         Some(Outcome::Broken(rule, instant, named))
     } else {
@@ -182,36 +226,45 @@ fn outcome(line: &[u8]) -> Option<Outcome>
     }
 }
 
-/// The only row whose text the line may be.
+/// The only row whose text a line of these words may be.
 #[tactic(auto, unfolding(crate::specs::Words::row_of))]
-fn candidate(line: &[u8]) -> Option<Row>
-    ensures { result ≡ row_of (words line.now) }
+fn candidate(words: &Words) -> Option<Row>
+    ensures { result ≡ row_of words.now }
 {
-    let kind = word(line, 0);
+    let kind = words.at(0);
     if kind == b"start".as_slice() {
         Some(Row::Start {
-            instant: number(10, word(line, 1)),
+            instant: number(10, words.at(1)),
         })
     } else if kind == b"tenure".as_slice() {
-        Some(tenure(line))
+        Some(tenure(words))
     } else if kind == b"cycle".as_slice() {
-        Some(cycle(line))
+        Some(cycle(words))
     } else if kind == b"transfer".as_slice() {
-        Some(transfer(line))
+        Some(transfer(words))
     } else if kind == b"verdict".as_slice() {
-        Some(Row::Verdict(outcome(line)?))
+        Some(Row::Verdict(outcome(words)?))
     } else {
         None
     }
 }
 
-/// The row whose text the line is, without its line feed; rows differ in their text.
-pub(crate) fn read_row(line: &[u8]) -> Option<Row>
+/// Whether the line is the row's text. That text is written into the buffer, in place of what it held.
+fn is_text(row: &Row, line: &[u8], buffer: &mut Text) -> bool
+    ensures { IsTrue result ↔ (row_text row.now ≡ line.now) }
+{
+    buffer.clear();
+    buffer.push_row(row);
+    buffer.as_bytes() == line
+}
+
+/// The row whose text the line is, without its line feed; rows differ in their text. The buffer is for that text.
+pub(crate) fn read_row(line: &[u8], buffer: &mut Text) -> Option<Row>
     ensures named { IfSome result (λ row. (is_row row ≡ true) × (row_text row ≡ line.now)) }
     ensures found { (row : Row) → is_row row ≡ true → row_text row ≡ line.now → result ≡ Some row }
 {
-    let row = candidate(line)?;
-    if row.is_row() && row.text().as_bytes() == line {
+    let row = candidate(&Words::of(line))?;
+    if row.is_row() && is_text(&row, line, buffer) {
         Some(row)
     } else {
         None

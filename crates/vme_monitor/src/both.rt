@@ -1,6 +1,6 @@
 //! Two monitors at once.
 
-ghost use Rattle.std.specs.Prelude.{◌≡◌, ℕ, IfOk, List, false, slice_get};
+ghost use Rattle.std.specs.Prelude.{◌≡◌, ◌≤◌, ◌∷◌, [], ℕ, IfOk, List, drop, false, length, slice_get, take};
 ghost use Rattle.vme_trace.specs.declared.rule.Rule.{Rule};
 ghost use Rattle.vme_trace.specs.Trace.{Trace};
 ghost use Rattle.vme_trace.specs.Judged.{Span};
@@ -8,7 +8,7 @@ ghost use Rattle.vme_monitor.specs.Joined.{AreApart, AreJoined, together};
 ghost use Rattle.vme_monitor.specs.declared.mark.Kinds.{Kinds};
 ghost use Rattle.vme_monitor.specs.Whole.{FindsLeast, ShowsAll};
 ghost use Rattle.std.specs.Option.{option_map_or};
-ghost use Rattle.vme_monitor.specs.BothSpec.{by_instant, fault_lt as fault_before, kind_number as kind_place, least as least_of, mark_lt as mark_before, merged, rule_number as rule_place, sooner as sooner_than};
+ghost use Rattle.vme_monitor.specs.BothSpec.{by_instant, fault_lt as fault_before, front, rest, kind_number as kind_place, least as least_of, mark_lt as mark_before, merged, rule_number as rule_place, sooner as sooner_than};
 
 use crate::mark::{Kind, Mark};
 use crate::monitor::Monitor;
@@ -137,6 +137,51 @@ fn merge_marks(alloc: Global, first: &[Mark], second: &[Mark]) -> Result<Vec<Mar
     Ok(all)
 }
 
+/// How many marks come before one.
+fn count_before(marks: &[Mark], mark: Mark) -> usize
+    ensures before { take result marks.now ≡ front mark marks.now }
+    ensures after { drop result marks.now ≡ rest mark marks.now }
+    ensures there { result ≤ length marks.now }
+{
+    for count in 0..marks.len() {
+        if !mark_lt(&marks[count], &mark) {
+            return count;
+        }
+    }
+    marks.len()
+}
+
+/// One mark put among others, in its place.
+fn put_among(alone: &[Mark], marks: Vec<Mark>) -> Result<Vec<Mark>, AllocError>
+    requires { length alone.now ≡ 1 }
+    ensures { IfOk result (λ v. v.items ≡ merged alone.now marks.items) }
+{
+    let mut all = marks;
+    let count = count_before(all.as_slice(), alone[0]);
+    all.insert(count, alone[0])?;
+    Ok(all)
+}
+
+/// The same of marks that are given away: where one of the two shows nothing, they are those of the other, and where the first
+/// shows one mark alone, as the start of judging, it is put among the others.
+fn marks_together(
+    alloc: Global,
+    first: Vec<Mark>,
+    second: Vec<Mark>,
+) -> Result<Vec<Mark>, AllocError>
+    ensures { IfOk result (λ v. v.items ≡ merged first.items second.items) }
+{
+    if first.is_empty() {
+        Ok(second)
+    } else if second.is_empty() {
+        Ok(first)
+    } else if first.len() == 1 {
+        put_among(first.as_slice(), second)
+    } else {
+        merge_marks(alloc, first.as_slice(), second.as_slice())
+    }
+}
+
 /// Summaries of the same steps by two monitors.
 #[derive(Drop)]
 pub struct Pair<M: Monitor, N: Monitor> {
@@ -197,6 +242,19 @@ impl<M: Monitor, N: Monitor> Monitor for Both<M, N> {
         })
     }
 
+    fn append(
+        alloc: Global,
+        first: Pair<M, N>,
+        second: Pair<M, N>,
+    ) -> Result<Pair<M, N>, AllocError> {
+        let a = M::append(alloc, first.first, second.first)?;
+        let b = N::append(alloc, first.second, second.second)?;
+        Ok(Pair {
+            first: a,
+            second: b,
+        })
+    }
+
     fn unit(alloc: Global) -> Result<Pair<M, N>, AllocError> {
         let first = M::unit(alloc)?;
         let second = N::unit(alloc)?;
@@ -228,7 +286,7 @@ impl<M: Monitor, N: Monitor> Monitor for Both<M, N> {
     ) -> Result<Vec<Mark>, AllocError> {
         let first = M::marks(alloc, &summary.first, memory.0)?;
         let second = N::marks(alloc, &summary.second, memory.1)?;
-        merge_marks(alloc, first.as_slice(), second.as_slice())
+        marks_together(alloc, first, second)
     }
 }
 

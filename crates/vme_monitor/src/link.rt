@@ -29,13 +29,20 @@ pub struct Row<P> {
 }
 
 impl Mark {
-    fn later(&self, by: u32) -> Mark
-        ensures { result ≡ later_mark by self.now }
+    /// Counts the instant from a start that is some instants earlier.
+    fn delay(&mut self, by: u32)
+        ensures { self.new ≡ later_mark by self.old }
     {
-        Mark {
-            instant: self.instant.saturating_add(by),
-            kind: self.kind,
-        }
+        self.instant = self.instant.saturating_add(by);
+    }
+}
+
+/// Counts the instants of marks from a start that is some instants earlier.
+fn delay_marks(marks: &mut [Mark], by: u32)
+    ensures { marks.new ≡ map (later_mark by) marks.old }
+{
+    for mark in marks.iter_mut() {
+        mark.delay(by);
     }
 }
 
@@ -56,10 +63,8 @@ pub fn later_break(found: Option<Break>, by: u32) -> Option<Break>
 pub fn later_marks(alloc: Global, marks: &[Mark], by: u32) -> Result<Vec<Mark>, AllocError>
     ensures { IfOk result (λ v. v.items ≡ map (later_mark by) marks.now) }
 {
-    let mut all = Vec::with_capacity(alloc, marks.len())?;
-    for mark in marks {
-        all.push(mark.later(by))?;
-    }
+    let mut all = Vec::from_slice(alloc, marks)?;
+    delay_marks(all.as_mut_slice(), by);
     Ok(all)
 }
 
@@ -111,6 +116,61 @@ pub fn bridges<P: Places>(alloc: Global, rows: &[Row<P>], by: u32) -> Result<Vec
         })?;
     }
     Ok(all)
+}
+
+impl Link {
+    /// Counts the instants from a start that is some instants earlier.
+    fn delay(&mut self, by: u32)
+        ensures { hop_of self.new ≡ later_hop by (hop_of self.old) }
+    {
+        self.event = later_break(self.event, by);
+        delay_marks(self.marks.as_mut_slice(), by);
+    }
+}
+
+/// Counts the instants of links from a start that is some instants earlier.
+pub fn delay_links(links: &mut [Link], by: u32)
+    ensures { map hop_of links.new ≡ map (later_hop by) (map hop_of links.old) }
+{
+    for link in links.iter_mut() {
+        link.delay(by);
+    }
+}
+
+impl<P: Copy> Row<P> {
+    /// Counts the instants from a start that is some instants earlier.
+    fn delay(&mut self, by: u32)
+        ensures { outcome_of self.new ≡ later_outcome by (outcome_of self.old) }
+    {
+        self.event = later_break(self.event, by);
+        delay_marks(self.marks.as_mut_slice(), by);
+    }
+}
+
+/// Counts the instants of rows from a start that is some instants earlier.
+pub fn delay_rows<P: Copy>(rows: &mut [Row<P>], by: u32)
+    ensures { map outcome_of rows.new ≡ map (later_outcome by) (map outcome_of rows.old) }
+{
+    for row in rows.iter_mut() {
+        row.delay(by);
+    }
+}
+
+/// Rows as links to the places of their memories.
+pub fn links_of<P: Places>(alloc: Global, rows: Vec<Row<P>>) -> Result<Vec<Link>, AllocError>
+    ensures { IfOk result (λ links. map hop_of links.items ≡ map (bridge_of P.place_of) (map outcome_of rows.items)) }
+{
+    let mut rows = rows;
+    let mut links = Vec::with_capacity(alloc, rows.len())?;
+    while let Some(row) = rows.pop() {
+        links.push(Link {
+            event: row.event,
+            marks: row.marks,
+            next: row.memory.place(),
+        })?;
+    }
+    links.reverse();
+    Ok(links)
 }
 
 /// A row for each memory, with nothing shown yet.

@@ -12,7 +12,9 @@ ghost use Rattle.vme_monitor.specs.Walk.{hops, later_hop, outcome_of, reach};
 ghost use Rattle.vme_monitor.specs.Tables.{outcome};
 ghost use Rattle.vme_monitor.specs.Underway.{GiveRuns, seen_in};
 
-use crate::link::{Link, Row, bridges, fresh_rows, later_links, later_rows};
+use crate::link::{
+    Link, Row, bridges, delay_links, delay_rows, fresh_rows, later_links, later_rows, links_of,
+};
 use crate::machine::{Machine, Places};
 use crate::mark::Mark;
 use crate::merge::{advance, have_met, memories, merge, most_alert};
@@ -101,6 +103,10 @@ impl<M: Machine> Unfinished<M> {
         }
         let rows = self.rows.as_mut_slice();
         advance::<M>(rows, &view.before, &view.after, &seen, step, instant)?;
+        // two rows are left apart, and who judges has no less to notice
+        if self.rows.len() <= 2 && self.most <= 1 {
+            return Ok(());
+        }
         self.most = settle::<M>(
             alloc,
             &mut self.layers,
@@ -170,6 +176,15 @@ fn later_layers(
     Ok(())
 }
 
+/// Counts the instants of layers from a start that is some instants earlier.
+fn delay_layers(layers: &mut [Vec<Link>], by: u32)
+    ensures { hops layers.new ≡ map (map (later_hop by)) (hops layers.old) }
+{
+    for layer in layers.iter_mut() {
+        delay_links(layer.as_mut_slice(), by);
+    }
+}
+
 impl<P: Places> Table<P> {
     /// The table of no steps.
     pub fn unit(alloc: Global) -> Result<Table<P>, AllocError>
@@ -205,6 +220,34 @@ impl<P: Places> Table<P> {
             steps: first.steps + second.steps,
             layers,
             rows,
+        })
+    }
+
+    /// The same of two that are given away.
+    pub fn append(self, alloc: Global, second: Table<P>) -> Result<Table<P>, AllocError>
+        requires { self.steps + second.steps ≤ 268435456 }
+        ensures outcomes { IfOk result (λ t. (p : P) → let a = outcome self.layers.items self.rows.items p (P.place_of p) in outcome t.layers.items t.rows.items p (P.place_of p) ≡ followed self.steps a (outcome second.layers.items second.rows.items a.leaving (P.place_of a.leaving))) }
+        ensures counted { IfOk result (λ t. t.steps ≡ self.steps + second.steps) }
+    {
+        let Table {
+            steps,
+            mut layers,
+            rows,
+        } = self;
+        let Table {
+            steps: more,
+            layers: mut later,
+            rows: mut ends,
+        } = second;
+        let links = links_of(alloc, rows)?;
+        layers.push(links)?;
+        delay_layers(later.as_mut_slice(), steps);
+        layers.append(&mut later)?;
+        delay_rows(ends.as_mut_slice(), steps);
+        Ok(Table {
+            steps: steps + more,
+            layers,
+            rows: ends,
         })
     }
 

@@ -25,6 +25,10 @@ pub false_of_not : (b : Bool) → not b ≡ true → b ≡ false
 false_of_not true h = absurd (cc)
 false_of_not false h = refl
 
+pub or_false : (a b : Bool) → (a || b) ≡ false → (a ≡ false) × (b ≡ false)
+or_false true b h = absurd (cc)
+or_false false b h = (refl, h)
+
 or_second : (a b : Bool) → (a || b) ≡ true → a ≡ false → b ≡ true
 or_second true b h e = absurd (cc)
 or_second false b h e = h
@@ -48,7 +52,7 @@ here_below : (k : ℕ) → k < k + 1
 here_below k = omega arith
 
 -- no change stands before the least that may
-pub below_changes : (v : Levels) (lowest l : ℕ) (cs : List Change) → are_changes v lowest cs ≡ true → l < lowest → is_changed cs l ≡ false
+below_changes : (v : Levels) (lowest l : ℕ) (cs : List Change) → are_changes v lowest cs ≡ true → l < lowest → is_changed cs l ≡ false
 unfolding are_changes
 below_changes v lowest l [] h b = refl
 below_changes v lowest l (c ∷ cs) h b =

@@ -1,21 +1,112 @@
 -- What the memory says of a judged instant, in the words of transfers and cycles; it keeps saying so, whatever rule is broken.
-use Rattle.std.proofs.Common.{◌≡◌, ℕ, suc, ◌+◌, ◌<◌, ◌≤◌, Bool, true, false, ◌||◌, ◌&&◌, not, refl, sym, ◌∙◌, arith}
+use Rattle.std.proofs.Common.{◌≡◌, ℕ, suc, ◌+◌, ◌<◌, ◌≤◌, Bool, true, false, ◌||◌, ◌&&◌, not, refl, sym, ◌∙◌, arith, cond}
 use Rattle.vme_trace.specs.Instants.{any, none}
-use Rattle.vme_trace.specs.LineNumbers.{AS, DS0, DS1}
-use Rattle.vme_trace.specs.Levels.{Levels}
+use Rattle.vme_trace.specs.LineNumbers.{AS, DS0, DS1, WRITE}
+use Rattle.vme_trace.specs.Levels.{Levels, level_at, is_low, is_high, is_known}
 use Rattle.vme_trace.specs.Trace.{Trace, levels_at}
 use Rattle.vme_trace.specs.Signals.{low, high, falls, rises}
 use Rattle.vme_trace.specs.Judged.{Span, is_judged}
 use Rattle.vme_trace.specs.Transfers.{strobe_rises, transfer_starts, is_answer}
 use Rattle.vme_trace.specs.Cycles.{cycle_starts, cycle_runs}
+use Rattle.vme_trace.specs.declared.level.Level.{Level}
+use Rattle.vme_trace.specs.declared.level.Level.TheVariants.{Low, High, Unknown}
 use Rattle.vme_trace.proofs.OpenTransfers.{suc-sub-one, is_judged-holds, ReadsStrobes}
-use Rattle.vme_trace.proofs.Ranges.{any-step, fails-any}
+use Rattle.vme_trace.proofs.Ranges.{any-step, clash, fails-any}
 use Rattle.vme_monitor.specs.OutsideSpec.{falls_between}
 use Rattle.vme_monitor.specs.Tracked.{Says}
+use Rattle.vme_monitor.specs.Tracking.{answer_between, answered_by, is_unanswered, strobe_low_in, strobes_high_in, tracked}
+use Rattle.vme_monitor.specs.declared.tracking.Pending.{Pending}
+use Rattle.vme_monitor.specs.declared.tracking.Pending.TheVariants.{Closed, Reading, Writing, Answered}
 use Rattle.vme_monitor.proofs.TrackedTransfers.{says_start, tracked_is, is_answer_is}
-use Rattle.vme_stability.specs.StabilitySpec.{answers_in, keeps_address, keeps_direction, rises_between, starts_between, stability_begin, stepped, strobe_rises_between}
+use Rattle.vme_stability.specs.StabilitySpec.{answers_in, awaits_answer, holds_direction as holds_direction_of, keeps_address, keeps_direction, rises_between, starts_between, stability_begin, stepped, strobe_rises_between}
 use Rattle.vme_stability.specs.declared.holding.Holding.{Holding}
+use Rattle.vme_stability.proofs.Edges.{and_true, or_false}
 use Rattle.vme_stability.proofs.Lasting.{le_holds, none_more, none_empty, none_one, lasts_on}
+
+abbrev pub is_answered_state : Pending → Bool
+is_answered_state Answered = true
+is_answered_state Closed = false
+is_answered_state Reading = false
+is_answered_state Writing = false
+
+abbrev pub is_closed : Pending → Bool
+is_closed Closed = true
+is_closed Reading = false
+is_closed Writing = false
+is_closed Answered = false
+
+-- the transfer that the step enters, or that was open, has had no answer
+unanswered_is : (p : Pending) (h l w : Bool) → h ≡ is_closed p → is_unanswered (cond (h && l) (cond w Writing Reading) p) ≡ (not (is_answered_state p) && (not h || l))
+unanswered_is Closed h l w e = rw e (by_tests l w)
+  where
+    by_tests : (l w : Bool) → is_unanswered (cond l (cond w Writing Reading) Closed) ≡ l
+    by_tests true true = refl
+    by_tests true false = refl
+    by_tests false w = refl
+unanswered_is Reading h l w e = rw e refl
+unanswered_is Writing h l w e = rw e refl
+unanswered_is Answered h l w e = rw e refl
+
+answered_next : (p : Pending) (h l w k a : Bool) → h ≡ is_closed p → l ≡ not k → is_answered_state (cond k Closed (answered_by a (cond (h && l) (cond w Writing Reading) p))) ≡ (not k && (is_answered_state p || a))
+answered_next p h l w true a e low = refl
+answered_next Closed h l w false a e low = rw (e, low) (by_tests w a)
+  where
+    by_tests : (w a : Bool) → is_answered_state (answered_by a (cond w Writing Reading)) ≡ a
+    by_tests true true = refl
+    by_tests true false = refl
+    by_tests false true = refl
+    by_tests false false = refl
+answered_next Reading h l w false true e low = rw e refl
+answered_next Reading h l w false false e low = rw e refl
+answered_next Writing h l w false true e low = rw e refl
+answered_next Writing h l w false false e low = rw e refl
+answered_next Answered h l w false true e low = rw e refl
+answered_next Answered h l w false false e low = rw e refl
+
+-- a strobe is low where both are known, and not both high
+low_is : (x y : Level) → is_known x ≡ true → is_known y ≡ true → (is_low x || is_low y) ≡ not (is_high x && is_high y)
+low_is Low y k j = refl
+low_is High Low k j = refl
+low_is High High k j = refl
+low_is High Unknown k j = absurd (cc)
+low_is Unknown y k j = absurd (cc)
+
+-- high strobes don't rise
+no_rise : (x y a b : Level) → (is_high x && is_high y) ≡ true → ((is_low x && is_high a) || (is_low y && is_high b)) ≡ false
+no_rise High High a b h = refl
+no_rise High Low a b h = absurd (cc)
+no_rise High Unknown a b h = absurd (cc)
+no_rise Low y a b h = absurd (cc)
+no_rise Unknown y a b h = absurd (cc)
+
+-- a known level that doesn't rise was high before, if it is high now
+was_high : (x y : Level) → is_known x ≡ true → (is_low x && is_high y) ≡ false → is_high y ≡ true → is_high x ≡ true
+was_high High y k r h = refl
+was_high Low y k r h = absurd (clash (is_high y) h r)
+was_high Unknown y k r h = absurd (cc)
+
+-- so strobes that don't rise, and are high, were high
+pub high_before : (v w : Levels) → is_known (level_at v DS0) ≡ true → is_known (level_at v DS1) ≡ true → strobe_rises_between v w ≡ false → strobes_high_in w ≡ true → strobes_high_in v ≡ true
+high_before v w first second still h =
+    let rises = or_false (rises_between v w DS0) (rises_between v w DS1) still in
+    let highs = and_true (is_high (level_at w DS0)) (is_high (level_at w DS1)) h in
+    rw (was_high (level_at v DS0) (level_at w DS0) first rises.0 highs.0, was_high (level_at v DS1) (level_at w DS1) second rises.1 highs.1) refl
+
+-- whether a transfer is open in which no strobe has risen, by the strobes before and after
+unturned_next : (h k l r s : Bool) → (h ≡ true → s ≡ false) → (h ≡ true → r ≡ false) → l ≡ not k → (r ≡ false → k ≡ true → h ≡ true)
+    → (not k && not (not k && (s || r))) ≡ (((not h && not s) && not r) || (h && l))
+unturned_next true k l r s fresh still low back = rw (fresh refl, still refl, low) (by_test k)
+  where
+    by_test : (k : Bool) → (not k && not (not k && false)) ≡ not k
+    by_test true = refl
+    by_test false = refl
+unturned_next false true l true true fresh still low back = refl
+unturned_next false true l true false fresh still low back = refl
+unturned_next false true l false s fresh still low back = absurd (clash false (back refl refl) refl)
+unturned_next false false l true true fresh still low back = refl
+unturned_next false false l true false fresh still low back = refl
+unturned_next false false l false true fresh still low back = refl
+unturned_next false false l false false fresh still low back = refl
 
 module _ (t : Trace) (span : Span) where
   -- a cycle that started at i runs at n, and has had no answer
@@ -27,17 +118,26 @@ module _ (t : Trace) (span : Span) where
   holds_direction n i = transfer_starts t span i && none (strobe_rises t) (i + 1) (n + 1)
 
   pub record Holds (n : ℕ) (m : Holding) : Type 0 where
-    pub transfer : Says t span n m.transfer
-    pub address : m.address_held ≡ any (holds_address n) (span.start + 1) (n + 1)
-    pub direction : m.direction_held ≡ any (holds_direction n) (span.start + 1) (n + 1)
+    pub state : Pending
+    pub says : Says t span n state
+    pub transfer : is_answered_state state ≡ m.transfer_answered
+    pub closed : strobes_high_in (levels_at t n) ≡ true → m.strobe_risen ≡ false
+    pub idle : is_low (level_at (levels_at t n) AS) ≡ false → m.cycle_answered ≡ false
+    pub address : awaits_answer m (levels_at t n) ≡ any (holds_address n) (span.start + 1) (n + 1)
+    pub direction : holds_direction_of m (levels_at t n) ≡ any (holds_direction n) (span.start + 1) (n + 1)
 
   -- at the start of a span nothing is held
-  pub holds_start : ReadsStrobes t span → (v : Levels) → Holds span.start (stability_begin v)
-  holds_start reads v =
+  pub holds_start : ReadsStrobes t span → is_low (level_at (levels_at t span.start) AS) ≡ false → (v : Levels) → Holds span.start (stability_begin v)
+  unfolding high
+  holds_start reads off v =
       record {
-        transfer = says_start t span reads;
-        address = sym (fails-any (holds_address span.start) (span.start + 1) (span.start + 1) (λ i a b. absurd (omega arith)));
-        direction = sym (fails-any (holds_direction span.start) (span.start + 1) (span.start + 1) (λ i a b. absurd (omega arith)));
+        state = Closed;
+        says = says_start t span reads;
+        transfer = refl;
+        closed = λ h. refl;
+        idle = λ h. refl;
+        address = rw off (sym (fails-any (holds_address span.start) (span.start + 1) (span.start + 1) (λ i a b. absurd (omega arith))));
+        direction = rw reads.opens (sym (fails-any (holds_direction span.start) (span.start + 1) (span.start + 1) (λ i a b. absurd (omega arith))));
       }
 
   -- the levels on both sides of the step to suc n
@@ -70,8 +170,18 @@ module _ (t : Trace) (span : Span) where
     unfolding cycle_starts
     cycle_starts_is = rw (judged, falls_is AS) refl
 
+    -- both strobes are high where no transfer is open
+    pub high_is : (p : Pending) → Says t span n p → strobes_high_in old ≡ is_closed p
+    unfolding high
+    high_is Closed says = says
+    high_is Reading says = says.1.still n says.1.within (omega arith)
+    high_is Writing says = says.1.still n says.1.within (omega arith)
+    high_is Answered says = says.2.still n says.2.within (omega arith)
+
     pub answer_is : (m : Holding) → Holds n m → is_answer t span (suc n) ≡ answers_in m old new
-    answer_is m h = is_answer_is t span reads n from before m.transfer h.transfer
+    answer_is m h =
+        is_answer_is t span reads n from before h.state h.says
+        ∙ rw (unanswered_is h.state (strobes_high_in old) (strobe_low_in new) (is_low (level_at new WRITE)) (high_is h.state h.says), h.transfer) refl
 
     runs_more : (i : ℕ) → i ≤ n → cycle_runs t span i (suc n) ≡ (cycle_runs t span i n && not (rises t AS (suc n)))
     unfolding cycle_runs
@@ -116,7 +226,7 @@ module _ (t : Trace) (span : Span) where
     -- what is held up to the instant itself
     pub keeps_address_is : (m : Holding) → Holds n m → keeps_address m old new ≡ any (holds_address (suc n)) (span.start + 1) (suc n)
     keeps_address_is m h =
-        regroup m.address_held (rises_between old new AS) (answers_in m old new)
+        regroup (awaits_answer m old) (rises_between old new AS) (answers_in m old new)
         ∙ sym (lasts_on (holds_address n) (holds_address (suc n)) (not (rises t AS (suc n)) && not (is_answer t span (suc n))) (span.start + 1) n (omega arith) address_more ∙ rw (rises_is AS, answer_is m h, ← h.address) refl)
       where
         regroup : (a b c : Bool) → (a && not b && not c) ≡ (a && (not b && not c))
@@ -131,15 +241,38 @@ module _ (t : Trace) (span : Span) where
     address_next m h =
         rw (keeps_address_is m h, ← answer_is m h) (sym (any-step (holds_address (suc n)) (span.start + 1) (suc n) ∙ rw (le_holds (span.start + 1) (suc n) (omega arith), address_here) refl))
 
+    awaits_next : (x y : Level) (a u : Bool) → is_known x ≡ true → is_known y ≡ true → (is_low x ≡ false → a ≡ false)
+        → (is_low y && not (is_low y && (a || u))) ≡ (((is_low x && not a) && not (is_low x && is_high y) && not u) || ((is_high x && is_low y) && not u))
+    awaits_next Low Low true u k j idle = refl
+    awaits_next Low Low false true k j idle = refl
+    awaits_next Low Low false false k j idle = refl
+    awaits_next Low High true u k j idle = refl
+    awaits_next Low High false u k j idle = refl
+    awaits_next High Low true u k j idle = absurd (clash true refl (idle refl))
+    awaits_next High Low false u k j idle = refl
+    awaits_next High High a u k j idle = refl
+    awaits_next Unknown y a u k j idle = absurd (cc)
+    awaits_next Low Unknown a u k j idle = absurd (cc)
+    awaits_next High Unknown a u k j idle = absurd (cc)
+
     direction_next : (m : Holding) → Holds n m → (keeps_direction m old new || starts_between old new) ≡ any (holds_direction (suc n)) (span.start + 1) (suc n + 1)
     direction_next m h =
         rw (keeps_direction_is m h) (sym (any-step (holds_direction (suc n)) (span.start + 1) (suc n) ∙ rw (le_holds (span.start + 1) (suc n) (omega arith), direction_here) refl))
 
     -- so the memory says the same one instant later
-    pub holds_next : (m : Holding) → Holds n m → Holds (suc n) (stepped m old new)
-    holds_next m h =
+    pub holds_next : ((l : ℕ) → l < 3 → is_known (level_at old l) ≡ true) → ((l : ℕ) → l < 3 → is_known (level_at new l) ≡ true) → (m : Holding) → Holds n m → Holds (suc n) (stepped m old new)
+    holds_next known_old known_new m h =
+        let low_new = low_is (level_at new DS0) (level_at new DS1) (known_new DS0 (omega arith)) (known_new DS1 (omega arith)) in
         record {
-          transfer = tracked_is t span reads n from before m.transfer h.transfer;
-          address = address_next m h;
-          direction = direction_next m h;
+          state = tracked h.state old new;
+          says = tracked_is t span reads n from before h.state h.says;
+          transfer = answered_next h.state (strobes_high_in old) (strobe_low_in new) (is_low (level_at new WRITE)) (strobes_high_in new) (answer_between old new) (high_is h.state h.says) low_new ∙ rw h.transfer refl;
+          closed = λ highs. rw highs refl;
+          idle = λ off. rw off refl;
+          address = awaits_next (level_at old AS) (level_at new AS) m.cycle_answered (answers_in m old new) (known_old AS (omega arith)) (known_new AS (omega arith)) h.idle ∙ address_next m h;
+          direction =
+              unturned_next (strobes_high_in old) (strobes_high_in new) (strobe_low_in new) (strobe_rises_between old new) m.strobe_risen h.closed
+              (no_rise (level_at old DS0) (level_at old DS1) (level_at new DS0) (level_at new DS1)) low_new
+              (high_before old new (known_old DS0 (omega arith)) (known_old DS1 (omega arith)))
+              ∙ direction_next m h;
         }

@@ -1,15 +1,19 @@
 -- What the monitor finds at each judged instant is what the rules say.
-use Rattle.std.proofs.Common.{◌≡◌, ℕ, zero, suc, ◌<◌, ◌≤◌, Bool, true, false, List, refl, sym, arith, cond, inl, inr, ◌⊎◌, length, subst}
+use Rattle.std.proofs.Common.{◌≡◌, ℕ, zero, suc, ◌<◌, ◌≤◌, Bool, true, false, not, List, refl, sym, arith, cond, inl, inr, ◌⊎◌, length, lit<, subst}
 use Rattle.std.specs.Prelude.{Option, None, Some, option_map, slice_get, nat_lt}
 use Rattle.std.specs.Option.{option_map_or, option_or}
 use Rattle.std.proofs.lemmas.Bool.Decides.{nat_tests}
-use Rattle.vme_trace.specs.Levels.{Levels}
+use Rattle.vme_trace.specs.LineNumbers.{line_count, AS, is_control}
+use Rattle.vme_trace.specs.Levels.{Levels, level_at, is_low, is_high, is_idle, is_idle_on}
 use Rattle.vme_trace.specs.Trace.{Trace, levels_at, time_at}
 use Rattle.vme_trace.specs.WellFormed.{malformed_step}
 use Rattle.vme_trace.specs.Judged.{Span}
 use Rattle.vme_trace.specs.Verdict.{break_at as rules_break_at, break_before, rule_break}
+use Rattle.vme_trace.specs.declared.level.Level.{Level}
+use Rattle.vme_trace.specs.declared.level.Level.TheVariants.{Low, High, Unknown}
 use Rattle.vme_trace.specs.declared.rule.Rule.TheVariants.{U2, U3, S1, S2}
 use Rattle.vme_trace.specs.declared.step.Change.{Change}
+use Rattle.vme_trace.proofs.Ranges.{any-fails}
 use Rattle.vme_monitor.specs.Along.{changes_of, memory_from, next_at}
 use Rattle.vme_monitor.specs.Run.{break_at, nothing, noticed, quiet, run_of}
 use Rattle.vme_monitor.specs.Spanned.{noted, spanned, start_in}
@@ -22,6 +26,7 @@ use Rattle.vme_stability.specs.StabilitySpec.{fault_on, is_noticed, moved_fault,
 use Rattle.vme_stability.specs.declared.holding.Holding.{Holding}
 use Rattle.vme_stability.specs.declared.sight.Sight.{Sight}
 use Rattle.vme_stability.proofs.AskedLines.{address_least, direction_least}
+use Rattle.vme_stability.proofs.Edges.{false_of_not}
 use Rattle.vme_stability.proofs.HeldAddress.{moved_least}
 use Rattle.vme_stability.proofs.HeldDirection.{turned_least}
 use Rattle.vme_stability.proofs.Holds.{Holds, holds_next, holds_start}
@@ -58,7 +63,7 @@ module _ (t : Trace) (span : Span) (ok : malformed_step t ≡ None) (facts : IsS
         by_test : (b : Bool) → is_noticed (levels_at t n) (levels_at t (suc n)) (changes_at n) ≡ b
             → option_map_or (stability_next m (levels_at t n) (levels_at t (suc n))) (cond b (Some (sight_of (levels_at t n) (levels_at t (suc n)) (changes_at n))) None) (quiet m) ≡ full
         by_test true e = refl
-        by_test false e = sym (quiet_there t span n m (changes_at n) holds.transfer (levels_step t n within) (changes_fit t n ok within) e)
+        by_test false e = sym (quiet_there t span facts n from before m (changes_at n) holds e)
 
     fault_is : break_before t span stability_rules (suc n) ≡ None → option_map (break_at (suc n) (time_at t (suc n))) full.fault ≡ rules_break_at t span stability_rules (suc n)
     unfolding rules_break_at rule_break
@@ -76,21 +81,34 @@ module _ (t : Trace) (span : Span) (ok : malformed_step t ≡ None) (facts : IsS
   after_test : (n s : ℕ) → s ≤ n → nat_lt n s ≡ false
   after_test n s h = grind (arith, nat_tests)
 
+  strobe_control : (s l : ℕ) → l < 3 → is_control s l ≡ true
+  strobe_control s l h = grind (arith, nat_tests)
+
   first_or_later : (s n : ℕ) → s ≤ suc n → (s ≡ suc n) ⊎ (s ≤ n)
   first_or_later s n h = grind arith
 
+  -- the address strobe is high where the span starts
+  address_high : is_low (level_at (levels_at t span.start) AS) ≡ false
+  unfolding is_idle
+  address_high = not_low (level_at (levels_at t span.start) AS) (any-fails (λ k. not (is_idle_on (levels_at t span.start) k)) 0 line_count AS (false_of_not _ facts.idle) (omega arith) (lit< tt))
+    where
+      not_low : (x : Level) → not (is_high x) ≡ false → is_low x ≡ false
+      not_low High h = refl
+      not_low Low h = absurd (cc)
+      not_low Unknown h = refl
+
   -- at each judged instant the memory says what it should
   holds_at : (n : ℕ) → span.start ≤ n → n < span.end → n ≤ length t.steps → Holds t span n (memory_at n)
-  holds_at zero from before within = let e : span.start ≡ 0 = omega arith in subst (λ k. Holds t span k (stability_begin (levels_at t span.start))) e (holds_start t span facts.reads (levels_at t span.start))
+  holds_at zero from before within = let e : span.start ≡ 0 = omega arith in subst (λ k. Holds t span k (stability_begin (levels_at t span.start))) e (holds_start t span facts.reads address_high (levels_at t span.start))
   holds_at (suc n) from before within =
       elim (first_or_later span.start n from) [
         | inl e ↦ at_start e
         | inr later ↦ let holds = holds_at n later (omega arith) (omega arith) in
-            rw (after_test n span.start later, next_is n later before (omega arith) (memory_at n) holds) (holds_next t span facts.reads n later before (memory_at n) holds)
+            rw (after_test n span.start later, next_is n later before (omega arith) (memory_at n) holds) (holds_next t span facts.reads n later before (λ l below. facts.known n l later (omega arith) (omega arith) (strobe_control t.opening.slots l below)) (λ l below. facts.known (suc n) l (omega arith) before (omega arith) (strobe_control t.opening.slots l below)) (memory_at n) holds)
       ]
     where
       at_start : span.start ≡ suc n → Holds t span (suc n) (memory_at (suc n))
-      at_start e = rw (memory_early step t (stability_begin (levels_at t span.start)) span.start (suc n) (omega arith), ← e) (holds_start t span facts.reads (levels_at t span.start))
+      at_start e = rw (memory_early step t (stability_begin (levels_at t span.start)) span.start (suc n) (omega arith), ← e) (holds_start t span facts.reads address_high (levels_at t span.start))
 
   judges_inside : (n : ℕ) → span.start ≤ n → suc n < span.end → n < length t.steps → break_before t span stability_rules (suc n) ≡ None
       → option_map (break_at (suc n) (time_at t (suc n))) (next_at step t (memory_at n) n).fault ≡ rules_break_at t span stability_rules (suc n)

@@ -1,63 +1,36 @@
 -- The places of what is being held.
 use Rattle.std.proofs.Common.{◌≡◌, refl, ℕ, ◌+◌, ◌<◌, Bool, true, false, lit<}
 use Rattle.std.specs.Prelude.{◌/◌, ◌%◌, ◌==◌, if◌then◌else◌}
-use Rattle.vme_monitor.specs.declared.tracking.Pending.{Pending}
-use Rattle.vme_monitor.specs.declared.tracking.Pending.TheVariants.{Closed, Reading, Writing, Answered}
 use Rattle.vme_stability.specs.declared.holding.Holding.{Holding}
 
-abbrev pub pending_place : Pending → ℕ
-pending_place Closed = 0
-pending_place Reading = 1
-pending_place Writing = 2
-pending_place Answered = 3
-
-abbrev pub pending_nth : ℕ → Pending
-pending_nth k = if k == 0 then Closed else if k == 1 then Reading else if k == 2 then Writing else Answered
-
 abbrev pub holding_place : Holding → ℕ
-holding_place m = pending_place m.transfer + (if m.address_held then 4 else 0) + (if m.direction_held then 8 else 0)
+holding_place m = (if m.transfer_answered then 1 else 0) + (if m.cycle_answered then 2 else 0) + (if m.strobe_risen then 4 else 0)
 
 abbrev pub holding_nth : ℕ → Holding
-holding_nth k = record { transfer = pending_nth (k % 4); address_held = k / 4 % 2 == 1; direction_held = k / 8 == 1 }
+holding_nth k = record { transfer_answered = k % 2 == 1; cycle_answered = k / 2 % 2 == 1; strobe_risen = k / 4 == 1 }
 
-placed_at : (p : Pending) (a d : Bool) → pending_place p + (if a then 4 else 0) + (if d then 8 else 0) < 16
-placed_at Closed true true = lit< tt
-placed_at Closed true false = lit< tt
-placed_at Closed false true = lit< tt
-placed_at Closed false false = lit< tt
-placed_at Reading true true = lit< tt
-placed_at Reading true false = lit< tt
-placed_at Reading false true = lit< tt
-placed_at Reading false false = lit< tt
-placed_at Writing true true = lit< tt
-placed_at Writing true false = lit< tt
-placed_at Writing false true = lit< tt
-placed_at Writing false false = lit< tt
-placed_at Answered true true = lit< tt
-placed_at Answered true false = lit< tt
-placed_at Answered false true = lit< tt
-placed_at Answered false false = lit< tt
+placed_at : (a b c : Bool) → (if a then 1 else 0) + (if b then 2 else 0) + (if c then 4 else 0) < 8
+placed_at true true true = lit< tt
+placed_at true true false = lit< tt
+placed_at true false true = lit< tt
+placed_at true false false = lit< tt
+placed_at false true true = lit< tt
+placed_at false true false = lit< tt
+placed_at false false true = lit< tt
+placed_at false false false = lit< tt
 
-pub holding_placed : (m : Holding) → holding_place m < 16
-holding_placed m = placed_at m.transfer m.address_held m.direction_held
+pub holding_placed : (m : Holding) → holding_place m < 8
+holding_placed m = placed_at m.transfer_answered m.cycle_answered m.strobe_risen
 
-found_at : (p : Pending) (a d : Bool) → holding_nth (pending_place p + (if a then 4 else 0) + (if d then 8 else 0)) ≡ record { transfer = p; address_held = a; direction_held = d }
-found_at Closed true true = refl
-found_at Closed true false = refl
-found_at Closed false true = refl
-found_at Closed false false = refl
-found_at Reading true true = refl
-found_at Reading true false = refl
-found_at Reading false true = refl
-found_at Reading false false = refl
-found_at Writing true true = refl
-found_at Writing true false = refl
-found_at Writing false true = refl
-found_at Writing false false = refl
-found_at Answered true true = refl
-found_at Answered true false = refl
-found_at Answered false true = refl
-found_at Answered false false = refl
+found_at : (a b c : Bool) → holding_nth ((if a then 1 else 0) + (if b then 2 else 0) + (if c then 4 else 0)) ≡ record { transfer_answered = a; cycle_answered = b; strobe_risen = c }
+found_at true true true = refl
+found_at true true false = refl
+found_at true false true = refl
+found_at true false false = refl
+found_at false true true = refl
+found_at false true false = refl
+found_at false false true = refl
+found_at false false false = refl
 
 pub holding_found : (m : Holding) → holding_nth (holding_place m) ≡ m
-holding_found m = found_at m.transfer m.address_held m.direction_held
+holding_found m = found_at m.transfer_answered m.cycle_answered m.strobe_risen

@@ -1,8 +1,8 @@
 -- What a step shows of the lines that are asked for and held, from the levels on both sides of it and its changes.
-use Rattle.std.specs.Prelude.{ℕ, Bool, false, not, ◌&&◌, ◌||◌, List, [], ◌∷◌, Option, None, Some, nat_le, if◌then◌else◌}
+use Rattle.std.specs.Prelude.{ℕ, Bool, false, not, ◌&&◌, ◌||◌, List, [], ◌∷◌, Option, None, Some, if◌then◌else◌}
 use Rattle.std.specs.Option.{option_or, is_some}
 use Rattle.vme_trace.specs.Instants.{least}
-use Rattle.vme_trace.specs.LineNumbers.{line_count, AS, DS0, DS1, BERR, WRITE}
+use Rattle.vme_trace.specs.LineNumbers.{line_count, AS, DS0, DS1, WRITE}
 use Rattle.vme_trace.specs.Levels.{Levels, level_at, is_low, is_high, is_known_on, same_level}
 use Rattle.vme_trace.specs.Cycle.{Needs, is_needed, is_within, needs_of}
 use Rattle.vme_trace.specs.Judged.{Span}
@@ -12,11 +12,10 @@ use Rattle.vme_trace.specs.declared.rule.Rule.{Rule}
 use Rattle.vme_trace.specs.declared.rule.Rule.TheVariants.{U2, U3, S1, S2}
 use Rattle.vme_monitor.specs.Run.{nothing}
 use Rattle.vme_monitor.specs.OutsideSpec.{falls_between}
-use Rattle.vme_monitor.specs.Tracking.{strobes_high_in, strobe_low_in, answer_between, entered, tracked, is_unanswered}
+use Rattle.vme_monitor.specs.Tracking.{strobes_high_in, strobe_low_in, answer_between}
 use Rattle.vme_monitor.specs.declared.mark.Fault.{Fault}
 use Rattle.vme_monitor.specs.declared.mark.Kinds.{Kinds}
 use Rattle.vme_monitor.specs.declared.mark.Next.{Next}
-use Rattle.vme_monitor.specs.declared.tracking.Pending.TheVariants.{Closed}
 use Rattle.vme_stability.specs.declared.holding.Holding.{Holding}
 use Rattle.vme_stability.specs.declared.sight.Sight.{Sight}
 
@@ -69,39 +68,46 @@ address_moved v cs = if is_low (level_at v AS) then first_needed (needs_of v) cs
 abbrev pub direction_turned : Levels → Levels → Bool
 direction_turned v w = not (same_level (level_at v WRITE) (level_at w WRITE))
 
--- the address strobe, a data strobe or an answer is among changes that ascend by line
-abbrev pub changes_handshake : List Change → Bool
-changes_handshake [] = false
-changes_handshake (c ∷ cs) = nat_le c.line BERR
+-- what is remembered may change: an answer comes, or a strobe rises
+abbrev pub changes_holding : Levels → Levels → Bool
+changes_holding v w = answer_between v w || strobe_rises_between v w || rises_between v w AS
 
 abbrev pub sight_of : Levels → Levels → List Change → Sight
 sight_of v w cs = record { unknown = faults_unknown v w; moved = address_moved v cs; turned = direction_turned v w }
 
 -- nothing that counts has changed where none of these holds
 abbrev pub is_noticed : Levels → Levels → List Change → Bool
-is_noticed v w cs = direction_turned v w || is_some (address_moved v cs) || changes_handshake cs
+is_noticed v w cs = is_some (faults_unknown v w) || is_some (address_moved v cs) || direction_turned v w || changes_holding v w
 
 abbrev pub stability_sight : Levels → Levels → List Change → Option Sight
 stability_sight v w cs = if is_noticed v w cs then Some (sight_of v w cs) else None
 
 -- the answer of a transfer comes
 abbrev pub answers_in : Holding → Levels → Levels → Bool
-answers_in m v w = is_unanswered (entered m.transfer v w) && answer_between v w
+answers_in m v w = not m.transfer_answered && (not (strobes_high_in v) || strobe_low_in w) && answer_between v w
+
+-- a cycle runs that has had no answer
+abbrev pub awaits_answer : Holding → Levels → Bool
+awaits_answer m v = is_low (level_at v AS) && not m.cycle_answered
 
 -- the lines that a cycle needs are held on
 abbrev pub keeps_address : Holding → Levels → Levels → Bool
-keeps_address m v w = m.address_held && not (rises_between v w AS) && not (answers_in m v w)
+keeps_address m v w = awaits_answer m v && not (rises_between v w AS) && not (answers_in m v w)
 
--- the direction is
+-- a transfer is open in which no strobe has risen
+abbrev pub holds_direction : Holding → Levels → Bool
+holds_direction m v = not (strobes_high_in v) && not m.strobe_risen
+
+-- the direction is held on
 abbrev pub keeps_direction : Holding → Levels → Levels → Bool
-keeps_direction m v w = m.direction_held && not (strobe_rises_between v w)
+keeps_direction m v w = holds_direction m v && not (strobe_rises_between v w)
 
 abbrev pub stepped : Holding → Levels → Levels → Holding
 stepped m v w =
     record {
-      transfer = tracked m.transfer v w;
-      address_held = keeps_address m v w || (falls_between v w AS && not (answers_in m v w));
-      direction_held = keeps_direction m v w || starts_between v w;
+      transfer_answered = not (strobes_high_in w) && (m.transfer_answered || answer_between v w);
+      cycle_answered = is_low (level_at w AS) && (m.cycle_answered || answers_in m v w);
+      strobe_risen = not (strobes_high_in w) && (m.strobe_risen || strobe_rises_between v w);
     }
 
 abbrev pub moved_fault : Holding → Levels → Levels → Sight → Option ℕ
@@ -115,7 +121,7 @@ abbrev pub held_fault : Holding → Levels → Levels → Sight → Option Fault
 held_fault m v w seen = option_or (fault_on S1 (moved_fault m v w seen)) (fault_on S2 (turned_fault m v w seen))
 
 abbrev pub stability_begin : Levels → Holding
-stability_begin v = record { transfer = Closed; address_held = false; direction_held = false }
+stability_begin v = record { transfer_answered = false; cycle_answered = false; strobe_risen = false }
 
 abbrev pub stability_opens : Levels → Kinds
 stability_opens v = nothing

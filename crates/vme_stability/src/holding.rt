@@ -3,23 +3,22 @@
 ghost use Rattle.std.specs.Prelude.{◌≡◌};
 
 use vme_monitor::machine::{Places, Small};
-use vme_monitor::tracking::Pending;
 
-/// What a transfer is doing, and which lines have to stay as they are.
+/// What has come of a cycle and of a transfer, so which lines have to stay as they are.
 #[derive(Clone, Copy, PartialEq, Eq, Debug)]
 pub struct Holding {
-    /// The transfer that is open, and whether it was answered.
-    pub transfer: Pending,
-    /// A cycle runs that has had no answer, so the lines that it needs are held.
-    pub address_held: bool,
-    /// A transfer started, and no data strobe has risen since, so WRITE* is held.
-    pub direction_held: bool,
+    /// A transfer is open, and was answered.
+    pub transfer_answered: bool,
+    /// A cycle runs, and was answered, so the lines that it needs aren't held any more.
+    pub cycle_answered: bool,
+    /// A transfer is open, and a data strobe has risen in it, so WRITE* isn't held any more.
+    pub strobe_risen: bool,
 }
 
 impl Places for Holding {
     ghost use Rattle.vme_stability.specs.HoldingPlaces.{holding_nth, holding_place, holding_found, holding_placed};
 
-    ghost COUNT = { 16 };
+    ghost COUNT = { 8 };
 
     ghost place_of = { holding_place };
 
@@ -29,30 +28,20 @@ impl Places for Holding {
 
     ghost found = { holding_found };
 
-    const COUNT: usize = 16;
+    const COUNT: usize = 8;
 
     fn place(self) -> usize {
-        let transfer = match self.transfer {
-            Pending::Closed => 0,
-            Pending::Reading => 1,
-            Pending::Writing => 2,
-            Pending::Answered => 3,
-        };
-        let address = if self.address_held { 4 } else { 0 };
-        let direction = if self.direction_held { 8 } else { 0 };
-        transfer + address + direction
+        let transfer = if self.transfer_answered { 1 } else { 0 };
+        let cycle = if self.cycle_answered { 2 } else { 0 };
+        let strobe = if self.strobe_risen { 4 } else { 0 };
+        transfer + cycle + strobe
     }
 
     fn nth(k: usize) -> Holding {
         Holding {
-            transfer: match k % 4 {
-                0 => Pending::Closed,
-                1 => Pending::Reading,
-                2 => Pending::Writing,
-                _ => Pending::Answered,
-            },
-            address_held: k / 4 % 2 == 1,
-            direction_held: k / 8 == 1,
+            transfer_answered: k % 2 == 1,
+            cycle_answered: k / 2 % 2 == 1,
+            strobe_risen: k / 4 == 1,
         }
     }
 }

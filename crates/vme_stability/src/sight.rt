@@ -4,10 +4,11 @@ ghost use Rattle.std.specs.Prelude.{◌≡◌, IsTrue, None, false, true};
 ghost use Rattle.vme_trace.specs.Cycle.{Needs};
 ghost use Rattle.vme_trace.specs.LineNumbers.{has_line};
 ghost use Rattle.vme_monitor.specs.OutsideSpec.{falls_between};
-ghost use Rattle.vme_stability.specs.StabilitySpec.{address_moved, changes_handshake, direction_turned, fault_on as fault_on_line, faults_unknown, first_needed as first_needed_of, rises_between, starts_between, strobe_rises_between, unknown_direction as unknown_direction_of, unknown_need};
+ghost use Rattle.vme_monitor.specs.Tracking.{strobe_low_in};
+ghost use Rattle.vme_stability.specs.StabilitySpec.{address_moved, changes_holding as changes_holding_of, direction_turned, fault_on as fault_on_line, faults_unknown, first_needed as first_needed_of, rises_between, starts_between, strobe_rises_between, unknown_direction as unknown_direction_of, unknown_need};
 
 use vme_monitor::mark::Fault;
-use vme_monitor::tracking::has_strobes_high;
+use vme_monitor::tracking::{answer_between, has_strobes_high};
 use vme_trace::{Change, Line, LineSet, Lines, Rule, needed};
 
 /// What one step shows.
@@ -22,7 +23,7 @@ pub struct Sight {
 }
 
 /// Whether a line that the backplane has falls.
-pub(crate) fn falls(line: Line, before: &Lines, after: &Lines) -> bool
+fn falls(line: Line, before: &Lines, after: &Lines) -> bool
     requires before { IsTrue (has_line before.now.slots line) }
     requires after { IsTrue (has_line after.now.slots line) }
     ensures { result ≡ falls_between before.now after.now line }
@@ -46,11 +47,18 @@ pub(crate) fn strobe_rises(before: &Lines, after: &Lines) -> bool
     rises(Line::DS0, before, after) || rises(Line::DS1, before, after)
 }
 
+/// Whether a data strobe is low.
+pub(crate) fn has_strobe_low(lines: &Lines) -> bool
+    ensures { result ≡ strobe_low_in lines.now }
+{
+    lines.level(Line::DS0).is_low() || lines.level(Line::DS1).is_low()
+}
+
 /// Whether a transfer starts: both data strobes were high, and one is low.
-pub(crate) fn starts_transfer(before: &Lines, after: &Lines) -> bool
+fn starts_transfer(before: &Lines, after: &Lines) -> bool
     ensures { result ≡ starts_between before.now after.now }
 {
-    (after.level(Line::DS0).is_low() || after.level(Line::DS1).is_low()) && has_strobes_high(before)
+    has_strobe_low(after) && has_strobes_high(before)
 }
 
 /// A rule that is broken on a line, if there is one.
@@ -156,14 +164,11 @@ fn moved_line(before: &Lines, changes: &[Change]) -> Option<Line>
     }
 }
 
-/// Whether AS*, a data strobe or an answer is among changes that ascend by line.
-fn touches_handshake(changes: &[Change]) -> bool
-    ensures { result ≡ changes_handshake changes.now }
+/// Whether what is remembered may change: an answer comes, or a strobe rises.
+fn changes_holding(before: &Lines, after: &Lines) -> bool
+    ensures { result ≡ changes_holding_of before.now after.now }
 {
-    match changes.first() {
-        Some(change) => change.line.number() <= Line::BERR.number(),
-        None => false,
-    }
+    answer_between(before, after) || strobe_rises(before, after) || rises(Line::AS, before, after)
 }
 
 impl Sight {
@@ -173,11 +178,12 @@ impl Sight {
     pub fn of(before: &Lines, after: &Lines, changes: &[Change]) -> Option<Sight>
         ensures { result ≡ stability_sight before.now after.now changes.now }
     {
+        let unknown = fault_of_unknown(before, after);
         let moved = moved_line(before, changes);
         let turned = !before.level(Line::WRITE).is_same(after.level(Line::WRITE));
-        if turned || moved.is_some() || touches_handshake(changes) {
+        if unknown.is_some() || moved.is_some() || turned || changes_holding(before, after) {
             Some(Sight {
-                unknown: fault_of_unknown(before, after),
+                unknown,
                 moved,
                 turned,
             })

@@ -2,61 +2,64 @@
 
 ghost use Rattle.std.specs.Prelude.{◌≡◌, ◌&&◌};
 ghost use Rattle.vme_monitor.specs.Whole.{FindsLeast, ShowsAll};
-ghost use Rattle.vme_monitor.specs.Tracking.{is_unanswered as is_unanswered_state};
 ghost use Rattle.vme_stability.specs.StabilitySpec.{answers_in, held_fault, stability_rules, stability_shown, stepped};
 
 use crate::holding::Holding;
-use crate::sight::{Sight, falls, fault_on, rises, starts_transfer, strobe_rises};
+use crate::sight::{Sight, fault_on, has_strobe_low, rises, strobe_rises};
 use vme_monitor::mark::{Fault, Kinds, NOTHING, Next};
 use vme_monitor::monitor::Monitor;
 use vme_monitor::spanned::{Rules, Within};
-use vme_monitor::tracking::Pending;
+use vme_monitor::tracking::{answer_between, has_strobes_high};
 use vme_trace::{Change, Line, Lines, Rule};
 
 /// The rules that lines are known as they are asked for, and then held.
 pub struct StabilityRules;
 
-/// Whether a transfer is open that has had no answer.
-fn is_unanswered(transfer: Pending) -> bool
-    ensures { result ≡ is_unanswered_state transfer }
-{
-    matches!(transfer, Pending::Reading | Pending::Writing)
-}
-
 impl Holding {
-    ghost use Rattle.vme_stability.specs.StabilitySpec.{keeps_address, keeps_direction};
+    ghost use Rattle.vme_stability.specs.StabilitySpec.{awaits_answer, keeps_address, keeps_direction};
 
     /// Whether the answer of a transfer comes.
     fn is_answer(self, before: &Lines, after: &Lines) -> bool
         ensures { result ≡ answers_in self before.now after.now }
     {
-        (falls(Line::DTACK, before, after) || falls(Line::BERR, before, after))
-            && is_unanswered(self.transfer.entered(before, after))
+        !self.transfer_answered
+            && answer_between(before, after)
+            && (!has_strobes_high(before) || has_strobe_low(after))
     }
 
-    /// Whether the lines that a cycle needs are still held.
+    /// Whether a cycle runs that has had no answer, so the lines that it needs are held.
+    fn awaits_answer(self, lines: &Lines) -> bool
+        ensures { result ≡ awaits_answer self lines.now }
+    {
+        lines.level(Line::AS).is_low() && !self.cycle_answered
+    }
+
+    /// Whether they are still held.
     fn keeps_address(self, before: &Lines, after: &Lines) -> bool
         ensures { result ≡ keeps_address self before.now after.now }
     {
-        self.address_held && !rises(Line::AS, before, after) && !self.is_answer(before, after)
+        self.awaits_answer(before)
+            && !rises(Line::AS, before, after)
+            && !self.is_answer(before, after)
     }
 
-    /// Whether WRITE* is still held.
+    /// Whether a transfer was open in which no data strobe has risen, so WRITE* is still held.
     fn keeps_direction(self, before: &Lines, after: &Lines) -> bool
         ensures { result ≡ keeps_direction self before.now after.now }
     {
-        self.direction_held && !strobe_rises(before, after)
+        !has_strobes_high(before) && !self.strobe_risen && !strobe_rises(before, after)
     }
 
-    /// What is held after a step.
+    /// What is remembered after a step.
     fn after_step(self, before: &Lines, after: &Lines) -> Holding
         ensures { result ≡ stepped self before.now after.now }
     {
+        let open = !has_strobes_high(after);
         Holding {
-            transfer: self.transfer.tracked(before, after),
-            address_held: self.keeps_address(before, after)
-                || (falls(Line::AS, before, after) && !self.is_answer(before, after)),
-            direction_held: self.keeps_direction(before, after) || starts_transfer(before, after),
+            transfer_answered: open && (self.transfer_answered || answer_between(before, after)),
+            cycle_answered: after.level(Line::AS).is_low()
+                && (self.cycle_answered || self.is_answer(before, after)),
+            strobe_risen: open && (self.strobe_risen || strobe_rises(before, after)),
         }
     }
 
@@ -93,9 +96,9 @@ impl Rules for StabilityRules {
 
     fn at_start(_lines: &Lines) -> Holding {
         Holding {
-            transfer: Pending::Closed,
-            address_held: false,
-            direction_held: false,
+            transfer_answered: false,
+            cycle_answered: false,
+            strobe_risen: false,
         }
     }
 

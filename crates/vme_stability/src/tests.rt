@@ -254,7 +254,7 @@ fn the_direction_is_known_and_held(rt: HostRuntime) -> Result<(), Fail> {
 
 #[test]
 fn memories_have_places(rt: HostRuntime) {
-    assert_eq!(rt; Stability::COUNT, 18);
+    assert_eq!(rt; Stability::COUNT, 10);
     for k in 0..Stability::COUNT {
         assert_eq!(rt; Stability::place(Stability::nth(k)), k);
     }

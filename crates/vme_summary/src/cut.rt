@@ -1,6 +1,6 @@
 //! The verdict on a capture that is cut into blocks, and its listing.
 
-ghost use Rattle.std.specs.Prelude.{◌≡◌, ◌+◌, ◌*◌, ◌<◌, ◌≤◌, ◌↔◌, ◌⊎◌, List, [], ◌∷◌, ◌++◌, All, length, IfOk, IfErr, Err, None, Some, map};
+ghost use Rattle.std.specs.Prelude.{◌≡◌, ◌+◌, ◌*◌, ◌<◌, ◌≤◌, ◌↔◌, ◌⊎◌, List, [], ◌∷◌, ◌++◌, All, length, IfOk, IfErr, Err, None, Some, map, if◌then◌else◌};
 ghost use Rattle.std.specs.List.{range_with_len};
 ghost use Rattle.vme_trace.specs.Block.{trace_of};
 ghost use Rattle.vme_trace.specs.Blocks.{block_at, block_count, blocks_of, joined_steps};
@@ -14,10 +14,9 @@ ghost use Rattle.vme_summary.specs.Stands.{SpanStandsFor, first_number};
 
 use crate::all::{All, Judging};
 use crate::judged::{judge_block, span_of_steps};
-use crate::span::{JoinFault, Span, join};
+use crate::span::{JoinFault, Span, append};
 use std::alloc::{AllocError, Global};
 use vme_listing::Listing;
-use vme_monitor::monitor::Monitor;
 use vme_trace::{Block, Capture, CutFault, Lines, Verdict};
 
 /// How many steps a block of a cut has at most.
@@ -27,7 +26,7 @@ const LONGEST: u32 = 65536;
 const MOST_BLOCKS: usize = 4096;
 
 /// The span of one block.
-fn span_of<M: Monitor>(alloc: Global, block: Block) -> Result<Span<M>, JoinFault>
+fn span_of<M: Judging>(alloc: Global, block: Block) -> Result<Span<M>, JoinFault>
     requires accepted { malformed_step (trace_of block) ≡ None }
     requires short { length block.steps ≤ 65536 }
     ensures span { IfOk result (λ s. SpanStandsFor M.run M.outcome M.count s (block ∷ [])) }
@@ -41,7 +40,7 @@ fn span_of<M: Monitor>(alloc: Global, block: Block) -> Result<Span<M>, JoinFault
 
 /// Takes the last blocks off, so many, and joins them: first those of each half, then the two halves. So what a block says is
 /// joined again no more often than the count can be halved. Where blocks don't join, Torn or Memory comes, whichever is met first.
-fn join_last<M: Monitor>(
+fn join_last<M: Judging>(
     alloc: Global,
     blocks: &mut Vec<Block>,
     count: usize,
@@ -63,12 +62,12 @@ fn join_last<M: Monitor>(
     let half = count / 2;
     let second = join_last(alloc, blocks, half)?;
     let first = join_last(alloc, blocks, count - half)?;
-    join(alloc, &first, &second)
+    append(alloc, first, second)
 }
 
 /// Judges blocks that follow one another, each by itself, and joins them. Where they don't join, Torn or Memory comes, whichever
 /// is met first.
-pub fn judge_blocks<M: Monitor>(alloc: Global, blocks: Vec<Block>) -> Result<Span<M>, JoinFault>
+pub fn judge_blocks<M: Judging>(alloc: Global, blocks: Vec<Block>) -> Result<Span<M>, JoinFault>
     requires some { 0 < length blocks.items }
     requires accepted { All (λ b. malformed_step (trace_of b) ≡ None) blocks.items }
     requires short { All (λ b. length b.steps ≤ 65536) blocks.items }
@@ -99,7 +98,7 @@ fn block_total(capture: &Capture, size: u32) -> Result<usize, CutFault>
 }
 
 /// The span of block `number` of a capture that is cut into blocks of `size` steps, where these are the lines before it.
-fn span_at<M: Monitor>(
+fn span_at<M: Judging>(
     alloc: Global,
     capture: &Capture,
     size: usize,
@@ -119,7 +118,7 @@ fn span_at<M: Monitor>(
 }
 
 /// The span of `count` blocks of such a capture, from block `first` on: those of each half, joined. No block is copied.
-fn span_between<M: Monitor>(
+fn span_between<M: Judging>(
     alloc: Global,
     capture: &Capture,
     size: usize,
@@ -148,7 +147,7 @@ fn span_between<M: Monitor>(
         count - half,
         front.left(),
     )?;
-    match join(alloc, &front, &back) {
+    match append(alloc, front, back) {
         Ok(span) => Ok(span),
         Err(JoinFault::Memory) => Err(AllocError),
         Err(JoinFault::Torn) => unreachable!(),
@@ -156,7 +155,7 @@ fn span_between<M: Monitor>(
 }
 
 /// The span of the blocks of a capture.
-fn span_in_blocks<M: Monitor>(
+fn span_in_blocks<M: Judging>(
     alloc: Global,
     capture: &Capture,
     size: u32,
@@ -174,35 +173,43 @@ fn span_in_blocks<M: Monitor>(
     }
 }
 
-/// The verdict on a capture by a monitor of all rules in force.
-fn verdict_in_blocks<M: Judging>(
+/// The verdict on a capture by a monitor of all rules in force, and its listing where that is wanted.
+fn judged_in_blocks<M: Judging>(
     alloc: Global,
     capture: &Capture,
     size: u32,
-) -> Result<Verdict, CutFault>
+    lists: bool,
+) -> Result<(Verdict, Option<Listing>), CutFault>
     ensures bad_size { (result ≡ Err CutFault.BadSize) ↔ ((size ≡ 0) ⊎ (65536 < size)) }
     ensures too_many { (result ≡ Err CutFault.TooManyBlocks) ↔ ((0 < size) × (size ≤ 65536) × (4096 < block_count size capture.now)) }
-    ensures verdict { IfOk result (λ verdict. verdict ≡ verdict_by rules_in_force capture.now) }
+    ensures verdict { IfOk result (λ judged. judged.0 ≡ verdict_by rules_in_force capture.now) }
+    ensures listing { IfOk result (λ judged. judged.1 ≡ (if lists then Some (listing_of capture.now) else None)) }
 {
     let span = span_in_blocks::<M>(alloc, capture, size)?;
-    Ok(span.verdict())
-}
-
-/// The listing of a capture by a monitor of all rules in force.
-fn listing_in_blocks<M: Judging>(
-    alloc: Global,
-    capture: &Capture,
-    size: u32,
-) -> Result<Listing, CutFault>
-    ensures bad_size { (result ≡ Err CutFault.BadSize) ↔ ((size ≡ 0) ⊎ (65536 < size)) }
-    ensures too_many { (result ≡ Err CutFault.TooManyBlocks) ↔ ((0 < size) × (size ≤ 65536) × (4096 < block_count size capture.now)) }
-    ensures listing { IfOk result (λ listing. listing ≡ listing_of capture.now) }
-{
-    let span = span_in_blocks::<M>(alloc, capture, size)?;
+    let verdict = span.verdict();
+    if !lists {
+        return Ok((verdict, None));
+    }
     match span.listing(alloc) {
-        Ok(listing) => Ok(listing),
+        Ok(listing) => Ok((verdict, Some(listing))),
         Err(_) => Err(CutFault::Memory),
     }
+}
+
+/// The same by the monitors of all rules in force. Both [`verdict_by_blocks`] and [`listing_by_blocks`] call it, so that the whole
+/// nest of monitors is checked once.
+fn judged_by_blocks(
+    alloc: Global,
+    capture: &Capture,
+    size: u32,
+    lists: bool,
+) -> Result<(Verdict, Option<Listing>), CutFault>
+    ensures bad_size { (result ≡ Err CutFault.BadSize) ↔ ((size ≡ 0) ⊎ (65536 < size)) }
+    ensures too_many { (result ≡ Err CutFault.TooManyBlocks) ↔ ((0 < size) × (size ≤ 65536) × (4096 < block_count size capture.now)) }
+    ensures verdict { IfOk result (λ judged. judged.0 ≡ verdict_by rules_in_force capture.now) }
+    ensures listing { IfOk result (λ judged. judged.1 ≡ (if lists then Some (listing_of capture.now) else None)) }
+{
+    judged_in_blocks::<All>(alloc, capture, size, lists)
 }
 
 /// The verdict on a capture by the rules in force: it is cut into blocks of `size` steps, 1 to 65,536, at most 4,096 of them, each
@@ -212,7 +219,8 @@ pub fn verdict_by_blocks(alloc: Global, capture: &Capture, size: u32) -> Result<
     ensures too_many { (result ≡ Err CutFault.TooManyBlocks) ↔ ((0 < size) × (size ≤ 65536) × (4096 < block_count size capture.now)) }
     ensures verdict { IfOk result (λ verdict. verdict ≡ verdict_by rules_in_force capture.now) }
 {
-    verdict_in_blocks::<All>(alloc, capture, size)
+    let (verdict, _) = judged_by_blocks(alloc, capture, size, false)?;
+    Ok(verdict)
 }
 
 /// The listing of a capture by the rules in force: its tenures, cycles and transfers before the least break, and the verdict. It
@@ -222,5 +230,8 @@ pub fn listing_by_blocks(alloc: Global, capture: &Capture, size: u32) -> Result<
     ensures too_many { (result ≡ Err CutFault.TooManyBlocks) ↔ ((0 < size) × (size ≤ 65536) × (4096 < block_count size capture.now)) }
     ensures listing { IfOk result (λ listing. listing ≡ listing_of capture.now) }
 {
-    listing_in_blocks::<All>(alloc, capture, size)
+    match judged_by_blocks(alloc, capture, size, true)? {
+        (_, Some(listing)) => Ok(listing),
+        (_, None) => unreachable!(),
+    }
 }

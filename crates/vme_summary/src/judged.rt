@@ -5,7 +5,7 @@ ghost use Rattle.vme_trace.specs.Block.{trace_of};
 ghost use Rattle.vme_trace.specs.WellFormed.{malformed_step};
 ghost use Rattle.vme_summary.specs.Stands.{SpanStandsFor};
 
-use crate::all::All;
+use crate::all::{All, Judging};
 use crate::extent::Extent;
 use crate::span::Span;
 use std::alloc::{AllocError, Global};
@@ -66,7 +66,7 @@ impl<M: Monitor> Judged<M> {
 
 /// Judges a block, whatever stood before it. It has to be one that `Block::check` accepts, of at most 65,536 steps. Without
 /// memory the block is handed back.
-pub fn judge_block<M: Monitor>(
+pub fn judge_block<M: Judging>(
     alloc: Global,
     block: Block,
 ) -> Result<Judged<M>, (Block, AllocError)>
@@ -82,7 +82,7 @@ pub fn judge_block<M: Monitor>(
 }
 
 /// The span of a block of these steps, whatever stood before it.
-pub(crate) fn span_of_steps<M: Monitor>(
+pub(crate) fn span_of_steps<M: Judging>(
     alloc: Global,
     number: u32,
     opening: &Lines,
@@ -92,9 +92,9 @@ pub(crate) fn span_of_steps<M: Monitor>(
     requires short { length steps.now ≤ 65536 }
     ensures { IfOk result (λ s. SpanStandsFor M.run M.outcome M.count s (record { number = number; opening = opening.now; steps = steps.now } ∷ [])) }
 {
-    let summary = M::summarise(alloc, opening, steps)?;
+    let (summary, left) = M::judge_steps(alloc, opening, steps)?;
     Ok(Span {
-        extent: Extent::of_steps(number, opening, steps),
+        extent: Extent::around(number, opening, steps, left),
         summary,
     })
 }

@@ -17,7 +17,7 @@ use crate::rows::listing_by;
 use std::alloc::{AllocError, Global};
 use vme_listing::Listing;
 use vme_monitor::mark::Mark;
-use vme_monitor::monitor::{Monitor, join as join_summaries};
+use vme_monitor::monitor::{Monitor, append as append_summaries, join as join_summaries};
 use vme_trace::{Break, Lines, Verdict};
 
 /// Why two spans make none together.
@@ -154,4 +154,25 @@ pub fn join<M: Monitor>(
         extent: first.extent.joined(&second.extent),
         summary,
     })
+}
+
+/// The same of two spans that are given away: what they say is taken over, not copied.
+pub(crate) fn append<M: Monitor>(
+    alloc: Global,
+    first: Span<M>,
+    second: Span<M>,
+) -> Result<Span<M>, JoinFault>
+    requires { step_count M.count first + step_count M.count second ≤ 268435456 }
+    ensures joined { IfOk result (λ s. (x y : List Block) → SpanStandsFor M.run M.outcome M.count first x → SpanStandsFor M.run M.outcome M.count second y → SpanStandsFor M.run M.outcome M.count s (x ++ y)) }
+    ensures torn { (x y : List Block) → SpanStandsFor M.run M.outcome M.count first x → SpanStandsFor M.run M.outcome M.count second y → ((result ≡ Err JoinFault.Torn) ↔ ¬ BlocksJoin (x ++ y)) }
+{
+    if first.extent.meets(&second.extent) {
+        let extent = first.extent.joined(&second.extent);
+        match append_summaries::<M>(alloc, first.summary, second.summary) {
+            Ok(summary) => Ok(Span { extent, summary }),
+            Err(_) => Err(JoinFault::Memory),
+        }
+    } else {
+        Err(JoinFault::Torn)
+    }
 }

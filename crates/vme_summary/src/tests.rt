@@ -7,7 +7,6 @@ use smallvec::SmallVec;
 use std::alloc::Global;
 use std::process::Abort;
 use std::test::Fail;
-use vme_monitor::known::Known;
 use vme_monitor::monitor::Monitor;
 use vme_trace::{
     Block, Break, Capture, Change, Changes, CutFault, Level, Line, Lines, Rule, Step, Steps,
@@ -398,7 +397,7 @@ fn bad_sizes(rt: HostRuntime) -> Result<(), Fail> {
 }
 
 /// The span of a block. Where memory is short once, the block that comes back is judged again.
-fn judged<M: Monitor>(rt: &impl Abort, alloc: Global, block: Block) -> Result<Judged<M>, Fail> {
+fn judged<M: Judging>(rt: &impl Abort, alloc: Global, block: Block) -> Result<Judged<M>, Fail> {
     block.check().expect(rt, "well formed");
     assert!(rt; block.steps.as_slice().len() <= 1000);
     match judge_block(alloc, block) {
@@ -423,7 +422,7 @@ fn joined<M: Monitor>(
 }
 
 /// The spans of the blocks of a read that is cut.
-fn read_spans<M: Monitor>(rt: &impl Abort, alloc: Global, size: u32) -> Result<Vec<Span<M>>, Fail> {
+fn read_spans<M: Judging>(rt: &impl Abort, alloc: Global, size: u32) -> Result<Vec<Span<M>>, Fail> {
     let capture = capture_of(alloc, GRANTED, READ)?;
     let mut spans = Vec::new(alloc);
     for block in capture.cut(alloc, size)? {
@@ -532,11 +531,6 @@ fn assert_bracketed<M: Judging>(rt: &impl Abort, alloc: Global) -> Result<(), Fa
     assert_whole(rt, alloc, &halves)
 }
 
-#[test]
-fn joined_in_any_brackets(rt: HostRuntime) -> Result<(), Fail> {
-    assert_bracketed::<All>(&rt, rt.alloc())
-}
-
 /// The block again, with DS0* alone in its last step.
 fn strobe_last(rt: &impl Abort, alloc: Global, block: Block) -> Result<Block, Fail> {
     let mut steps = block.steps.into_inner();
@@ -550,7 +544,7 @@ fn strobe_last(rt: &impl Abort, alloc: Global, block: Block) -> Result<Block, Fa
 }
 
 /// Blocks 0 and 1 join, and blocks 0 and 2 don't.
-fn assert_torn_by_numbers<M: Monitor>(rt: &impl Abort, alloc: Global) -> Result<(), Fail> {
+fn assert_torn_by_numbers<M: Judging>(rt: &impl Abort, alloc: Global) -> Result<(), Fail> {
     let spans = read_spans::<M>(rt, alloc, 5)?;
     assert_eq!(rt; spans.len(), 3);
     assert!(rt; joined(rt, alloc, &spans[0], &spans[1]).is_ok());
@@ -559,7 +553,7 @@ fn assert_torn_by_numbers<M: Monitor>(rt: &impl Abort, alloc: Global) -> Result<
 }
 
 /// Block 1 with another last step leaves other lines than those that block 2 opens with.
-fn assert_torn_by_lines<M: Monitor>(rt: &impl Abort, alloc: Global) -> Result<(), Fail> {
+fn assert_torn_by_lines<M: Judging>(rt: &impl Abort, alloc: Global) -> Result<(), Fail> {
     let mut blocks = capture_of(alloc, GRANTED, READ)?.cut(alloc, 5)?;
     let last = blocks.pop().expect(rt, "block 2");
     let middle = blocks.pop().expect(rt, "block 1");
@@ -571,8 +565,14 @@ fn assert_torn_by_lines<M: Monitor>(rt: &impl Abort, alloc: Global) -> Result<()
     Ok(())
 }
 
+/// Spans that follow one another are joined in any brackets, and others are torn.
+fn assert_joins<M: Judging>(rt: &impl Abort, alloc: Global) -> Result<(), Fail> {
+    assert_bracketed::<M>(rt, alloc)?;
+    assert_torn_by_numbers::<M>(rt, alloc)?;
+    assert_torn_by_lines::<M>(rt, alloc)
+}
+
 #[test]
-fn torn(rt: HostRuntime) -> Result<(), Fail> {
-    assert_torn_by_numbers::<Known>(&rt, rt.alloc())?;
-    assert_torn_by_lines::<Known>(&rt, rt.alloc())
+fn joined_in_any_brackets_or_torn(rt: HostRuntime) -> Result<(), Fail> {
+    assert_joins::<All>(&rt, rt.alloc())
 }

@@ -1,6 +1,6 @@
-ghost use Rattle.std.specs.Prelude.{◌≡◌, ◌≤◌, ◌<◌, ◌↔◌, ◌⊎◌, length, MatchResult, IfOk, Err, None, Some};
+ghost use Rattle.std.specs.Prelude.{◌≡◌, ◌≤◌, ◌<◌, ◌↔◌, ◌⊎◌, length, MatchResult, IfOk, SomeIff, Err, None, Some};
 ghost use Rattle.vme_trace.specs.Blocks.{block_count, blocks_of, joined_steps};
-ghost use Rattle.vme_trace.specs.WellFormed.{IsCapture, uncaptured_step, capture_limit};
+ghost use Rattle.vme_trace.specs.WellFormed.{IsCapture, malformed_step, uncaptured_step, capture_limit};
 
 use crate::block::{Block, Malformed, check_steps};
 use crate::lines::Lines;
@@ -60,6 +60,22 @@ impl Capture {
                 steps: Steps::new(steps),
             }),
         }
+    }
+
+    /// A capture of steps of which each is known to follow those before it: their times ascend, in the unit of the
+    /// recording, and each changes the level of some lines that exist, named in their order. No step is looked at. Over
+    /// 268,435,456 steps there is no capture, and the steps are dropped.
+    pub fn from_well_formed(opening: Lines, steps: Vec<Step>) -> Option<Capture>
+        requires { malformed_step (record { opening = opening; steps = steps.items }) ≡ None }
+        ensures { SomeIff result (length steps.items ≤ capture_limit) (record { opening = opening; steps = steps.items }) }
+    {
+        if steps.len() > LIMIT {
+            return None;
+        }
+        Some(Capture {
+            opening,
+            steps: Steps::new(steps),
+        })
     }
 
     /// The levels before the first step.

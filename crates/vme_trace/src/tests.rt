@@ -352,6 +352,23 @@ fn first_step_malformed(rt: HostRuntime) -> Result<(), Fail> {
     Ok(())
 }
 
+/// A capture of steps that a block has found well formed.
+#[test]
+fn well_formed_steps(rt: HostRuntime) -> Result<(), Fail> {
+    let block = Block {
+        number: 0,
+        opening: dump_lines()?,
+        steps: Steps::new(read_steps(rt.alloc())?),
+    };
+    let capture = match block.check() {
+        Ok(()) => Capture::from_well_formed(block.opening, block.steps.into_inner()),
+        Err(_) => None,
+    };
+    let capture = capture.ok_or("malformed")?;
+    assert!(rt; *capture.opening() == dump_lines()? && capture.steps().len() == 6);
+    Ok(())
+}
+
 /// How many blocks a capture of so many steps is cut into, or why it isn't.
 fn cut_of(alloc: Global, steps: u64, size: u32) -> Result<Result<usize, CutFault>, Fail> {
     let capture = Capture::new(dump_lines()?, toggles(alloc, steps)?).ok();

@@ -1,10 +1,10 @@
 -- What the steps of a check give, by what the definitions say of the inputs.
-use Rattle.std.proofs.Common.{◌≡◌, ◌≤◌, ◌<◌, ℕ, List, length, refl, ap, ◌∙◌}
+use Rattle.std.proofs.Common.{◌≡◌, ◌≤◌, ◌<◌, ℕ, List, length, refl, ap, sym, subst, ◌∙◌}
 use Rattle.std.specs.Prelude.{Option, Some, None, Result, Ok, Err}
 use Rattle.std.proofs.lemmas.Bool.{le-leb, lt-leb}
 use Rattle.vcd_read.specs.Contents.{Contents}
 use Rattle.vcd_read.specs.Header.{◌>>=◌}
-use Rattle.vcd_read.specs.Meaning.{dump_of, FailsAs as DumpFailsAs}
+use Rattle.vcd_read.specs.Meaning.{dump_of}
 use Rattle.vcd_read.specs.declared.fault.VcdFault.{VcdFault}
 use Rattle.vcd_read.specs.declared.fault.FaultKind.{FaultKind}
 use Rattle.vcd_read.specs.declared.fault.FaultKind.TheVariants as vcd
@@ -26,7 +26,7 @@ use Rattle.vmecheck.specs.declared.refusal.Input.{Input}
 use Rattle.vmecheck.specs.declared.refusal.Input.TheVariants.{Binding, Dump}
 use Rattle.vmecheck.specs.declared.refusal.Refusal.{Refusal}
 use Rattle.vmecheck.specs.declared.refusal.Refusal.TheVariants.{TooLong, BadBinding, BadDump, Memory}
-use Rattle.vmecheck.specs.Answers.{Gives, whole, or_bad_binding, or_bad_dump, binding_read, dump_read, capture_by, capture_read, judgement_of, verdict_in_blocks}
+use Rattle.vmecheck.specs.Answers.{Gives, whole, or_bad_binding, or_bad_dump, binding_read, dump_read, capture_by, capture_read, judgement_of, recorded_by, verdict_in_blocks}
 use Rattle.vmecheck.specs.Inputs.{IsReading, longest_input}
 use Rattle.vmecheck.specs.Refusals.{refused, binding_refusal, dump_refusal, capture_refusal}
 use Rattle.vmecheck.proofs.InputLemmas.{unread}
@@ -46,54 +46,67 @@ pub or_bad_binding-gives : {Y : Type 0} (line : ℕ) (kind : BindKind) (answer :
 or_bad_binding-gives line bind.Memory answer is = tt
 or_bad_binding-gives {Y} line kind answer is = ap (λ (r : Result Y BindFault). or_bad_binding r) is
 
-pub or_bad_dump-gives : {Y : Type 0} (line : ℕ) (kind : FaultKind) (answer : Result Y VcdFault) → DumpFailsAs line kind answer
-    → Gives (λ (y : Y). y) (Err (dump_refusal (record { line = line; kind = kind }))) (or_bad_dump answer)
-or_bad_dump-gives line vcd.Memory answer is = tt
-or_bad_dump-gives {Y} line kind answer is = ap (λ (r : Result Y VcdFault). or_bad_dump r) is
-
 -- what a recording of a text, or its first fault, is to the program
-abbrev by_either : {A : Type 0} → Result A CaptureFault → Result A Refusal
-by_either (Ok x) = Ok x
+abbrev by_either : {A : Type 0} → Result A CaptureFault → Result (Result A BindFault) Refusal
+by_either (Ok x) = Ok (Ok x)
 by_either (Err (capture.Dump fault)) = Err (BadDump fault)
-by_either (Err (capture.Binding fault)) = Err (BadBinding fault)
+by_either (Err (capture.Binding fault)) = Ok (Err fault)
 
-by_binding : {A : Type 0} (r : Result A BindFault) → or_bad_binding r ≡ by_either (or_binding r)
+by_binding : {A : Type 0} (r : Result A BindFault) → by_either (or_binding r) ≡ Ok r
 by_binding (Ok x) = refl
 by_binding (Err fault) = refl
 
-by_dump : (bound : BoundLines) (r : Result Contents VcdFault) → capture_by bound (or_bad_dump r) ≡ by_either (text.capture_read bound r)
-by_dump bound (Ok dump) = by_binding (capture_of bound dump)
+by_dump : (bound : BoundLines) (r : Result Contents VcdFault) → recorded_by bound (or_bad_dump r) ≡ by_either (text.capture_read bound r)
+by_dump bound (Ok dump) = sym (by_binding (capture_of bound dump))
 by_dump bound (Err fault) = refl
 
-text_captured : (bound : BoundLines) (bytes : List ℕ) → capture_by bound (or_bad_dump (dump_of bytes)) ≡ by_either (text.capture_of_text bound bytes)
+text_recorded : (bound : BoundLines) (bytes : List ℕ) → recorded_by bound (or_bad_dump (dump_of bytes)) ≡ by_either (text.capture_of_text bound bytes)
 unfolding text.capture_of_text
-text_captured bound bytes = by_dump bound (dump_of bytes)
+text_recorded bound bytes = by_dump bound (dump_of bytes)
 
 -- the recording of a text
-pub text_captured-ok : (bound : BoundLines) (bytes : List ℕ) (t : Trace) → text.capture_of_text bound bytes ≡ Ok t → capture_by bound (or_bad_dump (dump_of bytes)) ≡ Ok t
-text_captured-ok bound bytes t e = text_captured bound bytes ∙ ap by_either e
+pub text_recorded-ok : (bound : BoundLines) (bytes : List ℕ) (t : Trace) → text.capture_of_text bound bytes ≡ Ok t → recorded_by bound (or_bad_dump (dump_of bytes)) ≡ Ok (Ok t)
+text_recorded-ok bound bytes t e = text_recorded bound bytes ∙ ap by_either e
+
+-- a refusal, where one of the binding is why it makes no recording
+abbrev IsRefused : {A : Type 0} → Refusal → Result (Result A BindFault) Refusal → Type 0
+IsRefused (BadBinding fault) recorded = recorded ≡ Ok (Err fault)
+IsRefused {A} refusal recorded = Gives (λ (r : Result A BindFault). r) (Err refusal) recorded
 
 refused_dump : {A : Type 0} (line : ℕ) (kind : FaultKind) (answer : Result A CaptureFault) → text.DumpFails line kind answer
-    → Gives (λ (x : A). x) (Err (dump_refusal (record { line = line; kind = kind }))) (by_either answer)
+    → IsRefused (dump_refusal (record { line = line; kind = kind })) (by_either answer)
 refused_dump line vcd.Memory answer is = tt
 refused_dump line kind answer is = ap by_either is
 
 refused_binding : {A : Type 0} (line : ℕ) (kind : BindKind) (answer : Result A CaptureFault) → text.BindingFails line kind answer
-    → Gives (λ (x : A). x) (Err (binding_refusal (record { line = line; kind = kind }))) (by_either answer)
+    → IsRefused (binding_refusal (record { line = line; kind = kind })) (by_either answer)
 refused_binding line bind.Memory answer is = tt
 refused_binding line kind answer is = ap by_either is
 
-gives_at : {A : Type 0} (r : Refusal) (a b : Result A Refusal) → a ≡ b → Gives (λ (x : A). x) (Err r) b → Gives (λ (x : A). x) (Err r) a
-gives_at r a b e h = rw e h
-
-refused_by : {A : Type 0} (fault : CaptureFault) (answer : Result A CaptureFault) → text.FailsBy fault answer → Gives (λ (x : A). x) (Err (capture_refusal fault)) (by_either answer)
+refused_by : {A : Type 0} (fault : CaptureFault) (answer : Result A CaptureFault) → text.FailsBy fault answer → IsRefused (capture_refusal fault) (by_either answer)
 refused_by (capture.Dump fault) answer h = refused_dump fault.line fault.kind answer h
 refused_by (capture.Binding fault) answer h = refused_binding fault.line fault.kind answer h
 
--- a fault of the text or of the binding
-pub text_captured-refused : (bound : BoundLines) (bytes : List ℕ) (fault : CaptureFault) → text.FailsBy fault (text.capture_of_text bound bytes)
-    → Gives (λ (t : Trace). t) (Err (capture_refusal fault)) (capture_by bound (or_bad_dump (dump_of bytes)))
-text_captured-refused bound bytes fault h = gives_at (capture_refusal fault) _ _ (text_captured bound bytes) (refused_by fault (text.capture_of_text bound bytes) h)
+text_refusal : (bound : BoundLines) (bytes : List ℕ) (fault : CaptureFault) → text.FailsBy fault (text.capture_of_text bound bytes)
+    → IsRefused (capture_refusal fault) (recorded_by bound (or_bad_dump (dump_of bytes)))
+text_refusal bound bytes fault h = subst (λ (w : Result (Result Trace BindFault) Refusal). IsRefused (capture_refusal fault) w) (sym (text_recorded bound bytes)) (refused_by fault (text.capture_of_text bound bytes) h)
+
+-- a fault of the binding
+pub text_recorded-kept : (bound : BoundLines) (bytes : List ℕ) (fault : CaptureFault) (kept : BindFault) → text.FailsBy fault (text.capture_of_text bound bytes)
+    → capture_refusal fault ≡ BadBinding kept → recorded_by bound (or_bad_dump (dump_of bytes)) ≡ Ok (Err kept)
+text_recorded-kept bound bytes fault kept h is =
+    subst (λ (r : Refusal). IsRefused r (recorded_by bound (or_bad_dump (dump_of bytes)))) is (text_refusal bound bytes fault h)
+
+told_at_once : {A : Type 0} (r : Refusal) (recorded : Result (Result A BindFault) Refusal) → ((kept : BindFault) → r ≡ BadBinding kept → ⊥)
+    → IsRefused r recorded → Gives (λ (x : Result A BindFault). x) (Err r) recorded
+told_at_once (BadBinding fault) recorded other is = absurd (other fault refl)
+told_at_once r recorded other is = is
+
+-- a fault of the text, or want of memory
+pub text_recorded-refused : (bound : BoundLines) (bytes : List ℕ) (fault : CaptureFault) → text.FailsBy fault (text.capture_of_text bound bytes)
+    → ((kept : BindFault) → capture_refusal fault ≡ BadBinding kept → ⊥)
+    → Gives (λ (recorded : Result Trace BindFault). recorded) (Err (capture_refusal fault)) (recorded_by bound (or_bad_dump (dump_of bytes)))
+text_recorded-refused bound bytes fault h other = told_at_once (capture_refusal fault) (recorded_by bound (or_bad_dump (dump_of bytes))) other (text_refusal bound bytes fault h)
 
 -- a refusal passes through the next step
 passes_through : {X Y : Type 0} (r : Refusal) (first : Result X Refusal) (next : X → Result Y Refusal) → Gives (λ (x : X). x) (Err r) first
@@ -149,10 +162,26 @@ dump_read-whole text short = ap (λ (w : Result (List ℕ) Refusal). w >>= dumpe
 
 -- ---- the recording
 
-pub capture_by-refused : (bound : BoundLines) (dump : Result Contents Refusal) (r : Refusal) → Gives (λ (d : Contents). d) (Err r) dump
-    → Gives (λ (t : Trace). t) (Err r) (capture_by bound dump)
-capture_by-refused bound dump Memory is = tt
-capture_by-refused bound dump r is = ap (capture_by bound) is
+pub recorded_by-refused : (bound : BoundLines) (dump : Result Contents Refusal) (r : Refusal) → Gives (λ (d : Contents). d) (Err r) dump
+    → Gives (λ (recorded : Result Trace BindFault). recorded) (Err r) (recorded_by bound dump)
+recorded_by-refused bound dump Memory is = tt
+recorded_by-refused bound dump r is = ap (recorded_by bound) is
+
+abbrev or_kept : Result Trace BindFault → Result Trace Refusal
+or_kept recorded = or_bad_binding recorded
+
+pub capture_by-is : (bound : BoundLines) (dump : Result Contents Refusal) → capture_by bound dump ≡ (recorded_by bound dump >>= or_kept)
+capture_by-is bound (Ok contents) = refl
+capture_by-is bound (Err r) = refl
+
+pub capture_by-recorded : (bound : BoundLines) (dump : Result Contents Refusal) (recorded : Result Trace BindFault) → recorded_by bound dump ≡ Ok recorded
+    → capture_by bound dump ≡ or_bad_binding recorded
+capture_by-recorded bound dump recorded is = capture_by-is bound dump ∙ ap (λ (w : Result (Result Trace BindFault) Refusal). w >>= or_kept) is
+
+pub capture_by-refused : (bound : BoundLines) (dump : Result Contents Refusal) (r : Refusal)
+    → Gives (λ (recorded : Result Trace BindFault). recorded) (Err r) (recorded_by bound dump) → Gives (λ (t : Trace). t) (Err r) (capture_by bound dump)
+capture_by-refused bound dump r is =
+    subst (Gives (λ (t : Trace). t) (Err r)) (sym (capture_by-is bound dump)) (passes_through r (recorded_by bound dump) or_kept is)
 
 abbrev captured_by : Option (List ℕ) → BoundLines → Result Trace Refusal
 captured_by dump bound = capture_by bound (dump_read dump)

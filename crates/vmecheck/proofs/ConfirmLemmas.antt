@@ -2,13 +2,15 @@
 use Rattle.std.proofs.Common.{◌≡◌, ◌≤◌, ◌<◌, ◌↔◌, ℕ, suc, List, length, refl, ap, sym, subst, ◌∙◌, inl, inr, arith}
 use Rattle.std.specs.Prelude.{Option, Some, None, Result, Ok, Err}
 use Rattle.vcd_read.specs.Contents.{Contents}
+use Rattle.vcd_read.specs.Header.{◌>>=◌}
 use Rattle.vme_bind.specs.Binding.{BoundLines}
+use Rattle.vme_bind.specs.declared.fault.BindFault.{BindFault}
 use Rattle.vme_trace.specs.Trace.{Trace}
 use Rattle.vme_listing.specs.declared.row.Row.{Row}
 use Rattle.vme_cert.specs.declared.compare.Answer.{Answer as Confirmation}
 use Rattle.vme_cert.specs.declared.compare.Answer.TheVariants.{Yes, No}
-use Rattle.vmecheck.specs.Answers.{Answer, Gives, binding_read, dump_read}
-use Rattle.vmecheck.specs.Confirmations.{GivesConfirmation, GivesRows, IsConfirmation, IsFound, IsListing, compared, confirmation_answer_by, confirmation_status, listing_text}
+use Rattle.vmecheck.specs.Answers.{Answer, Gives, binding_read, dump_read, recorded_by}
+use Rattle.vmecheck.specs.Confirmations.{GivesConfirmation, GivesRows, IsConfirmation, IsFound, IsListing, compared, compared_with, confirmation_answer_by, confirmation_status, listing_text}
 use Rattle.vmecheck.specs.Ends.{Read, Written, Tells, Ends, Confirms, TellsConfirmation}
 use Rattle.vmecheck.specs.Inputs.{IsReading, longest_input, most_reads}
 use Rattle.vmecheck.specs.Refusals.{refused}
@@ -26,14 +28,30 @@ pub binding_lacks : (binding : Result BoundLines Refusal) (dump : Result Content
 binding_lacks binding dump listing Memory is = tt
 binding_lacks binding dump listing r is = ap (λ (w : Result BoundLines Refusal). compared w dump listing) is
 
-pub dump_lacks : (bound : BoundLines) (dump : Result Contents Refusal) (listing : Result (List Row) Refusal) (r : Refusal)
-    → Gives (λ (d : Contents). d) (Err r) dump → GivesConfirmation (Err r) (compared (Ok bound) dump listing)
-dump_lacks bound dump listing Memory is = tt
-dump_lacks bound dump listing r is = ap (λ (w : Result Contents Refusal). compared (Ok bound) w listing) is
+abbrev with_listing : Result (List Row) Refusal → Result Trace BindFault → Result (List Row × Trace) Refusal
+with_listing listing recorded = compared_with recorded listing
 
-pub listing_lacks : (bound : BoundLines) (contents : Contents) (r : Refusal) → GivesConfirmation (Err r) (compared (Ok bound) (Ok contents) (Err r))
-listing_lacks bound contents Memory = tt
-listing_lacks bound contents r = refl
+compared_is : (bound : BoundLines) (dump : Result Contents Refusal) (listing : Result (List Row) Refusal)
+    → compared (Ok bound) dump listing ≡ (recorded_by bound dump >>= with_listing listing)
+compared_is bound (Ok contents) listing = refl
+compared_is bound (Err r) listing = refl
+
+pub dump_recorded : (bound : BoundLines) (dump : Result Contents Refusal) (listing : Result (List Row) Refusal) (recorded : Result Trace BindFault)
+    (found : Result Confirmation Refusal) → recorded_by bound dump ≡ Ok recorded → GivesConfirmation found (compared_with recorded listing)
+    → GivesConfirmation found (compared (Ok bound) dump listing)
+dump_recorded bound dump listing recorded found is given =
+    let same : compared (Ok bound) dump listing ≡ compared_with recorded listing =
+    compared_is bound dump listing ∙ ap (λ (w : Result (Result Trace BindFault) Refusal). w >>= with_listing listing) is in
+    subst (GivesConfirmation found) (sym same) given
+
+pub dump_lacks : (bound : BoundLines) (dump : Result Contents Refusal) (listing : Result (List Row) Refusal) (r : Refusal)
+    → Gives (λ (recorded : Result Trace BindFault). recorded) (Err r) (recorded_by bound dump) → GivesConfirmation (Err r) (compared (Ok bound) dump listing)
+dump_lacks bound dump listing Memory is = tt
+dump_lacks bound dump listing r is = compared_is bound dump listing ∙ ap (λ (w : Result (Result Trace BindFault) Refusal). w >>= with_listing listing) is
+
+pub listing_lacks : (recorded : Result Trace BindFault) (r : Refusal) → GivesConfirmation (Err r) (compared_with recorded (Err r))
+listing_lacks recorded Memory = tt
+listing_lacks recorded r = refl
 
 pub listing_refused : {A : Type 0} (told : Option (List ℕ)) (failed failures : ℕ) (result : Result A InFault) (fault : InFault) → result ≡ Err fault
     → (result ≡ Err read.Read → IsReading told failed failures None)

@@ -53,6 +53,12 @@ capture_by bound dump = do
   contents ← dump
   or_bad_binding (capture_of bound contents)
 
+-- the recording that a binding makes of the dump that there is, or why it makes none of it
+abbrev pub recorded_by : BoundLines → Result Contents Refusal → Result (Result Trace BindFault) Refusal
+recorded_by bound dump = do
+  contents ← dump
+  Ok (capture_of bound contents)
+
 -- the recording that a binding makes of a dump, or the first reason that there is none: the binding is read first
 unfoldable pub capture_read : Option (List ℕ) → Option (List ℕ) → Result Trace Refusal
 capture_read binding dump = do

@@ -4,6 +4,7 @@ use Rattle.vcd_read.specs.Contents.{Contents}
 use Rattle.vcd_read.specs.Header.{◌>>=◌}
 use Rattle.vme_bind.specs.Binding.{BoundLines}
 use Rattle.vme_bind.specs.Capture.{capture_of}
+use Rattle.vme_bind.specs.declared.fault.BindFault.{BindFault}
 use Rattle.vme_trace.specs.Trace.{Trace}
 use Rattle.vme_listing.specs.Places.{is_well_placed}
 use Rattle.vme_listing.specs.Reading.{IsFirstFault, IsNoListing}
@@ -36,14 +37,21 @@ abbrev pub GivesRows : Result (List ℕ) Refusal → Result (List Row) Refusal �
 GivesRows text (Err Memory) = Unit {0}
 GivesRows text given = IsListing text given
 
--- a listing, and the recording that a binding makes of a dump, or the first reason that one is missing: the listing is read
--- before the recording is made
+-- A listing, and the recording that a binding makes of a dump, or the first reason that one is missing: a fault of the listing
+-- comes before why the binding makes no recording. In what order the program looks isn't told by this.
 abbrev pub compared : Result BoundLines Refusal → Result Contents Refusal → Result (List Row) Refusal → Result (List Row × Trace) Refusal
 compared binding dump listing = do
   bound ← binding
   contents ← dump
   rows ← listing
   t ← or_bad_binding (capture_of bound contents)
+  Ok (rows, t)
+
+-- the same, where a dump was read and this is the recording that the binding makes of it, or why it makes none
+abbrev pub compared_with : Result Trace BindFault → Result (List Row) Refusal → Result (List Row × Trace) Refusal
+compared_with recorded listing = do
+  rows ← listing
+  t ← or_bad_binding recorded
   Ok (rows, t)
 
 -- what is found says whether the rows are the listing of the recording, and which is the first that differs; or why there is

@@ -4,8 +4,7 @@ ghost use Rattle.std.specs.Prelude.{◌≡◌, ◌≢◌, ◌≤◌, ◌<◌, �
 ghost use Rattle.vmecheck.specs.Inputs.{IsReading, most_reads};
 ghost use Rattle.vcd_read.specs.Meaning.{dump_of};
 ghost use Rattle.vme_bind.specs.Binding.{binding_of};
-ghost use Rattle.vme_bind.specs.Capture.{capture_of};
-ghost use Rattle.vmecheck.specs.Answers.{Gives, answer_by, answer_of, or_bad_binding, or_bad_dump, binding_read, dump_read, capture_by, capture_read, judgement_of, verdict_in_blocks};
+ghost use Rattle.vmecheck.specs.Answers.{Gives, answer_by, answer_of, or_bad_binding, or_bad_dump, binding_read, dump_read, capture_by, capture_read, judgement_of, recorded_by, verdict_in_blocks};
 ghost use Rattle.vmecheck.specs.Ends.{Checks, Ends, Tells};
 
 use crate::input::read_all;
@@ -13,8 +12,7 @@ use crate::output::{complain, write_message};
 use crate::refusal::{Input, Refusal};
 use crate::text::{cannot_write_line, refusal_line, verdict_line, verdict_status};
 use std::alloc::Global;
-use vcd_read::{Dump, read_vcd};
-use vme_bind::{Binding, read_binding};
+use vme_bind::{BindFault, Binding, read_binding};
 use vme_summary::verdict_by_blocks;
 use vme_trace::{Capture, CutFault, Sink, Source, Verdict};
 
@@ -157,28 +155,44 @@ fn capture_of_dump<D: Source>(
         × IsReading (D.remaining dump.old) (D.failures dump.old) (D.failures dump.new) bytes
         × Gives (λ capture. capture) result (capture_by bound.now (dump_read bytes)) }
 {
+    match recorded_from(alloc, bound, dump) {
+        Ok(Ok(capture)) => Ok(capture),
+        Ok(Err(fault)) => Err(Refusal::BadBinding(fault)),
+        Err(refusal) => Err(refusal),
+    }
+}
+
+/// The recording that a binding makes of a dump that is to be read, or why it makes none of it. Why there is no dump, or no
+/// memory, is a refusal.
+pub fn recorded_from<D: Source>(
+    alloc: Global,
+    bound: &Binding,
+    dump: &mut D,
+) -> Result<Result<Capture, BindFault>, Refusal>
+    ensures { (bytes : Option (List ℕ))
+        × IsReading (D.remaining dump.old) (D.failures dump.old) (D.failures dump.new) bytes
+        × Gives (λ recorded. recorded) result (recorded_by bound.now (dump_read bytes)) }
+{
     match read_all(alloc, dump) {
-        Ok(text) => captured_text(alloc, bound, text.as_slice()),
+        Ok(text) => recorded_in(alloc, bound, text.as_slice()),
         Err(fault) => Err(Refusal::of_input(Input::Dump, fault)),
     }
 }
 
 /// The recording that a binding makes of the text of a dump, which is read once.
-fn captured_text(alloc: Global, bound: &Binding, text: &[u8]) -> Result<Capture, Refusal>
-    ensures { Gives (λ capture. capture) result (capture_by bound.now (or_bad_dump (dump_of text.now))) }
+fn recorded_in(
+    alloc: Global,
+    bound: &Binding,
+    text: &[u8],
+) -> Result<Result<Capture, BindFault>, Refusal>
+    ensures { Gives (λ recorded. recorded) result (recorded_by bound.now (or_bad_dump (dump_of text.now))) }
 {
     match bound.capture_text(alloc, text) {
-        Ok(capture) => Ok(capture),
-        Err(fault) => Err(Refusal::of_capture(fault)),
-    }
-}
-
-pub fn captured(alloc: Global, bound: &Binding, contents: &Dump) -> Result<Capture, Refusal>
-    ensures { Gives (λ capture. capture) result (or_bad_binding (capture_of bound.now contents.now)) }
-{
-    match bound.capture(alloc, contents) {
-        Ok(capture) => Ok(capture),
-        Err(fault) => Err(Refusal::of_binding(fault)),
+        Ok(capture) => Ok(Ok(capture)),
+        Err(fault) => match Refusal::of_capture(fault) {
+            Refusal::BadBinding(fault) => Ok(Err(fault)),
+            refusal => Err(refusal),
+        },
     }
 }
 
@@ -199,25 +213,5 @@ fn binding_in(alloc: Global, text: &[u8]) -> Result<Binding, Refusal>
     match read_binding(alloc, text) {
         Ok(binding) => Ok(binding),
         Err(fault) => Err(Refusal::of_binding(fault)),
-    }
-}
-
-pub fn dump_from<R: Source>(alloc: Global, source: &mut R) -> Result<Dump, Refusal>
-    ensures { (bytes : Option (List ℕ))
-        × IsReading (R.remaining source.old) (R.failures source.old) (R.failures source.new) bytes
-        × Gives (λ dump. dump) result (dump_read bytes) }
-{
-    match read_all(alloc, source) {
-        Ok(text) => dump_in(alloc, text.as_slice()),
-        Err(fault) => Err(Refusal::of_input(Input::Dump, fault)),
-    }
-}
-
-fn dump_in(alloc: Global, text: &[u8]) -> Result<Dump, Refusal>
-    ensures { Gives (λ dump. dump) result (or_bad_dump (dump_of text.now)) }
-{
-    match read_vcd(alloc, text) {
-        Ok(dump) => Ok(dump),
-        Err(fault) => Err(Refusal::of_dump(fault)),
     }
 }

@@ -1,6 +1,6 @@
 //! The command line of the program.
 
-ghost use Rattle.std.specs.Prelude.{◌≡◌, IfOk, codes, false};
+ghost use Rattle.std.specs.Prelude.{◌≡◌, IfOk, Some, codes, false};
 ghost use Rattle.clap.specs.Words.{app_of, rule_of};
 ghost use Rattle.clap.specs.declared.builder.command.Command.TheViews.{out-Command};
 ghost use Rattle.vmecheck.specs.Commands.{confirm_app, recording_app, recordings_app, vmecheck_app, number_rule, file_rule};
@@ -104,6 +104,7 @@ fn workers_option<'a>(alloc: Global) -> Arg<'a>
 fn file<'a>(alloc: Global, name: &'a str, help: &'a str) -> Arg<'a>
     ensures rule { rule_of result ≡ file_rule name.entry.now }
     ensures local { result.global ≡ false }
+    ensures help { result.help ≡ Some help.entry }
 {
     Arg::new(alloc, name).required(true).help(help)
 }

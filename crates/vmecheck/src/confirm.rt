@@ -3,19 +3,18 @@
 ghost use Rattle.std.specs.Prelude.{◌≡◌, ◌≢◌, ◌<◌, ◌↔◌, ℕ, suc, List, length, Option, Some, Ok, Result};
 ghost use Rattle.vme_listing.specs.declared.row.Row.{Row};
 ghost use Rattle.vmecheck.specs.Answers.{binding_read, dump_read};
-ghost use Rattle.vmecheck.specs.Confirmations.{GivesConfirmation, GivesRows, compared, confirmation_answer_by, listing_text};
+ghost use Rattle.vmecheck.specs.Confirmations.{GivesConfirmation, GivesRows, compared, compared_with, confirmation_answer_by, listing_text};
 ghost use Rattle.vmecheck.specs.Ends.{Confirms, Ends, TellsConfirmation};
 ghost use Rattle.vmecheck.specs.Inputs.{IsReading, most_reads};
 ghost use Rattle.vmecheck.specs.declared.refusal.Refusal.{Refusal};
 
-use crate::check::{binding_from, captured, dump_from};
+use crate::check::{binding_from, recorded_from};
 use crate::input::read_all;
 use crate::output::{complain, write_message};
 use crate::refusal::{Input, Refusal};
 use crate::text::{cannot_write_line, confirmation_line, confirmation_status, refusal_line};
 use std::alloc::Global;
-use vcd_read::Dump;
-use vme_bind::Binding;
+use vme_bind::{BindFault, Binding};
 use vme_cert::{Answer, confirm};
 use vme_listing::{Listing, read_listing};
 use vme_trace::{Capture, Sink, Source};
@@ -24,8 +23,9 @@ use vme_trace::{Capture, Sink, Source};
 /// is none. The answer is the exit status: 0 confirmed, 1 not, 3 where an input is refused, 4 for want of memory, 5 where the
 /// answer can't be written.
 ///
-/// The binding is read, then the dump, then the listing, and the recording is made after these. It is compared by the
-/// definitions alone, by no monitor. A failure of `err` is ignored.
+/// The binding is read, then the dump, of which the recording is made, and then the listing: a binding that can't be used on
+/// the dump is told after the faults of these. The listing is compared by the definitions alone, by no monitor. A failure of
+/// `err` is ignored.
 pub fn confirm_with<B: Source, D: Source, L: Source, O: Sink, E: Sink>(
     alloc: Global,
     binding: &mut B,
@@ -129,40 +129,39 @@ fn comparison_bound<D: Source, L: Source>(
         × GivesRows (listing_text listing_bytes) given
         × GivesConfirmation result (compared (Ok bound.now) (dump_read dump_bytes) given) }
 {
-    match dump_from(alloc, dump) {
-        Ok(contents) => comparison_dumped(alloc, bound, &contents, listing),
+    match recorded_from(alloc, bound, dump) {
+        Ok(recorded) => comparison_recorded(alloc, recorded, listing),
         Err(refusal) => Err(refusal),
     }
 }
 
-fn comparison_dumped<L: Source>(
+/// Compares a listing with that of a recording. Why there is none is told once the listing was read.
+fn comparison_recorded<L: Source>(
     alloc: Global,
-    bound: &Binding,
-    contents: &Dump,
+    recorded: Result<Capture, BindFault>,
     listing: &mut L,
 ) -> Result<Answer, Refusal>
     ensures { (listing_bytes : Option (List ℕ)) × (given : Result (List Row) Refusal)
         × IsReading (L.remaining listing.old) (L.failures listing.old) (L.failures listing.new) listing_bytes
         × GivesRows (listing_text listing_bytes) given
-        × GivesConfirmation result (compared (Ok bound.now) (Ok contents.now) given) }
+        × GivesConfirmation result (compared_with recorded given) }
 {
     match listing_from(alloc, listing) {
-        Ok(rows) => comparison_listed(alloc, bound, contents, &rows),
+        Ok(rows) => comparison_listed(alloc, recorded, &rows),
         Err(refusal) => Err(refusal),
     }
 }
 
 fn comparison_listed(
     alloc: Global,
-    bound: &Binding,
-    contents: &Dump,
+    recorded: Result<Capture, BindFault>,
     listing: &Listing,
 ) -> Result<Answer, Refusal>
-    ensures { GivesConfirmation result (compared (Ok bound.now) (Ok contents.now) (Ok listing.now)) }
+    ensures { GivesConfirmation result (compared_with recorded (Ok listing.now)) }
 {
-    match captured(alloc, bound, contents) {
+    match recorded {
         Ok(capture) => compare(alloc, &capture, listing),
-        Err(refusal) => Err(refusal),
+        Err(fault) => Err(Refusal::BadBinding(fault)),
     }
 }
 

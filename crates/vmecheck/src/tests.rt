@@ -20,6 +20,9 @@ $upscope $end\n$enddefinitions $end\n";
 
 const BODY: &str = "#0 1p 1q 1r 1s 1t 1u\n#10 0p\n#20 0q\n#30 0s\n#40 1p 1q\n#50 1s\n";
 
+/// A dump with no path of the built-in binding.
+const UNBOUND: &str = "$enddefinitions $end\n";
+
 /// The listing of the dump of this head and body by the built-in binding.
 const LISTING: &str =
     "vmecheck listing 1\nstart 1\ntenure 1 open end -\ncycle 2 S 3D FFFFFE end 5\n\
@@ -331,6 +334,7 @@ fn listing_is_read_last(rt: HostRuntime) -> Result<(), Fail> {
     for (binding, dump, text, failures) in [
         (bad_binding, "", "vmecheck: binding line 1: SlotsFirst\n", 0),
         (BUILT_IN, "", "vmecheck: dump line 1: NoEndDefinitions\n", 0),
+        (BUILT_IN, UNBOUND, "vmecheck: cannot read listing\n", 1),
         (
             BUILT_IN,
             dump.as_str(),
@@ -346,14 +350,13 @@ fn listing_is_read_last(rt: HostRuntime) -> Result<(), Fail> {
 }
 
 #[test]
-fn recording_is_made_last(rt: HostRuntime) {
-    let dump = "$enddefinitions $end\n";
+fn binding_that_makes_no_recording_is_told_last(rt: HostRuntime) {
     for (listing, text) in [
         ("", "vmecheck: listing header\n"),
         (LISTING, "vmecheck: binding line 2: NoSuchPath\n"),
     ] {
         let mut listing = Bytes::new(listing.as_bytes());
-        expect_unconfirmed(&rt, BUILT_IN, dump, &mut listing, text);
+        expect_unconfirmed(&rt, BUILT_IN, UNBOUND, &mut listing, text);
     }
 }
 

@@ -1,5 +1,9 @@
+use Rattle.std.proofs.Common.{◌+◌, ◌≤◌, length}
 use Rattle.vme_bind.proofs.RecorderLemmas.{AreShown}
 use Rattle.vme_bind.proofs.recorder.show.Given as goal
 
 abbrev pub invariant-loop-line : goal.invariant-loop-line
-invariant-loop-line l = AreShown l.touched l.line-index l.fn.shown l.now l.shown l.changes.items
+invariant-loop-line l = record {
+  shown : AreShown l.touched l.line-index l.fn.shown l.now l.shown l.changes.items;
+  room : length l.changes.items + length l.touched ≤ l.changes.capacity + l.line-index;
+}

@@ -1,14 +1,13 @@
--- Where no output changes, none passes an acknowledge on.
-use Rattle.std.proofs.Common.{sym}
-use Rattle.vme_chains.specs.AcknowledgeSpec.{passes_on, passes_unasked}
-use Rattle.vme_chains.proofs.PassedOutputs.{not_passing, not_unasked}
+-- Where no slot passes an acknowledge on, none does unasked.
+use Rattle.std.proofs.Common.{◌∙◌, sym, ap}
+use Rattle.std.specs.Option.{is_some}
+use Rattle.vme_chains.proofs.AcknowledgeChanges.{unasked_none}
 use Rattle.vme_chains.proofs.acknowledge.outputs_passing.Goals as goal
+use Rattle.vme_chains.proofs.acknowledge.outputs_passing.Goals.{then-is_some, else-is_some}
 
-pub returns-else-touches_outputs : goal.returns-else-touches_outputs
-returns-else-touches_outputs c =
-    let v = c.args.before.now in
-    let w = c.args.after.now in
-    record {
-      first = sym (c.touches_outputs.ensures c.if-touches_outputs.false (passes_on v w) (not_passing v w));
-      unasked = sym (c.touches_outputs.ensures c.if-touches_outputs.false (passes_unasked v w) (not_unasked v w));
-    }
+pub returns-clause-unasked : goal.returns-clause-unasked
+returns-clause-unasked c =
+    elim c.if-is_some.branch [
+      | then-is_some w ↦ w.unasked-is ∙ w.first_unasked-unasked.ensures
+      | else-is_some w ↦ w.unasked-is ∙ sym (unasked_none c.args.before.now c.args.after.now c.args.changes.now (ap is_some (sym c.first_passing-first.ensures) ∙ (sym c.is_some.ensures ∙ w.if-is_some.false)))
+    ]

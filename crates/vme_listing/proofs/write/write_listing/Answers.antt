@@ -13,17 +13,17 @@ loop-row-preserved g c =
     let rest = flat_map line_of (drop (i + 1) rows) in
     let more : flat_map line_of (drop i rows) ≡ line_of c.row-item.result ++ rest = lines_more line_of rows i c.row-item.result c.loop-row-test.true c.row-item.is in
     let (gone, left, went) =
-    line_more (g.W.Sink.contents c.args.sink.now) (g.W.Sink.contents c.loop-row.sink) (g.W.Sink.contents c.with_room.new.sink) (text_of rows) done c.loop-row.piece c.in_ok-piece.piece (line_of c.row-item.result) rest
-    (split ∙ ap (λ l. done ++ (c.loop-row.piece ++ l)) more) appended c.in_ok-piece.ensures.moves in
-    (gone, left ∙ ap (λ l. gone ++ (l ++ rest)) (sym c.push_line.ensures), went, c.in_ok-piece.ensures.failures ∙ same)
+    line_more (g.W.Sink.contents c.args.sink.now) (g.W.Sink.contents c.loop-row.sink) (g.W.Sink.contents c.make_room.new.sink) (text_of rows) done c.loop-row.piece c.make_room.new.held (line_of c.row-item.result) rest
+    (split ∙ ap (λ l. done ++ (c.loop-row.piece ++ l)) more) appended c.in_ok-make_room.ensures.moves in
+    (gone, left ∙ ap (λ l. gone ++ (l ++ rest)) (sym c.push_line.ensures), went, c.in_ok-make_room.ensures.failures ∙ same)
 
-pub returns-in_err-piece-clause-front : goal.returns-in_err-piece-clause-front
-returns-in_err-piece-clause-front g c =
+pub returns-in_err-make_room-clause-front : goal.returns-in_err-make_room-clause-front
+returns-in_err-make_room-clause-front g c =
     let (done, split, appended, same) = c.loop-row.invariant in
     let rows = c.rows-rows.result.now in
     on_any_err c.from_residual.result
-    (front_of (g.W.Sink.contents c.args.sink.now) (g.W.Sink.contents c.loop-row.sink) (g.W.Sink.contents c.with_room.new.sink) (text_of c.args.listing.now) done c.loop-row.piece (flat_map line_of (drop c.loop-row.row-index rows))
-    (ap text_of (sym c.rows-rows.ensures) ∙ split) appended c.in_err-piece.ensures.front)
+    (front_of (g.W.Sink.contents c.args.sink.now) (g.W.Sink.contents c.loop-row.sink) (g.W.Sink.contents c.make_room.new.sink) (text_of c.args.listing.now) done c.loop-row.piece (flat_map line_of (drop c.loop-row.row-index rows))
+    (ap text_of (sym c.rows-rows.ensures) ∙ split) appended c.in_err-make_room.ensures.front)
 
 pub returns-clause-whole : goal.returns-clause-whole
 returns-clause-whole g c =

@@ -62,8 +62,8 @@ returns-in_err-first-clause-torn g t c =
     c.in_err-first.ensures.torn front (take (count - count / 2) back) second.0 h.first (ap Err (sym fault.2) ∙ sym fault.1 ∙ torn)
     (first_joins (take (count - count / 2) back) (drop (count - count / 2) back) (subst BlocksJoin (sym h.whole) j))
 
-pub join-requires : goal.join-requires
-join-requires g t c =
+pub append-requires : goal.append-requires
+append-requires g t c =
     let old = c.args.blocks.now.items in
     let count = c.args.count in
     let front = take (length old - count) old in
@@ -85,13 +85,13 @@ returns-clause-joined g t c =
     let h = halved c.args.blocks.now.items front back count (count / 2) (omega arith) e long in
     let second = c.in_ok-second.ensures.joined (front ++ take (count - count / 2) back) (drop (count - count / 2) back) h.split h.second in
     let first = c.in_ok-first.ensures.joined front (take (count - count / 2) back) second.0 h.first in
-    IfOk-weaker c.join.result _ _
+    IfOk-weaker c.append.result _ _
     (λ s stands. (
       first.0,
       subst (λ (xs : List Block). SpanStandsFor g.M.Monitor.run g.M.Monitor.outcome g.M.Monitor.count s xs) h.whole
           (stands (take (count - count / 2) back) (drop (count - count / 2) back) first.1 second.1),
     ))
-    c.join.ensures.joined
+    c.append.ensures.joined
 
 pub returns-clause-torn : goal.returns-clause-torn
 returns-clause-torn g t c =
@@ -100,4 +100,4 @@ returns-clause-torn g t c =
     let h = halved c.args.blocks.now.items front back count (count / 2) (omega arith) e long in
     let second = c.in_ok-second.ensures.joined (front ++ take (count - count / 2) back) (drop (count - count / 2) back) h.split h.second in
     let first = c.in_ok-first.ensures.joined front (take (count - count / 2) back) second.0 h.first in
-    (c.join.ensures.torn (take (count - count / 2) back) (drop (count - count / 2) back) first.1 second.1).0 torn (subst BlocksJoin (sym h.whole) j)
+    (c.append.ensures.torn (take (count - count / 2) back) (drop (count - count / 2) back) first.1 second.1).0 torn (subst BlocksJoin (sym h.whole) j)

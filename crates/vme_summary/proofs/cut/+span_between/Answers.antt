@@ -35,8 +35,8 @@ span_between-requires-2 g t c κs within =
       ),
     )
 
-pub join-requires : goal.join-requires
-join-requires g t c =
+pub append-requires : goal.append-requires
+append-requires g t c =
     let cut = c.args.capture.now in
     let half = c.args.count / 2 in
     let a : g.M.Monitor.count c.in_ok-front.front.summary ≡ length (joined_steps (map (block_at c.args.size cut) (range_with_len c.args.first half))) = c.in_ok-front.ensures.summary.counted in

@@ -3,14 +3,14 @@ use Rattle.std.specs.Prelude.{Err}
 use Rattle.vmecheck.specs.declared.refusal.Refusal.TheVariants.{Memory}
 use Rattle.vmecheck.specs.Answers.{dump_read}
 use Rattle.vmecheck.proofs.InputLemmas.{unread}
-use Rattle.vmecheck.proofs.ConfirmLemmas.{dump_lacks}
+use Rattle.vmecheck.proofs.ConfirmLemmas.{dump_lacks, dump_recorded}
 use Rattle.vmecheck.proofs.confirm.comparison_bound.Goals as goal
 
 pub returns-in-Ok : goal.returns-in-Ok
 returns-in-Ok g c =
-    let (dump, dump_reading, dump_is) = c.in-Ok.ensures in
-    let (listing, given, listing_reading, rows, answered) = c.comparison_dumped.ensures in
-    (dump, listing, given, dump_reading, listing_reading, rows, rw dump_is answered)
+    let (dump, dump_reading, is) = c.in-Ok.ensures in
+    let (listing, given, listing_reading, rows, answered) = c.comparison_recorded.ensures in
+    (dump, listing, given, dump_reading, listing_reading, rows, dump_recorded c.args.bound.now (dump_read dump) given c.in-Ok.recorded c.comparison_recorded.result is answered)
 
 pub returns-in-Err : goal.returns-in-Err
 returns-in-Err g c =

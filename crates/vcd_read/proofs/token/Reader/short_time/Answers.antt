@@ -1,0 +1,29 @@
+use Rattle.std.proofs.Common.{◌≡◌, List, ◌∷◌, ◌∙◌, ◌+◌, ◌-◌, length, take, drop, sym, ap, arith}
+use Rattle.std.proofs.lemmas.List.{take_all, length-drop, length-take-le}
+use Rattle.vcd_read.specs.Tokens.{Token}
+use Rattle.vcd_read.specs.Reading.{token_at}
+use Rattle.vcd_read.proofs.NumberLemmas.{short_time_of}
+use Rattle.vcd_read.proofs.TokenLemmas.{between, time_step}
+use Rattle.vcd_read.proofs.token.Reader.short_time.Goals as goal
+
+pub returns-clause-token : goal.returns-clause-token
+returns-clause-token c =
+    let text = c.args.self.now.text.now in
+    let at = c.args.self.now.at in
+    let rest : take (length text - (at + 1)) (drop (at + 1) text) ≡ drop (at + 1) text =
+    take_all (length text - (at + 1)) (drop (at + 1) text) (omega (arith, length-drop (at + 1) text)) in
+    time_step text at c.leading_number-number.result.count c.requires c.if-self-ne35.false
+    (rw rest at c.leading_number-number.ensures.within) (rw rest at c.leading_number-number.ensures.digits) (c.ends_word.ensures.ends (cc))
+    ∙ ap (λ (ts : List Token). token_at text at (35 ∷ between text (at + 1) (at + 1 + c.leading_number-number.result.count)) ∷ ts) (sym c.behind_word-self.ensures.left)
+
+pub returns-clause-time : goal.returns-clause-time
+returns-clause-time c =
+    let text = c.args.self.now.text.now in
+    let at = c.args.self.now.at in
+    let count = c.leading_number-number.result.count in
+    let rest : take (length text - (at + 1)) (drop (at + 1) text) ≡ drop (at + 1) text =
+    take_all (length text - (at + 1)) (drop (at + 1) text) (omega (arith, length-drop (at + 1) text)) in
+    let n : at + 1 + count - (at + 1) ≡ count = omega arith in
+    let within = rw rest at c.leading_number-number.ensures.within in
+    rw n (short_time_of (take count (drop (at + 1) text)) c.leading_number-number.result.number (omega (arith, length-take-le count (drop (at + 1) text) within, c.if-count-eq0.false))
+    (rw rest at c.leading_number-number.ensures.digits) (rw rest at c.leading_number-number.ensures.number) (omega arith))

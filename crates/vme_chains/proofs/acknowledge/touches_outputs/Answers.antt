@@ -1,6 +1,0 @@
-use Rattle.std.proofs.Common.{sym, ◌∙◌}
-use Rattle.vme_chains.proofs.PassedOutputs.{passed_more}
-use Rattle.vme_chains.proofs.acknowledge.touches_outputs.Goals as goal
-
-pub loop-change-preserved : goal.loop-change-preserved
-loop-change-preserved c p none = passed_more p none c.args.changes.now c.loop-change.change-index c.change-item.result c.loop-change-test.true c.change-item.is (sym c.is_output.ensures ∙ c.if-is_output.false) (c.loop-change.invariant p none)
