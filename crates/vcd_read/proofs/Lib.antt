@@ -9,6 +9,7 @@ pub mod InstantsLaw
 pub mod ReadLemmas
 pub mod TakingLemmas
 pub mod DumpLemmas
+pub mod DefinedLemmas
 pub mod ScopesLemmas
 pub mod ReferenceLemmas
 pub mod SectionLemmas

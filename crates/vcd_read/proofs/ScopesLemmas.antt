@@ -1,7 +1,7 @@
 -- The open scopes and the text that they are laid out in.
-use Rattle.std.proofs.Common.{◌≡◌, ℕ, ◌-◌, ◌<◌, List, [], ◌∷◌, ◌++◌, length, get_or, take, drop, refl, sym, ap, ◌∙◌, arith, reverse, append_assoc, length-append}
+use Rattle.std.proofs.Common.{◌≡◌, ℕ, suc, ◌-◌, ◌<◌, List, [], ◌∷◌, ◌++◌, length, get_or, take, drop, refl, sym, ap, ◌∙◌, arith, reverse, append_assoc, length-append}
 use Rattle.std.specs.List.{concat, flat_map}
-use Rattle.std.proofs.lemmas.List.{take_at, drop_at, append-nil, reverse-append}
+use Rattle.std.proofs.lemmas.List.{take_at, drop_at, append-nil, length-reverse, reverse-append}
 use Rattle.std.proofs.lemmas.List.Folds.{flat_map-map}
 use Rattle.std.proofs.lemmas.List.Concat.{concat_is}
 use denote.Ref.{Bor}
@@ -117,3 +117,12 @@ names_at-pop path starts starts' start fewer = ap (λ (ss : List ℕ). names_at 
 pub names_at-none : (path starts : List ℕ) → starts ≡ [] → names_at path (reverse starts) ≡ []
 unfolding names_at
 names_at-none path starts e = ap (λ (ss : List ℕ). names_at path (reverse ss)) e
+
+names_at-length : (path starts : List ℕ) → length (names_at path starts) ≡ length starts
+unfolding names_at
+names_at-length path [] = refl
+names_at-length path (start ∷ starts) = ap (λ (n : ℕ). suc n) (names_at-length (take start path) starts)
+
+-- there is a start for each name
+pub names_at-count : (path starts : List ℕ) → length (names_at path (reverse starts)) ≡ length starts
+names_at-count path starts = names_at-length path (reverse starts) ∙ length-reverse starts

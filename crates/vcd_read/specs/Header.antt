@@ -86,12 +86,12 @@ pub record Net : Type 0 where
   pub code : List ℕ
   pub size : ℕ
 
--- the nets are in the order of their first declarations
-pub record Declared : Type 0 where
+-- what came of the variables so far; the nets are in the order of their first declarations
+pub record Declared (V : Type 0) : Type 0 where
   -- the names of the open scopes, the innermost first
   pub scopes : List (List ℕ)
   pub nets : List Net
-  pub variables : List Variable
+  pub variables : V
 
 abbrev pub has_code : List ℕ → Net → Bool
 has_code code net = bytes_eq net.code code
@@ -191,34 +191,41 @@ var_words (type ∷ size ∷ code ∷ first ∷ others) = do
   if is_code code then Ok (record { size = n; code = code; reference = concat (first ∷ others) }) else Err BadVar
 var_words words = Err BadVar
 
-abbrev pub declare_var : Declared → List (List ℕ) → Result Declared FaultKind
-declare_var d words = do
-  var ← var_words words
-  joined ← net_for d.nets var.code var.size (net_of d.nets var.code)
-  Ok (record d { nets = joined.nets; variables = d.variables ++ variable_in d.scopes joined.net var.size (reference_of var.size var.reference) ∷ [] })
-
-abbrev pub open_scope : Declared → List (List ℕ) → Declared
+abbrev pub open_scope : {V : Type 0} → Declared V → List (List ℕ) → Declared V
 open_scope d words = record d { scopes = concat (drop 1 words) ∷ d.scopes }
 
-abbrev pub close_scope : Declared → List (List ℕ) → Result Declared FaultKind
+abbrev pub close_scope : {V : Type 0} → Declared V → List (List ℕ) → Result (Declared V) FaultKind
 close_scope d [] = Err ScopeUnderflow
 close_scope d (scope ∷ scopes) = Ok (record d { scopes = scopes })
 
-abbrev pub declare_section : Declared → Section → Result Declared FaultKind
-declare_section d section =
-    if bytes_eq section.keyword (codes "$var") then declare_var d section.words
-    else if bytes_eq section.keyword (codes "$scope") then Ok (open_scope d section.words)
-    else if bytes_eq section.keyword (codes "$upscope") then close_scope d d.scopes
-    else Ok d
+-- what comes of one more variable is said by whatever takes them
+module _ {V : Type 0} (with_variable : V → Variable → V) where
+  abbrev pub declare_var : Declared V → List (List ℕ) → Result (Declared V) FaultKind
+  declare_var d words = do
+    var ← var_words words
+    joined ← net_for d.nets var.code var.size (net_of d.nets var.code)
+    Ok (record d { nets = joined.nets; variables = with_variable d.variables (variable_in d.scopes joined.net var.size (reference_of var.size var.reference)) })
 
--- the first fault of the items, or all that they declare
-unfoldable pub declare_all : Declared → List HeaderItem → Result Declared VcdFault
-declare_all d [] = Ok d
-declare_all d (whole section ∷ items) = do
-  next ← at_line section.line (declare_section d section)
-  declare_all next items
-declare_all d (unfinished line ∷ items) = Err (record { line = line; kind = UnfinishedSection })
-declare_all d (stray line ∷ items) = Err (record { line = line; kind = BadToken })
+  abbrev pub declare_section : Declared V → Section → Result (Declared V) FaultKind
+  declare_section d section =
+      if bytes_eq section.keyword (codes "$var") then declare_var d section.words
+      else if bytes_eq section.keyword (codes "$scope") then Ok (open_scope d section.words)
+      else if bytes_eq section.keyword (codes "$upscope") then close_scope d d.scopes
+      else Ok d
 
-abbrev pub nothing_declared : Declared
-nothing_declared = record { scopes = []; nets = []; variables = [] }
+  -- the first fault of the items, or all that they declare
+  unfoldable pub declare_all : Declared V → List HeaderItem → Result (Declared V) VcdFault
+  declare_all d [] = Ok d
+  declare_all d (whole section ∷ items) = do
+    next ← at_line section.line (declare_section d section)
+    declare_all next items
+  declare_all d (unfinished line ∷ items) = Err (record { line = line; kind = UnfinishedSection })
+  declare_all d (stray line ∷ items) = Err (record { line = line; kind = BadToken })
+
+-- nothing yet, where this comes of no variables
+abbrev pub nothing_declared : {V : Type 0} → V → Declared V
+nothing_declared none = record { scopes = []; nets = []; variables = none }
+
+-- a variable more, where all are kept
+abbrev pub appended : List Variable → Variable → List Variable
+appended variables variable = variables ++ variable ∷ []

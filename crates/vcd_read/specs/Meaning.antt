@@ -10,7 +10,7 @@ use Rattle.vcd_read.specs.declared.fault.VcdFault.{VcdFault}
 use Rattle.vcd_read.specs.Contents.{Contents}
 use Rattle.vcd_read.specs.Tokens.{Token, tokens, line_after}
 use Rattle.vcd_read.specs.Numbers.{number, extended}
-use Rattle.vcd_read.specs.Header.{◌>>=◌, Net, net_of, size_of, between, header_from, declare_all, nothing_declared}
+use Rattle.vcd_read.specs.Header.{◌>>=◌, Net, net_of, size_of, between, header_from, declare_all, nothing_declared, appended}
 use Rattle.vcd_read.specs.Body.{BodyItem, time_item, change, ready, body_from, first_standing, stand_after_all, at_the_end}
 
 -- ---- the instants
@@ -80,7 +80,7 @@ instants_from nets body = do
 unfoldable pub dump_of : List ℕ → Result Contents VcdFault
 dump_of text =
     let header = header_from between (tokens text) in do
-      declared ← declare_all nothing_declared header.items
+      declared ← declare_all appended (nothing_declared []) header.items
       body ← body_of text header.body
       instants ← instants_from declared.nets body
       Ok (record { variables = declared.variables; instants = instants })

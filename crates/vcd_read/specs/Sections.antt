@@ -4,7 +4,6 @@ use Rattle.std.specs.List.{concat}
 use Rattle.vcd_read.specs.declared.dump.Variable.{Variable}
 use Rattle.vcd_read.specs.declared.fault.FaultKind.TheVariants.{UnfinishedSection}
 use Rattle.vcd_read.specs.declared.fault.VcdFault.{VcdFault}
-use Rattle.vcd_read.specs.declared.header.Definitions.{Definitions}
 use Rattle.vcd_read.specs.declared.header.Opening.{Opening}
 use Rattle.vcd_read.specs.declared.header.Opening.TheVariants.{Var, Scope, Upscope, EndDefinitions, Skipped, Nothing}
 use Rattle.vcd_read.specs.declared.header.VarSection.{VarSection}
@@ -57,27 +56,36 @@ Answers view (Err e) read = read ≡ Err e
 
 -- ---- the whole header
 
-abbrev pub declared_in : Definitions → Declared
-declared_in d = record { scopes = d.scopes; nets = d.codes; variables = d.variables.items }
+-- the open scopes, the nets, and what came of the variables
+abbrev pub declared_in : {V : Type 0} → List (List ℕ) → List Net → V → Declared V
+declared_in scopes nets variables = record { scopes = scopes; nets = nets; variables = variables }
 
--- What a header declares, and the tokens behind it.
+-- The nets that a header declares, and the tokens behind it.
 pub record Headed : Type 0 where
   pub nets : List Net
-  pub variables : List Variable
   pub body : List Token
 
-abbrev pub headed : Declared → List Token → Headed
-headed d body = record { nets = d.nets; variables = d.variables; body = body }
+-- The same with what came of the variables.
+pub record Defined (V : Type 0) : Type 0 where
+  pub head : Headed
+  pub variables : V
 
--- the header of a text, where this much is declared and these items and tokens are left
-abbrev pub rest_of_header : List ℕ → Declared → Header → Result Headed VcdFault
-rest_of_header text d header = declare_all d header.items >>= λ declared. body_of text header.body >>= λ body. Ok (headed declared body)
+abbrev pub defined : {V : Type 0} → Headed → V → Defined V
+defined head variables = record { head = head; variables = variables }
 
-abbrev pub header_of : List ℕ → Declared → List Token → Result Headed VcdFault
-header_of text d ts = rest_of_header text d (header_from between ts)
+abbrev pub headed : {V : Type 0} → Declared V → List Token → Defined V
+headed d body = defined (record { nets = d.nets; body = body }) d.variables
+
+module _ {V : Type 0} (with_variable : V → Variable → V) where
+  -- the header of a text, where this much is declared and these items and tokens are left
+  abbrev pub rest_of_header : List ℕ → Declared V → Header → Result (Defined V) VcdFault
+  rest_of_header text d header = declare_all with_variable d header.items >>= λ declared. body_of text header.body >>= λ body. Ok (headed declared body)
+
+  abbrev pub header_of : List ℕ → Declared V → List Token → Result (Defined V) VcdFault
+  header_of text d ts = rest_of_header text d (header_from between ts)
 
 -- whether the definitions go on behind a section: reading the header gives then what it gave before, and otherwise it gives this
-abbrev pub Continues : Result Headed VcdFault → Result Headed VcdFault → Headed → Result Bool VcdFault → Type 0
+abbrev pub Continues : {V : Type 0} → Result (Defined V) VcdFault → Result (Defined V) VcdFault → Defined V → Result Bool VcdFault → Type 0
 Continues before after end (Ok true) = before ≡ after
 Continues before after end (Ok false) = before ≡ Ok end
 Continues before after end (Err fault) = Fails fault before

@@ -1,15 +1,15 @@
 //! A text whose definitions are read.
 
-ghost use Rattle.std.specs.Prelude.{◌≡◌, length};
+ghost use Rattle.std.specs.Prelude.{◌≡◌, [], length};
 ghost use Rattle.vcd_read.specs.Header.{nothing_declared};
 ghost use Rattle.vcd_read.specs.Tokens.{tokens};
 ghost use Rattle.vcd_read.specs.Meaning.{Gives};
-ghost use Rattle.vcd_read.specs.Sections.{header_of};
+ghost use Rattle.vcd_read.specs.Sections.{defined, header_of};
 ghost use Rattle.vcd_read.specs.Taking.{taken_from};
 
 use crate::body::read_body;
 use crate::codes::Codes;
-use crate::dump::Variable;
+use crate::declarations::Declarations;
 use crate::fault::VcdFault;
 use crate::header::{Definitions, read_header};
 use crate::taker::Taker;
@@ -17,12 +17,11 @@ use crate::token::Reader;
 use std::alloc::Global;
 use std::marker::Model;
 
-/// The definitions of a text, and the body behind them, which isn't read yet.
+/// A text whose definitions are read, and the body behind them, which isn't read yet.
 #[derive(Drop)]
 pub struct Head<'a> {
     reader: Reader<'a>,
     codes: Codes,
-    variables: Vec<Variable>,
 }
 
 impl<'a> Model for Head<'a> {
@@ -31,34 +30,29 @@ impl<'a> Model for Head<'a> {
 
     ghost Value = { Headed };
 
-    ghost view = { λ h. record { nets = h.codes; variables = h.variables.items; body = left_at h.reader.text.now h.reader.at } };
+    ghost view = { λ h. record { nets = h.codes; body = left_at h.reader.text.now h.reader.at } };
 }
 
-/// Reads the definitions of a text. The first fault met is named.
-pub fn read_definitions(alloc: Global, text: &[u8]) -> Result<Head<'_>, VcdFault>
-    ensures { Gives (λ head. head) result (header_of text.now nothing_declared (tokens text.now)) }
+/// Reads the definitions of a text, and gives its scopes and variables to what takes them, in the order of the text.
+/// The first fault met is named.
+pub fn read_definitions<D: Declarations>(
+    alloc: Global,
+    text: &[u8],
+    declarations: D,
+) -> Result<(Head<'_>, D), VcdFault>
+    requires { D.scopes declarations ≡ [] }
+    ensures { Gives (λ made. defined made.0 (D.taken made.1)) result
+        (header_of D.with_variable text.now (nothing_declared (D.taken declarations)) (tokens text.now)) }
 {
     let mut reader = Reader::new(text);
     let Definitions {
         codes,
-        variables,
-        ..
-    } = read_header(alloc, &mut reader)?;
-    Ok(Head {
-        reader,
-        codes,
-        variables,
-    })
+        declarations,
+    } = read_header(alloc, &mut reader, declarations)?;
+    Ok((Head { reader, codes }, declarations))
 }
 
 impl<'a> Head<'a> {
-    /// The variables, in the order of their declarations.
-    pub fn variables(&self) -> &[Variable]
-        ensures { result.now ≡ self.now.variables }
-    {
-        &self.variables
-    }
-
     /// How many nets the variables are names of.
     pub fn net_count(&self) -> usize
         ensures { result ≡ length self.now.nets }
@@ -75,12 +69,5 @@ impl<'a> Head<'a> {
             at: self.reader.at,
         };
         read_body(alloc, reader, &self.codes, taker)
-    }
-
-    /// Gives the variables back.
-    pub fn into_variables(self) -> Vec<Variable>
-        ensures { result.items ≡ self.entry.variables }
-    {
-        self.variables
     }
 }

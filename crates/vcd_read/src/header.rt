@@ -10,11 +10,10 @@ ghost use Rattle.vcd_read.specs.declared.fault.FaultKind.TheVariants.{SizeConfli
 ghost use Rattle.vcd_read.specs.Sections.{opening_of, var_of, Answers, section_from, behind_section, declared_in, Continues, headed, header_of};
 
 use crate::codes::Codes;
-use crate::dump::{Path, Variable};
+use crate::declarations::{Declaration, Declarations};
 use crate::fault::{FaultKind, VcdFault};
 use crate::number::decimal;
 use crate::reference::{Reference, reference_of};
-use crate::scopes::Scopes;
 use crate::shape::is_end;
 use crate::token::{Reader, Token};
 use std::alloc::{AllocError, Global};
@@ -24,11 +23,10 @@ const MAX_SIZE: u64 = 65_536;
 
 /// What the sections so far declare.
 #[derive(Drop)]
-pub(crate) struct Definitions {
-    pub scopes: Scopes,
+pub(crate) struct Definitions<D: Declarations> {
     pub codes: Codes,
-    /// In the order of their sections.
-    pub variables: Vec<Variable>,
+    /// What takes the scopes and the variables.
+    pub declarations: D,
 }
 
 /// What the first token of a section opens.
@@ -178,36 +176,39 @@ fn net_for(
     }
 }
 
-/// The variable that a section declares in these scopes, on this net.
-fn variable_in(
-    scopes: &Scopes,
+/// Gives the variable that a section declares on this net to what takes them.
+fn declare_on<D: Declarations>(
+    declarations: &mut D,
     alloc: Global,
     var: VarSection<'_>,
     net: u32,
-) -> Result<Variable, AllocError>
+) -> Result<(), AllocError>
     requires { 0 < length (concat (texts var.reference.now)) }
-    ensures { IfOk result (λ variable. variable ≡ variable_in scopes.now net var.entry.size
-        (reference_of var.entry.size (concat (texts var.entry.reference.now)))) }
+    ensures scopes { OnOk result (D.scopes declarations.new ≡ D.scopes declarations.old) }
+    ensures taken { OnOk result (D.taken declarations.new ≡ D.with_variable (D.taken declarations.old)
+        (variable_in (D.scopes declarations.old) net var.entry.size (reference_of var.entry.size (concat (texts var.entry.reference.now))))) }
 {
     let text = joined(alloc, var.reference)?;
     let Reference { name, index } = reference_of(&text, var.size);
-    let path = scopes.path_of(alloc, name)?;
-    Ok(Variable {
-        path: Path::from_vec(path),
-        index,
-        size: var.size,
-        net,
-    })
+    declarations.declare(
+        alloc,
+        Declaration {
+            name,
+            index,
+            size: var.size,
+            net,
+        },
+    )
 }
 
-impl Definitions {
-    fn new(alloc: Global) -> Result<Definitions, AllocError>
-        ensures { IfOk result (λ d. declared_in d ≡ nothing_declared) }
+impl<D: Declarations> Definitions<D> {
+    fn new(alloc: Global, declarations: D) -> Result<Definitions<D>, AllocError>
+        requires { D.scopes declarations ≡ [] }
+        ensures { IfOk result (λ d. declared_in (D.scopes d.declarations) d.codes (D.taken d.declarations) ≡ nothing_declared (D.taken declarations)) }
     {
         Ok(Definitions {
-            scopes: Scopes::new(alloc),
             codes: Codes::new(alloc)?,
-            variables: Vec::new(alloc),
+            declarations,
         })
     }
 
@@ -221,8 +222,9 @@ impl Definitions {
     ) -> Result<(), VcdFault>
         requires first { first ≤ length reader.now.text.now }
         requires each { All (λ word. 0 < length word.now) words.now }
-        ensures { Gives (λ _. declared_in self.new) result
-            (at_line (line_at reader.now.text.now first) (declare_var (declared_in self.old) (texts words.now))) }
+        ensures { Gives (λ _. declared_in (D.scopes self.new.declarations) self.new.codes (D.taken self.new.declarations)) result
+            (at_line (line_at reader.now.text.now first) (declare_var D.with_variable
+            (declared_in (D.scopes self.old.declarations) self.old.codes (D.taken self.old.declarations)) (texts words.now))) }
     {
         let var = match var_section(words) {
             Ok(var) => var,
@@ -231,8 +233,7 @@ impl Definitions {
         let Some(net) = net_for(&mut self.codes, alloc, var.code, var.size)? else {
             return Err(reader.fault(first, FaultKind::SizeConflict));
         };
-        let variable = variable_in(&self.scopes, alloc, var, net)?;
-        self.variables.push(variable)?;
+        declare_on(&mut self.declarations, alloc, var, net)?;
         Ok(())
     }
 
@@ -247,9 +248,10 @@ impl Definitions {
         ensures text { reader.new.text ≡ reader.old.text }
         ensures moves { result ≡ Ok true → reader.old.at ≤ reader.new.at }
         ensures rest { let text = reader.old.text.now in
-            Continues (header_of text (declared_in self.old) (token_at text first.entry.at first.entry.bytes.now ∷ left_at text reader.old.at))
-            (header_of text (declared_in self.new) (left_at text reader.new.at))
-            (headed (declared_in self.new) (left_at text reader.new.at)) result }
+            let new = declared_in (D.scopes self.new.declarations) self.new.codes (D.taken self.new.declarations) in
+            Continues (header_of D.with_variable text (declared_in (D.scopes self.old.declarations) self.old.codes (D.taken self.old.declarations))
+            (token_at text first.entry.at first.entry.bytes.now ∷ left_at text reader.old.at))
+            (header_of D.with_variable text new (left_at text reader.new.at)) (headed new (left_at text reader.new.at)) result }
     {
         match opening_of(first.bytes) {
             Opening::Nothing => return Err(reader.fault(first.at, FaultKind::BadToken)),
@@ -259,11 +261,12 @@ impl Definitions {
             }
             Opening::Scope => {
                 let words = words_of(alloc, reader, first.at)?;
-                self.scopes.open(scope_name(alloc, &words)?)?;
+                let name = scope_name(alloc, &words)?;
+                self.declarations.open(alloc, &name)?;
             }
             Opening::Upscope => {
                 skip_section(reader, first.at)?;
-                if !self.scopes.close() {
+                if !self.declarations.close() {
                     return Err(reader.fault(first.at, FaultKind::ScopeUnderflow));
                 }
             }
@@ -278,12 +281,18 @@ impl Definitions {
 }
 
 /// Reads the header of a text, up to the end of its definitions. The first fault met is named.
-pub(crate) fn read_header(alloc: Global, reader: &mut Reader<'_>) -> Result<Definitions, VcdFault>
+pub(crate) fn read_header<D: Declarations>(
+    alloc: Global,
+    reader: &mut Reader<'_>,
+    declarations: D,
+) -> Result<Definitions<D>, VcdFault>
+    requires { D.scopes declarations ≡ [] }
     ensures text { reader.new.text ≡ reader.old.text }
     ensures header { let text = reader.old.text.now in
-        Gives (λ d. headed (declared_in d) (left_at text reader.new.at)) result (header_of text nothing_declared (left_at text reader.old.at)) }
+        Gives (λ d. headed (declared_in (D.scopes d.declarations) d.codes (D.taken d.declarations)) (left_at text reader.new.at)) result
+        (header_of D.with_variable text (nothing_declared (D.taken declarations)) (left_at text reader.old.at)) }
 {
-    let mut definitions = Definitions::new(alloc)?;
+    let mut definitions = Definitions::new(alloc, declarations)?;
     while let Some(token) = reader.next() {
         if !definitions.section(alloc, reader, token)? {
             return Ok(definitions);

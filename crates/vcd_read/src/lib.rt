@@ -6,6 +6,7 @@ mod body;
 mod code_index;
 mod codes;
 mod collector;
+mod declarations;
 mod dump;
 mod fault;
 mod head;
@@ -19,11 +20,14 @@ mod taker;
 #[cfg(test)]
 mod tests;
 mod token;
+mod variables;
 mod waves;
 
 pub use bits::bit_at;
+pub use declarations::{Declaration, Declarations};
 pub use dump::{Bit, Bits, Dump, Instant, Path, Value, Values, Variable};
 pub use fault::{FaultKind, VcdFault};
 pub use head::{Head, read_definitions};
 pub use read::read_vcd;
+pub use scopes::Scopes;
 pub use taker::Taker;

@@ -6,6 +6,7 @@ use crate::collector::Collector;
 use crate::dump::Dump;
 use crate::fault::VcdFault;
 use crate::head::read_definitions;
+use crate::variables::Variables;
 use std::alloc::Global;
 
 /// Reads the text of a four-state value change dump.
@@ -16,8 +17,8 @@ use std::alloc::Global;
 pub fn read_vcd(alloc: Global, text: &[u8]) -> Result<Dump, VcdFault>
     ensures { Gives (λ dump. dump) result (dump_of text.now) }
 {
-    let head = read_definitions(alloc, text)?;
+    let (head, variables) = read_definitions(alloc, text, Variables::new(alloc))?;
     let collector = Collector::new(alloc, head.net_count())?;
     let collected = head.read_body(alloc, collector)?;
-    Ok(Dump::new(head.into_variables(), collected.into_instants()))
+    Ok(Dump::new(variables.into_vec(), collected.into_instants()))
 }

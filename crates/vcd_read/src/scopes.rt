@@ -1,15 +1,15 @@
 //! The scopes that are open.
 
-ghost use Rattle.std.specs.Prelude.{◌≡◌, ℕ, ◌<◌, List, [], ◌∷◌, length, OnOk, IfOk, MatchBool};
+ghost use Rattle.std.specs.Prelude.{◌≡◌, ℕ, ◌<◌, List, [], ◌∷◌, length, OnOk, OnErr, IfOk, MatchBool};
 ghost use Rattle.vcd_read.specs.Header.{path_of};
-ghost use Rattle.vcd_read.specs.Scopes.{with_dot};
+ghost use Rattle.vcd_read.specs.Scopes.{path_in, with_dot};
 
 use std::alloc::{AllocError, Global};
 use std::marker::Model;
 
 /// The names of the open scopes, as one text that grows and shrinks at its end.
 #[derive(Drop)]
-pub(crate) struct Scopes {
+pub struct Scopes {
     /// The names that aren't empty, from the outermost, each with a dot behind it.
     path: Vec<u8>,
     /// For each open scope, the length of the path before it.
@@ -28,6 +28,7 @@ impl Model for Scopes {
 }
 
 impl Scopes {
+    /// No open scope.
     pub fn new(alloc: Global) -> Scopes
         ensures { result ≡ [] }
     {
@@ -37,13 +38,16 @@ impl Scopes {
         }
     }
 
-    /// Opens a scope of this name.
-    pub fn open(&mut self, name: Vec<u8>) -> Result<(), AllocError>
-        ensures { OnOk result (self.new ≡ name.items ∷ self.old) }
+    /// Opens a scope of this name, which may be empty. Where memory runs out, the same scopes are open as before.
+    pub fn open(&mut self, alloc: Global, name: &[u8]) -> Result<(), AllocError>
+        ensures ok { OnOk result (self.new ≡ name.now ∷ self.old) }
+        ensures err { OnErr result (self.new ≡ self.old) }
     {
-        let part = with_dot(name)?;
-        self.starts.push(self.path.len())?;
+        let part = with_dot(alloc, name)?;
+        let start = self.path.len();
+        self.starts.reserve(1)?;
         self.path.extend_from_slice(&part)?;
+        self.starts.push_reserved(start);
         Ok(())
     }
 
@@ -60,6 +64,21 @@ impl Scopes {
         }
     }
 
+    /// How many scopes are open.
+    pub fn depth(&self) -> usize
+        ensures { result ≡ length self.now }
+    {
+        self.starts.len()
+    }
+
+    /// What stands before the name of a variable in its path: the names that aren't empty, from the outermost, each
+    /// with a dot behind it.
+    pub fn path(&self) -> &[u8]
+        ensures { result.now ≡ path_in self.now }
+    {
+        &self.path
+    }
+
     /// The path of a name in the open scopes.
     pub fn path_of(&self, alloc: Global, name: &[u8]) -> Result<Vec<u8>, AllocError>
         requires { 0 < length name.now }
@@ -73,11 +92,12 @@ impl Scopes {
 }
 
 /// What a scope of this name puts behind the path.
-fn with_dot(name: Vec<u8>) -> Result<Vec<u8>, AllocError>
-    ensures { IfOk result (λ part. part.items ≡ with_dot name.items) }
+fn with_dot(alloc: Global, name: &[u8]) -> Result<Vec<u8>, AllocError>
+    ensures { IfOk result (λ part. part.items ≡ with_dot name.now) }
 {
-    let mut part = name;
-    if !part.is_empty() {
+    let mut part = Vec::new(alloc);
+    if !name.is_empty() {
+        part.extend_from_slice(name)?;
         part.push(b'.')?;
     }
     Ok(part)

@@ -264,11 +264,20 @@ fn scopes_stand_in_one_another_to_any_depth(rt: HostRuntime) -> Result<(), Fail>
     Ok(())
 }
 
+/// A recording in which each growth of memory is met: nested scopes, codes in the table and in the map, references of
+/// several words, a value of more bits than lie inline, and several values at an instant.
+const GROWING: &str = "\
+$scope module rack $end $scope module slot 1 $end $var wire 1 p AS $end $upscope $end
+$var wire 1 clock0 clk $end $var wire 1 clock1 clk [ 1 ] $end $var wire 20 ~~~ D [19:0] $end
+$enddefinitions $end
+#0 1p 1clock0 0clock1 bx ~~~ #1 0p #2 b1 ~~~ 1p 0clock0
+";
+
 /// Run with each allocation refused in turn, this shows that the answer is then want of memory.
 #[test]
 fn want_of_memory_is_the_fault(rt: HostRuntime) {
-    match read_vcd(rt.alloc(), BUS.as_bytes()) {
-        Ok(dump) => assert_eq!(rt; dump.instants().len(), 6),
+    match read_vcd(rt.alloc(), GROWING.as_bytes()) {
+        Ok(dump) => assert!(rt; dump.instants().len() == 3 && dump.variables().len() == 4),
         Err(fault) => {
             assert!(rt;
                 fault.line == 0 && fault.kind == FaultKind::Memory,

@@ -1,6 +1,8 @@
 pub mod TextLemmas
 pub mod BindingLemmas
 pub mod WiresLemmas
+pub mod SoughtLemmas
+pub mod FoundLemmas
 pub mod RecorderLemmas
 pub mod CaptureLemmas
 pub mod StepsLemmas

@@ -58,7 +58,7 @@ one_more : (wires : List Wire) (wire : Wire) (rest : Result (List Wire) BindFaul
 one_more wires wire (Ok others) = ap Ok (sym (append_assoc wires (wire ∷ []) others))
 one_more wires wire (Err fault) = refl
 
-push_in : (wires : List Wire) (r : Result Wire BindFault) (rest : Result (List Wire) BindFault)
+pub push_in : (wires : List Wire) (r : Result Wire BindFault) (rest : Result (List Wire) BindFault)
     → behind_wires wires (r >>= λ wire. rest >>= λ others. Ok (wire ∷ others)) ≡ (r >>= λ wire. behind_wires (wires ++ wire ∷ []) rest)
 push_in wires (Ok wire) rest = one_more wires wire rest
 push_in wires (Err fault) rest = refl

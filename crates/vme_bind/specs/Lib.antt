@@ -5,6 +5,7 @@ pub mod Sources
 pub mod Binding
 pub mod Reading
 pub mod Wires
+pub mod Sought
 pub mod Taps
 pub mod Capture
 pub mod Recording

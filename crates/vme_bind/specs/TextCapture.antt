@@ -3,7 +3,8 @@ use Rattle.std.specs.Prelude.{◌≡◌, ℕ, List, length, Result, Ok, Err}
 use Rattle.vme_trace.specs.Trace.{Trace}
 use Rattle.vcd_read.specs.Contents.{Contents}
 use Rattle.vcd_read.specs.Header.{◌>>=◌}
-use Rattle.vcd_read.specs.Sections.{Headed}
+use Rattle.vcd_read.specs.declared.dump.Variable.{Variable}
+use Rattle.vcd_read.specs.Sections.{Headed, Defined}
 use Rattle.vcd_read.specs.Meaning.{dump_of, instants_from}
 use Rattle.vcd_read.specs.declared.fault.VcdFault.{VcdFault}
 use Rattle.vcd_read.specs.declared.fault.FaultKind.{FaultKind}
@@ -35,8 +36,8 @@ capture_read b (Ok dump) = or_binding (capture_of b dump)
 capture_read b (Err fault) = Err (Dump fault)
 
 -- what it makes of the body behind some definitions
-abbrev pub capture_behind : BoundLines → Headed → Result Trace CaptureFault
-capture_behind b h = capture_read b (instants_from h.nets h.body >>= λ instants. Ok (record { variables = h.variables; instants = instants }))
+abbrev pub capture_behind : BoundLines → Defined (List Variable) → Result Trace CaptureFault
+capture_behind b d = capture_read b (instants_from d.head.nets d.head.body >>= λ instants. Ok (record { variables = d.variables; instants = instants }))
 
 -- the recording that a binding makes of the dump that a text is, or else the first fault
 unfoldable pub capture_of_text : BoundLines → List ℕ → Result Trace CaptureFault

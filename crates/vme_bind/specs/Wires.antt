@@ -40,14 +40,14 @@ abbrev pub selected : ℕ → ℕ × ℕ → ℕ × ℕ → Option BitRange
 selected net selection index =
     if selects index selection then Some (bit_range net (distance index.0 selection.0) (distance selection.0 selection.1 + 1)) else None
 
--- the bits of a variable that a selection means: all, where there is none
-abbrev pub bits_in : Option (ℕ × ℕ) → Variable → Option BitRange
-bits_in None v = Some (bit_range v.net 0 v.size)
-bits_in (Some selection) v = option_and_then (selected v.net selection) v.index
+-- the bits of a net that a selection means, for a variable of this size and index: all, where there is none
+abbrev pub bits_meant : Option (ℕ × ℕ) → ℕ → ℕ → Option (ℕ × ℕ) → Option BitRange
+bits_meant None net size index = Some (bit_range net 0 size)
+bits_meant (Some selection) net size index = option_and_then (selected net selection) index
 
 -- a candidate of a source: a variable of its path, whole or in part
 abbrev pub candidate : Variables → Variable → Option BitRange
-candidate named v = if bytes_eq v.path named.path then bits_in named.selection v else None
+candidate named v = if bytes_eq v.path named.path then bits_meant named.selection v.net v.size v.index else None
 
 abbrev pub same_bits : BitRange → BitRange → Bool
 same_bits a b = a.net == b.net && a.first == b.first && a.count == b.count
@@ -62,15 +62,22 @@ as_wide_as count bits = if bits.count == count then Ok bits else Err WrongWidth
 
 -- ---- the wires of a binding
 
-abbrev pub source_in : List Variable → ℕ → Source → Result WireSource BindKind
-source_in variables count (Constant level) = Ok (Fixed level)
-source_in variables count (Named named) = do
-  bits ← only (filter_map (candidate named) variables)
+-- bits that were found, for so many lines
+abbrev pub source_by : ℕ → Result BitRange BindKind → Result WireSource BindKind
+source_by count found = do
+  bits ← found
   fitting ← as_wide_as count bits
   Ok (Bits fitting)
 
+abbrev pub source_in : List Variable → ℕ → Source → Result WireSource BindKind
+source_in variables count (Constant level) = Ok (Fixed level)
+source_in variables count (Named named) = source_by count (only (filter_map (candidate named) variables))
+
+abbrev pub wire_by : Assignment → Result WireSource BindKind → Result Wire BindFault
+wire_by a r = at_line a.line r >>= λ source. Ok (record { group = a.group; source = source })
+
 abbrev pub wire_in : List Variable → Assignment → Result Wire BindFault
-wire_in variables a = at_line a.line (source_in variables a.group.count a.source) >>= λ source. Ok (record { group = a.group; source = source })
+wire_in variables a = wire_by a (source_in variables a.group.count a.source)
 
 -- the wires of all assignments, or the first fault
 unfoldable pub wires_in : List Variable → List Assignment → Result (List Wire) BindFault

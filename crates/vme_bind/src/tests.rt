@@ -282,6 +282,158 @@ fn names_a_path_that_is_missing_or_ambiguous(rt: HostRuntime) -> Result<(), Fail
     Ok(())
 }
 
+/// A binding of AS to a variable, and of the other lines to levels.
+fn bound_to(alloc: Global, path: &str) -> Result<String, AllocError> {
+    vectors(alloc, path, "1", "1")
+}
+
+/// The dump with this header, in which p falls.
+fn falling(alloc: Global, header: &str) -> Result<String, AllocError> {
+    format!(in alloc; "{header} $enddefinitions $end #1 1p #2 0p")
+}
+
+#[test]
+fn a_path_may_part_into_scopes_anywhere(rt: HostRuntime) -> Result<(), Fail> {
+    for (path, header) in [
+        (
+            "a.b.c",
+            "$scope module a $end $scope begin b $end $var wire 1 p c $end",
+        ),
+        ("a.b.c", "$scope module a.b $end $var wire 1 p c $end"),
+        ("a.b.c", "$scope module a $end $var wire 1 p b.c $end"),
+        ("a.b.c", "$var wire 1 p a.b.c $end"),
+        (
+            "a.b.c",
+            "$scope module $end $scope module a $end $scope $end $scope module b $end $scope module $end $var wire 1 p c $end",
+        ),
+        ("a.b.c", "$scope module a . b $end $var wire 1 p c $end"),
+        (
+            "a.b",
+            "$scope module a $end $scope module b $end $upscope $end $var wire 1 p b $end",
+        ),
+        (
+            "a.b",
+            "$scope module a $end $upscope $end $scope module a $end $var wire 1 p b $end",
+        ),
+        (
+            "a.b",
+            "$scope module aa $end $var wire 1 q b $end $upscope $end $scope module a $end $var wire 1 p b $end $var wire 1 q bb $end",
+        ),
+        (
+            "a.b",
+            "$scope module a $end $scope module a $end $var wire 1 q b $end $upscope $end $var wire 1 p b $end $upscope $end $var wire 1 q b $end",
+        ),
+        ("a..b", "$scope module a. $end $var wire 1 p b $end"),
+        (
+            ".b",
+            "$scope module . $end $var wire 1 q b $end $upscope $end $var wire 1 p .b $end",
+        ),
+    ] {
+        let binding = bound_to(rt.alloc(), path)?;
+        let dump = falling(rt.alloc(), header)?;
+        records_as(
+            &rt,
+            rt.alloc(),
+            binding.as_str(),
+            dump.as_str(),
+            "#1 AS=1\n#2 AS=0\n",
+        )?;
+    }
+    Ok(())
+}
+
+#[test]
+fn a_text_lacks_what_its_dump_lacks(rt: HostRuntime) -> Result<(), Fail> {
+    for (path, header, kind) in [
+        (
+            "a.b",
+            "$scope module a $end $upscope $end $var wire 1 p b $end",
+            BindKind::NoSuchPath,
+        ),
+        (
+            "a.b",
+            "$scope module a $end $scope module b $end $var wire 1 p b $end",
+            BindKind::NoSuchPath,
+        ),
+        (
+            "a.b",
+            "$scope module a $end $var wire 1 p bb $end",
+            BindKind::NoSuchPath,
+        ),
+        (
+            "a.b",
+            "$scope module a $end $var wire 1 p b $end $upscope $end $scope module a $end $var wire 1 q b $end",
+            BindKind::AmbiguousPath,
+        ),
+        (
+            "a.b",
+            "$scope module a $end $var wire 1 p b $end $upscope $end $var wire 1 q a.b $end",
+            BindKind::AmbiguousPath,
+        ),
+        (
+            "a.b",
+            "$scope module a $end $var wire 1 q b $end $var wire 1 p b $end $var wire 1 q b $end",
+            BindKind::AmbiguousPath,
+        ),
+        (
+            "a.b",
+            "$scope module a $end $var wire 2 p b [1:0] $end",
+            BindKind::WrongWidth,
+        ),
+        (
+            "a.b[2]",
+            "$scope module a $end $var wire 2 p b [1:0] $end",
+            BindKind::NoSuchPath,
+        ),
+    ] {
+        let binding = bound_to(rt.alloc(), path)?;
+        let dump = format!(in rt.alloc(); "{header} $enddefinitions $end")?;
+        let fault = BindFault { line: 2, kind };
+        assert!(rt;
+            lacks(rt.alloc(), binding.as_str(), dump.as_str(), 2, kind)?,
+            "{header}"
+        );
+        let bound = read_binding(rt.alloc(), binding.as_bytes())?;
+        assert!(rt;
+            bound.capture_text(rt.alloc(), dump.as_bytes()).err()
+                == Some(CaptureFault::Binding(fault)),
+            "{header}"
+        );
+    }
+    Ok(())
+}
+
+#[test]
+fn every_front_of_a_dump_makes_a_recording_or_has_a_fault(rt: HostRuntime) -> Result<(), Fail> {
+    let dump = bus_dump(rt.alloc(), AS, READ)?;
+    let text = dump.as_bytes();
+    let binding = read_binding(rt.alloc(), BUS_LINES.as_bytes())?;
+    for end in 0..text.len() {
+        let wanted = match read_vcd(rt.alloc(), &text[..end]) {
+            Ok(_) => None,
+            Err(fault) => Some(CaptureFault::Dump(fault)),
+        };
+        let found = binding.capture_text(rt.alloc(), &text[..end]).err();
+        assert!(rt; found == wanted, "at {end}");
+    }
+    Ok(())
+}
+
+#[test]
+fn lines_are_counted_to_a_million(rt: HostRuntime) -> Result<(), Fail> {
+    let mut text = Vec::new(rt.alloc());
+    text.extend_from_slice(b"slots 21\n")?;
+    for _ in 0..1_000_000 {
+        text.push(b'\n')?;
+    }
+    let unbound = BindFault {
+        line: 1_000_002,
+        kind: BindKind::Unbound(Line::AS),
+    };
+    assert!(rt; read_binding(rt.alloc(), &text).err() == Some(unbound));
+    Ok(())
+}
+
 #[test]
 fn a_fault_of_the_dump_comes_before_one_of_the_binding(rt: HostRuntime) -> Result<(), Fail> {
     let binding = read_binding(rt.alloc(), BUS_LINES.as_bytes())?;

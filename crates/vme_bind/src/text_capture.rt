@@ -1,12 +1,17 @@
 //! The recording that a binding makes of the text of a dump.
 
-ghost use Rattle.std.specs.Prelude.{◌≡◌, ℕ, List, IfOk, replicate};
+ghost use Rattle.std.specs.Prelude.{◌≡◌, ℕ, List, IfOk, map, replicate};
+ghost use Rattle.std.specs.List.{fold};
 ghost use Rattle.vme_trace.specs.declared.level.Level.TheVariants.{Unknown};
 ghost use Rattle.vme_bind.specs.Answers.{Fails};
+ghost use Rattle.vme_bind.specs.declared.fault.BindKind.TheVariants.{Memory};
 ghost use Rattle.vme_bind.specs.Binding.{BoundLines};
+ghost use Rattle.vme_bind.specs.Sought.{seen_in, unseen, with_variable};
 ghost use Rattle.vme_bind.specs.Wires.{wires_in};
 ghost use Rattle.vme_bind.specs.declared.wires.Wire.{Wire};
 ghost use Rattle.vme_bind.specs.Made.{IsBegun};
+ghost use Rattle.vcd_read.specs.declared.dump.Variable.{Variable};
+ghost use Rattle.vcd_read.specs.Sections.{defined};
 ghost use Rattle.vme_bind.specs.TextCapture.{FailsBy, GivesBy, body_capture, capture_behind, capture_of_text};
 
 use crate::binding::Binding;
@@ -14,6 +19,7 @@ use crate::capture::{captured, opening_of};
 use crate::fault::{BindFault, BindKind, CaptureFault};
 use crate::making::{Making, Passing};
 use crate::recorder::Recorder;
+use crate::search::Search;
 use crate::taps::Taps;
 use crate::wires::Wire;
 use std::alloc::{AllocError, Global};
@@ -63,16 +69,22 @@ fn capture_body(
 {
     match making_of(alloc, lines, wires) {
         Ok(made) => record_body(alloc, made, head),
-        Err(_) => Err(CaptureFault::Binding(BindFault {
-            line: 0,
-            kind: BindKind::Memory,
-        })),
+        Err(_) => Err(CaptureFault::Binding(want_of_memory())),
+    }
+}
+
+fn want_of_memory() -> BindFault
+    ensures { result ≡ record { line = 0; kind = Memory } }
+{
+    BindFault {
+        line: 0,
+        kind: BindKind::Memory,
     }
 }
 
 /// A fault of the body behind some definitions, which comes first, or else this fault of a binding.
 fn first_fault(alloc: Global, head: &Head<'_>, fault: BindFault) -> CaptureFault
-    ensures { (b : BoundLines) → Fails fault (wires_in head.now.variables b.assignments) → FailsBy result (capture_behind b head.now) }
+    ensures { (b : BoundLines) (variables : List Variable) → Fails fault (wires_in variables b.assignments) → FailsBy result (capture_behind b (defined head.now variables)) }
 {
     match head.read_body(alloc, Passing) {
         Ok(_) => CaptureFault::Binding(fault),
@@ -88,17 +100,27 @@ impl Binding {
     pub fn capture_text(&self, alloc: Global, text: &[u8]) -> Result<Capture, CaptureFault>
         ensures { GivesBy (λ capture. capture) result (capture_of_text self.now text.now) }
     {
-        match read_definitions(alloc, text) {
-            Ok(head) => self.capture_head(alloc, &head),
+        let search = match Search::new(alloc, self.assignments()) {
+            Ok(search) => search,
+            Err(_) => return Err(CaptureFault::Binding(want_of_memory())),
+        };
+        match read_definitions(alloc, text, search) {
+            Ok((head, search)) => self.capture_head(alloc, &head, &search),
             Err(fault) => Err(CaptureFault::Dump(fault)),
         }
     }
 
-    /// The recording of the body behind some definitions.
-    fn capture_head(&self, alloc: Global, head: &Head<'_>) -> Result<Capture, CaptureFault>
-        ensures { GivesBy (λ capture. capture) result (capture_behind self.now head.now) }
+    /// The recording of the body behind some definitions, of whose variables this was found.
+    fn capture_head(
+        &self,
+        alloc: Global,
+        head: &Head<'_>,
+        search: &Search<'_>,
+    ) -> Result<Capture, CaptureFault>
+        ensures { (variables : List Variable) → map seen_in search.now.sought.items ≡ fold with_variable (map unseen self.now.assignments) variables
+            → GivesBy (λ capture. capture) result (capture_behind self.now (defined head.now variables)) }
     {
-        match Wire::all(alloc, self.assignments(), head.variables()) {
+        match search.wires(alloc) {
             Ok(wires) => capture_body(alloc, self.lines(), &wires, head),
             Err(fault) => Err(first_fault(alloc, head, fault)),
         }

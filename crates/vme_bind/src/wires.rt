@@ -3,7 +3,7 @@
 ghost use Rattle.std.specs.Prelude.{◌≡◌};
 ghost use Rattle.std.specs.List.{filter_map};
 ghost use Rattle.vme_bind.specs.Answers.{Gives, at_line};
-ghost use Rattle.vme_bind.specs.Wires.{same_bits, selected, selects, candidate, only, wire_in, wires_in, source_on, wire_source};
+ghost use Rattle.vme_bind.specs.Wires.{same_bits, selected, selects, bits_meant, candidate, only, as_wide_as, source_by, wire_by, wire_in, wires_in, source_on, wire_source};
 
 use crate::assignment::Assignment;
 use crate::fault::{BindFault, BindKind};
@@ -57,7 +57,7 @@ pub(crate) enum LineSource {
 
 impl BitRange {
     /// Whether both are the same bits.
-    fn is_same(self, other: BitRange) -> bool
+    pub fn is_same(self, other: BitRange) -> bool
         ensures { result ≡ same_bits self other }
     {
         self.net == other.net && self.first == other.first && self.count == other.count
@@ -87,6 +87,25 @@ impl BitRange {
         })
     }
 
+    /// The bits of a net that a selection means, for a variable of this size and index: all, where there is none.
+    pub fn meant(
+        selection: Option<(u32, u32)>,
+        net: u32,
+        size: u32,
+        index: Option<(u32, u32)>,
+    ) -> Option<BitRange>
+        ensures { result ≡ bits_meant selection net size index }
+    {
+        match selection {
+            None => Some(BitRange {
+                net,
+                first: 0,
+                count: size as usize,
+            }),
+            Some(selection) => BitRange::selected(net, selection, index?),
+        }
+    }
+
     /// The bits of a variable, if it is one that is named.
     fn candidate(named: &Variables, variable: &Variable) -> Option<BitRange>
         ensures { result ≡ candidate named.now variable.now }
@@ -94,17 +113,7 @@ impl BitRange {
         if variable.path.as_bytes() != named.path.as_bytes() {
             return None;
         }
-        match named.selection {
-            None => Some(BitRange {
-                net: variable.net,
-                first: 0,
-                count: variable.size as usize,
-            }),
-            Some(selection) => match variable.index {
-                None => None,
-                Some(index) => BitRange::selected(variable.net, selection, index),
-            },
-        }
+        BitRange::meant(named.selection, variable.net, variable.size, variable.index)
     }
 
     /// The bits that are named, which must be the same wherever they are found. A fault is at a line of the text.
@@ -137,29 +146,37 @@ impl BitRange {
 }
 
 impl Wire {
+    /// The wire of an assignment to these bits, which are to be as many as its lines.
+    pub fn of_bits(assignment: &Assignment, bits: BitRange) -> Result<Wire, BindFault>
+        ensures { Gives (λ wire. wire) result (wire_by assignment.now (source_by assignment.now.group.count (Ok bits))) }
+    {
+        let group = assignment.group;
+        if bits.count != group.count as usize {
+            return Err(BindFault {
+                line: assignment.line,
+                kind: BindKind::WrongWidth,
+            });
+        }
+        Ok(Wire {
+            group,
+            source: WireSource::Bits(bits),
+        })
+    }
+
     /// The wire of an assignment, for a dump with these variables.
     fn of(assignment: &Assignment, variables: &[Variable]) -> Result<Wire, BindFault>
         ensures { Gives (λ wire. wire) result (wire_in variables.now assignment.now) }
     {
-        let group = assignment.group;
-        let line = assignment.line;
         match &assignment.source {
             Source::Constant(level) => Ok(Wire {
-                group,
+                group: assignment.group,
                 source: WireSource::Fixed(*level),
             }),
             Source::Variable(named) => {
-                let bits = BitRange::of(line, named, variables)?;
-                if bits.count != group.count as usize {
-                    return Err(BindFault {
-                        line,
-                        kind: BindKind::WrongWidth,
-                    });
+                match BitRange::of(assignment.line, named, variables) {
+                    Ok(bits) => Wire::of_bits(assignment, bits),
+                    Err(fault) => Err(fault),
                 }
-                Ok(Wire {
-                    group,
-                    source: WireSource::Bits(bits),
-                })
             }
         }
     }

@@ -14,7 +14,7 @@ use Rattle.vme_trace.specs.declared.level.Level.TheVariants.{Low, High, Unknown}
 use Rattle.vme_trace.specs.declared.step.Change.{Change}
 use Rattle.vme_trace.proofs.Ranges.{fails-any, least-is, least-none, least-alike}
 use Rattle.vme_trace.proofs.Changing.{level-kept}
-use Rattle.vme_monitor.specs.OutsideSpec.{falls_between}
+use Rattle.vme_monitor.specs.Edges.{falls_between}
 use Rattle.vme_chains.specs.AcknowledgeSpec.{first_changed, low_near, passes_on, passes_unasked}
 
 and_true : (a b : Bool) → (a && b) ≡ true → (a ≡ true) × (b ≡ true)

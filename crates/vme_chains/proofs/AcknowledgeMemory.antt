@@ -14,7 +14,7 @@ use Rattle.vme_trace.specs.declared.level.Level.{Level}
 use Rattle.vme_trace.specs.declared.level.Level.TheVariants.{Low, High, Unknown}
 use Rattle.vme_trace.proofs.Ranges.{any-fails, clash, fails-any}
 use Rattle.vme_trace.proofs.OpenTransfers.{is_judged-holds, suc-sub-one}
-use Rattle.vme_monitor.specs.OutsideSpec.{falls_between}
+use Rattle.vme_monitor.specs.Edges.{falls_between}
 use Rattle.vme_monitor.specs.Tracked.{Says}
 use Rattle.vme_monitor.specs.Tracking.{answer_between, answered_by, entered, is_unanswered, strobe_low_in, strobes_high_in}
 use Rattle.vme_monitor.specs.declared.tracking.Pending.{Pending}

@@ -10,7 +10,7 @@ use Rattle.vme_trace.specs.declared.step.Change.{Change}
 use Rattle.vme_trace.specs.declared.rule.Rule.{Rule}
 use Rattle.vme_trace.specs.declared.rule.Rule.TheVariants.{I1, I2, I3}
 use Rattle.vme_monitor.specs.Run.{nothing}
-use Rattle.vme_monitor.specs.OutsideSpec.{falls_between}
+use Rattle.vme_monitor.specs.Edges.{falls_between}
 use Rattle.vme_monitor.specs.Tracking.{strobes_high_in, strobe_low_in, answer_between, entered, tracked, is_unanswered}
 use Rattle.vme_monitor.specs.declared.mark.Fault.{Fault}
 use Rattle.vme_monitor.specs.declared.mark.Kinds.{Kinds}

@@ -2,7 +2,7 @@
 
 ghost use Rattle.std.specs.Prelude.{◌≡◌, ◌<◌, IsTrue};
 ghost use Rattle.vme_trace.specs.LineNumbers.{has_line, input_of as input_line, is_slot_iack};
-ghost use Rattle.vme_monitor.specs.OutsideSpec.{falls_between};
+ghost use Rattle.vme_monitor.specs.Edges.{falls_between};
 ghost use Rattle.vme_monitor.specs.Whole.{FindsLeast, ShowsAll};
 ghost use Rattle.vme_chains.specs.AcknowledgeSpec.{acknowledge_rules, acknowledge_shown, changes_memory as changes_memory_of, changes_strobes as changes_strobes_of, fault_among, first_changed, is_acknowledged, is_addressed as addressed_near, is_strobed as strobed_near, low_near, memory_after, passes_on as passes, passes_unasked, pending_nth, pending_place};
 

@@ -3,7 +3,9 @@ use smallvec::SmallVec;
 use std::alloc::Global;
 use std::process::Abort;
 use std::test::Fail;
+use vme_monitor::both::Both;
 use vme_monitor::finite::Finite;
+use vme_monitor::known::Known;
 use vme_monitor::mark::{Kind, Mark};
 use vme_monitor::monitor::{Monitor, join, none};
 use vme_trace::{Block, Change, Changes, Class, Level, Line, Lines, Rule, Step, Steps};
@@ -250,6 +252,50 @@ fn cycles_and_transfers_are_marked(rt: HostRuntime) -> Result<(), Fail> {
     let marks = Dtb::marks(alloc, &whole, Dtb::start(&opening))?;
     assert!(rt; marks.as_slice() == want.as_slice());
     Ok(())
+}
+
+/// What the handshake and the lost lines show together, over a recording that isn't cut.
+fn assert_shown(
+    rt: &impl Abort,
+    alloc: Global,
+    rows: &[Row<'_>],
+    want: &[Mark],
+) -> Result<(), Fail> {
+    let opening = Lines::new(3).expect(rt, "three slots");
+    let block = Block {
+        number: 0,
+        opening,
+        steps: Steps::new(steps_of(rt, alloc, rows)?),
+    };
+    block.check().expect(rt, "well formed");
+    assert!(rt; block.steps.as_slice().len() <= 1000);
+    let whole = Both::<Known, Dtb>::summarise(alloc, &opening, block.steps.as_slice())?;
+    let start = Both::<Known, Dtb>::start(&opening);
+    assert!(rt; Both::<Known, Dtb>::event(&whole, start).is_none());
+    let marks = Both::<Known, Dtb>::marks(alloc, &whole, start)?;
+    assert!(rt; marks.as_slice() == want);
+    Ok(())
+}
+
+#[test]
+fn two_monitors_show_their_marks_in_order(rt: HostRuntime) -> Result<(), Fail> {
+    let want = [
+        mark(1, Kind::Start),
+        cycle(9, 0xFFFFDE),
+        mark(10, Kind::Transfer { write: false }),
+        answer(&rt, 11),
+        mark(12, Kind::CycleEnd),
+        mark(12, Kind::Close),
+    ];
+    let read: [Row<'_>; 6] = [
+        &[(AM1, LOW), (AM2, LOW), (A05, LOW)],
+        &[(AS, LOW)],
+        STROBES_LOW,
+        &[(DTACK, LOW)],
+        &[(AS, HIGH), (DS0, HIGH), (DS1, HIGH)],
+        &[(DTACK, HIGH)],
+    ];
+    assert_shown(&rt, rt.alloc(), &read, &want)
 }
 
 #[test]

@@ -1,3 +1,12 @@
-pub mod Captures
+pub mod Acknowledges
+pub mod Cycles
+pub mod Dumps
+pub mod Examples
+pub mod Grants
+pub mod HeldLines
+pub mod Recording
+pub mod SameInstant
 pub mod Steps
-pub mod Told
+pub mod Tables
+pub mod Tenures
+pub mod Transfers

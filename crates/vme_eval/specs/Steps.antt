@@ -1,6 +1,6 @@
 -- How the worked recordings are written.
-use Rattle.std.specs.Prelude.{ℕ, zero, suc, ◌+◌, List, [], ◌∷◌, ◌++◌, replicate}
-use Rattle.vme_trace.specs.LineNumbers.{BBSY, BR, grant, iack, line_count}
+use Rattle.std.specs.Prelude.{ℕ, zero, suc, ◌+◌, ◌==◌, List, [], ◌∷◌, ◌++◌, map, replicate, if◌then◌else◌}
+use Rattle.vme_trace.specs.LineNumbers.{AS, DS0, DS1, DTACK, BERR, IACK, AM, A, BBSY, BR, grant, iack, line_count}
 use Rattle.vme_trace.specs.Levels.{Levels}
 use Rattle.vme_trace.specs.Trace.{Trace, changed}
 use Rattle.vme_trace.specs.declared.level.Level.{Level}
@@ -39,10 +39,13 @@ unknown_lines = record { slots = 3; levels = replicate line_count Unknown }
 
 -- every line of three slots high, but for address lines 24 to 31, of which nothing is known
 abbrev pub idle_changes : List Change
-idle_changes = high_from 0 37 ++ high_from BBSY 5 ++ high_from (grant 0 0) 4 ++ high_from (grant 1 0) 4 ++ high_from (grant 2 0) 4 ++ high_from (grant 3 0) 4 ++ high_from (iack 1) 3
+idle_changes =
+    high_from 0 37 ++ high_from BBSY 5 ++ high_from (grant 0 0) 4 ++ high_from (grant 1 0) 4 ++ high_from (grant 2 0) 4
+    ++ high_from (grant 3 0) 4 ++ high_from (iack 1) 3
 
-abbrev pub idle_step : Step
-idle_step = at 0 idle_changes
+-- the same, with one line low
+abbrev pub idle_changes_but : ℕ → List Change
+idle_changes_but l = map (λ c. if c.line == l then low l else c) idle_changes
 
 unfoldable pub idle_lines : Levels
 unfolding changed
@@ -50,20 +53,57 @@ idle_lines = changed unknown_lines idle_changes
 
 -- a requester in slot 2 gets the bus at level 3
 abbrev pub granted : List (List Change)
-granted = (low (BR 3) ∷ []) ∷ (low (grant 3 0) ∷ []) ∷ (low (grant 3 1) ∷ []) ∷ (low BBSY ∷ high (BR 3) ∷ []) ∷ (high (grant 3 0) ∷ []) ∷ (high (grant 3 1) ∷ []) ∷ []
+granted =
+    (low (BR 3) ∷ []) ∷ (low (grant 3 0) ∷ []) ∷ (low (grant 3 1) ∷ []) ∷ (low BBSY ∷ high (BR 3) ∷ [])
+    ∷ (high (grant 3 0) ∷ []) ∷ (high (grant 3 1) ∷ []) ∷ []
 
 -- an idle bus, and these steps
 abbrev pub from_idle : List (List Change) → Trace
-from_idle later = record { opening = unknown_lines; steps = idle_step ∷ steps_from 10 later }
+from_idle later = record { opening = unknown_lines; steps = at 0 idle_changes ∷ steps_from 10 later }
+
+-- the same with one line low from the first step on
+abbrev pub from_idle_but : ℕ → List (List Change) → Trace
+from_idle_but l later = record { opening = unknown_lines; steps = at 0 (idle_changes_but l) ∷ steps_from 10 later }
 
 -- an idle bus, the bus granted to slot 2, and these steps
 abbrev pub once_granted : List (List Change) → Trace
 once_granted later = from_idle (granted ++ later)
+
+-- the same on a bus that is idle from the opening on
+abbrev pub granted_from_idle : List (List Change) → Trace
+granted_from_idle later = record { opening = idle_lines; steps = steps_from 10 (granted ++ later) }
+
+-- an idle bus, a grant of level 3 that is passed on to slot 3, and these steps
+abbrev pub passed_on : List (List Change) → Trace
+passed_on later =
+    from_idle
+    ((low (BR 3) ∷ []) ∷ (low (grant 3 0) ∷ []) ∷ (low (grant 3 1) ∷ []) ∷ (low (grant 3 2) ∷ []) ∷ later)
 
 -- one slot: the strobes, the answers and the interrupt acknowledge unknown, the address modifier 3D, the
 -- bus busy, and all else high
 abbrev pub dump_lines : Levels
 dump_lines = record {
   slots = 1;
-  levels = replicate 6 Unknown ++ (High ∷ Low ∷ High ∷ High ∷ High ∷ High ∷ []) ++ replicate 33 High ++ (Low ∷ []) ++ replicate 113 High;
+  levels =
+      replicate 6 Unknown ++ (High ∷ Low ∷ High ∷ High ∷ High ∷ High ∷ []) ++ replicate 33 High
+      ++ (Low ∷ []) ++ replicate 113 High;
 }
+
+-- that opening, and these steps
+abbrev pub dumped_at : List Step → Trace
+dumped_at steps = record { opening = dump_lines; steps = steps }
+
+abbrev pub dumped : List (List Change) → Trace
+dumped steps = dumped_at (steps_from 0 steps)
+
+-- the first six lines become high
+abbrev pub first_six_high : List Change
+first_six_high = high AS ∷ high DS0 ∷ high DS1 ∷ high DTACK ∷ high BERR ∷ high IACK ∷ []
+
+-- the changes that choose modifier 39 and address FFFFDE
+abbrev pub asking : List Change
+asking = low (AM 1) ∷ low (AM 2) ∷ low (A 5) ∷ []
+
+-- the changes that choose an acknowledge of level 5
+abbrev pub acknowledging : List Change
+acknowledging = low IACK ∷ low (A 2) ∷ []

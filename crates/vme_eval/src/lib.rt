@@ -1,105 +1,229 @@
-//! What the definitions of a break, of a verdict and of a listing say of worked recordings, computed from the definitions alone.
-//! Each function is a law: its contract is what it says.
+//! What the definitions of a break, of a verdict and of a listing say of worked recordings, by computing them.
+//!
+//! Each function is a law: its contract is what it says. `every_rule` says that each rule has an example that breaks it
+//! and recordings near to that which conform; `tables` which codes and lines the definitions single out; each of the
+//! others that the recordings of one module of `specs/` get the verdict and the listing that stand beside them.
+//! Start reading in `specs/Recording`, then `specs/Examples`. `./test` runs the program on dumps of the recordings,
+//! read off `specs/`, and `tests/definitions/try` edits the definitions, which a law has to refuse.
 #![tactic(auto)]
 
-ghost use Rattle.std.specs.Prelude.{◌≡◌, ◌∷◌, [], codes};
-ghost use Rattle.vme_trace.specs.Verdict.{verdict};
-ghost use Rattle.vme_trace.specs.LineNumbers.{AS, DS0, DTACK, BBSY, AM, A, iack};
-ghost use Rattle.vme_trace.specs.declared.rule.Rule.TheVariants.{U1, U2, H2, H4, S1, C1, C2, B1, B2, B4, I1, I2, I3, I4};
-ghost use Rattle.vme_trace.specs.declared.verdict.Verdict.TheVariants.{Conforming, Broken, Unreadable, NeverIdle};
-ghost use Rattle.vme_eval.specs.Told.{told};
-ghost use Rattle.vme_eval.specs.Captures.{dumped_read, dumped_nothing, dumped_stray_answer, dumped_unknown_strobe, dumped_gap, read_cycle, read_cycle_from_idle, pipelined_cycles, stray_answer, strobes_rise_with_answer, strobes_rise_early, read_modify_write, write_then_read, block_turns, short_address, address_changes_early, address_changes_with_answer, unneeded_line_changes, unknown_modifier, floating_modifier, grant_taken_twice, bus_taken_ungranted, grant_past_last_slot, grant_withdrawn, acknowledge_cycle, acknowledge_write, acknowledge_skips_slot, acknowledge_before_strobe, acknowledge_after_answer};
+ghost use Rattle.std.specs.Prelude.{◌≡◌, ◌∷◌, [], Some};
+ghost use Rattle.vme_trace.specs.Tenures.{tenure_level};
+ghost use Rattle.vme_trace.specs.WellFormed.{malformed_step};
+ghost use Rattle.vme_trace.specs.declared.level.Level.TheVariants.{Low, Unknown};
+ghost use Rattle.vme_trace.specs.declared.rule.Rule.{Rule};
+ghost use Rattle.vme_eval.specs.Examples.{IsShown};
+ghost use Rattle.vme_eval.specs.Recording.{Agrees};
+ghost use Rattle.vme_eval.specs.Steps.{at, dumped_at};
+ghost use Rattle.vme_eval.specs.Tables.{asks_up_to, codes_that, control_lines, high_lines, is_block_transfer, is_single_transfer, lost_lines, not_idle_with};
+ghost use Rattle.vme_eval.specs.Dumps.{dumped_read, dumped_nothing, dumped_stray_answer, dumped_unknown_strobe, dumped_gap, strobe_lost_at_once, answer_low_before_judging, address_lost_between_cycles, earlier_break_of_a_later_rule};
+ghost use Rattle.vme_eval.specs.Transfers.{read_cycle, read_cycle_from_idle, pipelined_cycles, bus_error, starts_before_the_answer_rose, answer_rises_as_the_next_transfer_starts, strobes_rise_early, strobes_rise_with_answer, one_strobe_rises_early, strobe_falls_after_the_answer, strobe_falls_with_the_answer, second_strobe_falls_before_the_answer, stray_answer, bus_error_to_nobody, answered_at_its_first_instant, answered_by_both_lines_in_turn, answered_by_both_lines_at_once, answered_again_by_the_same_line, answer_withdrawn_early, second_answer_withdrawn_early, answer_rises_with_the_strobes, cycle_ends_unanswered, cycle_ends_with_the_answer, transfer_as_the_cycle_ends, answer_without_a_cycle, strobe_before_the_cycle, transfer_between_two_cycles};
+ghost use Rattle.vme_eval.specs.Cycles.{read_modify_write, write_then_read, two_writes, read_write_write, answer_as_the_cycle_starts_counts, block_read, block_turns, block_turns_from_write_to_read, free_cycle, free_cycle_reads_writes_and_reads, extended_read, extended_block_read, acknowledge_line_rises_as_the_cycle_starts};
+ghost use Rattle.vme_eval.specs.HeldLines.{short_address, address_changes_early, address_changes_with_answer, unneeded_line_changes, address_lost_in_the_cycle, highest_address_line_changes, address_changes_as_the_cycle_ends, address_changes_after_an_answer_at_the_start, unknown_modifier, floating_modifier, address_lost_as_the_cycle_starts, address_known_as_the_cycle_starts, highest_address_line_unknown, direction_unknown, direction_known_as_the_transfer_starts, direction_settles_as_the_transfer_starts, direction_changes, direction_changes_after_the_answer, direction_changes_as_a_strobe_rises};
+ghost use Rattle.vme_eval.specs.Grants.{slot_grants_ungranted, slot_grants_with_its_input, slot_grants_as_its_input_rises, slot_ends_its_grant_early, slot_ends_its_grant_as_its_input_falls, second_level_granted, higher_level_granted_second, two_levels_granted_at_once, another_level_granted_as_the_first_ends, grant_while_busy, slot_grants_while_busy, grant_falls_as_the_bus_is_let_go, grant_unasked, request_with_the_grant, request_low_at_the_start, request_of_the_grant_before_serves_again, request_before_another_levels_grant, grant_withdrawn};
+ghost use Rattle.vme_eval.specs.Tenures.{tenure_on_level_0, tenure_on_level_1, tenure_on_level_2, taken_by_the_last_slot, open_tenure_ends, tenure_after_an_open_one, two_tenures, grant_read_at_the_instant_before, slot_read_as_the_bus_is_taken, another_levels_grant_taken, higher_levels_grant_taken, grant_chain_with_a_gap, bus_taken_ungranted, taken_by_a_slots_grant_alone, grant_taken_twice, grant_of_the_same_instant_taken_twice, taken_again_by_a_slots_grant, cycle_without_the_bus, cycle_starts_as_the_bus_is_taken, cycle_starts_as_the_bus_is_let_go, everything_starts_at_one_instant, grant_past_last_slot, past_the_last_slot_as_the_grant_ends};
+ghost use Rattle.vme_eval.specs.Acknowledges.{acknowledge_cycle, acknowledge_of_level_3, acknowledge_skips_slot, acknowledge_outside_an_acknowledge_cycle, acknowledge_with_its_input, acknowledge_as_its_input_rises, acknowledge_before_strobe, acknowledge_before_the_cycle, acknowledge_by_the_second_strobe, acknowledge_as_the_strobe_rises, acknowledge_as_the_second_strobe_rises, acknowledge_as_the_second_strobe_falls, acknowledge_near_a_strobe_and_near_the_cycle, acknowledge_after_answer, acknowledge_after_an_answer_at_the_start, acknowledge_after_the_answer_of_a_data_cycle, acknowledge_with_the_answer, acknowledge_after_a_bus_error, acknowledge_as_the_next_cycle_starts, acknowledge_write, acknowledge_turns_to_a_read, acknowledge_is_a_read_from_its_start, acknowledged_twice};
+ghost use Rattle.vme_eval.specs.SameInstant.{modifier_and_direction_unknown, direction_unknown_as_the_answer_is_low, answered_again_as_the_answer_is_withdrawn, address_and_direction_change, direction_changes_with_a_second_answer, block_turns_as_a_slot_grants, slot_grants_as_another_ends_its_grant, slot_ends_its_grant_as_a_level_is_granted, two_levels_granted_while_busy, unasked_level_granted_while_busy, past_the_last_slot_with_an_acknowledge, acknowledge_of_nothing, acknowledge_after_answer_and_strobe, acknowledge_with_a_second_write, second_acknowledge_is_a_write};
 
-/// The verdicts on recordings of one slot, as from a dump.
+/// Each rule is broken in its example, and the recordings nearest to that conform.
+pub fn every_rule()
+    ensures { (r : Rule) → IsShown r }
+{}
+
+/// The modifier codes of each class, the lines that have to be high or known on an idle bus, and the control lines.
+pub fn tables()
+    ensures block_codes { codes_that is_block_transfer ≡ 11 ∷ 15 ∷ 59 ∷ 63 ∷ [] }
+    ensures single_codes { codes_that is_single_transfer ≡ 9 ∷ 10 ∷ 13 ∷ 14 ∷ 41 ∷ 45 ∷ 57 ∷ 58 ∷ 61 ∷ 62 ∷ [] }
+    ensures extended_codes { codes_that (asks_up_to 31) ≡ 9 ∷ 10 ∷ 11 ∷ 13 ∷ 14 ∷ 15 ∷ [] }
+    ensures standard_codes { codes_that (asks_up_to 23) ≡ 57 ∷ 58 ∷ 59 ∷ 61 ∷ 62 ∷ 63 ∷ [] }
+    ensures short_codes { codes_that (asks_up_to 15) ≡ 41 ∷ 45 ∷ [] }
+    ensures high_lines { not_idle_with Low ≡ high_lines }
+    ensures known_lines { not_idle_with Unknown ≡ control_lines }
+    ensures control_lines { lost_lines ≡ control_lines }
+{}
+
+/// Of two levels that are granted the lesser one is a tenure's, and of two malformed steps the first is named. No
+/// verdict and no listing shows the one, since two such levels break a rule, and none speaks of the other.
+pub fn least_of_two()
+    ensures level { tenure_level two_levels_granted_at_once.trace 3 ≡ Some 2 }
+    ensures step { malformed_step (dumped_at (at 5 [] ∷ at 3 [] ∷ [])) ≡ Some 0 }
+{}
+
+/// Recordings of one slot, as from a dump, and where judging starts and ends.
 pub fn dumps()
-    ensures dumped_read { verdict dumped_read ≡ Conforming }
-    ensures dumped_nothing { verdict dumped_nothing ≡ NeverIdle }
-    ensures dumped_stray_answer { verdict dumped_stray_answer ≡ Broken (record { instant = 3; time = 20; rule = H4; line = DTACK }) }
-    ensures dumped_unknown_strobe { verdict dumped_unknown_strobe ≡ Unreadable (record { instant = 2; time = 10; rule = U1; line = AS }) }
-    ensures dumped_gap { verdict dumped_gap ≡ Unreadable (record { instant = 4; time = 25; rule = U1; line = AS }) }
+    ensures dumped_read { Agrees dumped_read }
+    ensures dumped_nothing { Agrees dumped_nothing }
+    ensures dumped_stray_answer { Agrees dumped_stray_answer }
+    ensures dumped_unknown_strobe { Agrees dumped_unknown_strobe }
+    ensures dumped_gap { Agrees dumped_gap }
+    ensures strobe_lost_at_once { Agrees strobe_lost_at_once }
+    ensures answer_low_before_judging { Agrees answer_low_before_judging }
+    ensures address_lost_between_cycles { Agrees address_lost_between_cycles }
+    ensures earlier_break_of_a_later_rule { Agrees earlier_break_of_a_later_rule }
 {}
 
-/// The verdicts on transfers of one cycle, and of two that overlap.
+/// Transfers, answers and the address strobe.
 pub fn transfers()
-    ensures read_cycle { verdict read_cycle ≡ Conforming }
-    ensures read_cycle_from_idle { verdict read_cycle_from_idle ≡ Conforming }
-    ensures pipelined_cycles { verdict pipelined_cycles ≡ Conforming }
-    ensures stray_answer { verdict stray_answer ≡ Broken (record { instant = 10; time = 90; rule = H4; line = DTACK }) }
-    ensures strobes_rise_with_answer { verdict strobes_rise_with_answer ≡ Conforming }
-    ensures strobes_rise_early { verdict strobes_rise_early ≡ Broken (record { instant = 11; time = 100; rule = H2; line = DS0 }) }
+    ensures read_cycle { Agrees read_cycle }
+    ensures read_cycle_from_idle { Agrees read_cycle_from_idle }
+    ensures pipelined_cycles { Agrees pipelined_cycles }
+    ensures bus_error { Agrees bus_error }
+    ensures starts_before_the_answer_rose { Agrees starts_before_the_answer_rose }
+    ensures answer_rises_as_the_next_transfer_starts { Agrees answer_rises_as_the_next_transfer_starts }
+    ensures strobes_rise_early { Agrees strobes_rise_early }
+    ensures strobes_rise_with_answer { Agrees strobes_rise_with_answer }
+    ensures one_strobe_rises_early { Agrees one_strobe_rises_early }
+    ensures strobe_falls_after_the_answer { Agrees strobe_falls_after_the_answer }
+    ensures strobe_falls_with_the_answer { Agrees strobe_falls_with_the_answer }
+    ensures second_strobe_falls_before_the_answer { Agrees second_strobe_falls_before_the_answer }
+    ensures stray_answer { Agrees stray_answer }
+    ensures bus_error_to_nobody { Agrees bus_error_to_nobody }
+    ensures answered_at_its_first_instant { Agrees answered_at_its_first_instant }
+    ensures answered_by_both_lines_in_turn { Agrees answered_by_both_lines_in_turn }
+    ensures answered_by_both_lines_at_once { Agrees answered_by_both_lines_at_once }
+    ensures answered_again_by_the_same_line { Agrees answered_again_by_the_same_line }
+    ensures answer_withdrawn_early { Agrees answer_withdrawn_early }
+    ensures second_answer_withdrawn_early { Agrees second_answer_withdrawn_early }
+    ensures answer_rises_with_the_strobes { Agrees answer_rises_with_the_strobes }
+    ensures cycle_ends_unanswered { Agrees cycle_ends_unanswered }
+    ensures cycle_ends_with_the_answer { Agrees cycle_ends_with_the_answer }
+    ensures transfer_as_the_cycle_ends { Agrees transfer_as_the_cycle_ends }
+    ensures answer_without_a_cycle { Agrees answer_without_a_cycle }
+    ensures strobe_before_the_cycle { Agrees strobe_before_the_cycle }
+    ensures transfer_between_two_cycles { Agrees transfer_between_two_cycles }
 {}
 
-/// The verdicts on cycles of several transfers.
+/// Classes of cycles, and cycles of several transfers.
 pub fn cycles()
-    ensures read_modify_write { verdict read_modify_write ≡ Conforming }
-    ensures write_then_read { verdict write_then_read ≡ Broken (record { instant = 16; time = 150; rule = C1; line = DTACK }) }
-    ensures block_turns { verdict block_turns ≡ Broken (record { instant = 15; time = 140; rule = C2; line = DTACK }) }
+    ensures read_modify_write { Agrees read_modify_write }
+    ensures write_then_read { Agrees write_then_read }
+    ensures two_writes { Agrees two_writes }
+    ensures read_write_write { Agrees read_write_write }
+    ensures answer_as_the_cycle_starts_counts { Agrees answer_as_the_cycle_starts_counts }
+    ensures block_read { Agrees block_read }
+    ensures block_turns { Agrees block_turns }
+    ensures block_turns_from_write_to_read { Agrees block_turns_from_write_to_read }
+    ensures free_cycle { Agrees free_cycle }
+    ensures free_cycle_reads_writes_and_reads { Agrees free_cycle_reads_writes_and_reads }
+    ensures extended_read { Agrees extended_read }
+    ensures extended_block_read { Agrees extended_block_read }
+    ensures acknowledge_line_rises_as_the_cycle_starts { Agrees acknowledge_line_rises_as_the_cycle_starts }
 {}
 
-/// The verdicts on cycles whose needed lines change or are unknown.
+/// Lines that are known and held while a cycle or a transfer lasts.
 pub fn held_lines()
-    ensures short_address { verdict short_address ≡ Conforming }
-    ensures address_changes_early { verdict address_changes_early ≡ Broken (record { instant = 10; time = 90; rule = S1; line = A 5 }) }
-    ensures address_changes_with_answer { verdict address_changes_with_answer ≡ Conforming }
-    ensures unneeded_line_changes { verdict unneeded_line_changes ≡ Conforming }
-    ensures unknown_modifier { verdict unknown_modifier ≡ Unreadable (record { instant = 9; time = 80; rule = U2; line = AM 3 }) }
-    ensures floating_modifier { verdict floating_modifier ≡ Conforming }
+    ensures short_address { Agrees short_address }
+    ensures address_changes_early { Agrees address_changes_early }
+    ensures address_changes_with_answer { Agrees address_changes_with_answer }
+    ensures unneeded_line_changes { Agrees unneeded_line_changes }
+    ensures address_lost_in_the_cycle { Agrees address_lost_in_the_cycle }
+    ensures highest_address_line_changes { Agrees highest_address_line_changes }
+    ensures address_changes_as_the_cycle_ends { Agrees address_changes_as_the_cycle_ends }
+    ensures address_changes_after_an_answer_at_the_start { Agrees address_changes_after_an_answer_at_the_start }
+    ensures unknown_modifier { Agrees unknown_modifier }
+    ensures floating_modifier { Agrees floating_modifier }
+    ensures address_lost_as_the_cycle_starts { Agrees address_lost_as_the_cycle_starts }
+    ensures address_known_as_the_cycle_starts { Agrees address_known_as_the_cycle_starts }
+    ensures highest_address_line_unknown { Agrees highest_address_line_unknown }
+    ensures direction_unknown { Agrees direction_unknown }
+    ensures direction_known_as_the_transfer_starts { Agrees direction_known_as_the_transfer_starts }
+    ensures direction_settles_as_the_transfer_starts { Agrees direction_settles_as_the_transfer_starts }
+    ensures direction_changes { Agrees direction_changes }
+    ensures direction_changes_after_the_answer { Agrees direction_changes_after_the_answer }
+    ensures direction_changes_as_a_strobe_rises { Agrees direction_changes_as_a_strobe_rises }
 {}
 
-/// The verdicts on bus grants.
+/// Grants along their chains, and the requests that they answer.
 pub fn grants()
-    ensures grant_taken_twice { verdict grant_taken_twice ≡ Broken (record { instant = 8; time = 70; rule = B2; line = BBSY }) }
-    ensures bus_taken_ungranted { verdict bus_taken_ungranted ≡ Broken (record { instant = 11; time = 100; rule = B1; line = BBSY }) }
-    ensures grant_past_last_slot { verdict grant_past_last_slot ≡ Broken (record { instant = 7; time = 60; rule = B4; line = BBSY }) }
-    ensures grant_withdrawn { verdict grant_withdrawn ≡ Conforming }
+    ensures slot_grants_ungranted { Agrees slot_grants_ungranted }
+    ensures slot_grants_with_its_input { Agrees slot_grants_with_its_input }
+    ensures slot_grants_as_its_input_rises { Agrees slot_grants_as_its_input_rises }
+    ensures slot_ends_its_grant_early { Agrees slot_ends_its_grant_early }
+    ensures slot_ends_its_grant_as_its_input_falls { Agrees slot_ends_its_grant_as_its_input_falls }
+    ensures second_level_granted { Agrees second_level_granted }
+    ensures higher_level_granted_second { Agrees higher_level_granted_second }
+    ensures two_levels_granted_at_once { Agrees two_levels_granted_at_once }
+    ensures another_level_granted_as_the_first_ends { Agrees another_level_granted_as_the_first_ends }
+    ensures grant_while_busy { Agrees grant_while_busy }
+    ensures slot_grants_while_busy { Agrees slot_grants_while_busy }
+    ensures grant_falls_as_the_bus_is_let_go { Agrees grant_falls_as_the_bus_is_let_go }
+    ensures grant_unasked { Agrees grant_unasked }
+    ensures request_with_the_grant { Agrees request_with_the_grant }
+    ensures request_low_at_the_start { Agrees request_low_at_the_start }
+    ensures request_of_the_grant_before_serves_again { Agrees request_of_the_grant_before_serves_again }
+    ensures request_before_another_levels_grant { Agrees request_before_another_levels_grant }
+    ensures grant_withdrawn { Agrees grant_withdrawn }
 {}
 
-/// The verdicts on interrupt acknowledge cycles.
+/// Tenures of the bus, and the grants that they take.
+pub fn tenures()
+    ensures tenure_on_level_0 { Agrees tenure_on_level_0 }
+    ensures tenure_on_level_1 { Agrees tenure_on_level_1 }
+    ensures tenure_on_level_2 { Agrees tenure_on_level_2 }
+    ensures taken_by_the_last_slot { Agrees taken_by_the_last_slot }
+    ensures open_tenure_ends { Agrees open_tenure_ends }
+    ensures tenure_after_an_open_one { Agrees tenure_after_an_open_one }
+    ensures two_tenures { Agrees two_tenures }
+    ensures grant_read_at_the_instant_before { Agrees grant_read_at_the_instant_before }
+    ensures slot_read_as_the_bus_is_taken { Agrees slot_read_as_the_bus_is_taken }
+    ensures another_levels_grant_taken { Agrees another_levels_grant_taken }
+    ensures higher_levels_grant_taken { Agrees higher_levels_grant_taken }
+    ensures grant_chain_with_a_gap { Agrees grant_chain_with_a_gap }
+    ensures bus_taken_ungranted { Agrees bus_taken_ungranted }
+    ensures taken_by_a_slots_grant_alone { Agrees taken_by_a_slots_grant_alone }
+    ensures grant_taken_twice { Agrees grant_taken_twice }
+    ensures grant_of_the_same_instant_taken_twice { Agrees grant_of_the_same_instant_taken_twice }
+    ensures taken_again_by_a_slots_grant { Agrees taken_again_by_a_slots_grant }
+    ensures cycle_without_the_bus { Agrees cycle_without_the_bus }
+    ensures cycle_starts_as_the_bus_is_taken { Agrees cycle_starts_as_the_bus_is_taken }
+    ensures cycle_starts_as_the_bus_is_let_go { Agrees cycle_starts_as_the_bus_is_let_go }
+    ensures everything_starts_at_one_instant { Agrees everything_starts_at_one_instant }
+    ensures grant_past_last_slot { Agrees grant_past_last_slot }
+    ensures past_the_last_slot_as_the_grant_ends { Agrees past_the_last_slot_as_the_grant_ends }
+{}
+
+/// Interrupt acknowledges along their chain.
 pub fn acknowledges()
-    ensures acknowledge_cycle { verdict acknowledge_cycle ≡ Conforming }
-    ensures acknowledge_write { verdict acknowledge_write ≡ Broken (record { instant = 12; time = 110; rule = I4; line = DTACK }) }
-    ensures acknowledge_skips_slot { verdict acknowledge_skips_slot ≡ Broken (record { instant = 11; time = 100; rule = I1; line = iack 2 }) }
-    ensures acknowledge_before_strobe { verdict acknowledge_before_strobe ≡ Broken (record { instant = 10; time = 90; rule = I2; line = iack 1 }) }
-    ensures acknowledge_after_answer { verdict acknowledge_after_answer ≡ Broken (record { instant = 12; time = 110; rule = I3; line = iack 1 }) }
+    ensures acknowledge_cycle { Agrees acknowledge_cycle }
+    ensures acknowledge_of_level_3 { Agrees acknowledge_of_level_3 }
+    ensures acknowledge_skips_slot { Agrees acknowledge_skips_slot }
+    ensures acknowledge_outside_an_acknowledge_cycle { Agrees acknowledge_outside_an_acknowledge_cycle }
+    ensures acknowledge_with_its_input { Agrees acknowledge_with_its_input }
+    ensures acknowledge_as_its_input_rises { Agrees acknowledge_as_its_input_rises }
+    ensures acknowledge_before_strobe { Agrees acknowledge_before_strobe }
+    ensures acknowledge_before_the_cycle { Agrees acknowledge_before_the_cycle }
+    ensures acknowledge_by_the_second_strobe { Agrees acknowledge_by_the_second_strobe }
+    ensures acknowledge_as_the_strobe_rises { Agrees acknowledge_as_the_strobe_rises }
+    ensures acknowledge_as_the_second_strobe_rises { Agrees acknowledge_as_the_second_strobe_rises }
+    ensures acknowledge_as_the_second_strobe_falls { Agrees acknowledge_as_the_second_strobe_falls }
+    ensures acknowledge_near_a_strobe_and_near_the_cycle { Agrees acknowledge_near_a_strobe_and_near_the_cycle }
+    ensures acknowledge_after_answer { Agrees acknowledge_after_answer }
+    ensures acknowledge_after_an_answer_at_the_start { Agrees acknowledge_after_an_answer_at_the_start }
+    ensures acknowledge_after_the_answer_of_a_data_cycle { Agrees acknowledge_after_the_answer_of_a_data_cycle }
+    ensures acknowledge_with_the_answer { Agrees acknowledge_with_the_answer }
+    ensures acknowledge_after_a_bus_error { Agrees acknowledge_after_a_bus_error }
+    ensures acknowledge_as_the_next_cycle_starts { Agrees acknowledge_as_the_next_cycle_starts }
+    ensures acknowledge_write { Agrees acknowledge_write }
+    ensures acknowledge_turns_to_a_read { Agrees acknowledge_turns_to_a_read }
+    ensures acknowledge_is_a_read_from_its_start { Agrees acknowledge_is_a_read_from_its_start }
+    ensures acknowledged_twice { Agrees acknowledged_twice }
 {}
 
-/// The listings of recordings that conform.
-pub fn listings()
-    ensures dumped_read { told dumped_read ≡ codes "start 1" ∷ codes "tenure 1 open end -" ∷ codes "cycle 2 S 3D FFFFFE end 5" ∷ codes "transfer 3 of 2 read DTACK 4 close 5" ∷ codes "verdict conforming" ∷ [] }
-    ensures dumped_nothing { told dumped_nothing ≡ codes "verdict never-idle" ∷ [] }
-    ensures read_cycle { told read_cycle ≡ codes "start 1" ∷ codes "tenure 5 level 3 slot 2 end 14" ∷ codes "cycle 9 S 39 FFFFDE end 12" ∷ codes "transfer 10 of 9 read DTACK 11 close 12" ∷ codes "verdict conforming" ∷ [] }
-    ensures read_cycle_from_idle { told read_cycle_from_idle ≡ codes "start 0" ∷ codes "tenure 4 level 3 slot 2 end 13" ∷ codes "cycle 8 S 39 FFFFDE end 11" ∷ codes "transfer 9 of 8 read DTACK 10 close 11" ∷ codes "verdict conforming" ∷ [] }
-    ensures pipelined_cycles { told pipelined_cycles ≡ codes "start 1" ∷ codes "tenure 5 level 3 slot 2 end 20" ∷ codes "cycle 9 S 39 FFFFDE end 12" ∷ codes "transfer 10 of 9 read DTACK 11 close 15" ∷ codes "cycle 14 S 39 FFFFFE end 19" ∷ codes "transfer 17 of 14 read DTACK 18 close 19" ∷ codes "verdict conforming" ∷ [] }
-    ensures read_modify_write { told read_modify_write ≡ codes "start 1" ∷ codes "tenure 5 level 3 slot 2 end -" ∷ codes "cycle 9 S 3D FFFFDE end 17" ∷ codes "transfer 10 of 9 read DTACK 11 close 12" ∷ codes "transfer 15 of 9 write DTACK 16 close 17" ∷ codes "verdict conforming" ∷ [] }
-    ensures short_address { told short_address ≡ codes "start 1" ∷ codes "tenure 5 level 3 slot 2 end 14" ∷ codes "cycle 9 S 29 FFDE end 12" ∷ codes "transfer 10 of 9 read DTACK 11 close 12" ∷ codes "verdict conforming" ∷ [] }
-    ensures floating_modifier { told floating_modifier ≡ codes "start 1" ∷ codes "tenure 5 level 3 slot 2 end 14" ∷ codes "cycle 9 K 3F FFFFDE end 12" ∷ codes "transfer 10 of 9 read DTACK 11 close 12" ∷ codes "verdict conforming" ∷ [] }
-    ensures grant_withdrawn { told grant_withdrawn ≡ codes "start 1" ∷ codes "verdict conforming" ∷ [] }
-    ensures acknowledge_cycle { told acknowledge_cycle ≡ codes "start 1" ∷ codes "tenure 5 level 3 slot 2 end 15" ∷ codes "cycle 9 I 5 end 13" ∷ codes "transfer 10 of 9 read DTACK 12 close 13" ∷ codes "verdict conforming" ∷ [] }
-    ensures strobes_rise_with_answer { told strobes_rise_with_answer ≡ codes "start 1" ∷ codes "tenure 5 level 3 slot 2 end 14" ∷ codes "cycle 9 S 39 FFFFDE end 12" ∷ codes "transfer 10 of 9 read DTACK 11 close 11" ∷ codes "verdict conforming" ∷ [] }
-    ensures address_changes_with_answer { told address_changes_with_answer ≡ codes "start 1" ∷ codes "tenure 5 level 3 slot 2 end 14" ∷ codes "cycle 9 S 29 FFDE end 12" ∷ codes "transfer 10 of 9 read DTACK 11 close 12" ∷ codes "verdict conforming" ∷ [] }
-    ensures unneeded_line_changes { told unneeded_line_changes ≡ codes "start 1" ∷ codes "tenure 5 level 3 slot 2 end 14" ∷ codes "cycle 9 S 29 FFDE end 12" ∷ codes "transfer 10 of 9 read DTACK 11 close 12" ∷ codes "verdict conforming" ∷ [] }
-{}
-
-/// The listings of recordings in which a rule is broken: what was before.
-pub fn broken_listings()
-    ensures dumped_stray_answer { told dumped_stray_answer ≡ codes "start 1" ∷ codes "tenure 1 open end -" ∷ codes "cycle 2 S 3D FFFFFE end -" ∷ codes "verdict broken H4 3 DTACK" ∷ [] }
-    ensures write_then_read { told write_then_read ≡ codes "start 1" ∷ codes "tenure 5 level 3 slot 2 end -" ∷ codes "cycle 9 S 3D FFFFDE end -" ∷ codes "transfer 10 of 9 write DTACK 11 close 12" ∷ codes "transfer 15 read pending" ∷ codes "verdict broken C1 16 DTACK" ∷ [] }
-    ensures block_turns { told block_turns ≡ codes "start 1" ∷ codes "tenure 5 level 3 slot 2 end -" ∷ codes "cycle 9 K 3B FFFFDE end -" ∷ codes "transfer 10 of 9 read DTACK 11 close 12" ∷ codes "transfer 14 write pending" ∷ codes "verdict broken C2 15 DTACK" ∷ [] }
-    ensures stray_answer { told stray_answer ≡ codes "start 1" ∷ codes "tenure 5 level 3 slot 2 end -" ∷ codes "cycle 9 S 39 FFFFDE end -" ∷ codes "verdict broken H4 10 DTACK" ∷ [] }
-    ensures unknown_modifier { told unknown_modifier ≡ codes "start 1" ∷ codes "tenure 5 level 3 slot 2 end -" ∷ codes "verdict unreadable U2 9 AM3" ∷ [] }
-    ensures grant_taken_twice { told grant_taken_twice ≡ codes "start 1" ∷ codes "tenure 6 level 3 slot 3 end 7" ∷ codes "verdict broken B2 8 BBSY" ∷ [] }
-    ensures dumped_unknown_strobe { told dumped_unknown_strobe ≡ codes "start 1" ∷ codes "tenure 1 open end -" ∷ codes "verdict unreadable U1 2 AS" ∷ [] }
-    ensures dumped_gap { told dumped_gap ≡ codes "start 1" ∷ codes "tenure 1 open end -" ∷ codes "cycle 2 S 3D FFFFFE end -" ∷ codes "transfer 3 read pending" ∷ codes "verdict unreadable U1 4 AS" ∷ [] }
-    ensures strobes_rise_early { told strobes_rise_early ≡ codes "start 1" ∷ codes "tenure 5 level 3 slot 2 end -" ∷ codes "cycle 9 S 39 FFFFDE end -" ∷ codes "transfer 10 read pending" ∷ codes "verdict broken H2 11 DS0" ∷ [] }
-    ensures address_changes_early { told address_changes_early ≡ codes "start 1" ∷ codes "tenure 5 level 3 slot 2 end -" ∷ codes "cycle 9 S 29 FFDE end -" ∷ codes "verdict broken S1 10 A05" ∷ [] }
-{}
-
-/// The listings of recordings in which a grant or an acknowledge breaks a rule: what was before.
-pub fn broken_chains_listings()
-    ensures bus_taken_ungranted { told bus_taken_ungranted ≡ codes "start 1" ∷ codes "tenure 6 level 3 slot 3 end 10" ∷ codes "verdict broken B1 11 BBSY" ∷ [] }
-    ensures grant_past_last_slot { told grant_past_last_slot ≡ codes "start 1" ∷ codes "verdict broken B4 7 BBSY" ∷ [] }
-    ensures acknowledge_write { told acknowledge_write ≡ codes "start 1" ∷ codes "tenure 5 level 3 slot 2 end -" ∷ codes "cycle 9 I 5 end -" ∷ codes "transfer 10 write pending" ∷ codes "verdict broken I4 12 DTACK" ∷ [] }
-    ensures acknowledge_skips_slot { told acknowledge_skips_slot ≡ codes "start 1" ∷ codes "tenure 5 level 3 slot 2 end -" ∷ codes "cycle 9 I 5 end -" ∷ codes "transfer 10 read pending" ∷ codes "verdict broken I1 11 IA.2" ∷ [] }
-    ensures acknowledge_before_strobe { told acknowledge_before_strobe ≡ codes "start 1" ∷ codes "tenure 5 level 3 slot 2 end -" ∷ codes "cycle 9 I 5 end -" ∷ codes "verdict broken I2 10 IA.1" ∷ [] }
-    ensures acknowledge_after_answer { told acknowledge_after_answer ≡ codes "start 1" ∷ codes "tenure 5 level 3 slot 2 end -" ∷ codes "cycle 9 I 5 end -" ∷ codes "transfer 10 of 9 read DTACK 11 close -" ∷ codes "verdict broken I3 12 IA.1" ∷ [] }
+/// Recordings that break two rules at one instant: the one that stands first is named.
+pub fn same_instant()
+    ensures modifier_and_direction_unknown { Agrees modifier_and_direction_unknown }
+    ensures direction_unknown_as_the_answer_is_low { Agrees direction_unknown_as_the_answer_is_low }
+    ensures answered_again_as_the_answer_is_withdrawn { Agrees answered_again_as_the_answer_is_withdrawn }
+    ensures address_and_direction_change { Agrees address_and_direction_change }
+    ensures direction_changes_with_a_second_answer { Agrees direction_changes_with_a_second_answer }
+    ensures block_turns_as_a_slot_grants { Agrees block_turns_as_a_slot_grants }
+    ensures slot_grants_as_another_ends_its_grant { Agrees slot_grants_as_another_ends_its_grant }
+    ensures slot_ends_its_grant_as_a_level_is_granted { Agrees slot_ends_its_grant_as_a_level_is_granted }
+    ensures two_levels_granted_while_busy { Agrees two_levels_granted_while_busy }
+    ensures unasked_level_granted_while_busy { Agrees unasked_level_granted_while_busy }
+    ensures past_the_last_slot_with_an_acknowledge { Agrees past_the_last_slot_with_an_acknowledge }
+    ensures acknowledge_of_nothing { Agrees acknowledge_of_nothing }
+    ensures acknowledge_after_answer_and_strobe { Agrees acknowledge_after_answer_and_strobe }
+    ensures acknowledge_with_a_second_write { Agrees acknowledge_with_a_second_write }
+    ensures second_acknowledge_is_a_write { Agrees second_acknowledge_is_a_write }
 {}

@@ -7,3 +7,7 @@ pub mod LineFeeds
 pub mod Numerals
 pub mod Readings
 pub mod RowWords
+pub mod FoundBreaks
+pub mod RowForms
+pub mod RecordedRows
+pub mod WellPlaced

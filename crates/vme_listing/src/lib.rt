@@ -14,7 +14,7 @@ mod words;
 pub mod write;
 
 pub use fault::ListFault;
-pub use listing::Listing;
+pub use listing::{Listing, listings_are_well_placed};
 pub use read::read_listing;
 pub use row::{AnswerLine, Direction, Outcome, Row};
 pub use write::{Write, write_listing};

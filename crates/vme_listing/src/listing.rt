@@ -1,4 +1,9 @@
-ghost use Rattle.std.specs.Prelude.{◌≡◌};
+//! The rows of a listing.
+
+ghost use Rattle.std.specs.Prelude.{◌≡◌, ◌≤◌, ◌<◌, ◌^◌, length, true};
+ghost use Rattle.vme_trace.specs.Trace.{Trace};
+ghost use Rattle.vme_listing.specs.Places.{is_well_placed};
+ghost use Rattle.vme_listing.specs.Recorded.{listing_of};
 
 use crate::row::Row;
 use std::marker::Model;
@@ -41,3 +46,9 @@ impl Listing {
         rows
     }
 }
+
+/// The listing of every recording is well placed, so that [`read_listing`](crate::read_listing) accepts its text: of
+/// every recording of at most 21 slots and fewer than 2^32 steps, well formed or not.
+pub fn listings_are_well_placed()
+    ensures { (t : Trace) → t.opening.slots ≤ 21 → length t.steps < 2 ^ 32 → is_well_placed (listing_of t) ≡ true }
+{}

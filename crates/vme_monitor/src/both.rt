@@ -91,7 +91,8 @@ fn mark_lt(a: &Mark, b: &Mark) -> bool
     a.instant < b.instant || (a.instant == b.instant && i < j)
 }
 
-fn least(first: Option<Break>, second: Option<Break>) -> Option<Break>
+/// The sooner of two events.
+pub fn least(first: Option<Break>, second: Option<Break>) -> Option<Break>
     ensures { result ≡ least_of first second }
 {
     match first {
@@ -164,7 +165,7 @@ fn put_among(alone: &[Mark], marks: Vec<Mark>) -> Result<Vec<Mark>, AllocError>
 
 /// The same of marks that are given away: where one of the two shows nothing, they are those of the other, and where the first
 /// shows one mark alone, as the start of judging, it is put among the others.
-fn marks_together(
+pub fn marks_together(
     alloc: Global,
     first: Vec<Mark>,
     second: Vec<Mark>,
@@ -236,19 +237,6 @@ impl<M: Monitor, N: Monitor> Monitor for Both<M, N> {
     ) -> Result<Pair<M, N>, AllocError> {
         let a = M::compose(alloc, &first.first, &second.first)?;
         let b = N::compose(alloc, &first.second, &second.second)?;
-        Ok(Pair {
-            first: a,
-            second: b,
-        })
-    }
-
-    fn append(
-        alloc: Global,
-        first: Pair<M, N>,
-        second: Pair<M, N>,
-    ) -> Result<Pair<M, N>, AllocError> {
-        let a = M::append(alloc, first.first, second.first)?;
-        let b = N::append(alloc, first.second, second.second)?;
         Ok(Pair {
             first: a,
             second: b,

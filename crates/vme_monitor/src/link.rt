@@ -1,6 +1,6 @@
 //! The parts of a table.
 
-ghost use Rattle.std.specs.Prelude.{◌≡◌, ◌++◌, map, IfOk, OnOk};
+ghost use Rattle.std.specs.Prelude.{◌≡◌, ◌≤◌, [], ◌++◌, map, IfOk, OnOk, vec_len, vec_capacity};
 ghost use Rattle.std.specs.Option.{option_map, option_to_list};
 ghost use Rattle.vme_monitor.specs.Outcome.{unmoved};
 ghost use Rattle.vme_monitor.specs.Run.{break_at, cycle_kind as cycle_kind_of, extended, kinds_of, mark_at, outcome_at, tenure_kind as tenure_kind_of, when as when_shown};
@@ -156,21 +156,23 @@ pub fn delay_rows<P: Copy>(rows: &mut [Row<P>], by: u32)
     }
 }
 
-/// Rows as links to the places of their memories.
-pub fn links_of<P: Places>(alloc: Global, rows: Vec<Row<P>>) -> Result<Vec<Link>, AllocError>
-    ensures { IfOk result (λ links. map hop_of links.items ≡ map (bridge_of P.place_of) (map outcome_of rows.items)) }
+/// Rows as links to the places of their memories, in room that is there.
+pub fn links_in<P: Places>(room: Vec<Link>, rows: Vec<Row<P>>) -> Vec<Link>
+    requires empty { room.items ≡ [] }
+    requires fits { vec_len rows ≤ vec_capacity room }
+    ensures { map hop_of result.items ≡ map (bridge_of P.place_of) (map outcome_of rows.items) }
 {
     let mut rows = rows;
-    let mut links = Vec::with_capacity(alloc, rows.len())?;
+    let mut links = room;
     while let Some(row) = rows.pop() {
-        links.push(Link {
+        links.push_reserved(Link {
             event: row.event,
             marks: row.marks,
             next: row.memory.place(),
-        })?;
+        });
     }
     links.reverse();
-    Ok(links)
+    links
 }
 
 /// A row for each memory, with nothing shown yet.
@@ -200,7 +202,10 @@ fn show(marks: &mut Vec<Mark>, instant: u32, kind: Option<Kind>) -> Result<(), A
     ensures { OnOk result (marks.new.items ≡ marks.old.items ++ map (mark_at instant) (option_to_list kind)) }
 {
     if let Some(kind) = kind {
-        marks.push(Mark { instant, kind })?;
+        if marks.len() == marks.capacity() {
+            marks.reserve(1)?;
+        }
+        marks.push_reserved(Mark { instant, kind });
     }
     Ok(())
 }

@@ -1,6 +1,6 @@
 //! A table with one outcome for each entering memory. Runs that meet share what follows.
 
-ghost use Rattle.std.specs.Prelude.{◌≡◌, ℕ, ◌+◌, ◌≤◌, List, [], ◌∷◌, ◌++◌, All, length, map, IfOk, OnOk, IsTrue, None};
+ghost use Rattle.std.specs.Prelude.{◌≡◌, ℕ, ◌+◌, ◌≤◌, List, [], ◌∷◌, ◌++◌, All, length, map, IfOk, OnOk, IsTrue, None, vec_len, vec_capacity};
 ghost use Rattle.std.specs.Option.{is_some};
 ghost use Rattle.vme_trace.specs.Trace.{levels_after};
 ghost use Rattle.vme_trace.specs.WellFormed.{malformed_step};
@@ -9,11 +9,11 @@ ghost use Rattle.vme_trace.specs.declared.step.Step.{Step};
 ghost use Rattle.vme_monitor.specs.Outcome.{IsWithin, inside-prop, StandsFor, followed, unmoved};
 ghost use Rattle.vme_monitor.specs.Run.{noticed, run_of};
 ghost use Rattle.vme_monitor.specs.Walk.{hops, later_hop, outcome_of, reach};
-ghost use Rattle.vme_monitor.specs.Tables.{outcome};
+ghost use Rattle.vme_monitor.specs.Tables.{HasRoomFor, outcome};
 ghost use Rattle.vme_monitor.specs.Underway.{GiveRuns, seen_in};
 
 use crate::link::{
-    Link, Row, bridges, delay_links, delay_rows, fresh_rows, later_links, later_rows, links_of,
+    Link, Row, bridges, delay_links, delay_rows, fresh_rows, later_links, later_rows, links_in,
 };
 use crate::machine::{Machine, Places};
 use crate::mark::Mark;
@@ -22,6 +22,8 @@ use crate::view::View;
 use std::alloc::{AllocError, Global};
 use vme_trace::{Break, Lines, Step};
 
+/// What steps say to a monitor, whatever memory enters: runs that have met go on as one row, and each layer of links says
+/// which row of the next one a run goes on in.
 #[derive(Debug, Drop)]
 pub struct Table<P: Places> {
     steps: u32,
@@ -223,11 +225,26 @@ impl<P: Places> Table<P> {
         })
     }
 
-    /// The same of two that are given away.
-    pub fn append(self, alloc: Global, second: Table<P>) -> Result<Table<P>, AllocError>
-        requires { self.steps + second.steps ≤ 268435456 }
-        ensures outcomes { IfOk result (λ t. (p : P) → let a = outcome self.layers.items self.rows.items p (P.place_of p) in outcome t.layers.items t.rows.items p (P.place_of p) ≡ followed self.steps a (outcome second.layers.items second.rows.items a.leaving (P.place_of a.leaving))) }
-        ensures counted { IfOk result (λ t. t.steps ≡ self.steps + second.steps) }
+    /// Takes all the memory that it needs to take over another table: room for links in place of the rows comes back. It
+    /// says what it said, after an error too.
+    pub fn make_room(&mut self, alloc: Global, second: &Table<P>) -> Result<Vec<Link>, AllocError>
+        ensures steps { self.new.steps ≡ self.old.steps }
+        ensures layers { self.new.layers.items ≡ self.old.layers.items }
+        ensures rows { self.new.rows ≡ self.old.rows }
+        ensures room { IfOk result (λ room. HasRoomFor room self.new.layers self.new.rows second.now.layers) }
+    {
+        let more = second.layers.len() + 1;
+        self.layers.reserve(more)?;
+        Vec::with_capacity(alloc, self.rows.len())
+    }
+
+    /// The table of the steps of two, one after the other, where both are given away: their links and rows are taken over,
+    /// not copied, in room that was made. Takes no memory.
+    pub fn append_in(self, room: Vec<Link>, second: Table<P>) -> Table<P>
+        requires few { self.steps + second.steps ≤ 268435456 }
+        requires room { HasRoomFor room self.layers self.rows second.layers }
+        ensures outcomes { (p : P) → let a = outcome self.layers.items self.rows.items p (P.place_of p) in outcome result.layers.items result.rows.items p (P.place_of p) ≡ followed self.steps a (outcome second.layers.items second.rows.items a.leaving (P.place_of a.leaving)) }
+        ensures counted { result.steps ≡ self.steps + second.steps }
     {
         let Table {
             steps,
@@ -239,24 +256,28 @@ impl<P: Places> Table<P> {
             layers: mut later,
             rows: mut ends,
         } = second;
-        let links = links_of(alloc, rows)?;
-        layers.push(links)?;
+        let links = links_in(room, rows);
+        layers.push_reserved(links);
         delay_layers(later.as_mut_slice(), steps);
-        layers.append(&mut later)?;
+        let Ok(()) = layers.append(&mut later) else {
+            unreachable!()
+        };
         delay_rows(ends.as_mut_slice(), steps);
-        Ok(Table {
+        Table {
             steps: steps + more,
             layers,
             rows: ends,
-        })
+        }
     }
 
+    /// Of how many steps it is.
     pub fn steps(&self) -> u32
         ensures { result ≡ self.now.steps }
     {
         self.steps
     }
 
+    /// The memory that leaves, where this one enters.
     pub fn leaving(&self, memory: P) -> P
         ensures { result ≡ (outcome self.now.layers.items self.now.rows.items memory (P.place_of memory)).leaving }
     {
@@ -274,6 +295,7 @@ impl<P: Places> Table<P> {
         }
     }
 
+    /// The first break, where this memory enters.
     pub fn event(&self, memory: P) -> Option<Break>
         ensures { result ≡ (outcome self.now.layers.items self.now.rows.items memory (P.place_of memory)).event }
     {
@@ -295,6 +317,7 @@ impl<P: Places> Table<P> {
         }
     }
 
+    /// The marks, where this memory enters.
     pub fn marks(&self, alloc: Global, memory: P) -> Result<Vec<Mark>, AllocError>
         ensures { IfOk result (λ v. v.items ≡ (outcome self.now.layers.items self.now.rows.items memory (P.place_of memory)).marks) }
     {

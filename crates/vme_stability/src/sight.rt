@@ -3,7 +3,7 @@
 ghost use Rattle.std.specs.Prelude.{◌≡◌, IsTrue, None, false, true};
 ghost use Rattle.vme_trace.specs.Cycle.{Needs};
 ghost use Rattle.vme_trace.specs.LineNumbers.{has_line};
-ghost use Rattle.vme_monitor.specs.OutsideSpec.{falls_between};
+ghost use Rattle.vme_monitor.specs.Edges.{falls_between};
 ghost use Rattle.vme_monitor.specs.Tracking.{strobe_low_in};
 ghost use Rattle.vme_stability.specs.StabilitySpec.{address_moved, changes_holding as changes_holding_of, direction_turned, fault_on as fault_on_line, faults_unknown, first_needed as first_needed_of, rises_between, starts_between, strobe_rises_between, unknown_direction as unknown_direction_of, unknown_need};
 

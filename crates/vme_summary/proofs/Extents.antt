@@ -1,20 +1,19 @@
 -- Two extents, of blocks that join or don't.
-use Rattle.std.proofs.Common.{◌≡◌, ℕ, zero, suc, ◌+◌, ◌↔◌, IsTrue, Bool, true, false, List, [], ◌∷◌, ◌++◌, sym, ◌∙◌, ap, subst, arith, Some, None}
+use Rattle.std.proofs.Common.{◌≡◌, zero, suc, ◌+◌, ◌↔◌, IsTrue, Bool, true, false, List, [], ◌∷◌, ◌++◌, sym, ◌∙◌, ap, subst, arith, Some, None}
 use Rattle.std.specs.Prelude.{All, option_map}
 use Rattle.std.proofs.lemmas.List.Elements.{All-append}
-use Rattle.vme_trace.specs.Levels.{Levels}
 use Rattle.vme_trace.specs.Trace.{levels_after}
 use Rattle.vme_trace.specs.Block.{trace_of}
 use Rattle.vme_trace.specs.Blocks.{joined_steps}
 use Rattle.vme_trace.specs.WellFormed.{malformed_step}
 use Rattle.vme_trace.specs.declared.block.Block.{Block}
-use Rattle.vme_trace.specs.declared.step.Step.{Step}
 use Rattle.vme_trace.proofs.CutBlocks.{levels_after-append}
-use Rattle.vme_monitor.specs.Outcome.{Outcome, StandsFor}
 use Rattle.vme_summary.specs.Joins.{BlocksJoin, first_time, last_time, left_by}
+use Rattle.vme_summary.specs.Summaries.{SummaryStandsFor, SummaryStandsForBoth}
 use Rattle.vme_summary.specs.Stands.{IsExtent, Meets, SpanStandsFor, joined_extent}
 use Rattle.vme_summary.specs.declared.extent.Extent.{Extent}
 use Rattle.vme_summary.specs.declared.span.Span.{Span}
+use Rattle.vme_summary.specs.declared.summary.Summary.{Summary}
 use Rattle.vme_summary.proofs.Times.{first_time-append, last_or-append, last_time-append}
 use Rattle.vme_summary.proofs.Chains.{Boundary, chain_joins, chain_of, joins_apart, joins_together, last_left, last_number, left_after, left_by_all, number_after, steps-append}
 
@@ -99,17 +98,15 @@ pub one_sound : (b : Block) → malformed_step (trace_of b) ≡ None → All (λ
 one_sound b e zero d below = e
 one_sound b e (suc k) d below = absurd (omega arith)
 
-module _ {M P S : Type 0} (run : P → Levels → List Step → Outcome P) (outcome : S → P → Outcome P) (count : S → ℕ) where
-  pub spans_joined : (s t : Span M P S) (e : Extent) (r : S) → e ≡ joined_extent s.extent t.extent → Meets s.extent t.extent
-      → ((o : Levels) (x y : List Step) → StandsFor run (outcome s.summary) (count s.summary) o x → StandsFor run (outcome t.summary) (count t.summary) (levels_after o x) y → StandsFor run (outcome r) (count r) o (x ++ y))
-      → (x y : List Block) → SpanStandsFor run outcome count s x → SpanStandsFor run outcome count t y → SpanStandsFor {M = M} run outcome count (record { extent = e; summary = r }) (x ++ y)
-  spans_joined s t e r same m stands x y p q =
-      let opens : t.extent.opening ≡ levels_after s.extent.opening (joined_steps x) = m.opened ∙ sym (left_by_steps s.extent x p.extent) in
-      let second : StandsFor run (outcome t.summary) (count t.summary) (levels_after s.extent.opening (joined_steps x)) (joined_steps y) =
-      subst (λ v. StandsFor run (outcome t.summary) (count t.summary) v (joined_steps y)) opens q.summary in
-      let whole = stands s.extent.opening (joined_steps x) (joined_steps y) p.summary second in
-      record {
-        extent = subst (λ (k : Extent). IsExtent k (x ++ y)) (sym same) (extent_joined s.extent t.extent x y p.extent q.extent m);
-        summary = subst (λ (k : Extent). StandsFor run (outcome r) (count r) k.opening (joined_steps (x ++ y))) (sym same)
-            (subst (λ steps. StandsFor run (outcome r) (count r) s.extent.opening steps) (sym (steps-append x y)) whole);
-      }
+pub spans_joined : (s t : Span) (e : Extent) (r : Summary) → e ≡ joined_extent s.extent t.extent → Meets s.extent t.extent
+    → SummaryStandsForBoth s.summary t.summary r
+    → (x y : List Block) → SpanStandsFor s x → SpanStandsFor t y → SpanStandsFor (record { extent = e; summary = r }) (x ++ y)
+spans_joined s t e r same m both x y p q =
+    let opens : t.extent.opening ≡ levels_after s.extent.opening (joined_steps x) = m.opened ∙ sym (left_by_steps s.extent x p.extent) in
+    let second : SummaryStandsFor t.summary (levels_after s.extent.opening (joined_steps x)) (joined_steps y) = subst (λ v. SummaryStandsFor t.summary v (joined_steps y)) opens q.summary in
+    let whole = both s.extent.opening (joined_steps x) (joined_steps y) p.summary second in
+    record {
+      extent = subst (λ (k : Extent). IsExtent k (x ++ y)) (sym same) (extent_joined s.extent t.extent x y p.extent q.extent m);
+      summary = subst (λ (k : Extent). SummaryStandsFor r k.opening (joined_steps (x ++ y))) (sym same)
+          (subst (λ steps. SummaryStandsFor r s.extent.opening steps) (sym (steps-append x y)) whole);
+    }

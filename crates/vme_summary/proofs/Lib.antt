@@ -3,8 +3,9 @@ pub mod Chains
 pub mod Sound
 pub mod Extents
 pub mod Whole
+pub mod Turns
+pub mod Together
 pub mod Cuts
-pub mod Halves
 pub mod SameLines
 pub mod Apart
 pub mod InstantMarks
@@ -16,3 +17,4 @@ pub mod MarkedKinds
 pub mod MarkedRowsFound
 pub mod MarkedListing
 pub mod Listed
+pub mod Progressing

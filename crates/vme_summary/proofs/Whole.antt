@@ -1,6 +1,6 @@
 -- The recording that blocks make, and the verdict on it.
 use Rattle.std.proofs.Common.{◌≡◌, ℕ, suc, ◌≤◌, Bool, true, false, List, [], ◌∷◌, refl, sym, ◌∙◌, ap, subst, arith, Option, Some, None}
-use Rattle.std.specs.Prelude.{All, option_map, slice_get}
+use Rattle.std.specs.Prelude.{All}
 use Rattle.std.specs.Option.{option_or}
 use Rattle.vme_trace.specs.Levels.{Levels}
 use Rattle.vme_trace.specs.Trace.{Trace}
@@ -12,12 +12,14 @@ use Rattle.vme_trace.specs.Verdict.{judge, rules_in_force, verdict_by, verdict_o
 use Rattle.vme_trace.specs.declared.block.Block.{Block}
 use Rattle.vme_trace.specs.declared.step.Step.{Step}
 use Rattle.vme_trace.specs.declared.verdict.Break.{Break}
+use Rattle.vme_trace.specs.declared.verdict.Verdict.{Verdict}
 use Rattle.vme_trace.specs.declared.verdict.Verdict.TheVariants.{NeverIdle}
-use Rattle.vme_monitor.specs.Outcome.{Outcome}
 use Rattle.vme_monitor.specs.Whole.{has_span}
 use Rattle.vme_summary.specs.Joins.{BlocksJoin, first_time, is_later, joined_trace, last_time, left_by}
-use Rattle.vme_summary.specs.Stands.{SpanStandsFor}
-use Rattle.vme_summary.specs.Tells.{JudgesAll, Tells}
+use Rattle.vme_summary.specs.Progressed.{HasFound, HasFoundAll}
+use Rattle.vme_summary.specs.Summaries.{StandsForAll, SummaryStandsFor, first_break}
+use Rattle.vme_summary.specs.Stands.{IsVerdictOf, SpanStandsFor}
+use Rattle.vme_summary.specs.declared.found.Found.{Found}
 use Rattle.vme_summary.specs.declared.span.Span.{Span}
 use Rattle.vme_summary.proofs.Chains.{GoOn, chain_of, untimed}
 use Rattle.vme_summary.proofs.Sound.{sound_together, stands_sound}
@@ -58,24 +60,28 @@ blocks_sound b bs j all =
     own None = refl
     own (Some s) = refl
 
--- a span tells what a run over the whole gives
-pub span_tells : {M P S : Type 0} (run : P → Levels → List Step → Outcome P) (begin : Levels → P) (outcome : S → P → Outcome P) (count : S → ℕ) (s : Span M P S) (leaving : P) (event : Option Break)
-    → s.extent.opening.slots ≤ 21 → leaving ≡ (outcome s.summary (begin s.extent.opening)).leaving → event ≡ (outcome s.summary (begin s.extent.opening)).event
-    → (blocks : List Block) (t : Trace) → SpanStandsFor run outcome count s blocks → joined_trace blocks ≡ Some t → Tells run begin t leaving event
-span_tells run begin outcome count s leaving event few left found [] t stands e = absurd (cc)
-span_tells {P = P} run begin outcome count s leaving event few left found (b ∷ bs) t stands e =
+-- blocks that join make a well-formed recording
+pub joined_sound : (blocks : List Block) (t : Trace) → BlocksJoin blocks → All IsSound blocks → joined_trace blocks ≡ Some t → malformed_step t ≡ None
+joined_sound [] t j all e = absurd (cc)
+joined_sound (b ∷ bs) t j all e =
+    let whole : record { opening = b.opening; steps = joined_steps (b ∷ bs) } ≡ t = cc in
+    subst (λ k. malformed_step k ≡ None) whole (blocks_sound b bs j all)
+
+-- the summary of a span that stands for blocks stands for the recording that they make
+pub span_of_all : (s : Span) → s.extent.opening.slots ≤ 21 → (blocks : List Block) (t : Trace) → SpanStandsFor s blocks → joined_trace blocks ≡ Some t → StandsForAll s.summary s.extent.opening t
+span_of_all s few [] t stands e = absurd (cc)
+span_of_all s few (b ∷ bs) t stands e =
     let opens : Some b.opening ≡ Some s.extent.opening = stands.extent.opening in
     let same : s.extent.opening ≡ b.opening = cc in
     let whole : record { opening = b.opening; steps = joined_steps (b ∷ bs) } ≡ t = cc in
-    let told = stands.summary.outcomes (begin s.extent.opening) in
-    let here : Tells run begin (record { opening = b.opening; steps = joined_steps (b ∷ bs) }) leaving event =
+    let here : StandsForAll s.summary s.extent.opening (record { opening = b.opening; steps = joined_steps (b ∷ bs) }) =
     record {
       sound = blocks_sound b bs stands.extent.join stands.extent.sound;
       few = subst (λ (v : Levels). v.slots ≤ 21) same few;
-      memory = left ∙ ap (λ (o : Outcome P). o.leaving) told ∙ ap (λ v. (run (begin v) v (joined_steps (b ∷ bs))).leaving) same;
-      first_break = found ∙ ap (λ (o : Outcome P). o.event) told ∙ ap (λ v. (run (begin v) v (joined_steps (b ∷ bs))).event) same;
+      opens = same;
+      stands = subst (λ (v : Levels). SummaryStandsFor s.summary v (joined_steps (b ∷ bs))) same stands.summary;
     } in
-    subst (λ k. Tells run begin k leaving event) whole here
+    subst (λ k. StandsForAll s.summary s.extent.opening k) whole here
 
 judged_some : (spans : List Stretch) (t : Trace) → has_span spans ≡ true → judge rules_in_force t spans ≡ verdict_on (least_of rules_in_force t spans)
 judged_some [] t e = absurd (cc)
@@ -85,26 +91,28 @@ judged_none : (spans : List Stretch) (t : Trace) → has_span spans ≡ false �
 judged_none [] t e = refl
 judged_none (span ∷ spans) t e = absurd (cc)
 
-module _ {P : Type 0} {run : P → Levels → List Step → Outcome P} {begin : Levels → P} {judged : P → Bool} (law : JudgesAll run begin judged) where
-  verdict_at : (t : Trace) (leaving : P) (event : Option Break) → Tells run begin t leaving event → judged leaving ≡ true → verdict_by rules_in_force t ≡ verdict_on event
-  unfolding verdict_by
-  verdict_at t leaving event told on =
-      judged_some (judged_spans t) t (sym (law.started t told.sound told.few) ∙ ap judged (sym told.memory) ∙ on)
-      ∙ ap verdict_on (sym (law.event t told.sound told.few) ∙ sym told.first_break)
+-- the verdict where something is judged
+pub judged_verdict : (t : Trace) (judged : Bool) (event : Option Break) → judged ≡ has_span (judged_spans t) → event ≡ first_break t → judged ≡ true → verdict_by rules_in_force t ≡ verdict_on event
+unfolding verdict_by
+judged_verdict t judged event started first on = judged_some (judged_spans t) t (sym started ∙ on) ∙ ap verdict_on (sym first)
 
-  waiting_at : (t : Trace) (leaving : P) (event : Option Break) → Tells run begin t leaving event → judged leaving ≡ false → verdict_by rules_in_force t ≡ NeverIdle
-  unfolding verdict_by
-  waiting_at t leaving event told off =
-      judged_none (judged_spans t) t (sym (law.started t told.sound told.few) ∙ ap judged (sym told.memory) ∙ off)
+-- and where nothing is
+pub waiting_verdict : (t : Trace) (judged : Bool) → judged ≡ has_span (judged_spans t) → judged ≡ false → verdict_by rules_in_force t ≡ NeverIdle
+unfolding verdict_by
+waiting_verdict t judged started off = judged_none (judged_spans t) t (sym started ∙ off)
 
-  pub verdict_told : (blocks : List Block) (n : ℕ) → option_map (λ (b : Block). b.number) (slice_get blocks 0) ≡ Some n → (leaving : P) (event : Option Break)
-      → ((t : Trace) → joined_trace blocks ≡ Some t → Tells run begin t leaving event) → judged leaving ≡ true
-      → option_map (verdict_by rules_in_force) (joined_trace blocks) ≡ Some (verdict_on event)
-  verdict_told [] n e leaving event told on = absurd (cc)
-  verdict_told (b ∷ bs) n e leaving event told on = ap Some (verdict_at _ leaving event (told _ refl) on)
+-- what monitors that begin at the opening of a span find of all its steps
+abbrev pub FindsFrom : Span → Found → Type 0
+FindsFrom s f = (x : List Step) → SummaryStandsFor s.summary s.extent.opening x → HasFound f s.extent.opening x
 
-  pub waiting_told : (blocks : List Block) (n : ℕ) → option_map (λ (b : Block). b.number) (slice_get blocks 0) ≡ Some n → (leaving : P) (event : Option Break)
-      → ((t : Trace) → joined_trace blocks ≡ Some t → Tells run begin t leaving event) → judged leaving ≡ false
-      → option_map (verdict_by rules_in_force) (joined_trace blocks) ≡ Some NeverIdle
-  waiting_told [] n e leaving event told off = absurd (cc)
-  waiting_told (b ∷ bs) n e leaving event told off = ap Some (waiting_at _ leaving event (told _ refl) off)
+pub found_all : (s : Span) (f : Found) (t : Trace) → FindsFrom s f → StandsForAll s.summary s.extent.opening t → HasFoundAll f t
+found_all s f t finds all =
+    let same = all.opens in
+    let stands : SummaryStandsFor s.summary s.extent.opening t.steps = subst (λ (v : Levels). SummaryStandsFor s.summary v t.steps) (sym same) all.stands in
+    record { sound = all.sound; few = all.few; found_there = subst (λ (v : Levels). HasFound f v t.steps) same (finds t.steps stands) }
+
+pub verdict_found : (s : Span) → s.extent.opening.slots ≤ 21 → (f : Found) → FindsFrom s f → (v : Verdict) → ((t : Trace) → HasFoundAll f t → verdict_by rules_in_force t ≡ v) → IsVerdictOf s v
+verdict_found s few f finds v found [] stands = let none : None ≡ Some s.extent.first = stands.extent.first in absurd (cc)
+verdict_found s few f finds v found (b ∷ bs) stands =
+    let t : Trace = record { opening = b.opening; steps = joined_steps (b ∷ bs) } in
+    ap Some (found t (found_all s f t finds (span_of_all s few (b ∷ bs) t stands refl)))

@@ -1,7 +1,12 @@
 pub mod Joins
+pub mod SameSteps
+pub mod Runs
+pub mod Summaries
+pub mod HasRoom
 pub mod Stands
-pub mod Tells
 pub mod Joint
 pub mod AllShown
 pub mod MarkedRows
 pub mod Endings
+pub mod CutFaults
+pub mod Progressed

@@ -1,26 +1,28 @@
 -- What a span says of blocks.
-use Rattle.std.specs.Prelude.{◌≡◌, ℕ, ◌+◌, true, List, Some, None, option_map, slice_get, All}
-use Rattle.std.specs.List.{last_or}
+use Rattle.std.specs.Prelude.{◌≡◌, ◌↔◌, ℕ, ◌+◌, ◌≤◌, true, List, [], ◌∷◌, ◌++◌, length, Option, Some, None, option_map}
 use Rattle.std.specs.Option.{option_or}
-use Rattle.vme_trace.specs.Levels.{Levels}
+use Rattle.vme_trace.specs.Trace.{Trace}
 use Rattle.vme_trace.specs.WellFormed.{malformed_step}
 use Rattle.vme_trace.specs.Block.{trace_of}
 use Rattle.vme_trace.specs.Blocks.{joined_steps}
+use Rattle.vme_trace.specs.Verdict.{rules_in_force, verdict_by}
 use Rattle.vme_trace.specs.declared.block.Block.{Block}
-use Rattle.vme_trace.specs.declared.step.Step.{Step}
-use Rattle.vme_monitor.specs.Outcome.{Outcome, StandsFor}
-use Rattle.vme_summary.specs.Joins.{BlocksJoin, first_time, is_later, last_time, left_by}
+use Rattle.vme_trace.specs.declared.verdict.Verdict.{Verdict}
+use Rattle.vme_listing.specs.Recorded.{listing_of}
+use Rattle.vme_listing.specs.declared.row.Row.{Row}
+use Rattle.vme_summary.specs.Joins.{AreSound, BlocksJoin, first_block, first_block_number, first_time, is_later, joined_trace, last_block, last_block_number, last_time, left_by}
+use Rattle.vme_summary.specs.Summaries.{SummaryStandsFor, summary_steps}
 use Rattle.vme_summary.specs.declared.extent.Extent.{Extent}
 use Rattle.vme_summary.specs.declared.span.Span.{Span}
 
 -- the extent of blocks that join, each of which is well formed
 pub record IsExtent (e : Extent) (blocks : List Block) : Type 0 where
   pub join : BlocksJoin blocks
-  pub sound : All (λ b. malformed_step (trace_of b) ≡ None) blocks
-  pub first : option_map (λ b. b.number) (slice_get blocks 0) ≡ Some e.first
-  pub last : option_map (λ b. b.number) (last_or None blocks) ≡ Some e.last
-  pub opening : option_map (λ b. b.opening) (slice_get blocks 0) ≡ Some e.opening
-  pub left : option_map left_by (last_or None blocks) ≡ Some e.left
+  pub sound : AreSound blocks
+  pub first : first_block_number blocks ≡ Some e.first
+  pub last : last_block_number blocks ≡ Some e.last
+  pub opening : option_map (λ b. b.opening) (first_block blocks) ≡ Some e.opening
+  pub left : option_map left_by (last_block blocks) ≡ Some e.left
   pub starts : e.starts ≡ first_time (joined_steps blocks)
   pub ends : e.ends ≡ last_time (joined_steps blocks)
 
@@ -32,17 +34,56 @@ pub record Meets (a b : Extent) : Type 0 where
 
 -- two extents made one
 abbrev pub joined_extent : Extent → Extent → Extent
-joined_extent a b = record { first = a.first; last = b.last; opening = a.opening; left = b.left; starts = option_or a.starts b.starts; ends = option_or b.ends a.ends }
+joined_extent a b =
+    record {
+      first = a.first;
+      last = b.last;
+      opening = a.opening;
+      left = b.left;
+      starts = option_or a.starts b.starts;
+      ends = option_or b.ends a.ends;
+    }
 
 -- a span stands for blocks: it has their extent, and its summary is one of all their steps, after the first opening
-pub record SpanStandsFor {M P S : Type 0} (run : P → Levels → List Step → Outcome P) (outcome : S → P → Outcome P) (count : S → ℕ) (s : Span M P S) (blocks : List Block) : Type 0 where
+pub record SpanStandsFor (s : Span) (blocks : List Block) : Type 0 where
   pub extent : IsExtent s.extent blocks
-  pub summary : StandsFor run (outcome s.summary) (count s.summary) s.extent.opening (joined_steps blocks)
+  pub summary : SummaryStandsFor s.summary s.extent.opening (joined_steps blocks)
+
+-- it stands for some blocks
+abbrev pub StandsForBlocks : Span → Type 0
+StandsForBlocks s = (blocks : List Block) × SpanStandsFor s blocks
 
 -- the number of a span's first block
-abbrev pub first_number : {M P S : Type 0} → Span M P S → ℕ
+abbrev pub first_number : Span → ℕ
 first_number s = s.extent.first
 
 -- how many steps a span is of
-abbrev pub step_count : {M P S : Type 0} → (S → ℕ) → Span M P S → ℕ
-step_count count s = count s.summary
+abbrev pub step_count : Span → ℕ
+step_count s = summary_steps s.summary
+
+-- for whatever blocks two spans stand, a third stands for the blocks of both
+abbrev pub StandsForBoth : Span → Span → Span → Type 0
+StandsForBoth s t r = (x y : List Block) → SpanStandsFor s x → SpanStandsFor t y → SpanStandsFor r (x ++ y)
+
+-- for whatever blocks two spans stand, this says that those of both don't join
+abbrev pub SaysTorn : Type 0 → Span → Span → Type 0
+SaysTorn torn s t = (x y : List Block) → SpanStandsFor s x → SpanStandsFor t y → (torn ↔ ¬ BlocksJoin (x ++ y))
+
+-- something of the recording that blocks make, if there are any
+abbrev pub recorded : {A : Type 0} → (Trace → A) → List Block → Option A
+recorded f blocks = option_map f (joined_trace blocks)
+
+-- this is the verdict, by the rules in force, of the recording that a span's blocks make
+abbrev pub IsVerdictOf : Span → Verdict → Type 0
+IsVerdictOf s v =
+    (blocks : List Block) → SpanStandsFor s blocks → recorded (verdict_by rules_in_force) blocks ≡ Some v
+
+-- this is the listing of the recording that a span's blocks make
+abbrev pub IsListingOf : Span → List Row → Type 0
+IsListingOf s rows = (blocks : List Block) → SpanStandsFor s blocks → recorded listing_of blocks ≡ Some rows
+
+-- a block is judged: it is accepted, it has at most 65,536 steps, and the span stands for it alone
+pub record IsJudged (b : Block) (s : Span) : Type 0 where
+  pub accepted : malformed_step (trace_of b) ≡ None
+  pub short : length b.steps ≤ 65536
+  pub stands : SpanStandsFor s (b ∷ [])

@@ -3,46 +3,50 @@
 ghost use Rattle.std.specs.Prelude.{◌≡◌, ◌≤◌, [], ◌∷◌, length, IfOk, IfErr, None};
 ghost use Rattle.vme_trace.specs.Block.{trace_of};
 ghost use Rattle.vme_trace.specs.WellFormed.{malformed_step};
-ghost use Rattle.vme_summary.specs.Stands.{SpanStandsFor};
+ghost use Rattle.vme_summary.specs.Joins.{block_of};
+ghost use Rattle.vme_summary.specs.Stands.{SpanStandsFor, first_number, step_count};
 
-use crate::all::{All, Judging};
 use crate::extent::Extent;
 use crate::span::Span;
+use crate::summary::Summary;
 use std::alloc::{AllocError, Global};
 use std::marker::Model;
-use vme_monitor::monitor::Monitor;
 use vme_trace::{Block, Lines, Step};
 
-/// A block and the span that stands for it.
+/// A block that is judged: `Block::check` accepts it, it has at most 65,536 steps, and a span stands for it alone.
+/// Contracts see it as the block.
 #[derive(Drop)]
-pub struct Judged<M: Monitor = All> {
+pub struct Judged {
     block: Block,
-    span: Span<M>,
+    span: Span,
 }
 
-impl<M: Monitor> Model for Judged<M> {
-    ghost use Rattle.std.specs.Prelude.{[], ◌∷◌};
-    ghost use Rattle.vme_summary.specs.Stands.{SpanStandsFor};
+impl Model for Judged {
+    ghost use Rattle.vme_summary.specs.Stands.{IsJudged};
     ghost use Rattle.vme_trace.specs.declared.block.Block.{Block};
 
     ghost Value = { Block };
 
     ghost view = { λ a. a.block };
 
-    ghost invariant = { λ a. SpanStandsFor M.run M.outcome M.count a.span (a.block ∷ []) };
+    ghost invariant = { λ a. IsJudged a.block a.span };
 }
 
-impl<M: Monitor> Judged<M> {
+impl Judged {
     /// The block.
     pub fn block(&self) -> &Block
-        ensures { result.now ≡ self.now }
+        ensures block { result.now ≡ self.now }
+        ensures accepted { malformed_step (trace_of self.now) ≡ None }
+        ensures short { length self.now.steps ≤ 65536 }
     {
         &self.block
     }
 
     /// The span that stands for the block alone.
-    pub fn span(&self) -> &Span<M>
-        ensures { SpanStandsFor M.run M.outcome M.count result.now (self.now ∷ []) }
+    pub fn span(&self) -> &Span
+        ensures span { SpanStandsFor result.now (self.now ∷ []) }
+        ensures starts { first_number result.now ≡ self.now.number }
+        ensures steps { step_count result.now ≡ length self.now.steps }
     {
         &self.span
     }
@@ -55,21 +59,23 @@ impl<M: Monitor> Judged<M> {
         block
     }
 
-    /// The span, without the block.
-    pub fn into_span(self) -> Span<M>
-        ensures { SpanStandsFor M.run M.outcome M.count result (self ∷ []) }
+    /// The block and the span.
+    pub fn into_parts(self) -> (Block, Span)
+        ensures block { result.0 ≡ self }
+        ensures accepted { malformed_step (trace_of self) ≡ None }
+        ensures span { SpanStandsFor result.1 (self ∷ []) }
+        ensures starts { first_number result.1 ≡ self.number }
+        ensures steps { step_count result.1 ≡ length self.steps }
+        ensures short { length self.steps ≤ 65536 }
     {
-        let Judged { block: _, span } = self;
-        span
+        let Judged { block, span } = self;
+        (block, span)
     }
 }
 
-/// Judges a block, whatever stood before it. It has to be one that `Block::check` accepts, of at most 65,536 steps. Without
-/// memory the block is handed back.
-pub fn judge_block<M: Judging>(
-    alloc: Global,
-    block: Block,
-) -> Result<Judged<M>, (Block, AllocError)>
+/// Judges a block, whatever stood before it. It has to be one that `Block::check` accepts, of at most 65,536 steps. The
+/// only error is want of memory: the block is then handed back as it was.
+pub fn judge_block(alloc: Global, block: Block) -> Result<Judged, (Block, AllocError)>
     requires accepted { malformed_step (trace_of block) ≡ None }
     requires short { length block.steps ≤ 65536 }
     ensures judged { IfOk result (λ judged. judged ≡ block) }
@@ -82,17 +88,17 @@ pub fn judge_block<M: Judging>(
 }
 
 /// The span of a block of these steps, whatever stood before it.
-pub(crate) fn span_of_steps<M: Judging>(
+pub(crate) fn span_of_steps(
     alloc: Global,
     number: u32,
     opening: &Lines,
     steps: &[Step],
-) -> Result<Span<M>, AllocError>
-    requires accepted { malformed_step (record { opening = opening.now; steps = steps.now }) ≡ None }
+) -> Result<Span, AllocError>
+    requires accepted { malformed_step (trace_of (block_of number opening.now steps.now)) ≡ None }
     requires short { length steps.now ≤ 65536 }
-    ensures { IfOk result (λ s. SpanStandsFor M.run M.outcome M.count s (record { number = number; opening = opening.now; steps = steps.now } ∷ [])) }
+    ensures { IfOk result (λ s. SpanStandsFor s (block_of number opening.now steps.now ∷ [])) }
 {
-    let (summary, left) = M::judge_steps(alloc, opening, steps)?;
+    let (summary, left) = Summary::of_steps(alloc, opening, steps)?;
     Ok(Span {
         extent: Extent::around(number, opening, steps, left),
         summary,

@@ -1,23 +1,35 @@
 //! One summary of blocks of a recording, by all rules in force.
 //!
-//! [`judge_block`] makes of a block a [`Span`] that stands for it, and [`join`] makes one span of two whose blocks follow one
-//! another. However the blocks of a recording were joined, [`Span::verdict`] is the verdict of the recording, and
-//! [`Span::listing`] its listing.
-//! [`All`] is the monitor of all rules in force, and [`all`] is the only place that knows which monitors there are.
+//! [`judge_block`] makes of a block a [`Judged`]: the block, and a [`Span`] that stands for it, whatever came before.
+//! [`join`] makes one span of two whose blocks follow one another; [`append`] does it with spans that are given away.
+//! However the blocks of a recording were joined, [`Span::verdict`] is the verdict of the recording, and
+//! [`Span::listing`] its listing, which is well placed. [`verdict_by_blocks`] and [`listing_by_blocks`] do all of this for
+//! a capture, and copy none of its blocks.
+//!
+//! A [`Progress`] goes on past further blocks from where judging has come to, without a join and without memory.
+//!
+//! Contracts have one word: `SpanStandsFor span blocks` (`specs/Stands`). Start there and with `span`. `Span` and
+//! `Judged` are plain types, so they go into tables, lists and threads. `monitors` is the only place that knows which
+//! monitors there are: their tables stand beside one another in a `Summary`.
 #![tactic(auto)]
 
-pub mod all;
-pub mod cut;
-pub mod extent;
+mod cut;
+mod extent;
+mod found;
 pub mod judged;
 #[cfg(test)]
 mod listing_tests;
+mod monitors;
+#[cfg(test)]
+mod moving_tests;
+pub mod progress;
 mod rows;
 pub mod span;
+mod summary;
 #[cfg(test)]
 mod tests;
 
-pub use all::All;
-pub use cut::{judge_blocks, listing_by_blocks, verdict_by_blocks};
+pub use cut::{listing_by_blocks, verdict_by_blocks};
 pub use judged::{Judged, judge_block};
-pub use span::{JoinFault, Span, join};
+pub use progress::Progress;
+pub use span::{JoinFault, Span, append, join, joined_blocks_are_sound};

@@ -1,64 +1,59 @@
 //! One summary of blocks that join.
 
-ghost use Rattle.std.specs.Prelude.{◌≡◌, ◌+◌, ◌≤◌, ◌↔◌, List, ◌++◌, length, IfOk, Err, Some, None, option_map, slice_get};
-ghost use Rattle.std.specs.List.{last_or};
+ghost use Rattle.std.specs.Prelude.{◌≡◌, ◌+◌, ◌≤◌, ◌↔◌, List, length, IfOk, IfErr, Err, Some, true};
 ghost use Rattle.vme_trace.specs.Blocks.{joined_steps};
-ghost use Rattle.vme_trace.specs.Trace.{Trace};
-ghost use Rattle.vme_trace.specs.Verdict.{rules_in_force, verdict_by, verdict_on};
 ghost use Rattle.vme_trace.specs.declared.block.Block.{Block};
-ghost use Rattle.vme_listing.specs.Recorded.{listing_of};
-ghost use Rattle.vme_summary.specs.Joins.{BlocksJoin, joined_trace};
-ghost use Rattle.vme_summary.specs.Stands.{SpanStandsFor, first_number, step_count};
-ghost use Rattle.vme_summary.specs.Tells.{Shows, Tells};
+ghost use Rattle.vme_listing.specs.Places.{is_well_placed};
+ghost use Rattle.vme_summary.specs.Joins.{MakeSoundRecording, first_block_number, last_block_number};
+ghost use Rattle.vme_summary.specs.Stands.{IsListingOf, IsVerdictOf, SaysTorn, SpanStandsFor, StandsForBlocks, StandsForBoth, first_number, step_count};
 
-use crate::all::{All, Judging};
 use crate::extent::Extent;
 use crate::rows::listing_by;
+use crate::summary::Summary;
 use std::alloc::{AllocError, Global};
-use vme_listing::Listing;
-use vme_monitor::mark::Mark;
-use vme_monitor::monitor::{Monitor, append as append_summaries, join as join_summaries};
-use vme_trace::{Break, Lines, Verdict};
+use vme_listing::{Listing, listings_are_well_placed};
+use vme_trace::{Lines, Verdict};
 
 /// Why two spans make none together.
 #[derive(Clone, Copy, Debug, PartialEq, Eq)]
 pub enum JoinFault {
-    /// The second doesn't go on where the first ends: its first number isn't the next, it doesn't open with the lines that the
-    /// first leaves, slots included, or its first step isn't later than the last one before it.
+    /// The second doesn't go on where the first ends: its first number isn't the next, it doesn't open with the lines
+    /// that the first leaves, slots included, or its first step isn't later than the last one before it.
     Torn,
     /// There is no memory.
     Memory,
 }
 
-/// What blocks that join say to one monitor, whatever stood before them: where they lie, and one summary of their steps.
+/// What blocks that join say to all monitors, whatever stood before them: where they lie, and one summary of their
+/// steps. A span stands for every list of blocks that has all of this (`SpanStandsFor`).
 #[derive(Drop)]
-pub struct Span<M: Monitor = All> {
+pub struct Span {
     pub(crate) extent: Extent,
-    pub(crate) summary: M::Summary,
+    pub(crate) summary: Summary,
 }
 
-impl<M: Monitor> Span<M> {
+impl Span {
     /// The number of the first block.
     pub fn first(&self) -> u32
         ensures value { result ≡ first_number self.now }
-        ensures blocks { (blocks : List Block) → SpanStandsFor M.run M.outcome M.count self.now blocks → option_map (λ b. b.number) (slice_get blocks 0) ≡ Some result }
+        ensures blocks { (bs : List Block) → SpanStandsFor self.now bs → first_block_number bs ≡ Some result }
     {
         self.extent.first
     }
 
     /// The number of the last block.
     pub fn last(&self) -> u32
-        ensures { (blocks : List Block) → SpanStandsFor M.run M.outcome M.count self.now blocks → option_map (λ b. b.number) (last_or None blocks) ≡ Some result }
+        ensures { (bs : List Block) → SpanStandsFor self.now bs → last_block_number bs ≡ Some result }
     {
         self.extent.last
     }
 
     /// How many steps the blocks have.
     pub fn steps(&self) -> u32
-        ensures value { result ≡ step_count M.count self.now }
-        ensures blocks { (blocks : List Block) → SpanStandsFor M.run M.outcome M.count self.now blocks → result ≡ length (joined_steps blocks) }
+        ensures value { result ≡ step_count self.now }
+        ensures blocks { (bs : List Block) → SpanStandsFor self.now bs → result ≡ length (joined_steps bs) }
     {
-        M::steps(&self.summary)
+        self.summary.steps()
     }
 
     /// The lines that the last block leaves.
@@ -68,86 +63,54 @@ impl<M: Monitor> Span<M> {
         &self.extent.left
     }
 
-    /// What is left, and the first break, of a recording that these blocks make.
-    fn told(&self) -> (M::Memory, Option<Break>)
-        ensures { (blocks : List Block) (t : Trace) → SpanStandsFor M.run M.outcome M.count self.now blocks → joined_trace blocks ≡ Some t → Tells M.run M.begin t result.0 result.1 }
-    {
-        prove!(self.extent.opening.slots() <= 21);
-        let start = M::start(&self.extent.opening);
-        (
-            M::leaving(&self.summary, start),
-            M::event(&self.summary, start),
-        )
-    }
-
-    /// What is shown over a recording that these blocks make, break or not.
-    fn shown(&self, alloc: Global) -> Result<Vec<Mark>, AllocError>
-        ensures { IfOk result (λ marks. (blocks : List Block) (t : Trace) → SpanStandsFor M.run M.outcome M.count self.now blocks → joined_trace blocks ≡ Some t → Shows M.run M.begin t self.now.extent.opening marks.items) }
-    {
-        M::marks(alloc, &self.summary, M::start(&self.extent.opening))
-    }
-}
-
-/// The verdict that an event gives.
-fn verdict_of(event: Option<Break>) -> Verdict
-    ensures { result ≡ verdict_on event }
-{
-    match event {
-        None => Verdict::Conforming,
-        Some(found) if found.rule.is_unreadable() => Verdict::Unreadable(found),
-        Some(found) => Verdict::Broken(found),
-    }
-}
-
-impl<M: Judging> Span<M> {
-    /// The verdict, by the rules in force, of the recording that the blocks make. The first of them has to be the recording's
-    /// first. Takes no memory.
+    /// The verdict, by the rules in force, of the recording that the blocks make. The first of them has to be the
+    /// recording's first. Takes no memory.
     pub fn verdict(&self) -> Verdict
         requires { first_number self.now ≡ 0 }
-        ensures { (blocks : List Block) → SpanStandsFor M.run M.outcome M.count self.now blocks → option_map (verdict_by rules_in_force) (joined_trace blocks) ≡ Some result }
+        ensures { IsVerdictOf self.now result }
     {
-        M::over_captures();
-        let (memory, event) = self.told();
-        if M::has_judged(memory) {
-            verdict_of(event)
-        } else {
-            Verdict::NeverIdle
-        }
+        let opening = &self.extent.opening;
+        prove!(opening.slots() <= 21);
+        self.summary.found_from(opening).verdict()
     }
 
-    /// The listing, by the rules in force, of the recording that the blocks make. The first of them has to be the recording's
-    /// first. It takes time proportional to what is shown.
+    /// The listing, by the rules in force, of the recording that the blocks make. The first of them has to be the
+    /// recording's first. The listing is well placed, so that `read_listing` accepts its text. It takes time proportional
+    /// to the count of marks.
     pub fn listing(&self, alloc: Global) -> Result<Listing, AllocError>
         requires { first_number self.now ≡ 0 }
-        ensures { IfOk result (λ listing. (blocks : List Block) → SpanStandsFor M.run M.outcome M.count self.now blocks → option_map listing_of (joined_trace blocks) ≡ Some listing) }
+        ensures listing { IfOk result (IsListingOf self.now) }
+        ensures placed { IfOk result (λ rows. StandsForBlocks self.now → is_well_placed rows ≡ true) }
     {
-        M::over_captures();
-        let (memory, event) = self.told();
-        let marks = self.shown(alloc)?;
+        listings_are_well_placed();
+        let opening = &self.extent.opening;
+        prove!(opening.slots() <= 21);
+        prove!(self.steps() <= u32::MAX);
+        let marks = self.summary.marks(alloc, opening)?;
+        let found = self.summary.found_from(opening);
         listing_by(
             alloc,
-            &self.extent.opening,
-            M::has_judged(memory),
-            event,
+            opening,
+            found.has_judged(),
+            found.first_break(),
             marks.as_slice(),
         )
     }
 }
 
-/// One span of two, the second of which goes on where the first ends. Torn goes before Memory.
-pub fn join<M: Monitor>(
-    alloc: Global,
-    first: &Span<M>,
-    second: &Span<M>,
-) -> Result<Span<M>, JoinFault>
-    requires { step_count M.count first.now + step_count M.count second.now ≤ 268435456 }
-    ensures joined { IfOk result (λ s. (x y : List Block) → SpanStandsFor M.run M.outcome M.count first.now x → SpanStandsFor M.run M.outcome M.count second.now y → SpanStandsFor M.run M.outcome M.count s (x ++ y)) }
-    ensures torn { (x y : List Block) → SpanStandsFor M.run M.outcome M.count first.now x → SpanStandsFor M.run M.outcome M.count second.now y → ((result ≡ Err JoinFault.Torn) ↔ ¬ BlocksJoin (x ++ y)) }
+/// One span of two, the second of which goes on where the first ends. They have at most 268,435,456 steps together.
+/// Torn goes before Memory.
+pub fn join(alloc: Global, first: &Span, second: &Span) -> Result<Span, JoinFault>
+    requires { step_count first.now + step_count second.now ≤ 268435456 }
+    ensures starts { IfOk result (λ s. first_number s ≡ first_number first.now) }
+    ensures steps { IfOk result (λ s. step_count s ≡ step_count first.now + step_count second.now) }
+    ensures joined { IfOk result (StandsForBoth first.now second.now) }
+    ensures torn { SaysTorn (result ≡ Err JoinFault.Torn) first.now second.now }
 {
     if !first.extent.meets(&second.extent) {
         return Err(JoinFault::Torn);
     }
-    let Ok(summary) = join_summaries::<M>(alloc, &first.summary, &second.summary) else {
+    let Ok(summary) = Summary::compose(alloc, &first.summary, &second.summary) else {
         return Err(JoinFault::Memory);
     };
     Ok(Span {
@@ -156,23 +119,43 @@ pub fn join<M: Monitor>(
     })
 }
 
-/// The same of two spans that are given away: what they say is taken over, not copied.
-pub(crate) fn append<M: Monitor>(
-    alloc: Global,
-    first: Span<M>,
-    second: Span<M>,
-) -> Result<Span<M>, JoinFault>
-    requires { step_count M.count first + step_count M.count second ≤ 268435456 }
-    ensures joined { IfOk result (λ s. (x y : List Block) → SpanStandsFor M.run M.outcome M.count first x → SpanStandsFor M.run M.outcome M.count second y → SpanStandsFor M.run M.outcome M.count s (x ++ y)) }
-    ensures torn { (x y : List Block) → SpanStandsFor M.run M.outcome M.count first x → SpanStandsFor M.run M.outcome M.count second y → ((result ≡ Err JoinFault.Torn) ↔ ¬ BlocksJoin (x ++ y)) }
+/// The same of two spans that are given away: what they hold is taken over, not copied, and all memory is taken before
+/// anything is moved. Where they make none together, both are handed back: the first stands for what it stood for, and
+/// the second is as it was.
+pub fn append(alloc: Global, first: Span, second: Span) -> Result<Span, (Span, Span, JoinFault)>
+    requires { step_count first + step_count second ≤ 268435456 }
+    ensures starts { IfOk result (λ s. first_number s ≡ first_number first) }
+    ensures steps { IfOk result (λ s. step_count s ≡ step_count first + step_count second) }
+    ensures joined { IfOk result (StandsForBoth first second) }
+    ensures torn { IfErr result (λ refused. SaysTorn (refused.2 ≡ JoinFault.Torn) first second) }
+
+    // After an error.
+    ensures first { IfErr result (λ refused. (x : List Block) → (SpanStandsFor first x ↔ SpanStandsFor refused.0 x)) }
+    ensures first_starts { IfErr result (λ refused. first_number refused.0 ≡ first_number first) }
+    ensures first_steps { IfErr result (λ refused. step_count refused.0 ≡ step_count first) }
+    ensures second { IfErr result (λ refused. refused.1 ≡ second) }
 {
-    if first.extent.meets(&second.extent) {
-        let extent = first.extent.joined(&second.extent);
-        match append_summaries::<M>(alloc, first.summary, second.summary) {
-            Ok(summary) => Ok(Span { extent, summary }),
-            Err(_) => Err(JoinFault::Memory),
-        }
-    } else {
-        Err(JoinFault::Torn)
+    if !first.extent.meets(&second.extent) {
+        return Err((first, second, JoinFault::Torn));
+    }
+    let mut summary = first.summary;
+    match summary.make_room(alloc, &second.summary) {
+        Ok(room) => Ok(Span {
+            extent: first.extent.joined(&second.extent),
+            summary: summary.append_in(room, second.summary),
+        }),
+        Err(_) => Err((
+            Span {
+                extent: first.extent,
+                summary,
+            },
+            second,
+            JoinFault::Memory,
+        )),
     }
 }
+
+/// Blocks that join, each of which is well formed, make a well-formed recording.
+pub fn joined_blocks_are_sound()
+    ensures { (blocks : List Block) → MakeSoundRecording blocks }
+{}

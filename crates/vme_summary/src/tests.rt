@@ -1,4 +1,3 @@
-use crate::all::{All, Judging};
 use crate::cut::verdict_by_blocks;
 use crate::judged::{Judged, judge_block};
 use crate::listing_tests::assert_rows;
@@ -7,7 +6,6 @@ use smallvec::SmallVec;
 use std::alloc::Global;
 use std::process::Abort;
 use std::test::Fail;
-use vme_monitor::monitor::Monitor;
 use vme_trace::{
     Block, Break, Capture, Change, Changes, CutFault, Level, Line, Lines, Rule, Step, Steps,
     Verdict,
@@ -44,7 +42,7 @@ const DUMPED: Start = Start {
 };
 
 /// The bus gets quiet, and a requester in slot 2 takes it by level 3.
-const GRANTED: Start = Start {
+pub(crate) const GRANTED: Start = Start {
     slots: 3,
     opening: "",
     steps: "quiet;BR3=0;BG3.0=0;BG3.1=0;BBSY=0 BR3=1;BG3.0=1;BG3.1=1",
@@ -65,7 +63,8 @@ const PASSED_ON: Start = Start {
 };
 
 /// A read by modifier 39.
-const READ: &str = "AM1=0 AM2=0 A05=0;AS=0;DS0=0 DS1=0;DTACK=0;AS=1 DS0=1 DS1=1;DTACK=1;BBSY=1";
+pub(crate) const READ: &str =
+    "AM1=0 AM2=0 A05=0;AS=0;DS0=0 DS1=0;DTACK=0;AS=1 DS0=1 DS1=1;DTACK=1;BBSY=1";
 
 /// What its listing says.
 const READ_ROWS: &str =
@@ -255,7 +254,7 @@ fn break_of(instant: u32, rule: Rule, name: &str) -> Option<Break> {
     })
 }
 
-fn verdict_of(expected: Expected) -> Option<Verdict> {
+pub(crate) fn verdict_of(expected: Expected) -> Option<Verdict> {
     match expected {
         Conforming => Some(Verdict::Conforming),
         NeverIdle => Some(Verdict::NeverIdle),
@@ -397,7 +396,7 @@ fn bad_sizes(rt: HostRuntime) -> Result<(), Fail> {
 }
 
 /// The span of a block. Where memory is short once, the block that comes back is judged again.
-fn judged<M: Judging>(rt: &impl Abort, alloc: Global, block: Block) -> Result<Judged<M>, Fail> {
+pub(crate) fn judged(rt: &impl Abort, alloc: Global, block: Block) -> Result<Judged, Fail> {
     block.check().expect(rt, "well formed");
     assert!(rt; block.steps.as_slice().len() <= 1000);
     match judge_block(alloc, block) {
@@ -407,12 +406,7 @@ fn judged<M: Judging>(rt: &impl Abort, alloc: Global, block: Block) -> Result<Ju
 }
 
 /// One span of two, or that they are torn. Where memory is short once, they are joined again.
-fn joined<M: Monitor>(
-    rt: &impl Abort,
-    alloc: Global,
-    first: &Span<M>,
-    second: &Span<M>,
-) -> Result<Span<M>, JoinFault> {
+fn joined(rt: &impl Abort, alloc: Global, first: &Span, second: &Span) -> Result<Span, JoinFault> {
     assert!(rt; first.steps() <= 1000);
     assert!(rt; second.steps() <= 1000);
     match join(alloc, first, second) {
@@ -421,34 +415,36 @@ fn joined<M: Monitor>(
     }
 }
 
-/// The spans of the blocks of a read that is cut.
-fn read_spans<M: Judging>(rt: &impl Abort, alloc: Global, size: u32) -> Result<Vec<Span<M>>, Fail> {
-    let capture = capture_of(alloc, GRANTED, READ)?;
+/// The spans of the blocks of a recording that is cut.
+pub(crate) fn spans_of(
+    rt: &impl Abort,
+    alloc: Global,
+    start: Start,
+    text: &str,
+    size: u32,
+) -> Result<Vec<Span>, Fail> {
+    let capture = capture_of(alloc, start, text)?;
     let mut spans = Vec::new(alloc);
     for block in capture.cut(alloc, size)? {
         let number = block.number;
-        let span = judged(rt, alloc, block)?.into_span();
+        let span = judged(rt, alloc, block)?.into_parts().1;
         assert!(rt; span.first() == number && span.last() == number);
         spans.push(span)?;
     }
     Ok(spans)
 }
 
+/// The spans of the blocks of a read that is cut.
+fn read_spans(rt: &impl Abort, alloc: Global, size: u32) -> Result<Vec<Span>, Fail> {
+    spans_of(rt, alloc, GRANTED, READ, size)
+}
+
 /// The join of two spans that aren't torn.
-fn together<M: Monitor>(
-    rt: &impl Abort,
-    alloc: Global,
-    first: &Span<M>,
-    second: &Span<M>,
-) -> Result<Span<M>, Fail> {
+fn together(rt: &impl Abort, alloc: Global, first: &Span, second: &Span) -> Result<Span, Fail> {
     Ok(joined(rt, alloc, first, second).ok().ok_or("torn")?)
 }
 
-fn from_left<M: Monitor>(
-    rt: &impl Abort,
-    alloc: Global,
-    spans: Vec<Span<M>>,
-) -> Result<Span<M>, Fail> {
+fn from_left(rt: &impl Abort, alloc: Global, spans: Vec<Span>) -> Result<Span, Fail> {
     let mut all = None;
     for span in spans {
         all = Some(match all {
@@ -459,11 +455,7 @@ fn from_left<M: Monitor>(
     Ok(all.ok_or("no spans")?)
 }
 
-fn from_right<M: Monitor>(
-    rt: &impl Abort,
-    alloc: Global,
-    spans: Vec<Span<M>>,
-) -> Result<Span<M>, Fail> {
+fn from_right(rt: &impl Abort, alloc: Global, spans: Vec<Span>) -> Result<Span, Fail> {
     let mut all = None;
     for span in spans.into_iter().rev() {
         all = Some(match all {
@@ -475,11 +467,7 @@ fn from_right<M: Monitor>(
 }
 
 /// The first span joined with the second, the third with the fourth, and so on.
-fn paired<M: Monitor>(
-    rt: &impl Abort,
-    alloc: Global,
-    spans: Vec<Span<M>>,
-) -> Result<Vec<Span<M>>, Fail> {
+fn paired(rt: &impl Abort, alloc: Global, spans: Vec<Span>) -> Result<Vec<Span>, Fail> {
     let mut pairs = Vec::new(alloc);
     let mut odd = None;
     for span in spans {
@@ -497,11 +485,7 @@ fn paired<M: Monitor>(
     Ok(pairs)
 }
 
-fn by_halves<M: Monitor>(
-    rt: &impl Abort,
-    alloc: Global,
-    spans: Vec<Span<M>>,
-) -> Result<Span<M>, Fail> {
+fn by_halves(rt: &impl Abort, alloc: Global, spans: Vec<Span>) -> Result<Span, Fail> {
     let mut spans = spans;
     for _ in 0..4 {
         spans = paired(rt, alloc, spans)?;
@@ -510,7 +494,7 @@ fn by_halves<M: Monitor>(
 }
 
 /// The span is that of the whole read, which conforms.
-fn assert_whole<M: Judging>(rt: &impl Abort, alloc: Global, all: &Span<M>) -> Result<(), Fail> {
+fn assert_whole(rt: &impl Abort, alloc: Global, all: &Span) -> Result<(), Fail> {
     assert_eq!(rt; (all.last(), all.steps()), (13, 14));
     assert!(rt; all.first() == 0);
     assert_eq!(rt; all.verdict(), Verdict::Conforming);
@@ -522,12 +506,12 @@ fn assert_whole<M: Judging>(rt: &impl Abort, alloc: Global, all: &Span<M>) -> Re
 }
 
 /// A read that is cut into single steps conforms, however they are joined.
-fn assert_bracketed<M: Judging>(rt: &impl Abort, alloc: Global) -> Result<(), Fail> {
-    let left = from_left(rt, alloc, read_spans::<M>(rt, alloc, 1)?)?;
+fn assert_bracketed(rt: &impl Abort, alloc: Global) -> Result<(), Fail> {
+    let left = from_left(rt, alloc, read_spans(rt, alloc, 1)?)?;
     assert_whole(rt, alloc, &left)?;
-    let right = from_right(rt, alloc, read_spans::<M>(rt, alloc, 1)?)?;
+    let right = from_right(rt, alloc, read_spans(rt, alloc, 1)?)?;
     assert_whole(rt, alloc, &right)?;
-    let halves = by_halves(rt, alloc, read_spans::<M>(rt, alloc, 1)?)?;
+    let halves = by_halves(rt, alloc, read_spans(rt, alloc, 1)?)?;
     assert_whole(rt, alloc, &halves)
 }
 
@@ -544,8 +528,8 @@ fn strobe_last(rt: &impl Abort, alloc: Global, block: Block) -> Result<Block, Fa
 }
 
 /// Blocks 0 and 1 join, and blocks 0 and 2 don't.
-fn assert_torn_by_numbers<M: Judging>(rt: &impl Abort, alloc: Global) -> Result<(), Fail> {
-    let spans = read_spans::<M>(rt, alloc, 5)?;
+fn assert_torn_by_numbers(rt: &impl Abort, alloc: Global) -> Result<(), Fail> {
+    let spans = read_spans(rt, alloc, 5)?;
     assert_eq!(rt; spans.len(), 3);
     assert!(rt; joined(rt, alloc, &spans[0], &spans[1]).is_ok());
     assert!(rt; joined(rt, alloc, &spans[0], &spans[2]).err() == Some(JoinFault::Torn));
@@ -553,12 +537,12 @@ fn assert_torn_by_numbers<M: Judging>(rt: &impl Abort, alloc: Global) -> Result<
 }
 
 /// Block 1 with another last step leaves other lines than those that block 2 opens with.
-fn assert_torn_by_lines<M: Judging>(rt: &impl Abort, alloc: Global) -> Result<(), Fail> {
+fn assert_torn_by_lines(rt: &impl Abort, alloc: Global) -> Result<(), Fail> {
     let mut blocks = capture_of(alloc, GRANTED, READ)?.cut(alloc, 5)?;
     let last = blocks.pop().expect(rt, "block 2");
     let middle = blocks.pop().expect(rt, "block 1");
-    let first = judged::<M>(rt, alloc, strobe_last(rt, alloc, middle)?)?;
-    let second = judged::<M>(rt, alloc, last)?;
+    let first = judged(rt, alloc, strobe_last(rt, alloc, middle)?)?;
+    let second = judged(rt, alloc, last)?;
     assert!(rt; joined(rt, alloc, first.span(), second.span()).err() == Some(JoinFault::Torn));
     assert_eq!(rt; first.block().number, 1);
     assert_eq!(rt; first.into_block().steps.as_slice().len(), 5);
@@ -566,13 +550,13 @@ fn assert_torn_by_lines<M: Judging>(rt: &impl Abort, alloc: Global) -> Result<()
 }
 
 /// Spans that follow one another are joined in any brackets, and others are torn.
-fn assert_joins<M: Judging>(rt: &impl Abort, alloc: Global) -> Result<(), Fail> {
-    assert_bracketed::<M>(rt, alloc)?;
-    assert_torn_by_numbers::<M>(rt, alloc)?;
-    assert_torn_by_lines::<M>(rt, alloc)
+fn assert_joins(rt: &impl Abort, alloc: Global) -> Result<(), Fail> {
+    assert_bracketed(rt, alloc)?;
+    assert_torn_by_numbers(rt, alloc)?;
+    assert_torn_by_lines(rt, alloc)
 }
 
 #[test]
 fn joined_in_any_brackets_or_torn(rt: HostRuntime) -> Result<(), Fail> {
-    assert_joins::<All>(&rt, rt.alloc())
+    assert_joins(&rt, rt.alloc())
 }

@@ -1,11 +1,15 @@
-use Rattle.vme_eval.proofs.DumpsVerdicts.{verdict_of_dumped_read, verdict_of_dumped_nothing, verdict_of_dumped_stray_answer, verdict_of_dumped_unknown_strobe, verdict_of_dumped_gap}
+use Rattle.vme_eval.proofs.DumpsAgree.{dumped_read_agrees, dumped_nothing_agrees, dumped_stray_answer_agrees, dumped_unknown_strobe_agrees, dumped_gap_agrees, strobe_lost_at_once_agrees, answer_low_before_judging_agrees, address_lost_between_cycles_agrees, earlier_break_of_a_later_rule_agrees}
 use Rattle.vme_eval.proofs.dumps.Goals as goal
 
 pub returns : goal.returns
 returns c = record {
-  dumped_read = verdict_of_dumped_read;
-  dumped_nothing = verdict_of_dumped_nothing;
-  dumped_stray_answer = verdict_of_dumped_stray_answer;
-  dumped_unknown_strobe = verdict_of_dumped_unknown_strobe;
-  dumped_gap = verdict_of_dumped_gap;
+  dumped_read = dumped_read_agrees;
+  dumped_nothing = dumped_nothing_agrees;
+  dumped_stray_answer = dumped_stray_answer_agrees;
+  dumped_unknown_strobe = dumped_unknown_strobe_agrees;
+  dumped_gap = dumped_gap_agrees;
+  strobe_lost_at_once = strobe_lost_at_once_agrees;
+  answer_low_before_judging = answer_low_before_judging_agrees;
+  address_lost_between_cycles = address_lost_between_cycles_agrees;
+  earlier_break_of_a_later_rule = earlier_break_of_a_later_rule_agrees;
 }

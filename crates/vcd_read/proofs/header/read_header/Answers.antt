@@ -5,8 +5,8 @@ use Rattle.vcd_read.proofs.HeaderLemmas.{header_ends}
 use Rattle.vcd_read.proofs.header.read_header.Goals as goal
 
 pub returns-clause-header : goal.returns-clause-header
-returns-clause-header c =
+returns-clause-header g c =
     let text = c.args.reader.now.text.now in
     rw (c.fault.ensures, c.in_default.ensures.text, c.loop-token.invariant.same) (
     sym c.loop-token.invariant.left
-    ∙ header_ends text (declared_in c.loop-token.definitions) (left_at text c.loop-token.reader.at) (rw c.loop-token.invariant.same at c.in_default.ensures.token))
+    ∙ header_ends g.D.Declarations.with_variable text (declared_in (g.D.Declarations.scopes c.loop-token.definitions.declarations) c.loop-token.definitions.codes (g.D.Declarations.taken c.loop-token.definitions.declarations)) (left_at text c.loop-token.reader.at) (rw c.loop-token.invariant.same at c.in_default.ensures.token))

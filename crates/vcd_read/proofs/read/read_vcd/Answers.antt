@@ -1,13 +1,12 @@
 use Rattle.std.proofs.Common.{◌∙◌, sym, ap, List, Result, Ok}
 use Rattle.vcd_read.specs.declared.dump.Instant.{Instant}
 use Rattle.vcd_read.specs.declared.fault.VcdFault.{VcdFault}
-use Rattle.vcd_read.specs.Header.{◌>>=◌, nothing_declared}
-use Rattle.vcd_read.specs.Tokens.{tokens}
+use Rattle.vcd_read.specs.Header.{◌>>=◌}
 use Rattle.vcd_read.specs.Meaning.{instants_from}
-use Rattle.vcd_read.specs.Sections.{header_of}
+use Rattle.vcd_read.specs.Sections.{defined}
 use Rattle.vcd_read.specs.Collected.{Collected}
 use Rattle.vcd_read.proofs.ReadLemmas.{fails_first, gives_err, body_rises}
-use Rattle.vcd_read.proofs.DumpLemmas.{contents_behind, with_variables, dump_of-header, dump_behind}
+use Rattle.vcd_read.proofs.DumpLemmas.{contents_behind, with_variables, whole_header, dump_of-header, dump_behind}
 use Rattle.vcd_read.proofs.TakingLemmas.{AreCollected, collected-follows, fails-followed, gives-followed}
 use Rattle.vcd_read.proofs.read.read_vcd.Goals as goal
 
@@ -15,19 +14,21 @@ pub returns-in_err-head : goal.returns-in_err-head
 returns-in_err-head c =
     let text = c.args.text.now in
     let fault = c.in_err-head.field-0.0 in
-    gives_err _ c.from_residual.result fault _ c.from_residual.ensures.1 (fails_first fault (header_of text nothing_declared (tokens text)) contents_behind _ (dump_of-header text) c.in_err-head.ensures)
+    let h = rw c.new.ensures.variables at c.in_err-head.ensures in
+    gives_err _ c.from_residual.result fault _ c.from_residual.ensures.1 (fails_first fault (whole_header text) contents_behind _ (dump_of-header text) h)
 
 pub returns-in_err-collected : goal.returns-in_err-collected
 returns-in_err-collected c =
     let head = c.in_ok-head.head in
     let fault = c.in_err-collected.field-0.0 in
+    let h = rw c.new.ensures.variables at c.in_ok-head.ensures in
     let follows = collected-follows head.nets head.body c.in_ok-collector.collector (rw c.net_count.ensures at c.in_ok-collector.ensures) in
     let fails = fails-followed AreCollected (instants_from head.nets head.body) _ fault follows c.in_err-collected.ensures in
     gives_err _ c.from_residual-in_err-collected.result fault _ c.from_residual-in_err-collected.ensures.1
-    (fails_first fault (instants_from head.nets head.body) (with_variables head.variables) _ (dump_behind c.args.text.now head c.in_ok-head.ensures) fails)
+    (fails_first fault (instants_from head.nets head.body) (with_variables c.in_ok-head.variables.variables.items) _ (dump_behind c.args.text.now (defined head c.in_ok-head.variables.variables.items) h) fails)
 
-pub new-requires-2 : goal.new-requires-2
-new-requires-2 c =
+pub new-requires-3 : goal.new-requires-3
+new-requires-3 c =
     let head = c.in_ok-head.head in
     let follows = collected-follows head.nets head.body c.in_ok-collector.collector (rw c.net_count.ensures at c.in_ok-collector.ensures) in
     let gives = gives-followed AreCollected (instants_from head.nets head.body) _ c.in_ok-collected.collected follows c.in_ok-collected.ensures in
@@ -37,8 +38,10 @@ new-requires-2 c =
 pub returns : goal.returns
 returns c =
     let head = c.in_ok-head.head in
+    let variables = c.in_ok-head.variables.variables.items in
+    let h = rw c.new.ensures.variables at c.in_ok-head.ensures in
     let follows = collected-follows head.nets head.body c.in_ok-collector.collector (rw c.net_count.ensures at c.in_ok-collector.ensures) in
     let gives = gives-followed AreCollected (instants_from head.nets head.body) _ c.in_ok-collected.collected follows c.in_ok-collected.ensures in
     let is = c.into_instants.ensures ∙ ap (λ (x : Collected). x.done) gives.2.1 in
-    dump_behind c.args.text.now head c.in_ok-head.ensures ∙ ap (λ (r : Result (List Instant) VcdFault). r >>= with_variables head.variables) gives.1
-    ∙ ap Ok (sym (rw (is, c.into_variables.ensures) at c.new-2.ensures))
+    dump_behind c.args.text.now (defined head variables) h ∙ ap (λ (r : Result (List Instant) VcdFault). r >>= with_variables variables) gives.1
+    ∙ ap Ok (sym (rw (is, c.into_vec.ensures) at c.new-3.ensures))

@@ -3,29 +3,28 @@ use Rattle.std.proofs.Common.{refl}
 use Rattle.vme_summary.proofs.Extents.{meets_join, spans_joined, test_meets, test_torn}
 use Rattle.vme_summary.proofs.span.append.Goals as goal
 
-pub returns-else-meets-clause-torn : goal.returns-else-meets-clause-torn
-returns-else-meets-clause-torn g c =
-    λ x y p q. (λ e. test_torn c.args.first.extent c.args.second.extent c.meets.result x y c.meets.ensures c.if-meets.false p.extent q.extent, λ e. refl)
-
-pub returns-in-Err-clause-torn : goal.returns-in-Err-clause-torn
-returns-in-Err-clause-torn g c =
-    λ x y p q. (
-      λ e. absurd (cc),
-      λ torn.
-          absurd
-          (torn (meets_join c.args.first.extent c.args.second.extent x y p.extent q.extent (test_meets c.args.first.extent c.args.second.extent c.meets.result c.meets.ensures c.if-meets.true))),
-    )
+pub returns-then-not-meets-clause-torn : goal.returns-then-not-meets-clause-torn
+returns-then-not-meets-clause-torn c =
+    λ x y p q. (λ e. test_torn c.args.first.extent c.args.second.extent c.meets.result x y c.meets.ensures c.if-not-meets.true p.extent q.extent, λ e. refl)
 
 pub returns-in-Ok-clause-joined : goal.returns-in-Ok-clause-joined
-returns-in-Ok-clause-joined g c =
-    spans_joined g.M.Monitor.run g.M.Monitor.outcome g.M.Monitor.count c.args.first c.args.second c.joined-extent.result c.in-Ok.summary c.joined-extent.ensures
-    (test_meets c.args.first.extent c.args.second.extent c.meets.result c.meets.ensures c.if-meets.true) c.in-Ok.ensures
+returns-in-Ok-clause-joined c =
+    spans_joined c.args.first c.args.second c.joined.result c.append_in.result c.joined.ensures
+    (test_meets c.args.first.extent c.args.second.extent c.meets.result c.meets.ensures c.if-not-meets.false)
+    (λ o x y p q. c.append_in.ensures.stands o x y ((c.make_room.ensures.stands o x).0 p) q)
 
-pub returns-in-Ok-clause-torn : goal.returns-in-Ok-clause-torn
-returns-in-Ok-clause-torn g c =
+pub returns-in-Err-clause-torn : goal.returns-in-Err-clause-torn
+returns-in-Err-clause-torn c =
     λ x y p q. (
       λ e. absurd (cc),
       λ torn.
           absurd
-          (torn (meets_join c.args.first.extent c.args.second.extent x y p.extent q.extent (test_meets c.args.first.extent c.args.second.extent c.meets.result c.meets.ensures c.if-meets.true))),
+          (torn (meets_join c.args.first.extent c.args.second.extent x y p.extent q.extent (test_meets c.args.first.extent c.args.second.extent c.meets.result c.meets.ensures c.if-not-meets.false))),
+    )
+
+pub returns-in-Err-clause-first : goal.returns-in-Err-clause-first
+returns-in-Err-clause-first c =
+    λ x. (
+      λ p. record { extent = p.extent; summary = (c.make_room.ensures.stands _ _).0 p.summary },
+      λ p. record { extent = p.extent; summary = (c.make_room.ensures.stands _ _).1 p.summary },
     )

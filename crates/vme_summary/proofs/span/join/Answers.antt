@@ -4,11 +4,11 @@ use Rattle.vme_summary.proofs.Extents.{meets_join, spans_joined, test_meets, tes
 use Rattle.vme_summary.proofs.span.join.Goals as goal
 
 pub returns-then-not-meets-clause-torn : goal.returns-then-not-meets-clause-torn
-returns-then-not-meets-clause-torn g c =
+returns-then-not-meets-clause-torn c =
     λ x y p q. (λ e. test_torn c.args.first.now.extent c.args.second.now.extent c.meets.result x y c.meets.ensures c.if-not-meets.true p.extent q.extent, λ e. refl)
 
 pub returns-in_default-clause-torn : goal.returns-in_default-clause-torn
-returns-in_default-clause-torn g c =
+returns-in_default-clause-torn c =
     λ x y p q. (
       λ e. absurd (cc),
       λ torn.
@@ -17,12 +17,12 @@ returns-in_default-clause-torn g c =
     )
 
 pub returns-clause-joined : goal.returns-clause-joined
-returns-clause-joined g c =
-    spans_joined g.M.Monitor.run g.M.Monitor.outcome g.M.Monitor.count c.args.first.now c.args.second.now c.joined.result c.in-Ok.summary c.joined.ensures
-    (test_meets c.args.first.now.extent c.args.second.now.extent c.meets.result c.meets.ensures c.if-not-meets.false) c.in-Ok.ensures
+returns-clause-joined c =
+    spans_joined c.args.first.now c.args.second.now c.joined.result c.in-Ok.summary c.joined.ensures
+    (test_meets c.args.first.now.extent c.args.second.now.extent c.meets.result c.meets.ensures c.if-not-meets.false) c.in-Ok.ensures.stands
 
 pub returns-clause-torn : goal.returns-clause-torn
-returns-clause-torn g c =
+returns-clause-torn c =
     λ x y p q. (
       λ e. absurd (cc),
       λ torn.

@@ -1,11 +1,13 @@
+use Rattle.std.proofs.Common.{sym}
+use Rattle.vme_bind.proofs.FoundLemmas.{wires_found}
 use Rattle.vme_bind.proofs.TextCaptureLemmas.{behind-body}
 use Rattle.vme_bind.proofs.binding.Binding.capture_head.Goals as goal
 
 pub returns-in-Ok : goal.returns-in-Ok
-returns-in-Ok c =
-    let wires = rw (c.variables.ensures, c.assignments.ensures) at c.in-Ok.ensures in
+returns-in-Ok c variables seen =
+    let wires = rw (wires_found variables c.args.self.now.assignments _ seen) at c.in-Ok.ensures in
     let given = rw (c.lines.ensures.slots, c.deref.ensures.value) at c.capture_body.ensures in
-    behind-body c.args.self.now c.args.head.now c.in-Ok.wires.items c.capture_body.result wires given
+    behind-body c.args.self.now c.args.head.now variables c.in-Ok.wires.items c.capture_body.result wires given
 
 pub returns-in-Err : goal.returns-in-Err
-returns-in-Err c = c.first_fault.ensures c.args.self.now (rw (c.variables.ensures, c.assignments.ensures) at c.in-Err.ensures)
+returns-in-Err c variables seen = c.first_fault.ensures c.args.self.now variables (rw (wires_found variables c.args.self.now.assignments _ seen) at c.in-Err.ensures)

@@ -1,0 +1,18 @@
+use Rattle.std.proofs.Common.{ap, sym, ◌∙◌, ◌≡◌, [], ◌∷◌, map, arith}
+use Rattle.std.proofs.lemmas.List.{map-append, take_more}
+use Rattle.std.proofs.lemmas.List.Elements.{All-push}
+use Rattle.vme_bind.specs.Sought.{IsBegun, seen_in, unseen}
+use Rattle.vme_bind.proofs.SoughtLemmas.{begun_none}
+use Rattle.vme_bind.proofs.search.Search.new.Goals as goal
+
+pub loop-assignment-preserved : goal.loop-assignment-preserved
+loop-assignment-preserved c =
+    let l = c.loop-assignment in
+    let a = c.assignment-item.result in
+    let all = c.args.assignments.now in
+    record {
+      seen = rw (c.push_reserved.ensures.items, map-append seen_in l.sought.items (c.new.result ∷ []), take_more all l.assignment-index a c.loop-assignment-test.true, ← c.assignment-item.is, c.new.ensures.seen, l.invariant.seen) (sym (map-append unseen _ (a ∷ [])));
+      begun = rw c.push_reserved.ensures.items (All-push (IsBegun []) l.sought.items c.new.result l.invariant.begun (begun_none c.new.result c.new.ensures.begun));
+      count = omega (arith, c.push_reserved.ensures.len, l.invariant.count);
+      capacity = c.push_reserved.ensures.capacity ∙ l.invariant.capacity;
+    }

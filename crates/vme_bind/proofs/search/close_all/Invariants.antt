@@ -1,0 +1,10 @@
+use Rattle.std.proofs.Common.{◌≡◌, map, take, drop}
+use Rattle.vme_bind.specs.Sought.{closed}
+use Rattle.vme_bind.proofs.search.close_all.Given as goal
+
+abbrev pub invariant-loop-s : goal.invariant-loop-s
+invariant-loop-s l =
+    record {
+      done : take l.s-index l.sought ≡ map (closed l.depth) (take l.s-index l.fn.sought);
+      rest : drop l.s-index l.sought ≡ drop l.s-index l.fn.sought;
+    }

@@ -1,0 +1,10 @@
+use Rattle.std.proofs.Common.{◌≡◌, map, take, drop}
+use Rattle.vme_bind.specs.Sought.{opened}
+use Rattle.vme_bind.proofs.search.open_all.Given as goal
+
+abbrev pub invariant-loop-s : goal.invariant-loop-s
+invariant-loop-s l =
+    record {
+      done : take l.s-index l.sought ≡ map (opened l.depth l.start l.part) (take l.s-index l.fn.sought);
+      rest : drop l.s-index l.sought ≡ drop l.s-index l.fn.sought;
+    }

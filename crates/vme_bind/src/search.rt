@@ -1,0 +1,123 @@
+//! The search for the variables that a binding names, as the definitions of a dump are read.
+
+ghost use Rattle.std.specs.Prelude.{◌≡◌, ◌<◌, ◌+◌, ◌^◌, ℕ, [], List, IfOk, length, map};
+ghost use Rattle.std.specs.List.{All};
+ghost use Rattle.vcd_read.specs.Header.{variable_in};
+ghost use Rattle.vme_bind.specs.Answers.{Gives};
+ghost use Rattle.vme_bind.specs.Sought.{IsBegun, closed, opened, seen_in, unseen, with_candidate, wires_of};
+
+use crate::assignment::Assignment;
+use crate::fault::BindFault;
+use crate::sought::{Sought, rest_of};
+use crate::wires::Wire;
+use std::alloc::{AllocError, Global};
+use vcd_read::{Declaration, Declarations, Scopes};
+
+/// What is found of the variables of a binding so far. Of the variables of the dump nothing else is kept.
+#[derive(Drop)]
+pub(crate) struct Search<'b> {
+    /// In the order of the binding's text.
+    sought: Vec<Sought<'b>>,
+    scopes: Scopes,
+    ghost begun: { All (IsBegun scopes) sought.items },
+}
+
+/// Opens a scope behind so many others: this part of the path is its own, from this place on.
+fn open_all(sought: &mut [Sought<'_>], depth: usize, start: usize, part: &[u8])
+    requires { depth + 1 < 2 ^ 64 }
+    ensures { sought.new ≡ map (opened depth start part.now) sought.old }
+{
+    for s in sought.iter_mut() {
+        s.open(depth, start, part);
+    }
+}
+
+/// Closes the innermost scope, so that so many are left.
+fn close_all(sought: &mut [Sought<'_>], depth: usize)
+    ensures { sought.new ≡ map (closed depth) sought.old }
+{
+    for s in sought.iter_mut() {
+        s.close(depth);
+    }
+}
+
+/// Looks at a variable that is declared in these scopes.
+fn see_all(sought: &mut [Sought<'_>], scopes: &Scopes, variable: Declaration<'_>)
+    requires begun { All (IsBegun scopes.now) sought.old }
+    requires name { 0 < length variable.name.now }
+    ensures begun { All (IsBegun scopes.now) sought.new }
+    ensures seen { map seen_in sought.new ≡ map (with_candidate (variable_in scopes.now variable.entry.net variable.entry.size
+        (record { name = variable.entry.name.now; index = variable.entry.index }))) (map seen_in sought.old) }
+{
+    for s in sought.iter_mut() {
+        s.see(scopes, variable);
+    }
+}
+
+impl<'b> Search<'b> {
+    /// Nothing is found yet, and no scope is open.
+    pub fn new(alloc: Global, assignments: &'b [Assignment]) -> Result<Search<'b>, AllocError>
+        ensures scopes { IfOk result (λ s. s.scopes ≡ []) }
+        ensures seen { IfOk result (λ s. map seen_in s.sought.items ≡ map unseen assignments.now) }
+    {
+        let mut sought = Vec::with_capacity(alloc, assignments.len())?;
+        for assignment in assignments {
+            sought.push_reserved(Sought::new(assignment));
+        }
+        Ok(Search {
+            sought,
+            scopes: Scopes::new(alloc),
+        })
+    }
+
+    /// The wires of all lines of the binding.
+    pub fn wires(&self, alloc: Global) -> Result<Vec<Wire>, BindFault>
+        ensures { Gives (λ wires. wires.items) result (wires_of (map seen_in self.now.sought.items)) }
+    {
+        let mut wires = Vec::with_capacity(alloc, self.sought.len())?;
+        for sought in &self.sought {
+            match sought.wire() {
+                Ok(wire) => wires.push_reserved(wire),
+                // The fault is taken apart, since the checker can't carry it out of a loop whole.
+                Err(BindFault { line, kind }) => return Err(BindFault { line, kind }),
+            }
+        }
+        Ok(wires)
+    }
+}
+
+impl<'b> Declarations for Search<'b> {
+    ghost use Rattle.std.specs.Prelude.{List, map};
+    ghost use Rattle.vme_bind.specs.Sought.{Seen, seen_in, with_variable};
+
+    ghost Taken = { List Seen };
+
+    ghost taken = { λ s. map seen_in s.sought.items };
+
+    ghost with_variable = { with_variable };
+
+    ghost scopes = { λ s. s.scopes };
+
+    fn open(&mut self, alloc: Global, name: &[u8]) -> Result<(), AllocError> {
+        let start = self.scopes.path().len();
+        self.scopes.open(alloc, name)?;
+        let depth = self.scopes.depth() - 1;
+        let part = rest_of(self.scopes.path(), start);
+        open_all(self.sought.as_mut_slice(), depth, start, part);
+        Ok(())
+    }
+
+    fn close(&mut self) -> bool {
+        if !self.scopes.close() {
+            return false;
+        }
+        close_all(self.sought.as_mut_slice(), self.scopes.depth());
+        true
+    }
+
+    fn declare(&mut self, alloc: Global, variable: Declaration<'_>) -> Result<(), AllocError> {
+        let _ = alloc;
+        see_all(self.sought.as_mut_slice(), &self.scopes, variable);
+        Ok(())
+    }
+}

@@ -1,0 +1,44 @@
+-- What a call of a bench leaves of its view, and what it has found.
+use Rattle.std.specs.Prelude.{◌≡◌, ◌⊎◌, ℕ, ◌<◌}
+use Rattle.vme_trace.specs.declared.block.Block.{Block}
+use Rattle.vme_core.specs.declared.view.View.{View}
+use Rattle.vme_core.specs.declared.stage.Stage.TheVariants.{Filed, Taken}
+use Rattle.vme_core.specs.Counting.{occurrences, HasPair}
+use Rattle.vme_core.specs.Stages.{rank, seen}
+
+-- the draws are as they were, and so are the draws found
+pub record SameDraws (old new : View) : Type 0 where
+  pub draws : new.draws ≡ old.draws
+  pub found : new.found ≡ old.found
+
+-- what the bench filed, took, won and found won is as it was
+pub record SameWork (old new : View) : Type 0 where
+  pub list : new.list ≡ old.list
+  pub takes : new.takes ≡ old.takes
+  pub draws : new.draws ≡ old.draws
+  pub found : new.found ≡ old.found
+
+-- all but the draws is as it was
+pub record SameNumbers (old new : View) : Type 0 where
+  pub list : new.list ≡ old.list
+  pub takes : new.takes ≡ old.takes
+  pub claimed : new.claimed ≡ old.claimed
+  pub filed : new.filed ≡ old.filed
+  pub taken : new.taken ≡ old.taken
+  pub pending : new.pending ≡ old.pending
+
+-- the bench has found each draw below k won
+abbrev pub AllFound : View → ℕ → Type 0
+AllFound v k = (d : ℕ) → d < k → 0 < occurrences d v.found
+
+-- the bench hadn't seen the number filed, or sees it taken now
+abbrev pub HasNothingToTake : View → View → ℕ → Type 0
+HasNothingToTake old new n = (rank (seen old n) < rank Filed) ⊎ (seen new n ≡ Taken)
+
+-- the bench has neither won the draw nor found it won
+abbrev pub IsNewDraw : View → ℕ → Type 0
+IsNewDraw v d = (occurrences d v.draws ≡ 0) × (occurrences d v.found ≡ 0)
+
+-- a number that stands in the list and in the takes has the same block in both
+abbrev pub SameBlocks : View → Type 0
+SameBlocks v = (n : ℕ) (b c : Block) → HasPair v.list n b → HasPair v.takes n c → b ≡ c

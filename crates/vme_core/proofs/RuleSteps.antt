@@ -1,0 +1,209 @@
+-- The moves of one seat keep the rule, whatever the words and the places are read from.
+use Rattle.std.proofs.Common.{◌≡◌, ℕ, ◌+◌, ◌<◌, ◌≤◌, ◌≢◌, List, [], ◌∷◌, ◌++◌, length, set, sym, refl, ap, ◌∙◌, arith, subst, ⊎_elim, le_refl, Option, Some, None}
+use mathlib.Core.Option.{some}
+use lib.ListN.{get_elem?}
+use Rattle.vme_trace.specs.declared.block.Block.{Block}
+use Rattle.vme_core.specs.declared.view.View.{View}
+use Rattle.vme_core.specs.Counting.{occurrences, sum_below, numbers, HasPair, missing_at}
+use Rattle.vme_core.specs.Views.{empty_view, split_view, joint_view, after_claim, after_filing, after_take, after_draw}
+use Rattle.vme_core.specs.Rule.{Rule}
+use Rattle.vme_core.proofs.Sums.{at_most_sum, occurrences_here, occurrences_else, occurrences-append, numbers-append, HasPair-append, each}
+use Rattle.vme_core.proofs.ViewChanges.{draws_set, draws_append, draws_two, Sighted, sighted, stages_set, stages_saw, stages_append, stages_two, Holding, holding, contents_set, contents_look, contents_append, contents_two, saw_one, saw_both}
+use Rattle.vme_core.proofs.SumsBelow.{pigeonhole, length-numbers, none_else}
+
+-- the rule reads the words by their bits alone
+pub rule_alike : (limit : ℕ) (D D' C C' F F' T T' : ℕ → ℕ) (K : ℕ → Option Block) (E : ℕ → Type 0) (H : ℕ → Block → Type 0) (vs : List View) → ((n : ℕ) → D' n ≡ D n) → ((n : ℕ) → C' n ≡ C n) → ((n : ℕ) → F' n ≡ F n) → ((n : ℕ) → T' n ≡ T n)
+    → Rule limit D C F T K E H vs → Rule limit D' C' F' T' K E H vs
+rule_alike limit D D' C C' F F' T T' K E H vs d c f t r =
+    subst (λ (z : (ℕ → ℕ) × (ℕ → ℕ) × (ℕ → ℕ) × (ℕ → ℕ)). Rule limit z.0 z.1 z.2 z.3 K E H vs) (λ i. ((λ n. sym (d n) i), (λ n. sym (c n) i), (λ n. sym (f n) i), λ n. sym (t n) i)) r
+
+-- two contents of one number are one
+pub one_content : (k : Option Block) (b c : Block) → k ≡ Some b → k ≡ Some c → b ≡ c
+one_content k b c p q = cc
+
+pub none_some : (b : Block) → ◌≡◌ {A = Option Block} None (Some b) → ⊥
+none_some b e = cc
+
+module _ (limit : ℕ) (D C F T : ℕ → ℕ) (K : ℕ → Option Block) (E : ℕ → Type 0) (H : ℕ → Block → Type 0) (vs : List View) (r : Rule limit D C F T K E H vs) where
+  -- an emptied slot of a taken number goes home
+  pub rule_gives : (E' : ℕ → Type 0) (H' : ℕ → Block → Type 0) (n : ℕ) → T n ≡ 1 → ((m : ℕ) → m ≢ n → E m → E' m) → ((m : ℕ) (x : Block) → m ≢ n → H m x → H' m x) → ((m : ℕ) (x : Block) → m ≢ n → H' m x → H m x) → ((x : Block) → H' n x → ⊥)
+      → Rule limit D C F T K E' H' vs
+  rule_gives E' H' n t1 e_else h_else h_back bare = let o = r.stages.taken_is_filed n in let p = r.stages.pending_once n in record {
+    draws = r.draws;
+    stages = r.stages;
+    contents = record {
+      free_is_empty = each n (λ m. C m ≡ 0 → E' m) (λ z. absurd (omega (arith, z, t1, o, p))) (λ m ne z. e_else m ne (r.contents.free_is_empty m z));
+      unfiled_is_none = r.contents.unfiled_is_none;
+      filed_is_home = each n (λ m. F m ≡ 1 → T m ≡ 0 → (b : Block) × (K m ≡ Some b) × H' m b) (λ _ z. absurd (omega (arith, z, t1))) (λ m ne a z. let g = r.contents.filed_is_home m a z in (g.0, g.1, h_else m g.0 ne g.2));
+      home_is_filed = each n (λ m. (b : Block) → H' m b → (F m ≡ 1) × (T m ≡ 0) × (K m ≡ Some b)) (λ b h. absurd (bare b h)) (λ m ne b h. r.contents.home_is_filed m b (h_back m b ne h));
+      listed = r.contents.listed;
+      took = r.contents.took;
+    };
+  }
+
+  module _ (i : ℕ) (v : View) (e : get_elem? vs i ≡ some v) where
+    abbrev seen : Sighted C F T v
+    seen = sighted limit C F T vs r.stages i v e
+
+    abbrev held : Holding K v
+    held = holding C F T K E H vs r.contents i v e
+
+    -- the seat saw more, and nothing else happened
+    pub rule_saw : (fo cl fi ta : List ℕ) → ((d : ℕ) → 0 < occurrences d fo → D d ≡ 1) → ((n : ℕ) → 0 < occurrences n cl → C n ≡ 1) → ((n : ℕ) → 0 < occurrences n fi → F n ≡ 1) → ((n : ℕ) → 0 < occurrences n ta → T n ≡ 1)
+        → Rule limit D C F T K E H (set vs i (record v { found = fo; claimed = cl; filed = fi; taken = ta }))
+    rule_saw fo cl fi ta a b c d = let w : View = record v { found = fo; claimed = cl; filed = fi; taken = ta } in record {
+      draws = draws_set D vs r.draws D i v w e r.draws.bit (λ d. le_refl _) (λ d. le_refl _) a;
+      stages = stages_saw limit C F T vs r.stages i v w e (λ n. le_refl _) (λ n. le_refl _) (λ n. le_refl _) (record { claimed = b; filed = c; taken = d });
+      contents = contents_look C F T K E H vs r.contents i w (record { listed = held.listed; took = held.took });
+    }
+
+    pub rule_gets : (D' : ℕ → ℕ) (d : ℕ) → D d ≡ 0 → D' d ≡ 1 → ((m : ℕ) → m ≢ d → D' m ≡ D m) → Rule limit D' C F T K E H (set vs i (after_draw v d))
+    rule_gets D' d d0 d1 d_else =
+        let w : View = after_draw v d in
+        let bit : (m : ℕ) → D' m ≤ 1 = each d (λ m. D' m ≤ 1) (omega (arith, d1)) (λ m ne. omega (arith, d_else m ne, r.draws.bit m)) in let more : (m : ℕ) → D m ≤ D' m = each d (λ m. D m ≤ D' m) (omega (arith, d0)) (λ m ne. omega (arith, d_else m ne)) in record {
+          draws = draws_set D vs r.draws D' i v w e bit more
+              (each d (λ m. occurrences m w.draws + D m ≤ occurrences m v.draws + D' m) (omega (arith, d1, d0, occurrences_here d v.draws)) (λ m ne. omega (arith, d_else m ne, occurrences_else m d v.draws ne)))
+              (saw_one D' d v.found d1 (λ m h. omega (arith, r.draws.found i v e m h, more m, bit m)));
+          stages = stages_saw limit C F T vs r.stages i v w e (λ n. le_refl _) (λ n. le_refl _) (λ n. le_refl _) (record { claimed = seen.claimed; filed = seen.filed; taken = seen.taken });
+          contents = contents_look C F T K E H vs r.contents i w (record { listed = held.listed; took = held.took });
+        }
+
+    -- none has drawn what is not drawn
+    pub undrawn : (d : ℕ) → D d ≡ 0 → occurrences d v.draws ≡ 0
+    undrawn d is = omega (arith, at_most_sum (λ (u : View). occurrences d u.draws) vs i v e, r.draws.won_once d, is)
+
+    -- and none has filed or taken what is not
+    pub unlisted : (n : ℕ) → F n ≡ 0 → occurrences n (numbers v.list) ≡ 0
+    unlisted n is = omega (arith, at_most_sum (λ (u : View). occurrences n (numbers u.list)) vs i v e, r.stages.filed_once n, is)
+
+    pub untaken : (n : ℕ) → T n ≡ 0 → occurrences n (numbers v.takes) ≡ 0
+    untaken n is = omega (arith, at_most_sum (λ (u : View). occurrences n (numbers u.takes)) vs i v e, r.stages.taken_once n, is)
+
+    -- what it took is taken
+    pub is_taken : (n : ℕ) → 0 < occurrences n (numbers v.takes) → T n ≡ 1
+    is_taken n is = omega (arith, at_most_sum (λ (u : View). occurrences n (numbers u.takes)) vs i v e, r.stages.taken_once n, r.stages.taken_is_filed n, r.stages.pending_once n, r.stages.bit n, is)
+
+    pub rule_wins : (C' : ℕ → ℕ) (E' : ℕ → Type 0) (H' : ℕ → Block → Type 0) (n : ℕ) → v.pending ≡ [] → n < limit → C n ≡ 0 → C' n ≡ 1 → ((m : ℕ) → m ≢ n → C' m ≡ C m) → ((m : ℕ) → m ≢ n → E m → E' m)
+        → ((m : ℕ) (x : Block) → m ≢ n → H m x → H' m x) → ((m : ℕ) (x : Block) → m ≢ n → H' m x → H m x) → ((x : Block) → H' n x → ⊥) → Rule limit D C' F T K E' H' (set vs i (after_claim v n))
+    rule_wins C' E' H' n none low c0 c1 c_else e_else h_else h_back bare =
+        let w : View = after_claim v n in let p0 = λ (m : ℕ). let g : occurrences m v.pending ≡ 0 = ap (occurrences m) none in g in let pend = r.stages.pending_once n in let f0 : F n ≡ 0 = omega (arith, c0, pend) in
+        let bit : (m : ℕ) → C' m ≤ 1 = each n (λ m. C' m ≤ 1) (omega (arith, c1)) (λ m ne. omega (arith, c_else m ne, r.stages.bit m)) in
+        let more : (m : ℕ) → C m ≤ C' m = each n (λ m. C m ≤ C' m) (omega (arith, c0)) (λ m ne. omega (arith, c_else m ne)) in record {
+          draws = draws_set D vs r.draws D i v w e r.draws.bit (λ d. le_refl _) (λ d. le_refl _) (r.draws.found i v e);
+          stages = stages_set limit C F T vs r.stages C' F T i v w e bit (each n (λ m. 0 < C' m → m < limit) (λ _. low) (λ m ne z. r.stages.in_range m (omega (arith, z, c_else m ne)))) r.stages.taken_is_filed more (λ m. le_refl _) (λ m. le_refl _)
+              (each n (λ m. occurrences m w.pending + F m + C m ≤ occurrences m v.pending + F m + C' m) (omega (arith, c0, c1, f0, occurrences_here n [], p0 n)) (λ m ne. omega (arith, c_else m ne, occurrences_else m n [] ne, p0 m)))
+              (λ m. le_refl _) (λ m. le_refl _) (record { claimed = saw_one C' n v.claimed c1 (λ m h. omega (arith, seen.claimed m h, more m, bit m)); filed = seen.filed; taken = seen.taken });
+          contents = contents_set C F T K E H vs r.contents C' F T K E' H' i w (record {
+            free_is_empty = each n (λ m. C' m ≡ 0 → E' m) (λ z. absurd (omega (arith, z, c1))) (λ m ne z. e_else m ne (r.contents.free_is_empty m (sym (c_else m ne) ∙ z)));
+            unfiled_is_none = r.contents.unfiled_is_none;
+            filed_is_home = each n (λ m. F m ≡ 1 → T m ≡ 0 → (b : Block) × (K m ≡ Some b) × H' m b) (λ a _. absurd (omega (arith, a, f0))) (λ m ne a z. let g = r.contents.filed_is_home m a z in (g.0, g.1, h_else m g.0 ne g.2));
+            home_is_filed = each n (λ m. (b : Block) → H' m b → (F m ≡ 1) × (T m ≡ 0) × (K m ≡ Some b)) (λ b h. absurd (bare b h)) (λ m ne b h. r.contents.home_is_filed m b (h_back m b ne h));
+          }) (λ _ _ h. h) (record { listed = held.listed; took = held.took });
+        }
+
+    -- what the seat has pending is claimed and not filed
+    pub is_pending : (n : ℕ) → v.pending ≡ n ∷ [] → (C n ≡ 1) × (F n ≡ 0)
+    is_pending n one = let p1 : occurrences n v.pending ≡ 1 = ap (occurrences n) one ∙ occurrences_here n [] in let owned = at_most_sum (λ (u : View). occurrences n u.pending) vs i v e in let pend = r.stages.pending_once n in let small = r.stages.bit n in
+        (omega (arith, p1, owned, pend, small), omega (arith, p1, owned, pend, small))
+
+    pub rule_files : (F' : ℕ → ℕ) (K' : ℕ → Option Block) (E' : ℕ → Type 0) (H' : ℕ → Block → Type 0) (n : ℕ) (b : Block) → v.pending ≡ n ∷ [] → F' n ≡ 1 → ((m : ℕ) → m ≢ n → F' m ≡ F m) → K' n ≡ Some b → ((m : ℕ) → m ≢ n → K' m ≡ K m)
+        → ((m : ℕ) → m ≢ n → E m → E' m) → ((m : ℕ) (x : Block) → m ≢ n → H m x → H' m x) → ((m : ℕ) (x : Block) → m ≢ n → H' m x → H m x) → H' n b → ((x : Block) → H' n x → x ≡ b) → Rule limit D C F' T K' E' H' (set vs i (after_filing v n b))
+    rule_files F' K' E' H' n b one f1 f_else k1 k_else e_else h_else h_back here alone =
+        let w : View = after_filing v n b in let was = is_pending n one in let c0 = was.0 in let f0 = was.1 in
+        let p1 : occurrences n v.pending ≡ 1 = ap (occurrences n) one ∙ occurrences_here n [] in let p_else = λ (m : ℕ) (ne : m ≢ n). let g : occurrences m v.pending ≡ 0 = ap (occurrences m) one ∙ occurrences_else m n [] ne in g in
+        let t0 : T n ≡ 0 = omega (arith, f0, r.stages.taken_is_filed n) in
+        let more : (m : ℕ) → F m ≤ F' m = each n (λ m. F m ≤ F' m) (omega (arith, f0)) (λ m ne. omega (arith, f_else m ne)) in
+        let stays : (m : ℕ) (x : Block) → K m ≡ Some x → K' m ≡ Some x = each n (λ m. (x : Block) → K m ≡ Some x → K' m ≡ Some x) (λ x h. absurd (none_some x (sym (r.contents.unfiled_is_none n f0) ∙ h))) (λ m ne x h. k_else m ne ∙ h) in record {
+          draws = draws_set D vs r.draws D i v w e r.draws.bit (λ d. le_refl _) (λ d. le_refl _) (r.draws.found i v e);
+          stages = stages_set limit C F T vs r.stages C F' T i v w e r.stages.bit r.stages.in_range (λ m. omega (arith, r.stages.taken_is_filed m, more m)) (λ m. le_refl _) more (λ m. le_refl _)
+              (each n (λ m. occurrences m w.pending + F' m + C m ≤ occurrences m v.pending + F m + C m) (omega (arith, f0, f1, p1)) (λ m ne. omega (arith, f_else m ne, p_else m ne)))
+              (each n (λ m. occurrences m (numbers w.list) + F m ≤ occurrences m (numbers v.list) + F' m) (omega (arith, f0, f1, occurrences_here n (numbers v.list))) (λ m ne. omega (arith, f_else m ne, occurrences_else m n (numbers v.list) ne)))
+              (λ m. le_refl _) (record { claimed = saw_one C n v.claimed c0 seen.claimed; filed = saw_one F' n v.filed f1 (each n (λ m. 0 < occurrences m v.filed → F' m ≡ 1) (λ _. f1) (λ m ne h. f_else m ne ∙ seen.filed m h)); taken = seen.taken });
+          contents = contents_set C F T K E H vs r.contents C F' T K' E' H' i w (record {
+            free_is_empty = each n (λ m. C m ≡ 0 → E' m) (λ z. absurd (omega (arith, z, c0))) (λ m ne z. e_else m ne (r.contents.free_is_empty m z));
+            unfiled_is_none = each n (λ m. F' m ≡ 0 → K' m ≡ None) (λ z. absurd (omega (arith, z, f1))) (λ m ne z. k_else m ne ∙ r.contents.unfiled_is_none m (sym (f_else m ne) ∙ z));
+            filed_is_home = each n (λ m. F' m ≡ 1 → T m ≡ 0 → (x : Block) × (K' m ≡ Some x) × H' m x) (λ _ _. (b, k1, here)) (λ m ne a z. let g = r.contents.filed_is_home m (sym (f_else m ne) ∙ a) z in (g.0, k_else m ne ∙ g.1, h_else m g.0 ne g.2));
+            home_is_filed = each n (λ m. (x : Block) → H' m x → (F' m ≡ 1) × (T m ≡ 0) × (K' m ≡ Some x)) (λ x h. (f1, t0, k1 ∙ ap (λ (y : Block). Some y) (sym (alone x h)))) (λ m ne x h. let g = r.contents.home_is_filed m x (h_back m x ne h) in (f_else m ne ∙ g.0, g.1, k_else m ne ∙ g.2));
+          }) stays (record {
+            listed = λ m x has. ⊎_elim (λ t. subst (λ (y : ℕ). K' y ≡ Some x) t.0 (k1 ∙ ap (λ (y : Block). Some y) t.1)) (λ old. stays m x (held.listed m x old)) has;
+            took = λ m x has. stays m x (held.took m x has);
+          });
+        }
+
+    pub rule_takes : (T' : ℕ → ℕ) (E' : ℕ → Type 0) (H' : ℕ → Block → Type 0) (n : ℕ) (b : Block) → F n ≡ 1 → T n ≡ 0 → T' n ≡ 1 → ((m : ℕ) → m ≢ n → T' m ≡ T m) → K n ≡ Some b
+        → ((m : ℕ) → m ≢ n → E m → E' m) → ((m : ℕ) (x : Block) → m ≢ n → H m x → H' m x) → ((m : ℕ) (x : Block) → m ≢ n → H' m x → H m x) → ((x : Block) → H' n x → ⊥) → Rule limit D C F T' K E' H' (set vs i (after_take v n b))
+    rule_takes T' E' H' n b f1 t0 t1 t_else kb e_else h_else h_back bare =
+        let w : View = after_take v n b in let c1 : C n ≡ 1 = omega (arith, f1, r.stages.pending_once n, r.stages.bit n) in
+        let more : (m : ℕ) → T m ≤ T' m = each n (λ m. T m ≤ T' m) (omega (arith, t0)) (λ m ne. omega (arith, t_else m ne)) in record {
+          draws = draws_set D vs r.draws D i v w e r.draws.bit (λ d. le_refl _) (λ d. le_refl _) (r.draws.found i v e);
+          stages = stages_set limit C F T vs r.stages C F T' i v w e r.stages.bit r.stages.in_range (each n (λ m. T' m ≤ F m) (omega (arith, f1, t1)) (λ m ne. omega (arith, t_else m ne, r.stages.taken_is_filed m))) (λ m. le_refl _) (λ m. le_refl _) more
+              (λ m. le_refl _) (λ m. le_refl _)
+              (each n (λ m. occurrences m (numbers w.takes) + T m ≤ occurrences m (numbers v.takes) + T' m) (omega (arith, t0, t1, occurrences_here n (numbers v.takes))) (λ m ne. omega (arith, t_else m ne, occurrences_else m n (numbers v.takes) ne)))
+              (record { claimed = saw_one C n v.claimed c1 seen.claimed; filed = saw_one F n v.filed f1 seen.filed; taken = saw_one T' n v.taken t1 (each n (λ m. 0 < occurrences m v.taken → T' m ≡ 1) (λ _. t1) (λ m ne h. t_else m ne ∙ seen.taken m h)) });
+          contents = contents_set C F T K E H vs r.contents C F T' K E' H' i w (record {
+            free_is_empty = each n (λ m. C m ≡ 0 → E' m) (λ z. absurd (omega (arith, z, c1))) (λ m ne z. e_else m ne (r.contents.free_is_empty m z));
+            unfiled_is_none = r.contents.unfiled_is_none;
+            filed_is_home = each n (λ m. F m ≡ 1 → T' m ≡ 0 → (x : Block) × (K m ≡ Some x) × H' m x) (λ _ z. absurd (omega (arith, z, t1))) (λ m ne a z. let g = r.contents.filed_is_home m a (sym (t_else m ne) ∙ z) in (g.0, g.1, h_else m g.0 ne g.2));
+            home_is_filed = each n (λ m. (x : Block) → H' m x → (F m ≡ 1) × (T' m ≡ 0) × (K m ≡ Some x)) (λ x h. absurd (bare x h)) (λ m ne x h. let g = r.contents.home_is_filed m x (h_back m x ne h) in (g.0, t_else m ne ∙ g.1, g.2));
+          }) (λ _ _ h. h) (record {
+            listed = held.listed;
+            took = λ m x has. ⊎_elim (λ t. subst (λ (y : ℕ). K y ≡ Some x) t.0 (kb ∙ ap (λ (y : Block). Some y) t.1)) (λ old. held.took m x old) has;
+          });
+        }
+
+    pub rule_splits : Rule limit D C F T K E H (vs ++ split_view v ∷ [])
+    rule_splits = record {
+      draws = draws_append D vs r.draws (split_view v) (λ _. refl) (r.draws.found i v e);
+      stages = stages_append limit C F T vs r.stages (split_view v) (λ _. refl) (λ _. refl) (λ _. refl) (record { claimed = seen.claimed; filed = seen.filed; taken = seen.taken });
+      contents = contents_append C F T K E H vs r.contents (split_view v) (record { listed = λ _ _ h. absurd h; took = λ _ _ h. absurd h });
+    }
+
+    pub rule_joins : (j : ℕ) (w : View) → j ≢ i → get_elem? vs j ≡ some w → Rule limit D C F T K E H (set (set vs i (joint_view v w)) j empty_view)
+    rule_joins j w ne f = let theirs = sighted limit C F T vs r.stages j w f in let has = holding C F T K E H vs r.contents j w f in record {
+      draws = draws_two D vs r.draws i j v w (joint_view v w) empty_view e ne f (λ d. omega (arith, occurrences-append d v.draws w.draws)) (saw_both D v.found w.found (r.draws.found i v e) (r.draws.found j w f)) (λ _ h. absurd (omega arith));
+      stages = stages_two limit C F T vs r.stages i j v w (joint_view v w) empty_view e ne f (λ n. omega (arith, occurrences-append n v.pending w.pending)) (λ n. omega (arith, ap (occurrences n) (numbers-append v.list w.list), occurrences-append n (numbers v.list) (numbers w.list)))
+          (λ n. omega (arith, ap (occurrences n) (numbers-append v.takes w.takes), occurrences-append n (numbers v.takes) (numbers w.takes)))
+          (record { claimed = saw_both C v.claimed w.claimed seen.claimed theirs.claimed; filed = saw_both F v.filed w.filed seen.filed theirs.filed; taken = saw_both T v.taken w.taken seen.taken theirs.taken })
+          (record { claimed = λ _ h. absurd (omega arith); filed = λ _ h. absurd (omega arith); taken = λ _ h. absurd (omega arith) });
+      contents = contents_two C F T K E H vs r.contents i j (joint_view v w) empty_view
+          (record { listed = λ n x h. ⊎_elim (held.listed n x) (has.listed n x) (HasPair-append v.list w.list n x h); took = λ n x h. ⊎_elim (held.took n x) (has.took n x) (HasPair-append v.takes w.takes n x h) })
+          (record { listed = λ _ _ h. absurd h; took = λ _ _ h. absurd h });
+    }
+
+    -- what the seat has is once there
+    pub rule_once : ((d : ℕ) → occurrences d v.draws ≤ 1) × ((n : ℕ) → occurrences n (numbers v.list) ≤ 1) × ((n : ℕ) → occurrences n (numbers v.takes) ≤ 1)
+    rule_once = (
+      (λ d. omega (arith, at_most_sum (λ (u : View). occurrences d u.draws) vs i v e, r.draws.won_once d, r.draws.bit d)),
+      (λ n. omega (arith, at_most_sum (λ (u : View). occurrences n (numbers u.list)) vs i v e, r.stages.filed_once n, r.stages.pending_once n, r.stages.bit n)),
+      λ n. omega (arith, at_most_sum (λ (u : View). occurrences n (numbers u.takes)) vs i v e, r.stages.taken_once n, r.stages.taken_is_filed n, r.stages.pending_once n, r.stages.bit n),
+    )
+
+    -- a number that it filed and took has one content
+    pub rule_agrees : (n : ℕ) (b c : Block) → HasPair v.list n b → HasPair v.takes n c → b ≡ c
+    rule_agrees n b c h t = one_content (K n) b c (held.listed n b h) (held.took n c t)
+
+    -- and there are no more of them than numbers that are filed, and taken
+    file_within : (n : ℕ) → 0 < F n → n < limit
+    file_within n h = r.stages.in_range n (omega (arith, h, r.stages.pending_once n))
+
+    take_within : (n : ℕ) → 0 < T n → n < limit
+    take_within n h = file_within n (omega (arith, h, r.stages.taken_is_filed n))
+
+    list_few : (n : ℕ) → occurrences n (numbers v.list) ≤ F n
+    list_few n = omega (arith, at_most_sum (λ (u : View). occurrences n (numbers u.list)) vs i v e, r.stages.filed_once n)
+
+    takes_few : (n : ℕ) → occurrences n (numbers v.takes) ≤ T n
+    takes_few n = omega (arith, at_most_sum (λ (u : View). occurrences n (numbers u.takes)) vs i v e, r.stages.taken_once n)
+
+    pub few_listed : sum_below (missing_at v.filed (numbers v.list)) limit + length v.list ≤ sum_below F limit
+    few_listed = omega (arith, pigeonhole F limit file_within (numbers v.list) list_few v.filed seen.filed, length-numbers v.list)
+
+    pub few_taken : sum_below (missing_at v.taken (numbers v.takes)) limit + length v.takes ≤ sum_below T limit
+    few_taken = omega (arith, pigeonhole T limit take_within (numbers v.takes) takes_few v.taken seen.taken, length-numbers v.takes)
+
+    -- where there are as many, there are no others
+    pub all_listed : sum_below F limit ≤ length v.list → (n : ℕ) → n < limit → F n ≡ occurrences n (numbers v.list)
+    all_listed full = none_else F limit (numbers v.list) file_within list_few (omega (arith, full, length-numbers v.list))
+
+    pub all_taken : sum_below T limit ≤ length v.takes → (n : ℕ) → n < limit → T n ≡ occurrences n (numbers v.takes)
+    all_taken full = none_else T limit (numbers v.takes) take_within takes_few (omega (arith, full, length-numbers v.takes))

@@ -1,0 +1,36 @@
+-- What holds after every run of the machine.
+use Rattle.std.specs.Prelude.{◌≡◌, ℕ, ◌+◌, ◌<◌, ◌≤◌, List, Some, sum_by}
+use Rattle.vme_trace.specs.declared.block.Block.{Block}
+use Rattle.vme_core.specs.declared.stage.Stage.TheVariants.{Filed}
+use Rattle.vme_core.specs.declared.view.View.{View}
+use Rattle.vme_core.specs.Counting.{occurrences, numbers, HasPair}
+use Rattle.vme_core.specs.Stages.{rank, seen, filed_bit, taken_bit}
+use Rattle.vme_core.specs.Machine.{Core, Event, filled, start, HasView, IsRun}
+
+-- some events of benches of a board of so many numbers and draws lead from s to t
+abbrev pub LeadsTo : ℕ → ℕ → Core → Core → Type 0
+LeadsTo total draws s t = (events : List Event) × IsRun total draws s events t
+
+-- some run leads to s
+abbrev pub IsReachable : ℕ → ℕ → Core → Type 0
+IsReachable total draws s = LeadsTo total draws start s
+
+pub record IsLawful (s : Core) : Type 0 where
+  -- the owner of a number is the bench with which it is pending, or that has it in its list
+  pub one_owner : (n : ℕ) → sum_by (λ v. occurrences n v.pending + occurrences n (numbers v.list)) s.views ≤ 1
+  pub filed_once : (n : ℕ) → sum_by (λ v. occurrences n (numbers v.list)) s.views ≤ filed_bit (s.stage n)
+  pub taken_once : (n : ℕ) → sum_by (λ v. occurrences n (numbers v.takes)) s.views ≤ taken_bit (s.stage n)
+  -- what a bench filed or took is the content of its number, and what is filed is in its slot
+  pub listed : (i : ℕ) (v : View) → HasView s i v → (n : ℕ) (b : Block) → HasPair v.list n b → s.content n ≡ Some b
+  pub took : (i : ℕ) (v : View) → HasView s i v → (n : ℕ) (b : Block) → HasPair v.takes n b → s.content n ≡ Some b
+  pub filed_is_home : (n : ℕ) → s.stage n ≡ Filed → (b : Block) × (s.content n ≡ Some b) × (s.home n ≡ filled b)
+  pub won_once : (d : ℕ) → sum_by (λ v. occurrences d v.draws) s.views ≤ 1
+  -- nobody has seen more than there is
+  pub seen_is_so : (i : ℕ) (v : View) → HasView s i v → (n : ℕ) → rank (seen v n) ≤ rank (s.stage n)
+  pub found_is_drawn : (i : ℕ) (v : View) → HasView s i v → (d : ℕ) → 0 < occurrences d v.found → s.drawn d ≡ 1
+
+-- no stage goes back, no content changes, and what was drawn stays drawn
+pub record OnlyGrows (s t : Core) : Type 0 where
+  pub stages : (n : ℕ) → rank (s.stage n) ≤ rank (t.stage n)
+  pub contents : (n : ℕ) (b : Block) → s.content n ≡ Some b → t.content n ≡ Some b
+  pub draws : (d : ℕ) → s.drawn d ≤ t.drawn d

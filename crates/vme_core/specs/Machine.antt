@@ -1,0 +1,166 @@
+-- The machine: its states, its events, and what each event does. An event is one atomic step of one bench.
+use Rattle.std.specs.Prelude.{◌≡◌, ◌≢◌, ℕ, zero, suc, ◌+◌, ◌*◌, ◌<◌, List, [], ◌∷◌, ◌++◌, slice_set, Option, Some, None}
+use mathlib.Core.Option.{some}
+use lib.ListN.{get_elem?}
+use Rattle.vme_trace.specs.declared.block.Block.{Block}
+use Rattle.vme_core.specs.declared.stage.Stage.{Stage}
+use Rattle.vme_core.specs.declared.stage.Stage.TheVariants.{Free, Claimed, Filed, Taken}
+use Rattle.vme_core.specs.declared.view.View.{View}
+use Rattle.vme_core.specs.Counting.{update, occurrences, numbers, set_bits}
+use Rattle.vme_core.specs.Stages.{claimed_bit, filed_bit, taken_bit}
+use Rattle.vme_core.specs.Views.{empty_view, split_view, joint_view, with_claimed, with_filed, with_taken, with_found}
+use Rattle.vme_core.specs.Views.{after_draw, after_claim, after_filing, after_take}
+
+-- the slot of a number: at home and empty, out with a bench, or at home with a block
+pub data Slot : Type 0 where
+  empty : Slot
+  away : Slot
+  filled : Block → Slot
+
+-- how far a bench is between a claim and its filing, or between a take and the return of the slot
+pub data Progress : Type 0 where
+  idle : Progress
+  has_claimed : ℕ → Block → Progress
+  has_put : ℕ → Block → Progress
+  has_taken : ℕ → Block → Progress
+  has_lifted : ℕ → Block → Progress
+
+-- Benches are numbered in the order in which they were made, and so are their views.
+pub record Core : Type 0 where
+  pub stage : ℕ → Stage
+  pub content : ℕ → Option Block
+  pub home : ℕ → Slot
+  pub drawn : ℕ → ℕ
+  pub progress : ℕ → Progress
+  pub views : List View
+
+-- which bits of 64 numbers a word has
+pub data Row : Type 0 where
+  claimed_row : Row
+  filed_row : Row
+  taken_row : Row
+
+-- The first number of an event is the bench that takes the step.
+pub data Event : Type 0 where
+  make : Event
+  split : ℕ → Event
+  join : ℕ → ℕ → Event
+  claim : ℕ → ℕ → Block → Event
+  put : ℕ → ℕ → Block → Event
+  file : ℕ → ℕ → Block → Event
+  -- the word of a row that has the bits of 64 numbers from 64 times the last number on
+  look : ℕ → Row → ℕ → Event
+  draw : ℕ → ℕ → Event
+  take : ℕ → ℕ → Event
+  lift : ℕ → ℕ → Event
+  -- a load by which an emptied slot goes home
+  give : ℕ → ℕ → Event
+  -- a load that changes nothing
+  load : ℕ → Event
+
+abbrev pub start : Core
+start = record {
+  stage = λ _. Free;
+  content = λ _. None;
+  home = λ _. empty;
+  drawn = λ _. 0;
+  progress = λ _. idle;
+  views = empty_view ∷ [];
+}
+
+-- the bench i has the view v
+abbrev pub HasView : Core → ℕ → View → Type 0
+HasView s i v = get_elem? s.views i ≡ some v
+
+abbrev pub with_views : Core → List View → Core
+with_views s vs = record s { views = vs }
+
+-- the bench i, of the view v, tries to claim n, whose claimed bit is the last argument
+abbrev pub after_claim_step : Core → ℕ → ℕ → Block → View → ℕ → Core
+after_claim_step s i n b v zero = record {
+  stage = update s.stage n Claimed;
+  content = s.content;
+  home = update s.home n away;
+  drawn = s.drawn;
+  progress = update s.progress i (has_claimed n b);
+  views = slice_set s.views i (after_claim v n);
+}
+after_claim_step s i n b v (suc k) = with_views s (slice_set s.views i (with_claimed v (n ∷ [])))
+
+-- the bench files what it put
+abbrev pub after_file_step : Core → ℕ → ℕ → Block → View → Core
+after_file_step s i n b v = record {
+  stage = update s.stage n Filed;
+  content = update s.content n (Some b);
+  home = update s.home n (filled b);
+  drawn = s.drawn;
+  progress = update s.progress i idle;
+  views = slice_set s.views i (after_filing v n b);
+}
+
+-- the bench tries the draw d, whose drawn bit is the last argument
+abbrev pub after_draw_step : Core → ℕ → ℕ → View → ℕ → Core
+after_draw_step s i d v zero = record {
+  stage = s.stage;
+  content = s.content;
+  home = s.home;
+  drawn = update s.drawn d 1;
+  progress = s.progress;
+  views = slice_set s.views i (after_draw v d);
+}
+after_draw_step s i d v (suc k) = with_views s (slice_set s.views i (with_found v d))
+
+-- the bench tries to take n, whose taken bit and content are the last arguments
+abbrev pub after_take_step : Core → ℕ → ℕ → View → ℕ → Option Block → Core
+after_take_step s i n v zero (Some b) = record {
+  stage = update s.stage n Taken;
+  content = s.content;
+  home = update s.home n away;
+  drawn = s.drawn;
+  progress = update s.progress i (has_taken n b);
+  views = slice_set s.views i (after_take v n b);
+}
+after_take_step s i n v zero None = s
+after_take_step s i n v (suc k) c = with_views s (slice_set s.views i (with_taken v (n ∷ [])))
+
+-- what a bench has seen after it looked at the word g of a row
+abbrev pub after_look : Core → View → Row → ℕ → View
+after_look s v claimed_row g = with_claimed v (set_bits (64 * g) (λ k. claimed_bit (s.stage (64 * g + k))) 64)
+after_look s v filed_row g = with_filed v (set_bits (64 * g) (λ k. filed_bit (s.stage (64 * g + k))) 64)
+after_look s v taken_row g = with_taken v (set_bits (64 * g) (λ k. taken_bit (s.stage (64 * g + k))) 64)
+
+module _ (total draws : ℕ) where
+  -- the event may happen in s, and leads to t
+  abbrev pub Happens : Core → Event → Core → Type 0
+  Happens s make t = t ≡ with_views s (s.views ++ empty_view ∷ [])
+  Happens s (split i) t =
+      (v : View) × HasView s i v × (v.pending ≡ []) × (t ≡ with_views s (s.views ++ split_view v ∷ []))
+  Happens s (join i j) t =
+      (v w : View) × (j ≢ i) × HasView s i v × HasView s j w × (v.pending ≡ []) × (w.pending ≡ [])
+      × (t ≡ with_views s (slice_set (slice_set s.views i (joint_view v w)) j empty_view))
+  Happens s (claim i n b) t =
+      (v : View) × (n < total) × HasView s i v × (v.pending ≡ [])
+      × (t ≡ after_claim_step s i n b v (claimed_bit (s.stage n)))
+  Happens s (put i n b) t =
+      (v : View) × HasView s i v × (v.pending ≡ n ∷ []) × (s.progress i ≡ has_claimed n b)
+      × (t ≡ record s { progress = update s.progress i (has_put n b) })
+  Happens s (file i n b) t =
+      (v : View) × HasView s i v × (v.pending ≡ n ∷ []) × (s.progress i ≡ has_put n b) × (t ≡ after_file_step s i n b v)
+  Happens s (look i row g) t =
+      (v : View) × HasView s i v × (t ≡ with_views s (slice_set s.views i (after_look s v row g)))
+  Happens s (draw i d) t = (v : View) × (d < draws) × HasView s i v × (t ≡ after_draw_step s i d v (s.drawn d))
+  Happens s (take i n) t =
+      (v : View) × HasView s i v × (0 < occurrences n v.filed)
+      × (t ≡ after_take_step s i n v (taken_bit (s.stage n)) (s.content n))
+  Happens s (lift i n) t =
+      (v : View) × (b : Block) × HasView s i v × (s.progress i ≡ has_taken n b)
+      × (t ≡ record s { progress = update s.progress i (has_lifted n b) })
+  Happens s (give i n) t =
+      (v : View) × (b : Block) × HasView s i v × (0 < occurrences n (numbers v.takes)) × (s.progress i ≡ has_lifted n b)
+      × (t ≡ record s { home = update s.home n empty; progress = update s.progress i idle })
+  Happens s (load i) t = (v : View) × HasView s i v × (t ≡ s)
+
+  -- the events may happen one after the other from s on, and lead to t
+  abbrev pub IsRun : Core → List Event → Core → Type 0
+  IsRun s [] t = t ≡ s
+  IsRun s (e ∷ es) t = (u : Core) × Happens s e u × IsRun u es t

@@ -1,0 +1,80 @@
+-- What each step does to the view of the bench that takes it.
+use Rattle.std.specs.Prelude.{ℕ, List, [], ◌∷◌, ◌++◌}
+use Rattle.vme_trace.specs.declared.block.Block.{Block}
+use Rattle.vme_core.specs.declared.view.View.{View}
+
+-- the view of the first bench, and of one that was joined to another
+abbrev pub empty_view : View
+empty_view = record {
+  list = [];
+  takes = [];
+  draws = [];
+  found = [];
+  claimed = [];
+  filed = [];
+  taken = [];
+  pending = [];
+}
+
+-- the view of a bench split off: it has seen the same, and has filed, taken and drawn nothing
+abbrev pub split_view : View → View
+split_view v = record {
+  list = [];
+  takes = [];
+  draws = [];
+  found = v.found;
+  claimed = v.claimed;
+  filed = v.filed;
+  taken = v.taken;
+  pending = [];
+}
+
+-- the view of one bench for two
+abbrev pub joint_view : View → View → View
+joint_view v w = record {
+  list = v.list ++ w.list;
+  takes = v.takes ++ w.takes;
+  draws = v.draws ++ w.draws;
+  found = v.found ++ w.found;
+  claimed = v.claimed ++ w.claimed;
+  filed = v.filed ++ w.filed;
+  taken = v.taken ++ w.taken;
+  pending = v.pending ++ w.pending;
+}
+
+-- the bench sees these numbers claimed
+abbrev pub with_claimed : View → List ℕ → View
+with_claimed v ns = record v { claimed = ns ++ v.claimed }
+
+-- the bench sees these numbers filed, and so claimed
+abbrev pub with_filed : View → List ℕ → View
+with_filed v ns = record v { claimed = ns ++ v.claimed; filed = ns ++ v.filed }
+
+-- the bench sees these numbers taken, and so filed and claimed
+abbrev pub with_taken : View → List ℕ → View
+with_taken v ns = record v { claimed = ns ++ v.claimed; filed = ns ++ v.filed; taken = ns ++ v.taken }
+
+-- the bench sees this draw won
+abbrev pub with_found : View → ℕ → View
+with_found v d = record v { found = d ∷ v.found }
+
+-- the bench won the draw
+abbrev pub after_draw : View → ℕ → View
+after_draw v d = record v { draws = d ∷ v.draws; found = d ∷ v.found }
+
+-- the bench claimed the number
+abbrev pub after_claim : View → ℕ → View
+after_claim v n = record v { claimed = n ∷ v.claimed; pending = n ∷ [] }
+
+-- the bench filed the number with this block
+abbrev pub after_filing : View → ℕ → Block → View
+after_filing v n b = record v { list = (n, b) ∷ v.list; claimed = n ∷ v.claimed; filed = n ∷ v.filed; pending = [] }
+
+-- the bench took the number, whose block is this
+abbrev pub after_take : View → ℕ → Block → View
+after_take v n b = record v {
+  takes = (n, b) ∷ v.takes;
+  claimed = n ∷ v.claimed;
+  filed = n ∷ v.filed;
+  taken = n ∷ v.taken;
+}

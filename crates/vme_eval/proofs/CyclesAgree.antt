@@ -1,0 +1,57 @@
+-- Computed from the definitions.
+use Rattle.std.proofs.Common.{refl}
+use Rattle.vme_eval.specs.Recording.{Agrees}
+use Rattle.vme_eval.specs.Cycles.{read_modify_write, write_then_read, two_writes, read_write_write, answer_as_the_cycle_starts_counts, block_read, block_turns, block_turns_from_write_to_read, free_cycle, free_cycle_reads_writes_and_reads, extended_read, extended_block_read, acknowledge_line_rises_as_the_cycle_starts}
+use Rattle.vme_eval.proofs.Everything.{everything, rows}
+
+pub read_modify_write_agrees : Agrees read_modify_write
+unfolding everything rows read_modify_write
+read_modify_write_agrees = record { well_formed = refl; verdict = refl; rows = refl }
+
+pub write_then_read_agrees : Agrees write_then_read
+unfolding everything rows write_then_read
+write_then_read_agrees = record { well_formed = refl; verdict = refl; rows = refl }
+
+pub two_writes_agrees : Agrees two_writes
+unfolding everything rows two_writes
+two_writes_agrees = record { well_formed = refl; verdict = refl; rows = refl }
+
+pub read_write_write_agrees : Agrees read_write_write
+unfolding everything rows read_write_write
+read_write_write_agrees = record { well_formed = refl; verdict = refl; rows = refl }
+
+pub answer_as_the_cycle_starts_counts_agrees : Agrees answer_as_the_cycle_starts_counts
+unfolding everything rows answer_as_the_cycle_starts_counts
+answer_as_the_cycle_starts_counts_agrees = record { well_formed = refl; verdict = refl; rows = refl }
+
+pub block_read_agrees : Agrees block_read
+unfolding everything rows block_read
+block_read_agrees = record { well_formed = refl; verdict = refl; rows = refl }
+
+pub block_turns_agrees : Agrees block_turns
+unfolding everything rows block_turns
+block_turns_agrees = record { well_formed = refl; verdict = refl; rows = refl }
+
+pub block_turns_from_write_to_read_agrees : Agrees block_turns_from_write_to_read
+unfolding everything rows block_turns_from_write_to_read
+block_turns_from_write_to_read_agrees = record { well_formed = refl; verdict = refl; rows = refl }
+
+pub free_cycle_agrees : Agrees free_cycle
+unfolding everything rows free_cycle
+free_cycle_agrees = record { well_formed = refl; verdict = refl; rows = refl }
+
+pub free_cycle_reads_writes_and_reads_agrees : Agrees free_cycle_reads_writes_and_reads
+unfolding everything rows free_cycle_reads_writes_and_reads
+free_cycle_reads_writes_and_reads_agrees = record { well_formed = refl; verdict = refl; rows = refl }
+
+pub extended_read_agrees : Agrees extended_read
+unfolding everything rows extended_read
+extended_read_agrees = record { well_formed = refl; verdict = refl; rows = refl }
+
+pub extended_block_read_agrees : Agrees extended_block_read
+unfolding everything rows extended_block_read
+extended_block_read_agrees = record { well_formed = refl; verdict = refl; rows = refl }
+
+pub acknowledge_line_rises_as_the_cycle_starts_agrees : Agrees acknowledge_line_rises_as_the_cycle_starts
+unfolding everything rows acknowledge_line_rises_as_the_cycle_starts
+acknowledge_line_rises_as_the_cycle_starts_agrees = record { well_formed = refl; verdict = refl; rows = refl }

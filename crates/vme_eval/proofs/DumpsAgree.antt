@@ -1,0 +1,41 @@
+-- Computed from the definitions.
+use Rattle.std.proofs.Common.{refl}
+use Rattle.vme_eval.specs.Recording.{Agrees}
+use Rattle.vme_eval.specs.Dumps.{dumped_read, dumped_nothing, dumped_stray_answer, dumped_unknown_strobe, dumped_gap, strobe_lost_at_once, answer_low_before_judging, address_lost_between_cycles, earlier_break_of_a_later_rule}
+use Rattle.vme_eval.proofs.Everything.{everything, rows}
+
+pub dumped_read_agrees : Agrees dumped_read
+unfolding everything rows dumped_read
+dumped_read_agrees = record { well_formed = refl; verdict = refl; rows = refl }
+
+pub dumped_nothing_agrees : Agrees dumped_nothing
+unfolding everything rows dumped_nothing
+dumped_nothing_agrees = record { well_formed = refl; verdict = refl; rows = refl }
+
+pub dumped_stray_answer_agrees : Agrees dumped_stray_answer
+unfolding everything rows dumped_stray_answer
+dumped_stray_answer_agrees = record { well_formed = refl; verdict = refl; rows = refl }
+
+pub dumped_unknown_strobe_agrees : Agrees dumped_unknown_strobe
+unfolding everything rows dumped_unknown_strobe
+dumped_unknown_strobe_agrees = record { well_formed = refl; verdict = refl; rows = refl }
+
+pub dumped_gap_agrees : Agrees dumped_gap
+unfolding everything rows dumped_gap
+dumped_gap_agrees = record { well_formed = refl; verdict = refl; rows = refl }
+
+pub strobe_lost_at_once_agrees : Agrees strobe_lost_at_once
+unfolding everything rows strobe_lost_at_once
+strobe_lost_at_once_agrees = record { well_formed = refl; verdict = refl; rows = refl }
+
+pub answer_low_before_judging_agrees : Agrees answer_low_before_judging
+unfolding everything rows answer_low_before_judging
+answer_low_before_judging_agrees = record { well_formed = refl; verdict = refl; rows = refl }
+
+pub address_lost_between_cycles_agrees : Agrees address_lost_between_cycles
+unfolding everything rows address_lost_between_cycles
+address_lost_between_cycles_agrees = record { well_formed = refl; verdict = refl; rows = refl }
+
+pub earlier_break_of_a_later_rule_agrees : Agrees earlier_break_of_a_later_rule
+unfolding everything rows earlier_break_of_a_later_rule
+earlier_break_of_a_later_rule_agrees = record { well_formed = refl; verdict = refl; rows = refl }

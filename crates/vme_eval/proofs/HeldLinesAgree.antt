@@ -1,0 +1,81 @@
+-- Computed from the definitions.
+use Rattle.std.proofs.Common.{refl}
+use Rattle.vme_eval.specs.Recording.{Agrees}
+use Rattle.vme_eval.specs.HeldLines.{short_address, address_changes_early, address_changes_with_answer, unneeded_line_changes, address_lost_in_the_cycle, highest_address_line_changes, address_changes_as_the_cycle_ends, address_changes_after_an_answer_at_the_start, unknown_modifier, floating_modifier, address_lost_as_the_cycle_starts, address_known_as_the_cycle_starts, highest_address_line_unknown, direction_unknown, direction_known_as_the_transfer_starts, direction_settles_as_the_transfer_starts, direction_changes, direction_changes_after_the_answer, direction_changes_as_a_strobe_rises}
+use Rattle.vme_eval.proofs.Everything.{everything, rows}
+
+pub short_address_agrees : Agrees short_address
+unfolding everything rows short_address
+short_address_agrees = record { well_formed = refl; verdict = refl; rows = refl }
+
+pub address_changes_early_agrees : Agrees address_changes_early
+unfolding everything rows address_changes_early
+address_changes_early_agrees = record { well_formed = refl; verdict = refl; rows = refl }
+
+pub address_changes_with_answer_agrees : Agrees address_changes_with_answer
+unfolding everything rows address_changes_with_answer
+address_changes_with_answer_agrees = record { well_formed = refl; verdict = refl; rows = refl }
+
+pub unneeded_line_changes_agrees : Agrees unneeded_line_changes
+unfolding everything rows unneeded_line_changes
+unneeded_line_changes_agrees = record { well_formed = refl; verdict = refl; rows = refl }
+
+pub address_lost_in_the_cycle_agrees : Agrees address_lost_in_the_cycle
+unfolding everything rows address_lost_in_the_cycle
+address_lost_in_the_cycle_agrees = record { well_formed = refl; verdict = refl; rows = refl }
+
+pub highest_address_line_changes_agrees : Agrees highest_address_line_changes
+unfolding everything rows highest_address_line_changes
+highest_address_line_changes_agrees = record { well_formed = refl; verdict = refl; rows = refl }
+
+pub address_changes_as_the_cycle_ends_agrees : Agrees address_changes_as_the_cycle_ends
+unfolding everything rows address_changes_as_the_cycle_ends
+address_changes_as_the_cycle_ends_agrees = record { well_formed = refl; verdict = refl; rows = refl }
+
+pub address_changes_after_an_answer_at_the_start_agrees : Agrees address_changes_after_an_answer_at_the_start
+unfolding everything rows address_changes_after_an_answer_at_the_start
+address_changes_after_an_answer_at_the_start_agrees = record { well_formed = refl; verdict = refl; rows = refl }
+
+pub unknown_modifier_agrees : Agrees unknown_modifier
+unfolding everything rows unknown_modifier
+unknown_modifier_agrees = record { well_formed = refl; verdict = refl; rows = refl }
+
+pub floating_modifier_agrees : Agrees floating_modifier
+unfolding everything rows floating_modifier
+floating_modifier_agrees = record { well_formed = refl; verdict = refl; rows = refl }
+
+pub address_lost_as_the_cycle_starts_agrees : Agrees address_lost_as_the_cycle_starts
+unfolding everything rows address_lost_as_the_cycle_starts
+address_lost_as_the_cycle_starts_agrees = record { well_formed = refl; verdict = refl; rows = refl }
+
+pub address_known_as_the_cycle_starts_agrees : Agrees address_known_as_the_cycle_starts
+unfolding everything rows address_known_as_the_cycle_starts
+address_known_as_the_cycle_starts_agrees = record { well_formed = refl; verdict = refl; rows = refl }
+
+pub highest_address_line_unknown_agrees : Agrees highest_address_line_unknown
+unfolding everything rows highest_address_line_unknown
+highest_address_line_unknown_agrees = record { well_formed = refl; verdict = refl; rows = refl }
+
+pub direction_unknown_agrees : Agrees direction_unknown
+unfolding everything rows direction_unknown
+direction_unknown_agrees = record { well_formed = refl; verdict = refl; rows = refl }
+
+pub direction_known_as_the_transfer_starts_agrees : Agrees direction_known_as_the_transfer_starts
+unfolding everything rows direction_known_as_the_transfer_starts
+direction_known_as_the_transfer_starts_agrees = record { well_formed = refl; verdict = refl; rows = refl }
+
+pub direction_settles_as_the_transfer_starts_agrees : Agrees direction_settles_as_the_transfer_starts
+unfolding everything rows direction_settles_as_the_transfer_starts
+direction_settles_as_the_transfer_starts_agrees = record { well_formed = refl; verdict = refl; rows = refl }
+
+pub direction_changes_agrees : Agrees direction_changes
+unfolding everything rows direction_changes
+direction_changes_agrees = record { well_formed = refl; verdict = refl; rows = refl }
+
+pub direction_changes_after_the_answer_agrees : Agrees direction_changes_after_the_answer
+unfolding everything rows direction_changes_after_the_answer
+direction_changes_after_the_answer_agrees = record { well_formed = refl; verdict = refl; rows = refl }
+
+pub direction_changes_as_a_strobe_rises_agrees : Agrees direction_changes_as_a_strobe_rises
+unfolding everything rows direction_changes_as_a_strobe_rises
+direction_changes_as_a_strobe_rises_agrees = record { well_formed = refl; verdict = refl; rows = refl }

@@ -1,0 +1,38 @@
+-- Computed from the definitions.
+use Rattle.std.proofs.Common.{◌≡◌, refl}
+use Rattle.std.specs.Prelude.{◌∷◌, []}
+use Rattle.vme_trace.specs.declared.level.Level.TheVariants.{Low, Unknown}
+use Rattle.vme_eval.specs.Tables.{asks_up_to, codes_that, is_block_transfer, is_single_transfer, control_lines, high_lines, lost_lines, not_idle_with}
+use Rattle.vme_eval.proofs.Everything.{everything}
+
+pub rows_block_codes : codes_that is_block_transfer ≡ 11 ∷ 15 ∷ 59 ∷ 63 ∷ []
+unfolding everything
+rows_block_codes = refl
+
+pub rows_single_codes : codes_that is_single_transfer ≡ 9 ∷ 10 ∷ 13 ∷ 14 ∷ 41 ∷ 45 ∷ 57 ∷ 58 ∷ 61 ∷ 62 ∷ []
+unfolding everything
+rows_single_codes = refl
+
+pub rows_extended_codes : codes_that (asks_up_to 31) ≡ 9 ∷ 10 ∷ 11 ∷ 13 ∷ 14 ∷ 15 ∷ []
+unfolding everything
+rows_extended_codes = refl
+
+pub rows_standard_codes : codes_that (asks_up_to 23) ≡ 57 ∷ 58 ∷ 59 ∷ 61 ∷ 62 ∷ 63 ∷ []
+unfolding everything
+rows_standard_codes = refl
+
+pub rows_short_codes : codes_that (asks_up_to 15) ≡ 41 ∷ 45 ∷ []
+unfolding everything
+rows_short_codes = refl
+
+pub rows_high_lines : not_idle_with Low ≡ high_lines
+unfolding everything
+rows_high_lines = refl
+
+pub rows_known_lines : not_idle_with Unknown ≡ control_lines
+unfolding everything
+rows_known_lines = refl
+
+pub rows_control_lines : lost_lines ≡ control_lines
+unfolding everything
+rows_control_lines = refl

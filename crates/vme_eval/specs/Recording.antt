@@ -1,0 +1,24 @@
+-- A worked recording: its steps, and what the definitions say of it.
+use Rattle.std.specs.Prelude.{◌≡◌, ℕ, List, None, map}
+use Rattle.vme_trace.specs.Trace.{Trace}
+use Rattle.vme_trace.specs.Verdict.{verdict}
+use Rattle.vme_trace.specs.WellFormed.{malformed_step}
+use Rattle.vme_trace.specs.declared.verdict.Verdict.{Verdict}
+use Rattle.vme_listing.specs.Recorded.{listing_of}
+use Rattle.vme_listing.specs.RowText.{row_text}
+
+-- the listing of a recording, each row as its text
+abbrev pub told : Trace → List (List ℕ)
+told t = map row_text (listing_of t)
+
+-- a recording with the verdict and the rows that it should get
+pub record Recording : Type 0 where
+  pub trace : Trace
+  pub verdict : Verdict
+  pub rows : List (List ℕ)
+
+-- each step may stand where it stands, and the definitions give the verdict and the rows
+pub record Agrees (r : Recording) : Type 0 where
+  pub well_formed : malformed_step r.trace ≡ None
+  pub verdict : verdict r.trace ≡ r.verdict
+  pub rows : told r.trace ≡ r.rows

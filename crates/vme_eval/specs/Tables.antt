@@ -1,0 +1,63 @@
+-- Which modifier codes and which lines the definitions single out.
+use Rattle.std.specs.Prelude.{ℕ, Bool, not, ◌==◌, ◌/◌, ◌%◌, List, [], ◌∷◌, ◌++◌, replicate, if◌then◌else◌}
+use Rattle.vme_trace.specs.Cycle.{class_of, needs_of}
+use Rattle.vme_trace.specs.Instants.{those}
+use Rattle.vme_trace.specs.Levels.{Levels, set_level, is_idle, loses_control}
+use Rattle.vme_trace.specs.LineNumbers.{line_count}
+use Rattle.vme_trace.specs.Rules.{is_single, is_block_class}
+use Rattle.vme_trace.specs.declared.level.Level.{Level}
+use Rattle.vme_trace.specs.declared.level.Level.TheVariants.{Low, High, Unknown}
+
+-- the level of a modifier line, by the number that its bit and those above make
+abbrev pub bit : ℕ → Level
+bit b = if b % 2 == 1 then High else Low
+
+-- one slot, the lines of an address modifier code, and all else high
+abbrev pub lines_of_code : ℕ → Levels
+lines_of_code c = record {
+  slots = 1;
+  levels =
+      replicate 6 High
+      ++ (bit c ∷ bit (c / 2) ∷ bit (c / 4) ∷ bit (c / 8) ∷ bit (c / 16) ∷ bit (c / 32) ∷ [])
+      ++ replicate 147 High;
+}
+
+-- what a cycle is that starts with these lines, and the highest address line that it asks
+abbrev pub is_single_transfer : Levels → Bool
+is_single_transfer v = is_single (class_of v)
+
+abbrev pub is_block_transfer : Levels → Bool
+is_block_transfer v = is_block_class (class_of v)
+
+abbrev pub asks_up_to : ℕ → Levels → Bool
+asks_up_to n v = (needs_of v).highest == n
+
+-- the codes whose lines have the property
+abbrev pub codes_that : (Levels → Bool) → List ℕ
+codes_that p = those (λ c. p (lines_of_code c)) 0 64
+
+-- three slots, all high but a line
+abbrev pub high_but : ℕ → Level → Levels
+high_but l x = set_level (record { slots = 3; levels = replicate line_count High }) l x
+
+-- the lines that keep the bus from being idle by a level of theirs
+abbrev pub not_idle_with : Level → List ℕ
+not_idle_with x = those (λ l. not (is_idle (high_but l x))) 0 line_count
+
+-- the lines of which nothing may be unknown
+abbrev pub lost_lines : List ℕ
+lost_lines = those (λ l. loses_control (high_but l Unknown)) 0 line_count
+
+-- the nets of three slots
+abbrev pub nets : List ℕ
+nets =
+    50 ∷ 51 ∷ 52 ∷ 53 ∷ 72 ∷ 73 ∷ 74 ∷ 75 ∷ 94 ∷ 95 ∷ 96 ∷ 97 ∷ 116 ∷ 117 ∷ 118 ∷ 119
+    ∷ 138 ∷ 139 ∷ 140 ∷ []
+
+-- the address strobe, the strobes, the answers and the nets
+abbrev pub high_lines : List ℕ
+high_lines = 0 ∷ 1 ∷ 2 ∷ 3 ∷ 4 ∷ nets
+
+-- these, and those of the interrupt acknowledge, of the busy bus and of its requests
+abbrev pub control_lines : List ℕ
+control_lines = 0 ∷ 1 ∷ 2 ∷ 3 ∷ 4 ∷ 5 ∷ 45 ∷ 46 ∷ 47 ∷ 48 ∷ 49 ∷ nets

@@ -1,0 +1,176 @@
+-- One more delivery, and the work of two.
+use Rattle.std.proofs.Common.{◌≡◌, ◌==◌, ℕ, zero, suc, ◌+◌, ◌<◌, ◌≤◌, cond, List, [], ◌∷◌, ◌++◌, length, slice_get, Option, Some, None, sym, refl, ap, ◌∙◌, subst, arith, inl, inr, ne_eqb, ◌≢◌}
+use Rattle.std.proofs.lemmas.Bool.Decides.{nat_tests}
+use mathlib.Core.Logic.{dite}
+use native.Mathlib.Decide.{ℕ_discrete}
+use Rattle.vme_trace.specs.declared.block.Block.{Block}
+use Rattle.vme_core.specs.Counting.{occurrences, numbers, HasPair}
+use Rattle.vme_core.specs.Views.{joint_view}
+use Rattle.vme_core.specs.declared.view.View.{View}
+use Rattle.vme_core.proofs.Sums.{occurrences-append, numbers-append}
+use Rattle.vme_floor.specs.Answering.{Suits}
+use Rattle.vme_floor.specs.declared.answer.Answer.{Answer}
+use Rattle.vme_floor.specs.declared.answer.Answer.TheVariants.{Filed, Stranger, TooLong, Malformed, Doubled, Memory}
+use Rattle.vme_floor.specs.declared.answer.Reply.{Reply}
+use Rattle.vme_floor.specs.Settling.{reply_of}
+use Rattle.vme_floor.specs.Works.{number_in, number_at, filing, filings, replied, Each, IsListed, IsReply, IsWork, Lists, left}
+
+each_append : {A : Type 0} (P : A → Type 0) (xs ys : List A) → Each P xs → Each P ys → Each P (xs ++ ys)
+each_append P [] ys e f = f
+each_append P (x ∷ xs) ys e f = (e.0, each_append P xs ys e.1 f)
+
+each_map : {A : Type 0} (P Q : A → Type 0) → ((x : A) → P x → Q x) → (xs : List A) → Each P xs → Each Q xs
+each_map P Q f [] e = tt
+each_map P Q f (x ∷ xs) e = (f x e.0, each_map P Q f xs e.1)
+
+filings_append : (ds : List Block) (xs ys : List Reply) (n : ℕ) → filings ds (xs ++ ys) n ≡ filings ds xs n + filings ds ys n
+filings_append ds [] ys n = omega arith
+filings_append ds (x ∷ xs) ys n = omega (arith, filings_append ds xs ys n)
+
+replied_append : (xs ys : List Reply) → replied (xs ++ ys) ≡ replied xs ++ replied ys
+replied_append [] ys = refl
+replied_append (x ∷ xs) ys = ap (λ (l : List ℕ). x.delivery ∷ l) (replied_append xs ys)
+
+has_left : (xs ys : List (ℕ × Block)) (n : ℕ) (b : Block) → HasPair xs n b → HasPair (xs ++ ys) n b
+has_left [] ys n b h = absurd h
+has_left (x ∷ xs) ys n b h = elim h [ inl e ↦ inl e | inr t ↦ inr (has_left xs ys n b t) ]
+
+has_right : (xs ys : List (ℕ × Block)) (n : ℕ) (b : Block) → HasPair ys n b → HasPair (xs ++ ys) n b
+has_right [] ys n b h = h
+has_right (x ∷ xs) ys n b h = inr (has_right xs ys n b h)
+
+-- what one list has, the other has too
+abbrev Within : List (ℕ × Block) → List (ℕ × Block) → Type 0
+Within xs ys = (n : ℕ) (b : Block) → HasPair xs n b → HasPair ys n b
+
+-- a reply stays right where the list grows
+listed_grows : (xs ys : List (ℕ × Block)) → Within xs ys → (a : Answer) (b : Block) → IsListed xs b a → IsListed ys b a
+listed_grows xs ys f Filed b r = f b.number b r
+listed_grows xs ys f Stranger b r = tt
+listed_grows xs ys f TooLong b r = tt
+listed_grows xs ys f (Malformed step) b r = tt
+listed_grows xs ys f Doubled b r = tt
+listed_grows xs ys f Memory b r = tt
+
+replies_grow : (total : ℕ) (ds : List Block) (xs ys : List (ℕ × Block)) → Within xs ys → (rs : List Reply) → Each (IsReply total ds xs) rs → Each (IsReply total ds ys) rs
+replies_grow total ds xs ys f = each_map (IsReply total ds xs) (IsReply total ds ys) (λ t r. (r.0, λ b e. let s = r.1 b e in (s.0, listed_grows xs ys f t.answer b s.1)))
+
+pub no_work : (total : ℕ) (ds : List Block) (v : View) → v.list ≡ [] → v.takes ≡ [] → v.draws ≡ [] → IsWork total ds v []
+no_work total ds v l t d = record {
+  drew = λ k. ap (occurrences k) d;
+  filed = λ n. ap (λ (xs : List (ℕ × Block)). occurrences n (numbers xs)) l;
+  right = tt;
+  took = t;
+  draws_once = λ k. let z = ap (occurrences k) d in omega (arith, z);
+  files_once = λ n. let z = ap (λ (xs : List (ℕ × Block)). occurrences n (numbers xs)) l in omega (arith, z);
+}
+
+-- what a delivery does to the list, however it is answered
+module _ (old new : List (ℕ × Block)) (b : Block) where
+  counted : (a : Answer) → Lists old new b a → (n : ℕ) → occurrences n (numbers new) ≡ filing a b.number n + occurrences n (numbers old)
+  counted Filed r n = ap (λ (xs : List (ℕ × Block)). occurrences n (numbers xs)) r.1
+  counted Stranger r n = omega (arith, ap (λ (xs : List (ℕ × Block)). occurrences n (numbers xs)) r)
+  counted TooLong r n = omega (arith, ap (λ (xs : List (ℕ × Block)). occurrences n (numbers xs)) r)
+  counted (Malformed step) r n = omega (arith, ap (λ (xs : List (ℕ × Block)). occurrences n (numbers xs)) r)
+  counted Doubled r n = omega (arith, ap (λ (xs : List (ℕ × Block)). occurrences n (numbers xs)) r)
+  counted Memory r n = omega (arith, ap (λ (xs : List (ℕ × Block)). occurrences n (numbers xs)) r)
+
+  kept_by : new ≡ old → Within old new
+  kept_by e n c h = subst (λ (xs : List (ℕ × Block)). HasPair xs n c) (sym e) h
+
+  kept : (a : Answer) → Lists old new b a → Within old new
+  kept Filed r n c h = subst (λ (xs : List (ℕ × Block)). HasPair xs n c) (sym r.1) (inr h)
+  kept Stranger r n c h = kept_by r n c h
+  kept TooLong r n c h = kept_by r n c h
+  kept (Malformed step) r n c h = kept_by r n c h
+  kept Doubled r n c h = kept_by r n c h
+  kept Memory r n c h = kept_by r n c h
+
+  listed : (a : Answer) → Lists old new b a → IsListed new b a
+  listed Filed r = subst (λ (xs : List (ℕ × Block)). HasPair xs b.number b) (sym r.1) (inl (refl, refl))
+  listed Stranger r = tt
+  listed TooLong r = tt
+  listed (Malformed step) r = tt
+  listed Doubled r = tt
+  listed Memory r = tt
+
+  once_by : new ≡ old → (n : ℕ) → occurrences n (numbers old) ≤ 1 → occurrences n (numbers new) ≤ 1
+  once_by e n o = let z = ap (λ (xs : List (ℕ × Block)). occurrences n (numbers xs)) e in omega (arith, z, o)
+
+  once : (a : Answer) → Lists old new b a → (n : ℕ) → occurrences n (numbers old) ≤ 1 → occurrences n (numbers new) ≤ 1
+  once Filed r n o = let e = ap (λ (xs : List (ℕ × Block)). occurrences n (numbers xs)) r.1 in
+      dite (ℕ_discrete n b.number) (λ s. let z = subst (λ (y : ℕ). occurrences y (numbers old) ≡ 0) (sym s) r.0 in grind (arith, nat_tests)) (λ ne. let t = ap {B = ℕ} (λ t. cond t 1 0) (ne_eqb n b.number ne) in omega (arith, e, o, t))
+  once Stranger r n o = once_by r n o
+  once TooLong r n o = once_by r n o
+  once (Malformed step) r n o = once_by r n o
+  once Doubled r n o = once_by r n o
+  once Memory r n o = once_by r n o
+
+same_block : (b c : Block) (o : Option Block) → o ≡ Some b → o ≡ Some c → b ≡ c
+same_block b c o e f = cc
+
+-- a draw, and its delivery
+pub works_on : (total : ℕ) (ds : List Block) (u v w : View) (rs : List Reply) (d : ℕ) (b : Block) (a : Answer) → IsWork total ds u rs
+    → occurrences d u.draws ≡ 0 → v.draws ≡ d ∷ u.draws → v.list ≡ u.list → v.takes ≡ u.takes → w.draws ≡ v.draws → w.takes ≡ v.takes → Suits total b a → Lists v.list w.list b a → d < length ds → slice_get ds d ≡ Some b
+    → IsWork total ds w (rs ++ reply_of d a ∷ [])
+works_on total ds u v w rs d b a k fresh drew same_list same_takes more takes suits changed near at =
+    let one : List Reply = reply_of d a ∷ [] in
+    let lists : Lists u.list w.list b a = subst (λ (xs : List (ℕ × Block)). Lists xs w.list b a) same_list changed in
+    let n_is : number_at ds d ≡ b.number = ap number_in at in
+    let draws : (e : ℕ) → occurrences e w.draws ≡ cond (e == d) 1 0 + occurrences e u.draws = λ e. ap (occurrences e) (more ∙ drew) in
+    record {
+      drew = λ e. let x = draws e in let y = k.drew e in let z = ap (occurrences e) (replied_append rs one) in let t = occurrences-append e (replied rs) (replied one) in omega (arith, x, y, z, t);
+      filed = λ n. let x = counted u.list w.list b a lists n in let y = k.filed n in let z = filings_append ds rs one n in let t = ap (λ (m : ℕ). filing a m n) n_is in omega (arith, x, y, z, t);
+      right = each_append (IsReply total ds w.list) rs one (replies_grow total ds u.list w.list (kept u.list w.list b a lists) rs k.right)
+          ((near, λ c e. subst (λ (x : Block). Suits total x a × IsListed w.list x a) (same_block b c (slice_get ds d) at e) (suits, listed u.list w.list b a lists)), tt);
+      took = takes ∙ (same_takes ∙ k.took);
+      draws_once = λ e. let x = draws e in let o = k.draws_once e in dite (ℕ_discrete e d) (λ s. let z = subst (λ (y : ℕ). occurrences y u.draws ≡ 0) (sym s) fresh in grind (arith, nat_tests)) (λ ne. let t = ap {B = ℕ} (λ t. cond t 1 0) (ne_eqb e d ne) in omega (arith, x, o, t));
+      files_once = λ n. once u.list w.list b a lists n (k.files_once n);
+    }
+
+-- the work of two is that of one
+pub works_both : (total : ℕ) (ds : List Block) (v w u : View) (xs ys : List Reply) → u ≡ joint_view v w → IsWork total ds v xs → IsWork total ds w ys
+    → ((d : ℕ) → occurrences d v.draws + occurrences d w.draws ≤ 1) → ((n : ℕ) → occurrences n (numbers v.list) + occurrences n (numbers w.list) ≤ 1) → IsWork total ds u (xs ++ ys)
+works_both total ds v w u xs ys is a b d n =
+    let list : u.list ≡ v.list ++ w.list = ap (λ (x : View). x.list) is in let draws : u.draws ≡ v.draws ++ w.draws = ap (λ (x : View). x.draws) is in
+    let takes : u.takes ≡ v.takes ++ w.takes = ap (λ (x : View). x.takes) is in
+    let drew : (k : ℕ) → occurrences k u.draws ≡ occurrences k v.draws + occurrences k w.draws = λ k. ap (occurrences k) draws ∙ occurrences-append k v.draws w.draws in
+    let filed : (k : ℕ) → occurrences k (numbers u.list) ≡ occurrences k (numbers v.list) + occurrences k (numbers w.list) = λ k. ap (λ (l : List (ℕ × Block)). occurrences k (numbers l)) list ∙ (ap (occurrences k) (numbers-append v.list w.list) ∙ occurrences-append k (numbers v.list) (numbers w.list)) in
+    record {
+      drew = λ k. let x = drew k in let y = a.drew k in let z = b.drew k in let t = ap (occurrences k) (replied_append xs ys) in let s = occurrences-append k (replied xs) (replied ys) in omega (arith, x, y, z, t, s);
+      filed = λ k. let x = filed k in let y = a.filed k in let z = b.filed k in let t = filings_append ds xs ys k in omega (arith, x, y, z, t);
+      right = each_append (IsReply total ds u.list) xs ys
+          (replies_grow total ds v.list u.list (λ m c h. subst (λ (l : List (ℕ × Block)). HasPair l m c) (sym list) (has_left v.list w.list m c h)) xs a.right)
+          (replies_grow total ds w.list u.list (λ m c h. subst (λ (l : List (ℕ × Block)). HasPair l m c) (sym list) (has_right v.list w.list m c h)) ys b.right);
+      took = takes ∙ (ap (λ (l : List (ℕ × Block)). l ++ w.takes) a.took ∙ b.took);
+      draws_once = λ k. let x = drew k in let y = d k in omega (arith, x, y);
+      files_once = λ k. let x = filed k in let y = n k in omega (arith, x, y);
+    }
+
+-- 1 where the draw was not found
+abbrev is_none : ℕ → ℕ
+is_none count = cond (count == 0) 1 0
+
+unfound : (k : ℕ) (found : List ℕ) → occurrences k found ≡ 0 → is_none (occurrences k found) ≡ is_none 0
+unfound k found none = ap is_none none
+
+found_once : (k : ℕ) (found : List ℕ) → occurrences k found ≢ 0 → is_none (occurrences k found) ≡ is_none 1
+found_once k found some = ap {B = ℕ} (λ t. cond t 1 0) (ne_eqb (occurrences k found) 0 some)
+
+left_least : (k : ℕ) (f g : List ℕ) → ((e : ℕ) → occurrences e f ≤ occurrences e g) → left k g ≤ left k f
+left_least zero f g more = omega arith
+left_least (suc k) f g more = let h = left_least k f g more in let m = more k in dite (ℕ_discrete (occurrences k g) 0)
+    (λ z. let a = unfound k f (omega (arith, m, z)) in let b = unfound k g z in omega (arith, h, a, b))
+    (λ ne. let b = found_once k g ne in omega (arith, h, b))
+
+-- one more was found
+pub left_less : (k : ℕ) (f g : List ℕ) → ((e : ℕ) → occurrences e f ≤ occurrences e g) → (d : ℕ) → d < k → occurrences d f ≡ 0 → 0 < occurrences d g → left k g < left k f
+left_less zero f g more d near none some = absurd (omega arith)
+left_less (suc k) f g more d near none some = dite (ℕ_discrete d k)
+    (λ is. let h = left_least k f g more in
+    let a = unfound k f (ap (λ (y : ℕ). occurrences y f) (sym is) ∙ none) in
+    let s : 0 < occurrences k g = subst (λ (y : ℕ). 0 < occurrences y g) is some in
+    let b = found_once k g (λ z. omega (arith, z, s)) in omega (arith, h, a, b))
+    (λ ne. let h = left_less k f g more d (omega (arith, near, ne)) none some in let m = more k in dite (ℕ_discrete (occurrences k g) 0)
+    (λ z. let a = unfound k f (omega (arith, m, z)) in let b = unfound k g z in omega (arith, h, a, b))
+    (λ nz. let b = found_once k g nz in omega (arith, h, b)))

@@ -1,0 +1,5 @@
+use Rattle.vme_floor.specs.Settling.{IsTable}
+use Rattle.vme_floor.proofs.answers.table_of.Given as goal
+
+abbrev pub invariant-loop-i : goal.invariant-loop-i
+invariant-loop-i l = IsTable l.replies l.count l.i l.table.items

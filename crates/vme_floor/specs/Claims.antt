@@ -1,0 +1,85 @@
+-- What a run promises.
+use Rattle.std.specs.Prelude.{◌≡◌, ◌⊎◌, ℕ, ◌+◌, ◌<◌, ◌≤◌, List, length, slice_get, take, Option, Some, None, Result, Ok, Err}
+use Rattle.vme_trace.specs.declared.block.Block.{Block}
+use Rattle.vme_trace.specs.Trace.{Trace}
+use Rattle.vme_summary.specs.Joins.{BlocksJoin, joined_trace}
+use Rattle.vme_summary.specs.Stands.{SpanStandsFor, first_number}
+use Rattle.vme_summary.specs.declared.span.Span.{Span}
+use Rattle.vme_floor.specs.Answering.{Suits, FiledAs, IsFiled, IsFiledNumber}
+use Rattle.vme_floor.specs.Orders.{IsLeastTorn}
+use Rattle.vme_floor.specs.declared.answer.Answer.{Answer}
+use Rattle.vme_floor.specs.declared.answer.Answer.TheVariants.{Doubled}
+use Rattle.vme_floor.specs.declared.report.Report.{Report}
+use Rattle.vme_floor.specs.declared.report.RunFault.{RunFault}
+use Rattle.vme_floor.specs.declared.report.RunFault.TheVariants as fault
+
+-- the numbers that a run accepts
+pub record InRange (total : ℕ) (deliveries : List Block) (workers : ℕ) : Type 0 where
+  pub total_from : 0 < total
+  pub total_to : total ≤ 4096
+  pub draws_to : length deliveries ≤ 65536
+  pub workers_from : 0 < workers
+  pub workers_to : workers ≤ 64
+
+-- one answer for each delivery, each the right one; of no number are two deliveries filed, and of a doubled one another is
+pub record Answered (total : ℕ) (deliveries : List Block) (answers : List Answer) : Type 0 where
+  pub count : length answers ≡ length deliveries
+  pub right : (d : ℕ) (a : Answer) (b : Block) → slice_get answers d ≡ Some a → slice_get deliveries d ≡ Some b → Suits total b a
+  pub once : (d e : ℕ) (b c : Block) → FiledAs deliveries answers d b → FiledAs deliveries answers e c → b.number ≡ c.number → d ≡ e
+  pub doubled : (d : ℕ) (b : Block) → slice_get answers d ≡ Some Doubled → slice_get deliveries d ≡ Some b → IsFiledNumber deliveries answers b.number
+
+-- the first claim: the answers that come with a report, or with a number that is missing or torn
+abbrev pub AreAnswered : ℕ → List Block → Result Report RunFault → Type 0
+AreAnswered total deliveries (Ok report) = Answered total deliveries report.answers
+AreAnswered total deliveries (Err (fault.Missing n answers)) = Answered total deliveries answers
+AreAnswered total deliveries (Err (fault.Torn n answers)) = Answered total deliveries answers
+AreAnswered total deliveries (Err f) = Unit {0}
+
+-- the blocks are those filed: one for each number below the total, in the order of their numbers
+pub record IsContent (total : ℕ) (deliveries : List Block) (answers : List Answer) (blocks : List Block) : Type 0 where
+  pub count : length blocks ≡ total
+  pub numbered : (n : ℕ) (b : Block) → slice_get blocks n ≡ Some b → b.number ≡ n
+  pub filed : (n : ℕ) (b : Block) → slice_get blocks n ≡ Some b → IsFiled deliveries answers b
+
+-- the blocks filed join, the recording is the one that they make, and the span stands for them
+pub record IsRecorded (total : ℕ) (deliveries : List Block) (answers : List Answer) (capture : Trace) (span : Span) : Type 0 where
+  pub blocks : List Block
+  pub content : IsContent total deliveries answers blocks
+  pub joins : BlocksJoin blocks
+  pub capture_is : joined_trace blocks ≡ Some capture
+  pub stands : SpanStandsFor span blocks
+  pub first : first_number span ≡ 0
+
+-- no delivery of the number was filed, and of each smaller one some was
+pub record IsLeastMissing (total : ℕ) (deliveries : List Block) (answers : List Answer) (n : ℕ) : Type 0 where
+  pub within : n < total
+  pub missing : ¬ IsFiledNumber deliveries answers n
+  pub least : (k : ℕ) → k < n → IsFiledNumber deliveries answers k
+
+-- each number was filed, and the block of this one is the first that doesn't join those before it
+pub record IsTorn (total : ℕ) (deliveries : List Block) (answers : List Answer) (n : ℕ) : Type 0 where
+  pub blocks : List Block
+  pub content : IsContent total deliveries answers blocks
+  pub torn : IsLeastTorn blocks n
+
+-- the third claim: when each refusal comes. One that is not named before it didn't
+abbrev pub IsFault : ℕ → List Block → ℕ → RunFault → Type 0
+IsFault total deliveries workers fault.BadTotal = (total ≡ 0) ⊎ (4096 < total)
+IsFault total deliveries workers fault.BadDraws = (0 < total) × (total ≤ 4096) × (65536 < length deliveries)
+IsFault total deliveries workers fault.BadWorkers = (0 < total) × (total ≤ 4096) × (length deliveries ≤ 65536) × ((workers ≡ 0) ⊎ (64 < workers))
+IsFault total deliveries workers fault.Memory = InRange total deliveries workers
+IsFault total deliveries workers fault.NoWorker = InRange total deliveries workers × (1 < workers)
+IsFault total deliveries workers fault.Stray = InRange total deliveries workers
+IsFault total deliveries workers (fault.Missing n answers) = InRange total deliveries workers × IsLeastMissing total deliveries answers n
+IsFault total deliveries workers (fault.Torn n answers) = InRange total deliveries workers × IsTorn total deliveries answers n
+
+-- the same, of what is found once all workers have ended
+abbrev pub IsLate : ℕ → List Block → RunFault → Type 0
+IsLate total deliveries fault.BadTotal = ⊥
+IsLate total deliveries fault.BadDraws = ⊥
+IsLate total deliveries fault.BadWorkers = ⊥
+IsLate total deliveries fault.Memory = Unit {0}
+IsLate total deliveries fault.NoWorker = ⊥
+IsLate total deliveries fault.Stray = Unit {0}
+IsLate total deliveries (fault.Missing n answers) = IsLeastMissing total deliveries answers n
+IsLate total deliveries (fault.Torn n answers) = IsTorn total deliveries answers n

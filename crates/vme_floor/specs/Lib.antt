@@ -1,0 +1,5 @@
+pub mod Answering
+pub mod Works
+pub mod Orders
+pub mod Claims
+pub mod Settling

@@ -1,0 +1,93 @@
+-- What workers did: the view of a bench, and the replies to what was drawn.
+use Rattle.std.specs.Prelude.{◌≡◌, ◌==◌, ℕ, zero, suc, ◌+◌, ◌<◌, ◌≤◌, cond, List, [], ◌∷◌, length, slice_get, Option, Some, None}
+use Rattle.vme_trace.specs.declared.block.Block.{Block}
+use Rattle.vme_core.specs.Counting.{occurrences, numbers, HasPair}
+use Rattle.vme_core.specs.declared.view.View.{View}
+use Rattle.vme_board.specs.Benches.{IsOf, draws_of, total_of, view_of}
+use Rattle.vme_board.specs.declared.bench.Bench.{Bench}
+use Rattle.vme_board.specs.declared.board.Board.{Board}
+use Rattle.vme_floor.specs.Answering.{first_refusal, Suits}
+use Rattle.vme_floor.specs.declared.answer.Answer.{Answer}
+use Rattle.vme_floor.specs.declared.answer.Answer.TheVariants.{Filed, Stranger, TooLong, Malformed, Doubled, Memory}
+use Rattle.vme_floor.specs.declared.answer.Reply.{Reply}
+use Rattle.vme_floor.specs.declared.worker.Work.{Work}
+
+abbrev pub number_in : Option Block → ℕ
+number_in None = 0
+number_in (Some b) = b.number
+
+-- the number of a delivery
+abbrev pub number_at : List Block → ℕ → ℕ
+number_at deliveries d = number_in (slice_get deliveries d)
+
+-- 1 where an answer to a block of the number m says that n is filed
+abbrev pub filing : Answer → ℕ → ℕ → ℕ
+filing Filed m n = cond (n == m) 1 0
+filing Stranger m n = 0
+filing TooLong m n = 0
+filing (Malformed step) m n = 0
+filing Doubled m n = 0
+filing Memory m n = 0
+
+-- how many replies say that n is filed
+abbrev pub filings : List Block → List Reply → ℕ → ℕ
+filings deliveries [] n = 0
+filings deliveries (r ∷ rs) n = filing r.answer (number_at deliveries r.delivery) n + filings deliveries rs n
+
+-- the deliveries that have a reply
+abbrev pub replied : List Reply → List ℕ
+replied [] = []
+replied (r ∷ rs) = r.delivery ∷ replied rs
+
+-- the fact holds of each
+abbrev pub Each : {A : Type 0} → (A → Type 0) → List A → Type 0
+Each P [] = Unit {0}
+Each P (x ∷ xs) = P x × Each P xs
+
+-- where the answer is Filed, the list has the block under its number
+abbrev pub IsListed : List (ℕ × Block) → Block → Answer → Type 0
+IsListed list b Filed = HasPair list b.number b
+IsListed list b Stranger = Unit {0}
+IsListed list b TooLong = Unit {0}
+IsListed list b (Malformed step) = Unit {0}
+IsListed list b Doubled = Unit {0}
+IsListed list b Memory = Unit {0}
+
+-- the reply is to one of the deliveries, and its answer suits that block; where it is Filed, the list has the block
+abbrev pub IsReply : ℕ → List Block → List (ℕ × Block) → Reply → Type 0
+IsReply total deliveries list r = (r.delivery < length deliveries) × ((b : Block) → slice_get deliveries r.delivery ≡ Some b → Suits total b r.answer × IsListed list b r.answer)
+
+-- a view, and the replies that go with it: the draws are those with a reply, and the list is what was told Filed
+pub record IsWork (total : ℕ) (deliveries : List Block) (v : View) (replies : List Reply) : Type 0 where
+  pub drew : (d : ℕ) → occurrences d v.draws ≡ occurrences d (replied replies)
+  pub filed : (n : ℕ) → occurrences n (numbers v.list) ≡ filings deliveries replies n
+  pub right : Each (IsReply total deliveries v.list) replies
+  pub took : v.takes ≡ []
+  pub draws_once : (d : ℕ) → occurrences d v.draws ≤ 1
+  pub files_once : (n : ℕ) → occurrences n (numbers v.list) ≤ 1
+
+-- a bench of the board that has drawn, filed and taken nothing
+pub record IsNew (board : Board) (deliveries : List Block) (bench : Bench) : Type 0 where
+  pub of : IsOf bench board
+  pub draws : draws_of board ≡ length deliveries
+  pub no_list : (view_of bench).list ≡ []
+  pub no_takes : (view_of bench).takes ≡ []
+  pub no_draws : (view_of bench).draws ≡ []
+
+pub record IsWorkOf (board : Board) (deliveries : List Block) (work : Work) : Type 0 where
+  pub of : IsOf work.bench board
+  pub did : IsWork (total_of board) deliveries (view_of work.bench) work.replies.items
+
+-- what a delivery with this answer does to the list of the bench
+abbrev pub Lists : List (ℕ × Block) → List (ℕ × Block) → Block → Answer → Type 0
+Lists old new b Filed = (occurrences b.number (numbers old) ≡ 0) × (new ≡ (b.number, b) ∷ old)
+Lists old new b Stranger = new ≡ old
+Lists old new b TooLong = new ≡ old
+Lists old new b (Malformed step) = new ≡ old
+Lists old new b Doubled = new ≡ old
+Lists old new b Memory = new ≡ old
+
+-- how many draws below k were not found drawn
+abbrev pub left : ℕ → List ℕ → ℕ
+left zero found = 0
+left (suc k) found = left k found + cond (occurrences k found == 0) 1 0

@@ -1,0 +1,62 @@
+//! The replies in the order of the deliveries.
+
+ghost use Rattle.std.specs.Prelude.{◌≡◌, ℕ, ◌<◌, ◌≤◌, length, IfOk, IfErr, replicate, Option, None};
+ghost use Rattle.vme_core.specs.Counting.{occurrences};
+ghost use Rattle.vme_floor.specs.Works.{Each, replied};
+ghost use Rattle.vme_floor.specs.Settling.{AreReplies, IsTable};
+ghost use Rattle.vme_floor.specs.declared.answers.Unanswered.TheVariants.{Undrawn};
+
+use crate::answer::{Answer, Answers, Reply};
+use std::alloc::{AllocError, Global};
+
+/// Why there aren't as many answers as deliveries.
+#[derive(Drop)]
+pub(crate) enum Unanswered {
+    /// There is no memory.
+    Memory,
+    /// A delivery has no reply.
+    Undrawn,
+}
+
+/// The answer to each of `count` deliveries, in their order.
+pub(crate) fn answers_in_order(
+    alloc: Global,
+    replies: &[Reply],
+    count: usize,
+) -> Result<Answers, Unanswered>
+    requires { Each (λ r. r.delivery < count) replies.now }
+    ensures count { IfOk result (λ answers. length answers ≡ count) }
+    ensures replies { IfOk result (λ answers. AreReplies replies.now answers) }
+    ensures undrawn { IfErr result (λ why. why ≡ Undrawn → (d : ℕ) × (d < count) × (occurrences d (replied replies.now) ≡ 0)) }
+{
+    let Ok(mut answers) = Vec::with_capacity(alloc, count) else {
+        return Err(Unanswered::Memory);
+    };
+    let Ok(table) = table_of(alloc, replies, count) else {
+        return Err(Unanswered::Memory);
+    };
+    for i in 0..count {
+        let Some(answer) = table[i] else {
+            return Err(Unanswered::Undrawn);
+        };
+        answers.push_reserved(answer);
+    }
+    Ok(Answers::new(answers))
+}
+
+/// At each delivery its answer, if it has one.
+fn table_of(
+    alloc: Global,
+    replies: &[Reply],
+    count: usize,
+) -> Result<Vec<Option<Answer>>, AllocError>
+    requires { Each (λ r. r.delivery < count) replies.now }
+    ensures { IfOk result (λ table. IsTable replies.now count (length replies.now) table.items) }
+{
+    let mut table = Vec::from_elem(alloc, None, count)?;
+    for i in 0..replies.len() {
+        let place = replies[i].delivery as usize;
+        table[place] = Some(replies[i].answer);
+    }
+    Ok(table)
+}

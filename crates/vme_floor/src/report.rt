@@ -1,0 +1,50 @@
+//! What a run gives.
+
+use crate::answer::Answers;
+use vme_summary::Span;
+use vme_trace::{Capture, Verdict};
+
+/// What a run found.
+#[derive(Drop)]
+pub struct Report {
+    /// The verdict on the recording.
+    pub verdict: Verdict,
+    /// What its blocks say to all monitors; `Span::listing` gives the listing of the recording.
+    pub span: Span,
+    /// The recording: the blocks that were filed, joined in the order of their numbers.
+    pub capture: Capture,
+    /// One answer for each delivery, in their order.
+    pub answers: Answers,
+}
+
+/// Why a run gives no report, in the order in which the reasons are looked for. Memory may also be wanting at the end, for the
+/// joined recording.
+#[derive(Drop)]
+pub enum RunFault {
+    /// The total isn't 1 to 4,096.
+    BadTotal,
+    /// There are over 65,536 deliveries.
+    BadDraws,
+    /// The number of workers isn't 1 to 64.
+    BadWorkers,
+    /// There is no memory.
+    Memory,
+    /// A thread couldn't be started.
+    NoWorker,
+    /// The benches of the workers don't account for what the board holds.
+    Stray,
+    /// No delivery of a number was filed.
+    Missing {
+        /// The least such number.
+        number: u32,
+        /// One answer for each delivery, in their order.
+        answers: Answers,
+    },
+    /// A block doesn't join those before it.
+    Torn {
+        /// The least number of such a block.
+        number: u32,
+        /// One answer for each delivery, in their order.
+        answers: Answers,
+    },
+}

@@ -1,0 +1,80 @@
+//! The whole: deliveries, workers, and the verdict.
+
+ghost use Rattle.std.specs.Prelude.{◌≡◌, IfOk, IfErr, OnOk};
+ghost use Rattle.vme_trace.specs.Verdict.{rules_in_force, verdict_by};
+ghost use Rattle.vme_floor.specs.Claims.{AreAnswered, InRange, IsFault, IsRecorded};
+
+use crate::gate::Gate;
+use crate::report::{Report, RunFault};
+use crate::settle::settle;
+use crate::threads::{ThreadFault, work_together};
+use crate::worker::Work;
+use std::alloc::Global;
+use std::sync::Wait;
+use std::thread::Threads;
+use vme_board::Board;
+use vme_trace::Block;
+
+const MOST_BLOCKS: u32 = 4096;
+
+const MOST_DELIVERIES: usize = 65536;
+
+const MOST_WORKERS: u32 = 64;
+
+/// Judges the recording of which these are the numbered blocks, in whatever order, and each as often as may be.
+///
+/// The workers share the deliveries: each draws one, passes the gate, and delivers a copy of the block to a board, which files
+/// one block a number. The calling thread is worker 0, each other worker has a thread of its own. Once all have ended, what was
+/// filed is joined in the order of its numbers.
+///
+/// What is filed decides, and nothing else: not the order of the deliveries, not who delivered what, not how many workers there
+/// were. The verdict is that of the recording by the definitions, and the listing of the span is the listing of that recording.
+/// Where two deliveries of a number differ, either may be filed; the answers tell which.
+///
+/// `total`: 1 to 4,096 numbers; at most 65,536 deliveries; `workers`: 1 to 64. The call waits for the threads that it starts
+/// and at the gate, and for nothing else; it returns if these do.
+pub fn run<R: Threads + Wait + Sync, G: Gate + Sync>(
+    rt: &R,
+    alloc: Global,
+    deliveries: &[Block],
+    total: u32,
+    workers: u32,
+    gate: &G,
+) -> Result<Report, RunFault>
+    ensures accepted { OnOk result (InRange total deliveries.now workers) }
+
+    // The answers, with a report, or with a number that is missing or torn.
+    ensures answers { AreAnswered total deliveries.now result }
+
+    // The recording is the joined content of the deliveries answered Filed, one for each number below the total, and the span
+    // stands for it. The verdict is that of the recording.
+    ensures recorded { IfOk result (λ report. IsRecorded total deliveries.now report.answers report.capture report.span) }
+    ensures verdict { IfOk result (λ report. report.verdict ≡ verdict_by rules_in_force report.capture) }
+
+    // When each refusal comes.
+    ensures refusals { IfErr result (λ fault. IsFault total deliveries.now workers fault) }
+{
+    if total == 0 || total > MOST_BLOCKS {
+        return Err(RunFault::BadTotal);
+    }
+    if deliveries.len() > MOST_DELIVERIES {
+        return Err(RunFault::BadDraws);
+    }
+    if workers == 0 || workers > MOST_WORKERS {
+        return Err(RunFault::BadWorkers);
+    }
+    let Ok((board, bench)) = Board::new(alloc, total, deliveries.len() as u32) else {
+        return Err(RunFault::Memory);
+    };
+    match work_together(rt, alloc, &board, deliveries, gate, workers, bench) {
+        Ok(work) => {
+            let Work { bench, replies } = work;
+            match board.close(alloc, bench) {
+                Ok(closed) => settle(alloc, deliveries, total, replies, closed),
+                Err(_) => Err(RunFault::Memory),
+            }
+        }
+        Err(ThreadFault::Memory) => Err(RunFault::Memory),
+        Err(ThreadFault::NoWorker) => Err(RunFault::NoWorker),
+    }
+}

@@ -1,0 +1,15 @@
+use Rattle.std.proofs.Common.{refl, [], ◌∷◌}
+use Rattle.vme_trace.specs.Trace.{changed}
+use Rattle.vme_summary.proofs.Chains.{chain_joins}
+use Rattle.vme_join_eval.specs.Worked.{first, next, empty, after_empty, on_slots}
+use Rattle.vme_join_eval.proofs.blocks_that_join.Goals as goal
+
+pub returns-clause-later : goal.returns-clause-later
+returns-clause-later c = chain_joins first (next 11 ∷ []) (refl, refl, refl, tt)
+
+pub returns-clause-across_empty : goal.returns-clause-across_empty
+returns-clause-across_empty c = chain_joins first (empty ∷ after_empty 11 ∷ []) (refl, refl, refl, (refl, refl, refl, tt))
+
+pub returns-clause-same_slots : goal.returns-clause-same_slots
+unfolding changed
+returns-clause-same_slots c = chain_joins first (on_slots 3 ∷ []) (refl, refl, refl, tt)

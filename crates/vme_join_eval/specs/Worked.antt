@@ -1,0 +1,40 @@
+-- Worked blocks of a backplane of three slots, on which one line after the other gets high.
+use Rattle.std.specs.Prelude.{ℕ, List, [], ◌∷◌}
+use Rattle.vme_trace.specs.LineNumbers.{AS, DS0, DS1}
+use Rattle.vme_trace.specs.Levels.{Levels}
+use Rattle.vme_trace.specs.Trace.{changed}
+use Rattle.vme_trace.specs.declared.block.Block.{Block}
+use Rattle.vme_trace.specs.declared.step.Step.{Step}
+use Rattle.vme_summary.specs.Joins.{left_by}
+use Rattle.vme_eval.specs.Steps.{at, high, unknown_lines}
+
+-- a block by its parts
+abbrev pub block : ℕ → Levels → List Step → Block
+block number opening steps = record { number = number; opening = opening; steps = steps }
+
+-- the first block: steps at the times 0 and 10
+abbrev pub first : Block
+first = block 0 unknown_lines (at 0 (high AS ∷ []) ∷ at 10 (high DS0 ∷ []) ∷ [])
+
+-- the lines that it leaves
+abbrev pub left : Levels
+left = left_by first
+
+-- a block that goes on at some time
+abbrev pub next : ℕ → Block
+next time = block 1 left (at time (high DS1 ∷ []) ∷ [])
+
+-- a block without steps, and one that goes on behind it at some time
+abbrev pub empty : Block
+empty = block 1 left []
+
+abbrev pub after_empty : ℕ → Block
+after_empty time = block 2 left (at time (high DS1 ∷ []) ∷ [])
+
+-- a block that goes on at time 20 with the same levels, on a backplane of that many slots
+abbrev pub on_slots : ℕ → Block
+on_slots slots = block 1 (record left { slots = slots }) (at 20 (high DS1 ∷ []) ∷ [])
+
+-- a block that opens with other lines: a strobe isn't high
+abbrev pub on_other_lines : Block
+on_other_lines = block 1 (changed unknown_lines (high AS ∷ [])) (at 20 (high DS1 ∷ []) ∷ [])

@@ -1,0 +1,31 @@
+//! What it is for blocks to join, shown on worked blocks: where they do, and each way in which they don't.
+//!
+//! The functions are laws about the definition `BlocksJoin`, computed from it; the tests ask `join` and `append` of
+//! vme_summary the same of the blocks in `specs/Worked`. Start reading there.
+#![tactic(auto)]
+
+#[cfg(test)]
+mod tests;
+
+ghost use Rattle.std.specs.Prelude.{[], ◌∷◌};
+ghost use Rattle.vme_summary.specs.Joins.{BlocksJoin};
+ghost use Rattle.vme_join_eval.specs.Worked.{first, next, empty, after_empty, on_slots, on_other_lines};
+
+/// Blocks that follow one another join, across an empty block too.
+pub fn blocks_that_join()
+    ensures later { BlocksJoin (first ∷ next 11 ∷ []) }
+    ensures across_empty { BlocksJoin (first ∷ empty ∷ after_empty 11 ∷ []) }
+    ensures same_slots { BlocksJoin (first ∷ on_slots 3 ∷ []) }
+{}
+
+/// Blocks are torn where a number is left out, where the lines or the slots differ, and where the time isn't later than
+/// that of the last step so far, across an empty block too: of these three each two that stand side by side join.
+pub fn blocks_that_are_torn()
+    ensures by_number { ¬ BlocksJoin (first ∷ after_empty 11 ∷ []) }
+    ensures by_lines { ¬ BlocksJoin (first ∷ on_other_lines ∷ []) }
+    ensures by_slots { ¬ BlocksJoin (first ∷ on_slots 2 ∷ []) }
+    ensures by_time { ¬ BlocksJoin (first ∷ next 10 ∷ []) }
+    ensures before_empty { BlocksJoin (first ∷ empty ∷ []) }
+    ensures behind_empty { BlocksJoin (empty ∷ after_empty 10 ∷ []) }
+    ensures across_empty { ¬ BlocksJoin (first ∷ empty ∷ after_empty 10 ∷ []) }
+{}

@@ -1,0 +1,124 @@
+-- The rows of cycles, tenures and transfers are ones that their forms allow.
+use Rattle.std.proofs.Common.{◌≡◌, ℕ, zero, suc, ◌+◌, ◌*◌, ◌/◌, ◌%◌, ◌^◌, ◌<◌, ◌≤◌, ◌==◌, Bool, true, false, ◌&&◌, not, cond, refl, ap, arith, add-one, ◌⊎◌, inl, inr}
+use Rattle.std.specs.Prelude.{Option, None, Some, nat_lt, nat_le}
+use Rattle.std.proofs.Math.Nat.{pow-succ'}
+use Rattle.std.proofs.lemmas.Bool.Decides.{nat_tests}
+use Rattle.vme_trace.specs.Instants.{least}
+use Rattle.vme_trace.specs.LineNumbers.{A, IACK}
+use Rattle.vme_trace.specs.Levels.{Levels, level_at, is_high, is_high_on, is_low}
+use Rattle.vme_trace.specs.LineNumbers.{AM}
+use Rattle.vme_trace.specs.Cycle.{class_of, has_known_modifier, highest_address, is_block, modifier_bit, modifier_of}
+use Rattle.vme_trace.specs.declared.class.Class.{Class}
+use Rattle.vme_trace.specs.declared.class.Class.TheVariants as class
+use Rattle.vme_trace.proofs.Ranges.{least-found}
+use Rattle.vme_listing.specs.Places.{is_address, is_edge, is_number, is_row, place_of}
+use Rattle.vme_listing.specs.Recorded.{address_to, cycle_row}
+use Rattle.vme_listing.specs.declared.row.Row.{Row}
+use Rattle.vme_listing.specs.declared.row.Row.TheVariants.{Tenure}
+
+-- a row that may stand between the first and the last, of this instant and kind
+pub record IsMiddle (i kind : ℕ) (row : Row) : Type 0 where
+  pub allowed : is_row row ≡ true
+  pub place : place_of row ≡ Some (i, kind)
+
+-- tests that hold hold together
+pub both : (a b : Bool) → a ≡ true → b ≡ true → (a && b) ≡ true
+both a b h k = rw (h, k) refl
+
+pub is_less : (m n : ℕ) → m < n → nat_lt m n ≡ true
+is_less m n h = grind (arith, nat_tests)
+
+pub is_at_most : (m n : ℕ) → m ≤ n → nat_le m n ≡ true
+is_at_most m n h = grind (arith, nat_tests)
+
+pub number : (n end : ℕ) → n < end → end ≤ 2 ^ 32 → is_number n ≡ true
+number n end below few = is_less n (2 ^ 32) (omega arith)
+
+-- an end that was searched for before a number
+pub edge : (p : ℕ → Bool) (first end : ℕ) → end ≤ 2 ^ 32 → is_edge (least p first end) ≡ true
+edge p first end few = found (least p first end) (λ n e. (least-found p first end n e).below)
+  where
+    found : (o : Option ℕ) → ((n : ℕ) → o ≡ Some n → n < end) → is_edge o ≡ true
+    found None h = refl
+    found (Some n) h = number n end (h n refl) few
+
+-- an address is even
+even : (v : Levels) (n : ℕ) → (k : ℕ) × (address_to v n ≡ 2 * k)
+even v zero = (0, refl)
+even v (suc n) = grown (is_high (level_at v (A (suc n)))) (even v n)
+  where
+    grown : (high : Bool) → ((k : ℕ) × (address_to v n ≡ 2 * k)) → (k : ℕ) × (address_to v n + cond high (2 ^ suc n) 0 ≡ 2 * k)
+    grown true h = (h.0 + 2 ^ n, omega (arith, h.1, pow-succ' 2 n))
+    grown false h = (h.0, omega (arith, h.1))
+
+-- and below the power of 2 of the first line that it doesn't have
+bounded : (v : Levels) (n : ℕ) → address_to v n < 2 ^ suc n
+bounded v zero = omega (arith, pow-succ' 2 0)
+bounded v (suc n) = grown (is_high (level_at v (A (suc n)))) (bounded v n)
+  where
+    grown : (high : Bool) → address_to v n < 2 ^ suc n → address_to v n + cond high (2 ^ suc n) 0 < 2 ^ suc (suc n)
+    grown true h = omega (arith, h, pow-succ' 2 (suc n))
+    grown false h = omega (arith, h, pow-succ' 2 (suc n))
+
+address_form : (v : Levels) (modifier : ℕ) → (highest_address modifier == 0) ≡ false → is_address modifier (address_to v (highest_address modifier)) ≡ true
+address_form v modifier h =
+    let highest = highest_address modifier in
+    let e = even v highest in
+    let rest : address_to v highest % 2 ≡ 0 = remainder (address_to v highest) e.0 e.1 in
+    both _ _ (both _ _ (ap not h) (is_less (address_to v highest) (2 ^ (highest + 1)) (rw add-one (bounded v highest)))) (ap (λ n. n == 0) rest)
+  where
+    remainder : (a k : ℕ) → a ≡ 2 * k → a % 2 ≡ 0
+    remainder a k e = omega arith
+
+-- the codes of block transfers make address lines meaningful
+block_space : (modifier : ℕ) → is_block modifier ≡ true → (highest_address modifier == 0) ≡ false
+unfolding highest_address
+block_space modifier h = grind (arith, nat_tests)
+
+bit_within : (v : Levels) (n : ℕ) → modifier_bit v n ≤ 1
+bit_within v n = chosen (is_high_on v (AM n))
+  where
+    chosen : (b : Bool) → cond b 1 0 ≤ 1
+    chosen true = omega arith
+    chosen false = omega arith
+
+modifier_within : (v : Levels) → modifier_of v < 64
+unfolding modifier_of
+modifier_within v = omega (arith, bit_within v 0, bit_within v 1, bit_within v 2, bit_within v 3, bit_within v 4, bit_within v 5)
+
+-- what the class of a cycle says of its code: whether its bits are known, it is of block transfers, and it has no address
+abbrev Says : Class → Bool → Bool → Bool → Type 0
+Says class.S known block free = (block ≡ false) × (free ≡ false)
+Says class.K known block free = block ≡ true
+Says class.I known block free = Unit {0}
+Says class.F known block free = (known ≡ false) ⊎ (free ≡ true)
+
+by_tests : (interrupt known block free : Bool) → Says (cond interrupt class.I (cond (not known) class.F (cond block class.K (cond free class.F class.S)))) known block free
+by_tests true known block free = tt
+by_tests false false block free = inl refl
+by_tests false true true free = refl
+by_tests false true false true = inr refl
+by_tests false true false false = (refl, refl)
+
+class_says : (v : Levels) → Says (class_of v) (has_known_modifier v) (is_block (modifier_of v)) (highest_address (modifier_of v) == 0)
+unfolding class_of
+class_says v = by_tests (is_low (level_at v IACK)) (has_known_modifier v) (is_block (modifier_of v)) (highest_address (modifier_of v) == 0)
+
+-- the row of a cycle, whose code is known if its class is free
+pub cycle_form : (i : ℕ) (v : Levels) (e : Option ℕ) → is_number i ≡ true → is_edge e ≡ true → (class_of v ≡ class.F → has_known_modifier v ≡ false → ⊥) → IsMiddle i 1 (cycle_row i v e (class_of v))
+unfolding is_row
+cycle_form i v e n ed known = by_class (class_of v) refl (class_says v)
+  where
+    by_class : (c : Class) → class_of v ≡ c → Says c (has_known_modifier v) (is_block (modifier_of v)) (highest_address (modifier_of v) == 0) → IsMiddle i 1 (cycle_row i v e c)
+    by_class class.S is f = record { allowed = both _ _ (both _ _ (both _ _ n (ap not f.0)) (address_form v (modifier_of v) f.1)) ed; place = refl }
+    by_class class.K is f = record { allowed = both _ _ (both _ _ (both _ _ n f) (address_form v (modifier_of v) (block_space (modifier_of v) f))) ed; place = refl }
+    by_class class.I is f =
+        let level : address_to v 3 < 16 = bounded v 3 in
+        record { allowed = both _ _ (both _ _ n (is_less (address_to v 3 / 2) 8 (omega arith))) ed; place = refl }
+    by_class class.F is (inl unknown) = absurd (known is unknown)
+    by_class class.F is (inr free) = record { allowed = both _ _ (both _ _ (both _ _ n (is_less (modifier_of v) 64 (modifier_within v))) free) ed; place = refl }
+
+pub tenure_form : (i level slot : ℕ) (e : Option ℕ) → is_number i ≡ true → level < 4 → 1 ≤ slot → slot ≤ 21 → is_edge e ≡ true → IsMiddle i 0 (Tenure i level slot e)
+unfolding is_row
+tenure_form i level slot e n below first last ed =
+    record { allowed = both _ _ (both _ _ (both _ _ (both _ _ n (is_less level 4 below)) (is_at_most 1 slot first)) (is_at_most slot 21 last)) ed; place = refl }

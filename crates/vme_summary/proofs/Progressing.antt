@@ -1,0 +1,72 @@
+-- Judging goes on past further blocks.
+use Rattle.std.proofs.Common.{◌≡◌, ℕ, ◌+◌, ◌≤◌, List, [], ◌∷◌, ◌++◌, length, length-append, sym, ◌∙◌, ap, subst, refl, Some, None}
+use Rattle.std.specs.Option.{option_map}
+use Rattle.vme_trace.specs.Levels.{Levels}
+use Rattle.vme_trace.specs.Trace.{Trace, levels_after}
+use Rattle.vme_trace.specs.Blocks.{joined_steps}
+use Rattle.vme_trace.specs.Verdict.{rules_in_force, verdict_by}
+use Rattle.vme_trace.specs.declared.verdict.Verdict.{Verdict}
+use Rattle.vme_trace.specs.declared.block.Block.{Block}
+use Rattle.vme_trace.specs.declared.step.Change.{Change}
+use Rattle.vme_trace.specs.declared.step.Step.{Step}
+use Rattle.vme_monitor.specs.Outcome.{Outcome, StandsFor, earlier, shifted_break}
+use Rattle.vme_monitor.specs.Run.{run_of}
+use Rattle.vme_monitor.specs.Runs.{run_joined}
+use Rattle.vme_monitor.specs.declared.mark.Next.{Next}
+use Rattle.vme_summary.specs.Summaries.{SummaryStandsFor, summary_steps}
+use Rattle.vme_summary.specs.Stands.{IsExtent, Meets, SpanStandsFor, joined_extent, recorded}
+use Rattle.vme_summary.specs.Progressed.{FoundAfter, HasCome, HasFound, HasFoundAll, HasSeen}
+use Rattle.vme_summary.specs.declared.extent.Extent.{Extent}
+use Rattle.vme_summary.specs.declared.found.Found.{Found}
+use Rattle.vme_summary.specs.declared.progress.Progress.{Progress}
+use Rattle.vme_summary.specs.declared.found.Seen.{Seen}
+use Rattle.vme_summary.specs.declared.span.Span.{Span}
+use Rattle.vme_summary.proofs.Chains.{steps-append}
+use Rattle.vme_summary.proofs.Extents.{extent_joined, left_by_steps}
+use Rattle.vme_summary.proofs.Whole.{joined_sound}
+
+-- what a monitor sees of further steps from the memory that it is in
+pub seen_after : {P : Type 0} (next : P → Levels → Levels → List Change → Next P) (begin : Levels → P) (says : P → Outcome P) (count n : ℕ) (a b : Seen P) (o : Levels) (x y : List Step)
+    → b.memory ≡ (says a.memory).leaving → b.event ≡ earlier a.event (option_map (shifted_break n) (says a.memory).event) → n ≡ length x
+    → HasSeen (run_of next) begin a o x → StandsFor (run_of next) says count (levels_after o x) y → HasSeen (run_of next) begin b o (x ++ y)
+seen_after {P} next begin says count n a b o x y m e long seen stands =
+    let after = levels_after o x in
+    let so_far = run_of next (begin o) o x in
+    let rest = run_of next so_far.leaving after y in
+    let whole = run_joined next x y (begin o) o in
+    let here : says a.memory ≡ rest = stands.outcomes a.memory ∙ ap (λ (p : P). run_of next p after y) seen.memory in
+    record {
+      memory = m ∙ ap (λ (r : Outcome P). r.leaving) here ∙ sym (ap (λ (r : Outcome P). r.leaving) whole);
+      event = e ∙ ap (λ (k : ℕ). earlier a.event (option_map (shifted_break k) (says a.memory).event)) long
+          ∙ ap (λ (r : Outcome P). earlier a.event (option_map (shifted_break (length x)) r.event)) here
+          ∙ ap (λ v. earlier v (option_map (shifted_break (length x)) rest.event)) seen.event
+          ∙ sym (ap (λ (r : Outcome P). r.event) whole);
+    }
+
+pub come_after : (p : Progress) (s : Span) (e : Extent) (n : ℕ) (f : Found) → e ≡ joined_extent p.extent s.extent → n ≡ p.steps + summary_steps s.summary → Meets p.extent s.extent
+    → FoundAfter p.found p.steps s.summary f
+    → (x y : List Block) → HasCome p x → SpanStandsFor s y → HasCome (record { extent = e; steps = n; found = f }) (x ++ y)
+come_after p s e n f same count m found x y c q =
+    let opens : s.extent.opening ≡ levels_after p.extent.opening (joined_steps x) = m.opened ∙ sym (left_by_steps p.extent x c.extent) in
+    let second : SummaryStandsFor s.summary (levels_after p.extent.opening (joined_steps x)) (joined_steps y) = subst (λ v. SummaryStandsFor s.summary v (joined_steps y)) opens q.summary in
+    let whole = found p.extent.opening (joined_steps x) (joined_steps y) c.steps c.found second in
+    let steps = steps-append x y in
+    let more : summary_steps s.summary ≡ length (joined_steps y) = q.summary.known.counted in
+    record {
+      extent = subst (λ (k : Extent). IsExtent k (x ++ y)) (sym same) (extent_joined p.extent s.extent x y c.extent q.extent m);
+      steps = count ∙ ap (λ k. k + summary_steps s.summary) c.steps ∙ ap (λ k. length (joined_steps x) + k) more ∙ sym (ap length steps ∙ length-append (joined_steps x) (joined_steps y));
+      found = subst (λ (k : Extent). HasFound f k.opening (joined_steps (x ++ y))) (sym same) (subst (λ (steps : List Step). HasFound f p.extent.opening steps) (sym steps) whole);
+    }
+
+pub past_recording : (p : Progress) → p.extent.opening.slots ≤ 21 → (v : Verdict) → ((t : Trace) → HasFoundAll p.found t → verdict_by rules_in_force t ≡ v) → (blocks : List Block) → HasCome p blocks → recorded (verdict_by rules_in_force) blocks ≡ Some v
+past_recording p few v found [] c = let none : None ≡ Some p.extent.first = c.extent.first in absurd (cc)
+past_recording p few v found (b ∷ bs) c =
+    let opens : Some b.opening ≡ Some p.extent.opening = c.extent.opening in
+    let same : p.extent.opening ≡ b.opening = cc in
+    ap Some
+    (found (record { opening = b.opening; steps = joined_steps (b ∷ bs) })
+    (record {
+      sound = joined_sound (b ∷ bs) _ c.extent.join c.extent.sound refl;
+      few = subst (λ (v : Levels). v.slots ≤ 21) same few;
+      found_there = subst (λ (v : Levels). HasFound p.found v (joined_steps (b ∷ bs))) same c.found;
+    }))

@@ -1,0 +1,29 @@
+use Rattle.std.proofs.Common.{◌≡◌, ◌<◌, ◌+◌, ◌∷◌, [], ◌++◌, ap, arith, length, sym, take, ◌∙◌}
+use Rattle.std.proofs.lemmas.List.{length-take, take_more}
+use Rattle.vme_trace.specs.Trace.{changed, levels_after}
+use Rattle.vme_monitor.specs.Runs.{levels_after-append}
+use Rattle.vme_monitor.specs.declared.view.View.{View}
+use Rattle.vme_summary.proofs.monitors.walk_with_five.Goals as goal
+
+pub loop-step-preserved : goal.loop-step-preserved
+loop-step-preserved g c =
+    let i = c.loop-step.step-index in
+    let s = c.step-item.result in
+    let done = take i c.args.steps.now in
+    let lt : i < length c.args.steps.now = omega arith in
+    let more : take (i + 1) c.args.steps.now ≡ done ++ s ∷ [] = take_more c.args.steps.now i s lt ∙ ap (λ x. done ++ x ∷ []) (sym c.step-item.is) in
+    let n : length done ≡ i = rw length-take (omega arith) in
+    let inv = c.loop-step.invariant in
+    let found = c.go_to.ensures.before ∙ inv.before in
+    let seen = rw c.as_slice-changes.ensures at c.go_to.ensures.seen in
+    let left : c.go_to.new.self.after ≡ levels_after c.args.opening.now (done ++ s ∷ []) = rw levels_after-append (ap (λ (v : View). v.after) seen ∙ ap (λ o. changed o s.changes) found) in
+    record {
+      counted = omega arith;
+      before = rw more (c.go_past.ensures.before ∙ left);
+      after = c.go_past.ensures.after ∙ sym c.go_past.ensures.before;
+      first = rw more (c.in_ok-go_on.ensures c.args.opening.now done found (omega arith) inv.first);
+      second = rw more (c.in_ok-go_on-2.ensures c.args.opening.now done found (omega arith) inv.second);
+      third = rw more (c.in_ok-go_on-3.ensures c.args.opening.now done found (omega arith) inv.third);
+      fourth = rw more (c.in_ok-go_on-4.ensures c.args.opening.now done found (omega arith) inv.fourth);
+      fifth = rw more (c.in_ok-go_on-5.ensures c.args.opening.now done found (omega arith) inv.fifth);
+    }

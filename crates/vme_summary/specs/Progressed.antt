@@ -1,0 +1,63 @@
+-- What judging blocks from the first opening on has come to.
+use Rattle.std.specs.Prelude.{◌≡◌, ℕ, ◌≤◌, List, ◌++◌, length, None}
+use Rattle.vme_trace.specs.Levels.{Levels}
+use Rattle.vme_trace.specs.Trace.{Trace, levels_after}
+use Rattle.vme_trace.specs.WellFormed.{malformed_step}
+use Rattle.vme_trace.specs.Blocks.{joined_steps}
+use Rattle.vme_trace.specs.declared.block.Block.{Block}
+use Rattle.vme_trace.specs.declared.step.Step.{Step}
+use Rattle.vme_monitor.specs.Outcome.{Outcome}
+use Rattle.vme_monitor.specs.Spanned.{start_in}
+use Rattle.vme_monitor.specs.KnownSpec.{known_begin}
+use Rattle.vme_dtb.specs.Machine.{dtb_begin}
+use Rattle.vme_stability.specs.StabilitySpec.{stability_begin}
+use Rattle.vme_chains.specs.GrantSpec.{grant_begin}
+use Rattle.vme_chains.specs.AcknowledgeSpec.{acknowledge_begin}
+use Rattle.vme_summary.specs.Runs.{known_run, handshake_run, stability_run, grant_run, acknowledge_run}
+use Rattle.vme_summary.specs.Summaries.{SummaryStandsFor}
+use Rattle.vme_summary.specs.Stands.{IsExtent, SpanStandsFor}
+use Rattle.vme_summary.specs.declared.found.Found.{Found}
+use Rattle.vme_summary.specs.declared.progress.Progress.{Progress}
+use Rattle.vme_summary.specs.declared.span.Span.{Span}
+use Rattle.vme_summary.specs.declared.summary.Summary.{Summary}
+use Rattle.vme_summary.specs.declared.found.Seen.{Seen}
+
+-- a monitor that began at an opening is, after some steps, in this memory, and has found this break first
+pub record HasSeen {P : Type 0}
+    (run : P → Levels → List Step → Outcome P) (begin : Levels → P) (seen : Seen P) (o : Levels) (x : List Step) : Type 0 where
+  pub memory : seen.memory ≡ (run (begin o) o x).leaving
+  pub event : seen.event ≡ (run (begin o) o x).event
+
+-- and so for each monitor
+pub record HasFound (found : Found) (o : Levels) (x : List Step) : Type 0 where
+  pub known : HasSeen known_run (start_in known_begin) found.known o x
+  pub handshake : HasSeen handshake_run (start_in dtb_begin) found.handshake o x
+  pub stability : HasSeen stability_run (start_in stability_begin) found.stability o x
+  pub grant : HasSeen grant_run (start_in grant_begin) found.grant o x
+  pub acknowledge : HasSeen acknowledge_run (start_in acknowledge_begin) found.acknowledge o x
+
+-- and of all steps of a well-formed recording
+pub record HasFoundAll (found : Found) (t : Trace) : Type 0 where
+  pub sound : malformed_step t ≡ None
+  pub few : t.opening.slots ≤ 21
+  pub found_there : HasFound found t.opening t.steps
+
+-- where monitors had come past so many steps, and a summary stands for those that follow, they have come past both
+abbrev pub FoundAfter : Found → ℕ → Summary → Found → Type 0
+FoundAfter before steps s found =
+    (o : Levels) (x y : List Step)
+    → steps ≡ length x → HasFound before o x → SummaryStandsFor s (levels_after o x) y → HasFound found o (x ++ y)
+
+-- judging has come past these blocks: they have this extent, and this is found of all their steps after the first opening
+pub record HasCome (p : Progress) (blocks : List Block) : Type 0 where
+  pub extent : IsExtent p.extent blocks
+  pub steps : p.steps ≡ length (joined_steps blocks)
+  pub found : HasFound p.found p.extent.opening (joined_steps blocks)
+
+-- how many steps were judged
+abbrev pub judged_steps : Progress → ℕ
+judged_steps p = p.steps
+
+-- past whatever blocks judging has come, and for whatever blocks a span stands, further judging has come past the blocks of both
+abbrev pub ComesPastBoth : Progress → Span → Progress → Type 0
+ComesPastBoth p s q = (x y : List Block) → HasCome p x → SpanStandsFor s y → HasCome q (x ++ y)

@@ -1,0 +1,76 @@
+-- What a summary stands for: steps after an opening, whatever memories enter.
+use Rattle.std.specs.Prelude.{◌≡◌, ◌↔◌, ℕ, ◌≤◌, List, ◌++◌, Option, None}
+use Rattle.vme_trace.specs.Levels.{Levels}
+use Rattle.vme_trace.specs.Trace.{Trace, levels_after}
+use Rattle.vme_trace.specs.Judged.{judged_spans}
+use Rattle.vme_trace.specs.Verdict.{least_of, rules_in_force}
+use Rattle.vme_trace.specs.WellFormed.{malformed_step}
+use Rattle.vme_trace.specs.declared.step.Step.{Step}
+use Rattle.vme_trace.specs.declared.verdict.Break.{Break}
+use Rattle.vme_monitor.specs.Outcome.{Outcome, StandsFor}
+use Rattle.vme_monitor.specs.Tables.{outcome}
+use Rattle.vme_monitor.specs.Spanned.{phase_place}
+use Rattle.vme_monitor.specs.KnownSpec.{nil_place}
+use Rattle.vme_monitor.specs.declared.known.Nil.{Nil}
+use Rattle.vme_monitor.specs.declared.spanned.Phase.{Phase}
+use Rattle.vme_dtb.specs.MemoryPlaces.{memory_place}
+use Rattle.vme_dtb.specs.declared.memory.Memory.{Memory}
+use Rattle.vme_stability.specs.HoldingPlaces.{holding_place}
+use Rattle.vme_stability.specs.declared.holding.Holding.{Holding}
+use Rattle.vme_chains.specs.GrantMemory.{arbitration_place}
+use Rattle.vme_chains.specs.declared.grant_memory.Arbitration.{Arbitration}
+use Rattle.vme_chains.specs.AcknowledgeSpec.{acknowledgement_place}
+use Rattle.vme_chains.specs.declared.acknowledge.Acknowledgement.{Acknowledgement}
+use Rattle.vme_summary.specs.Runs.{known_run, handshake_run, stability_run, grant_run, acknowledge_run}
+use Rattle.vme_summary.specs.declared.summary.Summary.{Summary}
+
+-- the outcome of each monitor, by its table
+abbrev pub known_outcome : Summary → Phase Nil → Outcome (Phase Nil)
+known_outcome s p = outcome s.known.layers.items s.known.rows.items p (phase_place nil_place p)
+
+abbrev pub handshake_outcome : Summary → Phase Memory → Outcome (Phase Memory)
+handshake_outcome s p = outcome s.handshake.layers.items s.handshake.rows.items p (phase_place memory_place p)
+
+abbrev pub stability_outcome : Summary → Phase Holding → Outcome (Phase Holding)
+stability_outcome s p = outcome s.stability.layers.items s.stability.rows.items p (phase_place holding_place p)
+
+abbrev pub grant_outcome : Summary → Phase Arbitration → Outcome (Phase Arbitration)
+grant_outcome s p = outcome s.grant.layers.items s.grant.rows.items p (phase_place arbitration_place p)
+
+abbrev pub acknowledge_outcome : Summary → Phase Acknowledgement → Outcome (Phase Acknowledgement)
+acknowledge_outcome s p =
+    outcome s.acknowledge.layers.items s.acknowledge.rows.items p (phase_place acknowledgement_place p)
+
+-- it stands for these steps after that opening: from each memory that enters, each table gives what its monitor's run
+-- gives
+pub record SummaryStandsFor (s : Summary) (o : Levels) (x : List Step) : Type 0 where
+  pub known : StandsFor known_run (known_outcome s) s.known.steps o x
+  pub handshake : StandsFor handshake_run (handshake_outcome s) s.handshake.steps o x
+  pub stability : StandsFor stability_run (stability_outcome s) s.stability.steps o x
+  pub grant : StandsFor grant_run (grant_outcome s) s.grant.steps o x
+  pub acknowledge : StandsFor acknowledge_run (acknowledge_outcome s) s.acknowledge.steps o x
+
+-- of how many steps it is
+abbrev pub summary_steps : Summary → ℕ
+summary_steps s = s.known.steps
+
+-- two stand for the same steps
+abbrev pub StandAlike : Summary → Summary → Type 0
+StandAlike s r = (o : Levels) (x : List Step) → (SummaryStandsFor s o x ↔ SummaryStandsFor r o x)
+
+-- where two stand for steps that follow one another, a third stands for those of both
+abbrev pub SummaryStandsForBoth : Summary → Summary → Summary → Type 0
+SummaryStandsForBoth s t r =
+    (o : Levels) (x y : List Step)
+    → SummaryStandsFor s o x → SummaryStandsFor t (levels_after o x) y → SummaryStandsFor r o (x ++ y)
+
+-- it stands for all steps of a well-formed recording, which has this opening
+pub record StandsForAll (s : Summary) (opening : Levels) (t : Trace) : Type 0 where
+  pub sound : malformed_step t ≡ None
+  pub few : t.opening.slots ≤ 21
+  pub opens : opening ≡ t.opening
+  pub stands : SummaryStandsFor s t.opening t.steps
+
+-- the first break of a recording, by the rules in force
+abbrev pub first_break : Trace → Option Break
+first_break t = least_of rules_in_force t (judged_spans t)

@@ -1,0 +1,254 @@
+//! Summaries of steps by all monitors. This is the only place that knows which monitors there are.
+
+ghost use Rattle.std.specs.Prelude.{◌≡◌, ◌+◌, ◌≤◌, List, length, IfOk};
+ghost use Rattle.vme_trace.specs.Judged.{judged_spans};
+ghost use Rattle.vme_trace.specs.Trace.{Trace, levels_after};
+ghost use Rattle.vme_trace.specs.declared.step.Step.{Step};
+ghost use Rattle.vme_monitor.specs.Outcome.{StandsFor};
+ghost use Rattle.vme_monitor.specs.Whole.{has_span};
+ghost use Rattle.vme_summary.specs.AllShown.{all_marks};
+ghost use Rattle.vme_summary.specs.HasRoom.{HasRoom};
+ghost use Rattle.vme_summary.specs.Progressed.{FoundAfter, HasFound, HasFoundAll};
+ghost use Rattle.vme_summary.specs.Summaries.{first_break as first_break_of, StandAlike, StandsForAll, SummaryStandsFor, SummaryStandsForBoth, summary_steps};
+
+use crate::found::{Found, Seen};
+use crate::summary::{Room, Summary};
+use std::alloc::{AllocError, Global};
+use vme_chains::acknowledge::{Iack, acknowledge_over_captures};
+use vme_chains::grant::{Grant, grants_over_captures};
+use vme_dtb::handshake::{Dtb, handshake_over_captures};
+use vme_monitor::both::{least, marks_together};
+use vme_monitor::known::{Known, known_over_captures};
+use vme_monitor::mark::Mark;
+use vme_monitor::monitor::Monitor;
+use vme_monitor::stepping::Stepping;
+use vme_monitor::table::Table;
+use vme_monitor::view::View;
+use vme_stability::stability::{Stability, stability_over_captures};
+use vme_trace::{Break, Lines, Step};
+
+/// Leads five monitors along the steps after an opening at once: the summary of each, and the lines that the last step
+/// leaves.
+fn walk_with_five<A: Stepping, B: Stepping, C: Stepping, D: Stepping, E: Stepping>(
+    alloc: Global,
+    opening: &Lines,
+    steps: &[Step],
+) -> Result<
+    (
+        A::Summary,
+        B::Summary,
+        C::Summary,
+        D::Summary,
+        E::Summary,
+        Lines,
+    ),
+    AllocError,
+>
+    requires few { length steps.now ≤ 268435456 }
+    ensures first { IfOk result (λ all. StandsFor A.run (A.outcome all.0) (A.count all.0) opening.now steps.now) }
+    ensures second { IfOk result (λ all. StandsFor B.run (B.outcome all.1) (B.count all.1) opening.now steps.now) }
+    ensures third { IfOk result (λ all. StandsFor C.run (C.outcome all.2) (C.count all.2) opening.now steps.now) }
+    ensures fourth { IfOk result (λ all. StandsFor D.run (D.outcome all.3) (D.count all.3) opening.now steps.now) }
+    ensures fifth { IfOk result (λ all. StandsFor E.run (E.outcome all.4) (E.count all.4) opening.now steps.now) }
+    ensures left { IfOk result (λ all. all.5 ≡ levels_after opening.now steps.now) }
+{
+    let mut first = A::begin(alloc)?;
+    let mut second = B::begin(alloc)?;
+    let mut third = C::begin(alloc)?;
+    let mut fourth = D::begin(alloc)?;
+    let mut fifth = E::begin(alloc)?;
+    let mut view = View::new(opening);
+    let mut instant = 0;
+    for step in steps {
+        let changes = step.changes.as_slice();
+        view.go_to(changes);
+        instant += 1;
+        A::go_on(alloc, &mut first, &view, step, instant)?;
+        B::go_on(alloc, &mut second, &view, step, instant)?;
+        C::go_on(alloc, &mut third, &view, step, instant)?;
+        D::go_on(alloc, &mut fourth, &view, step, instant)?;
+        E::go_on(alloc, &mut fifth, &view, step, instant)?;
+        view.go_past(changes);
+    }
+    Ok((
+        A::finish(first, instant),
+        B::finish(second, instant),
+        C::finish(third, instant),
+        D::finish(fourth, instant),
+        E::finish(fifth, instant),
+        view.before,
+    ))
+}
+
+impl Summary {
+    /// The summary of steps after an opening, and the lines that the last one leaves.
+    pub(crate) fn of_steps(
+        alloc: Global,
+        opening: &Lines,
+        steps: &[Step],
+    ) -> Result<(Summary, Lines), AllocError>
+        requires few { length steps.now ≤ 268435456 }
+        ensures stands { IfOk result (λ made. SummaryStandsFor made.0 opening.now steps.now) }
+        ensures left { IfOk result (λ made. made.1 ≡ levels_after opening.now steps.now) }
+    {
+        let (known, handshake, stability, grant, acknowledge, left) = walk_with_five::<
+            Known,
+            Dtb,
+            Stability,
+            Grant,
+            Iack,
+        >(alloc, opening, steps)?;
+        Ok((
+            Summary {
+                known,
+                handshake,
+                stability,
+                grant,
+                acknowledge,
+            },
+            left,
+        ))
+    }
+
+    /// Of how many steps it is.
+    pub(crate) fn steps(&self) -> u32
+        ensures { result ≡ summary_steps self.now }
+    {
+        self.known.steps()
+    }
+
+    /// The summary of the steps of one and then those of another.
+    pub(crate) fn compose(
+        alloc: Global,
+        first: &Summary,
+        second: &Summary,
+    ) -> Result<Summary, AllocError>
+        requires { summary_steps first.now + summary_steps second.now ≤ 268435456 }
+        ensures steps { IfOk result (λ s. summary_steps s ≡ summary_steps first.now + summary_steps second.now) }
+        ensures stands { IfOk result (SummaryStandsForBoth first.now second.now) }
+    {
+        let known = Table::compose(alloc, &first.known, &second.known)?;
+        let handshake = Table::compose(alloc, &first.handshake, &second.handshake)?;
+        let stability = Table::compose(alloc, &first.stability, &second.stability)?;
+        let grant = Table::compose(alloc, &first.grant, &second.grant)?;
+        let acknowledge = Table::compose(alloc, &first.acknowledge, &second.acknowledge)?;
+        Ok(Summary {
+            known,
+            handshake,
+            stability,
+            grant,
+            acknowledge,
+        })
+    }
+
+    /// Takes all the memory that it needs to take over another summary. After an error it stands for what it stood for.
+    pub(crate) fn make_room(&mut self, alloc: Global, second: &Summary) -> Result<Room, AllocError>
+        ensures stands { StandAlike self.old self.new }
+        ensures steps { summary_steps self.new ≡ summary_steps self.old }
+        ensures room { IfOk result (λ room. HasRoom room self.new second.now) }
+    {
+        let known = self.known.make_room(alloc, &second.known)?;
+        let handshake = self.handshake.make_room(alloc, &second.handshake)?;
+        let stability = self.stability.make_room(alloc, &second.stability)?;
+        let grant = self.grant.make_room(alloc, &second.grant)?;
+        let acknowledge = self.acknowledge.make_room(alloc, &second.acknowledge)?;
+        Ok(Room {
+            known,
+            handshake,
+            stability,
+            grant,
+            acknowledge,
+        })
+    }
+
+    /// The summary of the steps of one and then those of another, where both are given away: their tables are taken
+    /// over, not copied. Takes no memory.
+    pub(crate) fn append_in(self, room: Room, second: Summary) -> Summary
+        requires few { summary_steps self + summary_steps second ≤ 268435456 }
+        requires room { HasRoom room self second }
+        ensures steps { summary_steps result ≡ summary_steps self + summary_steps second }
+        ensures stands { SummaryStandsForBoth self second result }
+    {
+        Summary {
+            known: self.known.append_in(room.known, second.known),
+            handshake: self.handshake.append_in(room.handshake, second.handshake),
+            stability: self.stability.append_in(room.stability, second.stability),
+            grant: self.grant.append_in(room.grant, second.grant),
+            acknowledge: self
+                .acknowledge
+                .append_in(room.acknowledge, second.acknowledge),
+        }
+    }
+
+    /// What the monitors that begin at this opening have come to after the steps.
+    pub(crate) fn found_from(&self, opening: &Lines) -> Found
+        ensures { (x : List Step) → SummaryStandsFor self.now opening.now x → HasFound result opening.now x }
+    {
+        Found {
+            known: Seen::first(&self.known, Known::start(opening)),
+            handshake: Seen::first(&self.handshake, Dtb::start(opening)),
+            stability: Seen::first(&self.stability, Stability::start(opening)),
+            grant: Seen::first(&self.grant, Grant::start(opening)),
+            acknowledge: Seen::first(&self.acknowledge, Iack::start(opening)),
+        }
+    }
+
+    /// What they have come to where so many steps were before these.
+    pub(crate) fn found_after(&self, before: &Found, steps: u32) -> Found
+        requires { steps + summary_steps self.now ≤ 268435456 }
+        ensures { FoundAfter before.now steps self.now result }
+    {
+        Found {
+            known: before.known.after(&self.known, steps),
+            handshake: before.handshake.after(&self.handshake, steps),
+            stability: before.stability.after(&self.stability, steps),
+            grant: before.grant.after(&self.grant, steps),
+            acknowledge: before.acknowledge.after(&self.acknowledge, steps),
+        }
+    }
+
+    /// The marks of a recording that has these steps after that opening, break or not.
+    pub(crate) fn marks(&self, alloc: Global, opening: &Lines) -> Result<Vec<Mark>, AllocError>
+        ensures { IfOk result (λ marks. (t : Trace) → StandsForAll self.now opening.now t → marks.items ≡ all_marks t) }
+    {
+        known_over_captures();
+        handshake_over_captures();
+        stability_over_captures();
+        grants_over_captures();
+        acknowledge_over_captures();
+        let known = self.known.marks(alloc, Known::start(opening))?;
+        let handshake = self.handshake.marks(alloc, Dtb::start(opening))?;
+        let stability = self.stability.marks(alloc, Stability::start(opening))?;
+        let grant = self.grant.marks(alloc, Grant::start(opening))?;
+        let acknowledge = self.acknowledge.marks(alloc, Iack::start(opening))?;
+        let chains = marks_together(alloc, grant, acknowledge)?;
+        let held = marks_together(alloc, stability, chains)?;
+        let started = marks_together(alloc, handshake, held)?;
+        marks_together(alloc, known, started)
+    }
+}
+
+impl Found {
+    /// Whether anything is judged of a recording past whose steps the monitors have come.
+    pub(crate) fn has_judged(&self) -> bool
+        ensures { (t : Trace) → HasFoundAll self.now t → result ≡ has_span (judged_spans t) }
+    {
+        known_over_captures();
+        Known::started(self.known.memory)
+    }
+
+    /// Its first break.
+    pub(crate) fn first_break(&self) -> Option<Break>
+        ensures { (t : Trace) → HasFoundAll self.now t → result ≡ first_break_of t }
+    {
+        known_over_captures();
+        handshake_over_captures();
+        stability_over_captures();
+        grants_over_captures();
+        acknowledge_over_captures();
+        let chains = least(self.grant.event, self.acknowledge.event);
+        let held = least(self.stability.event, chains);
+        let started = least(self.handshake.event, held);
+        least(self.known.event, started)
+    }
+}

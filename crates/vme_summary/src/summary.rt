@@ -1,0 +1,34 @@
+//! What steps say to all monitors, whatever stood before them.
+
+ghost use Rattle.std.specs.Prelude.{◌≡◌};
+ghost use Rattle.vme_summary.specs.SameSteps.{SameSteps};
+
+use vme_chains::acknowledge::Acknowledgement;
+use vme_chains::grant_memory::Arbitration;
+use vme_dtb::memory::Memory;
+use vme_monitor::known::Nil;
+use vme_monitor::link::Link;
+use vme_monitor::spanned::Phase;
+use vme_monitor::table::Table;
+use vme_stability::holding::Holding;
+
+/// What steps say to all monitors, whatever stood before them: a table for each.
+#[derive(Drop)]
+pub(crate) struct Summary {
+    pub(crate) known: Table<Phase<Nil>>,
+    pub(crate) handshake: Table<Phase<Memory>>,
+    pub(crate) stability: Table<Phase<Holding>>,
+    pub(crate) grant: Table<Phase<Arbitration>>,
+    pub(crate) acknowledge: Table<Phase<Acknowledgement>>,
+    ghost same: { SameSteps known.steps handshake.steps stability.steps grant.steps acknowledge.steps },
+}
+
+/// Room for what it takes to take over a summary: links for each table.
+#[derive(Drop)]
+pub(crate) struct Room {
+    pub(crate) known: Vec<Link>,
+    pub(crate) handshake: Vec<Link>,
+    pub(crate) stability: Vec<Link>,
+    pub(crate) grant: Vec<Link>,
+    pub(crate) acknowledge: Vec<Link>,
+}
