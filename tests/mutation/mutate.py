@@ -6,7 +6,7 @@ Usage: mutate.py PROGRAM [--runs N] [--seed S] [--first K] [--jobs J] [--keep FO
 Run K of seed S is the same on every machine. Each run takes a binding and a dump of the examples or of texts/, changes one
 of them (or the listing) a few times, and runs `check`, `list` and `confirm` on it. It is checked that
 
-- no run ends by a signal, takes longer than 10 seconds or needs more than 1 GB of memory;
+- no run ends by a signal, takes more than 10 seconds of a processor or needs more than 1 GB of memory;
 - the status and the two streams are of docs/FORMATS.md: one line, in the right stream, and nothing on standard output
   where the input is refused;
 - the verdict is the same in blocks of 1, 7 and 16,384 steps, and where the program takes its built-in binding;
@@ -17,6 +17,7 @@ It prints each run that fails, with the command, and keeps its files in FOLDER; 
 """
 import argparse
 import concurrent.futures
+import contextlib
 import os
 import pathlib
 import random
@@ -219,17 +220,20 @@ class Case:
         (self.folder / name).write_bytes(text)
 
     def run(self, *words, stdin=None):
-        command = [self.program, *words]
-        try:
-            with open(self.folder / stdin if stdin else os.devnull, "rb") as source:
-                done = subprocess.run(command, cwd=self.folder, stdin=source, stdout=subprocess.PIPE, stderr=subprocess.PIPE,
-                                      timeout=SECONDS, check=False)
-        except subprocess.TimeoutExpired as late:
-            raise Failed(f"{' '.join(words)}: more than {SECONDS} seconds") from late
-        answer = done.returncode, done.stdout, done.stderr
-        if done.returncode < 0:
-            raise Failed(f"{' '.join(words)}: ended by signal {-done.returncode}, {done.stderr[-200:]!r}")
-        return answer
+        with (open(self.folder / stdin if stdin else os.devnull, "rb") as source,
+              subprocess.Popen([self.program, *words], cwd=self.folder, stdin=source, stdout=subprocess.PIPE,
+                               stderr=subprocess.PIPE) as running):
+            # processor time, so that a busy machine changes nothing; a run that only waits is ended by the clock
+            with contextlib.suppress(ProcessLookupError):
+                resource.prlimit(running.pid, resource.RLIMIT_CPU, (SECONDS, SECONDS))
+            try:
+                out, err = running.communicate(timeout=60 * SECONDS)
+            except subprocess.TimeoutExpired as late:
+                running.kill()
+                raise Failed(f"{' '.join(words)}: still running") from late
+        if running.returncode < 0:
+            raise Failed(f"{' '.join(words)}: ended by signal {-running.returncode}, {err[-200:]!r}")
+        return running.returncode, out, err
 
 
 def check_verdict(answer, words):

@@ -35,7 +35,8 @@ HasList v places = (n : ℕ) (b : Block) → HasPair v.list n b → HasBlock pla
 
 -- what the bench filed and didn't take stands at its place
 abbrev pub HasUntaken : View → List (Option Block) → Type 0
-HasUntaken v places = (n : ℕ) (b : Block) → HasPair v.list n b → occurrences n (numbers v.takes) ≡ 0 → HasBlock places n b
+HasUntaken v places =
+    (n : ℕ) (b : Block) → HasPair v.list n b → occurrences n (numbers v.takes) ≡ 0 → HasBlock places n b
 
 -- the places of what the bench took are empty
 abbrev pub LacksTakes : View → List (Option Block) → Type 0

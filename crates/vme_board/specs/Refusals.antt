@@ -14,6 +14,7 @@ IsDeliverable total b = (b.number < total) × (length b.steps ≤ 65536) × (mal
 abbrev pub IsReason : ℕ → Block → Refusal → Type 0
 IsReason total b Stranger = total ≤ b.number
 IsReason total b TooLong = (b.number < total) × (65536 < length b.steps)
-IsReason total b (Malformed step) = (b.number < total) × (length b.steps ≤ 65536) × (malformed_step (trace_of b) ≡ Some step)
+IsReason total b (Malformed step) =
+    (b.number < total) × (length b.steps ≤ 65536) × (malformed_step (trace_of b) ≡ Some step)
 IsReason total b Doubled = IsDeliverable total b
 IsReason total b Memory = IsDeliverable total b

@@ -42,7 +42,8 @@ FileTells s seat found after = (n : ℕ) → IsAtBit s 1 n → (b : Block) → s
     → (occurrences n (numbers seat.0.list) ≡ 0) × (after ≡ (after_filing seat.0 n b, []))
     × (length seat.0.list < s.slots) × SameBlocks after.0
 
--- the number n, which the seat saw filed, was not taken, and the seat has its slot, with its block; or the seat sees it taken
+-- the number n, which the seat saw filed, was not taken, and the seat has its slot, with its block; or the seat sees
+-- it taken
 abbrev pub TakeTells : TableStep → SeatState → ℕ → SeatState → Type 0
 TakeTells s seat found after = (n : ℕ) → IsAtBit s 2 n
     → (bit_at found (n % 64) ≡ 0
@@ -77,9 +78,10 @@ TakenLookTells s seat found after =
     (after ≡ (with_taken seat.0 (shown_in s found), seat.1))
     × ((n : ℕ) → s.word ≡ 4 * (n / 64) + 2 → 0 < occurrences n seat.0.taken → bit_at found (n % 64) ≡ 1)
 
--- the seat is as it was; each draw, each number of its list and each of its takes stands there once, no more of them than slots
+-- the seat is as it was; each draw, each number of its list and each of its takes stands there once, no more of them
+-- than slots
 abbrev pub CountTells : TableStep → SeatState → ℕ → SeatState → Type 0
 CountTells s seat found after =
     (after ≡ seat) × ((d : ℕ) → occurrences d seat.0.draws ≤ 1) × ((n : ℕ) → occurrences n (numbers seat.0.list) ≤ 1)
-    × ((n : ℕ) → occurrences n (numbers seat.0.takes) ≤ 1) × (length seat.0.list ≤ s.slots) × (length seat.0.takes ≤ s.slots)
-    × SameBlocks seat.0
+    × ((n : ℕ) → occurrences n (numbers seat.0.takes) ≤ 1)
+    × (length seat.0.list ≤ s.slots) × (length seat.0.takes ≤ s.slots) × SameBlocks seat.0

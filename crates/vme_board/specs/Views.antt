@@ -1,5 +1,5 @@
 -- What a call of a bench leaves of its view, and what it has found.
-use Rattle.std.specs.Prelude.{◌≡◌, ◌⊎◌, ℕ, ◌<◌}
+use Rattle.std.specs.Prelude.{◌≡◌, ◌⊎◌, ℕ, ◌<◌, max}
 use Rattle.vme_trace.specs.declared.block.Block.{Block}
 use Rattle.vme_core.specs.declared.view.View.{View}
 use Rattle.vme_core.specs.declared.stage.Stage.TheVariants.{Filed, Taken}
@@ -30,6 +30,10 @@ pub record SameNumbers (old new : View) : Type 0 where
 -- the bench has found each draw below k won
 abbrev pub AllFound : View → ℕ → Type 0
 AllFound v k = (d : ℕ) → d < k → 0 < occurrences d v.found
+
+-- of each number the third view has seen the greater of what the others have
+abbrev pub SeesGreater : View → View → View → Type 0
+SeesGreater v w u = (n : ℕ) → rank (seen u n) ≡ max (rank (seen v n)) (rank (seen w n))
 
 -- the bench hadn't seen the number filed, or sees it taken now
 abbrev pub HasNothingToTake : View → View → ℕ → Type 0

@@ -1,8 +1,10 @@
 -- The rule of the board's table: the invariant of the machine, read off the words, the slots at home and the views.
 --
--- Word 4 g + k has a bit for each of the 64 numbers from 64 g on: the claimed ones in row k = 0, the filed ones in row 1, the
--- taken ones in row 2; and in row 3 for each of the 64 draws from 64 g on. The slot n is that of the number n.
-use Rattle.std.specs.Prelude.{◌≡◌, ◌==◌, ℕ, ◌+◌, ◌*◌, ◌/◌, ◌%◌, ◌^◌, ◌<◌, ◌≤◌, cond, List, length, slice_index_or, slice_get, Option, Some, None}
+-- Word 4 g + k has a bit for each of the 64 numbers from 64 g on: the claimed ones in row k = 0, the filed ones in
+-- row 1, the taken ones in row 2; and in row 3 for each of the 64 draws from 64 g on. The slot n is that of the
+-- number n.
+use Rattle.std.specs.Prelude.{◌≡◌, ◌==◌, ℕ, ◌+◌, ◌*◌, ◌/◌, ◌%◌, ◌^◌, ◌<◌, ◌≤◌, cond}
+use Rattle.std.specs.Prelude.{List, length, slice_index_or, slice_get, Option, Some, None}
 use mathlib.Core.Option.{some}
 use mathlib.Core.Option as maybe
 use lib.ListN.{get_elem?}
@@ -46,7 +48,8 @@ IsNumbered content = (n : ℕ) (b : Block) → content n ≡ Some b → b.number
 -- the table has so many words, and some contents with which it is read
 abbrev pub Holds : ℕ → State (Option Block) View → Type 0
 Holds width s =
-    (length s.words ≡ width) × ((content : ℕ → Option Block) × Reads content s.words s.homes s.views × IsNumbered content)
+    (length s.words ≡ width)
+    × ((content : ℕ → Option Block) × Reads content s.words s.homes s.views × IsNumbered content)
 
 -- the value of the slot n, if its number is filed and not taken
 abbrev pub kept : ℕ → ℕ → List (Option Block) → ℕ → Option Block

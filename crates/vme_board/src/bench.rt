@@ -10,7 +10,7 @@ ghost use Rattle.vme_board.specs.Refusals.{IsDeliverable, IsReason};
 ghost use Rattle.vme_board.specs.Tells.{DrawTells, ClaimTells, FileTells, TakeTells, GiveTells, CountTells};
 ghost use Rattle.vme_board.specs.Tells.{ClaimedLookTells, FiledLookTells, TakenLookTells};
 ghost use Rattle.vme_board.specs.Views.{SameDraws, SameWork, SameNumbers, AllFound, IsNewDraw, SameBlocks};
-ghost use Rattle.vme_board.specs.Views.{HasNothingToTake};
+ghost use Rattle.vme_board.specs.Views.{HasNothingToTake, SeesGreater};
 ghost use Rattle.vme_board.specs.declared.delivery.Refusal.TheVariants.{Doubled};
 
 use crate::board::{Board, BoardSeat};
@@ -175,6 +175,7 @@ impl Bench {
         ensures lists { AreDisjoint (numbers (view_of self).list) (numbers (view_of other).list) }
         ensures takes { AreDisjoint (numbers (view_of self).takes) (numbers (view_of other).takes) }
         ensures draws { AreDisjoint (view_of self).draws (view_of other).draws }
+        ensures seen { SeesGreater (view_of self) (view_of other) (view_of result) }
         ensures same_blocks { SameBlocks (view_of result) }
     {
         let Bench {
@@ -276,14 +277,15 @@ impl Bench {
         bit(found, number) == 1
     }
 
-    // Claims the block's number, puts the block into its slot and files it; or hands it back, where the number was claimed.
+    // Claims the block's number, puts the block into its slot and files it; or hands it back, where the number was
+    // claimed.
     fn try_claim(&mut self, board: &Board, judged: Judged) -> Result<Filed, Judged>
         requires bench { IsOf self.old board.now }
         requires number { judged.number < total_of board.now }
         ensures board { IsOf self.new board.now }
         ensures filed { IfOk result (λ f. f.number ≡ judged.number) }
         ensures new { IfOk result (λ f. occurrences judged.number (numbers (view_of self.old).list) ≡ 0) }
-        ensures listed { IfOk result (λ f. (view_of self.new).list ≡ (judged.number, judged) ∷ (view_of self.old).list) }
+        ensures list { IfOk result (λ _. (view_of self.new).list ≡ (judged.number, judged) ∷ (view_of self.old).list) }
         ensures sees_filed { IfOk result (λ f. HasSeen (view_of self.new) judged.number stage.Filed) }
         ensures handed_back { IfErr result (λ j. j ≡ judged) }
         ensures unlisted { IfErr result (λ j. (view_of self.new).list ≡ (view_of self.old).list) }
@@ -312,9 +314,9 @@ impl Bench {
         Ok(Filed { number })
     }
 
-    /// Files a block, once for each number, or refuses it and hands it back. It refuses in this order: a number not below the
-    /// board's total, more than 65,536 steps, a malformed step, a number that was claimed before, want of memory. All memory
-    /// is taken before the number is claimed, so nothing is claimed for a block that is refused.
+    /// Files a block, once for each number, or refuses it and hands it back. It refuses in this order: a number not
+    /// below the board's total, more than 65,536 steps, a malformed step, a number that was claimed before, want of
+    /// memory. All memory is taken before the number is claimed, so nothing is claimed for a block that is refused.
     pub fn deliver(&mut self, alloc: Global, board: &Board, block: Block) -> Result<Filed, Refused>
         requires { IsOf self.old board.now }
         ensures board { IsOf self.new board.now }

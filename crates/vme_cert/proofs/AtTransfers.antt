@@ -1,12 +1,12 @@
 -- The transfer at an instant is the last one to start, if it lasts.
-use Rattle.std.proofs.Common.{◌≡◌, ℕ, ◌+◌, ◌<◌, ◌≤◌, Bool, true, false, ◌&&◌, not, refl, arith, inl, inr, ◌⊎◌}
+use Rattle.std.proofs.Common.{◌≡◌, ℕ, ◌+◌, ◌<◌, ◌≤◌, Bool, true, false, ◌&&◌, not, refl, sym, arith, inl, inr, ◌⊎◌}
 use Rattle.std.specs.Prelude.{None, Some, nat_le, nat_lt}
 use Rattle.std.proofs.lemmas.Bool.Decides.{nat_tests}
 use Rattle.vme_trace.specs.Instants.{any, least, greatest}
 use Rattle.vme_trace.specs.Trace.{Trace}
 use Rattle.vme_trace.specs.Judged.{Span, is_judged}
 use Rattle.vme_trace.specs.Transfers.{strobes_high, answer_falls, transfer_starts, lasts, is_answered, answers, in_transfer, is_answer}
-use Rattle.vme_trace.proofs.Ranges.{IsLeast, any-holds, any-fails, fails-any, least-found, least-none-any, clash}
+use Rattle.vme_trace.proofs.Ranges.{IsLeast, least-is, least-none, least-alike, any-holds, any-fails, fails-any, least-found, least-none-any, clash}
 use Rattle.vme_trace.proofs.OpenTransfers.{bool_cases, in_transfer-is}
 use Rattle.vme_cert.proofs.Finding.{IsGreatest, greatest-none-any, greatest-found, none-shorter, none-later}
 
@@ -141,14 +141,47 @@ module _ (t : Trace) (span : Span) where
       neither true b = refl
       neither false b = refl
 
-  -- no instant is an answer where no answer line falls
-  pub is_answer-unfallen : (j : ℕ) → answer_falls t j ≡ false → is_answer t span j ≡ false
-  unfolding is_answer in_transfer answers
-  is_answer-unfallen j h =
-      fails-any (λ i. transfer_starts t span i && lasts t span i j && (lasts t span i j && answer_falls t j && not (is_answered t span i j))) (span.start + 1) (j + 1)
-      (λ i a b. unfallen (transfer_starts t span i) (lasts t span i j) (answer_falls t j) (not (is_answered t span i j)) h)
+  -- the answer is the first fall of an answer line, if the transfer lasts to it
+  pub answer-first : (i e r : ℕ) → span.start < i → least (answer_falls t) i e ≡ Some r → lasts t span i r ≡ true → least (answers t span i) i e ≡ Some r
+  unfolding answers is_answered
+  answer-first i e r after first last =
+      let found = least-found (answer_falls t) i e r first in
+      least-is (answers t span i) i e r found.first found.below
+      (all_three _ _ _ last found.holds (fails-any (λ k. lasts t span i k && answer_falls t k) i r (λ k a b. and_false (lasts t span i k) (answer_falls t k) (λ lasting. any-fails (answer_falls t) i r k found.least a b))))
+      (fails-any (answers t span i) i r (λ k a b. second_fails (lasts t span i k) (answer_falls t k) (not (is_answered t span i k)) (any-fails (answer_falls t) i r k found.least a b)))
     where
-      unfallen : (a b c d : Bool) → c ≡ false → (a && b && (b && c && d)) ≡ false
-      unfallen true true c d h = rw h refl
-      unfallen true false c d h = refl
-      unfallen false b c d h = refl
+      all_three : (a b c : Bool) → a ≡ true → b ≡ true → c ≡ false → (a && b && not c) ≡ true
+      all_three a b c h k l = rw (h, k, l) refl
+
+      second_fails : (a b c : Bool) → b ≡ false → (a && b && c) ≡ false
+      second_fails true b c h = rw h refl
+      second_fails false b c h = refl
+
+  -- and there is none where it isn't answered
+  pub answer-never : (i e : ℕ) → is_answered t span i e ≡ false → least (answers t span i) i e ≡ None
+  unfolding answers is_answered
+  answer-never i e h =
+      least-none (answers t span i) i e
+      (fails-any (answers t span i) i e (λ k a b. neither (lasts t span i k && answer_falls t k) (not (is_answered t span i k)) (any-fails (λ k. lasts t span i k && answer_falls t k) i e k h a b)))
+    where
+      neither : (a b : Bool) → a ≡ false → (a && b) ≡ false
+      neither a b h = rw h refl
+
+  -- an answer is a fall of an answer line
+  pub answers-fall : (i e : ℕ) → least (λ r. answer_falls t r && is_answer t span r) i e ≡ least (is_answer t span) i e
+  unfolding is_answer in_transfer answers
+  answers-fall i e = least-alike (λ r. answer_falls t r && is_answer t span r) (is_answer t span) i e (λ r a b. fallen (answer_falls t r) (is_answer t span r) (unfallen r))
+    where
+      fallen : (a b : Bool) → (a ≡ false → b ≡ false) → (a && b) ≡ b
+      fallen true b h = refl
+      fallen false b h = sym (h refl)
+
+      none_of : (a b c d : Bool) → c ≡ false → (a && b && (b && c && d)) ≡ false
+      none_of true true c d h = rw h refl
+      none_of true false c d h = refl
+      none_of false b c d h = refl
+
+      unfallen : (j : ℕ) → answer_falls t j ≡ false → is_answer t span j ≡ false
+      unfallen j h =
+          fails-any (λ i. transfer_starts t span i && lasts t span i j && (lasts t span i j && answer_falls t j && not (is_answered t span i j))) (span.start + 1) (j + 1)
+          (λ i a b. none_of (transfer_starts t span i) (lasts t span i j) (answer_falls t j) (not (is_answered t span i j)) h)

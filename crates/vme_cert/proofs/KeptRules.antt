@@ -1,10 +1,10 @@
 -- Where no changed line and no start breaks a rule, none is broken.
-use Rattle.std.proofs.Common.{◌≡◌, ℕ, ◌+◌, ◌-◌, ◌<◌, ◌≤◌, Bool, true, false, ◌&&◌, ◌||◌, not, List, [], ◌∷◌, inl, inr, ◌⊎◌, refl, sym, ◌∙◌, ap, subst, arith}
-use Rattle.std.specs.Prelude.{None, ◌==◌, nat_le, nat_lt}
+use Rattle.std.proofs.Common.{◌≡◌, ℕ, zero, suc, cond, ◌+◌, ◌-◌, ◌<◌, ◌≤◌, Bool, true, false, ◌&&◌, ◌||◌, not, List, [], ◌∷◌, inl, inr, ◌⊎◌, refl, sym, ◌∙◌, ap, arith}
+use Rattle.std.specs.Prelude.{None, Some, slice_get, ◌==◌, nat_le, nat_lt}
 use Rattle.std.proofs.lemmas.Bool.Decides.{nat_tests}
 use Rattle.vme_trace.specs.Instants.{any, none}
 use Rattle.vme_trace.specs.LineNumbers.{DTACK, BERR, IACK, WRITE, BBSY, line_count, has_line, is_answer_line}
-use Rattle.vme_trace.specs.Levels.{Levels, level_at, set_level, is_known}
+use Rattle.vme_trace.specs.Levels.{Levels, level_at, is_known}
 use Rattle.vme_trace.specs.Cycle.{is_needed}
 use Rattle.vme_trace.specs.Trace.{Trace, levels_at, changed}
 use Rattle.vme_trace.specs.Changes.{is_changed}
@@ -14,18 +14,16 @@ use Rattle.vme_trace.specs.Cycles.{cycle_starts, cycle_runs}
 use Rattle.vme_trace.specs.Transfers.{transfer_starts, is_answer}
 use Rattle.vme_trace.specs.Verdict.{break_at}
 use Rattle.vme_trace.specs.Rules.{is_broken, breaks, ends_span}
-use Rattle.vme_trace.specs.declared.level.Level.TheVariants.{Unknown}
 use Rattle.vme_trace.specs.declared.rule.Rule.{Rule}
 use Rattle.vme_trace.specs.declared.rule.Rule.TheVariants.{U1, U2, U3, H1, H2, H3, H4, H5, H6, H7, H8, S1, S2, C1, C2, G1, G2, G3, G4, G5, B1, B2, B3, B4, I1, I2, I3, I4, I5}
 use Rattle.vme_trace.specs.declared.step.Change.{Change}
 use Rattle.vme_trace.proofs.Changing.{level-kept}
 use Rattle.vme_trace.proofs.Ranges.{any-fails, fails-any, least-none}
 use Rattle.vme_trace.proofs.SpanEnds.{slots_at}
-use Rattle.vme_cert.specs.Watched.{asks_for_edge, edge_of, shows, speaks_of, may_be_needed, changes_needed, is_held, rules_on, lacks, has_needed, may_transfer, are_kept, are_kept_on, is_kept}
-use Rattle.vme_cert.proofs.StillLines.{breaks-still, shows-none, at_1, at_2}
+use Rattle.vme_cert.specs.Watched.{asks_for_edge, edge_rules, may_be_needed, changes_needed, is_held, lacks, has_needed, may_transfer, are_kept, is_kept_on, are_kept_on, is_kept}
+use Rattle.vme_cert.proofs.StillLines.{breaks-still, at_1, at_2}
 use Rattle.vme_cert.proofs.Losing.{not_true}
 use Rattle.vme_cert.proofs.SilentRules.{silent, not_needed}
-use Rattle.vme_cert.proofs.RulesOnLines.{KeptTo, kept-on, set_or_unknown}
 use Rattle.vme_cert.proofs.FirstBreaks.{break_at-next, break_at-empty}
 
 equal : (a b : ℕ) → (a == b) ≡ true → a ≡ b
@@ -54,30 +52,68 @@ not_answer : (l : ℕ) → (l == DTACK) ≡ false → (l == BERR) ≡ false → 
 not_answer l e f = rw (e, f) refl
 
 module _ (t : Trace) (span : Span) (j : ℕ) where
-  -- the rules that an edge of a changed line may break are kept there
-  kept-changed : (held : Bool) (v : Levels) (cs : List Change) (l : ℕ) → are_kept_on t span j held cs ≡ true → is_changed cs l ≡ true → KeptTo t span j l held (level_at (changed v cs) l)
-  unfolding changed
-  kept-changed held v [] l h k = absurd (cc)
-  kept-changed held v (c ∷ cs) l h k = by_tests (c.line == l) refl (is_changed cs l) refl (and_true _ _ h) k (λ e f. kept-changed held (set_level v c.line c.level) cs l e f)
-    where
-      by_tests : (a : Bool) → (c.line == l) ≡ a → (b : Bool) → is_changed cs l ≡ b → (are_kept t span j c.line (rules_on held c.line c.level) ≡ true) × (are_kept_on t span j held cs ≡ true) → (a || b) ≡ true
-          → (are_kept_on t span j held cs ≡ true → is_changed cs l ≡ true → KeptTo t span j l held (level_at (changed (set_level v c.line c.level) cs) l))
-          → KeptTo t span j l held (level_at (changed (set_level v c.line c.level) cs) l)
-      by_tests a e true f parts k later = later parts.1 f
-      by_tests true e false f parts k later = subst (λ m. KeptTo t span j m held (level_at (changed (set_level v c.line c.level) cs) m)) (equal c.line l e) (here parts.0 (ap (is_changed cs) (equal c.line l e) ∙ f))
-        where
-          here : are_kept t span j c.line (rules_on held c.line c.level) ≡ true → is_changed cs c.line ≡ false → KeptTo t span j c.line held (level_at (changed (set_level v c.line c.level) cs) c.line)
-          here kept f =
-              record {
-                to = c.level;
-                kept = kept;
-                shown = subst (λ x. (x ≡ c.level) ⊎ (x ≡ Unknown)) (sym (level-kept (set_level v c.line c.level) cs c.line f)) (set_or_unknown v.levels c.line c.level);
-              }
-      by_tests false e false f parts k later = absurd (cc)
-
   unbroken : (r : Rule) (l : ℕ) → is_broken t span r j l ≡ false → breaks t span r j l ≡ false
   unfolding breaks
   unbroken r l h = at_2 ((ends_span r || is_judged span j) && has_line t.opening.slots l) (is_broken t span r j l) h
+
+  same_rule : (q r : Rule) → Some q ≡ Some r → q ≡ r
+  same_rule q r e = cc
+
+  one : (l : ℕ) (r : Rule) (rs : List Rule) → are_kept t span j l (r ∷ rs) ≡ true → (breaks t span r j l ≡ false) × (are_kept t span j l rs ≡ true)
+  one l r rs h = let both = and_true _ _ h in (not_true _ both.0, both.1)
+
+  -- a rule that stands among some that are kept
+  nth : (l : ℕ) (rs : List Rule) (n : ℕ) (r : Rule) → slice_get rs n ≡ Some r → are_kept t span j l rs ≡ true → breaks t span r j l ≡ false
+  nth l [] n r e h = absurd (cc)
+  nth l (q ∷ rs) zero r e h = ap (λ (k : Rule). breaks t span k j l) (sym (same_rule q r e)) ∙ (one l q rs h).0
+  nth l (q ∷ rs) (suc n) r e h = nth l rs n r e (one l q rs h).1
+
+  kept-rule : (l : ℕ) (r : Rule) → asks_for_edge r ≡ true → are_kept t span j l edge_rules ≡ true → breaks t span r j l ≡ false
+  kept-rule l U1 a h = absurd (cc)
+  kept-rule l U2 a h = absurd (cc)
+  kept-rule l U3 a h = absurd (cc)
+  kept-rule l H1 a h = absurd (cc)
+  kept-rule l H2 a h = nth l edge_rules 0 H2 refl h
+  kept-rule l H3 a h = nth l edge_rules 1 H3 refl h
+  kept-rule l H4 a h = nth l edge_rules 2 H4 refl h
+  kept-rule l H5 a h = nth l edge_rules 3 H5 refl h
+  kept-rule l H6 a h = nth l edge_rules 4 H6 refl h
+  kept-rule l H7 a h = nth l edge_rules 5 H7 refl h
+  kept-rule l H8 a h = nth l edge_rules 6 H8 refl h
+  kept-rule l S1 a h = nth l edge_rules 7 S1 refl h
+  kept-rule l S2 a h = nth l edge_rules 8 S2 refl h
+  kept-rule l C1 a h = nth l edge_rules 9 C1 refl h
+  kept-rule l C2 a h = nth l edge_rules 10 C2 refl h
+  kept-rule l G1 a h = nth l edge_rules 11 G1 refl h
+  kept-rule l G2 a h = nth l edge_rules 12 G2 refl h
+  kept-rule l G3 a h = nth l edge_rules 13 G3 refl h
+  kept-rule l G4 a h = nth l edge_rules 14 G4 refl h
+  kept-rule l G5 a h = nth l edge_rules 15 G5 refl h
+  kept-rule l B1 a h = nth l edge_rules 16 B1 refl h
+  kept-rule l B2 a h = nth l edge_rules 17 B2 refl h
+  kept-rule l B3 a h = nth l edge_rules 18 B3 refl h
+  kept-rule l B4 a h = nth l edge_rules 19 B4 refl h
+  kept-rule l I1 a h = nth l edge_rules 20 I1 refl h
+  kept-rule l I2 a h = nth l edge_rules 21 I2 refl h
+  kept-rule l I3 a h = nth l edge_rules 22 I3 refl h
+  kept-rule l I4 a h = nth l edge_rules 23 I4 refl h
+  kept-rule l I5 a h = nth l edge_rules 24 I5 refl h
+
+  -- a line on which a change breaks no rule
+  kept-line : (held : Bool) (l : ℕ) → is_kept_on t span j held l ≡ true → (may_be_needed l ≡ true → held ≡ false → breaks t span S1 j l ≡ false) → (r : Rule) → asks_for_edge r ≡ true → breaks t span r j l ≡ false
+  kept-line held l h free r a = by_test (may_be_needed l) refl h free
+    where
+      by_test : (b : Bool) → may_be_needed l ≡ b → cond b (not held || not (breaks t span S1 j l)) (are_kept t span j l edge_rules) ≡ true → (b ≡ true → held ≡ false → breaks t span S1 j l ≡ false) → breaks t span r j l ≡ false
+      by_test true e h free = silent t span j l e r a (elim (either held (not (breaks t span S1 j l)) h) [ inl unheld ↦ free refl unheld | inr kept ↦ not_true _ kept ])
+      by_test false e h free = kept-rule l r a h
+
+  kept-changed : (held : Bool) (cs : List Change) (l : ℕ) → are_kept_on t span j held cs ≡ true → is_changed cs l ≡ true → is_kept_on t span j held l ≡ true
+  kept-changed held [] l h k = absurd (cc)
+  kept-changed held (c ∷ cs) l h k = by_test (c.line == l) refl (and_true _ _ h) k (λ e f. kept-changed held cs l e f)
+    where
+      by_test : (b : Bool) → (c.line == l) ≡ b → (is_kept_on t span j held c.line ≡ true) × (are_kept_on t span j held cs ≡ true) → (b || is_changed cs l) ≡ true → (are_kept_on t span j held cs ≡ true → is_changed cs l ≡ true → is_kept_on t span j held l ≡ true) → is_kept_on t span j held l ≡ true
+      by_test true e parts k later = ap (is_kept_on t span j held) (sym (equal c.line l e)) ∙ parts.0
+      by_test false e parts k later = later parts.1 k
 
   needed-changed : (cs : List Change) (l : ℕ) → may_be_needed l ≡ true → is_changed cs l ≡ true → changes_needed cs ≡ true
   needed-changed [] l h k = absurd (cc)
@@ -100,30 +136,21 @@ module _ (t : Trace) (span : Span) (j : ℕ) where
   unfolding breaks
   unjudged l h = at_1 _ _ (at_1 _ _ h)
 
-  held-or : (cs : List Change) (l : ℕ) → speaks_of S1 l ≡ true → is_changed cs l ≡ true → ((changes_needed cs && is_judged span j && is_held t span j) ≡ true) ⊎ (breaks t span S1 j l ≡ false)
-  held-or cs l e k = by_tests (is_judged span j) refl (is_held t span j) refl
+  free : (cs : List Change) (l : ℕ) → is_changed cs l ≡ true → may_be_needed l ≡ true → (changes_needed cs && is_judged span j && is_held t span j) ≡ false → breaks t span S1 j l ≡ false
+  free cs l k e h = by_tests (is_judged span j) refl (is_held t span j) refl (rw (needed-changed cs l e k) at h)
     where
-      by_tests : (a : Bool) → is_judged span j ≡ a → (b : Bool) → is_held t span j ≡ b → ((changes_needed cs && is_judged span j && is_held t span j) ≡ true) ⊎ (breaks t span S1 j l ≡ false)
-      by_tests true f true g = inl (both _ _ (both _ _ (needed-changed cs l (and_true (may_be_needed l) (not (l == WRITE)) e).0 k) f) g)
-      by_tests true f false g = inr (unheld l g)
-      by_tests false f b g = inr (unjudged l f)
+      by_tests : (a : Bool) → is_judged span j ≡ a → (b : Bool) → is_held t span j ≡ b → (true && a && b) ≡ false → breaks t span S1 j l ≡ false
+      by_tests true f true g h = absurd (cc)
+      by_tests true f false g h = unheld l g
+      by_tests false f b g h = unjudged l f
 
   -- an edge breaks no rule
   kept-edges : (r : Rule) (cs : List Change) → asks_for_edge r ≡ true → levels_at t j ≡ changed (levels_at t (j - 1)) cs → are_kept_on t span j (changes_needed cs && is_judged span j && is_held t span j) cs ≡ true → (l : ℕ) → breaks t span r j l ≡ false
-  kept-edges r cs asks made h l = by_tests (shows t l j (edge_of r)) refl (speaks_of r l) refl (is_changed cs l) refl
+  kept-edges r cs asks made h l = by_test (is_changed cs l) refl
     where
-      held : Bool
-      held = changes_needed cs && is_judged span j && is_held t span j
-
-      by_tests : (a : Bool) → shows t l j (edge_of r) ≡ a → (b : Bool) → speaks_of r l ≡ b → (d : Bool) → is_changed cs l ≡ d → breaks t span r j l ≡ false
-      by_tests false e b f d g = breaks-still t span j l r e
-      by_tests true e false f d g = silent t span j l r f
-      by_tests true e true f true g =
-          kept-on t span j l held
-          (subst (KeptTo t span j l held) (ap (λ (v : Levels). level_at v l) (sym made)) (kept-changed held (levels_at t (j - 1)) cs l h g)) r
-          (λ same. held-or cs l (ap (λ (q : Rule). speaks_of q l) (sym same) ∙ f) g) asks e f
-      by_tests true e true f false g =
-          breaks-still t span j l r (shows-none t span j l (edge_of r) asks (ap (λ (v : Levels). level_at v l) made ∙ level-kept (levels_at t (j - 1)) cs l g))
+      by_test : (b : Bool) → is_changed cs l ≡ b → breaks t span r j l ≡ false
+      by_test true e = kept-line (changes_needed cs && is_judged span j && is_held t span j) l (kept-changed _ cs l h e) (free cs l e) r asks
+      by_test false e = breaks-still t span j l (ap (λ (v : Levels). level_at v l) made ∙ level-kept (levels_at t (j - 1)) cs l e) r asks
 
   not_ended : (l : ℕ) → (j == span.end) ≡ false → breaks t span U1 j l ≡ false
   unfolding is_broken
@@ -139,10 +166,10 @@ module _ (t : Trace) (span : Span) (j : ℕ) where
       by_tests (is_judged span j) (has_line t.opening.slots l) (cycle_starts t span j) (is_needed (levels_at t j) l) (is_known (level_at (levels_at t j) l))
       (ap (λ slots. has_line slots l && not (is_known (level_at (levels_at t j) l)) && is_needed (levels_at t j) l) (sym (slots_at t j)) ∙ any-fails (lacks (levels_at t j)) IACK BBSY l h (from l within) (below l within))
     where
-      from : (l : ℕ) → (nat_le 5 l && nat_lt l 45) ≡ true → 5 ≤ l
+      from : (l : ℕ) → (nat_le 5 l && nat_lt l 45 && not (l == 13)) ≡ true → 5 ≤ l
       from l h = grind (arith, nat_tests)
 
-      below : (l : ℕ) → (nat_le 5 l && nat_lt l 45) ≡ true → l < 45
+      below : (l : ℕ) → (nat_le 5 l && nat_lt l 45 && not (l == 13)) ≡ true → l < 45
       below l h = grind (arith, nat_tests)
 
       by_tests : (a b c d e : Bool) → (b && not e && d) ≡ false → (((false || a) && b) && (c && d && not e)) ≡ false
@@ -156,7 +183,7 @@ module _ (t : Trace) (span : Span) (j : ℕ) where
   -- other lines aren't needed
   unneeded : (l : ℕ) → may_be_needed l ≡ false → breaks t span U2 j l ≡ false
   unfolding is_broken
-  unneeded l h = unbroken U2 l (at_1 _ _ (at_2 _ _ (not_needed (levels_at t j) l (at_1 _ _ h))))
+  unneeded l h = unbroken U2 l (at_1 _ _ (at_2 _ _ (not_needed (levels_at t j) l h)))
 
   needed-known : (l : ℕ) → has_needed t span j ≡ true → breaks t span U2 j l ≡ false
   needed-known l h =
@@ -222,31 +249,7 @@ module _ (t : Trace) (span : Span) (j : ℕ) where
       by_rule U2 e = ap (λ (k : Rule). breaks t span k j l) e ∙ needed-known l first.1
       by_rule U3 e = ap (λ (k : Rule). breaks t span k j l) e ∙ (transfer-may l starts.1).0
       by_rule H1 e = ap (λ (k : Rule). breaks t span k j l) e ∙ (transfer-may l starts.1).1
-      by_rule H2 e = kept-edges r cs (ap asks_for_edge e) made parts.1 l
-      by_rule H3 e = kept-edges r cs (ap asks_for_edge e) made parts.1 l
-      by_rule H4 e = kept-edges r cs (ap asks_for_edge e) made parts.1 l
-      by_rule H5 e = kept-edges r cs (ap asks_for_edge e) made parts.1 l
-      by_rule H6 e = kept-edges r cs (ap asks_for_edge e) made parts.1 l
-      by_rule H7 e = kept-edges r cs (ap asks_for_edge e) made parts.1 l
-      by_rule H8 e = kept-edges r cs (ap asks_for_edge e) made parts.1 l
-      by_rule S1 e = kept-edges r cs (ap asks_for_edge e) made parts.1 l
-      by_rule S2 e = kept-edges r cs (ap asks_for_edge e) made parts.1 l
-      by_rule C1 e = kept-edges r cs (ap asks_for_edge e) made parts.1 l
-      by_rule C2 e = kept-edges r cs (ap asks_for_edge e) made parts.1 l
-      by_rule G1 e = kept-edges r cs (ap asks_for_edge e) made parts.1 l
-      by_rule G2 e = kept-edges r cs (ap asks_for_edge e) made parts.1 l
-      by_rule G3 e = kept-edges r cs (ap asks_for_edge e) made parts.1 l
-      by_rule G4 e = kept-edges r cs (ap asks_for_edge e) made parts.1 l
-      by_rule G5 e = kept-edges r cs (ap asks_for_edge e) made parts.1 l
-      by_rule B1 e = kept-edges r cs (ap asks_for_edge e) made parts.1 l
-      by_rule B2 e = kept-edges r cs (ap asks_for_edge e) made parts.1 l
-      by_rule B3 e = kept-edges r cs (ap asks_for_edge e) made parts.1 l
-      by_rule B4 e = kept-edges r cs (ap asks_for_edge e) made parts.1 l
-      by_rule I1 e = kept-edges r cs (ap asks_for_edge e) made parts.1 l
-      by_rule I2 e = kept-edges r cs (ap asks_for_edge e) made parts.1 l
-      by_rule I3 e = kept-edges r cs (ap asks_for_edge e) made parts.1 l
-      by_rule I4 e = kept-edges r cs (ap asks_for_edge e) made parts.1 l
-      by_rule I5 e = kept-edges r cs (ap asks_for_edge e) made parts.1 l
+      by_rule q e = kept-edges r cs (ap asks_for_edge e) made parts.1 l
 
   -- so the first of any rules to be broken there is none
   pub kept-none : (cs : List Change) → levels_at t j ≡ changed (levels_at t (j - 1)) cs → is_kept t span j cs ≡ true → (rules : List Rule) → break_at t span rules j ≡ None

@@ -11,7 +11,7 @@ pub mod KeptRules
 pub mod LevelsThere
 pub mod Losing
 pub mod RowsGrow
-pub mod RulesOnLines
 pub mod Searching
 pub mod SilentRules
 pub mod StillLines
+pub mod Those

@@ -1,4 +1,5 @@
 pub mod Agreement
+pub mod Events
 pub mod LevelsAt
 pub mod Tests
 pub mod TransferOf

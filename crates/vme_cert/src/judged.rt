@@ -7,6 +7,7 @@ ghost use Rattle.vme_trace.specs.Instants.{least};
 ghost use Rattle.vme_trace.specs.Judged.{is_idle_at, loses_control_at, span_end, judged_span};
 ghost use Rattle.vme_trace.specs.Levels.{is_lost, loses_control};
 ghost use Rattle.vme_trace.specs.Trace.{last_instant};
+ghost use Rattle.vme_trace.specs.WellFormed.{capture_limit};
 ghost use Rattle.vme_cert.specs.Unknowns.{has_unknown};
 
 use crate::recording::Recording;
@@ -82,7 +83,8 @@ impl Recording<'_> {
     /// The next instant after the start at which a control line is unknown, or past the last.
     fn span_end(&self, start: u32) -> u32
         requires { start ≤ last_instant self.now }
-        ensures { result ≡ span_end self.now start }
+        ensures end { result ≡ span_end self.now start }
+        ensures within { result ≤ last_instant self.now + 1 }
     {
         let end = self.last_instant() + 1;
         for instant in start + 1..end {
@@ -95,8 +97,12 @@ impl Recording<'_> {
 
     /// The stretch from the least idle instant on.
     pub(crate) fn judged_span(&self) -> Option<Span>
-        ensures { result ≡ judged_span self.now }
+        ensures span { result ≡ judged_span self.now }
+        ensures ends { IfSome result (λ span. span.end ≤ last_instant self.now + 1) }
+        ensures started { IfSome result (λ span. span.start ≤ last_instant self.now) }
+        ensures limited { last_instant self.now ≤ capture_limit }
     {
+        let _last = self.last_instant();
         let start = self.least_idle()?;
         let end = self.span_end(start);
         Some(Span { start, end })

@@ -2,6 +2,7 @@
 
 ghost use Rattle.std.specs.Prelude.{◌≡◌, ◌<◌, ◌||◌, IsTrue};
 ghost use Rattle.vme_trace.specs.LineNumbers.{is_strobe as is_strobe_line, is_answer_line as is_answering_line, is_grant as is_grant_line, is_arbiter_grant as is_arbiter_net, is_slot_grant as is_slot_net, is_slot_iack as is_iack_net, input_of as input_net, grant_level as level_of};
+ghost use Rattle.vme_cert.specs.Watched.{may_be_needed as may_be_needed_line};
 
 use vme_trace::Line;
 
@@ -13,6 +14,12 @@ const FIRST_IACK: u8 = 138;
 
 /// How many nets the chain of a grant level has.
 const CHAIN: u8 = 22;
+
+/// The number of the first line that a cycle may need.
+pub(crate) const FIRST_NEEDED: u8 = 5;
+
+/// The number past the last such line.
+pub(crate) const PAST_NEEDED: u8 = 45;
 
 /// Whether the line is a data strobe.
 pub(crate) fn is_strobe(line: Line) -> bool
@@ -75,4 +82,11 @@ pub(crate) fn grant_level(line: Line) -> u8
     ensures below { result < 4 }
 {
     (line.number() - FIRST_GRANT) / CHAIN
+}
+
+/// Whether the line is one of those that a cycle may need.
+pub(crate) fn may_be_needed(line: Line) -> bool
+    ensures { result ≡ may_be_needed_line line }
+{
+    FIRST_NEEDED <= line.number() && line.number() < PAST_NEEDED && line != Line::WRITE
 }

@@ -1,17 +1,13 @@
 //! The rows that begin at an instant.
-#![tactic(auto, unfolding(vme_listing::specs::Recorded::tenure_rows, vme_listing::specs::Recorded::cycle_rows, vme_listing::specs::Recorded::transfer_rows, vme_trace::specs::Cycle::highest_address))]
+#![tactic(auto, unfolding(vme_listing::specs::Recorded::tenure_rows, vme_listing::specs::Recorded::cycle_rows, vme_listing::specs::Recorded::transfer_rows, vme_trace::specs::Transfers::transfer_starts, vme_trace::specs::Cycle::highest_address))]
 
 ghost use Rattle.std.specs.Prelude.{◌≡◌, ◌+◌, ◌^◌, ◌<◌, ◌≤◌, IsTrue};
 ghost use Rattle.std.specs.Option.{option_to_list};
 ghost use Rattle.vme_trace.specs.Cycle.{highest_address, class_of};
-ghost use Rattle.vme_trace.specs.Instants.{least};
-ghost use Rattle.vme_trace.specs.LineNumbers.{has_line};
-ghost use Rattle.vme_trace.specs.Signals.{rises};
+ghost use Rattle.vme_trace.specs.Trace.{last_instant};
 ghost use Rattle.vme_listing.specs.Recorded.{address_to, cycle_row, tenure_rows, cycle_rows, transfer_rows, direction_of, answer_line};
 
-use crate::recording::Recording;
-use crate::search::least;
-use crate::span::Span;
+use crate::events::{Event, Judged};
 use vme_listing::{AnswerLine, Direction, Row};
 use vme_trace::{Class, Line, Lines, am_class, am_code};
 
@@ -69,59 +65,52 @@ fn cycle_row(start: u32, lines: &Lines, end: Option<u32>) -> Row
     }
 }
 
-impl Recording<'_> {
-    /// Where the line rises next, if before the end.
-    fn next_rise(&self, line: Line, instant: u32, end: u32) -> Option<u32>
-        requires line { IsTrue (has_line self.now.opening.slots line) }
-        requires within { instant < end }
-        ensures { result ≡ least (rises self.now line) (instant + 1) end }
-    {
-        least(instant + 1, end, |next| self.rises(line, next))
-    }
-
+impl Judged<'_> {
     /// The row of the tenure that begins at an instant.
-    pub(crate) fn tenure_row(&self, span: Span, end: u32, instant: u32) -> Option<Row>
-        requires { instant < end }
-        ensures { option_to_list result ≡ tenure_rows self.now span end instant }
+    pub(crate) fn tenure_row(&self, end: u32, instant: u32) -> Option<Row>
+        requires order { instant < end }
+        requires within { end ≤ last_instant self.now.recording + 1 }
+        ensures { option_to_list result ≡ tenure_rows self.now.recording self.now.span end instant }
     {
-        if instant == span.start() && self.low(Line::BBSY, instant) {
-            let end = self.next_rise(Line::BBSY, instant, end);
+        if instant == self.span.start() && self.recording.low(Line::BBSY, instant) {
+            let end = self.first(Event::BusyRise, instant + 1, end);
             return Some(Row::OpenTenure {
                 start: instant,
                 end,
             });
         }
-        if !self.tenure_starts(span, instant) {
+        if !self.recording.tenure_starts(self.span, instant) {
             return None;
         }
-        let level = self.tenure_level(instant)?;
-        let slot = self.tenure_slot(instant)?;
+        let level = self.recording.tenure_level(instant)?;
+        let slot = self.recording.tenure_slot(instant)?;
         Some(Row::Tenure {
             start: instant,
             level,
             slot,
-            end: self.next_rise(Line::BBSY, instant, end),
+            end: self.first(Event::BusyRise, instant + 1, end),
         })
     }
 
     /// The row of the cycle that starts at an instant.
-    pub(crate) fn cycle_row(&self, span: Span, end: u32, instant: u32) -> Option<Row>
-        requires { instant < end }
-        ensures { option_to_list result ≡ cycle_rows self.now span end instant }
+    pub(crate) fn cycle_row(&self, end: u32, instant: u32) -> Option<Row>
+        requires order { instant < end }
+        requires within { end ≤ last_instant self.now.recording + 1 }
+        ensures { option_to_list result ≡ cycle_rows self.now.recording self.now.span end instant }
     {
-        if !self.cycle_starts(span, instant) {
+        if !self.recording.cycle_starts(self.span, instant) {
             return None;
         }
-        let end = self.next_rise(Line::AS, instant, end);
-        Some(cycle_row(instant, &self.levels(instant), end))
+        let end = self.first(Event::AddressRise, instant + 1, end);
+        Some(cycle_row(instant, &self.recording.levels(instant), end))
     }
 
     /// The direction of the transfer that starts at an instant.
-    fn direction_of(&self, span: Span, end: u32, start: u32) -> Direction
-        ensures { result ≡ direction_of self.now span end start }
+    fn direction_of(&self, end: u32, start: u32) -> Direction
+        ensures { result ≡ direction_of self.now.recording self.now.span end start }
     {
         let _ = end;
-        if self.is_write(span, start) {
+        if self.is_write(start) {
             Direction::Write
         } else {
             Direction::Read
@@ -129,11 +118,11 @@ impl Recording<'_> {
     }
 
     /// The line that answers at an instant.
-    fn answer_line(&self, span: Span, end: u32, answer: u32) -> AnswerLine
-        ensures { result ≡ answer_line self.now span end answer }
+    fn answer_line(&self, end: u32, answer: u32) -> AnswerLine
+        ensures { result ≡ answer_line self.now.recording self.now.span end answer }
     {
-        let _ = (span, end);
-        if self.falls(Line::DTACK, answer) {
+        let _ = end;
+        if self.recording.falls(Line::DTACK, answer) {
             AnswerLine::Dtack
         } else {
             AnswerLine::Berr
@@ -141,28 +130,29 @@ impl Recording<'_> {
     }
 
     /// The row of the transfer that starts at an instant.
-    pub(crate) fn transfer_row(&self, span: Span, end: u32, instant: u32) -> Option<Row>
-        requires { instant < end }
-        ensures { option_to_list result ≡ transfer_rows self.now span end instant }
+    pub(crate) fn transfer_row(&self, end: u32, instant: u32) -> Option<Row>
+        requires order { instant < end }
+        requires within { end ≤ last_instant self.now.recording + 1 }
+        ensures { option_to_list result ≡ transfer_rows self.now.recording self.now.span end instant }
     {
-        if !self.transfer_starts(span, instant) {
+        if !self.recording.transfer_starts(self.span, instant) {
             return None;
         }
         let start = instant;
-        let direction = self.direction_of(span, end, start);
-        let Some(answer) = least(start, end, |answer| self.answers(span, start, answer)) else {
+        let direction = self.direction_of(end, start);
+        let Some(answer) = self.answer_of(start, end) else {
             return Some(Row::PendingTransfer { start, direction });
         };
-        let Some(cycle) = self.cycle_of(span, answer) else {
+        let Some(cycle) = self.cycle_of(answer) else {
             return Some(Row::PendingTransfer { start, direction });
         };
         Some(Row::Transfer {
             start,
             cycle,
             direction,
-            line: self.answer_line(span, end, answer),
+            line: self.answer_line(end, answer),
             answer,
-            close: least(start + 1, end, |close| self.are_strobes_high(close)),
+            close: self.first(Event::StrobesHigh, start + 1, end),
         })
     }
 }

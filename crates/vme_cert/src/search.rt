@@ -2,7 +2,7 @@
 
 ghost use Rattle.std.specs.Prelude.{◌≡◌, ℕ, ◌<◌, ◌≤◌, Bool, IfSome};
 ghost use Rattle.vme_trace.specs.Instants.{any, least, greatest};
-ghost use Rattle.vme_cert.specs.Tests.{MayAsk, Tests, Bars};
+ghost use Rattle.vme_cert.specs.Tests.{MayAsk, Tests};
 
 /// Whether an instant of the range meets the test, looked for from its end on: what is near the end is found soon.
 pub(crate) fn any<F: Fn(u32) -> bool>(first: u32, end: u32, test: F) -> bool
@@ -45,27 +45,4 @@ pub(crate) fn greatest<F: Fn(u32) -> bool>(first: u32, end: u32, test: F) -> Opt
         }
     }
     None
-}
-
-/// Whether an instant of the range meets the test, where none before a barrier does: it is looked for from the end of the
-/// range on, and no farther than the last barrier.
-pub(crate) fn any_since<F: Fn(u32) -> bool, G: Fn(u32) -> bool>(
-    first: u32,
-    end: u32,
-    test: F,
-    barrier: G,
-) -> bool
-    requires test { MayAsk (F.pre test) first end }
-    requires barrier { MayAsk (G.pre barrier) first end }
-    ensures { (p q : ℕ → Bool) → Tests (F.post test) first end p → Tests (G.post barrier) first end q → Bars q p first end → result ≡ any p first end }
-{
-    for instant in (first..end).rev() {
-        if test(instant) {
-            return true;
-        }
-        if barrier(instant) {
-            return false;
-        }
-    }
-    false
 }

@@ -3,11 +3,15 @@
 
 ghost use Rattle.std.specs.Prelude.{◌≡◌, ◌+◌, ◌<◌, ◌≤◌, ◌==◌, ◌&&◌, not, IfSome};
 ghost use Rattle.vme_trace.specs.Instants.{any, none};
+ghost use Rattle.vme_trace.specs.Judged.{Span as Stretch};
 ghost use Rattle.vme_trace.specs.LineNumbers.{grant, BBSY, BR};
 ghost use Rattle.vme_trace.specs.Rules.{is_option_equal};
 ghost use Rattle.vme_trace.specs.Signals.{low, falls};
 ghost use Rattle.vme_trace.specs.Tenures.{is_granting, grant_falls, taken_grant, tenure_level, has_reached, tenure_slot, tenure_starts, last_before};
+ghost use Rattle.vme_trace.specs.Trace.{Trace};
+ghost use Rattle.vme_cert.specs.Events.{happens};
 
+use crate::events::{Event, Judged};
 use crate::recording::Recording;
 use crate::search::{any, greatest, least};
 use crate::span::Span;
@@ -109,51 +113,6 @@ impl Recording<'_> {
         })
     }
 
-    /// The last instant before another at which some grant falls, or else the start of the span.
-    fn last_grant(&self, span: Span, instant: u32) -> u32
-        requires after { span.start < instant }
-        requires before { instant < span.end }
-        ensures last { result ≡ last_before self.now span (grant_falls self.now) instant }
-        ensures before { result < instant }
-    {
-        let _end = span.end();
-        greatest(span.start() + 1, instant, |before| self.grant_falls(before)).unwrap_or(
-            span.start(),
-        )
-    }
-
-    /// Whether the request of a level isn't low from the last grant before an instant on, through the instant.
-    pub(crate) fn is_unrequested(&self, span: Span, level: u8, instant: u32) -> bool
-        requires level { level < 4 }
-        requires after { span.start < instant }
-        requires before { instant < span.end }
-        ensures { result ≡ none (low self.now (BR level)) (last_before self.now span (grant_falls self.now) instant) (instant + 1) }
-    {
-        let _end = span.end();
-        let request = Line::bus_request(level);
-        !any(
-            self.last_grant(span, instant),
-            instant + 1,
-            |since| self.low(request, since),
-        )
-    }
-
-    /// Whether no grant fell since the bus last became busy, this instant included.
-    pub(crate) fn is_ungranted_since(&self, span: Span, instant: u32) -> bool
-        requires after { span.start < instant }
-        requires before { instant < span.end }
-        ensures { result ≡ none (grant_falls self.now) (last_before self.now span (falls self.now BBSY) instant + 1) (instant + 1) }
-    {
-        let _end = span.end();
-        let taken = greatest(
-            span.start() + 1,
-            instant,
-            |before| self.falls(Line::BBSY, before),
-        )
-        .unwrap_or(span.start());
-        !any(taken + 1, instant + 1, |since| self.grant_falls(since))
-    }
-
     /// Whether the grant of a tenure that starts at an instant went past the last slot.
     pub(crate) fn is_past_slots(&self, start: u32) -> bool
         ensures { result ≡ is_option_equal (tenure_slot self.now start) (self.now.opening.slots + 1) }
@@ -162,5 +121,52 @@ impl Recording<'_> {
             Some(slot) => slot == self.slots() + 1,
             None => false,
         }
+    }
+}
+
+/// The event that the request of a level is low.
+fn request(level: u8) -> Event
+    requires { level < 4 }
+    ensures { (t : Trace) (span : Stretch) → happens t span result ≡ low t (BR level) }
+{
+    match level {
+        0 => Event::Request0,
+        1 => Event::Request1,
+        2 => Event::Request2,
+        _ => Event::Request3,
+    }
+}
+
+impl Judged<'_> {
+    /// The last instant before another at which it happens, or else the start of the span.
+    pub(crate) fn last_before(&self, event: Event, instant: u32) -> u32
+        requires after { self.now.span.start < instant }
+        requires before { instant < self.now.span.end }
+        ensures last { result ≡ last_before self.now.recording self.now.span (happens self.now.recording self.now.span event) instant }
+        ensures before { result < instant }
+    {
+        self.last(event, self.span.start() + 1, instant)
+            .unwrap_or(self.span.start())
+    }
+
+    /// Whether the request of a level isn't low from the last grant before an instant on, through the instant.
+    pub(crate) fn is_unrequested(&self, level: u8, instant: u32) -> bool
+        requires level { level < 4 }
+        requires after { self.now.span.start < instant }
+        requires before { instant < self.now.span.end }
+        ensures { result ≡ none (low self.now.recording (BR level)) (last_before self.now.recording self.now.span (grant_falls self.now.recording) instant) (instant + 1) }
+    {
+        let granted = self.last_before(Event::GrantFall, instant);
+        !self.any(request(level), granted, instant + 1)
+    }
+
+    /// Whether no grant fell since the bus last became busy, this instant included.
+    pub(crate) fn is_ungranted_since(&self, instant: u32) -> bool
+        requires after { self.now.span.start < instant }
+        requires before { instant < self.now.span.end }
+        ensures { result ≡ none (grant_falls self.now.recording) (last_before self.now.recording self.now.span (falls self.now.recording BBSY) instant + 1) (instant + 1) }
+    {
+        let taken = self.last_before(Event::BusyFall, instant);
+        !self.any(Event::GrantFall, taken + 1, instant + 1)
     }
 }

@@ -1,25 +1,18 @@
 //! The least break of the rules.
 
-ghost use Rattle.std.specs.Prelude.{◌≡◌, ◌≤◌};
+ghost use Rattle.std.specs.Prelude.{◌≡◌, ◌≤◌, IfSome};
 ghost use Rattle.vme_trace.specs.Instants.{any, least};
 ghost use Rattle.vme_trace.specs.Cycle.{needs_of};
 ghost use Rattle.vme_trace.specs.LineNumbers.{IACK, BBSY, line_count};
 ghost use Rattle.vme_trace.specs.Trace.{last_instant};
 ghost use Rattle.vme_trace.specs.Rules.{breaks};
 ghost use Rattle.vme_trace.specs.Verdict.{all_rules, break_at, least_break};
-ghost use Rattle.vme_cert.specs.Watched.{lacks, may_be_needed, changes_needed, by_edge, rules_on, has_needed, may_transfer, are_kept, are_kept_on, is_kept};
+ghost use Rattle.vme_cert.specs.Watched.{lacks, may_be_needed, changes_needed, has_needed, may_transfer, are_kept, is_kept_on, are_kept_on, is_kept};
 
+use crate::events::Judged;
 use crate::judged::{LINE_COUNT, nth_line};
-use crate::nets::{is_answer_line, is_arbiter_grant, is_slot_grant, is_slot_iack, is_strobe};
-use crate::recording::Recording;
-use crate::span::Span;
-use vme_trace::{Break, Change, Level, Line, LineSet, Lines, Rule, needed};
-
-/// The number of the first line that a cycle may need.
-const FIRST_NEEDED: u8 = 5;
-
-/// The number past the last such line.
-const PAST_NEEDED: u8 = 45;
+use crate::nets::{FIRST_NEEDED, PAST_NEEDED, may_be_needed};
+use vme_trace::{Break, Change, Line, LineSet, Lines, Rule, needed};
 
 /// Every rule, in the order in which breaks at one instant are named.
 const RULES: [Rule; 29] = [
@@ -54,13 +47,6 @@ const RULES: [Rule; 29] = [
     Rule::I5,
 ];
 
-/// Whether the line is one of those that a cycle may need.
-fn may_be_needed(line: Line) -> bool
-    ensures { result ≡ may_be_needed line }
-{
-    FIRST_NEEDED <= line.number() && line.number() < PAST_NEEDED
-}
-
 /// Whether one of these lines is among some changes.
 fn changes_needed(changes: &[Change]) -> bool
     ensures { result ≡ changes_needed changes.now }
@@ -71,53 +57,6 @@ fn changes_needed(changes: &[Change]) -> bool
         }
     }
     false
-}
-
-/// The first rules where a line rises to a level, the second where it falls to it.
-fn by_edge(level: Level, rising: &'static [Rule], falling: &'static [Rule]) -> &'static [Rule]
-    ensures { result.now ≡ by_edge level rising.now falling.now }
-{
-    match level {
-        Level::Low => falling,
-        Level::High => rising,
-        Level::Unknown => &[],
-    }
-}
-
-/// The rules that an edge of a line to a level may break, where a cycle holds what it needs or where none does.
-fn rules_on(held: bool, line: Line, level: Level) -> &'static [Rule]
-    ensures { result.now ≡ rules_on held line level }
-{
-    if line == Line::AS {
-        by_edge(level, &[Rule::H7], &[Rule::B3])
-    } else if is_strobe(line) {
-        by_edge(level, &[Rule::H2], &[Rule::H3])
-    } else if is_answer_line(line) {
-        let falling = &[
-            Rule::H4,
-            Rule::H5,
-            Rule::H8,
-            Rule::C1,
-            Rule::C2,
-            Rule::I4,
-            Rule::I5,
-        ];
-        by_edge(level, &[Rule::H6], falling)
-    } else if line == Line::WRITE {
-        &[Rule::S2]
-    } else if may_be_needed(line) {
-        if held { &[Rule::S1] } else { &[] }
-    } else if line == Line::BBSY {
-        by_edge(level, &[], &[Rule::B1, Rule::B2, Rule::B4])
-    } else if is_arbiter_grant(line) {
-        by_edge(level, &[], &[Rule::G3, Rule::G4, Rule::G5])
-    } else if is_slot_grant(line) {
-        by_edge(level, &[Rule::G2], &[Rule::G1, Rule::G4])
-    } else if is_slot_iack(line) {
-        by_edge(level, &[], &[Rule::I1, Rule::I2, Rule::I3])
-    } else {
-        &[]
-    }
 }
 
 /// Whether nothing is known of a line that there is and that a cycle which starts at these levels needs.
@@ -146,42 +85,48 @@ fn lacks_some(lines: &Lines) -> bool
     false
 }
 
-impl Recording<'_> {
+impl Judged<'_> {
     /// Whether a rule is broken at an instant on a line, where it counts.
     #[tactic(auto, unfolding(vme_trace::specs::Rules::breaks))]
-    fn breaks(&self, span: Span, rule: Rule, instant: u32, line: Line) -> bool
-        ensures { result ≡ breaks self.now span rule instant line }
+    fn breaks(&self, rule: Rule, instant: u32, line: Line) -> bool
+        ensures { result ≡ breaks self.now.recording self.now.span rule instant line }
     {
-        self.has(line)
+        self.recording.has(line)
             && match rule {
-                Rule::U1 => self.is_lost(span, instant, line),
-                _ => span.contains(instant) && self.is_broken(span, rule, instant, line),
+                Rule::U1 => self.is_lost(instant, line),
+                _ => self.span.contains(instant) && self.is_broken(rule, instant, line),
             }
     }
 
     /// Whether none of some rules is broken at an instant on a line.
-    fn are_kept(&self, span: Span, instant: u32, line: Line, rules: &[Rule]) -> bool
-        ensures { result ≡ are_kept self.now span instant line rules.now }
+    fn are_kept(&self, instant: u32, line: Line, rules: &[Rule]) -> bool
+        ensures { result ≡ are_kept self.now.recording self.now.span instant line rules.now }
     {
         for rule in rules {
-            if self.breaks(span, *rule, instant, line) {
+            if self.breaks(*rule, instant, line) {
                 return false;
             }
         }
         true
     }
 
-    /// Whether no edge among some changes at an instant breaks a rule, where a cycle holds what it needs or where none does.
-    fn are_kept_on(&self, span: Span, instant: u32, held: bool, changes: &[Change]) -> bool
-        ensures { result ≡ are_kept_on self.now span instant held changes.now }
+    /// Whether a change of a line at an instant breaks no rule, where a cycle holds what it needs or where none does.
+    fn is_kept_on(&self, instant: u32, held: bool, line: Line) -> bool
+        ensures { result ≡ is_kept_on self.now.recording self.now.span instant held line }
+    {
+        if may_be_needed(line) {
+            !held || !self.breaks(Rule::S1, instant, line)
+        } else {
+            self.are_kept(instant, line, &RULES[4..])
+        }
+    }
+
+    /// Whether no change among some at an instant breaks a rule.
+    fn are_kept_on(&self, instant: u32, held: bool, changes: &[Change]) -> bool
+        ensures { result ≡ are_kept_on self.now.recording self.now.span instant held changes.now }
     {
         for change in changes {
-            if !self.are_kept(
-                span,
-                instant,
-                change.line,
-                rules_on(held, change.line, change.level),
-            ) {
+            if !self.is_kept_on(instant, held, change.line) {
                 return false;
             }
         }
@@ -189,45 +134,43 @@ impl Recording<'_> {
     }
 
     /// Whether what a cycle needs is known, if one starts.
-    fn has_needed(&self, span: Span, instant: u32) -> bool
-        ensures { result ≡ has_needed self.now span instant }
+    fn has_needed(&self, instant: u32) -> bool
+        ensures { result ≡ has_needed self.now.recording self.now.span instant }
     {
-        !self.cycle_starts(span, instant) || !lacks_some(&self.levels(instant))
+        !self.recording.cycle_starts(self.span, instant)
+            || !lacks_some(&self.recording.levels(instant))
     }
 
     /// Whether the direction is known and both answers are high, if a transfer starts.
-    fn may_transfer(&self, span: Span, instant: u32) -> bool
-        ensures { result ≡ may_transfer self.now span instant }
+    fn may_transfer(&self, instant: u32) -> bool
+        ensures { result ≡ may_transfer self.now.recording self.now.span instant }
     {
-        !self.transfer_starts(span, instant)
-            || (self.known(Line::WRITE, instant)
-                && self.high_near(Line::DTACK, instant)
-                && self.high_near(Line::BERR, instant))
+        !self.recording.transfer_starts(self.span, instant)
+            || (self.recording.known(Line::WRITE, instant)
+                && self.recording.high_near(Line::DTACK, instant)
+                && self.recording.high_near(Line::BERR, instant))
     }
 
-    /// Whether no rule is broken at an instant with some changes. A rule is broken by an edge, or as the span ends, a cycle starts
-    /// or a transfer starts.
-    fn is_kept(&self, span: Span, instant: u32, changes: &[Change]) -> bool
-        ensures { result ≡ is_kept self.now span instant changes.now }
+    /// Whether no rule is broken at an instant with some changes. A rule is broken on a line that changes, or as the span ends, a
+    /// cycle starts or a transfer starts.
+    fn is_kept(&self, instant: u32, changes: &[Change]) -> bool
+        ensures { result ≡ is_kept self.now.recording self.now.span instant changes.now }
     {
-        if instant == span.end()
-            || !self.has_needed(span, instant)
-            || !self.may_transfer(span, instant)
-        {
+        if instant == self.span.end() || !self.has_needed(instant) || !self.may_transfer(instant) {
             return false;
         }
-        let held = changes_needed(changes) && span.contains(instant) && self.is_held(span, instant);
-        self.are_kept_on(span, instant, held, changes)
+        let held = changes_needed(changes) && self.span.contains(instant) && self.is_held(instant);
+        self.are_kept_on(instant, held, changes)
     }
 
     /// The least line on which a rule is broken at an instant.
     #[tactic(auto, using(vme_trace::proofs::Ranges::searches))]
-    fn broken_line(&self, span: Span, rule: Rule, instant: u32) -> Option<Line>
-        ensures { result ≡ least (breaks self.now span rule instant) 0 line_count }
+    fn broken_line(&self, rule: Rule, instant: u32) -> Option<Line>
+        ensures { result ≡ least (breaks self.now.recording self.now.span rule instant) 0 line_count }
     {
         for number in 0..LINE_COUNT {
             let line = nth_line(number);
-            if self.breaks(span, rule, instant, line) {
+            if self.breaks(rule, instant, line) {
                 return Some(line);
             }
         }
@@ -235,14 +178,15 @@ impl Recording<'_> {
     }
 
     /// The first of some rules that is broken at an instant.
-    fn break_at(&self, span: Span, rules: &[Rule], instant: u32) -> Option<Break>
-        requires { instant ≤ last_instant self.now }
-        ensures { result ≡ break_at self.now span rules.now instant }
+    fn break_at(&self, rules: &[Rule], instant: u32) -> Option<Break>
+        requires { instant ≤ last_instant self.now.recording }
+        ensures break_at { result ≡ break_at self.now.recording self.now.span rules.now instant }
+        ensures there { IfSome result (λ found. found.instant ≡ instant) }
     {
         for rule in rules {
-            match self.broken_line(span, *rule, instant) {
+            match self.broken_line(*rule, instant) {
                 Some(line) => {
-                    let time = self.time(instant);
+                    let time = self.recording.time(instant);
                     let rule = *rule;
                     return Some(Break {
                         instant,
@@ -258,22 +202,24 @@ impl Recording<'_> {
     }
 
     /// The first of the rules that is broken at an instant.
-    fn next_break(&self, span: Span, instant: u32) -> Option<Break>
-        requires { instant ≤ last_instant self.now }
-        ensures { result ≡ break_at self.now span all_rules instant }
+    fn next_break(&self, instant: u32) -> Option<Break>
+        requires { instant ≤ last_instant self.now.recording }
+        ensures break_at { result ≡ break_at self.now.recording self.now.span all_rules instant }
+        ensures there { IfSome result (λ found. found.instant ≡ instant) }
     {
-        if self.is_kept(span, instant, self.changes_at(instant)) {
+        if self.is_kept(instant, self.recording.changes_at(instant)) {
             return None;
         }
-        self.break_at(span, &RULES, instant)
+        self.break_at(&RULES, instant)
     }
 
     /// The least break of the rules.
-    pub(crate) fn least_break(&self, span: Span) -> Option<Break>
-        ensures { result ≡ least_break self.now span all_rules }
+    pub(crate) fn least_break(&self) -> Option<Break>
+        ensures least { result ≡ least_break self.now.recording self.now.span all_rules }
+        ensures within { IfSome result (λ found. found.instant ≤ last_instant self.now.recording) }
     {
-        for instant in 0..self.last_instant() + 1 {
-            match self.next_break(span, instant) {
+        for instant in 0..self.recording.last_instant() + 1 {
+            match self.next_break(instant) {
                 Some(found) => return Some(found),
                 None => continue,
             }

@@ -6,3 +6,4 @@ pub mod RuleSteps
 pub mod StageRanks
 pub mod Runs
 pub mod Laws
+pub mod Owners

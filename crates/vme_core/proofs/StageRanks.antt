@@ -1,5 +1,8 @@
 -- The rank of a stage, by its bits.
-use Rattle.std.proofs.Common.{◌≡◌, ℕ, zero, suc, ◌+◌, ◌<◌, ◌≤◌, refl, arith}
+use Rattle.std.proofs.Common.{◌≡◌, ℕ, zero, suc, ◌+◌, ◌<◌, ◌≤◌, ◌⊎◌, ⊎_elim, inl, inr, max, refl, arith}
+use Rattle.std.proofs.Math.Nat.{le-max_left, le-max_right, max-le}
+use Rattle.vme_core.specs.Views.{joint_view}
+use Rattle.vme_core.proofs.Sums.{occurrences-append}
 use Rattle.vme_core.specs.declared.stage.Stage.{Stage}
 use Rattle.vme_core.specs.declared.stage.Stage.TheVariants.{Free, Claimed, Filed, Taken}
 use Rattle.vme_core.specs.declared.view.View.{View}
@@ -100,3 +103,26 @@ stage_grows zero zero zero t' f' c' a b d = omega arith
 
 pub seen_grows : (v w : View) (n : ℕ) → SeesMore v w → rank (seen v n) ≤ rank (seen w n)
 seen_grows v w n more = stage_grows (occurrences n v.taken) (occurrences n v.filed) (occurrences n v.claimed) (occurrences n w.taken) (occurrences n w.filed) (occurrences n w.claimed) (more.taken n) (more.filed n) (more.claimed n)
+
+rank_at_most : (t f c k : ℕ) → (0 < t → 3 ≤ k) → (0 < f → 2 ≤ k) → (0 < c → 1 ≤ k) → rank (stage_of t f c) ≤ k
+rank_at_most (suc t) f c k a b d = a (omega arith)
+rank_at_most zero (suc f) c k a b d = b (omega arith)
+rank_at_most zero zero (suc c) k a b d = d (omega arith)
+rank_at_most zero zero zero k a b d = omega arith
+
+one_of : (a b sum : ℕ) → sum ≡ a + b → 0 < sum → (0 < a) ⊎ (0 < b)
+one_of zero b sum is some = inr (omega (arith, is, some))
+one_of (suc a) b sum is some = inl (omega arith)
+
+-- one bench for two sees the greater of what they saw
+pub seen-joint_view : (v w : View) (n : ℕ) → rank (seen (joint_view v w) n) ≡ max (rank (seen v n)) (rank (seen w n))
+seen-joint_view v w n =
+    let left : SeesMore v (joint_view v w) = record { found = λ d. omega (arith, occurrences-append d v.found w.found); claimed = λ d. omega (arith, occurrences-append d v.claimed w.claimed); filed = λ d. omega (arith, occurrences-append d v.filed w.filed); taken = λ d. omega (arith, occurrences-append d v.taken w.taken) } in
+    let right : SeesMore w (joint_view v w) = record { found = λ d. omega (arith, occurrences-append d v.found w.found); claimed = λ d. omega (arith, occurrences-append d v.claimed w.claimed); filed = λ d. omega (arith, occurrences-append d v.filed w.filed); taken = λ d. omega (arith, occurrences-append d v.taken w.taken) } in
+    let k : ℕ = max (rank (seen v n)) (rank (seen w n)) in let a = le-max_left (rank (seen v n)) (rank (seen w n)) in let b = le-max_right (rank (seen v n)) (rank (seen w n)) in
+    let u : View = joint_view v w in
+    let most : rank (seen u n) ≤ k = rank_at_most (occurrences n u.taken) (occurrences n u.filed) (occurrences n u.claimed) k
+    (λ some. ⊎_elim (λ h. omega (arith, a, rank_taken (occurrences n v.taken) (occurrences n v.filed) (occurrences n v.claimed) h)) (λ h. omega (arith, b, rank_taken (occurrences n w.taken) (occurrences n w.filed) (occurrences n w.claimed) h)) (one_of (occurrences n v.taken) (occurrences n w.taken) (occurrences n u.taken) (occurrences-append n v.taken w.taken) some))
+    (λ some. ⊎_elim (λ h. omega (arith, a, seen_filed_or_more v n h)) (λ h. omega (arith, b, seen_filed_or_more w n h)) (one_of (occurrences n v.filed) (occurrences n w.filed) (occurrences n u.filed) (occurrences-append n v.filed w.filed) some))
+    (λ some. ⊎_elim (λ h. omega (arith, a, seen_claimed_or_more v n h)) (λ h. omega (arith, b, seen_claimed_or_more w n h)) (one_of (occurrences n v.claimed) (occurrences n w.claimed) (occurrences n u.claimed) (occurrences-append n v.claimed w.claimed) some)) in
+    let least : k ≤ rank (seen u n) = max-le (seen_grows v u n left) (seen_grows w u n right) in omega (arith, most, least)

@@ -80,6 +80,11 @@ module _ {A : Type 0} where
   at_snoc (x ∷ xs) a b zero e = inl e
   at_snoc (x ∷ xs) a b (suc j) e = at_snoc xs a b j e
 
+  pub set_here : (l : List A) (i : ℕ) (a b : A) → get_elem? l i ≡ some b → get_elem? (set l i a) i ≡ some a
+  set_here [] i a b e = absurd (some-ne-none b (sym e))
+  set_here (x ∷ xs) zero a b e = refl
+  set_here (x ∷ xs) (suc i) a b e = set_here xs i a b e
+
   pub set_else : (l : List A) (i j : ℕ) (a : A) → j ≢ i → get_elem? (set l i a) j ≡ get_elem? l j
   set_else [] i j a n = refl
   set_else (x ∷ xs) zero zero a n = absurd (n refl)

@@ -1,15 +1,19 @@
 -- What holds after every run of the machine.
-use Rattle.std.specs.Prelude.{◌≡◌, ℕ, ◌+◌, ◌<◌, ◌≤◌, List, Some, sum_by}
+use Rattle.std.specs.Prelude.{◌≡◌, ℕ, ◌+◌, ◌<◌, ◌≤◌, List, [], ◌∷◌, Some, sum_by}
 use Rattle.vme_trace.specs.declared.block.Block.{Block}
 use Rattle.vme_core.specs.declared.stage.Stage.TheVariants.{Filed}
 use Rattle.vme_core.specs.declared.view.View.{View}
 use Rattle.vme_core.specs.Counting.{occurrences, numbers, HasPair}
 use Rattle.vme_core.specs.Stages.{rank, seen, filed_bit, taken_bit}
-use Rattle.vme_core.specs.Machine.{Core, Event, filled, start, HasView, IsRun}
+use Rattle.vme_core.specs.Machine.{Core, Event, filled, start, HasView, Happens, IsRun}
 
 -- some events of benches of a board of so many numbers and draws lead from s to t
 abbrev pub LeadsTo : ℕ → ℕ → Core → Core → Type 0
 LeadsTo total draws s t = (events : List Event) × IsRun total draws s events t
+
+-- one event of them leads from s to t
+abbrev pub StepsTo : ℕ → ℕ → Core → Core → Type 0
+StepsTo total draws s t = (e : Event) × Happens total draws s e t
 
 -- some run leads to s
 abbrev pub IsReachable : ℕ → ℕ → Core → Type 0
@@ -28,6 +32,21 @@ pub record IsLawful (s : Core) : Type 0 where
   -- nobody has seen more than there is
   pub seen_is_so : (i : ℕ) (v : View) → HasView s i v → (n : ℕ) → rank (seen v n) ≤ rank (s.stage n)
   pub found_is_drawn : (i : ℕ) (v : View) → HasView s i v → (d : ℕ) → 0 < occurrences d v.found → s.drawn d ≡ 1
+
+-- the number is filed by the bench with which it is pending, and which has it in its list then
+abbrev pub IsFiledByOwner : Core → Core → ℕ → Type 0
+IsFiledByOwner s t n =
+    (i : ℕ) × (v w : View) × HasView s i v × HasView t i w × (v.pending ≡ n ∷ []) × (0 < occurrences n (numbers w.list))
+
+-- the number is filed before it is taken, by a bench that has it in its takes then
+abbrev pub IsTakenWhenFiled : Core → Core → ℕ → Type 0
+IsTakenWhenFiled s t n =
+    (s.stage n ≡ Filed) × ((i : ℕ) × (w : View) × HasView t i w × (0 < occurrences n (numbers w.takes)))
+
+-- what is filed or taken by the step from s to t
+pub record IsRightStep (s t : Core) : Type 0 where
+  pub files : (n : ℕ) → filed_bit (s.stage n) < filed_bit (t.stage n) → IsFiledByOwner s t n
+  pub takes : (n : ℕ) → taken_bit (s.stage n) < taken_bit (t.stage n) → IsTakenWhenFiled s t n
 
 -- no stage goes back, no content changes, and what was drawn stays drawn
 pub record OnlyGrows (s t : Core) : Type 0 where

@@ -1,6 +1,7 @@
--- The invariant of the board. It is stated over functions, so that it can be read off a state of the machine and off the words
--- and slots of a shared table: for each number whether it is claimed, filed, taken, for each draw whether it is drawn (0 or 1),
--- the content of each number, and whether its slot is at home and empty, or at home with a block.
+-- The invariant of the board. It is stated over functions, so that it can be read off a state of the machine and off
+-- the words and slots of a shared table: for each number whether it is claimed, filed, taken, for each draw whether
+-- it is drawn (0 or 1), the content of each number, and whether its slot is at home and empty, or at home with a
+-- block.
 use Rattle.std.specs.Prelude.{◌≡◌, ℕ, ◌+◌, ◌<◌, ◌≤◌, List, Option, Some, None, sum_by}
 use mathlib.Core.Option.{some}
 use lib.ListN.{get_elem?}
@@ -16,8 +17,9 @@ pub record DrawRule (drawn : ℕ → ℕ) (views : List View) : Type 0 where
   pub won_once : (d : ℕ) → sum_by (λ v. occurrences d v.draws) views ≤ drawn d
   pub found : (i : ℕ) (v : View) → get_elem? views i ≡ some v → (d : ℕ) → 0 < occurrences d v.found → drawn d ≡ 1
 
--- A number is pending with one bench at most, and only if it is claimed and not filed; it was filed by one bench at most, and
--- only if it is filed; it was taken by one bench at most, and only if it is taken. What a bench has seen is so.
+-- A number is pending with one bench at most, and only if it is claimed and not filed; it was filed by one bench at
+-- most, and only if it is filed; it was taken by one bench at most, and only if it is taken. What a bench has seen is
+-- so.
 pub record StageRule (limit : ℕ) (claimed filed taken : ℕ → ℕ) (views : List View) : Type 0 where
   pub bit : (n : ℕ) → claimed n ≤ 1
   pub in_range : (n : ℕ) → 0 < claimed n → n < limit
@@ -25,20 +27,23 @@ pub record StageRule (limit : ℕ) (claimed filed taken : ℕ → ℕ) (views : 
   pub pending_once : (n : ℕ) → sum_by (λ v. occurrences n v.pending) views + filed n ≤ claimed n
   pub filed_once : (n : ℕ) → sum_by (λ v. occurrences n (numbers v.list)) views ≤ filed n
   pub taken_once : (n : ℕ) → sum_by (λ v. occurrences n (numbers v.takes)) views ≤ taken n
-  pub saw_claimed : (i : ℕ) (v : View) → get_elem? views i ≡ some v → (n : ℕ) → 0 < occurrences n v.claimed → claimed n ≡ 1
+  pub saw_claimed : (i : ℕ) (v : View) → get_elem? views i ≡ some v
+      → (n : ℕ) → 0 < occurrences n v.claimed → claimed n ≡ 1
   pub saw_filed : (i : ℕ) (v : View) → get_elem? views i ≡ some v → (n : ℕ) → 0 < occurrences n v.filed → filed n ≡ 1
   pub saw_taken : (i : ℕ) (v : View) → get_elem? views i ≡ some v → (n : ℕ) → 0 < occurrences n v.taken → taken n ≡ 1
 
--- The slot of a free number is empty, that of a filed one that is not taken has its content, and no other slot at home has a
--- block. What a bench filed or took is the content of its number.
+-- The slot of a free number is empty, that of a filed one that is not taken has its content, and no other slot at
+-- home has a block. What a bench filed or took is the content of its number.
 pub record ContentRule (claimed filed taken : ℕ → ℕ) (content : ℕ → Option Block)
     (IsEmpty : ℕ → Type 0) (IsFilled : ℕ → Block → Type 0) (views : List View) : Type 0 where
   pub free_is_empty : (n : ℕ) → claimed n ≡ 0 → IsEmpty n
   pub unfiled_is_none : (n : ℕ) → filed n ≡ 0 → content n ≡ None
   pub filed_is_home : (n : ℕ) → filed n ≡ 1 → taken n ≡ 0 → (b : Block) × (content n ≡ Some b) × IsFilled n b
   pub home_is_filed : (n : ℕ) (b : Block) → IsFilled n b → (filed n ≡ 1) × (taken n ≡ 0) × (content n ≡ Some b)
-  pub listed : (i : ℕ) (v : View) → get_elem? views i ≡ some v → (n : ℕ) (b : Block) → HasPair v.list n b → content n ≡ Some b
-  pub took : (i : ℕ) (v : View) → get_elem? views i ≡ some v → (n : ℕ) (b : Block) → HasPair v.takes n b → content n ≡ Some b
+  pub listed : (i : ℕ) (v : View) → get_elem? views i ≡ some v
+      → (n : ℕ) (b : Block) → HasPair v.list n b → content n ≡ Some b
+  pub took : (i : ℕ) (v : View) → get_elem? views i ≡ some v
+      → (n : ℕ) (b : Block) → HasPair v.takes n b → content n ≡ Some b
 
 pub record Rule (limit : ℕ) (drawn claimed filed taken : ℕ → ℕ) (content : ℕ → Option Block)
     (IsEmpty : ℕ → Type 0) (IsFilled : ℕ → Block → Type 0) (views : List View) : Type 0 where
@@ -49,5 +54,5 @@ pub record Rule (limit : ℕ) (drawn claimed filed taken : ℕ → ℕ) (content
 -- the rule, read off a state of the machine
 abbrev pub Invariant : ℕ → Core → Type 0
 Invariant limit s =
-    Rule limit s.drawn (λ n. claimed_bit (s.stage n)) (λ n. filed_bit (s.stage n)) (λ n. taken_bit (s.stage n)) s.content
-    (λ n. s.home n ≡ empty) (λ n b. s.home n ≡ filled b) s.views
+    Rule limit s.drawn (λ n. claimed_bit (s.stage n)) (λ n. filed_bit (s.stage n)) (λ n. taken_bit (s.stage n))
+    s.content (λ n. s.home n ≡ empty) (λ n b. s.home n ≡ filled b) s.views

@@ -1,19 +1,19 @@
 //! The board as a machine of single steps, and what holds after every run of it.
 //!
-//! Benches share a board of numbered blocks. One event of the machine is one atomic step of one bench: a bench is made, split or
-//! joined; a number is claimed, its block put into its slot, and filed; a word is looked at; a draw is tried; a filed block is
-//! taken, lifted out of its slot, and the slot given back. A run is any list of such events, of any benches in any order.
-//! [`every_run`] is the law of all runs.
+//! Benches share a board of numbered blocks. One event of the machine is one atomic step of one bench: a bench is
+//! made, split or joined; a number is claimed, its block put into its slot, and filed; a word is looked at; a draw is
+//! tried; a filed block is taken, lifted out of its slot, and the slot given back. A run is any list of such events,
+//! of any benches in any order. [`every_run`] is the law of all runs.
 //!
-//! `specs/Machine.antt` has the states and the events, `specs/Law.antt` what holds after them. `specs/Rule.antt` is the invariant
-//! behind the law, over functions that say what is claimed, filed, taken, drawn and where. `proofs/RuleSteps.antt` shows that
-//! each step keeps it, whatever those functions are read from: the machine's state here, the words and slots of a shared table
-//! in the crate that stands on this one.
+//! `specs/Machine.antt` has the states and the events, `specs/Law.antt` what holds after them. `specs/Rule.antt` is
+//! the invariant behind the law, over functions that say what is claimed, filed, taken, drawn and where.
+//! `proofs/RuleSteps.antt` shows that each step keeps it, whatever those functions are read from: the machine's state
+//! here, the words and slots of a shared table in the crate that stands on this one.
 #![tactic(auto)]
 
 ghost use Rattle.std.specs.Prelude.{ℕ};
 ghost use Rattle.vme_core.specs.Machine.{Core};
-ghost use Rattle.vme_core.specs.Law.{IsReachable, LeadsTo, IsLawful, OnlyGrows};
+ghost use Rattle.vme_core.specs.Law.{IsReachable, StepsTo, LeadsTo, IsLawful, IsRightStep, OnlyGrows};
 
 pub mod stage;
 pub mod view;
@@ -21,10 +21,11 @@ pub mod view;
 pub use stage::Stage;
 pub use view::View;
 
-/// After every run of a board of `total` numbers and `draws` draws, each number has one owner at most, is filed once at most
-/// and by its owner, and is taken once at most and only when filed; each draw is won once at most; and what a bench filed,
-/// took, or has seen is so. However the run goes on, no stage goes back and no content changes.
+/// After every run of a board of `n` numbers and `d` draws, each number has one owner at most, is filed once
+/// at most and by its owner, and is taken once at most and only when filed; each draw is won once at most; and what a
+/// bench filed, took, or has seen is so. However the run goes on, no stage goes back and no content changes.
 pub fn every_run()
-    ensures lawful { (total draws : ℕ) (s : Core) → IsReachable total draws s → IsLawful s }
-    ensures grows { (total draws : ℕ) (s t : Core) → IsReachable total draws s → LeadsTo total draws s t → OnlyGrows s t }
+    ensures lawful { (n d : ℕ) (s : Core) → IsReachable n d s → IsLawful s }
+    ensures steps { (n d : ℕ) (s t : Core) → IsReachable n d s → StepsTo n d s t → IsRightStep s t }
+    ensures grows { (n d : ℕ) (s t : Core) → IsReachable n d s → LeadsTo n d s t → OnlyGrows s t }
 {}

@@ -1,7 +1,7 @@
 use vme_trace::Block;
 
-/// What a bench has done and seen. No value of it is made: contracts alone speak of it, and see each array as a list of any
-/// length.
+/// What a bench has done and seen. No value of it is made: contracts alone speak of it, and see each array as a list
+/// of any length.
 pub struct View {
     /// What it filed: each number with its block, the last first.
     pub list: [(u32, Block); 0],

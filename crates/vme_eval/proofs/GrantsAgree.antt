@@ -1,7 +1,7 @@
 -- Computed from the definitions.
 use Rattle.std.proofs.Common.{refl}
 use Rattle.vme_eval.specs.Recording.{Agrees}
-use Rattle.vme_eval.specs.Grants.{slot_grants_ungranted, slot_grants_with_its_input, slot_grants_as_its_input_rises, slot_ends_its_grant_early, slot_ends_its_grant_as_its_input_falls, second_level_granted, higher_level_granted_second, two_levels_granted_at_once, another_level_granted_as_the_first_ends, grant_while_busy, slot_grants_while_busy, grant_falls_as_the_bus_is_let_go, grant_unasked, request_with_the_grant, request_low_at_the_start, request_of_the_grant_before_serves_again, request_before_another_levels_grant, grant_withdrawn}
+use Rattle.vme_eval.specs.Grants.{slot_grants_ungranted, slot_grants_with_its_input, slot_grants_as_its_input_rises, slot_ends_its_grant_early, slot_ends_its_grant_as_its_input_falls, second_level_granted, higher_level_granted_second, two_levels_granted_at_once, another_level_granted_as_the_first_ends, grant_while_busy, slot_grants_while_busy, grant_falls_as_the_bus_is_let_go, grant_unasked, request_with_the_grant, request_low_at_the_start, request_of_the_grant_before_serves_again, request_before_another_levels_grant, request_of_two_grants_before, grant_withdrawn}
 use Rattle.vme_eval.proofs.Everything.{everything, rows}
 
 pub slot_grants_ungranted_agrees : Agrees slot_grants_ungranted
@@ -71,6 +71,10 @@ request_of_the_grant_before_serves_again_agrees = record { well_formed = refl; v
 pub request_before_another_levels_grant_agrees : Agrees request_before_another_levels_grant
 unfolding everything rows request_before_another_levels_grant
 request_before_another_levels_grant_agrees = record { well_formed = refl; verdict = refl; rows = refl }
+
+pub request_of_two_grants_before_agrees : Agrees request_of_two_grants_before
+unfolding everything rows request_of_two_grants_before
+request_of_two_grants_before_agrees = record { well_formed = refl; verdict = refl; rows = refl }
 
 pub grant_withdrawn_agrees : Agrees grant_withdrawn
 unfolding everything rows grant_withdrawn

@@ -1,7 +1,7 @@
 -- Computed from the definitions.
 use Rattle.std.proofs.Common.{refl}
 use Rattle.vme_eval.specs.Recording.{Agrees}
-use Rattle.vme_eval.specs.Tenures.{tenure_on_level_0, tenure_on_level_1, tenure_on_level_2, taken_by_the_last_slot, open_tenure_ends, tenure_after_an_open_one, two_tenures, grant_read_at_the_instant_before, slot_read_as_the_bus_is_taken, another_levels_grant_taken, higher_levels_grant_taken, grant_chain_with_a_gap, bus_taken_ungranted, taken_by_a_slots_grant_alone, grant_taken_twice, grant_of_the_same_instant_taken_twice, taken_again_by_a_slots_grant, cycle_without_the_bus, cycle_starts_as_the_bus_is_taken, cycle_starts_as_the_bus_is_let_go, everything_starts_at_one_instant, grant_past_last_slot, past_the_last_slot_as_the_grant_ends}
+use Rattle.vme_eval.specs.Tenures.{tenure_on_level_0, tenure_on_level_1, tenure_on_level_2, taken_by_the_last_slot, open_tenure_ends, tenure_after_an_open_one, two_tenures, grant_read_at_the_instant_before, slot_read_as_the_bus_is_taken, another_levels_grant_taken, higher_levels_grant_taken, grant_chain_with_a_gap, bus_taken_ungranted, taken_by_a_slots_grant_alone, grant_taken_twice, grant_of_the_same_instant_taken_twice, taken_again_by_a_slots_grant, third_tenure_without_a_grant, cycle_without_the_bus, cycle_starts_as_the_bus_is_taken, cycle_starts_as_the_bus_is_let_go, everything_starts_at_one_instant, grant_past_last_slot, past_the_last_slot_as_the_grant_ends}
 use Rattle.vme_eval.proofs.Everything.{everything, rows}
 
 pub tenure_on_level_0_agrees : Agrees tenure_on_level_0
@@ -71,6 +71,10 @@ grant_of_the_same_instant_taken_twice_agrees = record { well_formed = refl; verd
 pub taken_again_by_a_slots_grant_agrees : Agrees taken_again_by_a_slots_grant
 unfolding everything rows taken_again_by_a_slots_grant
 taken_again_by_a_slots_grant_agrees = record { well_formed = refl; verdict = refl; rows = refl }
+
+pub third_tenure_without_a_grant_agrees : Agrees third_tenure_without_a_grant
+unfolding everything rows third_tenure_without_a_grant
+third_tenure_without_a_grant_agrees = record { well_formed = refl; verdict = refl; rows = refl }
 
 pub cycle_without_the_bus_agrees : Agrees cycle_without_the_bus
 unfolding everything rows cycle_without_the_bus

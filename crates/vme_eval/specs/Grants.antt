@@ -166,6 +166,17 @@ request_before_another_levels_grant = record {
   rows = codes "start 1" ∷ codes "verdict broken G5 6 BG3.0" ∷ [];
 }
 
+-- the request was low as the grant before the last one fell, and not since
+unfoldable pub request_of_two_grants_before : Recording
+request_of_two_grants_before = record {
+  trace =
+      from_idle ((low (BR 3) ∷ []) ∷ (low (grant 3 0) ∷ []) ∷ (high (BR 3) ∷ []) ∷ (high (grant 3 0) ∷ [])
+      ∷ (low (BR 2) ∷ []) ∷ (low (grant 2 0) ∷ []) ∷ (high (BR 2) ∷ []) ∷ (high (grant 2 0) ∷ [])
+      ∷ (low (grant 3 0) ∷ []) ∷ []);
+  verdict = Broken (record { instant = 10; time = 90; rule = G5; line = grant 3 0 });
+  rows = codes "start 1" ∷ codes "verdict broken G5 10 BG3.0" ∷ [];
+}
+
 -- a grant that nobody takes is withdrawn
 unfoldable pub grant_withdrawn : Recording
 grant_withdrawn = record {

@@ -176,6 +176,19 @@ taken_again_by_a_slots_grant = record {
   rows = codes "start 1" ∷ codes "tenure 4 level 3 slot 1 end 5" ∷ codes "verdict broken B2 7 BBSY" ∷ [];
 }
 
+-- a second grant is taken, and then the bus again
+unfoldable pub third_tenure_without_a_grant : Recording
+third_tenure_without_a_grant = record {
+  trace =
+      from_idle ((low (BR 3) ∷ []) ∷ (low (grant 3 0) ∷ []) ∷ (low BBSY ∷ high (BR 3) ∷ [])
+      ∷ (high (grant 3 0) ∷ []) ∷ (high BBSY ∷ []) ∷ (low (BR 3) ∷ []) ∷ (low (grant 3 0) ∷ []) ∷ (low BBSY ∷ [])
+      ∷ (high BBSY ∷ []) ∷ (low BBSY ∷ []) ∷ []);
+  verdict = Broken (record { instant = 11; time = 100; rule = B2; line = BBSY });
+  rows =
+      codes "start 1" ∷ codes "tenure 4 level 3 slot 1 end 6" ∷ codes "tenure 9 level 3 slot 1 end 10"
+      ∷ codes "verdict broken B2 11 BBSY" ∷ [];
+}
+
 -- a cycle starts while the bus is free
 unfoldable pub cycle_without_the_bus : Recording
 cycle_without_the_bus = record {

@@ -1,5 +1,5 @@
 -- The answers to deliveries.
-use Rattle.std.specs.Prelude.{◌≡◌, ℕ, Bool, nat_lt, if◌then◌else◌, List, length, slice_get, Option, Some, None, option_map}
+use Rattle.std.specs.Prelude.{◌≡◌, ℕ, nat_lt, if◌then◌else◌, List, length, slice_get, Option, Some, None}
 use Rattle.vme_trace.specs.Block.{trace_of}
 use Rattle.vme_trace.specs.WellFormed.{malformed_step}
 use Rattle.vme_trace.specs.declared.block.Block.{Block}
@@ -12,7 +12,10 @@ malformed_refusal (Some step) = Some (Malformed step)
 
 -- the first refusal of a block that rests on the block and the total alone, if there is one
 abbrev pub first_refusal : ℕ → Block → Option Answer
-first_refusal total b = if nat_lt b.number total then (if nat_lt 65536 (length b.steps) then Some TooLong else malformed_refusal (malformed_step (trace_of b))) else Some Stranger
+first_refusal total b =
+    if nat_lt b.number total
+    then (if nat_lt 65536 (length b.steps) then Some TooLong else malformed_refusal (malformed_step (trace_of b)))
+    else Some Stranger
 
 -- the answer suits the block: it is its first refusal, or there is none, or there was no memory for it
 abbrev pub Suits : ℕ → Block → Answer → Type 0
@@ -25,7 +28,8 @@ Suits total b Memory = Unit {0}
 
 -- the delivery is this block, and it was filed
 abbrev pub FiledAs : List Block → List Answer → ℕ → Block → Type 0
-FiledAs deliveries answers delivery b = (slice_get answers delivery ≡ Some Filed) × (slice_get deliveries delivery ≡ Some b)
+FiledAs deliveries answers delivery b =
+    (slice_get answers delivery ≡ Some Filed) × (slice_get deliveries delivery ≡ Some b)
 
 -- some delivery is this block, and it was filed
 abbrev pub IsFiled : List Block → List Answer → Block → Type 0

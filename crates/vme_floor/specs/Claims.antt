@@ -1,5 +1,5 @@
 -- What a run promises.
-use Rattle.std.specs.Prelude.{◌≡◌, ◌⊎◌, ℕ, ◌+◌, ◌<◌, ◌≤◌, List, length, slice_get, take, Option, Some, None, Result, Ok, Err}
+use Rattle.std.specs.Prelude.{◌≡◌, ◌⊎◌, ℕ, ◌<◌, ◌≤◌, List, length, slice_get, Some, Result, Ok, Err}
 use Rattle.vme_trace.specs.declared.block.Block.{Block}
 use Rattle.vme_trace.specs.Trace.{Trace}
 use Rattle.vme_summary.specs.Joins.{BlocksJoin, joined_trace}
@@ -21,12 +21,19 @@ pub record InRange (total : ℕ) (deliveries : List Block) (workers : ℕ) : Typ
   pub workers_from : 0 < workers
   pub workers_to : workers ≤ 64
 
--- one answer for each delivery, each the right one; of no number are two deliveries filed, and of a doubled one another is
+-- one answer for each delivery, each the right one; of no number are two deliveries filed, and of a doubled one
+-- another is
 pub record Answered (total : ℕ) (deliveries : List Block) (answers : List Answer) : Type 0 where
   pub count : length answers ≡ length deliveries
-  pub right : (d : ℕ) (a : Answer) (b : Block) → slice_get answers d ≡ Some a → slice_get deliveries d ≡ Some b → Suits total b a
-  pub once : (d e : ℕ) (b c : Block) → FiledAs deliveries answers d b → FiledAs deliveries answers e c → b.number ≡ c.number → d ≡ e
-  pub doubled : (d : ℕ) (b : Block) → slice_get answers d ≡ Some Doubled → slice_get deliveries d ≡ Some b → IsFiledNumber deliveries answers b.number
+  pub right :
+      (d : ℕ) (a : Answer) (b : Block) → slice_get answers d ≡ Some a → slice_get deliveries d ≡ Some b
+      → Suits total b a
+  pub once :
+      (d e : ℕ) (b c : Block) → FiledAs deliveries answers d b → FiledAs deliveries answers e c → b.number ≡ c.number
+      → d ≡ e
+  pub doubled :
+      (d : ℕ) (b : Block) → slice_get answers d ≡ Some Doubled → slice_get deliveries d ≡ Some b
+      → IsFiledNumber deliveries answers b.number
 
 -- the first claim: the answers that come with a report, or with a number that is missing or torn
 abbrev pub AreAnswered : ℕ → List Block → Result Report RunFault → Type 0
@@ -42,7 +49,8 @@ pub record IsContent (total : ℕ) (deliveries : List Block) (answers : List Ans
   pub filed : (n : ℕ) (b : Block) → slice_get blocks n ≡ Some b → IsFiled deliveries answers b
 
 -- the blocks filed join, the recording is the one that they make, and the span stands for them
-pub record IsRecorded (total : ℕ) (deliveries : List Block) (answers : List Answer) (capture : Trace) (span : Span) : Type 0 where
+pub record IsRecorded (total : ℕ) (deliveries : List Block) (answers : List Answer) (capture : Trace) (span : Span)
+    : Type 0 where
   pub blocks : List Block
   pub content : IsContent total deliveries answers blocks
   pub joins : BlocksJoin blocks
@@ -66,12 +74,15 @@ pub record IsTorn (total : ℕ) (deliveries : List Block) (answers : List Answer
 abbrev pub IsFault : ℕ → List Block → ℕ → RunFault → Type 0
 IsFault total deliveries workers fault.BadTotal = (total ≡ 0) ⊎ (4096 < total)
 IsFault total deliveries workers fault.BadDraws = (0 < total) × (total ≤ 4096) × (65536 < length deliveries)
-IsFault total deliveries workers fault.BadWorkers = (0 < total) × (total ≤ 4096) × (length deliveries ≤ 65536) × ((workers ≡ 0) ⊎ (64 < workers))
+IsFault total deliveries workers fault.BadWorkers =
+    (0 < total) × (total ≤ 4096) × (length deliveries ≤ 65536) × ((workers ≡ 0) ⊎ (64 < workers))
 IsFault total deliveries workers fault.Memory = InRange total deliveries workers
 IsFault total deliveries workers fault.NoWorker = InRange total deliveries workers × (1 < workers)
 IsFault total deliveries workers fault.Stray = InRange total deliveries workers
-IsFault total deliveries workers (fault.Missing n answers) = InRange total deliveries workers × IsLeastMissing total deliveries answers n
-IsFault total deliveries workers (fault.Torn n answers) = InRange total deliveries workers × IsTorn total deliveries answers n
+IsFault total deliveries workers (fault.Missing n answers) =
+    InRange total deliveries workers × IsLeastMissing total deliveries answers n
+IsFault total deliveries workers (fault.Torn n answers) =
+    InRange total deliveries workers × IsTorn total deliveries answers n
 
 -- the same, of what is found once all workers have ended
 abbrev pub IsLate : ℕ → List Block → RunFault → Type 0

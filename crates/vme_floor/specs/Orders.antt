@@ -1,8 +1,9 @@
 -- Blocks in the order of their numbers.
-use Rattle.std.specs.Prelude.{◌≡◌, ℕ, ◌+◌, ◌*◌, ◌<◌, ◌≤◌, List, [], length, slice_get, take, Option, Some, None}
+use Rattle.std.specs.Prelude.{◌≡◌, ℕ, ◌+◌, ◌*◌, ◌<◌, ◌≤◌, List, [], length, map, slice_get, take, Option, Some, None}
+use Rattle.vme_trace.specs.Trace.{Trace}
 use Rattle.vme_trace.specs.declared.block.Block.{Block}
 use Rattle.vme_board.specs.Contents.{HasBlock, HasNone}
-use Rattle.vme_summary.specs.Joins.{BlocksJoin}
+use Rattle.vme_summary.specs.Joins.{BlocksJoin, joined_trace}
 use Rattle.vme_summary.specs.Stands.{SpanStandsFor, step_count}
 use Rattle.vme_summary.specs.declared.span.Span.{Span}
 
@@ -26,3 +27,13 @@ AreAllThere contents = (k : ℕ) → k < length contents → (b : Block) × HasB
 abbrev pub IsJoinedSoFar : Option Span → List Block → Type 0
 IsJoinedSoFar None blocks = blocks ≡ []
 IsJoinedSoFar (Some s) blocks = SpanStandsFor s blocks × (step_count s ≤ 65536 * length blocks)
+
+-- the blocks are all the contents, the span stands for them, and the recording is theirs
+abbrev pub IsJoined : List (Option Block) → Span → Trace → Type 0
+IsJoined contents span capture =
+    (blocks : List Block)
+    × (map Some blocks ≡ contents) × SpanStandsFor span blocks × (joined_trace blocks ≡ Some capture)
+
+-- the blocks are all the contents, and the block at n is the first that doesn't join those before it
+abbrev pub IsFirstTorn : List (Option Block) → ℕ → Type 0
+IsFirstTorn contents n = (blocks : List Block) × (map Some blocks ≡ contents) × IsLeastTorn blocks n

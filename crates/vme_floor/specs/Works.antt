@@ -1,5 +1,6 @@
 -- What workers did: the view of a bench, and the replies to what was drawn.
-use Rattle.std.specs.Prelude.{◌≡◌, ◌==◌, ℕ, zero, suc, ◌+◌, ◌<◌, ◌≤◌, cond, List, [], ◌∷◌, length, slice_get, Option, Some, None}
+use Rattle.std.specs.Prelude.{◌≡◌, ◌==◌, ℕ, zero, suc, ◌+◌, ◌<◌, ◌≤◌, cond}
+use Rattle.std.specs.Prelude.{List, [], ◌∷◌, length, slice_get, Option, Some, None}
 use Rattle.vme_trace.specs.declared.block.Block.{Block}
 use Rattle.vme_core.specs.Counting.{occurrences, numbers, HasPair}
 use Rattle.vme_core.specs.declared.view.View.{View}
@@ -55,7 +56,9 @@ IsListed list b Memory = Unit {0}
 
 -- the reply is to one of the deliveries, and its answer suits that block; where it is Filed, the list has the block
 abbrev pub IsReply : ℕ → List Block → List (ℕ × Block) → Reply → Type 0
-IsReply total deliveries list r = (r.delivery < length deliveries) × ((b : Block) → slice_get deliveries r.delivery ≡ Some b → Suits total b r.answer × IsListed list b r.answer)
+IsReply total deliveries list r =
+    (r.delivery < length deliveries)
+    × ((b : Block) → slice_get deliveries r.delivery ≡ Some b → Suits total b r.answer × IsListed list b r.answer)
 
 -- a view, and the replies that go with it: the draws are those with a reply, and the list is what was told Filed
 pub record IsWork (total : ℕ) (deliveries : List Block) (v : View) (replies : List Reply) : Type 0 where

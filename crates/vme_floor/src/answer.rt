@@ -4,8 +4,8 @@ ghost use Rattle.std.specs.Prelude.{◌≡◌};
 
 use std::marker::Model;
 
-/// The answer to one delivery: filed, or why not. The refusals are those of a board, in the order in which they are looked for;
-/// a number that a board finds claimed only when it claims it is doubled too.
+/// The answer to one delivery: filed, or why not. The refusals are those of a board, in the order in which they are
+/// looked for; a number that a board finds claimed only when it claims it is doubled too.
 #[derive(Clone, Copy, Debug, PartialEq, Eq)]
 pub enum Answer {
     /// The block is the one of its number.

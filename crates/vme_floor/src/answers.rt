@@ -1,9 +1,8 @@
 //! The replies in the order of the deliveries.
 
-ghost use Rattle.std.specs.Prelude.{◌≡◌, ℕ, ◌<◌, ◌≤◌, length, IfOk, IfErr, replicate, Option, None};
-ghost use Rattle.vme_core.specs.Counting.{occurrences};
-ghost use Rattle.vme_floor.specs.Works.{Each, replied};
-ghost use Rattle.vme_floor.specs.Settling.{AreReplies, IsTable};
+ghost use Rattle.std.specs.Prelude.{◌≡◌, ◌<◌, length, IfOk, IfErr};
+ghost use Rattle.vme_floor.specs.Works.{Each};
+ghost use Rattle.vme_floor.specs.Settling.{AreReplies, IsTable, LacksReply};
 ghost use Rattle.vme_floor.specs.declared.answers.Unanswered.TheVariants.{Undrawn};
 
 use crate::answer::{Answer, Answers, Reply};
@@ -27,7 +26,7 @@ pub(crate) fn answers_in_order(
     requires { Each (λ r. r.delivery < count) replies.now }
     ensures count { IfOk result (λ answers. length answers ≡ count) }
     ensures replies { IfOk result (λ answers. AreReplies replies.now answers) }
-    ensures undrawn { IfErr result (λ why. why ≡ Undrawn → (d : ℕ) × (d < count) × (occurrences d (replied replies.now) ≡ 0)) }
+    ensures undrawn { IfErr result (λ why. why ≡ Undrawn → LacksReply replies.now count) }
 {
     let Ok(mut answers) = Vec::with_capacity(alloc, count) else {
         return Err(Unanswered::Memory);

@@ -1,7 +1,7 @@
 //! What a worker passes before it delivers.
 
-/// What the workers of a run pass. Workers are numbered from 0, the calling thread, and deliveries from 0, in their order.
-/// Both calls may wait; a run returns only if they do.
+/// What the workers of a run pass. Workers are numbered from 0, the calling thread, and deliveries from 0, in their
+/// order. Both calls may wait; a run returns only if they do.
 pub trait Gate {
     /// The worker has drawn the delivery, and hasn't delivered it yet.
     fn pass(&self, worker: u32, delivery: u32);

@@ -1,12 +1,14 @@
 //! Workers that deliver the numbered blocks of a recording to one board, and the verdict on what they filed.
 //!
-//! [`run`] is the whole: whatever the order and the repetition of the deliveries, and however many workers share them, its
-//! [`Report`] has the verdict that the definitions give the recording of the blocks that were filed, one for each number. Its
-//! contract is three claims: one on the answers to the deliveries, one on the verdict, one on the refusals.
+//! [`run`] is the whole: whatever the order and the repetition of the deliveries, and however many workers share them,
+//! its [`Report`] has the verdict that the definitions give the recording of the blocks that were filed, one for each
+//! number. Its contract is three claims: one on the answers to the deliveries, one on the verdict, one on the
+//! refusals.
 //!
-//! To read it: `runner` (the call and its contract), `worker` (what one worker does), `threads` (the workers side by side),
-//! `settle` (from what they did to a report), `answers` (the replies in the order of the deliveries) and `order` (the blocks
-//! joined in the order of their numbers). The claims are defined in `specs/Claims`, on `specs/Answering`.
+//! To read it: `runner` (the call and its contract), `worker` (what one worker does), `threads` (the workers side by
+//! side), `settle` (from what they did to a report), `answers` (the replies in the order of the deliveries) and
+//! `order` (the blocks joined in the order of their numbers). The claims are defined in `specs/Claims`, on
+//! `specs/Answering`.
 #![tactic(auto)]
 
 mod answer;

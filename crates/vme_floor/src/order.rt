@@ -1,13 +1,10 @@
 //! Judged blocks joined in the order of their numbers.
 
-ghost use Rattle.std.specs.Prelude.{◌≡◌, ℕ, ◌<◌, ◌≤◌, List, All, length, map, slice_get, option_map, IfOk, IfErr, IfSome, IfNone, Some, None};
-ghost use Rattle.vme_trace.specs.Block.{trace_of};
+ghost use Rattle.std.specs.Prelude.{◌≡◌, ℕ, ◌<◌, ◌≤◌, length, map, IfOk, IfErr, IfSome, IfNone, Some};
 ghost use Rattle.vme_trace.specs.Blocks.{joined_steps};
-ghost use Rattle.vme_trace.specs.WellFormed.{malformed_step};
-ghost use Rattle.vme_trace.specs.declared.block.Block.{Block};
-ghost use Rattle.vme_summary.specs.Joins.{BlocksJoin, joined_trace};
+ghost use Rattle.vme_summary.specs.Joins.{joined_trace};
 ghost use Rattle.vme_summary.specs.Stands.{SpanStandsFor};
-ghost use Rattle.vme_floor.specs.Orders.{AreAllThere, IsLeastEmpty, IsLeastTorn};
+ghost use Rattle.vme_floor.specs.Orders.{AreAllThere, IsFirstTorn, IsJoined, IsLeastEmpty, IsLeastTorn};
 ghost use Rattle.vme_floor.specs.declared.order.Unjoined.TheVariants as unjoined;
 
 use std::alloc::{AllocError, Global};
@@ -31,9 +28,9 @@ pub(crate) fn joined_contents(
     contents: Vec<Option<Judged>>,
 ) -> Result<(Span, Capture), Unjoined>
     requires { (0 < length contents.items) × (length contents.items ≤ 4096) }
-    ensures ok { IfOk result (λ t. (blocks : List Block) × (map Some blocks ≡ contents.items) × SpanStandsFor t.0 blocks × (joined_trace blocks ≡ Some t.1)) }
+    ensures ok { IfOk result (λ t. IsJoined contents.items t.0 t.1) }
     ensures missing { IfErr result (λ why. (n : ℕ) → why ≡ unjoined.Missing n → IsLeastEmpty contents.items n) }
-    ensures torn { IfErr result (λ why. (n : ℕ) → why ≡ unjoined.Torn n → (blocks : List Block) × (map Some blocks ≡ contents.items) × IsLeastTorn blocks n) }
+    ensures torn { IfErr result (λ why. (n : ℕ) → why ≡ unjoined.Torn n → IsFirstTorn contents.items n) }
 {
     if let Some(number) = least_empty(contents.as_slice()) {
         return Err(Unjoined::Missing(number));

@@ -17,8 +17,8 @@ pub struct Report {
     pub answers: Answers,
 }
 
-/// Why a run gives no report, in the order in which the reasons are looked for. Memory may also be wanting at the end, for the
-/// joined recording.
+/// Why a run gives no report, in the order in which the reasons are looked for. Memory may also be wanting at the end,
+/// for the joined recording.
 #[derive(Drop)]
 pub enum RunFault {
     /// The total isn't 1 to 4,096.

@@ -23,16 +23,16 @@ const MOST_WORKERS: u32 = 64;
 
 /// Judges the recording of which these are the numbered blocks, in whatever order, and each as often as may be.
 ///
-/// The workers share the deliveries: each draws one, passes the gate, and delivers a copy of the block to a board, which files
-/// one block a number. The calling thread is worker 0, each other worker has a thread of its own. Once all have ended, what was
-/// filed is joined in the order of its numbers.
+/// The workers share the deliveries: each draws one, passes the gate, and delivers a copy of the block to a board,
+/// which files one block a number. The calling thread is worker 0, each other worker has a thread of its own. Once all
+/// have ended, what was filed is joined in the order of its numbers.
 ///
-/// What is filed decides, and nothing else: not the order of the deliveries, not who delivered what, not how many workers there
-/// were. The verdict is that of the recording by the definitions, and the listing of the span is the listing of that recording.
-/// Where two deliveries of a number differ, either may be filed; the answers tell which.
+/// What is filed decides, and nothing else: not the order of the deliveries, not who delivered what, not how many
+/// workers there were. The verdict is that of the recording by the definitions, and the listing of the span is the
+/// listing of that recording. Where two deliveries of a number differ, either may be filed; the answers tell which.
 ///
-/// `total`: 1 to 4,096 numbers; at most 65,536 deliveries; `workers`: 1 to 64. The call waits for the threads that it starts
-/// and at the gate, and for nothing else; it returns if these do.
+/// `total`: 1 to 4,096 numbers; at most 65,536 deliveries; `workers`: 1 to 64. The call waits for the threads that it
+/// starts and at the gate, and for nothing else; it returns if these do.
 pub fn run<R: Threads + Wait + Sync, G: Gate + Sync>(
     rt: &R,
     alloc: Global,
@@ -46,10 +46,10 @@ pub fn run<R: Threads + Wait + Sync, G: Gate + Sync>(
     // The answers, with a report, or with a number that is missing or torn.
     ensures answers { AreAnswered total deliveries.now result }
 
-    // The recording is the joined content of the deliveries answered Filed, one for each number below the total, and the span
-    // stands for it. The verdict is that of the recording.
-    ensures recorded { IfOk result (λ report. IsRecorded total deliveries.now report.answers report.capture report.span) }
-    ensures verdict { IfOk result (λ report. report.verdict ≡ verdict_by rules_in_force report.capture) }
+    // The recording is the joined content of the deliveries answered Filed, one for each number below the total, and
+    // the span stands for it. The verdict is that of the recording.
+    ensures recorded { IfOk result (λ r. IsRecorded total deliveries.now r.answers r.capture r.span) }
+    ensures verdict { IfOk result (λ r. r.verdict ≡ verdict_by rules_in_force r.capture) }
 
     // When each refusal comes.
     ensures refusals { IfErr result (λ fault. IsFault total deliveries.now workers fault) }

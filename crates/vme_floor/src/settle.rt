@@ -28,8 +28,8 @@ pub(crate) fn settle(
     requires work { (v : View) × IsWork total deliveries.now v replies.items × IsClosing total v closed }
     requires range { (0 < total) × (total ≤ 4096) × (length deliveries.now ≤ 65536) }
     ensures answers { AreAnswered total deliveries.now result }
-    ensures recorded { IfOk result (λ report. IsRecorded total deliveries.now report.answers report.capture report.span) }
-    ensures verdict { IfOk result (λ report. report.verdict ≡ verdict_by rules_in_force report.capture) }
+    ensures recorded { IfOk result (λ r. IsRecorded total deliveries.now r.answers r.capture r.span) }
+    ensures verdict { IfOk result (λ r. r.verdict ≡ verdict_by rules_in_force r.capture) }
     ensures refusals { IfErr result (λ fault. IsLate total deliveries.now fault) }
     ensures stray { IfErr result (λ fault. fault ≡ Stray → IsUnaccounted deliveries.now replies.items closed) }
 {

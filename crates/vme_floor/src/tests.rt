@@ -351,7 +351,8 @@ fn every_order(rt: HostRuntime) -> Result<(), Fail> {
     Ok(())
 }
 
-/// A recording of 200 steps that breaks a rule in its middle, cut by these sizes, each block delivered twice and shuffled.
+/// A recording of 200 steps that breaks a rule in its middle, cut by these sizes, each block delivered twice and
+/// shuffled.
 fn assert_cuts<R: Threads + Wait + Abort + Sync>(
     rt: &R,
     alloc: Global,

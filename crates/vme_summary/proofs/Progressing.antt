@@ -14,8 +14,9 @@ use Rattle.vme_monitor.specs.Run.{run_of}
 use Rattle.vme_monitor.specs.Runs.{run_joined}
 use Rattle.vme_monitor.specs.declared.mark.Next.{Next}
 use Rattle.vme_summary.specs.Summaries.{SummaryStandsFor, summary_steps}
-use Rattle.vme_summary.specs.Stands.{IsExtent, Meets, SpanStandsFor, joined_extent, recorded}
-use Rattle.vme_summary.specs.Progressed.{FoundAfter, HasCome, HasFound, HasFoundAll, HasSeen}
+use Rattle.vme_summary.specs.Joins.{BlocksJoin}
+use Rattle.vme_summary.specs.Stands.{IsExtent, Meets, SpanStandsFor, first_number, joined_extent, recorded, step_count}
+use Rattle.vme_summary.specs.Progressed.{FoundAfter, HasCome, HasFound, HasFoundAll, HasSeen, judged_steps}
 use Rattle.vme_summary.specs.declared.extent.Extent.{Extent}
 use Rattle.vme_summary.specs.declared.found.Found.{Found}
 use Rattle.vme_summary.specs.declared.progress.Progress.{Progress}
@@ -70,3 +71,18 @@ past_recording p few v found (b ∷ bs) c =
       few = subst (λ (v : Levels). v.slots ≤ 21) same few;
       found_there = subst (λ (v : Levels). HasFound p.found v (joined_steps (b ∷ bs))) same c.found;
     }))
+
+-- how many steps there are
+pub come_steps : (p : Progress) (blocks : List Block) → HasCome p blocks → judged_steps p ≡ length (joined_steps blocks)
+come_steps p blocks c = c.steps
+
+pub span_steps : (s : Span) (blocks : List Block) → SpanStandsFor s blocks → step_count s ≡ length (joined_steps blocks)
+span_steps s blocks p = p.summary.known.counted
+
+-- the number that a span starts at
+pub span_first : (s : Span) (b : Block) (bs : List Block) → SpanStandsFor s (b ∷ bs) → first_number s ≡ b.number
+span_first s b bs p = let first : Some b.number ≡ Some s.extent.first = p.extent.first in cc
+
+-- blocks that judging has come past join
+pub come_join : (p : Progress) (blocks : List Block) → HasCome p blocks → BlocksJoin blocks
+come_join p blocks c = c.extent.join

@@ -2,6 +2,9 @@ use Rattle.std.proofs.Common.{◌≡◌, ◌<◌, ◌≤◌, ◌++◌, ◌∙◌
 use Rattle.vme_core.specs.Counting.{occurrences, numbers}
 use Rattle.vme_core.specs.Views.{joint_view}
 use Rattle.vme_core.proofs.Sums.{occurrences-append, numbers-append}
+use Rattle.vme_core.specs.declared.view.View.{View}
+use Rattle.vme_core.specs.Stages.{rank, seen}
+use Rattle.vme_core.proofs.StageRanks.{seen-joint_view}
 use Rattle.vme_board.specs.Tells.{SeatState}
 use Rattle.vme_board.specs.Views.{SameBlocks}
 use Rattle.vme_board.proofs.bench.Bench.fold.Goals as goal
@@ -41,3 +44,6 @@ returns-clause-takes c n = let a = c.args.self.seat.me.0 in let b = c.args.other
 pub returns-clause-draws : goal.returns-clause-draws
 returns-clause-draws c d = let a = c.args.self.seat.me.0 in let b = c.args.other.seat.me.0 in let once = c.load.ensures.2 in
     let o = subst (λ (m : SeatState). occurrences d m.0.draws ≤ 1) c.join_seat.ensures.2 (once.1 d) in omega (arith, o, occurrences-append d a.draws b.draws)
+
+pub returns-clause-seen : goal.returns-clause-seen
+returns-clause-seen c n = ap (λ (u : View). rank (seen u n)) (ap (λ (m : SeatState). m.0) (c.load.ensures.2.0 ∙ c.join_seat.ensures.2)) ∙ seen-joint_view c.args.self.seat.me.0 c.args.other.seat.me.0 n

@@ -65,8 +65,8 @@ invariant_of-self-2 c =
       same_blocks = done.same_blocks;
     }
 
-pub returns-clause-listed : goal.returns-clause-listed
-returns-clause-listed c =
+pub returns-clause-list : goal.returns-clause-list
+returns-clause-list c =
     let slots = c.args.board.now.table.shared.table_id.slots in let own : c.block.result.now.number ≡ c.args.judged.number = ap (λ (b : Block). b.number) c.block.ensures.block in
     let at_claim = at_equal slots 0 c.word_of.result c.mask_of.result c.block.result.now.number c.args.judged.number c.word_of.ensures c.mask_of.ensures own in
     let free = subst (λ (y : ℕ). bit_at c.fetch_or-claimed.result (y % 64) ≡ 0) own (bit_0 c.fetch_or-claimed.result (c.block.result.now.number % 64) c.bit.result c.bit.ensures c.if-bit-eq1.false) in

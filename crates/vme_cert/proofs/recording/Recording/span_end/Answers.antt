@@ -20,9 +20,9 @@ is_control_lost-requires c =
     let order = less (c.args.start + 1) c.loop-instant.instant follows in
     any-fails (loses_control_at c.args.self.now) (c.args.start + 1) c.loop-instant.instant (c.loop-instant.instant - 1) c.loop-instant.invariant (omega (arith, order)) (omega (arith, order))
 
-pub returns-then-is_control_lost : goal.returns-then-is_control_lost
+pub returns-then-is_control_lost-clause-end : goal.returns-then-is_control_lost-clause-end
 unfolding span_end
-returns-then-is_control_lost c =
+returns-then-is_control_lost-clause-end c =
     sym
     (ap (λ found. unwrap_or found (last_instant c.args.self.now + 1))
     (least-is (loses_control_at c.args.self.now) (c.args.start + 1) (last_instant c.args.self.now + 1) c.loop-instant.instant (omega arith) (omega arith) (sym c.is_control_lost.ensures ∙ c.if-is_control_lost.true) c.loop-instant.invariant))
@@ -30,9 +30,9 @@ returns-then-is_control_lost c =
 pub loop-instant-preserved : goal.loop-instant-preserved
 loop-instant-preserved c = any-more (loses_control_at c.args.self.now) (c.args.start + 1) c.loop-instant.instant c.loop-instant.invariant (sym c.is_control_lost.ensures ∙ c.if-is_control_lost.false)
 
-pub returns : goal.returns
+pub returns-clause-end : goal.returns-clause-end
 unfolding span_end
-returns c =
+returns-clause-end c =
     let p = loses_control_at c.args.self.now in
     let whole = fails-any p (c.args.start + 1) (last_instant c.args.self.now + 1) (λ i a b. any-fails p (c.args.start + 1) c.loop-instant.instant i c.loop-instant.invariant a (omega arith)) in
     ap (λ n. n + 1) c.last_instant-end.ensures.last

@@ -1,0 +1,8 @@
+use Rattle.std.proofs.Common.{◌≡◌, ◌+◌, ◌≤◌, replicate, None, vec_capacity, vec_len}
+use Rattle.vme_book.proofs.places.vacant.Given as goal
+
+abbrev pub invariant-loop : goal.invariant-loop
+invariant-loop g l = record {
+  items : l.places.items ≡ replicate l.counter None;
+  room : l.count ≤ vec_capacity l.places;
+}

@@ -1,0 +1,184 @@
+//! Judged blocks joined as they arrive.
+
+ghost use Rattle.std.specs.Prelude.{◌≡◌, ◌<◌, ◌↔◌, ◌⊎◌, length, replicate, slice_set, IfOk, IfErr, OnOk, OnErr, Err, None, Some};
+ghost use Rattle.vme_book.specs.Inserted.{IsVerdictSoFar, MakesWhole, RefusesBlock, RefusesClose, stored};
+
+use crate::joined::Joined;
+use crate::places::Places;
+use crate::recording::recording;
+use std::alloc::Global;
+use std::marker::Model;
+use vme_summary::{Judged, Progress, Span};
+use vme_trace::{Block, Capture, Verdict};
+
+/// How many blocks a book is of at most.
+const MOST_BLOCKS: u32 = 4096;
+
+/// Why there is no book.
+#[derive(Clone, Copy, Debug, PartialEq, Eq)]
+pub enum BookFault {
+    /// The total is 0 or over 4,096.
+    BadTotal,
+    /// There is no memory.
+    Memory,
+}
+
+/// Why a block isn't inserted.
+#[derive(Clone, Copy, Debug, PartialEq, Eq)]
+pub enum InsertFault {
+    /// Its number isn't below the total.
+    Stranger,
+    /// A block of its number was inserted before.
+    Doubled,
+    /// There is no memory.
+    Memory,
+}
+
+/// Why a book isn't closed.
+#[derive(Clone, Copy, Debug, PartialEq, Eq)]
+pub enum CloseFault {
+    /// No block of this number was inserted; it is the least such number.
+    Missing(u32),
+    /// The block of this number doesn't join those before it; it is the least such number.
+    Torn(u32),
+    /// There is no memory.
+    Memory,
+}
+
+/// All blocks of a book that join.
+#[derive(Drop)]
+pub struct Whole {
+    /// What they say together.
+    pub span: Span,
+    /// The recording that they make.
+    pub capture: Capture,
+}
+
+/// Judged blocks of one recording, inserted in any order. Contracts see a list: at each number below the total, the
+/// block that was inserted there, if there is one.
+#[derive(Drop)]
+pub struct Book {
+    places: Places,
+    /// What judging has come to past the blocks from number 0 on that are inserted and join, if there are some.
+    progress: Option<Progress>,
+    /// How many blocks they are.
+    reached: usize,
+    /// The first of them, joined to one span.
+    joined: Joined,
+}
+
+impl Model for Book {
+    ghost use Rattle.std.specs.Prelude.{List, Option};
+    ghost use Rattle.vme_trace.specs.declared.block.Block.{Block};
+
+    ghost Value = { List (Option Block) };
+
+    ghost use Rattle.vme_book.specs.Kept.{KeepsSome};
+
+    ghost view = { λ a. a.places.blocks.items };
+
+    ghost invariant = { λ a. KeepsSome a.places a.progress a.reached a.joined };
+}
+
+impl Book {
+    /// A book of `total` numbers, 1 to 4,096, with nothing inserted.
+    pub fn new(alloc: Global, total: u32) -> Result<Book, BookFault>
+        ensures bad_total { (result ≡ Err BookFault.BadTotal) ↔ ((total ≡ 0) ⊎ (4096 < total)) }
+        ensures empty { IfOk result (λ book. book ≡ replicate total None) }
+    {
+        if total == 0 || total > MOST_BLOCKS {
+            return Err(BookFault::BadTotal);
+        }
+        let Ok(places) = Places::new(alloc, total as usize) else {
+            return Err(BookFault::Memory);
+        };
+        Ok(Book {
+            places,
+            progress: None,
+            reached: 0,
+            joined: Joined::new(),
+        })
+    }
+
+    /// Inserts a judged block at its number. Where it isn't inserted it is handed back, and the book is as it was.
+    /// Stranger goes before Doubled, and Doubled before Memory. Spans are taken over, not copied: each once in all.
+    pub fn insert(&mut self, alloc: Global, judged: Judged) -> Result<(), (Judged, InsertFault)>
+        ensures free { OnOk result (stored self.old judged.number ≡ None) }
+        ensures known { OnOk result (judged.number < length self.old) }
+        ensures inserted { OnOk result (self.new ≡ slice_set self.old judged.number (Some judged)) }
+        ensures why { IfErr result (λ refused. RefusesBlock self.old judged.number refused.1) }
+        ensures handed_back { IfErr result (λ refused. refused.0 ≡ judged) }
+        ensures unchanged { OnErr result (self.new ≡ self.old) }
+    {
+        let number = judged.block().number as usize;
+        if number >= self.places.blocks.len() {
+            return Err((judged, InsertFault::Stranger));
+        }
+        if self.places.blocks[number].is_some() {
+            return Err((judged, InsertFault::Doubled));
+        }
+        if self
+            .joined
+            .go_on(alloc, &mut self.places, self.reached)
+            .is_err()
+        {
+            return Err((judged, InsertFault::Memory));
+        }
+        let (block, span) = judged.into_parts();
+        self.places.blocks[number] = Some(block);
+        self.places.spans[number] = Some(span);
+        let (progress, reached) = self.places.judged_on(self.progress.take(), self.reached);
+        self.progress = progress;
+        self.reached = reached;
+        Ok(())
+    }
+
+    /// The verdict, by the rules in force, of the longest list of blocks from number 0 on that are inserted and join;
+    /// none until block 0 is inserted. Takes no memory, and no longer for more blocks.
+    pub fn so_far(&self) -> Option<Verdict>
+        ensures { IsVerdictSoFar self.now result }
+    {
+        match &self.progress {
+            None => None,
+            Some(progress) => Some(progress.verdict()),
+        }
+    }
+
+    /// The span and the recording of all blocks, whose steps are moved. Where there is none the book is handed back as
+    /// it was. Missing goes before Torn, and Torn before Memory.
+    pub fn close(self, alloc: Global) -> Result<Whole, (Book, CloseFault)>
+        ensures whole { IfOk result (MakesWhole self) }
+        ensures why { IfErr result (λ refused. RefusesClose self refused.1) }
+        ensures handed_back { IfErr result (λ refused. refused.0 ≡ self) }
+    {
+        let mut book = self;
+        if let Some(number) = book.places.missing() {
+            return Err((book, CloseFault::Missing(number as u32)));
+        }
+        if book.reached < book.places.blocks.len() {
+            let number = book.reached as u32;
+            return Err((book, CloseFault::Torn(number)));
+        }
+        if book
+            .joined
+            .go_on(alloc, &mut book.places, book.reached)
+            .is_err()
+        {
+            return Err((book, CloseFault::Memory));
+        }
+        let steps = match &book.joined.span {
+            Some(span) => span.steps() as usize,
+            None => unreachable!(),
+        };
+        let Ok(room) = Vec::with_capacity(alloc, steps) else {
+            return Err((book, CloseFault::Memory));
+        };
+        let Some(span) = book.joined.span.take() else {
+            unreachable!()
+        };
+        Ok(Whole {
+            span,
+            capture: recording(book.places.blocks, room),
+        })
+    }
+}

@@ -1,0 +1,86 @@
+//! Inserted blocks at their numbers, and their spans.
+
+ghost use Rattle.std.specs.Prelude.{◌≡◌, ◌≤◌, replicate, IfOk, IfSome, None, MatchOption};
+ghost use Rattle.vme_book.specs.Inserted.{AllThere, IsLeastMissing};
+ghost use Rattle.vme_book.specs.Kept.{ArePlaced, HaveSpans, IsPastMost, IsPastSome};
+
+use std::alloc::{AllocError, Global};
+use vme_summary::{Progress, Span};
+use vme_trace::Block;
+
+/// At each number the block that was inserted there, and its span until that is joined to those before it.
+#[derive(Drop)]
+pub(crate) struct Places {
+    pub(crate) blocks: Vec<Option<Block>>,
+    pub(crate) spans: Vec<Option<Span>>,
+}
+
+/// So many places, with nothing there.
+fn vacant<T>(alloc: Global, count: usize) -> Result<Vec<Option<T>>, AllocError>
+    ensures { IfOk result (λ places. places.items ≡ replicate count None) }
+{
+    let mut places = Vec::with_capacity(alloc, count)?;
+    for _ in 0..count {
+        places.push_reserved(None);
+    }
+    Ok(places)
+}
+
+impl Places {
+    /// So many numbers, with nothing inserted.
+    pub(crate) fn new(alloc: Global, total: usize) -> Result<Places, AllocError>
+        ensures blocks { IfOk result (λ places. places.blocks.items ≡ replicate total None) }
+        ensures spans { IfOk result (λ places. places.spans.items ≡ replicate total None) }
+    {
+        Ok(Places {
+            blocks: vacant(alloc, total)?,
+            spans: vacant(alloc, total)?,
+        })
+    }
+
+    /// The least number at which nothing is inserted.
+    pub(crate) fn missing(&self) -> Option<usize>
+        ensures some { IfSome result (λ n. IsLeastMissing self.now.blocks.items n) }
+        ensures none { MatchOption result (AllThere self.now.blocks.items) (λ n. Unit {0}) }
+    {
+        for (number, block) in self.blocks.iter().enumerate() {
+            if block.is_none() {
+                return Some(number);
+            }
+        }
+        None
+    }
+
+    /// Judges on past the blocks from a number on, as long as they are inserted and join those before. The answer is
+    /// what that comes to, and the first number that it isn't past.
+    pub(crate) fn judged_on(
+        &self,
+        progress: Option<Progress>,
+        from: usize,
+    ) -> (Option<Progress>, usize)
+        requires placed { ArePlaced self.now.blocks.items }
+        requires waiting { HaveSpans self.now.blocks.items self.now.spans.items from }
+        requires past { IsPastSome self.now.blocks.items progress from }
+        ensures within { from ≤ result.1 }
+        ensures past { IsPastMost self.now.blocks.items result.0 result.1 }
+    {
+        let mut progress = progress;
+        for number in from..self.blocks.len() {
+            if self.blocks[number].is_none() {
+                return (progress, number);
+            }
+            let Some(span) = &self.spans[number] else {
+                unreachable!()
+            };
+            let next = match &progress {
+                None => Some(Progress::of(span)),
+                Some(before) => before.after(span),
+            };
+            if next.is_none() {
+                return (progress, number);
+            }
+            progress = next;
+        }
+        (progress, self.blocks.len())
+    }
+}

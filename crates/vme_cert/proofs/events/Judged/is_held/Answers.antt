@@ -1,0 +1,18 @@
+-- It is looked for back to where the address strobe last rose.
+use Rattle.std.proofs.Common.{ℕ, ◌+◌, ◌&&◌, Bool, sym, ◌∙◌, ap, arith, rules}
+use Rattle.std.specs.Prelude.{is_some}
+use Rattle.vme_trace.specs.Cycles.{cycle_starts}
+use Rattle.vme_trace.specs.Instants.{none, least}
+use Rattle.vme_trace.specs.Transfers.{is_answer}
+use Rattle.vme_cert.proofs.Barriers.{held-since}
+use Rattle.vme_cert.proofs.events.Judged.is_held.Goals as goal
+
+pub returns : goal.returns
+returns c =
+    let t = c.args.self.now.recording in
+    let span = c.args.self.now.span in
+    let order = c.requires.after in
+    let p : ℕ → Bool = λ i. none (is_answer t span) i (c.args.instant + 1) in
+    c.is_some.ensures
+    ∙ ap is_some (c.first_that.ensures.least p (search rules) ∙ ap (λ f. least (λ i. cycle_starts t span i && p i) f c.args.instant) c.last_since-risen.ensures.last)
+    ∙ sym (held-since t span c.args.instant (omega arith))
