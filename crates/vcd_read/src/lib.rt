@@ -31,3 +31,4 @@ pub use head::{Head, read_definitions};
 pub use read::read_vcd;
 pub use scopes::Scopes;
 pub use taker::Taker;
+pub use variables::Variables;

@@ -7,9 +7,9 @@ use crate::dump::{Path, Variable};
 use crate::scopes::Scopes;
 use std::alloc::{AllocError, Global};
 
-/// The open scopes, and the variables so far.
+/// What takes all variables of a header, each with its whole path.
 #[derive(Drop)]
-pub(crate) struct Variables {
+pub struct Variables {
     scopes: Scopes,
     /// In the order of their sections.
     variables: Vec<Variable>,
@@ -18,8 +18,8 @@ pub(crate) struct Variables {
 impl Variables {
     /// No variable yet, and no open scope.
     pub fn new(alloc: Global) -> Variables
-        ensures scopes { result.scopes ≡ [] }
-        ensures variables { result.variables.items ≡ [] }
+        ensures scopes { ⟦<Variables as Declarations>⟧.scopes result ≡ [] }
+        ensures taken { ⟦<Variables as Declarations>⟧.taken result ≡ [] }
     {
         Variables {
             scopes: Scopes::new(alloc),
@@ -28,8 +28,15 @@ impl Variables {
     }
 
     /// The variables, in the order of their sections.
+    pub fn as_slice(&self) -> &[Variable]
+        ensures { result.now ≡ ⟦<Variables as Declarations>⟧.taken self.now }
+    {
+        self.variables.as_slice()
+    }
+
+    /// The same, given away.
     pub fn into_vec(self) -> Vec<Variable>
-        ensures { result.items ≡ self.variables.items }
+        ensures { result.items ≡ ⟦<Variables as Declarations>⟧.taken self }
     {
         self.variables
     }

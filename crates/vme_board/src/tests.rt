@@ -367,7 +367,7 @@ fn deliver_twice(
     }
 }
 
-/// `rt try --test --fail-alloc N` makes the Nth allocation fail.
+/// `tests/memory/run` refuses each of its allocations in turn.
 #[test]
 fn each_growth_fails_once(rt: HostRuntime) -> Result<(), Fail> {
     let alloc = rt.alloc();

@@ -131,6 +131,38 @@ fn take_apart(
     done
 }
 
+/// The bench draws on a thread of its own.
+fn draw_apart(rt: &impl Threads, board: &Board, bench: Bench) -> (Bench, Option<u32>)
+    requires { IsOf bench board.now }
+    ensures { IsOf result.0 board.now }
+{
+    let (done, ()) = join(
+        rt,
+        move || -> (Bench, Option<u32>)
+            requires { IsOf bench board.now }
+            ensures { IsOf result.0 board.entry.now }
+        {
+            let mut bench = bench;
+            let draw = bench.draw(board);
+            (bench, draw)
+        },
+        || (),
+    );
+    done
+}
+
+#[test]
+fn draws_by_threads(rt: HostRuntime) -> Result<(), Fail> {
+    let (board, mut first) = Board::new(rt.alloc(), 1, 3).ok().ok_or("no board")?;
+    let second = first.split(&board);
+    let (first, least) = draw_apart(&rt, &board, first);
+    let (second, next) = draw_apart(&rt, &board, second);
+    let (_second, last) = draw_apart(&rt, &board, second);
+    let (_first, none) = draw_apart(&rt, &board, first);
+    assert!(rt; least == Some(0) && next == Some(1) && last == Some(2) && none.is_none());
+    Ok(())
+}
+
 #[test]
 fn refusals_by_threads(rt: HostRuntime) -> Result<(), Fail> {
     let alloc = rt.alloc();

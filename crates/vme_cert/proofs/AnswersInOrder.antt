@@ -1,58 +1,14 @@
--- The list of those in a range, by its least.
-use Rattle.std.proofs.Common.{◌≡◌, ℕ, zero, suc, ◌+◌, ◌<◌, ◌≤◌, Bool, true, false, ◌&&◌, ◌||◌, not, [], ◌∷◌, ◌++◌, List, refl, sym, ◌∙◌, ap, arith, inl, inr, ◌⊎◌, cond}
-use Rattle.std.specs.Prelude.{Option, None, Some, is_some, nat_le}
-use Rattle.std.proofs.lemmas.Bool.Decides.{nat_tests}
-use Rattle.vme_trace.specs.Instants.{any, least, those}
+-- The answers of a cycle, by the first of them.
+use Rattle.std.proofs.Common.{◌≡◌, ℕ, ◌+◌, false, ◌||◌, not, [], ◌∷◌, List, sym, ◌∙◌, ap}
+use Rattle.std.specs.Prelude.{Option, None, Some, is_some}
+use Rattle.vme_trace.specs.Instants.{least, those}
 use Rattle.vme_trace.specs.Trace.{Trace}
 use Rattle.vme_trace.specs.Judged.{Span}
 use Rattle.vme_trace.specs.Transfers.{is_answer, answers_write}
 use Rattle.vme_trace.specs.Cycles.{answers_of}
 use Rattle.vme_trace.specs.Rules.{spoils_pair, turns, is_later, differ}
 use Rattle.vme_trace.proofs.Ranges.{least-none-any, least-found}
-
-le_holds : (i j : ℕ) → i ≤ j → nat_le i j ≡ true
-le_holds i j h = grind (arith, nat_tests)
-
-le_fails : (i j : ℕ) → j < i → nat_le i j ≡ false
-le_fails i j h = grind (arith, nat_tests)
-
-last_or_before : (i n : ℕ) → i < suc n → (i ≡ n) ⊎ (i < n)
-last_or_before i n h = grind arith
-
-those_suc : (p : ℕ → Bool) (f n : ℕ) → those p f (suc n) ≡ those p f n ++ cond (nat_le f n && p n) (n ∷ []) []
-unfolding those
-those_suc p f n = refl
-
-nothing : (p : ℕ → Bool) (f n : ℕ) → those p f n ≡ [] → (nat_le f n && p n) ≡ false → those p f (suc n) ≡ []
-nothing p f n h k = those_suc p f n ∙ rw (h, k) refl
-
--- none of the range holds
-pub those-none : (p : ℕ → Bool) (f n : ℕ) → any p f n ≡ false → those p f n ≡ []
-unfolding any those
-those-none p f zero h = refl
-those-none p f (suc n) h = nothing p f n (those-none p f n (or_none _ _ h).0) (or_none _ _ h).1
-  where
-    or_none : (a b : Bool) → (a || b) ≡ false → (a ≡ false) × (b ≡ false)
-    or_none true b h = absurd (cc)
-    or_none false b h = (refl, h)
-
-pub those-empty : (p : ℕ → Bool) (f n : ℕ) → n ≤ f → those p f n ≡ []
-unfolding those
-those-empty p f zero h = refl
-those-empty p f (suc n) h = rw (le_fails f n (omega arith), those-empty p f n (omega arith)) refl
-
-at_end : (p : ℕ → Bool) (f n : ℕ) → f ≤ n → p n ≡ true → any p f n ≡ false → those p f (suc n) ≡ n ∷ those p (n + 1) (suc n)
-at_end p f n from holds first = those_suc p f n ∙ rw (those-none p f n first, le_holds f n from, holds, those-empty p (n + 1) (suc n) (omega arith)) refl
-
--- the least that holds comes first
-pub those-least : (p : ℕ → Bool) (f n i : ℕ) → f ≤ i → i < n → p i ≡ true → any p f i ≡ false → those p f n ≡ i ∷ those p (i + 1) n
-those-least p f zero i from below holds first = absurd (omega arith)
-those-least p f (suc n) i from below holds first =
-    elim (last_or_before i n below) [
-      | inl e ↦ rw e (at_end p f n (omega arith) (ap p (sym e) ∙ holds) (ap (any p f) (sym e) ∙ first))
-      | inr before ↦
-          rw (those_suc p f n, those_suc p (i + 1) n, those-least p f n i from before holds first, le_holds f n (omega arith), le_holds (i + 1) n (omega arith)) refl
-    ]
+use Rattle.vme_cert.proofs.Those.{those-none, those-least}
 
 module _ (t : Trace) (span : Span) where
   first_of : (i j : ℕ) → Option ℕ → List ℕ

@@ -3,7 +3,6 @@ use Rattle.std.proofs.Common.{◌≡◌, ℕ, zero, suc, ◌+◌, ◌-◌, ◌<�
 use Rattle.std.specs.Prelude.{Option, None, Some, is_some, nat_le, IfSome, slice_get, slice_index_or}
 use Rattle.std.proofs.lemmas.Bool.Decides.{nat_tests}
 use Rattle.std.proofs.Math.Seq.{get_or-append_seam, get_or-append_right}
-use Rattle.std.specs.List.Sorted.{IsPartitionedBy, IsPartitionPoint}
 use Rattle.std.proofs.lemmas.List.{append-nil}
 use Rattle.std.proofs.lemmas.Option.{slice_get_past, slice_get-get_or}
 use Rattle.vme_trace.specs.Instants.{any, least, greatest, those}
@@ -234,41 +233,26 @@ those-late p b n k d h from below =
 early_or_late : (k m : ℕ) → (k < m) ⊎ (m ≤ k)
 early_or_late k m = grind arith
 
--- what halving asks
-pub those-parted : (p : ℕ → Bool) (b n : ℕ) → b ≤ n → IsPartitionedBy (λ y. ltb y b) (those p 0 n)
-those-parted p b n h i j d order below later =
-    elim (early_or_late j (length (those p 0 b))) [
-      | inl early ↦ let there = those-early p b n i d h (omega arith) in grind (arith, nat_tests)
-      | inr late ↦ let there = those-late p b n j d h late below in absurd (above _ b later there)
+-- how many come before an instant, by what stands at one place
+pub count-past : (p : ℕ → Bool) (xs : List ℕ) (b n k : ℕ) → xs ≡ those p 0 n → b ≤ n → k < length xs → slice_index_or xs k 0 < b → k + 1 ≤ length (those p 0 b)
+count-past p xs b n k is h below early =
+    let item = ap (λ ys. slice_index_or ys k 0) is in
+    let count = ap (λ ys. length ys) is in
+    elim (early_or_late k (length (those p 0 b))) [
+      | inl before ↦ omega arith
+      | inr late ↦ let there = those-late p b n k 0 h late (omega (arith, count)) in absurd (omega (arith, item, there))
     ]
-  where
-    above : (x b : ℕ) → ltb x b ≡ true → b ≤ x → ⊥
-    above x b e h = grind (arith, nat_tests)
 
--- and what it finds
-pub those-count : (p : ℕ → Bool) (b n i : ℕ) → b ≤ n → i ≤ length (those p 0 n) → IsPartitionPoint (λ y. ltb y b ≡ true) (λ y. ltb y b ≡ false) (those p 0 n) i → i ≡ length (those p 0 b)
-those-count p b n i h within point =
-    let count : length (those p 0 n) ≡ length (those p 0 b) + length (those p b n) = ap (λ xs. length xs) (those-split p b n h) ∙ length-append (those p 0 b) (those p b n) in
-    elim (compared i (length (those p 0 b))) [
-      | inl less ↦ absurd (below _ b (point.1 i 0 (omega arith) (omega (arith, count))) (those-early p b n i 0 h less))
-      | inr other ↦
-          elim other [
-            | inl e ↦ e
-            | inr more ↦ absurd (above _ b (point.0 (length (those p 0 b)) 0 (omega arith) more) (those-late p b n (length (those p 0 b)) 0 h (omega arith) (omega (arith, within))))
-          ]
+pub count-up-to : (p : ℕ → Bool) (xs : List ℕ) (b n k : ℕ) → xs ≡ those p 0 n → b ≤ n → b ≤ slice_index_or xs k 0 → length (those p 0 b) ≤ k
+count-up-to p xs b n k is h late =
+    let item = ap (λ ys. slice_index_or ys k 0) is in
+    elim (early_or_late k (length (those p 0 b))) [
+      | inl before ↦ let there = those-early p b n k 0 h before in absurd (omega (arith, item, there))
+      | inr after ↦ after
     ]
-  where
-    compared : (i m : ℕ) → (i < m) ⊎ ((i ≡ m) ⊎ (m < i))
-    compared i m = grind arith
 
-    below : (x b : ℕ) → ltb x b ≡ false → x < b → ⊥
-    below x b e h = grind (arith, nat_tests)
-
-    above : (x b : ℕ) → ltb x b ≡ true → b ≤ x → ⊥
-    above x b e h = grind (arith, nat_tests)
-
-place_within : (p : ℕ → Bool) (b n : ℕ) → b ≤ n → length (those p 0 b) ≤ length (those p 0 n)
-place_within p b n h = let count : length (those p 0 n) ≡ length (those p 0 b) + length (those p b n) = ap (λ xs. length xs) (those-split p b n h) ∙ length-append (those p 0 b) (those p b n) in omega (arith, count)
+pub place-within : (p : ℕ → Bool) (b n : ℕ) → b ≤ n → length (those p 0 b) ≤ length (those p 0 n)
+place-within p b n h = let count : length (those p 0 n) ≡ length (those p 0 b) + length (those p b n) = ap (λ xs. length xs) (those-split p b n h) ∙ length-append (those p 0 b) (those p b n) in omega (arith, count)
 
 -- what stands at a place among the instants of a list
 module _ (p : ℕ → Bool) (xs : List ℕ) (f e n k : ℕ) (is : xs ≡ those p 0 n) where

@@ -1,13 +1,12 @@
 -- What happens at the instants of a recording, and the lists of the instants at which it does.
 use Rattle.std.specs.Prelude.{◌≡◌, ℕ, ◌+◌, Bool, List, unwrap_or}
 use Rattle.vme_trace.specs.Instants.{greatest, those}
-use Rattle.vme_trace.specs.LineNumbers.{AS, DTACK, BERR, BBSY, BR}
+use Rattle.vme_trace.specs.LineNumbers.{AS, DTACK}
 use Rattle.vme_trace.specs.Trace.{Trace, last_instant}
 use Rattle.vme_trace.specs.Judged.{Span}
-use Rattle.vme_trace.specs.Signals.{low, falls, rises}
+use Rattle.vme_trace.specs.Signals.{falls, rises}
 use Rattle.vme_trace.specs.Transfers.{strobes_high, strobe_rises, answer_falls, transfer_starts}
 use Rattle.vme_trace.specs.Cycles.{cycle_starts}
-use Rattle.vme_trace.specs.Tenures.{grant_falls}
 use Rattle.vme_cert.specs.declared.events.Event.{Event}
 use Rattle.vme_cert.specs.declared.events.Event.TheVariants as event
 use Rattle.vme_cert.specs.declared.events.Index.{Index}
@@ -20,14 +19,6 @@ happens t span event.StrobeRise = strobe_rises t
 happens t span event.StrobesHigh = strobes_high t
 happens t span event.AnswerFall = answer_falls t
 happens t span event.AcknowledgeFall = falls t DTACK
-happens t span event.ErrorFall = falls t BERR
-happens t span event.BusyFall = falls t BBSY
-happens t span event.BusyRise = rises t BBSY
-happens t span event.GrantFall = grant_falls t
-happens t span event.Request0 = low t (BR 0)
-happens t span event.Request1 = low t (BR 1)
-happens t span event.Request2 = low t (BR 2)
-happens t span event.Request3 = low t (BR 3)
 
 abbrev pub list_of : Index → Event → List ℕ
 list_of index event.CycleStart = index.cycle_starts
@@ -37,14 +28,6 @@ list_of index event.StrobeRise = index.strobe_rises
 list_of index event.StrobesHigh = index.strobes_high
 list_of index event.AnswerFall = index.answer_falls
 list_of index event.AcknowledgeFall = index.acknowledge_falls
-list_of index event.ErrorFall = index.error_falls
-list_of index event.BusyFall = index.busy_falls
-list_of index event.BusyRise = index.busy_rises
-list_of index event.GrantFall = index.grant_falls
-list_of index event.Request0 = index.requests_0
-list_of index event.Request1 = index.requests_1
-list_of index event.Request2 = index.requests_2
-list_of index event.Request3 = index.requests_3
 
 -- each list has the instants, up to the last, at which its event happens
 abbrev pub IsIndex : Trace → Span → Index → Type 0

@@ -5,7 +5,7 @@ ghost use Rattle.std.specs.Prelude.{◌≡◌, ◌+◌, ◌-◌, ◌<◌, ◌≤
 ghost use Rattle.vme_trace.specs.Cycle.{is_needed as is_needed_of};
 ghost use Rattle.vme_trace.specs.Cycles.{cycle_starts, cycle_of, cycle_runs, class_at, in_cycle, answers_of};
 ghost use Rattle.vme_trace.specs.Instants.{any, none};
-ghost use Rattle.vme_trace.specs.LineNumbers.{DTACK, is_answer_line};
+ghost use Rattle.vme_trace.specs.LineNumbers.{DTACK, has_line};
 ghost use Rattle.vme_trace.specs.Rules.{is_single, is_block_class, is_interrupt, spoils_pair, turns, is_later};
 ghost use Rattle.vme_trace.specs.Signals.{falls};
 ghost use Rattle.vme_trace.specs.Tenures.{last_before};
@@ -207,17 +207,12 @@ impl Judged<'_> {
 
     /// Whether no strobe has risen since an answer line last fell.
     pub(crate) fn is_withdrawn_early(&self, instant: u32, line: Line) -> bool
-        requires line { IsTrue (is_answer_line line) }
+        requires line { IsTrue (has_line self.now.recording.opening.slots line) }
         requires after { self.now.span.start < instant }
         requires before { instant < self.now.span.end }
         ensures { result ≡ none (strobe_rises self.now.recording) (last_before self.now.recording self.now.span (falls self.now.recording line) instant) (instant + 1) }
     {
-        let fall = if line == Line::DTACK {
-            Event::AcknowledgeFall
-        } else {
-            Event::ErrorFall
-        };
-        let fell = self.last_before(fall, instant);
+        let fell = self.fall_before(line, instant);
         !self.any(Event::StrobeRise, fell, instant + 1)
     }
 }

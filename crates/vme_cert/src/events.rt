@@ -1,4 +1,4 @@
-//! What happens in a recording, and when: lists of instants, made once, in which all searches are by halves.
+//! What happens in a recording, and when: lists of instants, made once.
 
 ghost use Rattle.std.specs.Prelude.{◌≡◌, ℕ, ◌+◌, ◌<◌, ◌≤◌, ◌&&◌, Bool, IfOk, IfSome};
 ghost use Rattle.vme_trace.specs.Instants.{any, least, greatest};
@@ -14,39 +14,16 @@ use crate::span::Span;
 use std::alloc::{AllocError, Global};
 use vme_trace::Line;
 
-/// What may happen at an instant.
+/// What may happen at an instant: `happens`, in `specs/Events.antt`, says when it does.
 #[derive(Clone, Copy, Debug, PartialEq, Eq)]
 pub(crate) enum Event {
-    /// A cycle starts.
     CycleStart,
-    /// AS* rises.
     AddressRise,
-    /// A transfer starts.
     TransferStart,
-    /// A data strobe rises.
     StrobeRise,
-    /// Both data strobes are high.
     StrobesHigh,
-    /// DTACK* or BERR* falls.
     AnswerFall,
-    /// DTACK* falls.
     AcknowledgeFall,
-    /// BERR* falls.
-    ErrorFall,
-    /// BBSY* falls.
-    BusyFall,
-    /// BBSY* rises.
-    BusyRise,
-    /// The arbiter begins to grant some level.
-    GrantFall,
-    /// BR0* is low.
-    Request0,
-    /// BR1* is low.
-    Request1,
-    /// BR2* is low.
-    Request2,
-    /// BR3* is low.
-    Request3,
 }
 
 /// The instants of each event.
@@ -59,14 +36,6 @@ pub(crate) struct Index {
     strobes_high: Instants,
     answer_falls: Instants,
     acknowledge_falls: Instants,
-    error_falls: Instants,
-    busy_falls: Instants,
-    busy_rises: Instants,
-    grant_falls: Instants,
-    requests_0: Instants,
-    requests_1: Instants,
-    requests_2: Instants,
-    requests_3: Instants,
 }
 
 impl Index {
@@ -84,14 +53,6 @@ impl Index {
             strobes_high: Instants::of(alloc, end, |at| of.are_strobes_high(at))?,
             answer_falls: Instants::of(alloc, end, |at| of.answer_falls(at))?,
             acknowledge_falls: Instants::of(alloc, end, |at| of.falls(Line::DTACK, at))?,
-            error_falls: Instants::of(alloc, end, |at| of.falls(Line::BERR, at))?,
-            busy_falls: Instants::of(alloc, end, |at| of.falls(Line::BBSY, at))?,
-            busy_rises: Instants::of(alloc, end, |at| of.rises(Line::BBSY, at))?,
-            grant_falls: Instants::of(alloc, end, |at| of.grant_falls(at))?,
-            requests_0: Instants::of(alloc, end, |at| of.low(Line::bus_request(0), at))?,
-            requests_1: Instants::of(alloc, end, |at| of.low(Line::bus_request(1), at))?,
-            requests_2: Instants::of(alloc, end, |at| of.low(Line::bus_request(2), at))?,
-            requests_3: Instants::of(alloc, end, |at| of.low(Line::bus_request(3), at))?,
         })
     }
 
@@ -107,14 +68,6 @@ impl Index {
             Event::StrobesHigh => &self.strobes_high,
             Event::AnswerFall => &self.answer_falls,
             Event::AcknowledgeFall => &self.acknowledge_falls,
-            Event::ErrorFall => &self.error_falls,
-            Event::BusyFall => &self.busy_falls,
-            Event::BusyRise => &self.busy_rises,
-            Event::GrantFall => &self.grant_falls,
-            Event::Request0 => &self.requests_0,
-            Event::Request1 => &self.requests_1,
-            Event::Request2 => &self.requests_2,
-            Event::Request3 => &self.requests_3,
         }
     }
 }

@@ -1,10 +1,11 @@
-//! Sorted lists of instants, searched by halves.
+//! Sorted lists of instants, searched from where the last search ended, and then by halves.
 
 ghost use Rattle.std.specs.Prelude.{◌≡◌, ℕ, ◌+◌, ◌<◌, ◌≤◌, Bool, IfOk, IfSome, length};
 ghost use Rattle.vme_trace.specs.Instants.{any, least, greatest, those};
 ghost use Rattle.vme_cert.specs.Tests.{MayAsk, Tests};
 
 use std::alloc::{AllocError, Global};
+use std::cell::Cell;
 use std::marker::Model;
 
 /// The instants, from the opening on and before an end, at which something happens, in order. What is asked of them holds of
@@ -12,6 +13,8 @@ use std::marker::Model;
 #[derive(Drop)]
 pub(crate) struct Instants {
     instants: Vec<u32>,
+    /// The place at which the last search ended: the next one is mostly near.
+    place: Cell<usize>,
 }
 
 impl Model for Instants {
@@ -20,6 +23,18 @@ impl Model for Instants {
     ghost Value = { List ℕ };
 
     ghost view = { λ a. a.instants.items };
+}
+
+/// A place from one on and before another: this one, if it is there, or else the middle.
+fn place_in(low: usize, high: usize, near: usize) -> usize
+    requires { low < high }
+    ensures from { low ≤ result }
+    ensures before { result < high }
+{
+    if low <= near && near < high {
+        return near;
+    }
+    low + (high - low) / 2
 }
 
 impl Instants {
@@ -38,17 +53,33 @@ impl Instants {
                 instants.push(instant)?;
             }
         }
-        Ok(Instants { instants })
+        let place = Cell::new(0);
+        Ok(Instants { instants, place })
     }
 
-    /// How many come before an instant.
+    /// How many come before an instant: from the place of the last search on by steps that double, and then by halves.
     fn count_before(&self, end: u32) -> usize
         ensures place { (p : ℕ → Bool) (n : ℕ) → self.now ≡ those p 0 n → end ≤ n → result ≡ length (those p 0 end) }
         ensures within { result ≤ length self.now }
     {
-        self.instants
-            .as_slice()
-            .partition_point(|instant| *instant < end)
+        let instants = self.instants.as_slice();
+        let mut low = 0;
+        let mut high = instants.len();
+        let mut near = self.place.get();
+        let mut step: usize = 1;
+        while low < high {
+            let place = place_in(low, high, near);
+            if instants[place] < end {
+                low = place + 1;
+                near = place.saturating_add(step);
+            } else {
+                high = place;
+                near = place.saturating_sub(step);
+            }
+            step = step.saturating_add(step);
+        }
+        self.place.set(low);
+        low
     }
 
     /// The first one of a range.

@@ -19,8 +19,8 @@
 //! 1. The definitions named above, and `specs/Agreement.antt`.
 //! 2. `recording.rt` and `signals.rt`: the levels of a line at any instant, and its edges.
 //! 3. `instants.rt` and `events.rt`: lists of the instants at which something happens, made once. Whether it happens in a
-//!    range (`any`), the first time (`first`, the definitions' `least`) and the last (`last`, their `greatest`) are found by
-//!    halves.
+//!    range (`any`), the first time (`first`, the definitions' `least`) and the last (`last`, their `greatest`) are looked for
+//!    from where the last search ended, and then by halves.
 //! 4. `transfers.rt`, `cycles.rt`, `tenures.rt`, `judged.rt`: one function for each definition, by those searches.
 //! 5. `rules.rt`: each rule beside its definition, in the order of docs/PROTOCOL.md.
 //! 6. `verdict.rt`: the least break. One fact spares most of the work (`proofs/StillLines.antt`): apart from U1, U2, U3 and

@@ -73,7 +73,7 @@ impl Judged<'_> {
         ensures { option_to_list result ≡ tenure_rows self.now.recording self.now.span end instant }
     {
         if instant == self.span.start() && self.recording.low(Line::BBSY, instant) {
-            let end = self.first(Event::BusyRise, instant + 1, end);
+            let end = self.freed(instant + 1, end);
             return Some(Row::OpenTenure {
                 start: instant,
                 end,
@@ -88,7 +88,7 @@ impl Judged<'_> {
             start: instant,
             level,
             slot,
-            end: self.first(Event::BusyRise, instant + 1, end),
+            end: self.freed(instant + 1, end),
         })
     }
 

@@ -1,17 +1,15 @@
-//! Tenures of the bus, by their starts.
+//! Tenures of the bus, by their starts. Each search goes back to the last time that the same thing happened, so that all of
+//! them together look at an instant only a few times.
 #![tactic(auto, unfolding(vme_trace::specs::Tenures::is_granting, vme_trace::specs::Tenures::grant_falls, vme_trace::specs::Tenures::taken_grant, vme_trace::specs::Tenures::tenure_level, vme_trace::specs::Tenures::has_reached, vme_trace::specs::Tenures::tenure_slot, vme_trace::specs::Tenures::tenure_starts, vme_trace::specs::Tenures::last_before))]
 
-ghost use Rattle.std.specs.Prelude.{◌≡◌, ◌+◌, ◌<◌, ◌≤◌, ◌==◌, ◌&&◌, not, IfSome};
-ghost use Rattle.vme_trace.specs.Instants.{any, none};
-ghost use Rattle.vme_trace.specs.Judged.{Span as Stretch};
-ghost use Rattle.vme_trace.specs.LineNumbers.{grant, BBSY, BR};
+ghost use Rattle.std.specs.Prelude.{◌≡◌, ◌+◌, ◌<◌, ◌≤◌, ◌==◌, ◌&&◌, not, IfSome, IsTrue};
+ghost use Rattle.vme_trace.specs.Instants.{any, none, least};
+ghost use Rattle.vme_trace.specs.LineNumbers.{grant, BBSY, BR, has_line};
 ghost use Rattle.vme_trace.specs.Rules.{is_option_equal};
-ghost use Rattle.vme_trace.specs.Signals.{low, falls};
+ghost use Rattle.vme_trace.specs.Signals.{low, falls, rises};
 ghost use Rattle.vme_trace.specs.Tenures.{is_granting, grant_falls, taken_grant, tenure_level, has_reached, tenure_slot, tenure_starts, last_before};
-ghost use Rattle.vme_trace.specs.Trace.{Trace};
-ghost use Rattle.vme_cert.specs.Events.{happens};
 
-use crate::events::{Event, Judged};
+use crate::events::Judged;
 use crate::recording::Recording;
 use crate::search::{any, greatest, least};
 use crate::span::Span;
@@ -60,6 +58,14 @@ impl Recording<'_> {
             self.low(Line::grant(level as u8, 0), granted)
         })?;
         Some(level as u8)
+    }
+
+    /// Whether the request of a level is low.
+    fn is_requested(&self, level: u8, instant: u32) -> bool
+        requires { level < 4 }
+        ensures { result ≡ low self.now (BR level) instant }
+    {
+        self.low(Line::bus_request(level), instant)
     }
 
     /// Whether a net of a grant chain that the backplane has is low.
@@ -124,29 +130,30 @@ impl Recording<'_> {
     }
 }
 
-/// The event that the request of a level is low.
-fn request(level: u8) -> Event
-    requires { level < 4 }
-    ensures { (t : Trace) (span : Stretch) → happens t span result ≡ low t (BR level) }
-{
-    match level {
-        0 => Event::Request0,
-        1 => Event::Request1,
-        2 => Event::Request2,
-        _ => Event::Request3,
-    }
-}
-
 impl Judged<'_> {
-    /// The last instant before another at which it happens, or else the start of the span.
-    pub(crate) fn last_before(&self, event: Event, instant: u32) -> u32
+    /// The last instant before another at which a line falls, or else the start of the span.
+    pub(crate) fn fall_before(&self, line: Line, instant: u32) -> u32
+        requires line { IsTrue (has_line self.now.recording.opening.slots line) }
         requires after { self.now.span.start < instant }
-        requires before { instant < self.now.span.end }
-        ensures last { result ≡ last_before self.now.recording self.now.span (happens self.now.recording self.now.span event) instant }
+        ensures last { result ≡ last_before self.now.recording self.now.span (falls self.now.recording line) instant }
         ensures before { result < instant }
     {
-        self.last(event, self.span.start() + 1, instant)
-            .unwrap_or(self.span.start())
+        greatest(self.span.start() + 1, instant, |at| {
+            self.recording.falls(line, at)
+        })
+        .unwrap_or(self.span.start())
+    }
+
+    /// The last instant before another at which the arbiter begins to grant, or else the start of the span.
+    fn grant_before(&self, instant: u32) -> u32
+        requires after { self.now.span.start < instant }
+        ensures last { result ≡ last_before self.now.recording self.now.span (grant_falls self.now.recording) instant }
+        ensures before { result < instant }
+    {
+        greatest(self.span.start() + 1, instant, |at| {
+            self.recording.grant_falls(at)
+        })
+        .unwrap_or(self.span.start())
     }
 
     /// Whether the request of a level isn't low from the last grant before an instant on, through the instant.
@@ -156,8 +163,10 @@ impl Judged<'_> {
         requires before { instant < self.now.span.end }
         ensures { result ≡ none (low self.now.recording (BR level)) (last_before self.now.recording self.now.span (grant_falls self.now.recording) instant) (instant + 1) }
     {
-        let granted = self.last_before(Event::GrantFall, instant);
-        !self.any(request(level), granted, instant + 1)
+        let granted = self.grant_before(instant);
+        !any(granted, instant + 1, |at| {
+            self.recording.is_requested(level, at)
+        })
     }
 
     /// Whether no grant fell since the bus last became busy, this instant included.
@@ -166,7 +175,14 @@ impl Judged<'_> {
         requires before { instant < self.now.span.end }
         ensures { result ≡ none (grant_falls self.now.recording) (last_before self.now.recording self.now.span (falls self.now.recording BBSY) instant + 1) (instant + 1) }
     {
-        let taken = self.last_before(Event::BusyFall, instant);
-        !self.any(Event::GrantFall, taken + 1, instant + 1)
+        let taken = self.fall_before(Line::BBSY, instant);
+        !any(taken + 1, instant + 1, |at| self.recording.grant_falls(at))
+    }
+
+    /// The instant of a range at which the bus is first free again.
+    pub(crate) fn freed(&self, first: u32, end: u32) -> Option<u32>
+        ensures { result ≡ least (rises self.now.recording BBSY) first end }
+    {
+        least(first, end, |at| self.recording.rises(Line::BBSY, at))
     }
 }

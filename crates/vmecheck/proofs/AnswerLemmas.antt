@@ -109,7 +109,7 @@ pub text_recorded-refused : (bound : BoundLines) (bytes : List ℕ) (fault : Cap
 text_recorded-refused bound bytes fault h other = told_at_once (capture_refusal fault) (recorded_by bound (or_bad_dump (dump_of bytes))) other (text_refusal bound bytes fault h)
 
 -- a refusal passes through the next step
-passes_through : {X Y : Type 0} (r : Refusal) (first : Result X Refusal) (next : X → Result Y Refusal) → Gives (λ (x : X). x) (Err r) first
+pub passes_through : {X Y : Type 0} (r : Refusal) (first : Result X Refusal) (next : X → Result Y Refusal) → Gives (λ (x : X). x) (Err r) first
     → Gives (λ (y : Y). y) (Err r) (first >>= next)
 passes_through Memory first next is = tt
 passes_through {X} {Y} r first next is = ap (λ (w : Result X Refusal). w >>= next) is

@@ -1,10 +1,9 @@
 pub mod AnswerLemmas
 pub mod CheckLemmas
 pub mod ConfirmLemmas
+pub mod ExplainLemmas
 pub mod InputLemmas
 pub mod ListLemmas
 pub mod MessageLemmas
-pub mod OrderLemmas
 pub mod OutputLemmas
-pub mod RowLemmas
-pub mod TakenLemmas
+pub mod ToldLemmas

@@ -1,12 +1,12 @@
 pub mod Answers
-pub mod Commands
 pub mod Confirmations
 pub mod Ends
+pub mod Explained
 pub mod InFaults
 pub mod Inputs
 pub mod Listings
-pub mod OrderFaults
-pub mod Orders
 pub mod Outputs
 pub mod Refusals
 pub mod Texts
+pub mod Told
+pub mod Words

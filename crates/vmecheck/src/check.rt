@@ -117,7 +117,8 @@ fn judge<B: Source, D: Source>(
     }
 }
 
-fn verdict_on(alloc: Global, capture: &Capture, block: u32) -> Result<Verdict, Refusal>
+/// The verdict on a recording, in blocks of so many steps.
+pub fn verdict_on(alloc: Global, capture: &Capture, block: u32) -> Result<Verdict, Refusal>
     requires { (1 ≤ block) × (block ≤ 65536) }
     ensures { Gives (λ verdict. verdict) result (verdict_in_blocks block capture.now) }
 {
@@ -179,6 +180,17 @@ pub fn recorded_from<D: Source>(
     }
 }
 
+/// The recording that a binding makes of the text of a dump.
+pub fn captured_in(alloc: Global, bound: &Binding, text: &[u8]) -> Result<Capture, Refusal>
+    ensures { Gives (λ capture. capture) result (capture_by bound.now (or_bad_dump (dump_of text.now))) }
+{
+    match recorded_in(alloc, bound, text) {
+        Ok(Ok(capture)) => Ok(capture),
+        Ok(Err(fault)) => Err(Refusal::BadBinding(fault)),
+        Err(refusal) => Err(refusal),
+    }
+}
+
 /// The recording that a binding makes of the text of a dump, which is read once.
 fn recorded_in(
     alloc: Global,
@@ -207,7 +219,8 @@ pub fn binding_from<R: Source>(alloc: Global, source: &mut R) -> Result<Binding,
     }
 }
 
-fn binding_in(alloc: Global, text: &[u8]) -> Result<Binding, Refusal>
+/// The binding that a text is.
+pub fn binding_in(alloc: Global, text: &[u8]) -> Result<Binding, Refusal>
     ensures { Gives (λ binding. binding) result (or_bad_binding (binding_of text.now)) }
 {
     match read_binding(alloc, text) {

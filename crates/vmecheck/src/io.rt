@@ -1,8 +1,10 @@
 //! Sources and sinks: std's readers and writers, and the bytes of a slice.
 
-ghost use Rattle.std.specs.Prelude.{◌≡◌, ◌≤◌, ◌^◌, ℕ, suc, length, MatchResult, None, Some};
+ghost use Rattle.std.specs.Prelude.{◌≡◌, ◌<◌, length, take, Some, IfOk, OnErr};
 ghost use Rattle.std.specs.Io.{ReadsAtMost, WritesAtMost};
+ghost use Rattle.std.specs.Io.KnownBytes.{Appends, Consumes, IsAtEnd, Keeps};
 
+use crate::count::Count;
 use std::io::{ErrorKind, Read, Write};
 use vme_trace::{Failed, Sink, Source};
 
@@ -11,68 +13,64 @@ const MOST_TRIES: u32 = 1_000_000;
 
 /// A reader or a writer of std's, and how many of its calls have failed.
 ///
-/// What bytes it gives or takes isn't told. From the 2^64th failure on, which no run lives to see, a call that fails says
-/// that the input is at its end, or that the output took all.
+/// The bytes that it tells are those that the reader or the writer tells.
 #[derive(Drop)]
 pub struct Io<T> {
     inner: T,
-    failures: u64,
+    failures: Count,
 }
 
 impl<T> Io<T> {
     /// A reader or a writer, of which no call has failed.
     pub fn new(inner: T) -> Io<T>
         ensures inner { result.inner ≡ inner }
-        ensures failures { result.failures ≡ 0 }
+        ensures failures { result.failures.number ≡ 0 }
     {
-        Io { inner, failures: 0 }
-    }
-
-    /// One failure more, or what stands for it where it can't be counted: from the 2^64th on.
-    fn fail(&mut self, otherwise: usize) -> Result<usize, Failed>
-        ensures { MatchResult result
-            (λ n. (n ≡ otherwise) × (self.new.failures ≡ self.old.failures) × (2 ^ 64 ≤ suc self.old.failures))
-            (λ _. self.new.failures ≡ suc self.old.failures) }
-    {
-        match self.failures.checked_add(1) {
-            Some(failures) => {
-                self.failures = failures;
-                Err(Failed)
-            }
-            None => Ok(otherwise),
+        Io {
+            inner,
+            failures: Count::new(),
         }
     }
 }
 
 impl<T: Read> Source for Io<T> {
-    ghost remaining = { λ _. None };
+    ghost remaining = { λ io. T.remaining io.inner };
 
-    ghost failures = { λ io. io.failures };
+    ghost failures = { λ io. io.failures.number };
 
     fn read(&mut self, buffer: &mut [u8]) -> Result<usize, Failed> {
         match read_retrying(&mut self.inner, buffer) {
             Ok(count) => Ok(count),
-            Err(_) => self.fail(0),
+            Err(failed) => {
+                self.failures = self.failures.next();
+                Err(failed)
+            }
         }
     }
 }
 
 impl<T: Write> Sink for Io<T> {
-    ghost contents = { λ _. None };
+    ghost contents = { λ io. T.contents io.inner };
 
-    ghost failures = { λ io. io.failures };
+    ghost failures = { λ io. io.failures.number };
 
     fn write(&mut self, bytes: &[u8]) -> Result<usize, Failed> {
         match write_retrying(&mut self.inner, bytes) {
-            Ok(count) if count > 0 || bytes.is_empty() => Ok(count),
-            _ => self.fail(bytes.len()),
+            Ok(count) => Ok(count),
+            Err(failed) => {
+                self.failures = self.failures.next();
+                Err(failed)
+            }
         }
     }
 }
 
 /// One read, tried again where a signal interrupts it.
 fn read_retrying<R: Read>(reader: &mut R, buffer: &mut [u8]) -> Result<usize, Failed>
-    ensures { ReadsAtMost result buffer.new }
+    ensures bound { ReadsAtMost result buffer.new }
+    ensures ok { IfOk result (λ n. Consumes (R.remaining reader.old) (R.remaining reader.new) (take n buffer.new)) }
+    ensures end { IfOk result (λ n. n ≡ 0 → 0 < length buffer.new → IsAtEnd (R.remaining reader.new)) }
+    ensures err { OnErr result (Keeps (R.remaining reader.old) (R.remaining reader.new)) }
 {
     for _ in 0..MOST_TRIES {
         match reader.read(buffer) {
@@ -87,13 +85,17 @@ fn read_retrying<R: Read>(reader: &mut R, buffer: &mut [u8]) -> Result<usize, Fa
     Err(Failed)
 }
 
-/// One write, tried again where a signal interrupts it.
+/// One write, tried again where a signal interrupts it. A write that takes none of some bytes failed.
 fn write_retrying<W: Write>(writer: &mut W, bytes: &[u8]) -> Result<usize, Failed>
-    ensures { WritesAtMost result bytes.now }
+    ensures bound { WritesAtMost result bytes.now }
+    ensures some { 0 < length bytes.now → IfOk result (λ n. 0 < n) }
+    ensures ok { IfOk result (λ n. Appends (W.contents writer.old) (W.contents writer.new) (take n bytes.now)) }
+    ensures err { OnErr result (Keeps (W.contents writer.old) (W.contents writer.new)) }
 {
     for _ in 0..MOST_TRIES {
         match writer.write(bytes) {
-            Ok(count) => return Ok(count),
+            Ok(count) if count > 0 || bytes.is_empty() => return Ok(count),
+            Ok(_) => return Err(Failed),
             Err(error) => {
                 if error.kind() != ErrorKind::Interrupted {
                     return Err(Failed);

@@ -4,41 +4,50 @@
 ghost use Rattle.std.specs.Prelude.{◌≡◌, ◌≢◌, ◌⊎◌, IfErr};
 ghost use Rattle.clap.specs.Words.{kind_of};
 ghost use Rattle.clap.specs.declared.error.kind.ErrorKind.TheVariants.{DisplayHelp, DisplayVersion};
-ghost use Rattle.vmecheck.specs.OrderFaults.{IsOfWords};
+ghost use Rattle.vme_words.specs.OrderFaults.{IsOfWords};
 ghost use Rattle.vmecheck.specs.Texts.{refusal_status};
+ghost use Rattle.vmecheck.specs.declared.refusal.Refusal.TheVariants.{CannotOpen};
 
+mod bind;
 mod check;
-mod command;
 mod confirm;
+mod count;
+mod explain;
 mod input;
 mod io;
 mod list;
 mod message;
-mod order;
-mod order_fault;
 mod output;
 mod refusal;
+mod rules;
 #[cfg(test)]
 mod stream_tests;
+mod telling;
 #[cfg(test)]
 mod tests;
 mod text;
+mod variables;
 mod words;
 
+use bind::bind;
 use check::check;
 use confirm::confirm_with;
+use explain::explain;
 use io::{Bytes, Io};
 use list::list;
-use order::{Order, Task};
-use order_fault::OrderFault;
-use output::write_message;
+use output::{complain, write_all};
 use refusal::{Input, Refusal};
+use rules::tell_rules;
 use std::env;
 use std::fs::{self, File};
 use std::io::ErrorKind;
 use std::process::ExitCode;
 use text::{cannot_write_line, refusal_line};
-use words::{order, usage_fault};
+use variables::tell_variables;
+use vme_trace::Rule;
+use vme_words::words::order;
+use vme_words::{Order, OrderFault, Task, usage_fault};
+use words::{place_of, unread_words, words_status};
 
 /// The binding that is used where no words name one.
 const BUILT_IN: &[u8] = b"slots 1
@@ -76,10 +85,12 @@ fn main(rt: HostRuntime) -> ExitCode {
 /// What the words ask for; the answer is the exit status.
 fn run(rt: &HostRuntime) -> u8 {
     match asked(rt) {
-        Ok(Some(order)) => work_on_files(rt, &order),
+        Ok(Some(order)) => match work(rt, &order) {
+            Ok(status) => status,
+            Err(refusal) => refuse(rt, &refusal),
+        },
         Ok(None) => check_input(rt),
-        Err(OrderFault::Memory) => refuse(rt, &Refusal::Memory),
-        Err(OrderFault::Usage(error)) => explain(rt, &error),
+        Err(fault) => refuse_words(rt, &fault),
     }
 }
 
@@ -89,8 +100,10 @@ fn asked(rt: &HostRuntime) -> Result<Option<Order>, OrderFault>
 {
     let words: Vec<String> = match env::args(rt) {
         Ok(args) => args.collect(rt.alloc())?,
-        Err(error) if error.kind() == ErrorKind::OutOfMemory => return Err(OrderFault::Memory),
-        Err(_) => return Err(usage_fault(rt.alloc(), "a word is no text")),
+        Err(error) => {
+            let is_no_memory = error.kind() == ErrorKind::OutOfMemory;
+            return Err(unread_words(rt.alloc(), is_no_memory));
+        }
     };
     if words.len() <= 1 {
         return Ok(None);
@@ -111,80 +124,179 @@ fn check_input(rt: &HostRuntime) -> u8 {
     )
 }
 
-/// Does what is asked for. All files are opened before one is read.
-fn work_on_files(rt: &HostRuntime, order: &Order) -> u8 {
-    let Some(binding) = open(rt, order, 0) else {
-        return refuse(rt, &Refusal::CannotOpen(Input::Binding));
-    };
-    let Some(dump) = open(rt, order, 1) else {
-        return refuse(rt, &Refusal::CannotOpen(Input::Dump));
-    };
-    let (mut binding, mut dump) = (Io::new(binding), Io::new(dump));
-    let (mut out, mut err) = (Io::new(rt.stdout()), Io::new(rt.stderr()));
+/// Does what is asked for. A refusal says which file can't be opened: all are opened before one is read.
+fn work(rt: &HostRuntime, order: &Order) -> Result<u8, Refusal> {
     match order.command {
-        Task::Check => check(
-            rt.alloc(),
-            &mut binding,
-            &mut dump,
-            order.block,
-            order.workers,
-            &mut out,
-            &mut err,
-        ),
-        Task::List => list(
-            rt.alloc(),
-            &mut binding,
-            &mut dump,
-            order.block,
-            order.workers,
-            &mut out,
-            &mut err,
-        ),
-        Task::Confirm => {
-            let Some(listing) = open(rt, order, 2) else {
-                return refuse(rt, &Refusal::CannotOpen(Input::Listing));
-            };
-            confirm_with(
-                rt.alloc(),
+        Task::Check => {
+            let (mut binding, mut dump) = open_recording(rt, order)?;
+            let (mut out, mut err) = (Io::new(rt.stdout()), Io::new(rt.stderr()));
+            let (alloc, block, workers) = (rt.alloc(), order.block, order.workers);
+            Ok(check(
+                alloc,
                 &mut binding,
                 &mut dump,
-                &mut Io::new(listing),
+                block,
+                workers,
                 &mut out,
                 &mut err,
-            )
+            ))
         }
+        Task::List => {
+            let (mut binding, mut dump) = open_recording(rt, order)?;
+            let (mut out, mut err) = (Io::new(rt.stdout()), Io::new(rt.stderr()));
+            let (alloc, block, workers) = (rt.alloc(), order.block, order.workers);
+            Ok(list(
+                alloc,
+                &mut binding,
+                &mut dump,
+                block,
+                workers,
+                &mut out,
+                &mut err,
+            ))
+        }
+        Task::Confirm => confirm_order(rt, order),
+        Task::Explain => explain_order(rt, order),
+        Task::Bind => bind_order(rt, order),
+        Task::Variables => {
+            let mut dump = open(rt, order, Input::Dump)?;
+            let (mut out, mut err) = (Io::new(rt.stdout()), Io::new(rt.stderr()));
+            Ok(tell_variables(rt.alloc(), &mut dump, &mut out, &mut err))
+        }
+        Task::Rules => Ok(rules_order(rt, order)),
     }
 }
 
-/// The file of a name of the order, opened, if that can be.
-fn open(rt: &HostRuntime, order: &Order, place: usize) -> Option<File> {
-    let name = order.names.get(place)?;
-    fs::open(rt, name.as_str()).ok()
+/// Compares a listing with that of a recording.
+fn confirm_order(rt: &HostRuntime, order: &Order) -> Result<u8, Refusal> {
+    let (mut binding, mut dump) = open_recording(rt, order)?;
+    let mut listing = open(rt, order, Input::Listing)?;
+    let (mut out, mut err) = (Io::new(rt.stdout()), Io::new(rt.stderr()));
+    Ok(confirm_with(
+        rt.alloc(),
+        &mut binding,
+        &mut dump,
+        &mut listing,
+        &mut out,
+        &mut err,
+    ))
+}
+
+/// Says why and where a recording is judged as it is, and writes the waveform viewer's file, if one is wanted.
+fn explain_order(rt: &HostRuntime, order: &Order) -> Result<u8, Refusal> {
+    let (mut binding, mut dump) = open_recording(rt, order)?;
+    let name = match order.names.get(place_of(Task::Explain, Input::Dump)) {
+        Some(name) => name.as_bytes(),
+        None => b"",
+    };
+    let (mut out, mut err) = (Io::new(rt.stdout()), Io::new(rt.stderr()));
+    let (status, viewer) = explain(
+        rt.alloc(),
+        &mut binding,
+        &mut dump,
+        name,
+        &mut out,
+        &mut err,
+    );
+    match (order.names.get(2), viewer) {
+        (Some(path), Some(viewer)) => Ok(save(rt, path.as_str(), viewer.as_bytes(), status)),
+        _ => Ok(status),
+    }
+}
+
+/// Writes a binding for a dump.
+fn bind_order(rt: &HostRuntime, order: &Order) -> Result<u8, Refusal> {
+    let slots = match order.names.get(1) {
+        Some(text) => match text.as_str().parse::<u8>() {
+            Ok(slots) if 1 <= slots && slots <= 21 => Some(slots),
+            _ => {
+                let fault = usage_fault(rt.alloc(), "a backplane has 1 to 21 slots");
+                return Ok(refuse_words(rt, &fault));
+            }
+        },
+        None => None,
+    };
+    let mut dump = open(rt, order, Input::Dump)?;
+    let (mut out, mut err) = (Io::new(rt.stdout()), Io::new(rt.stderr()));
+    Ok(bind(rt.alloc(), &mut dump, slots, &mut out, &mut err))
+}
+
+/// Says what the rule that is named asks, or each of them.
+fn rules_order(rt: &HostRuntime, order: &Order) -> u8 {
+    let only = match order.names.get(0) {
+        Some(name) => match Rule::from_name(name.as_bytes()) {
+            Some(rule) => Some(rule),
+            None => return refuse_words(rt, &usage_fault(rt.alloc(), "there is no such rule")),
+        },
+        None => None,
+    };
+    let (mut out, mut err) = (Io::new(rt.stdout()), Io::new(rt.stderr()));
+    tell_rules(rt.alloc(), only, &mut out, &mut err)
+}
+
+/// The binding and the dump of an order, opened.
+fn open_recording(rt: &HostRuntime, order: &Order) -> Result<(Io<File>, Io<File>), Refusal> {
+    let binding = open(rt, order, Input::Binding)?;
+    let dump = open(rt, order, Input::Dump)?;
+    Ok((binding, dump))
+}
+
+/// The file that an order names for an input, opened.
+fn open(rt: &HostRuntime, order: &Order, input: Input) -> Result<Io<File>, Refusal>
+    ensures { IfErr result (λ refusal. refusal ≡ CannotOpen input) }
+{
+    let Some(name) = order.names.get(place_of(order.command, input)) else {
+        return Err(Refusal::CannotOpen(input));
+    };
+    match fs::open(rt, name.as_str()) {
+        Ok(file) => Ok(Io::new(file)),
+        Err(_) => Err(Refusal::CannotOpen(input)),
+    }
+}
+
+/// Writes a file; the answer is this status, or 5 where it can't be written.
+fn save(rt: &HostRuntime, path: &str, bytes: &[u8], status: u8) -> u8 {
+    let is_written = match fs::create(rt, path) {
+        Ok(file) => write_all(&mut Io::new(file), bytes).is_ok(),
+        Err(_) => false,
+    };
+    if is_written {
+        return status;
+    }
+    complain(&mut Io::new(rt.stderr()), cannot_write_line());
+    5
 }
 
 /// Says why there is no verdict. The answer is the refusal's status.
 fn refuse(rt: &HostRuntime, refusal: &Refusal) -> u8
     ensures { result ≡ refusal_status refusal.now }
 {
-    let _ = write_message(&mut Io::new(rt.stderr()), refusal_line(refusal));
+    complain(&mut Io::new(rt.stderr()), refusal_line(refusal));
     refusal.status()
 }
 
-/// Prints what is wrong with the words, or the help that they ask for. The status is 3 for wrong words; for help it is 0,
-/// or 5 where it can't be written.
-fn explain(rt: &HostRuntime, error: &clap::Error) -> u8
+/// Says why the words are no order.
+fn refuse_words(rt: &HostRuntime, fault: &OrderFault) -> u8 {
+    match fault {
+        OrderFault::Memory => refuse(rt, &Refusal::Memory),
+        OrderFault::Usage(error) => explain_words(rt, error),
+    }
+}
+
+/// Prints what is wrong with the words, or the help or the version that they ask for. The status is 3 for wrong words;
+/// else it is 0, or 5 where it can't be written.
+fn explain_words(rt: &HostRuntime, error: &clap::Error) -> u8
     ensures wrong { (kind_of error.now ≢ DisplayHelp) → (kind_of error.now ≢ DisplayVersion) → result ≡ 3 }
     ensures help { kind_of error.now ≡ DisplayHelp → (result ≡ 0) ⊎ (result ≡ 5) }
+    ensures version { kind_of error.now ≡ DisplayVersion → (result ≡ 0) ⊎ (result ≡ 5) }
 {
-    let printed = error.print(rt);
-    if error.use_stderr() {
-        return 3;
-    }
-    match printed {
-        Ok(()) => 0,
+    match error.print(rt) {
+        Ok(()) => words_status(error.kind(), true),
         Err(_) => {
-            let _ = write_message(&mut Io::new(rt.stderr()), cannot_write_line());
-            5
+            if !error.use_stderr() {
+                complain(&mut Io::new(rt.stderr()), cannot_write_line());
+            }
+            words_status(error.kind(), false)
         }
     }
 }

@@ -1,17 +1,20 @@
 //! Readers that fail or never end, and writers that fail, at each place.
 
-ghost use Rattle.std.specs.Prelude.{◌≡◌, suc, MatchResult, None};
-
+use crate::bind::bind;
 use crate::check::check;
 use crate::confirm::confirm_with;
-use crate::io::Bytes;
+use crate::explain::explain;
+use crate::io::{Bytes, Io};
 use crate::list::list;
-use crate::order::Task;
+use crate::rules::tell_rules;
+use crate::variables::tell_variables;
 use crate::{BLOCK, BUILT_IN};
 use std::alloc::Global;
+use std::io::{self, Error, ErrorKind, Read, Write};
 use std::process::Abort;
 use std::test::Fail;
-use vme_trace::{Failed, Sink, Source};
+use vme_trace::Source;
+use vme_words::Task;
 
 /// A dump of one read cycle.
 const DUMP: &str = "$timescale 1 ns $end
@@ -51,45 +54,22 @@ verdict broken H4 3 DTACK
 
 const TASKS: [Task; 3] = [Task::Check, Task::List, Task::Confirm];
 
-/// One failure more, or what stands for it where it can't be counted.
-fn fail(failures: &mut u64, otherwise: usize) -> Result<usize, Failed>
-    ensures { MatchResult result (λ n. (n ≡ otherwise) × (failures.new ≡ failures.old)) (λ _. failures.new ≡ suc failures.old) }
-{
-    match failures.checked_add(1) {
-        Some(more) => {
-            *failures = more;
-            Err(Failed)
-        }
-        None => Ok(otherwise),
-    }
-}
-
-/// A source that gives so many bytes a read, and fails behind the last.
+/// A reader that gives so many bytes a read, is interrupted before each, and fails behind the last.
 #[derive(Drop)]
 struct Torn<'a> {
     left: &'a [u8],
     piece: usize,
-    failures: u64,
+    interrupted: bool,
 }
 
-impl Torn<'_> {
-    fn new(text: &str, place: usize, piece: usize) -> Torn<'_> {
-        Torn {
-            left: text.as_bytes().get(..place).unwrap_or_default(),
-            piece,
-            failures: 0,
+impl Read for Torn<'_> {
+    fn read(&mut self, buffer: &mut [u8]) -> io::Result<usize> {
+        self.interrupted = !self.interrupted;
+        if self.interrupted {
+            return Err(Error::from(ErrorKind::Interrupted));
         }
-    }
-}
-
-impl Source for Torn<'_> {
-    ghost remaining = { λ _. None };
-
-    ghost failures = { λ torn. torn.failures };
-
-    fn read(&mut self, buffer: &mut [u8]) -> Result<usize, Failed> {
         if self.left.is_empty() {
-            return fail(&mut self.failures, 0);
+            return Err(Error::from(ErrorKind::Other));
         }
         let count = self.left.len().min(buffer.len()).min(self.piece);
         buffer[..count].copy_from_slice(&self.left[..count]);
@@ -98,31 +78,46 @@ impl Source for Torn<'_> {
     }
 }
 
-/// A source of so many line feeds a read, without end.
+/// A source of the bytes up to a place, so many a read, that fails there.
+fn torn_at(text: &str, place: usize, piece: usize) -> Io<Torn<'_>> {
+    Io::new(Torn {
+        left: text.as_bytes().get(..place).unwrap_or_default(),
+        piece,
+        interrupted: false,
+    })
+}
+
+/// A reader of so many line feeds a read, without end.
 #[derive(Drop)]
 struct Endless {
     piece: usize,
 }
 
-impl Source for Endless {
-    ghost remaining = { λ _. None };
-
-    ghost failures = { λ _. 0 };
-
-    fn read(&mut self, buffer: &mut [u8]) -> Result<usize, Failed> {
+impl Read for Endless {
+    fn read(&mut self, buffer: &mut [u8]) -> io::Result<usize> {
         let count = buffer.len().min(self.piece);
         buffer[..count].fill(b'\n');
         Ok(count)
     }
 }
 
-/// A sink that holds what it took, so many bytes a write, and fails once it has no room.
+/// A reader that is interrupted for good.
+#[derive(Drop)]
+struct Stuck;
+
+impl Read for Stuck {
+    fn read(&mut self, _buffer: &mut [u8]) -> io::Result<usize> {
+        Err(Error::from(ErrorKind::Interrupted))
+    }
+}
+
+/// A writer that holds what it took, so many bytes a write, is interrupted before each, and fails once it has no room.
 #[derive(Drop)]
 struct Page {
     bytes: Vec<u8>,
     room: usize,
     piece: usize,
-    failures: u64,
+    interrupted: bool,
 }
 
 impl Page {
@@ -131,23 +126,41 @@ impl Page {
             bytes: Vec::new(alloc),
             room,
             piece,
-            failures: 0,
+            interrupted: false,
         }
     }
 }
 
-impl Sink for Page {
-    ghost contents = { λ _. None };
-
-    ghost failures = { λ page. page.failures };
-
-    fn write(&mut self, bytes: &[u8]) -> Result<usize, Failed> {
+impl Write for Page {
+    fn write(&mut self, bytes: &[u8]) -> io::Result<usize> {
+        self.interrupted = !self.interrupted;
+        if self.interrupted {
+            return Err(Error::from(ErrorKind::Interrupted));
+        }
         let count = bytes.len().min(self.room).min(self.piece);
         if count > 0 && self.bytes.extend_from_slice(&bytes[..count]).is_ok() {
             self.room -= count;
             return Ok(count);
         }
-        fail(&mut self.failures, bytes.len())
+        Err(Error::from(ErrorKind::Other))
+    }
+
+    fn flush(&mut self) -> io::Result<()> {
+        Ok(())
+    }
+}
+
+/// A writer that takes nothing, and says so.
+#[derive(Drop)]
+struct Deaf;
+
+impl Write for Deaf {
+    fn write(&mut self, _bytes: &[u8]) -> io::Result<usize> {
+        Ok(0)
+    }
+
+    fn flush(&mut self) -> io::Result<()> {
+        Ok(())
     }
 }
 
@@ -161,10 +174,16 @@ fn ended<B: Source, D: Source, L: Source>(
     out: &mut Page,
     err: &mut Page,
 ) -> u8 {
+    let (mut out, mut err) = (Io::new(out), Io::new(err));
+    let (out, err) = (&mut out, &mut err);
     match task {
         Task::Check => check(alloc, binding, dump, BLOCK, 1, out, err),
         Task::List => list(alloc, binding, dump, BLOCK, 1, out, err),
         Task::Confirm => confirm_with(alloc, binding, dump, listing, out, err),
+        Task::Explain => explain(alloc, binding, dump, b"bus.vcd", out, err).0,
+        Task::Bind => bind(alloc, dump, None, out, err),
+        Task::Variables => tell_variables(alloc, dump, out, err),
+        Task::Rules => tell_rules(alloc, None, out, err),
     }
 }
 
@@ -189,7 +208,7 @@ fn torn_bindings(rt: HostRuntime) -> Result<(), Fail> {
     let text = str::from_utf8(BUILT_IN).ok().ok_or("no text")?;
     for task in TASKS {
         for place in 0..=text.len() {
-            let mut binding = Torn::new(text, place, 1000);
+            let mut binding = torn_at(text, place, 1000);
             let mut dump = Bytes::new(DUMP.as_bytes());
             let mut listing = Bytes::new(LISTING.as_bytes());
             let wanted = "vmecheck: cannot read binding\n";
@@ -204,7 +223,7 @@ fn torn_dumps(rt: HostRuntime) {
     for task in TASKS {
         for place in 0..=DUMP.len() {
             let mut binding = Bytes::new(BUILT_IN);
-            let mut dump = Torn::new(DUMP, place, 1);
+            let mut dump = torn_at(DUMP, place, 1);
             let mut listing = Bytes::new(LISTING.as_bytes());
             let wanted = "vmecheck: cannot read dump\n";
             expect_refusal(&rt, task, &mut binding, &mut dump, &mut listing, wanted);
@@ -217,7 +236,7 @@ fn torn_listings(rt: HostRuntime) {
     for place in 0..=LISTING.len() {
         let mut binding = Bytes::new(BUILT_IN);
         let mut dump = Bytes::new(DUMP.as_bytes());
-        let mut listing = Torn::new(LISTING, place, 7);
+        let mut listing = torn_at(LISTING, place, 7);
         let wanted = "vmecheck: cannot read listing\n";
         expect_refusal(
             &rt,
@@ -242,11 +261,44 @@ fn endless_dumps(rt: HostRuntime) {
             &rt,
             Task::Check,
             &mut binding,
-            &mut Endless { piece },
+            &mut Io::new(Endless { piece }),
             &mut listing,
             wanted,
         );
     }
+}
+
+#[test]
+fn a_reader_that_is_interrupted_for_good(rt: HostRuntime) {
+    for task in TASKS {
+        let mut binding = Bytes::new(BUILT_IN);
+        let mut listing = Bytes::new(LISTING.as_bytes());
+        let wanted = "vmecheck: cannot read dump\n";
+        expect_refusal(
+            &rt,
+            task,
+            &mut binding,
+            &mut Io::new(Stuck),
+            &mut listing,
+            wanted,
+        );
+    }
+}
+
+#[test]
+fn a_writer_that_takes_nothing(rt: HostRuntime) {
+    let mut err = Page::new(rt.alloc(), 1000, 1000);
+    let status = check(
+        rt.alloc(),
+        &mut Bytes::new(BUILT_IN),
+        &mut Bytes::new(DUMP.as_bytes()),
+        BLOCK,
+        1,
+        &mut Io::new(Deaf),
+        &mut Io::new(&mut err),
+    );
+    assert!(rt; err.bytes.as_slice() == b"vmecheck: cannot write\n".as_slice());
+    assert_eq!(rt; status, 5);
 }
 
 /// What a command wrote to a page with so much room, and its status, which are a front of a text and this one.

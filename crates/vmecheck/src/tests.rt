@@ -1,17 +1,22 @@
 ghost use Rattle.std.specs.Prelude.{◌≤◌, None};
 
+use crate::bind::bind;
 use crate::check::check;
 use crate::confirm::confirm_with;
-use crate::io::Bytes;
+use crate::explain::explain;
+use crate::io::{Bytes, Io};
 use crate::list::list;
-use crate::order::{Order, Task};
-use crate::order_fault::OrderFault;
-use crate::words::order;
+use crate::refusal::Input;
+use crate::words::{place_of, unread_words, words_status};
 use crate::{BLOCK, BUILT_IN};
+use clap::error::ErrorKind;
 use std::alloc::{AllocError, Global};
+use std::io::{self, Error, Read};
 use std::process::Abort;
 use std::test::Fail;
 use vme_trace::{Failed, Sink, Source};
+use vme_words::words::order;
+use vme_words::{Order, OrderFault, Task};
 
 const HEAD: &str = "$timescale 1 ns $end\n$scope module bus $end\n\
 $var wire 1 p AS $end\n$var wire 1 q DS0 $end\n$var wire 1 r DS1 $end\n\
@@ -74,25 +79,16 @@ impl Sink for Page {
     }
 }
 
-/// A source of which each read fails.
+/// A reader of which each read fails, and how many were made.
 #[derive(Drop)]
 struct Broken {
-    failures: u64,
+    reads: u32,
 }
 
-impl Source for Broken {
-    ghost remaining = { λ _. None };
-
-    ghost failures = { λ broken. broken.failures };
-
-    fn read(&mut self, buffer: &mut [u8]) -> Result<usize, Failed> {
-        match self.failures.checked_add(1) {
-            Some(failures) => {
-                self.failures = failures;
-                Err(Failed)
-            }
-            None => Ok(0),
-        }
+impl Read for Broken {
+    fn read(&mut self, _buffer: &mut [u8]) -> io::Result<usize> {
+        self.reads = self.reads.saturating_add(1);
+        Err(Error::from(io::ErrorKind::Other))
     }
 }
 
@@ -275,6 +271,11 @@ fn confirmations(rt: HostRuntime) -> Result<(), Fail> {
             "",
             "not confirmed at row 3\n",
         ),
+        (
+            "FFFFFE end 5\n",
+            "FFFFFE end 4294967295\n",
+            "not confirmed at row 3\n",
+        ),
         ("close 5", "close 6", "not confirmed at row 4\n"),
         (
             "conforming",
@@ -331,7 +332,7 @@ fn listing_faults(rt: HostRuntime) -> Result<(), Fail> {
 fn listing_is_read_last(rt: HostRuntime) -> Result<(), Fail> {
     let dump = dump_of(rt.alloc(), HEAD, BODY)?;
     let bad_binding = b"slots 22".as_slice();
-    for (binding, dump, text, failures) in [
+    for (binding, dump, text, reads) in [
         (bad_binding, "", "vmecheck: binding line 1: SlotsFirst\n", 0),
         (BUILT_IN, "", "vmecheck: dump line 1: NoEndDefinitions\n", 0),
         (BUILT_IN, UNBOUND, "vmecheck: cannot read listing\n", 1),
@@ -342,9 +343,10 @@ fn listing_is_read_last(rt: HostRuntime) -> Result<(), Fail> {
             1,
         ),
     ] {
-        let mut listing = Broken { failures: 0 };
+        let mut broken = Broken { reads: 0 };
+        let mut listing = Io::new(&mut broken);
         expect_unconfirmed(&rt, binding, dump, &mut listing, text);
-        assert_eq!(rt; listing.failures, failures, "{text}");
+        assert_eq!(rt; broken.reads, reads, "{text}");
     }
     Ok(())
 }
@@ -528,7 +530,7 @@ fn failing_reader(rt: HostRuntime) {
     let ended = check(
         rt.alloc(),
         &mut Bytes::new(BUILT_IN),
-        &mut Broken { failures: 0 },
+        &mut Io::new(Broken { reads: 0 }),
         BLOCK,
         1,
         &mut out,
@@ -614,6 +616,75 @@ fn order_to_confirm(rt: HostRuntime) -> Result<(), Fail> {
     Ok(())
 }
 
+#[test]
+fn orders_by_words(rt: HostRuntime) -> Result<(), Fail> {
+    for (line, command, names) in [
+        ("vmecheck rules", Task::Rules, ""),
+        ("vmecheck rules H4", Task::Rules, "H4 "),
+        ("vmecheck variables V", Task::Variables, "V "),
+        ("vmecheck bind V", Task::Bind, "V "),
+        ("vmecheck bind V --slots 21", Task::Bind, "V 21 "),
+        ("vmecheck explain B V", Task::Explain, "B V "),
+        ("vmecheck explain --gtkw=F B V", Task::Explain, "B V F "),
+    ] {
+        let words = words_of(rt.alloc(), line)?;
+        match order(rt.alloc(), words.as_slice()) {
+            Ok(order) => {
+                assert_eq!(rt; order.command, command);
+                let mut told = String::new(rt.alloc());
+                for name in &order.names {
+                    told.push_str(name.as_str())?;
+                    told.push_str(" ")?;
+                }
+                assert!(rt; told.as_str() == names, "{line}");
+            }
+            Err(_) => assert!(rt; false, "{line}"),
+        }
+    }
+    Ok(())
+}
+
+#[test]
+fn an_explanation_begins_with_the_verdict(rt: HostRuntime) -> Result<(), Fail> {
+    let dump = dump_of(rt.alloc(), HEAD, BODY)?;
+    let mut out = Page::new(rt.alloc(), 5000);
+    let mut err = Page::new(rt.alloc(), 100);
+    let (status, viewer) = explain(
+        rt.alloc(),
+        &mut Bytes::new(BUILT_IN),
+        &mut Bytes::new(dump.as_bytes()),
+        b"bus.vcd",
+        &mut out,
+        &mut err,
+    );
+    assert!(rt;
+        out.bytes.as_slice().starts_with(
+            b"conforming\n\njudged: from instant 1 time 0 to instant 6 time 50\n"
+        )
+    );
+    assert!(rt; err.bytes.is_empty() && status == 0 && viewer.is_some());
+    Ok(())
+}
+
+#[test]
+fn a_binding_is_written(rt: HostRuntime) -> Result<(), Fail> {
+    let dump = dump_of(rt.alloc(), HEAD, BODY)?;
+    let mut out = Page::new(rt.alloc(), 5000);
+    let mut err = Page::new(rt.alloc(), 100);
+    let status = bind(
+        rt.alloc(),
+        &mut Bytes::new(dump.as_bytes()),
+        None,
+        &mut out,
+        &mut err,
+    );
+    let head =
+        b"# Found by the names in the scope bus: look each line over.\nslots 1\nAS = bus.AS\n";
+    assert!(rt; out.bytes.as_slice().starts_with(head));
+    assert!(rt; err.bytes.is_empty() && status == 0);
+    Ok(())
+}
+
 /// Whether a text is for standard error, if it is one for the user.
 fn goes_to_errors(answer: Result<Order, OrderFault>) -> Option<bool> {
     match answer {
@@ -641,7 +712,14 @@ fn usage(rt: HostRuntime) -> Result<(), Fail> {
         ("vmecheck confirm B V L --workers=2", false),
         ("vmecheck B V", false),
         ("vmecheck check --blocks 5 B V", false),
+        ("vmecheck rules H1 H2", false),
+        ("vmecheck variables", false),
+        ("vmecheck bind --slots 0 V", false),
+        ("vmecheck bind --slots 22 V", false),
+        ("vmecheck explain B", false),
+        ("vmecheck explain --gtkw B V", false),
         ("vmecheck help", true),
+        ("vmecheck --version", true),
         ("vmecheck --help", true),
         ("vmecheck check -h", true),
         ("vmecheck list --help", true),
@@ -651,5 +729,28 @@ fn usage(rt: HostRuntime) -> Result<(), Fail> {
         let answer = order(rt.alloc(), words.as_slice());
         assert_eq!(rt; goes_to_errors(answer), Some(!is_help), "{line}");
     }
+    Ok(())
+}
+
+#[test]
+fn inputs_stand_at_their_words(rt: HostRuntime) -> Result<(), Fail> {
+    for (task, input, place) in [
+        (Task::Check, Input::Binding, 0),
+        (Task::Explain, Input::Dump, 1),
+        (Task::Bind, Input::Dump, 0),
+        (Task::Confirm, Input::Listing, 2),
+    ] {
+        assert_eq!(rt; place_of(task, input), place);
+    }
+    Ok(())
+}
+
+#[test]
+fn words_that_are_no_order_end_with_their_status(rt: HostRuntime) -> Result<(), Fail> {
+    assert_eq!(rt; words_status(ErrorKind::InvalidValue, true), 3);
+    assert_eq!(rt; words_status(ErrorKind::DisplayHelp, true), 0);
+    assert_eq!(rt; words_status(ErrorKind::DisplayVersion, false), 5);
+    let unread = unread_words(rt.alloc(), true);
+    assert!(rt; matches!(unread, OrderFault::Memory));
     Ok(())
 }

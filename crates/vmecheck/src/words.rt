@@ -1,171 +1,56 @@
-//! How the words of the command line are read.
+//! What the words of the command line name, and how a call ends whose words are no order.
 
-ghost use Rattle.std.specs.Prelude.{◌≡◌, ◌≤◌, ◌∷◌, ◌++◌, [], codes, IfErr, IfOk, IfSome, Some, is_some, map, string_bytes, true};
-ghost use Rattle.clap.specs.Words.{fault_of, first_of, found_of, kind_of, rows_of, subcommand_of, subcommand_rows_of};
-ghost use Rattle.vmecheck.specs.Commands.{vmecheck_app};
-ghost use Rattle.vmecheck.specs.OrderFaults.{HasUsageKind, IsFaultOf, IsOfWords};
-ghost use Rattle.vmecheck.specs.Orders.{HasConfirmation, HasNames, HasNumber, HasOrder, HasRecording, IsOrder, SaysOrder, names_in, number_in};
+ghost use Rattle.std.specs.Prelude.{◌≡◌, ◌≢◌, false, if◌then◌else◌, true};
+ghost use Rattle.vme_words.specs.OrderFaults.{HasUsageKind, IsOfWords};
+ghost use Rattle.vmecheck.specs.Words.{names_dump_alone, place_of};
 
-use crate::command::vmecheck_command;
-use crate::order::{Order, Task};
-use crate::order_fault::OrderFault;
-use clap::ArgMatches;
+use crate::refusal::Input;
 use clap::error::ErrorKind;
-use std::alloc::{AllocError, Global};
+use std::alloc::Global;
+use vme_words::{OrderFault, Task, usage_fault};
 
-/// Reads the words of the command line, the program's name first.
-///
-/// An order is what clap's meaning of the program's command gives the words, and comes only where clap's rules find no
-/// fault in them. Wrong words, and a call for help, are `Usage`, of a kind that those rules give the words, and want of
-/// memory is `Memory`: so words without a fault are an order unless memory runs out.
-pub fn order(alloc: Global, words: &[String]) -> Result<Order, OrderFault>
-    ensures ok { IfOk result (λ order. IsOrder order (subcommand_of vmecheck_app (map string_bytes words.now))) }
-    ensures err { IfErr result IsOfWords }
-    ensures taken { IfOk result (λ _. fault_of vmecheck_app (map string_bytes words.now) ≡ []) }
-    ensures faulty { IfErr result (IsFaultOf (map string_bytes words.now)) }
+/// Whether a task names a dump and no binding.
+fn names_dump_alone(task: Task) -> bool
+    ensures { result ≡ names_dump_alone task }
 {
-    let matches = vmecheck_command(alloc)?.try_get_matches_from(words)?;
-    match order_in(alloc, &matches)? {
-        Some(order) => Ok(order),
-        None => Err(usage_fault(alloc, "no task")),
+    matches!(task, Task::Variables | Task::Bind)
+}
+
+/// The place of an input among the words behind a task, from 0.
+pub fn place_of(task: Task, input: Input) -> usize
+    ensures { result ≡ place_of task input }
+{
+    match input {
+        Input::Binding => 0,
+        Input::Dump if names_dump_alone(task) => 0,
+        Input::Dump => 1,
+        Input::Listing => 2,
     }
 }
 
-/// The order that the matches are, if they are one.
-fn order_in(alloc: Global, matches: &ArgMatches<'_>) -> Result<Option<Order>, AllocError>
-    ensures said { IfOk result (λ o. IfSome o (λ order. IsOrder order (subcommand_rows_of matches.now))) }
-    ensures found { HasOrder (subcommand_rows_of matches.now) → IfOk result (λ o. is_some o ≡ true) }
-{
-    match matches.subcommand() {
-        Some((name, found)) if name == "check" => check_order(alloc, found),
-        Some((name, found)) if name == "list" => list_order(alloc, found),
-        Some((name, found)) if name == "confirm" => confirm_order(alloc, found),
-        _ => Ok(None),
-    }
-}
-
-/// The order that the matches of `check` are, if they are one.
-#[tactic(auto, using(crate::proofs::OrderLemmas::is_check))]
-fn check_order(alloc: Global, found: &ArgMatches<'_>) -> Result<Option<Order>, AllocError>
-    ensures said { IfOk result (λ o. IfSome o (λ order. IsOrder order (Some (codes "check", rows_of (found_of found.now))))) }
-    ensures found { HasRecording (rows_of (found_of found.now)) → IfOk result (λ o. is_some o ≡ true) }
-{
-    recording_order(alloc, Task::Check, found)
-}
-
-/// The order that the matches of `list` are, if they are one.
-#[tactic(auto, using(crate::proofs::OrderLemmas::is_list))]
-fn list_order(alloc: Global, found: &ArgMatches<'_>) -> Result<Option<Order>, AllocError>
-    ensures said { IfOk result (λ o. IfSome o (λ order. IsOrder order (Some (codes "list", rows_of (found_of found.now))))) }
-    ensures found { HasRecording (rows_of (found_of found.now)) → IfOk result (λ o. is_some o ≡ true) }
-{
-    recording_order(alloc, Task::List, found)
-}
-
-/// The order on a recording that the matches of its subcommand are, if they are one.
-fn recording_order(
-    alloc: Global,
-    command: Task,
-    found: &ArgMatches<'_>,
-) -> Result<Option<Order>, AllocError>
-    ensures task { IfOk result (λ o. IfSome o (λ order. order.command ≡ command)) }
-    ensures says { IfOk result (λ o. IfSome o (λ order. SaysOrder order (rows_of (found_of found.now)))) }
-    ensures found { HasRecording (rows_of (found_of found.now)) → IfOk result (λ o. is_some o ≡ true) }
-{
-    let (Some(block), Some(workers)) = (number(found, "block", 65536), number(found, "workers", 64))
-    else {
-        return Ok(None);
-    };
-    match names_in(alloc, found)? {
-        Some(names) => Ok(Some(Order {
-            command,
-            block,
-            workers,
-            names,
-        })),
-        None => Ok(None),
-    }
-}
-
-/// The order that the matches of `confirm` are, if they are one.
-#[tactic(auto, using(crate::proofs::OrderLemmas::is_confirmation))]
-fn confirm_order(alloc: Global, found: &ArgMatches<'_>) -> Result<Option<Order>, AllocError>
-    ensures said { IfOk result (λ o. IfSome o (λ order. IsOrder order (Some (codes "confirm", rows_of (found_of found.now))))) }
-    ensures found { HasConfirmation (rows_of (found_of found.now)) → IfOk result (λ o. is_some o ≡ true) }
-{
-    match all_names_in(alloc, found)? {
-        Some(names) => Ok(Some(Order {
-            command: Task::Confirm,
-            block: 16_384,
-            workers: 4,
-            names,
-        })),
-        None => Ok(None),
-    }
-}
-
-/// The binding, the dump and the listing, if each has a name.
-fn all_names_in(alloc: Global, found: &ArgMatches<'_>) -> Result<Option<Vec<String>>, AllocError>
-    ensures found { HasConfirmation (rows_of (found_of found.now)) → IfOk result (λ o. is_some o ≡ true) }
-    ensures said { IfOk result (λ o. IfSome o (λ names. map (λ name. Some (string_bytes name)) names.items ≡ names_in (rows_of (found_of found.now)) ++ first_of (codes "LISTING") (rows_of (found_of found.now)) ∷ [])) }
-{
-    let Some(listing) = found.get_str("LISTING") else {
-        return Ok(None);
-    };
-    match names_in(alloc, found)? {
-        Some(names) => Ok(Some(with_name(alloc, names, listing)?)),
-        None => Ok(None),
-    }
-}
-
-/// The names, with one more.
-fn with_name(alloc: Global, mut names: Vec<String>, name: &str) -> Result<Vec<String>, AllocError>
-    ensures { IfOk result (λ all. map (λ n. Some (string_bytes n)) all.items ≡ map (λ n. Some (string_bytes n)) names.items ++ Some name.now ∷ []) }
-{
-    names.push(String::from_str(alloc, name)?)?;
-    Ok(names)
-}
-
-/// The binding and the dump, if both have names.
-fn names_in(alloc: Global, found: &ArgMatches<'_>) -> Result<Option<Vec<String>>, AllocError>
-    ensures said { IfOk result (λ o. IfSome o (λ names. map (λ name. Some (string_bytes name)) names.items ≡ names_in (rows_of (found_of found.now)))) }
-    ensures found { HasNames (rows_of (found_of found.now)) → IfOk result (λ o. is_some o ≡ true) }
-{
-    let (Some(binding), Some(dump)) = (found.get_str("BINDING"), found.get_str("DUMP")) else {
-        return Ok(None);
-    };
-    let mut names = Vec::with_capacity(alloc, 2)?;
-    names.push(String::from_str(alloc, binding)?)?;
-    names.push(String::from_str(alloc, dump)?)?;
-    Ok(Some(names))
-}
-
-/// The number of an option, if it has one from 1 to the greatest.
-fn number(found: &ArgMatches<'_>, name: &str, greatest: u32) -> Option<u32>
-    ensures value { IfSome result (λ n. number_in name.now (rows_of (found_of found.now)) ≡ Some n) }
-    ensures range { IfSome result (λ n. (1 ≤ n) × (n ≤ greatest)) }
-    ensures found { HasNumber name.now greatest (rows_of (found_of found.now)) → is_some result ≡ true }
-{
-    match found.get_one::<u32>(name) {
-        Some(number) if 1 <= number && number <= greatest => Some(number),
-        _ => None,
-    }
-}
-
-/// A fault of the words that the program finds itself.
-pub fn usage_fault(alloc: Global, message: &str) -> OrderFault
+/// Why the words can't be had: there was no memory, or one of them is no text.
+pub fn unread_words(alloc: Global, is_no_memory: bool) -> OrderFault
     ensures of_words { IsOfWords result }
-    ensures kind { HasUsageKind ErrorKind.InvalidSubcommand result }
+    ensures memory { is_no_memory ≡ true → result ≡ OrderFault.Memory }
+    ensures no_text { is_no_memory ≡ false → HasUsageKind ErrorKind.InvalidSubcommand result }
 {
-    match usage_error(alloc, message) {
-        Ok(error) => OrderFault::Usage(error),
-        Err(_) => OrderFault::Memory,
+    if is_no_memory {
+        OrderFault::Memory
+    } else {
+        usage_fault(alloc, "a word is no text")
     }
 }
 
-fn usage_error(alloc: Global, message: &str) -> Result<clap::Error, AllocError>
-    ensures { IfOk result (λ error. kind_of error ≡ ErrorKind.InvalidSubcommand) }
+/// The exit status behind words that are no order, by what clap finds and by whether its text could be written: 3 for
+/// wrong words; for the help or the version 0 where it was written, and 5 where not.
+pub fn words_status(kind: ErrorKind, is_written: bool) -> u8
+    ensures wrong { kind ≢ ErrorKind.DisplayHelp → kind ≢ ErrorKind.DisplayVersion → result ≡ 3 }
+    ensures help { kind ≡ ErrorKind.DisplayHelp → result ≡ (if is_written then 0 else 5) }
+    ensures version { kind ≡ ErrorKind.DisplayVersion → result ≡ (if is_written then 0 else 5) }
 {
-    let mut command = vmecheck_command(alloc)?;
-    command.error(ErrorKind::InvalidSubcommand, message)
+    match (kind, is_written) {
+        (ErrorKind::DisplayHelp | ErrorKind::DisplayVersion, true) => 0,
+        (ErrorKind::DisplayHelp | ErrorKind::DisplayVersion, false) => 5,
+        _ => 3,
+    }
 }

@@ -4,7 +4,7 @@ use Rattle.vme_trace.specs.Instants.{those}
 use Rattle.vme_trace.specs.Trace.{last_instant}
 use Rattle.vme_cert.specs.Events.{happens, list_of}
 use Rattle.vme_cert.specs.declared.events.Event.{Event}
-use Rattle.vme_cert.specs.declared.events.Event.TheVariants.{CycleStart, AddressRise, TransferStart, StrobeRise, StrobesHigh, AnswerFall, AcknowledgeFall, ErrorFall, BusyFall, BusyRise, GrantFall, Request0, Request1, Request2, Request3}
+use Rattle.vme_cert.specs.declared.events.Event.TheVariants.{CycleStart, AddressRise, TransferStart, StrobeRise, StrobesHigh, AnswerFall, AcknowledgeFall}
 use Rattle.vme_cert.specs.declared.events.Index.{Index}
 use Rattle.vme_cert.proofs.events.Index.of.Goals as goal
 
@@ -21,14 +21,6 @@ returns c =
       strobes_high = c.in_ok-of-5.field-0;
       answer_falls = c.in_ok-of-6.field-0;
       acknowledge_falls = c.in_ok-of-7.field-0;
-      error_falls = c.in_ok-of-8.field-0;
-      busy_falls = c.in_ok-of-9.field-0;
-      busy_rises = c.in_ok-of-10.field-0;
-      grant_falls = c.in_ok-of-11.field-0;
-      requests_0 = c.in_ok-of-12.field-0;
-      requests_1 = c.in_ok-of-13.field-0;
-      requests_2 = c.in_ok-of-14.field-0;
-      requests_3 = c.in_ok-of-15.field-0;
     } in
     λ event.
     elim event as (λ (e : Event). list_of index e ≡ those (happens t span e) 0 (last_instant t + 1)) [
@@ -39,12 +31,4 @@ returns c =
       | StrobesHigh ↦ c.in_ok-of-5.ensures (happens t span StrobesHigh) (search rules) ∙ ap (those (happens t span StrobesHigh) 0) end
       | AnswerFall ↦ c.in_ok-of-6.ensures (happens t span AnswerFall) (search rules) ∙ ap (those (happens t span AnswerFall) 0) end
       | AcknowledgeFall ↦ c.in_ok-of-7.ensures (happens t span AcknowledgeFall) (search rules) ∙ ap (those (happens t span AcknowledgeFall) 0) end
-      | ErrorFall ↦ c.in_ok-of-8.ensures (happens t span ErrorFall) (search rules) ∙ ap (those (happens t span ErrorFall) 0) end
-      | BusyFall ↦ c.in_ok-of-9.ensures (happens t span BusyFall) (search rules) ∙ ap (those (happens t span BusyFall) 0) end
-      | BusyRise ↦ c.in_ok-of-10.ensures (happens t span BusyRise) (search rules) ∙ ap (those (happens t span BusyRise) 0) end
-      | GrantFall ↦ c.in_ok-of-11.ensures (happens t span GrantFall) (search rules) ∙ ap (those (happens t span GrantFall) 0) end
-      | Request0 ↦ c.in_ok-of-12.ensures (happens t span Request0) (search rules) ∙ ap (those (happens t span Request0) 0) end
-      | Request1 ↦ c.in_ok-of-13.ensures (happens t span Request1) (search rules) ∙ ap (those (happens t span Request1) 0) end
-      | Request2 ↦ c.in_ok-of-14.ensures (happens t span Request2) (search rules) ∙ ap (those (happens t span Request2) 0) end
-      | Request3 ↦ c.in_ok-of-15.ensures (happens t span Request3) (search rules) ∙ ap (those (happens t span Request3) 0) end
     ]

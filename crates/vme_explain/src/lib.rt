@@ -1,0 +1,23 @@
+//! Why a recording is judged as it is, as a text for people.
+//!
+//! What is told of it are values with contracts: [`count_of`] counts the rows of the listing of a kind, [`open_row`] is
+//! the last row of it that is open, [`levels_from`] gives the levels of the recording at some instants and [`marks_of`]
+//! their characters, [`time_at`] the time of an instant. [`explanation`] writes them; what it writes is tested, not
+//! proved. [`save_file`] writes a file for the waveform viewer GTKWave. Start reading at `page`.
+#![tactic(auto)]
+
+mod excerpt;
+mod idle;
+mod page;
+mod rows;
+mod shown;
+mod sources;
+mod summary;
+#[cfg(test)]
+mod tests;
+mod viewer;
+
+pub use excerpt::{levels_from, marks_of, time_at};
+pub use page::{Subject, explanation};
+pub use rows::{Kind, Part, count_of, open_row};
+pub use viewer::save_file;

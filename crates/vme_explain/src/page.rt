@@ -1,0 +1,342 @@
+//! The text that explains a verdict.
+
+use crate::excerpt::{levels_from, marks_of, time_at};
+use crate::rows::{Part, open_row};
+use crate::shown::lines_shown;
+use crate::sources::{bound_to, push_variable};
+use crate::summary::{push_never_idle, push_summary};
+use std::alloc::{AllocError, Global};
+use vcd_read::Variable;
+use vme_listing::{AnswerLine, Direction, Row};
+use vme_rules::push_rule;
+use vme_text::Text;
+use vme_trace::{Break, Capture, Class, Line, Lines, Verdict};
+
+/// How many instants an excerpt shows before and behind the break.
+const BEFORE: u32 = 8;
+
+const BEHIND: u32 = 3;
+
+/// What is explained.
+#[derive(Clone, Copy)]
+pub struct Subject<'a> {
+    /// The recording.
+    pub capture: &'a Capture,
+    /// The rows of its listing.
+    pub rows: &'a [Row],
+    /// Its verdict.
+    pub verdict: &'a Verdict,
+    /// The text of the binding.
+    pub binding: &'a [u8],
+    /// The variables of the dump.
+    pub variables: &'a [Variable],
+}
+
+/// Why a recording is judged as it is: what is said behind the line of its verdict.
+pub fn explanation(alloc: Global, subject: &Subject<'_>) -> Result<Text, AllocError> {
+    let mut text = Text::new(alloc);
+    match subject.verdict {
+        Verdict::Broken(found) | Verdict::Unreadable(found) => {
+            push_break(&mut text, alloc, subject, found)?
+        }
+        Verdict::Conforming => push_summary(&mut text, alloc, subject)?,
+        Verdict::NeverIdle => push_never_idle(&mut text, alloc, subject)?,
+    }
+    Ok(text)
+}
+
+/// Why and where a rule is broken.
+fn push_break(
+    text: &mut Text,
+    alloc: Global,
+    subject: &Subject<'_>,
+    found: &Break,
+) -> Result<(), AllocError> {
+    text.push(b"\n")?;
+    push_rule(text, found.rule)?;
+    text.push(b"\nopen before the break:\n")?;
+    push_open(text, alloc, subject)?;
+    push_line_value(text, alloc, subject, found)?;
+    text.push(b"\n")?;
+    push_excerpt(text, alloc, subject, found)
+}
+
+/// Appends which tenure, cycle and transfer are open where the listing ends.
+pub(crate) fn push_open(
+    text: &mut Text,
+    alloc: Global,
+    subject: &Subject<'_>,
+) -> Result<(), AllocError> {
+    for (part, name) in [
+        (Part::Tenure, "tenure: "),
+        (Part::Cycle, "cycle: "),
+        (Part::Transfer, "transfer: "),
+    ] {
+        text.push(name.as_bytes())?;
+        match open_row(part, subject.rows) {
+            Some(row) => push_open_row(text, alloc, subject.capture, &row)?,
+            None => text.push(b"none")?,
+        }
+        text.push(b"\n")?;
+    }
+    Ok(())
+}
+
+fn push_open_row(
+    text: &mut Text,
+    alloc: Global,
+    capture: &Capture,
+    row: &Row,
+) -> Result<(), AllocError> {
+    match row {
+        Row::OpenTenure { start, .. } => {
+            text.push(b"open before judging starts")?;
+            push_since(text, alloc, capture, *start)
+        }
+        Row::Tenure {
+            start,
+            level,
+            slot,
+            ..
+        } => {
+            text.push(b"level ")?;
+            text.push_decimal(alloc, u64::from(*level))?;
+            text.push(b", slot ")?;
+            text.push_decimal(alloc, u64::from(*slot))?;
+            push_since(text, alloc, capture, *start)
+        }
+        Row::AddressedCycle {
+            start,
+            class,
+            modifier,
+            address,
+            ..
+        } => {
+            push_addressed(text, *class, *modifier, *address)?;
+            push_since(text, alloc, capture, *start)
+        }
+        Row::FreeCycle {
+            start,
+            modifier,
+            ..
+        } => {
+            text.push(b"AM ")?;
+            push_hexadecimal(text, u32::from(*modifier), 2)?;
+            push_since(text, alloc, capture, *start)
+        }
+        Row::InterruptCycle { start, level, .. } => {
+            text.push(b"interrupt acknowledge of level ")?;
+            text.push_decimal(alloc, u64::from(*level))?;
+            push_since(text, alloc, capture, *start)
+        }
+        _ => push_open_transfer(text, alloc, capture, row),
+    }
+}
+
+fn push_open_transfer(
+    text: &mut Text,
+    alloc: Global,
+    capture: &Capture,
+    row: &Row,
+) -> Result<(), AllocError> {
+    match row {
+        Row::Transfer {
+            start,
+            direction,
+            line,
+            answer,
+            ..
+        } => {
+            push_direction(text, *direction)?;
+            push_since(text, alloc, capture, *start)?;
+            match line {
+                AnswerLine::Dtack => text.push(b", answered by DTACK at instant ")?,
+                AnswerLine::Berr => text.push(b", answered by BERR at instant ")?,
+            }
+            push_instant(text, alloc, capture, *answer)
+        }
+        Row::PendingTransfer { start, direction } => {
+            push_direction(text, *direction)?;
+            push_since(text, alloc, capture, *start)?;
+            text.push(b", not answered")
+        }
+        _ => Ok(()),
+    }
+}
+
+fn push_direction(text: &mut Text, direction: Direction) -> Result<(), AllocError> {
+    match direction {
+        Direction::Read => text.push(b"read"),
+        Direction::Write => text.push(b"write"),
+    }
+}
+
+/// Appends the class, the code and the address of a cycle.
+fn push_addressed(
+    text: &mut Text,
+    class: Class,
+    modifier: u8,
+    address: u32,
+) -> Result<(), AllocError> {
+    match class {
+        Class::K => text.push(b"block transfer, AM ")?,
+        _ => text.push(b"single, AM ")?,
+    }
+    push_hexadecimal(text, u32::from(modifier), 2)?;
+    text.push(b", address ")?;
+    let digits = match modifier {
+        0x08..=0x0F => 8,
+        0x29 | 0x2D => 4,
+        _ => 6,
+    };
+    push_hexadecimal(text, address, digits)
+}
+
+/// Appends so many hexadecimal digits of a number, the last ones.
+fn push_hexadecimal(text: &mut Text, number: u32, digits: u32) -> Result<(), AllocError> {
+    for place in 0..digits.min(8) {
+        let shift = 4 * (digits.min(8) - 1 - place);
+        let digit = ((number >> shift) & 15) as u8;
+        let byte = if digit < 10 {
+            b'0' + digit
+        } else {
+            b'A' + digit - 10
+        };
+        text.push(&[byte])?;
+    }
+    Ok(())
+}
+
+fn push_since(
+    text: &mut Text,
+    alloc: Global,
+    capture: &Capture,
+    instant: u32,
+) -> Result<(), AllocError> {
+    text.push(b", since instant ")?;
+    push_instant(text, alloc, capture, instant)
+}
+
+/// Appends an instant and its time.
+pub(crate) fn push_instant(
+    text: &mut Text,
+    alloc: Global,
+    capture: &Capture,
+    instant: u32,
+) -> Result<(), AllocError> {
+    text.push_decimal(alloc, u64::from(instant))?;
+    text.push(b" time ")?;
+    text.push_decimal(alloc, time_at(capture, instant))
+}
+
+/// Appends the variable of the line of a break, and its levels there.
+fn push_line_value(
+    text: &mut Text,
+    alloc: Global,
+    subject: &Subject<'_>,
+    found: &Break,
+) -> Result<(), AllocError> {
+    text.push(b"line ")?;
+    text.push(found.line.name().as_bytes())?;
+    text.push(b": ")?;
+    let slots = subject.capture.opening().slots();
+    if let Some(bound) = bound_to(subject.binding, found.line, slots) {
+        text.push(b"variable ")?;
+        push_variable(text, alloc, &bound, subject.variables)?;
+        text.push(b", ")?;
+    }
+    let last = subject.capture.steps().len();
+    let at = (found.instant as usize).min(last);
+    let levels = levels_from(alloc, subject.capture, at.saturating_sub(1), at)?;
+    let marks = marks_of(alloc, found.line, levels.as_slice())?;
+    if let (Some(before), Some(now)) = (marks.first(), marks.last()) {
+        text.push(&[*before])?;
+        text.push(b" before and ")?;
+        text.push(&[*now])?;
+        text.push(b" at the break")?;
+    }
+    text.push(b"\n")
+}
+
+/// Appends the levels of some lines around a break.
+fn push_excerpt(
+    text: &mut Text,
+    alloc: Global,
+    subject: &Subject<'_>,
+    found: &Break,
+) -> Result<(), AllocError> {
+    let capture = subject.capture;
+    let end = capture.steps().len() as u32;
+    let last = found.instant.saturating_add(BEHIND).min(end);
+    let first = found.instant.saturating_sub(BEFORE).min(last);
+    let levels = levels_from(alloc, capture, first as usize, last as usize)?;
+    let width = column_width(alloc, time_at(capture, last))?;
+    push_header(text, alloc, capture, b"instant", first, last, width)?;
+    push_header(text, alloc, capture, b"time", first, last, width)?;
+    let slots = capture.opening().slots();
+    for line in &lines_shown(alloc, found.rule, found.line, slots, levels.as_slice())? {
+        push_levels(text, alloc, *line, levels.as_slice(), width)?;
+    }
+    push_padded(text, b"")?;
+    let columns = found.instant.saturating_sub(first) as usize;
+    text.push_spaces(
+        columns
+            .saturating_mul(width)
+            .saturating_add(width.saturating_sub(1)),
+    )?;
+    text.push(b"^\n")
+}
+
+/// How many characters a column takes, if this is the greatest time in it.
+fn column_width(alloc: Global, time: u64) -> Result<usize, AllocError> {
+    let mut digits = Text::new(alloc);
+    digits.push_decimal(alloc, time)?;
+    Ok(digits.as_bytes().len().saturating_add(2))
+}
+
+/// Appends the name of a row, as wide as the longest.
+fn push_padded(text: &mut Text, name: &[u8]) -> Result<(), AllocError> {
+    text.push(name)?;
+    text.push_spaces(8usize.saturating_sub(name.len()))
+}
+
+/// Appends the instants from a first to a last one, or their times.
+fn push_header(
+    text: &mut Text,
+    alloc: Global,
+    capture: &Capture,
+    name: &[u8],
+    first: u32,
+    last: u32,
+    width: usize,
+) -> Result<(), AllocError> {
+    push_padded(text, name)?;
+    for instant in first..last.saturating_add(1) {
+        let number = if name.starts_with(b"t") {
+            time_at(capture, instant)
+        } else {
+            u64::from(instant)
+        };
+        let mut digits = Text::new(alloc);
+        digits.push_decimal(alloc, number)?;
+        text.push_spaces(width.saturating_sub(digits.as_bytes().len()))?;
+        text.push(digits.as_bytes())?;
+    }
+    text.push(b"\n")
+}
+
+/// Appends the levels of a line.
+fn push_levels(
+    text: &mut Text,
+    alloc: Global,
+    line: Line,
+    levels: &[Lines],
+    width: usize,
+) -> Result<(), AllocError> {
+    push_padded(text, line.name().as_bytes())?;
+    for mark in &marks_of(alloc, line, levels)? {
+        text.push_spaces(width.saturating_sub(1))?;
+        text.push(&[*mark])?;
+    }
+    text.push(b"\n")
+}

@@ -1,0 +1,141 @@
+//! What the lines of a backplane are bound to, read off the text of a binding.
+
+use std::alloc::{AllocError, Global};
+use vcd_read::Variable;
+use vme_find::bit_number;
+use vme_text::Text;
+use vme_trace::Line;
+
+/// What a line is bound to.
+#[derive(Clone, Copy)]
+pub(crate) struct Bound<'a> {
+    /// The word behind the equals sign.
+    pub source: &'a [u8],
+    /// Which of its bits, from the left.
+    pub place: u32,
+}
+
+/// The words of one line of a binding that assigns.
+#[derive(Clone, Copy)]
+pub(crate) struct Assigned<'a> {
+    pub name: &'a [u8],
+    pub source: &'a [u8],
+}
+
+fn is_blank(byte: u8) -> bool {
+    matches!(byte, b' ' | b'\t' | b'\r')
+}
+
+/// The words of a line `NAME = SOURCE`.
+pub(crate) fn assignment_in(line: &[u8]) -> Option<Assigned<'_>> {
+    let mut words = line
+        .split(|byte| is_blank(*byte))
+        .filter(|word| !word.is_empty());
+    let name = words.next()?;
+    let equals = words.next()?;
+    let source = words.next()?;
+    if name.starts_with(b"#") || equals != b"=".as_slice() {
+        return None;
+    }
+    Some(Assigned { name, source })
+}
+
+/// The place of a line among those of a name, from the left.
+fn place_in(name: &[u8], line: Line, slots: u8) -> Option<u32> {
+    if line.name().as_bytes() == name {
+        return Some(0);
+    }
+    let (first, count) = group(name, slots)?;
+    let place = first.checked_sub(line.number())?;
+    if place < count {
+        Some(u32::from(place))
+    } else {
+        None
+    }
+}
+
+/// The number of the first line of a group, and how many lines it has.
+fn group(name: &[u8], slots: u8) -> Option<(u8, u8)> {
+    let slots = slots.clamp(1, 21);
+    match name {
+        b"AM" => Some((Line::address_modifier(5).number(), 6)),
+        b"A" => Some((Line::address(31).number(), 31)),
+        b"BR" => Some((Line::bus_request(3).number(), 4)),
+        b"IA" => Some((Line::iack(slots).number(), slots)),
+        [b'B', b'G', digit @ b'0'..=b'3'] => {
+            let level = *digit - b'0';
+            Some((Line::grant(level, slots).number(), slots + 1))
+        }
+        _ => None,
+    }
+}
+
+/// What a line is bound to.
+pub(crate) fn bound_to(binding: &[u8], line: Line, slots: u8) -> Option<Bound<'_>> {
+    for text in binding.split(|byte| *byte == b'\n') {
+        if let Some(found) = assignment_in(text) {
+            if let Some(place) = place_in(found.name, line, slots) {
+                return Some(Bound {
+                    source: found.source,
+                    place,
+                });
+            }
+        }
+    }
+    None
+}
+
+/// The path of a source, and the selection in brackets at its end.
+pub(crate) fn path_of(source: &[u8]) -> (&[u8], &[u8]) {
+    match source.iter().rposition(|byte| *byte == b'[') {
+        Some(at) if source.ends_with(b"]") => (&source[..at], &source[at..]),
+        _ => (source, b""),
+    }
+}
+
+/// The number of the leftmost bit of a selection, if the bits run downwards from it.
+fn leftmost(selection: &[u8]) -> Option<(u32, bool)> {
+    let mut numbers = [0u32; 2];
+    let mut at: usize = 0;
+    for byte in selection {
+        match *byte {
+            b'0'..=b'9' if at < 2 => {
+                numbers[at] = numbers[at]
+                    .saturating_mul(10)
+                    .saturating_add(u32::from(*byte - b'0'));
+            }
+            b':' => at = at.saturating_add(1),
+            b'[' | b']' => {}
+            _ => return None,
+        }
+    }
+    Some((numbers[0], at == 0 || numbers[0] >= numbers[1]))
+}
+
+/// Appends the variable of a line, with the index of its bit.
+pub(crate) fn push_variable(
+    text: &mut Text,
+    alloc: Global,
+    bound: &Bound<'_>,
+    variables: &[Variable],
+) -> Result<(), AllocError> {
+    let (path, selection) = path_of(bound.source);
+    text.push(path)?;
+    let declared = variables
+        .iter()
+        .find(|variable| variable.path.as_bytes() == path);
+    let bit = match (leftmost(selection), declared) {
+        (Some((left, true)), _) if !selection.is_empty() => Some(left.saturating_sub(bound.place)),
+        (Some((left, false)), _) if !selection.is_empty() => Some(left.saturating_add(bound.place)),
+        (_, Some(variable)) if variable.index.is_some() => Some(bit_number(variable, bound.place)),
+        _ => None,
+    };
+    match bit {
+        Some(bit) => {
+            text.push(b"[")?;
+            text.push_decimal(alloc, u64::from(bit))?;
+            text.push(b"]")
+        }
+        None => Ok(()),
+    }
+}

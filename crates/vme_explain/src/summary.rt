@@ -1,0 +1,189 @@
+//! What is told of a recording without a break.
+
+use crate::excerpt::levels_from;
+use crate::idle::{control_line, fit_lines, is_fit_in, moved_lines};
+use crate::page::{Subject, push_instant, push_open};
+use crate::rows::{Kind, Part, count_of, open_row};
+use std::alloc::{AllocError, Global};
+use vme_listing::Row;
+use vme_text::Text;
+use vme_trace::{Line, Lines};
+
+/// One more than the greatest number of a line.
+const LINE_COUNT: u8 = 159;
+
+/// What was judged of a conforming recording, and what was pending at its end.
+pub(crate) fn push_summary(
+    text: &mut Text,
+    alloc: Global,
+    subject: &Subject<'_>,
+) -> Result<(), AllocError> {
+    let start = first_instant(subject.rows);
+    let end = subject.capture.steps().len() as u32;
+    text.push(b"\njudged: from instant ")?;
+    push_instant(text, alloc, subject.capture, start)?;
+    text.push(b" to instant ")?;
+    push_instant(text, alloc, subject.capture, end)?;
+    text.push(b"\n")?;
+    push_tenures(text, alloc, subject)?;
+    push_counts(
+        text,
+        alloc,
+        subject.rows,
+        "cycles: ",
+        &[
+            (Kind::Singles, " single, "),
+            (Kind::Blocks, " block transfer, "),
+            (Kind::Frees, " with a free code, "),
+            (Kind::Acknowledges, " interrupt acknowledge\n"),
+        ],
+    )?;
+    push_counts(
+        text,
+        alloc,
+        subject.rows,
+        "transfers: ",
+        &[
+            (Kind::Reads, " read, "),
+            (Kind::Writes, " write; "),
+            (Kind::Done, " answered by DTACK, "),
+            (Kind::Errors, " by BERR, "),
+            (Kind::Pending, " not answered\n"),
+        ],
+    )?;
+    push_pending(text, alloc, subject)?;
+    push_unmoved(text, subject, start)
+}
+
+/// The idle instant from which on was judged.
+fn first_instant(rows: &[Row]) -> u32 {
+    match rows.first() {
+        Some(Row::Start { instant }) => *instant,
+        _ => 0,
+    }
+}
+
+fn push_counts(
+    text: &mut Text,
+    alloc: Global,
+    rows: &[Row],
+    name: &str,
+    kinds: &[(Kind, &str)],
+) -> Result<(), AllocError> {
+    text.push(name.as_bytes())?;
+    for (kind, behind) in kinds {
+        text.push_decimal(alloc, count_of(*kind, rows) as u64)?;
+        text.push(behind.as_bytes())?;
+    }
+    Ok(())
+}
+
+/// Appends how many tenures there are, by level and slot.
+fn push_tenures(text: &mut Text, alloc: Global, subject: &Subject<'_>) -> Result<(), AllocError> {
+    text.push(b"tenures: ")?;
+    text.push_decimal(alloc, count_of(Kind::OpenTenures, subject.rows) as u64)?;
+    text.push(b" open before judging starts")?;
+    for level in 0..4 {
+        for slot in 1..22 {
+            let count = count_of(Kind::Tenures { level, slot }, subject.rows) as u64;
+            if count > 0 {
+                text.push(b", ")?;
+                text.push_decimal(alloc, count)?;
+                text.push(b" by level ")?;
+                text.push_decimal(alloc, u64::from(level))?;
+                text.push(b" in slot ")?;
+                text.push_decimal(alloc, u64::from(slot))?;
+            }
+        }
+    }
+    text.push(b"\n")
+}
+
+/// Appends what is open at the end.
+fn push_pending(text: &mut Text, alloc: Global, subject: &Subject<'_>) -> Result<(), AllocError> {
+    let is_any = [Part::Tenure, Part::Cycle, Part::Transfer]
+        .iter()
+        .any(|part| open_row(*part, subject.rows).is_some());
+    if !is_any {
+        return text.push(b"pending at the end: nothing\n");
+    }
+    text.push(b"pending at the end:\n")?;
+    push_open(text, alloc, subject)
+}
+
+/// Appends the control lines that never moved where something was judged.
+fn push_unmoved(text: &mut Text, subject: &Subject<'_>, start: u32) -> Result<(), AllocError> {
+    let moved = moved_lines(subject.capture, start);
+    text.push(b"control lines that never moved:")?;
+    let mut is_any = false;
+    for number in 0..LINE_COUNT {
+        if let Some(line) = control_line(subject.capture.opening(), number) {
+            if !moved.has(line) {
+                is_any = true;
+                text.push(b" ")?;
+                text.push(line.name().as_bytes())?;
+            }
+        }
+    }
+    if !is_any {
+        text.push(b" none")?;
+    }
+    text.push(b"\n")
+}
+
+/// What an idle bus asks of a line.
+fn wanted(line: Line) -> &'static str {
+    let number = line.number();
+    if number <= 4 || 50 <= number {
+        ": not High"
+    } else {
+        ": not known"
+    }
+}
+
+/// Which lines kept a bus from being idle.
+pub(crate) fn push_never_idle(
+    text: &mut Text,
+    alloc: Global,
+    subject: &Subject<'_>,
+) -> Result<(), AllocError> {
+    text.push(
+        b"\nJudging starts where every control line is known, and AS, the strobes, the answers and all nets are High.\n",
+    )?;
+    let end = subject.capture.steps().len();
+    let fit = fit_lines(subject.capture);
+    let mut is_any = false;
+    for number in 0..LINE_COUNT {
+        if let Some(line) = control_line(subject.capture.opening(), number) {
+            if !fit.has(line) {
+                is_any = true;
+                text.push(line.name().as_bytes())?;
+                text.push(wanted(line).as_bytes())?;
+                text.push(b" at any instant\n")?;
+            }
+        }
+    }
+    if is_any {
+        return Ok(());
+    }
+    text.push(b"Each line is so at some instant, but not all at once; at the last instant, ")?;
+    push_instant(text, alloc, subject.capture, end as u32)?;
+    text.push(b":\n")?;
+    for lines in &levels_from(alloc, subject.capture, end, end)? {
+        push_unfit(text, lines)?;
+    }
+    Ok(())
+}
+
+fn push_unfit(text: &mut Text, lines: &Lines) -> Result<(), AllocError> {
+    for number in 0..LINE_COUNT {
+        if let Some(line) = control_line(lines, number) {
+            if !is_fit_in(lines, line) {
+                text.push(line.name().as_bytes())?;
+                text.push(wanted(line).as_bytes())?;
+                text.push(b"\n")?;
+            }
+        }
+    }
+    Ok(())
+}

@@ -1,0 +1,21 @@
+//! What a dump has for those who want to bind it: its variables, and a binding for it, found by the variables' names.
+//!
+//! [`write_binding`] is the crate's promise: what it writes is a binding by the format, so each line is bound once, and
+//! it makes a recording of the dump without a fault. Which variables it finds is only tested. [`variables_text`] lists
+//! the variables, how often each changes, the time scale and the last time. Start reading at `names`, which says what
+//! the name of a variable means, and go on with `finding` and `proposal`.
+#![tactic(auto)]
+
+mod changes;
+mod finding;
+mod names;
+mod proposal;
+#[cfg(test)]
+mod tests;
+mod timescale;
+mod variables;
+mod writing;
+
+pub use names::bit_number;
+pub use variables::variables_text;
+pub use writing::write_binding;

@@ -1,0 +1,3 @@
+pub mod Deliveries
+pub mod Judgements
+pub mod Outcomes

@@ -1,0 +1,129 @@
+//! The verdict on a recording by workers.
+
+ghost use Rattle.std.specs.Prelude.{◌≡◌, ◌<◌, ◌≤◌, IfErr, IfOk, Err, Ok, Some, length};
+ghost use Rattle.vme_trace.specs.Trace.{Trace};
+ghost use Rattle.vme_trace.specs.Verdict.{rules_in_force, verdict_by};
+ghost use Rattle.vme_summary.specs.Joins.{BlocksJoin, joined_trace};
+ghost use Rattle.vme_pods.specs.Deliveries.{AreOf};
+ghost use Rattle.vme_pods.specs.Judgements.{Gives, IsPassing, judgement_of, verdict_in_blocks};
+ghost use Rattle.vme_pods.specs.Outcomes.{MayCome};
+ghost use Rattle.vme_pods.specs.declared.refusal.Refusal.TheVariants.{NoWorker};
+
+use crate::deliveries::deliveries_of;
+use crate::recording::recording_in;
+use crate::refusal::Refusal;
+use std::alloc::Global;
+use std::sync::Wait;
+use std::thread::Threads;
+use vme_bind::Binding;
+use vme_floor::{Open, Report, RunFault, run};
+use vme_trace::{Block, Capture, CutFault, Verdict};
+
+/// How the recording is delivered.
+#[derive(Clone, Copy, Debug, PartialEq, Eq)]
+pub struct Plan {
+    /// The steps of a block, 1 to 65,536.
+    pub block: u32,
+    /// The workers, 1 to 64.
+    pub workers: u32,
+    /// What the order and the repetition of the deliveries are drawn by; without it they are in the order of their
+    /// numbers.
+    pub seed: Option<u64>,
+}
+
+/// The verdict on the recording that a binding makes of the dump that a text is, or the first reason that there is
+/// none. The recording is cut into blocks, and workers deliver them in the order that the plan says. Whatever the
+/// order, the repetition and the number of workers, the answer is the same one, unless memory is short, a thread can't
+/// be started, or a block is stray.
+pub fn judgement_by_pods<R: Threads + Wait + Sync>(
+    rt: &R,
+    alloc: Global,
+    binding: &Binding,
+    dump: &[u8],
+    plan: Plan,
+) -> Result<Verdict, Refusal>
+    requires block { (1 ≤ plan.block) × (plan.block ≤ 65536) }
+    requires workers { (1 ≤ plan.workers) × (plan.workers ≤ 64) }
+    ensures exact { Gives (λ verdict. verdict) result (judgement_of binding.now dump.now plan.block) }
+    ensures alone { IfErr result (λ refusal. refusal ≡ NoWorker → 1 < plan.workers) }
+{
+    match recording_in(alloc, binding, dump) {
+        Ok(capture) => verdict_by_pods(rt, alloc, &capture, plan),
+        Err(refusal) => Err(refusal),
+    }
+}
+
+/// The verdict on a recording that is cut into blocks.
+fn verdict_by_pods<R: Threads + Wait + Sync>(
+    rt: &R,
+    alloc: Global,
+    capture: &Capture,
+    plan: Plan,
+) -> Result<Verdict, Refusal>
+    requires block { (1 ≤ plan.block) × (plan.block ≤ 65536) }
+    requires workers { (1 ≤ plan.workers) × (plan.workers ≤ 64) }
+    ensures exact { Gives (λ verdict. verdict) result (verdict_in_blocks plan.block capture.now) }
+    ensures alone { IfErr result (λ refusal. refusal ≡ NoWorker → 1 < plan.workers) }
+{
+    // Its contract says that the recording is well formed, so that the blocks join.
+    let _ = capture.steps();
+    match capture.cut(alloc, plan.block) {
+        Ok(blocks) => verdict_on_blocks(rt, alloc, blocks, plan),
+        Err(CutFault::TooManyBlocks) => Err(Refusal::TooManyBlocks),
+        Err(CutFault::BadSize) | Err(CutFault::Memory) => Err(Refusal::Memory),
+    }
+}
+
+/// The verdict on the recording that blocks make which join.
+fn verdict_on_blocks<R: Threads + Wait + Sync>(
+    rt: &R,
+    alloc: Global,
+    blocks: Vec<Block>,
+    plan: Plan,
+) -> Result<Verdict, Refusal>
+    requires numbered { AreOf blocks.items blocks.items }
+    requires join { BlocksJoin blocks.items }
+    requires count { (1 ≤ length blocks.items) × (length blocks.items ≤ 4096) }
+    requires workers { (1 ≤ plan.workers) × (plan.workers ≤ 64) }
+    ensures exact { (t : Trace) → joined_trace blocks.items ≡ Some t
+        → Gives (λ verdict. verdict) result (Ok (verdict_by rules_in_force t)) }
+    ensures alone { IfErr result (λ refusal. refusal ≡ NoWorker → 1 < plan.workers) }
+{
+    let total = blocks.len() as u32;
+    match deliveries_of(alloc, blocks, plan.seed) {
+        Ok(deliveries) => {
+            let outcome = run(rt, alloc, deliveries.as_slice(), total, plan.workers, &Open);
+            verdict_of(outcome)
+        }
+        Err(_) => Err(Refusal::Memory),
+    }
+}
+
+/// The verdict of a report, or what a fault is to the program.
+fn verdict_of(outcome: Result<Report, RunFault>) -> Result<Verdict, Refusal>
+    requires { IfErr outcome MayCome }
+    ensures exact { (v : Verdict) → IfOk outcome (λ report. report.verdict ≡ v)
+        → Gives (λ verdict. verdict) result (Ok v) }
+    ensures alone { IfErr result (λ refusal. refusal ≡ NoWorker → outcome ≡ Err RunFault.NoWorker) }
+{
+    match outcome {
+        Ok(report) => Ok(report.verdict),
+        Err(fault) => Err(refusal_of(fault)),
+    }
+}
+
+/// What a fault of a run is to the program.
+fn refusal_of(fault: RunFault) -> Refusal
+    requires { MayCome fault }
+    ensures passing { IsPassing result }
+    ensures alone { result ≡ NoWorker → fault ≡ RunFault.NoWorker }
+{
+    match fault {
+        RunFault::NoWorker => Refusal::NoWorker,
+        RunFault::Stray => Refusal::Stray,
+        RunFault::Memory => Refusal::Memory,
+        // All deliveries of a number were answered with want of memory.
+        RunFault::Missing { .. } => Refusal::Memory,
+        _ => unreachable!(),
+    }
+}

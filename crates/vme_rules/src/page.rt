@@ -1,0 +1,37 @@
+//! The guides as text.
+
+use crate::guide::{ALL, Guide};
+use std::alloc::{AllocError, Global};
+use vme_text::Text;
+use vme_trace::Rule;
+
+/// Appends what a rule asks, five lines. Without memory the text ends somewhere in them.
+pub fn push_rule(text: &mut Text, rule: Rule) -> Result<(), AllocError> {
+    let told = Guide::of(rule);
+    push_row(text, rule.name().as_bytes(), told.sentence.as_bytes())?;
+    push_row(text, b"  line", told.line.as_bytes())?;
+    push_row(text, b"  section", told.section.as_bytes())?;
+    push_row(text, b"  usually", told.causes.as_bytes())
+}
+
+/// A name, and behind a colon what it is.
+fn push_row(text: &mut Text, name: &[u8], value: &[u8]) -> Result<(), AllocError> {
+    text.push(name)?;
+    text.push(b": ")?;
+    text.push(value)?;
+    text.push(b"\n")
+}
+
+/// What one rule asks, or what each does, in their order.
+pub fn rules_text(alloc: Global, only: Option<Rule>) -> Result<Text, AllocError> {
+    let mut text = Text::new(alloc);
+    match only {
+        Some(rule) => push_rule(&mut text, rule)?,
+        None => {
+            for rule in ALL {
+                push_rule(&mut text, rule)?;
+            }
+        }
+    }
+    Ok(text)
+}

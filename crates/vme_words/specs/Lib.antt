@@ -1,0 +1,3 @@
+pub mod Commands
+pub mod OrderFaults
+pub mod Orders

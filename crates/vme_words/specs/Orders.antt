@@ -1,0 +1,108 @@
+-- The order that the matches of the words are.
+use Rattle.std.specs.Prelude.{◌≡◌, ℕ, pos, true, List, [], ◌∷◌, ◌++◌, map, codes, Option, None, Some, is_some, option_map, string_bytes}
+use Rattle.std.specs.Str.Parse.{digits_value, without_leading_plus}
+use Rattle.clap.specs.Words.{IsSignedIn, Row, Text, first_of, one_of, without_minus}
+use Rattle.vme_words.specs.declared.order.Order.{Order}
+use Rattle.vme_words.specs.declared.order.Task.{Task}
+use Rattle.vme_words.specs.declared.order.Task.TheVariants.{Check, List as Listing, Confirm, Rules, Variables, Bind, Explain}
+
+-- the number that a text says, which may begin with a plus sign
+abbrev pub number_of : Text → ℕ
+number_of text = digits_value 10 (without_leading_plus text)
+
+-- the number of an option
+abbrev pub number_in : Text → List Row → Option ℕ
+number_in name rows = option_map number_of (one_of name rows)
+
+-- the words that stand for the files
+abbrev pub names_in : List Row → List (Option Text)
+names_in rows = first_of (codes "BINDING") rows ∷ first_of (codes "DUMP") rows ∷ []
+
+-- a word, if it is there
+abbrev pub if_given : Option Text → List (Option Text)
+if_given None = []
+if_given (Some word) = Some word ∷ []
+
+-- the word of a task
+abbrev pub task_name : Task → Text
+task_name Check = codes "check"
+task_name Listing = codes "list"
+task_name Confirm = codes "confirm"
+task_name Rules = codes "rules"
+task_name Variables = codes "variables"
+task_name Bind = codes "bind"
+task_name Explain = codes "explain"
+
+-- the matches of a subcommand on a recording are this order
+pub record SaysOrder (order : Order) (rows : List Row) : Type 0 where
+  pub block : number_in (codes "block") rows ≡ Some order.block
+  pub workers : number_in (codes "workers") rows ≡ Some order.workers
+  pub names : map (λ name. Some (string_bytes name)) order.names.items ≡ names_in rows
+
+-- the matches of the subcommand on a listing are this order, whose numbers are those that the others have by default
+pub record SaysConfirmation (order : Order) (rows : List Row) : Type 0 where
+  pub block : order.block ≡ 16384
+  pub workers : order.workers ≡ 4
+  pub names : map (λ name. Some (string_bytes name)) order.names.items ≡ names_in rows ++ first_of (codes "LISTING") rows ∷ []
+
+-- an order of these words, whose numbers are those that the others have by default
+pub record SaysWords (order : Order) (words : List (Option Text)) : Type 0 where
+  pub block : order.block ≡ 16384
+  pub workers : order.workers ≡ 4
+  pub names : map (λ name. Some (string_bytes name)) order.names.items ≡ words
+
+abbrev pub Says : Task → Order → List Row → Type 0
+Says Check order rows = SaysOrder order rows
+Says Listing order rows = SaysOrder order rows
+Says Confirm order rows = SaysConfirmation order rows
+Says Rules order rows = SaysWords order (if_given (first_of (codes "RULE") rows))
+Says Variables order rows = SaysWords order (first_of (codes "DUMP") rows ∷ [])
+Says Bind order rows = SaysWords order (first_of (codes "DUMP") rows ∷ if_given (first_of (codes "slots") rows))
+Says Explain order rows = SaysWords order (names_in rows ++ if_given (first_of (codes "gtkw") rows))
+
+-- the subcommand that was met, with its matches, is this order
+pub record IsOrder (order : Order) (met : Option (Text × List Row)) : Type 0 where
+  pub rows : List Row
+  pub command : met ≡ Some (task_name order.command, rows)
+  pub says : Says order.command order rows
+
+-- ---- which matches have what an order needs
+
+-- the option has a text that says a number from 1 to the greatest, and is read without a minus sign, as clap reads such numbers
+pub record HasNumber (name : Text) (greatest : ℕ) (rows : List Row) : Type 0 where
+  pub text : Text
+  pub read : one_of name rows ≡ Some (without_minus text)
+  pub says : IsSignedIn (pos 1) (pos greatest) text
+
+-- the file is named
+abbrev pub HasName : Text → List Row → Type 0
+HasName name rows = is_some (first_of name rows) ≡ true
+
+pub record HasNames (rows : List Row) : Type 0 where
+  pub binding : HasName (codes "BINDING") rows
+  pub dump : HasName (codes "DUMP") rows
+
+pub record HasRecording (rows : List Row) : Type 0 where
+  pub block : HasNumber (codes "block") 65536 rows
+  pub workers : HasNumber (codes "workers") 64 rows
+  pub names : HasNames rows
+
+pub record HasConfirmation (rows : List Row) : Type 0 where
+  pub names : HasNames rows
+  pub listing : HasName (codes "LISTING") rows
+
+abbrev pub HasAll : Task → List Row → Type 0
+HasAll Check rows = HasRecording rows
+HasAll Listing rows = HasRecording rows
+HasAll Confirm rows = HasConfirmation rows
+HasAll Rules rows = Unit {0}
+HasAll Variables rows = HasName (codes "DUMP") rows
+HasAll Bind rows = HasName (codes "DUMP") rows
+HasAll Explain rows = HasNames rows
+
+-- a task was met, and its matches have all that its order needs
+pub record HasOrder (met : Option (Text × List Row)) : Type 0 where
+  pub task : Task
+  pub rows : List Row
+  pub command : met ≡ Some (task_name task, rows)
+  pub has : HasAll task rows

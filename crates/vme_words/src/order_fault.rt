@@ -1,0 +1,36 @@
+//! Why a command line asks for nothing.
+
+ghost use Rattle.std.specs.Prelude.{◌≡◌};
+ghost use Rattle.vme_words.specs.declared.order_fault.OrderFault.TheVariants.{Memory};
+ghost use Rattle.vme_words.specs.OrderFaults.{ComesOf};
+
+use clap::error::ErrorKind;
+use std::alloc::AllocError;
+
+/// Why the words are no order.
+#[derive(Debug, Drop)]
+pub enum OrderFault {
+    /// The words are wrong, or ask for help: the text says which.
+    Usage(clap::Error),
+    /// There is no memory.
+    Memory,
+}
+
+impl From<AllocError> for OrderFault {
+    ghost from_gives = { λ _ fault. fault ≡ Memory };
+
+    fn from(_e: AllocError) -> OrderFault {
+        OrderFault::Memory
+    }
+}
+
+impl From<clap::Error> for OrderFault {
+    ghost from_gives = { λ error fault. ComesOf error fault };
+
+    fn from(error: clap::Error) -> OrderFault {
+        match error.kind() {
+            ErrorKind::OutOfMemory => OrderFault::Memory,
+            _ => OrderFault::Usage(error),
+        }
+    }
+}

@@ -1,0 +1,17 @@
+-- What a command writes of a dump that is refused.
+use Rattle.std.proofs.Common.{◌≡◌, ℕ, List}
+use Rattle.std.specs.Prelude.{Result, Ok, Err}
+use Rattle.vcd_read.specs.Contents.{Contents}
+use Rattle.vmecheck.specs.Answers.{Gives}
+use Rattle.vmecheck.specs.Told.{IsBindingFor, IsTextOf}
+use Rattle.vmecheck.specs.declared.refusal.Refusal.{Refusal}
+use Rattle.vmecheck.specs.declared.refusal.Refusal.TheVariants.{BadBinding, Memory}
+
+pub text_refused : (read : Result Contents Refusal) (r : Refusal) → Gives (λ (d : Contents). d) (Err r) read → IsTextOf read (Err r)
+text_refused read Memory gives = gives
+text_refused read r gives = gives
+
+pub binding_refused : (read : Result Contents Refusal) (r : Refusal) → Gives (λ (d : Contents). d) (Err r) read → IsBindingFor read (Err r)
+binding_refused read Memory gives = gives
+binding_refused read (BadBinding fault) gives = tt
+binding_refused read r gives = gives

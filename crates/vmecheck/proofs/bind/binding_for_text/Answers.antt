@@ -1,0 +1,15 @@
+use Rattle.std.specs.Prelude.{Ok}
+use Rattle.vcd_read.specs.Meaning.{dump_of}
+use Rattle.vmecheck.specs.Answers.{or_bad_dump}
+use Rattle.vmecheck.proofs.AnswerLemmas.{capture_by-recorded, text_recorded-ok}
+use Rattle.vmecheck.proofs.bind.binding_for_text.Goals as goal
+
+pub returns-in-Ok : goal.returns-in-Ok
+returns-in-Ok c =
+    let made = c.in-Ok.ensures.ok in
+    let dump = c.args.dump.now in (
+      made.bound,
+      made.recording,
+      made.is_binding,
+      capture_by-recorded made.bound (or_bad_dump (dump_of dump)) (Ok made.recording) (text_recorded-ok made.bound dump made.recording made.records),
+    )
