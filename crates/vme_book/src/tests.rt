@@ -1,4 +1,7 @@
-use crate::book::{Book, BookFault, CloseFault, InsertFault};
+ghost use Rattle.std.specs.Prelude.{◌≡◌, IfOk};
+ghost use Rattle.vme_summary.specs.Stands.{first_number};
+
+use crate::book::{Book, BookFault, CloseFault, InsertFault, Whole};
 use smallvec::SmallVec;
 use std::alloc::Global;
 use std::process::Abort;
@@ -138,14 +141,24 @@ fn insert(rt: &impl Abort, alloc: Global, book: &mut Book, block: Block) -> Resu
     Ok(())
 }
 
-/// Why a book isn't closed, where it isn't. Where memory is short once, it is closed again.
-fn refused(alloc: Global, book: Book) -> Option<CloseFault> {
+/// What closing a book gives. Where memory is short once, the book tells what it told before, and is closed again.
+fn closed(rt: &impl Abort, alloc: Global, book: Book) -> Result<Whole, (Book, CloseFault)>
+    ensures { IfOk result (λ whole. first_number whole.span ≡ 0) }
+{
+    let before = book.so_far();
     match book.close(alloc) {
+        Err((again, CloseFault::Memory)) => {
+            assert!(rt; again.so_far() == before);
+            again.close(alloc)
+        }
+        answer => answer,
+    }
+}
+
+/// Why a book isn't closed, where it isn't.
+fn refused(rt: &impl Abort, alloc: Global, book: Book) -> Option<CloseFault> {
+    match closed(rt, alloc, book) {
         Ok(_) => None,
-        Err((book, CloseFault::Memory)) => match book.close(alloc) {
-            Ok(_) => None,
-            Err((_, why)) => Some(why),
-        },
         Err((_, why)) => Some(why),
     }
 }
@@ -183,19 +196,10 @@ fn starting_at(rt: &impl Abort, time: u64, block: Block) -> Result<Block, Fail> 
     })
 }
 
-/// A read cut into single steps, inserted from the last one on, conforms once block 0 is in.
-fn assert_backwards(rt: &impl Abort, alloc: Global) -> Result<(), Fail> {
-    let mut book = book_of(alloc, 14)?;
-    for block in read_blocks(alloc, 1)?.into_iter().rev() {
-        assert!(rt; book.so_far().is_none());
-        insert(rt, alloc, &mut book, block)?;
-    }
-    assert!(rt; book.so_far() == Some(Verdict::Conforming));
-    let whole = match book.close(alloc) {
-        Ok(whole) => whole,
-        Err((book, _)) => book.close(alloc).ok().ok_or("not closed")?,
-    };
-    assert_eq!(rt; (whole.span.last(), whole.span.steps()), (13, 14));
+/// The book closes to the worked read: its span ends at a number, and its listing is the one below.
+fn assert_read(rt: &impl Abort, alloc: Global, book: Book, last: u32) -> Result<(), Fail> {
+    let whole = closed(rt, alloc, book).ok().ok_or("not closed")?;
+    assert_eq!(rt; (whole.span.last(), whole.span.steps()), (last, 14));
     assert_eq!(rt; whole.capture.steps().len(), 14);
     let rows = match whole.span.listing(alloc) {
         Ok(listing) => listing,
@@ -211,6 +215,39 @@ fn assert_backwards(rt: &impl Abort, alloc: Global) -> Result<(), Fail> {
     Ok(())
 }
 
+/// A read cut into single steps, inserted from the last one on, conforms once block 0 is in.
+fn assert_backwards(rt: &impl Abort, alloc: Global) -> Result<(), Fail> {
+    let mut book = book_of(alloc, 14)?;
+    for block in read_blocks(alloc, 1)?.into_iter().rev() {
+        assert!(rt; book.so_far().is_none());
+        insert(rt, alloc, &mut book, block)?;
+    }
+    assert!(rt; book.so_far() == Some(Verdict::Conforming));
+    assert_read(rt, alloc, book, 13)
+}
+
+/// Three blocks make the read in each of their six orders.
+fn assert_six_orders(rt: &impl Abort, alloc: Global) -> Result<(), Fail> {
+    for order in [
+        [0, 1, 2],
+        [0, 2, 1],
+        [1, 0, 2],
+        [1, 2, 0],
+        [2, 0, 1],
+        [2, 1, 0],
+    ] {
+        let blocks = read_blocks(alloc, 5)?;
+        let mut book = book_of(alloc, 3)?;
+        for number in order {
+            let block = blocks.get(number).ok_or("no such block")?.copy(alloc)?;
+            insert(rt, alloc, &mut book, block)?;
+        }
+        assert!(rt; book.so_far() == Some(Verdict::Conforming));
+        assert_read(rt, alloc, book, 2)?;
+    }
+    Ok(())
+}
+
 /// Without block 1, block 0 alone is told of, and block 1 is missing.
 fn assert_missing(rt: &impl Abort, alloc: Global) -> Result<(), Fail> {
     let mut blocks = read_blocks(alloc, 5)?;
@@ -221,7 +258,7 @@ fn assert_missing(rt: &impl Abort, alloc: Global) -> Result<(), Fail> {
     insert(rt, alloc, &mut book, first)?;
     insert(rt, alloc, &mut book, last)?;
     assert!(rt; book.so_far() == Some(Verdict::Conforming));
-    assert!(rt; refused(alloc, book) == Some(CloseFault::Missing(1)));
+    assert!(rt; refused(rt, alloc, book) == Some(CloseFault::Missing(1)));
     Ok(())
 }
 
@@ -240,7 +277,7 @@ fn assert_torn_by_lines(rt: &impl Abort, alloc: Global) -> Result<(), Fail> {
     assert!(rt; refusal(rt, alloc, &mut book, again)? == Some(InsertFault::Doubled));
     insert(rt, alloc, &mut book, first)?;
     assert!(rt; book.so_far() == Some(Verdict::Conforming));
-    assert!(rt; refused(alloc, book) == Some(CloseFault::Torn(2)));
+    assert!(rt; refused(rt, alloc, book) == Some(CloseFault::Torn(2)));
     Ok(())
 }
 
@@ -261,7 +298,7 @@ fn assert_torn_across_an_empty_block(rt: &impl Abort, alloc: Global) -> Result<(
     insert(rt, alloc, &mut book, empty)?;
     insert(rt, alloc, &mut book, first)?;
     assert!(rt; book.so_far() == Some(Verdict::Conforming));
-    assert!(rt; refused(alloc, book) == Some(CloseFault::Torn(2)));
+    assert!(rt; refused(rt, alloc, book) == Some(CloseFault::Torn(2)));
     Ok(())
 }
 
@@ -272,12 +309,13 @@ fn assert_ranges(rt: &impl Abort, alloc: Global) -> Result<(), Fail> {
     let mut book = book_of(alloc, 3)?;
     let stranger = numbered(3, read_blocks(alloc, 5)?.pop().expect(rt, "a block"));
     assert!(rt; refusal(rt, alloc, &mut book, stranger)? == Some(InsertFault::Stranger));
-    assert!(rt; refused(alloc, book) == Some(CloseFault::Missing(0)));
+    assert!(rt; refused(rt, alloc, book) == Some(CloseFault::Missing(0)));
     Ok(())
 }
 
 fn assert_answers(rt: &impl Abort, alloc: Global) -> Result<(), Fail> {
     assert_backwards(rt, alloc)?;
+    assert_six_orders(rt, alloc)?;
     assert_missing(rt, alloc)?;
     assert_torn_by_lines(rt, alloc)?;
     assert_torn_across_an_empty_block(rt, alloc)?;
@@ -349,7 +387,7 @@ fn assert_order(rt: &impl Abort, alloc: Global, order: Order) -> Result<(), Fail
         line: Line::DTACK,
     });
     assert!(rt; book.so_far() == Some(broken));
-    let whole = book.close(alloc).ok().ok_or("not closed")?;
+    let whole = closed(rt, alloc, book).ok().ok_or("not closed")?;
     assert_eq!(rt; whole.capture.steps().len(), MANY);
     assert_eq!(rt; whole.span.steps(), 4096);
     Ok(())

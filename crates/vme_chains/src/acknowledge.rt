@@ -181,6 +181,7 @@ fn first_unasked(before: &Lines, after: &Lines, changes: &[Change]) -> Option<Li
 }
 
 /// The slots that pass an acknowledge on, by the changes of a step.
+#[inline(always)]
 fn outputs_passing(before: &Lines, after: &Lines, changes: &[Change]) -> Passing
     ensures first { result.first ≡ first_changed (passes before.now after.now) changes.now }
     ensures unasked { result.unasked ≡ first_changed (passes_unasked before.now after.now) changes.now }
@@ -301,6 +302,7 @@ impl Rules for AcknowledgeRules {
         None
     }
 
+    #[inline(always)]
     fn see(before: &Lines, after: &Lines, changes: &[Change]) -> Option<Passing> {
         let seen = outputs_passing(before, after, changes);
         if seen.first.is_some() || changes_memory(before, after) {
@@ -310,6 +312,7 @@ impl Rules for AcknowledgeRules {
         }
     }
 
+    #[inline(always)]
     fn step(
         memory: Acknowledgement,
         before: &Lines,

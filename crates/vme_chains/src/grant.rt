@@ -83,6 +83,7 @@ fn unrequested(before: &Lines, after: &Lines, requests: LevelSet) -> Option<Line
 }
 
 /// What a step shows of grants and tenures.
+#[inline(always)]
 fn seen_between(before: &Lines, after: &Lines, changes: &[Change]) -> Arbitrated
     ensures { result ≡ seen_between_of before.now after.now changes.now }
 {
@@ -180,6 +181,7 @@ impl Rules for GrantRules {
         None
     }
 
+    #[inline(always)]
     fn see(before: &Lines, after: &Lines, changes: &[Change]) -> Option<Arbitrated> {
         if touches_arbitration(changes) || is_cycle_unowned(before, after) {
             Some(seen_between(before, after, changes))
@@ -188,6 +190,7 @@ impl Rules for GrantRules {
         }
     }
 
+    #[inline(always)]
     fn step(
         memory: Arbitration,
         before: &Lines,

@@ -172,6 +172,7 @@ fn address(lines: &Lines) -> u32
 }
 
 /// What the lines say where a cycle starts.
+#[inline(always)]
 pub(crate) fn asked(lines: &Lines) -> Asked
     ensures { result ≡ asked_of lines.now }
 {

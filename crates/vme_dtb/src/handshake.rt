@@ -176,6 +176,7 @@ impl Memory {
     }
 
     /// What is remembered after a step, by the transfer and the cycle that it leaves and whether a strobe rises.
+    #[inline(always)]
     fn left(self, after: &Lines, pending: Pending, cycle: Cycle, rises: bool) -> Memory
         ensures { result ≡ memory_left self after.now pending cycle rises }
     {
@@ -192,6 +193,7 @@ impl Memory {
     }
 
     /// What follows where AS* alone falls.
+    #[inline(always)]
     fn at_cycle_start(self, before: &Lines, after: &Lines) -> Next<Memory>
         requires { is_start_alone before.now after.now ≡ true }
         ensures { result ≡ dtb_next self before.now after.now (edges_between before.now after.now) }
@@ -219,6 +221,7 @@ impl Memory {
     }
 
     /// What follows where strobes move and the answer lines stay.
+    #[inline(always)]
     fn at_strobes(self, before: &Lines, after: &Lines) -> Next<Memory>
         requires { is_strobes_alone before.now after.now ≡ true }
         ensures { result ≡ dtb_next self before.now after.now (edges_between before.now after.now) }
@@ -242,6 +245,7 @@ impl Memory {
     }
 
     /// What follows where DTACK* alone falls while AS* is low.
+    #[inline(always)]
     fn at_answer(self, before: &Lines, after: &Lines) -> Next<Memory>
         requires alone { is_answer_alone before.now after.now ≡ true }
         requires falls { falls_between before.now after.now DTACK ≡ true }
@@ -263,6 +267,7 @@ impl Memory {
     }
 
     /// What follows where DTACK* alone rises.
+    #[inline(always)]
     fn at_ready(self, before: &Lines, after: &Lines) -> Next<Memory>
         requires alone { is_answer_alone before.now after.now ≡ true }
         requires rises { rises_between before.now after.now DTACK ≡ true }
@@ -275,6 +280,7 @@ impl Memory {
     }
 
     /// What follows where neither AS*, the strobes nor BERR* move.
+    #[inline(always)]
     fn at_dtack(self, before: &Lines, after: &Lines) -> Next<Memory>
         requires { is_answer_alone before.now after.now ≡ true }
         ensures { result ≡ dtb_next self before.now after.now (edges_between before.now after.now) }
@@ -323,6 +329,7 @@ impl Rules for HandshakeRules {
         None
     }
 
+    #[inline(always)]
     fn see(before: &Lines, after: &Lines, _changes: &[Change]) -> Option<Moved> {
         if is_handshake_still(before, after) {
             None
@@ -331,6 +338,7 @@ impl Rules for HandshakeRules {
         }
     }
 
+    #[inline(always)]
     fn step(memory: Memory, before: &Lines, after: &Lines, _seen: &Moved) -> Next<Memory> {
         if is_answer_alone(before, after) {
             memory.at_dtack(before, after)

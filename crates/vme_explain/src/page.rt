@@ -30,6 +30,8 @@ pub struct Subject<'a> {
     pub binding: &'a [u8],
     /// The variables of the dump.
     pub variables: &'a [Variable],
+    /// How many units of its time scale a time of the dump stands for, as 10 for 10 ns.
+    pub time_unit: u64,
 }
 
 /// Why a recording is judged as it is: what is said behind the line of its verdict.

@@ -36,7 +36,7 @@ pub fn save_file(alloc: Global, subject: &Subject<'_>, dump: &[u8]) -> Result<Te
     Ok(text)
 }
 
-/// Appends where the picture begins, its scale, and the marker.
+/// Appends where the picture begins, its scale, and the marker. The viewer counts them in the unit of the time scale.
 fn push_view(text: &mut Text, alloc: Global, subject: &Subject<'_>) -> Result<(), AllocError> {
     let capture = subject.capture;
     let end = capture.steps().len() as u32;
@@ -52,13 +52,15 @@ fn push_view(text: &mut Text, alloc: Global, subject: &Subject<'_>) -> Result<()
         Some(time) => time,
         None => time_at(capture, end),
     };
+    let unit = subject.time_unit;
+    let (from, to) = (from.saturating_mul(unit), to.saturating_mul(unit));
     text.push(b"[timestart] ")?;
     text.push_decimal(alloc, from)?;
     text.push(b"\n*-")?;
     text.push_decimal(alloc, scale(to.saturating_sub(from)))?;
     text.push(b".000000 ")?;
     match marker {
-        Some(time) => text.push_decimal(alloc, time)?,
+        Some(_) => text.push_decimal(alloc, to)?,
         None => text.push(b"-1")?,
     }
     for _ in 0..26 {
@@ -84,16 +86,19 @@ fn push_traces(
             let form = if variable.size == 1 { "@28\n" } else { "@22\n" };
             text.push(form.as_bytes())?;
             text.push(path)?;
-            push_index(text, alloc, variable.index)?;
+            push_index(text, alloc, variable)?;
             text.push(b"\n")?;
         }
     }
     Ok(())
 }
 
-fn push_index(text: &mut Text, alloc: Global, index: Option<(u32, u32)>) -> Result<(), AllocError> {
-    let Some((left, right)) = index else {
-        return Ok(());
+/// Appends the index of a variable. The viewer numbers the bits of a vector without one down to 0.
+fn push_index(text: &mut Text, alloc: Global, variable: &Variable) -> Result<(), AllocError> {
+    let (left, right) = match variable.index {
+        Some(index) => index,
+        None if variable.size > 1 => (variable.size - 1, 0),
+        None => return Ok(()),
     };
     text.push(b"[")?;
     text.push_decimal(alloc, u64::from(left))?;

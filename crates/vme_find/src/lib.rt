@@ -2,7 +2,8 @@
 //!
 //! [`write_binding`] is the crate's promise: what it writes is a binding by the format, so each line is bound once, and
 //! it makes a recording of the dump without a fault. Which variables it finds is only tested. [`variables_text`] lists
-//! the variables, how often each changes, the time scale and the last time. Start reading at `names`, which says what
+//! the variables, how often each changes, the time scale and the last time. [`time_unit`] reads off the time scale what
+//! a time stands for. Start reading at `names`, which says what
 //! the name of a variable means, and go on with `finding` and `proposal`.
 #![tactic(auto)]
 
@@ -17,5 +18,6 @@ mod variables;
 mod writing;
 
 pub use names::bit_number;
+pub use timescale::time_unit;
 pub use variables::variables_text;
 pub use writing::write_binding;

@@ -46,9 +46,11 @@ pub(crate) fn scope_and_name(path: &[u8]) -> (&[u8], &[u8]) {
     }
 }
 
-/// What the name of a variable stands for, and how well it fits.
+/// What the name of a variable stands for, and how well it fits. An escaped name, which Icarus writes with the backslash
+/// before it, is as without.
 pub(crate) fn meaning(variable: &Variable) -> Option<(Named, Fit)> {
-    let (_, name) = scope_and_name(variable.path.as_bytes());
+    let (_, written) = scope_and_name(variable.path.as_bytes());
+    let name = behind(written, b"\\").unwrap_or(written);
     for mark in MARKS {
         if let Some(stem) = without_end(name, mark) {
             return stem_meaning(stem, Fit::Marked);

@@ -24,7 +24,7 @@ const HINTS: [(&[u8], &str); 13] = [
     ),
     (
         b"BERR",
-        "right where no slave and no bus timer answers by BERR; a transfer that BERR answered breaks H2 else",
+        "right where no slave and no bus timer answers by BERR; a transfer that BERR answered breaks H2 or H7 else",
     ),
     (
         b"BG",
@@ -38,7 +38,10 @@ const HINTS: [(&[u8], &str); 13] = [
         b"DS",
         "right for a strobe that isn't used; without both there are no transfers to judge",
     ),
-    (b"DTACK", "a transfer that DTACK answered breaks H2 else"),
+    (
+        b"DTACK",
+        "a transfer that DTACK answered breaks H2 or H7 else",
+    ),
     (
         b"IACK",
         "right where no interrupt is acknowledged; such a cycle is taken for an ordinary one else",
@@ -54,6 +57,66 @@ const NOT_FOUND: &str = " wasn't found: 1 is what it shows when nobody drives it
 /// What is said of a group of which some lines weren't found, or can't be named.
 const NOT_WHOLE: &str =
     " wasn't found whole, or its bits have no index: the lines that are missing are 1, what they show when nobody drives them";
+
+/// What is said behind a path of which the dump has different variables.
+const AMBIGUOUS: &str =
+    ", which no binding tells apart: the lines that are missing are 1, what they show when nobody drives them";
+
+/// What is said where no line is bound.
+const NOTHING_BOUND: &str =
+    "# NOTHING IS BOUND: no variable of the dump was found for any line of the bus.\n\
+# Each line below is a constant: a check by this binding judges nothing of the dump.\n";
+
+/// How a binding can name some bits of a variable.
+#[derive(Clone, Copy, PartialEq, Eq)]
+enum Naming {
+    /// By the path alone.
+    Whole,
+    /// By the path and their numbers.
+    Selected,
+    /// Not at all, since the variable has no index.
+    Unnumbered,
+    /// Not at all, since other bits have the same name.
+    Ambiguous,
+}
+
+/// The bits that a name means if it is one of this variable: their net, the place of the first one, and their count.
+fn bits_meant(variable: &Variable, selection: Option<(u32, u32)>) -> Option<(u32, u32, u32)> {
+    let Some((first, last)) = selection else {
+        return Some((variable.net, 0, variable.size));
+    };
+    let (left, right) = variable.index?;
+    let is_inside = (first <= left && last <= first && right <= last)
+        || (left <= first && first <= last && last <= right);
+    if is_inside {
+        let count = first.abs_diff(last).saturating_add(1);
+        Some((variable.net, left.abs_diff(first), count))
+    } else {
+        None
+    }
+}
+
+/// Whether a name means the same bits wherever it means some.
+fn is_unique(variables: &[Variable], named: &Variable, selection: Option<(u32, u32)>) -> bool {
+    let bits = bits_meant(named, selection);
+    let path = named.path.as_bytes();
+    variables.iter().all(|variable| {
+        let other = if variable.path.as_bytes() == path {
+            bits_meant(variable, selection)
+        } else {
+            None
+        };
+        other.is_none() || other == bits
+    })
+}
+
+/// The numbers of the first and the last of so many bits of a variable from this place on.
+fn selection_of(variable: &Variable, place: u32, count: u32) -> (u32, u32) {
+    (
+        bit_number(variable, place),
+        bit_number(variable, place.saturating_add(count).saturating_sub(1)),
+    )
+}
 
 /// The text so far, and what it is of.
 #[derive(Drop)]
@@ -112,9 +175,13 @@ impl<'a> Proposal<'a> {
 
     /// Writes where the lines were found, and how many slots there are.
     fn write_head(&mut self, slots: u8) -> Result<(), AllocError> {
-        self.text.push(b"# Found by the names in the scope ")?;
-        self.push_scope(self.found.scope)?;
-        self.text.push(b": look each line over.\n")?;
+        if self.is_any_named() {
+            self.text.push(b"# Found by the names in the scope ")?;
+            self.push_scope(self.found.scope)?;
+            self.text.push(b": look each line over.\n")?;
+        } else {
+            self.text.push(NOTHING_BOUND.as_bytes())?;
+        }
         let count = self.found.others.len();
         for place in 0..count {
             if let Some(scope) = self.found.others.get(place).copied() {
@@ -148,7 +215,9 @@ impl<'a> Proposal<'a> {
                 return Ok(());
             }
         }
-        if !(0..count).all(|place| self.is_named(first, place)) {
+        if let Some(variable) = self.ambiguous(first, count) {
+            self.write_ambiguous(name, variable)?;
+        } else if !(0..count).all(|place| self.is_named(first, place)) {
             self.write_hint(name, NOT_WHOLE)?;
         }
         for place in 0..count {
@@ -157,15 +226,54 @@ impl<'a> Proposal<'a> {
         Ok(())
     }
 
+    /// How the format can name so many bits of a variable from this one on.
+    fn naming(&self, tap: Tap, count: u32) -> Naming {
+        let Some(variable) = self.variables.get(tap.variable) else {
+            return Naming::Unnumbered;
+        };
+        let is_whole = variable.size == count;
+        let is_numbered = variable.index.is_some();
+        let may_be_whole = is_whole && !(is_numbered && count == 1);
+        if may_be_whole && is_unique(self.variables, variable, None) {
+            return Naming::Whole;
+        }
+        let selection = selection_of(variable, tap.place, count);
+        if is_numbered && is_unique(self.variables, variable, Some(selection)) {
+            Naming::Selected
+        } else if is_numbered || is_whole {
+            Naming::Ambiguous
+        } else {
+            Naming::Unnumbered
+        }
+    }
+
+    /// How the format can name the bit that was found for a line, by how far its number is below a first one.
+    fn line_naming(&self, first: u8, place: u8) -> Option<Naming> {
+        let tap = self.tap(first, place)?;
+        Some(self.naming(tap, 1))
+    }
+
     /// Whether the format can name the bit that was found for a line, by how far its number is below a first one.
     fn is_named(&self, first: u8, place: u8) -> bool {
-        match self.tap(first, place) {
-            Some(tap) => match self.variables.get(tap.variable) {
-                Some(variable) => variable.index.is_some() || variable.size == 1,
-                None => false,
-            },
-            None => false,
+        matches!(
+            self.line_naming(first, place),
+            Some(Naming::Whole | Naming::Selected)
+        )
+    }
+
+    /// Whether the format can name a bit that was found for any line.
+    fn is_any_named(&self) -> bool {
+        (0..159).any(|number| self.is_named(number, 0))
+    }
+
+    /// The first variable that was found for one of some lines and can't be told from another one.
+    fn ambiguous(&self, first: u8, count: u8) -> Option<usize> {
+        for place in 0..count {
+            if self.line_naming(first, place) == Some(Naming::Ambiguous) {
+                return Some(self.tap(first, place)?.variable);
+            }
         }
+        None
     }
 
     /// Writes one line.
@@ -206,27 +314,21 @@ impl<'a> Proposal<'a> {
         let Some(variable) = self.variables.get(tap.variable) else {
             return Ok(false);
         };
-        let is_whole = variable.size == count;
-        if variable.index.is_none() && !is_whole {
+        let naming = self.naming(tap, count);
+        if !matches!(naming, Naming::Whole | Naming::Selected) {
             return Ok(false);
         }
         self.push_name(name)?;
         self.text.push(variable.path.as_bytes())?;
-        if variable.index.is_some() && (!is_whole || count == 1) {
-            self.push_selection(variable, tap.place, count)?;
+        if naming == Naming::Selected {
+            self.push_selection(selection_of(variable, tap.place, count))?;
         }
         self.text.push(b"\n")?;
         Ok(true)
     }
 
-    fn push_selection(
-        &mut self,
-        variable: &Variable,
-        place: u32,
-        count: u32,
-    ) -> Result<(), AllocError> {
-        let left = bit_number(variable, place);
-        let right = bit_number(variable, place.saturating_add(count).saturating_sub(1));
+    fn push_selection(&mut self, selection: (u32, u32)) -> Result<(), AllocError> {
+        let (left, right) = selection;
         self.text.push(b"[")?;
         self.text.push_decimal(self.alloc, u64::from(left))?;
         if left != right {
@@ -251,6 +353,23 @@ impl<'a> Proposal<'a> {
         self.text.push(b"# ")?;
         self.text.push(name)?;
         self.text.push(wrong.as_bytes())?;
+        self.push_hint(name)
+    }
+
+    /// Writes that a name isn't bound, or not whole, since this variable can't be told from another one.
+    fn write_ambiguous(&mut self, name: &[u8], variable: usize) -> Result<(), AllocError> {
+        self.text.push(b"# ")?;
+        self.text.push(name)?;
+        self.text.push(b" was found, but the dump has different variables of the path ")?;
+        if let Some(variable) = self.variables.get(variable) {
+            self.text.push(variable.path.as_bytes())?;
+        }
+        self.text.push(AMBIGUOUS.as_bytes())?;
+        self.push_hint(name)
+    }
+
+    /// Appends what to know of a name that isn't bound, and ends the line.
+    fn push_hint(&mut self, name: &[u8]) -> Result<(), AllocError> {
         for (beginning, hint) in HINTS {
             if name.starts_with(beginning) {
                 self.text.push(b"; ")?;

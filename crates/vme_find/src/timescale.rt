@@ -1,6 +1,8 @@
 //! The time scale of a dump.
 
-use std::alloc::AllocError;
+ghost use Rattle.std.specs.Prelude.{◌≤◌, IfOk};
+
+use std::alloc::{AllocError, Global};
 use vme_text::Text;
 
 /// In which section of the definitions a token stands.
@@ -32,4 +34,29 @@ pub(crate) fn push_timescale(text: &mut Text, dump: &[u8]) -> Result<(), AllocEr
         }
     }
     Ok(())
+}
+
+/// The number that the digits at the beginning of a text are, or the greatest one where it is greater.
+fn leading_number(text: &[u8]) -> u64 {
+    let mut number: u64 = 0;
+    for byte in text {
+        match *byte {
+            b'0'..=b'9' => {
+                number = number
+                    .saturating_mul(10)
+                    .saturating_add(u64::from(*byte - b'0'));
+            }
+            _ => return number,
+        }
+    }
+    number
+}
+
+/// How many units of its time scale a time of a dump stands for, as 10 for 10 ns; 1 where it has no time scale.
+pub fn time_unit(alloc: Global, dump: &[u8]) -> Result<u64, AllocError>
+    ensures { IfOk result (λ units. 1 ≤ units) }
+{
+    let mut scale = Text::new(alloc);
+    push_timescale(&mut scale, dump)?;
+    Ok(leading_number(scale.as_bytes()).max(1))
 }

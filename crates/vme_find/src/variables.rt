@@ -73,8 +73,14 @@ fn written(
     changes: &Changes,
 ) -> Result<Text, AllocError> {
     let mut text = Text::new(alloc);
+    let mut scale = Text::new(alloc);
+    push_timescale(&mut scale, dump)?;
     text.push(b"time scale ")?;
-    push_timescale(&mut text, dump)?;
+    if scale.as_bytes().is_empty() {
+        text.push(b"none")?;
+    } else {
+        text.push(scale.as_bytes())?;
+    }
     text.push(b"\nlast time ")?;
     text.push_decimal(alloc, changes.last())?;
     text.push(b"\nchanges bits variable\n")?;

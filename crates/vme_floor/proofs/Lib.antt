@@ -1,5 +1,8 @@
 pub mod Places
 pub mod Working
+pub mod Collecting
+pub mod Uniting
+pub mod Filing
 pub mod Replying
 pub mod Ordering
 pub mod Weighing

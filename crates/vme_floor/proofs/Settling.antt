@@ -1,8 +1,6 @@
 -- The claims, from the work of all workers and from what the board gave.
-use Rattle.std.proofs.Common.{◌≡◌, ◌≢◌, ◌==◌, ℕ, zero, suc, ◌+◌, ◌<◌, ◌≤◌, cond, List, [], ◌∷◌, length, map, slice_get, Option, Some, None, sym, refl, ap, ◌∙◌, subst, arith, eq-eqb}
+use Rattle.std.proofs.Common.{◌≡◌, ◌≢◌, ◌==◌, ℕ, zero, suc, ◌+◌, ◌<◌, ◌≤◌, cond, List, [], ◌∷◌, length, map, slice_get, Option, Some, None, sym, refl, ap, ◌∙◌, subst, arith, eq-eqb, ⊎_elim}
 use Rattle.std.specs.Option.{option_map}
-use Rattle.std.specs.Prelude.{Bool, true, false, nat_lt, if◌then◌else◌}
-use Rattle.std.proofs.lemmas.Bool.Decides.{nat_tests}
 use Rattle.std.proofs.lemmas.Option.{none-some, same_Some, slice_get_within}
 use mathlib.Core.Logic.{dite}
 use native.Mathlib.Decide.{ℕ_discrete}
@@ -11,40 +9,35 @@ use Rattle.vme_trace.specs.declared.block.Block.{Block}
 use Rattle.vme_summary.specs.Joins.{joined_trace}
 use Rattle.vme_summary.specs.Stands.{SpanStandsFor, first_number}
 use Rattle.vme_summary.specs.declared.span.Span.{Span}
-use Rattle.vme_core.specs.Counting.{occurrences, numbers, HasPair}
+use Rattle.vme_core.specs.Counting.{occurrences, numbers, HasPair, lack, missing_count}
 use Rattle.vme_core.specs.declared.view.View.{View}
 use Rattle.vme_core.proofs.Sums.{occurs_of_pair, pair_of_occurs}
 use Rattle.vme_board.specs.Contents.{HasBlock}
 use Rattle.vme_board.specs.declared.board.Closed.{Closed}
-use Rattle.vme_floor.specs.Answering.{first_refusal, Suits, FiledAs, IsFiled, IsFiledNumber}
+use Rattle.vme_floor.specs.Answering.{Suits, FiledAs, IsFiled, IsFiledNumber}
 use Rattle.vme_floor.specs.Claims.{Answered, IsContent, IsRecorded, IsLeastMissing, IsTorn}
-use Rattle.vme_floor.specs.Orders.{IsLeastEmpty, IsLeastTorn}
-use Rattle.vme_floor.specs.Settling.{reply_of, AreReplies, IsClosing, IsClosed, DoubledThere}
+use Rattle.vme_floor.specs.Orders.{IsLeastTorn}
+use Rattle.vme_floor.specs.Collecting.{HasTakenOwn}
+use Rattle.vme_floor.specs.Settling.{reply_of, AreReplies, DoubledAreFiled, IsAccount, IsClosed, IsUnion}
+use Rattle.vme_floor.specs.declared.collector.Collection.{Collection}
 use Rattle.vme_floor.specs.Works.{number_in, number_at, filing, filings, replied, IsListed, IsReply, IsWork}
 use Rattle.vme_floor.specs.declared.answer.Answer.{Answer}
-use Rattle.vme_floor.specs.declared.answer.Answer.TheVariants.{Filed, Stranger, Doubled}
+use Rattle.vme_floor.specs.declared.answer.Answer.TheVariants.{Filed, Doubled}
 use Rattle.vme_floor.specs.declared.answer.Reply.{Reply}
+use Rattle.vme_book.specs.Inserted as Inserted
+use Rattle.vme_book.specs.Inserted.{IsWhole}
+use Rattle.vme_book.specs.declared.book.Whole.{Whole}
+use Rattle.vme_floor.proofs.Collecting.{count_all, place_of}
 use Rattle.vme_floor.proofs.Ordering.{all_at, all_count}
 use Rattle.vme_floor.proofs.Places.{each_at, get_within}
+use Rattle.vme_floor.proofs.Working.{unrefused}
 use Rattle.vme_floor.proofs.Weighing.{draws_of, files_of, weigh_draws, weigh_filings, weigh_two, weigh_some, is_filing, filing_here, one_block}
 
-abbrev nothing : Option Block
-nothing = None
+abbrev no_block : Option Block
+no_block = None
 
-absent : (contents : List (Option Block)) (n : ℕ) (b : Block) → slice_get contents n ≡ Some None → slice_get contents n ≡ Some (Some b) → ⊥
-absent contents n b e f = let z : nothing ≡ Some b = same_Some nothing (Some b) (sym e ∙ f) in none-some b z
-
--- a bench that took nothing has all that it filed, if nobody took anything
-untaken_all : (total : ℕ) (v : View) (closed : Closed) → IsClosing total v closed → v.takes ≡ [] → closed.taken ≡ 0 → (n : ℕ) (b : Block) → HasPair v.list n b → HasBlock closed.contents.items n b
-untaken_all total v closed c took none n b h = c.untaken none n b h (ap (λ (xs : List (ℕ × Block)). occurrences n (numbers xs)) took)
-
-low_where : (total n : ℕ) (test : Bool) (rest : Option Answer) → nat_lt n total ≡ test → (if test then rest else Some Stranger) ≡ None → n < total
-low_where total n true rest e none = grind (arith, nat_tests)
-low_where total n false rest e none = absurd (none-some Stranger (sym none))
-
--- a block that nothing refuses by itself has a place
-unrefused : (total : ℕ) (b : Block) → first_refusal total b ≡ None → b.number < total
-unrefused total b none = low_where total b.number (nat_lt b.number total) _ refl none
+some_none : (b : Block) → Some b ≡ no_block → ⊥
+some_none b e = none-some b (sym e)
 
 module _ (total : ℕ) (ds : List Block) (v : View) (replies : List Reply) (answers : List Answer) (w : IsWork total ds v replies) (are : AreReplies replies answers) (count : length answers ≡ length ds) where
   reply_at : (k : ℕ) (r : Reply) → slice_get replies k ≡ Some r → IsReply total ds v.list r
@@ -88,53 +81,117 @@ module _ (total : ℕ) (ds : List Block) (v : View) (replies : List Reply) (answ
       (λ ne. let two = weigh_two (files_of ds n) replies p.0 q.0 (reply_of d Filed) (reply_of e Filed) ne p.1 q.1 in let k = weigh_filings ds n replies in
       let a = filing_here (number_at ds d) n (sym (ap number_in f.1)) in let z = filing_here (number_at ds e) n (same ∙ sym (ap number_in g.1)) in absurd (omega (arith, two, k, a, z, w.filed n, w.files_once n)))
 
-  module _ (closed : Closed) (closing : IsClosing total v closed) (others : closed.others ≡ 0) (taken : closed.taken ≡ 0) where
-    is_closed : IsClosed total v closed.contents.items
-    is_closed = record { count = closing.count; listed = untaken_all total v closed closing w.took taken; only = closing.only others }
+  pub filed_below : (d : ℕ) (b : Block) → slice_get answers d ≡ Some Filed → slice_get ds d ≡ Some b → b.number < total
+  filed_below d b at there = unrefused total b (right_at d Filed b at there).0
 
-    filed_at : (n : ℕ) (b : Block) → slice_get closed.contents.items n ≡ Some (Some b) → (b.number ≡ n) × IsFiled ds answers b
+  -- a number that was told filed, was filed
+  told_filed : (n : ℕ) → 0 < filings ds replies n → IsFiledNumber ds answers n
+  told_filed n told =
+      let some = weigh_some (files_of ds n) replies (omega (arith, weigh_filings ds n replies, told)) in
+      let k : ℕ = some.0 in let r : Reply = some.1 in let is = is_filing r.answer (number_at ds r.delivery) n some.3 in
+      let c = get_within ds r.delivery (reply_at k r some.2).0 in
+      (c.0, sym (ap number_in c.1) ∙ sym is.1, (r.delivery, (answer_of k r some.2 ∙ ap (λ (a : Answer). Some a) is.0, c.1)))
+
+  pub none_told : (n : ℕ) → (IsFiledNumber ds answers n → ⊥) → filings ds replies n ≡ 0
+  none_told n none = dite (ℕ_discrete (filings ds replies n) 0) (λ z. z) (λ ne. absurd (none (told_filed n (omega (arith, ne)))))
+
+  -- the first claim
+  pub answered : DoubledAreFiled ds answers (length ds) → Answered total ds answers
+  answered there = record {
+    count = count;
+    right = λ d a b at here. (right_at d a b at here).0;
+    once = filed_once;
+    doubled = λ d b at here. there d b (slice_get_within ds d b here) at here;
+  }
+
+  module _ (contents : List (Option Block)) (is_closed : IsClosed total v contents) where
+    filed_at : (n : ℕ) (b : Block) → slice_get contents n ≡ Some (Some b) → (b.number ≡ n) × IsFiled ds answers b
     filed_at n b at = filed_of n b (is_closed.only n b at)
 
-    -- the first claim
-    pub answered : DoubledThere ds answers closed.contents.items (length ds) → Answered total ds answers
-    answered there = record {
-      count = count;
-      right = λ d a b at here. (right_at d a b at here).0;
-      once = filed_once;
-      doubled = λ d b at here. let c = there d b (slice_get_within ds d b here) at here in let f = filed_at b.number c.0 c.1 in (c.0, f.0, f.1);
-    }
-
-    content : (bs : List Block) → map (λ (b : Block). Some b) bs ≡ closed.contents.items → IsContent total ds answers bs
+    content : (bs : List Block) → contents ≡ map Some bs → IsContent total ds answers bs
     content bs all = record {
-      count = all_count bs closed.contents.items all ∙ is_closed.count;
-      numbered = λ n b at. (filed_at n b (all_at bs closed.contents.items all n b at)).0;
-      filed = λ n b at. (filed_at n b (all_at bs closed.contents.items all n b at)).1;
+      count = all_count bs contents (sym all) ∙ is_closed.count;
+      numbered = λ n b at. (filed_at n b (all_at bs contents (sym all) n b at)).0;
+      filed = λ n b at. (filed_at n b (all_at bs contents (sym all) n b at)).1;
     }
 
     -- the second claim
-    pub recorded : (bs : List Block) (span : Span) (capture : Trace) → 0 < total → map (λ (b : Block). Some b) bs ≡ closed.contents.items → SpanStandsFor span bs → joined_trace bs ≡ Some capture → IsRecorded total ds answers capture span
-    recorded bs span capture some all stands is = record {
+    pub recorded : (whole : Whole) (bs : List Block) → IsWhole contents whole bs → IsRecorded total ds answers whole.capture whole.span
+    recorded whole bs is = record {
       blocks = bs;
-      content = content bs all;
-      joins = stands.extent.join;
-      capture_is = is;
-      stands = stands;
-      first = let c = content bs all in let long = c.count in let b = get_within bs 0 (omega (arith, some, long)) in
-          let number : Some b.0.number ≡ Some span.extent.first = sym (ap (λ (o : Option Block). option_map (λ (x : Block). x.number) o) b.1) ∙ stands.extent.first in sym (same_Some b.0.number span.extent.first number) ∙ c.numbered 0 b.0 b.1;
+      content = content bs is.all;
+      joins = is.stands.extent.join;
+      capture_is = is.capture;
+      stands = is.stands;
+      first = is.starts;
     }
 
     -- the third claim
-    pub least_missing : (n : ℕ) → IsLeastEmpty closed.contents.items n → IsLeastMissing total ds answers n
+    pub least_missing : (n : ℕ) → Inserted.IsLeastMissing contents n → IsLeastMissing total ds answers n
     least_missing n e = record {
       within = let c = is_closed.count in let l = e.within in omega (arith, c, l);
-      missing = λ f. absent closed.contents.items n f.0 e.empty (ap (slice_get closed.contents.items) (sym f.1) ∙ is_closed.listed f.0.number f.0 (listed_of f.2.0 f.0 f.2.1));
-      least = λ k l. let c = e.least k l in let f = filed_at k c.0 c.1 in (c.0, f.0, f.1);
+      missing = λ f. some_none f.0 (same_Some (Some f.0) no_block (sym (ap (slice_get contents) (sym f.1) ∙ is_closed.listed f.0.number f.0 (listed_of f.2.0 f.0 f.2.1)) ∙ place_of contents n no_block e.within e.missing));
+      least = λ k l. let c = e.before k l in let w = e.within in let f = filed_at k c.0 (place_of contents k (Some c.0) (omega (arith, w, l)) c.1) in (c.0, f.0, f.1);
     }
 
-    pub first_torn : (n : ℕ) (bs : List Block) → map (λ (b : Block). Some b) bs ≡ closed.contents.items → IsLeastTorn bs n → IsTorn total ds answers n
-    first_torn n bs all torn = record { blocks = bs; content = content bs all; torn = torn }
+    pub first_torn : (n : ℕ) (bs : List Block) → Inserted.IsLeastTorn contents n bs → IsTorn total ds answers n
+    first_torn n bs torn = record { blocks = bs; content = content bs torn.all; torn = record { within = torn.within; joins = torn.join; torn = torn.torn } }
 
--- a place that is empty was told Filed to nobody
-pub none_filed : (total : ℕ) (ds : List Block) (v : View) (replies : List Reply) (closed : Closed) → IsWork total ds v replies → IsClosing total v closed → closed.taken ≡ 0 → (n : ℕ) → slice_get closed.contents.items n ≡ Some None → filings ds replies n ≡ 0
-none_filed total ds v replies closed w closing taken n empty = dite (ℕ_discrete (occurrences n (numbers v.list)) 0) (λ z. omega (arith, z, w.filed n))
-    (λ ne. let t = pair_of_occurs v.list n (omega (arith, ne)) in absurd (absent closed.contents.items n t.0 empty (untaken_all total v closed closing w.took taken n t.0 t.1)))
+-- what was seen and isn't lacking, is had
+lack_none : (s h : ℕ) → lack s h ≡ 0 → 0 < s → 0 < h
+lack_none zero h e some = absurd (omega (arith, some))
+lack_none (suc s) zero e some = absurd (omega (arith, e))
+lack_none (suc s) (suc h) e some = omega arith
+
+none_missing : (saw had : List ℕ) (limit : ℕ) → missing_count saw had limit ≤ 0 → (n : ℕ) → n < limit → 0 < occurrences n saw → 0 < occurrences n had
+none_missing saw had zero none n low some = absurd (omega (arith, low))
+none_missing saw had (suc k) none n low some = dite (ℕ_discrete n k)
+    (λ is. let z : 0 < occurrences k saw = subst (λ (y : ℕ). 0 < occurrences y saw) is some in
+    subst (λ (y : ℕ). 0 < occurrences y had) (sym is) (lack_none (occurrences k saw) (occurrences k had) (omega (arith, none)) z))
+    (λ ne. none_missing saw had k (omega (arith, none)) n (omega (arith, low, ne)) some)
+
+-- what was collected, and what the board gave
+module _ (total : ℕ) (ds : List Block) (v : View) (replies : List Reply) (c : Collection) (closed : Closed) (k : IsAccount total ds v replies c closed) where
+  -- nothing that was collected is left on the board
+  pub apart : (n : ℕ) (b d : Block) → HasBlock c.book n b → HasBlock closed.contents.items n d → ⊥
+  apart n b d at left =
+      let h = occurs_of_pair v.takes n b (k.collected.took n b at) in
+      some_none d (same_Some (Some d) no_block (sym left ∙ k.closing.gone n h))
+
+  module _ (others : closed.others ≡ 0) (taken : closed.taken ≡ 0) where
+    seen_listed : (n : ℕ) → n < total → 0 < occurrences n v.filed → 0 < occurrences n (numbers v.list)
+    seen_listed n low some = let most = k.closing.saw_filed in none_missing v.filed (numbers v.list) total (omega (arith, most, others)) n low some
+
+    seen_took : (n : ℕ) → n < total → 0 < occurrences n v.taken → 0 < occurrences n (numbers v.takes)
+    seen_took n low some = let most = k.closing.saw_taken in none_missing v.taken (numbers v.takes) total (omega (arith, most, taken)) n low some
+
+    -- what was collected, the bench filed
+    collected_listed : (n : ℕ) (b : Block) → HasBlock c.book n b → HasPair v.list n b
+    collected_listed n b at =
+        let took = k.collected.took n b at in
+        let low : n < total = let l = k.collected.long in let w = slice_get_within c.book n (Some b) at in omega (arith, l, w) in
+        let p = pair_of_occurs v.list n (seen_listed n low (k.collected.saw n (occurs_of_pair v.takes n b took))) in
+        subst (λ (x : Block). HasPair v.list n x) (k.same n p.0 b p.1 took) p.1
+
+    -- all that the bench filed is collected, or left on the board
+    pub closed_all : (all : List (Option Block)) → IsUnion c.book closed.contents.items all → IsClosed total v all
+    closed_all all u = record {
+      count = u.long ∙ k.collected.long;
+      listed = λ n b h. dite (ℕ_discrete (occurrences n (numbers v.takes)) 0)
+          (λ z. let at = k.closing.untaken taken n b h z in u.second n b (slice_get_within closed.contents.items n (Some b) at) at)
+          (λ ne. let p = pair_of_occurs v.takes n (omega (arith, ne)) in u.first n b (k.collected.kept n b (subst (λ (x : Block). HasPair v.takes n x) (sym (k.same n b p.0 h p.1)) p.1)));
+      only = λ n b at. ⊎_elim (λ x. collected_listed n b x) (λ x. k.closing.only others n b x.1) (u.only n b at);
+    }
+
+    -- a bench that took all that it filed, collected all
+    pub all_early : (all : List (Option Block)) → IsUnion c.book closed.contents.items all → HasTakenOwn v → ((n : ℕ) → n < total → (b : Block) × HasBlock all n b) → c.count ≡ total
+    all_early all u own there =
+        let long = k.collected.long in let counted = k.collected.counted in
+        let full = count_all c.book (λ n low.
+        let near : n < total = omega (arith, low, long) in
+        let b = there n near in
+        let h = (closed_all all u).only n b.0 b.1 in
+        let gone : 0 < occurrences n (numbers v.takes) + occurrences n v.taken = own n (occurs_of_pair v.list n b.0 h) in
+        let took : 0 < occurrences n (numbers v.takes) = dite (ℕ_discrete (occurrences n v.taken) 0) (λ z. omega (arith, gone, z)) (λ ne. seen_took n near (omega (arith, ne))) in
+        let p = pair_of_occurs v.takes n took in (p.0, k.collected.kept n p.0 p.1)) in
+        omega (arith, full, counted, long)

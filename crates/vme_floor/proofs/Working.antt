@@ -1,6 +1,8 @@
 -- One more delivery, and the work of two.
 use Rattle.std.proofs.Common.{◌≡◌, ◌==◌, ℕ, zero, suc, ◌+◌, ◌<◌, ◌≤◌, cond, List, [], ◌∷◌, ◌++◌, length, slice_get, Option, Some, None, sym, refl, ap, ◌∙◌, subst, arith, inl, inr, ne_eqb, ◌≢◌}
+use Rattle.std.specs.Prelude.{Bool, true, false, nat_lt, if◌then◌else◌}
 use Rattle.std.proofs.lemmas.Bool.Decides.{nat_tests}
+use Rattle.std.proofs.lemmas.Option.{none-some}
 use mathlib.Core.Logic.{dite}
 use native.Mathlib.Decide.{ℕ_discrete}
 use Rattle.vme_trace.specs.declared.block.Block.{Block}
@@ -8,12 +10,21 @@ use Rattle.vme_core.specs.Counting.{occurrences, numbers, HasPair}
 use Rattle.vme_core.specs.Views.{joint_view}
 use Rattle.vme_core.specs.declared.view.View.{View}
 use Rattle.vme_core.proofs.Sums.{occurrences-append, numbers-append}
-use Rattle.vme_floor.specs.Answering.{Suits}
+use Rattle.vme_floor.specs.Answering.{first_refusal, Suits}
 use Rattle.vme_floor.specs.declared.answer.Answer.{Answer}
 use Rattle.vme_floor.specs.declared.answer.Answer.TheVariants.{Filed, Stranger, TooLong, Malformed, Doubled, Memory}
 use Rattle.vme_floor.specs.declared.answer.Reply.{Reply}
 use Rattle.vme_floor.specs.Settling.{reply_of}
-use Rattle.vme_floor.specs.Works.{number_in, number_at, filing, filings, replied, Each, IsListed, IsReply, IsWork, Lists, left}
+use Rattle.vme_floor.specs.Works.{number_in, number_at, filing, filings, replied, Each, IsListed, IsOldOrFiled, IsReply, IsWork, Lists, left}
+use Rattle.vme_floor.proofs.Weighing.{is_filing}
+
+low_where : (total n : ℕ) (test : Bool) (rest : Option Answer) → nat_lt n total ≡ test → (if test then rest else Some Stranger) ≡ None → n < total
+low_where total n true rest e none = grind (arith, nat_tests)
+low_where total n false rest e none = absurd (none-some Stranger (sym none))
+
+-- a block that nothing refuses by itself has a place
+pub unrefused : (total : ℕ) (b : Block) → first_refusal total b ≡ None → b.number < total
+unrefused total b none = low_where total b.number (nat_lt b.number total) _ refl none
 
 each_append : {A : Type 0} (P : A → Type 0) (xs ys : List A) → Each P xs → Each P ys → Each P (xs ++ ys)
 each_append P [] ys e f = f
@@ -55,12 +66,11 @@ listed_grows xs ys f Memory b r = tt
 replies_grow : (total : ℕ) (ds : List Block) (xs ys : List (ℕ × Block)) → Within xs ys → (rs : List Reply) → Each (IsReply total ds xs) rs → Each (IsReply total ds ys) rs
 replies_grow total ds xs ys f = each_map (IsReply total ds xs) (IsReply total ds ys) (λ t r. (r.0, λ b e. let s = r.1 b e in (s.0, listed_grows xs ys f t.answer b s.1)))
 
-pub no_work : (total : ℕ) (ds : List Block) (v : View) → v.list ≡ [] → v.takes ≡ [] → v.draws ≡ [] → IsWork total ds v []
-no_work total ds v l t d = record {
+pub no_work : (total : ℕ) (ds : List Block) (v : View) → v.list ≡ [] → v.draws ≡ [] → IsWork total ds v []
+no_work total ds v l d = record {
   drew = λ k. ap (occurrences k) d;
   filed = λ n. ap (λ (xs : List (ℕ × Block)). occurrences n (numbers xs)) l;
   right = tt;
-  took = t;
   draws_once = λ k. let z = ap (occurrences k) d in omega (arith, z);
   files_once = λ n. let z = ap (λ (xs : List (ℕ × Block)). occurrences n (numbers xs)) l in omega (arith, z);
 }
@@ -111,9 +121,9 @@ same_block b c o e f = cc
 
 -- a draw, and its delivery
 pub works_on : (total : ℕ) (ds : List Block) (u v w : View) (rs : List Reply) (d : ℕ) (b : Block) (a : Answer) → IsWork total ds u rs
-    → occurrences d u.draws ≡ 0 → v.draws ≡ d ∷ u.draws → v.list ≡ u.list → v.takes ≡ u.takes → w.draws ≡ v.draws → w.takes ≡ v.takes → Suits total b a → Lists v.list w.list b a → d < length ds → slice_get ds d ≡ Some b
+    → occurrences d u.draws ≡ 0 → v.draws ≡ d ∷ u.draws → v.list ≡ u.list → w.draws ≡ v.draws → Suits total b a → Lists v.list w.list b a → d < length ds → slice_get ds d ≡ Some b
     → IsWork total ds w (rs ++ reply_of d a ∷ [])
-works_on total ds u v w rs d b a k fresh drew same_list same_takes more takes suits changed near at =
+works_on total ds u v w rs d b a k fresh drew same_list more suits changed near at =
     let one : List Reply = reply_of d a ∷ [] in
     let lists : Lists u.list w.list b a = subst (λ (xs : List (ℕ × Block)). Lists xs w.list b a) same_list changed in
     let n_is : number_at ds d ≡ b.number = ap number_in at in
@@ -123,7 +133,6 @@ works_on total ds u v w rs d b a k fresh drew same_list same_takes more takes su
       filed = λ n. let x = counted u.list w.list b a lists n in let y = k.filed n in let z = filings_append ds rs one n in let t = ap (λ (m : ℕ). filing a m n) n_is in omega (arith, x, y, z, t);
       right = each_append (IsReply total ds w.list) rs one (replies_grow total ds u.list w.list (kept u.list w.list b a lists) rs k.right)
           ((near, λ c e. subst (λ (x : Block). Suits total x a × IsListed w.list x a) (same_block b c (slice_get ds d) at e) (suits, listed u.list w.list b a lists)), tt);
-      took = takes ∙ (same_takes ∙ k.took);
       draws_once = λ e. let x = draws e in let o = k.draws_once e in dite (ℕ_discrete e d) (λ s. let z = subst (λ (y : ℕ). occurrences y u.draws ≡ 0) (sym s) fresh in grind (arith, nat_tests)) (λ ne. let t = ap {B = ℕ} (λ t. cond t 1 0) (ne_eqb e d ne) in omega (arith, x, o, t));
       files_once = λ n. once u.list w.list b a lists n (k.files_once n);
     }
@@ -133,7 +142,6 @@ pub works_both : (total : ℕ) (ds : List Block) (v w u : View) (xs ys : List Re
     → ((d : ℕ) → occurrences d v.draws + occurrences d w.draws ≤ 1) → ((n : ℕ) → occurrences n (numbers v.list) + occurrences n (numbers w.list) ≤ 1) → IsWork total ds u (xs ++ ys)
 works_both total ds v w u xs ys is a b d n =
     let list : u.list ≡ v.list ++ w.list = ap (λ (x : View). x.list) is in let draws : u.draws ≡ v.draws ++ w.draws = ap (λ (x : View). x.draws) is in
-    let takes : u.takes ≡ v.takes ++ w.takes = ap (λ (x : View). x.takes) is in
     let drew : (k : ℕ) → occurrences k u.draws ≡ occurrences k v.draws + occurrences k w.draws = λ k. ap (occurrences k) draws ∙ occurrences-append k v.draws w.draws in
     let filed : (k : ℕ) → occurrences k (numbers u.list) ≡ occurrences k (numbers v.list) + occurrences k (numbers w.list) = λ k. ap (λ (l : List (ℕ × Block)). occurrences k (numbers l)) list ∙ (ap (occurrences k) (numbers-append v.list w.list) ∙ occurrences-append k (numbers v.list) (numbers w.list)) in
     record {
@@ -142,10 +150,25 @@ works_both total ds v w u xs ys is a b d n =
       right = each_append (IsReply total ds u.list) xs ys
           (replies_grow total ds v.list u.list (λ m c h. subst (λ (l : List (ℕ × Block)). HasPair l m c) (sym list) (has_left v.list w.list m c h)) xs a.right)
           (replies_grow total ds w.list u.list (λ m c h. subst (λ (l : List (ℕ × Block)). HasPair l m c) (sym list) (has_right v.list w.list m c h)) ys b.right);
-      took = takes ∙ (ap (λ (l : List (ℕ × Block)). l ++ w.takes) a.took ∙ b.took);
       draws_once = λ k. let x = drew k in let y = d k in omega (arith, x, y);
       files_once = λ k. let x = filed k in let y = n k in omega (arith, x, y);
     }
+
+-- the same work of a bench that has taken or seen more
+pub works_same : (total : ℕ) (ds : List Block) (v w : View) (rs : List Reply) → w.list ≡ v.list → w.draws ≡ v.draws → IsWork total ds v rs → IsWork total ds w rs
+works_same total ds v w rs list draws k = record {
+  drew = λ d. ap (occurrences d) draws ∙ k.drew d;
+  filed = λ n. ap (λ (l : List (ℕ × Block)). occurrences n (numbers l)) list ∙ k.filed n;
+  right = subst (λ (l : List (ℕ × Block)). Each (IsReply total ds l) rs) (sym list) k.right;
+  draws_once = λ d. let z = ap (occurrences d) draws in let o = k.draws_once d in omega (arith, z, o);
+  files_once = λ n. let z = ap (λ (l : List (ℕ × Block)). occurrences n (numbers l)) list in let o = k.files_once n in omega (arith, z, o);
+}
+
+-- the numbers of the list after a delivery
+pub old_or_filed : (ds : List Block) (old new : List (ℕ × Block)) (d : ℕ) (b : Block) (a : Answer) → slice_get ds d ≡ Some b → Lists old new b a → (n : ℕ) → 0 < occurrences n (numbers new) → IsOldOrFiled ds old (reply_of d a) n
+old_or_filed ds old new d b a at lists n some = dite (ℕ_discrete (occurrences n (numbers old)) 0)
+    (λ z. let c = counted old new b a lists n in let f = is_filing a b.number n (omega (arith, c, z, some)) in inr (f.0, ap number_in at ∙ sym f.1))
+    (λ ne. inl (omega (arith, ne)))
 
 -- 1 where the draw was not found
 abbrev is_none : ℕ → ℕ

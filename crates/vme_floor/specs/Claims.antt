@@ -58,6 +58,11 @@ pub record IsRecorded (total : ℕ) (deliveries : List Block) (answers : List An
   pub stands : SpanStandsFor span blocks
   pub first : first_number span ≡ 0
 
+-- no more blocks than there are were taken before the joins, and all of them where the calling thread worked alone
+pub record IsEarly (total workers early : ℕ) : Type 0 where
+  pub within : early ≤ total
+  pub alone : workers ≡ 1 → early ≡ total
+
 -- no delivery of the number was filed, and of each smaller one some was
 pub record IsLeastMissing (total : ℕ) (deliveries : List Block) (answers : List Answer) (n : ℕ) : Type 0 where
   pub within : n < total

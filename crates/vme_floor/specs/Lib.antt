@@ -1,5 +1,6 @@
 pub mod Answering
 pub mod Works
+pub mod Collecting
 pub mod Orders
 pub mod Claims
 pub mod Settling

@@ -1,14 +1,18 @@
 -- From the work of all to the answers and the contents.
-use Rattle.std.specs.Prelude.{◌≡◌, ◌≢◌, ℕ, ◌<◌, ◌≤◌, List, length, slice_get, Option, Some, None}
+use Rattle.std.specs.Prelude.{◌≡◌, ◌≢◌, ◌⊎◌, ℕ, Bool, true, false, ◌<◌, ◌≤◌, List, length, slice_get, Option, Some, None}
 use Rattle.vme_trace.specs.declared.block.Block.{Block}
 use Rattle.vme_core.specs.Counting.{occurrences, HasPair}
 use Rattle.vme_core.specs.declared.view.View.{View}
-use Rattle.vme_board.specs.Contents.{HasBlock, HasNone, HasOnlyList, HasUntaken}
+use Rattle.vme_board.specs.Contents.{AreNumbered, HasBlock, HasOnlyList, HasUntaken, LacksTakes, unlisted_count, untaken_count}
+use Rattle.vme_board.specs.Views.{SameBlocks}
 use Rattle.vme_board.specs.declared.board.Closed.{Closed}
-use Rattle.vme_floor.specs.Works.{replied, filings}
+use Rattle.vme_floor.specs.Answering.{FiledAs, IsFiledNumber}
+use Rattle.vme_floor.specs.Collecting.{HasTakenOwn, IsCollected}
+use Rattle.vme_floor.specs.Works.{replied, filings, IsWork}
 use Rattle.vme_floor.specs.declared.answer.Answer.{Answer}
 use Rattle.vme_floor.specs.declared.answer.Answer.TheVariants.{Doubled}
 use Rattle.vme_floor.specs.declared.answer.Reply.{Reply}
+use Rattle.vme_floor.specs.declared.collector.Collection.{Collection}
 
 abbrev pub reply_of : ℕ → Answer → Reply
 reply_of d a = record { delivery = d; answer = a }
@@ -34,8 +38,26 @@ LacksReply replies count = (d : ℕ) × (d < count) × (occurrences d (replied r
 -- what a board gives at its end, for a bench with this view
 pub record IsClosing (total : ℕ) (v : View) (closed : Closed) : Type 0 where
   pub count : length closed.contents.items ≡ total
+  pub numbered : AreNumbered closed.contents.items
   pub untaken : closed.taken ≡ 0 → HasUntaken v closed.contents.items
+  pub gone : LacksTakes v closed.contents.items
   pub only : closed.others ≡ 0 → HasOnlyList v closed.contents.items
+  pub saw_filed : unlisted_count v total ≤ closed.others
+  pub saw_taken : untaken_count v total ≤ closed.taken
+
+-- what is to be settled: the work of one bench for all workers, the blocks that it took, and what the board gave
+pub record IsAccount
+    (total : ℕ) (deliveries : List Block) (v : View) (replies : List Reply) (collection : Collection) (closed : Closed)
+    : Type 0 where
+  pub work : IsWork total deliveries v replies
+  pub collected : IsCollected total v collection
+  pub closing : IsClosing total v closed
+  pub same : SameBlocks v
+
+-- where a bench took all that it filed, and the rest is accounted for, all blocks were taken
+abbrev pub IsOwnEarly : ℕ → List Block → List Reply → Collection → Closed → ℕ → Type 0
+IsOwnEarly total deliveries replies collection closed early =
+    (v : View) → IsAccount total deliveries v replies collection closed → HasTakenOwn v → early ≡ total
 
 -- the contents are the list of the view
 pub record IsClosed (total : ℕ) (v : View) (contents : List (Option Block)) : Type 0 where
@@ -43,22 +65,46 @@ pub record IsClosed (total : ℕ) (v : View) (contents : List (Option Block)) : 
   pub listed : (n : ℕ) (b : Block) → HasPair v.list n b → HasBlock contents n b
   pub only : HasOnlyList v contents
 
--- the delivery was answered Doubled, and the place of its number has no block
-abbrev pub IsUnfiledAt : List Block → List Answer → List (Option Block) → ℕ → Type 0
-IsUnfiledAt deliveries answers contents d =
-    (b : Block) × (slice_get answers d ≡ Some Doubled) × (slice_get deliveries d ≡ Some b) × HasNone contents b.number
+-- no place has a block in both
+abbrev pub AreApart : List (Option Block) → List (Option Block) → Type 0
+AreApart xs ys = (n : ℕ) (b c : Block) → HasBlock xs n b → HasBlock ys n c → ⊥
 
--- the numbers of the deliveries answered Doubled are places
-abbrev pub DoubledWithin : List Block → List Answer → List (Option Block) → Type 0
-DoubledWithin deliveries answers contents =
-    (d : ℕ) (b : Block) → slice_get answers d ≡ Some Doubled → slice_get deliveries d ≡ Some b
-    → b.number < length contents
+-- the third has the blocks of the first, and those of the second below a limit
+pub record IsUnionBelow (xs ys : List (Option Block)) (limit : ℕ) (zs : List (Option Block)) : Type 0 where
+  pub long : length zs ≡ length xs
+  pub first : (n : ℕ) (b : Block) → HasBlock xs n b → HasBlock zs n b
+  pub second : (n : ℕ) (b : Block) → n < limit → HasBlock ys n b → HasBlock zs n b
+  pub only : (n : ℕ) (b : Block) → HasBlock zs n b → HasBlock xs n b ⊎ ((n < limit) × HasBlock ys n b)
 
--- the places of the first deliveries answered Doubled have blocks
-abbrev pub DoubledThere : List Block → List Answer → List (Option Block) → ℕ → Type 0
-DoubledThere deliveries answers contents limit =
+-- the third has the blocks of both
+abbrev pub IsUnion : List (Option Block) → List (Option Block) → List (Option Block) → Type 0
+IsUnion xs ys zs = IsUnionBelow xs ys (length ys) zs
+
+-- the numbers of the deliveries with this answer are below a limit
+abbrev pub AreBelow : List Block → List Answer → Answer → ℕ → Type 0
+AreBelow deliveries answers a limit =
+    (d : ℕ) (b : Block) → slice_get answers d ≡ Some a → slice_get deliveries d ≡ Some b → b.number < limit
+
+-- at each number whether one of the first deliveries was filed under it
+pub record AreFiled (deliveries : List Block) (answers : List Answer) (total seen : ℕ) (table : List Bool) : Type 0 where
+  pub long : length table ≡ total
+  pub yes : (n : ℕ) → slice_get table n ≡ Some true → IsFiledNumber deliveries answers n
+  pub no :
+      (n : ℕ) → slice_get table n ≡ Some false
+      → (d : ℕ) (b : Block) → d < seen → FiledAs deliveries answers d b → b.number ≡ n → ⊥
+
+-- a delivery was answered Doubled, and none of its number Filed
+abbrev pub HasUnfiled : List Block → List Answer → Type 0
+HasUnfiled deliveries answers =
+    (d : ℕ) × (b : Block)
+    × (slice_get answers d ≡ Some Doubled) × (slice_get deliveries d ≡ Some b)
+    × (¬ IsFiledNumber deliveries answers b.number)
+
+-- of each number of the first deliveries answered Doubled one was filed
+abbrev pub DoubledAreFiled : List Block → List Answer → ℕ → Type 0
+DoubledAreFiled deliveries answers limit =
     (d : ℕ) (b : Block) → d < limit → slice_get answers d ≡ Some Doubled → slice_get deliveries d ≡ Some b
-    → (c : Block) × HasBlock contents b.number c
+    → IsFiledNumber deliveries answers b.number
 
 -- the folded benches don't account for the board: others filed or took too, a draw has no reply, or a doubled number
 -- was told Filed to nobody

@@ -1,10 +1,13 @@
 -- What workers did: the view of a bench, and the replies to what was drawn.
-use Rattle.std.specs.Prelude.{◌≡◌, ◌==◌, ℕ, zero, suc, ◌+◌, ◌<◌, ◌≤◌, cond}
+use Rattle.std.specs.Prelude.{◌≡◌, ◌⊎◌, ◌==◌, ℕ, zero, suc, ◌+◌, ◌<◌, ◌≤◌, cond}
 use Rattle.std.specs.Prelude.{List, [], ◌∷◌, length, slice_get, Option, Some, None}
 use Rattle.vme_trace.specs.declared.block.Block.{Block}
 use Rattle.vme_core.specs.Counting.{occurrences, numbers, HasPair}
+use Rattle.vme_core.specs.Stages.{HasSeen, SeesMore}
+use Rattle.vme_core.specs.declared.stage.Stage.TheVariants as stage
 use Rattle.vme_core.specs.declared.view.View.{View}
 use Rattle.vme_board.specs.Benches.{IsOf, draws_of, total_of, view_of}
+use Rattle.vme_board.specs.Views.{SameNumbers}
 use Rattle.vme_board.specs.declared.bench.Bench.{Bench}
 use Rattle.vme_board.specs.declared.board.Board.{Board}
 use Rattle.vme_floor.specs.Answering.{first_refusal, Suits}
@@ -65,7 +68,6 @@ pub record IsWork (total : ℕ) (deliveries : List Block) (v : View) (replies : 
   pub drew : (d : ℕ) → occurrences d v.draws ≡ occurrences d (replied replies)
   pub filed : (n : ℕ) → occurrences n (numbers v.list) ≡ filings deliveries replies n
   pub right : Each (IsReply total deliveries v.list) replies
-  pub took : v.takes ≡ []
   pub draws_once : (d : ℕ) → occurrences d v.draws ≤ 1
   pub files_once : (n : ℕ) → occurrences n (numbers v.list) ≤ 1
 
@@ -79,7 +81,13 @@ pub record IsNew (board : Board) (deliveries : List Block) (bench : Bench) : Typ
 
 pub record IsWorkOf (board : Board) (deliveries : List Block) (work : Work) : Type 0 where
   pub of : IsOf work.bench board
+  pub draws : draws_of board ≡ length deliveries
   pub did : IsWork (total_of board) deliveries (view_of work.bench) work.replies.items
+
+-- the work of a worker that takes nothing
+pub record IsOtherWorkOf (board : Board) (deliveries : List Block) (work : Work) : Type 0 where
+  pub is_work : IsWorkOf board deliveries work
+  pub takes : (view_of work.bench).takes ≡ []
 
 -- what a delivery with this answer does to the list of the bench
 abbrev pub Lists : List (ℕ × Block) → List (ℕ × Block) → Block → Answer → Type 0
@@ -94,3 +102,27 @@ Lists old new b Memory = new ≡ old
 abbrev pub left : ℕ → List ℕ → ℕ
 left zero found = 0
 left (suc k) found = left k found + cond (occurrences k found == 0) 1 0
+
+-- the bench has seen the number filed
+pub record IsKnownFiled (total : ℕ) (v : View) (n : ℕ) : Type 0 where
+  pub within : n < total
+  pub sees : HasSeen v n stage.Filed
+
+-- the number was in the list, or is the one of this delivery, which was filed
+abbrev pub IsOldOrFiled : List Block → List (ℕ × Block) → Reply → ℕ → Type 0
+IsOldOrFiled deliveries old r n =
+    (0 < occurrences n (numbers old)) ⊎ ((r.answer ≡ Filed) × (number_at deliveries r.delivery ≡ n))
+
+-- what a further delivery with this reply does to the view of a bench
+pub record IsDelivered (board : Board) (deliveries : List Block) (old new : View) (r : Reply) : Type 0 where
+  pub within : r.delivery < length deliveries
+  pub less : left (draws_of board) new.found < left (draws_of board) old.found
+  pub takes : new.takes ≡ old.takes
+  pub sees : SeesMore old new
+  pub filed : r.answer ≡ Filed → IsKnownFiled (total_of board) new (number_at deliveries r.delivery)
+  pub lists : (n : ℕ) → 0 < occurrences n (numbers new.list) → IsOldOrFiled deliveries old.list r n
+
+-- the view after the next delivery, or where none is left
+abbrev pub IsNext : Board → List Block → Work → Work → Option Reply → Type 0
+IsNext board deliveries old new (Some r) = IsDelivered board deliveries (view_of old.bench) (view_of new.bench) r
+IsNext board deliveries old new None = SameNumbers (view_of old.bench) (view_of new.bench)

@@ -65,7 +65,7 @@ impl Answers {
 }
 
 /// The answer to a delivery, which is named by its place among the deliveries.
-#[derive(Drop)]
+#[derive(Clone, Copy)]
 pub(crate) struct Reply {
     pub(crate) delivery: u32,
     pub(crate) answer: Answer,

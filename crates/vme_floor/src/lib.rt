@@ -5,16 +5,17 @@
 //! number. Its contract is three claims: one on the answers to the deliveries, one on the verdict, one on the
 //! refusals.
 //!
-//! To read it: `runner` (the call and its contract), `worker` (what one worker does), `threads` (the workers side by
-//! side), `settle` (from what they did to a report), `answers` (the replies in the order of the deliveries) and
-//! `order` (the blocks joined in the order of their numbers). The claims are defined in `specs/Claims`, on
-//! `specs/Answering`.
+//! To read it: `runner` (the call and its contract), `worker` (what one worker does), `collector` (what the calling
+//! thread does beside that: it takes filed blocks into a book, which joins them), `threads` (the workers side by side),
+//! `settle` (from what they did to a report), `answers` (the replies in the order of the deliveries) and `filed` (which
+//! numbers were filed). The claims are defined in `specs/Claims`, on `specs/Answering`.
 #![tactic(auto)]
 
 mod answer;
 mod answers;
+mod collector;
+mod filed;
 mod gate;
-mod order;
 mod report;
 mod runner;
 mod settle;

@@ -15,6 +15,8 @@ pub struct Report {
     pub capture: Capture,
     /// One answer for each delivery, in their order.
     pub answers: Answers,
+    /// How many blocks were taken off the board and put into the book before the threads were joined, 0 to the total.
+    pub early: u32,
 }
 
 /// Why a run gives no report, in the order in which the reasons are looked for. Memory may also be wanting at the end,

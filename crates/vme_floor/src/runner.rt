@@ -2,8 +2,9 @@
 
 ghost use Rattle.std.specs.Prelude.{◌≡◌, IfOk, IfErr, OnOk};
 ghost use Rattle.vme_trace.specs.Verdict.{rules_in_force, verdict_by};
-ghost use Rattle.vme_floor.specs.Claims.{AreAnswered, InRange, IsFault, IsRecorded};
+ghost use Rattle.vme_floor.specs.Claims.{AreAnswered, InRange, IsEarly, IsFault, IsRecorded};
 
+use crate::collector::{Collection, Collector};
 use crate::gate::Gate;
 use crate::report::{Report, RunFault};
 use crate::settle::settle;
@@ -24,8 +25,9 @@ const MOST_WORKERS: u32 = 64;
 /// Judges the recording of which these are the numbered blocks, in whatever order, and each as often as may be.
 ///
 /// The workers share the deliveries: each draws one, passes the gate, and delivers a copy of the block to a board,
-/// which files one block a number. The calling thread is worker 0, each other worker has a thread of its own. Once all
-/// have ended, what was filed is joined in the order of its numbers.
+/// which files one block a number. The calling thread is worker 0, each other worker has a thread of its own. After each
+/// of its deliveries worker 0 takes the number just filed, and the next numbers as far as they are filed, off the board
+/// into a book, which joins them; once all have ended, what is left on the board is put into it too.
 ///
 /// What is filed decides, and nothing else: not the order of the deliveries, not who delivered what, not how many
 /// workers there were. The verdict is that of the recording by the definitions, and the listing of the span is the
@@ -51,6 +53,9 @@ pub fn run<R: Threads + Wait + Sync, G: Gate + Sync>(
     ensures recorded { IfOk result (λ r. IsRecorded total deliveries.now r.answers r.capture r.span) }
     ensures verdict { IfOk result (λ r. r.verdict ≡ verdict_by rules_in_force r.capture) }
 
+    // How many blocks were taken before the threads were joined.
+    ensures early { IfOk result (λ r. IsEarly total workers r.early) }
+
     // When each refusal comes.
     ensures refusals { IfErr result (λ fault. IsFault total deliveries.now workers fault) }
 {
@@ -66,11 +71,17 @@ pub fn run<R: Threads + Wait + Sync, G: Gate + Sync>(
     let Ok((board, bench)) = Board::new(alloc, total, deliveries.len() as u32) else {
         return Err(RunFault::Memory);
     };
-    match work_together(rt, alloc, &board, deliveries, gate, workers, bench) {
-        Ok(work) => {
+    let Ok(collection) = Collection::new(alloc, total) else {
+        return Err(RunFault::Memory);
+    };
+    match work_together(
+        rt, alloc, &board, deliveries, gate, workers, bench, collection,
+    ) {
+        Ok(all) => {
+            let Collector { work, collection } = all;
             let Work { bench, replies } = work;
             match board.close(alloc, bench) {
-                Ok(closed) => settle(alloc, deliveries, total, replies, closed),
+                Ok(closed) => settle(alloc, deliveries, total, replies, collection, closed),
                 Err(_) => Err(RunFault::Memory),
             }
         }

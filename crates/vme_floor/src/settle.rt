@@ -1,35 +1,41 @@
 //! From what the workers did to a report.
 
-ghost use Rattle.std.specs.Prelude.{◌≡◌, ℕ, ◌<◌, ◌≤◌, length, IfOk, IfErr, IfSome, IfNone};
+ghost use Rattle.std.specs.Prelude.{◌≡◌, ◌<◌, ◌≤◌, length, IfOk, IfErr};
 ghost use Rattle.vme_trace.specs.Verdict.{rules_in_force, verdict_by};
 ghost use Rattle.vme_core.specs.declared.view.View.{View};
 ghost use Rattle.vme_floor.specs.Claims.{AreAnswered, IsLate, IsRecorded};
-ghost use Rattle.vme_floor.specs.Works.{IsWork};
-ghost use Rattle.vme_floor.specs.Settling.{DoubledThere, DoubledWithin, IsClosing, IsUnaccounted, IsUnfiledAt};
+ghost use Rattle.vme_board.specs.Contents.{AreNumbered};
+ghost use Rattle.vme_floor.specs.Settling.{AreApart, IsAccount, IsOwnEarly, IsUnaccounted, IsUnion};
 ghost use Rattle.vme_floor.specs.declared.report.RunFault.TheVariants.{Stray};
 
-use crate::answer::{Answer, Reply};
+use crate::answer::Reply;
 use crate::answers::{Unanswered, answers_in_order};
-use crate::order::{Unjoined, joined_contents};
+use crate::collector::Collection;
+use crate::filed::{filed_numbers, has_unfiled};
 use crate::report::{Report, RunFault};
-use std::alloc::Global;
+use std::alloc::{AllocError, Global};
 use vme_board::Closed;
+use vme_book::{Book, CloseFault, InsertFault};
 use vme_summary::Judged;
 use vme_trace::Block;
 
-/// The report on all replies, and on what the board gave at its end, for the one bench of all workers.
+/// The report on all replies, on the blocks that were taken early, and on what the board gave at its end, for the one
+/// bench of all workers.
 pub(crate) fn settle(
     alloc: Global,
     deliveries: &[Block],
     total: u32,
     replies: Vec<Reply>,
+    collection: Collection,
     closed: Closed,
 ) -> Result<Report, RunFault>
-    requires work { (v : View) × IsWork total deliveries.now v replies.items × IsClosing total v closed }
+    requires account { (v : View) × IsAccount total deliveries.now v replies.items collection closed }
     requires range { (0 < total) × (total ≤ 4096) × (length deliveries.now ≤ 65536) }
     ensures answers { AreAnswered total deliveries.now result }
     ensures recorded { IfOk result (λ r. IsRecorded total deliveries.now r.answers r.capture r.span) }
     ensures verdict { IfOk result (λ r. r.verdict ≡ verdict_by rules_in_force r.capture) }
+    ensures within { IfOk result (λ r. r.early ≤ total) }
+    ensures own { IfOk result (λ r. IsOwnEarly total deliveries.now replies.items collection closed r.early) }
     ensures refusals { IfErr result (λ fault. IsLate total deliveries.now fault) }
     ensures stray { IfErr result (λ fault. fault ≡ Stray → IsUnaccounted deliveries.now replies.items closed) }
 {
@@ -41,37 +47,46 @@ pub(crate) fn settle(
         Err(Unanswered::Memory) => return Err(RunFault::Memory),
         Err(Unanswered::Undrawn) => return Err(RunFault::Stray),
     };
-    let contents = closed.contents;
-    if let Some(_) = unfiled(deliveries, answers.as_slice(), contents.as_slice()) {
+    let Ok(filed) = filed_numbers(alloc, deliveries, answers.as_slice(), total as usize) else {
+        return Err(RunFault::Memory);
+    };
+    if has_unfiled(deliveries, answers.as_slice(), filed.as_slice()) {
         return Err(RunFault::Stray);
     }
-    match joined_contents(alloc, contents) {
-        Ok((span, capture)) => Ok(Report {
-            verdict: span.verdict(),
-            span,
-            capture,
+    let early = collection.count;
+    let Ok(book) = insert_all(alloc, collection.book, closed.contents) else {
+        return Err(RunFault::Memory);
+    };
+    match book.close(alloc) {
+        Ok(whole) => Ok(Report {
+            verdict: whole.span.verdict(),
+            span: whole.span,
+            capture: whole.capture,
             answers,
+            early,
         }),
-        Err(Unjoined::Memory) => Err(RunFault::Memory),
-        Err(Unjoined::Missing(number)) => Err(RunFault::Missing { number, answers }),
-        Err(Unjoined::Torn(number)) => Err(RunFault::Torn { number, answers }),
+        Err((_, CloseFault::Missing(number))) => Err(RunFault::Missing { number, answers }),
+        Err((_, CloseFault::Torn(number))) => Err(RunFault::Torn { number, answers }),
+        Err((_, CloseFault::Memory)) => Err(RunFault::Memory),
     }
 }
 
-/// The first delivery answered Doubled whose number has no block.
-fn unfiled(deliveries: &[Block], answers: &[Answer], contents: &[Option<Judged>]) -> Option<u32>
-    requires count { (length answers.now ≡ length deliveries.now) × (length answers.now ≤ 65536) }
-    requires within { DoubledWithin deliveries.now answers.now contents.now }
-    ensures none { IfNone result (DoubledThere deliveries.now answers.now contents.now (length deliveries.now)) }
-    ensures some { IfSome result (λ d. IsUnfiledAt deliveries.now answers.now contents.now d) }
+/// The book with what was left on the board.
+fn insert_all(alloc: Global, book: Book, contents: Vec<Option<Judged>>) -> Result<Book, AllocError>
+    requires long { length contents.items ≡ length book }
+    requires numbered { AreNumbered contents.items }
+    requires apart { AreApart book contents.items }
+    ensures { IfOk result (λ all. IsUnion book contents.items all) }
 {
-    for d in 0..deliveries.len() {
-        if let Answer::Doubled = answers[d] {
-            let number = deliveries[d].number as usize;
-            if let None = &contents[number] {
-                return Some(d as u32);
-            }
+    let mut book = book;
+    for content in contents {
+        let Some(judged) = content else { continue };
+        if let Err((_, fault)) = book.insert(alloc, judged) {
+            let InsertFault::Memory = fault else {
+                unreachable!()
+            };
+            return Err(AllocError);
         }
     }
-    None
+    Ok(book)
 }

@@ -3,6 +3,7 @@
 ghost use Rattle.std.specs.Prelude.{◌≡◌, IfOk};
 ghost use Rattle.vme_summary.specs.Stands.{first_number};
 
+mod early;
 mod gates;
 mod recordings;
 

@@ -1,12 +1,15 @@
 //! The workers side by side: the calling thread is worker 0, each other one has a scoped thread.
 
-ghost use Rattle.std.specs.Prelude.{◌≡◌, ◌<◌, IfSome, IfOk, IfErr};
+ghost use Rattle.std.specs.Prelude.{◌≡◌, ◌<◌, IfOk, IfErr};
+ghost use Rattle.vme_board.specs.Benches.{total_of, view_of};
+ghost use Rattle.vme_floor.specs.Collecting.{HasTakenOwn, IsCollected, IsCollectedOf};
 ghost use Rattle.vme_floor.specs.declared.threads.ThreadFault.TheVariants.{NoWorker};
-ghost use Rattle.vme_floor.specs.Works.{IsWorkOf, IsNew};
+ghost use Rattle.vme_floor.specs.Works.{IsNew, IsOtherWorkOf};
 
+use crate::collector::{Collection, Collector, deliver_and_collect};
 use crate::gate::Gate;
 use crate::worker::{Work, deliver_drawn};
-use std::alloc::Global;
+use std::alloc::{AllocError, Global};
 use std::sync::Wait;
 use std::thread;
 use std::thread::{Promise, PromisedHandle, Scope, Threads};
@@ -29,8 +32,8 @@ struct Assignment<'a> {
     deliveries: &'a [Block],
 }
 
-impl<'a> Promise<Option<Work>> for Assignment<'a> {
-    ghost kept_by = { λ p r. IfSome r (λ work. IsWorkOf p.board.now p.deliveries.now work) };
+impl<'a> Promise<Result<Work, AllocError>> for Assignment<'a> {
+    ghost kept_by = { λ p r. IfOk r (λ work. IsOtherWorkOf p.board.now p.deliveries.now work) };
 }
 
 /// The work of all workers together, once each has ended.
@@ -42,19 +45,28 @@ pub(crate) fn work_together<R: Threads + Wait + Sync, G: Gate + Sync>(
     gate: &G,
     workers: u32,
     bench: Bench,
-) -> Result<Work, ThreadFault>
-    requires { IsNew board.now deliveries.now bench }
-    ensures ok { IfOk result (λ work. IsWorkOf board.now deliveries.now work) }
+    collection: Collection,
+) -> Result<Collector, ThreadFault>
+    requires new { IsNew board.now deliveries.now bench }
+    requires collected { IsCollected (total_of board.now) (view_of bench) collection }
+    ensures collected { IfOk result (λ all. IsCollectedOf board.now deliveries.now all) }
+    ensures own { IfOk result (λ all. workers ≡ 1 → HasTakenOwn (view_of all.work.bench)) }
     ensures alone { IfErr result (λ fault. fault ≡ NoWorker → 1 < workers) }
 {
     thread::scope(
         thread::scope_env(),
         rt,
-        |scope| -> Result<Work, ThreadFault>
-            requires { IsNew board.now deliveries.now bench }
-            ensures ok { IfOk result (λ work. IsWorkOf board.entry.now deliveries.entry.now work) }
+        |scope| -> Result<Collector, ThreadFault>
+            requires new { IsNew board.now deliveries.now bench }
+            requires collected { IsCollected (total_of board.now) (view_of bench) collection }
+            ensures collected { IfOk result (λ all. IsCollectedOf board.entry.now deliveries.entry.now all) }
+            ensures own { IfOk result (λ all. workers ≡ 1 → HasTakenOwn (view_of all.work.bench)) }
             ensures alone { IfErr result (λ fault. fault ≡ NoWorker → 1 < workers) }
-        { work_in_scope(rt, alloc, scope, board, deliveries, gate, workers, bench) },
+        {
+            work_in_scope(
+                rt, alloc, scope, board, deliveries, gate, workers, bench, collection,
+            )
+        },
     )
 }
 
@@ -69,13 +81,18 @@ fn work_in_scope<'s, E, R: Threads + Wait + Sync, G: Gate + Sync>(
     gate: &'s G,
     workers: u32,
     bench: Bench,
-) -> Result<Work, ThreadFault>
-    requires { IsNew board.now deliveries.now bench }
-    ensures ok { IfOk result (λ work. IsWorkOf board.now deliveries.now work) }
+    collection: Collection,
+) -> Result<Collector, ThreadFault>
+    requires new { IsNew board.now deliveries.now bench }
+    requires collected { IsCollected (total_of board.now) (view_of bench) collection }
+    ensures collected { IfOk result (λ all. IsCollectedOf board.now deliveries.now all) }
+    ensures own { IfOk result (λ all. workers ≡ 1 → HasTakenOwn (view_of all.work.bench)) }
     ensures alone { IfErr result (λ fault. fault ≡ NoWorker → 1 < workers) }
 {
     let mut bench = bench;
-    let mut handles: Vec<PromisedHandle<Option<Work>, Assignment<'s>>> = Vec::new(alloc);
+    let mut handles: Vec<PromisedHandle<Result<Work, AllocError>, Assignment<'s>>> = Vec::new(
+        alloc,
+    );
     let mut fault = None;
     for worker in 1..workers {
         if handles.reserve(1).is_err() {
@@ -85,9 +102,9 @@ fn work_in_scope<'s, E, R: Threads + Wait + Sync, G: Gate + Sync>(
         let own = bench.split(board);
         match scope.spawn_with(
             Assignment { board, deliveries },
-            move || -> Option<Work>
+            move || -> Result<Work, AllocError>
                 requires { IsNew board.now deliveries.now own }
-                ensures { IfSome result (λ work. IsWorkOf board.entry.now deliveries.entry.now work) }
+                ensures { IfOk result (λ work. IsOtherWorkOf board.entry.now deliveries.entry.now work) }
             { deliver_drawn(alloc, board, deliveries, gate, worker, own) },
         ) {
             Ok(handle) => handles.push_reserved(handle),
@@ -97,37 +114,40 @@ fn work_in_scope<'s, E, R: Threads + Wait + Sync, G: Gate + Sync>(
             }
         }
     }
-    let mut all = deliver_drawn(alloc, board, deliveries, gate, 0, bench);
+    let mut all = deliver_and_collect(alloc, board, deliveries, gate, bench, collection);
     for handle in handles {
-        all = both(board, deliveries, all, handle.join(rt));
+        all = with_other(board, deliveries, all, handle.join(rt));
     }
-    match fault {
-        Some(fault) => Err(fault),
-        None => all.ok_or(ThreadFault::Memory),
+    if let Some(fault) = fault {
+        return Err(fault);
+    }
+    match all {
+        Ok(all) => Ok(all),
+        Err(_) => Err(ThreadFault::Memory),
     }
 }
 
-/// The work of both, or None where one of them is lacking, or memory is.
-fn both(
+/// The calling thread's work and another worker's together. Err is want of memory, in the work of either or now.
+fn with_other(
     board: &Board,
     deliveries: &[Block],
-    first: Option<Work>,
-    second: Option<Work>,
-) -> Option<Work>
-    requires first { IfSome first (λ work. IsWorkOf board.now deliveries.now work) }
-    requires second { IfSome second (λ work. IsWorkOf board.now deliveries.now work) }
-    ensures { IfSome result (λ work. IsWorkOf board.now deliveries.now work) }
+    first: Result<Collector, AllocError>,
+    other: Result<Work, AllocError>,
+) -> Result<Collector, AllocError>
+    requires first { IfOk first (λ all. IsCollectedOf board.now deliveries.now all) }
+    requires other { IfOk other (λ work. IsOtherWorkOf board.now deliveries.now work) }
+    ensures { IfOk result (λ all. IsCollectedOf board.now deliveries.now all) }
 {
-    let first = first?;
-    let second = second?;
-    let Work { bench, mut replies } = first;
+    let Collector { work, collection } = first?;
     let Work {
-        bench: other,
-        replies: mut others,
-    } = second;
-    let Ok(()) = replies.append(&mut others) else {
-        return None;
-    };
-    let bench = bench.fold(other, board);
-    Some(Work { bench, replies })
+        bench: other_bench,
+        replies: mut other_replies,
+    } = other?;
+    let Work { bench, mut replies } = work;
+    replies.append(&mut other_replies)?;
+    let bench = bench.fold(other_bench, board);
+    Ok(Collector {
+        work: Work { bench, replies },
+        collection,
+    })
 }

@@ -1,14 +1,17 @@
 //! What one worker does.
 
-ghost use Rattle.std.specs.Prelude.{◌≡◌, ◌<◌, length, IfSome};
+ghost use Rattle.std.specs.Prelude.{◌≡◌, IfOk, OnOk};
+ghost use Rattle.vme_core.specs.Stages.{HasSeen, SeesMore};
+ghost use Rattle.vme_core.specs.declared.stage.Stage.TheVariants as stage;
 ghost use Rattle.vme_board.specs.Benches.{IsOf, total_of, view_of};
 ghost use Rattle.vme_board.specs.Views.{SameDraws};
 ghost use Rattle.vme_floor.specs.Answering.{Suits};
-ghost use Rattle.vme_floor.specs.Works.{IsWorkOf, IsNew, Lists};
+ghost use Rattle.vme_floor.specs.declared.answer.Answer.TheVariants.{Filed};
+ghost use Rattle.vme_floor.specs.Works.{IsNew, IsNext, IsOtherWorkOf, IsWorkOf, Lists};
 
 use crate::answer::{Answer, Reply};
 use crate::gate::Gate;
-use std::alloc::Global;
+use std::alloc::{AllocError, Global};
 use vme_board::{Bench, Board, Refusal};
 use vme_trace::Block;
 
@@ -19,7 +22,7 @@ pub(crate) struct Work {
     pub(crate) replies: Vec<Reply>,
 }
 
-/// Draws deliveries, and delivers each, until none is left. None is want of memory for the replies.
+/// Draws deliveries, and delivers each, until none is left.
 pub(crate) fn deliver_drawn<G: Gate>(
     alloc: Global,
     board: &Board,
@@ -27,26 +30,47 @@ pub(crate) fn deliver_drawn<G: Gate>(
     gate: &G,
     worker: u32,
     bench: Bench,
-) -> Option<Work>
+) -> Result<Work, AllocError>
     requires { IsNew board.now deliveries.now bench }
-    ensures { IfSome result (λ work. IsWorkOf board.now deliveries.now work) }
+    ensures { IfOk result (λ work. IsOtherWorkOf board.now deliveries.now work) }
 {
-    let mut bench = bench;
-    let mut replies = Vec::new(alloc);
-    'draws: loop {
-        // Before the draw, so that no delivery that was drawn goes without a reply.
-        if replies.reserve(1).is_err() {
-            return None;
-        }
-        let Some(delivery) = bench.draw(board) else {
-            break 'draws;
-        };
-        gate.pass(worker, delivery);
-        let answer = deliver_copy(alloc, board, &deliveries[delivery as usize], &mut bench);
-        gate.done(worker, delivery);
-        replies.push_reserved(Reply { delivery, answer });
-    }
-    Some(Work { bench, replies })
+    let mut work = Work {
+        bench,
+        replies: Vec::new(alloc),
+    };
+    'draws: while let Some(_) = deliver_next(alloc, board, deliveries, gate, worker, &mut work)? {}
+    Ok(work)
+}
+
+/// Draws a delivery, and delivers it. None says that no delivery is left.
+pub(crate) fn deliver_next<G: Gate>(
+    alloc: Global,
+    board: &Board,
+    deliveries: &[Block],
+    gate: &G,
+    worker: u32,
+    work: &mut Work,
+) -> Result<Option<Reply>, AllocError>
+    requires work { IsWorkOf board.now deliveries.now work.old }
+    ensures work { OnOk result (IsWorkOf board.now deliveries.now work.new) }
+    ensures next { IfOk result (IsNext board.now deliveries.now work.old work.new) }
+{
+    // Before the draw, so that no delivery that was drawn goes without a reply.
+    work.replies.reserve(1)?;
+    let Some(delivery) = work.bench.draw(board) else {
+        return Ok(None);
+    };
+    gate.pass(worker, delivery);
+    let answer = deliver_copy(
+        alloc,
+        board,
+        &deliveries[delivery as usize],
+        &mut work.bench,
+    );
+    gate.done(worker, delivery);
+    let reply = Reply { delivery, answer };
+    work.replies.push_reserved(reply);
+    Ok(Some(reply))
 }
 
 /// Delivers a copy of a block.
@@ -55,6 +79,8 @@ fn deliver_copy(alloc: Global, board: &Board, block: &Block, bench: &mut Bench) 
     ensures board { IsOf bench.new board.now }
     ensures draws { SameDraws (view_of bench.old) (view_of bench.new) }
     ensures takes { (view_of bench.new).takes ≡ (view_of bench.old).takes }
+    ensures sees { SeesMore (view_of bench.old) (view_of bench.new) }
+    ensures filed { result ≡ Filed → HasSeen (view_of bench.new) block.now.number stage.Filed }
     ensures suits { Suits (total_of board.now) block.now result }
     ensures lists { Lists (view_of bench.old).list (view_of bench.new).list block.now result }
 {

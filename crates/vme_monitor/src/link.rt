@@ -282,6 +282,7 @@ fn break_of(fault: Fault, instant: u32, time: u64) -> Break
 
 impl<P: Copy> Row<P> {
     /// One step further.
+    #[inline(always)]
     pub fn extend(&mut self, next: Next<P>, instant: u32, time: u64) -> Result<(), AllocError>
         ensures { OnOk result (outcome_of self.new ≡ extended (outcome_of self.old) (outcome_at instant time next)) }
     {

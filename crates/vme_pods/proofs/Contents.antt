@@ -20,8 +20,9 @@ use Rattle.vme_floor.specs.declared.report.RunFault.{RunFault}
 use Rattle.vme_floor.specs.declared.report.RunFault.TheVariants as fault
 use Rattle.vme_pods.specs.Deliveries.{AreDeliveries, AreOf}
 use Rattle.vme_pods.specs.Outcomes.{MayCome}
-use Rattle.vme_pods.specs.declared.refusal.Refusal.{Refusal}
-use Rattle.vme_pods.specs.declared.refusal.Refusal.TheVariants as refused
+use Rattle.vme_pods.specs.Judgements.{NeedsThreads}
+use Rattle.vme_pods.specs.declared.unjudged.Unjudged.{Unjudged}
+use Rattle.vme_pods.specs.declared.unjudged.Unjudged.TheVariants.{NoWorker}
 
 -- lists of one length that agree at each place
 same_lists : (xs ys : List Block) → length xs ≡ length ys → ((k : ℕ) (x : Block) → slice_get xs k ≡ Some x → slice_get ys k ≡ Some x) → xs ≡ ys
@@ -109,10 +110,10 @@ outcome_may_come blocks ds total w (Ok r) is positive few some most join d refus
 outcome_may_come blocks ds total w (Err f) is positive few some most join d refusals = may_come blocks ds total w f is positive few some most join d refusals
 
 -- with one worker, no thread fails to start
-pub outcome_alone : (deliveries : List Block) (total workers : ℕ) (outcome : Result Report RunFault) (judged : Result Verdict Refusal) → IfErr outcome (λ f. IsFault total deliveries workers f)
-    → IfErr judged (λ refusal. refusal ≡ refused.NoWorker → outcome ≡ Err fault.NoWorker) → IfErr judged (λ refusal. refusal ≡ refused.NoWorker → 1 < workers)
+pub outcome_alone : (deliveries : List Block) (total workers : ℕ) (outcome : Result Report RunFault) (judged : Result Verdict Unjudged) → IfErr outcome (λ f. IsFault total deliveries workers f)
+    → IfErr judged (λ unjudged. unjudged ≡ NoWorker → outcome ≡ Err fault.NoWorker) → NeedsThreads workers judged
 outcome_alone ds total w outcome (Ok v) refusals alone = tt
-outcome_alone ds total w outcome (Err refusal) refusals alone = λ is. (subst (λ (o : Result Report RunFault). IfErr o (λ f. IsFault total ds w f)) (alone is) refusals).1
+outcome_alone ds total w outcome (Err unjudged) refusals alone = λ is. (subst (λ (o : Result Report RunFault). IfErr o (λ f. IsFault total ds w f)) (alone is) refusals).1
 
 -- what is left of the faults
 pub none_left : (f : RunFault) → MayCome f → (f ≡ fault.NoWorker → ⊥) → (f ≡ fault.Stray → ⊥) → (f ≡ fault.Memory → ⊥) → ((n : ℕ) (answers : List Answer) → f ≡ fault.Missing n answers → ⊥) → ⊥

@@ -4,18 +4,18 @@ ghost use Rattle.std.specs.Prelude.{◌≡◌, ◌<◌, ◌≤◌, IfErr, IfOk, 
 ghost use Rattle.vme_trace.specs.Trace.{Trace};
 ghost use Rattle.vme_trace.specs.Verdict.{rules_in_force, verdict_by};
 ghost use Rattle.vme_summary.specs.Joins.{BlocksJoin, joined_trace};
+ghost use Rattle.vme_answer.specs.Answers.{verdict_in_blocks};
 ghost use Rattle.vme_pods.specs.Deliveries.{AreOf};
-ghost use Rattle.vme_pods.specs.Judgements.{Gives, IsPassing, judgement_of, verdict_in_blocks};
+ghost use Rattle.vme_pods.specs.Judgements.{Finds, IsPassing, NeedsThreads};
 ghost use Rattle.vme_pods.specs.Outcomes.{MayCome};
-ghost use Rattle.vme_pods.specs.declared.refusal.Refusal.TheVariants.{NoWorker};
+ghost use Rattle.vme_pods.specs.declared.unjudged.Unjudged.TheVariants.{NoWorker};
 
 use crate::deliveries::deliveries_of;
-use crate::recording::recording_in;
-use crate::refusal::Refusal;
+use crate::unjudged::Unjudged;
 use std::alloc::Global;
 use std::sync::Wait;
 use std::thread::Threads;
-use vme_bind::Binding;
+use vme_answer::Refusal;
 use vme_floor::{Open, Report, RunFault, run};
 use vme_trace::{Block, Capture, CutFault, Verdict};
 
@@ -31,46 +31,26 @@ pub struct Plan {
     pub seed: Option<u64>,
 }
 
-/// The verdict on the recording that a binding makes of the dump that a text is, or the first reason that there is
-/// none. The recording is cut into blocks, and workers deliver them in the order that the plan says. Whatever the
-/// order, the repetition and the number of workers, the answer is the same one, unless memory is short, a thread can't
-/// be started, or a block is stray.
-pub fn judgement_by_pods<R: Threads + Wait + Sync>(
-    rt: &R,
-    alloc: Global,
-    binding: &Binding,
-    dump: &[u8],
-    plan: Plan,
-) -> Result<Verdict, Refusal>
-    requires block { (1 ≤ plan.block) × (plan.block ≤ 65536) }
-    requires workers { (1 ≤ plan.workers) × (plan.workers ≤ 64) }
-    ensures exact { Gives (λ verdict. verdict) result (judgement_of binding.now dump.now plan.block) }
-    ensures alone { IfErr result (λ refusal. refusal ≡ NoWorker → 1 < plan.workers) }
-{
-    match recording_in(alloc, binding, dump) {
-        Ok(capture) => verdict_by_pods(rt, alloc, &capture, plan),
-        Err(refusal) => Err(refusal),
-    }
-}
-
-/// The verdict on a recording that is cut into blocks.
-fn verdict_by_pods<R: Threads + Wait + Sync>(
+/// The verdict on a recording that is cut into blocks, which workers deliver in the order that the plan says. Whatever the
+/// order, the repetition and the number of workers, the answer is the same one, unless memory is short, a thread can't be
+/// started, or a block is stray.
+pub fn verdict_by_pods<R: Threads + Wait + Sync>(
     rt: &R,
     alloc: Global,
     capture: &Capture,
     plan: Plan,
-) -> Result<Verdict, Refusal>
+) -> Result<Verdict, Unjudged>
     requires block { (1 ≤ plan.block) × (plan.block ≤ 65536) }
     requires workers { (1 ≤ plan.workers) × (plan.workers ≤ 64) }
-    ensures exact { Gives (λ verdict. verdict) result (verdict_in_blocks plan.block capture.now) }
-    ensures alone { IfErr result (λ refusal. refusal ≡ NoWorker → 1 < plan.workers) }
+    ensures exact { Finds result (verdict_in_blocks plan.block capture.now) }
+    ensures alone { NeedsThreads plan.workers result }
 {
     // Its contract says that the recording is well formed, so that the blocks join.
     let _ = capture.steps();
     match capture.cut(alloc, plan.block) {
         Ok(blocks) => verdict_on_blocks(rt, alloc, blocks, plan),
-        Err(CutFault::TooManyBlocks) => Err(Refusal::TooManyBlocks),
-        Err(CutFault::BadSize) | Err(CutFault::Memory) => Err(Refusal::Memory),
+        Err(CutFault::TooManyBlocks) => Err(Unjudged::Refused(Refusal::TooManyBlocks)),
+        Err(CutFault::BadSize) | Err(CutFault::Memory) => Err(Unjudged::Refused(Refusal::Memory)),
     }
 }
 
@@ -80,14 +60,14 @@ fn verdict_on_blocks<R: Threads + Wait + Sync>(
     alloc: Global,
     blocks: Vec<Block>,
     plan: Plan,
-) -> Result<Verdict, Refusal>
+) -> Result<Verdict, Unjudged>
     requires numbered { AreOf blocks.items blocks.items }
     requires join { BlocksJoin blocks.items }
     requires count { (1 ≤ length blocks.items) × (length blocks.items ≤ 4096) }
     requires workers { (1 ≤ plan.workers) × (plan.workers ≤ 64) }
     ensures exact { (t : Trace) → joined_trace blocks.items ≡ Some t
-        → Gives (λ verdict. verdict) result (Ok (verdict_by rules_in_force t)) }
-    ensures alone { IfErr result (λ refusal. refusal ≡ NoWorker → 1 < plan.workers) }
+        → Finds result (Ok (verdict_by rules_in_force t)) }
+    ensures alone { NeedsThreads plan.workers result }
 {
     let total = blocks.len() as u32;
     match deliveries_of(alloc, blocks, plan.seed) {
@@ -95,35 +75,35 @@ fn verdict_on_blocks<R: Threads + Wait + Sync>(
             let outcome = run(rt, alloc, deliveries.as_slice(), total, plan.workers, &Open);
             verdict_of(outcome)
         }
-        Err(_) => Err(Refusal::Memory),
+        Err(_) => Err(Unjudged::Refused(Refusal::Memory)),
     }
 }
 
 /// The verdict of a report, or what a fault is to the program.
-fn verdict_of(outcome: Result<Report, RunFault>) -> Result<Verdict, Refusal>
+fn verdict_of(outcome: Result<Report, RunFault>) -> Result<Verdict, Unjudged>
     requires { IfErr outcome MayCome }
     ensures exact { (v : Verdict) → IfOk outcome (λ report. report.verdict ≡ v)
-        → Gives (λ verdict. verdict) result (Ok v) }
-    ensures alone { IfErr result (λ refusal. refusal ≡ NoWorker → outcome ≡ Err RunFault.NoWorker) }
+        → Finds result (Ok v) }
+    ensures alone { IfErr result (λ unjudged. unjudged ≡ NoWorker → outcome ≡ Err RunFault.NoWorker) }
 {
     match outcome {
         Ok(report) => Ok(report.verdict),
-        Err(fault) => Err(refusal_of(fault)),
+        Err(fault) => Err(unjudged_by(fault)),
     }
 }
 
 /// What a fault of a run is to the program.
-fn refusal_of(fault: RunFault) -> Refusal
+fn unjudged_by(fault: RunFault) -> Unjudged
     requires { MayCome fault }
     ensures passing { IsPassing result }
     ensures alone { result ≡ NoWorker → fault ≡ RunFault.NoWorker }
 {
     match fault {
-        RunFault::NoWorker => Refusal::NoWorker,
-        RunFault::Stray => Refusal::Stray,
-        RunFault::Memory => Refusal::Memory,
+        RunFault::NoWorker => Unjudged::NoWorker,
+        RunFault::Stray => Unjudged::Stray,
+        RunFault::Memory => Unjudged::Refused(Refusal::Memory),
         // All deliveries of a number were answered with want of memory.
-        RunFault::Missing { .. } => Refusal::Memory,
+        RunFault::Missing { .. } => Unjudged::Refused(Refusal::Memory),
         _ => unreachable!(),
     }
 }

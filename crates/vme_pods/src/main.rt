@@ -3,35 +3,32 @@
 //!
 //! `vme_pods [--block N] [--workers N] [--seed S] BINDING DUMP` writes the line that `vmecheck check` writes, with its
 //! status. It is there for those who embed the library, and shows that `run` judges real recordings;
-//! `judgement_by_pods` (in `judge`) is what it does, and its contract says that seed, order and number of workers
-//! change nothing. Start reading there.
+//! `check_by_pods` (in `check`) is what it does, and its contract says that what it writes and its status are those of
+//! a check, whatever the order, the repetition and the number of workers. Start reading there.
 #![tactic(auto)]
 
-ghost use Rattle.std.specs.Prelude.{◌≤◌, IfOk, IfSome};
+ghost use Rattle.std.specs.Prelude.{◌≡◌, ◌≤◌, IfErr, IfOk, IfSome};
+ghost use Rattle.vme_answer.specs.Texts.{refusal_status};
+ghost use Rattle.vme_answer.specs.declared.refusal.Refusal.TheVariants.{CannotOpen};
 
+mod check;
 mod deliveries;
 mod judge;
-mod recording;
-mod refusal;
 #[cfg(test)]
 mod tests;
+mod unjudged;
 mod words;
 
+use check::check_by_pods;
 use clap::error::ErrorKind;
-use judge::judgement_by_pods;
-use recording::binding_in;
-use refusal::{Input, Refusal};
-use std::env;
 use std::fs::{self, File};
-use std::io::{self, Read, Write};
 use std::process::ExitCode;
 use std::sync::Wait;
 use std::thread::Threads;
-use vme_trace::{Break, Verdict};
+use std::{env, io};
+use vme_answer::{Input, Refusal, refusal_line};
+use vme_stream::{Io, complain};
 use words::{Order, no_text, order_of};
-
-/// How many bytes an input has at most.
-const LONGEST: u64 = 268_435_456;
 
 fn main(rt: HostRuntime) -> ExitCode {
     ExitCode::from(work(&rt, &rt))
@@ -40,12 +37,9 @@ fn main(rt: HostRuntime) -> ExitCode {
 /// Does what the words ask for, by threads of `threads`; the answer is the exit status.
 fn work<R: Threads + Wait + Sync>(rt: &HostRuntime, threads: &R) -> u8 {
     match ordered(rt) {
-        Ok(Some(order)) => match judged(rt, threads, &order) {
-            Ok(verdict) => tell(rt, &verdict),
-            Err(refusal) => refuse(rt, refusal),
-        },
-        Ok(None) => refuse(rt, Refusal::Memory),
-        Err(error) if error.kind() == ErrorKind::OutOfMemory => refuse(rt, Refusal::Memory),
+        Ok(Some(order)) => check_order(rt, threads, &order),
+        Ok(None) => refuse(rt, &Refusal::Memory),
+        Err(error) if error.kind() == ErrorKind::OutOfMemory => refuse(rt, &Refusal::Memory),
         Err(error) => {
             let printed = error.print(rt);
             match error.use_stderr() {
@@ -70,76 +64,45 @@ fn ordered(rt: &HostRuntime) -> Result<Option<Order>, clap::Error>
     order_of(rt.alloc(), words.as_slice())
 }
 
-/// The verdict on the recording of the files, or why there is none. Both files are opened before one is read, and the
-/// binding is parsed before the dump is read.
-fn judged<R: Threads + Wait + Sync>(
-    rt: &HostRuntime,
-    threads: &R,
-    order: &Order,
-) -> Result<Verdict, Refusal>
+/// Checks the recording of the files that an order names. Both are opened before one is read.
+fn check_order<R: Threads + Wait + Sync>(rt: &HostRuntime, threads: &R, order: &Order) -> u8
     requires block { (1 ≤ order.now.plan.block) × (order.now.plan.block ≤ 65536) }
     requires workers { (1 ≤ order.now.plan.workers) × (order.now.plan.workers ≤ 64) }
 {
+    match open_both(rt, order) {
+        Ok((mut binding, mut dump)) => check_by_pods(
+            threads,
+            rt.alloc(),
+            &mut binding,
+            &mut dump,
+            order.plan,
+            &mut Io::new(rt.stdout()),
+            &mut Io::new(rt.stderr()),
+        ),
+        Err(refusal) => refuse(rt, &refusal),
+    }
+}
+
+/// The binding and the dump of an order, opened.
+fn open_both(rt: &HostRuntime, order: &Order) -> Result<(Io<File>, Io<File>), Refusal> {
     let binding = open(rt, order.binding.as_str(), Input::Binding)?;
     let dump = open(rt, order.dump.as_str(), Input::Dump)?;
-    let text = read(rt, binding, Input::Binding)?;
-    let binding = binding_in(rt.alloc(), text.as_slice())?;
-    let text = read(rt, dump, Input::Dump)?;
-    judgement_by_pods(threads, rt.alloc(), &binding, text.as_slice(), order.plan)
+    Ok((binding, dump))
 }
 
-fn open(rt: &HostRuntime, name: &str, input: Input) -> Result<File, Refusal> {
-    fs::open(rt, name).map_err(|_| Refusal::CannotOpen(input))
-}
-
-/// All bytes of a file.
-fn read(rt: &HostRuntime, file: File, input: Input) -> Result<Vec<u8>, Refusal> {
-    let mut bytes = Vec::new(rt.alloc());
-    match file.take(LONGEST + 1).read_to_end(&mut bytes) {
-        Ok(_) if bytes.len() as u64 > LONGEST => Err(Refusal::TooLong(input)),
-        Ok(_) => Ok(bytes),
-        Err(error) if error.kind() == io::ErrorKind::OutOfMemory => Err(Refusal::Memory),
-        Err(_) => Err(Refusal::CannotRead(input)),
+fn open(rt: &HostRuntime, name: &str, input: Input) -> Result<Io<File>, Refusal>
+    ensures { IfErr result (λ refusal. refusal ≡ CannotOpen input) }
+{
+    match fs::open(rt, name) {
+        Ok(file) => Ok(Io::new(file)),
+        Err(_) => Err(Refusal::CannotOpen(input)),
     }
 }
 
-/// Writes the line of a verdict. The answer is the exit status: 0 conforming, 1 broken, 2 unreadable or never idle.
-fn tell(rt: &HostRuntime, verdict: &Verdict) -> u8 {
-    let written = write_verdict(&mut rt.stdout(), verdict);
-    if written.is_err() {
-        let _ = rt.stderr().write_all(b"vmecheck: cannot write\n");
-        return 5;
-    }
-    match verdict {
-        Verdict::Conforming => 0,
-        Verdict::Broken(_) => 1,
-        Verdict::Unreadable(_) | Verdict::NeverIdle => 2,
-    }
-}
-
-fn write_verdict<W: Write>(out: &mut W, verdict: &Verdict) -> io::Result<()> {
-    match verdict {
-        Verdict::Conforming => out.write_all(b"conforming\n"),
-        Verdict::Broken(found) => write_break(out, b"broken ", found),
-        Verdict::Unreadable(found) => write_break(out, b"unreadable ", found),
-        Verdict::NeverIdle => out.write_all(b"never idle\n"),
-    }
-}
-
-fn write_break<W: Write>(out: &mut W, head: &[u8], found: &Break) -> io::Result<()> {
-    out.write_all(head)?;
-    out.write_all(found.rule.name().as_bytes())?;
-    write!(
-        out,
-        " at instant {} time {} line ",
-        found.instant, found.time
-    )?;
-    out.write_all(found.line.name().as_bytes())?;
-    out.write_all(b"\n")
-}
-
-/// Writes why there is no verdict. The answer is the refusal's status.
-fn refuse(rt: &HostRuntime, refusal: Refusal) -> u8 {
-    let _ = writeln!(rt.stderr(), "vmecheck: {refusal}");
+/// Says why there is no verdict. The answer is the refusal's status.
+fn refuse(rt: &HostRuntime, refusal: &Refusal) -> u8
+    ensures { result ≡ refusal_status refusal.now }
+{
+    complain(&mut Io::new(rt.stderr()), refusal_line(refusal));
     refusal.status()
 }

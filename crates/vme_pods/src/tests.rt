@@ -1,24 +1,25 @@
 //! Two pods on threads of their own, and verdicts by workers.
 
-ghost use Rattle.std.specs.Prelude.{◌≤◌, IfSome};
+ghost use Rattle.std.specs.Prelude.{◌≤◌, IfSome, None};
 ghost use Rattle.vme_board.specs.Benches.{IsOf};
 
+use crate::check::check_by_pods;
 use crate::deliveries::deliveries_of;
-use crate::judge::{Plan, judgement_by_pods};
-use crate::recording::{binding_in, recording_in};
-use crate::refusal::Refusal;
+use crate::judge::Plan;
+use crate::unjudged::Unjudged;
 use crate::words::order_of;
 use std::alloc::Global;
 use std::process::Abort;
 use std::sync::Wait;
 use std::test::Fail;
 use std::thread::{Threads, join};
-use vcd_read::{FaultKind, VcdFault};
-use vme_bind::{BindFault, BindKind, Binding};
+use vme_answer::{Refusal, binding_in, captured_in};
+use vme_bind::Binding;
 use vme_board::{Bench, Board};
 use vme_book::{Book, Whole};
+use vme_stream::{Bytes, Message};
 use vme_summary::Judged;
-use vme_trace::{Block, Break, Capture, Line, Rule, Verdict};
+use vme_trace::{Block, Capture, Failed, Sink, Verdict};
 
 const BINDING: &[u8] = b"slots 1
 AS = bus.AS
@@ -98,32 +99,94 @@ fn bound_lines(alloc: Global) -> Result<Binding, Fail> {
     Ok(binding_in(alloc, BINDING).ok().ok_or("no binding")?)
 }
 
-/// The verdict on a dump; where memory is short once, it is asked for again.
-fn judged_again<R: Threads + Wait + Sync>(
+/// A sink that holds what it took, up to a count of bytes at which writes fail.
+#[derive(Drop)]
+struct Page {
+    bytes: Vec<u8>,
+    room: usize,
+    failures: u64,
+}
+
+impl Page {
+    fn new(alloc: Global, room: usize) -> Page {
+        Page {
+            bytes: Vec::new(alloc),
+            room,
+            failures: 0,
+        }
+    }
+}
+
+impl Sink for Page {
+    ghost contents = { λ _. None };
+
+    ghost failures = { λ page. page.failures };
+
+    fn write(&mut self, bytes: &[u8]) -> Result<usize, Failed> {
+        if self.bytes.len() < self.room && self.bytes.extend_from_slice(bytes).is_ok() {
+            return Ok(bytes.len());
+        }
+        match self.failures.checked_add(1) {
+            Some(failures) => {
+                self.failures = failures;
+                Err(Failed)
+            }
+            None => Ok(bytes.len()),
+        }
+    }
+}
+
+/// What the check of a dump by a binding writes with so much room, and its status.
+fn check_text<R: Threads + Wait + Sync>(
     rt: &R,
     alloc: Global,
-    bound: &Binding,
+    binding: &[u8],
     dump: &[u8],
     plan: Plan,
-) -> Result<Verdict, Refusal>
+    room: usize,
+) -> (Page, Page, u8)
     requires block { (1 ≤ plan.block) × (plan.block ≤ 65536) }
     requires workers { (1 ≤ plan.workers) × (plan.workers ≤ 64) }
 {
-    let judged = judgement_by_pods(rt, alloc, bound, dump, plan);
-    if judged == Err(Refusal::Memory) {
-        return judgement_by_pods(rt, alloc, bound, dump, plan);
-    }
-    judged
+    let mut out = Page::new(alloc, room);
+    let mut err = Page::new(alloc, 1000);
+    let status = check_by_pods(
+        rt,
+        alloc,
+        &mut Bytes::new(binding),
+        &mut Bytes::new(dump),
+        plan,
+        &mut out,
+        &mut err,
+    );
+    (out, err, status)
 }
 
-/// The verdict on a dump, for every plan of some.
-fn assert_verdict<R: Threads + Wait + Abort + Sync>(
+/// What is written of a dump; where memory is short once, it is asked for again.
+fn checked_again<R: Threads + Wait + Sync>(
     rt: &R,
     alloc: Global,
     dump: &[u8],
-    verdict: &Verdict,
-) -> Result<(), Fail> {
-    let bound = bound_lines(alloc)?;
+    plan: Plan,
+) -> (Page, Page, u8)
+    requires block { (1 ≤ plan.block) × (plan.block ≤ 65536) }
+    requires workers { (1 ≤ plan.workers) × (plan.workers ≤ 64) }
+{
+    let checked = check_text(rt, alloc, BINDING, dump, plan, 1000);
+    if checked.2 == 4 {
+        return check_text(rt, alloc, BINDING, dump, plan, 1000);
+    }
+    checked
+}
+
+/// A dump has this line and status, for every plan of some.
+fn expect_verdict<R: Threads + Wait + Abort + Sync>(
+    rt: &R,
+    alloc: Global,
+    dump: &[u8],
+    text: &str,
+    status: u8,
+) {
     for block in [1, 2, 65536] {
         for workers in [1, 3] {
             for seed in [None, Some(0), Some(1), Some(7919)] {
@@ -132,26 +195,19 @@ fn assert_verdict<R: Threads + Wait + Abort + Sync>(
                     workers,
                     seed,
                 };
-                let Ok(found) = judged_again(rt, alloc, &bound, dump, plan) else {
-                    panic!(rt; "no verdict")
-                };
-                assert!(rt; found == *verdict);
+                let (out, err, ended) = checked_again(rt, alloc, dump, plan);
+                assert!(rt; out.bytes.as_slice() == text.as_bytes() && err.bytes.is_empty());
+                assert!(rt; ended == status);
             }
         }
     }
-    Ok(())
 }
 
 #[test]
-fn plans_change_nothing(rt: HostRuntime) -> Result<(), Fail> {
-    assert_verdict(&rt, rt.alloc(), READ, &Verdict::Conforming)?;
-    let found = Break {
-        instant: 3,
-        time: 20,
-        rule: Rule::H4,
-        line: Line::from_name(b"DTACK").ok_or("no such line")?,
-    };
-    assert_verdict(&rt, rt.alloc(), UNSTROBED, &Verdict::Broken(found))
+fn plans_change_nothing(rt: HostRuntime) {
+    expect_verdict(&rt, rt.alloc(), READ, "conforming\n", 0);
+    let broken = "broken H4 at instant 3 time 20 line DTACK\n";
+    expect_verdict(&rt, rt.alloc(), UNSTROBED, broken, 1);
 }
 
 /// The deliveries of the blocks of one step.
@@ -176,7 +232,7 @@ fn ascend(deliveries: &[Block]) -> bool {
 #[test]
 fn seeds_shuffle_and_repeat(rt: HostRuntime) -> Result<(), Fail> {
     let alloc = rt.alloc();
-    let capture = recording_in(alloc, &bound_lines(alloc)?, READ)
+    let capture = captured_in(alloc, &bound_lines(alloc)?, READ)
         .ok()
         .ok_or("no recording")?;
     let (mut all_ascend, mut none_again) = (true, true);
@@ -222,7 +278,7 @@ fn all_inserted(alloc: Global, total: u32, contents: Vec<Option<Judged>>) -> Res
 
 /// Two pods deliver the odd and the even blocks of a read, each on a thread of its own.
 fn whole_by_two_pods<R: Threads + Abort + Sync>(rt: &R, alloc: Global) -> Result<Whole, Fail> {
-    let capture = recording_in(alloc, &bound_lines(alloc)?, READ)
+    let capture = captured_in(alloc, &bound_lines(alloc)?, READ)
         .ok()
         .ok_or("no recording")?;
     let blocks = capture.cut(alloc, 1)?;
@@ -268,34 +324,60 @@ fn long_dump(alloc: Global, steps: u32) -> Result<String, Fail> {
     Ok(dump)
 }
 
+/// By two workers in an order of their own, a binding and a dump are refused by this line with status 3.
+fn expect_refusal<R: Threads + Wait + Abort + Sync>(
+    rt: &R,
+    alloc: Global,
+    binding: &[u8],
+    dump: &[u8],
+    text: &str,
+) {
+    let (out, err, status) = check_text(rt, alloc, binding, dump, TWO_WORKERS, 1000);
+    assert!(rt; out.bytes.is_empty() && err.bytes.as_slice() == text.as_bytes());
+    assert!(rt; status == 3);
+}
+
+const TWO_WORKERS: Plan = Plan {
+    block: 1,
+    workers: 2,
+    seed: Some(1),
+};
+
 #[test]
 fn refusals_are_told(rt: HostRuntime) -> Result<(), Fail> {
     let alloc = rt.alloc();
-    let Err(refused) = binding_in(alloc, b"AS = 0\n") else {
-        panic!(rt; "bound")
-    };
-    let want = BindFault {
-        line: 1,
-        kind: BindKind::SlotsFirst,
-    };
-    assert!(rt; refused == Refusal::BadBinding(want));
-    let bound = bound_lines(alloc)?;
-    let plan = Plan {
-        block: 1,
-        workers: 2,
-        seed: Some(1),
-    };
-    let no_dump = judgement_by_pods(&rt, alloc, &bound, b"", plan);
-    let want = VcdFault {
-        line: 1,
-        kind: FaultKind::NoEndDefinitions,
-    };
-    assert!(rt; no_dump == Err(Refusal::BadDump(want)));
+    let binding_fault = "vmecheck: binding line 1: SlotsFirst\n";
+    expect_refusal(&rt, alloc, b"AS = 0\n", READ, binding_fault);
+    let dump_fault = "vmecheck: dump line 1: NoEndDefinitions\n";
+    expect_refusal(&rt, alloc, BINDING, b"", dump_fault);
     let long = long_dump(alloc, 4097)?;
-    let judged = judgement_by_pods(&rt, alloc, &bound, long.as_str().as_bytes(), plan);
-    assert!(rt; judged == Err(Refusal::TooManyBlocks));
-    assert!(rt; Refusal::TooManyBlocks.status() == 3 && Refusal::NoWorker.status() == 4);
+    let many = "vmecheck: too many blocks\n";
+    expect_refusal(&rt, alloc, BINDING, long.as_str().as_bytes(), many);
     Ok(())
+}
+
+#[test]
+fn a_verdict_that_is_not_written_is_told(rt: HostRuntime) {
+    let (out, err, status) = check_text(&rt, rt.alloc(), BINDING, READ, TWO_WORKERS, 0);
+    assert!(rt; out.bytes.is_empty() && status == 5);
+    assert!(rt; err.bytes.as_slice() == "vmecheck: cannot write\n".as_bytes());
+}
+
+#[test]
+fn what_is_not_judged_is_told(rt: HostRuntime) {
+    let told = |unjudged: Unjudged, text: &str, status: u8| -> bool {
+        let line: Message = unjudged.line();
+        line.as_bytes() == text.as_bytes() && unjudged.status() == status
+    };
+    assert!(rt;
+        told(
+            Unjudged::Refused(Refusal::Memory),
+            "vmecheck: out of memory\n",
+            4
+        )
+    );
+    assert!(rt; told(Unjudged::NoWorker, "vmecheck: cannot start a worker\n", 4));
+    assert!(rt; told(Unjudged::Stray, "vmecheck: stray block\n", 4));
 }
 
 #[test]

@@ -24,7 +24,7 @@ const U1: Guide = Guide {
     sentence: "a control line is Unknown, at the end of judging",
     line: "that control line",
     section: "profile",
-    causes: "two boards drive the line against each other; a net of a daisy chain that nobody drives, such as an empty slot without its jumper; a driver that isn't reset; $dumpoff",
+    causes: "two boards drive the line against each other; a net of a daisy chain that its board lets go once the bus was idle; a driver that becomes unknown where a state that isn't reset is used; $dumpoff",
 };
 
 const U2: Guide = Guide {

@@ -115,6 +115,7 @@ fn unknown_direction(before: &Lines, after: &Lines) -> Option<Line>
 }
 
 /// The rule that is broken by a line that isn't known as it is asked for.
+#[inline(always)]
 fn fault_of_unknown(before: &Lines, after: &Lines) -> Option<Fault>
     ensures { result ≡ faults_unknown before.now after.now }
 {
@@ -154,6 +155,7 @@ fn touches_others(changes: &[Change]) -> bool
 }
 
 /// The first changed line that a cycle needs whose address strobe was low before.
+#[inline(always)]
 fn moved_line(before: &Lines, changes: &[Change]) -> Option<Line>
     ensures { result ≡ address_moved before.now changes.now }
 {
@@ -175,6 +177,7 @@ impl Sight {
     ghost use Rattle.vme_stability.specs.StabilitySpec.{stability_sight};
 
     /// What a step shows, if it shows anything.
+    #[inline(always)]
     pub fn of(before: &Lines, after: &Lines, changes: &[Change]) -> Option<Sight>
         ensures { result ≡ stability_sight before.now after.now changes.now }
     {

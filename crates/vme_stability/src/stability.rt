@@ -51,6 +51,7 @@ impl Holding {
     }
 
     /// What is remembered after a step.
+    #[inline(always)]
     fn after_step(self, before: &Lines, after: &Lines) -> Holding
         ensures { result ≡ stepped self before.now after.now }
     {
@@ -110,10 +111,12 @@ impl Rules for StabilityRules {
         None
     }
 
+    #[inline(always)]
     fn see(before: &Lines, after: &Lines, changes: &[Change]) -> Option<Sight> {
         Sight::of(before, after, changes)
     }
 
+    #[inline(always)]
     fn step(memory: Holding, before: &Lines, after: &Lines, seen: &Sight) -> Next<Holding> {
         Next {
             memory: memory.after_step(before, after),

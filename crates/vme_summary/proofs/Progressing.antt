@@ -1,4 +1,4 @@
--- Judging goes on past further blocks.
+-- Judging goes on past further blocks, and past further steps.
 use Rattle.std.proofs.Common.{◌≡◌, ℕ, ◌+◌, ◌≤◌, List, [], ◌∷◌, ◌++◌, length, length-append, sym, ◌∙◌, ap, subst, refl, Some, None}
 use Rattle.std.specs.Option.{option_map}
 use Rattle.vme_trace.specs.Levels.{Levels}
@@ -9,19 +9,22 @@ use Rattle.vme_trace.specs.declared.verdict.Verdict.{Verdict}
 use Rattle.vme_trace.specs.declared.block.Block.{Block}
 use Rattle.vme_trace.specs.declared.step.Change.{Change}
 use Rattle.vme_trace.specs.declared.step.Step.{Step}
-use Rattle.vme_monitor.specs.Outcome.{Outcome, StandsFor, earlier, shifted_break}
+use Rattle.vme_monitor.specs.Outcome.{Outcome, earlier, shifted_break}
 use Rattle.vme_monitor.specs.Run.{run_of}
-use Rattle.vme_monitor.specs.Runs.{run_joined}
+use Rattle.vme_monitor.specs.Runs.{levels_after-append, run_joined}
+use Rattle.vme_monitor.specs.Silence.{FindsFor}
 use Rattle.vme_monitor.specs.declared.mark.Next.{Next}
-use Rattle.vme_summary.specs.Summaries.{SummaryStandsFor, summary_steps}
+use Rattle.vme_summary.specs.Summaries.{SummaryFindsFor, SummaryStandsFor, stands_finds_all, summary_steps}
 use Rattle.vme_summary.specs.Joins.{BlocksJoin}
 use Rattle.vme_summary.specs.Stands.{IsExtent, Meets, SpanStandsFor, first_number, joined_extent, recorded, step_count}
-use Rattle.vme_summary.specs.Progressed.{FoundAfter, HasCome, HasFound, HasFoundAll, HasSeen, judged_steps}
+use Rattle.vme_summary.specs.Progressed.{FoundAfter, HasCome, HasFound, HasFoundAll, HasJudged, HasSeen, judged_steps}
 use Rattle.vme_summary.specs.declared.extent.Extent.{Extent}
 use Rattle.vme_summary.specs.declared.found.Found.{Found}
 use Rattle.vme_summary.specs.declared.progress.Progress.{Progress}
 use Rattle.vme_summary.specs.declared.found.Seen.{Seen}
+use Rattle.vme_summary.specs.declared.judging.Judging.{Judging}
 use Rattle.vme_summary.specs.declared.span.Span.{Span}
+use Rattle.vme_summary.specs.declared.summary.Summary.{Summary}
 use Rattle.vme_summary.proofs.Chains.{steps-append}
 use Rattle.vme_summary.proofs.Extents.{extent_joined, left_by_steps}
 use Rattle.vme_summary.proofs.Whole.{joined_sound}
@@ -29,17 +32,18 @@ use Rattle.vme_summary.proofs.Whole.{joined_sound}
 -- what a monitor sees of further steps from the memory that it is in
 pub seen_after : {P : Type 0} (next : P → Levels → Levels → List Change → Next P) (begin : Levels → P) (says : P → Outcome P) (count n : ℕ) (a b : Seen P) (o : Levels) (x y : List Step)
     → b.memory ≡ (says a.memory).leaving → b.event ≡ earlier a.event (option_map (shifted_break n) (says a.memory).event) → n ≡ length x
-    → HasSeen (run_of next) begin a o x → StandsFor (run_of next) says count (levels_after o x) y → HasSeen (run_of next) begin b o (x ++ y)
-seen_after {P} next begin says count n a b o x y m e long seen stands =
+    → HasSeen (run_of next) begin a o x → FindsFor (run_of next) says count (levels_after o x) y → HasSeen (run_of next) begin b o (x ++ y)
+seen_after {P} next begin says count n a b o x y m e long seen finds =
     let after = levels_after o x in
     let so_far = run_of next (begin o) o x in
     let rest = run_of next so_far.leaving after y in
     let whole = run_joined next x y (begin o) o in
-    let here : says a.memory ≡ rest = stands.outcomes a.memory ∙ ap (λ (p : P). run_of next p after y) seen.memory in
+    let left : (says a.memory).leaving ≡ rest.leaving = finds.leaving a.memory ∙ ap (λ (p : P). (run_of next p after y).leaving) seen.memory in
+    let broken : (says a.memory).event ≡ rest.event = finds.event a.memory ∙ ap (λ (p : P). (run_of next p after y).event) seen.memory in
     record {
-      memory = m ∙ ap (λ (r : Outcome P). r.leaving) here ∙ sym (ap (λ (r : Outcome P). r.leaving) whole);
+      memory = m ∙ left ∙ sym (ap (λ (r : Outcome P). r.leaving) whole);
       event = e ∙ ap (λ (k : ℕ). earlier a.event (option_map (shifted_break k) (says a.memory).event)) long
-          ∙ ap (λ (r : Outcome P). earlier a.event (option_map (shifted_break (length x)) r.event)) here
+          ∙ ap (λ v. earlier a.event (option_map (shifted_break (length x)) v)) broken
           ∙ ap (λ v. earlier v (option_map (shifted_break (length x)) rest.event)) seen.event
           ∙ sym (ap (λ (r : Outcome P). r.event) whole);
     }
@@ -50,7 +54,7 @@ pub come_after : (p : Progress) (s : Span) (e : Extent) (n : ℕ) (f : Found) �
 come_after p s e n f same count m found x y c q =
     let opens : s.extent.opening ≡ levels_after p.extent.opening (joined_steps x) = m.opened ∙ sym (left_by_steps p.extent x c.extent) in
     let second : SummaryStandsFor s.summary (levels_after p.extent.opening (joined_steps x)) (joined_steps y) = subst (λ v. SummaryStandsFor s.summary v (joined_steps y)) opens q.summary in
-    let whole = found p.extent.opening (joined_steps x) (joined_steps y) c.steps c.found second in
+    let whole = found p.extent.opening (joined_steps x) (joined_steps y) c.steps c.found (stands_finds_all second) in
     let steps = steps-append x y in
     let more : summary_steps s.summary ≡ length (joined_steps y) = q.summary.known.counted in
     record {
@@ -86,3 +90,14 @@ span_first s b bs p = let first : Some b.number ≡ Some s.extent.first = p.exte
 -- blocks that judging has come past join
 pub come_join : (p : Progress) (blocks : List Block) → HasCome p blocks → BlocksJoin blocks
 come_join p blocks c = c.extent.join
+
+-- judging goes on past further steps
+pub judged_on : (j : Judging) (s : Summary) (v : Levels) (n : ℕ) (f : Found) (y : List Step) → SummaryFindsFor s j.left y → v ≡ levels_after j.left y → n ≡ j.steps + summary_steps s → FoundAfter j.found j.steps s f
+    → (o : Levels) (x : List Step) → HasJudged j o x → HasJudged (record { left = v; steps = n; found = f }) o (x ++ y)
+judged_on j s v n f y finds left count found o x h =
+    let long : summary_steps s ≡ length y = finds.known.counted in
+    record {
+      left = left ∙ ap (λ (w : Levels). levels_after w y) h.left ∙ sym (levels_after-append x y o);
+      counted = count ∙ ap (λ k. k + summary_steps s) h.counted ∙ ap (λ k. length x + k) long ∙ sym (length-append x y);
+      found = found o x y h.counted h.found (subst (λ (w : Levels). SummaryFindsFor s w y) h.left finds);
+    }

@@ -17,7 +17,7 @@ use Rattle.vme_trace.specs.declared.verdict.Verdict.TheVariants.{NeverIdle}
 use Rattle.vme_monitor.specs.Whole.{has_span}
 use Rattle.vme_summary.specs.Joins.{BlocksJoin, first_time, is_later, joined_trace, last_time, left_by}
 use Rattle.vme_summary.specs.Progressed.{HasFound, HasFoundAll}
-use Rattle.vme_summary.specs.Summaries.{StandsForAll, SummaryStandsFor, first_break}
+use Rattle.vme_summary.specs.Summaries.{StandsForAll, SummaryFindsFor, SummaryStandsFor, first_break, stands_finds_all}
 use Rattle.vme_summary.specs.Stands.{IsVerdictOf, SpanStandsFor}
 use Rattle.vme_summary.specs.declared.found.Found.{Found}
 use Rattle.vme_summary.specs.declared.span.Span.{Span}
@@ -103,13 +103,13 @@ waiting_verdict t judged started off = judged_none (judged_spans t) t (sym start
 
 -- what monitors that begin at the opening of a span find of all its steps
 abbrev pub FindsFrom : Span → Found → Type 0
-FindsFrom s f = (x : List Step) → SummaryStandsFor s.summary s.extent.opening x → HasFound f s.extent.opening x
+FindsFrom s f = (x : List Step) → SummaryFindsFor s.summary s.extent.opening x → HasFound f s.extent.opening x
 
 pub found_all : (s : Span) (f : Found) (t : Trace) → FindsFrom s f → StandsForAll s.summary s.extent.opening t → HasFoundAll f t
 found_all s f t finds all =
     let same = all.opens in
     let stands : SummaryStandsFor s.summary s.extent.opening t.steps = subst (λ (v : Levels). SummaryStandsFor s.summary v t.steps) (sym same) all.stands in
-    record { sound = all.sound; few = all.few; found_there = subst (λ (v : Levels). HasFound f v t.steps) same (finds t.steps stands) }
+    record { sound = all.sound; few = all.few; found_there = subst (λ (v : Levels). HasFound f v t.steps) same (finds t.steps (stands_finds_all stands)) }
 
 pub verdict_found : (s : Span) → s.extent.opening.slots ≤ 21 → (f : Found) → FindsFrom s f → (v : Verdict) → ((t : Trace) → HasFoundAll f t → verdict_by rules_in_force t ≡ v) → IsVerdictOf s v
 verdict_found s few f finds v found [] stands = let none : None ≡ Some s.extent.first = stands.extent.first in absurd (cc)

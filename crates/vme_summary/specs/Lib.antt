@@ -6,6 +6,7 @@ pub mod HasRoom
 pub mod Stands
 pub mod Joint
 pub mod AllShown
+pub mod Leading
 pub mod MarkedRows
 pub mod Endings
 pub mod CutFaults

@@ -14,9 +14,10 @@ use Rattle.vme_stability.specs.StabilitySpec.{stability_begin}
 use Rattle.vme_chains.specs.GrantSpec.{grant_begin}
 use Rattle.vme_chains.specs.AcknowledgeSpec.{acknowledge_begin}
 use Rattle.vme_summary.specs.Runs.{known_run, handshake_run, stability_run, grant_run, acknowledge_run}
-use Rattle.vme_summary.specs.Summaries.{SummaryStandsFor}
+use Rattle.vme_summary.specs.Summaries.{SummaryFindsFor}
 use Rattle.vme_summary.specs.Stands.{IsExtent, SpanStandsFor}
 use Rattle.vme_summary.specs.declared.found.Found.{Found}
+use Rattle.vme_summary.specs.declared.judging.Judging.{Judging}
 use Rattle.vme_summary.specs.declared.progress.Progress.{Progress}
 use Rattle.vme_summary.specs.declared.span.Span.{Span}
 use Rattle.vme_summary.specs.declared.summary.Summary.{Summary}
@@ -42,11 +43,22 @@ pub record HasFoundAll (found : Found) (t : Trace) : Type 0 where
   pub few : t.opening.slots ≤ 21
   pub found_there : HasFound found t.opening t.steps
 
--- where monitors had come past so many steps, and a summary stands for those that follow, they have come past both
+-- where monitors had come past so many steps, and a summary finds what those that follow do, they have come past both
 abbrev pub FoundAfter : Found → ℕ → Summary → Found → Type 0
 FoundAfter before steps s found =
     (o : Levels) (x y : List Step)
-    → steps ≡ length x → HasFound before o x → SummaryStandsFor s (levels_after o x) y → HasFound found o (x ++ y)
+    → steps ≡ length x → HasFound before o x → SummaryFindsFor s (levels_after o x) y → HasFound found o (x ++ y)
+
+-- judging has come past these steps after this opening: it knows the lines that they leave, how many they are, and
+-- what is found of them
+pub record HasJudged (j : Judging) (o : Levels) (x : List Step) : Type 0 where
+  pub left : j.left ≡ levels_after o x
+  pub counted : j.steps ≡ length x
+  pub found : HasFound j.found o x
+
+-- past how many steps it has come
+abbrev pub steps_before : Judging → ℕ
+steps_before j = j.steps
 
 -- judging has come past these blocks: they have this extent, and this is found of all their steps after the first opening
 pub record HasCome (p : Progress) (blocks : List Block) : Type 0 where

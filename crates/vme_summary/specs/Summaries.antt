@@ -8,6 +8,7 @@ use Rattle.vme_trace.specs.WellFormed.{malformed_step}
 use Rattle.vme_trace.specs.declared.step.Step.{Step}
 use Rattle.vme_trace.specs.declared.verdict.Break.{Break}
 use Rattle.vme_monitor.specs.Outcome.{Outcome, StandsFor}
+use Rattle.vme_monitor.specs.Silence.{FindsFor, stands_finds}
 use Rattle.vme_monitor.specs.Tables.{outcome}
 use Rattle.vme_monitor.specs.Spanned.{phase_place}
 use Rattle.vme_monitor.specs.KnownSpec.{nil_place}
@@ -49,6 +50,26 @@ pub record SummaryStandsFor (s : Summary) (o : Levels) (x : List Step) : Type 0 
   pub stability : StandsFor stability_run (stability_outcome s) s.stability.steps o x
   pub grant : StandsFor grant_run (grant_outcome s) s.grant.steps o x
   pub acknowledge : StandsFor acknowledge_run (acknowledge_outcome s) s.acknowledge.steps o x
+
+-- it finds what these steps after that opening do: from each memory that enters, each table gives the memory that is
+-- left and the first break of its monitor's run
+pub record SummaryFindsFor (s : Summary) (o : Levels) (x : List Step) : Type 0 where
+  pub known : FindsFor known_run (known_outcome s) s.known.steps o x
+  pub handshake : FindsFor handshake_run (handshake_outcome s) s.handshake.steps o x
+  pub stability : FindsFor stability_run (stability_outcome s) s.stability.steps o x
+  pub grant : FindsFor grant_run (grant_outcome s) s.grant.steps o x
+  pub acknowledge : FindsFor acknowledge_run (acknowledge_outcome s) s.acknowledge.steps o x
+
+-- one that stands for steps finds what they do
+pub stands_finds_all : {s : Summary} {o : Levels} {x : List Step} → SummaryStandsFor s o x → SummaryFindsFor s o x
+stands_finds_all p =
+    record {
+      known = stands_finds p.known;
+      handshake = stands_finds p.handshake;
+      stability = stands_finds p.stability;
+      grant = stands_finds p.grant;
+      acknowledge = stands_finds p.acknowledge;
+    }
 
 -- of how many steps it is
 abbrev pub summary_steps : Summary → ℕ

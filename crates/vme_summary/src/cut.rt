@@ -12,6 +12,7 @@ ghost use Rattle.vme_summary.specs.Joins.{joined_trace};
 ghost use Rattle.vme_summary.specs.Stands.{SpanStandsFor, first_number};
 
 use crate::judged::span_of_steps;
+use crate::judging::Judging;
 use crate::span::{JoinFault, Span, append};
 use std::alloc::{AllocError, Global};
 use vme_listing::Listing;
@@ -115,18 +116,28 @@ fn span_in_blocks(alloc: Global, capture: &Capture, size: u32) -> Result<Span, C
 }
 
 /// The verdict on a capture by the rules in force: it is cut into blocks of `size` steps, 1 to 65,536, at most 4,096 of
-/// them, each is judged by itself, and they are joined. Memory stands for want of memory in any of this.
+/// them, each is judged by itself, and judging goes on past one after the other. No marks are made, and nothing is
+/// kept of a block. Memory stands for want of memory in any of this.
 pub fn verdict_by_blocks(alloc: Global, capture: &Capture, size: u32) -> Result<Verdict, CutFault>
     ensures bad_size { (result ≡ Err CutFault.BadSize) ↔ IsBadSize size }
     ensures too_many { (result ≡ Err CutFault.TooManyBlocks) ↔ HasTooManyBlocks size capture.now }
     ensures verdict { IfOk result (λ verdict. verdict ≡ verdict_by rules_in_force capture.now) }
 {
-    let span = span_in_blocks(alloc, capture, size)?;
-    Ok(span.verdict())
+    block_total(capture, size)?;
+    let opening = capture.opening();
+    prove!(opening.slots() <= 21);
+    let mut judging = Judging::at(opening);
+    let steps = capture.steps();
+    for block in steps.chunks(size as usize) {
+        let Ok(()) = judging.go_on(alloc, block) else {
+            return Err(CutFault::Memory);
+        };
+    }
+    Ok(judging.verdict())
 }
 
 /// The listing of a capture by the rules in force: its tenures, cycles and transfers before the least break, and the
-/// verdict. It is cut and judged as [`verdict_by_blocks`] does, with the same faults.
+/// verdict. It is cut so too, with the same faults; the blocks are judged with their marks, and joined.
 pub fn listing_by_blocks(alloc: Global, capture: &Capture, size: u32) -> Result<Listing, CutFault>
     ensures bad_size { (result ≡ Err CutFault.BadSize) ↔ IsBadSize size }
     ensures too_many { (result ≡ Err CutFault.TooManyBlocks) ↔ HasTooManyBlocks size capture.now }

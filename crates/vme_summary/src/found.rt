@@ -1,6 +1,6 @@
 //! What monitors have come to that judge a recording from its opening on.
 
-ghost use Rattle.std.specs.Prelude.{◌≡◌, ◌+◌, ◌≤◌, option_map};
+ghost use Rattle.std.specs.Prelude.{◌≡◌, ◌+◌, ◌^◌, ◌<◌, None, option_map};
 ghost use Rattle.vme_monitor.specs.Outcome.{earlier, shifted_break};
 ghost use Rattle.vme_monitor.specs.Tables.{outcome};
 ghost use Rattle.vme_trace.specs.Trace.{Trace};
@@ -26,20 +26,20 @@ pub(crate) struct Seen<P> {
 }
 
 impl<P: Places> Seen<P> {
-    /// What a monitor in this memory has come to after the steps of a table.
-    pub(crate) fn first(table: &Table<P>, memory: P) -> Seen<P>
-        ensures memory { result.memory ≡ (outcome table.now.layers.items table.now.rows.items memory (P.place_of memory)).leaving }
-        ensures event { result.event ≡ (outcome table.now.layers.items table.now.rows.items memory (P.place_of memory)).event }
+    /// What a monitor that begins in this memory has come to before any step.
+    pub(crate) fn at(memory: P) -> Seen<P>
+        ensures memory { result.memory ≡ memory }
+        ensures event { result.event ≡ None }
     {
         Seen {
-            memory: table.leaving(memory),
-            event: table.event(memory),
+            memory,
+            event: None,
         }
     }
 
     /// What it has come to after the steps of a table more, before which so many were.
     pub(crate) fn after(&self, table: &Table<P>, steps: u32) -> Seen<P>
-        requires { steps + table.now.steps ≤ 268435456 }
+        requires { steps + table.now.steps < 2 ^ 32 }
         ensures memory { result.memory ≡ (outcome table.now.layers.items table.now.rows.items self.now.memory (P.place_of self.now.memory)).leaving }
         ensures event { result.event ≡ earlier self.now.event (option_map (shifted_break steps) (outcome table.now.layers.items table.now.rows.items self.now.memory (P.place_of self.now.memory)).event) }
     {

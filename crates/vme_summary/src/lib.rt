@@ -6,6 +6,8 @@
 //! [`Span::listing`] its listing, which is well placed. [`verdict_by_blocks`] and [`listing_by_blocks`] do all of this for
 //! a capture, and copy none of its blocks.
 //!
+//! For a verdict alone no marks are made and no spans are joined (`judging`).
+//!
 //! A [`Progress`] goes on past further blocks from where judging has come to, without a join and without memory.
 //!
 //! Contracts have one word: `SpanStandsFor span blocks` (`specs/Stands`). Start there and with `span`. `Span` and
@@ -17,6 +19,7 @@ mod cut;
 mod extent;
 mod found;
 pub mod judged;
+mod judging;
 #[cfg(test)]
 mod listing_tests;
 mod monitors;

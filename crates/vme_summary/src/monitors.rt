@@ -1,31 +1,92 @@
 //! Summaries of steps by all monitors. This is the only place that knows which monitors there are.
 
-ghost use Rattle.std.specs.Prelude.{◌≡◌, ◌+◌, ◌≤◌, List, length, IfOk};
+ghost use Rattle.std.specs.Prelude.{◌≡◌, ◌+◌, ◌^◌, ◌<◌, ◌≤◌, ◌∷◌, ◌++◌, List, [], length, IfOk, OnOk};
+ghost use Rattle.vme_trace.specs.Levels.{Levels};
 ghost use Rattle.vme_trace.specs.Judged.{judged_spans};
 ghost use Rattle.vme_trace.specs.Trace.{Trace, levels_after};
 ghost use Rattle.vme_trace.specs.declared.step.Step.{Step};
 ghost use Rattle.vme_monitor.specs.Outcome.{StandsFor};
+ghost use Rattle.vme_monitor.specs.Underway.{seen_in};
 ghost use Rattle.vme_monitor.specs.Whole.{has_span};
 ghost use Rattle.vme_summary.specs.AllShown.{all_marks};
 ghost use Rattle.vme_summary.specs.HasRoom.{HasRoom};
+ghost use Rattle.vme_summary.specs.Leading.{IsLed};
 ghost use Rattle.vme_summary.specs.Progressed.{FoundAfter, HasFound, HasFoundAll};
-ghost use Rattle.vme_summary.specs.Summaries.{first_break as first_break_of, StandAlike, StandsForAll, SummaryStandsFor, SummaryStandsForBoth, summary_steps};
+ghost use Rattle.vme_summary.specs.Summaries.{first_break as first_break_of, StandAlike, StandsForAll, SummaryFindsFor, SummaryStandsFor, SummaryStandsForBoth, summary_steps};
 
 use crate::found::{Found, Seen};
 use crate::summary::{Room, Summary};
 use std::alloc::{AllocError, Global};
-use vme_chains::acknowledge::{Iack, acknowledge_over_captures};
-use vme_chains::grant::{Grant, grants_over_captures};
-use vme_dtb::handshake::{Dtb, handshake_over_captures};
+use vme_chains::acknowledge::{AcknowledgeRules, Iack, acknowledge_over_captures};
+use vme_chains::grant::{Grant, GrantRules, grants_over_captures};
+use vme_dtb::handshake::{Dtb, HandshakeRules, handshake_over_captures};
 use vme_monitor::both::{least, marks_together};
-use vme_monitor::known::{Known, known_over_captures};
+use vme_monitor::known::{Known, KnownRules, known_over_captures};
 use vme_monitor::mark::Mark;
 use vme_monitor::monitor::Monitor;
+use vme_monitor::silent::BreaksOf;
 use vme_monitor::stepping::Stepping;
 use vme_monitor::table::Table;
 use vme_monitor::view::View;
-use vme_stability::stability::{Stability, stability_over_captures};
+use vme_stability::stability::{Stability, StabilityRules, stability_over_captures};
 use vme_trace::{Break, Lines, Step};
+
+/// Something of each of five monitors.
+#[derive(Drop)]
+struct Five<A: Drop, B: Drop, C: Drop, D: Drop, E: Drop> {
+    first: A,
+    second: B,
+    third: C,
+    fourth: D,
+    fifth: E,
+}
+
+/// What five monitors know of no steps.
+fn begin_five<A: Stepping, B: Stepping, C: Stepping, D: Stepping, E: Stepping>(
+    alloc: Global,
+) -> Result<Five<A::Progress, B::Progress, C::Progress, D::Progress, E::Progress>, AllocError>
+    ensures first { IfOk result (λ all. (o : Levels) → A.tells_of all.first o []) }
+    ensures second { IfOk result (λ all. (o : Levels) → B.tells_of all.second o []) }
+    ensures third { IfOk result (λ all. (o : Levels) → C.tells_of all.third o []) }
+    ensures fourth { IfOk result (λ all. (o : Levels) → D.tells_of all.fourth o []) }
+    ensures fifth { IfOk result (λ all. (o : Levels) → E.tells_of all.fifth o []) }
+{
+    Ok(Five {
+        first: A::begin(alloc)?,
+        second: B::begin(alloc)?,
+        third: C::begin(alloc)?,
+        fourth: D::begin(alloc)?,
+        fifth: E::begin(alloc)?,
+    })
+}
+
+/// Leads five monitors past a step, at its instant after the opening.
+#[inline(always)]
+fn lead_five<A: Stepping, B: Stepping, C: Stepping, D: Stepping, E: Stepping>(
+    alloc: Global,
+    all: &mut Five<A::Progress, B::Progress, C::Progress, D::Progress, E::Progress>,
+    view: &View,
+    step: &Step,
+    instant: u32,
+) -> Result<(), AllocError>
+    requires { view.now ≡ seen_in view.now.before step.now.changes }
+    ensures first { OnOk result ((o : Levels) (x : List Step) → IsLed o x view.now.before instant
+        → A.tells_of all.old.first o x → A.tells_of all.new.first o (x ++ step.now ∷ [])) }
+    ensures second { OnOk result ((o : Levels) (x : List Step) → IsLed o x view.now.before instant
+        → B.tells_of all.old.second o x → B.tells_of all.new.second o (x ++ step.now ∷ [])) }
+    ensures third { OnOk result ((o : Levels) (x : List Step) → IsLed o x view.now.before instant
+        → C.tells_of all.old.third o x → C.tells_of all.new.third o (x ++ step.now ∷ [])) }
+    ensures fourth { OnOk result ((o : Levels) (x : List Step) → IsLed o x view.now.before instant
+        → D.tells_of all.old.fourth o x → D.tells_of all.new.fourth o (x ++ step.now ∷ [])) }
+    ensures fifth { OnOk result ((o : Levels) (x : List Step) → IsLed o x view.now.before instant
+        → E.tells_of all.old.fifth o x → E.tells_of all.new.fifth o (x ++ step.now ∷ [])) }
+{
+    A::go_on(alloc, &mut all.first, view, step, instant)?;
+    B::go_on(alloc, &mut all.second, view, step, instant)?;
+    C::go_on(alloc, &mut all.third, view, step, instant)?;
+    D::go_on(alloc, &mut all.fourth, view, step, instant)?;
+    E::go_on(alloc, &mut all.fifth, view, step, instant)
+}
 
 /// Leads five monitors along the steps after an opening at once: the summary of each, and the lines that the last step
 /// leaves.
@@ -52,30 +113,22 @@ fn walk_with_five<A: Stepping, B: Stepping, C: Stepping, D: Stepping, E: Steppin
     ensures fifth { IfOk result (λ all. StandsFor E.run (E.outcome all.4) (E.count all.4) opening.now steps.now) }
     ensures left { IfOk result (λ all. all.5 ≡ levels_after opening.now steps.now) }
 {
-    let mut first = A::begin(alloc)?;
-    let mut second = B::begin(alloc)?;
-    let mut third = C::begin(alloc)?;
-    let mut fourth = D::begin(alloc)?;
-    let mut fifth = E::begin(alloc)?;
+    let mut all = begin_five::<A, B, C, D, E>(alloc)?;
     let mut view = View::new(opening);
     let mut instant = 0;
     for step in steps {
         let changes = step.changes.as_slice();
         view.go_to(changes);
         instant += 1;
-        A::go_on(alloc, &mut first, &view, step, instant)?;
-        B::go_on(alloc, &mut second, &view, step, instant)?;
-        C::go_on(alloc, &mut third, &view, step, instant)?;
-        D::go_on(alloc, &mut fourth, &view, step, instant)?;
-        E::go_on(alloc, &mut fifth, &view, step, instant)?;
+        lead_five::<A, B, C, D, E>(alloc, &mut all, &view, step, instant)?;
         view.go_past(changes);
     }
     Ok((
-        A::finish(first, instant),
-        B::finish(second, instant),
-        C::finish(third, instant),
-        D::finish(fourth, instant),
-        E::finish(fifth, instant),
+        A::finish(all.first, instant),
+        B::finish(all.second, instant),
+        C::finish(all.third, instant),
+        D::finish(all.fourth, instant),
+        E::finish(all.fifth, instant),
         view.before,
     ))
 }
@@ -97,6 +150,35 @@ impl Summary {
             Stability,
             Grant,
             Iack,
+        >(alloc, opening, steps)?;
+        Ok((
+            Summary {
+                known,
+                handshake,
+                stability,
+                grant,
+                acknowledge,
+            },
+            left,
+        ))
+    }
+
+    /// The summary without marks of steps after an opening, and the lines that the last one leaves.
+    pub(crate) fn in_silence(
+        alloc: Global,
+        opening: &Lines,
+        steps: &[Step],
+    ) -> Result<(Summary, Lines), AllocError>
+        requires few { length steps.now ≤ 268435456 }
+        ensures finds { IfOk result (λ made. SummaryFindsFor made.0 opening.now steps.now) }
+        ensures left { IfOk result (λ made. made.1 ≡ levels_after opening.now steps.now) }
+    {
+        let (known, handshake, stability, grant, acknowledge, left) = walk_with_five::<
+            BreaksOf<KnownRules>,
+            BreaksOf<HandshakeRules>,
+            BreaksOf<StabilityRules>,
+            BreaksOf<GrantRules>,
+            BreaksOf<AcknowledgeRules>,
         >(alloc, opening, steps)?;
         Ok((
             Summary {
@@ -182,20 +264,15 @@ impl Summary {
 
     /// What the monitors that begin at this opening have come to after the steps.
     pub(crate) fn found_from(&self, opening: &Lines) -> Found
-        ensures { (x : List Step) → SummaryStandsFor self.now opening.now x → HasFound result opening.now x }
+        ensures { (x : List Step) → SummaryFindsFor self.now opening.now x → HasFound result opening.now x }
     {
-        Found {
-            known: Seen::first(&self.known, Known::start(opening)),
-            handshake: Seen::first(&self.handshake, Dtb::start(opening)),
-            stability: Seen::first(&self.stability, Stability::start(opening)),
-            grant: Seen::first(&self.grant, Grant::start(opening)),
-            acknowledge: Seen::first(&self.acknowledge, Iack::start(opening)),
-        }
+        prove!(self.steps() <= u32::MAX);
+        self.found_after(&Found::at(opening), 0)
     }
 
     /// What they have come to where so many steps were before these.
     pub(crate) fn found_after(&self, before: &Found, steps: u32) -> Found
-        requires { steps + summary_steps self.now ≤ 268435456 }
+        requires { steps + summary_steps self.now < 2 ^ 32 }
         ensures { FoundAfter before.now steps self.now result }
     {
         Found {
@@ -229,6 +306,19 @@ impl Summary {
 }
 
 impl Found {
+    /// What the monitors that begin at this opening have come to before any step.
+    pub(crate) fn at(opening: &Lines) -> Found
+        ensures { HasFound result opening.now [] }
+    {
+        Found {
+            known: Seen::at(Known::start(opening)),
+            handshake: Seen::at(Dtb::start(opening)),
+            stability: Seen::at(Stability::start(opening)),
+            grant: Seen::at(Grant::start(opening)),
+            acknowledge: Seen::at(Iack::start(opening)),
+        }
+    }
+
     /// Whether anything is judged of a recording past whose steps the monitors have come.
     pub(crate) fn has_judged(&self) -> bool
         ensures { (t : Trace) → HasFoundAll self.now t → result ≡ has_span (judged_spans t) }

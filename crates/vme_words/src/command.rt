@@ -43,14 +43,32 @@ fn recording_commands<'a>(alloc: Global) -> Result<Command<'a>, AllocError>
     ensures app { IfOk result (λ command. app_of command ≡ recordings_app) }
     ensures local { IfOk result (λ command. (out-Command command).has_globals ≡ false) }
 {
-    let check = recording_command(alloc, "check")?;
-    let list = recording_command(alloc, "list")?;
+    let check = check_command(alloc)?;
+    let list = list_command(alloc)?;
     let confirm = confirm_command(alloc)?;
     let command = Command::new(alloc, "vmecheck")
         .subcommand(check)?
         .subcommand(list)?
         .subcommand(confirm)?;
     Ok(command)
+}
+
+/// The command that judges a recording.
+pub(crate) fn check_command<'a>(alloc: Global) -> Result<Command<'a>, AllocError>
+    ensures app { IfOk result (λ command. app_of command ≡ recording_app (codes "check")) }
+    ensures local { IfOk result (λ command. (out-Command command).has_globals ≡ false) }
+{
+    Ok(recording_command(alloc, "check")?.about("Judges a recording, and writes the verdict"))
+}
+
+/// The command that lists what a recording has.
+pub(crate) fn list_command<'a>(alloc: Global) -> Result<Command<'a>, AllocError>
+    ensures app { IfOk result (λ command. app_of command ≡ recording_app (codes "list")) }
+    ensures local { IfOk result (λ command. (out-Command command).has_globals ≡ false) }
+{
+    Ok(recording_command(alloc, "list")?.about(
+        "Lists the tenures, cycles and transfers of a recording, and its verdict",
+    ))
 }
 
 /// A command on the recording that a binding makes of a dump.
@@ -67,11 +85,12 @@ fn recording_command<'a>(alloc: Global, name: &'a str) -> Result<Command<'a>, Al
 }
 
 /// The command on a listing of the recording that a binding makes of a dump.
-fn confirm_command<'a>(alloc: Global) -> Result<Command<'a>, AllocError>
+pub(crate) fn confirm_command<'a>(alloc: Global) -> Result<Command<'a>, AllocError>
     ensures app { IfOk result (λ command. app_of command ≡ confirm_app) }
     ensures local { IfOk result (λ command. (out-Command command).has_globals ≡ false) }
 {
     let command = Command::new(alloc, "confirm")
+        .about("Says whether a listing is that of a recording")
         .arg(binding_file(alloc))?
         .arg(dump_file(alloc))?
         .arg(file(alloc, "LISTING", "The file of the listing"))?;
@@ -79,41 +98,47 @@ fn confirm_command<'a>(alloc: Global) -> Result<Command<'a>, AllocError>
 }
 
 /// The command that says what the rules ask.
-fn rules_command<'a>(alloc: Global) -> Result<Command<'a>, AllocError>
+pub(crate) fn rules_command<'a>(alloc: Global) -> Result<Command<'a>, AllocError>
     ensures app { IfOk result (λ command. app_of command ≡ rules_app) }
     ensures local { IfOk result (λ command. (out-Command command).has_globals ≡ false) }
 {
     let rule = Arg::new(alloc, "RULE").help(
         "One rule by its name, as H4; all of them, where none is named",
     );
-    Command::new(alloc, "rules").arg(rule)
+    Command::new(alloc, "rules")
+        .about("Says what each rule asks, and what is usually wrong where it is broken")
+        .arg(rule)
 }
 
 /// The command that writes the variables of a dump.
-fn variables_command<'a>(alloc: Global) -> Result<Command<'a>, AllocError>
+pub(crate) fn variables_command<'a>(alloc: Global) -> Result<Command<'a>, AllocError>
     ensures app { IfOk result (λ command. app_of command ≡ variables_app) }
     ensures local { IfOk result (λ command. (out-Command command).has_globals ≡ false) }
 {
-    Command::new(alloc, "variables").arg(dump_file(alloc))
+    Command::new(alloc, "variables")
+        .about("Lists the variables of a dump, and how often each changes")
+        .arg(dump_file(alloc))
 }
 
 /// The command that writes a binding for a dump.
-fn bind_command<'a>(alloc: Global) -> Result<Command<'a>, AllocError>
+pub(crate) fn bind_command<'a>(alloc: Global) -> Result<Command<'a>, AllocError>
     ensures app { IfOk result (λ command. app_of command ≡ bind_app) }
     ensures local { IfOk result (λ command. (out-Command command).has_globals ≡ false) }
 {
     let command = Command::new(alloc, "bind")
+        .about("Writes a binding for a dump, by the names of its variables")
         .arg(slots_option(alloc))?
         .arg(dump_file(alloc))?;
     Ok(command)
 }
 
 /// The command that says why and where a recording is judged as it is.
-fn explain_command<'a>(alloc: Global) -> Result<Command<'a>, AllocError>
+pub(crate) fn explain_command<'a>(alloc: Global) -> Result<Command<'a>, AllocError>
     ensures app { IfOk result (λ command. app_of command ≡ explain_app) }
     ensures local { IfOk result (λ command. (out-Command command).has_globals ≡ false) }
 {
     let command = Command::new(alloc, "explain")
+        .about("Judges a recording, and says why and where")
         .arg(save_file_option(alloc))?
         .arg(binding_file(alloc))?
         .arg(dump_file(alloc))?;

@@ -13,4 +13,4 @@ pub mod words;
 pub use command::{VERSION, vmecheck_command};
 pub use order::{Order, Task};
 pub use order_fault::OrderFault;
-pub use words::usage_fault;
+pub use words::{task_fault, usage_fault};

@@ -6,11 +6,14 @@ ghost use Rattle.vme_words.specs.Commands.{vmecheck_app};
 ghost use Rattle.vme_words.specs.OrderFaults.{HasUsageKind, IsFaultOf, IsOfWords};
 ghost use Rattle.vme_words.specs.Orders.{HasConfirmation, HasName, HasNames, HasNumber, HasOrder, HasRecording, IsOrder, SaysOrder, SaysWords, if_given, names_in, number_in};
 
-use crate::command::vmecheck_command;
+use crate::command::{
+    bind_command, check_command, confirm_command, explain_command, list_command, rules_command,
+    variables_command, vmecheck_command,
+};
 use crate::order::{Order, Task};
 use crate::order_fault::OrderFault;
-use clap::ArgMatches;
 use clap::error::ErrorKind;
+use clap::{ArgMatches, Command};
 use std::alloc::{AllocError, Global};
 
 /// Reads the words of the command line, the program's name first.
@@ -252,15 +255,47 @@ pub fn usage_fault(alloc: Global, message: &str) -> OrderFault
     ensures of_words { IsOfWords result }
     ensures kind { HasUsageKind ErrorKind.InvalidSubcommand result }
 {
-    match usage_error(alloc, message) {
+    fault_under(vmecheck_command(alloc), message)
+}
+
+/// A fault of the words behind a task that the program finds itself: the usage of that task is told with it.
+pub fn task_fault(alloc: Global, task: Task, message: &str) -> OrderFault
+    ensures of_words { IsOfWords result }
+    ensures kind { HasUsageKind ErrorKind.InvalidSubcommand result }
+{
+    fault_under(task_command(alloc, task), message)
+}
+
+/// A fault of the words of a command.
+fn fault_under(command: Result<Command<'_>, AllocError>, message: &str) -> OrderFault
+    ensures of_words { IsOfWords result }
+    ensures kind { HasUsageKind ErrorKind.InvalidSubcommand result }
+{
+    match usage_error(command, message) {
         Ok(error) => OrderFault::Usage(error),
         Err(_) => OrderFault::Memory,
     }
 }
 
-fn usage_error(alloc: Global, message: &str) -> Result<clap::Error, AllocError>
+fn usage_error(
+    command: Result<Command<'_>, AllocError>,
+    message: &str,
+) -> Result<clap::Error, AllocError>
     ensures { IfOk result (λ error. kind_of error ≡ ErrorKind.InvalidSubcommand) }
 {
-    let mut command = vmecheck_command(alloc)?;
+    let mut command = command?;
     command.error(ErrorKind::InvalidSubcommand, message)
+}
+
+/// The command of a task, by its name behind that of the program.
+fn task_command<'a>(alloc: Global, task: Task) -> Result<Command<'a>, AllocError> {
+    match task {
+        Task::Check => check_command(alloc)?.bin_name("vmecheck check"),
+        Task::List => list_command(alloc)?.bin_name("vmecheck list"),
+        Task::Confirm => confirm_command(alloc)?.bin_name("vmecheck confirm"),
+        Task::Rules => rules_command(alloc)?.bin_name("vmecheck rules"),
+        Task::Variables => variables_command(alloc)?.bin_name("vmecheck variables"),
+        Task::Bind => bind_command(alloc)?.bin_name("vmecheck bind"),
+        Task::Explain => explain_command(alloc)?.bin_name("vmecheck explain"),
+    }
 }

@@ -9,19 +9,19 @@ use Rattle.vme_trace.specs.Trace.{Trace}
 use Rattle.vme_listing.specs.declared.row.Row.{Row}
 use Rattle.vme_cert.specs.declared.compare.Answer.{Answer as Confirmation}
 use Rattle.vme_cert.specs.declared.compare.Answer.TheVariants.{Yes, No}
-use Rattle.vmecheck.specs.Answers.{Answer, Gives, binding_read, dump_read, recorded_by}
-use Rattle.vmecheck.specs.Confirmations.{GivesConfirmation, GivesRows, IsConfirmation, IsFound, IsListing, compared, compared_with, confirmation_answer_by, confirmation_status, listing_text}
-use Rattle.vmecheck.specs.Ends.{Read, Written, Tells, Ends, Confirms, TellsConfirmation}
-use Rattle.vmecheck.specs.Inputs.{IsReading, longest_input, most_reads}
-use Rattle.vmecheck.specs.Refusals.{refused}
-use Rattle.vmecheck.specs.declared.input.InFault.{InFault}
-use Rattle.vmecheck.specs.declared.input.InFault.TheVariants as read
-use Rattle.vmecheck.specs.declared.refusal.Input.TheVariants.{Listing}
-use Rattle.vmecheck.specs.declared.refusal.Refusal.{Refusal}
-use Rattle.vmecheck.specs.declared.refusal.Refusal.TheVariants.{TooLong, Memory}
-use Rattle.vmecheck.proofs.AnswerLemmas.{too_long_is}
-use Rattle.vmecheck.proofs.CheckLemmas.{not_both, read_is, refusal_status-small, unwritten_by}
-use Rattle.vmecheck.proofs.InputLemmas.{unread}
+use Rattle.vme_answer.specs.Answers.{Answer, Gives, binding_read, dump_read, recorded_by}
+use Rattle.vmecheck.specs.Confirmations.{Confirms, GivesConfirmation, GivesRows, IsConfirmation, IsFound, IsListing, compared, compared_with, confirmation_answer_by, confirmation_status, listing_text, TellsConfirmation}
+use Rattle.vme_answer.specs.Ends.{Read, Written, Tells, Ends}
+use Rattle.vme_stream.specs.Inputs.{IsReading, longest_input, most_reads}
+use Rattle.vme_answer.specs.Refusals.{refused}
+use Rattle.vme_stream.specs.declared.input.InFault.{InFault}
+use Rattle.vme_stream.specs.declared.input.InFault.TheVariants as read
+use Rattle.vme_answer.specs.declared.refusal.Input.TheVariants.{Listing}
+use Rattle.vme_answer.specs.declared.refusal.Refusal.{Refusal}
+use Rattle.vme_answer.specs.declared.refusal.Refusal.TheVariants.{TooLong, Memory}
+use Rattle.vme_answer.proofs.AnswerLemmas.{too_long_is}
+use Rattle.vme_answer.proofs.EndLemmas.{not_both, read_is, refusal_status-small, unwritten_by}
+use Rattle.vme_stream.proofs.InputLemmas.{unread}
 
 pub binding_lacks : (binding : Result BoundLines Refusal) (dump : Result Contents Refusal) (listing : Result (List Row) Refusal) (r : Refusal)
     → Gives (λ (b : BoundLines). b) (Err r) binding → GivesConfirmation (Err r) (compared binding dump listing)
@@ -78,7 +78,7 @@ pub Confirms-unwritten : (binding dump listing : Read) (out err : Written) (stat
     → (status ≡ 5) ↔ (out.failures ≡ suc out.failed)
 Confirms-unwritten binding dump listing out err status confirms =
     let (binding_bytes, dump_bytes, listing_bytes, given, found, binding_read, dump_read, listing_read, rows, answered, end) = confirms in
-    unwritten_by confirmation_answer_by confirmation_answer_by-small refl found out err status end
+    unwritten_by confirmation_answer_by confirmation_answer_by-small found out err status end
 
 -- ---- the exact answer
 

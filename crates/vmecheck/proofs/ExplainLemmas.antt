@@ -7,11 +7,11 @@ use Rattle.vme_bind.specs.Binding.{BoundLines}
 use Rattle.vme_trace.specs.Trace.{Trace}
 use Rattle.vme_trace.specs.declared.verdict.Verdict.{Verdict}
 use Rattle.vmecheck.specs.declared.explain.Explained.{Explained}
-use Rattle.vmecheck.specs.declared.refusal.Refusal.{Refusal}
-use Rattle.vmecheck.specs.declared.refusal.Refusal.TheVariants.{Memory}
-use Rattle.vmecheck.specs.Answers.{Gives, binding_read, capture_by, dump_read, judgement_of, verdict_in_blocks}
+use Rattle.vme_answer.specs.declared.refusal.Refusal.{Refusal}
+use Rattle.vme_answer.specs.declared.refusal.Refusal.TheVariants.{Memory}
+use Rattle.vme_answer.specs.Answers.{Gives, binding_read, capture_by, dump_read, judgement_of, verdict_in_blocks}
 use Rattle.vmecheck.specs.Explained.{judged_by}
-use Rattle.vmecheck.proofs.AnswerLemmas.{capture_read-bound, capture_read-refused, judgement_of-refused, passes_through}
+use Rattle.vme_answer.proofs.AnswerLemmas.{capture_read-bound, capture_read-refused, judgement_of-refused, passes_through}
 
 pub judged-bound : (b d : Option (List ℕ)) (bound : BoundLines) → binding_read b ≡ Ok bound → judgement_of b d 16384 ≡ judged_by bound (dump_read d)
 unfolding judgement_of

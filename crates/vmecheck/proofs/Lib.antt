@@ -1,9 +1,4 @@
-pub mod AnswerLemmas
-pub mod CheckLemmas
 pub mod ConfirmLemmas
 pub mod ExplainLemmas
-pub mod InputLemmas
 pub mod ListLemmas
-pub mod MessageLemmas
-pub mod OutputLemmas
 pub mod ToldLemmas

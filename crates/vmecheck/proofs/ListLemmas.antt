@@ -1,5 +1,6 @@
 -- How a listing ends, and what the steps of listing give.
-use Rattle.std.proofs.Common.{◌≡◌, ℕ, suc, Bool, true, false, List, [], ◌∷◌, ◌++◌, ◌-◌, length, refl, ap, ◌∙◌, arith}
+use Rattle.std.proofs.Common.{◌≡◌, ◌≤◌, ◌<◌, ◌↔◌, ℕ, suc, Bool, true, false, List, [], ◌∷◌, ◌++◌, ◌-◌, length, take, refl, ap, subst, ◌∙◌, arith}
+use Rattle.std.specs.Io.KnownBytes.{Appends}
 use Rattle.std.specs.Prelude.{Option, Some, None, Result, Ok, Err, slice_get, if◌then◌else◌}
 use Rattle.std.specs.List.{last_or}
 use Rattle.std.specs.Option.{option_map_or, option_to_list}
@@ -13,11 +14,16 @@ use Rattle.vme_listing.specs.Recorded.{listing_by, listing_of, listing_of_spans,
 use Rattle.vme_listing.specs.declared.row.Outcome.TheVariants as outcome
 use Rattle.vme_listing.specs.declared.row.Row.{Row}
 use Rattle.vme_listing.specs.declared.row.Row.TheVariants.{Start, Verdict}
-use Rattle.vmecheck.specs.declared.refusal.Refusal.{Refusal}
-use Rattle.vmecheck.specs.declared.refusal.Refusal.TheVariants.{Memory}
-use Rattle.vmecheck.specs.Answers.{Gives, capture_read, in_blocks, recording_of}
-use Rattle.vmecheck.specs.Listings.{GivesListing, listing_status, outcome_status, row_status}
-use Rattle.vmecheck.specs.Texts.{verdict_status}
+use Rattle.vme_answer.specs.declared.refusal.Refusal.{Refusal}
+use Rattle.vme_answer.specs.declared.refusal.Refusal.TheVariants.{Memory}
+use Rattle.vme_answer.specs.Answers.{Answer, Gives, capture_read}
+use Rattle.vme_answer.specs.Ends.{Read, Written, Tells}
+use Rattle.vme_answer.specs.Texts.{verdict_status}
+use Rattle.vme_answer.proofs.EndLemmas.{Does-exact, Does-unwritten, given_is, refusal_status-small, verdict_status-small}
+use Rattle.vme_listing.specs.Written.{AppendsFront}
+use Rattle.vme_stream.specs.Inputs.{most_reads}
+use Rattle.vme_stream.proofs.OutputLemmas.{front_is}
+use Rattle.vmecheck.specs.Listings.{GivesListing, Lists, in_blocks, listing_answer_by, listing_answer_of, listing_status, outcome_status, recording_of, row_status}
 
 -- ---- the status
 
@@ -78,3 +84,32 @@ recording_of-captured binding dump block t is = ap (λ (w : Result Trace Refusal
 pub given_refusal : (r : Refusal) (recording : Result Trace Refusal) → GivesListing (Err r) recording → Gives (λ (t : Trace). t) (Err r) recording
 given_refusal Memory recording given = tt
 given_refusal r recording given = given
+
+-- ---- what was written
+
+-- of a text of which a front was taken, the first bytes were
+pub front_taken : (old new : Option (List ℕ)) (text : List ℕ) → AppendsFront old new text → (n : ℕ) × Appends old new (take n text)
+front_taken old new text took =
+    let (front, rest, split, appended) = took in
+    (length front, subst (λ (bytes : List ℕ). Appends old new bytes) (front_is text front rest split) appended)
+
+-- ---- how it ends
+
+listing_answer_by-small : (recording : Result Trace Refusal) → (listing_answer_by recording).status ≤ 4
+listing_answer_by-small (Ok t) = verdict_status-small (verdict_by rules_in_force t)
+listing_answer_by-small (Err r) = refusal_status-small r
+
+abbrev MayList : ℕ → Option (List ℕ) → Option (List ℕ) → Result Trace Refusal → Type 0
+MayList block b d recording = Gives (λ (t : Trace). t) recording (recording_of b d block)
+
+pub Lists-unwritten : (binding dump : Read) (block : ℕ) (out err : Written) (status : ℕ) → Lists binding dump block out err status
+    → (status ≡ 5) ↔ (out.failures ≡ suc out.failed)
+Lists-unwritten binding dump block out err status = Does-unwritten listing_answer_by listing_answer_by-small (MayList block) binding dump out err status
+
+pub Lists-exact : (binding dump : Read) (block : ℕ) (out err : Written) (status : ℕ) → Lists binding dump block out err status
+    → (b d : List ℕ) → binding.told ≡ Some b → dump.told ≡ Some d → length b < most_reads → length d < most_reads
+    → binding.failures ≡ binding.failed → dump.failures ≡ dump.failed → out.failures ≡ out.failed → (status ≡ 4 → ⊥)
+    → Tells (listing_answer_of (Some b) (Some d) block) out err status
+Lists-exact binding dump block out err status lists b d =
+    Does-exact listing_answer_by listing_answer_by-small (MayList block) binding dump out err status lists b d (listing_answer_of (Some b) (Some d) block)
+    (λ found. given_is listing_answer_by refl found (recording_of (Some b) (Some d) block))

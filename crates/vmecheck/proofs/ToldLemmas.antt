@@ -2,10 +2,10 @@
 use Rattle.std.proofs.Common.{◌≡◌, ℕ, List}
 use Rattle.std.specs.Prelude.{Result, Ok, Err}
 use Rattle.vcd_read.specs.Contents.{Contents}
-use Rattle.vmecheck.specs.Answers.{Gives}
+use Rattle.vme_answer.specs.Answers.{Gives}
 use Rattle.vmecheck.specs.Told.{IsBindingFor, IsTextOf}
-use Rattle.vmecheck.specs.declared.refusal.Refusal.{Refusal}
-use Rattle.vmecheck.specs.declared.refusal.Refusal.TheVariants.{BadBinding, Memory}
+use Rattle.vme_answer.specs.declared.refusal.Refusal.{Refusal}
+use Rattle.vme_answer.specs.declared.refusal.Refusal.TheVariants.{BadBinding, Memory}
 
 pub text_refused : (read : Result Contents Refusal) (r : Refusal) → Gives (λ (d : Contents). d) (Err r) read → IsTextOf read (Err r)
 text_refused read Memory gives = gives

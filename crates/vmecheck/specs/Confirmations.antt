@@ -1,5 +1,5 @@
 -- What the program answers of a listing that is to be confirmed.
-use Rattle.std.specs.Prelude.{◌≡◌, ◌≢◌, ℕ, true, ◌++◌, [], List, Option, Result, Ok, Err, codes, decimal}
+use Rattle.std.specs.Prelude.{◌≡◌, ◌≢◌, ℕ, true, ◌++◌, [], List, Option, Some, Result, Ok, Err, codes, decimal}
 use Rattle.vcd_read.specs.Contents.{Contents}
 use Rattle.vcd_read.specs.Header.{◌>>=◌}
 use Rattle.vme_bind.specs.Binding.{BoundLines}
@@ -15,12 +15,14 @@ use Rattle.vme_listing.specs.declared.row.Row.{Row}
 use Rattle.vme_cert.specs.Agreement.{Settles}
 use Rattle.vme_cert.specs.declared.compare.Answer.{Answer as Confirmation}
 use Rattle.vme_cert.specs.declared.compare.Answer.TheVariants.{Yes, No}
-use Rattle.vmecheck.specs.Answers.{Answer, or_bad_binding, refusal_answer, whole}
-use Rattle.vmecheck.specs.Refusals.{listing_refusal}
-use Rattle.vmecheck.specs.Texts.{line_of}
-use Rattle.vmecheck.specs.declared.refusal.Input.TheVariants.{Listing}
-use Rattle.vmecheck.specs.declared.refusal.Refusal.{Refusal}
-use Rattle.vmecheck.specs.declared.refusal.Refusal.TheVariants.{Memory}
+use Rattle.vme_answer.specs.Answers.{Answer, binding_read, dump_read, or_bad_binding, refusal_answer, whole}
+use Rattle.vme_answer.specs.Ends.{Ends, Read, Tells, Written}
+use Rattle.vme_stream.specs.Inputs.{IsReading}
+use Rattle.vme_answer.specs.Refusals.{listing_refusal}
+use Rattle.vme_answer.specs.Texts.{line_of}
+use Rattle.vme_answer.specs.declared.refusal.Input.TheVariants.{Listing}
+use Rattle.vme_answer.specs.declared.refusal.Refusal.{Refusal}
+use Rattle.vme_answer.specs.declared.refusal.Refusal.TheVariants.{Memory}
 
 -- the bytes of a listing, where they can be read and aren't too many
 abbrev pub listing_text : Option (List ℕ) → Result (List ℕ) Refusal
@@ -87,3 +89,22 @@ confirmation_status (No row) = 1
 abbrev pub confirmation_answer_by : Result Confirmation Refusal → Answer
 confirmation_answer_by (Ok found) = record { out = line_of (confirmation_text found); error = []; status = confirmation_status found }
 confirmation_answer_by (Err refusal) = refusal_answer refusal
+
+-- ---- how it ends
+
+-- The binding, the dump and the listing are read, or can't be; the listing is compared with that of the recording, unless there
+-- was no memory; and the answer is told, unless a write of it fails.
+abbrev pub Confirms : Read → Read → Read → Written → Written → ℕ → Type 0
+Confirms binding dump listing out err status = (binding_bytes dump_bytes listing_bytes : Option (List ℕ)) × (given : Result (List Row) Refusal) × (found : Result Confirmation Refusal)
+    × IsReading binding.told binding.failed binding.failures binding_bytes
+    × IsReading dump.told dump.failed dump.failures dump_bytes
+    × IsReading listing.told listing.failed listing.failures listing_bytes
+    × GivesRows (listing_text listing_bytes) given
+    × GivesConfirmation found (compared (binding_read binding_bytes) (dump_read dump_bytes) given)
+    × Ends (confirmation_answer_by found) out err status
+
+-- the answer to a binding, a dump and a listing of these bytes was told
+abbrev pub TellsConfirmation : List ℕ → List ℕ → List ℕ → Written → Written → ℕ → Type 0
+TellsConfirmation binding dump listing out err status = (found : Result Confirmation Refusal)
+    × IsConfirmation (binding_read (Some binding)) (dump_read (Some dump)) (listing_text (Some listing)) found
+    × Tells (confirmation_answer_by found) out err status

@@ -5,11 +5,11 @@ use Rattle.vcd_read.specs.Header.{◌>>=◌}
 use Rattle.vme_bind.specs.Binding.{BoundLines}
 use Rattle.vme_trace.specs.declared.verdict.Verdict.{Verdict}
 use Rattle.vmecheck.specs.declared.explain.Explained.{Explained}
-use Rattle.vmecheck.specs.declared.refusal.Refusal.{Refusal}
-use Rattle.vmecheck.specs.Answers.{Answer, Gives, capture_by, judgement_of, refusal_answer, verdict_in_blocks}
-use Rattle.vmecheck.specs.Ends.{Ends, Read, Written}
-use Rattle.vmecheck.specs.Inputs.{IsReading}
-use Rattle.vmecheck.specs.Texts.{line_of, verdict_status, verdict_text}
+use Rattle.vme_answer.specs.declared.refusal.Refusal.{Refusal}
+use Rattle.vme_answer.specs.Answers.{Answer, Gives, capture_by, judgement_of, refusal_answer, verdict_in_blocks}
+use Rattle.vme_answer.specs.Ends.{Ends, Read, Written}
+use Rattle.vme_stream.specs.Inputs.{IsReading}
+use Rattle.vme_answer.specs.Texts.{line_of, verdict_status, verdict_text}
 use Rattle.vmecheck.specs.Told.{text_answer}
 
 -- the verdict on the recording that a binding makes of what reading the dump gave

@@ -1,12 +1,5 @@
-pub mod Answers
 pub mod Confirmations
-pub mod Ends
 pub mod Explained
-pub mod InFaults
-pub mod Inputs
 pub mod Listings
-pub mod Outputs
-pub mod Refusals
-pub mod Texts
 pub mod Told
 pub mod Words

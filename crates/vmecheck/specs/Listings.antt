@@ -1,15 +1,32 @@
 -- Listings as a command finds and ends by them.
-use Rattle.std.specs.Prelude.{◌≡◌, ℕ, List, None, Result, Ok, Err}
+use Rattle.std.specs.Prelude.{◌≡◌, ℕ, [], List, nat_lt, if◌then◌else◌, Option, None, Result, Ok, Err}
 use Rattle.std.specs.List.{last_or}
 use Rattle.std.specs.Option.{option_map_or}
+use Rattle.vcd_read.specs.Header.{◌>>=◌}
+use Rattle.vme_trace.specs.Blocks.{block_count}
 use Rattle.vme_trace.specs.Trace.{Trace}
+use Rattle.vme_trace.specs.Verdict.{verdict_by, rules_in_force}
 use Rattle.vme_listing.specs.Recorded.{listing_of}
-use Rattle.vmecheck.specs.declared.refusal.Refusal.{Refusal}
-use Rattle.vmecheck.specs.declared.refusal.Refusal.TheVariants.{Memory}
+use Rattle.vme_listing.specs.RowText.{text_of}
+use Rattle.vme_answer.specs.Answers.{Answer, Gives, capture_read, refusal_answer}
+use Rattle.vme_answer.specs.Ends.{Does, Read, Written}
+use Rattle.vme_answer.specs.Texts.{verdict_status}
+use Rattle.vme_answer.specs.declared.refusal.Refusal.{Refusal}
+use Rattle.vme_answer.specs.declared.refusal.Refusal.TheVariants.{Memory, TooManyBlocks}
 use Rattle.vme_listing.specs.declared.row.Outcome.{Outcome}
 use Rattle.vme_listing.specs.declared.row.Outcome.TheVariants.{Conforming, NeverIdle, Broken, Unreadable}
 use Rattle.vme_listing.specs.declared.row.Row.{Row}
 use Rattle.vme_listing.specs.declared.row.Row.TheVariants.{Start, OpenTenure, Tenure, AddressedCycle, FreeCycle, InterruptCycle, Transfer, PendingTransfer, Verdict}
+
+-- a recording, if it is cut into at most 4,096 blocks of so many steps
+abbrev pub in_blocks : ℕ → Trace → Result Trace Refusal
+in_blocks block t = if nat_lt 4096 (block_count block t) then Err TooManyBlocks else Ok t
+
+-- the recording that a binding makes of a dump, if it is cut so, or the first reason that there is none
+unfoldable pub recording_of : Option (List ℕ) → Option (List ℕ) → ℕ → Result Trace Refusal
+recording_of binding dump block = do
+  t ← capture_read binding dump
+  in_blocks block t
 
 -- The rows are the listing of the recording that is to be read there, or what is found is why there is none, unless there was
 -- no memory.
@@ -40,3 +57,19 @@ row_status (Verdict outcome) = outcome_status outcome
 
 abbrev pub listing_status : List Row → ℕ
 listing_status rows = option_map_or row_status (last_or None rows) 2
+
+-- ---- the answer
+
+-- a listing is told with the status of the verdict
+abbrev pub listing_answer_by : Result Trace Refusal → Answer
+listing_answer_by (Ok t) = record { out = text_of (listing_of t); error = []; status = verdict_status (verdict_by rules_in_force t) }
+listing_answer_by (Err refusal) = refusal_answer refusal
+
+-- the answer to a binding and a dump that are to be listed, each by its bytes or unreadable
+abbrev pub listing_answer_of : Option (List ℕ) → Option (List ℕ) → ℕ → Answer
+listing_answer_of binding dump block = listing_answer_by (recording_of binding dump block)
+
+-- what the inputs say is listed, unless there was no memory
+abbrev pub Lists : Read → Read → ℕ → Written → Written → ℕ → Type 0
+Lists binding dump block out err status =
+    Does listing_answer_by (λ b d recording. Gives (λ t. t) recording (recording_of b d block)) binding dump out err status

@@ -3,9 +3,9 @@ use Rattle.std.specs.Prelude.{◌≡◌, ℕ, [], List, Option, Result, Ok, Err}
 use Rattle.vcd_read.specs.Contents.{Contents}
 use Rattle.vme_bind.specs.Binding.{BoundLines, binding_of}
 use Rattle.vme_trace.specs.Trace.{Trace}
-use Rattle.vmecheck.specs.Answers.{Answer, capture_by, refusal_answer}
-use Rattle.vmecheck.specs.declared.refusal.Refusal.{Refusal}
-use Rattle.vmecheck.specs.declared.refusal.Refusal.TheVariants.{BadBinding, Memory}
+use Rattle.vme_answer.specs.Answers.{Answer, capture_by, refusal_answer}
+use Rattle.vme_answer.specs.declared.refusal.Refusal.{Refusal}
+use Rattle.vme_answer.specs.declared.refusal.Refusal.TheVariants.{BadBinding, Memory}
 
 abbrev pub text_answer : ℕ → List ℕ → Answer
 text_answer status text = record { out = text; error = []; status = status }

@@ -2,8 +2,8 @@
 use Rattle.std.specs.Prelude.{ℕ, Bool, true, false, if◌then◌else◌}
 use Rattle.vme_words.specs.declared.order.Task.{Task}
 use Rattle.vme_words.specs.declared.order.Task.TheVariants.{Variables, Bind}
-use Rattle.vmecheck.specs.declared.refusal.Input.{Input}
-use Rattle.vmecheck.specs.declared.refusal.Input.TheVariants.{Binding, Dump, Listing}
+use Rattle.vme_answer.specs.declared.refusal.Input.{Input}
+use Rattle.vme_answer.specs.declared.refusal.Input.TheVariants.{Binding, Dump, Listing}
 
 -- `variables` and `bind` name a dump and no binding
 abbrev pub names_dump_alone : Task → Bool

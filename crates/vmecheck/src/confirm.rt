@@ -2,21 +2,19 @@
 
 ghost use Rattle.std.specs.Prelude.{◌≡◌, ◌≢◌, ◌<◌, ◌↔◌, ℕ, suc, List, length, Option, Some, Ok, Result};
 ghost use Rattle.vme_listing.specs.declared.row.Row.{Row};
-ghost use Rattle.vmecheck.specs.Answers.{binding_read, dump_read};
-ghost use Rattle.vmecheck.specs.Confirmations.{GivesConfirmation, GivesRows, compared, compared_with, confirmation_answer_by, listing_text};
-ghost use Rattle.vmecheck.specs.Ends.{Confirms, Ends, TellsConfirmation};
-ghost use Rattle.vmecheck.specs.Inputs.{IsReading, most_reads};
-ghost use Rattle.vmecheck.specs.declared.refusal.Refusal.{Refusal};
+ghost use Rattle.vme_answer.specs.Answers.{binding_read, dump_read};
+ghost use Rattle.vmecheck.specs.Confirmations.{Confirms, GivesConfirmation, GivesRows, TellsConfirmation, compared, compared_with, confirmation_answer_by, confirmation_status, confirmation_text, listing_text};
+ghost use Rattle.vme_answer.specs.Ends.{Ends};
+ghost use Rattle.vme_answer.specs.Texts.{line_of};
+ghost use Rattle.vme_stream.specs.Inputs.{IsReading, most_reads};
+ghost use Rattle.vme_answer.specs.declared.refusal.Refusal.{Refusal};
 
-use crate::check::{binding_from, recorded_from};
-use crate::input::read_all;
-use crate::output::{complain, write_message};
-use crate::refusal::{Input, Refusal};
-use crate::text::{cannot_write_line, confirmation_line, confirmation_status, refusal_line};
 use std::alloc::Global;
+use vme_answer::{Input, Refusal, binding_from, cannot_write_line, recorded_from, refusal_line};
 use vme_bind::{BindFault, Binding};
 use vme_cert::{Answer, confirm};
 use vme_listing::{Listing, read_listing};
+use vme_stream::{Message, complain, read_all, write_message};
 use vme_trace::{Capture, Sink, Source};
 
 /// Whether a listing is that of the recording that a binding makes of a dump: writes the answer to `out`, or to `err` why there
@@ -191,5 +189,28 @@ fn listing_in(alloc: Global, text: &[u8]) -> Result<Listing, Refusal>
     match read_listing(alloc, text) {
         Ok(listing) => Ok(listing),
         Err(fault) => Err(Refusal::of_listing(fault)),
+    }
+}
+
+/// The line that tells whether a listing is confirmed.
+fn confirmation_line(found: Answer) -> Message
+    ensures { result ≡ line_of (confirmation_text found) }
+{
+    match found {
+        Answer::Yes => Message::new().with(b"confirmed").with_line_feed(),
+        Answer::No { row } => Message::new()
+            .with(b"not confirmed at row ")
+            .with_decimal(row as u64)
+            .with_line_feed(),
+    }
+}
+
+/// The exit status: 0 confirmed, 1 not.
+fn confirmation_status(found: Answer) -> u8
+    ensures { result ≡ confirmation_status found }
+{
+    match found {
+        Answer::Yes => 0,
+        Answer::No { .. } => 1,
     }
 }

@@ -3,21 +3,21 @@
 ghost use Rattle.std.specs.Prelude.{◌≡◌, ◌++◌, ℕ, List, Option, IfOk, Result};
 ghost use Rattle.vcd_read.specs.Meaning.{dump_of};
 ghost use Rattle.vme_bind.specs.Binding.{binding_of};
-ghost use Rattle.vmecheck.specs.Answers.{Gives, binding_read, dump_read, judgement_of, or_bad_binding, or_bad_dump, verdict_in_blocks};
+ghost use Rattle.vme_answer.specs.Answers.{Gives, binding_read, dump_read, judgement_of, or_bad_binding, or_bad_dump, verdict_in_blocks};
 ghost use Rattle.vmecheck.specs.Explained.{BeginsWithLine, BeginsWithVerdict, Explains, judged_by};
-ghost use Rattle.vmecheck.specs.Inputs.{IsReading};
-ghost use Rattle.vmecheck.specs.Texts.{line_of, verdict_text};
+ghost use Rattle.vme_stream.specs.Inputs.{IsReading};
+ghost use Rattle.vme_answer.specs.Texts.{line_of, verdict_text};
 
-use crate::check::{binding_in, captured_in, verdict_on};
-use crate::input::read_all;
-use crate::output::complain;
-use crate::refusal::{Input, Refusal};
 use crate::telling::tell_bytes;
-use crate::text::{refusal_line, verdict_line, verdict_status};
 use std::alloc::{AllocError, Global};
 use vcd_read::{Variables, read_definitions};
+use vme_answer::{
+    Input, Refusal, binding_in, captured_in, refusal_line, verdict_line, verdict_on, verdict_status,
+};
 use vme_bind::Binding;
 use vme_explain::{Subject, explanation, save_file};
+use vme_find::time_unit;
+use vme_stream::{complain, read_all};
 use vme_summary::listing_by_blocks;
 use vme_text::Text;
 use vme_trace::{Capture, Sink, Source, Verdict};
@@ -188,6 +188,7 @@ fn told_of(
         verdict: &verdict,
         binding,
         variables: variables.as_slice(),
+        time_unit: time_unit(alloc, dump)?,
     };
     let text = whole_text(alloc, &verdict, &subject)?;
     let viewer = save_file(alloc, &subject, name)?;

@@ -3,17 +3,15 @@
 ghost use Rattle.std.specs.Prelude.{◌≡◌, ◌≢◌, ◌≤◌, ◌<◌, ◌↔◌, ℕ, suc, List, length, Option, Some, Ok};
 ghost use Rattle.vme_listing.specs.Recorded.{listing_of};
 ghost use Rattle.vme_trace.specs.Trace.{Trace};
-ghost use Rattle.vmecheck.specs.Answers.{Gives, in_blocks, listing_answer_by, listing_answer_of, recording_of};
-ghost use Rattle.vmecheck.specs.Ends.{Ends, Lists, Tells};
-ghost use Rattle.vmecheck.specs.Inputs.{IsReading, most_reads};
-ghost use Rattle.vmecheck.specs.Listings.{GivesListing, listing_status, outcome_status, row_status};
+ghost use Rattle.vme_answer.specs.Answers.{Gives};
+ghost use Rattle.vme_answer.specs.Ends.{Ends, Tells};
+ghost use Rattle.vme_stream.specs.Inputs.{IsReading, most_reads};
+ghost use Rattle.vmecheck.specs.Listings.{GivesListing, Lists, in_blocks, listing_answer_by, listing_answer_of, recording_of, listing_status, outcome_status, row_status};
 
-use crate::check::capture_from;
-use crate::output::complain;
-use crate::refusal::Refusal;
-use crate::text::{cannot_write_line, refusal_line};
 use std::alloc::Global;
+use vme_answer::{Refusal, cannot_write_line, capture_from, refusal_line};
 use vme_listing::{Listing, Outcome, Row, write_listing};
+use vme_stream::complain;
 use vme_summary::listing_by_blocks;
 use vme_trace::{Capture, CutFault, Sink, Source};
 

@@ -5,27 +5,20 @@ ghost use Rattle.std.specs.Prelude.{◌≡◌, ◌≢◌, ◌⊎◌, IfErr};
 ghost use Rattle.clap.specs.Words.{kind_of};
 ghost use Rattle.clap.specs.declared.error.kind.ErrorKind.TheVariants.{DisplayHelp, DisplayVersion};
 ghost use Rattle.vme_words.specs.OrderFaults.{IsOfWords};
-ghost use Rattle.vmecheck.specs.Texts.{refusal_status};
-ghost use Rattle.vmecheck.specs.declared.refusal.Refusal.TheVariants.{CannotOpen};
+ghost use Rattle.vme_answer.specs.Texts.{refusal_status};
+ghost use Rattle.vme_answer.specs.declared.refusal.Refusal.TheVariants.{CannotOpen};
 
 mod bind;
 mod check;
 mod confirm;
-mod count;
 mod explain;
-mod input;
-mod io;
 mod list;
-mod message;
-mod output;
-mod refusal;
 mod rules;
 #[cfg(test)]
 mod stream_tests;
 mod telling;
 #[cfg(test)]
 mod tests;
-mod text;
 mod variables;
 mod words;
 
@@ -33,20 +26,18 @@ use bind::bind;
 use check::check;
 use confirm::confirm_with;
 use explain::explain;
-use io::{Bytes, Io};
 use list::list;
-use output::{complain, write_all};
-use refusal::{Input, Refusal};
 use rules::tell_rules;
 use std::env;
 use std::fs::{self, File};
 use std::io::ErrorKind;
 use std::process::ExitCode;
-use text::{cannot_write_line, refusal_line};
 use variables::tell_variables;
+use vme_answer::{Input, Refusal, cannot_write_line, refusal_line};
+use vme_stream::{Bytes, Io, complain, write_all};
 use vme_trace::Rule;
 use vme_words::words::order;
-use vme_words::{Order, OrderFault, Task, usage_fault};
+use vme_words::{Order, OrderFault, Task, task_fault};
 use words::{place_of, unread_words, words_status};
 
 /// The binding that is used where no words name one.
@@ -210,7 +201,7 @@ fn bind_order(rt: &HostRuntime, order: &Order) -> Result<u8, Refusal> {
         Some(text) => match text.as_str().parse::<u8>() {
             Ok(slots) if 1 <= slots && slots <= 21 => Some(slots),
             _ => {
-                let fault = usage_fault(rt.alloc(), "a backplane has 1 to 21 slots");
+                let fault = task_fault(rt.alloc(), Task::Bind, "a backplane has 1 to 21 slots");
                 return Ok(refuse_words(rt, &fault));
             }
         },
@@ -226,7 +217,10 @@ fn rules_order(rt: &HostRuntime, order: &Order) -> u8 {
     let only = match order.names.get(0) {
         Some(name) => match Rule::from_name(name.as_bytes()) {
             Some(rule) => Some(rule),
-            None => return refuse_words(rt, &usage_fault(rt.alloc(), "there is no such rule")),
+            None => {
+                let fault = task_fault(rt.alloc(), Task::Rules, "there is no such rule");
+                return refuse_words(rt, &fault);
+            }
         },
         None => None,
     };

@@ -1,13 +1,13 @@
 //! What the rules ask.
 
 ghost use Rattle.std.specs.Prelude.{ℕ, List, Result};
-ghost use Rattle.vmecheck.specs.Ends.{Ends};
+ghost use Rattle.vme_answer.specs.Ends.{Ends};
 ghost use Rattle.vmecheck.specs.Told.{IsText, text_answer_by};
-ghost use Rattle.vmecheck.specs.declared.refusal.Refusal.{Refusal};
+ghost use Rattle.vme_answer.specs.declared.refusal.Refusal.{Refusal};
 
-use crate::refusal::Refusal;
 use crate::telling::tell_text;
 use std::alloc::Global;
+use vme_answer::Refusal;
 use vme_rules::rules_text;
 use vme_text::Text;
 use vme_trace::{Rule, Sink};

@@ -4,7 +4,6 @@ use crate::bind::bind;
 use crate::check::check;
 use crate::confirm::confirm_with;
 use crate::explain::explain;
-use crate::io::{Bytes, Io};
 use crate::list::list;
 use crate::rules::tell_rules;
 use crate::variables::tell_variables;
@@ -13,6 +12,7 @@ use std::alloc::Global;
 use std::io::{self, Error, ErrorKind, Read, Write};
 use std::process::Abort;
 use std::test::Fail;
+use vme_stream::{Bytes, Io};
 use vme_trace::Source;
 use vme_words::Task;
 

@@ -1,12 +1,11 @@
 //! Texts that a command writes, or why there are none.
 
 ghost use Rattle.std.specs.Prelude.{[]};
-ghost use Rattle.vmecheck.specs.Ends.{Ends};
+ghost use Rattle.vme_answer.specs.Ends.{Ends};
 ghost use Rattle.vmecheck.specs.Told.{text_answer, text_answer_by};
 
-use crate::output::{complain, write_all};
-use crate::refusal::Refusal;
-use crate::text::{cannot_write_line, refusal_line};
+use vme_answer::{Refusal, cannot_write_line, refusal_line};
+use vme_stream::{complain, write_all};
 use vme_text::Text;
 use vme_trace::Sink;
 

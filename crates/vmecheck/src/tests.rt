@@ -4,9 +4,7 @@ use crate::bind::bind;
 use crate::check::check;
 use crate::confirm::confirm_with;
 use crate::explain::explain;
-use crate::io::{Bytes, Io};
 use crate::list::list;
-use crate::refusal::Input;
 use crate::words::{place_of, unread_words, words_status};
 use crate::{BLOCK, BUILT_IN};
 use clap::error::ErrorKind;
@@ -14,9 +12,11 @@ use std::alloc::{AllocError, Global};
 use std::io::{self, Error, Read};
 use std::process::Abort;
 use std::test::Fail;
+use vme_answer::Input;
+use vme_stream::{Bytes, Io};
 use vme_trace::{Failed, Sink, Source};
 use vme_words::words::order;
-use vme_words::{Order, OrderFault, Task};
+use vme_words::{Order, OrderFault, Task, task_fault};
 
 const HEAD: &str = "$timescale 1 ns $end\n$scope module bus $end\n\
 $var wire 1 p AS $end\n$var wire 1 q DS0 $end\n$var wire 1 r DS1 $end\n\
@@ -752,5 +752,57 @@ fn words_that_are_no_order_end_with_their_status(rt: HostRuntime) -> Result<(), 
     assert_eq!(rt; words_status(ErrorKind::DisplayVersion, false), 5);
     let unread = unread_words(rt.alloc(), true);
     assert!(rt; matches!(unread, OrderFault::Memory));
+    Ok(())
+}
+
+#[test]
+fn a_wrong_rule_is_told_with_the_usage_of_rules(rt: HostRuntime) -> Result<(), Fail> {
+    let fault = task_fault(rt.alloc(), Task::Rules, "there is no such rule");
+    match fault {
+        OrderFault::Usage(error) => {
+            let text = format!(in rt.alloc(); "{error}")?;
+            assert!(rt;
+                text.as_str().contains("Usage: vmecheck rules [RULE]"),
+                "{text}"
+            );
+        }
+        OrderFault::Memory => assert!(rt; false),
+    }
+    Ok(())
+}
+
+#[test]
+fn the_viewer_counts_in_the_unit_of_the_time_scale(rt: HostRuntime) -> Result<(), Fail> {
+    let binding = "slots 1\nAS = b.AS\nDS0 = 1\nDS1 = 1\nDTACK = 1\nBERR = 1\nIACK = 1\nAM = b.AM\n\
+LWORD = 1\nWRITE = 1\nA = 1\nBBSY = 1\nBR = 1\nBG0 = 1\nBG1 = 1\nBG2 = 1\nBG3 = 1\nIA = 1\n";
+    let dump =
+        "$timescale 10 ns $end\n$scope module b $end\n$var wire 1 p AS $end\n$var wire 6 q AM $end\n\
+$upscope $end\n$enddefinitions $end\n#0 1p b111101 q\n#3 b111110 q\n#5 0p\n";
+    let mut out = Page::new(rt.alloc(), 5000);
+    let mut err = Page::new(rt.alloc(), 100);
+    let (status, viewer) = explain(
+        rt.alloc(),
+        &mut Bytes::new(binding.as_bytes()),
+        &mut Bytes::new(dump.as_bytes()),
+        b"b.vcd",
+        &mut out,
+        &mut err,
+    );
+    assert!(rt;
+        out.bytes
+            .as_slice()
+            .starts_with(b"broken B3 at instant 3 time 5 line AS\n")
+            && status == 1
+    );
+    let Some(viewer) = viewer else {
+        assert!(rt; false);
+        return Ok(());
+    };
+    let text = str::from_utf8(viewer.as_bytes()).unwrap_or("");
+    assert!(rt;
+        text.contains("\n[timestart] 0\n*-5.000000 50 -1 "),
+        "{text}"
+    );
+    assert!(rt; text.contains("\n@28\nb.AS\n@22\nb.AM[5:0]\n"), "{text}");
     Ok(())
 }

@@ -2,17 +2,17 @@
 
 ghost use Rattle.std.specs.Prelude.{ℕ, List, Option, Result};
 ghost use Rattle.vcd_read.specs.Meaning.{dump_of};
-ghost use Rattle.vmecheck.specs.Answers.{dump_read, or_bad_dump};
-ghost use Rattle.vmecheck.specs.Ends.{Ends};
-ghost use Rattle.vmecheck.specs.Inputs.{IsReading};
+ghost use Rattle.vme_answer.specs.Answers.{dump_read, or_bad_dump};
+ghost use Rattle.vme_answer.specs.Ends.{Ends};
+ghost use Rattle.vme_stream.specs.Inputs.{IsReading};
 ghost use Rattle.vmecheck.specs.Told.{IsTextOf, text_answer_by};
-ghost use Rattle.vmecheck.specs.declared.refusal.Refusal.{Refusal};
+ghost use Rattle.vme_answer.specs.declared.refusal.Refusal.{Refusal};
 
-use crate::input::read_all;
-use crate::refusal::{Input, Refusal};
 use crate::telling::tell_text;
 use std::alloc::Global;
+use vme_answer::{Input, Refusal};
 use vme_find::variables_text;
+use vme_stream::read_all;
 use vme_text::Text;
 use vme_trace::{Sink, Source};
 

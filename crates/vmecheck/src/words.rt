@@ -4,9 +4,9 @@ ghost use Rattle.std.specs.Prelude.{◌≡◌, ◌≢◌, false, if◌then◌els
 ghost use Rattle.vme_words.specs.OrderFaults.{HasUsageKind, IsOfWords};
 ghost use Rattle.vmecheck.specs.Words.{names_dump_alone, place_of};
 
-use crate::refusal::Input;
 use clap::error::ErrorKind;
 use std::alloc::Global;
+use vme_answer::Input;
 use vme_words::{OrderFault, Task, usage_fault};
 
 /// Whether a task names a dump and no binding.

@@ -1,12 +1,16 @@
-use Rattle.std.proofs.Common.{◌≡◌, ℕ, ◌<◌, vec_len, vec_items, get_or, None, IfSome}
+use Rattle.std.proofs.Common.{◌≡◌, ℕ, ◌<◌, vec_len, vec_items, get_or, None, IfOk}
 use Rattle.std.specs.Vec.Iter.{into_iter_items, into_iter_len}
-use Rattle.vme_floor.specs.Works.{IsWorkOf, IsNew}
+use Rattle.vme_board.specs.Benches.{total_of, view_of}
+use Rattle.vme_floor.specs.Collecting.{HasTakenOwn, IsCollected, IsCollectedOf}
+use Rattle.vme_floor.specs.Works.{IsNew}
 use Rattle.vme_floor.proofs.threads.work_in_scope.Given as goal
 
 abbrev pub invariant-loop-worker : goal.invariant-loop-worker
 invariant-loop-worker g l = record {
   fault : l.fault ≡ None;
   new : IsNew l.board l.deliveries l.bench;
+  collected : IsCollected (total_of l.board) (view_of l.bench) l.collection;
+  none : l.workers ≡ 1 → vec_len l.handles ≡ 0;
   assignments : (k : ℕ) (d : _) → k < vec_len l.handles → ((get_or (vec_items l.handles) k d).promise.board.now ≡ l.board) × ((get_or (vec_items l.handles) k d).promise.deliveries.now ≡ l.deliveries);
 }
 
@@ -15,5 +19,6 @@ invariant-loop-handle g l = record {
   next : (goal.iterator-loop-handle g).can_next l.handle-iterator;
   finite : (goal.iterator-loop-handle g).is_finite l.handle-iterator;
   assignments : (k : ℕ) (d : _) → k < into_iter_len l.handle-iterator → ((get_or (into_iter_items l.handle-iterator) k d).promise.board.now ≡ l.board) × ((get_or (into_iter_items l.handle-iterator) k d).promise.deliveries.now ≡ l.deliveries);
-  all : IfSome l.all (λ w. IsWorkOf l.board l.deliveries w);
+  all : IfOk l.all (λ c. IsCollectedOf l.board l.deliveries c);
+  own : l.workers ≡ 1 → (into_iter_len l.handle-iterator ≡ 0) × IfOk l.all (λ c. HasTakenOwn (view_of c.work.bench));
 }

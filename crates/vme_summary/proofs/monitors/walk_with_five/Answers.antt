@@ -21,9 +21,9 @@ loop-step-preserved g c =
       counted = omega arith;
       before = rw more (c.go_past.ensures.before ∙ left);
       after = c.go_past.ensures.after ∙ sym c.go_past.ensures.before;
-      first = rw more (c.in_ok-go_on.ensures c.args.opening.now done found (omega arith) inv.first);
-      second = rw more (c.in_ok-go_on-2.ensures c.args.opening.now done found (omega arith) inv.second);
-      third = rw more (c.in_ok-go_on-3.ensures c.args.opening.now done found (omega arith) inv.third);
-      fourth = rw more (c.in_ok-go_on-4.ensures c.args.opening.now done found (omega arith) inv.fourth);
-      fifth = rw more (c.in_ok-go_on-5.ensures c.args.opening.now done found (omega arith) inv.fifth);
+      first = rw more (c.in_ok-lead_five.ensures.first c.args.opening.now done (record { levels_are = found; instant_is = omega arith }) inv.first);
+      second = rw more (c.in_ok-lead_five.ensures.second c.args.opening.now done (record { levels_are = found; instant_is = omega arith }) inv.second);
+      third = rw more (c.in_ok-lead_five.ensures.third c.args.opening.now done (record { levels_are = found; instant_is = omega arith }) inv.third);
+      fourth = rw more (c.in_ok-lead_five.ensures.fourth c.args.opening.now done (record { levels_are = found; instant_is = omega arith }) inv.fourth);
+      fifth = rw more (c.in_ok-lead_five.ensures.fifth c.args.opening.now done (record { levels_are = found; instant_is = omega arith }) inv.fifth);
     }

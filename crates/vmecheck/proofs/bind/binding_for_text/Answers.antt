@@ -1,7 +1,7 @@
 use Rattle.std.specs.Prelude.{Ok}
 use Rattle.vcd_read.specs.Meaning.{dump_of}
-use Rattle.vmecheck.specs.Answers.{or_bad_dump}
-use Rattle.vmecheck.proofs.AnswerLemmas.{capture_by-recorded, text_recorded-ok}
+use Rattle.vme_answer.specs.Answers.{or_bad_dump}
+use Rattle.vme_answer.proofs.AnswerLemmas.{capture_by-recorded, text_recorded-ok}
 use Rattle.vmecheck.proofs.bind.binding_for_text.Goals as goal
 
 pub returns-in-Ok : goal.returns-in-Ok

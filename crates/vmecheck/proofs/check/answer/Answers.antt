@@ -6,7 +6,7 @@ use Rattle.vmecheck.proofs.check.answer.Goals as goal
 pub returns-in-Ok : goal.returns-in-Ok
 returns-in-Ok g c =
     let (binding, dump, binding_reading, dump_reading, given) = c.in-Ok.ensures in
-    (binding, dump, Ok c.in-Ok.verdict, binding_reading, dump_reading, given, c.tell.ensures)
+    (binding, dump, Ok c.in-Ok.verdict, binding_reading, dump_reading, given, c.tell_verdict.ensures)
 
 pub returns-in-Err : goal.returns-in-Err
 returns-in-Err g c =

@@ -1,5 +1,5 @@
-use Rattle.vmecheck.specs.Ends.{Read, Written}
-use Rattle.vmecheck.proofs.CheckLemmas.{Checks-unwritten, Checks-exact}
+use Rattle.vme_answer.specs.Ends.{Read, Written}
+use Rattle.vme_answer.proofs.EndLemmas.{Checks-unwritten, Checks-exact}
 use Rattle.vmecheck.proofs.check.check.Goals as goal
 
 pub returns-clause-unwritten : goal.returns-clause-unwritten

@@ -1,8 +1,8 @@
 use Rattle.std.proofs.Common.{refl}
 use Rattle.std.specs.Prelude.{Err}
-use Rattle.vmecheck.specs.declared.refusal.Refusal.TheVariants.{Memory}
-use Rattle.vmecheck.specs.Answers.{dump_read}
-use Rattle.vmecheck.proofs.InputLemmas.{unread}
+use Rattle.vme_answer.specs.declared.refusal.Refusal.TheVariants.{Memory}
+use Rattle.vme_answer.specs.Answers.{dump_read}
+use Rattle.vme_stream.proofs.InputLemmas.{unread}
 use Rattle.vmecheck.proofs.ConfirmLemmas.{dump_lacks, dump_recorded}
 use Rattle.vmecheck.proofs.confirm.comparison_bound.Goals as goal
 

@@ -1,4 +1,4 @@
-use Rattle.vmecheck.specs.Ends.{Read, Written}
+use Rattle.vme_answer.specs.Ends.{Read, Written}
 use Rattle.vmecheck.proofs.ConfirmLemmas.{Confirms-unwritten, Confirms-exact}
 use Rattle.vmecheck.proofs.confirm.confirm_with.Goals as goal
 

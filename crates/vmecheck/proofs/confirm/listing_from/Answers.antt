@@ -1,9 +1,9 @@
 use Rattle.std.proofs.Common.{◌≤◌, length, rules}
 use Rattle.std.proofs.lemmas.List.{places}
 use Rattle.std.specs.Prelude.{Some}
-use Rattle.vmecheck.specs.Inputs.{longest_input}
-use Rattle.vmecheck.specs.declared.refusal.Input.TheVariants.{Listing}
-use Rattle.vmecheck.proofs.AnswerLemmas.{whole_is}
+use Rattle.vme_stream.specs.Inputs.{longest_input}
+use Rattle.vme_answer.specs.declared.refusal.Input.TheVariants.{Listing}
+use Rattle.vme_answer.proofs.AnswerLemmas.{whole_is}
 use Rattle.vmecheck.proofs.ConfirmLemmas.{listing_refused}
 use Rattle.vmecheck.proofs.confirm.listing_from.Goals as goal
 

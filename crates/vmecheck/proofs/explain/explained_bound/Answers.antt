@@ -1,6 +1,6 @@
 use Rattle.std.proofs.Common.{refl, ◌∙◌}
 use Rattle.vmecheck.proofs.ExplainLemmas.{judged-bound, judged-refused}
-use Rattle.vmecheck.proofs.InputLemmas.{unread}
+use Rattle.vme_stream.proofs.InputLemmas.{unread}
 use Rattle.vmecheck.proofs.explain.explained_bound.Goals as goal
 
 pub returns-in-Ok-clause-read : goal.returns-in-Ok-clause-read

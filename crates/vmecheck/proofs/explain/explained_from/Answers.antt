@@ -1,10 +1,10 @@
 use Rattle.std.proofs.Common.{◌≤◌, length, refl, rules}
 use Rattle.std.proofs.lemmas.List.{places}
 use Rattle.std.specs.Prelude.{Some}
-use Rattle.vmecheck.specs.Inputs.{longest_input}
-use Rattle.vmecheck.proofs.AnswerLemmas.{binding_read-whole, binding_refused}
+use Rattle.vme_stream.specs.Inputs.{longest_input}
+use Rattle.vme_answer.proofs.AnswerLemmas.{binding_read-whole, binding_refused}
 use Rattle.vmecheck.proofs.ExplainLemmas.{judged-refused}
-use Rattle.vmecheck.proofs.InputLemmas.{unread}
+use Rattle.vme_stream.proofs.InputLemmas.{unread}
 use Rattle.vmecheck.proofs.explain.explained_from.Goals as goal
 
 pub returns-in-Ok-clause-read : goal.returns-in-Ok-clause-read

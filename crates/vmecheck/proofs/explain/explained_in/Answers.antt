@@ -1,5 +1,5 @@
 use Rattle.vcd_read.specs.Meaning.{dump_of}
-use Rattle.vmecheck.specs.Answers.{or_bad_dump}
+use Rattle.vme_answer.specs.Answers.{or_bad_dump}
 use Rattle.vmecheck.proofs.ExplainLemmas.{judged-captured, judged-uncaptured}
 use Rattle.vmecheck.proofs.explain.explained_in.Goals as goal
 

@@ -1,5 +1,5 @@
-use Rattle.vmecheck.specs.Ends.{Read, Written}
-use Rattle.vmecheck.proofs.CheckLemmas.{Lists-unwritten, Lists-exact}
+use Rattle.vme_answer.specs.Ends.{Read, Written}
+use Rattle.vmecheck.proofs.ListLemmas.{Lists-unwritten, Lists-exact}
 use Rattle.vmecheck.proofs.list.list.Goals as goal
 
 pub returns-clause-unwritten : goal.returns-clause-unwritten

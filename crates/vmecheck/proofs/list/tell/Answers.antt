@@ -1,7 +1,7 @@
 use Rattle.std.proofs.Common.{refl, inl, inr, sym, ap, ◌∙◌}
 use Rattle.std.proofs.KnownBytes.{Appends-nil}
 use Rattle.vmecheck.proofs.ListLemmas.{listing_status-is}
-use Rattle.vmecheck.proofs.OutputLemmas.{front_taken}
+use Rattle.vmecheck.proofs.ListLemmas.{front_taken}
 use Rattle.vmecheck.specs.Listings.{listing_status}
 use Rattle.vmecheck.proofs.list.tell.Goals as goal
 

@@ -1,0 +1,187 @@
+-- What the calling thread has taken off the board, step by step.
+use Rattle.std.proofs.Common.{◌≡◌, ◌≢◌, ◌⊎◌, ℕ, zero, suc, ◌+◌, ◌<◌, ◌≤◌, List, [], ◌∷◌, ◌++◌, length, length-set, slice_get, set, replicate, Option, Some, None, sym, refl, ap, ◌∙◌, subst, arith, inl, inr, ⊎_elim}
+use Rattle.std.proofs.lemmas.Option.{none-some, same_Some, slice_get-get_or}
+use Rattle.std.proofs.lemmas.List.{length-replicate}
+use mathlib.Core.Logic.{dite}
+use native.Mathlib.Decide.{ℕ_discrete}
+use Rattle.vme_trace.specs.declared.block.Block.{Block}
+use Rattle.vme_core.specs.Counting.{occurrences, numbers, HasPair}
+use Rattle.vme_core.specs.Stages.{rank, seen, SeesMore}
+use Rattle.vme_core.specs.Views.{joint_view}
+use Rattle.vme_core.specs.declared.stage.Stage.TheVariants as stage
+use Rattle.vme_core.specs.declared.view.View.{View}
+use Rattle.vme_core.proofs.StageRanks.{seen_taken, seen_less_than_filed}
+use Rattle.vme_core.proofs.Sums.{occurrences-append, occurrences_else, occurs_of_pair}
+use Rattle.vme_board.specs.Contents.{HasBlock}
+use Rattle.vme_book.specs.Inserted.{stored, RefusesBlock}
+use Rattle.vme_book.specs.declared.book.InsertFault.{InsertFault}
+use Rattle.vme_book.specs.declared.book.InsertFault.TheVariants as insert_fault
+use Rattle.vme_board.specs.declared.board.Board.{Board}
+use Rattle.vme_floor.specs.Works.{number_at, IsDelivered}
+use Rattle.vme_floor.specs.declared.answer.Answer.TheVariants.{Filed}
+use Rattle.vme_floor.specs.declared.answer.Reply.{Reply}
+use Rattle.vme_floor.specs.Collecting.{block_count, IsCollected, IsGone, HasTakenOwn, TakesOnly}
+use Rattle.vme_floor.specs.declared.collector.Collection.{Collection}
+use Rattle.vme_floor.proofs.Places.{get_here, get_else, get_replicate}
+
+abbrev Places : Type 0
+Places = List (Option Block)
+
+abbrev no_block : Option Block
+no_block = None
+
+some_none : (b : Block) → Some b ≡ no_block → ⊥
+some_none b e = none-some b (sym e)
+
+-- how many blocks there are
+count_set : (xs : Places) (n : ℕ) (b : Block) → slice_get xs n ≡ Some no_block → block_count (set xs n (Some b)) ≡ suc (block_count xs)
+count_set [] n b e = absurd (none-some no_block e)
+count_set (None ∷ xs) zero b e = refl
+count_set (Some c ∷ xs) zero b e = absurd (some_none c (same_Some (Some c) no_block e))
+count_set (None ∷ xs) (suc n) b e = count_set xs n b e
+count_set (Some c ∷ xs) (suc n) b e = ap suc (count_set xs n b e)
+
+pub count_limit : (xs : Places) → block_count xs ≤ length xs
+count_limit [] = omega arith
+count_limit (None ∷ xs) = omega (arith, count_limit xs)
+count_limit (Some b ∷ xs) = omega (arith, count_limit xs)
+
+-- a place is free
+count_free : (xs : Places) (n : ℕ) → slice_get xs n ≡ Some no_block → block_count xs + 1 ≤ length xs
+count_free [] n e = absurd (none-some no_block e)
+count_free (None ∷ xs) zero e = omega (arith, count_limit xs)
+count_free (Some c ∷ xs) zero e = absurd (some_none c (same_Some (Some c) no_block e))
+count_free (None ∷ xs) (suc n) e = omega (arith, count_free xs n e)
+count_free (Some c ∷ xs) (suc n) e = omega (arith, count_free xs n e)
+
+pub count_all : (xs : Places) → ((n : ℕ) → n < length xs → (b : Block) × HasBlock xs n b) → block_count xs ≡ length xs
+count_all [] all = refl
+count_all (None ∷ xs) all = let first = all zero (omega arith) in absurd (some_none first.0 (sym (same_Some no_block (Some first.0) first.1)))
+count_all (Some b ∷ xs) all = ap suc (count_all xs (λ n low. all (suc n) (omega (arith, low))))
+
+count_none : (n : ℕ) → block_count (replicate n no_block) ≡ 0
+count_none zero = refl
+count_none (suc n) = count_none n
+
+-- what a book tells of a number is what stands at its place
+pub place_of : (xs : Places) (n : ℕ) (x : Option Block) → n < length xs → stored xs n ≡ x → slice_get xs n ≡ Some x
+place_of xs n x low is = slice_get-get_or xs n no_block low ∙ ap (λ (y : Option Block). Some y) is
+
+pub collected_first : (total : ℕ) (v : View) (c : Collection) → c.total ≡ total → c.book ≡ replicate total no_block → c.count ≡ 0 → v.takes ≡ [] → IsCollected total v c
+collected_first total v c t book count none = record {
+  total_is = t;
+  long = ap (λ (xs : Places). length xs) book ∙ length-replicate total no_block;
+  counted = count ∙ (sym (count_none total) ∙ ap block_count (sym book));
+  took = λ n b at. absurd (none-some b (get_replicate total n no_block (Some b) (ap (λ (xs : Places). slice_get xs n) (sym book) ∙ at)));
+  kept = λ n b h. absurd (subst (λ (xs : List (ℕ × Block)). HasPair xs n b) none h);
+  saw = λ n some. let z = ap (λ (xs : List (ℕ × Block)). occurrences n (numbers xs)) none in absurd (omega (arith, z, some));
+}
+
+-- the bench took nothing, and saw as much
+pub collected_same : (total : ℕ) (v w : View) (c : Collection) → IsCollected total v c → w.takes ≡ v.takes → ((n : ℕ) → occurrences n v.filed ≤ occurrences n w.filed) → IsCollected total w c
+collected_same total v w c k same more = record {
+  total_is = k.total_is;
+  long = k.long;
+  counted = k.counted;
+  took = λ n b at. subst (λ (xs : List (ℕ × Block)). HasPair xs n b) (sym same) (k.took n b at);
+  kept = λ n b h. k.kept n b (subst (λ (xs : List (ℕ × Block)). HasPair xs n b) same h);
+  saw = λ n some. let z = ap (λ (xs : List (ℕ × Block)). occurrences n (numbers xs)) same in let s = k.saw n (omega (arith, z, some)) in let m = more n in omega (arith, s, m);
+}
+
+append_none : (xs : List (ℕ × Block)) → xs ++ [] ≡ xs
+append_none [] = refl
+append_none (x ∷ xs) = ap (λ (l : List (ℕ × Block)). x ∷ l) (append_none xs)
+
+-- one bench for two, the second of which took nothing
+pub collected_both : (total : ℕ) (v w u : View) (c : Collection) → u ≡ joint_view v w → w.takes ≡ [] → IsCollected total v c → IsCollected total u c
+collected_both total v w u c is none k = collected_same total v u c k
+    (ap (λ (x : View). x.takes) is ∙ (ap (λ (xs : List (ℕ × Block)). v.takes ++ xs) none ∙ append_none v.takes))
+    (λ n. let z = ap (λ (x : View). occurrences n x.filed) is in let s = occurrences-append n v.filed w.filed in omega (arith, z, s))
+
+-- the bench took one more block, which the book got
+module _ (total : ℕ) (v w : View) (c e : Collection) (m n : ℕ) (b : Block) (k : IsCollected total v c) (t : e.total ≡ c.total) (book : e.book ≡ set c.book m (Some b)) (count : e.count ≡ c.count + 1)
+    (is : m ≡ n) (low : n < total) (took : w.takes ≡ (n, b) ∷ v.takes) (new : occurrences n (numbers v.takes) ≡ 0) (free : slice_get c.book m ≡ Some no_block) (more : (l : ℕ) → occurrences l v.filed ≤ occurrences l w.filed) (filed : 0 < occurrences n w.filed) where
+  book_n : e.book ≡ set c.book n (Some b)
+  book_n = book ∙ ap (λ (l : ℕ). set c.book l (Some b)) is
+
+  free_n : slice_get c.book n ≡ Some no_block
+  free_n = ap (slice_get c.book) (sym is) ∙ free
+
+  here : slice_get e.book n ≡ Some (Some b)
+  here = ap (λ (xs : Places). slice_get xs n) book_n ∙ get_here c.book n (Some b) (let l = k.long in omega (arith, l, low))
+
+  else_at : (l : ℕ) → l ≢ n → slice_get e.book l ≡ slice_get c.book l
+  else_at l ne = ap (λ (xs : Places). slice_get xs l) book_n ∙ get_else c.book n l (Some b) ne
+
+  all_took : (l : ℕ) (d : Block) → HasBlock e.book l d → HasPair ((n, b) ∷ v.takes) l d
+  all_took l d at = dite (ℕ_discrete l n)
+      (λ same. let z : Some b ≡ Some d = same_Some (Some b) (Some d) (sym here ∙ (ap (slice_get e.book) (sym same) ∙ at)) in inl (sym same, same_Some b d z))
+      (λ ne. inr (k.took l d (sym (else_at l ne) ∙ at)))
+
+  all_kept : (l : ℕ) (d : Block) → HasPair ((n, b) ∷ v.takes) l d → HasBlock e.book l d
+  all_kept l d h = elim h [
+    | inl x ↦ ap (slice_get e.book) (sym x.0) ∙ (here ∙ ap (λ (y : Block). Some (Some y)) x.1)
+    | inr x ↦
+        let ne : l ≢ n = λ same. let o = occurs_of_pair v.takes l d x in let z = ap (λ (y : ℕ). occurrences y (numbers v.takes)) same in omega (arith, o, z, new) in
+        else_at l ne ∙ k.kept l d x
+  ]
+
+  all_saw : (l : ℕ) → 0 < occurrences l (n ∷ numbers v.takes) → 0 < occurrences l w.filed
+  all_saw l some = dite (ℕ_discrete l n)
+      (λ same. subst (λ (y : ℕ). 0 < occurrences y w.filed) (sym same) filed)
+      (λ ne. let z = occurrences_else l n (numbers v.takes) ne in let s = k.saw l (omega (arith, z, some)) in let g = more l in omega (arith, s, g))
+
+  pub collected_more : IsCollected total w e
+  collected_more = record {
+    total_is = t ∙ k.total_is;
+    long = ap (λ (xs : Places). length xs) book ∙ (length-set c.book m (Some b) ∙ k.long);
+    counted = let z = ap block_count book in let s = count_set c.book m b free in let o = k.counted in omega (arith, z, s, o, count);
+    took = λ l d at. subst (λ (xs : List (ℕ × Block)). HasPair xs l d) (sym took) (all_took l d at);
+    kept = λ l d h. all_kept l d (subst (λ (xs : List (ℕ × Block)). HasPair xs l d) took h);
+    saw = λ l some. all_saw l (subst (λ (xs : List (ℕ × Block)). 0 < occurrences l (numbers xs)) took some);
+  }
+
+-- the book refuses no block that is new to the bench, but for want of memory
+pub never_refused : (total : ℕ) (v : View) (c : Collection) (m n : ℕ) (f : InsertFault) → IsCollected total v c → m ≡ n → n < total → occurrences n (numbers v.takes) ≡ 0 → RefusesBlock c.book m f → (f ≡ insert_fault.Memory → ⊥) → ⊥
+never_refused total v c m n insert_fault.Stranger k is low new why other = let l = k.long in absurd (omega (arith, l, why, is, low))
+never_refused total v c m n insert_fault.Doubled k is low new why other =
+    let near : m < length c.book = let l = k.long in omega (arith, l, is, low) in
+    let o = occurs_of_pair v.takes m why.0 (k.took m why.0 (place_of c.book m (Some why.0) near why.1)) in
+    let z = ap (λ (y : ℕ). occurrences y (numbers v.takes)) is in absurd (omega (arith, o, z, new))
+never_refused total v c m n insert_fault.Memory k is low new why other = other refl
+
+-- one more block than was counted is no more than all
+pub count_fits : (total : ℕ) (v : View) (c : Collection) (m : ℕ) → IsCollected total v c → m < length c.book → stored c.book m ≡ no_block → c.count + 1 ≤ total
+count_fits total v c m k low free =
+    let s = count_free c.book m (place_of c.book m no_block low free) in let l = k.long in let o = k.counted in omega (arith, s, l, o)
+
+-- what was seen filed and not taken
+pub filed_of_seen : (v : View) (n : ℕ) → seen v n ≡ stage.Filed → 0 < occurrences n v.filed
+filed_of_seen v n is =
+    let r : rank (seen v n) ≡ 2 = ap rank is in
+    dite (ℕ_discrete (occurrences n v.filed) 0)
+    (λ z. dite (ℕ_discrete (occurrences n v.taken) 0)
+    (λ y. let l = seen_less_than_filed v n z y in absurd (omega (arith, l, r)))
+    (λ ne. let t : rank (seen v n) ≡ 3 = ap rank (seen_taken v n (omega (arith, ne))) in absurd (omega (arith, t, r))))
+    (λ ne. omega (arith, ne))
+
+-- what is gone stays gone
+pub gone_on : (v w : View) (n : ℕ) → TakesOnly v w → IsGone v n → IsGone w n
+gone_on v w n more gone = let g : 0 < occurrences n (numbers v.takes) + occurrences n v.taken = gone in let a = more.takes n in let b = more.sees.taken n in let on : 0 < occurrences n (numbers w.takes) + occurrences n w.taken = omega (arith, g, a, b) in on
+
+pub sees_on : (u v w : View) → SeesMore u v → SeesMore v w → SeesMore u w
+sees_on u v w a b = record {
+  found = λ d. let x = a.found d in let y = b.found d in omega (arith, x, y);
+  claimed = λ d. let x = a.claimed d in let y = b.claimed d in omega (arith, x, y);
+  filed = λ d. let x = a.filed d in let y = b.filed d in omega (arith, x, y);
+  taken = λ d. let x = a.taken d in let y = b.taken d in omega (arith, x, y);
+}
+
+-- what the bench filed is gone, after one more delivery
+pub own_next : (board : Board) (ds : List Block) (u v w : View) (r : Reply) (n : ℕ) → IsDelivered board ds u v r → TakesOnly v w → number_at ds r.delivery ≡ n → (r.answer ≡ Filed → IsGone w n) → HasTakenOwn u → HasTakenOwn w
+own_next board ds u v w r n d more is gone own m some =
+    let z = ap (λ (l : List (ℕ × Block)). occurrences m (numbers l)) more.list in
+    ⊎_elim
+    (λ old. let g : 0 < occurrences m (numbers u.takes) + occurrences m u.taken = own m old in let t = ap (λ (l : List (ℕ × Block)). occurrences m (numbers l)) d.takes in let s = d.sees.taken m in let now : 0 < occurrences m (numbers v.takes) + occurrences m v.taken = omega (arith, g, t, s) in gone_on v w m more now)
+    (λ now. subst (IsGone w) (sym is ∙ now.1) (gone now.0))
+    (d.lists m (omega (arith, z, some)))

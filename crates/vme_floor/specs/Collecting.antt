@@ -1,0 +1,48 @@
+-- What the calling thread has taken off the board.
+use Rattle.std.specs.Prelude.{◌≡◌, ℕ, suc, ◌+◌, ◌<◌, ◌≤◌, List, [], ◌∷◌, length, Option, Some, None}
+use Rattle.vme_trace.specs.declared.block.Block.{Block}
+use Rattle.vme_core.specs.Counting.{occurrences, numbers, HasPair}
+use Rattle.vme_core.specs.Stages.{SeesMore}
+use Rattle.vme_core.specs.declared.view.View.{View}
+use Rattle.vme_board.specs.Benches.{total_of, view_of}
+use Rattle.vme_board.specs.Contents.{HasBlock}
+use Rattle.vme_board.specs.declared.board.Board.{Board}
+use Rattle.vme_floor.specs.Works.{IsWorkOf}
+use Rattle.vme_floor.specs.declared.collector.Collection.{Collection}
+use Rattle.vme_floor.specs.declared.collector.Collector.{Collector}
+
+-- how many blocks there are
+abbrev pub block_count : List (Option Block) → ℕ
+block_count [] = 0
+block_count (None ∷ places) = block_count places
+block_count (Some b ∷ places) = suc (block_count places)
+
+-- the book has what the bench took, each number of which it has seen filed
+pub record IsCollected (total : ℕ) (v : View) (c : Collection) : Type 0 where
+  pub total_is : c.total ≡ total
+  pub long : length c.book ≡ total
+  pub counted : c.count ≡ block_count c.book
+  pub took : (n : ℕ) (b : Block) → HasBlock c.book n b → HasPair v.takes n b
+  pub kept : (n : ℕ) (b : Block) → HasPair v.takes n b → HasBlock c.book n b
+  pub saw : (n : ℕ) → 0 < occurrences n (numbers v.takes) → 0 < occurrences n v.filed
+
+-- the bench took the number, or has seen it taken
+abbrev pub IsGone : View → ℕ → Type 0
+IsGone v n = 0 < occurrences n (numbers v.takes) + occurrences n v.taken
+
+-- what the bench filed is gone
+abbrev pub HasTakenOwn : View → Type 0
+HasTakenOwn v = (n : ℕ) → 0 < occurrences n (numbers v.list) → IsGone v n
+
+-- the bench may have taken more and seen more; the rest is as it was
+pub record TakesOnly (old new : View) : Type 0 where
+  pub list : new.list ≡ old.list
+  pub draws : new.draws ≡ old.draws
+  pub found : new.found ≡ old.found
+  pub takes : (n : ℕ) → occurrences n (numbers old.takes) ≤ occurrences n (numbers new.takes)
+  pub sees : SeesMore old new
+
+-- the work of a bench of the board, and the book of what it took
+pub record IsCollectedOf (board : Board) (deliveries : List Block) (c : Collector) : Type 0 where
+  pub work : IsWorkOf board deliveries c.work
+  pub collected : IsCollected (total_of board) (view_of c.work.bench) c.collection

@@ -1,0 +1,103 @@
+//! The check of one recording by workers.
+
+ghost use Rattle.std.specs.Prelude.{◌≡◌, ◌≢◌, ◌≤◌, ◌<◌, ◌↔◌, ℕ, suc, List, length, Option, Some};
+ghost use Rattle.vme_answer.specs.Answers.{answer_of, judgement_of};
+ghost use Rattle.vme_answer.specs.Ends.{Tells};
+ghost use Rattle.vme_pods.specs.Judgements.{ChecksByPods, Finds, NeedsThreads};
+ghost use Rattle.vme_stream.specs.Inputs.{IsReading, most_reads};
+
+use crate::judge::{Plan, verdict_by_pods};
+use crate::unjudged::Unjudged;
+use std::alloc::Global;
+use std::sync::Wait;
+use std::thread::Threads;
+use vme_answer::{capture_from, tell_verdict};
+use vme_stream::complain;
+use vme_trace::{Sink, Source, Verdict};
+
+/// Judges the recording that a binding makes of a dump by workers, and writes its verdict to `out`, or why there is none to
+/// `err`. The line and the exit status are those of a check, for every order, every repetition and every number of workers;
+/// the status is 4 where there is no memory, a thread can't be started, or a block is stray.
+///
+/// The binding is read, and then the dump. A failure of `err` is ignored.
+pub fn check_by_pods<R: Threads + Wait + Sync, B: Source, D: Source, O: Sink, E: Sink>(
+    rt: &R,
+    alloc: Global,
+    binding: &mut B,
+    dump: &mut D,
+    plan: Plan,
+    out: &mut O,
+    err: &mut E,
+) -> u8
+    requires block { (1 ≤ plan.block) × (plan.block ≤ 65536) }
+    requires workers { (1 ≤ plan.workers) × (plan.workers ≤ 64) }
+    ensures answer { ChecksByPods
+        (record { told = B.remaining binding.old; failed = B.failures binding.old; failures = B.failures binding.new })
+        (record { told = D.remaining dump.old; failed = D.failures dump.old; failures = D.failures dump.new })
+        plan.block plan.workers
+        (record { before = O.contents out.old; failed = O.failures out.old; after = O.contents out.new; failures = O.failures out.new })
+        (record { before = E.contents err.old; failed = E.failures err.old; after = E.contents err.new; failures = E.failures err.new })
+        result }
+    ensures unwritten { (result ≡ 5) ↔ (O.failures out.new ≡ suc (O.failures out.old)) }
+
+    // Inputs that are told whole, no failure, and a status other than 4 give exactly the answer of a check.
+    ensures exact { (b d : List ℕ) → B.remaining binding.old ≡ Some b → D.remaining dump.old ≡ Some d
+        → length b < most_reads → length d < most_reads
+        → B.failures binding.new ≡ B.failures binding.old → D.failures dump.new ≡ D.failures dump.old
+        → O.failures out.new ≡ O.failures out.old → result ≢ 4
+        → Tells (answer_of (Some b) (Some d) plan.block)
+        (record { before = O.contents out.old; failed = O.failures out.old; after = O.contents out.new; failures = O.failures out.new })
+        (record { before = E.contents err.old; failed = E.failures err.old; after = E.contents err.new; failures = E.failures err.new })
+        result }
+{
+    answer(rt, alloc, binding, dump, plan, out, err)
+}
+
+fn answer<R: Threads + Wait + Sync, B: Source, D: Source, O: Sink, E: Sink>(
+    rt: &R,
+    alloc: Global,
+    binding: &mut B,
+    dump: &mut D,
+    plan: Plan,
+    out: &mut O,
+    err: &mut E,
+) -> u8
+    requires block { (1 ≤ plan.block) × (plan.block ≤ 65536) }
+    requires workers { (1 ≤ plan.workers) × (plan.workers ≤ 64) }
+    ensures { ChecksByPods
+        (record { told = B.remaining binding.old; failed = B.failures binding.old; failures = B.failures binding.new })
+        (record { told = D.remaining dump.old; failed = D.failures dump.old; failures = D.failures dump.new })
+        plan.block plan.workers
+        (record { before = O.contents out.old; failed = O.failures out.old; after = O.contents out.new; failures = O.failures out.new })
+        (record { before = E.contents err.old; failed = E.failures err.old; after = E.contents err.new; failures = E.failures err.new })
+        result }
+{
+    match judge(rt, alloc, binding, dump, plan) {
+        Ok(verdict) => tell_verdict(&verdict, out, err),
+        Err(unjudged) => {
+            complain(err, unjudged.line());
+            unjudged.status()
+        }
+    }
+}
+
+/// The verdict on the recording that a binding makes of a dump, or the first reason that there is none.
+fn judge<R: Threads + Wait + Sync, B: Source, D: Source>(
+    rt: &R,
+    alloc: Global,
+    binding: &mut B,
+    dump: &mut D,
+    plan: Plan,
+) -> Result<Verdict, Unjudged>
+    requires block { (1 ≤ plan.block) × (plan.block ≤ 65536) }
+    requires workers { (1 ≤ plan.workers) × (plan.workers ≤ 64) }
+    ensures { (binding_bytes dump_bytes : Option (List ℕ))
+        × IsReading (B.remaining binding.old) (B.failures binding.old) (B.failures binding.new) binding_bytes
+        × IsReading (D.remaining dump.old) (D.failures dump.old) (D.failures dump.new) dump_bytes
+        × Finds result (judgement_of binding_bytes dump_bytes plan.block) × NeedsThreads plan.workers result }
+{
+    match capture_from(alloc, binding, dump) {
+        Ok(capture) => verdict_by_pods(rt, alloc, &capture, plan),
+        Err(refusal) => Err(Unjudged::Refused(refusal)),
+    }
+}

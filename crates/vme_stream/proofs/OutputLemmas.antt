@@ -1,0 +1,15 @@
+-- What writing in pieces comes to.
+use Rattle.std.proofs.Common.{◌≡◌, ◌-◌, ℕ, List, ◌++◌, length, take, drop, sym, ap, subst, ◌∙◌, append_assoc, take-append-drop}
+use Rattle.std.specs.Prelude.{Option}
+use Rattle.std.specs.Io.KnownBytes.{Appends}
+use Rattle.std.proofs.Math.Seq.{take-append_seam}
+use Rattle.std.proofs.lemmas.List.{take_rest}
+
+-- the next bytes of what is left went out
+pub splits_later : (all done rest : List ℕ) (n : ℕ) → all ≡ done ++ rest → all ≡ (done ++ take n rest) ++ take (length rest - n) (drop n rest)
+splits_later all done rest n split =
+    split ∙ ap (λ l. done ++ l) (sym (take-append-drop n rest)) ∙ sym (append_assoc done (take n rest) (drop n rest))
+    ∙ ap (λ l. (done ++ take n rest) ++ l) (sym (take_rest rest n))
+
+pub front_is : (all done rest : List ℕ) → all ≡ done ++ rest → done ≡ take (length done) all
+front_is all done rest split = sym (ap (take (length done)) split ∙ take-append_seam done rest)

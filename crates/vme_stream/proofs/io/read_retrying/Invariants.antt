@@ -1,0 +1,6 @@
+-- A read that failed consumed nothing.
+use Rattle.std.specs.Io.KnownBytes.{Keeps}
+use Rattle.vme_stream.proofs.io.read_retrying.Given as goal
+
+abbrev pub invariant-loop : goal.invariant-loop
+invariant-loop g l = Keeps (g.R.Read.remaining l.initial.reader) (g.R.Read.remaining l.reader)

@@ -1,0 +1,3 @@
+pub mod InFaults
+pub mod Inputs
+pub mod Outputs

@@ -1,0 +1,113 @@
+//! Reading a source to its end.
+
+ghost use Rattle.std.specs.Prelude.{◌≡◌, ◌≢◌, ℕ, suc, ◌+◌, ◌≤◌, ◌<◌, List, length, take, drop, Some, None, Err, IfOk, IfErr, OnOk, OnErr, vec_len};
+ghost use Rattle.std.specs.Io.KnownBytes.{Consumes, IsAtEnd, Keeps};
+ghost use Rattle.vme_stream.specs.declared.input.InFault.TheVariants.{Memory};
+ghost use Rattle.vme_stream.specs.Inputs.{IsReading, longest_input};
+ghost use Rattle.vme_stream.specs.InFaults.{CountsRead};
+
+use std::alloc::{AllocError, Global};
+use thiserror::Error;
+use vme_trace::{Failed, Source};
+
+/// Why the bytes of a source can't be had.
+#[derive(Clone, Copy, Debug, Error, PartialEq, Eq)]
+pub enum InFault {
+    /// A read failed, or 16,777,216 reads didn't reach the end.
+    #[error("Read")]
+    Read,
+    /// There are over 268,435,456 bytes.
+    #[error("TooLong")]
+    TooLong,
+    /// There is no memory.
+    #[error("Memory")]
+    Memory,
+}
+
+impl From<AllocError> for InFault {
+    ghost from_gives = { λ _ e. e ≡ Memory };
+
+    fn from(_e: AllocError) -> InFault {
+        InFault::Memory
+    }
+}
+
+/// How many bytes an input has at most.
+const LONGEST: usize = 268_435_456;
+
+/// After so many reads that didn't reach the end reading is given up.
+const MOST_READS: u32 = 16_777_216;
+
+/// How many bytes one read takes at most.
+const CHUNK: usize = 131_072;
+
+/// Reads a source to its end. At most 16,777,216 reads are made.
+pub fn read_all<R: Source>(alloc: Global, source: &mut R) -> Result<Vec<u8>, InFault>
+    ensures bytes { IfOk result (λ v. IsReading (R.remaining source.old) (R.failures source.old) (R.failures source.new) (Some v.items)) }
+    ensures short { IfOk result (λ v. vec_len v ≤ longest_input) }
+    ensures read { result ≡ Err InFault.Read → IsReading (R.remaining source.old) (R.failures source.old) (R.failures source.new) None }
+    ensures too_long { result ≡ Err InFault.TooLong → (bytes : List ℕ) × (longest_input < length bytes) × IsReading (R.remaining source.old) (R.failures source.old) (R.failures source.new) (Some bytes) }
+    ensures memory { result ≡ Err InFault.Memory → R.failures source.new ≡ R.failures source.old }
+{
+    let mut bytes = Vec::new(alloc);
+    let mut filled = 0;
+    for _ in 0..MOST_READS {
+        let count = match read_chunk(source, &mut bytes, filled) {
+            Ok(count) => count,
+            Err(fault) => return Err(fault),
+        };
+        if count == 0 {
+            bytes.truncate(filled);
+            return Ok(bytes);
+        }
+        filled += count;
+        if filled > LONGEST {
+            return Err(InFault::TooLong);
+        }
+    }
+    Err(InFault::Read)
+}
+
+/// Reads the next bytes behind the first `filled` ones, and says how many: none only at the end.
+fn read_chunk<R: Source>(
+    source: &mut R,
+    bytes: &mut Vec<u8>,
+    filled: usize,
+) -> Result<usize, InFault>
+    requires within { filled ≤ vec_len bytes.old }
+    requires short { filled ≤ longest_input }
+    ensures front { take filled bytes.new.items ≡ take filled bytes.old.items }
+    ensures fits { IfOk result (λ n. filled + n ≤ vec_len bytes.new) }
+    ensures bytes { IfOk result (λ n. Consumes (R.remaining source.old) (R.remaining source.new) (take n (drop filled bytes.new.items))) }
+    ensures end { IfOk result (λ n. n ≡ 0 → IsAtEnd (R.remaining source.new)) }
+    ensures ok { OnOk result (R.failures source.new ≡ R.failures source.old) }
+    ensures err { IfErr result (CountsRead (R.failures source.old) (R.failures source.new)) }
+{
+    make_room(bytes, filled)?;
+    read_at(source, bytes.as_mut_slice(), filled).map_err(|_| InFault::Read)
+}
+
+/// Makes the bytes more than the first `filled` ones, by zeros.
+fn make_room(bytes: &mut Vec<u8>, filled: usize) -> Result<(), AllocError>
+    requires within { filled ≤ vec_len bytes.old }
+    requires short { filled ≤ longest_input }
+    ensures front { take filled bytes.new.items ≡ take filled bytes.old.items }
+    ensures room { OnOk result (filled < vec_len bytes.new) }
+{
+    if bytes.len() == filled {
+        bytes.resize(filled + CHUNK, 0)?;
+    }
+    Ok(())
+}
+
+fn read_at<R: Source>(source: &mut R, buffer: &mut [u8], at: usize) -> Result<usize, Failed>
+    requires { at < length buffer.old }
+    ensures front { take at buffer.new ≡ take at buffer.old }
+    ensures fits { IfOk result (λ n. at + n ≤ length buffer.new) }
+    ensures ok { IfOk result (λ n. Consumes (R.remaining source.old) (R.remaining source.new) (take n (drop at buffer.new))) }
+    ensures end { IfOk result (λ n. n ≡ 0 → IsAtEnd (R.remaining source.new)) }
+    ensures failures { OnOk result (R.failures source.new ≡ R.failures source.old) }
+    ensures failed { OnErr result (R.failures source.new ≡ suc (R.failures source.old)) }
+{
+    source.read(&mut buffer[at..])
+}
