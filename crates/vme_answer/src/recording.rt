@@ -91,6 +91,8 @@ fn recorded_in(
     }
 }
 
+/// The binding that a text is which is to be read, or why there is none: the text can't be read, is too long or isn't a binding,
+/// or there is no memory. What of the input is read then isn't said.
 pub fn binding_from<R: Source>(alloc: Global, source: &mut R) -> Result<Binding, Refusal>
     ensures { (bytes : Option (List ℕ))
         × IsReading (R.remaining source.old) (R.failures source.old) (R.failures source.new) bytes
