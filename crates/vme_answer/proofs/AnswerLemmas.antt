@@ -1,7 +1,7 @@
 -- What the steps of a check give, by what the definitions say of the inputs.
 use Rattle.std.proofs.Common.{◌≡◌, ◌≤◌, ◌<◌, ℕ, List, length, refl, ap, sym, subst, ◌∙◌}
 use Rattle.std.specs.Prelude.{Option, Some, None, Result, Ok, Err}
-use Rattle.std.proofs.lemmas.Bool.{le-leb, lt-leb}
+use Rattle.std.proofs.lemmas.Bool.{le-leb, lt-leb, lt-ltb, le-ltb}
 use Rattle.vcd_read.specs.Contents.{Contents}
 use Rattle.vcd_read.specs.Header.{◌>>=◌}
 use Rattle.vcd_read.specs.Meaning.{dump_of}
@@ -10,7 +10,9 @@ use Rattle.vcd_read.specs.declared.fault.FaultKind.{FaultKind}
 use Rattle.vcd_read.specs.declared.fault.FaultKind.TheVariants as vcd
 use Rattle.vme_bind.specs.Answers.{FailsAs}
 use Rattle.vme_bind.specs.Binding.{BoundLines, binding_of}
-use Rattle.vme_bind.specs.Capture.{capture_of}
+use Rattle.vme_bind.specs.Capture.{capture_of, limited}
+use Rattle.vme_bind.proofs.TextCaptureLemmas.{captured-by, fails-captured}
+use Rattle.vme_trace.specs.WellFormed.{capture_limit}
 use Rattle.vme_bind.specs.TextCapture.{or_binding}
 use Rattle.vme_bind.specs.TextCapture as text
 use Rattle.vme_bind.specs.declared.fault.CaptureFault.{CaptureFault}
@@ -18,18 +20,21 @@ use Rattle.vme_bind.specs.declared.fault.CaptureFault.TheVariants as capture
 use Rattle.vme_bind.specs.declared.fault.BindFault.{BindFault}
 use Rattle.vme_bind.specs.declared.fault.BindKind.{BindKind}
 use Rattle.vme_bind.specs.declared.fault.BindKind.TheVariants as bind
+use Rattle.vme_trace.specs.Blocks.{block_count}
 use Rattle.vme_trace.specs.Trace.{Trace}
+use Rattle.vme_trace.specs.Verdict.{verdict_by, rules_in_force}
 use Rattle.vme_trace.specs.declared.verdict.Verdict.{Verdict}
 use Rattle.vme_stream.specs.declared.input.InFault.{InFault}
 use Rattle.vme_stream.specs.declared.input.InFault.TheVariants as read
 use Rattle.vme_answer.specs.declared.refusal.Input.{Input}
 use Rattle.vme_answer.specs.declared.refusal.Input.TheVariants.{Binding, Dump}
 use Rattle.vme_answer.specs.declared.refusal.Refusal.{Refusal}
-use Rattle.vme_answer.specs.declared.refusal.Refusal.TheVariants.{TooLong, BadBinding, BadDump, Memory}
-use Rattle.vme_answer.specs.Answers.{Gives, whole, or_bad_binding, or_bad_dump, binding_read, dump_read, capture_by, capture_read, judgement_of, recorded_by, verdict_in_blocks}
-use Rattle.vme_stream.specs.Inputs.{IsReading, longest_input}
+use Rattle.vme_answer.specs.declared.refusal.Refusal.TheVariants.{TooLong, BadBinding, BadDump, TooManyBlocks, Memory}
+use Rattle.vme_answer.specs.Answers.{Gives, whole, or_bad_binding, or_bad_dump, binding_read, dump_read, capture_by, capture_read, judgement_by, judgement_of, recorded_by, verdict_in_blocks}
+use Rattle.vme_stream.specs.Inputs.{IsInTime, IsReading, longest_input}
 use Rattle.vme_answer.specs.Refusals.{refused, binding_refusal, dump_refusal, capture_refusal}
-use Rattle.vme_stream.proofs.InputLemmas.{unread}
+use Rattle.vme_stream.proofs.InputLemmas.{in_time}
+use Rattle.vme_trace.specs.Streams.{Reading}
 
 -- ---- an input
 
@@ -119,18 +124,18 @@ passes_through {X} {Y} r first next is = ap (λ (w : Result X Refusal). w >>= ne
 abbrev bound_in : List ℕ → Result BoundLines Refusal
 bound_in text = or_bad_binding (binding_of text)
 
-pub binding_refused : {A : Type 0} (told : Option (List ℕ)) (failed failures : ℕ) (result : Result A InFault) (fault : InFault) → result ≡ Err fault
-    → (result ≡ Err read.Read → IsReading told failed failures None)
-    → (result ≡ Err read.TooLong → (bytes : List ℕ) × (longest_input < length bytes) × IsReading told failed failures (Some bytes))
-    → (result ≡ Err read.Memory → failures ≡ failed)
-    → (bytes : Option (List ℕ)) × IsReading told failed failures bytes × Gives (λ (b : BoundLines). b) (Err (refused Binding fault)) (binding_read bytes)
+pub binding_refused : {A : Type 0} (old new : Reading) (result : Result A InFault) (fault : InFault) → result ≡ Err fault
+    → (result ≡ Err read.Read → IsReading old new None)
+    → (result ≡ Err read.TooLong → (bytes : List ℕ) × (longest_input < length bytes) × IsReading old new (Some bytes))
+    → (result ≡ Err read.Memory → IsInTime old new)
+    → (bytes : Option (List ℕ)) × IsReading old new bytes × Gives (λ (b : BoundLines). b) (Err (refused Binding fault)) (binding_read bytes)
 unfolding binding_read
-binding_refused told failed failures result read.Read is cannot long memory = (None, cannot is, refl)
-binding_refused told failed failures result read.TooLong is cannot long memory =
+binding_refused old new result read.Read is cannot long memory = (None, cannot is, refl)
+binding_refused old new result read.TooLong is cannot long memory =
     let found = long is in
     (Some found.0, found.2, ap (λ (w : Result (List ℕ) Refusal). w >>= bound_in) (too_long_is Binding found.0 found.1))
-binding_refused told failed failures result read.Memory is cannot long memory =
-    let left = unread told failed failures (memory is) in
+binding_refused old new result read.Memory is cannot long memory =
+    let left = in_time old new (memory is) in
     (left.0, left.1, tt)
 
 pub binding_read-whole : (text : List ℕ) → length text ≤ longest_input → binding_read (Some text) ≡ or_bad_binding (binding_of text)
@@ -142,18 +147,18 @@ binding_read-whole text short = ap (λ (w : Result (List ℕ) Refusal). w >>= bo
 abbrev dumped_in : List ℕ → Result Contents Refusal
 dumped_in text = or_bad_dump (dump_of text)
 
-pub dump_refused : {A : Type 0} (told : Option (List ℕ)) (failed failures : ℕ) (result : Result A InFault) (fault : InFault) → result ≡ Err fault
-    → (result ≡ Err read.Read → IsReading told failed failures None)
-    → (result ≡ Err read.TooLong → (bytes : List ℕ) × (longest_input < length bytes) × IsReading told failed failures (Some bytes))
-    → (result ≡ Err read.Memory → failures ≡ failed)
-    → (bytes : Option (List ℕ)) × IsReading told failed failures bytes × Gives (λ (d : Contents). d) (Err (refused Dump fault)) (dump_read bytes)
+pub dump_refused : {A : Type 0} (old new : Reading) (result : Result A InFault) (fault : InFault) → result ≡ Err fault
+    → (result ≡ Err read.Read → IsReading old new None)
+    → (result ≡ Err read.TooLong → (bytes : List ℕ) × (longest_input < length bytes) × IsReading old new (Some bytes))
+    → (result ≡ Err read.Memory → IsInTime old new)
+    → (bytes : Option (List ℕ)) × IsReading old new bytes × Gives (λ (d : Contents). d) (Err (refused Dump fault)) (dump_read bytes)
 unfolding dump_read
-dump_refused told failed failures result read.Read is cannot long memory = (None, cannot is, refl)
-dump_refused told failed failures result read.TooLong is cannot long memory =
+dump_refused old new result read.Read is cannot long memory = (None, cannot is, refl)
+dump_refused old new result read.TooLong is cannot long memory =
     let found = long is in
     (Some found.0, found.2, ap (λ (w : Result (List ℕ) Refusal). w >>= dumped_in) (too_long_is Dump found.0 found.1))
-dump_refused told failed failures result read.Memory is cannot long memory =
-    let left = unread told failed failures (memory is) in
+dump_refused old new result read.Memory is cannot long memory =
+    let left = in_time old new (memory is) in
     (left.0, left.1, tt)
 
 pub dump_read-whole : (text : List ℕ) → length text ≤ longest_input → dump_read (Some text) ≡ or_bad_dump (dump_of text)
@@ -207,3 +212,55 @@ pub judgement_of-captured : (binding dump : Option (List ℕ)) (block : ℕ) (t 
     → judgement_of binding dump block ≡ verdict_in_blocks block t
 unfolding judgement_of
 judgement_of-captured binding dump block t is = ap (λ (r : Result Trace Refusal). r >>= verdict_in_blocks block) is
+
+pub judgement_of-bound : (binding dump : Option (List ℕ)) (block : ℕ) (b : BoundLines) → binding_read binding ≡ Ok b
+    → judgement_of binding dump block ≡ judgement_by b (dump_read dump) block
+unfolding judgement_of
+judgement_of-bound binding dump block b is = ap (λ (r : Result Trace Refusal). r >>= verdict_in_blocks block) (capture_read-bound binding dump b is)
+
+pub judgement_by-refused : (bound : BoundLines) (dump : Result Contents Refusal) (block : ℕ) (r : Refusal) → Gives (λ (d : Contents). d) (Err r) dump
+    → Gives (λ (v : Verdict). v) (Err r) (judgement_by bound dump block)
+judgement_by-refused bound dump block r is =
+    passes_through r (capture_by bound dump) (verdict_in_blocks block) (passes_through r dump (λ contents. or_bad_binding (capture_of bound contents)) is)
+
+-- ---- the verdict on a recording as it is made
+
+-- a recording of too many steps
+abbrev too_long : BindFault
+too_long = record { line = 0; kind = bind.TooManySteps }
+
+module _ (bound : BoundLines) (bytes : List ℕ) (block : ℕ) where
+  abbrev judgement : Result Verdict Refusal
+  judgement = judgement_by bound (or_bad_dump (dump_of bytes)) block
+
+  judged_of : (recorded : Result Trace BindFault) → recorded_by bound (or_bad_dump (dump_of bytes)) ≡ Ok recorded → judgement ≡ (or_bad_binding recorded >>= verdict_in_blocks block)
+  judged_of recorded is = ap (λ (r : Result Trace Refusal). r >>= verdict_in_blocks block) (capture_by-recorded bound (or_bad_dump (dump_of bytes)) recorded is)
+
+  pub judged-long : (t : Trace) → text.recording_of_text bound bytes ≡ Ok t → capture_limit < length t.steps → judgement ≡ Err (BadBinding too_long)
+  judged-long t e long =
+      let is : limited t ≡ Err too_long = rw (lt-ltb capture_limit (length t.steps) long) refl in
+      judged_of (Err too_long) (text_recorded bound bytes ∙ ap by_either (captured-by bound bytes t (Err too_long) e (sym is)))
+
+  judged_in : (t : Trace) → text.recording_of_text bound bytes ≡ Ok t → length t.steps ≤ capture_limit → judgement ≡ verdict_in_blocks block t
+  judged_in t e short =
+      let is : limited t ≡ Ok t = rw (le-ltb capture_limit (length t.steps) short) refl in
+      judged_of (Ok t) (text_recorded-ok bound bytes t (captured-by bound bytes t (Ok t) e (sym is)))
+
+  pub judged-many : (t : Trace) → text.recording_of_text bound bytes ≡ Ok t → length t.steps ≤ capture_limit → 4096 < block_count block t
+      → judgement ≡ Err TooManyBlocks
+  judged-many t e short many = judged_in t e short ∙ rw (lt-ltb 4096 (block_count block t) many) refl
+
+  pub judged-few : (t : Trace) → text.recording_of_text bound bytes ≡ Ok t → length t.steps ≤ capture_limit → block_count block t ≤ 4096
+      → judgement ≡ Ok (verdict_by rules_in_force t)
+  judged-few t e short few = judged_in t e short ∙ rw (le-ltb 4096 (block_count block t) few) refl
+
+  -- a fault of the text or of the binding
+  refused_capture : (dump : Result Contents Refusal) (r : Refusal) → IsRefused r (recorded_by bound dump) → Gives (λ (t : Trace). t) (Err r) (capture_by bound dump)
+  refused_capture dump (BadBinding fault) is = capture_by-recorded bound dump (Err fault) is
+  refused_capture dump r is = capture_by-refused bound dump r is
+
+  pub judged-refused : (fault : CaptureFault) → text.FailsBy fault (text.recording_of_text bound bytes) → Gives (λ (v : Verdict). v) (Err (capture_refusal fault)) judgement
+  judged-refused fault h =
+      let dump = or_bad_dump (dump_of bytes) in
+      passes_through (capture_refusal fault) (capture_by bound dump) (verdict_in_blocks block)
+      (refused_capture dump (capture_refusal fault) (text_refusal bound bytes fault (fails-captured bound bytes fault h)))

@@ -67,6 +67,12 @@ capture_read binding dump = do
 abbrev pub verdict_in_blocks : ℕ → Trace → Result Verdict Refusal
 verdict_in_blocks block t = if nat_lt 4096 (block_count block t) then Err TooManyBlocks else Ok (verdict_by rules_in_force t)
 
+-- the verdict on the recording that a binding makes of what reading the dump gave
+abbrev pub judgement_by : BoundLines → Result Contents Refusal → ℕ → Result Verdict Refusal
+judgement_by bound dump block = do
+  t ← capture_by bound dump
+  verdict_in_blocks block t
+
 -- the verdict on the recording that a binding makes of a dump, or the first reason that there is none
 unfoldable pub judgement_of : Option (List ℕ) → Option (List ℕ) → ℕ → Result Verdict Refusal
 judgement_of binding dump block = do

@@ -19,8 +19,8 @@ pub fn capture_from<B: Source, D: Source>(
     dump: &mut D,
 ) -> Result<Capture, Refusal>
     ensures { (binding_bytes dump_bytes : Option (List ℕ))
-        × IsReading (B.remaining binding.old) (B.failures binding.old) (B.failures binding.new) binding_bytes
-        × IsReading (D.remaining dump.old) (D.failures dump.old) (D.failures dump.new) dump_bytes
+        × IsReading (B.reading binding.old) (B.reading binding.new) binding_bytes
+        × IsReading (D.reading dump.old) (D.reading dump.new) dump_bytes
         × Gives (λ capture. capture) result (capture_read binding_bytes dump_bytes) }
 {
     match binding_from(alloc, binding) {
@@ -36,7 +36,7 @@ fn capture_of_dump<D: Source>(
     dump: &mut D,
 ) -> Result<Capture, Refusal>
     ensures { (bytes : Option (List ℕ))
-        × IsReading (D.remaining dump.old) (D.failures dump.old) (D.failures dump.new) bytes
+        × IsReading (D.reading dump.old) (D.reading dump.new) bytes
         × Gives (λ capture. capture) result (capture_by bound.now (dump_read bytes)) }
 {
     match recorded_from(alloc, bound, dump) {
@@ -54,7 +54,7 @@ pub fn recorded_from<D: Source>(
     dump: &mut D,
 ) -> Result<Result<Capture, BindFault>, Refusal>
     ensures { (bytes : Option (List ℕ))
-        × IsReading (D.remaining dump.old) (D.failures dump.old) (D.failures dump.new) bytes
+        × IsReading (D.reading dump.old) (D.reading dump.new) bytes
         × Gives (λ recorded. recorded) result (recorded_by bound.now (dump_read bytes)) }
 {
     match read_all(alloc, dump) {
@@ -95,7 +95,7 @@ fn recorded_in(
 /// or there is no memory. What of the input is read then isn't said.
 pub fn binding_from<R: Source>(alloc: Global, source: &mut R) -> Result<Binding, Refusal>
     ensures { (bytes : Option (List ℕ))
-        × IsReading (R.remaining source.old) (R.failures source.old) (R.failures source.new) bytes
+        × IsReading (R.reading source.old) (R.reading source.new) bytes
         × Gives (λ binding. binding) result (binding_read bytes) }
 {
     match read_all(alloc, source) {

@@ -26,9 +26,7 @@ pub fn verdict_on(alloc: Global, capture: &Capture, block: u32) -> Result<Verdic
 /// Writes a verdict to `out`, or to `err` that it can't be written. The answer is the exit status: that of the verdict, or 5.
 pub fn tell_verdict<O: Sink, E: Sink>(verdict: &Verdict, out: &mut O, err: &mut E) -> u8
     ensures { Ends (answer_by (Ok verdict.now))
-        (record { before = O.contents out.old; failed = O.failures out.old; after = O.contents out.new; failures = O.failures out.new })
-        (record { before = E.contents err.old; failed = E.failures err.old; after = E.contents err.new; failures = E.failures err.new })
-        result }
+        (O.writing out.old, O.writing out.new) (E.writing err.old, E.writing err.new) result }
 {
     match write_message(out, verdict_line(verdict)) {
         Ok(()) => verdict_status(verdict),

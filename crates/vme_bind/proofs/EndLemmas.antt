@@ -1,9 +1,9 @@
 -- The end of an instant: a step, or none.
-use Rattle.std.proofs.Common.{◌≡◌, ◌≢◌, ℕ, ◌+◌, ◌<◌, Bool, true, false, cond, not, List, [], ◌∷◌, ◌++◌, length, map, refl, sym, ap, ◌∙◌, arith, inl, inr}
+use Rattle.std.proofs.Common.{◌≡◌, ◌≢◌, ℕ, ◌+◌, ◌<◌, Bool, true, false, cond, not, List, [], ◌∷◌, ◌++◌, length, map, refl, sym, ap, ◌∙◌, subst, arith, inl, inr}
 use Rattle.std.specs.Prelude.{◌==◌}
 use Rattle.std.proofs.lemmas.Bool.Decides.{nat_tests}
 use Rattle.std.proofs.lemmas.Bool.{cases_eq, false≢true}
-use Rattle.std.proofs.lemmas.List.{length-map, append-nil}
+use Rattle.std.proofs.lemmas.List.{length-map}
 use Rattle.vme_trace.specs.Instants.{any, those}
 use Rattle.vme_trace.specs.Levels.{Levels, level_at, set_level, same_level}
 use Rattle.vme_trace.specs.LineNumbers.{line_count}
@@ -18,7 +18,7 @@ none_those : (p : ℕ → Bool) (n : ℕ) → any p 0 n ≡ false → those p 0 
 unfolding those
 none_those p n h = those-skip p 0 n (omega arith) (λ l low lt. any-fails p 0 n l h low lt)
 
-abbrev one_step : ℕ → List Change → List Step
+abbrev pub one_step : ℕ → List Change → List Step
 one_step time changes = record { time = time; changes = changes } ∷ []
 
 is_none : (n : ℕ) → n ≡ 0 → (n == 0) ≡ true
@@ -43,40 +43,15 @@ step-none time a b cs e h = by_any (any (differs a b) 0 line_count) refl
     by_any true k = absurd (false≢true (sym (is_some (length cs) (omega (arith, ap length e, length-map (those (differs a b) 0 line_count) (change_to b), some_of (differs a b) line_count k))) ∙ h))
     by_any false k = refl
 
-abbrev progress : Levels → Levels → List Step → Progress
-progress shown now steps = record { shown = shown; now = now; steps = steps }
-
--- what is left at the end of an instant
-pub ended : (p : Progress) (shown now : Levels) (steps : List Step) (time : ℕ) → p.now ≡ now → shown ≡ now → steps ≡ p.steps ++ step_between time p.shown p.now
-    → progress shown now steps ≡ progress p.now p.now (p.steps ++ step_between time p.shown p.now)
-ended p shown now steps time e f g =
-    ap (λ (v : Levels). progress v now steps) (f ∙ sym e) ∙ ap (λ (v : Levels). progress p.now v steps) (sym e) ∙ ap (progress p.now p.now) g
-
-pub ended-step : (p : Progress) (shown_before now : Levels) (steps_before : List Step) (shown : Levels) (steps : List Step) (time : ℕ) (cs : List Change)
-    → p ≡ progress shown_before now steps_before → shown ≡ now → cs ≡ changes_between shown_before now → (length cs == 0) ≡ false → steps ≡ steps_before ++ one_step time cs
-    → progress shown now steps ≡ progress p.now p.now (p.steps ++ step_between time p.shown p.now)
-ended-step p shown_before now steps_before shown steps time cs e f g some h =
-    ended p shown now steps time (ap (λ (q : Progress). q.now) e) f
-    (h ∙ ap (λ (ss : List Step). steps_before ++ ss) (step-some time shown_before now cs g some) ∙ sym (ap (λ (q : Progress). q.steps ++ step_between time q.shown q.now) e))
-
-pub ended-none : (p : Progress) (shown_before now : Levels) (steps_before : List Step) (shown : Levels) (time : ℕ) (cs : List Change)
-    → p ≡ progress shown_before now steps_before → shown ≡ now → cs ≡ changes_between shown_before now → (length cs == 0) ≡ true
-    → progress shown now steps_before ≡ progress p.now p.now (p.steps ++ step_between time p.shown p.now)
-ended-none p shown_before now steps_before shown time cs e f g none =
-    ended p shown now steps_before time (ap (λ (q : Progress). q.now) e) f
-    (sym (append-nil steps_before) ∙ ap (λ (ss : List Step). steps_before ++ ss) (sym (step-none time shown_before now cs g none)) ∙ sym (ap (λ (q : Progress). q.steps ++ step_between time q.shown q.now) e))
-
 -- where no line differs, all is shown
 pub all-shown : (shown now : Levels) (touched : List ℕ) → AreTouched shown now touched → ((l : ℕ) → differs shown now l ≡ false) → shown ≡ now
 all-shown shown now touched h same = same_levels shown now (sym h.slots) h.shown_all h.now_all (λ l lt. alike shown now l (same l))
 
-pub ended-same : (p : Progress) (shown now : Levels) (steps : List Step) (touched : List ℕ) (time : ℕ) → p ≡ progress shown now steps → AreTouched shown now touched → ((l : ℕ) → differs shown now l ≡ false)
-    → p ≡ progress p.now p.now (p.steps ++ step_between time p.shown p.now)
+-- where no line differs, there is no step
+pub step-same : (time : ℕ) (shown now : Levels) → ((l : ℕ) → differs shown now l ≡ false) → [] ≡ step_between time shown now
 unfolding those
-ended-same p shown now steps touched time e h same =
-    e
-    ∙ ended-none p shown now steps shown time [] e (all-shown shown now touched h same)
-    (ap (map (change_to now)) (sym (those-skip (differs shown now) 0 line_count (omega arith) (λ l low lt. same l)))) refl
+step-same time shown now same =
+    sym (step-none time shown now [] (ap (map (change_to now)) (sym (those-skip (differs shown now) 0 line_count (omega arith) (λ l low lt. same l)))) refl)
 
 -- where no line is listed, none differs
 pub none_differs : (shown now : Levels) (touched : List ℕ) → length touched ≡ 0 → AreTouched shown now touched → (l : ℕ) → differs shown now l ≡ false
@@ -85,6 +60,24 @@ none_differs shown now touched none h l =
       | inl d ↦ let here = h.listed l d in absurd (omega (arith, here.1, none))
       | inr same ↦ same
     ]
+
+abbrev pub progress : Levels → Levels → Progress
+progress shown now = record { shown = shown; now = now }
+
+-- the step, by what is shown
+pub step-at : (time : ℕ) (p : Progress) (shown now : Levels) → p ≡ progress shown now → step_between time shown now ≡ step_between time p.shown p.now
+step-at time p shown now e = ap (λ (q : Progress). step_between time q.shown q.now) (sym e)
+
+-- all is shown at the end
+pub ended : (p : Progress) (shown now after : Levels) → p ≡ progress shown now → after ≡ now → progress after now ≡ progress p.now p.now
+ended p shown now after e is = ap (λ (v : Levels). progress v now) is ∙ ap (λ (q : Progress). progress q.now q.now) (sym e)
+
+-- where nothing is listed, nothing ends
+pub none-ended : (p : Progress) (shown now : Levels) (touched : List ℕ) → p ≡ progress shown now → AreTouched shown now touched → length touched ≡ 0 → p ≡ progress p.now p.now
+none-ended p shown now touched e h none = e ∙ ended p shown now shown e (all-shown shown now touched h (none_differs shown now touched none h))
+
+pub none-step : (time : ℕ) (p : Progress) (shown now : Levels) (touched : List ℕ) → p ≡ progress shown now → AreTouched shown now touched → length touched ≡ 0 → [] ≡ step_between time p.shown p.now
+none-step time p shown now touched e h none = step-same time shown now (none_differs shown now touched none h) ∙ step-at time p shown now e
 
 -- ---- one line that differs
 
@@ -113,3 +106,29 @@ module _ (shown now : Levels) (touched : List ℕ) (line : ℕ) (h : AreTouched 
     | inl e ↦ ap (differs shown now) e ∙ ap not same
     | inr ne ↦ alone l ne
   ]
+
+-- the end of an instant at which no line but one may differ
+module _ (p : Progress) (shown now : Levels) (touched : List ℕ) (line : ℕ) (view : p ≡ progress shown now) (h : AreTouched shown now touched)
+    (exists : IsLine p.now.slots line) (alone : (l : ℕ) → l ≢ line → differs p.shown p.now l ≡ false) where
+  line_exists : IsLine shown.slots line
+  line_exists = subst (λ (s : ℕ). IsLine s line) (ap (λ (q : Progress). q.now.slots) view ∙ h.slots) exists
+
+  is_alone : (l : ℕ) → l ≢ line → differs shown now l ≡ false
+  is_alone l ne = subst (λ (q : Progress). differs q.shown q.now l ≡ false) view (alone l ne)
+
+  pub line-shown : (after : Levels) → after ≡ set_level shown line (level_at now line) → after ≡ now
+  line-shown after set = set ∙ lone-shown shown now touched line h line_exists is_alone
+
+  pub line-ended : (after : Levels) → after ≡ set_level shown line (level_at now line) → progress after now ≡ progress p.now p.now
+  line-ended after set = ended p shown now after view (line-shown after set)
+
+  pub line-step : (time : ℕ) (changes : List Change) → changes ≡ change_to now line ∷ [] → same_level (level_at shown line) (level_at now line) ≡ false
+      → one_step time changes ≡ step_between time p.shown p.now
+  line-step time changes is other =
+      ap (one_step time) is
+      ∙ step-some time shown now (change_to now line ∷ []) (lone-change shown now touched line h line_exists is_alone other) refl
+      ∙ step-at time p shown now view
+
+  pub line-none : (time : ℕ) → same_level (level_at shown line) (level_at now line) ≡ true → [] ≡ step_between time p.shown p.now
+  line-none time same =
+      step-same time shown now (lone-same shown now touched line h line_exists is_alone same) ∙ step-at time p shown now view

@@ -7,9 +7,9 @@ use Rattle.std.proofs.lemmas.Bool.Decides.{nat_tests}
 use Rattle.std.proofs.lemmas.List.{length-set, length-replicate, get_or-set_same, get_or-set_other, length_push}
 use Rattle.vme_trace.specs.Levels.{Levels, level_at}
 use Rattle.vme_trace.specs.LineNumbers.{line_count}
-use Rattle.vme_trace.specs.Trace.{changed}
+use Rattle.vme_trace.specs.Followed.{with_steps}
+use Rattle.vme_trace.specs.Trace.{Trace, changed}
 use Rattle.vme_trace.specs.declared.level.Level.{Level}
-use Rattle.vme_trace.specs.declared.step.Step.{Step}
 use Rattle.vme_trace.proofs.Changing.{slots-kept}
 use Rattle.vcd_read.specs.declared.dump.Bit.{Bit}
 use Rattle.vcd_read.specs.declared.dump.Instant.{Instant}
@@ -23,11 +23,10 @@ use Rattle.vme_bind.specs.Wires.{line_source}
 use Rattle.vme_bind.specs.Taps.{taps_of, is_on}
 use Rattle.vme_bind.specs.Capture.{level_in, last_bits, values_of, time_of, levels_after, recording}
 use Rattle.vme_bind.specs.Recording.{Progress, tapped, valued, step_between}
-use Rattle.vme_bind.specs.Made.{Made, made_change, made_instant}
+use Rattle.vme_bind.specs.Made.{Made, IsBegun, made_change, made_instant}
 use Rattle.vme_bind.proofs.RecorderLemmas.{same_levels}
 use Rattle.vme_bind.proofs.CaptureLemmas.{AreTaps, by_values, valued-more, tap_level, one_valued, one_valued-at, length-valued, slots-valued, valued-at, levels-all, length-changed}
-use Rattle.vme_bind.proofs.OpeningLemmas.{recorded-first}
-use Rattle.vme_bind.proofs.StepsLemmas.{steps-more}
+use Rattle.vme_bind.proofs.OpeningLemmas.{recording-first, recording-more}
 
 abbrev pub Current : Type 0
 Current = List (Option (List Bit))
@@ -129,11 +128,9 @@ next_in (y ∷ done) rest x = next_in done rest x
 pub record IsMade (slots : ℕ) (wires : List Wire) (count : ℕ) (instants : List Instant) (n : ℕ) (current : Current) (m : Made) : Type 0 where
   pub taps : AreTaps slots wires m.taps
   pub room : length current ≡ count
-  pub progress : m.progress ≡ record {
-    shown = levels_after slots wires instants n;
-    now = valued m.taps (values_from 0 current) (levels_after slots wires instants n);
-    steps = (recording slots wires instants n).steps;
-  }
+  pub shown : m.progress.shown ≡ levels_after slots wires instants n
+  pub now : m.progress.now ≡ valued m.taps (values_from 0 current) (levels_after slots wires instants n)
+  pub recorded : m.recorded ≡ recording slots wires instants n
 
 module _ (slots : ℕ) (wires : List Wire) (count : ℕ) (instants : List Instant) where
   -- where the instants so far are the first of all
@@ -143,26 +140,19 @@ module _ (slots : ℕ) (wires : List Wire) (count : ℕ) (instants : List Instan
   pub makes-change : (done : List Instant) (current : Current) (m : Made) (net : ℕ) (bits : List Bit) → net < count → Makes done current m → Makes done (slice_set current net (Some bits)) (made_change m net bits)
   makes-change done current m net bits lt made rest e =
       let h = made rest e in
-      let v : Levels = levels_after slots wires instants (length done) in
       let within : net < length current = omega (arith, lt, h.room) in
       record {
         taps = h.taps;
         room = length-set current net (Some bits) ∙ h.room;
-        progress =
-            ap (λ (p : Progress). record p { now = changed p.now (map (tapped bits) (taps_of m.taps net)) }) h.progress
-            ∙ ap (λ (w : Levels). record { shown = v; now = w; steps = (recording slots wires instants (length done)).steps }) (valued-set slots wires m.taps h.taps current net bits v within (levels-all slots wires instants (length done)));
+        shown = h.shown;
+        now =
+            ap (λ (w : Levels). changed w (map (tapped bits) (taps_of m.taps net))) h.now
+            ∙ valued-set slots wires m.taps h.taps current net bits (levels_after slots wires instants (length done)) within (levels-all slots wires instants (length done));
+        recorded = h.recorded;
       }
 
-  abbrev next_made : ℕ → Progress → Progress
-  next_made time p = record { shown = p.now; now = p.now; steps = p.steps ++ step_between time p.shown p.now }
-
-  made_next : (m : Made) (time n : ℕ) (values : List Value) (v : Levels) (steps : List Step)
-      → m.progress ≡ record { shown = v; now = valued m.taps values v; steps = steps }
-      → (made_instant m time).progress ≡ record { shown = valued m.taps values v; now = valued m.taps values v; steps = steps ++ step_between time v (valued m.taps values v) }
-  made_next m time n values v steps e = ap (next_made time) e
-
-  none_said : (taps : Taps) (n : ℕ) (v : Levels) → valued taps (values_from 0 (replicate n no_bits)) v ≡ v
-  none_said taps n v = ap (λ (values : List Value). valued taps values v) (none_from n 0)
+  none_said : (taps : Taps) (n : ℕ) (v : Levels) → v ≡ valued taps (values_from 0 (replicate n no_bits)) v
+  none_said taps n v = sym (ap (λ (values : List Value). valued taps values v) (none_from n 0))
 
   pub makes-instant : (done : List Instant) (current : Current) (m : Made) (time : ℕ) → Makes done current m
       → Makes (done ++ record { time = time; values = values_from 0 current } ∷ []) (replicate (length current) None) (made_instant m time)
@@ -173,35 +163,29 @@ module _ (slots : ℕ) (wires : List Wire) (count : ℕ) (instants : List Instan
       let h = made (x ∷ rest) whole in
       let found : slice_get instants n ≡ Some x = ap (λ (xs : List Instant). slice_get xs n) whole ∙ next_in done rest x in
       let v : Levels = levels_after slots wires instants n in
-      let steps : List Step = (recording slots wires instants n).steps in
-      let levels : valued m.taps (values_from 0 current) v ≡ levels_after slots wires instants (n + 1) = valued-more slots wires instants m.taps h.taps n (values_from 0 current) (sym (ap values_of found)) in
-      let more : steps ++ step_between time v (levels_after slots wires instants (n + 1)) ≡ (recording slots wires instants (n + 1)).steps = sym (steps-more slots wires instants n time (sym (ap time_of found))) in
-      let count_more : length (done ++ x ∷ []) ≡ n + 1 = length_push done x in
-      let after : Levels = levels_after slots wires instants (n + 1) in
+      let count_more : n + 1 ≡ length (done ++ x ∷ []) = sym (length_push done x) in
+      let levels : m.progress.now ≡ levels_after slots wires instants (n + 1) = h.now ∙ valued-more slots wires instants m.taps h.taps n (values_from 0 current) (sym (ap values_of found)) in
+      let after : m.progress.now ≡ levels_after slots wires instants (length (done ++ x ∷ [])) = levels ∙ ap (λ (k : ℕ). levels_after slots wires instants k) count_more in
       record {
         taps = h.taps;
         room = length-replicate (length current) None ∙ h.room;
-        progress =
-            made_next m time n (values_from 0 current) v steps h.progress
-            ∙ ap (λ (w : Levels). record { shown = w; now = w; steps = steps ++ step_between time v w }) levels
-            ∙ ap (λ (ss : List Step). record { shown = after; now = after; steps = ss }) more
-            ∙ ap (λ (w : Levels). record { shown = after; now = w; steps = (recording slots wires instants (n + 1)).steps }) (sym (none_said m.taps (length current) after))
-            ∙ ap (λ (k : ℕ). progress_at m.taps (length current) k) (sym count_more);
-      }
-    where
-      progress_at : Taps → ℕ → ℕ → Progress
-      progress_at taps room k = record {
-        shown = levels_after slots wires instants k;
-        now = valued taps (values_from 0 (replicate room no_bits)) (levels_after slots wires instants k);
-        steps = (recording slots wires instants k).steps;
+        shown = after;
+        now = after ∙ none_said m.taps (length current) (levels_after slots wires instants (length (done ++ x ∷ [])));
+        recorded =
+            ap (λ (t : Trace). with_steps t (step_between time m.progress.shown m.progress.now)) h.recorded
+            ∙ ap (λ (w : Levels). with_steps (recording slots wires instants n) (step_between time w m.progress.now)) h.shown
+            ∙ ap (λ (w : Levels). with_steps (recording slots wires instants n) (step_between time v w)) levels
+            ∙ recording-more slots wires instants n time (sym (ap time_of found))
+            ∙ ap (λ (k : ℕ). recording slots wires instants k) count_more;
       }
 
-  pub makes-first : (m : Made) (opening : Levels) → AreTaps slots wires m.taps → opening ≡ levels_after slots wires instants 0 → m.progress ≡ record { shown = opening; now = opening; steps = [] }
-      → Makes [] (replicate count None) m
-  makes-first m opening taps first is rest e = record {
-    taps = taps;
-    room = length-replicate count None;
-    progress =
-        recorded-first slots wires instants m.progress opening first is
-        ∙ ap (λ (w : Levels). record { shown = levels_after slots wires instants 0; now = w; steps = (recording slots wires instants 0).steps }) (sym (none_said m.taps count (levels_after slots wires instants 0)));
-  }
+  pub makes-first : (m : Made) → IsBegun slots wires m → Makes [] (replicate count None) m
+  makes-first m begun rest e =
+      let opens : m.recorded.opening ≡ levels_after slots wires instants 0 = begun.first instants in
+      record {
+        taps = begun.taps;
+        room = length-replicate count None;
+        shown = ap (λ (p : Progress). p.shown) begun.progress ∙ opens;
+        now = ap (λ (p : Progress). p.now) begun.progress ∙ opens ∙ none_said m.taps count (levels_after slots wires instants 0);
+        recorded = recording-first slots wires instants m.recorded opens begun.none;
+      }

@@ -7,13 +7,13 @@ use Rattle.std.proofs.lemmas.Option.{unwrap_or-slice_get}
 use Rattle.vme_trace.specs.Instants.{those, greatest}
 use Rattle.vme_trace.specs.Levels.{Levels, level_at, set_level}
 use Rattle.vme_trace.specs.LineNumbers.{line_count}
+use Rattle.vme_trace.specs.Followed.{with_steps}
 use Rattle.vme_trace.specs.Trace.{Trace}
 use Rattle.vme_trace.specs.WellFormed.{malformed_step, capture_limit}
 use Rattle.vme_trace.specs.declared.level.Level.{Level}
 use Rattle.vme_trace.specs.declared.level.Level.TheVariants.{Unknown}
 use Rattle.vme_trace.specs.declared.step.Step.{Step}
 use Rattle.vcd_read.specs.declared.dump.Instant.{Instant}
-use Rattle.vcd_read.specs.declared.dump.Value.{Value}
 use Rattle.vcd_read.specs.Contents.{Contents, TimesAscend}
 use Rattle.vcd_read.specs.Header.{◌>>=◌}
 use Rattle.vme_bind.specs.declared.fault.BindFault.{BindFault}
@@ -26,7 +26,7 @@ use Rattle.vme_bind.specs.Answers.{Gives}
 use Rattle.vme_bind.specs.Binding.{BoundLines}
 use Rattle.vme_bind.specs.Wires.{wires_in, line_source}
 use Rattle.vme_bind.specs.Taps.{taps_of}
-use Rattle.vme_bind.specs.Capture.{values_of, time_of, level_by, level_after, levels_after, recording, limited, capture_of}
+use Rattle.vme_bind.specs.Capture.{values_of, time_of, level_by, level_after, levels_after, recording, recording_of, limited, capture_of}
 use Rattle.vme_bind.specs.Recording.{Progress, AreLines, valued, step_between}
 use Rattle.vme_bind.proofs.RecorderLemmas.{set_same, set_other, set_all, same_levels}
 use Rattle.vme_bind.proofs.CaptureLemmas.{AreTaps, levels-at, levels-all, levels-slots, valued-more}
@@ -106,34 +106,32 @@ get-in (y ∷ instants) zero x lt e = ap Some (sym e)
 get-in (y ∷ instants) (suc i) x lt e = get-in instants i x (omega (arith, lt)) e
 
 module _ (slots : ℕ) (wires : List Wire) (instants : List Instant) where
-  -- the recording of the first instants
-  abbrev pub recorded : ℕ → Progress
-  recorded n = record { shown = levels_after slots wires instants n; now = levels_after slots wires instants n; steps = (recording slots wires instants n).steps }
+  -- what is shown after the first instants
+  abbrev pub shown_after : ℕ → Progress
+  shown_after n = record { shown = levels_after slots wires instants n; now = levels_after slots wires instants n }
 
-  pub recorded-first : (p : Progress) (opening : Levels) → opening ≡ levels_after slots wires instants 0 → p ≡ record { shown = opening; now = opening; steps = [] } → p ≡ recorded 0
-  unfolding recording those
-  recorded-first p opening e h = h ∙ ap (λ (v : Levels). record { shown = v; now = v; steps = [] }) e
+  pub shown-first : (p : Progress) (opening : Levels) → opening ≡ levels_after slots wires instants 0 → p ≡ record { shown = opening; now = opening } → p ≡ shown_after 0
+  shown-first p opening e h = h ∙ ap (λ (v : Levels). record { shown = v; now = v }) e
 
-  abbrev next_of : Taps → ℕ → List Value → Progress → Progress
-  next_of taps time values p = record {
-    shown = valued taps values p.now;
-    now = valued taps values p.now;
-    steps = p.steps ++ step_between time p.shown (valued taps values p.now);
-  }
+  module _ (taps : Taps) (all : AreTaps slots wires taps) (i : ℕ) (x : Instant) (lt : i < length instants) (e : x ≡ get_or instants i x) where
+    values-lead : valued taps x.values (levels_after slots wires instants i) ≡ levels_after slots wires instants (i + 1)
+    values-lead = valued-more slots wires instants taps all i x.values (sym (ap values_of (get-in instants i x lt e)))
 
-  abbrev with_levels : ℕ → List Step → Levels → Levels → Progress
-  with_levels time steps before now = record { shown = now; now = now; steps = steps ++ step_between time before now }
+    pub shown-more : (p next : Progress) → p ≡ shown_after i → next ≡ record { shown = valued taps x.values p.now; now = valued taps x.values p.now } → next ≡ shown_after (i + 1)
+    shown-more p next is h =
+        h ∙ ap (λ (q : Progress). record { shown = valued taps x.values q.now; now = valued taps x.values q.now }) is
+        ∙ ap (λ (v : Levels). record { shown = v; now = v }) values-lead
 
-  pub recorded-more : (taps : Taps) → AreTaps slots wires taps → (i : ℕ) (x : Instant) (p next : Progress) → i < length instants → x ≡ get_or instants i x → p ≡ recorded i
-      → next ≡ record { shown = valued taps x.values p.now; now = valued taps x.values p.now; steps = p.steps ++ step_between x.time p.shown (valued taps x.values p.now) }
-      → next ≡ recorded (i + 1)
-  recorded-more taps all i x p next lt e is h =
-      let found = get-in instants i x lt e in
-      h ∙ ap (next_of taps x.time x.values) is
-      ∙ ap (with_levels x.time (recording slots wires instants i).steps (levels_after slots wires instants i)) (valued-more slots wires instants taps all i x.values (sym (ap values_of found)))
-      ∙ ap (λ (ss : List Step). record { shown = levels_after slots wires instants (i + 1); now = levels_after slots wires instants (i + 1); steps = ss }) (sym (steps-more slots wires instants i x.time (sym (ap time_of found))))
+    -- the steps at one instant more
+    pub recorded-more : (p : Progress) (steps more : List Step) → p ≡ shown_after i → steps ≡ (recording slots wires instants i).steps → more ≡ step_between x.time p.shown (valued taps x.values p.now)
+        → steps ++ more ≡ (recording slots wires instants (i + 1)).steps
+    recorded-more p steps more is before h =
+        ap (λ (ss : List Step). ss ++ more) before
+        ∙ ap (λ (ss : List Step). (recording slots wires instants i).steps ++ ss)
+        (h ∙ ap (λ (q : Progress). step_between x.time q.shown (valued taps x.values q.now)) is ∙ ap (step_between x.time (levels_after slots wires instants i)) values-lead)
+        ∙ sym (steps-more slots wires instants i x.time (sym (ap time_of (get-in instants i x lt e))))
 
-  pub recorded-lines : (taps : Taps) → AreTaps slots wires taps → (i : ℕ) (p : Progress) → p ≡ recorded i → (net : ℕ) → AreLines p.now.slots (taps_of taps net)
+  pub recorded-lines : (taps : Taps) → AreTaps slots wires taps → (i : ℕ) (p : Progress) → p ≡ shown_after i → (net : ℕ) → AreLines p.now.slots (taps_of taps net)
   recorded-lines taps all i p is net =
       subst (λ (s : ℕ). AreLines s (taps_of taps net)) (sym (ap (λ (q : Progress). q.now.slots) is ∙ levels-slots slots wires instants i)) (taps-lines slots wires taps all net)
 
@@ -143,6 +141,10 @@ pub capture_of-is : (b : BoundLines) (dump : Contents) → capture_of b dump ≡
 unfolding capture_of
 capture_of-is b dump = refl
 
+pub recording_of-is : (b : BoundLines) (dump : Contents) → recording_of b dump ≡ (wires_in dump.variables b.assignments >>= λ wires. Ok (recording b.slots wires dump.instants (length dump.instants)))
+unfolding recording_of
+recording_of-is b dump = refl
+
 pub recording-is : (slots : ℕ) (wires : List Wire) (instants : List Instant) (n : ℕ) (opening : Levels) (steps : List Step) → opening ≡ levels_after slots wires instants 0 → steps ≡ (recording slots wires instants n).steps → recording slots wires instants n ≡ record { opening = opening; steps = steps }
 unfolding recording
 recording-is slots wires instants n opening steps e h =
@@ -150,6 +152,24 @@ recording-is slots wires instants n opening steps e h =
   where
     with_both : Levels → List Step → Trace
     with_both v ss = record { opening = v; steps = ss }
+
+opening_is : (slots : ℕ) (wires : List Wire) (instants : List Instant) (n : ℕ) → (recording slots wires instants n).opening ≡ levels_after slots wires instants 0
+unfolding recording
+opening_is slots wires instants n = refl
+
+-- the recording of one instant more
+pub recording-more : (slots : ℕ) (wires : List Wire) (instants : List Instant) (n time : ℕ) → time ≡ time_of (slice_get instants n)
+    → with_steps (recording slots wires instants n) (step_between time (levels_after slots wires instants n) (levels_after slots wires instants (n + 1))) ≡ recording slots wires instants (n + 1)
+recording-more slots wires instants n time e =
+    sym (recording-is slots wires instants (n + 1) (recording slots wires instants n).opening _ (opening_is slots wires instants n) (sym (steps-more slots wires instants n time e)))
+
+-- the recording of no instant
+pub none_recorded : (slots : ℕ) (wires : List Wire) (instants : List Instant) → [] ≡ (recording slots wires instants 0).steps
+unfolding recording those
+none_recorded slots wires instants = refl
+
+pub recording-first : (slots : ℕ) (wires : List Wire) (instants : List Instant) (t : Trace) → t.opening ≡ levels_after slots wires instants 0 → t.steps ≡ [] → t ≡ recording slots wires instants 0
+recording-first slots wires instants t e none = sym (recording-is slots wires instants 0 t.opening t.steps e (none ∙ none_recorded slots wires instants))
 
 -- what wires make of the instants of a dump
 pub whole-is : (b : BoundLines) (dump : Contents) (wires : List Wire) (made : Trace) → wires_in dump.variables b.assignments ≡ Ok wires → recording b.slots wires dump.instants (length dump.instants) ≡ made

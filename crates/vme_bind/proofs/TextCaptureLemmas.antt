@@ -1,19 +1,17 @@
 -- The recording that a binding makes of the text of a dump, from what is read of it.
 use Rattle.std.proofs.Common.{◌≡◌, ℕ, Bool, true, false, cond, List, [], length, refl, sym, ap, ◌∙◌, subst, None, Result, Ok, Err}
-use Rattle.std.specs.Prelude.{nat_lt}
+use Rattle.std.specs.Prelude.{nat_lt, IfOk}
 use Rattle.std.specs.List.{fold}
 use Rattle.std.proofs.lemmas.List.{append-nil}
-use Rattle.vme_trace.specs.Levels.{Levels}
 use Rattle.vme_trace.specs.Trace.{Trace}
 use Rattle.vme_trace.specs.WellFormed.{malformed_step, capture_limit}
-use Rattle.vme_trace.specs.declared.step.Step.{Step}
 use Rattle.vcd_read.specs.declared.dump.Bit.{Bit}
 use Rattle.vcd_read.specs.declared.dump.Instant.{Instant}
 use Rattle.vcd_read.specs.declared.dump.Variable.{Variable}
 use Rattle.vcd_read.specs.declared.fault.FaultKind.{FaultKind}
 use Rattle.vcd_read.specs.declared.fault.FaultKind.TheVariants.{Memory}
 use Rattle.vcd_read.specs.declared.fault.VcdFault.{VcdFault}
-use Rattle.vcd_read.specs.Contents.{Contents}
+use Rattle.vcd_read.specs.Contents.{Contents, TimesAscend}
 use Rattle.vcd_read.specs.Tokens.{tokens}
 use Rattle.vcd_read.specs.Header.{◌>>=◌, nothing_declared}
 use Rattle.vcd_read.specs.Sections.{Headed, Defined, defined, header_of}
@@ -33,14 +31,19 @@ use Rattle.vme_bind.specs.Answers.{Fails as BindFails, FailsAs as BindFailsAs}
 use Rattle.vme_bind.specs.Binding.{BoundLines}
 use Rattle.vme_bind.specs.Sought.{Seen, with_variable}
 use Rattle.vme_bind.specs.Wires.{wires_in}
-use Rattle.vme_bind.specs.Capture.{recording, limited, capture_of}
-use Rattle.vme_bind.specs.Recording.{Progress}
+use Rattle.vme_bind.specs.Capture.{recording, recording_of, limited}
 use Rattle.vme_bind.specs.Made.{Made, IsBegun, made_change, made_instant}
-use Rattle.vme_bind.specs.TextCapture.{or_binding, or_dump, body_capture, capture_read, capture_behind, capture_of_text, DumpFails, BindingFails, FailsBy, GivesBy}
-use Rattle.vme_bind.proofs.OpeningLemmas.{capture_of-is, recording-is, whole-formed}
+use Rattle.vme_bind.specs.TextCapture.{or_binding, or_dump, body_recording, capture_of_text, capture_read, recording_read, recording_behind, recording_of_text, DumpFails, BindingFails, FailsBy, GivesBy}
+use Rattle.vme_bind.proofs.OpeningLemmas.{capture_of-is, recording_of-is, whole-formed}
 use Rattle.vme_bind.proofs.MakingLemmas.{Makes, makes-first, makes-change, makes-instant}
 
 -- ---- a body
+
+abbrev ok_of : {A E : Type 0} → A → Result A E
+ok_of x = Ok x
+
+abbrev ok_trace : Trace → Result Trace CaptureFault
+ok_trace t = Ok t
 
 -- the instants of a body, if it has no fault
 abbrev instants_in : Result (List Instant) VcdFault → List Instant
@@ -51,75 +54,43 @@ module _ (slots : ℕ) (wires : List Wire) (h : Headed) where
   abbrev IsMadeOf : List Instant → Current → Made → Type 0
   IsMadeOf = Makes slots wires (length h.nets) (instants_in (instants_from h.nets h.body))
 
-  making-follows : (m : Made) (opening : Levels) → IsBegun slots wires opening m
-      → Follows (Ends IsMadeOf) (instants_from h.nets h.body) (taken_from made_change made_instant h.nets m h.body)
-  making-follows m opening begun =
+  making-follows : (m : Made) → IsBegun slots wires m → Follows (Ends IsMadeOf) (instants_from h.nets h.body) (taken_from made_change made_instant h.nets m h.body)
+  making-follows m begun =
       let all : List Instant = instants_in (instants_from h.nets h.body) in
       taken-follows made_change made_instant h.nets IsMadeOf
       (λ done current a net bits lt made. makes-change slots wires (length h.nets) all done current a net bits lt made)
       (λ done current a time made. makes-instant slots wires (length h.nets) all done current a time made)
-      h.body m (makes-first slots wires (length h.nets) all m opening begun.taps (begun.first all) begun.progress)
+      h.body m (makes-first slots wires (length h.nets) all m begun)
 
   -- a fault of the body, met by what makes the recording
-  pub body-fails : (m : Made) (opening : Levels) (fault : VcdFault) → IsBegun slots wires opening m
-      → Fails fault (taken_from made_change made_instant h.nets m h.body) → FailsBy (Dump fault) (body_capture slots wires h)
-  body-fails m opening fault begun fails =
-      dump_fails fault.line fault.kind (fails-followed (Ends IsMadeOf) (instants_from h.nets h.body) _ fault (making-follows m opening begun) fails)
+  pub body-fails : (m : Made) (fault : VcdFault) → IsBegun slots wires m
+      → Fails fault (taken_from made_change made_instant h.nets m h.body) → FailsBy (Dump fault) (body_recording slots wires h)
+  body-fails m fault begun fails =
+      dump_fails fault.line fault.kind (fails-followed (Ends IsMadeOf) (instants_from h.nets h.body) _ fault (making-follows m begun) fails)
     where
-      dump_fails : (line : ℕ) (kind : FaultKind) → Fails (record { line = line; kind = kind }) (instants_from h.nets h.body) → DumpFails line kind (body_capture slots wires h)
+      dump_fails : (line : ℕ) (kind : FaultKind) → Fails (record { line = line; kind = kind }) (instants_from h.nets h.body) → DumpFails line kind (body_recording slots wires h)
       dump_fails line Memory e = e
-      dump_fails line kind e = ap (λ (r : Result (List Instant) VcdFault). or_dump r >>= λ instants. or_binding (limited (recording slots wires instants (length instants)))) e
+      dump_fails line kind e = ap (λ (r : Result (List Instant) VcdFault). or_dump r >>= λ instants. Ok (recording slots wires instants (length instants))) e
 
-  -- what is made of a body, and its instants
-  abbrev pub IsRecorded : Levels → List Step → Type 0
-  IsRecorded opening steps = (instants : List Instant) × (instants_from h.nets h.body ≡ Ok instants) × (recording slots wires instants (length instants) ≡ record { opening = opening; steps = steps })
-
-  pub body-recorded : (m end : Made) (opening : Levels) → IsBegun slots wires opening m
-      → taken_from made_change made_instant h.nets m h.body ≡ Ok end → IsRecorded opening end.progress.steps
-  body-recorded m end opening begun ok =
-      let gives = gives-followed (Ends IsMadeOf) (instants_from h.nets h.body) _ end (making-follows m opening begun) ok in
+  -- what is made of the whole body
+  pub body-recorded : (m end : Made) → IsBegun slots wires m → taken_from made_change made_instant h.nets m h.body ≡ Ok end → body_recording slots wires h ≡ Ok end.recorded
+  body-recorded m end begun ok =
+      let gives = gives-followed (Ends IsMadeOf) (instants_from h.nets h.body) _ end (making-follows m begun) ok in
       let instants : List Instant = gives.0 in
       let all : instants_in (instants_from h.nets h.body) ≡ instants = ap instants_in gives.1 in
       let made = gives.2.1 [] (all ∙ sym (append-nil instants)) in
-      let steps : end.progress.steps ≡ (recording slots wires (instants_in (instants_from h.nets h.body)) (length instants)).steps = ap (λ (p : Progress). p.steps) made.progress in (
-        instants,
-        gives.1,
-        recording-is slots wires instants (length instants) opening end.progress.steps (begun.first instants)
-            (steps ∙ ap (λ (xs : List Instant). (recording slots wires xs (length instants)).steps) all),
-      )
-
-  -- they follow one another
-  pub body-formed : (opening : Levels) (steps : List Step) → IsRecorded opening steps → malformed_step (record { opening = opening; steps = steps }) ≡ None
-  body-formed opening steps made = whole-formed slots wires made.0 (record { opening = opening; steps = steps }) (body_rises h.nets h.body made.0 made.1) made.2
-
-  body-is : (opening : Levels) (steps : List Step) → IsRecorded opening steps → body_capture slots wires h ≡ or_binding (limited (record { opening = opening; steps = steps }))
-  body-is opening steps made =
-      ap (λ (r : Result (List Instant) VcdFault). or_dump r >>= λ instants. or_binding (limited (recording slots wires instants (length instants)))) made.1
-      ∙ ap (λ (t : Trace). or_binding (limited t)) made.2
-
-  -- what is made of the steps
-  pub body-captured : (opening : Levels) (steps : List Step) (r : Result Trace BindFault) → IsRecorded opening steps
-      → r ≡ limited (record { opening = opening; steps = steps }) → GivesBy (λ (t : Trace). t) (or_binding r) (body_capture slots wires h)
-  body-captured opening steps r made e =
-      subst (λ (r : Result Trace BindFault). GivesBy (λ (t : Trace). t) (or_binding r) (body_capture slots wires h)) (sym e)
-      (by_test (nat_lt capture_limit (length steps)) (body-is opening steps made))
-    where
-      limited_by : Bool → Result Trace CaptureFault
-      limited_by b = or_binding (cond b (Err (record { line = 0; kind = TooManySteps })) (Ok (record { opening = opening; steps = steps })))
-
-      by_test : (b : Bool) → body_capture slots wires h ≡ limited_by b → GivesBy (λ (t : Trace). t) (limited_by b) (body_capture slots wires h)
-      by_test true h = h
-      by_test false h = h
+      ap (λ (r : Result (List Instant) VcdFault). or_dump r >>= λ instants. Ok (recording slots wires instants (length instants))) gives.1
+      ∙ ap (λ (xs : List Instant). ok_trace (recording slots wires xs (length instants))) (sym all) ∙ ap ok_trace (sym made.recorded)
 
 -- ---- a text
 
-pub text-dump : (b : BoundLines) (text : List ℕ) (fault : VcdFault) → Fails fault (dump_of text) → FailsBy (Dump fault) (capture_of_text b text)
-unfolding capture_of_text
+pub text-dump : (b : BoundLines) (text : List ℕ) (fault : VcdFault) → Fails fault (dump_of text) → FailsBy (Dump fault) (recording_of_text b text)
+unfolding recording_of_text
 text-dump b text fault h = by_kind fault.line fault.kind h
   where
-    by_kind : (line : ℕ) (kind : FaultKind) → Fails (record { line = line; kind = kind }) (dump_of text) → DumpFails line kind (capture_of_text b text)
+    by_kind : (line : ℕ) (kind : FaultKind) → Fails (record { line = line; kind = kind }) (dump_of text) → DumpFails line kind (recording_of_text b text)
     by_kind line Memory e = e
-    by_kind line kind e = ap (capture_read b) e
+    by_kind line kind e = ap (recording_read b) e
 
 -- a fault that stays, whatever comes of what is read
 fails_back : {X Y : Type 0} (line : ℕ) (kind : FaultKind) (r : Result X VcdFault) (f : X → Y) → FailsAs line kind (r >>= λ x. Ok (f x)) → FailsAs line kind r
@@ -128,7 +99,7 @@ fails_back line kind (Ok x) f h = absurd (cc h)
 fails_back line kind (Err fault) f h = let same : fault ≡ record { line = line; kind = kind } = cc h in ap Err same
 
 -- the fault of the definitions
-pub text-head : (b : BoundLines) (text : List ℕ) (seen : List Seen) (fault : VcdFault) → Fails fault (header_of with_variable text (nothing_declared seen) (tokens text)) → FailsBy (Dump fault) (capture_of_text b text)
+pub text-head : (b : BoundLines) (text : List ℕ) (seen : List Seen) (fault : VcdFault) → Fails fault (header_of with_variable text (nothing_declared seen) (tokens text)) → FailsBy (Dump fault) (recording_of_text b text)
 text-head b text seen fault h =
     let whole = fails_back fault.line fault.kind (whole_header text) (taken_head with_variable seen) (rw (header_taken with_variable text seen) at h) in
     text-dump b text fault (fails_first fault (whole_header text) contents_behind _ (dump_of-header text) whole)
@@ -153,24 +124,24 @@ pub whole-of : (text : List ℕ) (h : Headed) (first seen : List Seen) → heade
 whole-of text h first seen e = whole_from text h first seen (whole_header text) refl (sym (header_taken with_variable text first) ∙ e)
 
 -- the body behind the definitions
-pub text-behind : (b : BoundLines) (text : List ℕ) (h : Headed) (first seen : List Seen) (r : Result Trace CaptureFault) → header_of with_variable text (nothing_declared first) (tokens text) ≡ Ok (defined h seen)
-    → ((variables : List Variable) → seen ≡ fold with_variable first variables → GivesBy (λ (t : Trace). t) r (capture_behind b (defined h variables))) → GivesBy (λ (t : Trace). t) r (capture_of_text b text)
-unfolding capture_of_text
-text-behind b text h first seen r head given =
+pub text-behind : {X : Type 0} (view : X → Trace) (b : BoundLines) (text : List ℕ) (h : Headed) (first seen : List Seen) (r : Result X CaptureFault) → header_of with_variable text (nothing_declared first) (tokens text) ≡ Ok (defined h seen)
+    → ((variables : List Variable) → seen ≡ fold with_variable first variables → GivesBy view r (recording_behind b (defined h variables))) → GivesBy view r (recording_of_text b text)
+unfolding recording_of_text
+text-behind view b text h first seen r head given =
     let whole = whole-of text h first seen head in
-    subst (λ (d : Result Contents VcdFault). GivesBy (λ (t : Trace). t) r (capture_read b d)) (sym (dump_behind text (defined h whole.0) whole.1)) (given whole.0 whole.2)
+    subst (λ (d : Result Contents VcdFault). GivesBy view r (recording_read b d)) (sym (dump_behind text (defined h whole.0) whole.1)) (given whole.0 whole.2)
 
 -- what wires make of the instants
 by_instants : (b : BoundLines) (variables : List Variable) (wires : List Wire) (r : Result (List Instant) VcdFault) → wires_in variables b.assignments ≡ Ok wires
-    → capture_read b (r >>= with_variables variables) ≡ (or_dump r >>= λ instants. or_binding (limited (recording b.slots wires instants (length instants))))
+    → recording_read b (r >>= with_variables variables) ≡ (or_dump r >>= λ instants. Ok (recording b.slots wires instants (length instants)))
 by_instants b variables wires (Ok instants) e =
     let dump : Contents = record { variables = variables; instants = instants } in
-    ap or_binding (capture_of-is b dump ∙ ap (λ (r : Result (List Wire) BindFault). r >>= λ wires. limited (recording b.slots wires instants (length instants))) e)
+    ap or_binding (recording_of-is b dump ∙ ap (λ (r : Result (List Wire) BindFault). r >>= λ wires. Ok (recording b.slots wires instants (length instants))) e)
 by_instants b variables wires (Err fault) e = refl
 
-pub behind-body : (b : BoundLines) (h : Headed) (variables : List Variable) (wires : List Wire) (r : Result Trace CaptureFault) → wires_in variables b.assignments ≡ Ok wires
-    → GivesBy (λ (t : Trace). t) r (body_capture b.slots wires h) → GivesBy (λ (t : Trace). t) r (capture_behind b (defined h variables))
-behind-body b h variables wires r e given = subst (GivesBy (λ (t : Trace). t) r) (sym (by_instants b variables wires (instants_from h.nets h.body) e)) given
+pub behind-body : {X : Type 0} (view : X → Trace) (b : BoundLines) (h : Headed) (variables : List Variable) (wires : List Wire) (r : Result X CaptureFault) → wires_in variables b.assignments ≡ Ok wires
+    → GivesBy view r (body_recording b.slots wires h) → GivesBy view r (recording_behind b (defined h variables))
+behind-body view b h variables wires r e given = subst (GivesBy view r) (sym (by_instants b variables wires (instants_from h.nets h.body) e)) given
 
 -- ---- a binding that doesn't fit
 
@@ -186,26 +157,104 @@ Passes done current u = Unit {0}
 passing-follows : (h : Headed) (u : Unit {0}) → Follows (Ends Passes) (instants_from h.nets h.body) (taken_from passed_change passed_instant h.nets u h.body)
 passing-follows h u = taken-follows passed_change passed_instant h.nets Passes (λ done current a net bits lt made. tt) (λ done current a time made. tt) h.body u tt
 
-behind_dump : (b : BoundLines) (h : Headed) (variables : List Variable) (line : ℕ) (kind : FaultKind) → FailsAs line kind (instants_from h.nets h.body) → DumpFails line kind (capture_behind b (defined h variables))
+behind_dump : (b : BoundLines) (h : Headed) (variables : List Variable) (line : ℕ) (kind : FaultKind) → FailsAs line kind (instants_from h.nets h.body) → DumpFails line kind (recording_behind b (defined h variables))
 behind_dump b h variables line Memory e = e
-behind_dump b h variables line kind e = ap (λ (r : Result (List Instant) VcdFault). capture_read b (r >>= with_variables variables)) e
+behind_dump b h variables line kind e = ap (λ (r : Result (List Instant) VcdFault). recording_read b (r >>= with_variables variables)) e
 
 -- a fault of the body comes first
 pub behind-first : (b : BoundLines) (h : Headed) (variables : List Variable) (u : Unit {0}) (fault : VcdFault) → Fails fault (taken_from passed_change passed_instant h.nets u h.body)
-    → FailsBy (Dump fault) (capture_behind b (defined h variables))
+    → FailsBy (Dump fault) (recording_behind b (defined h variables))
 behind-first b h variables u fault fails = behind_dump b h variables fault.line fault.kind (fails-followed (Ends Passes) (instants_from h.nets h.body) _ fault (passing-follows h u) fails)
 
-by_binding : (line : ℕ) (kind : BindKind) (b : BoundLines) (dump : Contents) (answer : Result Trace CaptureFault) → answer ≡ or_binding (capture_of b dump)
+by_binding : (line : ℕ) (kind : BindKind) (b : BoundLines) (dump : Contents) (answer : Result Trace CaptureFault) → answer ≡ or_binding (recording_of b dump)
     → BindFailsAs line kind (wires_in dump.variables b.assignments) → BindingFails line kind answer
 by_binding line NoMemory b dump answer is e = e
 by_binding line kind b dump answer is e =
-    is ∙ ap or_binding (capture_of-is b dump ∙ ap (λ (r : Result (List Wire) BindFault). r >>= λ wires. limited (recording b.slots wires dump.instants (length dump.instants))) e)
+    is ∙ ap or_binding (recording_of-is b dump ∙ ap (λ (r : Result (List Wire) BindFault). r >>= λ wires. Ok (recording b.slots wires dump.instants (length dump.instants))) e)
 
 -- the binding's own fault, where the body has none
 pub behind-binding : (b : BoundLines) (h : Headed) (variables : List Variable) (u end : Unit {0}) (fault : BindFault) → taken_from passed_change passed_instant h.nets u h.body ≡ Ok end
-    → BindFails fault (wires_in variables b.assignments) → FailsBy (Binding fault) (capture_behind b (defined h variables))
+    → BindFails fault (wires_in variables b.assignments) → FailsBy (Binding fault) (recording_behind b (defined h variables))
 behind-binding b h variables u end fault ok fails =
     let gives = gives-followed (Ends Passes) (instants_from h.nets h.body) _ end (passing-follows h u) ok in
     let dump : Contents = record { variables = variables; instants = gives.0 } in
     let is : (instants_from h.nets h.body >>= with_variables variables) ≡ Ok dump = ap (λ (r : Result (List Instant) VcdFault). r >>= with_variables variables) gives.1 in
-    by_binding fault.line fault.kind b dump (capture_behind b (defined h variables)) (ap (capture_read b) is) fails
+    by_binding fault.line fault.kind b dump (recording_behind b (defined h variables)) (ap (recording_read b) is) fails
+
+-- ---- the recording, and whether it is too long
+
+-- the recording, where it isn't too long
+abbrev in_limit : Result Trace CaptureFault → Result Trace CaptureFault
+in_limit r = r >>= λ t. or_binding (limited t)
+
+capture-recorded : (b : BoundLines) (text : List ℕ) → capture_of_text b text ≡ in_limit (recording_of_text b text)
+unfolding capture_of_text recording_of_text
+capture-recorded b text = by_dump (dump_of text)
+  where
+    by_wires : (dump : Contents) (r : Result (List Wire) BindFault)
+        → or_binding (r >>= λ wires. limited (recording b.slots wires dump.instants (length dump.instants)))
+        ≡ in_limit (or_binding (r >>= λ wires. Ok (recording b.slots wires dump.instants (length dump.instants))))
+    by_wires dump (Ok wires) = refl
+    by_wires dump (Err fault) = refl
+
+    by_dump : (r : Result Contents VcdFault) → capture_read b r ≡ in_limit (recording_read b r)
+    by_dump (Ok dump) =
+        ap or_binding (capture_of-is b dump) ∙ by_wires dump (wires_in dump.variables b.assignments) ∙ sym (ap (λ (r : Result Trace BindFault). in_limit (or_binding r)) (recording_of-is b dump))
+    by_dump (Err fault) = refl
+
+-- why there is no recording
+pub fails-captured : (b : BoundLines) (text : List ℕ) (fault : CaptureFault) → FailsBy fault (recording_of_text b text) → FailsBy fault (capture_of_text b text)
+fails-captured b text (Dump fault) h = by_kind fault.line fault.kind h
+  where
+    by_kind : (line : ℕ) (kind : FaultKind) → DumpFails line kind (recording_of_text b text) → DumpFails line kind (capture_of_text b text)
+    by_kind line Memory e = e
+    by_kind line kind e = capture-recorded b text ∙ ap in_limit e
+fails-captured b text (Binding fault) h = by_kind fault.line fault.kind h
+  where
+    by_kind : (line : ℕ) (kind : BindKind) → BindingFails line kind (recording_of_text b text) → BindingFails line kind (capture_of_text b text)
+    by_kind line NoMemory e = e
+    by_kind line kind e = capture-recorded b text ∙ ap in_limit e
+
+-- the capture of a recording
+pub captured-by : (b : BoundLines) (text : List ℕ) (t : Trace) (r : Result Trace BindFault) → recording_of_text b text ≡ Ok t → r ≡ limited t → GivesBy (λ (t : Trace). t) (or_binding r) (capture_of_text b text)
+captured-by b text t r e is =
+    subst (λ (r : Result Trace BindFault). GivesBy (λ (t : Trace). t) (or_binding r) (capture_of_text b text)) (sym is)
+    (by_test (nat_lt capture_limit (length t.steps)) (capture-recorded b text ∙ ap in_limit e))
+  where
+    limited_by : Bool → Result Trace CaptureFault
+    limited_by b = or_binding (cond b (Err (record { line = 0; kind = TooManySteps })) (Ok t))
+
+    by_test : (test : Bool) → capture_of_text b text ≡ limited_by test → GivesBy (λ (t : Trace). t) (limited_by test) (capture_of_text b text)
+    by_test true h = h
+    by_test false h = h
+
+-- ---- the steps of a recording follow one another
+
+same_ok : {A E : Type 0} (x y : A) → ok_of {A = A} {E = E} x ≡ ok_of y → x ≡ y
+same_ok x y e = cc
+
+pub recorded-formed : (b : BoundLines) (text : List ℕ) (t : Trace) → recording_of_text b text ≡ Ok t → malformed_step t ≡ None
+unfolding recording_of_text
+recorded-formed b text t e = by_dump (dump_of text) refl e
+  where
+    rises_in : (dump : Contents) (r : Result (Defined (List Variable)) VcdFault) → (r >>= contents_behind) ≡ Ok dump → TimesAscend dump.instants
+    rises_in dump (Err fault) e = absurd (cc e)
+    rises_in dump (Ok d) e = by_instants (instants_from d.head.nets d.head.body) refl e
+      where
+        by_instants : (r : Result (List Instant) VcdFault) → instants_from d.head.nets d.head.body ≡ r → (r >>= with_variables d.variables) ≡ Ok dump → TimesAscend dump.instants
+        by_instants (Err fault) is e = absurd (cc e)
+        by_instants (Ok instants) is e = subst (λ (c : Contents). TimesAscend c.instants) (same_ok _ _ e) (body_rises d.head.nets d.head.body instants is)
+
+    by_wires : (dump : Contents) → TimesAscend dump.instants → (r : Result (List Wire) BindFault)
+        → or_binding (r >>= λ wires. Ok (recording b.slots wires dump.instants (length dump.instants))) ≡ Ok t → malformed_step t ≡ None
+    by_wires dump up (Err fault) e = absurd (cc e)
+    by_wires dump up (Ok wires) e = whole-formed b.slots wires dump.instants t up (same_ok _ _ e)
+
+    by_dump : (r : Result Contents VcdFault) → dump_of text ≡ r → recording_read b r ≡ Ok t → malformed_step t ≡ None
+    by_dump (Err fault) is e = absurd (cc e)
+    by_dump (Ok dump) is e =
+        by_wires dump (rises_in dump (whole_header text) (sym (dump_of-header text) ∙ is)) (wires_in dump.variables b.assignments) (sym (ap or_binding (recording_of-is b dump)) ∙ e)
+
+pub text-formed : {X : Type 0} (view : X → Trace) (b : BoundLines) (text : List ℕ) (r : Result X CaptureFault) → GivesBy view r (recording_of_text b text) → IfOk r (λ x. malformed_step (view x) ≡ None)
+text-formed view b text (Ok x) given = recorded-formed b text (view x) given
+text-formed view b text (Err fault) given = tt

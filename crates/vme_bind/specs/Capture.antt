@@ -91,6 +91,10 @@ module _ (slots : ℕ) (wires : List Wire) (instants : List Instant) where
   unfoldable pub recording : ℕ → Trace
   recording n = record { opening = levels_after 0; steps = map step_at (those is_step 0 n) }
 
+-- the recording that a binding makes of a dump, however long it is, or else the first fault
+unfoldable pub recording_of : BoundLines → Contents → Result Trace BindFault
+recording_of b dump = wires_in dump.variables b.assignments >>= λ wires. Ok (recording b.slots wires dump.instants (length dump.instants))
+
 -- a recording has so many steps at most
 abbrev pub limited : Trace → Result Trace BindFault
 limited t = if nat_lt capture_limit (length t.steps) then Err (record { line = 0; kind = TooManySteps }) else Ok t

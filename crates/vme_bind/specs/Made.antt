@@ -1,8 +1,8 @@
 -- The recording that is made as a dump is read.
-use Rattle.std.specs.Prelude.{◌≡◌, ℕ, List, [], ◌++◌, map}
-use Rattle.vme_trace.specs.Levels.{Levels}
+use Rattle.std.specs.Prelude.{◌≡◌, ℕ, List, [], map}
 use Rattle.vme_trace.specs.LineNumbers.{line_count}
-use Rattle.vme_trace.specs.Trace.{changed}
+use Rattle.vme_trace.specs.Followed.{with_steps}
+use Rattle.vme_trace.specs.Trace.{Trace, changed}
 use Rattle.vcd_read.specs.declared.dump.Bit.{Bit}
 use Rattle.vcd_read.specs.declared.dump.Instant.{Instant}
 use Rattle.vme_bind.specs.declared.taps.Taps.{Taps}
@@ -11,10 +11,11 @@ use Rattle.vme_bind.specs.Capture.{levels_after}
 use Rattle.vme_bind.specs.Taps.{taps_of, taps_below}
 use Rattle.vme_bind.specs.Recording.{Progress, tapped, step_between}
 
--- the steps so far, and the lines of the nets
+-- the lines of the nets, their levels, and the recording so far
 pub record Made : Type 0 where
   pub taps : Taps
   pub progress : Progress
+  pub recorded : Trace
 
 -- a net gets these bits
 abbrev pub made_change : Made → ℕ → List Bit → Made
@@ -24,15 +25,13 @@ made_change m net bits = record m { progress = record m.progress { now = changed
 abbrev pub made_instant : Made → ℕ → Made
 made_instant m time =
     record m {
-      progress = record {
-        shown = m.progress.now;
-        now = m.progress.now;
-        steps = m.progress.steps ++ step_between time m.progress.shown m.progress.now;
-      };
+      progress = record { shown = m.progress.now; now = m.progress.now };
+      recorded = with_steps m.recorded (step_between time m.progress.shown m.progress.now);
     }
 
 -- nothing is taken yet, for lines of so many slots with these wires
-pub record IsBegun (slots : ℕ) (wires : List Wire) (opening : Levels) (m : Made) : Type 0 where
-  pub first : (instants : List Instant) → opening ≡ levels_after slots wires instants 0
+pub record IsBegun (slots : ℕ) (wires : List Wire) (m : Made) : Type 0 where
+  pub first : (instants : List Instant) → m.recorded.opening ≡ levels_after slots wires instants 0
+  pub none : m.recorded.steps ≡ []
   pub taps : (net : ℕ) → taps_of m.taps net ≡ taps_below slots wires net line_count
-  pub progress : m.progress ≡ record { shown = opening; now = opening; steps = [] }
+  pub progress : m.progress ≡ record { shown = m.recorded.opening; now = m.recorded.opening }

@@ -1,5 +1,5 @@
 -- How the levels of the lines change from one instant to the next.
-use Rattle.std.specs.Prelude.{◌≡◌, ℕ, ◌<◌, Bool, true, not, if◌then◌else◌, List, [], ◌∷◌, length, map, All, Contains, IsTrue}
+use Rattle.std.specs.Prelude.{◌≡◌, ℕ, ◌<◌, Bool, true, not, if◌then◌else◌, List, [], ◌∷◌, length, map, All, Contains, IsTrue, Option, Some, None}
 use Rattle.vme_trace.specs.Instants.{any, those}
 use Rattle.vme_trace.specs.Levels.{Levels, level_at, same_level}
 use Rattle.vme_trace.specs.LineNumbers.{line_count, has_line}
@@ -13,11 +13,15 @@ use Rattle.vme_bind.specs.declared.taps.Taps.{Taps}
 use Rattle.vme_bind.specs.Capture.{level_in}
 use Rattle.vme_bind.specs.Taps.{taps_of}
 
--- the levels of the steps so far, and those after some values of the instant at hand
+-- the levels that the steps so far leave, and those after some values of the instant at hand
 pub record Progress : Type 0 where
   pub shown : Levels
   pub now : Levels
-  pub steps : List Step
+
+-- a step, or none
+abbrev pub step_in : Option Step → List Step
+step_in None = []
+step_in (Some step) = step ∷ []
 
 -- a line of the backplane
 pub record IsLine (slots l : ℕ) : Type 0 where

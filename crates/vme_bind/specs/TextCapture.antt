@@ -16,7 +16,7 @@ use Rattle.vme_bind.specs.declared.fault.CaptureFault.{CaptureFault}
 use Rattle.vme_bind.specs.declared.fault.CaptureFault.TheVariants.{Dump, Binding}
 use Rattle.vme_bind.specs.Binding.{BoundLines}
 use Rattle.vme_bind.specs.declared.wires.Wire.{Wire}
-use Rattle.vme_bind.specs.Capture.{recording, limited, capture_of}
+use Rattle.vme_bind.specs.Capture.{recording, recording_of, capture_of}
 
 abbrev pub or_binding : {A : Type 0} → Result A BindFault → Result A CaptureFault
 or_binding (Ok x) = Ok x
@@ -26,20 +26,29 @@ abbrev pub or_dump : {A : Type 0} → Result A VcdFault → Result A CaptureFaul
 or_dump (Ok x) = Ok x
 or_dump (Err fault) = Err (Dump fault)
 
--- what wires make of the body behind some definitions
-abbrev pub body_capture : ℕ → List Wire → Headed → Result Trace CaptureFault
-body_capture slots wires h = or_dump (instants_from h.nets h.body) >>= λ instants. or_binding (limited (recording slots wires instants (length instants)))
+-- the recording that wires make of the body behind some definitions
+abbrev pub body_recording : ℕ → List Wire → Headed → Result Trace CaptureFault
+body_recording slots wires h = or_dump (instants_from h.nets h.body) >>= λ instants. Ok (recording slots wires instants (length instants))
 
 -- what a binding makes of what reading a dump gave: a fault of the dump comes first
 abbrev pub capture_read : BoundLines → Result Contents VcdFault → Result Trace CaptureFault
 capture_read b (Ok dump) = or_binding (capture_of b dump)
 capture_read b (Err fault) = Err (Dump fault)
 
--- what it makes of the body behind some definitions
-abbrev pub capture_behind : BoundLines → Defined (List Variable) → Result Trace CaptureFault
-capture_behind b d = capture_read b (instants_from d.head.nets d.head.body >>= λ instants. Ok (record { variables = d.variables; instants = instants }))
+-- the recording that it makes of it, however long it is
+abbrev pub recording_read : BoundLines → Result Contents VcdFault → Result Trace CaptureFault
+recording_read b (Ok dump) = or_binding (recording_of b dump)
+recording_read b (Err fault) = Err (Dump fault)
 
--- the recording that a binding makes of the dump that a text is, or else the first fault
+-- the recording that it makes of the body behind some definitions
+abbrev pub recording_behind : BoundLines → Defined (List Variable) → Result Trace CaptureFault
+recording_behind b d = recording_read b (instants_from d.head.nets d.head.body >>= λ instants. Ok (record { variables = d.variables; instants = instants }))
+
+-- the recording that a binding makes of the dump that a text is, however long it is, or else the first fault
+unfoldable pub recording_of_text : BoundLines → List ℕ → Result Trace CaptureFault
+recording_of_text b text = recording_read b (dump_of text)
+
+-- the same, where it isn't too long
 unfoldable pub capture_of_text : BoundLines → List ℕ → Result Trace CaptureFault
 capture_of_text b text = capture_read b (dump_of text)
 

@@ -104,7 +104,7 @@ impl Binding {
     }
 
     /// The backplane, with all lines unknown.
-    pub(crate) fn lines(&self) -> &Lines
+    pub fn lines(&self) -> &Lines
         ensures slots { result.now.slots ≡ self.now.slots }
         ensures unknown { result.now.levels ≡ replicate 159 Unknown }
     {

@@ -4,7 +4,6 @@ ghost use Rattle.std.specs.Prelude.{◌≡◌, List, None, IfOk, length, replica
 ghost use Rattle.vme_trace.specs.WellFormed.{malformed_step};
 ghost use Rattle.vme_trace.specs.declared.level.Level.TheVariants.{Unknown};
 ghost use Rattle.vcd_read.specs.declared.dump.Instant.{Instant};
-ghost use Rattle.vcd_read.specs.Contents.{TimesAscend};
 ghost use Rattle.vme_bind.specs.Answers.{Gives};
 ghost use Rattle.vme_bind.specs.Capture.{levels_after, recording, limited, capture_of};
 
@@ -49,10 +48,18 @@ fn record_all(
     let taps = Taps::of_wires(alloc, lines, wires)?;
     let opening = opening_of(lines, wires);
     let mut recorder = Recorder::new(alloc, opening);
+    let mut steps = Vec::new(alloc);
     for instant in instants {
-        recorder.record(alloc, &taps, instant.time, instant.values.as_slice())?;
+        if let Some(step) = recorder.record(
+            alloc,
+            &taps,
+            instant.time,
+            instant.values.as_slice(),
+        )? {
+            steps.push(step)?;
+        }
     }
-    Ok((opening, recorder.into_steps()))
+    Ok((opening, steps))
 }
 
 /// The recording of well-formed steps, if they aren't too many.

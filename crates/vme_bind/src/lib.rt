@@ -6,6 +6,7 @@ mod binding;
 mod capture;
 mod fault;
 mod group;
+mod kept;
 mod making;
 mod recorder;
 mod search;

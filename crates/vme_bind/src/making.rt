@@ -10,16 +10,18 @@ use crate::taps::Taps;
 use std::alloc::{AllocError, Global};
 use std::marker::Model;
 use vcd_read::Taker;
-use vme_trace::Step;
+use vme_trace::Follower;
 
-/// The steps so far, and the lines of the nets. Changes of other nets leave them as they are.
+/// The lines of the nets and their levels, and what takes the recording so far. Changes of other nets leave them as
+/// they are.
 #[derive(Drop)]
-pub(crate) struct Making {
+pub(crate) struct Making<F: Follower> {
     taps: Taps,
     recorder: Recorder,
+    follower: F,
 }
 
-impl Model for Making {
+impl<F: Follower> Model for Making<F> {
     ghost use Rattle.std.specs.Prelude.{ℕ};
     ghost use Rattle.vme_bind.specs.Made.{Made};
     ghost use Rattle.vme_bind.specs.Recording.{AreLines};
@@ -27,29 +29,33 @@ impl Model for Making {
 
     ghost Value = { Made };
 
-    ghost view = { λ r. record { taps = r.taps; progress = r.recorder } };
+    ghost view = { λ m. record { taps = m.taps; progress = m.recorder; recorded = F.recorded m.follower } };
 
-    ghost invariant = { λ r. (net : ℕ) → AreLines r.recorder.now.slots (taps_of r.taps net) };
+    ghost invariant = { λ m. (net : ℕ) → AreLines m.recorder.now.slots (taps_of m.taps net) };
 }
 
-impl Making {
-    /// No step yet.
-    pub fn new(taps: Taps, recorder: Recorder) -> Making
+impl<F: Follower> Making<F> {
+    /// What takes this recording from here on.
+    pub fn new(taps: Taps, recorder: Recorder, follower: F) -> Making<F>
         requires { (net : ℕ) → AreLines recorder.now.slots (taps_of taps net) }
-        ensures { result ≡ record { taps = taps; progress = recorder } }
+        ensures { result ≡ record { taps = taps; progress = recorder; recorded = F.recorded follower } }
     {
-        Making { taps, recorder }
+        Making {
+            taps,
+            recorder,
+            follower,
+        }
     }
 
-    /// The steps so far.
-    pub fn into_steps(self) -> Vec<Step>
-        ensures { result.items ≡ self.progress.steps }
+    /// What took the recording.
+    pub fn into_follower(self) -> F
+        ensures { F.recorded result ≡ self.recorded }
     {
-        self.recorder.into_steps()
+        self.follower
     }
 }
 
-impl Taker for Making {
+impl<F: Follower> Taker for Making<F> {
     ghost use Rattle.vme_bind.specs.Made.{Made};
 
     ghost Taken = { Made };
@@ -72,7 +78,10 @@ impl Taker for Making {
     }
 
     fn end_instant(&mut self, alloc: Global, time: u64) -> Result<(), AllocError> {
-        self.recorder.end_instant(alloc, time)
+        match self.recorder.end_instant(alloc, time)? {
+            Some(step) => self.follower.step(alloc, step),
+            None => Ok(()),
+        }
     }
 }
 

@@ -1,13 +1,13 @@
-//! The levels of the lines as a dump goes on, and the steps at which they change.
+//! The levels of the lines as a dump goes on, and the step at which they change.
 
-ghost use Rattle.std.specs.Prelude.{◌≡◌, ◌≢◌, ◌≤◌, ◌<◌, ◌++◌, [], ℕ, false, IfOk, OnOk, map, length, get_or};
+ghost use Rattle.std.specs.Prelude.{◌≡◌, ◌≢◌, ◌≤◌, ◌<◌, ℕ, false, IfOk, OnOk, map, length};
 ghost use Rattle.std.specs.List.Sorted.{IsNonDecreasing};
 ghost use Rattle.vme_trace.specs.LineNumbers.{line_count};
 ghost use Rattle.vme_trace.specs.Trace.{changed};
 ghost use Rattle.vcd_read.specs.Numbers.{extended};
 ghost use Rattle.vme_bind.specs.Capture.{level_of, level_in};
 ghost use Rattle.vme_bind.specs.Taps.{taps_of};
-ghost use Rattle.vme_bind.specs.Recording.{IsLine, differs, AreTouched, AreLines, tapped, valued, changes_between, step_between};
+ghost use Rattle.vme_bind.specs.Recording.{IsLine, differs, AreTouched, AreLines, tapped, valued, changes_between, step_between, step_in};
 
 use crate::taps::{Tap, Taps};
 use smallvec::SmallVec;
@@ -16,16 +16,15 @@ use std::marker::Model;
 use vcd_read::{Bit, Value, bit_at};
 use vme_trace::{Change, Changes, Level, Line, Lines, Step};
 
-/// The steps so far, and the levels of the lines.
+/// The levels of the lines.
 #[derive(Drop)]
 pub(crate) struct Recorder {
-    /// The levels after the steps.
+    /// The levels after the steps so far.
     shown: Lines,
     /// The levels after the values so far.
     now: Lines,
     /// The lines that got another level since the last step, some of them perhaps more than once.
     touched: Vec<Line>,
-    steps: Vec<Step>,
 }
 
 impl Model for Recorder {
@@ -33,7 +32,7 @@ impl Model for Recorder {
 
     ghost Value = { Progress };
 
-    ghost view = { λ r. record { shown = r.shown; now = r.now; steps = r.steps.items } };
+    ghost view = { λ r. record { shown = r.shown; now = r.now } };
 
     ghost invariant = { λ r. AreTouched r.shown r.now r.touched.items };
 }
@@ -101,21 +100,13 @@ impl Recorder {
     /// No step yet.
     pub fn new(alloc: Global, opening: Lines) -> Recorder
         requires { length opening.levels ≡ line_count }
-        ensures { result ≡ record { shown = opening; now = opening; steps = [] } }
+        ensures { result ≡ record { shown = opening; now = opening } }
     {
         Recorder {
             shown: opening,
             now: opening,
             touched: Vec::new(alloc),
-            steps: Vec::new(alloc),
         }
-    }
-
-    /// The steps so far.
-    pub fn into_steps(self) -> Vec<Step>
-        ensures { result.items ≡ self.steps }
-    {
-        self.steps
     }
 
     /// Gives the lines of a net the levels that these bits are.
@@ -168,57 +159,61 @@ impl Recorder {
     }
 
     /// Ends an instant, which is a step if some line has another level than before.
-    pub fn end_instant(&mut self, alloc: Global, time: u64) -> Result<(), AllocError>
+    pub fn end_instant(&mut self, alloc: Global, time: u64) -> Result<Option<Step>, AllocError>
         ensures slots { self.new.now.slots ≡ self.old.now.slots }
-        ensures ok { OnOk result (self.new ≡ record { shown = self.old.now; now = self.old.now; steps = self.old.steps ++ step_between time self.old.shown self.old.now }) }
+        ensures shown { OnOk result (self.new ≡ record { shown = self.old.now; now = self.old.now }) }
+        ensures step { IfOk result (λ step. step_in step ≡ step_between time self.old.shown self.old.now) }
     {
         match self.touched.len() {
-            0 => Ok(()),
+            0 => Ok(None),
             1 => {
                 let line = self.touched[0];
-                self.end_with_line(alloc, time, line)
+                Ok(self.end_with_line(alloc, time, line))
             }
             _ => self.end_with_lines(alloc, time),
         }
     }
 
     /// Ends an instant at which no line but this one may have another level than before.
-    fn end_with_line(&mut self, alloc: Global, time: u64, line: Line) -> Result<(), AllocError>
+    fn end_with_line(&mut self, alloc: Global, time: u64, line: Line) -> Option<Step>
         requires exists { IsLine self.old.now.slots line }
         requires alone { (l : ℕ) → l ≢ line → differs self.old.shown self.old.now l ≡ false }
         ensures slots { self.new.now.slots ≡ self.old.now.slots }
-        ensures ok { OnOk result (self.new ≡ record { shown = self.old.now; now = self.old.now; steps = self.old.steps ++ step_between time self.old.shown self.old.now }) }
+        ensures shown { self.new ≡ record { shown = self.old.now; now = self.old.now } }
+        ensures step { step_in result ≡ step_between time self.old.shown self.old.now }
     {
         let level = self.now.level(line);
-        if !self.shown.level(line).is_same(level) {
-            let mut changes = SmallVec::new(alloc);
-            changes.push_reserved(Change { line, level });
-            self.steps.push(Step {
-                time,
-                changes: Changes::new(changes),
-            })?;
-            self.shown.set(line, level);
-        }
+        let is_shown = self.shown.level(line).is_same(level);
+        self.shown.set(line, level);
         self.touched.clear();
-        Ok(())
+        if is_shown {
+            return None;
+        }
+        let mut changes = SmallVec::new(alloc);
+        changes.push_reserved(Change { line, level });
+        Some(Step {
+            time,
+            changes: Changes::new(changes),
+        })
     }
 
     /// Ends an instant at which any lines may have.
     #[inline(never)]
-    fn end_with_lines(&mut self, alloc: Global, time: u64) -> Result<(), AllocError>
+    fn end_with_lines(&mut self, alloc: Global, time: u64) -> Result<Option<Step>, AllocError>
         ensures slots { self.new.now.slots ≡ self.old.now.slots }
-        ensures ok { OnOk result (self.new ≡ record { shown = self.old.now; now = self.old.now; steps = self.old.steps ++ step_between time self.old.shown self.old.now }) }
+        ensures shown { OnOk result (self.new ≡ record { shown = self.old.now; now = self.old.now }) }
+        ensures step { IfOk result (λ step. step_in step ≡ step_between time self.old.shown self.old.now) }
     {
         self.touched.sort_unstable_by_key(|line| line.number());
         let changes = show(alloc, &self.touched, &self.now, &mut self.shown)?;
         self.touched.clear();
-        if !changes.is_empty() {
-            self.steps.push(Step {
-                time,
-                changes: Changes::new(changes),
-            })?;
+        if changes.is_empty() {
+            return Ok(None);
         }
-        Ok(())
+        Ok(Some(Step {
+            time,
+            changes: Changes::new(changes),
+        }))
     }
 
     /// Takes an instant of a dump.
@@ -228,13 +223,10 @@ impl Recorder {
         taps: &Taps,
         time: u64,
         values: &[Value],
-    ) -> Result<(), AllocError>
+    ) -> Result<Option<Step>, AllocError>
         requires { (net : ℕ) → AreLines self.old.now.slots (taps_of taps.now net) }
-        ensures { OnOk result (self.new ≡ record {
-          shown = valued taps.now values.now self.old.now;
-          now = valued taps.now values.now self.old.now;
-          steps = self.old.steps ++ step_between time self.old.shown (valued taps.now values.now self.old.now);
-        }) }
+        ensures shown { OnOk result (self.new ≡ record { shown = valued taps.now values.now self.old.now; now = valued taps.now values.now self.old.now }) }
+        ensures step { IfOk result (λ step. step_in step ≡ step_between time self.old.shown (valued taps.now values.now self.old.now)) }
     {
         self.set_values(taps, values)?;
         self.end_instant(alloc, time)

@@ -1,7 +1,8 @@
 //! The recording that a binding makes of the text of a dump.
 
-ghost use Rattle.std.specs.Prelude.{◌≡◌, ℕ, List, IfOk, map, replicate};
+ghost use Rattle.std.specs.Prelude.{◌≡◌, ℕ, List, IfOk, None, map, replicate};
 ghost use Rattle.std.specs.List.{fold};
+ghost use Rattle.vme_trace.specs.WellFormed.{malformed_step};
 ghost use Rattle.vme_trace.specs.declared.level.Level.TheVariants.{Unknown};
 ghost use Rattle.vme_bind.specs.Answers.{Fails};
 ghost use Rattle.vme_bind.specs.declared.fault.BindKind.TheVariants.{Memory};
@@ -12,11 +13,12 @@ ghost use Rattle.vme_bind.specs.declared.wires.Wire.{Wire};
 ghost use Rattle.vme_bind.specs.Made.{IsBegun};
 ghost use Rattle.vcd_read.specs.declared.dump.Variable.{Variable};
 ghost use Rattle.vcd_read.specs.Sections.{defined};
-ghost use Rattle.vme_bind.specs.TextCapture.{FailsBy, GivesBy, body_capture, capture_behind, capture_of_text};
+ghost use Rattle.vme_bind.specs.TextCapture.{FailsBy, GivesBy, body_recording, capture_of_text, recording_behind, recording_of_text};
 
 use crate::binding::Binding;
 use crate::capture::{captured, opening_of};
 use crate::fault::{BindFault, BindKind, CaptureFault};
+use crate::kept::Kept;
 use crate::making::{Making, Passing};
 use crate::recorder::Recorder;
 use crate::search::Search;
@@ -24,50 +26,52 @@ use crate::taps::Taps;
 use crate::wires::Wire;
 use std::alloc::{AllocError, Global};
 use vcd_read::{Head, read_definitions};
-use vme_trace::{Capture, Lines};
+use vme_trace::{Capture, Follower, Lines};
 
-/// The opening, and what takes the changes of a dump and has taken none.
-fn making_of(alloc: Global, lines: &Lines, wires: &[Wire]) -> Result<(Lines, Making), AllocError>
+/// What takes the changes of a dump for a follower, and has taken none.
+fn making_of<F: Follower>(
+    alloc: Global,
+    lines: &Lines,
+    wires: &[Wire],
+    follower: F,
+) -> Result<Making<F>, AllocError>
     requires { lines.now.levels ≡ replicate 159 Unknown }
-    ensures { IfOk result (λ made. IsBegun lines.now.slots wires.now made.0 made.1) }
+    ensures { IfOk result (IsBegun lines.now.slots wires.now) }
 {
     let taps = Taps::of_wires(alloc, lines, wires)?;
     let opening = opening_of(lines, wires);
     let recorder = Recorder::new(alloc, opening);
-    let making = Making::new(taps, recorder);
-    Ok((opening, making))
+    let mut follower = follower;
+    follower.open(&opening);
+    Ok(Making::new(taps, recorder, follower))
 }
 
 /// Reads the body behind some definitions.
-fn record_body(
+fn record_body<F: Follower>(
     alloc: Global,
-    made: (Lines, Making),
+    made: Making<F>,
     head: &Head<'_>,
-) -> Result<Capture, CaptureFault>
-    requires { (slots : ℕ) × ((wires : List Wire) × IsBegun slots wires made.0 made.1) }
-    ensures { (slots : ℕ) (wires : List Wire) → IsBegun slots wires made.0 made.1 → GivesBy (λ capture. capture) result (body_capture slots wires head.now) }
+) -> Result<F, CaptureFault>
+    ensures { (slots : ℕ) (wires : List Wire) → IsBegun slots wires made → GivesBy (λ f. F.recorded f) result (body_recording slots wires head.now) }
 {
-    let (opening, making) = made;
-    match head.read_body(alloc, making) {
-        Ok(end) => match captured(opening, end.into_steps()) {
-            Ok(capture) => Ok(capture),
-            Err(fault) => Err(CaptureFault::Binding(fault)),
-        },
+    match head.read_body(alloc, made) {
+        Ok(end) => Ok(end.into_follower()),
         Err(fault) => Err(CaptureFault::Dump(fault)),
     }
 }
 
 /// The recording that wires make of the body behind some definitions.
-fn capture_body(
+fn record_wires<F: Follower>(
     alloc: Global,
     lines: &Lines,
     wires: &[Wire],
     head: &Head<'_>,
-) -> Result<Capture, CaptureFault>
+    follower: F,
+) -> Result<F, CaptureFault>
     requires { lines.now.levels ≡ replicate 159 Unknown }
-    ensures { GivesBy (λ capture. capture) result (body_capture lines.now.slots wires.now head.now) }
+    ensures { GivesBy (λ f. F.recorded f) result (body_recording lines.now.slots wires.now head.now) }
 {
-    match making_of(alloc, lines, wires) {
+    match making_of(alloc, lines, wires, follower) {
         Ok(made) => record_body(alloc, made, head),
         Err(_) => Err(CaptureFault::Binding(want_of_memory())),
     }
@@ -84,7 +88,7 @@ fn want_of_memory() -> BindFault
 
 /// A fault of the body behind some definitions, which comes first, or else this fault of a binding.
 fn first_fault(alloc: Global, head: &Head<'_>, fault: BindFault) -> CaptureFault
-    ensures { (b : BoundLines) (variables : List Variable) → Fails fault (wires_in variables b.assignments) → FailsBy result (capture_behind b (defined head.now variables)) }
+    ensures { (b : BoundLines) (variables : List Variable) → Fails fault (wires_in variables b.assignments) → FailsBy result (recording_behind b (defined head.now variables)) }
 {
     match head.read_body(alloc, Passing) {
         Ok(_) => CaptureFault::Binding(fault),
@@ -100,28 +104,53 @@ impl Binding {
     pub fn capture_text(&self, alloc: Global, text: &[u8]) -> Result<Capture, CaptureFault>
         ensures { GivesBy (λ capture. capture) result (capture_of_text self.now text.now) }
     {
+        let kept = Kept {
+            opening: *self.lines(),
+            steps: Vec::new(alloc),
+        };
+        match self.record_text(alloc, text, kept) {
+            Ok(kept) => match captured(kept.opening, kept.steps) {
+                Ok(capture) => Ok(capture),
+                Err(fault) => Err(CaptureFault::Binding(fault)),
+            },
+            Err(fault) => Err(fault),
+        }
+    }
+
+    /// Gives the recording that the binding makes of the dump that a text is to what takes it, step by step: nothing
+    /// else is kept of it, and it may be as long as it is. A fault of the dump comes before one of the binding.
+    pub fn record_text<F: Follower>(
+        &self,
+        alloc: Global,
+        text: &[u8],
+        follower: F,
+    ) -> Result<F, CaptureFault>
+        ensures gives { GivesBy (λ f. F.recorded f) result (recording_of_text self.now text.now) }
+        ensures formed { IfOk result (λ f. malformed_step (F.recorded f) ≡ None) }
+    {
         let search = match Search::new(alloc, self.assignments()) {
             Ok(search) => search,
             Err(_) => return Err(CaptureFault::Binding(want_of_memory())),
         };
         match read_definitions(alloc, text, search) {
-            Ok((head, search)) => self.capture_head(alloc, &head, &search),
+            Ok((head, search)) => self.record_head(alloc, &head, &search, follower),
             Err(fault) => Err(CaptureFault::Dump(fault)),
         }
     }
 
     /// The recording of the body behind some definitions, of whose variables this was found.
-    fn capture_head(
+    fn record_head<F: Follower>(
         &self,
         alloc: Global,
         head: &Head<'_>,
         search: &Search<'_>,
-    ) -> Result<Capture, CaptureFault>
+        follower: F,
+    ) -> Result<F, CaptureFault>
         ensures { (variables : List Variable) → map seen_in search.now.sought.items ≡ fold with_variable (map unseen self.now.assignments) variables
-            → GivesBy (λ capture. capture) result (capture_behind self.now (defined head.now variables)) }
+            → GivesBy (λ f. F.recorded f) result (recording_behind self.now (defined head.now variables)) }
     {
         match search.wires(alloc) {
-            Ok(wires) => capture_body(alloc, self.lines(), &wires, head),
+            Ok(wires) => record_wires(alloc, self.lines(), &wires, head, follower),
             Err(fault) => Err(first_fault(alloc, head, fault)),
         }
     }

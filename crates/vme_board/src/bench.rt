@@ -11,7 +11,7 @@ ghost use Rattle.vme_board.specs.Tells.{DrawTells, ClaimTells, FileTells, TakeTe
 ghost use Rattle.vme_board.specs.Tells.{ClaimedLookTells, FiledLookTells, TakenLookTells};
 ghost use Rattle.vme_board.specs.Views.{SameDraws, SameWork, SameNumbers, AllFound, IsNewDraw, SameBlocks};
 ghost use Rattle.vme_board.specs.Views.{HasNothingToTake, SeesGreater};
-ghost use Rattle.vme_board.specs.declared.delivery.Refusal.TheVariants.{Doubled};
+ghost use Rattle.vme_board.specs.declared.delivery.Refusal.TheVariants.{Doubled, Memory};
 
 use crate::board::{Board, BoardSeat};
 use crate::delivery::{Filed, Refusal, Refused};
@@ -332,6 +332,8 @@ impl Bench {
         ensures handed_back { IfErr result (λ r. r.block ≡ block) }
         ensures unlisted { IfErr result (λ r. (view_of self.new).list ≡ (view_of self.old).list) }
         ensures doubled { IfErr result (λ r. r.why ≡ Doubled → HasSeen (view_of self.new) block.number stage.Claimed) }
+        ensures unclaimed { IfErr result
+            (λ r. r.why ≡ Memory → occurrences block.number (view_of self.new).claimed ≡ 0) }
 
         ensures takes { (view_of self.new).takes ≡ (view_of self.old).takes }
         ensures draws { SameDraws (view_of self.old) (view_of self.new) }

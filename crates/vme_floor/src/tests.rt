@@ -29,9 +29,7 @@ struct Page {
 impl Sink for Page {
     ghost use Rattle.std.specs.Prelude.{None};
 
-    ghost contents = { λ _. None };
-
-    ghost failures = { λ page. page.failures };
+    ghost writing = { λ page. record { taken = None; failures = page.failures } };
 
     fn write(&mut self, bytes: &[u8]) -> Result<usize, Failed> {
         if self.failures < u64::MAX && self.bytes.extend_from_slice(bytes).is_err() {

@@ -14,9 +14,7 @@ struct Page {
 impl Sink for Page {
     ghost use Rattle.std.specs.Prelude.{None};
 
-    ghost contents = { λ s. None };
-
-    ghost failures = { λ s. s.failures };
+    ghost writing = { λ s. record { taken = None; failures = s.failures } };
 
     fn write(&mut self, bytes: &[u8]) -> Result<usize, Failed> {
         let taken = bytes.len().min(50);
@@ -285,7 +283,7 @@ fn read_back(rt: HostRuntime) -> Result<(), Fail> {
 /// Texts with a fault: its kind and its row.
 #[test]
 fn faults(rt: HostRuntime) {
-    let texts: [(&[u8], ListFault); 11] = [
+    let texts: [(&[u8], ListFault); 14] = [
         (b"", ListFault::BadHeader),
         (b"vmecheck listing 1", ListFault::BadHeader),
         (
@@ -296,6 +294,18 @@ fn faults(rt: HostRuntime) {
         (
             b"vmecheck listing 1\ntenure 5 open end 7\n",
             ListFault::BadRow { row: 1 },
+        ),
+        (
+            b"vmecheck listing 1\nstart 01\n",
+            ListFault::BadRow { row: 1 },
+        ),
+        (
+            b"vmecheck listing 1\nstart 4294967296\n",
+            ListFault::BadRow { row: 1 },
+        ),
+        (
+            WORKED.strip_suffix(b"\n").unwrap_or_default(),
+            ListFault::BadRow { row: 5 },
         ),
         (
             b"vmecheck listing 1\nverdict conforming\n",

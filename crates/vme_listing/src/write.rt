@@ -16,9 +16,9 @@ pub struct Write;
 
 /// Writes all of the bytes, or a front of them up to a write that fails.
 fn put<W: Sink>(sink: &mut W, bytes: &[u8]) -> Result<(), Write>
-    ensures whole { OnOk result (Appends (W.contents sink.old) (W.contents sink.new) bytes.now) }
-    ensures front { OnErr result (AppendsFront (W.contents sink.old) (W.contents sink.new) bytes.now) }
-    ensures failures { CountsFailure (W.failures sink.old) (W.failures sink.new) result }
+    ensures whole { OnOk result (Appends (W.writing sink.old).taken (W.writing sink.new).taken bytes.now) }
+    ensures front { OnErr result (AppendsFront (W.writing sink.old).taken (W.writing sink.new).taken bytes.now) }
+    ensures failures { CountsFailure (W.writing sink.old).failures (W.writing sink.new).failures result }
 {
     let mut rest = bytes;
     while !rest.is_empty() {
@@ -33,9 +33,9 @@ fn put<W: Sink>(sink: &mut W, bytes: &[u8]) -> Result<(), Write>
 /// Makes room for one more line: the lines that are held are written, where there is none.
 fn make_room<W: Sink>(sink: &mut W, held: &mut Text) -> Result<(), Write>
     ensures room { OnOk result (length held.new + LONGEST_LINE < MOST) }
-    ensures moves { OnOk result (Moves (W.contents sink.old) (W.contents sink.new) held.old held.new) }
-    ensures front { OnErr result (AppendsFront (W.contents sink.old) (W.contents sink.new) held.old) }
-    ensures failures { CountsFailure (W.failures sink.old) (W.failures sink.new) result }
+    ensures moves { OnOk result (Moves (W.writing sink.old).taken (W.writing sink.new).taken held.old held.new) }
+    ensures front { OnErr result (AppendsFront (W.writing sink.old).taken (W.writing sink.new).taken held.old) }
+    ensures failures { CountsFailure (W.writing sink.old).failures (W.writing sink.new).failures result }
 {
     if !held.has_room() {
         put(sink, held.as_bytes())?;
@@ -47,9 +47,10 @@ fn make_room<W: Sink>(sink: &mut W, held: &mut Text) -> Result<(), Write>
 /// Writes the text of a listing, version 1: a header, and a line for each row. It is written in pieces of up to 4,096
 /// bytes, and takes no memory. After an error a front of the text is written.
 pub fn write_listing<W: Sink>(listing: &Listing, sink: &mut W) -> Result<(), Write>
-    ensures whole { OnOk result (Appends (W.contents sink.old) (W.contents sink.new) (text_of listing.now)) }
-    ensures front { OnErr result (AppendsFront (W.contents sink.old) (W.contents sink.new) (text_of listing.now)) }
-    ensures failures { CountsFailure (W.failures sink.old) (W.failures sink.new) result }
+    ensures whole { OnOk result (Appends (W.writing sink.old).taken (W.writing sink.new).taken (text_of listing.now)) }
+    ensures front { OnErr result
+        (AppendsFront (W.writing sink.old).taken (W.writing sink.new).taken (text_of listing.now)) }
+    ensures failures { CountsFailure (W.writing sink.old).failures (W.writing sink.new).failures result }
 {
     let mut piece = Text::new();
     piece.extend(HEADER);

@@ -197,7 +197,7 @@ pub struct Both<M, N> {
 }
 
 impl<M: Monitor, N: Monitor> Monitor for Both<M, N> {
-    ghost use Rattle.std.specs.Prelude.{[], length};
+    ghost use Rattle.std.specs.Prelude.{◌+◌, [], length};
     ghost use Rattle.vme_monitor.specs.BothSpec.{both, both_nothing, both_runs, both_within, within_same};
 
     type Memory = (M::Memory, N::Memory);
@@ -211,6 +211,10 @@ impl<M: Monitor, N: Monitor> Monitor for Both<M, N> {
     ghost count = { λ s. M.count s.first };
 
     ghost outcome = { λ s p. both (M.outcome s.first p.0) (N.outcome s.second p.1) };
+
+    ghost marks_kept = { λ s. M.marks_kept s.first + N.marks_kept s.second };
+
+    ghost marks_shown = { λ o x. M.marks_shown o x + N.marks_shown o x };
 
     ghost nothing = { λ p o. both_nothing p.0 p.1 (M.run p.0 o []) (N.run p.1 o []) (M.nothing p.0 o) (N.nothing p.1 o) };
 
@@ -251,6 +255,10 @@ impl<M: Monitor, N: Monitor> Monitor for Both<M, N> {
 
     fn steps(summary: &Pair<M, N>) -> u32 {
         M::steps(&summary.first)
+    }
+
+    fn stored(summary: &Pair<M, N>) -> u64 {
+        M::stored(&summary.first).saturating_add(N::stored(&summary.second))
     }
 
     fn leaving(summary: &Pair<M, N>, memory: (M::Memory, N::Memory)) -> (M::Memory, N::Memory) {

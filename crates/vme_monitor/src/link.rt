@@ -1,7 +1,9 @@
 //! The parts of a table.
 
-ghost use Rattle.std.specs.Prelude.{◌≡◌, ◌≤◌, [], ◌++◌, map, IfOk, OnOk, vec_len, vec_capacity};
+ghost use Rattle.std.specs.Prelude.{◌≡◌, ◌≤◌, ◌-◌, ◌^◌, [], ◌++◌, map, min, IfOk, OnOk, vec_len, vec_capacity};
+ghost use Rattle.std.specs.List.{sum_by};
 ghost use Rattle.std.specs.Option.{option_map, option_to_list};
+ghost use Rattle.vme_monitor.specs.Meeting.{hop_marks, row_marks};
 ghost use Rattle.vme_monitor.specs.Outcome.{unmoved};
 ghost use Rattle.vme_monitor.specs.Run.{break_at, cycle_kind as cycle_kind_of, extended, kinds_of, mark_at, outcome_at, tenure_kind as tenure_kind_of, when as when_shown};
 ghost use Rattle.vme_monitor.specs.declared.mark.Kind.TheVariants.{Answer, Transfer};
@@ -188,6 +190,28 @@ pub fn fresh_rows<P: Copy>(alloc: Global, memories: &[P]) -> Result<Vec<Row<P>>,
         })?;
     }
     Ok(rows)
+}
+
+/// How many marks links hold together, or the greatest number.
+pub fn marks_in_links(links: &[Link]) -> u64
+    ensures { result ≡ min (sum_by hop_marks (map hop_of links.now)) (2 ^ 64 - 1) }
+{
+    let mut count = 0u64;
+    for link in links {
+        count = count.saturating_add(link.marks.len() as u64);
+    }
+    count
+}
+
+/// How many marks rows hold together, or the greatest number.
+pub fn marks_in_rows<P: Copy>(rows: &[Row<P>]) -> u64
+    ensures { result ≡ min (sum_by row_marks (map outcome_of rows.now)) (2 ^ 64 - 1) }
+{
+    let mut count = 0u64;
+    for row in rows {
+        count = count.saturating_add(row.marks.len() as u64);
+    }
+    count
 }
 
 /// A kind, if it is shown.

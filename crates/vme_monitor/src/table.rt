@@ -1,11 +1,12 @@
 //! A table with one outcome for each entering memory. Runs that meet share what follows.
 
-ghost use Rattle.std.specs.Prelude.{◌≡◌, ℕ, ◌+◌, ◌≤◌, List, [], ◌∷◌, ◌++◌, All, length, map, IfOk, OnOk, IsTrue, None, vec_len, vec_capacity};
+ghost use Rattle.std.specs.Prelude.{◌≡◌, ℕ, ◌+◌, ◌-◌, ◌^◌, ◌≤◌, List, [], ◌∷◌, ◌++◌, All, length, map, min, IfOk, OnOk, IsTrue, None, vec_len, vec_capacity};
 ghost use Rattle.std.specs.Option.{is_some};
 ghost use Rattle.vme_trace.specs.Trace.{levels_after};
 ghost use Rattle.vme_trace.specs.WellFormed.{malformed_step};
 ghost use Rattle.vme_trace.specs.Levels.{Levels};
 ghost use Rattle.vme_trace.specs.declared.step.Step.{Step};
+ghost use Rattle.vme_monitor.specs.Meeting.{AreAmong, HaveNotMet, KeepApart, marks_of, memories_in, shown_apart};
 ghost use Rattle.vme_monitor.specs.Outcome.{IsWithin, inside-prop, StandsFor, followed, unmoved};
 ghost use Rattle.vme_monitor.specs.Run.{noticed, run_of};
 ghost use Rattle.vme_monitor.specs.Walk.{hops, later_hop, outcome_of, reach};
@@ -14,10 +15,11 @@ ghost use Rattle.vme_monitor.specs.Underway.{GiveRuns, seen_in};
 
 use crate::link::{
     Link, Row, bridges, delay_links, delay_rows, fresh_rows, later_links, later_rows, links_in,
+    marks_in_links, marks_in_rows,
 };
 use crate::machine::{Machine, Places};
 use crate::mark::Mark;
-use crate::merge::{advance, have_met, memories, merge, most_alert};
+use crate::merge::{advance, are_apart, have_met, memories, merge, most_alert};
 use crate::view::View;
 use std::alloc::{AllocError, Global};
 use vme_trace::{Break, Lines, Step};
@@ -33,7 +35,7 @@ pub struct Table<P: Places> {
     ghost inside: { (p : P) → IsWithin steps (outcome layers.items rows.items p (P.place_of p)) } by { inside-prop steps (λ (p : P). outcome layers.items rows.items p (P.place_of p)) },
 }
 
-/// Rows whose runs have met go on as one, in a layer of their own. The last two are left apart: little is won by joining them.
+/// Rows whose runs have met go on as one, in a layer of their own.
 /// The answer is how alert the rows are at most, by what they were before: it is asked again only where that may be less.
 fn settle<M: Machine>(
     alloc: Global,
@@ -43,10 +45,20 @@ fn settle<M: Machine>(
     stamp: u32,
     most: u8,
 ) -> Result<u8, AllocError>
-    ensures reached { OnOk result ((k : ℕ) → reach (hops layers.new.items) (map outcome_of rows.new.items) k ≡ reach (hops layers.old.items) (map outcome_of rows.old.items) k) }
-    ensures alert { IfOk result (λ highest. All (λ row. M.alertness_of row.memory ≤ most) rows.old.items → All (λ row. M.alertness_of row.memory ≤ highest) rows.new.items) }
+    ensures reached { OnOk result
+        ((k : ℕ) → reach (hops layers.new.items) (map outcome_of rows.new.items) k
+        ≡ reach (hops layers.old.items) (map outcome_of rows.old.items) k) }
+    ensures alert { IfOk result
+        (λ highest. All (λ row. M.alertness_of row.memory ≤ most) rows.old.items
+        → All (λ row. M.alertness_of row.memory ≤ highest) rows.new.items) }
+    ensures apart { OnOk result (HaveNotMet M.Memory.place_of (memories_in (map outcome_of rows.new.items))) }
+    ensures among { OnOk result
+        (AreAmong (memories_in (map outcome_of rows.new.items)) (memories_in (map outcome_of rows.old.items))) }
+    ensures marks { OnOk result
+        (marks_of (hops layers.new.items) (map outcome_of rows.new.items)
+        ≡ marks_of (hops layers.old.items) (map outcome_of rows.old.items)) }
 {
-    if rows.len() > 2 && have_met(rows.as_slice(), seats, stamp) {
+    if have_met(rows.as_slice(), seats, stamp) {
         let links = merge(alloc, rows)?;
         layers.push(links)?;
         Ok(most_alert::<M>(rows.as_slice()))
@@ -71,14 +83,21 @@ pub struct Unfinished<M: Machine> {
 impl<M: Machine> Unfinished<M> {
     /// The table of no steps.
     pub fn new(alloc: Global) -> Result<Unfinished<M>, AllocError>
-        ensures { IfOk result (λ t. (o : Levels) → GiveRuns (run_of (noticed M.sight M.next)) M.Memory.place_of M.alertness_of t.layers.items t.rows.items t.most o []) }
+        ensures runs { IfOk result
+            (λ t. (o : Levels) → GiveRuns (run_of (noticed M.sight M.next)) M.Memory.place_of M.alertness_of
+            t.layers.items t.rows.items t.most o []) }
+        ensures apart { IfOk result
+            (λ t. (o : Levels) → KeepApart (run_of (noticed M.sight M.next)) M.Memory.COUNT M.Memory.place_of
+            M.Memory.nth_of (hops t.layers.items) (map outcome_of t.rows.items) o []) }
     {
         let all = memories::<M::Memory>(alloc)?;
-        let rows = fresh_rows(alloc, all.as_slice())?;
-        let seats = vec![in alloc; 0u32; rows.len()]?;
+        let mut rows = fresh_rows(alloc, all.as_slice())?;
+        let mut seats = vec![in alloc; u32::MAX; rows.len()]?;
+        let mut layers = Vec::new(alloc);
         let most = most_alert::<M>(rows.as_slice());
+        let most = settle::<M>(alloc, &mut layers, &mut rows, seats.as_mut_slice(), 0, most)?;
         Ok(Unfinished {
-            layers: Vec::new(alloc),
+            layers,
             rows,
             seats,
             most,
@@ -95,7 +114,20 @@ impl<M: Machine> Unfinished<M> {
         instant: u32,
     ) -> Result<(), AllocError>
         requires { view.now ≡ seen_in view.now.before step.now.changes }
-        ensures { OnOk result ((o : Levels) (x : List Step) → view.now.before ≡ levels_after o x → instant ≡ length x + 1 → GiveRuns (run_of (noticed M.sight M.next)) M.Memory.place_of M.alertness_of self.old.layers.items self.old.rows.items self.old.most o x → GiveRuns (run_of (noticed M.sight M.next)) M.Memory.place_of M.alertness_of self.new.layers.items self.new.rows.items self.new.most o (x ++ step.now ∷ [])) }
+        ensures runs { OnOk result
+            ((o : Levels) (x : List Step) → view.now.before ≡ levels_after o x → instant ≡ length x + 1
+            → GiveRuns (run_of (noticed M.sight M.next)) M.Memory.place_of M.alertness_of
+            self.old.layers.items self.old.rows.items self.old.most o x
+            → GiveRuns (run_of (noticed M.sight M.next)) M.Memory.place_of M.alertness_of
+            self.new.layers.items self.new.rows.items self.new.most o (x ++ step.now ∷ [])) }
+        ensures apart { OnOk result
+            ((o : Levels) (x : List Step) → view.now.before ≡ levels_after o x → instant ≡ length x + 1
+            → GiveRuns (run_of (noticed M.sight M.next)) M.Memory.place_of M.alertness_of
+            self.old.layers.items self.old.rows.items self.old.most o x
+            → KeepApart (run_of (noticed M.sight M.next)) M.Memory.COUNT M.Memory.place_of M.Memory.nth_of
+            (hops self.old.layers.items) (map outcome_of self.old.rows.items) o x
+            → KeepApart (run_of (noticed M.sight M.next)) M.Memory.COUNT M.Memory.place_of M.Memory.nth_of
+            (hops self.new.layers.items) (map outcome_of self.new.rows.items) o (x ++ step.now ∷ [])) }
     {
         let Some(seen) = M::notice(view, step.changes.as_slice()) else {
             return Ok(());
@@ -105,8 +137,8 @@ impl<M: Machine> Unfinished<M> {
         }
         let rows = self.rows.as_mut_slice();
         advance::<M>(rows, &view.before, &view.after, &seen, step, instant)?;
-        // two rows are left apart, and who judges has no less to notice
-        if self.rows.len() <= 2 && self.most <= 1 {
+        // who judges has no less to notice
+        if self.most <= 1 && are_apart::<M>(self.rows.as_slice()) {
             return Ok(());
         }
         self.most = settle::<M>(
@@ -122,8 +154,16 @@ impl<M: Machine> Unfinished<M> {
 
     /// The table of the steps, as many as that.
     pub fn finish(self, steps: u32) -> Table<M::Memory>
-        requires { (o : Levels) × (x : List Step) × (steps ≡ length x) × GiveRuns (run_of (noticed M.sight M.next)) M.Memory.place_of M.alertness_of self.layers.items self.rows.items self.most o x }
-        ensures { (o : Levels) (x : List Step) → steps ≡ length x → GiveRuns (run_of (noticed M.sight M.next)) M.Memory.place_of M.alertness_of self.layers.items self.rows.items self.most o x → StandsFor (run_of (noticed M.sight M.next)) (λ p. outcome result.layers.items result.rows.items p (M.Memory.place_of p)) result.steps o x }
+        requires { (o : Levels) × (x : List Step) × (steps ≡ length x)
+            × GiveRuns (run_of (noticed M.sight M.next)) M.Memory.place_of M.alertness_of
+            self.layers.items self.rows.items self.most o x }
+        ensures stands { (o : Levels) (x : List Step) → steps ≡ length x
+            → GiveRuns (run_of (noticed M.sight M.next)) M.Memory.place_of M.alertness_of
+            self.layers.items self.rows.items self.most o x
+            → StandsFor (run_of (noticed M.sight M.next))
+            (λ p. outcome result.layers.items result.rows.items p (M.Memory.place_of p)) result.steps o x }
+        ensures marks { marks_of (hops result.layers.items) (map outcome_of result.rows.items)
+            ≡ marks_of (hops self.layers.items) (map outcome_of self.rows.items) }
     {
         let Unfinished {
             layers,
@@ -147,7 +187,13 @@ pub fn summarise<M: Machine>(
 ) -> Result<Table<M::Memory>, AllocError>
     requires accepted { malformed_step (record { opening = opening.now; steps = steps.now }) ≡ None }
     requires few { length steps.now ≤ 268435456 }
-    ensures { IfOk result (λ t. StandsFor (run_of (noticed M.sight M.next)) (λ p. outcome t.layers.items t.rows.items p (M.Memory.place_of p)) t.steps opening.now steps.now) }
+    ensures stands { IfOk result
+        (λ t. StandsFor (run_of (noticed M.sight M.next))
+        (λ p. outcome t.layers.items t.rows.items p (M.Memory.place_of p)) t.steps opening.now steps.now) }
+    ensures marks { IfOk result
+        (λ t. marks_of (hops t.layers.items) (map outcome_of t.rows.items)
+        ≤ shown_apart (run_of (noticed M.sight M.next)) M.Memory.COUNT M.Memory.place_of M.Memory.nth_of
+        opening.now steps.now) }
 {
     let mut table = Unfinished::<M>::new(alloc)?;
     let mut view = View::new(opening);
@@ -192,6 +238,7 @@ impl<P: Places> Table<P> {
     pub fn unit(alloc: Global) -> Result<Table<P>, AllocError>
         ensures outcomes { IfOk result (λ t. (p : P) → outcome t.layers.items t.rows.items p (P.place_of p) ≡ unmoved p) }
         ensures counted { IfOk result (λ t. t.steps ≡ 0) }
+        ensures marks { IfOk result (λ t. marks_of (hops t.layers.items) (map outcome_of t.rows.items) ≡ 0) }
     {
         let all = memories::<P>(alloc)?;
         let rows = fresh_rows(alloc, all.as_slice())?;
@@ -211,6 +258,10 @@ impl<P: Places> Table<P> {
         requires { first.now.steps + second.now.steps ≤ 268435456 }
         ensures outcomes { IfOk result (λ t. (p : P) → let a = outcome first.now.layers.items first.now.rows.items p (P.place_of p) in outcome t.layers.items t.rows.items p (P.place_of p) ≡ followed first.now.steps a (outcome second.now.layers.items second.now.rows.items a.leaving (P.place_of a.leaving))) }
         ensures counted { IfOk result (λ t. t.steps ≡ first.now.steps + second.now.steps) }
+        ensures marks { IfOk result
+            (λ t. marks_of (hops t.layers.items) (map outcome_of t.rows.items)
+            ≤ marks_of (hops first.now.layers.items) (map outcome_of first.now.rows.items)
+            + marks_of (hops second.now.layers.items) (map outcome_of second.now.rows.items)) }
     {
         let mut layers = Vec::new(alloc);
         later_layers(alloc, &mut layers, first.layers.as_slice(), 0)?;
@@ -245,6 +296,9 @@ impl<P: Places> Table<P> {
         requires room { HasRoomFor room self.layers self.rows second.layers }
         ensures outcomes { (p : P) → let a = outcome self.layers.items self.rows.items p (P.place_of p) in outcome result.layers.items result.rows.items p (P.place_of p) ≡ followed self.steps a (outcome second.layers.items second.rows.items a.leaving (P.place_of a.leaving)) }
         ensures counted { result.steps ≡ self.steps + second.steps }
+        ensures marks { marks_of (hops result.layers.items) (map outcome_of result.rows.items)
+            ≡ marks_of (hops self.layers.items) (map outcome_of self.rows.items)
+            + marks_of (hops second.layers.items) (map outcome_of second.rows.items) }
     {
         let Table {
             steps,
@@ -268,6 +322,18 @@ impl<P: Places> Table<P> {
             layers,
             rows: ends,
         }
+    }
+
+    /// How many marks its lists hold together, or the greatest number.
+    pub fn stored(&self) -> u64
+        ensures { result ≡ min (marks_of (hops self.now.layers.items) (map outcome_of self.now.rows.items))
+            (2 ^ 64 - 1) }
+    {
+        let mut count = 0u64;
+        for layer in &self.layers {
+            count = count.saturating_add(marks_in_links(layer.as_slice()));
+        }
+        count.saturating_add(marks_in_rows(self.rows.as_slice()))
     }
 
     /// Of how many steps it is.

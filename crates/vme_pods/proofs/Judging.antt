@@ -1,9 +1,9 @@
 -- What workers find, where something else is told.
-use Rattle.std.proofs.Common.{◌≡◌, ◌≤◌, ◌<◌, ◌↔◌, ℕ, suc, List, length, Bool, true, false, Result, Ok, Err, refl, sym, subst, arith}
+use Rattle.std.proofs.Common.{◌≡◌, ◌≤◌, ◌<◌, ◌↔◌, ℕ, suc, List, Bool, true, false, Result, Ok, Err, refl, sym, subst, arith}
 use Rattle.std.specs.Prelude.{nat_lt, if◌then◌else◌, Option, Some}
 use Rattle.std.proofs.lemmas.Bool.Decides.{nat_tests}
 use Rattle.vme_answer.specs.Answers.{Gives, answer_by, answer_of, judgement_of, verdict_in_blocks}
-use Rattle.vme_answer.specs.Ends.{Read, Tells, Written}
+use Rattle.vme_answer.specs.Ends.{Tells}
 use Rattle.vme_answer.specs.declared.refusal.Refusal.{Refusal}
 use Rattle.vme_answer.specs.declared.refusal.Refusal.TheVariants as refused
 use Rattle.vme_answer.proofs.EndLemmas.{Does-exact, Does-unwritten, given_is, refusal_status-small, verdict_status-small}
@@ -12,7 +12,8 @@ use Rattle.vme_floor.specs.declared.report.RunFault.{RunFault}
 use Rattle.vme_pods.specs.Judgements.{ChecksByPods, Finds, IsPassing, NeedsThreads, pods_answer_by}
 use Rattle.vme_pods.specs.declared.unjudged.Unjudged.{Unjudged}
 use Rattle.vme_pods.specs.declared.unjudged.Unjudged.TheVariants.{Refused, NoWorker, Stray}
-use Rattle.vme_stream.specs.Inputs.{most_reads}
+use Rattle.vme_stream.specs.Inputs.{TellsWhole}
+use Rattle.vme_trace.specs.Streams.{Reading, Writing}
 use Rattle.vme_trace.specs.Blocks.{block_count}
 use Rattle.vme_trace.specs.Trace.{Trace}
 use Rattle.vme_trace.specs.Verdict.{verdict_by, rules_in_force}
@@ -76,13 +77,13 @@ told_as_checked there (Err Stray) finds other = absurd (other refl)
 abbrev MayFind : ℕ → ℕ → Option (List ℕ) → Option (List ℕ) → Result Verdict Unjudged → Type 0
 MayFind block workers b d found = Finds found (judgement_of b d block) × NeedsThreads workers found
 
-pub Checks-unwritten : (binding dump : Read) (block workers : ℕ) (out err : Written) (status : ℕ) → ChecksByPods binding dump block workers out err status
-    → (status ≡ 5) ↔ (out.failures ≡ suc out.failed)
+pub Checks-unwritten : (binding dump : Reading × Reading) (block workers : ℕ) (out err : Writing × Writing) (status : ℕ) → ChecksByPods binding dump block workers out err status
+    → (status ≡ 5) ↔ (out.1.failures ≡ suc out.0.failures)
 Checks-unwritten binding dump block workers out err status = Does-unwritten pods_answer_by pods_answer_by-small (MayFind block workers) binding dump out err status
 
-pub Checks-exact : (binding dump : Read) (block workers : ℕ) (out err : Written) (status : ℕ) → ChecksByPods binding dump block workers out err status
-    → (b d : List ℕ) → binding.told ≡ Some b → dump.told ≡ Some d → length b < most_reads → length d < most_reads
-    → binding.failures ≡ binding.failed → dump.failures ≡ dump.failed → out.failures ≡ out.failed → (status ≡ 4 → ⊥)
+pub Checks-exact : (binding dump : Reading × Reading) (block workers : ℕ) (out err : Writing × Writing) (status : ℕ) → ChecksByPods binding dump block workers out err status
+    → (b d : List ℕ) → TellsWhole binding.0 binding.1 b → TellsWhole dump.0 dump.1 d
+    → out.1.failures ≡ out.0.failures → (status ≡ 4 → ⊥)
     → Tells (answer_of (Some b) (Some d) block) out err status
 Checks-exact binding dump block workers out err status checks b d =
     Does-exact pods_answer_by pods_answer_by-small (MayFind block workers) binding dump out err status checks b d (answer_of (Some b) (Some d) block)

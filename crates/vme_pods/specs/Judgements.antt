@@ -1,15 +1,17 @@
 -- What workers find of a recording, and how it is told.
 use Rattle.std.specs.Prelude.{◌≡◌, ◌<◌, ℕ, [], List, codes, IfErr, Result, Ok, Err}
 use Rattle.vme_answer.specs.Answers.{Answer, Gives, answer_by, judgement_of}
-use Rattle.vme_answer.specs.Ends.{Does, Read, Written}
+use Rattle.vme_answer.specs.Ends.{Does}
 use Rattle.vme_answer.specs.Texts.{line_of, refusal_status, refusal_text}
 use Rattle.vme_answer.specs.declared.refusal.Refusal.{Refusal}
 use Rattle.vme_answer.specs.declared.refusal.Refusal.TheVariants.{Memory}
 use Rattle.vme_pods.specs.declared.unjudged.Unjudged.{Unjudged}
 use Rattle.vme_pods.specs.declared.unjudged.Unjudged.TheVariants.{Refused, NoWorker, Stray}
+use Rattle.vme_trace.specs.Streams.{Reading, Writing}
 use Rattle.vme_trace.specs.declared.verdict.Verdict.{Verdict}
 
--- what workers find is what there is to tell, unless there was no memory, a thread couldn't be started, or a block was stray
+-- what workers find is what there is to tell, unless there was no memory, a thread couldn't be started, or a block was
+-- stray
 abbrev pub Finds : Result Verdict Unjudged → Result Verdict Refusal → Type 0
 Finds (Ok verdict) there = there ≡ Ok verdict
 Finds (Err (Refused refusal)) there = Gives (λ (v : Verdict). v) (Err refusal) there
@@ -41,9 +43,12 @@ unjudged_status Stray = 4
 
 abbrev pub pods_answer_by : Result Verdict Unjudged → Answer
 pods_answer_by (Ok verdict) = answer_by (Ok verdict)
-pods_answer_by (Err unjudged) = record { out = []; error = line_of (unjudged_text unjudged); status = unjudged_status unjudged }
+pods_answer_by (Err unjudged) =
+    record { out = []; error = line_of (unjudged_text unjudged); status = unjudged_status unjudged }
 
 -- What the inputs say is judged by so many workers: what they find is told as a check tells it.
-abbrev pub ChecksByPods : Read → Read → ℕ → ℕ → Written → Written → ℕ → Type 0
+abbrev pub ChecksByPods : Reading × Reading → Reading × Reading → ℕ → ℕ
+    → Writing × Writing → Writing × Writing → ℕ → Type 0
 ChecksByPods binding dump block workers out err status =
-    Does pods_answer_by (λ b d found. Finds found (judgement_of b d block) × NeedsThreads workers found) binding dump out err status
+    Does pods_answer_by (λ b d found. Finds found (judgement_of b d block) × NeedsThreads workers found)
+    binding dump out err status

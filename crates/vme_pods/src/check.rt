@@ -1,10 +1,10 @@
 //! The check of one recording by workers.
 
-ghost use Rattle.std.specs.Prelude.{◌≡◌, ◌≢◌, ◌≤◌, ◌<◌, ◌↔◌, ℕ, suc, List, length, Option, Some};
+ghost use Rattle.std.specs.Prelude.{◌≡◌, ◌≢◌, ◌≤◌, ◌↔◌, ℕ, suc, List, Option, Some};
 ghost use Rattle.vme_answer.specs.Answers.{answer_of, judgement_of};
 ghost use Rattle.vme_answer.specs.Ends.{Tells};
 ghost use Rattle.vme_pods.specs.Judgements.{ChecksByPods, Finds, NeedsThreads};
-ghost use Rattle.vme_stream.specs.Inputs.{IsReading, most_reads};
+ghost use Rattle.vme_stream.specs.Inputs.{IsReading, TellsWhole};
 
 use crate::judge::{Plan, verdict_by_pods};
 use crate::unjudged::Unjudged;
@@ -32,23 +32,16 @@ pub fn check_by_pods<R: Threads + Wait + Sync, B: Source, D: Source, O: Sink, E:
     requires block { (1 ≤ plan.block) × (plan.block ≤ 65536) }
     requires workers { (1 ≤ plan.workers) × (plan.workers ≤ 64) }
     ensures answer { ChecksByPods
-        (record { told = B.remaining binding.old; failed = B.failures binding.old; failures = B.failures binding.new })
-        (record { told = D.remaining dump.old; failed = D.failures dump.old; failures = D.failures dump.new })
-        plan.block plan.workers
-        (record { before = O.contents out.old; failed = O.failures out.old; after = O.contents out.new; failures = O.failures out.new })
-        (record { before = E.contents err.old; failed = E.failures err.old; after = E.contents err.new; failures = E.failures err.new })
-        result }
-    ensures unwritten { (result ≡ 5) ↔ (O.failures out.new ≡ suc (O.failures out.old)) }
+        (B.reading binding.old, B.reading binding.new) (D.reading dump.old, D.reading dump.new) plan.block plan.workers
+        (O.writing out.old, O.writing out.new) (E.writing err.old, E.writing err.new) result }
+    ensures unwritten { (result ≡ 5) ↔ ((O.writing out.new).failures ≡ suc (O.writing out.old).failures) }
 
     // Inputs that are told whole, no failure, and a status other than 4 give exactly the answer of a check.
-    ensures exact { (b d : List ℕ) → B.remaining binding.old ≡ Some b → D.remaining dump.old ≡ Some d
-        → length b < most_reads → length d < most_reads
-        → B.failures binding.new ≡ B.failures binding.old → D.failures dump.new ≡ D.failures dump.old
-        → O.failures out.new ≡ O.failures out.old → result ≢ 4
+    ensures exact { (b d : List ℕ) → TellsWhole (B.reading binding.old) (B.reading binding.new) b
+        → TellsWhole (D.reading dump.old) (D.reading dump.new) d
+        → (O.writing out.new).failures ≡ (O.writing out.old).failures → result ≢ 4
         → Tells (answer_of (Some b) (Some d) plan.block)
-        (record { before = O.contents out.old; failed = O.failures out.old; after = O.contents out.new; failures = O.failures out.new })
-        (record { before = E.contents err.old; failed = E.failures err.old; after = E.contents err.new; failures = E.failures err.new })
-        result }
+        (O.writing out.old, O.writing out.new) (E.writing err.old, E.writing err.new) result }
 {
     answer(rt, alloc, binding, dump, plan, out, err)
 }
@@ -65,12 +58,8 @@ fn answer<R: Threads + Wait + Sync, B: Source, D: Source, O: Sink, E: Sink>(
     requires block { (1 ≤ plan.block) × (plan.block ≤ 65536) }
     requires workers { (1 ≤ plan.workers) × (plan.workers ≤ 64) }
     ensures { ChecksByPods
-        (record { told = B.remaining binding.old; failed = B.failures binding.old; failures = B.failures binding.new })
-        (record { told = D.remaining dump.old; failed = D.failures dump.old; failures = D.failures dump.new })
-        plan.block plan.workers
-        (record { before = O.contents out.old; failed = O.failures out.old; after = O.contents out.new; failures = O.failures out.new })
-        (record { before = E.contents err.old; failed = E.failures err.old; after = E.contents err.new; failures = E.failures err.new })
-        result }
+        (B.reading binding.old, B.reading binding.new) (D.reading dump.old, D.reading dump.new) plan.block plan.workers
+        (O.writing out.old, O.writing out.new) (E.writing err.old, E.writing err.new) result }
 {
     match judge(rt, alloc, binding, dump, plan) {
         Ok(verdict) => tell_verdict(&verdict, out, err),
@@ -92,8 +81,8 @@ fn judge<R: Threads + Wait + Sync, B: Source, D: Source>(
     requires block { (1 ≤ plan.block) × (plan.block ≤ 65536) }
     requires workers { (1 ≤ plan.workers) × (plan.workers ≤ 64) }
     ensures { (binding_bytes dump_bytes : Option (List ℕ))
-        × IsReading (B.remaining binding.old) (B.failures binding.old) (B.failures binding.new) binding_bytes
-        × IsReading (D.remaining dump.old) (D.failures dump.old) (D.failures dump.new) dump_bytes
+        × IsReading (B.reading binding.old) (B.reading binding.new) binding_bytes
+        × IsReading (D.reading dump.old) (D.reading dump.new) dump_bytes
         × Finds result (judgement_of binding_bytes dump_bytes plan.block) × NeedsThreads plan.workers result }
 {
     match capture_from(alloc, binding, dump) {

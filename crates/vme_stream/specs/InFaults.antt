@@ -1,10 +1,11 @@
--- What a read that failed, or one for which there was no memory, leaves of the count of failures.
-use Rattle.std.specs.Prelude.{◌≡◌, ℕ, suc}
+-- What one more read leaves of the counts, where it gave no bytes for a fault.
+use Rattle.std.specs.Prelude.{◌≡◌, suc}
+use Rattle.vme_trace.specs.Streams.{Reading}
 use Rattle.vme_stream.specs.declared.input.InFault.{InFault}
 use Rattle.vme_stream.specs.declared.input.InFault.TheVariants.{Read, TooLong, Memory}
 
--- one read failed, or there was no memory for it
-abbrev pub CountsRead : ℕ → ℕ → InFault → Type 0
-CountsRead failed failures Read = failures ≡ suc failed
-CountsRead failed failures TooLong = ⊥
-CountsRead failed failures Memory = failures ≡ failed
+-- it failed, or there was no memory for it
+abbrev pub FailsBy : Reading → Reading → InFault → Type 0
+FailsBy old new Read = new.failures ≡ suc old.failures
+FailsBy old new TooLong = ⊥
+FailsBy old new Memory = new.failures ≡ old.failures

@@ -1,15 +1,16 @@
 -- What a writer takes.
-use Rattle.std.specs.Prelude.{◌≡◌, ◌⊎◌, ℕ, suc, List, take, Option}
+use Rattle.std.specs.Prelude.{◌≡◌, ◌⊎◌, ℕ, suc, List, take}
 use Rattle.std.specs.Io.KnownBytes.{Appends}
+use Rattle.vme_trace.specs.Streams.{Writing}
 
 -- all of a text was taken, and no write failed
-abbrev pub Writes : Option (List ℕ) → ℕ → Option (List ℕ) → ℕ → List ℕ → Type 0
-Writes before failed after failures text = Appends before after text × (failures ≡ failed)
+abbrev pub Writes : Writing → Writing → List ℕ → Type 0
+Writes old new text = Appends old.taken new.taken text × (new.failures ≡ old.failures)
 
 -- a write failed once the first of a text was taken, and none was made after it
-abbrev pub FailsToWrite : Option (List ℕ) → ℕ → Option (List ℕ) → ℕ → List ℕ → Type 0
-FailsToWrite before failed after failures text = ((n : ℕ) × Appends before after (take n text)) × (failures ≡ suc failed)
+abbrev pub FailsToWrite : Writing → Writing → List ℕ → Type 0
+FailsToWrite old new text = ((n : ℕ) × Appends old.taken new.taken (take n text)) × (new.failures ≡ suc old.failures)
 
 -- all of a text was taken, or a write failed
-abbrev pub TriesToWrite : Option (List ℕ) → ℕ → Option (List ℕ) → ℕ → List ℕ → Type 0
-TriesToWrite before failed after failures text = Writes before failed after failures text ⊎ FailsToWrite before failed after failures text
+abbrev pub TriesToWrite : Writing → Writing → List ℕ → Type 0
+TriesToWrite old new text = Writes old new text ⊎ FailsToWrite old new text

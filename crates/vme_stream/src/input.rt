@@ -1,10 +1,11 @@
 //! Reading a source to its end.
 
-ghost use Rattle.std.specs.Prelude.{◌≡◌, ◌≢◌, ℕ, suc, ◌+◌, ◌≤◌, ◌<◌, List, length, take, drop, Some, None, Err, IfOk, IfErr, OnOk, OnErr, vec_len};
-ghost use Rattle.std.specs.Io.KnownBytes.{Consumes, IsAtEnd, Keeps};
+ghost use Rattle.std.specs.Prelude.{◌≡◌, ◌≢◌, ℕ, ◌+◌, ◌≤◌, ◌<◌, List, length, take, drop, Some, None, Err, IfOk, IfErr, OnOk, vec_len};
+ghost use Rattle.std.specs.Io.KnownBytes.{Consumes, IsAtEnd};
 ghost use Rattle.vme_stream.specs.declared.input.InFault.TheVariants.{Memory};
-ghost use Rattle.vme_stream.specs.Inputs.{IsReading, longest_input};
-ghost use Rattle.vme_stream.specs.InFaults.{CountsRead};
+ghost use Rattle.vme_stream.specs.Inputs.{IsInTime, IsReading, longest_input, most_reads};
+ghost use Rattle.vme_stream.specs.InFaults.{FailsBy};
+ghost use Rattle.vme_trace.specs.Streams.{CountsFailure, CountsRead};
 
 use std::alloc::{AllocError, Global};
 use thiserror::Error;
@@ -13,7 +14,7 @@ use vme_trace::{Failed, Source};
 /// Why the bytes of a source can't be had.
 #[derive(Clone, Copy, Debug, Error, PartialEq, Eq)]
 pub enum InFault {
-    /// A read failed, or 16,777,216 reads didn't reach the end.
+    /// A read failed, or 16,777,216 reads gave bytes and didn't reach the end.
     #[error("Read")]
     Read,
     /// There are over 268,435,456 bytes.
@@ -35,23 +36,32 @@ impl From<AllocError> for InFault {
 /// How many bytes an input has at most.
 const LONGEST: usize = 268_435_456;
 
-/// After so many reads that didn't reach the end reading is given up.
+/// After so many reads that gave bytes and didn't reach the end reading is given up.
 const MOST_READS: u32 = 16_777_216;
 
 /// How many bytes one read takes at most.
 const CHUNK: usize = 131_072;
 
 /// Reads a source to its end. At most 16,777,216 reads are made.
+///
+/// The answer is Read exactly where a read failed, or so many gave bytes; else it is TooLong where there are more than 268,435,456
+/// bytes, and the bytes where there aren't, unless there is no memory.
 pub fn read_all<R: Source>(alloc: Global, source: &mut R) -> Result<Vec<u8>, InFault>
-    ensures bytes { IfOk result (λ v. IsReading (R.remaining source.old) (R.failures source.old) (R.failures source.new) (Some v.items)) }
+    ensures bytes { IfOk result (λ v. IsReading (R.reading source.old) (R.reading source.new) (Some v.items)) }
     ensures short { IfOk result (λ v. vec_len v ≤ longest_input) }
-    ensures read { result ≡ Err InFault.Read → IsReading (R.remaining source.old) (R.failures source.old) (R.failures source.new) None }
-    ensures too_long { result ≡ Err InFault.TooLong → (bytes : List ℕ) × (longest_input < length bytes) × IsReading (R.remaining source.old) (R.failures source.old) (R.failures source.new) (Some bytes) }
-    ensures memory { result ≡ Err InFault.Memory → R.failures source.new ≡ R.failures source.old }
+    ensures read { result ≡ Err InFault.Read → IsReading (R.reading source.old) (R.reading source.new) None }
+    ensures too_long { result ≡ Err InFault.TooLong
+        → (bytes : List ℕ) × (longest_input < length bytes)
+        × IsReading (R.reading source.old) (R.reading source.new) (Some bytes) }
+    ensures memory { result ≡ Err InFault.Memory → IsInTime (R.reading source.old) (R.reading source.new) }
+    ensures bound { (R.reading source.new).reads ≤ (R.reading source.old).reads + most_reads }
 {
     let mut bytes = Vec::new(alloc);
     let mut filled = 0;
     for _ in 0..MOST_READS {
+        if filled > LONGEST {
+            return Err(InFault::TooLong);
+        }
         let count = match read_chunk(source, &mut bytes, filled) {
             Ok(count) => count,
             Err(fault) => return Err(fault),
@@ -61,9 +71,6 @@ pub fn read_all<R: Source>(alloc: Global, source: &mut R) -> Result<Vec<u8>, InF
             return Ok(bytes);
         }
         filled += count;
-        if filled > LONGEST {
-            return Err(InFault::TooLong);
-        }
     }
     Err(InFault::Read)
 }
@@ -78,10 +85,12 @@ fn read_chunk<R: Source>(
     requires short { filled ≤ longest_input }
     ensures front { take filled bytes.new.items ≡ take filled bytes.old.items }
     ensures fits { IfOk result (λ n. filled + n ≤ vec_len bytes.new) }
-    ensures bytes { IfOk result (λ n. Consumes (R.remaining source.old) (R.remaining source.new) (take n (drop filled bytes.new.items))) }
-    ensures end { IfOk result (λ n. n ≡ 0 → IsAtEnd (R.remaining source.new)) }
-    ensures ok { OnOk result (R.failures source.new ≡ R.failures source.old) }
-    ensures err { IfErr result (CountsRead (R.failures source.old) (R.failures source.new)) }
+    ensures bytes { IfOk result (λ n.
+        Consumes (R.reading source.old).left (R.reading source.new).left (take n (drop filled bytes.new.items))) }
+    ensures end { IfOk result (λ n. n ≡ 0 → IsAtEnd (R.reading source.new).left) }
+    ensures reads { CountsRead (R.reading source.old).reads (R.reading source.new).reads result }
+    ensures ok { OnOk result ((R.reading source.new).failures ≡ (R.reading source.old).failures) }
+    ensures err { IfErr result (FailsBy (R.reading source.old) (R.reading source.new)) }
 {
     make_room(bytes, filled)?;
     read_at(source, bytes.as_mut_slice(), filled).map_err(|_| InFault::Read)
@@ -104,10 +113,11 @@ fn read_at<R: Source>(source: &mut R, buffer: &mut [u8], at: usize) -> Result<us
     requires { at < length buffer.old }
     ensures front { take at buffer.new ≡ take at buffer.old }
     ensures fits { IfOk result (λ n. at + n ≤ length buffer.new) }
-    ensures ok { IfOk result (λ n. Consumes (R.remaining source.old) (R.remaining source.new) (take n (drop at buffer.new))) }
-    ensures end { IfOk result (λ n. n ≡ 0 → IsAtEnd (R.remaining source.new)) }
-    ensures failures { OnOk result (R.failures source.new ≡ R.failures source.old) }
-    ensures failed { OnErr result (R.failures source.new ≡ suc (R.failures source.old)) }
+    ensures ok { IfOk result (λ n.
+        Consumes (R.reading source.old).left (R.reading source.new).left (take n (drop at buffer.new))) }
+    ensures end { IfOk result (λ n. n ≡ 0 → IsAtEnd (R.reading source.new).left) }
+    ensures reads { CountsRead (R.reading source.old).reads (R.reading source.new).reads result }
+    ensures failures { CountsFailure (R.reading source.old).failures (R.reading source.new).failures result }
 {
     source.read(&mut buffer[at..])
 }

@@ -11,36 +11,46 @@ use vme_trace::{Failed, Sink, Source};
 /// How often a read or a write that a signal interrupts is tried.
 const MOST_TRIES: u32 = 1_000_000;
 
-/// A reader or a writer of std's, and how many of its calls have failed.
+/// A reader or a writer of std's, how many of its reads gave bytes, and how many of its calls have failed.
 ///
 /// The bytes that it tells are those that the reader or the writer tells.
 #[derive(Drop)]
 pub struct Io<T> {
     inner: T,
+    reads: Count,
     failures: Count,
 }
 
 impl<T> Io<T> {
-    /// A reader or a writer, of which no call has failed.
+    /// A reader or a writer, of which no call was made.
     pub fn new(inner: T) -> Io<T>
         ensures inner { result.inner ≡ inner }
+        ensures reads { result.reads.number ≡ 0 }
         ensures failures { result.failures.number ≡ 0 }
     {
         Io {
             inner,
+            reads: Count::new(),
             failures: Count::new(),
         }
     }
 }
 
 impl<T: Read> Source for Io<T> {
-    ghost remaining = { λ io. T.remaining io.inner };
-
-    ghost failures = { λ io. io.failures.number };
+    ghost reading = { λ io. record {
+      left = T.remaining io.inner;
+      reads = io.reads.number;
+      failures = io.failures.number;
+    } };
 
     fn read(&mut self, buffer: &mut [u8]) -> Result<usize, Failed> {
         match read_retrying(&mut self.inner, buffer) {
-            Ok(count) => Ok(count),
+            Ok(count) => {
+                if count > 0 {
+                    self.reads = self.reads.next();
+                }
+                Ok(count)
+            }
             Err(failed) => {
                 self.failures = self.failures.next();
                 Err(failed)
@@ -50,9 +60,7 @@ impl<T: Read> Source for Io<T> {
 }
 
 impl<T: Write> Sink for Io<T> {
-    ghost contents = { λ io. T.contents io.inner };
-
-    ghost failures = { λ io. io.failures.number };
+    ghost writing = { λ io. record { taken = T.contents io.inner; failures = io.failures.number } };
 
     fn write(&mut self, bytes: &[u8]) -> Result<usize, Failed> {
         match write_retrying(&mut self.inner, bytes) {
@@ -110,26 +118,32 @@ fn write_retrying<W: Write>(writer: &mut W, bytes: &[u8]) -> Result<usize, Faile
 #[derive(Drop)]
 pub struct Bytes<'a> {
     left: &'a [u8],
+    reads: Count,
 }
 
 impl<'a> Bytes<'a> {
     /// All bytes of the slice.
     pub fn new(bytes: &'a [u8]) -> Bytes<'a>
-        ensures { result.left.now ≡ bytes.entry.now }
+        ensures left { result.left.now ≡ bytes.entry.now }
+        ensures reads { result.reads.number ≡ 0 }
     {
-        Bytes { left: bytes }
+        Bytes {
+            left: bytes,
+            reads: Count::new(),
+        }
     }
 }
 
 impl Source for Bytes<'_> {
-    ghost remaining = { λ s. Some s.left.now };
-
-    ghost failures = { λ _. 0 };
+    ghost reading = { λ s. record { left = Some s.left.now; reads = s.reads.number; failures = 0 } };
 
     fn read(&mut self, buffer: &mut [u8]) -> Result<usize, Failed> {
         let count = self.left.len().min(buffer.len());
         buffer[..count].copy_from_slice(&self.left[..count]);
         self.left = &self.left[count..];
+        if count > 0 {
+            self.reads = self.reads.next();
+        }
         Ok(count)
     }
 }

@@ -10,6 +10,8 @@ mod input;
 mod io;
 mod message;
 mod output;
+#[cfg(test)]
+mod tests;
 
 pub use input::{InFault, read_all};
 pub use io::{Bytes, Io};

@@ -8,9 +8,8 @@ use vme_trace::{Failed, Sink};
 
 /// Writes all of some bytes. After a failure the first of them went out.
 pub fn write_all<W: Sink>(sink: &mut W, bytes: &[u8]) -> Result<(), Failed>
-    ensures { MatchResult result
-        (λ _. Writes (W.contents sink.old) (W.failures sink.old) (W.contents sink.new) (W.failures sink.new) bytes.now)
-        (λ _. FailsToWrite (W.contents sink.old) (W.failures sink.old) (W.contents sink.new) (W.failures sink.new) bytes.now) }
+    ensures { MatchResult result (λ _. Writes (W.writing sink.old) (W.writing sink.new) bytes.now)
+        (λ _. FailsToWrite (W.writing sink.old) (W.writing sink.new) bytes.now) }
 {
     let mut rest = bytes;
     while !rest.is_empty() {
@@ -24,16 +23,15 @@ pub fn write_all<W: Sink>(sink: &mut W, bytes: &[u8]) -> Result<(), Failed>
 
 /// Writes all of a message. After a failure the first of its bytes went out.
 pub fn write_message<W: Sink>(sink: &mut W, message: Message) -> Result<(), Failed>
-    ensures { MatchResult result
-        (λ _. Writes (W.contents sink.old) (W.failures sink.old) (W.contents sink.new) (W.failures sink.new) message)
-        (λ _. FailsToWrite (W.contents sink.old) (W.failures sink.old) (W.contents sink.new) (W.failures sink.new) message) }
+    ensures { MatchResult result (λ _. Writes (W.writing sink.old) (W.writing sink.new) message)
+        (λ _. FailsToWrite (W.writing sink.old) (W.writing sink.new) message) }
 {
     write_all(sink, message.as_bytes())
 }
 
 /// Writes why a command has no answer. Where that fails, nothing else is done.
 pub fn complain<W: Sink>(sink: &mut W, line: Message)
-    ensures { TriesToWrite (W.contents sink.old) (W.failures sink.old) (W.contents sink.new) (W.failures sink.new) line }
+    ensures { TriesToWrite (W.writing sink.old) (W.writing sink.new) line }
 {
     let _ = write_message(sink, line);
 }

@@ -18,3 +18,4 @@ pub mod MarkedRowsFound
 pub mod MarkedListing
 pub mod Listed
 pub mod Progressing
+pub mod Watching

@@ -18,6 +18,7 @@
 mod cut;
 mod extent;
 mod found;
+pub mod judge;
 pub mod judged;
 mod judging;
 #[cfg(test)]
@@ -29,10 +30,12 @@ pub mod progress;
 mod rows;
 pub mod span;
 mod summary;
+mod taken;
 #[cfg(test)]
 mod tests;
 
 pub use cut::{listing_by_blocks, verdict_by_blocks};
+pub use judge::{Judge, NoVerdict};
 pub use judged::{Judged, judge_block};
 pub use progress::Progress;
 pub use span::{JoinFault, Span, append, join, joined_blocks_are_sound};

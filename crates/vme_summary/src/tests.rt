@@ -1,4 +1,5 @@
 use crate::cut::verdict_by_blocks;
+use crate::judge::Judge;
 use crate::judged::{Judged, judge_block};
 use crate::listing_tests::assert_rows;
 use crate::span::{JoinFault, Span, join};
@@ -7,8 +8,8 @@ use std::alloc::Global;
 use std::process::Abort;
 use std::test::Fail;
 use vme_trace::{
-    Block, Break, Capture, Change, Changes, CutFault, Level, Line, Lines, Rule, Step, Steps,
-    Verdict,
+    Block, Break, Capture, Change, Changes, CutFault, Follower, Level, Line, Lines, Rule, Step,
+    Steps, Verdict,
 };
 
 /// How a recording starts: its slots, the levels of its opening, and its first steps. A step is the lines that change, with their
@@ -349,6 +350,23 @@ fn verdict_in(alloc: Global, capture: &Capture, size: u32) -> Result<Verdict, Cu
     }
 }
 
+/// The verdict on a recording whose steps come one after the other.
+fn verdict_as_made(
+    rt: &impl Abort,
+    alloc: Global,
+    capture: &Capture,
+    size: u32,
+) -> Result<Verdict, Fail> {
+    assert!(rt; size >= 1 && size <= 65536);
+    let other = Lines::new(1).ok_or("no such backplane")?;
+    let mut judge = Judge::new(alloc, &other);
+    judge.open(capture.opening());
+    for step in capture.steps() {
+        judge.step(alloc, step.copy(alloc)?)?;
+    }
+    Ok(judge.verdict(alloc, size).ok().ok_or("no verdict")?)
+}
+
 /// A recording gets its verdict, whatever the size of the blocks.
 fn assert_verdict(
     rt: &impl Abort,
@@ -361,6 +379,11 @@ fn assert_verdict(
             verdict_in(alloc, capture, size)?,
             verdict,
             "in blocks of {size}"
+        );
+        assert_eq!(rt;
+            verdict_as_made(rt, alloc, capture, size)?,
+            verdict,
+            "as it is made, in blocks of {size}"
         );
     }
     Ok(())

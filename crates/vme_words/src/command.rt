@@ -194,7 +194,7 @@ fn block_option<'a>(alloc: Global) -> Arg<'a>
         .long("block")
         .value_parser(value_parser!(u32).range(1..=65536))
         .default_value("16384")
-        .help("How many steps are judged at once, 1 to 65536")
+        .help("How many steps a block has, 1 to 65536")
 }
 
 fn workers_option<'a>(alloc: Global) -> Arg<'a>
@@ -205,7 +205,7 @@ fn workers_option<'a>(alloc: Global) -> Arg<'a>
         .long("workers")
         .value_parser(value_parser!(u32).range(1..=64))
         .default_value("4")
-        .help("How many workers judge, 1 to 64")
+        .help("How many workers judge, 1 to 64; one judges as yet, and this changes nothing")
 }
 
 fn file<'a>(alloc: Global, name: &'a str, help: &'a str) -> Arg<'a>

@@ -11,8 +11,8 @@ use Rattle.vme_cert.specs.declared.compare.Answer.{Answer as Confirmation}
 use Rattle.vme_cert.specs.declared.compare.Answer.TheVariants.{Yes, No}
 use Rattle.vme_answer.specs.Answers.{Answer, Gives, binding_read, dump_read, recorded_by}
 use Rattle.vmecheck.specs.Confirmations.{Confirms, GivesConfirmation, GivesRows, IsConfirmation, IsFound, IsListing, compared, compared_with, confirmation_answer_by, confirmation_status, listing_text, TellsConfirmation}
-use Rattle.vme_answer.specs.Ends.{Read, Written, Tells, Ends}
-use Rattle.vme_stream.specs.Inputs.{IsReading, longest_input, most_reads}
+use Rattle.vme_answer.specs.Ends.{Tells, Ends}
+use Rattle.vme_stream.specs.Inputs.{IsInTime, IsReading, TellsWhole, longest_input}
 use Rattle.vme_answer.specs.Refusals.{refused}
 use Rattle.vme_stream.specs.declared.input.InFault.{InFault}
 use Rattle.vme_stream.specs.declared.input.InFault.TheVariants as read
@@ -21,7 +21,8 @@ use Rattle.vme_answer.specs.declared.refusal.Refusal.{Refusal}
 use Rattle.vme_answer.specs.declared.refusal.Refusal.TheVariants.{TooLong, Memory}
 use Rattle.vme_answer.proofs.AnswerLemmas.{too_long_is}
 use Rattle.vme_answer.proofs.EndLemmas.{not_both, read_is, refusal_status-small, unwritten_by}
-use Rattle.vme_stream.proofs.InputLemmas.{unread}
+use Rattle.vme_stream.proofs.InputLemmas.{in_time}
+use Rattle.vme_trace.specs.Streams.{Reading, Writing}
 
 pub binding_lacks : (binding : Result BoundLines Refusal) (dump : Result Contents Refusal) (listing : Result (List Row) Refusal) (r : Refusal)
     → Gives (λ (b : BoundLines). b) (Err r) binding → GivesConfirmation (Err r) (compared binding dump listing)
@@ -53,17 +54,17 @@ pub listing_lacks : (recorded : Result Trace BindFault) (r : Refusal) → GivesC
 listing_lacks recorded Memory = tt
 listing_lacks recorded r = refl
 
-pub listing_refused : {A : Type 0} (told : Option (List ℕ)) (failed failures : ℕ) (result : Result A InFault) (fault : InFault) → result ≡ Err fault
-    → (result ≡ Err read.Read → IsReading told failed failures None)
-    → (result ≡ Err read.TooLong → (bytes : List ℕ) × (longest_input < length bytes) × IsReading told failed failures (Some bytes))
-    → (result ≡ Err read.Memory → failures ≡ failed)
-    → (bytes : Option (List ℕ)) × IsReading told failed failures bytes × GivesRows (listing_text bytes) (Err (refused Listing fault))
-listing_refused told failed failures result read.Read is cannot long memory = (None, cannot is, refl)
-listing_refused told failed failures result read.TooLong is cannot long memory =
+pub listing_refused : {A : Type 0} (old new : Reading) (result : Result A InFault) (fault : InFault) → result ≡ Err fault
+    → (result ≡ Err read.Read → IsReading old new None)
+    → (result ≡ Err read.TooLong → (bytes : List ℕ) × (longest_input < length bytes) × IsReading old new (Some bytes))
+    → (result ≡ Err read.Memory → IsInTime old new)
+    → (bytes : Option (List ℕ)) × IsReading old new bytes × GivesRows (listing_text bytes) (Err (refused Listing fault))
+listing_refused old new result read.Read is cannot long memory = (None, cannot is, refl)
+listing_refused old new result read.TooLong is cannot long memory =
     let found = long is in
     (Some found.0, found.2, subst (λ (w : Result (List ℕ) Refusal). GivesRows w (Err (TooLong Listing))) (sym (too_long_is Listing found.0 found.1)) refl)
-listing_refused told failed failures result read.Memory is cannot long memory =
-    let left = unread told failed failures (memory is) in
+listing_refused old new result read.Memory is cannot long memory =
+    let left = in_time old new (memory is) in
     (left.0, left.1, tt)
 
 confirmation_status-small : (found : Confirmation) → confirmation_status found ≤ 4
@@ -74,8 +75,8 @@ confirmation_answer_by-small : (found : Result Confirmation Refusal) → (confir
 confirmation_answer_by-small (Ok found) = confirmation_status-small found
 confirmation_answer_by-small (Err r) = refusal_status-small r
 
-pub Confirms-unwritten : (binding dump listing : Read) (out err : Written) (status : ℕ) → Confirms binding dump listing out err status
-    → (status ≡ 5) ↔ (out.failures ≡ suc out.failed)
+pub Confirms-unwritten : (binding dump listing : Reading × Reading) (out err : Writing × Writing) (status : ℕ) → Confirms binding dump listing out err status
+    → (status ≡ 5) ↔ (out.1.failures ≡ suc out.0.failures)
 Confirms-unwritten binding dump listing out err status confirms =
     let (binding_bytes, dump_bytes, listing_bytes, given, found, binding_read, dump_read, listing_read, rows, answered, end) = confirms in
     unwritten_by confirmation_answer_by confirmation_answer_by-small found out err status end
@@ -110,25 +111,24 @@ is_confirmation (Ok bound) (Ok contents) text given found memory rows is =
     λ lacks. memory (refused_alike found Memory (subst (λ (g : Result (List Row) Refusal). IsFound found (compared (Ok bound) (Ok contents) g)) lacks said)) in
     (given, none, is_listing text given none rows, said)
 
-was_told : (answer : Answer) (out err : Written) (status : ℕ) → Ends answer out err status → out.failures ≡ out.failed → Tells answer out err status
+was_told : (answer : Answer) (out err : Writing × Writing) (status : ℕ) → Ends answer out err status → out.1.failures ≡ out.0.failures → Tells answer out err status
 was_told answer out err status (inl told) same = told
-was_told answer out err status (inr failed) same = absurd (not_both out.failures out.failed same failed.out_is.1)
+was_told answer out err status (inr failed) same = absurd (not_both out.1.failures out.0.failures same failed.out_is.1)
 
 -- inputs that are told whole, and no failure, give exactly their answer
-pub Confirms-exact : (binding dump listing : Read) (out err : Written) (status : ℕ) → Confirms binding dump listing out err status
-    → (b d l : List ℕ) → binding.told ≡ Some b → dump.told ≡ Some d → listing.told ≡ Some l
-    → length b < most_reads → length d < most_reads → length l < most_reads
-    → binding.failures ≡ binding.failed → dump.failures ≡ dump.failed → listing.failures ≡ listing.failed → out.failures ≡ out.failed → (status ≡ 4 → ⊥)
+pub Confirms-exact : (binding dump listing : Reading × Reading) (out err : Writing × Writing) (status : ℕ) → Confirms binding dump listing out err status
+    → (b d l : List ℕ) → TellsWhole binding.0 binding.1 b → TellsWhole dump.0 dump.1 d → TellsWhole listing.0 listing.1 l
+    → out.1.failures ≡ out.0.failures → (status ≡ 4 → ⊥)
     → TellsConfirmation b d l out err status
-Confirms-exact binding dump listing out err status confirms b d l told_b told_d told_l short_b short_d short_l same_b same_d same_l same memory =
+Confirms-exact binding dump listing out err status confirms b d l told_b told_d told_l same memory =
     let (binding_bytes, dump_bytes, listing_bytes, given, found, binding_reading, dump_reading, listing_reading, rows, answered, end) = confirms in
     let told : Tells (confirmation_answer_by found) out err status = was_told (confirmation_answer_by found) out err status end same in
     let none : (found ≡ Err Memory → ⊥) =
     λ lacks. memory (told.status_is ∙ ap (λ (f : Result Confirmation Refusal). (confirmation_answer_by f).status) lacks) in
     let is = is_confirmation (binding_read binding_bytes) (dump_read dump_bytes) (listing_text listing_bytes) given found none rows answered in
-    let b_is : binding_bytes ≡ Some b = read_is binding binding_bytes b binding_reading told_b same_b short_b in
-    let d_is : dump_bytes ≡ Some d = read_is dump dump_bytes d dump_reading told_d same_d short_d in
-    let l_is : listing_bytes ≡ Some l = read_is listing listing_bytes l listing_reading told_l same_l short_l in
+    let b_is : binding_bytes ≡ Some b = read_is binding.0 binding.1 binding_bytes b binding_reading told_b in
+    let d_is : dump_bytes ≡ Some d = read_is dump.0 dump.1 dump_bytes d dump_reading told_d in
+    let l_is : listing_bytes ≡ Some l = read_is listing.0 listing.1 listing_bytes l listing_reading told_l in
     let with_b = subst (λ (x : Option (List ℕ)). IsConfirmation (binding_read x) (dump_read dump_bytes) (listing_text listing_bytes) found) b_is is in
     let with_d = subst (λ (x : Option (List ℕ)). IsConfirmation (binding_read (Some b)) (dump_read x) (listing_text listing_bytes) found) d_is with_b in
     let with_l = subst (λ (x : Option (List ℕ)). IsConfirmation (binding_read (Some b)) (dump_read (Some d)) (listing_text x) found) l_is with_d in

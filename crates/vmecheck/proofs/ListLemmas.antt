@@ -1,5 +1,5 @@
 -- How a listing ends, and what the steps of listing give.
-use Rattle.std.proofs.Common.{◌≡◌, ◌≤◌, ◌<◌, ◌↔◌, ℕ, suc, Bool, true, false, List, [], ◌∷◌, ◌++◌, ◌-◌, length, take, refl, ap, subst, ◌∙◌, arith}
+use Rattle.std.proofs.Common.{◌≡◌, ◌≤◌, ◌↔◌, ℕ, suc, Bool, true, false, List, [], ◌∷◌, ◌++◌, ◌-◌, length, take, refl, ap, subst, ◌∙◌, arith}
 use Rattle.std.specs.Io.KnownBytes.{Appends}
 use Rattle.std.specs.Prelude.{Option, Some, None, Result, Ok, Err, slice_get, if◌then◌else◌}
 use Rattle.std.specs.List.{last_or}
@@ -17,11 +17,12 @@ use Rattle.vme_listing.specs.declared.row.Row.TheVariants.{Start, Verdict}
 use Rattle.vme_answer.specs.declared.refusal.Refusal.{Refusal}
 use Rattle.vme_answer.specs.declared.refusal.Refusal.TheVariants.{Memory}
 use Rattle.vme_answer.specs.Answers.{Answer, Gives, capture_read}
-use Rattle.vme_answer.specs.Ends.{Read, Written, Tells}
+use Rattle.vme_answer.specs.Ends.{Tells}
 use Rattle.vme_answer.specs.Texts.{verdict_status}
 use Rattle.vme_answer.proofs.EndLemmas.{Does-exact, Does-unwritten, given_is, refusal_status-small, verdict_status-small}
 use Rattle.vme_listing.specs.Written.{AppendsFront}
-use Rattle.vme_stream.specs.Inputs.{most_reads}
+use Rattle.vme_stream.specs.Inputs.{TellsWhole}
+use Rattle.vme_trace.specs.Streams.{Reading, Writing}
 use Rattle.vme_stream.proofs.OutputLemmas.{front_is}
 use Rattle.vmecheck.specs.Listings.{GivesListing, Lists, in_blocks, listing_answer_by, listing_answer_of, listing_status, outcome_status, recording_of, row_status}
 
@@ -102,13 +103,13 @@ listing_answer_by-small (Err r) = refusal_status-small r
 abbrev MayList : ℕ → Option (List ℕ) → Option (List ℕ) → Result Trace Refusal → Type 0
 MayList block b d recording = Gives (λ (t : Trace). t) recording (recording_of b d block)
 
-pub Lists-unwritten : (binding dump : Read) (block : ℕ) (out err : Written) (status : ℕ) → Lists binding dump block out err status
-    → (status ≡ 5) ↔ (out.failures ≡ suc out.failed)
+pub Lists-unwritten : (binding dump : Reading × Reading) (block : ℕ) (out err : Writing × Writing) (status : ℕ) → Lists binding dump block out err status
+    → (status ≡ 5) ↔ (out.1.failures ≡ suc out.0.failures)
 Lists-unwritten binding dump block out err status = Does-unwritten listing_answer_by listing_answer_by-small (MayList block) binding dump out err status
 
-pub Lists-exact : (binding dump : Read) (block : ℕ) (out err : Written) (status : ℕ) → Lists binding dump block out err status
-    → (b d : List ℕ) → binding.told ≡ Some b → dump.told ≡ Some d → length b < most_reads → length d < most_reads
-    → binding.failures ≡ binding.failed → dump.failures ≡ dump.failed → out.failures ≡ out.failed → (status ≡ 4 → ⊥)
+pub Lists-exact : (binding dump : Reading × Reading) (block : ℕ) (out err : Writing × Writing) (status : ℕ) → Lists binding dump block out err status
+    → (b d : List ℕ) → TellsWhole binding.0 binding.1 b → TellsWhole dump.0 dump.1 d
+    → out.1.failures ≡ out.0.failures → (status ≡ 4 → ⊥)
     → Tells (listing_answer_of (Some b) (Some d) block) out err status
 Lists-exact binding dump block out err status lists b d =
     Does-exact listing_answer_by listing_answer_by-small (MayList block) binding dump out err status lists b d (listing_answer_of (Some b) (Some d) block)

@@ -5,6 +5,7 @@ use Rattle.vcd_read.specs.Header.{◌>>=◌}
 use Rattle.vme_bind.specs.Binding.{BoundLines}
 use Rattle.vme_bind.specs.Capture.{capture_of}
 use Rattle.vme_bind.specs.declared.fault.BindFault.{BindFault}
+use Rattle.vme_trace.specs.Streams.{Reading, Writing}
 use Rattle.vme_trace.specs.Trace.{Trace}
 use Rattle.vme_listing.specs.Places.{is_well_placed}
 use Rattle.vme_listing.specs.Reading.{IsFirstFault, IsNoListing}
@@ -16,7 +17,7 @@ use Rattle.vme_cert.specs.Agreement.{Settles}
 use Rattle.vme_cert.specs.declared.compare.Answer.{Answer as Confirmation}
 use Rattle.vme_cert.specs.declared.compare.Answer.TheVariants.{Yes, No}
 use Rattle.vme_answer.specs.Answers.{Answer, binding_read, dump_read, or_bad_binding, refusal_answer, whole}
-use Rattle.vme_answer.specs.Ends.{Ends, Read, Tells, Written}
+use Rattle.vme_answer.specs.Ends.{Ends, Tells}
 use Rattle.vme_stream.specs.Inputs.{IsReading}
 use Rattle.vme_answer.specs.Refusals.{listing_refusal}
 use Rattle.vme_answer.specs.Texts.{line_of}
@@ -32,7 +33,8 @@ listing_text input = whole Listing input
 abbrev pub IsListing : Result (List ℕ) Refusal → Result (List Row) Refusal → Type 0
 IsListing (Err refusal) given = given ≡ Err refusal
 IsListing (Ok text) (Ok rows) = (is_well_placed rows ≡ true) × (text_of rows ≡ text)
-IsListing (Ok text) (Err refusal) = (fault : ListFault) × (refusal ≡ listing_refusal fault) × IsFirstFault text fault × IsNoListing text fault
+IsListing (Ok text) (Err refusal) =
+    (fault : ListFault) × (refusal ≡ listing_refusal fault) × IsFirstFault text fault × IsNoListing text fault
 
 -- the same, unless there was no memory
 abbrev pub GivesRows : Result (List ℕ) Refusal → Result (List Row) Refusal → Type 0
@@ -41,7 +43,8 @@ GivesRows text given = IsListing text given
 
 -- A listing, and the recording that a binding makes of a dump, or the first reason that one is missing: a fault of the listing
 -- comes before why the binding makes no recording. In what order the program looks isn't told by this.
-abbrev pub compared : Result BoundLines Refusal → Result Contents Refusal → Result (List Row) Refusal → Result (List Row × Trace) Refusal
+abbrev pub compared : Result BoundLines Refusal → Result Contents Refusal → Result (List Row) Refusal
+    → Result (List Row × Trace) Refusal
 compared binding dump listing = do
   bound ← binding
   contents ← dump
@@ -69,10 +72,12 @@ GivesConfirmation found said = IsFound found said
 
 -- This is the answer to a binding, a dump and the text of a listing, or the first reason that there is none: where there are
 -- a binding and a dump, the text is read as a listing, or has a first fault.
-abbrev pub IsConfirmation : Result BoundLines Refusal → Result Contents Refusal → Result (List ℕ) Refusal → Result Confirmation Refusal → Type 0
+abbrev pub IsConfirmation : Result BoundLines Refusal → Result Contents Refusal → Result (List ℕ) Refusal
+    → Result Confirmation Refusal → Type 0
 IsConfirmation (Err refusal) dump text found = found ≡ Err refusal
 IsConfirmation (Ok bound) (Err refusal) text found = found ≡ Err refusal
-IsConfirmation (Ok bound) (Ok contents) text found = (given : Result (List Row) Refusal) × (given ≢ Err Memory)
+IsConfirmation (Ok bound) (Ok contents) text found =
+    (given : Result (List Row) Refusal) × (given ≢ Err Memory)
     × IsListing text given
     × IsFound found (compared (Ok bound) (Ok contents) given)
 
@@ -87,24 +92,29 @@ confirmation_status Yes = 0
 confirmation_status (No row) = 1
 
 abbrev pub confirmation_answer_by : Result Confirmation Refusal → Answer
-confirmation_answer_by (Ok found) = record { out = line_of (confirmation_text found); error = []; status = confirmation_status found }
+confirmation_answer_by (Ok found) =
+    record { out = line_of (confirmation_text found); error = []; status = confirmation_status found }
 confirmation_answer_by (Err refusal) = refusal_answer refusal
 
 -- ---- how it ends
 
 -- The binding, the dump and the listing are read, or can't be; the listing is compared with that of the recording, unless there
 -- was no memory; and the answer is told, unless a write of it fails.
-abbrev pub Confirms : Read → Read → Read → Written → Written → ℕ → Type 0
-Confirms binding dump listing out err status = (binding_bytes dump_bytes listing_bytes : Option (List ℕ)) × (given : Result (List Row) Refusal) × (found : Result Confirmation Refusal)
-    × IsReading binding.told binding.failed binding.failures binding_bytes
-    × IsReading dump.told dump.failed dump.failures dump_bytes
-    × IsReading listing.told listing.failed listing.failures listing_bytes
+abbrev pub Confirms : Reading × Reading → Reading × Reading → Reading × Reading
+    → Writing × Writing → Writing × Writing → ℕ → Type 0
+Confirms binding dump listing out err status =
+    (binding_bytes dump_bytes listing_bytes : Option (List ℕ)) × (given : Result (List Row) Refusal)
+    × (found : Result Confirmation Refusal)
+    × IsReading binding.0 binding.1 binding_bytes
+    × IsReading dump.0 dump.1 dump_bytes
+    × IsReading listing.0 listing.1 listing_bytes
     × GivesRows (listing_text listing_bytes) given
     × GivesConfirmation found (compared (binding_read binding_bytes) (dump_read dump_bytes) given)
     × Ends (confirmation_answer_by found) out err status
 
 -- the answer to a binding, a dump and a listing of these bytes was told
-abbrev pub TellsConfirmation : List ℕ → List ℕ → List ℕ → Written → Written → ℕ → Type 0
-TellsConfirmation binding dump listing out err status = (found : Result Confirmation Refusal)
+abbrev pub TellsConfirmation : List ℕ → List ℕ → List ℕ → Writing × Writing → Writing × Writing → ℕ → Type 0
+TellsConfirmation binding dump listing out err status =
+    (found : Result Confirmation Refusal)
     × IsConfirmation (binding_read (Some binding)) (dump_read (Some dump)) (listing_text (Some listing)) found
     × Tells (confirmation_answer_by found) out err status

@@ -3,11 +3,12 @@ use Rattle.std.specs.Prelude.{◌≡◌, ℕ, ◌++◌, List, Option, Result, Ok
 use Rattle.vcd_read.specs.Contents.{Contents}
 use Rattle.vcd_read.specs.Header.{◌>>=◌}
 use Rattle.vme_bind.specs.Binding.{BoundLines}
+use Rattle.vme_trace.specs.Streams.{Reading, Writing}
 use Rattle.vme_trace.specs.declared.verdict.Verdict.{Verdict}
 use Rattle.vmecheck.specs.declared.explain.Explained.{Explained}
 use Rattle.vme_answer.specs.declared.refusal.Refusal.{Refusal}
 use Rattle.vme_answer.specs.Answers.{Answer, Gives, capture_by, judgement_of, refusal_answer, verdict_in_blocks}
-use Rattle.vme_answer.specs.Ends.{Ends, Read, Written}
+use Rattle.vme_answer.specs.Ends.{Ends}
 use Rattle.vme_stream.specs.Inputs.{IsReading}
 use Rattle.vme_answer.specs.Texts.{line_of, verdict_status, verdict_text}
 use Rattle.vmecheck.specs.Told.{text_answer}
@@ -32,10 +33,11 @@ explained_answer_by (Err refusal) = refusal_answer refusal
 
 -- The binding and the dump are read, or can't be; the verdict is that of a check, unless there was no memory; what is
 -- told begins with its line, and has its status, unless a write of it fails.
-abbrev pub Explains : Read → Read → Written → Written → ℕ → Type 0
-Explains binding dump out err status = (binding_bytes dump_bytes : Option (List ℕ)) × (told : Result Explained Refusal)
-    × IsReading binding.told binding.failed binding.failures binding_bytes
-    × IsReading dump.told dump.failed dump.failures dump_bytes
+abbrev pub Explains : Reading × Reading → Reading × Reading → Writing × Writing → Writing × Writing → ℕ → Type 0
+Explains binding dump out err status =
+    (binding_bytes dump_bytes : Option (List ℕ)) × (told : Result Explained Refusal)
+    × IsReading binding.0 binding.1 binding_bytes
+    × IsReading dump.0 dump.1 dump_bytes
     × Gives (λ (e : Explained). e.verdict) told (judgement_of binding_bytes dump_bytes 16384)
     × BeginsWithVerdict told
     × Ends (explained_answer_by told) out err status

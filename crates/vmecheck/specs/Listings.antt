@@ -4,12 +4,13 @@ use Rattle.std.specs.List.{last_or}
 use Rattle.std.specs.Option.{option_map_or}
 use Rattle.vcd_read.specs.Header.{◌>>=◌}
 use Rattle.vme_trace.specs.Blocks.{block_count}
+use Rattle.vme_trace.specs.Streams.{Reading, Writing}
 use Rattle.vme_trace.specs.Trace.{Trace}
 use Rattle.vme_trace.specs.Verdict.{verdict_by, rules_in_force}
 use Rattle.vme_listing.specs.Recorded.{listing_of}
 use Rattle.vme_listing.specs.RowText.{text_of}
 use Rattle.vme_answer.specs.Answers.{Answer, Gives, capture_read, refusal_answer}
-use Rattle.vme_answer.specs.Ends.{Does, Read, Written}
+use Rattle.vme_answer.specs.Ends.{Does}
 use Rattle.vme_answer.specs.Texts.{verdict_status}
 use Rattle.vme_answer.specs.declared.refusal.Refusal.{Refusal}
 use Rattle.vme_answer.specs.declared.refusal.Refusal.TheVariants.{Memory, TooManyBlocks}
@@ -62,7 +63,8 @@ listing_status rows = option_map_or row_status (last_or None rows) 2
 
 -- a listing is told with the status of the verdict
 abbrev pub listing_answer_by : Result Trace Refusal → Answer
-listing_answer_by (Ok t) = record { out = text_of (listing_of t); error = []; status = verdict_status (verdict_by rules_in_force t) }
+listing_answer_by (Ok t) =
+    record { out = text_of (listing_of t); error = []; status = verdict_status (verdict_by rules_in_force t) }
 listing_answer_by (Err refusal) = refusal_answer refusal
 
 -- the answer to a binding and a dump that are to be listed, each by its bytes or unreadable
@@ -70,6 +72,7 @@ abbrev pub listing_answer_of : Option (List ℕ) → Option (List ℕ) → ℕ �
 listing_answer_of binding dump block = listing_answer_by (recording_of binding dump block)
 
 -- what the inputs say is listed, unless there was no memory
-abbrev pub Lists : Read → Read → ℕ → Written → Written → ℕ → Type 0
+abbrev pub Lists : Reading × Reading → Reading × Reading → ℕ → Writing × Writing → Writing × Writing → ℕ → Type 0
 Lists binding dump block out err status =
-    Does listing_answer_by (λ b d recording. Gives (λ t. t) recording (recording_of b d block)) binding dump out err status
+    Does listing_answer_by (λ b d recording. Gives (λ t. t) recording (recording_of b d block))
+    binding dump out err status

@@ -1,21 +1,25 @@
 //! The check of one recording.
 
 ghost use Rattle.std.specs.Prelude.{◌≡◌, ◌≢◌, ◌≤◌, ◌<◌, ◌↔◌, ℕ, suc, List, length, Option, Some};
-ghost use Rattle.vme_answer.specs.Answers.{Gives, answer_of, judgement_of};
+ghost use Rattle.vcd_read.specs.Meaning.{dump_of};
+ghost use Rattle.vme_answer.specs.Answers.{Gives, answer_of, dump_read, judgement_by, judgement_of, or_bad_dump};
 ghost use Rattle.vme_answer.specs.Ends.{Checks, Tells};
-ghost use Rattle.vme_stream.specs.Inputs.{IsReading, most_reads};
+ghost use Rattle.vme_stream.specs.Inputs.{IsReading, TellsWhole};
 
 use std::alloc::Global;
-use vme_answer::{Refusal, capture_from, refusal_line, tell_verdict, verdict_on};
-use vme_stream::complain;
+use vme_answer::{Input, Refusal, binding_from, refusal_line, tell_verdict};
+use vme_bind::{BindFault, BindKind, Binding};
+use vme_stream::{complain, read_all};
+use vme_summary::{Judge, NoVerdict};
 use vme_trace::{Sink, Source, Verdict};
 
 /// Judges the recording that a binding makes of a dump, and writes its verdict to `out`, or why there is none to `err`.
 /// The answer is the exit status: 0 conforming, 1 broken, 2 unreadable or never idle, 3 where an input is refused, 4 for
 /// want of memory, 5 where the verdict can't be written.
 ///
-/// The binding is read, and then the dump. The recording is judged in blocks of `block` steps, and the verdict is the
-/// same for each size that cuts it into at most 4,096 blocks. A failure of `err` is ignored.
+/// The binding is read, and then the dump. The recording isn't kept: its steps are judged as they are made. One that fills
+/// more than 4,096 blocks of `block` steps is refused, and the verdict is otherwise the same for each size. A failure of
+/// `err` is ignored.
 pub fn check<B: Source, D: Source, O: Sink, E: Sink>(
     alloc: Global,
     binding: &mut B,
@@ -28,23 +32,16 @@ pub fn check<B: Source, D: Source, O: Sink, E: Sink>(
     requires block { (1 ≤ block) × (block ≤ 65536) }
     requires workers { (1 ≤ workers) × (workers ≤ 64) }
     ensures answer { Checks
-        (record { told = B.remaining binding.old; failed = B.failures binding.old; failures = B.failures binding.new })
-        (record { told = D.remaining dump.old; failed = D.failures dump.old; failures = D.failures dump.new })
-        block
-        (record { before = O.contents out.old; failed = O.failures out.old; after = O.contents out.new; failures = O.failures out.new })
-        (record { before = E.contents err.old; failed = E.failures err.old; after = E.contents err.new; failures = E.failures err.new })
-        result }
-    ensures unwritten { (result ≡ 5) ↔ (O.failures out.new ≡ suc (O.failures out.old)) }
+        (B.reading binding.old, B.reading binding.new) (D.reading dump.old, D.reading dump.new) block
+        (O.writing out.old, O.writing out.new) (E.writing err.old, E.writing err.new) result }
+    ensures unwritten { (result ≡ 5) ↔ ((O.writing out.new).failures ≡ suc (O.writing out.old).failures) }
 
     // Inputs that are told whole, no failure, and memory give exactly the answer that is defined.
-    ensures exact { (b d : List ℕ) → B.remaining binding.old ≡ Some b → D.remaining dump.old ≡ Some d
-        → length b < most_reads → length d < most_reads
-        → B.failures binding.new ≡ B.failures binding.old → D.failures dump.new ≡ D.failures dump.old
-        → O.failures out.new ≡ O.failures out.old → result ≢ 4
+    ensures exact { (b d : List ℕ) → TellsWhole (B.reading binding.old) (B.reading binding.new) b
+        → TellsWhole (D.reading dump.old) (D.reading dump.new) d
+        → (O.writing out.new).failures ≡ (O.writing out.old).failures → result ≢ 4
         → Tells (answer_of (Some b) (Some d) block)
-        (record { before = O.contents out.old; failed = O.failures out.old; after = O.contents out.new; failures = O.failures out.new })
-        (record { before = E.contents err.old; failed = E.failures err.old; after = E.contents err.new; failures = E.failures err.new })
-        result }
+        (O.writing out.old, O.writing out.new) (E.writing err.old, E.writing err.new) result }
 {
     let _ = workers;
     answer(alloc, binding, dump, block, out, err)
@@ -60,12 +57,8 @@ fn answer<B: Source, D: Source, O: Sink, E: Sink>(
 ) -> u8
     requires { (1 ≤ block) × (block ≤ 65536) }
     ensures { Checks
-        (record { told = B.remaining binding.old; failed = B.failures binding.old; failures = B.failures binding.new })
-        (record { told = D.remaining dump.old; failed = D.failures dump.old; failures = D.failures dump.new })
-        block
-        (record { before = O.contents out.old; failed = O.failures out.old; after = O.contents out.new; failures = O.failures out.new })
-        (record { before = E.contents err.old; failed = E.failures err.old; after = E.contents err.new; failures = E.failures err.new })
-        result }
+        (B.reading binding.old, B.reading binding.new) (D.reading dump.old, D.reading dump.new) block
+        (O.writing out.old, O.writing out.new) (E.writing err.old, E.writing err.new) result }
 {
     match judge(alloc, binding, dump, block) {
         Ok(verdict) => tell_verdict(&verdict, out, err),
@@ -85,12 +78,49 @@ fn judge<B: Source, D: Source>(
 ) -> Result<Verdict, Refusal>
     requires { (1 ≤ block) × (block ≤ 65536) }
     ensures { (binding_bytes dump_bytes : Option (List ℕ))
-        × IsReading (B.remaining binding.old) (B.failures binding.old) (B.failures binding.new) binding_bytes
-        × IsReading (D.remaining dump.old) (D.failures dump.old) (D.failures dump.new) dump_bytes
+        × IsReading (B.reading binding.old) (B.reading binding.new) binding_bytes
+        × IsReading (D.reading dump.old) (D.reading dump.new) dump_bytes
         × Gives (λ verdict. verdict) result (judgement_of binding_bytes dump_bytes block) }
 {
-    match capture_from(alloc, binding, dump) {
-        Ok(capture) => verdict_on(alloc, &capture, block),
+    match binding_from(alloc, binding) {
+        Ok(bound) => judge_dump(alloc, &bound, dump, block),
         Err(refusal) => Err(refusal),
+    }
+}
+
+/// The verdict on the recording that a binding makes of a dump that is to be read.
+fn judge_dump<D: Source>(
+    alloc: Global,
+    bound: &Binding,
+    dump: &mut D,
+    block: u32,
+) -> Result<Verdict, Refusal>
+    requires { (1 ≤ block) × (block ≤ 65536) }
+    ensures { (bytes : Option (List ℕ))
+        × IsReading (D.reading dump.old) (D.reading dump.new) bytes
+        × Gives (λ verdict. verdict) result (judgement_by bound.now (dump_read bytes) block) }
+{
+    match read_all(alloc, dump) {
+        Ok(text) => judge_text(alloc, bound, text.as_slice(), block),
+        Err(fault) => Err(Refusal::of_input(Input::Dump, fault)),
+    }
+}
+
+/// The verdict on the recording that a binding makes of the text of a dump. Its steps are judged as they are made.
+fn judge_text(alloc: Global, bound: &Binding, text: &[u8], block: u32) -> Result<Verdict, Refusal>
+    requires { (1 ≤ block) × (block ≤ 65536) }
+    ensures { Gives (λ verdict. verdict) result (judgement_by bound.now (or_bad_dump (dump_of text.now)) block) }
+{
+    match bound.record_text(alloc, text, Judge::new(alloc, bound.lines())) {
+        Ok(judge) => match judge.verdict(alloc, block) {
+            Ok(verdict) => Ok(verdict),
+            Err(NoVerdict::TooManySteps) => Err(Refusal::BadBinding(BindFault {
+                line: 0,
+                kind: BindKind::TooManySteps,
+            })),
+            Err(NoVerdict::TooManyBlocks) => Err(Refusal::TooManyBlocks),
+            Err(NoVerdict::Memory) => Err(Refusal::Memory),
+        },
+        Err(fault) => Err(Refusal::of_capture(fault)),
     }
 }

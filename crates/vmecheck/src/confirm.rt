@@ -1,12 +1,12 @@
 //! Whether a listing is that of a recording.
 
-ghost use Rattle.std.specs.Prelude.{◌≡◌, ◌≢◌, ◌<◌, ◌↔◌, ℕ, suc, List, length, Option, Some, Ok, Result};
+ghost use Rattle.std.specs.Prelude.{◌≡◌, ◌≢◌, ◌↔◌, ℕ, suc, List, Option, Ok, Result};
 ghost use Rattle.vme_listing.specs.declared.row.Row.{Row};
 ghost use Rattle.vme_answer.specs.Answers.{binding_read, dump_read};
 ghost use Rattle.vmecheck.specs.Confirmations.{Confirms, GivesConfirmation, GivesRows, TellsConfirmation, compared, compared_with, confirmation_answer_by, confirmation_status, confirmation_text, listing_text};
 ghost use Rattle.vme_answer.specs.Ends.{Ends};
 ghost use Rattle.vme_answer.specs.Texts.{line_of};
-ghost use Rattle.vme_stream.specs.Inputs.{IsReading, most_reads};
+ghost use Rattle.vme_stream.specs.Inputs.{IsReading, TellsWhole};
 ghost use Rattle.vme_answer.specs.declared.refusal.Refusal.{Refusal};
 
 use std::alloc::Global;
@@ -33,23 +33,18 @@ pub fn confirm_with<B: Source, D: Source, L: Source, O: Sink, E: Sink>(
     err: &mut E,
 ) -> u8
     ensures answer { Confirms
-        (record { told = B.remaining binding.old; failed = B.failures binding.old; failures = B.failures binding.new })
-        (record { told = D.remaining dump.old; failed = D.failures dump.old; failures = D.failures dump.new })
-        (record { told = L.remaining listing.old; failed = L.failures listing.old; failures = L.failures listing.new })
-        (record { before = O.contents out.old; failed = O.failures out.old; after = O.contents out.new; failures = O.failures out.new })
-        (record { before = E.contents err.old; failed = E.failures err.old; after = E.contents err.new; failures = E.failures err.new })
-        result }
-    ensures unwritten { (result ≡ 5) ↔ (O.failures out.new ≡ suc (O.failures out.old)) }
+        (B.reading binding.old, B.reading binding.new) (D.reading dump.old, D.reading dump.new)
+        (L.reading listing.old, L.reading listing.new)
+        (O.writing out.old, O.writing out.new) (E.writing err.old, E.writing err.new) result }
+    ensures unwritten { (result ≡ 5) ↔ ((O.writing out.new).failures ≡ suc (O.writing out.old).failures) }
 
     // Inputs that are told whole, no failure, and memory give exactly the answer that is defined.
-    ensures exact { (b d l : List ℕ) → B.remaining binding.old ≡ Some b → D.remaining dump.old ≡ Some d → L.remaining listing.old ≡ Some l
-        → length b < most_reads → length d < most_reads → length l < most_reads
-        → B.failures binding.new ≡ B.failures binding.old → D.failures dump.new ≡ D.failures dump.old
-        → L.failures listing.new ≡ L.failures listing.old → O.failures out.new ≡ O.failures out.old → result ≢ 4
+    ensures exact { (b d l : List ℕ) → TellsWhole (B.reading binding.old) (B.reading binding.new) b
+        → TellsWhole (D.reading dump.old) (D.reading dump.new) d
+        → TellsWhole (L.reading listing.old) (L.reading listing.new) l
+        → (O.writing out.new).failures ≡ (O.writing out.old).failures → result ≢ 4
         → TellsConfirmation b d l
-        (record { before = O.contents out.old; failed = O.failures out.old; after = O.contents out.new; failures = O.failures out.new })
-        (record { before = E.contents err.old; failed = E.failures err.old; after = E.contents err.new; failures = E.failures err.new })
-        result }
+        (O.writing out.old, O.writing out.new) (E.writing err.old, E.writing err.new) result }
 {
     answer(alloc, binding, dump, listing, out, err)
 }
@@ -63,12 +58,9 @@ fn answer<B: Source, D: Source, L: Source, O: Sink, E: Sink>(
     err: &mut E,
 ) -> u8
     ensures { Confirms
-        (record { told = B.remaining binding.old; failed = B.failures binding.old; failures = B.failures binding.new })
-        (record { told = D.remaining dump.old; failed = D.failures dump.old; failures = D.failures dump.new })
-        (record { told = L.remaining listing.old; failed = L.failures listing.old; failures = L.failures listing.new })
-        (record { before = O.contents out.old; failed = O.failures out.old; after = O.contents out.new; failures = O.failures out.new })
-        (record { before = E.contents err.old; failed = E.failures err.old; after = E.contents err.new; failures = E.failures err.new })
-        result }
+        (B.reading binding.old, B.reading binding.new) (D.reading dump.old, D.reading dump.new)
+        (L.reading listing.old, L.reading listing.new)
+        (O.writing out.old, O.writing out.new) (E.writing err.old, E.writing err.new) result }
 {
     match comparison(alloc, binding, dump, listing) {
         Ok(found) => tell(found, out, err),
@@ -82,9 +74,7 @@ fn answer<B: Source, D: Source, L: Source, O: Sink, E: Sink>(
 /// Writes an answer.
 fn tell<O: Sink, E: Sink>(found: Answer, out: &mut O, err: &mut E) -> u8
     ensures { Ends (confirmation_answer_by (Ok found))
-        (record { before = O.contents out.old; failed = O.failures out.old; after = O.contents out.new; failures = O.failures out.new })
-        (record { before = E.contents err.old; failed = E.failures err.old; after = E.contents err.new; failures = E.failures err.new })
-        result }
+        (O.writing out.old, O.writing out.new) (E.writing err.old, E.writing err.new) result }
 {
     match write_message(out, confirmation_line(found)) {
         Ok(()) => confirmation_status(found),
@@ -103,9 +93,9 @@ fn comparison<B: Source, D: Source, L: Source>(
     listing: &mut L,
 ) -> Result<Answer, Refusal>
     ensures { (binding_bytes dump_bytes listing_bytes : Option (List ℕ)) × (given : Result (List Row) Refusal)
-        × IsReading (B.remaining binding.old) (B.failures binding.old) (B.failures binding.new) binding_bytes
-        × IsReading (D.remaining dump.old) (D.failures dump.old) (D.failures dump.new) dump_bytes
-        × IsReading (L.remaining listing.old) (L.failures listing.old) (L.failures listing.new) listing_bytes
+        × IsReading (B.reading binding.old) (B.reading binding.new) binding_bytes
+        × IsReading (D.reading dump.old) (D.reading dump.new) dump_bytes
+        × IsReading (L.reading listing.old) (L.reading listing.new) listing_bytes
         × GivesRows (listing_text listing_bytes) given
         × GivesConfirmation result (compared (binding_read binding_bytes) (dump_read dump_bytes) given) }
 {
@@ -122,8 +112,8 @@ fn comparison_bound<D: Source, L: Source>(
     listing: &mut L,
 ) -> Result<Answer, Refusal>
     ensures { (dump_bytes listing_bytes : Option (List ℕ)) × (given : Result (List Row) Refusal)
-        × IsReading (D.remaining dump.old) (D.failures dump.old) (D.failures dump.new) dump_bytes
-        × IsReading (L.remaining listing.old) (L.failures listing.old) (L.failures listing.new) listing_bytes
+        × IsReading (D.reading dump.old) (D.reading dump.new) dump_bytes
+        × IsReading (L.reading listing.old) (L.reading listing.new) listing_bytes
         × GivesRows (listing_text listing_bytes) given
         × GivesConfirmation result (compared (Ok bound.now) (dump_read dump_bytes) given) }
 {
@@ -140,7 +130,7 @@ fn comparison_recorded<L: Source>(
     listing: &mut L,
 ) -> Result<Answer, Refusal>
     ensures { (listing_bytes : Option (List ℕ)) × (given : Result (List Row) Refusal)
-        × IsReading (L.remaining listing.old) (L.failures listing.old) (L.failures listing.new) listing_bytes
+        × IsReading (L.reading listing.old) (L.reading listing.new) listing_bytes
         × GivesRows (listing_text listing_bytes) given
         × GivesConfirmation result (compared_with recorded given) }
 {
@@ -174,7 +164,7 @@ fn compare(alloc: Global, capture: &Capture, listing: &Listing) -> Result<Answer
 
 fn listing_from<R: Source>(alloc: Global, source: &mut R) -> Result<Listing, Refusal>
     ensures { (bytes : Option (List ℕ))
-        × IsReading (R.remaining source.old) (R.failures source.old) (R.failures source.new) bytes
+        × IsReading (R.reading source.old) (R.reading source.new) bytes
         × GivesRows (listing_text bytes) result }
 {
     match read_all(alloc, source) {

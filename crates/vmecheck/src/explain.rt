@@ -48,11 +48,8 @@ pub fn explain<B: Source, D: Source, O: Sink, E: Sink>(
     err: &mut E,
 ) -> (u8, Option<Text>)
     ensures { Explains
-        (record { told = B.remaining binding.old; failed = B.failures binding.old; failures = B.failures binding.new })
-        (record { told = D.remaining dump.old; failed = D.failures dump.old; failures = D.failures dump.new })
-        (record { before = O.contents out.old; failed = O.failures out.old; after = O.contents out.new; failures = O.failures out.new })
-        (record { before = E.contents err.old; failed = E.failures err.old; after = E.contents err.new; failures = E.failures err.new })
-        result.0 }
+        (B.reading binding.old, B.reading binding.new) (D.reading dump.old, D.reading dump.new)
+        (O.writing out.old, O.writing out.new) (E.writing err.old, E.writing err.new) result.0 }
 {
     match explained_from(alloc, binding, dump, name) {
         Ok(told) => {
@@ -79,8 +76,8 @@ fn explained_from<B: Source, D: Source>(
     name: &[u8],
 ) -> Result<Explained, Refusal>
     ensures read { (binding_bytes dump_bytes : Option (List ℕ))
-        × IsReading (B.remaining binding.old) (B.failures binding.old) (B.failures binding.new) binding_bytes
-        × IsReading (D.remaining dump.old) (D.failures dump.old) (D.failures dump.new) dump_bytes
+        × IsReading (B.reading binding.old) (B.reading binding.new) binding_bytes
+        × IsReading (D.reading dump.old) (D.reading dump.new) dump_bytes
         × Gives (λ told. told.verdict) result (judgement_of binding_bytes dump_bytes 16384) }
     ensures begins { BeginsWithVerdict result }
 {
@@ -98,8 +95,9 @@ fn explained_bound<D: Source>(
     name: &[u8],
 ) -> Result<Explained, Refusal>
     ensures read { (bytes : Option (List ℕ))
-        × IsReading (D.remaining dump.old) (D.failures dump.old) (D.failures dump.new) bytes
-        × ((b : Option (List ℕ)) → binding_read b ≡ or_bad_binding (binding_of binding.now) → Gives (λ told. told.verdict) result (judgement_of b bytes 16384)) }
+        × IsReading (D.reading dump.old) (D.reading dump.new) bytes
+        × ((b : Option (List ℕ)) → binding_read b ≡ or_bad_binding (binding_of binding.now)
+        → Gives (λ told. told.verdict) result (judgement_of b bytes 16384)) }
     ensures begins { BeginsWithVerdict result }
 {
     match binding_in(alloc, binding) {
@@ -117,7 +115,7 @@ fn explained_by<D: Source>(
     name: &[u8],
 ) -> Result<Explained, Refusal>
     ensures read { (bytes : Option (List ℕ))
-        × IsReading (D.remaining dump.old) (D.failures dump.old) (D.failures dump.new) bytes
+        × IsReading (D.reading dump.old) (D.reading dump.new) bytes
         × Gives (λ told. told.verdict) result (judged_by bound.now (dump_read bytes)) }
     ensures begins { BeginsWithVerdict result }
 {

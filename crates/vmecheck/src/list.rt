@@ -1,11 +1,11 @@
 //! The listing of one recording.
 
-ghost use Rattle.std.specs.Prelude.{◌≡◌, ◌≢◌, ◌≤◌, ◌<◌, ◌↔◌, ℕ, suc, List, length, Option, Some, Ok};
+ghost use Rattle.std.specs.Prelude.{◌≡◌, ◌≢◌, ◌≤◌, ◌↔◌, ℕ, suc, List, Option, Some, Ok};
 ghost use Rattle.vme_listing.specs.Recorded.{listing_of};
 ghost use Rattle.vme_trace.specs.Trace.{Trace};
 ghost use Rattle.vme_answer.specs.Answers.{Gives};
 ghost use Rattle.vme_answer.specs.Ends.{Ends, Tells};
-ghost use Rattle.vme_stream.specs.Inputs.{IsReading, most_reads};
+ghost use Rattle.vme_stream.specs.Inputs.{IsReading, TellsWhole};
 ghost use Rattle.vmecheck.specs.Listings.{GivesListing, Lists, in_blocks, listing_answer_by, listing_answer_of, recording_of, listing_status, outcome_status, row_status};
 
 use std::alloc::Global;
@@ -34,23 +34,16 @@ pub fn list<B: Source, D: Source, O: Sink, E: Sink>(
     requires block { (1 ≤ block) × (block ≤ 65536) }
     requires workers { (1 ≤ workers) × (workers ≤ 64) }
     ensures answer { Lists
-        (record { told = B.remaining binding.old; failed = B.failures binding.old; failures = B.failures binding.new })
-        (record { told = D.remaining dump.old; failed = D.failures dump.old; failures = D.failures dump.new })
-        block
-        (record { before = O.contents out.old; failed = O.failures out.old; after = O.contents out.new; failures = O.failures out.new })
-        (record { before = E.contents err.old; failed = E.failures err.old; after = E.contents err.new; failures = E.failures err.new })
-        result }
-    ensures unwritten { (result ≡ 5) ↔ (O.failures out.new ≡ suc (O.failures out.old)) }
+        (B.reading binding.old, B.reading binding.new) (D.reading dump.old, D.reading dump.new) block
+        (O.writing out.old, O.writing out.new) (E.writing err.old, E.writing err.new) result }
+    ensures unwritten { (result ≡ 5) ↔ ((O.writing out.new).failures ≡ suc (O.writing out.old).failures) }
 
     // Inputs that are told whole, no failure, and memory give exactly the answer that is defined.
-    ensures exact { (b d : List ℕ) → B.remaining binding.old ≡ Some b → D.remaining dump.old ≡ Some d
-        → length b < most_reads → length d < most_reads
-        → B.failures binding.new ≡ B.failures binding.old → D.failures dump.new ≡ D.failures dump.old
-        → O.failures out.new ≡ O.failures out.old → result ≢ 4
+    ensures exact { (b d : List ℕ) → TellsWhole (B.reading binding.old) (B.reading binding.new) b
+        → TellsWhole (D.reading dump.old) (D.reading dump.new) d
+        → (O.writing out.new).failures ≡ (O.writing out.old).failures → result ≢ 4
         → Tells (listing_answer_of (Some b) (Some d) block)
-        (record { before = O.contents out.old; failed = O.failures out.old; after = O.contents out.new; failures = O.failures out.new })
-        (record { before = E.contents err.old; failed = E.failures err.old; after = E.contents err.new; failures = E.failures err.new })
-        result }
+        (O.writing out.old, O.writing out.new) (E.writing err.old, E.writing err.new) result }
 {
     let _ = workers;
     answer(alloc, binding, dump, block, out, err)
@@ -66,12 +59,8 @@ fn answer<B: Source, D: Source, O: Sink, E: Sink>(
 ) -> u8
     requires { (1 ≤ block) × (block ≤ 65536) }
     ensures { Lists
-        (record { told = B.remaining binding.old; failed = B.failures binding.old; failures = B.failures binding.new })
-        (record { told = D.remaining dump.old; failed = D.failures dump.old; failures = D.failures dump.new })
-        block
-        (record { before = O.contents out.old; failed = O.failures out.old; after = O.contents out.new; failures = O.failures out.new })
-        (record { before = E.contents err.old; failed = E.failures err.old; after = E.contents err.new; failures = E.failures err.new })
-        result }
+        (B.reading binding.old, B.reading binding.new) (D.reading dump.old, D.reading dump.new) block
+        (O.writing out.old, O.writing out.new) (E.writing err.old, E.writing err.new) result }
 {
     match listing(alloc, binding, dump, block) {
         Ok(listing) => tell(&listing, out, err),
@@ -85,9 +74,7 @@ fn answer<B: Source, D: Source, O: Sink, E: Sink>(
 /// Writes a listing.
 fn tell<O: Sink, E: Sink>(listing: &Listing, out: &mut O, err: &mut E) -> u8
     ensures { (t : Trace) → listing.now ≡ listing_of t → Ends (listing_answer_by (Ok t))
-        (record { before = O.contents out.old; failed = O.failures out.old; after = O.contents out.new; failures = O.failures out.new })
-        (record { before = E.contents err.old; failed = E.failures err.old; after = E.contents err.new; failures = E.failures err.new })
-        result }
+        (O.writing out.old, O.writing out.new) (E.writing err.old, E.writing err.new) result }
 {
     match write_listing(listing, out) {
         Ok(()) => status(listing),
@@ -136,8 +123,8 @@ fn listing<B: Source, D: Source>(
 ) -> Result<Listing, Refusal>
     requires { (1 ≤ block) × (block ≤ 65536) }
     ensures { (binding_bytes dump_bytes : Option (List ℕ))
-        × IsReading (B.remaining binding.old) (B.failures binding.old) (B.failures binding.new) binding_bytes
-        × IsReading (D.remaining dump.old) (D.failures dump.old) (D.failures dump.new) dump_bytes
+        × IsReading (B.reading binding.old) (B.reading binding.new) binding_bytes
+        × IsReading (D.reading dump.old) (D.reading dump.new) dump_bytes
         × GivesListing result (recording_of binding_bytes dump_bytes block) }
 {
     match capture_from(alloc, binding, dump) {

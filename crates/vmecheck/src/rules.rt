@@ -21,9 +21,7 @@ pub fn tell_rules<O: Sink, E: Sink>(
     err: &mut E,
 ) -> u8
     ensures { (made : Result (List ℕ) Refusal) × IsText made × Ends (text_answer_by 0 made)
-        (record { before = O.contents out.old; failed = O.failures out.old; after = O.contents out.new; failures = O.failures out.new })
-        (record { before = E.contents err.old; failed = E.failures err.old; after = E.contents err.new; failures = E.failures err.new })
-        result }
+        (O.writing out.old, O.writing out.new) (E.writing err.old, E.writing err.new) result }
 {
     let made = text_of_rules(alloc, only);
     tell_text(&made, 0, out, err)

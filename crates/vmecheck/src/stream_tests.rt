@@ -87,16 +87,18 @@ fn torn_at(text: &str, place: usize, piece: usize) -> Io<Torn<'_>> {
     })
 }
 
-/// A reader of so many line feeds a read, without end.
+/// A reader of so many line feeds, so many a read.
 #[derive(Drop)]
-struct Endless {
+struct LineFeeds {
+    left: usize,
     piece: usize,
 }
 
-impl Read for Endless {
+impl Read for LineFeeds {
     fn read(&mut self, buffer: &mut [u8]) -> io::Result<usize> {
-        let count = buffer.len().min(self.piece);
+        let count = buffer.len().min(self.left).min(self.piece);
         buffer[..count].fill(b'\n');
+        self.left -= count;
         Ok(count)
     }
 }
@@ -249,11 +251,24 @@ fn torn_listings(rt: HostRuntime) {
     }
 }
 
+/// Dumps that are long, and too long to be read in pieces of this size or at all: 17,000,000 bytes, the most that there may
+/// be, one more, and as many as 64 bits can count.
 #[test]
-fn endless_dumps(rt: HostRuntime) {
-    for (piece, wanted) in [
-        (1, "vmecheck: cannot read dump\n"),
-        (1_000_000, "vmecheck: dump too long\n"),
+fn long_dumps(rt: HostRuntime) {
+    for (left, piece, wanted) in [
+        (
+            17_000_000,
+            100_000,
+            "vmecheck: dump line 17000001: NoEndDefinitions\n",
+        ),
+        (
+            268_435_456,
+            1_000_000,
+            "vmecheck: dump line 268435457: NoEndDefinitions\n",
+        ),
+        (268_435_457, 1_000_000, "vmecheck: dump too long\n"),
+        (usize::MAX, 1, "vmecheck: cannot read dump\n"),
+        (usize::MAX, 1_000_000, "vmecheck: dump too long\n"),
     ] {
         let mut binding = Bytes::new(BUILT_IN);
         let mut listing = Bytes::new(LISTING.as_bytes());
@@ -261,7 +276,7 @@ fn endless_dumps(rt: HostRuntime) {
             &rt,
             Task::Check,
             &mut binding,
-            &mut Io::new(Endless { piece }),
+            &mut Io::new(LineFeeds { left, piece }),
             &mut listing,
             wanted,
         );

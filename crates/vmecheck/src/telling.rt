@@ -18,9 +18,7 @@ pub fn tell_text<O: Sink, E: Sink>(
     err: &mut E,
 ) -> u8
     ensures { Ends (text_answer_by status made.now)
-        (record { before = O.contents out.old; failed = O.failures out.old; after = O.contents out.new; failures = O.failures out.new })
-        (record { before = E.contents err.old; failed = E.failures err.old; after = E.contents err.new; failures = E.failures err.new })
-        result }
+        (O.writing out.old, O.writing out.new) (E.writing err.old, E.writing err.new) result }
 {
     match made {
         Ok(text) => tell_bytes(text.as_bytes(), status, out, err),
@@ -34,9 +32,7 @@ pub fn tell_text<O: Sink, E: Sink>(
 /// Writes some bytes to `out`, and answers this status. Where they can't be written, the status is 5.
 pub fn tell_bytes<O: Sink, E: Sink>(bytes: &[u8], status: u8, out: &mut O, err: &mut E) -> u8
     ensures { Ends (text_answer status bytes.now)
-        (record { before = O.contents out.old; failed = O.failures out.old; after = O.contents out.new; failures = O.failures out.new })
-        (record { before = E.contents err.old; failed = E.failures err.old; after = E.contents err.new; failures = E.failures err.new })
-        result }
+        (O.writing out.old, O.writing out.new) (E.writing err.old, E.writing err.new) result }
 {
     match write_all(out, bytes) {
         Ok(()) => status,

@@ -61,9 +61,7 @@ impl Page {
 }
 
 impl Sink for Page {
-    ghost contents = { λ _. None };
-
-    ghost failures = { λ page. page.failures };
+    ghost writing = { λ page. record { taken = None; failures = page.failures } };
 
     fn write(&mut self, bytes: &[u8]) -> Result<usize, Failed> {
         if self.bytes.len() < self.room && self.bytes.extend_from_slice(bytes).is_ok() {

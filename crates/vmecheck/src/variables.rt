@@ -25,12 +25,10 @@ pub fn tell_variables<D: Source, O: Sink, E: Sink>(
     err: &mut E,
 ) -> u8
     ensures { (bytes : Option (List ℕ)) × (made : Result (List ℕ) Refusal)
-        × IsReading (D.remaining dump.old) (D.failures dump.old) (D.failures dump.new) bytes
+        × IsReading (D.reading dump.old) (D.reading dump.new) bytes
         × IsTextOf (dump_read bytes) made
         × Ends (text_answer_by 0 made)
-        (record { before = O.contents out.old; failed = O.failures out.old; after = O.contents out.new; failures = O.failures out.new })
-        (record { before = E.contents err.old; failed = E.failures err.old; after = E.contents err.new; failures = E.failures err.new })
-        result }
+        (O.writing out.old, O.writing out.new) (E.writing err.old, E.writing err.new) result }
 {
     let made = variables_from(alloc, dump);
     tell_text(&made, 0, out, err)
@@ -38,7 +36,7 @@ pub fn tell_variables<D: Source, O: Sink, E: Sink>(
 
 fn variables_from<D: Source>(alloc: Global, dump: &mut D) -> Result<Text, Refusal>
     ensures { (bytes : Option (List ℕ))
-        × IsReading (D.remaining dump.old) (D.failures dump.old) (D.failures dump.new) bytes
+        × IsReading (D.reading dump.old) (D.reading dump.new) bytes
         × IsTextOf (dump_read bytes) result }
 {
     match read_all(alloc, dump) {

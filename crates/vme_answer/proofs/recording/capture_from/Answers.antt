@@ -1,4 +1,3 @@
-use Rattle.std.proofs.Common.{refl}
 use Rattle.vme_stream.proofs.InputLemmas.{unread}
 use Rattle.vme_answer.proofs.AnswerLemmas.{capture_read-refused, capture_read-bound}
 use Rattle.vme_answer.proofs.recording.capture_from.Goals as goal
@@ -12,5 +11,5 @@ returns-in-Ok g c =
 pub returns-in-Err : goal.returns-in-Err
 returns-in-Err g c =
     let (bound, bound_reading, refused) = c.in-Err.ensures in
-    let left = unread (g.D.Source.remaining c.args.dump.now) (g.D.Source.failures c.args.dump.now) _ refl in
+    let left = unread (g.D.Source.reading c.args.dump.now) in
     (bound, left.0, bound_reading, left.1, capture_read-refused bound left.0 c.in-Err.refusal refused)

@@ -1,25 +1,31 @@
-use Rattle.std.proofs.Common.{◌+◌, ◌≤◌, length, take, rules, ◌∙◌}
+use Rattle.std.proofs.Common.{◌≡◌, ◌+◌, ◌≤◌, ◌<◌, length, suc, take, arith, rules, ◌∙◌}
 use Rattle.std.proofs.lemmas.List.{places}
-use Rattle.vme_stream.specs.Inputs.{longest_input}
+use Rattle.vme_stream.specs.Inputs.{longest_input, most_reads}
 use Rattle.vme_stream.proofs.InputLemmas.{Consumes-grown, reads_more, front_longer}
 use Rattle.vme_stream.proofs.input.read_all.Goals as goal
 
 pub returns-then-filled-gt-LONGEST-clause-too_long : goal.returns-then-filled-gt-LONGEST-clause-too_long
 returns-then-filled-gt-LONGEST-clause-too_long g c =
-    let filled = c.loop.filled + c.in-Ok.count in
-    let bytes = c.read_chunk.new.bytes.items in
-    let fits : filled ≤ length bytes = search (rules, places) in
-    let read = Consumes-grown _ _ _ _ bytes c.loop.filled c.in-Ok.count c.in-Ok.ensures.front c.loop.invariant.read c.in-Ok.ensures.bytes in
-    λ _. reads_more _ _ _ _ (take filled bytes) longest_input read (front_longer bytes longest_input filled fits c.if-filled-gt-LONGEST.true)
-    (c.in-Ok.ensures.ok ∙ c.loop.invariant.failures)
+    let old = g.R.Source.reading c.args.source.now in
+    let new = g.R.Source.reading c.loop.source in
+    let bytes = c.loop.bytes.items in
+    let fits : c.loop.filled ≤ length bytes = search (rules, places) in
+    let reads : new.reads < old.reads + most_reads = omega (arith, c.loop.invariant.reads, c.loop-test.true) in
+    λ _. reads_more old new (take c.loop.filled bytes) longest_input c.loop.invariant.read
+    (front_longer bytes longest_input c.loop.filled fits c.if-filled-gt-LONGEST.true)
+    (record { failures = c.loop.invariant.failures; reads = reads })
 
 pub loop-preserved : goal.loop-preserved
 loop-preserved g c =
-    let read = Consumes-grown _ _ _ _ c.read_chunk.new.bytes.items c.loop.filled c.in-Ok.count c.in-Ok.ensures.front c.loop.invariant.read c.in-Ok.ensures.bytes in
+    let old = g.R.Source.reading c.args.source.now in
+    let mid = g.R.Source.reading c.loop.source in
+    let new = g.R.Source.reading c.read_chunk.new.source in
+    let some : 0 < c.in-Ok.count = omega (arith, c.if-count-eq0.false) in
+    let more : new.reads ≡ suc mid.reads = c.in-Ok.ensures.reads.1 some in
     record {
       within = c.in-Ok.ensures.fits;
-      short = c.if-filled-gt-LONGEST.false;
-      counted = search rules;
-      read = read;
+      counted = omega (arith, c.loop.invariant.counted, some);
+      read = Consumes-grown _ _ _ _ c.read_chunk.new.bytes.items c.loop.filled c.in-Ok.count c.in-Ok.ensures.front c.loop.invariant.read c.in-Ok.ensures.bytes;
+      reads = omega (arith, more, c.loop.invariant.reads);
       failures = c.in-Ok.ensures.ok ∙ c.loop.invariant.failures;
     }

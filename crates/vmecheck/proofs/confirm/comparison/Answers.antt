@@ -1,4 +1,3 @@
-use Rattle.std.proofs.Common.{refl}
 use Rattle.std.specs.Prelude.{Err}
 use Rattle.vme_answer.specs.declared.refusal.Refusal.TheVariants.{Memory}
 use Rattle.vme_answer.specs.Answers.{binding_read, dump_read}
@@ -15,6 +14,6 @@ returns-in-Ok g c =
 pub returns-in-Err : goal.returns-in-Err
 returns-in-Err g c =
     let (bound, bound_reading, refused) = c.in-Err.ensures in
-    let dump = unread (g.D.Source.remaining c.args.dump.now) (g.D.Source.failures c.args.dump.now) _ refl in
-    let listing = unread (g.L.Source.remaining c.args.listing.now) (g.L.Source.failures c.args.listing.now) _ refl in
+    let dump = unread (g.D.Source.reading c.args.dump.now) in
+    let listing = unread (g.L.Source.reading c.args.listing.now) in
     (bound, dump.0, listing.0, Err Memory, bound_reading, dump.1, listing.1, tt, binding_lacks (binding_read bound) (dump_read dump.0) (Err Memory) c.in-Err.refusal refused)

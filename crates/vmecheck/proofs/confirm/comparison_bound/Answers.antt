@@ -1,4 +1,3 @@
-use Rattle.std.proofs.Common.{refl}
 use Rattle.std.specs.Prelude.{Err}
 use Rattle.vme_answer.specs.declared.refusal.Refusal.TheVariants.{Memory}
 use Rattle.vme_answer.specs.Answers.{dump_read}
@@ -15,5 +14,5 @@ returns-in-Ok g c =
 pub returns-in-Err : goal.returns-in-Err
 returns-in-Err g c =
     let (dump, dump_reading, refused) = c.in-Err.ensures in
-    let listing = unread (g.L.Source.remaining c.args.listing.now) (g.L.Source.failures c.args.listing.now) _ refl in
+    let listing = unread (g.L.Source.reading c.args.listing.now) in
     (dump, listing.0, Err Memory, dump_reading, listing.1, tt, dump_lacks c.args.bound.now (dump_read dump) (Err Memory) c.in-Err.refusal refused)

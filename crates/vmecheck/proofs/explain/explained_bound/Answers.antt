@@ -1,4 +1,4 @@
-use Rattle.std.proofs.Common.{refl, ◌∙◌}
+use Rattle.std.proofs.Common.{◌∙◌}
 use Rattle.vmecheck.proofs.ExplainLemmas.{judged-bound, judged-refused}
 use Rattle.vme_stream.proofs.InputLemmas.{unread}
 use Rattle.vmecheck.proofs.explain.explained_bound.Goals as goal
@@ -10,5 +10,5 @@ returns-in-Ok-clause-read g c =
 
 pub returns-in-Err-clause-read : goal.returns-in-Err-clause-read
 returns-in-Err-clause-read g c =
-    let left = unread (g.D.Source.remaining c.args.dump.now) (g.D.Source.failures c.args.dump.now) _ refl in
+    let left = unread (g.D.Source.reading c.args.dump.now) in
     (left.0, left.1, λ b e. judged-refused b left.0 c.in-Err.refusal (rw e c.in-Err.ensures))

@@ -9,6 +9,5 @@ invariant-loop-tap l = record {
   now : l.self-inside.now ≡ changed l.fn.self.now (map (tapped (extended l.size l.digits)) (take l.tap-index l.taps));
   slots : l.self-inside.now.slots ≡ l.fn.self.now.slots;
   shown : l.self-inside.shown ≡ l.fn.self.shown;
-  steps : l.self-inside.steps.items ≡ l.fn.self.steps;
   touched : AreTouched l.self-inside.shown l.self-inside.now l.self-inside.touched.items;
 }

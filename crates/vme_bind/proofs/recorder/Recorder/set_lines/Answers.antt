@@ -13,7 +13,7 @@ pub loop-tap-init : goal.loop-tap-init
 unfolding changed
 loop-tap-init c =
     let now : c.self.inside.now ≡ c.args.self.now.now = search rules in
-    record { now = now; shown = search rules; steps = search rules; touched = c.self.invariant }
+    record { now = now; shown = search rules; touched = c.self.invariant }
 
 pub loop-tap-preserved : goal.loop-tap-preserved
 loop-tap-preserved c =
@@ -34,7 +34,6 @@ loop-tap-preserved c =
           record {
             now = set ∙ ap (λ (v : Levels). set_level v tap.line level) c.loop-tap.invariant.now ∙ more;
             shown = rw w.self-inside-is c.loop-tap.invariant.shown;
-            steps = rw w.self-inside-is c.loop-tap.invariant.steps;
             touched = rw (w.self-inside-is, set, w.in_ok-push.ensures.items) (touched-more inside.shown inside.now inside.touched.items tap.line level c.loop-tap.invariant.touched here);
           }
       | else-not-is_same w ↦
@@ -43,7 +42,6 @@ loop-tap-preserved c =
           record {
             now = set ∙ ap (λ (v : Levels). set_level v tap.line level) c.loop-tap.invariant.now ∙ more;
             shown = rw w.self-inside-is c.loop-tap.invariant.shown;
-            steps = rw w.self-inside-is c.loop-tap.invariant.steps;
             touched = rw (w.self-inside-is, set) (touched-same inside.shown inside.now inside.touched.items tap.line level c.loop-tap.invariant.touched here same);
           }
     ]

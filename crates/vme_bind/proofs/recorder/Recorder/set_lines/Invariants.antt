@@ -7,6 +7,5 @@ abbrev pub invariant-loop-tap : goal.invariant-loop-tap
 invariant-loop-tap l = record {
   now : l.self-inside.now ≡ changed l.fn.self.now (map (tapped l.bits) (take l.tap-index l.taps));
   shown : l.self-inside.shown ≡ l.fn.self.shown;
-  steps : l.self-inside.steps.items ≡ l.fn.self.steps;
   touched : AreTouched l.self-inside.shown l.self-inside.now l.self-inside.touched.items;
 }

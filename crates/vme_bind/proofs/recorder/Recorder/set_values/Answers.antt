@@ -19,5 +19,4 @@ loop-value-preserved c =
           ∙ sym (valued-step taps values i v old.now c.loop-value-test.true c.value-item.is) ∙ c.loop-value.invariant.now;
       slots = ap (λ (p : Progress). p.now.slots) ok ∙ slots-kept old.now (map (tapped v.bits) (taps_of taps v.net)) ∙ c.loop-value.invariant.slots;
       shown = ap (λ (p : Progress). p.shown) ok ∙ c.loop-value.invariant.shown;
-      steps = ap (λ (p : Progress). p.steps) ok ∙ c.loop-value.invariant.steps;
     }

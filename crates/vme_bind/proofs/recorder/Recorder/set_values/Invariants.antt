@@ -7,5 +7,4 @@ invariant-loop-value l = record {
   now : valued l.taps (drop l.value-index l.values) l.self.now ≡ valued l.taps l.values l.fn.self.now;
   slots : l.self.now.slots ≡ l.fn.self.now.slots;
   shown : l.self.shown ≡ l.fn.self.shown;
-  steps : l.self.steps ≡ l.fn.self.steps;
 }

@@ -1,0 +1,26 @@
+//! A recording that is kept as it is made.
+
+use std::alloc::{AllocError, Global};
+use vme_trace::{Follower, Lines, Step};
+
+/// The opening and the steps of a recording, which are kept.
+#[derive(Drop)]
+pub(crate) struct Kept {
+    pub(crate) opening: Lines,
+    pub(crate) steps: Vec<Step>,
+}
+
+impl Follower for Kept {
+    ghost recorded = { λ kept. record { opening = kept.opening; steps = kept.steps.items } };
+
+    fn open(&mut self, opening: &Lines) {
+        self.opening = *opening;
+        self.steps.clear();
+    }
+
+    fn step(&mut self, alloc: Global, step: Step) -> Result<(), AllocError> {
+        let _ = alloc;
+        self.steps.push(step)?;
+        Ok(())
+    }
+}
