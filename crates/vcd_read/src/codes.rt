@@ -88,39 +88,3 @@ impl Codes {
         Ok(net)
     }
 }
-
-#[cfg(test)]
-mod tests {
-    use super::*;
-    use std::test::Fail;
-
-    #[test]
-    fn nets_are_found_by_their_codes(rt: HostRuntime) -> Result<(), Fail> {
-        let declared: [(&[u8], u32); 6] = [
-            (b"!", 1),
-            (b"\"", 8),
-            (b"!!", 3),
-            (b"~~~", 1),
-            (b"!!!!", 65536),
-            (b"clock", 1),
-        ];
-        let mut codes = Codes::new(rt.alloc())?;
-        for (net, (code, size)) in declared.iter().enumerate() {
-            assert!(rt; codes.net(code).is_none());
-            assert_eq!(rt; codes.add(rt.alloc(), code, *size)? as usize, net);
-        }
-        for (net, (code, size)) in declared.iter().enumerate() {
-            let found = codes.net(code);
-            assert!(rt; found.is_some());
-            if let Some(found) = found {
-                assert_eq!(rt; found as usize, net);
-                assert_eq!(rt; codes.size(found), *size);
-            }
-        }
-        let others: [&[u8]; 6] = [b"", b"#", b"!\"", b"!!!", b"!!!!!", b"\x7f"];
-        for code in others {
-            assert!(rt; codes.net(code).is_none());
-        }
-        Ok(())
-    }
-}

@@ -17,8 +17,6 @@ mod reference;
 mod scopes;
 mod shape;
 mod taker;
-#[cfg(test)]
-mod tests;
 mod token;
 mod variables;
 mod waves;

@@ -15,8 +15,6 @@ mod sought;
 mod source;
 mod statements;
 mod taps;
-#[cfg(test)]
-mod tests;
 mod text_capture;
 mod wires;
 mod words;

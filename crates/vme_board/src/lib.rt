@@ -20,8 +20,3 @@ pub use bench::Bench;
 pub use board::{Board, BoardFault, Closed};
 pub use delivery::{Filed, Refusal, Refused};
 pub use vme_core::Stage;
-
-#[cfg(test)]
-mod tests;
-#[cfg(test)]
-mod thread_tests;

@@ -13,7 +13,5 @@ mod book;
 mod joined;
 mod places;
 mod recording;
-#[cfg(test)]
-mod tests;
 
 pub use book::{Book, BookFault, CloseFault, InsertFault, Whole};

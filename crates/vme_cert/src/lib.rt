@@ -41,8 +41,6 @@ mod search;
 mod signals;
 mod span;
 mod tenures;
-#[cfg(test)]
-mod tests;
 mod transfers;
 mod verdict;
 

@@ -2,10 +2,6 @@
 #![tactic(auto)]
 
 pub mod acknowledge;
-#[cfg(test)]
-mod acknowledge_tests;
 pub mod grant;
 mod grant_levels;
 pub mod grant_memory;
-#[cfg(test)]
-mod grant_tests;

@@ -5,5 +5,3 @@ pub mod cycle;
 pub mod edges;
 pub mod handshake;
 pub mod memory;
-#[cfg(test)]
-mod tests;

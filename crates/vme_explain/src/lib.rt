@@ -13,8 +13,6 @@ mod rows;
 mod shown;
 mod sources;
 mod summary;
-#[cfg(test)]
-mod tests;
 mod viewer;
 
 pub use excerpt::{levels_from, marks_of, time_at};

@@ -11,8 +11,6 @@ mod changes;
 mod finding;
 mod names;
 mod proposal;
-#[cfg(test)]
-mod tests;
 mod timescale;
 mod variables;
 mod writing;

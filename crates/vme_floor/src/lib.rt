@@ -19,8 +19,6 @@ mod gate;
 mod report;
 mod runner;
 mod settle;
-#[cfg(test)]
-mod tests;
 mod threads;
 mod worker;
 

@@ -7,8 +7,6 @@ pub mod listing;
 mod place;
 pub mod read;
 pub mod row;
-#[cfg(test)]
-mod tests;
 pub mod text;
 mod words;
 pub mod write;

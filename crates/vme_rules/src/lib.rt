@@ -7,8 +7,6 @@
 
 mod guide;
 mod page;
-#[cfg(test)]
-mod tests;
 
 pub use guide::Guide;
 pub use page::{push_rule, rules_text};

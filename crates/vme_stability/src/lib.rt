@@ -5,7 +5,5 @@
 pub mod holding;
 pub mod sight;
 pub mod stability;
-#[cfg(test)]
-mod tests;
 
 pub use stability::Stability;

@@ -10,8 +10,6 @@ mod input;
 mod io;
 mod message;
 mod output;
-#[cfg(test)]
-mod tests;
 
 pub use input::{InFault, read_all};
 pub use io::{Bytes, Io};

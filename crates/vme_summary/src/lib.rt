@@ -21,18 +21,12 @@ mod found;
 pub mod judge;
 pub mod judged;
 mod judging;
-#[cfg(test)]
-mod listing_tests;
 mod monitors;
-#[cfg(test)]
-mod moving_tests;
 pub mod progress;
 mod rows;
 pub mod span;
 mod summary;
 mod taken;
-#[cfg(test)]
-mod tests;
 
 pub use cut::{listing_by_blocks, verdict_by_blocks};
 pub use judge::{Judge, NoVerdict};

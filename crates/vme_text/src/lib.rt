@@ -4,8 +4,6 @@
 //! there is none. Start reading at [`Text::push`].
 #![tactic(auto)]
 
-#[cfg(test)]
-mod tests;
 mod text;
 
 pub use text::Text;

@@ -14,8 +14,6 @@ pub mod name;
 pub mod rule;
 pub mod step;
 pub mod stream;
-#[cfg(test)]
-mod tests;
 pub mod verdict;
 
 pub use block::{Block, Malformed};

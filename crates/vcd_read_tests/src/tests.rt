@@ -1,0 +1,310 @@
+use smallvec::SmallVec;
+use std::alloc::{AllocError, Global};
+use std::process::Abort;
+use std::test::Fail;
+use vcd_read::{Bit, Bits, Dump, FaultKind, Path, Value, Values, VcdFault, read_vcd};
+
+/// What a dump says, a line for each variable and each instant.
+fn shown(alloc: Global, dump: &Dump) -> Result<Vec<u8>, AllocError> {
+    let mut text = Vec::new(alloc);
+    for variable in dump.variables() {
+        text.extend_from_slice(variable.path.as_bytes())?;
+        if let Some((left, right)) = variable.index {
+            text.extend_from_slice(format!(in alloc; "[{left}:{right}]")?.as_bytes())?;
+        }
+        let (size, net) = (variable.size, variable.net);
+        text.extend_from_slice(format!(in alloc; " {size} {net}\n")?.as_bytes())?;
+    }
+    for instant in dump.instants() {
+        let time = instant.time;
+        text.extend_from_slice(format!(in alloc; "#{time}")?.as_bytes())?;
+        for value in instant.values.as_slice() {
+            let net = value.net;
+            text.extend_from_slice(format!(in alloc; " {net}=")?.as_bytes())?;
+            show_bits(&mut text, value.bits.as_slice())?;
+        }
+        text.push(b'\n')?;
+    }
+    Ok(text)
+}
+
+fn show_bits(text: &mut Vec<u8>, bits: &[Bit]) -> Result<(), AllocError> {
+    for bit in bits {
+        text.push(match bit {
+            Bit::Zero => b'0',
+            Bit::One => b'1',
+            Bit::X => b'x',
+            Bit::Z => b'z',
+        })?;
+    }
+    Ok(())
+}
+
+/// Reads a text, and tells whether the dump is the one that is wanted.
+fn reads_as(rt: &impl Abort, alloc: Global, text: &[u8], wanted: &str) -> Result<(), Fail> {
+    let dump = read_vcd(alloc, text)?;
+    let found = shown(alloc, &dump)?;
+    assert!(rt; found.as_slice() == wanted.as_bytes(), "not {wanted}");
+    Ok(())
+}
+
+/// Whether reading a text gives this fault.
+fn fails_with(alloc: Global, text: &[u8], line: u64, kind: FaultKind) -> bool {
+    match read_vcd(alloc, text) {
+        Ok(_) => false,
+        Err(fault) => fault.line == line && fault.kind == kind,
+    }
+}
+
+/// A recording of six lines of the bus.
+const BUS: &str = "\
+$timescale 1 ns $end
+$scope module bus $end
+$var wire 1 p AS $end
+$var wire 1 q DS0 $end
+$var wire 1 r DS1 $end
+$var wire 1 s DTACK $end
+$var wire 1 t BERR $end
+$var wire 1 u IACK $end
+$upscope $end
+$enddefinitions $end
+#0 1p 1q 1r 1s 1t 1u
+#10 0p
+#20 0q
+#30 0s
+#40 1p 1q
+#50 1s
+";
+
+/// What the recording says.
+const BUS_SHOWN: &str = "\
+bus.AS 1 0
+bus.DS0 1 1
+bus.DS1 1 2
+bus.DTACK 1 3
+bus.BERR 1 4
+bus.IACK 1 5
+#0 0=1 1=1 2=1 3=1 4=1 5=1
+#10 0=0
+#20 1=0
+#30 3=0
+#40 0=1 1=1
+#50 3=1
+";
+
+#[test]
+fn reads_a_recording_of_the_bus(rt: HostRuntime) -> Result<(), Fail> {
+    reads_as(&rt, rt.alloc(), BUS.as_bytes(), BUS_SHOWN)
+}
+
+#[test]
+fn extends_short_values_on_the_left(rt: HostRuntime) -> Result<(), Fail> {
+    let text = "$var wire 6 p P $end $enddefinitions $end\n\
+        #0 b1x p #1 bx1 p #2 bz p #3 b1 p #4 0p #5 xp #6 B01Xz p";
+    let wanted =
+        "P 6 0\n#0 0=00001x\n#1 0=xxxxx1\n#2 0=zzzzzz\n#3 0=000001\n#4 0=000000\n#5 0=xxxxxx\n#6 0=0001xz\n";
+    reads_as(&rt, rt.alloc(), text.as_bytes(), wanted)
+}
+
+#[test]
+fn reads_a_value_of_more_bits_than_lie_inline(rt: HostRuntime) -> Result<(), Fail> {
+    let text =
+        "$var reg 20 ! D [19:0] $end $enddefinitions $end #3 b10000000000000000001 ! 1! bx1 !";
+    let wanted = "D[19:0] 20 0\n#3 0=xxxxxxxxxxxxxxxxxxx1\n";
+    reads_as(&rt, rt.alloc(), text.as_bytes(), wanted)
+}
+
+#[test]
+fn reads_scopes_indices_aliases_and_comments(rt: HostRuntime) -> Result<(), Fail> {
+    let text = "$comment $scope $end $date today $end\n\
+        $scope module rack $end $scope begin $end $var wire 4 a D [3:0] $end $upscope $end\n\
+        $scope module slot 1 $end $var wire 4 a ALIAS [4:1] $end $var wire 1 b n [ 7 ] $end\n\
+        $var integer 3 c B[3:0] $end $upscope $upscope $end $var real 0 d R $end $enddefinitions now $end\n\
+        1b $comment a #5 $end $dumpvars b1 a 0b rnone c $end\n\
+        $comment $end #7 #7 zb s c $dumpoff xb bx a $end 1b #9 #10 b0 c";
+    let wanted =
+        "rack.D[3:0] 4 0\nrack.slot1.ALIAS[4:1] 4 0\nrack.slot1.n[7:7] 1 1\nrack.slot1.B[3:0] 3 2\nrack.R 0 3\n\
+        #0 0=0001 1=0\n#7 0=xxxx 1=1\n#9\n#10 2=000\n";
+    reads_as(&rt, rt.alloc(), text.as_bytes(), wanted)
+}
+
+/// Six variables with codes of one to five bytes, and a seventh with a code that another has.
+const CODES: &str = "\
+$var wire 1 ! a $end $var reg 8 \" b $end $var wire 1 !! c $end $var wire 1 ~~~ d $end
+$var wire 65536 !!!! e $end $var wire 1 clock f $end $var wire 8 \" g $end $enddefinitions $end
+";
+
+#[test]
+fn nets_are_found_by_their_codes(rt: HostRuntime) -> Result<(), Fail> {
+    let text = format!(in rt.alloc(); "{CODES}#0 1! b1 \" 0!! x~~~ zclock")?;
+    let wanted =
+        "a 1 0\nb 8 1\nc 1 2\nd 1 3\ne 65536 4\nf 1 5\ng 8 1\n#0 0=1 1=00000001 2=0 3=x 5=z\n";
+    reads_as(&rt, rt.alloc(), text.as_bytes(), wanted)?;
+    for other in ["#", "!\"", "!!!", "!!!!!", "\x7f"] {
+        let text = format!(in rt.alloc(); "{CODES}#0 1{other}")?;
+        assert!(rt;
+            fails_with(rt.alloc(), text.as_bytes(), 3, FaultKind::UndeclaredCode),
+            "{other}"
+        );
+    }
+    Ok(())
+}
+
+#[test]
+fn skipped_changes_make_no_instant(rt: HostRuntime) -> Result<(), Fail> {
+    let text = "$var wire 1 p AS $end $enddefinitions $end r1.5 p R p $dumpall s p $end #4";
+    reads_as(&rt, rt.alloc(), text.as_bytes(), "AS 1 0\n#4\n")
+}
+
+#[test]
+fn an_index_of_another_count_belongs_to_the_name(rt: HostRuntime) -> Result<(), Fail> {
+    let text = "$var wire 3 p B[3:0] $end\n$enddefinitions $end\n";
+    let dump = read_vcd(rt.alloc(), text.as_bytes())?;
+    assert_eq!(rt; dump.variables().len(), 1);
+    assert!(rt; dump.variables()[0].path.as_bytes() == b"B[3:0]".as_slice());
+    assert_eq!(rt; dump.variables()[0].index, None);
+    assert!(rt; dump.instants().is_empty());
+    Ok(())
+}
+
+#[test]
+fn bits_values_and_paths_are_given_back(rt: HostRuntime) -> Result<(), Fail> {
+    let bits = SmallVec::from_slice(rt.alloc(), &[Bit::Z, Bit::One])?;
+    let bits = Bits::from_small_vec(bits).into_inner();
+    assert!(rt; bits.as_slice() == [Bit::Z, Bit::One].as_slice());
+    let mut values = Vec::new(rt.alloc());
+    let bits = Bits::from_small_vec(bits);
+    values.push(Value { net: 3, bits })?;
+    let values = Values::from_vec(values).into_inner();
+    assert!(rt; values.len() == 1 && values[0].net == 3);
+    let path = Path::from_vec(Vec::from_slice(rt.alloc(), b"bus.AS")?).into_inner();
+    assert!(rt; path.as_slice() == b"bus.AS".as_slice());
+    Ok(())
+}
+
+/// One variable of one bit, in two lines.
+const ONE_BIT: &str = "$var wire 1 p AS $end\n$enddefinitions $end\n";
+
+#[test]
+fn names_the_first_fault_of_a_body(rt: HostRuntime) -> Result<(), Fail> {
+    for (body, line, kind) in [
+        ("1q", 3, FaultKind::UndeclaredCode),
+        ("b10 p", 3, FaultKind::TooWide),
+        ("#5\n#4", 4, FaultKind::TimeBackwards),
+        ("#18446744073709551616", 3, FaultKind::NumberTooLarge),
+        ("2p", 3, FaultKind::BadToken),
+        ("$dumpvars 1p", 3, FaultKind::UnfinishedSection),
+        ("$comment x", 3, FaultKind::UnfinishedSection),
+        ("b1", 3, FaultKind::UnfinishedSection),
+        ("$end", 3, FaultKind::BadToken),
+        ("$dumpvars $dumpall $end $end", 3, FaultKind::BadToken),
+        ("$dumpvars\n1q", 4, FaultKind::UndeclaredCode),
+        ("\n#5 b1\nq", 4, FaultKind::UndeclaredCode),
+        ("r1.5\n\nq", 3, FaultKind::UndeclaredCode),
+        ("b1 $end", 3, FaultKind::UndeclaredCode),
+        ("b12", 3, FaultKind::BadToken),
+        ("1", 3, FaultKind::BadToken),
+        ("#", 3, FaultKind::BadToken),
+        ("#1x", 3, FaultKind::BadToken),
+        ("S p", 3, FaultKind::BadToken),
+        ("$dumpflush", 3, FaultKind::BadToken),
+    ] {
+        let text = format!(in rt.alloc(); "{ONE_BIT}{body}")?;
+        assert!(rt;
+            fails_with(rt.alloc(), text.as_bytes(), line, kind),
+            "{body}"
+        );
+    }
+    Ok(())
+}
+
+#[test]
+fn names_the_first_fault_of_a_header(rt: HostRuntime) {
+    for (text, line, kind) in [
+        ("$upscope $end", 1, FaultKind::ScopeUnderflow),
+        ("$var wire 1 p $end", 1, FaultKind::BadVar),
+        ("$var wire 1 p AS $end\n", 2, FaultKind::NoEndDefinitions),
+        (
+            "$var wire 1 p AS $end\n$var wire 2 p B $end",
+            2,
+            FaultKind::SizeConflict,
+        ),
+        ("", 1, FaultKind::NoEndDefinitions),
+        ("$var wire 65537 p A $end", 1, FaultKind::NumberTooLarge),
+        (
+            "$var wire 0 p A $end\n$enddefinitions $end\n0p",
+            3,
+            FaultKind::TooWide,
+        ),
+        ("$var wire one p A $end", 1, FaultKind::BadVar),
+        ("$scope module a $end\n#0", 2, FaultKind::BadToken),
+        ("\n\n$end", 3, FaultKind::BadToken),
+        ("$date\n$var wire 1 p A", 1, FaultKind::UnfinishedSection),
+    ] {
+        assert!(rt;
+            fails_with(rt.alloc(), text.as_bytes(), line, kind),
+            "{text}"
+        );
+    }
+}
+
+#[test]
+fn a_fault_is_shown_with_its_line(rt: HostRuntime) -> Result<(), Fail> {
+    let kind = FaultKind::BadVar;
+    let fault = VcdFault { line: 3, kind };
+    let shown = format!(in rt.alloc(); "{fault}")?;
+    assert!(rt; shown.as_str() == "dump line 3: BadVar");
+    Ok(())
+}
+
+#[test]
+fn every_prefix_of_a_recording_is_a_dump_or_has_a_fault(rt: HostRuntime) {
+    let text = BUS.as_bytes();
+    for end in 0..text.len() {
+        if let Err(fault) = read_vcd(rt.alloc(), &text[..end]) {
+            assert!(rt; fault.kind != FaultKind::Memory, "at {end}");
+        }
+        if text[..end].ends_with(b"$enddef") {
+            let kind = FaultKind::UnfinishedSection;
+            assert!(rt; fails_with(rt.alloc(), &text[..end], 10, kind));
+        }
+        if text[..end].ends_with(b"#0 1p 1q 1r 1s 1t 1u\n#") {
+            assert!(rt; fails_with(rt.alloc(), &text[..end], 12, FaultKind::BadToken));
+        }
+    }
+}
+
+#[test]
+fn scopes_stand_in_one_another_to_any_depth(rt: HostRuntime) -> Result<(), Fail> {
+    let mut text = Vec::new(rt.alloc());
+    for _ in 0..100_000 {
+        text.extend_from_slice(b"$scope module a $end\n")?;
+    }
+    text.extend_from_slice(b"$enddefinitions $end")?;
+    let dump = read_vcd(rt.alloc(), &text)?;
+    assert!(rt; dump.variables().is_empty() && dump.instants().is_empty());
+    Ok(())
+}
+
+/// A recording in which each growth of memory is met: nested scopes, codes in the table and in the map, references of
+/// several words, a value of more bits than lie inline, and several values at an instant.
+const GROWING: &str = "\
+$scope module rack $end $scope module slot 1 $end $var wire 1 p AS $end $upscope $end
+$var wire 1 clock0 clk $end $var wire 1 clock1 clk [ 1 ] $end $var wire 20 ~~~ D [19:0] $end
+$enddefinitions $end
+#0 1p 1clock0 0clock1 bx ~~~ #1 0p #2 b1 ~~~ 1p 0clock0
+";
+
+/// Run with each allocation refused in turn, this shows that the answer is then want of memory.
+#[test]
+fn want_of_memory_is_the_fault(rt: HostRuntime) {
+    match read_vcd(rt.alloc(), GROWING.as_bytes()) {
+        Ok(dump) => assert!(rt; dump.instants().len() == 3 && dump.variables().len() == 4),
+        Err(fault) => {
+            assert!(rt;
+                fault.line == 0 && fault.kind == FaultKind::Memory,
+                "{fault:?}"
+            )
+        }
+    }
+}

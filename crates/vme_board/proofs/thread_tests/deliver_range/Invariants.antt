@@ -1,5 +1,0 @@
-use Rattle.vme_board.specs.Benches.{IsOf}
-use Rattle.vme_board.proofs.thread_tests.deliver_range.Given as goal
-
-abbrev pub invariant-loop-k : goal.invariant-loop-k
-invariant-loop-k l = IsOf l.work.bench l.board

@@ -1,0 +1,5 @@
+use Rattle.vme_board.specs.Benches.{IsOf}
+use Rattle.vme_board_tests.proofs.thread_tests.deliver_range.Given as goal
+
+abbrev pub invariant-loop-k : goal.invariant-loop-k
+invariant-loop-k l = IsOf l.work.bench l.board

@@ -1,0 +1,381 @@
+use smallvec::SmallVec;
+use std::alloc::Global;
+use std::process::Abort;
+use std::test::Fail;
+use vme_cert::{Answer, confirm};
+use vme_listing::{Direction, Listing, Outcome, Row, read_listing};
+use vme_trace::{Capture, Change, Changes, Level, Line, Lines, Step};
+
+/// How a recording starts: its slots, the levels of its opening, and its first steps. A step is the lines that change, with their
+/// new levels, and they stand ten units apart. `high` is every line high, and `quiet` every line but A24 to A31.
+#[derive(Clone, Copy)]
+struct Start {
+    slots: u8,
+    opening: &'static str,
+    steps: &'static str,
+}
+
+/// Six lines are unknown, and all others as in an idle bus that is busy.
+const DUMPED: Start = Start {
+    slots: 1,
+    opening: "high AM1=0 BBSY=0 AS=x DS0=x DS1=x DTACK=x BERR=x IACK=x",
+    steps: "",
+};
+
+/// The bus gets quiet, and a requester in slot 2 takes it by level 3.
+const GRANTED: Start = Start {
+    slots: 3,
+    opening: "",
+    steps: "quiet;BR3=0;BG3.0=0;BG3.1=0;BBSY=0 BR3=1;BG3.0=1;BG3.1=1",
+};
+
+/// The same on a bus that is quiet from the opening on.
+const GRANTED_FROM_IDLE: Start = Start {
+    slots: 3,
+    opening: "quiet",
+    steps: "BR3=0;BG3.0=0;BG3.1=0;BBSY=0 BR3=1;BG3.0=1;BG3.1=1",
+};
+
+/// The bus gets quiet, and a grant goes on to slot 3.
+const PASSED_ON: Start = Start {
+    slots: 3,
+    opening: "",
+    steps: "quiet;BR3=0;BG3.0=0;BG3.1=0;BG3.2=0",
+};
+
+/// A read by modifier 39.
+const READ: &str = "AM1=0 AM2=0 A05=0;AS=0;DS0=0 DS1=0;DTACK=0;AS=1 DS0=1 DS1=1;DTACK=1;BBSY=1";
+
+/// Recordings, and the rows of their listings.
+const LISTINGS: [(Start, &'static str, &'static str); 20] = [
+    (
+        DUMPED,
+        "AS=1 DS0=1 DS1=1 DTACK=1 BERR=1 IACK=1;AS=0;DS0=0;DTACK=0;AS=1 DS0=1;DTACK=1",
+        "start 1\ntenure 1 open end -\ncycle 2 S 3D FFFFFE end 5\ntransfer 3 of 2 read DTACK 4 close 5\nverdict conforming\n",
+    ),
+    (DUMPED, "", "verdict never-idle\n"),
+    (
+        DUMPED,
+        "AS=1 DS0=1 DS1=1 DTACK=1 BERR=1 IACK=1;AS=0;DTACK=0;AS=1;DTACK=1",
+        "start 1\ntenure 1 open end -\ncycle 2 S 3D FFFFFE end -\nverdict broken H4 3 DTACK\n",
+    ),
+    (
+        DUMPED,
+        "AS=1 DS0=1 DS1=1 DTACK=1 BERR=1 IACK=1;AS=x;DS0=0;DTACK=0;AS=1 DS0=1;DTACK=1",
+        "start 1\ntenure 1 open end -\nverdict unreadable U1 2 AS\n",
+    ),
+    (
+        GRANTED,
+        READ,
+        "start 1\ntenure 5 level 3 slot 2 end 14\ncycle 9 S 39 FFFFDE end 12\ntransfer 10 of 9 read DTACK 11 close 12\nverdict conforming\n",
+    ),
+    (
+        GRANTED_FROM_IDLE,
+        READ,
+        "start 0\ntenure 4 level 3 slot 2 end 13\ncycle 8 S 39 FFFFDE end 11\ntransfer 9 of 8 read DTACK 10 close 11\nverdict conforming\n",
+    ),
+    (
+        GRANTED,
+        "AM1=0 AM2=0 A05=0;AS=0;DS0=0 DS1=0;DTACK=0;AS=1;A05=1;AS=0;DS0=1 DS1=1;DTACK=1;DS0=0 DS1=0;DTACK=0;AS=1 DS0=1 DS1=1;DTACK=1 BBSY=1",
+        "start 1\ntenure 5 level 3 slot 2 end 20\ncycle 9 S 39 FFFFDE end 12\ntransfer 10 of 9 read DTACK 11 close 15\ncycle 14 S 39 FFFFFE end 19\ntransfer 17 of 14 read DTACK 18 close 19\nverdict conforming\n",
+    ),
+    (
+        GRANTED,
+        "AM1=0 A05=0;AS=0;DS0=0 DS1=0;DTACK=0;DS0=1 DS1=1;DTACK=1;WRITE=0;DS0=0 DS1=0;DTACK=0;AS=1 DS0=1 DS1=1;DTACK=1",
+        "start 1\ntenure 5 level 3 slot 2 end -\ncycle 9 S 3D FFFFDE end 17\ntransfer 10 of 9 read DTACK 11 close 12\ntransfer 15 of 9 write DTACK 16 close 17\nverdict conforming\n",
+    ),
+    (
+        GRANTED,
+        "AM1=0 WRITE=0 A05=0;AS=0;DS0=0 DS1=0;DTACK=0;DS0=1 DS1=1;DTACK=1;WRITE=1;DS0=0 DS1=0;DTACK=0;AS=1 DS0=1 DS1=1;DTACK=1",
+        "start 1\ntenure 5 level 3 slot 2 end -\ncycle 9 S 3D FFFFDE end -\ntransfer 10 of 9 write DTACK 11 close 12\ntransfer 15 read pending\nverdict broken C1 16 DTACK\n",
+    ),
+    (
+        GRANTED,
+        "AM2=0 A05=0;AS=0;DS0=0 DS1=0;DTACK=0;DS0=1 DS1=1;DTACK=1 WRITE=0;DS0=0 DS1=0;DTACK=0",
+        "start 1\ntenure 5 level 3 slot 2 end -\ncycle 9 K 3B FFFFDE end -\ntransfer 10 of 9 read DTACK 11 close 12\ntransfer 14 write pending\nverdict broken C2 15 DTACK\n",
+    ),
+    (
+        GRANTED,
+        "AM1=0 AM2=0 A05=0;AS=0;DTACK=0",
+        "start 1\ntenure 5 level 3 slot 2 end -\ncycle 9 S 39 FFFFDE end -\nverdict broken H4 10 DTACK\n",
+    ),
+    (
+        GRANTED,
+        "AM1=0 AM2=0 AM4=0 A05=0;AS=0;DS0=0 DS1=0;DTACK=0;AS=1 DS0=1 DS1=1;DTACK=1;BBSY=1",
+        "start 1\ntenure 5 level 3 slot 2 end 14\ncycle 9 S 29 FFDE end 12\ntransfer 10 of 9 read DTACK 11 close 12\nverdict conforming\n",
+    ),
+    (
+        GRANTED,
+        "AM1=0 AM2=0 AM4=0 A05=0;AS=0;DS0=0 DS1=0 A05=1;DTACK=0;AS=1 DS0=1 DS1=1;DTACK=1;BBSY=1",
+        "start 1\ntenure 5 level 3 slot 2 end -\ncycle 9 S 29 FFDE end -\nverdict broken S1 10 A05\n",
+    ),
+    (
+        GRANTED,
+        "AM1=0 AM2=0 AM3=x A05=0;AS=0;DS0=0 DS1=0;DTACK=0;AS=1 DS0=1 DS1=1;DTACK=1;BBSY=1",
+        "start 1\ntenure 5 level 3 slot 2 end -\nverdict unreadable U2 9 AM3\n",
+    ),
+    (
+        GRANTED,
+        "A05=0;AS=0;DS0=0 DS1=0;DTACK=0;AS=1 DS0=1 DS1=1;DTACK=1;BBSY=1",
+        "start 1\ntenure 5 level 3 slot 2 end 14\ncycle 9 K 3F FFFFDE end 12\ntransfer 10 of 9 read DTACK 11 close 12\nverdict conforming\n",
+    ),
+    (
+        PASSED_ON,
+        "BBSY=0 BR3=1;BBSY=1;BBSY=0",
+        "start 1\ntenure 6 level 3 slot 3 end 7\nverdict broken B2 8 BBSY\n",
+    ),
+    (
+        PASSED_ON,
+        "BBSY=0 BR3=1;BG3.0=1;BG3.1=1;BG3.2=1;BBSY=1;BBSY=0",
+        "start 1\ntenure 6 level 3 slot 3 end 10\nverdict broken B1 11 BBSY\n",
+    ),
+    (
+        PASSED_ON,
+        "BG3.3=0;BBSY=0",
+        "start 1\nverdict broken B4 7 BBSY\n",
+    ),
+    (
+        PASSED_ON,
+        "BG3.3=0;BG3.0=1;BG3.1=1 BG3.2=1 BG3.3=1",
+        "start 1\nverdict conforming\n",
+    ),
+    (
+        GRANTED,
+        "IACK=0 A02=0;AS=0;DS0=0;IA.1=0;DTACK=0;AS=1 DS0=1 IA.1=1;DTACK=1 IACK=1;BBSY=1",
+        "start 1\ntenure 5 level 3 slot 2 end 15\ncycle 9 I 5 end 13\ntransfer 10 of 9 read DTACK 12 close 13\nverdict conforming\n",
+    ),
+];
+
+/// The change that a word says, as BR3=0.
+fn change_of(word: &str) -> Option<Change> {
+    let (name, level) = word.split_once('=')?;
+    let level = match level.as_bytes() {
+        [b'0'] => Level::Low,
+        [b'1'] => Level::High,
+        _ => Level::Unknown,
+    };
+    Some(Change {
+        line: Line::from_name(name.as_bytes())?,
+        level,
+    })
+}
+
+/// Adds that each line gets high, but those of some numbers.
+fn push_high(changes: &mut Vec<Change>, lines: &Lines, first: u8, last: u8) -> Result<(), Fail> {
+    for number in 0..159 {
+        let line = Line::from_number(number).ok_or("no such line")?;
+        if lines.has(line) && (number < first || last < number) {
+            changes.push(Change {
+                line,
+                level: Level::High,
+            })?;
+        }
+    }
+    Ok(())
+}
+
+/// The changes that a text says.
+fn changes_of(alloc: Global, lines: &Lines, text: &str) -> Result<Vec<Change>, Fail> {
+    let mut changes = Vec::new(alloc);
+    for word in text.split_whitespace() {
+        if word == "high" {
+            push_high(&mut changes, lines, 159, 159)?;
+        } else if word == "quiet" {
+            push_high(&mut changes, lines, 37, 44)?;
+        } else {
+            changes.push(change_of(word).ok_or("no change")?)?;
+        }
+    }
+    Ok(changes)
+}
+
+/// Adds the steps of a text.
+fn push_steps(alloc: Global, steps: &mut Vec<Step>, lines: &Lines, text: &str) -> Result<(), Fail> {
+    for part in text.split(';') {
+        if !part.is_empty() {
+            let time = (steps.len() as u64).saturating_mul(10);
+            let changes = changes_of(alloc, lines, part)?;
+            let changes = Changes::new(SmallVec::from_slice(alloc, changes.as_slice())?);
+            steps.push(Step { time, changes })?;
+        }
+    }
+    Ok(())
+}
+
+fn capture_of(alloc: Global, start: Start, text: &str) -> Result<Capture, Fail> {
+    let mut opening = Lines::new(start.slots).ok_or("no such backplane")?;
+    for change in changes_of(alloc, &opening, start.opening)? {
+        if opening.has(change.line) {
+            opening.set(change.line, change.level);
+        }
+    }
+    let mut steps = Vec::new(alloc);
+    push_steps(alloc, &mut steps, &opening, start.steps)?;
+    push_steps(alloc, &mut steps, &opening, text)?;
+    Ok(Capture::new(opening, steps).ok().ok_or("malformed")?)
+}
+
+fn rows_of(alloc: Global, text: &str) -> Result<Vec<Row>, Fail> {
+    let mut bytes = Vec::from_slice(alloc, b"vmecheck listing 1\n")?;
+    bytes.extend_from_slice(text.as_bytes())?;
+    let listing = read_listing(alloc, bytes.as_slice());
+    Ok(listing.ok().ok_or("no listing")?.into_rows())
+}
+
+/// What is said of some rows: those at the front, some more, and those at the back. Where memory is short once, they are
+/// compared again.
+fn answer(
+    alloc: Global,
+    capture: &Capture,
+    front: &[Row],
+    more: &[Row],
+    back: &[Row],
+) -> Result<Answer, Fail> {
+    let mut rows = Vec::from_slice(alloc, front)?;
+    rows.extend_from_slice(more)?;
+    rows.extend_from_slice(back)?;
+    let listing = Listing::new(rows);
+    match confirm(alloc, capture, &listing) {
+        Ok(answer) => Ok(answer),
+        Err(_) => Ok(confirm(alloc, capture, &listing)?),
+    }
+}
+
+/// Another end.
+fn other_end(end: Option<u32>) -> Option<u32> {
+    match end {
+        Some(end) => Some(end ^ 1),
+        None => Some(12),
+    }
+}
+
+/// The row, but for one word.
+fn changed(row: Row) -> Row {
+    match row {
+        Row::Start { instant } => Row::Start {
+            instant: instant ^ 1,
+        },
+        Row::OpenTenure { start, end } => Row::OpenTenure {
+            start,
+            end: other_end(end),
+        },
+        Row::Tenure {
+            start,
+            level,
+            slot,
+            end,
+        } => Row::Tenure {
+            start,
+            level,
+            slot: slot ^ 1,
+            end,
+        },
+        Row::AddressedCycle {
+            start,
+            class,
+            modifier,
+            address,
+            end,
+        } => Row::AddressedCycle {
+            start,
+            class,
+            modifier,
+            address: address ^ 2,
+            end,
+        },
+        Row::FreeCycle {
+            start,
+            modifier,
+            end,
+        } => Row::FreeCycle {
+            start,
+            modifier: modifier ^ 1,
+            end,
+        },
+        Row::InterruptCycle { start, level, end } => Row::InterruptCycle {
+            start,
+            level: level ^ 1,
+            end,
+        },
+        Row::Transfer {
+            start,
+            cycle,
+            direction,
+            line,
+            answer,
+            close,
+        } => Row::Transfer {
+            start,
+            cycle,
+            direction,
+            line,
+            answer,
+            close: other_end(close),
+        },
+        Row::PendingTransfer { start, direction } => Row::PendingTransfer {
+            start: start ^ 1,
+            direction,
+        },
+        Row::Verdict(Outcome::NeverIdle) => Row::Verdict(Outcome::Conforming),
+        Row::Verdict(_) => Row::Verdict(Outcome::NeverIdle),
+    }
+}
+
+/// A row that no listing has.
+const STRANGE: Row = Row::PendingTransfer {
+    start: 0,
+    direction: Direction::Write,
+};
+
+/// The first row that differs is named, whichever it is that is left out, changed or added.
+fn assert_each_row_counts(
+    rt: &impl Abort,
+    alloc: Global,
+    capture: &Capture,
+    rows: &[Row],
+) -> Result<(), Fail> {
+    for place in 0..rows.len() {
+        let no = Answer::No { row: place + 1 };
+        let front = &rows[..place];
+        let row = rows[place];
+        let back = &rows[place + 1..];
+        assert_eq!(rt;
+            answer(alloc, capture, front, &[], back)?,
+            no,
+            "{row:?} left out"
+        );
+        assert_eq!(rt;
+            answer(alloc, capture, front, &[changed(row)], back)?,
+            no,
+            "{row:?} changed"
+        );
+        assert_eq!(rt;
+            answer(alloc, capture, front, &[STRANGE, row], back)?,
+            no,
+            "before {row:?}"
+        );
+    }
+    assert_eq!(rt;
+        answer(alloc, capture, rows, &[STRANGE], &[])?,
+        Answer::No {
+            row: rows.len().saturating_add(1)
+        }
+    );
+    Ok(())
+}
+
+#[test]
+fn listings(rt: HostRuntime) -> Result<(), Fail> {
+    for (start, steps, text) in LISTINGS {
+        let capture = capture_of(rt.alloc(), start, steps)?;
+        let rows = rows_of(rt.alloc(), text)?;
+        let rows = rows.as_slice();
+        assert_eq!(rt;
+            answer(rt.alloc(), &capture, rows, &[], &[])?,
+            Answer::Yes,
+            "{text}"
+        );
+        assert_each_row_counts(&rt, rt.alloc(), &capture, rows)?;
+    }
+    Ok(())
+}

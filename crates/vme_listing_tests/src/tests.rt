@@ -1,0 +1,393 @@
+use std::alloc::Global;
+use std::test::Fail;
+use vme_listing::{
+    AnswerLine, Direction, ListFault, Listing, Outcome, Row, Write, read_listing, write_listing,
+};
+use vme_trace::{Class, Failed, Line, Rule, Sink};
+
+/// A sink that takes at most 50 bytes a write, and none once it has so many.
+#[derive(Drop)]
+struct Page {
+    bytes: Vec<u8>,
+    most: usize,
+    failures: u64,
+}
+
+impl Sink for Page {
+    ghost use Rattle.std.specs.Prelude.{None};
+
+    ghost writing = { λ s. record { taken = None; failures = s.failures } };
+
+    fn write(&mut self, bytes: &[u8]) -> Result<usize, Failed> {
+        let taken = bytes.len().min(50);
+        let is_full = self.bytes.len() >= self.most;
+        if self.failures < u64::MAX
+            && (is_full || self.bytes.extend_from_slice(&bytes[..taken]).is_err())
+        {
+            self.failures += 1;
+            return Err(Failed);
+        }
+        Ok(taken)
+    }
+}
+
+/// What goes out of the listing of some rows, into a sink of that size.
+fn written(alloc: Global, rows: &[Row], most: usize) -> Result<(Result<(), Write>, Page), Fail> {
+    let listing = Listing::new(Vec::from_slice(alloc, rows)?);
+    let mut page = Page {
+        bytes: Vec::with_capacity(alloc, most)?,
+        most,
+        failures: 0,
+    };
+    let result = write_listing(&listing, &mut page);
+    Ok((result, page))
+}
+
+/// Whether the rows are written as the header and this text.
+fn is_text(alloc: Global, rows: &[Row], text: &[u8]) -> Result<bool, Fail> {
+    let (result, page) = written(alloc, rows, 10000)?;
+    let lines = page.bytes.as_slice().strip_prefix(b"vmecheck listing 1\n");
+    Ok(result == Ok(()) && page.failures == 0 && lines == Some(text))
+}
+
+const START: Row = Row::Start { instant: 1 };
+
+const CONFORMING: Row = Row::Verdict(Outcome::Conforming);
+
+fn tenure(start: u32, slot: u8, end: Option<u32>) -> Row {
+    Row::Tenure {
+        start,
+        level: 3,
+        slot,
+        end,
+    }
+}
+
+fn cycle(start: u32, modifier: u8, address: u32, end: Option<u32>) -> Row {
+    Row::AddressedCycle {
+        start,
+        class: Class::S,
+        modifier,
+        address,
+        end,
+    }
+}
+
+fn transfer(start: u32, cycle: u32, direction: Direction, answer: u32, close: u32) -> Row {
+    Row::Transfer {
+        start,
+        cycle,
+        direction,
+        line: AnswerLine::Dtack,
+        answer,
+        close: Some(close),
+    }
+}
+
+/// Reads in the standard, the short and the extended space.
+#[test]
+fn reads(rt: HostRuntime) -> Result<(), Fail> {
+    let alloc = rt.alloc();
+    let open = Row::OpenTenure {
+        start: 1,
+        end: None,
+    };
+    let first = [
+        START,
+        open,
+        cycle(2, 0x3D, 0xFFFFFE, Some(5)),
+        transfer(3, 2, Direction::Read, 4, 5),
+        CONFORMING,
+    ];
+    assert!(rt;
+        is_text(
+            alloc,
+            &first,
+            b"start 1\ntenure 1 open end -\ncycle 2 S 3D FFFFFE end 5\ntransfer 3 of 2 read DTACK 4 close 5\nverdict conforming\n"
+        )?
+    );
+    let second = [
+        START,
+        tenure(5, 2, Some(14)),
+        cycle(9, 0x39, 0xFFFFDE, Some(12)),
+        transfer(10, 9, Direction::Read, 11, 12),
+        CONFORMING,
+    ];
+    assert!(rt;
+        is_text(
+            alloc,
+            &second,
+            b"start 1\ntenure 5 level 3 slot 2 end 14\ncycle 9 S 39 FFFFDE end 12\ntransfer 10 of 9 read DTACK 11 close 12\nverdict conforming\n"
+        )?
+    );
+    let short = [START, cycle(9, 0x29, 0xFFDE, Some(12)), CONFORMING];
+    assert!(rt;
+        is_text(
+            alloc,
+            &short,
+            b"start 1\ncycle 9 S 29 FFDE end 12\nverdict conforming\n"
+        )?
+    );
+    let extended = [START, cycle(9, 0x0D, 0x1E, None), CONFORMING];
+    assert!(rt;
+        is_text(
+            alloc,
+            &extended,
+            b"start 1\ncycle 9 S 0D 0000001E end -\nverdict conforming\n"
+        )?
+    );
+    Ok(())
+}
+
+/// Two cycles, and a read and a write in one.
+#[test]
+fn transfers(rt: HostRuntime) -> Result<(), Fail> {
+    let alloc = rt.alloc();
+    let overlapped = [
+        cycle(9, 0x39, 0xFFFFDE, Some(12)),
+        transfer(10, 9, Direction::Read, 11, 15),
+        cycle(14, 0x39, 0xFFFFFE, Some(19)),
+        transfer(17, 14, Direction::Read, 18, 19),
+    ];
+    assert!(rt;
+        is_text(
+            alloc,
+            &overlapped,
+            b"cycle 9 S 39 FFFFDE end 12\ntransfer 10 of 9 read DTACK 11 close 15\ncycle 14 S 39 FFFFFE end 19\ntransfer 17 of 14 read DTACK 18 close 19\n"
+        )?
+    );
+    let modified = [
+        tenure(5, 2, None),
+        cycle(9, 0x3D, 0xFFFFDE, Some(17)),
+        transfer(10, 9, Direction::Read, 11, 12),
+        transfer(15, 9, Direction::Write, 16, 17),
+    ];
+    assert!(rt;
+        is_text(
+            alloc,
+            &modified,
+            b"tenure 5 level 3 slot 2 end -\ncycle 9 S 3D FFFFDE end 17\ntransfer 10 of 9 read DTACK 11 close 12\ntransfer 15 of 9 write DTACK 16 close 17\n"
+        )?
+    );
+    let interrupt = Row::InterruptCycle {
+        start: 9,
+        level: 5,
+        end: Some(13),
+    };
+    assert!(rt;
+        is_text(
+            alloc,
+            &[interrupt, transfer(10, 9, Direction::Read, 12, 13)],
+            b"cycle 9 I 5 end 13\ntransfer 10 of 9 read DTACK 12 close 13\n"
+        )?
+    );
+    let free = Row::FreeCycle {
+        start: 4294967295,
+        modifier: 0x1F,
+        end: None,
+    };
+    let pending = Row::PendingTransfer {
+        start: 10,
+        direction: Direction::Write,
+    };
+    assert!(rt;
+        is_text(
+            alloc,
+            &[free, pending],
+            b"cycle 4294967295 F 1F end -\ntransfer 10 write pending\n"
+        )?
+    );
+    Ok(())
+}
+
+/// The other verdicts.
+#[test]
+fn verdicts(rt: HostRuntime) -> Result<(), Fail> {
+    let alloc = rt.alloc();
+    let answered = Row::Verdict(Outcome::Broken(Rule::H4, 10, Line::DTACK));
+    assert!(rt; is_text(alloc, &[answered], b"verdict broken H4 10 DTACK\n")?);
+    let taken = Row::Verdict(Outcome::Broken(Rule::B2, 8, Line::BBSY));
+    assert!(rt;
+        is_text(
+            alloc,
+            &[START, tenure(6, 3, Some(7)), taken],
+            b"start 1\ntenure 6 level 3 slot 3 end 7\nverdict broken B2 8 BBSY\n"
+        )?
+    );
+    let lost = Row::Verdict(Outcome::Unreadable(Rule::U1, 2, Line::AS));
+    assert!(rt; is_text(alloc, &[lost], b"verdict unreadable U1 2 AS\n")?);
+    assert!(rt;
+        is_text(
+            alloc,
+            &[Row::Verdict(Outcome::NeverIdle)],
+            b"verdict never-idle\n"
+        )?
+    );
+    Ok(())
+}
+
+/// A write that fails ends it, and a front of the text is out. A listing of over 4,096 bytes goes out whole.
+#[test]
+fn pieces(rt: HostRuntime) -> Result<(), Fail> {
+    let alloc = rt.alloc();
+    let rows = [transfer(
+        1000000000,
+        1000000000,
+        Direction::Read,
+        1000000000,
+        1000000000,
+    ); 100];
+    let (result, whole) = written(alloc, &rows, 10000)?;
+    assert!(rt; result == Ok(()) && whole.bytes.len() == 19 + 100 * 73);
+    assert!(rt;
+        whole.bytes.as_slice().ends_with(
+            b"\ntransfer 1000000000 of 1000000000 read DTACK 1000000000 close 1000000000\n"
+        )
+    );
+    let (result, part) = written(alloc, &rows, 4200)?;
+    assert!(rt; result == Err(Write) && part.failures == 1);
+    assert!(rt;
+        part.bytes.len() < 4300 && whole.bytes.as_slice().starts_with(part.bytes.as_slice())
+    );
+    Ok(())
+}
+
+/// A listing of five rows: a read in the standard space.
+const WORKED: &[u8] =
+    b"vmecheck listing 1\nstart 1\ntenure 5 level 3 slot 2 end 14\ncycle 9 S 39 FFFFDE end 12\ntransfer 10 of 9 read DTACK 11 close 12\nverdict conforming\n";
+
+/// What a text reads as. Where memory is short once, it is read again.
+fn read(alloc: Global, text: &[u8]) -> Result<Listing, ListFault> {
+    match read_listing(alloc, text) {
+        Err(ListFault::Memory) => read_listing(alloc, text),
+        answer => answer,
+    }
+}
+
+/// The fault of a text, or none.
+fn fault_of(alloc: Global, text: &[u8]) -> Option<ListFault> {
+    read(alloc, text).err()
+}
+
+/// Listings that are read, and written back as the same bytes.
+#[test]
+fn read_back(rt: HostRuntime) -> Result<(), Fail> {
+    let alloc = rt.alloc();
+    let idle = b"vmecheck listing 1\nverdict never-idle\n".as_slice();
+    for text in [WORKED, idle] {
+        let listing = read(alloc, text).ok().ok_or("no listing")?;
+        let lines = text.strip_prefix(b"vmecheck listing 1\n");
+        assert!(rt; is_text(alloc, listing.rows(), lines.ok_or("no header")?)?);
+    }
+    Ok(())
+}
+
+/// Texts with a fault: its kind and its row.
+#[test]
+fn faults(rt: HostRuntime) {
+    let texts: [(&[u8], ListFault); 14] = [
+        (b"", ListFault::BadHeader),
+        (b"vmecheck listing 1", ListFault::BadHeader),
+        (
+            b"vmecheck listing 2\nverdict never-idle\n",
+            ListFault::BadHeader,
+        ),
+        (b"vmecheck listing 1\n", ListFault::BadRow { row: 1 }),
+        (
+            b"vmecheck listing 1\ntenure 5 open end 7\n",
+            ListFault::BadRow { row: 1 },
+        ),
+        (
+            b"vmecheck listing 1\nstart 01\n",
+            ListFault::BadRow { row: 1 },
+        ),
+        (
+            b"vmecheck listing 1\nstart 4294967296\n",
+            ListFault::BadRow { row: 1 },
+        ),
+        (
+            WORKED.strip_suffix(b"\n").unwrap_or_default(),
+            ListFault::BadRow { row: 5 },
+        ),
+        (
+            b"vmecheck listing 1\nverdict conforming\n",
+            ListFault::BadRow { row: 1 },
+        ),
+        (
+            b"vmecheck listing 1\nstart 1\nverdict conforming\nverdict conforming\n",
+            ListFault::BadRow { row: 2 },
+        ),
+        (
+            b"vmecheck listing 1\nverdict never-idle\n ",
+            ListFault::BadRow { row: 1 },
+        ),
+        (
+            b"vmecheck listing 1\nstart 1\ntenure 5 level 3 slot 2 end 14\ncycle 9 S 39 FFFFDE end 12\ntransfer 10 of 9 read DTACK 11 close 12\n",
+            ListFault::BadRow { row: 5 },
+        ),
+        (
+            b"vmecheck listing 1\nstart 1\ncycle 9 S 39 FFFFDE end 12\ntenure 5 level 3 slot 2 end 14\ntransfer 10 of 9 read DTACK 11 close 12\nverdict conforming\n",
+            ListFault::Unsorted { row: 3 },
+        ),
+        (
+            b"vmecheck listing 1\nstart 1\ntransfer 9 read pending\ncycle 9 F 1F end -\n",
+            ListFault::Unsorted { row: 3 },
+        ),
+    ];
+    for (text, fault) in texts {
+        assert!(rt; fault_of(rt.alloc(), text) == Some(fault));
+    }
+}
+
+/// Lines that are no row behind `start 1`.
+const BAD_LINES: [&[u8]; 28] = [
+    b"",
+    b"start 2",
+    b"tenure 05 level 3 slot 2 end 14",
+    b"tenure 5 level 4 slot 2 end 14",
+    b"tenure 5 level 3 slot 0 end 14",
+    b"tenure 5 level 3 slot 22 end 14",
+    b"tenure 5 level 3 slot 2 end",
+    b"tenure 5 level 3 slot 2 end 14 ",
+    b"tenure 5  level 3 slot 2 end 14",
+    b"tenure 5 level 3 slot 2 end +14",
+    b"tenure 4294967296 level 3 slot 2 end -",
+    b"tenure 5 open end",
+    b"cycle 9 S 39 ffffde end 12",
+    b"cycle 9 S 39 FFFFDF end 12",
+    b"cycle 9 S 39 00FFFFDE end 12",
+    b"cycle 9 K 39 FFFFDE end 12",
+    b"cycle 9 S 3B FFFFDE end 12",
+    b"cycle 9 S 1F FFFFDE end 12",
+    b"cycle 9 F 39 end 12",
+    b"cycle 9 F 40 end 12",
+    b"cycle 9 I 8 end 12",
+    b"transfer 10 of 9 read AS 11 close 12",
+    b"transfer 10 of 9 read DTACK 11 close 12\r",
+    b"transfer 10 read",
+    b"verdict never-idle",
+    b"verdict broken U1 10 AS",
+    b"verdict unreadable H4 10 DTACK",
+    b"verdict broken H4 10 D00",
+];
+
+#[test]
+fn bad_lines(rt: HostRuntime) -> Result<(), Fail> {
+    for line in BAD_LINES {
+        let mut text = Vec::from_slice(rt.alloc(), b"vmecheck listing 1\nstart 1\n")?;
+        text.extend_from_slice(line)?;
+        text.extend_from_slice(b"\nverdict conforming\n")?;
+        let fault = fault_of(rt.alloc(), text.as_slice());
+        assert!(rt; fault == Some(ListFault::BadRow { row: 2 }));
+    }
+    Ok(())
+}
+
+/// Each front of a listing has a fault in its text, or is the listing.
+#[test]
+fn fronts(rt: HostRuntime) {
+    for end in 0..=WORKED.len() {
+        let fault = fault_of(rt.alloc(), &WORKED[..end]);
+        assert!(rt; fault != Some(ListFault::Memory) && fault.is_none() == (end == WORKED.len()));
+    }
+}

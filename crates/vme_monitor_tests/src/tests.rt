@@ -1,0 +1,264 @@
+use smallvec::SmallVec;
+use std::alloc::Global;
+use std::process::Abort;
+use std::test::Fail;
+use vme_monitor::both::Both;
+use vme_monitor::finite::Finite;
+use vme_monitor::known::{Known, KnownRules};
+use vme_monitor::mark::{Kind, Mark};
+use vme_monitor::monitor::{Monitor, join, none};
+use vme_monitor::silent::BreaksOf;
+use vme_trace::{Block, Break, Capture, Change, Changes, Level, Line, Lines, Rule, Step};
+
+/// A recording: its slots, the levels of its opening, and its steps, ten units apart. A step is the lines that change, with their
+/// new levels. `high` is every line high, and `quiet` every line but A24 to A31.
+#[derive(Clone, Copy)]
+struct Recording {
+    slots: u8,
+    opening: &'static str,
+    steps: &'static str,
+}
+
+/// Six lines are unknown, and all others as in an idle bus that is busy.
+const DUMPED: &str = "high AM1=0 BBSY=0 AS=x DS0=x DS1=x DTACK=x BERR=x IACK=x";
+
+const READ: Recording = Recording {
+    slots: 1,
+    opening: DUMPED,
+    steps: "AS=1 DS0=1 DS1=1 DTACK=1 BERR=1 IACK=1;AS=0;DS0=0;DTACK=0;AS=1 DS0=1;DTACK=1",
+};
+
+const NOTHING: Recording = Recording {
+    slots: 1,
+    opening: DUMPED,
+    steps: "",
+};
+
+const LOST_STROBE: Recording = Recording {
+    slots: 1,
+    opening: DUMPED,
+    steps: "AS=1 DS0=1 DS1=1 DTACK=1 BERR=1 IACK=1;AS=x;DS0=0;DTACK=0;AS=1 DS0=1;DTACK=1",
+};
+
+/// A request, a grant of level 3 to slot 2, and a cycle in which an answer comes before a strobe.
+const EARLY_ANSWER: Recording = Recording {
+    slots: 3,
+    opening: "",
+    steps: "quiet;BR3=0;BG3.0=0;BG3.1=0;BBSY=0 BR3=1;BG3.0=1;BG3.1=1;AM1=0 AM2=0 A05=0;AS=0;DTACK=0",
+};
+
+/// The change that a word says, as BR3=0.
+fn change_of(word: &str) -> Option<Change> {
+    let (name, level) = word.split_once('=')?;
+    let level = match level.as_bytes() {
+        [b'0'] => Level::Low,
+        [b'1'] => Level::High,
+        _ => Level::Unknown,
+    };
+    Some(Change {
+        line: Line::from_name(name.as_bytes())?,
+        level,
+    })
+}
+
+/// Adds that each line gets high, but those of some numbers.
+fn push_high(changes: &mut Vec<Change>, lines: &Lines, first: u8, last: u8) -> Result<(), Fail> {
+    for number in 0..159 {
+        let line = Line::from_number(number).ok_or("no such line")?;
+        if lines.has(line) && (number < first || last < number) {
+            changes.push(Change {
+                line,
+                level: Level::High,
+            })?;
+        }
+    }
+    Ok(())
+}
+
+/// The changes that a text says.
+fn changes_of(alloc: Global, lines: &Lines, text: &str) -> Result<Vec<Change>, Fail> {
+    let mut changes = Vec::new(alloc);
+    for word in text.split_whitespace() {
+        if word == "high" {
+            push_high(&mut changes, lines, 159, 159)?;
+        } else if word == "quiet" {
+            push_high(&mut changes, lines, 37, 44)?;
+        } else {
+            changes.push(change_of(word).ok_or("no change")?)?;
+        }
+    }
+    Ok(changes)
+}
+
+/// The steps that a text says.
+fn steps_of(alloc: Global, lines: &Lines, text: &str) -> Result<Vec<Step>, Fail> {
+    let mut steps = Vec::new(alloc);
+    for part in text.split(';') {
+        let changes = changes_of(alloc, lines, part)?;
+        if !changes.is_empty() {
+            let time = (steps.len() as u64).saturating_mul(10);
+            let list = SmallVec::from_slice(alloc, changes.as_slice())?;
+            steps.push(Step {
+                time,
+                changes: Changes::new(list),
+            })?;
+        }
+    }
+    Ok(steps)
+}
+
+fn capture_of(alloc: Global, recording: Recording) -> Result<Capture, Fail> {
+    let mut opening = Lines::new(recording.slots).ok_or("no such backplane")?;
+    for change in changes_of(alloc, &opening, recording.opening)? {
+        if opening.has(change.line) {
+            opening.set(change.line, change.level);
+        }
+    }
+    let steps = steps_of(alloc, &opening, recording.steps)?;
+    Ok(Capture::new(opening, steps).ok().ok_or("malformed")?)
+}
+
+fn summary_of<M: Monitor>(
+    rt: &impl Abort,
+    alloc: Global,
+    block: &Block,
+) -> Result<M::Summary, Fail> {
+    block.check().expect(rt, "well formed");
+    let steps = block.steps.as_slice();
+    assert!(rt; steps.len() <= 1000);
+    Ok(M::summarise(alloc, &block.opening, steps)?)
+}
+
+fn joined<M: Monitor>(
+    rt: &impl Abort,
+    alloc: Global,
+    first: &M::Summary,
+    second: &M::Summary,
+) -> Result<M::Summary, Fail> {
+    assert!(rt; M::steps(first) <= 1000);
+    assert!(rt; M::steps(second) <= 1000);
+    Ok(join::<M>(alloc, first, second)?)
+}
+
+/// The summary of a recording that is cut into blocks.
+fn whole<M: Monitor>(
+    rt: &impl Abort,
+    alloc: Global,
+    capture: &Capture,
+    size: u32,
+) -> Result<M::Summary, Fail> {
+    let mut all = none::<M>(alloc)?;
+    for block in capture.cut(alloc, size)? {
+        let part = summary_of::<M>(rt, alloc, &block)?;
+        all = joined::<M>(rt, alloc, &all, &part)?;
+    }
+    Ok(all)
+}
+
+/// What is found in a recording, whatever the size of the blocks: the first break, and that judging starts with its first step.
+fn assert_judged<M: Monitor>(
+    rt: &impl Abort,
+    alloc: Global,
+    recording: Recording,
+    event: Option<Break>,
+    starts: &[Mark],
+) -> Result<(), Fail> {
+    let capture = capture_of(alloc, recording)?;
+    for size in [1, 2, 3, 9, 65536] {
+        let all = whole::<M>(rt, alloc, &capture, size)?;
+        let start = M::start(capture.opening());
+        assert!(rt; M::event(&all, start) == event);
+        assert!(rt; M::marks(alloc, &all, start)?.as_slice() == starts);
+    }
+    Ok(())
+}
+
+/// The break of a rule on a line, in a recording whose steps stand ten units apart.
+fn break_of(instant: u32, rule: Rule, line: Line) -> Option<Break> {
+    Some(Break {
+        instant,
+        time: 10 * u64::from(instant.saturating_sub(1)),
+        rule,
+        line,
+    })
+}
+
+/// The start of judging, at the first step.
+const START: Mark = Mark {
+    instant: 1,
+    kind: Kind::Start,
+};
+
+#[test]
+fn judges_whatever_the_cut(rt: HostRuntime) -> Result<(), Fail> {
+    let lost = break_of(2, Rule::U1, Line::AS);
+    assert_judged::<Known>(&rt, rt.alloc(), READ, None, &[START])?;
+    assert_judged::<Known>(&rt, rt.alloc(), NOTHING, None, &[])?;
+    assert_judged::<Known>(&rt, rt.alloc(), LOST_STROBE, lost, &[START])
+}
+
+#[test]
+fn two_show_what_each_shows(rt: HostRuntime) -> Result<(), Fail> {
+    let lost = break_of(2, Rule::U1, Line::AS);
+    assert_judged::<Both<Known, Known>>(&rt, rt.alloc(), LOST_STROBE, lost, &[START, START])
+}
+
+#[test]
+fn in_silence_breaks_alone_are_found(rt: HostRuntime) -> Result<(), Fail> {
+    let lost = break_of(2, Rule::U1, Line::AS);
+    assert_judged::<BreaksOf<KnownRules>>(&rt, rt.alloc(), READ, None, &[])?;
+    assert_judged::<BreaksOf<KnownRules>>(&rt, rt.alloc(), LOST_STROBE, lost, &[])
+}
+
+/// Whether judging starts in a recording.
+fn is_started(rt: &impl Abort, alloc: Global, recording: Recording) -> Result<bool, Fail> {
+    let capture = capture_of(alloc, recording)?;
+    let all = whole::<Known>(rt, alloc, &capture, 2)?;
+    Ok(Known::started(Known::leaving(&all, Known::start(capture.opening()))))
+}
+
+#[test]
+fn tells_whether_judging_started(rt: HostRuntime) -> Result<(), Fail> {
+    assert!(rt; !is_started(&rt, rt.alloc(), NOTHING)?);
+    assert!(rt; is_started(&rt, rt.alloc(), LOST_STROBE)?);
+    Ok(())
+}
+
+/// From every memory, two summaries say the same.
+fn assert_alike<M: Finite>(
+    rt: &impl Abort,
+    alloc: Global,
+    a: &M::Summary,
+    b: &M::Summary,
+) -> Result<(), Fail> {
+    assert_eq!(rt; M::steps(a), M::steps(b));
+    for k in 0..M::COUNT {
+        let memory = M::nth(k);
+        assert_eq!(rt; M::place(memory), k);
+        assert!(rt; M::leaving(a, memory) == M::leaving(b, memory));
+        assert!(rt; M::event(a, memory) == M::event(b, memory));
+        let first = M::marks(alloc, a, memory)?;
+        let second = M::marks(alloc, b, memory)?;
+        assert!(rt; first.as_slice() == second.as_slice());
+    }
+    Ok(())
+}
+
+/// A summary of no steps, before or after any other, changes nothing that this says.
+fn assert_unit<M: Finite>(rt: &impl Abort, alloc: Global) -> Result<(), Fail> {
+    let unit = none::<M>(alloc)?;
+    for block in capture_of(alloc, EARLY_ANSWER)?.cut(alloc, 1)? {
+        let part = summary_of::<M>(rt, alloc, &block)?;
+        let before = joined::<M>(rt, alloc, &unit, &part)?;
+        assert_alike::<M>(rt, alloc, &before, &part)?;
+        let after = joined::<M>(rt, alloc, &part, &unit)?;
+        assert_alike::<M>(rt, alloc, &after, &part)?;
+    }
+    Ok(())
+}
+
+#[test]
+fn a_summary_of_nothing_changes_nothing(rt: HostRuntime) -> Result<(), Fail> {
+    assert_eq!(rt; Known::COUNT, 3);
+    assert_unit::<Known>(&rt, rt.alloc())
+}

@@ -1,0 +1,130 @@
+use std::alloc::Global;
+use std::io::{self, Error, ErrorKind, Read, Write};
+use std::test::Fail;
+use vme_stream::{Bytes, InFault, Io, Message, complain, read_all, write_all, write_message};
+
+const TEXT: &[u8] = b"a line of some bytes\nand another\n";
+
+/// A reader that gives so many bytes a read, is interrupted before each, and ends or fails behind the last.
+#[derive(Drop)]
+struct Pieces<'a> {
+    left: &'a [u8],
+    piece: usize,
+    is_torn: bool,
+    interrupted: bool,
+}
+
+impl Read for Pieces<'_> {
+    fn read(&mut self, buffer: &mut [u8]) -> io::Result<usize> {
+        self.interrupted = !self.interrupted;
+        if self.interrupted {
+            return Err(Error::from(ErrorKind::Interrupted));
+        }
+        if self.left.is_empty() && self.is_torn {
+            return Err(Error::from(ErrorKind::Other));
+        }
+        let count = self.left.len().min(buffer.len()).min(self.piece);
+        buffer[..count].copy_from_slice(&self.left[..count]);
+        self.left = &self.left[count..];
+        Ok(count)
+    }
+}
+
+/// A writer that takes so many bytes a write, is interrupted before each, and fails once it has no room.
+#[derive(Drop)]
+struct Page {
+    bytes: Vec<u8>,
+    room: usize,
+    piece: usize,
+    interrupted: bool,
+}
+
+impl Page {
+    fn new(alloc: Global, room: usize, piece: usize) -> Page {
+        Page {
+            bytes: Vec::new(alloc),
+            room,
+            piece,
+            interrupted: false,
+        }
+    }
+}
+
+impl Write for Page {
+    fn write(&mut self, bytes: &[u8]) -> io::Result<usize> {
+        self.interrupted = !self.interrupted;
+        if self.interrupted {
+            return Err(Error::from(ErrorKind::Interrupted));
+        }
+        let count = bytes.len().min(self.room).min(self.piece);
+        if count > 0 && self.bytes.extend_from_slice(&bytes[..count]).is_ok() {
+            self.room -= count;
+            return Ok(count);
+        }
+        Err(Error::from(ErrorKind::Other))
+    }
+
+    fn flush(&mut self) -> io::Result<()> {
+        Ok(())
+    }
+}
+
+#[test]
+fn a_source_is_read_to_its_end(rt: HostRuntime) -> Result<(), Fail> {
+    for piece in [1, 7, 1000] {
+        let mut source = Io::new(Pieces {
+            left: TEXT,
+            piece,
+            is_torn: false,
+            interrupted: false,
+        });
+        let whole = read_all(rt.alloc(), &mut source).ok().ok_or("no text")?;
+        assert!(rt; whole.as_slice() == TEXT, "{piece}");
+        let rest = read_all(rt.alloc(), &mut source).ok().ok_or("no end")?;
+        assert!(rt; rest.is_empty(), "{piece}");
+    }
+    let whole = read_all(rt.alloc(), &mut Bytes::new(TEXT))
+        .ok()
+        .ok_or("no text")?;
+    assert!(rt; whole.as_slice() == TEXT);
+    Ok(())
+}
+
+#[test]
+fn a_source_that_fails_cannot_be_read(rt: HostRuntime) {
+    for place in 0..=TEXT.len() {
+        let mut source = Io::new(Pieces {
+            left: TEXT.get(..place).unwrap_or_default(),
+            piece: 3,
+            is_torn: true,
+            interrupted: false,
+        });
+        let read = read_all(rt.alloc(), &mut source).err();
+        assert!(rt; read == Some(InFault::Read), "{place}");
+    }
+}
+
+#[test]
+fn a_sink_takes_all_or_the_first_bytes(rt: HostRuntime) {
+    for room in 0..=TEXT.len() {
+        let mut page = Page::new(rt.alloc(), room, 5);
+        let written = write_all(&mut Io::new(&mut page), TEXT);
+        assert!(rt; written.is_ok() == (room == TEXT.len()), "{room}");
+        assert!(rt;
+            page.bytes.as_slice() == TEXT.get(..room).unwrap_or_default(),
+            "{room}"
+        );
+    }
+}
+
+#[test]
+fn messages(rt: HostRuntime) {
+    let mut page = Page::new(rt.alloc(), 1000, 1000);
+    let line = Message::new()
+        .with(b"row ")
+        .with_decimal(18_446_744_073_709_551_615)
+        .with_line_feed();
+    assert!(rt; write_message(&mut Io::new(&mut page), line).is_ok());
+    complain(&mut Io::new(&mut page), Message::new().with(b"no row\n"));
+    assert!(rt; page.bytes.as_slice() == b"row 18446744073709551615\nno row\n".as_slice());
+}

@@ -1,0 +1,640 @@
+use crate::listing_tests::assert_rows;
+use smallvec::SmallVec;
+use std::alloc::Global;
+use std::process::Abort;
+use std::test::Fail;
+use vme_summary::judge::Judge;
+use vme_summary::judged::{Judged, judge_block};
+use vme_summary::span::{JoinFault, Span, join};
+use vme_summary::verdict_by_blocks;
+use vme_trace::{
+    Block, Break, Capture, Change, Changes, CutFault, Follower, Level, Line, Lines, Rule, Step,
+    Steps, Verdict,
+};
+
+/// How a recording starts: its slots, the levels of its opening, and its first steps. A step is the lines that change, with their
+/// new levels, and they stand ten units apart. `high` is every line high, and `quiet` every line but A24 to A31.
+#[derive(Clone, Copy)]
+pub(crate) struct Start {
+    slots: u8,
+    opening: &'static str,
+    steps: &'static str,
+}
+
+/// The verdict on a recording, with the line by its name.
+#[derive(Clone, Copy)]
+pub(crate) enum Expected {
+    Conforming,
+    NeverIdle,
+    Broken(u32, Rule, &'static str),
+    Unreadable(u32, Rule, &'static str),
+}
+
+/// A worked recording: how it starts and goes on, its verdict, and the rows of its listing.
+pub(crate) type Worked = (Start, &'static str, Expected, &'static str);
+
+use Expected::{Broken, Conforming, NeverIdle, Unreadable};
+
+/// Six lines are unknown, and all others as in an idle bus that is busy.
+const DUMPED: Start = Start {
+    slots: 1,
+    opening: "high AM1=0 BBSY=0 AS=x DS0=x DS1=x DTACK=x BERR=x IACK=x",
+    steps: "",
+};
+
+/// The bus gets quiet, and a requester in slot 2 takes it by level 3.
+pub(crate) const GRANTED: Start = Start {
+    slots: 3,
+    opening: "",
+    steps: "quiet;BR3=0;BG3.0=0;BG3.1=0;BBSY=0 BR3=1;BG3.0=1;BG3.1=1",
+};
+
+/// The same on a bus that is quiet from the opening on.
+const GRANTED_FROM_IDLE: Start = Start {
+    slots: 3,
+    opening: "quiet",
+    steps: "BR3=0;BG3.0=0;BG3.1=0;BBSY=0 BR3=1;BG3.0=1;BG3.1=1",
+};
+
+/// The bus gets quiet, and a grant goes on to slot 3.
+const PASSED_ON: Start = Start {
+    slots: 3,
+    opening: "",
+    steps: "quiet;BR3=0;BG3.0=0;BG3.1=0;BG3.2=0",
+};
+
+/// A read by modifier 39.
+pub(crate) const READ: &str =
+    "AM1=0 AM2=0 A05=0;AS=0;DS0=0 DS1=0;DTACK=0;AS=1 DS0=1 DS1=1;DTACK=1;BBSY=1";
+
+/// What its listing says.
+const READ_ROWS: &str =
+    "start 1\ntenure 5 level 3 slot 2 end 14\ncycle 9 S 39 FFFFDE end 12\ntransfer 10 of 9 read DTACK 11 close 12\nverdict conforming\n";
+
+/// Recordings as a dump gives them.
+pub(crate) const DUMPS: [Worked; 4] = [
+    (
+        DUMPED,
+        "AS=1 DS0=1 DS1=1 DTACK=1 BERR=1 IACK=1;AS=0;DS0=0;DTACK=0;AS=1 DS0=1;DTACK=1",
+        Conforming,
+        "start 1\ntenure 1 open end -\ncycle 2 S 3D FFFFFE end 5\ntransfer 3 of 2 read DTACK 4 close 5\nverdict conforming\n",
+    ),
+    (DUMPED, "", NeverIdle, "verdict never-idle\n"),
+    (
+        DUMPED,
+        "AS=1 DS0=1 DS1=1 DTACK=1 BERR=1 IACK=1;AS=0;DTACK=0;AS=1;DTACK=1",
+        Broken(3, Rule::H4, "DTACK"),
+        "start 1\ntenure 1 open end -\ncycle 2 S 3D FFFFFE end -\nverdict broken H4 3 DTACK\n",
+    ),
+    (
+        DUMPED,
+        "AS=1 DS0=1 DS1=1 DTACK=1 BERR=1 IACK=1;AS=x;DS0=0;DTACK=0;AS=1 DS0=1;DTACK=1",
+        Unreadable(2, Rule::U1, "AS"),
+        "start 1\ntenure 1 open end -\nverdict unreadable U1 2 AS\n",
+    ),
+];
+
+/// Transfers and cycles.
+pub(crate) const CYCLES: [Worked; 9] = [
+    (GRANTED, READ, Conforming, READ_ROWS),
+    (
+        GRANTED_FROM_IDLE,
+        READ,
+        Conforming,
+        "start 0\ntenure 4 level 3 slot 2 end 13\ncycle 8 S 39 FFFFDE end 11\ntransfer 9 of 8 read DTACK 10 close 11\nverdict conforming\n",
+    ),
+    (
+        GRANTED,
+        "AM1=0 AM2=0 A05=0;AS=0;DS0=0 DS1=0;DTACK=0;AS=1;A05=1;AS=0;DS0=1 DS1=1;DTACK=1;DS0=0 DS1=0;DTACK=0;AS=1 DS0=1 DS1=1;DTACK=1 BBSY=1",
+        Conforming,
+        "start 1\ntenure 5 level 3 slot 2 end 20\ncycle 9 S 39 FFFFDE end 12\ntransfer 10 of 9 read DTACK 11 close 15\ncycle 14 S 39 FFFFFE end 19\ntransfer 17 of 14 read DTACK 18 close 19\nverdict conforming\n",
+    ),
+    (
+        GRANTED,
+        "AM1=0 A05=0;AS=0;DS0=0 DS1=0;DTACK=0;DS0=1 DS1=1;DTACK=1;WRITE=0;DS0=0 DS1=0;DTACK=0;AS=1 DS0=1 DS1=1;DTACK=1",
+        Conforming,
+        "start 1\ntenure 5 level 3 slot 2 end -\ncycle 9 S 3D FFFFDE end 17\ntransfer 10 of 9 read DTACK 11 close 12\ntransfer 15 of 9 write DTACK 16 close 17\nverdict conforming\n",
+    ),
+    (
+        GRANTED,
+        "AM1=0 WRITE=0 A05=0;AS=0;DS0=0 DS1=0;DTACK=0;DS0=1 DS1=1;DTACK=1;WRITE=1;DS0=0 DS1=0;DTACK=0;AS=1 DS0=1 DS1=1;DTACK=1",
+        Broken(16, Rule::C1, "DTACK"),
+        "start 1\ntenure 5 level 3 slot 2 end -\ncycle 9 S 3D FFFFDE end -\ntransfer 10 of 9 write DTACK 11 close 12\ntransfer 15 read pending\nverdict broken C1 16 DTACK\n",
+    ),
+    (
+        GRANTED,
+        "AM2=0 A05=0;AS=0;DS0=0 DS1=0;DTACK=0;DS0=1 DS1=1;DTACK=1 WRITE=0;DS0=0 DS1=0;DTACK=0",
+        Broken(15, Rule::C2, "DTACK"),
+        "start 1\ntenure 5 level 3 slot 2 end -\ncycle 9 K 3B FFFFDE end -\ntransfer 10 of 9 read DTACK 11 close 12\ntransfer 14 write pending\nverdict broken C2 15 DTACK\n",
+    ),
+    (
+        GRANTED,
+        "AM1=0 AM2=0 A05=0;AS=0;DTACK=0",
+        Broken(10, Rule::H4, "DTACK"),
+        "start 1\ntenure 5 level 3 slot 2 end -\ncycle 9 S 39 FFFFDE end -\nverdict broken H4 10 DTACK\n",
+    ),
+    (
+        GRANTED,
+        "AM1=0 AM2=0 A05=0;AS=0;DS0=0 DS1=0;DS0=1 DS1=1 DTACK=0;AS=1;DTACK=1;BBSY=1",
+        Conforming,
+        "start 1\ntenure 5 level 3 slot 2 end 14\ncycle 9 S 39 FFFFDE end 12\ntransfer 10 of 9 read DTACK 11 close 11\nverdict conforming\n",
+    ),
+    (
+        GRANTED,
+        "AM1=0 AM2=0 A05=0;AS=0;DS0=0 DS1=0;DS0=1 DS1=1;DTACK=0",
+        Broken(11, Rule::H2, "DS0"),
+        "start 1\ntenure 5 level 3 slot 2 end -\ncycle 9 S 39 FFFFDE end -\ntransfer 10 read pending\nverdict broken H2 11 DS0\n",
+    ),
+];
+
+/// Lines that a cycle needs.
+pub(crate) const HELD: [Worked; 6] = [
+    (
+        GRANTED,
+        "AM1=0 AM2=0 AM4=0 A05=0;AS=0;DS0=0 DS1=0;DTACK=0;AS=1 DS0=1 DS1=1;DTACK=1;BBSY=1",
+        Conforming,
+        "start 1\ntenure 5 level 3 slot 2 end 14\ncycle 9 S 29 FFDE end 12\ntransfer 10 of 9 read DTACK 11 close 12\nverdict conforming\n",
+    ),
+    (
+        GRANTED,
+        "AM1=0 AM2=0 AM4=0 A05=0;AS=0;DS0=0 DS1=0 A05=1;DTACK=0;AS=1 DS0=1 DS1=1;DTACK=1;BBSY=1",
+        Broken(10, Rule::S1, "A05"),
+        "start 1\ntenure 5 level 3 slot 2 end -\ncycle 9 S 29 FFDE end -\nverdict broken S1 10 A05\n",
+    ),
+    (
+        GRANTED,
+        "AM1=0 AM2=0 AM4=0 A05=0;AS=0;DS0=0 DS1=0;DTACK=0 A05=1;AS=1 DS0=1 DS1=1;DTACK=1;BBSY=1",
+        Conforming,
+        "start 1\ntenure 5 level 3 slot 2 end 14\ncycle 9 S 29 FFDE end 12\ntransfer 10 of 9 read DTACK 11 close 12\nverdict conforming\n",
+    ),
+    (
+        GRANTED,
+        "AM1=0 AM2=0 AM4=0 A05=0;AS=0;DS0=0 DS1=0 A16=0;DTACK=0;AS=1 DS0=1 DS1=1;DTACK=1;BBSY=1",
+        Conforming,
+        "start 1\ntenure 5 level 3 slot 2 end 14\ncycle 9 S 29 FFDE end 12\ntransfer 10 of 9 read DTACK 11 close 12\nverdict conforming\n",
+    ),
+    (
+        GRANTED,
+        "AM1=0 AM2=0 AM3=x A05=0;AS=0;DS0=0 DS1=0;DTACK=0;AS=1 DS0=1 DS1=1;DTACK=1;BBSY=1",
+        Unreadable(9, Rule::U2, "AM3"),
+        "start 1\ntenure 5 level 3 slot 2 end -\nverdict unreadable U2 9 AM3\n",
+    ),
+    (
+        GRANTED,
+        "A05=0;AS=0;DS0=0 DS1=0;DTACK=0;AS=1 DS0=1 DS1=1;DTACK=1;BBSY=1",
+        Conforming,
+        "start 1\ntenure 5 level 3 slot 2 end 14\ncycle 9 K 3F FFFFDE end 12\ntransfer 10 of 9 read DTACK 11 close 12\nverdict conforming\n",
+    ),
+];
+
+/// Grants and interrupt acknowledges.
+pub(crate) const CHAINS: [Worked; 9] = [
+    (
+        PASSED_ON,
+        "BBSY=0 BR3=1;BBSY=1;BBSY=0",
+        Broken(8, Rule::B2, "BBSY"),
+        "start 1\ntenure 6 level 3 slot 3 end 7\nverdict broken B2 8 BBSY\n",
+    ),
+    (
+        PASSED_ON,
+        "BBSY=0 BR3=1;BG3.0=1;BG3.1=1;BG3.2=1;BBSY=1;BBSY=0",
+        Broken(11, Rule::B1, "BBSY"),
+        "start 1\ntenure 6 level 3 slot 3 end 10\nverdict broken B1 11 BBSY\n",
+    ),
+    (
+        PASSED_ON,
+        "BG3.3=0;BBSY=0",
+        Broken(7, Rule::B4, "BBSY"),
+        "start 1\nverdict broken B4 7 BBSY\n",
+    ),
+    (
+        PASSED_ON,
+        "BG3.3=0;BG3.0=1;BG3.1=1 BG3.2=1 BG3.3=1",
+        Conforming,
+        "start 1\nverdict conforming\n",
+    ),
+    (
+        GRANTED,
+        "IACK=0 A02=0;AS=0;DS0=0;IA.1=0;DTACK=0;AS=1 DS0=1 IA.1=1;DTACK=1 IACK=1;BBSY=1",
+        Conforming,
+        "start 1\ntenure 5 level 3 slot 2 end 15\ncycle 9 I 5 end 13\ntransfer 10 of 9 read DTACK 12 close 13\nverdict conforming\n",
+    ),
+    (
+        GRANTED,
+        "IACK=0 WRITE=0 A02=0;AS=0;DS0=0;IA.1=0;DTACK=0;AS=1 DS0=1 IA.1=1;DTACK=1 IACK=1;BBSY=1",
+        Broken(12, Rule::I4, "DTACK"),
+        "start 1\ntenure 5 level 3 slot 2 end -\ncycle 9 I 5 end -\ntransfer 10 write pending\nverdict broken I4 12 DTACK\n",
+    ),
+    (
+        GRANTED,
+        "IACK=0 A02=0;AS=0;DS0=0;IA.2=0",
+        Broken(11, Rule::I1, "IA.2"),
+        "start 1\ntenure 5 level 3 slot 2 end -\ncycle 9 I 5 end -\ntransfer 10 read pending\nverdict broken I1 11 IA.2\n",
+    ),
+    (
+        GRANTED,
+        "IACK=0 A02=0;AS=0;IA.1=0",
+        Broken(10, Rule::I2, "IA.1"),
+        "start 1\ntenure 5 level 3 slot 2 end -\ncycle 9 I 5 end -\nverdict broken I2 10 IA.1\n",
+    ),
+    (
+        GRANTED,
+        "IACK=0 A02=0;AS=0;DS0=0;DTACK=0;IA.1=0",
+        Broken(12, Rule::I3, "IA.1"),
+        "start 1\ntenure 5 level 3 slot 2 end -\ncycle 9 I 5 end -\ntransfer 10 of 9 read DTACK 11 close -\nverdict broken I3 12 IA.1\n",
+    ),
+];
+
+/// The break of a recording whose steps stand ten units apart.
+fn break_of(instant: u32, rule: Rule, name: &str) -> Option<Break> {
+    Some(Break {
+        instant,
+        time: 10 * u64::from(instant.saturating_sub(1)),
+        rule,
+        line: Line::from_name(name.as_bytes())?,
+    })
+}
+
+pub(crate) fn verdict_of(expected: Expected) -> Option<Verdict> {
+    match expected {
+        Conforming => Some(Verdict::Conforming),
+        NeverIdle => Some(Verdict::NeverIdle),
+        Broken(instant, rule, name) => Some(Verdict::Broken(break_of(instant, rule, name)?)),
+        Unreadable(instant, rule, name) => {
+            Some(Verdict::Unreadable(break_of(instant, rule, name)?))
+        }
+    }
+}
+
+/// The change that a word says, as BR3=0.
+fn change_of(word: &str) -> Option<Change> {
+    let (name, level) = word.split_once('=')?;
+    let level = match level.as_bytes() {
+        [b'0'] => Level::Low,
+        [b'1'] => Level::High,
+        _ => Level::Unknown,
+    };
+    Some(Change {
+        line: Line::from_name(name.as_bytes())?,
+        level,
+    })
+}
+
+/// Adds that each line gets high, but those of some numbers.
+fn push_high(
+    changes: &mut Vec<Change>,
+    lines: &Lines,
+    first: u8,
+    last: u8,
+) -> Result<(), &'static str> {
+    for number in 0..159 {
+        let line = Line::from_number(number).ok_or("no such line")?;
+        if lines.has(line) && (number < first || last < number) {
+            let change = Change {
+                line,
+                level: Level::High,
+            };
+            changes.push(change).ok().ok_or("no memory")?;
+        }
+    }
+    Ok(())
+}
+
+/// The changes that a text says.
+fn changes_of(alloc: Global, lines: &Lines, text: &str) -> Result<Vec<Change>, &'static str> {
+    let mut changes = Vec::new(alloc);
+    for word in text.split_whitespace() {
+        if word == "high" {
+            push_high(&mut changes, lines, 159, 159)?;
+        } else if word == "quiet" {
+            push_high(&mut changes, lines, 37, 44)?;
+        } else {
+            let change = change_of(word).ok_or("no change")?;
+            changes.push(change).ok().ok_or("no memory")?;
+        }
+    }
+    Ok(changes)
+}
+
+fn step_of(alloc: Global, lines: &Lines, time: u64, text: &str) -> Result<Step, &'static str> {
+    let changes = changes_of(alloc, lines, text)?;
+    let list = SmallVec::from_slice(alloc, changes.as_slice());
+    Ok(Step {
+        time,
+        changes: Changes::new(list.ok().ok_or("no memory")?),
+    })
+}
+
+/// Adds the steps of a text.
+fn push_steps(
+    alloc: Global,
+    steps: &mut Vec<Step>,
+    lines: &Lines,
+    text: &str,
+) -> Result<(), &'static str> {
+    for part in text.split(';') {
+        if !part.is_empty() {
+            let time = (steps.len() as u64).saturating_mul(10);
+            let step = step_of(alloc, lines, time, part)?;
+            steps.push(step).ok().ok_or("no memory")?;
+        }
+    }
+    Ok(())
+}
+
+/// The recording that starts so and goes on with the steps of a text.
+pub(crate) fn capture_of(alloc: Global, start: Start, text: &str) -> Result<Capture, &'static str> {
+    let mut opening = Lines::new(start.slots).ok_or("no such backplane")?;
+    for change in changes_of(alloc, &opening, start.opening)? {
+        if opening.has(change.line) {
+            opening.set(change.line, change.level);
+        }
+    }
+    let mut steps = Vec::new(alloc);
+    push_steps(alloc, &mut steps, &opening, start.steps)?;
+    push_steps(alloc, &mut steps, &opening, text)?;
+    Capture::new(opening, steps).ok().ok_or("malformed")
+}
+
+/// The verdict. Where memory is short once, the capture is judged again.
+fn verdict_in(alloc: Global, capture: &Capture, size: u32) -> Result<Verdict, CutFault> {
+    match verdict_by_blocks(alloc, capture, size) {
+        Err(CutFault::Memory) => verdict_by_blocks(alloc, capture, size),
+        answer => answer,
+    }
+}
+
+/// The verdict on a recording whose steps come one after the other.
+fn verdict_as_made(
+    rt: &impl Abort,
+    alloc: Global,
+    capture: &Capture,
+    size: u32,
+) -> Result<Verdict, Fail> {
+    assert!(rt; size >= 1 && size <= 65536);
+    let other = Lines::new(1).ok_or("no such backplane")?;
+    let mut judge = Judge::new(alloc, &other);
+    judge.open(capture.opening());
+    for step in capture.steps() {
+        judge.step(alloc, step.copy(alloc)?)?;
+    }
+    Ok(judge.verdict(alloc, size).ok().ok_or("no verdict")?)
+}
+
+/// A recording gets its verdict, whatever the size of the blocks.
+fn assert_verdict(
+    rt: &impl Abort,
+    alloc: Global,
+    capture: &Capture,
+    verdict: Verdict,
+) -> Result<(), Fail> {
+    for size in [1, 2, 5, 9, 65536] {
+        assert_eq!(rt;
+            verdict_in(alloc, capture, size)?,
+            verdict,
+            "in blocks of {size}"
+        );
+        assert_eq!(rt;
+            verdict_as_made(rt, alloc, capture, size)?,
+            verdict,
+            "as it is made, in blocks of {size}"
+        );
+    }
+    Ok(())
+}
+
+fn assert_verdicts(rt: &impl Abort, alloc: Global, recordings: &[Worked]) -> Result<(), Fail> {
+    for (start, text, expected, _) in recordings {
+        let capture = capture_of(alloc, *start, text)?;
+        let verdict = verdict_of(*expected).ok_or("no such line")?;
+        assert_verdict(rt, alloc, &capture, verdict)?;
+    }
+    Ok(())
+}
+
+#[test]
+fn verdicts(rt: HostRuntime) -> Result<(), Fail> {
+    assert_verdicts(&rt, rt.alloc(), &DUMPS)?;
+    assert_verdicts(&rt, rt.alloc(), &CYCLES)?;
+    assert_verdicts(&rt, rt.alloc(), &HELD)?;
+    assert_verdicts(&rt, rt.alloc(), &CHAINS)
+}
+
+#[test]
+fn bad_sizes(rt: HostRuntime) -> Result<(), Fail> {
+    let capture = capture_of(rt.alloc(), GRANTED, READ)?;
+    for size in [0, 65537] {
+        assert_eq!(rt;
+            verdict_in(rt.alloc(), &capture, size),
+            Err(CutFault::BadSize)
+        );
+    }
+    Ok(())
+}
+
+/// The span of a block. Where memory is short once, the block that comes back is judged again.
+pub(crate) fn judged(rt: &impl Abort, alloc: Global, block: Block) -> Result<Judged, Fail> {
+    block.check().expect(rt, "well formed");
+    assert!(rt; block.steps.as_slice().len() <= 1000);
+    match judge_block(alloc, block) {
+        Ok(judged) => Ok(judged),
+        Err((block, _)) => Ok(judge_block(alloc, block).ok().ok_or("no memory")?),
+    }
+}
+
+/// One span of two, or that they are torn. Where memory is short once, they are joined again.
+fn joined(rt: &impl Abort, alloc: Global, first: &Span, second: &Span) -> Result<Span, JoinFault> {
+    assert!(rt; first.steps() <= 1000);
+    assert!(rt; second.steps() <= 1000);
+    match join(alloc, first, second) {
+        Err(JoinFault::Memory) => join(alloc, first, second),
+        answer => answer,
+    }
+}
+
+/// The spans of the blocks of a recording that is cut.
+pub(crate) fn spans_of(
+    rt: &impl Abort,
+    alloc: Global,
+    start: Start,
+    text: &str,
+    size: u32,
+) -> Result<Vec<Span>, Fail> {
+    let capture = capture_of(alloc, start, text)?;
+    let mut spans = Vec::new(alloc);
+    for block in capture.cut(alloc, size)? {
+        let number = block.number;
+        let span = judged(rt, alloc, block)?.into_parts().1;
+        assert!(rt; span.first() == number && span.last() == number);
+        spans.push(span)?;
+    }
+    Ok(spans)
+}
+
+/// The spans of the blocks of a read that is cut.
+fn read_spans(rt: &impl Abort, alloc: Global, size: u32) -> Result<Vec<Span>, Fail> {
+    spans_of(rt, alloc, GRANTED, READ, size)
+}
+
+/// The join of two spans that aren't torn.
+fn together(rt: &impl Abort, alloc: Global, first: &Span, second: &Span) -> Result<Span, Fail> {
+    Ok(joined(rt, alloc, first, second).ok().ok_or("torn")?)
+}
+
+fn from_left(rt: &impl Abort, alloc: Global, spans: Vec<Span>) -> Result<Span, Fail> {
+    let mut all = None;
+    for span in spans {
+        all = Some(match all {
+            None => span,
+            Some(before) => together(rt, alloc, &before, &span)?,
+        });
+    }
+    Ok(all.ok_or("no spans")?)
+}
+
+fn from_right(rt: &impl Abort, alloc: Global, spans: Vec<Span>) -> Result<Span, Fail> {
+    let mut all = None;
+    for span in spans.into_iter().rev() {
+        all = Some(match all {
+            None => span,
+            Some(after) => together(rt, alloc, &span, &after)?,
+        });
+    }
+    Ok(all.ok_or("no spans")?)
+}
+
+/// The first span joined with the second, the third with the fourth, and so on.
+fn paired(rt: &impl Abort, alloc: Global, spans: Vec<Span>) -> Result<Vec<Span>, Fail> {
+    let mut pairs = Vec::new(alloc);
+    let mut odd = None;
+    for span in spans {
+        odd = match odd {
+            None => Some(span),
+            Some(first) => {
+                pairs.push(together(rt, alloc, &first, &span)?)?;
+                None
+            }
+        };
+    }
+    if let Some(last) = odd {
+        pairs.push(last)?;
+    }
+    Ok(pairs)
+}
+
+fn by_halves(rt: &impl Abort, alloc: Global, spans: Vec<Span>) -> Result<Span, Fail> {
+    let mut spans = spans;
+    for _ in 0..4 {
+        spans = paired(rt, alloc, spans)?;
+    }
+    Ok(spans.pop().ok_or("no spans")?)
+}
+
+/// The span is that of the whole read, which conforms.
+fn assert_whole(rt: &impl Abort, alloc: Global, all: &Span) -> Result<(), Fail> {
+    assert_eq!(rt; (all.last(), all.steps()), (13, 14));
+    assert!(rt; all.first() == 0);
+    assert_eq!(rt; all.verdict(), Verdict::Conforming);
+    let listing = match all.listing(alloc) {
+        Ok(listing) => listing,
+        Err(_) => all.listing(alloc)?,
+    };
+    assert_rows(rt, alloc, &listing, READ_ROWS)
+}
+
+/// A read that is cut into single steps conforms, however they are joined.
+fn assert_bracketed(rt: &impl Abort, alloc: Global) -> Result<(), Fail> {
+    let left = from_left(rt, alloc, read_spans(rt, alloc, 1)?)?;
+    assert_whole(rt, alloc, &left)?;
+    let right = from_right(rt, alloc, read_spans(rt, alloc, 1)?)?;
+    assert_whole(rt, alloc, &right)?;
+    let halves = by_halves(rt, alloc, read_spans(rt, alloc, 1)?)?;
+    assert_whole(rt, alloc, &halves)
+}
+
+/// The block again, with DS0* alone in its last step.
+fn strobe_last(rt: &impl Abort, alloc: Global, block: Block) -> Result<Block, Fail> {
+    let mut steps = block.steps.into_inner();
+    let last = steps.pop().expect(rt, "a step");
+    steps.push(step_of(alloc, &block.opening, last.time, "DS0=0")?)?;
+    Ok(Block {
+        number: block.number,
+        opening: block.opening,
+        steps: Steps::new(steps),
+    })
+}
+
+/// Blocks 0 and 1 join, and blocks 0 and 2 don't.
+fn assert_torn_by_numbers(rt: &impl Abort, alloc: Global) -> Result<(), Fail> {
+    let spans = read_spans(rt, alloc, 5)?;
+    assert_eq!(rt; spans.len(), 3);
+    assert!(rt; joined(rt, alloc, &spans[0], &spans[1]).is_ok());
+    assert!(rt; joined(rt, alloc, &spans[0], &spans[2]).err() == Some(JoinFault::Torn));
+    Ok(())
+}
+
+/// Block 1 with another last step leaves other lines than those that block 2 opens with.
+fn assert_torn_by_lines(rt: &impl Abort, alloc: Global) -> Result<(), Fail> {
+    let mut blocks = capture_of(alloc, GRANTED, READ)?.cut(alloc, 5)?;
+    let last = blocks.pop().expect(rt, "block 2");
+    let middle = blocks.pop().expect(rt, "block 1");
+    let first = judged(rt, alloc, strobe_last(rt, alloc, middle)?)?;
+    let second = judged(rt, alloc, last)?;
+    assert!(rt; joined(rt, alloc, first.span(), second.span()).err() == Some(JoinFault::Torn));
+    assert_eq!(rt; first.block().number, 1);
+    assert_eq!(rt; first.into_block().steps.as_slice().len(), 5);
+    Ok(())
+}
+
+/// Spans that follow one another are joined in any brackets, and others are torn.
+fn assert_joins(rt: &impl Abort, alloc: Global) -> Result<(), Fail> {
+    assert_bracketed(rt, alloc)?;
+    assert_torn_by_numbers(rt, alloc)?;
+    assert_torn_by_lines(rt, alloc)
+}
+
+#[test]
+fn joined_in_any_brackets_or_torn(rt: HostRuntime) -> Result<(), Fail> {
+    assert_joins(&rt, rt.alloc())
+}
+
+/// The recording of a read. Where memory is refused once, it is made again.
+fn read_capture(alloc: Global) -> Result<Capture, &'static str> {
+    match capture_of(alloc, GRANTED, READ) {
+        Ok(capture) => Ok(capture),
+        Err(_) => capture_of(alloc, GRANTED, READ),
+    }
+}
+
+/// The recording in blocks of five. Where memory is refused once, it is cut again.
+fn cut_by_fives(alloc: Global, capture: &Capture) -> Result<Vec<Block>, CutFault> {
+    match capture.cut(alloc, 5) {
+        Err(CutFault::Memory) => capture.cut(alloc, 5),
+        answer => answer,
+    }
+}
+
+/// `tests/memory/run` refuses each of its allocations in turn.
+#[test]
+fn each_growth_fails_once(rt: HostRuntime) -> Result<(), Fail> {
+    let alloc = rt.alloc();
+    let capture = read_capture(alloc)?;
+    let mut all: Option<Span> = None;
+    for block in cut_by_fives(alloc, &capture)? {
+        let span = judged(&rt, alloc, block)?.into_parts().1;
+        all = Some(match all {
+            None => span,
+            Some(before) => together(&rt, alloc, &before, &span)?,
+        });
+    }
+    let whole = all.ok_or("no spans")?;
+    assert_eq!(rt; (whole.last(), whole.steps()), (2, 14));
+    assert!(rt; whole.first() == 0);
+    assert_eq!(rt; whole.verdict(), Verdict::Conforming);
+    let listing = match whole.listing(alloc) {
+        Ok(listing) => listing,
+        Err(_) => whole.listing(alloc)?,
+    };
+    assert!(rt; listing.rows().len() == 5);
+    Ok(())
+}
