@@ -1,5 +1,5 @@
 -- What comes of the variables of a header, for whatever takes them: a fold over all of them.
-use Rattle.std.proofs.Common.{◌≡◌, ℕ, Bool, true, false, cond, List, [], ◌∷◌, ◌++◌, Option, Result, Ok, Err, codes, refl, sym, ap, ◌∙◌}
+use Rattle.std.proofs.Common.{◌≡◌, ℕ, Bool, true, false, cond, List, [], ◌∷◌, Result, Ok, Err, codes, refl, sym, ap, ◌∙◌}
 use Rattle.std.specs.Prelude.{bytes_eq}
 use Rattle.std.specs.List.{fold}
 use Rattle.std.proofs.lemmas.List.Sums.{fold-append}
@@ -7,7 +7,7 @@ use Rattle.vcd_read.specs.declared.dump.Variable.{Variable}
 use Rattle.vcd_read.specs.declared.fault.FaultKind.{FaultKind}
 use Rattle.vcd_read.specs.declared.fault.VcdFault.{VcdFault}
 use Rattle.vcd_read.specs.Tokens.{Token, tokens}
-use Rattle.vcd_read.specs.Header.{◌>>=◌, at_line, Section, HeaderItem, whole, unfinished, stray, Joined, net_for, net_of, VarWords, var_words, variable_in, reference_of, Declared, declare_all, declare_section, declare_var, open_scope, close_scope, nothing_declared, appended, header_from, between}
+use Rattle.vcd_read.specs.Header.{◌>>=◌, at_line, HeaderItem, whole, unfinished, stray, Joined, net_for, net_of, VarWords, var_words, variable_in, reference_of, Declared, declare_all, declare_section, declare_var, open_scope, close_scope, nothing_declared, appended, header_from, between}
 use Rattle.vcd_read.specs.Sections.{Defined, headed, header_of}
 use Rattle.vcd_read.specs.Meaning.{body_of}
 use Rattle.vcd_read.proofs.DumpLemmas.{whole_header}

@@ -1,5 +1,5 @@
 -- What reading a section does to the header that is left.
-use Rattle.std.proofs.Common.{◌≡◌, ℕ, Bool, true, false, cond, List, [], ◌∷◌, ◌++◌, length, Option, Some, None, option_map, Result, Ok, Err, codes, refl, sym, ap, subst, ◌∙◌, append_assoc, take_all, arith}
+use Rattle.std.proofs.Common.{◌≡◌, ℕ, Bool, true, false, cond, List, [], ◌∷◌, ◌++◌, length, Option, Some, None, option_map, Result, Ok, Err, codes, refl, sym, ap, subst, ◌∙◌, append_assoc, take, take_all, arith}
 use Rattle.std.specs.Prelude.{bytes_eq}
 use Rattle.std.proofs.lemmas.List.{append-nil}
 use Rattle.std.proofs.lemmas.Slice.Eq.{bytes_eq-Decides}
@@ -10,7 +10,7 @@ use Rattle.vcd_read.specs.declared.fault.VcdFault.{VcdFault}
 use Rattle.vcd_read.specs.declared.header.Opening.{Opening}
 use Rattle.vcd_read.specs.declared.header.Opening.TheVariants.{Var, Scope, Upscope, EndDefinitions, Skipped, Nothing}
 use Rattle.vcd_read.specs.Tokens.{Token, line_after}
-use Rattle.vcd_read.specs.Reading.{line_at}
+use Rattle.vcd_read.specs.Reading.{line_behind}
 use Rattle.vcd_read.specs.Header.{◌>>=◌, at_line, is_end, opens_section, ends_definitions, Section, whole, unfinished, stray, with_word, Header, with_item, between, inside, opened, header_from, Declared, declare_all, declare_section, declare_var, open_scope, close_scope}
 use Rattle.vcd_read.specs.Sections.{Ended, after_word, ended_in, section_from, behind_section, opening_of, Defined, headed, header_of, rest_of_header}
 use Rattle.vcd_read.specs.Meaning.{Fails, FailsAs, body_of}
@@ -265,10 +265,13 @@ module _ {V : Type 0} (with_variable : V → Variable → V) where
     skipped_goes rest e is = goes (header_of with_variable text d (t ∷ ts)) (behind_section t.line ts) behind_skipped rest (read_skipped text d t ts e) is
 
   -- the text ends before its definitions do
-  pub header_ends : (text : List ℕ) (d : Declared V) (ts : List Token) → ts ≡ [] → header_of with_variable text d ts ≡ Err (record { line = line_at text (length text); kind = NoEndDefinitions })
+  pub header_ends : (text : List ℕ) (line : ℕ) (d : Declared V) (ts : List Token) → line ≡ 1 → ts ≡ []
+      → header_of with_variable text d ts ≡ Err (record { line = line_behind line (take (length text) text); kind = NoEndDefinitions })
   unfolding header_from declare_all
-  header_ends text d ts none =
-      ap (header_of with_variable text d) none ∙ ap (λ (front : List ℕ). no_end (line_after front)) (sym (take_all (length text) text (omega arith)))
+  header_ends text line d ts first none =
+      ap (header_of with_variable text d) none
+      ∙ ap (λ (front : List ℕ). no_end (line_after front)) (sym (take_all (length text) text (omega arith)))
+      ∙ ap (λ (first : ℕ). no_end (line_behind first (take (length text) text))) (sym first)
     where
       no_end : ℕ → Reading
       no_end line = Err (record { line = line; kind = NoEndDefinitions })

@@ -14,3 +14,5 @@ pub mod ScopesLemmas
 pub mod ReferenceLemmas
 pub mod SectionLemmas
 pub mod HeaderLemmas
+pub mod FrontLemmas
+pub mod PieceLemmas

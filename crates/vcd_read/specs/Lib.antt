@@ -17,3 +17,4 @@ pub mod Shapes
 pub mod Bodies
 pub mod Scopes
 pub mod Sections
+pub mod Fronts

@@ -5,7 +5,9 @@ use Rattle.vcd_read.specs.declared.fault.VcdFault.{VcdFault}
 use Rattle.vcd_read.specs.declared.waves.Clock.{Clock}
 use Rattle.vcd_read.specs.Tokens.{Token}
 use Rattle.vcd_read.specs.Numbers.{number, extended}
-use Rattle.vcd_read.specs.Reading.{line_at}
+use Rattle.vcd_read.specs.Reading.{line_of}
+use Rattle.vcd_read.specs.declared.piece.Piece.{Piece}
+use Rattle.vcd_read.specs.declared.piece.Start.{Start}
 use Rattle.vcd_read.specs.Header.{◌>>=◌, Net, net_of, size_of}
 use Rattle.vcd_read.specs.Body.{BodyItem, time_item, change, Standing, stand_after, at_the_end, ready, body_from}
 
@@ -23,9 +25,13 @@ pub record State (A : Type 0) : Type 0 where
   pub standing : Standing
   pub progress : Taking A
 
--- how far a body is read, with the place of the bracket that is open
-abbrev pub state_of : {A : Type 0} → List ℕ → Taking A → Option ℕ → State A
-state_of text waves bracket = record { standing = record { now = waves.time; bracket = option_map (line_at text) bracket }; progress = waves }
+-- how far a body is read, with the line of the bracket that is open
+abbrev pub state_at : {A : Type 0} → Taking A → Option ℕ → State A
+state_at waves bracket = record { standing = record { now = waves.time; bracket = bracket }; progress = waves }
+
+-- the same, where it starts in the piece that is read, or before it
+abbrev pub state_of : {A : Type 0} → Piece → Taking A → Option Start → State A
+state_of text waves bracket = state_at waves (option_map (line_of text) bracket)
 
 -- before any item
 abbrev pub at_first : {A : Type 0} → A → State A

@@ -1,311 +1,412 @@
 //! The body: times, changes and brackets.
 
-ghost use Rattle.std.specs.Prelude.{◌≡◌, ℕ, List, ◌<◌, ◌≤◌, ◌∷◌, length, slice_index, Ok, true, false};
+ghost use Rattle.std.specs.Prelude.{◌≡◌, ℕ, List, [], ◌<◌, ◌≤◌, length, slice_index, option_map, Ok, OnOk, IfOk, true, false};
 ghost use Rattle.std.specs.Option.{ForSome};
 ghost use Rattle.vcd_read.specs.Tokens.{is_space};
 ghost use Rattle.vcd_read.specs.Numbers.{time_of};
-ghost use Rattle.vcd_read.specs.Reading.{line_at, left_at};
+ghost use Rattle.vcd_read.specs.Reading.{IsStart, left_at, line_of};
+ghost use Rattle.vcd_read.specs.declared.piece.Piece.{Piece};
 ghost use Rattle.vcd_read.specs.Body.{time_item, change, skipped, bracket_open, bracket_end, ready, code_of_vector, code_of_foreign, in_comment};
-ghost use Rattle.vcd_read.specs.Taking.{taking, state_of, step, at_end, taken_from};
+ghost use Rattle.vcd_read.specs.Taking.{taking, state_of, step};
+ghost use Rattle.vcd_read.specs.Bodies.{Leads, Leaves, ahead, place_of, remaining_in, from_token};
 ghost use Rattle.vcd_read.specs.Meaning.{Gives};
+ghost use Rattle.vcd_read.specs.declared.place.Place.TheVariants.{Ready};
 
 use crate::codes::Codes;
 use crate::fault::{FaultKind, VcdFault};
 use crate::number::decimal;
+use crate::piece::Start;
+use crate::place::{Digits, Place};
 use crate::shape::{Shape, is_end, shape_of};
 use crate::taker::Taker;
 use crate::token::{Reader, Token};
+use crate::underway::Underway;
 use crate::waves::Waves;
 use std::alloc::Global;
+use std::mem;
 
-/// A body that is read.
+/// A piece of a body that is read.
 #[derive(Drop)]
 pub(crate) struct Body<'a, 'c, T: Taker> {
     reader: Reader<'a>,
     codes: &'c Codes,
     waves: Waves<T>,
-    /// The place of the bracket that is open.
-    bracket: Option<usize>,
-    ghost bracket_within: { ForSome bracket (λ at. at ≤ length reader.text.now) },
+    /// Where the bracket that is open starts.
+    bracket: Option<Start>,
+    place: Place,
+    ghost bracket_within: { ForSome bracket (λ start. IsStart reader.text start) },
 }
 
 impl<'a, 'c, T: Taker> Body<'a, 'c, T> {
-    ghost use Rattle.vcd_read.specs.Bodies.{remaining_in, from_token, Leaves, GoesOn};
+    // Each of these reads one item, or begins it, and answers whether another may follow in the piece.
 
     /// Reads one item, if there is one left.
     fn one(&mut self, alloc: Global) -> Result<bool, VcdFault>
+        requires { self.old.place ≡ Ready }
         ensures codes { self.new.codes ≡ self.old.codes }
         ensures text { self.new.reader.text ≡ self.old.reader.text }
         ensures moves { result ≡ Ok true → self.old.reader.at < self.new.reader.at }
-        ensures rest { GoesOn (remaining_in T.with_change T.with_instant ready self.old.codes.now self.old.reader
+        ensures between { result ≡ Ok true → self.new.place ≡ Ready }
+        ensures end { result ≡ Ok false → left_at self.new.reader.text self.new.reader.at ≡ [] }
+        ensures rest { Leaves
+            (remaining_in T.with_change T.with_instant (place_of self.old.place) self.old.codes.now self.old.reader
             (taking (T.taken self.old.waves.taker) self.old.waves.clock) self.old.bracket)
-            (remaining_in T.with_change T.with_instant ready self.new.codes.now self.new.reader
-            (taking (T.taken self.new.waves.taker) self.new.waves.clock) self.new.bracket)
-            (state_of self.new.reader.text.now (taking (T.taken self.new.waves.taker) self.new.waves.clock) self.new.bracket) result }
+            (remaining_in T.with_change T.with_instant (place_of self.new.place) self.new.codes.now self.new.reader
+            (taking (T.taken self.new.waves.taker) self.new.waves.clock) self.new.bracket) result }
     {
         let Some(at) = self.reader.start() else {
             return Ok(false);
         };
-        match self.item_at(alloc, at) {
-            Ok(()) => Ok(true),
-            Err(fault) => Err(fault),
-        }
+        self.item_at(alloc, at)
     }
 
     /// Reads the item whose first token is at hand. Nearly all are short times and short changes, of which each byte is
     /// looked at once.
     #[inline(always)]
-    fn item_at(&mut self, alloc: Global, at: usize) -> Result<(), VcdFault>
+    fn item_at(&mut self, alloc: Global, at: usize) -> Result<bool, VcdFault>
+        requires between { self.old.place ≡ Ready }
         requires hand { at ≡ self.old.reader.at }
-        requires within { at < length self.old.reader.text.now }
-        requires word { is_space (slice_index self.old.reader.text.now at) ≡ false }
+        requires within { at < length self.old.reader.text.bytes.now }
+        requires word { is_space (slice_index self.old.reader.text.bytes.now at) ≡ false }
         ensures codes { self.new.codes ≡ self.old.codes }
         ensures text { self.new.reader.text ≡ self.old.reader.text }
         ensures moves { self.old.reader.at < self.new.reader.at }
+        ensures between { result ≡ Ok true → self.new.place ≡ Ready }
+        ensures end { result ≡ Ok false → left_at self.new.reader.text self.new.reader.at ≡ [] }
         ensures rest { Leaves
             (remaining_in T.with_change T.with_instant ready self.old.codes.now self.old.reader
             (taking (T.taken self.old.waves.taker) self.old.waves.clock) self.old.bracket)
-            (remaining_in T.with_change T.with_instant ready self.new.codes.now self.new.reader
+            (remaining_in T.with_change T.with_instant (place_of self.new.place) self.new.codes.now self.new.reader
             (taking (T.taken self.new.waves.taker) self.new.waves.clock) self.new.bracket) result }
     {
         if let Some(short) = self.reader.short_time() {
-            return self.go_to(alloc, at, short.time);
+            return self.go_to(alloc, Start::Here(at), short.time);
         }
         if let Some(short) = self.reader.short_change() {
-            return self.change(alloc, at, short.digit, short.code);
+            return self.change(alloc, Start::Here(at), short.digit, short.code);
         }
         let bytes = self.reader.word();
         self.item(alloc, Token { at, bytes })
     }
 
     /// Reads the item that a token is or begins.
-    fn item(&mut self, alloc: Global, token: Token<'a>) -> Result<(), VcdFault>
-        requires { token.at ≤ length self.old.reader.text.now }
+    fn item(&mut self, alloc: Global, token: Token<'a>) -> Result<bool, VcdFault>
+        requires between { self.old.place ≡ Ready }
+        requires within { token.at ≤ length self.old.reader.text.bytes.now }
         ensures codes { self.new.codes ≡ self.old.codes }
         ensures text { self.new.reader.text ≡ self.old.reader.text }
         ensures moves { self.old.reader.at ≤ self.new.reader.at }
+        ensures between { result ≡ Ok true → self.new.place ≡ Ready }
+        ensures end { result ≡ Ok false → left_at self.new.reader.text self.new.reader.at ≡ [] }
         ensures rest { Leaves
-            (from_token T.with_change T.with_instant token.entry.at token.entry.bytes.now self.old.codes.now self.old.reader
-            (taking (T.taken self.old.waves.taker) self.old.waves.clock) self.old.bracket)
-            (remaining_in T.with_change T.with_instant ready self.new.codes.now self.new.reader
+            (from_token T.with_change T.with_instant token.entry.at token.entry.bytes.now self.old.codes.now
+            self.old.reader (taking (T.taken self.old.waves.taker) self.old.waves.clock) self.old.bracket)
+            (remaining_in T.with_change T.with_instant (place_of self.new.place) self.new.codes.now self.new.reader
             (taking (T.taken self.new.waves.taker) self.new.waves.clock) self.new.bracket) result }
     {
+        let start = Start::Here(token.at);
         match shape_of(token.bytes) {
-            Shape::Time(digits) => self.time(alloc, token.at, digits),
-            Shape::Scalar(digit, code) => self.change(alloc, token.at, digit, code),
-            Shape::Vector(digits) => self.vector(alloc, token.at, digits),
-            Shape::Foreign => self.foreign(token.at),
-            Shape::Comment => self.comment(token.at),
-            Shape::Opens => self.open(token.at),
-            Shape::Ends => self.close(token.at),
-            Shape::Unknown => Err(self.reader.fault(token.at, FaultKind::BadToken)),
+            Shape::Time(digits) => self.time(alloc, start, digits),
+            Shape::Scalar(digit, code) => self.change(alloc, start, digit, code),
+            Shape::Vector(digits) => self.vector(alloc, start, digits),
+            Shape::Foreign => self.foreign(start),
+            Shape::Comment => self.comment(start),
+            Shape::Opens => self.open(start),
+            Shape::Ends => self.close(start),
+            Shape::Unknown => Err(self.reader.fault(start, FaultKind::BadToken)),
         }
     }
 
-    fn time(&mut self, alloc: Global, at: usize, digits: &[u8]) -> Result<(), VcdFault>
-        requires { at ≤ length self.old.reader.text.now }
-        ensures same { (self.new.reader ≡ self.old.reader) × (self.new.codes ≡ self.old.codes) }
-        ensures step { Gives (λ _. state_of self.new.reader.text.now
+    fn time(&mut self, alloc: Global, start: Start, digits: &[u8]) -> Result<bool, VcdFault>
+        requires { IsStart self.old.reader.text start }
+        ensures same { (self.new.reader ≡ self.old.reader) × (self.new.codes ≡ self.old.codes)
+            × (self.new.place ≡ self.old.place) }
+        ensures goes_on { IfOk result (λ goes_on. goes_on ≡ true) }
+        ensures step { Gives (λ _. state_of self.new.reader.text
             (taking (T.taken self.new.waves.taker) self.new.waves.clock) self.new.bracket) result
-            (step T.with_change T.with_instant self.old.codes.now (state_of self.old.reader.text.now
+            (step T.with_change T.with_instant self.old.codes.now (state_of self.old.reader.text
             (taking (T.taken self.old.waves.taker) self.old.waves.clock) self.old.bracket)
-            (time_item (line_at self.old.reader.text.now at) digits.now)) }
+            (time_item (line_of self.old.reader.text start) digits.now)) }
     {
         match decimal(digits, u64::MAX, FaultKind::BadToken) {
-            Ok(time) => self.go_to(alloc, at, time),
-            Err(kind) => Err(self.reader.fault(at, kind)),
+            Ok(time) => self.go_to(alloc, start, time),
+            Err(kind) => Err(self.reader.fault(start, kind)),
         }
     }
 
     /// Goes on to the time of the digits at a place.
     #[inline(always)]
-    fn go_to(&mut self, alloc: Global, at: usize, time: u64) -> Result<(), VcdFault>
-        requires { at ≤ length self.old.reader.text.now }
-        ensures same { (self.new.reader ≡ self.old.reader) × (self.new.codes ≡ self.old.codes) }
-        ensures step { (digits : List ℕ) → time_of digits ≡ Ok time → Gives (λ _. state_of self.new.reader.text.now
+    fn go_to(&mut self, alloc: Global, start: Start, time: u64) -> Result<bool, VcdFault>
+        requires { IsStart self.old.reader.text start }
+        ensures same { (self.new.reader ≡ self.old.reader) × (self.new.codes ≡ self.old.codes)
+            × (self.new.place ≡ self.old.place) }
+        ensures goes_on { IfOk result (λ goes_on. goes_on ≡ true) }
+        ensures step { (digits : List ℕ) → time_of digits ≡ Ok time → Gives (λ _. state_of self.new.reader.text
             (taking (T.taken self.new.waves.taker) self.new.waves.clock) self.new.bracket) result
-            (step T.with_change T.with_instant self.old.codes.now (state_of self.old.reader.text.now
+            (step T.with_change T.with_instant self.old.codes.now (state_of self.old.reader.text
             (taking (T.taken self.old.waves.taker) self.old.waves.clock) self.old.bracket)
-            (time_item (line_at self.old.reader.text.now at) digits)) }
+            (time_item (line_of self.old.reader.text start) digits)) }
     {
         if time < self.waves.clock.time {
-            return Err(self.reader.fault(at, FaultKind::TimeBackwards));
+            return Err(self.reader.fault(start, FaultKind::TimeBackwards));
         }
         self.waves.advance(alloc, time)?;
-        Ok(())
+        Ok(true)
     }
 
     #[inline(always)]
     fn change(
         &mut self,
         alloc: Global,
-        at: usize,
+        start: Start,
         digits: &[u8],
         code: &[u8],
-    ) -> Result<(), VcdFault>
-        requires place { at ≤ length self.old.reader.text.now }
+    ) -> Result<bool, VcdFault>
+        requires start { IsStart self.old.reader.text start }
         requires digits { 0 < length digits.now }
-        ensures same { (self.new.reader ≡ self.old.reader) × (self.new.codes ≡ self.old.codes) }
-        ensures step { Gives (λ _. state_of self.new.reader.text.now
+        ensures same { (self.new.reader ≡ self.old.reader) × (self.new.codes ≡ self.old.codes)
+            × (self.new.place ≡ self.old.place) }
+        ensures goes_on { IfOk result (λ goes_on. goes_on ≡ true) }
+        ensures step { Gives (λ _. state_of self.new.reader.text
             (taking (T.taken self.new.waves.taker) self.new.waves.clock) self.new.bracket) result
-            (step T.with_change T.with_instant self.old.codes.now (state_of self.old.reader.text.now
+            (step T.with_change T.with_instant self.old.codes.now (state_of self.old.reader.text
             (taking (T.taken self.old.waves.taker) self.old.waves.clock) self.old.bracket)
-            (change (line_at self.old.reader.text.now at) digits.now code.now)) }
+            (change (line_of self.old.reader.text start) digits.now code.now)) }
     {
         let net = match self.codes.net(code) {
             Some(net) => net,
-            None => return Err(self.reader.fault(at, FaultKind::UndeclaredCode)),
+            None => return Err(self.reader.fault(start, FaultKind::UndeclaredCode)),
         };
         let size = self.codes.size(net);
         if digits.len() > size as usize {
-            return Err(self.reader.fault(at, FaultKind::TooWide));
+            return Err(self.reader.fault(start, FaultKind::TooWide));
         }
         self.waves.change(alloc, net, size, digits)?;
-        Ok(())
+        Ok(true)
     }
 
-    /// Reads the code of a vector, and changes its net.
-    fn vector(&mut self, alloc: Global, at: usize, digits: &[u8]) -> Result<(), VcdFault>
-        requires place { at ≤ length self.old.reader.text.now }
+    /// Reads the code of a vector, and changes its net. The code may stand in the next piece.
+    fn vector(&mut self, alloc: Global, start: Start, digits: &[u8]) -> Result<bool, VcdFault>
+        requires between { self.old.place ≡ Ready }
+        requires start { IsStart self.old.reader.text start }
         requires digits { 0 < length digits.now }
         ensures codes { self.new.codes ≡ self.old.codes }
         ensures text { self.new.reader.text ≡ self.old.reader.text }
         ensures moves { self.old.reader.at ≤ self.new.reader.at }
+        ensures between { result ≡ Ok true → self.new.place ≡ Ready }
+        ensures end { result ≡ Ok false → left_at self.new.reader.text self.new.reader.at ≡ [] }
         ensures rest { Leaves
-            (remaining_in T.with_change T.with_instant (code_of_vector (line_at self.old.reader.text.now at) digits.now) self.old.codes.now self.old.reader
+            (remaining_in T.with_change T.with_instant (code_of_vector (line_of self.old.reader.text start) digits.now)
+            self.old.codes.now self.old.reader
             (taking (T.taken self.old.waves.taker) self.old.waves.clock) self.old.bracket)
-            (remaining_in T.with_change T.with_instant ready self.new.codes.now self.new.reader
+            (remaining_in T.with_change T.with_instant (place_of self.new.place) self.new.codes.now self.new.reader
             (taking (T.taken self.new.waves.taker) self.new.waves.clock) self.new.bracket) result }
     {
         match self.reader.next() {
-            Some(code) => self.change(alloc, at, digits, code.bytes),
-            None => Err(self.reader.fault(at, FaultKind::UnfinishedSection)),
+            Some(code) => self.change(alloc, start, digits, code.bytes),
+            None => {
+                let line = self.reader.line(start);
+                self.place = Place::Vector(Digits::new(alloc, line, digits)?);
+                Ok(false)
+            }
         }
     }
 
-    /// Reads the code of a value that is none of bits, and skips the change.
-    fn foreign(&mut self, at: usize) -> Result<(), VcdFault>
-        requires { at ≤ length self.old.reader.text.now }
+    /// Reads the code of a value that is none of bits, and skips the change. The code may stand in the next piece.
+    fn foreign(&mut self, start: Start) -> Result<bool, VcdFault>
+        requires between { self.old.place ≡ Ready }
+        requires start { IsStart self.old.reader.text start }
         ensures codes { self.new.codes ≡ self.old.codes }
         ensures text { self.new.reader.text ≡ self.old.reader.text }
         ensures moves { self.old.reader.at ≤ self.new.reader.at }
+        ensures between { result ≡ Ok true → self.new.place ≡ Ready }
+        ensures end { result ≡ Ok false → left_at self.new.reader.text self.new.reader.at ≡ [] }
         ensures rest { Leaves
-            (remaining_in T.with_change T.with_instant (code_of_foreign (line_at self.old.reader.text.now at)) self.old.codes.now self.old.reader
+            (remaining_in T.with_change T.with_instant (code_of_foreign (line_of self.old.reader.text start))
+            self.old.codes.now self.old.reader
             (taking (T.taken self.old.waves.taker) self.old.waves.clock) self.old.bracket)
-            (remaining_in T.with_change T.with_instant ready self.new.codes.now self.new.reader
+            (remaining_in T.with_change T.with_instant (place_of self.new.place) self.new.codes.now self.new.reader
             (taking (T.taken self.new.waves.taker) self.new.waves.clock) self.new.bracket) result }
     {
         match self.reader.next() {
-            Some(code) => self.skip(at, code.bytes),
-            None => Err(self.reader.fault(at, FaultKind::UnfinishedSection)),
+            Some(code) => self.skip(start, code.bytes),
+            None => {
+                self.place = Place::Foreign(self.reader.line(start));
+                Ok(false)
+            }
         }
     }
 
-    fn skip(&self, at: usize, code: &[u8]) -> Result<(), VcdFault>
-        requires { at ≤ length self.now.reader.text.now }
-        ensures step { Gives (λ _. state_of self.entry.now.reader.text.now
+    fn skip(&self, start: Start, code: &[u8]) -> Result<bool, VcdFault>
+        requires { IsStart self.now.reader.text start }
+        ensures goes_on { IfOk result (λ goes_on. goes_on ≡ true) }
+        ensures step { Gives (λ _. state_of self.entry.now.reader.text
             (taking (T.taken self.entry.now.waves.taker) self.entry.now.waves.clock) self.entry.now.bracket) result
-            (step T.with_change T.with_instant self.entry.now.codes.now (state_of self.entry.now.reader.text.now
+            (step T.with_change T.with_instant self.entry.now.codes.now (state_of self.entry.now.reader.text
             (taking (T.taken self.entry.now.waves.taker) self.entry.now.waves.clock) self.entry.now.bracket)
-            (skipped (line_at self.entry.now.reader.text.now at) code.now)) }
+            (skipped (line_of self.entry.now.reader.text start) code.now)) }
     {
         match self.codes.net(code) {
-            Some(_) => Ok(()),
-            None => Err(self.reader.fault(at, FaultKind::UndeclaredCode)),
+            Some(_) => Ok(true),
+            None => Err(self.reader.fault(start, FaultKind::UndeclaredCode)),
         }
     }
 
-    /// Reads the words of a comment up to its end.
-    fn comment(&mut self, at: usize) -> Result<(), VcdFault>
-        requires { at ≤ length self.old.reader.text.now }
+    /// Reads the words of a comment up to its end, which may stand in a later piece.
+    fn comment(&mut self, start: Start) -> Result<bool, VcdFault>
+        requires between { self.old.place ≡ Ready }
+        requires start { IsStart self.old.reader.text start }
         ensures codes { self.new.codes ≡ self.old.codes }
         ensures text { self.new.reader.text ≡ self.old.reader.text }
         ensures moves { self.old.reader.at ≤ self.new.reader.at }
+        ensures between { result ≡ Ok true → self.new.place ≡ Ready }
+        ensures end { result ≡ Ok false → left_at self.new.reader.text self.new.reader.at ≡ [] }
         ensures rest { Leaves
-            (remaining_in T.with_change T.with_instant (in_comment (line_at self.old.reader.text.now at)) self.old.codes.now self.old.reader
+            (remaining_in T.with_change T.with_instant (in_comment (line_of self.old.reader.text start))
+            self.old.codes.now self.old.reader
             (taking (T.taken self.old.waves.taker) self.old.waves.clock) self.old.bracket)
-            (remaining_in T.with_change T.with_instant ready self.new.codes.now self.new.reader
+            (remaining_in T.with_change T.with_instant (place_of self.new.place) self.new.codes.now self.new.reader
             (taking (T.taken self.new.waves.taker) self.new.waves.clock) self.new.bracket) result }
     {
         while let Some(word) = self.reader.next() {
             if is_end(word.bytes) {
-                return Ok(());
+                return Ok(true);
             }
         }
-        Err(self.reader.fault(at, FaultKind::UnfinishedSection))
+        self.place = Place::Comment(self.reader.line(start));
+        Ok(false)
     }
 
-    fn open(&mut self, at: usize) -> Result<(), VcdFault>
-        requires { at ≤ length self.old.reader.text.now }
-        ensures same { (self.new.reader ≡ self.old.reader) × (self.new.codes ≡ self.old.codes) }
-        ensures step { Gives (λ _. state_of self.new.reader.text.now
+    fn open(&mut self, start: Start) -> Result<bool, VcdFault>
+        requires { IsStart self.old.reader.text start }
+        ensures same { (self.new.reader ≡ self.old.reader) × (self.new.codes ≡ self.old.codes)
+            × (self.new.place ≡ self.old.place) }
+        ensures goes_on { IfOk result (λ goes_on. goes_on ≡ true) }
+        ensures step { Gives (λ _. state_of self.new.reader.text
             (taking (T.taken self.new.waves.taker) self.new.waves.clock) self.new.bracket) result
-            (step T.with_change T.with_instant self.old.codes.now (state_of self.old.reader.text.now
+            (step T.with_change T.with_instant self.old.codes.now (state_of self.old.reader.text
             (taking (T.taken self.old.waves.taker) self.old.waves.clock) self.old.bracket)
-            (bracket_open (line_at self.old.reader.text.now at))) }
+            (bracket_open (line_of self.old.reader.text start))) }
     {
         if self.bracket.is_some() {
-            return Err(self.reader.fault(at, FaultKind::BadToken));
+            return Err(self.reader.fault(start, FaultKind::BadToken));
         }
-        self.bracket = Some(at);
-        Ok(())
+        self.bracket = Some(start);
+        Ok(true)
     }
 
-    fn close(&mut self, at: usize) -> Result<(), VcdFault>
-        requires { at ≤ length self.old.reader.text.now }
-        ensures same { (self.new.reader ≡ self.old.reader) × (self.new.codes ≡ self.old.codes) }
-        ensures step { Gives (λ _. state_of self.new.reader.text.now
+    fn close(&mut self, start: Start) -> Result<bool, VcdFault>
+        requires { IsStart self.old.reader.text start }
+        ensures same { (self.new.reader ≡ self.old.reader) × (self.new.codes ≡ self.old.codes)
+            × (self.new.place ≡ self.old.place) }
+        ensures goes_on { IfOk result (λ goes_on. goes_on ≡ true) }
+        ensures step { Gives (λ _. state_of self.new.reader.text
             (taking (T.taken self.new.waves.taker) self.new.waves.clock) self.new.bracket) result
-            (step T.with_change T.with_instant self.old.codes.now (state_of self.old.reader.text.now
+            (step T.with_change T.with_instant self.old.codes.now (state_of self.old.reader.text
             (taking (T.taken self.old.waves.taker) self.old.waves.clock) self.old.bracket)
-            (bracket_end (line_at self.old.reader.text.now at))) }
+            (bracket_end (line_of self.old.reader.text start))) }
     {
         if self.bracket.is_none() {
-            return Err(self.reader.fault(at, FaultKind::BadToken));
+            return Err(self.reader.fault(start, FaultKind::BadToken));
         }
         self.bracket = None;
-        Ok(())
+        Ok(true)
     }
 
-    /// Reads all that is left.
-    fn all(&mut self, alloc: Global) -> Result<(), VcdFault>
-        ensures { Gives (λ _. state_of self.new.reader.text.now
-            (taking (T.taken self.new.waves.taker) self.new.waves.clock) self.new.bracket) result
-            (remaining_in T.with_change T.with_instant ready self.old.codes.now self.old.reader
-            (taking (T.taken self.old.waves.taker) self.old.waves.clock) self.old.bracket) }
+    /// Ends the item that the piece before this one ends in, as far as it goes on in this one.
+    fn resume(&mut self, alloc: Global) -> Result<bool, VcdFault>
+        ensures codes { self.new.codes ≡ self.old.codes }
+        ensures text { self.new.reader.text ≡ self.old.reader.text }
+        ensures between { result ≡ Ok true → self.new.place ≡ Ready }
+        ensures end { result ≡ Ok false → left_at self.new.reader.text self.new.reader.at ≡ [] }
+        ensures rest { Leaves
+            (remaining_in T.with_change T.with_instant (place_of self.old.place) self.old.codes.now self.old.reader
+            (taking (T.taken self.old.waves.taker) self.old.waves.clock) self.old.bracket)
+            (remaining_in T.with_change T.with_instant (place_of self.new.place) self.new.codes.now self.new.reader
+            (taking (T.taken self.new.waves.taker) self.new.waves.clock) self.new.bracket) result }
     {
+        match mem::replace(&mut self.place, Place::Ready) {
+            Place::Ready => Ok(true),
+            Place::Vector(digits) => {
+                self.vector(alloc, Start::Before(digits.line), digits.bytes.as_slice())
+            }
+            Place::Foreign(line) => self.foreign(Start::Before(line)),
+            Place::Comment(line) => self.comment(Start::Before(line)),
+        }
+    }
+
+    /// Reads all that is left of the piece.
+    fn all(&mut self, alloc: Global) -> Result<(), VcdFault>
+        ensures codes { self.new.codes ≡ self.old.codes }
+        ensures text { self.new.reader.text ≡ self.old.reader.text }
+        ensures end { OnOk result (left_at self.new.reader.text self.new.reader.at ≡ []) }
+        ensures rest { Leaves
+            (remaining_in T.with_change T.with_instant (place_of self.old.place) self.old.codes.now self.old.reader
+            (taking (T.taken self.old.waves.taker) self.old.waves.clock) self.old.bracket)
+            (remaining_in T.with_change T.with_instant (place_of self.new.place) self.new.codes.now self.new.reader
+            (taking (T.taken self.new.waves.taker) self.new.waves.clock) self.new.bracket) result }
+    {
+        if !self.resume(alloc)? {
+            return Ok(());
+        }
         while self.one(alloc)? {}
         Ok(())
     }
 
-    /// What took a body that is read to its end. A bracket that is still open is met there.
-    fn finish(self, alloc: Global) -> Result<T, VcdFault>
-        ensures { Gives (λ t. T.taken t) result (at_end T.with_instant (state_of self.entry.reader.text.now
-            (taking (T.taken self.entry.waves.taker) self.entry.waves.clock) self.entry.bracket)) }
+    /// How far the body is read, behind the piece.
+    fn end(self) -> Underway<T>
+        ensures taken { T.taken result.waves.taker ≡ T.taken self.entry.waves.taker }
+        ensures clock { result.waves.clock ≡ self.entry.waves.clock }
+        ensures bracket { result.bracket ≡ option_map (line_of self.entry.reader.text) self.entry.bracket }
+        ensures place { result.place ≡ self.entry.place }
     {
-        if let Some(at) = self.bracket {
-            return Err(self.reader.fault(at, FaultKind::UnfinishedSection));
+        let bracket = match self.bracket {
+            Some(start) => Some(self.reader.line(start)),
+            None => None,
+        };
+        Underway {
+            waves: self.waves,
+            bracket,
+            place: self.place,
         }
-        Ok(self.waves.finish(alloc)?)
     }
 }
 
-/// Gives what is left of a text behind its definitions to a taker.
-pub(crate) fn read_body<T: Taker>(
+/// What starts on a line, in the piece that follows it.
+fn on_line(line: Option<u64>) -> Option<Start>
+    ensures line { (text : Piece) → option_map (line_of text) result ≡ line }
+    ensures start { (text : Piece) → ForSome result (λ start. IsStart text start) }
+{
+    match line {
+        Some(line) => Some(Start::Before(line)),
+        None => None,
+    }
+}
+
+/// Reads what is left of a piece of a body, from where the body was read to.
+pub(crate) fn read_piece<T: Taker>(
     alloc: Global,
     reader: Reader<'_>,
     codes: &Codes,
-    taker: T,
-) -> Result<T, VcdFault>
-    ensures { Gives (λ t. T.taken t) result
-        (taken_from T.with_change T.with_instant codes.now (T.taken taker) (left_at reader.entry.text.now reader.entry.at)) }
+    underway: Underway<T>,
+) -> Result<Underway<T>, VcdFault>
+    ensures { Leads (λ u. ahead T.with_change T.with_instant codes.now (taking (T.taken u.waves.taker) u.waves.clock)
+        u.bracket (place_of u.place) []) result
+        (ahead T.with_change T.with_instant codes.now (taking (T.taken underway.waves.taker) underway.waves.clock)
+        underway.bracket (place_of underway.place) (left_at reader.entry.text reader.entry.at)) }
 {
+    let Underway {
+        waves,
+        bracket,
+        place,
+    } = underway;
     let mut body = Body {
         reader,
         codes,
-        waves: Waves::new(taker),
-        bracket: None,
+        waves,
+        bracket: on_line(bracket),
+        place,
     };
     body.all(alloc)?;
-    body.finish(alloc)
+    Ok(body.end())
 }

@@ -1,19 +1,22 @@
 //! A text whose definitions are read.
 
-ghost use Rattle.std.specs.Prelude.{◌≡◌, [], length};
+ghost use Rattle.std.specs.Prelude.{◌≡◌, ◌++◌, [], length, IfOk};
 ghost use Rattle.vcd_read.specs.Header.{nothing_declared};
 ghost use Rattle.vcd_read.specs.Tokens.{tokens};
 ghost use Rattle.vcd_read.specs.Meaning.{Gives};
 ghost use Rattle.vcd_read.specs.Sections.{defined, header_of};
-ghost use Rattle.vcd_read.specs.Taking.{taken_from};
+ghost use Rattle.vcd_read.specs.Body.{body_from, ready};
+ghost use Rattle.vcd_read.specs.Bodies.{Leads, ahead, place_of};
+ghost use Rattle.vcd_read.specs.Taking.{at_first, steps, taken_from, taking};
 
-use crate::body::read_body;
+use crate::body::read_piece;
 use crate::codes::Codes;
 use crate::declarations::Declarations;
 use crate::fault::VcdFault;
 use crate::header::{Definitions, read_header};
 use crate::taker::Taker;
 use crate::token::Reader;
+use crate::underway::Underway;
 use std::alloc::Global;
 use std::marker::Model;
 
@@ -30,7 +33,7 @@ impl<'a> Model for Head<'a> {
 
     ghost Value = { Headed };
 
-    ghost view = { λ h. record { nets = h.codes; body = left_at h.reader.text.now h.reader.at } };
+    ghost view = { λ h. record { nets = h.codes; body = left_at h.reader.text h.reader.at } };
 }
 
 /// Reads the definitions of a text, and gives its scopes and variables to what takes them, in the order of the text.
@@ -68,6 +71,24 @@ impl<'a> Head<'a> {
             text: self.reader.text,
             at: self.reader.at,
         };
-        read_body(alloc, reader, &self.codes, taker)
+        let underway = read_piece(alloc, reader, &self.codes, Underway::new(taker))?;
+        underway.finish(alloc)
+    }
+
+    /// Gives the changes of what the text has of the body to a taker. The body may go on behind the text.
+    pub(crate) fn begin<T: Taker>(
+        self,
+        alloc: Global,
+        taker: T,
+    ) -> Result<(Codes, Underway<T>), VcdFault>
+        ensures codes { IfOk result (λ made. made.0 ≡ self.entry.nets) }
+        ensures rest { Leads (λ made. ahead T.with_change T.with_instant self.entry.nets
+            (taking (T.taken made.1.waves.taker) made.1.waves.clock) made.1.bracket (place_of made.1.place) []) result
+            (λ more. steps T.with_change T.with_instant self.entry.nets (at_first (T.taken taker))
+            (body_from ready (self.entry.body ++ more))) }
+    {
+        let Head { reader, codes } = self;
+        let underway = read_piece(alloc, reader, &codes, Underway::new(taker))?;
+        Ok((codes, underway))
     }
 }

@@ -13,6 +13,7 @@ use crate::codes::Codes;
 use crate::declarations::{Declaration, Declarations};
 use crate::fault::{FaultKind, VcdFault};
 use crate::number::decimal;
+use crate::piece::Start;
 use crate::reference::{Reference, reference_of};
 use crate::shape::is_end;
 use crate::token::{Reader, Token};
@@ -108,11 +109,11 @@ fn words_of<'a>(
     reader: &mut Reader<'a>,
     first: usize,
 ) -> Result<Vec<&'a [u8]>, VcdFault>
-    requires { first ≤ length reader.old.text.now }
+    requires { first ≤ length reader.old.text.bytes.now }
     ensures text { reader.new.text ≡ reader.old.text }
     ensures moves { OnOk result (reader.old.at ≤ reader.new.at) }
-    ensures words { Gives (λ words. record { words = texts words.items; rest = left_at reader.old.text.now reader.new.at }) result
-        (section_from (line_at reader.old.text.now first) (left_at reader.old.text.now reader.old.at)) }
+    ensures words { Gives (λ words. record { words = texts words.items; rest = left_at reader.old.text reader.new.at }) result
+        (section_from (line_at reader.old.text first) (left_at reader.old.text reader.old.at)) }
     ensures each { IfOk result (λ words. All (λ word. 0 < length word.now) words.items) }
 {
     let mut words = Vec::new(alloc);
@@ -122,23 +123,23 @@ fn words_of<'a>(
         }
         words.push(token.bytes)?;
     }
-    Err(reader.fault(first, FaultKind::UnfinishedSection))
+    Err(reader.fault(Start::Here(first), FaultKind::UnfinishedSection))
 }
 
 /// Reads past the end of a section.
 fn skip_section(reader: &mut Reader<'_>, first: usize) -> Result<(), VcdFault>
-    requires { first ≤ length reader.old.text.now }
+    requires { first ≤ length reader.old.text.bytes.now }
     ensures text { reader.new.text ≡ reader.old.text }
     ensures moves { OnOk result (reader.old.at ≤ reader.new.at) }
-    ensures rest { Gives (λ _. left_at reader.old.text.now reader.new.at) result
-        (behind_section (line_at reader.old.text.now first) (left_at reader.old.text.now reader.old.at)) }
+    ensures rest { Gives (λ _. left_at reader.old.text reader.new.at) result
+        (behind_section (line_at reader.old.text first) (left_at reader.old.text reader.old.at)) }
 {
     while let Some(token) = reader.next() {
         if is_end(token.bytes) {
             return Ok(());
         }
     }
-    Err(reader.fault(first, FaultKind::UnfinishedSection))
+    Err(reader.fault(Start::Here(first), FaultKind::UnfinishedSection))
 }
 
 /// Words without anything between them.
@@ -220,18 +221,18 @@ impl<D: Declarations> Definitions<D> {
         first: usize,
         words: &[&[u8]],
     ) -> Result<(), VcdFault>
-        requires first { first ≤ length reader.now.text.now }
+        requires first { first ≤ length reader.now.text.bytes.now }
         requires each { All (λ word. 0 < length word.now) words.now }
         ensures { Gives (λ _. declared_in (D.scopes self.new.declarations) self.new.codes (D.taken self.new.declarations)) result
-            (at_line (line_at reader.now.text.now first) (declare_var D.with_variable
+            (at_line (line_at reader.now.text first) (declare_var D.with_variable
             (declared_in (D.scopes self.old.declarations) self.old.codes (D.taken self.old.declarations)) (texts words.now))) }
     {
         let var = match var_section(words) {
             Ok(var) => var,
-            Err(kind) => return Err(reader.fault(first, kind)),
+            Err(kind) => return Err(reader.fault(Start::Here(first), kind)),
         };
         let Some(net) = net_for(&mut self.codes, alloc, var.code, var.size)? else {
-            return Err(reader.fault(first, FaultKind::SizeConflict));
+            return Err(reader.fault(Start::Here(first), FaultKind::SizeConflict));
         };
         declare_on(&mut self.declarations, alloc, var, net)?;
         Ok(())
@@ -244,17 +245,21 @@ impl<D: Declarations> Definitions<D> {
         reader: &mut Reader<'a>,
         first: Token<'a>,
     ) -> Result<bool, VcdFault>
-        requires { first.at ≤ length reader.old.text.now }
+        requires { first.at ≤ length reader.old.text.bytes.now }
         ensures text { reader.new.text ≡ reader.old.text }
         ensures moves { result ≡ Ok true → reader.old.at ≤ reader.new.at }
-        ensures rest { let text = reader.old.text.now in
+        ensures rest { let text = reader.old.text.bytes.now in
+            let piece = reader.old.text in
             let new = declared_in (D.scopes self.new.declarations) self.new.codes (D.taken self.new.declarations) in
             Continues (header_of D.with_variable text (declared_in (D.scopes self.old.declarations) self.old.codes (D.taken self.old.declarations))
-            (token_at text first.entry.at first.entry.bytes.now ∷ left_at text reader.old.at))
-            (header_of D.with_variable text new (left_at text reader.new.at)) (headed new (left_at text reader.new.at)) result }
+            (token_at piece first.entry.at first.entry.bytes.now ∷ left_at piece reader.old.at))
+            (header_of D.with_variable text new (left_at piece reader.new.at)) (headed new (left_at piece reader.new.at)) result }
     {
         match opening_of(first.bytes) {
-            Opening::Nothing => return Err(reader.fault(first.at, FaultKind::BadToken)),
+            Opening::Nothing => return Err(reader.fault(
+                Start::Here(first.at),
+                FaultKind::BadToken,
+            )),
             Opening::Var => {
                 let words = words_of(alloc, reader, first.at)?;
                 self.declare(alloc, reader, first.at, &words)?;
@@ -267,7 +272,7 @@ impl<D: Declarations> Definitions<D> {
             Opening::Upscope => {
                 skip_section(reader, first.at)?;
                 if !self.declarations.close() {
-                    return Err(reader.fault(first.at, FaultKind::ScopeUnderflow));
+                    return Err(reader.fault(Start::Here(first.at), FaultKind::ScopeUnderflow));
                 }
             }
             Opening::EndDefinitions => {
@@ -286,11 +291,12 @@ pub(crate) fn read_header<D: Declarations>(
     reader: &mut Reader<'_>,
     declarations: D,
 ) -> Result<Definitions<D>, VcdFault>
-    requires { D.scopes declarations ≡ [] }
+    requires first { reader.old.text.line ≡ 1 }
+    requires scopes { D.scopes declarations ≡ [] }
     ensures text { reader.new.text ≡ reader.old.text }
-    ensures header { let text = reader.old.text.now in
+    ensures header { let text = reader.old.text in
         Gives (λ d. headed (declared_in (D.scopes d.declarations) d.codes (D.taken d.declarations)) (left_at text reader.new.at)) result
-        (header_of D.with_variable text (nothing_declared (D.taken declarations)) (left_at text reader.old.at)) }
+        (header_of D.with_variable text.bytes.now (nothing_declared (D.taken declarations)) (left_at text reader.old.at)) }
 {
     let mut definitions = Definitions::new(alloc, declarations)?;
     while let Some(token) = reader.next() {
@@ -298,5 +304,8 @@ pub(crate) fn read_header<D: Declarations>(
             return Ok(definitions);
         }
     }
-    Err(reader.fault(reader.text.len(), FaultKind::NoEndDefinitions))
+    Err(reader.fault(
+        Start::Here(reader.text.bytes.len()),
+        FaultKind::NoEndDefinitions,
+    ))
 }

@@ -1,13 +1,15 @@
 //! The tokens of a text, from the left.
 
-ghost use Rattle.std.specs.Prelude.{◌≡◌, ℕ, true, false, ◌∷◌, ◌++◌, [], ◌<◌, ◌≤◌, length, slice_index, Ok, IfSome, IfNone, MatchOption};
-ghost use Rattle.vcd_read.specs.Tokens.{is_space};
+ghost use Rattle.std.specs.Prelude.{◌≡◌, ℕ, true, false, ◌+◌, ◌∷◌, ◌++◌, List, [], ◌<◌, ◌≤◌, length, slice_index, take, Ok, IfSome, IfNone, MatchOption};
+ghost use Rattle.vcd_read.specs.Tokens.{is_space, tokens_from};
 ghost use Rattle.vcd_read.specs.Numbers.{time_of};
 ghost use Rattle.vcd_read.specs.Body.{shape_of, scalar};
-ghost use Rattle.vcd_read.specs.Reading.{left_at, line_at, token_at};
+ghost use Rattle.vcd_read.specs.Reading.{IsStart, left_at, left_from, line_behind, line_of, token_at};
 
 use crate::fault::{FaultKind, VcdFault};
+use crate::lines::line_feeds;
 use crate::number::{Leading, leading_number};
+use crate::piece::{Piece, Start};
 use crate::shape::is_bit;
 
 /// A token, and the place of its first byte.
@@ -31,12 +33,12 @@ pub(crate) struct ShortChange<'a> {
     pub code: &'a [u8],
 }
 
-/// A text, and the place up to which it is read.
+/// A piece of a text, and the place up to which it is read.
 #[derive(Drop)]
 pub(crate) struct Reader<'a> {
-    pub text: &'a [u8],
+    pub text: Piece<'a>,
     pub at: usize,
-    ghost within: { at ≤ length text.now },
+    ghost within: { at ≤ length text.bytes.now },
 }
 
 /// Nearly all bytes are above the space, so that one test tells most of them.
@@ -50,12 +52,28 @@ fn is_space(b: u8) -> bool
     matches!(b, b' ' | b'\t' | b'\n' | b'\r')
 }
 
+/// How many of the first bytes of a text end behind a space, so that no token goes on behind them.
+pub fn whole_tokens(text: &[u8]) -> usize
+    ensures within { result ≤ length text.now }
+    ensures apart { (line : ℕ) (rest : List ℕ) → tokens_from line (take result text.now ++ rest)
+        ≡ tokens_from line (take result text.now) ++ tokens_from (line_behind line (take result text.now)) rest }
+{
+    let mut end = text.len();
+    while end > 0 {
+        if is_space(text[end - 1]) {
+            return end;
+        }
+        end -= 1;
+    }
+    0
+}
+
 /// The first place from here on that is no space, or the end.
 fn word_start(text: &[u8], at: usize) -> usize
     requires { at ≤ length text.now }
     ensures low { at ≤ result }
     ensures high { result ≤ length text.now }
-    ensures left { left_at text.now result ≡ left_at text.now at }
+    ensures left { (line : ℕ) → left_from line text.now result ≡ left_from line text.now at }
     ensures word { result < length text.now → is_space (slice_index text.now result) ≡ false }
 {
     let mut i = at;
@@ -100,30 +118,39 @@ fn behind_word(text: &[u8], end: usize) -> usize
     requires space { end < length text.now → is_space (slice_index text.now end) ≡ true }
     ensures low { end ≤ result }
     ensures high { result ≤ length text.now }
-    ensures left { left_at text.now result ≡ left_at text.now end }
+    ensures left { (line : ℕ) → left_from line text.now result ≡ left_from line text.now end }
 {
     if end < text.len() { end + 1 } else { end }
 }
 
 impl<'a> Reader<'a> {
+    /// At the beginning of a text.
     pub fn new(text: &'a [u8]) -> Reader<'a>
-        ensures text { result.text.now ≡ text.now }
+        ensures text { result.text.bytes.now ≡ text.now }
+        ensures line { result.text.line ≡ 1 }
         ensures at { result.at ≡ 0 }
     {
-        Reader { text, at: 0 }
+        Reader {
+            text: Piece {
+                bytes: text,
+                line: 1,
+            },
+            at: 0,
+        }
     }
 
     /// Goes on to the next token, and gives its place.
     #[inline(always)]
     pub fn start(&mut self) -> Option<usize>
         ensures text { self.new.text ≡ self.old.text }
-        ensures left { left_at self.old.text.now self.new.at ≡ left_at self.old.text.now self.old.at }
+        ensures left { left_at self.old.text self.new.at ≡ left_at self.old.text self.old.at }
         ensures forward { self.old.at ≤ self.new.at }
-        ensures at { MatchOption result (left_at self.old.text.now self.old.at ≡ []) (λ at. (at ≡ self.new.at) × (at < length self.old.text.now)) }
-        ensures word { IfSome result (λ at. is_space (slice_index self.old.text.now at) ≡ false) }
+        ensures at { MatchOption result (left_at self.old.text self.old.at ≡ [])
+            (λ at. (at ≡ self.new.at) × (at < length self.old.text.bytes.now)) }
+        ensures word { IfSome result (λ at. is_space (slice_index self.old.text.bytes.now at) ≡ false) }
     {
-        self.at = word_start(self.text, self.at);
-        if self.at < self.text.len() {
+        self.at = word_start(self.text.bytes, self.at);
+        if self.at < self.text.bytes.len() {
             Some(self.at)
         } else {
             None
@@ -133,81 +160,83 @@ impl<'a> Reader<'a> {
     /// Reads the token at hand.
     #[inline(always)]
     pub fn word(&mut self) -> &'a [u8]
-        requires within { self.old.at < length self.old.text.now }
-        requires word { is_space (slice_index self.old.text.now self.old.at) ≡ false }
+        requires within { self.old.at < length self.old.text.bytes.now }
+        requires word { is_space (slice_index self.old.text.bytes.now self.old.at) ≡ false }
         ensures text { self.new.text ≡ self.old.text }
-        ensures token { left_at self.old.text.now self.old.at ≡ token_at self.old.text.now self.old.at result.now ∷ left_at self.old.text.now self.new.at }
+        ensures token { left_at self.old.text self.old.at ≡ token_at self.old.text self.old.at result.now
+            ∷ left_at self.old.text self.new.at }
         ensures moves { self.old.at < self.new.at }
         ensures some { 0 < length result.now }
     {
         let start = self.at;
-        let end = word_end(self.text, start + 1);
-        self.at = behind_word(self.text, end);
-        &self.text[start..end]
+        let end = word_end(self.text.bytes, start + 1);
+        self.at = behind_word(self.text.bytes, end);
+        &self.text.bytes[start..end]
     }
 
     /// Reads the token at hand where it is a time of at most 19 digits.
     #[inline(always)]
     pub fn short_time(&mut self) -> Option<ShortTime<'a>>
-        requires { self.old.at < length self.old.text.now }
+        requires { self.old.at < length self.old.text.bytes.now }
         ensures text { self.new.text ≡ self.old.text }
         ensures none { IfNone result (self.new.at ≡ self.old.at) }
-        ensures token { IfSome result (λ t. left_at self.old.text.now self.old.at
-            ≡ token_at self.old.text.now self.old.at (35 ∷ t.digits.now) ∷ left_at self.old.text.now self.new.at) }
+        ensures token { IfSome result (λ t. left_at self.old.text self.old.at
+            ≡ token_at self.old.text self.old.at (35 ∷ t.digits.now) ∷ left_at self.old.text self.new.at) }
         ensures time { IfSome result (λ t. time_of t.digits.now ≡ Ok t.time) }
         ensures moves { IfSome result (λ t. self.old.at < self.new.at) }
     {
-        if self.text[self.at] != b'#' {
+        if self.text.bytes[self.at] != b'#' {
             return None;
         }
         let start = self.at + 1;
-        let Leading { number, count } = leading_number(&self.text[start..]);
+        let Leading { number, count } = leading_number(&self.text.bytes[start..]);
         let end = start + count;
-        if count == 0 || !ends_word(self.text, end) {
+        if count == 0 || !ends_word(self.text.bytes, end) {
             return None;
         }
-        self.at = behind_word(self.text, end);
+        self.at = behind_word(self.text.bytes, end);
         Some(ShortTime {
             time: number,
-            digits: &self.text[start..end],
+            digits: &self.text.bytes[start..end],
         })
     }
 
     /// Reads the token at hand where it is a scalar change of a code of one byte.
     #[inline(always)]
     pub fn short_change(&mut self) -> Option<ShortChange<'a>>
-        requires { self.old.at < length self.old.text.now }
+        requires { self.old.at < length self.old.text.bytes.now }
         ensures text { self.new.text ≡ self.old.text }
         ensures none { IfNone result (self.new.at ≡ self.old.at) }
-        ensures token { IfSome result (λ c. left_at self.old.text.now self.old.at
-            ≡ token_at self.old.text.now self.old.at (c.digit.now ++ c.code.now) ∷ left_at self.old.text.now self.new.at) }
+        ensures token { IfSome result (λ c. left_at self.old.text self.old.at
+            ≡ token_at self.old.text self.old.at (c.digit.now ++ c.code.now) ∷ left_at self.old.text self.new.at) }
         ensures shape { IfSome result (λ c. shape_of (c.digit.now ++ c.code.now) ≡ scalar c.digit.now c.code.now) }
         ensures moves { IfSome result (λ c. self.old.at < self.new.at) }
         ensures some { IfSome result (λ c. 0 < length c.digit.now) }
     {
         let start = self.at;
-        if !is_bit(self.text[start]) || ends_word(self.text, start + 1) {
+        if !is_bit(self.text.bytes[start]) || ends_word(self.text.bytes, start + 1) {
             return None;
         }
         let end = start + 2;
-        if !ends_word(self.text, end) {
+        if !ends_word(self.text.bytes, end) {
             return None;
         }
-        self.at = behind_word(self.text, end);
+        self.at = behind_word(self.text.bytes, end);
         Some(ShortChange {
-            digit: &self.text[start..start + 1],
-            code: &self.text[start + 1..end],
+            digit: &self.text.bytes[start..start + 1],
+            code: &self.text.bytes[start + 1..end],
         })
     }
 
     pub fn next(&mut self) -> Option<Token<'a>>
         ensures text { self.new.text ≡ self.old.text }
-        ensures token { MatchOption result (left_at self.old.text.now self.old.at ≡ [])
-            (λ t. left_at self.old.text.now self.old.at
-            ≡ token_at self.old.text.now t.at t.bytes.now ∷ left_at self.old.text.now self.new.at) }
+        ensures token { MatchOption result (left_at self.old.text self.old.at ≡ [])
+            (λ t. left_at self.old.text self.old.at
+            ≡ token_at self.old.text t.at t.bytes.now ∷ left_at self.old.text self.new.at) }
+        ensures end { IfNone result (left_at self.old.text self.new.at ≡ []) }
         ensures moves { IfSome result (λ t. self.old.at < self.new.at) }
         ensures forward { self.old.at ≤ self.new.at }
-        ensures within { IfSome result (λ t. (t.at < length self.old.text.now) × (0 < length t.bytes.now)) }
+        ensures within { IfSome result (λ t. (t.at < length self.old.text.bytes.now) × (0 < length t.bytes.now)) }
     {
         let Some(at) = self.start() else {
             return None;
@@ -216,22 +245,25 @@ impl<'a> Reader<'a> {
         Some(Token { at, bytes })
     }
 
-    /// The line of a place.
-    pub fn line(&self, at: usize) -> u64
-        requires { at ≤ length self.now.text.now }
-        ensures { result ≡ line_at self.now.text.now at }
+    /// The line that something starts on.
+    pub fn line(&self, start: Start) -> u64
+        requires { IsStart self.now.text start }
+        ensures { result ≡ line_of self.now.text start }
     {
-        self.text[..at].iter().filter(|b| **b == b'\n').count() as u64 + 1
+        match start {
+            Start::Here(at) => line_feeds(&self.text.bytes[..at]) + self.text.line,
+            Start::Before(line) => line,
+        }
     }
 
     #[cold]
     #[inline(never)]
-    pub fn fault(&self, at: usize, kind: FaultKind) -> VcdFault
-        requires { at ≤ length self.now.text.now }
-        ensures { result ≡ record { line = line_at self.now.text.now at; kind = kind } }
+    pub fn fault(&self, start: Start, kind: FaultKind) -> VcdFault
+        requires { IsStart self.now.text start }
+        ensures { result ≡ record { line = line_of self.now.text start; kind = kind } }
     {
         VcdFault {
-            line: self.line(at),
+            line: self.line(start),
             kind,
         }
     }

@@ -2,19 +2,14 @@ use smallvec::SmallVec;
 use std::alloc::{AllocError, Global};
 use std::process::Abort;
 use std::test::Fail;
-use vcd_read::{Bit, Bits, Dump, FaultKind, Path, Value, Values, VcdFault, read_vcd};
+use vcd_read::{
+    Bit, Bits, Dump, FaultKind, Path, Pieces, Taker, Value, Values, Variable, Variables, VcdFault,
+    read_front, read_vcd,
+};
 
 /// What a dump says, a line for each variable and each instant.
 fn shown(alloc: Global, dump: &Dump) -> Result<Vec<u8>, AllocError> {
-    let mut text = Vec::new(alloc);
-    for variable in dump.variables() {
-        text.extend_from_slice(variable.path.as_bytes())?;
-        if let Some((left, right)) = variable.index {
-            text.extend_from_slice(format!(in alloc; "[{left}:{right}]")?.as_bytes())?;
-        }
-        let (size, net) = (variable.size, variable.net);
-        text.extend_from_slice(format!(in alloc; " {size} {net}\n")?.as_bytes())?;
-    }
+    let mut text = shown_variables(alloc, dump.variables())?;
     for instant in dump.instants() {
         let time = instant.time;
         text.extend_from_slice(format!(in alloc; "#{time}")?.as_bytes())?;
@@ -24,6 +19,19 @@ fn shown(alloc: Global, dump: &Dump) -> Result<Vec<u8>, AllocError> {
             show_bits(&mut text, value.bits.as_slice())?;
         }
         text.push(b'\n')?;
+    }
+    Ok(text)
+}
+
+fn shown_variables(alloc: Global, variables: &[Variable]) -> Result<Vec<u8>, AllocError> {
+    let mut text = Vec::new(alloc);
+    for variable in variables {
+        text.extend_from_slice(variable.path.as_bytes())?;
+        if let Some((left, right)) = variable.index {
+            text.extend_from_slice(format!(in alloc; "[{left}:{right}]")?.as_bytes())?;
+        }
+        let (size, net) = (variable.size, variable.net);
+        text.extend_from_slice(format!(in alloc; " {size} {net}\n")?.as_bytes())?;
     }
     Ok(text)
 }
@@ -40,20 +48,151 @@ fn show_bits(text: &mut Vec<u8>, bits: &[Bit]) -> Result<(), AllocError> {
     Ok(())
 }
 
-/// Reads a text, and tells whether the dump is the one that is wanted.
+/// The bits of a net that changed, as digits.
+#[derive(Drop)]
+struct Changed {
+    net: u32,
+    bits: Vec<u8>,
+}
+
+/// Takes the changes of a body, and tells the instants as `shown` does.
+#[derive(Drop)]
+struct Telling {
+    text: Vec<u8>,
+    /// The nets that changed at the instant at hand, each once.
+    changed: Vec<Changed>,
+}
+
+impl Taker for Telling {
+    ghost Taken = { Unit {0} };
+
+    ghost taken = { λ t. tt };
+
+    ghost with_change = { λ t net bits. t };
+
+    ghost with_instant = { λ t time. t };
+
+    fn change(
+        &mut self,
+        alloc: Global,
+        net: u32,
+        size: u32,
+        digits: &[u8],
+    ) -> Result<(), AllocError> {
+        let first = digits.first().copied().unwrap_or(b'x');
+        let fill = if first == b'1' { b'0' } else { first };
+        let mut bits = Vec::new(alloc);
+        bits.resize((size as usize).saturating_sub(digits.len()), fill)?;
+        bits.extend_from_slice(digits)?;
+        bits.make_ascii_lowercase();
+        self.changed.retain(|changed| changed.net != net);
+        self.changed.push(Changed { net, bits })?;
+        Ok(())
+    }
+
+    fn end_instant(&mut self, alloc: Global, time: u64) -> Result<(), AllocError> {
+        self.changed.sort_unstable_by_key(|changed| changed.net);
+        self.text
+            .extend_from_slice(format!(in alloc; "#{time}")?.as_bytes())?;
+        for changed in &self.changed {
+            let net = changed.net;
+            self.text
+                .extend_from_slice(format!(in alloc; " {net}=")?.as_bytes())?;
+            self.text.extend_from_slice(&changed.bits)?;
+        }
+        self.text.push(b'\n')?;
+        self.changed.clear();
+        Ok(())
+    }
+}
+
+/// Where pieces of a text end that have so many bytes at least, and end behind a space.
+fn ends_of(alloc: Global, text: &[u8], size: usize) -> Result<Vec<usize>, AllocError> {
+    let mut ends = Vec::new(alloc);
+    let mut from = 0;
+    for (at, b) in text.iter().enumerate() {
+        let long = (at + 1).saturating_sub(from) >= size;
+        if long && matches!(*b, b' ' | b'\t' | b'\n' | b'\r') {
+            ends.push(at + 1)?;
+            from = at + 1;
+        }
+    }
+    ends.push(text.len())?;
+    Ok(ends)
+}
+
+/// Begins to read a text by a front of it.
+fn begun(alloc: Global, front: &[u8]) -> Result<Option<(Pieces<Telling>, Variables)>, VcdFault> {
+    let Some((front, variables)) = read_front(alloc, front, Variables::new(alloc))? else {
+        return Ok(None);
+    };
+    let telling = Telling {
+        text: Vec::new(alloc),
+        changed: Vec::new(alloc),
+    };
+    Ok(Some((front.pieces(alloc, telling)?, variables)))
+}
+
+/// What a dump says that is read in such pieces, if its definitions end.
+fn shown_by_pieces(alloc: Global, text: &[u8], size: usize) -> Result<Option<Vec<u8>>, VcdFault> {
+    let mut reading = None;
+    let mut from = 0;
+    for end in ends_of(alloc, text, size)? {
+        reading = match reading {
+            None => begun(alloc, text.get(..end).unwrap_or(text))?,
+            Some((pieces, variables)) => {
+                let piece = text.get(from..end).unwrap_or(&[]);
+                Some((pieces.read(alloc, piece)?, variables))
+            }
+        };
+        from = end;
+    }
+    let Some((pieces, variables)) = reading else {
+        return Ok(None);
+    };
+    let mut found = shown_variables(alloc, variables.as_slice())?;
+    found.extend_from_slice(&pieces.finish(alloc)?.text)?;
+    Ok(Some(found))
+}
+
+/// The sizes of pieces that are tried.
+const SIZES: [usize; 6] = [1, 2, 5, 13, 40, 64];
+
+/// Reads a text, and tells whether the dump is the one that is wanted, also in pieces.
 fn reads_as(rt: &impl Abort, alloc: Global, text: &[u8], wanted: &str) -> Result<(), Fail> {
     let dump = read_vcd(alloc, text)?;
     let found = shown(alloc, &dump)?;
     assert!(rt; found.as_slice() == wanted.as_bytes(), "not {wanted}");
+    for size in SIZES {
+        let Some(found) = shown_by_pieces(alloc, text, size)? else {
+            return Err(Fail::new("no definitions"));
+        };
+        assert!(rt;
+            found.as_slice() == wanted.as_bytes(),
+            "not {wanted} by {size}"
+        );
+    }
     Ok(())
 }
 
-/// Whether reading a text gives this fault.
+/// Whether reading a text gives this fault, also in pieces, which are none of it before its definitions end.
 fn fails_with(alloc: Global, text: &[u8], line: u64, kind: FaultKind) -> bool {
-    match read_vcd(alloc, text) {
+    let is_fault = |fault: VcdFault| fault.line == line && fault.kind == kind;
+    let mut same = match read_vcd(alloc, text) {
         Ok(_) => false,
-        Err(fault) => fault.line == line && fault.kind == kind,
+        Err(fault) => is_fault(fault),
+    };
+    for size in SIZES {
+        same &= match shown_by_pieces(alloc, text, size) {
+            Ok(Some(_)) => false,
+            Ok(None) => matches!(
+                kind,
+                FaultKind::NoEndDefinitions | FaultKind::UnfinishedSection
+            ),
+            Err(fault) => is_fault(fault),
+        };
     }
+    same
 }
 
 /// A recording of six lines of the bus.

@@ -1,7 +1,7 @@
 -- What the steps of a check give, by what the definitions say of the inputs.
-use Rattle.std.proofs.Common.{◌≡◌, ◌≤◌, ◌<◌, ℕ, List, length, refl, ap, sym, subst, ◌∙◌}
+use Rattle.std.proofs.Common.{◌≡◌, ◌≤◌, ◌<◌, ℕ, List, length, refl, ap, sym, subst, ◌∙◌, inl, inr}
 use Rattle.std.specs.Prelude.{Option, Some, None, Result, Ok, Err}
-use Rattle.std.proofs.lemmas.Bool.{le-leb, lt-leb, lt-ltb, le-ltb}
+use Rattle.std.proofs.lemmas.Bool.{cases_lt, le-leb, lt-leb, lt-ltb, le-ltb}
 use Rattle.vcd_read.specs.Contents.{Contents}
 use Rattle.vcd_read.specs.Header.{◌>>=◌}
 use Rattle.vcd_read.specs.Meaning.{dump_of}
@@ -229,6 +229,19 @@ judgement_by-refused bound dump block r is =
 abbrev too_long : BindFault
 too_long = record { line = 0; kind = bind.TooManySteps }
 
+pub verdict-long : (t : Trace) (block : ℕ) → capture_limit < length t.steps → (or_bad_binding (limited t) >>= verdict_in_blocks block) ≡ Err (BadBinding too_long)
+verdict-long t block long = rw (lt-ltb capture_limit (length t.steps) long) refl
+
+verdict-short : (t : Trace) (block : ℕ) → length t.steps ≤ capture_limit → (or_bad_binding (limited t) >>= verdict_in_blocks block) ≡ verdict_in_blocks block t
+verdict-short t block short = rw (le-ltb capture_limit (length t.steps) short) refl
+
+pub verdict-many : (t : Trace) (block : ℕ) → length t.steps ≤ capture_limit → 4096 < block_count block t → (or_bad_binding (limited t) >>= verdict_in_blocks block) ≡ Err TooManyBlocks
+verdict-many t block short many = verdict-short t block short ∙ rw (lt-ltb 4096 (block_count block t) many) refl
+
+pub verdict-few : (t : Trace) (block : ℕ) → length t.steps ≤ capture_limit → block_count block t ≤ 4096
+    → (or_bad_binding (limited t) >>= verdict_in_blocks block) ≡ Ok (verdict_by rules_in_force t)
+verdict-few t block short few = verdict-short t block short ∙ rw (le-ltb 4096 (block_count block t) few) refl
+
 module _ (bound : BoundLines) (bytes : List ℕ) (block : ℕ) where
   abbrev judgement : Result Verdict Refusal
   judgement = judgement_by bound (or_bad_dump (dump_of bytes)) block
@@ -236,8 +249,8 @@ module _ (bound : BoundLines) (bytes : List ℕ) (block : ℕ) where
   judged_of : (recorded : Result Trace BindFault) → recorded_by bound (or_bad_dump (dump_of bytes)) ≡ Ok recorded → judgement ≡ (or_bad_binding recorded >>= verdict_in_blocks block)
   judged_of recorded is = ap (λ (r : Result Trace Refusal). r >>= verdict_in_blocks block) (capture_by-recorded bound (or_bad_dump (dump_of bytes)) recorded is)
 
-  pub judged-long : (t : Trace) → text.recording_of_text bound bytes ≡ Ok t → capture_limit < length t.steps → judgement ≡ Err (BadBinding too_long)
-  judged-long t e long =
+  judged_long : (t : Trace) → text.recording_of_text bound bytes ≡ Ok t → capture_limit < length t.steps → judgement ≡ Err (BadBinding too_long)
+  judged_long t e long =
       let is : limited t ≡ Err too_long = rw (lt-ltb capture_limit (length t.steps) long) refl in
       judged_of (Err too_long) (text_recorded bound bytes ∙ ap by_either (captured-by bound bytes t (Err too_long) e (sym is)))
 
@@ -246,13 +259,13 @@ module _ (bound : BoundLines) (bytes : List ℕ) (block : ℕ) where
       let is : limited t ≡ Ok t = rw (le-ltb capture_limit (length t.steps) short) refl in
       judged_of (Ok t) (text_recorded-ok bound bytes t (captured-by bound bytes t (Ok t) e (sym is)))
 
-  pub judged-many : (t : Trace) → text.recording_of_text bound bytes ≡ Ok t → length t.steps ≤ capture_limit → 4096 < block_count block t
-      → judgement ≡ Err TooManyBlocks
-  judged-many t e short many = judged_in t e short ∙ rw (lt-ltb 4096 (block_count block t) many) refl
-
-  pub judged-few : (t : Trace) → text.recording_of_text bound bytes ≡ Ok t → length t.steps ≤ capture_limit → block_count block t ≤ 4096
-      → judgement ≡ Ok (verdict_by rules_in_force t)
-  judged-few t e short few = judged_in t e short ∙ rw (le-ltb 4096 (block_count block t) few) refl
+  -- the verdict on a text is that on its recording
+  pub judged-recorded : (t : Trace) → text.recording_of_text bound bytes ≡ Ok t → judgement ≡ (or_bad_binding (limited t) >>= verdict_in_blocks block)
+  judged-recorded t e =
+      elim (cases_lt capture_limit (length t.steps)) [
+        | inl long ↦ judged_long t e long ∙ sym (verdict-long t block long)
+        | inr short ↦ judged_in t e short ∙ sym (verdict-short t block short)
+      ]
 
   -- a fault of the text or of the binding
   refused_capture : (dump : Result Contents Refusal) (r : Refusal) → IsRefused r (recorded_by bound dump) → Gives (λ (t : Trace). t) (Err r) (capture_by bound dump)

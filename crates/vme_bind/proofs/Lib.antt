@@ -11,3 +11,4 @@ pub mod EndLemmas
 pub mod OpeningLemmas
 pub mod MakingLemmas
 pub mod TextCaptureLemmas
+pub mod TextPieceLemmas

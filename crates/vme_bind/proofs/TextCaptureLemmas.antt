@@ -1,5 +1,5 @@
 -- The recording that a binding makes of the text of a dump, from what is read of it.
-use Rattle.std.proofs.Common.{◌≡◌, ℕ, Bool, true, false, cond, List, [], length, refl, sym, ap, ◌∙◌, subst, None, Result, Ok, Err}
+use Rattle.std.proofs.Common.{◌≡◌, ℕ, Bool, true, false, cond, List, [], length, refl, sym, ap, ◌∙◌, subst, Option, Some, None, Result, Ok, Err}
 use Rattle.std.specs.Prelude.{nat_lt, IfOk}
 use Rattle.std.specs.List.{fold}
 use Rattle.std.proofs.lemmas.List.{append-nil}
@@ -34,6 +34,7 @@ use Rattle.vme_bind.specs.Wires.{wires_in}
 use Rattle.vme_bind.specs.Capture.{recording, recording_of, limited}
 use Rattle.vme_bind.specs.Made.{Made, IsBegun, made_change, made_instant}
 use Rattle.vme_bind.specs.TextCapture.{or_binding, or_dump, body_recording, capture_of_text, capture_read, recording_read, recording_behind, recording_of_text, DumpFails, BindingFails, FailsBy, GivesBy}
+use Rattle.vme_bind.specs.TextPieces.{body_outcome, outcome}
 use Rattle.vme_bind.proofs.OpeningLemmas.{capture_of-is, recording_of-is, whole-formed}
 use Rattle.vme_bind.proofs.MakingLemmas.{Makes, makes-first, makes-change, makes-instant}
 
@@ -49,6 +50,10 @@ ok_trace t = Ok t
 abbrev instants_in : Result (List Instant) VcdFault → List Instant
 instants_in (Ok instants) = instants
 instants_in (Err fault) = []
+
+-- what a body comes to where the binding has a fault
+abbrev refused : BindFault → Result (List Instant) VcdFault → Result Trace CaptureFault
+refused own r = or_dump r >>= λ instants. Err (Binding own)
 
 module _ (slots : ℕ) (wires : List Wire) (h : Headed) where
   abbrev IsMadeOf : List Instant → Current → Made → Type 0
@@ -81,6 +86,26 @@ module _ (slots : ℕ) (wires : List Wire) (h : Headed) where
       let made = gives.2.1 [] (all ∙ sym (append-nil instants)) in
       ap (λ (r : Result (List Instant) VcdFault). or_dump r >>= λ instants. Ok (recording slots wires instants (length instants))) gives.1
       ∙ ap (λ (xs : List Instant). ok_trace (recording slots wires xs (length instants))) (sym all) ∙ ap ok_trace (sym made.recorded)
+
+  -- ---- what a body comes to
+
+  follow_err : (instants : Result (List Instant) VcdFault) (taken : Result Made VcdFault) (fault : VcdFault) → Follows (Ends IsMadeOf) instants taken → taken ≡ Err fault → instants ≡ Err fault
+  follow_err (Ok xs) taken fault follows e = absurd (cc (follows.1, e))
+  follow_err (Err first) taken fault follows e = let same : first ≡ fault = cc (follows, e) in ap (λ (f : VcdFault). Err f) same
+
+  -- a body comes to what is made of it, or to its fault, or to that of the binding
+  pub body-outcome : (fault : Option BindFault) (m : Made) → IsBegun slots wires m → body_outcome fault slots wires h ≡ outcome fault (taken_from made_change made_instant h.nets m h.body)
+  body-outcome fault m begun = by_taken fault (taken_from made_change made_instant h.nets m h.body) refl
+    where
+      by_taken : (fault : Option BindFault) (taken : Result Made VcdFault) → taken_from made_change made_instant h.nets m h.body ≡ taken → body_outcome fault slots wires h ≡ outcome fault taken
+      by_taken None (Ok end) e = body-recorded m end begun e
+      by_taken (Some own) (Ok end) e =
+          ap (λ (r : Result (List Instant) VcdFault). refused own r) (gives-followed (Ends IsMadeOf) (instants_from h.nets h.body) _ end (making-follows m begun) e).1
+      by_taken None (Err first) e =
+          ap (λ (r : Result (List Instant) VcdFault). or_dump r >>= λ instants. Ok (recording slots wires instants (length instants)))
+          (follow_err (instants_from h.nets h.body) _ first (making-follows m begun) e)
+      by_taken (Some own) (Err first) e =
+          ap (λ (r : Result (List Instant) VcdFault). refused own r) (follow_err (instants_from h.nets h.body) _ first (making-follows m begun) e)
 
 -- ---- a text
 
@@ -131,13 +156,29 @@ text-behind view b text h first seen r head given =
     let whole = whole-of text h first seen head in
     subst (λ (d : Result Contents VcdFault). GivesBy view r (recording_read b d)) (sym (dump_behind text (defined h whole.0) whole.1)) (given whole.0 whole.2)
 
+-- the recording of a text is that of the body behind its definitions
+pub text-is : (b : BoundLines) (text : List ℕ) (h : Headed) (first seen : List Seen) → header_of with_variable text (nothing_declared first) (tokens text) ≡ Ok (defined h seen)
+    → (variables : List Variable) × (seen ≡ fold with_variable first variables) × (recording_of_text b text ≡ recording_behind b (defined h variables))
+unfolding recording_of_text
+text-is b text h first seen head =
+    let whole = whole-of text h first seen head in
+    (whole.0, whole.2, ap (recording_read b) (dump_behind text (defined h whole.0) whole.1))
+
 -- what wires make of the instants
-by_instants : (b : BoundLines) (variables : List Variable) (wires : List Wire) (r : Result (List Instant) VcdFault) → wires_in variables b.assignments ≡ Ok wires
+pub by_instants : (b : BoundLines) (variables : List Variable) (wires : List Wire) (r : Result (List Instant) VcdFault) → wires_in variables b.assignments ≡ Ok wires
     → recording_read b (r >>= with_variables variables) ≡ (or_dump r >>= λ instants. Ok (recording b.slots wires instants (length instants)))
 by_instants b variables wires (Ok instants) e =
     let dump : Contents = record { variables = variables; instants = instants } in
     ap or_binding (recording_of-is b dump ∙ ap (λ (r : Result (List Wire) BindFault). r >>= λ wires. Ok (recording b.slots wires instants (length instants))) e)
 by_instants b variables wires (Err fault) e = refl
+
+-- what comes of the instants where the binding doesn't fit
+pub by_refusal : (b : BoundLines) (variables : List Variable) (own : BindFault) (r : Result (List Instant) VcdFault) → wires_in variables b.assignments ≡ Err own
+    → recording_read b (r >>= with_variables variables) ≡ (or_dump r >>= λ instants. Err (Binding own))
+by_refusal b variables own (Ok instants) e =
+    let dump : Contents = record { variables = variables; instants = instants } in
+    ap or_binding (recording_of-is b dump ∙ ap (λ (r : Result (List Wire) BindFault). r >>= λ wires. Ok (recording b.slots wires instants (length instants))) e)
+by_refusal b variables own (Err fault) e = refl
 
 pub behind-body : {X : Type 0} (view : X → Trace) (b : BoundLines) (h : Headed) (variables : List Variable) (wires : List Wire) (r : Result X CaptureFault) → wires_in variables b.assignments ≡ Ok wires
     → GivesBy view r (body_recording b.slots wires h) → GivesBy view r (recording_behind b (defined h variables))

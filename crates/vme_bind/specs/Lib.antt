@@ -11,3 +11,4 @@ pub mod Capture
 pub mod Recording
 pub mod Made
 pub mod TextCapture
+pub mod TextPieces

@@ -16,8 +16,10 @@ mod source;
 mod statements;
 mod taps;
 mod text_capture;
+mod text_pieces;
 mod wires;
 mod words;
 
 pub use binding::{Binding, read_binding};
 pub use fault::{BindFault, BindKind, CaptureFault};
+pub use text_pieces::TextPieces;

@@ -3,6 +3,7 @@
 ghost use Rattle.std.specs.Prelude.{◌≡◌, ◌≢◌, ◌≤◌, ◌<◌, ℕ, false, IfOk, OnOk, map, length};
 ghost use Rattle.std.specs.List.Sorted.{IsNonDecreasing};
 ghost use Rattle.vme_trace.specs.LineNumbers.{line_count};
+ghost use Rattle.vme_trace.specs.Levels.{set_level};
 ghost use Rattle.vme_trace.specs.Trace.{changed};
 ghost use Rattle.vcd_read.specs.Numbers.{extended};
 ghost use Rattle.vme_bind.specs.Capture.{level_of, level_in};
@@ -109,22 +110,34 @@ impl Recorder {
         }
     }
 
+    /// Gives a line a level.
+    #[inline(always)]
+    fn set_line(&mut self, line: Line, level: Level) -> Result<(), AllocError>
+        requires { IsLine self.old.now.slots line }
+        ensures slots { self.new.now.slots ≡ self.old.now.slots }
+        ensures ok { OnOk result (self.new ≡ record self.old { now = set_level self.old.now line level }) }
+    {
+        if !self.shown.level(line).is_same(level) {
+            self.touched.push(line)?;
+        }
+        self.now.set(line, level);
+        Ok(())
+    }
+
     /// Gives the lines of a net the levels that these bits are.
     fn set_lines(&mut self, taps: &[Tap], bits: &[Bit]) -> Result<(), AllocError>
         requires { AreLines self.old.now.slots taps.now }
         ensures { OnOk result (self.new ≡ record self.old { now = changed self.old.now (map (tapped bits.now) taps.now) }) }
     {
         for tap in taps {
-            let level = level_in(*tap, bits);
-            if !self.shown.level(tap.line).is_same(level) {
-                self.touched.push(tap.line)?;
-            }
-            self.now.set(tap.line, level);
+            self.set_line(tap.line, level_in(*tap, bits))?;
         }
         Ok(())
     }
 
-    /// Gives the lines of a net the levels that the digits of its value are, where so many bits are the net's.
+    /// Gives the lines of a net the levels that the digits of its value are, where so many bits are the net's. Most nets
+    /// have one line or none.
+    #[inline(always)]
     pub fn set_by_digits(
         &mut self,
         taps: &[Tap],
@@ -137,12 +150,28 @@ impl Recorder {
         ensures slots { self.new.now.slots ≡ self.old.now.slots }
         ensures ok { OnOk result (self.new ≡ record self.old { now = changed self.old.now (map (tapped (extended size digits.now)) taps.now) }) }
     {
+        match taps {
+            [] => Ok(()),
+            [tap] => self.set_line(tap.line, level_by_digits(*tap, size, digits)),
+            _ => self.set_each_by_digits(taps, size, digits),
+        }
+    }
+
+    #[inline(never)]
+    fn set_each_by_digits(
+        &mut self,
+        taps: &[Tap],
+        size: u32,
+        digits: &[u8],
+    ) -> Result<(), AllocError>
+        requires some { 0 < length digits.now }
+        requires fits { length digits.now ≤ size }
+        requires lines { AreLines self.old.now.slots taps.now }
+        ensures slots { self.new.now.slots ≡ self.old.now.slots }
+        ensures ok { OnOk result (self.new ≡ record self.old { now = changed self.old.now (map (tapped (extended size digits.now)) taps.now) }) }
+    {
         for tap in taps {
-            let level = level_by_digits(*tap, size, digits);
-            if !self.shown.level(tap.line).is_same(level) {
-                self.touched.push(tap.line)?;
-            }
-            self.now.set(tap.line, level);
+            self.set_line(tap.line, level_by_digits(*tap, size, digits))?;
         }
         Ok(())
     }

@@ -29,7 +29,7 @@ use vcd_read::{Head, read_definitions};
 use vme_trace::{Capture, Follower, Lines};
 
 /// What takes the changes of a dump for a follower, and has taken none.
-fn making_of<F: Follower>(
+pub(crate) fn making_of<F: Follower>(
     alloc: Global,
     lines: &Lines,
     wires: &[Wire],
@@ -77,7 +77,7 @@ fn record_wires<F: Follower>(
     }
 }
 
-fn want_of_memory() -> BindFault
+pub(crate) fn want_of_memory() -> BindFault
     ensures { result ≡ record { line = 0; kind = Memory } }
 {
     BindFault {

@@ -50,12 +50,15 @@ reads_at_least None b bs k read long = tt
 reads_at_least (Some x) None bs k read long = absurd read
 reads_at_least (Some x) (Some y) bs k read long = at_least x y bs k read long
 
+-- so many bytes were read by so many reads
+pub gives_more : (old new : Reading) (bytes : List ℕ) → Consumes old.left new.left bytes → most_reads ≤ length bytes
+    → new.reads ≡ old.reads + most_reads → new.failures ≡ old.failures → IsReading old new None
+gives_more old new bytes read long reads failures = inr (record { failures = failures; reads = reads; told = reads_at_least old.left new.left bytes most_reads read long })
+
 -- so many reads gave bytes
 pub gives_up : (old new : Reading) (bytes : List ℕ) (filled : ℕ) → Consumes old.left new.left (take filled bytes) → filled ≤ length bytes
     → most_reads ≤ filled → new.reads ≡ old.reads + most_reads → new.failures ≡ old.failures → IsReading old new None
-gives_up old new bytes filled read fits many reads failures =
-    let long : most_reads ≤ length (take filled bytes) = rw (length-take-le filled bytes fits) many in
-    inr (record { failures = failures; reads = reads; told = reads_at_least old.left new.left (take filled bytes) most_reads read long })
+gives_up old new bytes filled read fits many reads failures = gives_more old new (take filled bytes) read (rw (length-take-le filled bytes fits) many) reads failures
 
 still : (n : ℕ) → n < n + most_reads
 still n = omega arith

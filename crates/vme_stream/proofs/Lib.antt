@@ -1,3 +1,4 @@
 pub mod InputLemmas
+pub mod IntakeLemmas
 pub mod MessageLemmas
 pub mod OutputLemmas

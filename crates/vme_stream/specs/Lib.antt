@@ -1,3 +1,4 @@
 pub mod InFaults
 pub mod Inputs
+pub mod Intakes
 pub mod Outputs

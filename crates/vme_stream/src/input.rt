@@ -34,10 +34,10 @@ impl From<AllocError> for InFault {
 }
 
 /// How many bytes an input has at most.
-const LONGEST: usize = 268_435_456;
+pub(crate) const LONGEST: usize = 268_435_456;
 
 /// After so many reads that gave bytes and didn't reach the end reading is given up.
-const MOST_READS: u32 = 16_777_216;
+pub(crate) const MOST_READS: u32 = 16_777_216;
 
 /// How many bytes one read takes at most.
 const CHUNK: usize = 131_072;
@@ -93,6 +93,25 @@ fn read_chunk<R: Source>(
     ensures err { IfErr result (FailsBy (R.reading source.old) (R.reading source.new)) }
 {
     make_room(bytes, filled)?;
+    read_behind(source, bytes, filled)
+}
+
+/// Reads the next bytes over those behind the first `filled` ones, and says how many: none only at the end.
+pub(crate) fn read_behind<R: Source>(
+    source: &mut R,
+    bytes: &mut Vec<u8>,
+    filled: usize,
+) -> Result<usize, InFault>
+    requires { filled < vec_len bytes.old }
+    ensures front { take filled bytes.new.items ≡ take filled bytes.old.items }
+    ensures fits { IfOk result (λ n. filled + n ≤ vec_len bytes.new) }
+    ensures bytes { IfOk result (λ n.
+        Consumes (R.reading source.old).left (R.reading source.new).left (take n (drop filled bytes.new.items))) }
+    ensures end { IfOk result (λ n. n ≡ 0 → IsAtEnd (R.reading source.new).left) }
+    ensures reads { CountsRead (R.reading source.old).reads (R.reading source.new).reads result }
+    ensures ok { OnOk result ((R.reading source.new).failures ≡ (R.reading source.old).failures) }
+    ensures err { IfErr result (FailsBy (R.reading source.old) (R.reading source.new)) }
+{
     read_at(source, bytes.as_mut_slice(), filled).map_err(|_| InFault::Read)
 }
 

@@ -2,3 +2,4 @@ pub mod ConfirmLemmas
 pub mod ExplainLemmas
 pub mod ListLemmas
 pub mod ToldLemmas
+pub mod UnderwayLemmas

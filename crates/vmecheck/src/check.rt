@@ -1,15 +1,17 @@
 //! The check of one recording.
 
-ghost use Rattle.std.specs.Prelude.{◌≡◌, ◌≢◌, ◌≤◌, ◌<◌, ◌↔◌, ℕ, suc, List, length, Option, Some};
-ghost use Rattle.vcd_read.specs.Meaning.{dump_of};
-ghost use Rattle.vme_answer.specs.Answers.{Gives, answer_of, dump_read, judgement_by, judgement_of, or_bad_dump};
+ghost use Rattle.std.specs.Prelude.{◌≡◌, ◌≢◌, ◌≤◌, ◌↔◌, ℕ, suc, List, Option, Some, None};
+ghost use Rattle.vme_answer.specs.Answers.{Gives, answer_of, dump_read, judgement_by, judgement_of};
 ghost use Rattle.vme_answer.specs.Ends.{Checks, Tells};
-ghost use Rattle.vme_stream.specs.Inputs.{IsReading, TellsWhole};
+ghost use Rattle.vme_stream.specs.Inputs.{IsReading, TellsWhole, longest_input};
+ghost use Rattle.vme_trace.specs.WellFormed.{malformed_step};
+ghost use Rattle.vmecheck.specs.Judged.{judged_in_blocks};
 
+use crate::underway::Underway;
 use std::alloc::Global;
 use vme_answer::{Input, Refusal, binding_from, refusal_line, tell_verdict};
 use vme_bind::{BindFault, BindKind, Binding};
-use vme_stream::{complain, read_all};
+use vme_stream::{complain, read_by};
 use vme_summary::{Judge, NoVerdict};
 use vme_trace::{Sink, Source, Verdict};
 
@@ -17,9 +19,9 @@ use vme_trace::{Sink, Source, Verdict};
 /// The answer is the exit status: 0 conforming, 1 broken, 2 unreadable or never idle, 3 where an input is refused, 4 for
 /// want of memory, 5 where the verdict can't be written.
 ///
-/// The binding is read, and then the dump. The recording isn't kept: its steps are judged as they are made. One that fills
-/// more than 4,096 blocks of `block` steps is refused, and the verdict is otherwise the same for each size. A failure of
-/// `err` is ignored.
+/// The binding is read, and then the dump, piece by piece. Neither the dump nor the recording is kept: the steps are judged as
+/// they are made. A recording that fills more than 4,096 blocks of `block` steps is refused, and the verdict is otherwise the
+/// same for each size. A failure of `err` is ignored.
 pub fn check<B: Source, D: Source, O: Sink, E: Sink>(
     alloc: Global,
     binding: &mut B,
@@ -88,6 +90,9 @@ fn judge<B: Source, D: Source>(
     }
 }
 
+/// How many bytes of a dump are looked at together, where that is enough for its definitions and its longest word.
+const PIECE: usize = 262_144;
+
 /// The verdict on the recording that a binding makes of a dump that is to be read.
 fn judge_dump<D: Source>(
     alloc: Global,
@@ -100,27 +105,46 @@ fn judge_dump<D: Source>(
         × IsReading (D.reading dump.old) (D.reading dump.new) bytes
         × Gives (λ verdict. verdict) result (judgement_by bound.now (dump_read bytes) block) }
 {
-    match read_all(alloc, dump) {
-        Ok(text) => judge_text(alloc, bound, text.as_slice(), block),
+    judge_in_pieces(alloc, bound, dump, block, PIECE)
+}
+
+/// The same by pieces of this many bytes, or more where that is too few: the verdict doesn't depend on it.
+pub(crate) fn judge_in_pieces<D: Source>(
+    alloc: Global,
+    bound: &Binding,
+    dump: &mut D,
+    block: u32,
+    piece: usize,
+) -> Result<Verdict, Refusal>
+    requires block { (1 ≤ block) × (block ≤ 65536) }
+    requires piece { (1 ≤ piece) × (piece ≤ longest_input) }
+    ensures { (bytes : Option (List ℕ))
+        × IsReading (D.reading dump.old) (D.reading dump.new) bytes
+        × Gives (λ verdict. verdict) result (judgement_by bound.now (dump_read bytes) block) }
+{
+    let judge = Judge::new(alloc, bound.lines());
+    let underway = Underway::new(bound, judge);
+    match read_by(alloc, dump, underway, piece) {
+        Ok((underway, rest)) => match underway.finish(alloc, rest.as_slice()) {
+            Ok(judge) => verdict_of(alloc, judge, block),
+            Err(fault) => Err(Refusal::of_capture(fault)),
+        },
         Err(fault) => Err(Refusal::of_input(Input::Dump, fault)),
     }
 }
 
-/// The verdict on the recording that a binding makes of the text of a dump. Its steps are judged as they are made.
-fn judge_text(alloc: Global, bound: &Binding, text: &[u8], block: u32) -> Result<Verdict, Refusal>
+/// The verdict on a recording whose steps were judged.
+fn verdict_of(alloc: Global, judge: Judge, block: u32) -> Result<Verdict, Refusal>
     requires { (1 ≤ block) × (block ≤ 65536) }
-    ensures { Gives (λ verdict. verdict) result (judgement_by bound.now (or_bad_dump (dump_of text.now)) block) }
+    ensures { malformed_step judge ≡ None → Gives (λ verdict. verdict) result (judged_in_blocks block judge) }
 {
-    match bound.record_text(alloc, text, Judge::new(alloc, bound.lines())) {
-        Ok(judge) => match judge.verdict(alloc, block) {
-            Ok(verdict) => Ok(verdict),
-            Err(NoVerdict::TooManySteps) => Err(Refusal::BadBinding(BindFault {
-                line: 0,
-                kind: BindKind::TooManySteps,
-            })),
-            Err(NoVerdict::TooManyBlocks) => Err(Refusal::TooManyBlocks),
-            Err(NoVerdict::Memory) => Err(Refusal::Memory),
-        },
-        Err(fault) => Err(Refusal::of_capture(fault)),
+    match judge.verdict(alloc, block) {
+        Ok(verdict) => Ok(verdict),
+        Err(NoVerdict::TooManySteps) => Err(Refusal::BadBinding(BindFault {
+            line: 0,
+            kind: BindKind::TooManySteps,
+        })),
+        Err(NoVerdict::TooManyBlocks) => Err(Refusal::TooManyBlocks),
+        Err(NoVerdict::Memory) => Err(Refusal::Memory),
     }
 }

@@ -13,12 +13,16 @@ mod check;
 mod confirm;
 mod explain;
 mod list;
+#[cfg(test)]
+mod piece_tests;
 mod rules;
 #[cfg(test)]
 mod stream_tests;
 mod telling;
 #[cfg(test)]
 mod tests;
+mod told;
+mod underway;
 mod variables;
 mod words;
 

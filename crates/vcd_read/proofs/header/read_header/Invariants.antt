@@ -6,11 +6,12 @@ use Rattle.vcd_read.proofs.header.read_header.Given as goal
 
 abbrev pub invariant-loop-token : goal.invariant-loop-token
 invariant-loop-token g l =
-    let text = l.fn.reader.text.now in
+    let piece = l.fn.reader.text in
+    let text = piece.bytes.now in
     record {
       same : l.reader.text ≡ l.fn.reader.text;
-      left : header_of g.D.Declarations.with_variable text (declared_in (g.D.Declarations.scopes l.definitions.declarations) l.definitions.codes (g.D.Declarations.taken l.definitions.declarations)) (left_at text l.reader.at) ≡ header_of g.D.Declarations.with_variable text (nothing_declared (g.D.Declarations.taken l.fn.declarations)) (left_at text l.fn.reader.at);
+      left : header_of g.D.Declarations.with_variable text (declared_in (g.D.Declarations.scopes l.definitions.declarations) l.definitions.codes (g.D.Declarations.taken l.definitions.declarations)) (left_at piece l.reader.at) ≡ header_of g.D.Declarations.with_variable text (nothing_declared (g.D.Declarations.taken l.fn.declarations)) (left_at piece l.fn.reader.at);
     }
 
 abbrev pub decreases-loop-token : goal.decreases-loop-token
-decreases-loop-token g l = length l.reader.text.now - l.reader.at
+decreases-loop-token g l = length l.reader.text.bytes.now - l.reader.at

@@ -7,14 +7,14 @@ use Rattle.vcd_read.proofs.header.words_of.Goals as goal
 
 pub returns-then-is_end-clause-words : goal.returns-then-is_end-clause-words
 returns-then-is_end-clause-words c =
-    let text = c.args.reader.now.text.now in
+    let text = c.args.reader.now.text in
     let t = token_at text c.in-Some.token.at c.in-Some.token.bytes.now in
     c.loop-token.invariant.so_far
     ∙ words_end (line_at text c.args.first) (texts c.loop-token.words.items) t (left_at text c.loop-token.reader.at) (left_at text c.next.new.self.at) (rw c.loop-token.invariant.same at c.in-Some.ensures.token) (sym c.if-is_end.ensures)
 
 pub loop-token-preserved : goal.loop-token-preserved
 loop-token-preserved c =
-    let text = c.args.reader.now.text.now in
+    let text = c.args.reader.now.text in
     let line = line_at text c.args.first in
     let t = token_at text c.in-Some.token.at c.in-Some.token.bytes.now in
     let words = c.loop-token.words.items in
@@ -32,7 +32,7 @@ loop-token-preserved c =
 
 pub returns-clause-words : goal.returns-clause-words
 returns-clause-words c =
-    let text = c.args.reader.now.text.now in
+    let text = c.args.reader.now.text in
     rw (c.fault.ensures, c.in_default.ensures.text, c.loop-token.invariant.same) (
     c.loop-token.invariant.so_far
     ∙ words_unfinished (line_at text c.args.first) (texts c.loop-token.words.items) (left_at text c.loop-token.reader.at) (rw c.loop-token.invariant.same at c.in_default.ensures.token))

@@ -8,7 +8,7 @@ use Rattle.vcd_read.proofs.header.words_of.Given as goal
 
 abbrev pub invariant-loop-token : goal.invariant-loop-token
 invariant-loop-token l =
-    let text = l.fn.reader.text.now in
+    let text = l.fn.reader.text in
     let line = line_at text l.first in
     record {
       same : l.reader.text ≡ l.fn.reader.text;
@@ -18,4 +18,4 @@ invariant-loop-token l =
     }
 
 abbrev pub decreases-loop-token : goal.decreases-loop-token
-decreases-loop-token l = length l.reader.text.now - l.reader.at
+decreases-loop-token l = length l.reader.text.bytes.now - l.reader.at

@@ -1,46 +1,58 @@
-use Rattle.std.proofs.Common.{◌∙◌, refl, sym, ap, arith}
-use Rattle.vcd_read.specs.Reading.{line_at, left_at, token_at}
+use Rattle.std.proofs.Common.{◌++◌, ◌∙◌, List, refl, sym, ap, arith}
+use Rattle.vcd_read.specs.Tokens.{Token}
+use Rattle.vcd_read.specs.Reading.{line_of, left_at, token_at}
+use Rattle.vcd_read.specs.Bodies.{place_of}
+use Rattle.vcd_read.specs.Body.{in_comment}
+use Rattle.vcd_read.specs.declared.piece.Piece.{Piece}
 use Rattle.vcd_read.specs.Taking.{taking, state_of, steps}
-use Rattle.vcd_read.proofs.BodyLemmas.{comment_end, comment_more, comment_unfinished, read_wrong, same_left}
+use Rattle.vcd_read.proofs.BodyLemmas.{comment_end, comment_more, nothing_left, same_left}
 use Rattle.vcd_read.proofs.body.Body.comment.Goals as goal
 
 pub returns-then-is_end-clause-rest : goal.returns-then-is_end-clause-rest
 returns-then-is_end-clause-rest g c =
     let old = c.args.self.now in
-    let text = old.reader.text.now in
-    let line = line_at text c.args.at in
+    let text = old.reader.text in
+    let line = line_of text c.args.start in
     let inv = c.loop-word.invariant in
     let after = c.next.new.self.at in
     let t = token_at text c.in-Some.word.at c.in-Some.word.bytes.now in
     let cut = rw inv.text at c.in-Some.ensures.token in
-    let ended = comment_end line (left_at text c.loop-word.self.reader.at) (left_at text after) t cut (sym c.is_end.ensures ∙ c.if-is_end.true) in
-    ap (steps g.T.Taker.with_change g.T.Taker.with_instant old.codes.now (state_of old.reader.text.now (taking (g.T.Taker.taken old.waves.taker) old.waves.clock) old.bracket)) (inv.rest ∙ ended)
-    ∙ same_left g.T.Taker.with_change g.T.Taker.with_instant old.codes.now c.loop-word.self.codes.now text c.next.new.self.text.now (taking (g.T.Taker.taken old.waves.taker) old.waves.clock) (taking (g.T.Taker.taken c.loop-word.self.waves.taker) c.loop-word.self.waves.clock) old.bracket c.loop-word.self.bracket after (cc) (cc) (rw inv.waves refl) inv.bracket
+    λ more.
+    let ended = comment_end line (left_at text c.loop-word.self.reader.at ++ more) (left_at text after ++ more) t (ap (λ (ts : List Token). ts ++ more) cut) (sym c.is_end.ensures ∙ c.if-is_end.true) in
+    ap (steps g.T.Taker.with_change g.T.Taker.with_instant old.codes.now (state_of old.reader.text (taking (g.T.Taker.taken old.waves.taker) old.waves.clock) old.bracket)) (inv.rest more ∙ ended)
+    ∙ same_left g.T.Taker.with_change g.T.Taker.with_instant old.codes.now c.loop-word.self.codes.now text c.next.new.self.text (taking (g.T.Taker.taken old.waves.taker) old.waves.clock) (taking (g.T.Taker.taken c.loop-word.self.waves.taker) c.loop-word.self.waves.clock) old.bracket c.loop-word.self.bracket _ (place_of c.loop-word.self.place) after (cc) (cc) (rw inv.waves refl) inv.bracket (ap place_of (inv.place ∙ c.requires.between)) more
 
 pub loop-word-preserved : goal.loop-word-preserved
 loop-word-preserved g c =
-    let text = c.args.self.now.reader.text.now in
-    let line = line_at text c.args.at in
+    let text = c.args.self.now.reader.text in
+    let line = line_of text c.args.start in
     let inv = c.loop-word.invariant in
     let after = c.next.new.self.at in
     let t = token_at text c.in-Some.word.at c.in-Some.word.bytes.now in
     let cut = rw inv.text at c.in-Some.ensures.token in
-    let more = comment_more line (left_at text c.loop-word.self.reader.at) (left_at text after) t cut (sym c.is_end.ensures ∙ c.if-is_end.false) in
     record {
       codes = inv.codes;
       text = c.in-Some.ensures.text ∙ inv.text;
       waves = inv.waves;
       bracket = inv.bracket;
       forward = omega (arith, c.in-Some.ensures.forward, inv.forward);
-      rest = inv.rest ∙ more;
+      place = inv.place;
+      rest = λ more. inv.rest more ∙ comment_more line (left_at text c.loop-word.self.reader.at ++ more) (left_at text after ++ more) t (ap (λ (ts : List Token). ts ++ more) cut) (sym c.is_end.ensures ∙ c.if-is_end.false);
     }
 
 pub returns-clause-rest : goal.returns-clause-rest
 returns-clause-rest g c =
     let old = c.args.self.now in
-    let text = old.reader.text.now in
-    let line = line_at text c.args.at in
+    let text = old.reader.text in
     let inv = c.loop-word.invariant in
-    let cut = rw inv.text at c.in_default.ensures.token in
-    let whole = comment_unfinished line (left_at text c.loop-word.self.reader.at) cut in
-    rw (c.fault.ensures, c.in_default.ensures.text, inv.text) (read_wrong g.T.Taker.with_change g.T.Taker.with_instant old.codes.now (state_of old.reader.text.now (taking (g.T.Taker.taken old.waves.taker) old.waves.clock) old.bracket) line _ _ _ (inv.rest ∙ whole))
+    let place = in_comment (line_of text c.args.start) in
+    let after = c.next.new.self.at in
+    let later = c.in_default.ensures.text ∙ inv.text in
+    let none = rw inv.text at c.in_default.ensures.token in
+    let end = rw inv.text at c.in_default.ensures.end in
+    let s = state_of text (taking (g.T.Taker.taken old.waves.taker) old.waves.clock) old.bracket in
+    λ more.
+    ap (steps g.T.Taker.with_change g.T.Taker.with_instant old.codes.now s) (inv.rest more)
+    ∙ nothing_left g.T.Taker.with_change g.T.Taker.with_instant old.codes.now s place (left_at text c.loop-word.self.reader.at) (left_at text after) none end more
+    ∙ same_left g.T.Taker.with_change g.T.Taker.with_instant old.codes.now c.loop-word.self.codes.now text c.next.new.self.text (taking (g.T.Taker.taken old.waves.taker) old.waves.clock) (taking (g.T.Taker.taken c.loop-word.self.waves.taker) c.loop-word.self.waves.clock) old.bracket c.loop-word.self.bracket place (in_comment c.line.result) after (cc) later (rw inv.waves refl) inv.bracket
+    (ap in_comment (c.line.ensures ∙ ap (λ (x : Piece). line_of x c.args.start) later)) more

@@ -1,5 +1,6 @@
-use Rattle.std.proofs.Common.{◌≡◌, ◌≤◌, ◌-◌, length}
-use Rattle.vcd_read.specs.Reading.{line_at, left_at}
+use Rattle.std.proofs.Common.{◌≡◌, ◌≤◌, ◌-◌, ◌++◌, List, length}
+use Rattle.vcd_read.specs.Tokens.{Token}
+use Rattle.vcd_read.specs.Reading.{line_of, left_at}
 use Rattle.vcd_read.specs.Body.{in_comment, body_from}
 use Rattle.vcd_read.proofs.body.Body.comment.Given as goal
 
@@ -10,9 +11,10 @@ invariant-loop-word g l = record {
   waves : l.self.waves ≡ l.fn.self.waves;
   bracket : l.self.bracket ≡ l.fn.self.bracket;
   forward : l.fn.self.reader.at ≤ l.self.reader.at;
-  rest : body_from (in_comment (line_at l.fn.self.reader.text.now l.at)) (left_at l.fn.self.reader.text.now l.fn.self.reader.at)
-      ≡ body_from (in_comment (line_at l.fn.self.reader.text.now l.at)) (left_at l.fn.self.reader.text.now l.self.reader.at);
+  place : l.self.place ≡ l.fn.self.place;
+  rest : (more : List Token) → body_from (in_comment (line_of l.fn.self.reader.text l.start)) (left_at l.fn.self.reader.text l.fn.self.reader.at ++ more)
+      ≡ body_from (in_comment (line_of l.fn.self.reader.text l.start)) (left_at l.fn.self.reader.text l.self.reader.at ++ more);
 }
 
 abbrev pub decreases-loop-word : goal.decreases-loop-word
-decreases-loop-word g l = length l.self.reader.text.now - l.self.reader.at
+decreases-loop-word g l = length l.self.reader.text.bytes.now - l.self.reader.at

@@ -1,24 +1,23 @@
-use Rattle.std.proofs.Common.{refl}
-use Rattle.vcd_read.specs.Reading.{line_at, left_at, token_at}
+use Rattle.std.proofs.Common.{◌++◌, List, refl, ap, subst}
+use Rattle.vcd_read.specs.Tokens.{Token}
+use Rattle.vcd_read.specs.Reading.{left_at, line_of, token_at}
 use Rattle.vcd_read.specs.Body.{skipped}
-use Rattle.vcd_read.specs.Taking.{taking, state_of}
-use Rattle.vcd_read.proofs.BodyLemmas.{read_item, foreign_read, foreign_unfinished, read_wrong}
+use Rattle.vcd_read.specs.Meaning.{Gives}
+use Rattle.vcd_read.specs.Taking.{taking, state_of, step}
+use Rattle.vcd_read.specs.declared.piece.Piece.{Piece}
+use Rattle.vcd_read.proofs.BodyLemmas.{read_item, foreign_read}
 use Rattle.vcd_read.proofs.body.Body.foreign.Goals as goal
 
 pub returns-in-Some-clause-rest : goal.returns-in-Some-clause-rest
 returns-in-Some-clause-rest g c =
     let old = c.args.self.now in
-    let text = old.reader.text.now in
-    let line = line_at text c.args.at in
+    let text = old.reader.text in
+    let later = c.next.new.self.text in
+    let waves = taking (g.T.Taker.taken old.waves.taker) old.waves.clock in
+    let line = line_of text c.args.start in
     let after = c.next.new.self.at in
     let t = token_at text c.in-Some.code.at c.in-Some.code.bytes.now in
-    let h = rw c.in-Some.ensures.text at c.skip.ensures.step in
-    rw c.in-Some.ensures.text (read_item g.T.Taker.with_change g.T.Taker.with_instant old.codes.now old.codes.now (state_of old.reader.text.now (taking (g.T.Taker.taken old.waves.taker) old.waves.clock) old.bracket) (state_of old.reader.text.now (taking (g.T.Taker.taken old.waves.taker) old.waves.clock) old.bracket) text text after after (skipped line t.bytes) _ c.skip.result
-    refl refl refl (foreign_read line (left_at text old.reader.at) (left_at text after) t c.in-Some.ensures.token) h)
-
-pub returns-in-None-clause-rest : goal.returns-in-None-clause-rest
-returns-in-None-clause-rest g c =
-    let old = c.args.self.now in
-    let text = old.reader.text.now in
-    let line = line_at text c.args.at in
-    rw (c.fault.ensures, c.in-None.ensures.text) (read_wrong g.T.Taker.with_change g.T.Taker.with_instant old.codes.now (state_of old.reader.text.now (taking (g.T.Taker.taken old.waves.taker) old.waves.clock) old.bracket) line _ _ _ (foreign_unfinished line (left_at text old.reader.at) c.in-None.ensures.token))
+    let h = subst (λ (x : Piece). Gives (λ _. state_of later waves old.bracket) c.skip.result (step g.T.Taker.with_change g.T.Taker.with_instant old.codes.now (state_of x waves old.bracket) (skipped (line_of x c.args.start) t.bytes))) c.in-Some.ensures.text c.skip.ensures.step in
+    let is = λ (more : List Token). foreign_read line (left_at text old.reader.at ++ more) (left_at text after ++ more) t (ap (λ (ts : List Token). ts ++ more) c.in-Some.ensures.token) in
+    read_item g.T.Taker.with_change g.T.Taker.with_instant old.codes.now old.codes.now (state_of text waves old.bracket) (state_of later waves old.bracket) text later after after old.place (skipped line t.bytes) _ c.skip.result
+    refl c.in-Some.ensures.text refl c.requires.between is h

@@ -1,24 +1,20 @@
-use Rattle.vcd_read.specs.Reading.{line_at, left_at, token_at}
+use Rattle.std.proofs.Common.{◌++◌, List, ap}
+use Rattle.vcd_read.specs.Tokens.{Token}
+use Rattle.vcd_read.specs.Reading.{left_at, line_of, token_at}
 use Rattle.vcd_read.specs.Body.{change}
 use Rattle.vcd_read.specs.Taking.{taking, state_of}
-use Rattle.vcd_read.proofs.BodyLemmas.{read_item, vector_read, vector_unfinished, read_wrong}
+use Rattle.vcd_read.proofs.BodyLemmas.{read_item, vector_read}
 use Rattle.vcd_read.proofs.body.Body.vector.Goals as goal
 
 pub returns-in-Some-clause-rest : goal.returns-in-Some-clause-rest
 returns-in-Some-clause-rest g c =
     let old = c.args.self.now in
     let new = c.change.new.self in
-    let text = old.reader.text.now in
-    let line = line_at text c.args.at in
+    let text = old.reader.text in
+    let line = line_of text c.args.start in
     let after = c.next.new.self.at in
     let t = token_at text c.in-Some.code.at c.in-Some.code.bytes.now in
     let h = rw c.in-Some.ensures.text at c.change.ensures.step in
-    read_item g.T.Taker.with_change g.T.Taker.with_instant old.codes.now new.codes.now (state_of old.reader.text.now (taking (g.T.Taker.taken old.waves.taker) old.waves.clock) old.bracket) (state_of new.reader.text.now (taking (g.T.Taker.taken new.waves.taker) new.waves.clock) new.bracket) text new.reader.text.now after new.reader.at (change line c.args.digits.now t.bytes) _ c.change.result
-    (cc) (cc) (cc) (vector_read line c.args.digits.now (left_at text old.reader.at) (left_at text after) t c.in-Some.ensures.token) h
-
-pub returns-in-None-clause-rest : goal.returns-in-None-clause-rest
-returns-in-None-clause-rest g c =
-    let old = c.args.self.now in
-    let text = old.reader.text.now in
-    let line = line_at text c.args.at in
-    rw (c.fault.ensures, c.in-None.ensures.text) (read_wrong g.T.Taker.with_change g.T.Taker.with_instant old.codes.now (state_of old.reader.text.now (taking (g.T.Taker.taken old.waves.taker) old.waves.clock) old.bracket) line _ _ _ (vector_unfinished line c.args.digits.now (left_at text old.reader.at) c.in-None.ensures.token))
+    let is = λ (more : List Token). vector_read line c.args.digits.now (left_at text old.reader.at ++ more) (left_at text after ++ more) t (ap (λ (ts : List Token). ts ++ more) c.in-Some.ensures.token) in
+    read_item g.T.Taker.with_change g.T.Taker.with_instant old.codes.now new.codes.now (state_of old.reader.text (taking (g.T.Taker.taken old.waves.taker) old.waves.clock) old.bracket) (state_of new.reader.text (taking (g.T.Taker.taken new.waves.taker) new.waves.clock) new.bracket) text new.reader.text after new.reader.at new.place (change line c.args.digits.now t.bytes) _ c.change.result
+    (cc) (cc) (cc) (cc) is h

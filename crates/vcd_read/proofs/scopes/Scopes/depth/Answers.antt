@@ -1,4 +1,4 @@
-use Rattle.std.proofs.Common.{sym, ap, ◌∙◌, length, arith, List, ℕ}
+use Rattle.std.proofs.Common.{ap, length, arith, List, ℕ}
 use Rattle.vcd_read.proofs.ScopesLemmas.{names_at-count}
 use Rattle.vcd_read.proofs.scopes.Scopes.depth.Goals as goal
 

@@ -8,17 +8,18 @@ use Rattle.vcd_read.proofs.token.Reader.short_time.Goals as goal
 
 pub returns-clause-token : goal.returns-clause-token
 returns-clause-token c =
-    let text = c.args.self.now.text.now in
+    let piece = c.args.self.now.text in
+    let text = piece.bytes.now in
     let at = c.args.self.now.at in
     let rest : take (length text - (at + 1)) (drop (at + 1) text) ≡ drop (at + 1) text =
     take_all (length text - (at + 1)) (drop (at + 1) text) (omega (arith, length-drop (at + 1) text)) in
-    time_step text at c.leading_number-number.result.count c.requires c.if-self-ne35.false
+    time_step piece.line text at c.leading_number-number.result.count c.requires c.if-self-ne35.false
     (rw rest at c.leading_number-number.ensures.within) (rw rest at c.leading_number-number.ensures.digits) (c.ends_word.ensures.ends (cc))
-    ∙ ap (λ (ts : List Token). token_at text at (35 ∷ between text (at + 1) (at + 1 + c.leading_number-number.result.count)) ∷ ts) (sym c.behind_word-self.ensures.left)
+    ∙ ap (λ (ts : List Token). token_at piece at (35 ∷ between text (at + 1) (at + 1 + c.leading_number-number.result.count)) ∷ ts) (sym (c.behind_word-self.ensures.left piece.line))
 
 pub returns-clause-time : goal.returns-clause-time
 returns-clause-time c =
-    let text = c.args.self.now.text.now in
+    let text = c.args.self.now.text.bytes.now in
     let at = c.args.self.now.at in
     let count = c.leading_number-number.result.count in
     let rest : take (length text - (at + 1)) (drop (at + 1) text) ≡ drop (at + 1) text =

@@ -6,8 +6,9 @@ use Rattle.vcd_read.proofs.token.Reader.word.Goals as goal
 
 pub returns-clause-token : goal.returns-clause-token
 returns-clause-token c =
-    let text = c.args.self.now.text.now in
+    let piece = c.args.self.now.text in
+    let text = piece.bytes.now in
     let start = c.args.self.now.at in
     let end = c.word_end-end.result in
-    token_step text start end (omega arith) c.word_end-end.ensures.high (word_from text start end c.requires.word c.word_end-end.ensures.word) c.word_end-end.ensures.end
-    ∙ ap (λ (ts : List Token). token_at text start (between text start end) ∷ ts) (sym c.behind_word-self.ensures.left)
+    token_step piece.line text start end (omega arith) c.word_end-end.ensures.high (word_from text start end c.requires.word c.word_end-end.ensures.word) c.word_end-end.ensures.end
+    ∙ ap (λ (ts : List Token). token_at piece start (between text start end) ∷ ts) (sym (c.behind_word-self.ensures.left piece.line))

@@ -1,50 +1,28 @@
-use Rattle.std.proofs.Common.{◌≡◌, map, take, true, ◌∙◌, sym, ap, subst, rules}
-use Rattle.vme_trace.specs.Levels.{Levels, level_at, set_level, same_level}
+use Rattle.std.proofs.Common.{◌≡◌, List, [], map, refl, ap, ◌∙◌, take_all, arith}
+use Rattle.std.proofs.lemmas.List.{nil_from_length}
+use Rattle.vme_trace.specs.Levels.{set_level}
 use Rattle.vme_trace.specs.Trace.{changed}
-use Rattle.vme_trace.proofs.Changing.{slots-kept}
 use Rattle.vcd_read.specs.Numbers.{extended}
 use Rattle.vme_bind.specs.declared.taps.Tap.{Tap}
-use Rattle.vme_bind.specs.Recording.{IsLine, tapped}
-use Rattle.vme_bind.proofs.RecorderLemmas.{touched-same, touched-more}
+use Rattle.vme_bind.specs.Recording.{tapped}
 use Rattle.vme_bind.proofs.TapsLemmas.{tapped-more}
 use Rattle.vme_bind.proofs.recorder.Recorder.set_by_digits.Goals as goal
-use Rattle.vme_bind.proofs.recorder.Recorder.set_by_digits.Goals.{then-not-is_same+in_ok-push, else-not-is_same}
 
-pub loop-tap-init : goal.loop-tap-init
+pub returns-in-empty-clause-ok : goal.returns-in-empty-clause-ok
 unfolding changed
-loop-tap-init c =
-    let now : c.self.inside.now ≡ c.args.self.now.now = search rules in
-    record { now = now; slots = ap (λ (v : Levels). v.slots) now; shown = search rules; touched = c.self.invariant }
+returns-in-empty-clause-ok c =
+    let none : c.args.taps.now ≡ [] = nil_from_length c.args.taps.now (omega (arith, c.in-empty.len_below)) in
+    rw none refl
 
-pub loop-tap-preserved : goal.loop-tap-preserved
-loop-tap-preserved c =
-    let tap = c.tap-item.result in
+pub returns-in-len1-clause-ok : goal.returns-in-len1-clause-ok
+unfolding changed
+returns-in-len1-clause-ok c =
     let taps = c.args.taps.now in
+    let tap = c.tap-item.result in
     let bits = extended c.args.size c.args.digits.now in
-    let i = c.loop-tap.tap-index in
-    let old = c.args.self.now.now in
-    let level = c.level_by_digits-level.result in
-    let inside = c.loop-tap.self-inside in
-    let slots : old.slots ≡ inside.shown.slots = sym (slots-kept old (map (tapped bits) (take i taps))) ∙ ap (λ (v : Levels). v.slots) (sym c.loop-tap.invariant.now) ∙ c.loop-tap.invariant.touched.slots in
-    let line : IsLine old.slots tap.line = subst (λ (t : Tap). IsLine old.slots t.line) (sym c.tap-item.is) (c.requires.lines i tap c.loop-tap-test.true) in
-    let here : IsLine inside.shown.slots tap.line = subst (λ s. IsLine s tap.line) slots line in
-    let more = tapped-more taps bits i tap old level c.loop-tap-test.true c.tap-item.is c.level_by_digits-level.ensures in
-    elim c.if-not-is_same.branch [
-      | then-not-is_same+in_ok-push w ↦
-          let set : c.set.new.self ≡ set_level inside.now tap.line level = rw w.self-inside-is at c.set.ensures in
-          record {
-            now = set ∙ ap (λ (v : Levels). set_level v tap.line level) c.loop-tap.invariant.now ∙ more;
-            slots = ap (λ (v : Levels). v.slots) set ∙ c.loop-tap.invariant.slots;
-            shown = rw w.self-inside-is c.loop-tap.invariant.shown;
-            touched = rw (w.self-inside-is, set, w.in_ok-push.ensures.items) (touched-more inside.shown inside.now inside.touched.items tap.line level c.loop-tap.invariant.touched here);
-          }
-      | else-not-is_same w ↦
-          let set : c.set.new.self ≡ set_level inside.now tap.line level = rw w.self-inside-is at c.set.ensures in
-          let same : same_level (level_at inside.shown tap.line) level ≡ true = rw (← c.level.ensures) (sym w.if-not-is_same.ensures) in
-          record {
-            now = set ∙ ap (λ (v : Levels). set_level v tap.line level) c.loop-tap.invariant.now ∙ more;
-            slots = ap (λ (v : Levels). v.slots) set ∙ c.loop-tap.invariant.slots;
-            shown = rw w.self-inside-is c.loop-tap.invariant.shown;
-            touched = rw (w.self-inside-is, set) (touched-same inside.shown inside.now inside.touched.items tap.line level c.loop-tap.invariant.touched here same);
-          }
-    ]
+    let levels = c.args.self.now.now in
+    let level = c.level_by_digits.result in
+    let here = tapped-more taps bits 0 tap levels level (omega (arith, c.in-len1.len_at_least)) c.tap-item.is c.level_by_digits.ensures in
+    let all : set_level levels tap.line level ≡ changed levels (map (tapped bits) taps)
+    = here ∙ ap (λ (ts : List Tap). changed levels (map (tapped bits) ts)) (take_all 1 taps (omega (arith, c.in-len1.len_below))) in
+    rw all at c.set_line.ensures.ok

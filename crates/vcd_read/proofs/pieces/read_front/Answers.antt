@@ -1,0 +1,21 @@
+use Rattle.vcd_read.specs.Header.{nothing_declared}
+use Rattle.vcd_read.specs.Sections.{defined}
+use Rattle.vcd_read.specs.Tokens.{tokens}
+use Rattle.vcd_read.proofs.FrontLemmas.{failed-front, found-front, goes_on-else}
+use Rattle.vcd_read.proofs.pieces.read_front.Goals as goal
+
+pub returns-in-Ok-clause-header : goal.returns-in-Ok-clause-header
+returns-in-Ok-clause-header g c =
+    let front = c.args.front.now in
+    λ text more.
+    found-front g.D.Declarations.with_variable front text more (nothing_declared (g.D.Declarations.taken c.args.declarations)) (tokens front) (defined c.in-Ok.head (g.D.Declarations.taken c.in-Ok.declarations)) c.in-Ok.ensures
+
+pub returns-in_default : goal.returns-in_default
+returns-in_default g c =
+    let front = c.args.front.now in
+    record {
+      line = tt;
+      header = λ text more.
+          failed-front g.D.Declarations.with_variable front text more (nothing_declared (g.D.Declarations.taken c.args.declarations)) (tokens front) c.in-Err.fault.line c.in-Err.fault.kind
+          (goes_on-else c.in-Err.fault.kind c.in_default.not-UnfinishedSection c.in_default.not-NoEndDefinitions) c.in-Err.ensures;
+    }

@@ -1,0 +1,27 @@
+-- The definitions of a text, by a front of it.
+use Rattle.std.specs.Prelude.{◌≡◌, ℕ, List, ◌++◌, Option, Some, None, Result, Ok, Err}
+use Rattle.vcd_read.specs.declared.dump.Variable.{Variable}
+use Rattle.vcd_read.specs.declared.fault.FaultKind.{FaultKind}
+use Rattle.vcd_read.specs.declared.fault.FaultKind.TheVariants.{NoEndDefinitions, UnfinishedSection}
+use Rattle.vcd_read.specs.declared.fault.VcdFault.{VcdFault}
+use Rattle.vcd_read.specs.Tokens.{Token, tokens}
+use Rattle.vcd_read.specs.Header.{Declared}
+use Rattle.vcd_read.specs.Sections.{Headed, defined, header_of}
+use Rattle.vcd_read.specs.Meaning.{Fails}
+
+-- a header whose text goes on
+abbrev pub going_on : Headed → List Token → Headed
+going_on head more = record head { body = head.body ++ more }
+
+-- the definitions don't end in the text
+abbrev pub IsMetAtTheEnd : FaultKind → Type 0
+IsMetAtTheEnd NoEndDefinitions = Unit {0}
+IsMetAtTheEnd UnfinishedSection = Unit {0}
+IsMetAtTheEnd kind = ⊥
+
+module _ {V X : Type 0} (with_variable : V → Variable → V) (declared : Declared V) (front : List ℕ) (head : X → Headed) (taken : X → V) where
+  -- what is found of the definitions is what each text has that begins so, unless they don't end in that front
+  abbrev pub BeginsAs : Result (Option X) VcdFault → Type 0
+  BeginsAs (Ok (Some x)) = (text : List ℕ) (more : List Token) → header_of with_variable text declared (tokens front ++ more) ≡ Ok (defined (going_on (head x) more) (taken x))
+  BeginsAs (Ok None) = (fault : VcdFault) × (header_of with_variable front declared (tokens front) ≡ Err fault) × IsMetAtTheEnd fault.kind
+  BeginsAs (Err fault) = (text : List ℕ) (more : List Token) → Fails fault (header_of with_variable text declared (tokens front ++ more))

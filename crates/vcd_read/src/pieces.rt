@@ -1,0 +1,129 @@
+//! A dump that is read piece by piece.
+
+ghost use Rattle.std.specs.Prelude.{◌≡◌, ◌++◌, [], IfOk, IfSome};
+ghost use Rattle.vcd_read.specs.Header.{nothing_declared};
+ghost use Rattle.vcd_read.specs.Tokens.{tokens_from};
+ghost use Rattle.vcd_read.specs.Reading.{line_behind};
+ghost use Rattle.vcd_read.specs.Body.{body_from, ready};
+ghost use Rattle.vcd_read.specs.Bodies.{Leads, ahead, finished, place_of};
+ghost use Rattle.vcd_read.specs.Fronts.{BeginsAs};
+ghost use Rattle.vcd_read.specs.Meaning.{Gives};
+ghost use Rattle.vcd_read.specs.Taking.{at_first, steps, taking};
+
+use crate::body::read_piece;
+use crate::codes::Codes;
+use crate::declarations::Declarations;
+use crate::fault::{FaultKind, VcdFault};
+use crate::head::{Head, read_definitions};
+use crate::piece::{Piece, Start};
+use crate::taker::Taker;
+use crate::token::Reader;
+use crate::underway::Underway;
+use std::alloc::Global;
+
+/// The front of a text, whose definitions are read, and of whose body nothing is.
+#[derive(Drop)]
+pub struct Front<'a> {
+    pub(crate) head: Head<'a>,
+    /// The line that the front ends on.
+    line: u64,
+}
+
+/// A dump whose definitions are read, and its body as far as some pieces go.
+#[derive(Drop)]
+pub struct Pieces<T: Taker> {
+    codes: Codes,
+    underway: Underway<T>,
+    /// The line that the next piece begins on.
+    line: u64,
+}
+
+/// Reads the definitions of a text by a front of it that ends behind a space, and gives its scopes and variables to what
+/// takes them. None are read where they don't end in it; a fault is that of every text that begins so.
+pub fn read_front<D: Declarations>(
+    alloc: Global,
+    front: &[u8],
+    declarations: D,
+) -> Result<Option<(Front<'_>, D)>, VcdFault>
+    requires { D.scopes declarations ≡ [] }
+    ensures line { IfOk result (λ found. IfSome found (λ made. made.0.line ≡ line_behind 1 front.now)) }
+    ensures header { BeginsAs D.with_variable (nothing_declared (D.taken declarations)) front.now (λ made. made.0.head)
+        (λ made. D.taken made.1) result }
+{
+    match read_definitions(alloc, front, declarations) {
+        Ok((head, declarations)) => {
+            let line = Reader::new(front).line(Start::Here(front.len()));
+            Ok(Some((Front { head, line }, declarations)))
+        }
+        Err(fault) => match fault.kind {
+            FaultKind::NoEndDefinitions | FaultKind::UnfinishedSection => Ok(None),
+            _ => Err(fault),
+        },
+    }
+}
+
+impl<'a> Front<'a> {
+    /// Gives the changes that the front has to a taker.
+    pub fn pieces<T: Taker>(self, alloc: Global, taker: T) -> Result<Pieces<T>, VcdFault>
+        ensures line { IfOk result (λ pieces. pieces.line ≡ self.entry.line) }
+        ensures rest { Leads (λ pieces. ahead T.with_change T.with_instant pieces.codes
+            (taking (T.taken pieces.underway.waves.taker) pieces.underway.waves.clock) pieces.underway.bracket
+            (place_of pieces.underway.place) []) result
+            (λ more. steps T.with_change T.with_instant self.entry.head.nets (at_first (T.taken taker))
+            (body_from ready (self.entry.head.body ++ more))) }
+    {
+        let Front { head, line } = self;
+        let (codes, underway) = head.begin(alloc, taker)?;
+        Ok(Pieces {
+            codes,
+            underway,
+            line,
+        })
+    }
+}
+
+impl<T: Taker> Pieces<T> {
+    /// Reads the next piece of the body, which ends behind a space, or where the text does. The first fault met is that of
+    /// every text that goes on so. Where lines could no longer be counted, memory is said to run out.
+    pub fn read(self, alloc: Global, piece: &[u8]) -> Result<Pieces<T>, VcdFault>
+        ensures line { IfOk result (λ pieces. pieces.line ≡ line_behind self.line piece.now) }
+        ensures rest { Leads (λ pieces. ahead T.with_change T.with_instant pieces.codes
+            (taking (T.taken pieces.underway.waves.taker) pieces.underway.waves.clock) pieces.underway.bracket
+            (place_of pieces.underway.place) []) result
+            (ahead T.with_change T.with_instant self.codes
+            (taking (T.taken self.underway.waves.taker) self.underway.waves.clock)
+            self.underway.bracket (place_of self.underway.place) (tokens_from self.line piece.now)) }
+    {
+        let Pieces {
+            codes,
+            underway,
+            line,
+        } = self;
+        if u64::MAX - line <= piece.len() as u64 {
+            return Err(VcdFault {
+                line: 0,
+                kind: FaultKind::Memory,
+            });
+        }
+        let text = Piece { bytes: piece, line };
+        let reader = Reader { text, at: 0 };
+        let line = reader.line(Start::Here(piece.len()));
+        let underway = read_piece(alloc, reader, &codes, underway)?;
+        Ok(Pieces {
+            codes,
+            underway,
+            line,
+        })
+    }
+
+    /// What took the body, of which nothing is left. An item that isn't whole and a bracket that is still open are met
+    /// here.
+    pub fn finish(self, alloc: Global) -> Result<T, VcdFault>
+        ensures { Gives (λ t. T.taken t) result
+            (finished T.with_change T.with_instant self.codes
+            (taking (T.taken self.underway.waves.taker) self.underway.waves.clock)
+            self.underway.bracket (place_of self.underway.place)) }
+    {
+        self.underway.finish(alloc)
+    }
+}

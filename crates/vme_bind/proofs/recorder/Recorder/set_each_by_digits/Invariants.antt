@@ -1,0 +1,12 @@
+use Rattle.std.proofs.Common.{◌≡◌, map, take}
+use Rattle.vme_trace.specs.Trace.{changed}
+use Rattle.vcd_read.specs.Numbers.{extended}
+use Rattle.vme_bind.specs.Recording.{tapped}
+use Rattle.vme_bind.proofs.recorder.Recorder.set_each_by_digits.Given as goal
+
+abbrev pub invariant-loop-tap : goal.invariant-loop-tap
+invariant-loop-tap l = record {
+  now : l.self.now ≡ changed l.fn.self.now (map (tapped (extended l.size l.digits)) (take l.tap-index l.taps));
+  slots : l.self.now.slots ≡ l.fn.self.now.slots;
+  shown : l.self.shown ≡ l.fn.self.shown;
+}

@@ -1,0 +1,49 @@
+-- The recording that a binding makes of a dump that is read piece by piece.
+use Rattle.std.specs.Prelude.{◌≡◌, ℕ, List, ◌++◌, Option, None, Some, Result, Ok, Err}
+use Rattle.vme_trace.specs.Trace.{Trace}
+use Rattle.vcd_read.specs.Fronts.{IsMetAtTheEnd}
+use Rattle.vcd_read.specs.Header.{◌>>=◌, Net}
+use Rattle.vcd_read.specs.Meaning.{instants_from}
+use Rattle.vcd_read.specs.Sections.{Headed}
+use Rattle.vcd_read.specs.Body.{BodyPlace}
+use Rattle.vcd_read.specs.Bodies.{ahead}
+use Rattle.vcd_read.specs.Taking.{Taking, at_end}
+use Rattle.vcd_read.specs.Tokens.{Token, tokens}
+use Rattle.vcd_read.specs.declared.fault.VcdFault.{VcdFault}
+use Rattle.vme_bind.specs.declared.fault.BindFault.{BindFault}
+use Rattle.vme_bind.specs.declared.fault.BindKind.TheVariants.{Memory}
+use Rattle.vme_bind.specs.declared.fault.CaptureFault.{CaptureFault}
+use Rattle.vme_bind.specs.declared.fault.CaptureFault.TheVariants.{Dump, Binding}
+use Rattle.vme_bind.specs.Made.{Made, made_change, made_instant}
+use Rattle.vme_bind.specs.TextCapture.{FailsBy, body_recording, or_dump, recording_of_text}
+use Rattle.vme_bind.specs.Binding.{BoundLines}
+use Rattle.vme_bind.specs.declared.wires.Wire.{Wire}
+
+-- what a body comes to by its definition: its own fault, or else that of the binding, or else the recording
+abbrev pub body_outcome : Option BindFault → ℕ → List Wire → Headed → Result Trace CaptureFault
+body_outcome None slots wires h = body_recording slots wires h
+body_outcome (Some fault) slots wires h = or_dump (instants_from h.nets h.body) >>= λ instants. Err (Binding fault)
+
+-- the same by what was made of it
+abbrev pub outcome : Option BindFault → Result Made VcdFault → Result Trace CaptureFault
+outcome None body = or_dump body >>= λ made. Ok made.recorded
+outcome (Some fault) body = or_dump body >>= λ made. Err (Binding fault)
+
+-- what comes of these tokens, and more behind them, where a body is read so far
+abbrev pub outcome_ahead : Option BindFault → List Net → Taking Made → Option ℕ → BodyPlace → List Token → List Token → Result Trace CaptureFault
+outcome_ahead fault nets waves bracket place tokens more = outcome fault (ahead made_change made_instant nets waves bracket place tokens more >>= at_end made_instant)
+
+-- what was read to leaves what comes of the text, whatever follows, or this fault does
+abbrev pub LeadsTo : {X : Type 0} → (X → List Token → Result Trace CaptureFault) → Result X CaptureFault → (List Token → Result Trace CaptureFault) → Type 0
+LeadsTo view (Ok x) before = (more : List Token) → before more ≡ view x more
+LeadsTo view (Err fault) before = (more : List Token) → FailsBy fault (before more)
+
+-- a fault that a binding has, and not want of memory
+abbrev pub IsOfBinding : BindFault → Type 0
+IsOfBinding fault = fault.kind ≡ Memory → ⊥
+
+-- what is begun of a text by its front is what comes of each text that goes on so, unless its definitions don't end in it
+abbrev pub BeginsText : {X Y : Type 0} → (X → List Token → Result Trace CaptureFault) → BoundLines → List ℕ → Result (Result X Y) CaptureFault → Type 0
+BeginsText view b front (Ok (Ok begun)) = (whole : List ℕ) (more : List Token) → tokens whole ≡ tokens front ++ more → recording_of_text b whole ≡ view begun more
+BeginsText view b front (Ok (Err back)) = (fault : VcdFault) × (recording_of_text b front ≡ Err (Dump fault)) × IsMetAtTheEnd fault.kind
+BeginsText view b front (Err fault) = (whole : List ℕ) (more : List Token) → tokens whole ≡ tokens front ++ more → FailsBy fault (recording_of_text b whole)

@@ -1,0 +1,110 @@
+//! Reading a source to its end, by what takes its bytes as they come.
+
+ghost use Rattle.std.specs.Prelude.{◌≡◌, ℕ, ◌+◌, ◌*◌, ◌-◌, ◌≤◌, ◌<◌, List, length, take, drop, Some, None, Err, IfOk, vec_len};
+ghost use Rattle.vme_stream.specs.Inputs.{IsInTime, IsReading, longest_input, most_reads};
+ghost use Rattle.vme_stream.specs.Intakes.{Passes};
+
+use crate::input::{InFault, LONGEST, MOST_READS, read_behind};
+use std::alloc::{AllocError, Global};
+use vme_trace::Source;
+
+/// What takes the bytes of an input as they are read.
+pub trait Intake: Drop + Sized {
+    /// What an input can come to.
+    ghost Outcome: { Type 0 };
+
+    /// What comes of these bytes, behind those that were taken.
+    ghost ahead: { Self → List ℕ → Self.Outcome };
+
+    /// Takes some of the first of these bytes, and says how many. The others come again, with more behind them.
+    fn take(self, alloc: Global, bytes: &[u8]) -> Result<(Self, usize), AllocError>
+        ensures within { IfOk result (λ made. made.1 ≤ length bytes.now) }
+        ensures taken { IfOk result (λ made. Passes (Self.ahead self) (Self.ahead made.0) (take made.1 bytes.now)) };
+}
+
+/// Reads a source to its end, and gives its bytes to what takes them, `piece` of them at once, or more where none of so many
+/// can be taken. The answer is what took them, and the last bytes, which it left.
+///
+/// The answer is Read exactly where a read failed, or 16,777,216 gave bytes; else it is TooLong where there are more than
+/// 268,435,456 bytes, unless there is no memory.
+pub fn read_by<R: Source, T: Intake>(
+    alloc: Global,
+    source: &mut R,
+    intake: T,
+    piece: usize,
+) -> Result<(T, Vec<u8>), InFault>
+    requires { (1 ≤ piece) × (piece ≤ longest_input) }
+    ensures bytes { IfOk result (λ made. (bytes : List ℕ) × (length bytes ≤ longest_input)
+        × IsReading (R.reading source.old) (R.reading source.new) (Some bytes)
+        × (T.ahead intake bytes ≡ T.ahead made.0 made.1.items)) }
+    ensures read { result ≡ Err InFault.Read → IsReading (R.reading source.old) (R.reading source.new) None }
+    ensures too_long { result ≡ Err InFault.TooLong
+        → (bytes : List ℕ) × (longest_input < length bytes)
+        × IsReading (R.reading source.old) (R.reading source.new) (Some bytes) }
+    ensures memory { result ≡ Err InFault.Memory → IsInTime (R.reading source.old) (R.reading source.new) }
+    ensures bound { (R.reading source.new).reads ≤ (R.reading source.old).reads + most_reads }
+{
+    let mut bytes = Vec::from_elem(alloc, 0, piece)?;
+    let mut intake = intake;
+    // How many bytes were taken, and how many are held behind them.
+    let mut taken = 0;
+    let mut filled = 0;
+    for _ in 0..MOST_READS {
+        if taken + filled > LONGEST {
+            return Err(InFault::TooLong);
+        }
+        let (next, count) = make_room(alloc, intake, &mut bytes, filled)?;
+        intake = next;
+        taken += count;
+        filled -= count;
+        let count = match read_behind(source, &mut bytes, filled) {
+            Ok(count) => count,
+            Err(fault) => return Err(fault),
+        };
+        if count == 0 {
+            bytes.truncate(filled);
+            return Ok((intake, bytes));
+        }
+        filled += count;
+    }
+    Err(InFault::Read)
+}
+
+/// Makes room behind the first `filled` bytes: where there is none, some are taken, or if none can be there is as much room
+/// again. Says how many were taken: those behind them stand at the front then.
+fn make_room<T: Intake>(
+    alloc: Global,
+    intake: T,
+    bytes: &mut Vec<u8>,
+    filled: usize,
+) -> Result<(T, usize), AllocError>
+    requires within { filled ≤ vec_len bytes.old }
+    requires some { 0 < vec_len bytes.old }
+    requires short { filled ≤ longest_input }
+    ensures within { IfOk result (λ made. made.1 ≤ filled) }
+    ensures room { IfOk result (λ made. filled - made.1 < vec_len bytes.new) }
+    ensures left { IfOk result (λ made.
+        take (filled - made.1) bytes.new.items ≡ drop made.1 (take filled bytes.old.items)) }
+    ensures taken { IfOk result (λ made. Passes (T.ahead intake) (T.ahead made.0) (take made.1 bytes.old.items)) }
+{
+    if filled < bytes.len() {
+        return Ok((intake, 0));
+    }
+    let (intake, count) = intake.take(alloc, bytes.as_slice())?;
+    if count == 0 {
+        bytes.resize(2 * filled, 0)?;
+    } else {
+        move_to_front(bytes, count);
+    }
+    Ok((intake, count))
+}
+
+/// Moves the bytes from a place on to the front. What stands behind them then is left open.
+fn move_to_front(bytes: &mut Vec<u8>, from: usize)
+    requires { from ≤ vec_len bytes.old }
+    ensures left { take (vec_len bytes.old - from) bytes.new.items ≡ drop from bytes.old.items }
+    ensures len { vec_len bytes.new ≡ vec_len bytes.old }
+{
+    let count = bytes.len();
+    bytes.as_mut_slice().copy_within(from..count, 0);
+}
