@@ -1,14 +1,14 @@
 -- The answers of a cycle, by the first of them.
-use Rattle.std.proofs.Common.{◌≡◌, ℕ, ◌+◌, false, ◌||◌, not, [], ◌∷◌, List, sym, ◌∙◌, ap}
+use Rattle.std.proofs.Common.{◌≡◌, ℕ, ◌+◌, Bool, true, false, ◌||◌, not, [], ◌∷◌, List, refl, sym, ◌∙◌, ap}
 use Rattle.std.specs.Prelude.{Option, None, Some, is_some}
-use Rattle.vme_trace.specs.Instants.{least, those}
+use Rattle.vme_trace.specs.Instants.{any, least, those}
 use Rattle.vme_trace.specs.Trace.{Trace}
 use Rattle.vme_trace.specs.Judged.{Span}
 use Rattle.vme_trace.specs.Transfers.{is_answer, answers_write}
 use Rattle.vme_trace.specs.Cycles.{answers_of}
 use Rattle.vme_trace.specs.Rules.{spoils_pair, turns, is_later, differ}
 use Rattle.vme_trace.proofs.Ranges.{least-none-any, least-found}
-use Rattle.vme_cert.proofs.Those.{those-none, those-least}
+use Rattle.vme_cert.proofs.Those.{any-first, those-none, those-least}
 
 module _ (t : Trace) (span : Span) where
   first_of : (i j : ℕ) → Option ℕ → List ℕ
@@ -47,3 +47,8 @@ module _ (t : Trace) (span : Span) where
   pub spoils-first : (i j r : ℕ) (o : Option ℕ) → Some r ≡ least (is_answer t span) i j → o ≡ least (is_answer t span) (r + 1) j → spoils_pair t span (answers_of t span i j) j ≡ (is_some o || (answers_write t span r || not (answers_write t span j)))
   unfolding answers_of first_of
   spoils-first i j r o e k = ap (λ rs. spoils_pair t span rs j) (answers_from i j (Some r) e) ∙ spoils_two r j o k
+
+  pub spoils-asked : (i j r : ℕ) (more first : Bool) → Some r ≡ least (is_answer t span) i j → more ≡ any (is_answer t span) (r + 1) j → first ≡ answers_write t span r → spoils_pair t span (answers_of t span i j) j ≡ (more || (first || not (answers_write t span j)))
+  spoils-asked i j r more first e h k =
+      spoils-first i j r (least (is_answer t span) (r + 1) j) e refl
+      ∙ (ap (λ b. b || (answers_write t span r || not (answers_write t span j))) (any-first (is_answer t span) (r + 1) j ∙ sym h) ∙ ap (λ b. more || (b || not (answers_write t span j))) (sym k))

@@ -1,6 +1,7 @@
 -- The transfer at an instant is the last one to start, if it lasts.
-use Rattle.std.proofs.Common.{◌≡◌, ℕ, ◌+◌, ◌<◌, ◌≤◌, Bool, true, false, ◌&&◌, not, refl, sym, arith, inl, inr, ◌⊎◌}
-use Rattle.std.specs.Prelude.{None, Some, nat_le, nat_lt}
+use Rattle.std.proofs.Common.{◌≡◌, ℕ, ◌+◌, ◌<◌, ◌≤◌, Bool, true, false, ◌&&◌, not, refl, sym, ◌∙◌, ap, arith, inl, inr, ◌⊎◌}
+use Rattle.std.specs.Prelude.{Option, None, Some, is_some, nat_le, nat_lt, ◌==◌}
+use Rattle.std.specs.Option.{option_map_or}
 use Rattle.std.proofs.lemmas.Bool.Decides.{nat_tests}
 use Rattle.vme_trace.specs.Instants.{any, least, greatest}
 use Rattle.vme_trace.specs.Trace.{Trace}
@@ -9,39 +10,33 @@ use Rattle.vme_trace.specs.Transfers.{strobes_high, answer_falls, transfer_start
 use Rattle.vme_trace.proofs.Ranges.{IsLeast, least-is, least-none, least-alike, any-holds, any-fails, fails-any, least-found, least-none-any, clash}
 use Rattle.vme_trace.proofs.OpenTransfers.{bool_cases, in_transfer-is}
 use Rattle.vme_cert.proofs.Finding.{IsGreatest, greatest-none-any, greatest-found, none-shorter, none-later}
-
-and_true : (a b : Bool) → (a && b) ≡ true → (a ≡ true) × (b ≡ true)
-and_true true b h = (refl, h)
-and_true false b h = absurd (cc)
+use Rattle.vme_cert.proofs.Those.{any-first}
+use Rattle.vme_cert.proofs.Truth.{and_true, below_or_from, both, eq_fails, eq_holds, false_of_not, le_holds, le_of, lt_fails, lt_holds, lt_of}
 
 and_false : (a b : Bool) → (a ≡ true → b ≡ false) → (a && b) ≡ false
 and_false true b h = h refl
 and_false false b h = refl
 
-false_of_not : (b : Bool) → not b ≡ true → b ≡ false
-false_of_not true h = absurd (cc)
-false_of_not false h = refl
-
-le_of : (i j : ℕ) → nat_le i j ≡ true → i ≤ j
-le_of i j h = grind (arith, nat_tests)
-
-lt_of : (i j : ℕ) → nat_lt i j ≡ true → i < j
-lt_of i j h = grind (arith, nat_tests)
-
-le_holds : (i j : ℕ) → i ≤ j → nat_le i j ≡ true
-le_holds i j h = grind (arith, nat_tests)
-
-lt_holds : (i j : ℕ) → i < j → nat_lt i j ≡ true
-lt_holds i j h = grind (arith, nat_tests)
-
 same_or_below : (k i : ℕ) → k ≤ i → (k ≡ i) ⊎ (k < i)
 same_or_below k i h = grind arith
 
-same_or_above : (k i : ℕ) → i ≤ k → (k ≡ i) ⊎ (i < k)
-same_or_above k i h = grind arith
+last_false : (a : Bool) → (a && not true) ≡ false
+last_false true = refl
+last_false false = refl
 
-below_or_from : (k i : ℕ) → (k < i) ⊎ (i ≤ k)
-below_or_from k i = grind arith
+first_false : (a b : Bool) → a ≡ false → (a && b) ≡ false
+first_false a b h = rw h refl
+
+-- the first of those before which none holds is the first that holds
+pub firsts : (q : ℕ → Bool) (i n : ℕ) → least (λ k. q k && not (any q i k)) i n ≡ least q i n
+firsts q i n = by_least (least q i n) refl
+  where
+    by_least : (o : Option ℕ) → least q i n ≡ o → least (λ k. q k && not (any q i k)) i n ≡ least q i n
+    by_least None e = least-none (λ k. q k && not (any q i k)) i n (fails-any (λ k. q k && not (any q i k)) i n (λ k a b. first_false _ _ (any-fails q i n k (least-none-any q i n e) a b))) ∙ sym e
+    by_least (Some r) e =
+        let found = least-found q i n r e in
+        least-is (λ k. q k && not (any q i k)) i n r found.first found.below (both _ _ found.holds (rw found.least refl))
+        (fails-any (λ k. q k && not (any q i k)) i r (λ k a b. first_false _ _ (any-fails q i r k found.least a b))) ∙ sym e
 
 module _ (t : Trace) (span : Span) where
   -- what it is to last
@@ -107,81 +102,65 @@ module _ (t : Trace) (span : Span) where
       let found = greatest-found (transfer_starts t span) (span.start + 1) (j + 1) i e in
       in_transfer-is t span p i j (omega (arith, found.from)) (omega (arith, found.before)) found.holds last
 
-  -- a transfer is answered where an answer line falls, if it lasts to the first such fall
-  pub is_answered-first : (i j r : ℕ) → span.start < i → least (answer_falls t) i j ≡ Some r → is_answered t span i j ≡ lasts t span i r
-  unfolding is_answered
-  is_answered-first i j r after e =
-      let found = least-found (answer_falls t) i j r e in
-      by_test (lasts t span i r) refl found
-    where
-      both : (a b : Bool) → a ≡ true → b ≡ true → (a && b) ≡ true
-      both a b h k = rw (h, k) refl
-
-      by_test : (b : Bool) → lasts t span i r ≡ b → IsLeast (answer_falls t) i j r → any (λ k. lasts t span i k && answer_falls t k) i j ≡ b
-      by_test true h found = any-holds (λ k. lasts t span i k && answer_falls t k) i j r found.first found.below (both _ _ h found.holds)
-      by_test false h found =
-          fails-any (λ k. lasts t span i k && answer_falls t k) i j
-          (λ k a b. and_false (lasts t span i k) (answer_falls t k) (λ lasting. earlier k a b found lasting (below_or_from k r)))
-        where
-          earlier : (k : ℕ) → i ≤ k → k < j → IsLeast (answer_falls t) i j r → lasts t span i k ≡ true → (k < r) ⊎ (r ≤ k) → answer_falls t k ≡ false
-          earlier k a b found lasting (inl before) = any-fails (answer_falls t) i r k found.least a before
-          earlier k a b found lasting (inr from) = absurd (clash (lasts t span i r) (lasts_earlier i r k after found.first from lasting) h)
-
-  pub is_answered-never : (i j : ℕ) → least (answer_falls t) i j ≡ None → is_answered t span i j ≡ false
-  unfolding is_answered
-  is_answered-never i j e =
-      fails-any (λ k. lasts t span i k && answer_falls t k) i j (λ k a b. and_false (lasts t span i k) (answer_falls t k) (λ lasting. any-fails (answer_falls t) i j k (least-none-any _ _ _ e) a b))
-
-  -- and no instant outside the span belongs to one
-  pub in_transfer-unjudged : (p : ℕ → Bool) (j : ℕ) → is_judged span j ≡ false → in_transfer t span p j ≡ false
-  unfolding lasts
-  in_transfer-unjudged p j h = no_transfer p j (λ i a b starts. rw h (neither (nat_le i j) (not (any (strobes_high t) (i + 1) j))))
-    where
-      neither : (a b : Bool) → ((a && false) && b) ≡ false
-      neither true b = refl
-      neither false b = refl
-
-  -- the answer is the first fall of an answer line, if the transfer lasts to it
+  -- the first fall of an answer line is the answer, if the transfer lasts to it
   pub answer-first : (i e r : ℕ) → span.start < i → least (answer_falls t) i e ≡ Some r → lasts t span i r ≡ true → least (answers t span i) i e ≡ Some r
   unfolding answers is_answered
   answer-first i e r after first last =
       let found = least-found (answer_falls t) i e r first in
-      least-is (answers t span i) i e r found.first found.below
-      (all_three _ _ _ last found.holds (fails-any (λ k. lasts t span i k && answer_falls t k) i r (λ k a b. and_false (lasts t span i k) (answer_falls t k) (λ lasting. any-fails (answer_falls t) i r k found.least a b))))
-      (fails-any (answers t span i) i r (λ k a b. second_fails (lasts t span i k) (answer_falls t k) (not (is_answered t span i k)) (any-fails (answer_falls t) i r k found.least a b)))
-    where
-      all_three : (a b c : Bool) → a ≡ true → b ≡ true → c ≡ false → (a && b && not c) ≡ true
-      all_three a b c h k l = rw (h, k, l) refl
+      firsts (λ k. lasts t span i k && answer_falls t k) i e
+      ∙ least-is (λ k. lasts t span i k && answer_falls t k) i e r found.first found.below (both _ _ last found.holds)
+      (fails-any (λ k. lasts t span i k && answer_falls t k) i r (λ k a b. and_false (lasts t span i k) (answer_falls t k) (λ lasting. any-fails (answer_falls t) i r k found.least a b)))
 
-      second_fails : (a b c : Bool) → b ≡ false → (a && b && c) ≡ false
-      second_fails true b c h = rw h refl
-      second_fails false b c h = refl
-
-  -- and there is none where it isn't answered
-  pub answer-never : (i e : ℕ) → is_answered t span i e ≡ false → least (answers t span i) i e ≡ None
+  -- else there is none, since it doesn't last to a later fall either
+  pub answer-over : (i e r : ℕ) → span.start < i → least (answer_falls t) i e ≡ Some r → lasts t span i r ≡ false → least (answers t span i) i e ≡ None
   unfolding answers is_answered
-  answer-never i e h =
-      least-none (answers t span i) i e
-      (fails-any (answers t span i) i e (λ k a b. neither (lasts t span i k && answer_falls t k) (not (is_answered t span i k)) (any-fails (λ k. lasts t span i k && answer_falls t k) i e k h a b)))
+  answer-over i e r after first over =
+      let found = least-found (answer_falls t) i e r first in
+      firsts (λ k. lasts t span i k && answer_falls t k) i e
+      ∙ least-none (λ k. lasts t span i k && answer_falls t k) i e
+      (fails-any (λ k. lasts t span i k && answer_falls t k) i e (λ k a b. and_false (lasts t span i k) (answer_falls t k) (λ lasting. earlier k a found lasting (below_or_from k r))))
     where
-      neither : (a b : Bool) → a ≡ false → (a && b) ≡ false
-      neither a b h = rw h refl
+      earlier : (k : ℕ) → i ≤ k → IsLeast (answer_falls t) i e r → lasts t span i k ≡ true → (k < r) ⊎ (r ≤ k) → answer_falls t k ≡ false
+      earlier k a found lasting (inl before) = any-fails (answer_falls t) i r k found.least a before
+      earlier k a found lasting (inr from) = absurd (clash (lasts t span i r) (lasts_earlier i r k after found.first from lasting) over)
 
-  -- an answer is a fall of an answer line
-  pub answers-fall : (i e : ℕ) → least (λ r. answer_falls t r && is_answer t span r) i e ≡ least (is_answer t span) i e
-  unfolding is_answer in_transfer answers
-  answers-fall i e = least-alike (λ r. answer_falls t r && is_answer t span r) (is_answer t span) i e (λ r a b. fallen (answer_falls t r) (is_answer t span r) (unfallen r))
-    where
-      fallen : (a b : Bool) → (a ≡ false → b ≡ false) → (a && b) ≡ b
-      fallen true b h = refl
-      fallen false b h = sym (h refl)
+  -- nor where no answer line falls
+  pub answer-never : (i e : ℕ) → least (answer_falls t) i e ≡ None → least (answers t span i) i e ≡ None
+  unfolding answers is_answered
+  answer-never i e none =
+      firsts (λ k. lasts t span i k && answer_falls t k) i e
+      ∙ least-none (λ k. lasts t span i k && answer_falls t k) i e
+      (fails-any (λ k. lasts t span i k && answer_falls t k) i e (λ k a b. and_false (lasts t span i k) (answer_falls t k) (λ lasting. any-fails (answer_falls t) i e k (least-none-any _ _ _ none) a b)))
 
-      none_of : (a b c d : Bool) → c ≡ false → (a && b && (b && c && d)) ≡ false
-      none_of true true c d h = rw h refl
-      none_of true false c d h = refl
-      none_of false b c d h = refl
+  unanswered : (i j : ℕ) → is_answered t span i j ≡ true → answers t span i j ≡ false
+  unfolding answers
+  unanswered i j h = rw h (last_false (lasts t span i j && answer_falls t j))
 
-      unfallen : (j : ℕ) → answer_falls t j ≡ false → is_answer t span j ≡ false
-      unfallen j h =
-          fails-any (λ i. transfer_starts t span i && lasts t span i j && (lasts t span i j && answer_falls t j && not (is_answered t span i j))) (span.start + 1) (j + 1)
-          (λ i a b. none_of (transfer_starts t span i) (lasts t span i j) (answer_falls t j) (not (is_answered t span i j)) h)
+  -- whether the transfer that starts at i is answered by j, before j and at j, by its answer up to there
+  module _ (i j : ℕ) (order : i ≤ j) where
+    pub answered-by : (o : Option ℕ) → o ≡ least (answers t span i) i (j + 1) → is_answered t span i (j + 1) ≡ is_some o
+    unfolding answers is_answered
+    answered-by o e = sym (any-first (λ k. lasts t span i k && answer_falls t k) i (j + 1)) ∙ ap is_some (sym (e ∙ firsts (λ k. lasts t span i k && answer_falls t k) i (j + 1)))
+
+    pub answered-before : (o : Option ℕ) → o ≡ least (answers t span i) i (j + 1) → is_answered t span i j ≡ option_map_or (λ r. nat_lt r j) o false
+    unfolding answers is_answered
+    answered-before None e = none-shorter (λ k. lasts t span i k && answer_falls t k) i j (j + 1) (omega arith) (least-none-any _ _ _ (sym (firsts _ i (j + 1)) ∙ sym e))
+    answered-before (Some r) e = by_order (below_or_from r j)
+      where
+        found : IsLeast (λ k. lasts t span i k && answer_falls t k) i (j + 1) r
+        found = least-found _ i (j + 1) r (sym (firsts _ i (j + 1)) ∙ sym e)
+
+        by_order : (r < j) ⊎ (j ≤ r) → any (λ k. lasts t span i k && answer_falls t k) i j ≡ nat_lt r j
+        by_order (inl before) = any-holds _ i j r found.first before found.holds ∙ sym (lt_holds r j before)
+        by_order (inr from) = none-shorter _ i j r from found.least ∙ sym (lt_fails r j from)
+
+    pub answers-here : (o : Option ℕ) → o ≡ least (answers t span i) i (j + 1) → answers t span i j ≡ option_map_or (λ r. r == j) o false
+    answers-here None e = any-fails (answers t span i) i (j + 1) j (least-none-any _ _ _ (sym e)) order (omega arith)
+    answers-here (Some r) e = by_order (same_or_below r j (omega (arith, found.below))) (answered-before (Some r) e)
+      where
+        found : IsLeast (answers t span i) i (j + 1) r
+        found = least-found (answers t span i) i (j + 1) r (sym e)
+
+        by_order : (r ≡ j) ⊎ (r < j) → is_answered t span i j ≡ nat_lt r j → answers t span i j ≡ (r == j)
+        by_order (inl is) answered = ap (answers t span i) (sym is) ∙ found.holds ∙ sym (eq_holds r j is)
+        by_order (inr before) answered = unanswered i j (answered ∙ lt_holds r j before) ∙ sym (eq_fails r j before)

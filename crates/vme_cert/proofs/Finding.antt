@@ -3,13 +3,8 @@ use Rattle.std.proofs.Common.{◌≡◌, ℕ, zero, suc, ◌+◌, ◌<◌, ◌�
 use Rattle.std.specs.Prelude.{Option, None, Some, nat_le}
 use Rattle.std.proofs.lemmas.Bool.Decides.{nat_tests}
 use Rattle.vme_trace.specs.Instants.{any, greatest}
-use Rattle.vme_trace.proofs.Ranges.{any-fails, fails-any}
-
-le_holds : (i j : ℕ) → i ≤ j → nat_le i j ≡ true
-le_holds i j h = grind (arith, nat_tests)
-
-le_of : (i j : ℕ) → nat_le i j ≡ true → i ≤ j
-le_of i j h = grind (arith, nat_tests)
+use Rattle.vme_trace.proofs.Ranges.{any-fails, fails-any, clash}
+use Rattle.vme_cert.proofs.Truth.{and_true, le_holds, le_of}
 
 -- none holds in a shorter range either
 pub none-shorter : (p : ℕ → Bool) (f m n : ℕ) → m ≤ n → any p f n ≡ false → any p f m ≡ false
@@ -38,10 +33,6 @@ greatest-none-any p f (suc n) e =
     some_is_none : (n : ℕ) → Some n ≡ None → ⊥
     some_is_none n h = cc
 
-and_parts : (a b : Bool) → (a && b) ≡ true → (a ≡ true) × (b ≡ true)
-and_parts true b h = (refl, h)
-and_parts false b h = absurd (cc)
-
 -- what it is to be the greatest
 pub record IsGreatest (p : ℕ → Bool) (f n i : ℕ) : Type 0 where
   pub from : f ≤ i
@@ -57,7 +48,7 @@ greatest-found p f (suc n) i e =
     elim (chosen (nat_le f n && p n) (Some n) (greatest p f n) (Some i) e) [
       | inl here ↦
           let same : n ≡ i = same_value n i here.1 in
-          let both = and_parts (nat_le f n) (p n) here.0 in
+          let both = and_true (nat_le f n) (p n) here.0 in
           let from : f ≤ n = le_of f n both.0 in
           record { from = omega arith; before = omega arith; holds = ap p (sym same) ∙ both.1; last = fails-any p (i + 1) (suc n) (λ k a b. absurd (omega arith)) }
       | inr earlier ↦
@@ -75,3 +66,19 @@ greatest-found p f (suc n) i e =
 
     not_here : f ≤ i → i < n → (nat_le f n && p n) ≡ false → (nat_le (i + 1) n && p n) ≡ false
     not_here a b h = fails_here (nat_le (i + 1) n) (nat_le f n) (p n) h (le_holds f n (omega arith))
+
+-- the greatest is found where none after it holds
+pub greatest-is : (p : ℕ → Bool) (f n i : ℕ) → f ≤ i → i < n → p i ≡ true → any p (i + 1) n ≡ false → greatest p f n ≡ Some i
+greatest-is p f n i from before holds last = by_greatest (greatest p f n) refl
+  where
+    by_greatest : (o : Option ℕ) → greatest p f n ≡ o → greatest p f n ≡ Some i
+    by_greatest None e = absurd (clash (p i) holds (any-fails p f n i (greatest-none-any p f n e) from before))
+    by_greatest (Some k) e = let found = greatest-found p f n k e in e ∙ ap (λ m. Some m) (same found (by_order k i))
+      where
+        by_order : (k i : ℕ) → (k < i) ⊎ (i < k) ⊎ (k ≡ i)
+        by_order k i = grind arith
+
+        same : IsGreatest p f n k → (k < i) ⊎ (i < k) ⊎ (k ≡ i) → k ≡ i
+        same found (inl less) = absurd (clash (p i) holds (any-fails p (k + 1) n i found.last (omega arith) before))
+        same found (inr (inl more)) = absurd (clash (p k) found.holds (any-fails p (i + 1) n k last (omega arith) found.before))
+        same found (inr (inr is)) = is

@@ -1,6 +1,7 @@
 -- The first of some rules that is broken, and the first instant at which one is.
-use Rattle.std.proofs.Common.{◌≡◌, ℕ, ◌+◌, ◌≤◌, List, [], ◌∷◌, refl, add-one}
-use Rattle.std.specs.Prelude.{Option, None, Some}
+use Rattle.std.proofs.Common.{◌≡◌, ℕ, ◌+◌, ◌≤◌, Bool, true, false, List, [], ◌∷◌, refl, sym, ◌∙◌, ap, arith, add-one}
+use Rattle.std.specs.Prelude.{Option, None, Some, is_some, IfSome}
+use Rattle.vme_listing.specs.Recorded.{listed_end}
 use Rattle.vme_trace.specs.Instants.{least}
 use Rattle.vme_trace.specs.LineNumbers.{line_count}
 use Rattle.vme_trace.specs.Trace.{Trace, time_at}
@@ -39,3 +40,21 @@ module _ (t : Trace) (span : Span) where
   pub break_at-empty : (j : ℕ) → break_at t span [] j ≡ None
   unfolding break_at
   break_at-empty j = refl
+
+  -- what is found at the first instant at which something is, and that all before it stays so where nothing is
+  pub found-first : (rules : List Rule) (o : Option Break) (j n : ℕ) → break_before t span rules j ≡ None → o ≡ break_at t span rules j → is_some o ≡ true → j + 1 ≤ n → o ≡ break_before t span rules n
+  found-first rules None j n none e some order = absurd (cc)
+  found-first rules (Some b) j n none e some order = sym (before-found rules b j n none (sym e) order)
+
+  pub none-more : (rules : List Rule) (o : Option Break) (j : ℕ) → break_before t span rules j ≡ None → o ≡ break_at t span rules j → is_some o ≡ false → break_before t span rules (j + 1) ≡ None
+  none-more rules None j none e some = before-none rules j none (sym e)
+  none-more rules (Some b) j none e some = absurd (cc)
+
+-- where the recording, the stretch and the instant go by other names
+pub same-break : (t u : Trace) (span other : Span) (rules : List Rule) (i j : ℕ) (o : Option Break) → u ≡ t → other ≡ span → i ≡ j → o ≡ break_at u other rules i → o ≡ break_at t span rules j
+same-break t u span other rules i j o e f g h = h ∙ (ap (λ (v : Trace). break_at v other rules i) e ∙ (ap (λ (s : Span). break_at t s rules i) f ∙ ap (break_at t span rules) g))
+
+-- rows are listed up to the instant of a break
+pub listed-at : (t : Trace) (o : Option Break) (j : ℕ) → IfSome o (λ b. b.instant ≡ j) → is_some o ≡ true → listed_end t o ≤ j
+listed-at t None j at some = absurd (cc)
+listed-at t (Some b) j at some = omega arith

@@ -1,16 +1,33 @@
 -- What the changes at an instant do, and what stays where a line shows what it did before.
-use Rattle.std.proofs.Common.{◌≡◌, ℕ, zero, suc, ◌-◌, ◌<◌, Bool, true, false, ◌&&◌, ◌||◌, not, [], refl, arith, length, inl, inr, ◌⊎◌}
-use Rattle.std.specs.Prelude.{Some, slice_get}
-use Rattle.std.proofs.lemmas.Option.{slice_get_past}
-use Rattle.vme_trace.specs.LineNumbers.{DS0, DS1}
-use Rattle.vme_trace.specs.Judged.{Span, is_judged}
-use Rattle.vme_trace.specs.Transfers.{transfer_starts}
-use Rattle.vme_trace.specs.Levels.{is_low, is_high, same_level}
-use Rattle.vme_trace.specs.Trace.{Trace, levels_at, changed}
+use Rattle.std.proofs.Common.{◌≡◌, ℕ, zero, suc, ◌+◌, ◌-◌, ◌<◌, ◌≤◌, Bool, true, false, ◌&&◌, ◌||◌, not, List, [], refl, sym, ◌∙◌, ap, subst, arith, length, get_or, inl, inr, ◌⊎◌, add-one}
+use Rattle.std.specs.Prelude.{None, Some, slice_get, nat_le, ◌==◌}
+use Rattle.std.proofs.lemmas.Bool.Decides.{nat_tests}
+use Rattle.std.proofs.lemmas.Option.{slice_get_past, slice_get_read, slice_get_within}
+use Rattle.vme_trace.specs.LineNumbers.{has_line}
+use Rattle.vme_trace.specs.WellFormed.{are_changes, is_step, malformed_step}
+use Rattle.vme_trace.specs.Changes.{is_changed}
+use Rattle.vme_trace.specs.Levels.{Levels, level_at, is_low, is_high, same_level}
+use Rattle.vme_trace.specs.Trace.{Trace, levels_at, changed, time_at}
 use Rattle.vme_trace.specs.Signals.{level, low, high, falls, rises, has_edge}
 use Rattle.vme_trace.specs.declared.step.Step.{Step}
+use Rattle.vme_trace.specs.declared.step.Change.{Change}
 use Rattle.vme_trace.specs.declared.level.Level.{Level}
 use Rattle.vme_trace.specs.declared.level.Level.TheVariants.{Low, High, Unknown}
+use Rattle.vme_trace.proofs.Ranges.{any-fails, least-none-any}
+use Rattle.vme_trace.proofs.SpanEnds.{slots_at}
+
+-- the step that was read at a place
+pub step_at : (t : Trace) (steps : List Step) (i : ℕ) (step : Step) → steps ≡ t.steps → i < length t.steps → step ≡ get_or steps i step → slice_get t.steps i ≡ Some step
+step_at t steps i step e below is = ap (λ xs. slice_get xs i) (sym e) ∙ slice_get_read steps (length steps) i step refl (subst (λ xs. i < length xs) (sym e) below) is
+
+-- its changes make the next levels, and past the last they stay
+pub next : (t : Trace) (v : Levels) (i : ℕ) (step : Step) (cs : List Change) → v ≡ levels_at t i → cs ≡ step.changes → slice_get t.steps i ≡ Some step → changed v cs ≡ levels_at t (i + 1)
+unfolding levels_at
+next t v i step cs e k found = rw (add-one, e, k, found) refl
+
+pub past : (t : Trace) (i : ℕ) → length t.steps ≤ i → levels_at t i ≡ levels_at t (i + 1)
+unfolding levels_at
+past t i h = rw (add-one, slice_get_past t.steps i h) refl
 
 pub made : (t : Trace) (i : ℕ) (step : Step) → 0 < i → slice_get t.steps (i - 1) ≡ Some step → levels_at t i ≡ changed (levels_at t (i - 1)) step.changes
 unfolding levels_at
@@ -61,15 +78,28 @@ pub no_edge : (t : Trace) (l i : ℕ) → level t l i ≡ level t l (i - 1) → 
 unfolding has_edge
 no_edge t l i e = same (level t l (i - 1)) (level t l i) e
 
--- a transfer starts only where a strobe changes
-pub no_start : (t : Trace) (span : Span) (i : ℕ) → level t DS0 i ≡ level t DS0 (i - 1) → level t DS1 i ≡ level t DS1 (i - 1) → transfer_starts t span i ≡ false
-unfolding transfer_starts low high
-no_start t span i e f = rw (e, f) (by_levels (is_judged span i) (level t DS0 (i - 1)) (level t DS1 (i - 1)))
+-- the backplane has the same lines at each instant
+pub has_at : (t : Trace) (v : Levels) (i l : ℕ) → v ≡ levels_at t i → has_line t.opening.slots l ≡ true → has_line v.slots l ≡ true
+has_at t v i l e h = ap (λ (w : Levels). has_line w.slots l) e ∙ (ap (λ slots. has_line slots l) (slots_at t i) ∙ h)
+
+-- the step before an instant changes lines that exist and ascend, and has its time
+pub sound-step : (t : Trace) (i : ℕ) (step : Step) → malformed_step t ≡ None → 0 < i → slice_get t.steps (i - 1) ≡ Some step → are_changes (levels_at t (i - 1)) 0 step.changes ≡ true
+unfolding malformed_step is_step
+sound-step t i step well above found =
+    let fits_here : not (is_step t (i - 1)) ≡ false = any-fails (λ n. not (is_step t n)) 0 (length t.steps) (i - 1) (least-none-any _ _ _ well) (omega arith) (slice_get_within t.steps (i - 1) step found) in
+    last_of _ _ (rw found at (true_of_not (is_step t (i - 1)) fits_here))
   where
-    by_levels : (b : Bool) (x y : Level) → (b && (is_high x && is_high y) && (is_low x || is_low y)) ≡ false
-    by_levels false x y = refl
-    by_levels true Low y = refl
-    by_levels true High Low = refl
-    by_levels true High High = refl
-    by_levels true High Unknown = refl
-    by_levels true Unknown y = refl
+    true_of_not : (b : Bool) → not b ≡ false → b ≡ true
+    true_of_not true h = refl
+    true_of_not false h = absurd (cc)
+
+    last_of : (a b : Bool) → (a && b) ≡ true → b ≡ true
+    last_of true b h = h
+    last_of false b h = absurd (cc)
+
+pub timed : (t : Trace) (i : ℕ) (step : Step) → 0 < i → slice_get t.steps (i - 1) ≡ Some step → step.time ≡ time_at t i
+timed t zero step above found = absurd (omega arith)
+timed t (suc n) step above found = let e : suc n - 1 ≡ n = omega arith in rw (rw e at found) refl
+
+pub same_lines : (t : Trace) (v : Levels) (i l : ℕ) → v ≡ levels_at t i → has_line v.slots l ≡ has_line t.opening.slots l
+same_lines t v i l e = ap (λ (w : Levels). has_line w.slots l) e ∙ ap (λ slots. has_line slots l) (slots_at t i)

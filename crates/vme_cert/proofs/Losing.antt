@@ -1,48 +1,70 @@
--- Where no line becomes unknown, no control line is lost.
-use Rattle.std.proofs.Common.{◌≡◌, ℕ, zero, suc, ◌-◌, Bool, true, false, ◌&&◌, ◌||◌, not, List, [], ◌∷◌, refl, ◌∙◌, ap}
-use Rattle.std.specs.Prelude.{slice_get, slice_set, unwrap_or}
-use Rattle.vme_trace.specs.Instants.{any}
-use Rattle.vme_trace.specs.LineNumbers.{line_count, is_control}
-use Rattle.vme_trace.specs.Levels.{Levels, level_at, set_level, is_known, is_lost, loses_control}
-use Rattle.vme_trace.specs.Judged.{loses_control_at}
-use Rattle.vme_trace.specs.Trace.{Trace, levels_at, changed}
+-- A control line is lost where one of the changes loses it, and none is where the bus is idle.
+use Rattle.std.proofs.Common.{◌≡◌, ℕ, ◌+◌, ◌-◌, ◌<◌, ◌≤◌, Bool, true, false, ◌&&◌, ◌||◌, not, cond, List, refl, sym, ◌∙◌, ap, arith}
+use Rattle.std.specs.Prelude.{Option, None, Some, is_some, option_map, nat_le}
+use Rattle.vme_trace.specs.LineNumbers.{line_count, is_control, is_net, BERR}
+use Rattle.vme_trace.specs.Levels.{Levels, level_at, is_high, is_known, is_idle, is_idle_on, is_lost, loses_control}
+use Rattle.vme_trace.specs.Changes.{lost_among}
+use Rattle.vme_trace.specs.Instants.{any, least}
+use Rattle.vme_trace.specs.Judged.{Span, is_idle_at, loses_control_at, judged_span, span_end, span_from}
+use Rattle.vme_trace.specs.Trace.{Trace, levels_at, changed, last_instant}
+use Rattle.vme_trace.specs.WellFormed.{are_changes}
 use Rattle.vme_trace.specs.declared.level.Level.{Level}
-use Rattle.vme_trace.specs.declared.level.Level.TheVariants.{Unknown}
+use Rattle.vme_trace.specs.declared.level.Level.TheVariants.{Low, High, Unknown}
 use Rattle.vme_trace.specs.declared.step.Change.{Change}
-use Rattle.vme_trace.proofs.Ranges.{any-fails, fails-any}
-use Rattle.vme_cert.specs.Unknowns.{has_unknown}
+use Rattle.vme_trace.proofs.Ranges.{any-fails, fails-any, least-is, least-none}
+use Rattle.vme_trace.proofs.Changing.{lost-least}
+use Rattle.vme_trace.proofs.SpanEnds.{slots_at}
+use Rattle.vme_cert.proofs.Those.{any-first}
+use Rattle.vme_cert.proofs.Truth.{false_of_not, true_of_not}
 
-known_set : (xs : List Level) (m l : ℕ) (x : Level) → is_known x ≡ true → is_known (unwrap_or (slice_get xs l) Unknown) ≡ true → is_known (unwrap_or (slice_get (slice_set xs m x) l) Unknown) ≡ true
-known_set [] m l x h k = absurd (cc)
-known_set (y ∷ ys) zero zero x h k = h
-known_set (y ∷ ys) zero (suc l) x h k = k
-known_set (y ∷ ys) (suc m) zero x h k = k
-known_set (y ∷ ys) (suc m) (suc l) x h k = known_set ys m l x h k
+idle_known : (c e : Bool) (x : Level) → cond (not c) true (cond e (is_high x) (is_known x)) ≡ true → (c && not (is_known x)) ≡ false
+idle_known false e x h = refl
+idle_known true e Low h = refl
+idle_known true e High h = refl
+idle_known true true Unknown h = absurd (cc)
+idle_known true false Unknown h = absurd (cc)
 
-kept_set : (v : Levels) (l : ℕ) (c : Change) → is_known c.level ≡ true → is_lost v l ≡ false → is_lost (set_level v c.line c.level) l ≡ false
-kept_set v l c h k = by_tests (is_control v.slots l) (is_known (level_at v l)) refl k
-  where
-    by_tests : (a b : Bool) → is_known (level_at v l) ≡ b → (a && not b) ≡ false → (a && not (is_known (level_at (set_level v c.line c.level) l))) ≡ false
-    by_tests false b e k = refl
-    by_tests true true e k = ap not (known_set v.levels c.line l c.level h e)
-    by_tests true false e k = absurd (cc)
+pub idle-holds : (t : Trace) (i : ℕ) → is_idle_at t i ≡ true → loses_control_at t i ≡ false
+unfolding is_idle_at loses_control_at is_idle loses_control
+idle-holds t i h =
+    let v = levels_at t i in
+    fails-any (is_lost v) 0 line_count
+    (λ l a b. idle_known (is_control v.slots l) (nat_le l BERR || is_net l) (level_at v l) (true_of_not (is_idle_on v l) (any-fails (λ k. not (is_idle_on v k)) 0 line_count l (false_of_not _ h) a b)))
 
-held : (v : Levels) (cs : List Change) (l : ℕ) → has_unknown cs ≡ false → is_lost v l ≡ false → is_lost (changed v cs) l ≡ false
-unfolding changed
-held v [] l h k = k
-held v (c ∷ cs) l h k = by_test (is_known c.level) refl h (λ e rest. held (set_level v c.line c.level) cs l rest (kept_set v l c e k))
-  where
-    by_test : (b : Bool) → is_known c.level ≡ b → (not b || has_unknown cs) ≡ false → (is_known c.level ≡ true → has_unknown cs ≡ false → is_lost (changed (set_level v c.line c.level) cs) l ≡ false) → is_lost (changed (set_level v c.line c.level) cs) l ≡ false
-    by_test true e rest later = later e rest
-    by_test false e rest later = absurd (cc)
-
--- at the next instant
-pub control-held : (t : Trace) (j : ℕ) (cs : List Change) → levels_at t j ≡ changed (levels_at t (j - 1)) cs → has_unknown cs ≡ false → loses_control_at t (j - 1) ≡ false → loses_control_at t j ≡ false
+pub lost-here : (t : Trace) (now : Levels) (j : ℕ) (cs : List Change) → t.opening.slots ≤ 21 → now ≡ levels_at t j → levels_at t j ≡ changed (levels_at t (j - 1)) cs → are_changes (levels_at t (j - 1)) 0 cs ≡ true → loses_control_at t (j - 1) ≡ false → is_some (lost_among now cs) ≡ loses_control_at t j
 unfolding loses_control_at loses_control
-control-held t j cs made h before =
-    ap (λ (v : Levels). any (is_lost v) 0 line_count) made
-    ∙ fails-any (is_lost (changed (levels_at t (j - 1)) cs)) 0 line_count (λ l a b. held (levels_at t (j - 1)) cs l h (any-fails (is_lost (levels_at t (j - 1))) 0 line_count l before a b))
+lost-here t now j cs few is made sound held =
+    let v = levels_at t (j - 1) in
+    let slots : v.slots ≤ 21 = rw (slots_at t (j - 1)) few in
+    ap (λ (w : Levels). is_some (lost_among w cs)) (is ∙ made)
+    ∙ (ap is_some (lost-least v cs slots sound held_before) ∙ (any-first (is_lost (changed v cs)) 0 line_count ∙ ap (λ (w : Levels). loses_control w) (sym made)))
+  where
+    held_before : loses_control (levels_at t (j - 1)) ≡ false
+    held_before = held
 
-pub not_true : (b : Bool) → not b ≡ true → b ≡ false
-not_true true h = absurd (cc)
-not_true false h = refl
+-- the same for a walk that goes on by an instant
+pub lost-next : (t u : Trace) (now : Levels) (i j k : ℕ) (cs : List Change) → u ≡ t → k ≡ i + 1 → i + 1 ≡ j → u.opening.slots ≤ 21 → now ≡ levels_at u k → levels_at u k ≡ changed (levels_at u (k - 1)) cs → are_changes (levels_at u (k - 1)) 0 cs ≡ true → loses_control_at t i ≡ false → is_some (lost_among now cs) ≡ loses_control_at t j
+lost-next t u now i j k cs same next at few is made sound held =
+    let back : k - 1 ≡ i = omega arith in
+    let before = ap (λ (v : Trace). loses_control_at v (k - 1)) same ∙ (ap (loses_control_at t) back ∙ held) in
+    lost-here u now k cs few is made sound before ∙ (ap (λ (v : Trace). loses_control_at v k) same ∙ ap (loses_control_at t) (next ∙ at))
+
+abbrev stretch : ℕ → ℕ → Span
+stretch start end = record { start = start; end = end }
+
+-- whether the bus is idle, by the levels there
+pub idle-here : (t u : Trace) (v : Levels) (i start : ℕ) (b : Bool) → u ≡ t → i ≡ start → v ≡ levels_at u i → b ≡ is_idle v → is_idle_at t start ≡ b
+unfolding is_idle_at
+idle-here t u v i start b same at is answer = ap (is_idle_at t) (sym at) ∙ (ap (λ (w : Trace). is_idle_at w i) (sym same) ∙ (ap is_idle (sym is) ∙ sym answer))
+
+-- what is judged, from the least idle instant on
+pub judged-from : (t u : Trace) (i start end : ℕ) → u ≡ t → i ≡ start → end ≡ span_end u i → start ≤ last_instant t → is_idle_at t start ≡ true → any (is_idle_at t) 0 start ≡ false → Some (stretch start end) ≡ judged_span t
+unfolding judged_span
+judged-from t u i start end same at ends within idle none =
+    let found = least-is (is_idle_at t) 0 (last_instant t + 1) start (omega arith) (omega arith) idle none in
+    let ending = ends ∙ (ap (λ (v : Trace). span_end v i) same ∙ ap (span_end t) at) in
+    ap (λ e. Some (stretch start e)) ending ∙ sym (ap (λ o. option_map (span_from t) o) found)
+
+pub judged-never : (t : Trace) → any (is_idle_at t) 0 (last_instant t + 1) ≡ false → None ≡ judged_span t
+unfolding judged_span
+judged-never t none = sym (ap (λ o. option_map (span_from t) o) (least-none (is_idle_at t) 0 (last_instant t + 1) none))

@@ -9,12 +9,7 @@ use Rattle.vme_trace.specs.Instants.{any, least, greatest, those}
 use Rattle.vme_trace.proofs.Ranges.{least-none-any, least-found, least-is, least-none, any-holds, any-fails, fails-any}
 use Rattle.vme_cert.proofs.Finding.{greatest-found, none-shorter}
 use Rattle.vme_cert.proofs.Searching.{any-start, greatest-none}
-
-le_holds : (i j : ℕ) → i ≤ j → nat_le i j ≡ true
-le_holds i j h = grind (arith, nat_tests)
-
-le_fails : (i j : ℕ) → j < i → nat_le i j ≡ false
-le_fails i j h = grind (arith, nat_tests)
+use Rattle.vme_cert.proofs.Truth.{below_or_from, both, first_fails, le_fails, le_holds, second_fails}
 
 last_or_before : (i n : ℕ) → i < suc n → (i ≡ n) ⊎ (i < n)
 last_or_before i n h = grind arith
@@ -308,9 +303,6 @@ pub greatest-before : (p : ℕ → Bool) (f n : ℕ) (o : Option ℕ) → o ≡ 
 greatest-before p f n None e = tt
 greatest-before p f n (Some i) e = (greatest-found p f n i (sym e)).before
 
-before_or_from : (k m : ℕ) → (k < m) ⊎ (m ≤ k)
-before_or_from k m = grind arith
-
 -- where none holds at the front of a range, it can be left out
 pub least-later : (p : ℕ → Bool) (f m n : ℕ) → f ≤ m → any p f m ≡ false → least p f n ≡ least p m n
 least-later p f m n order none = by_least (least p m n) refl
@@ -318,36 +310,26 @@ least-later p f m n order none = by_least (least p m n) refl
     by_least : (o : Option ℕ) → least p m n ≡ o → least p f n ≡ least p m n
     by_least None e =
         least-none p f n
-        (fails-any p f n (λ k a b. elim (before_or_from k m) [ inl before ↦ any-fails p f m k none a before | inr from ↦ any-fails p m n k (least-none-any p m n e) from b ])) ∙ sym e
+        (fails-any p f n (λ k a b. elim (below_or_from k m) [ inl before ↦ any-fails p f m k none a before | inr from ↦ any-fails p m n k (least-none-any p m n e) from b ])) ∙ sym e
     by_least (Some i) e =
         let found = least-found p m n i e in
         let from = found.first in
         least-is p f n i (omega arith) found.below found.holds
-        (fails-any p f i (λ k a b. elim (before_or_from k m) [ inl before ↦ any-fails p f m k none a before | inr from ↦ any-fails p m i k found.least from b ])) ∙ sym e
-
-first_fails : (a b : Bool) → a ≡ false → (a && b) ≡ false
-first_fails a b h = rw h refl
-
-both_hold : (a b : Bool) → a ≡ true → b ≡ true → (a && b) ≡ true
-both_hold a b h k = rw (h, k) refl
-
-second_fails : (a b : Bool) → b ≡ false → (a && b) ≡ false
-second_fails true b h = h
-second_fails false b h = refl
+        (fails-any p f i (λ k a b. elim (below_or_from k m) [ inl before ↦ any-fails p f m k none a before | inr from ↦ any-fails p m i k found.least from b ])) ∙ sym e
 
 -- the first of a range that meets a test as well
 module _ (p q : ℕ → Bool) (f n : ℕ) where
   pub least-both : (i : ℕ) → least p f n ≡ Some i → q i ≡ true → least (λ k. p k && q k) f n ≡ Some i
   least-both i e h =
       let found = least-found p f n i e in
-      least-is (λ k. p k && q k) f n i found.first found.below (both_hold _ _ found.holds h) (fails-any (λ k. p k && q k) f i (λ k a b. first_fails _ _ (any-fails p f i k found.least a b)))
+      least-is (λ k. p k && q k) f n i found.first found.below (both _ _ found.holds h) (fails-any (λ k. p k && q k) f i (λ k a b. first_fails _ _ (any-fails p f i k found.least a b)))
 
   pub least-skips : (i : ℕ) → least p f n ≡ Some i → q i ≡ false → least (λ k. p k && q k) f n ≡ least (λ k. p k && q k) (i + 1) n
   least-skips i e h =
       let found = least-found p f n i e in
       let first = found.first in
       least-later (λ k. p k && q k) f (i + 1) n (omega arith)
-      (fails-any (λ k. p k && q k) f (i + 1) (λ k a b. elim (before_or_from k i) [ inl before ↦ first_fails _ _ (any-fails p f i k found.least a before) | inr from ↦ second_fails (p k) (q k) (ap q (there k from b) ∙ h) ]))
+      (fails-any (λ k. p k && q k) f (i + 1) (λ k a b. elim (below_or_from k i) [ inl before ↦ first_fails _ _ (any-fails p f i k found.least a before) | inr from ↦ second_fails (p k) (q k) (ap q (there k from b) ∙ h) ]))
     where
       there : (k : ℕ) → i ≤ k → k < i + 1 → k ≡ i
       there k a b = omega arith

@@ -1,13 +1,8 @@
 -- How far given rows agree with the right ones.
-use Rattle.std.specs.Prelude.{◌≡◌, ℕ, ◌-◌, ◌≤◌, List, length, take, slice_get, Result, MatchResult}
+use Rattle.std.specs.Prelude.{◌≡◌, ℕ, ◌+◌, ◌-◌, ◌≤◌, true, false, List, length, take, slice_get}
 use Rattle.vme_listing.specs.declared.row.Row.{Row}
 use Rattle.vme_cert.specs.declared.compare.Answer.{Answer}
 use Rattle.vme_cert.specs.declared.compare.Answer.TheVariants.{Yes, No}
-use Rattle.vme_cert.specs.declared.compare.Difference.{Difference}
-
--- so many given rows are the right ones
-abbrev pub Agrees : List Row → List Row → ℕ → Type 0
-Agrees given right n = (n ≤ length given) × (take n given ≡ right)
 
 -- the rows before this one, counted from 1, are the same, and this one isn't, or only one of the two lists has it
 pub record DiffersAt (given right : List Row) (row : ℕ) : Type 0 where
@@ -19,10 +14,6 @@ pub record DiffersAt (given right : List Row) (row : ℕ) : Type 0 where
 pub record DiffersWithin (given right : List Row) (row : ℕ) : Type 0 where
   pub differs : DiffersAt given right row
   pub within : row ≤ length right
-
--- a front of the given rows are the right ones, or a row differs
-abbrev pub Compared : List Row → List Row → Result ℕ Difference → Type 0
-Compared given right result = MatchResult result (λ n. Agrees given right n) (λ e. DiffersWithin given right e.row)
 
 -- the given rows are the right ones, or this is the first that differs
 abbrev pub Settles : List Row → List Row → Answer → Type 0

@@ -1,38 +1,85 @@
--- What happens at the instants of a recording, and the lists of the instants at which it does.
-use Rattle.std.specs.Prelude.{◌≡◌, ℕ, ◌+◌, Bool, List, unwrap_or}
-use Rattle.vme_trace.specs.Instants.{greatest, those}
-use Rattle.vme_trace.specs.LineNumbers.{AS, DTACK}
-use Rattle.vme_trace.specs.Trace.{Trace, last_instant}
+-- What happens at the instants of a recording, and the index of the instants at which it does.
+use Rattle.std.specs.Prelude.{◌≡◌, ℕ, ◌+◌, ◌<◌, ◌≤◌, Bool, false, ◌&&◌, List, [], ◌∷◌, map, length, slice_get, slice_index_or, Some}
+use Rattle.vme_trace.specs.Instants.{those}
+use Rattle.vme_trace.specs.LineNumbers.{AS, DTACK, BERR, WRITE, BBSY, BR}
+use Rattle.vme_trace.specs.Trace.{Trace, levels_at, last_instant}
 use Rattle.vme_trace.specs.Judged.{Span}
-use Rattle.vme_trace.specs.Signals.{falls, rises}
-use Rattle.vme_trace.specs.Transfers.{strobes_high, strobe_rises, answer_falls, transfer_starts}
+use Rattle.vme_trace.specs.Signals.{low, falls, rises}
+use Rattle.vme_trace.specs.Transfers.{strobes_high, strobe_rises, answer_falls, transfer_starts, is_answer}
+use Rattle.vme_trace.specs.Cycle.{Needs, class_of, needs_of}
 use Rattle.vme_trace.specs.Cycles.{cycle_starts}
-use Rattle.vme_cert.specs.declared.events.Event.{Event}
-use Rattle.vme_cert.specs.declared.events.Event.TheVariants as event
-use Rattle.vme_cert.specs.declared.events.Index.{Index}
+use Rattle.vme_trace.specs.Tenures.{grant_falls}
+use Rattle.vme_trace.specs.declared.class.Class.{Class}
+use Rattle.vme_cert.specs.declared.index.Event.{Event}
+use Rattle.vme_cert.specs.declared.index.Event.TheVariants as event
+use Rattle.vme_cert.specs.declared.index.Index.{Index}
 
-abbrev pub happens : Trace → Span → Event → ℕ → Bool
-happens t span event.CycleStart = cycle_starts t span
-happens t span event.AddressRise = rises t AS
-happens t span event.TransferStart = transfer_starts t span
-happens t span event.StrobeRise = strobe_rises t
-happens t span event.StrobesHigh = strobes_high t
-happens t span event.AnswerFall = answer_falls t
-happens t span event.AcknowledgeFall = falls t DTACK
+abbrev pub number_of : Event → ℕ
+number_of event.CycleStart = 0
+number_of event.AddressRise = 1
+number_of event.TransferStart = 2
+number_of event.StrobeRise = 3
+number_of event.StrobesHigh = 4
+number_of event.WriteLow = 5
+number_of event.AnswerFall = 6
+number_of event.AcknowledgeFall = 7
+number_of event.ErrorFall = 8
+number_of event.BusyFall = 9
+number_of event.BusyRise = 10
+number_of event.GrantFall = 11
+number_of event.Request0 = 12
+number_of event.Request1 = 13
+number_of event.Request2 = 14
+number_of event.Request3 = 15
 
-abbrev pub list_of : Index → Event → List ℕ
-list_of index event.CycleStart = index.cycle_starts
-list_of index event.AddressRise = index.address_rises
-list_of index event.TransferStart = index.transfer_starts
-list_of index event.StrobeRise = index.strobe_rises
-list_of index event.StrobesHigh = index.strobes_high
-list_of index event.AnswerFall = index.answer_falls
-list_of index event.AcknowledgeFall = index.acknowledge_falls
+module _ (t : Trace) (span : Span) where
+  -- whether each event happens at an instant, in the order of their numbers
+  abbrev pub happenings : ℕ → List Bool
+  happenings i =
+      cycle_starts t span i ∷ rises t AS i ∷ transfer_starts t span i ∷ strobe_rises t i ∷ strobes_high t i ∷ low t WRITE i ∷ answer_falls t i ∷ falls t DTACK i
+      ∷ falls t BERR i ∷ falls t BBSY i ∷ rises t BBSY i ∷ grant_falls t i ∷ low t (BR 0) i ∷ low t (BR 1) i ∷ low t (BR 2) i ∷ low t (BR 3) i ∷ []
 
--- each list has the instants, up to the last, at which its event happens
-abbrev pub IsIndex : Trace → Span → Index → Type 0
-IsIndex t span index = (event : Event) → list_of index event ≡ those (happens t span event) 0 (last_instant t + 1)
+  abbrev pub happens_nth : ℕ → ℕ → Bool
+  happens_nth k i = slice_index_or (happenings i) k false
 
--- the last of a range that holds, or else its first
-abbrev pub last_since : (ℕ → Bool) → ℕ → ℕ → ℕ
-last_since p first end = unwrap_or (greatest p first end) first
+  abbrev pub happens : Event → ℕ → Bool
+  happens event = happens_nth (number_of event)
+
+  -- an answer by DTACK*
+  abbrev pub is_acknowledged : ℕ → Bool
+  is_acknowledged r = is_answer t span r && falls t DTACK r
+
+-- the class and the needs of a cycle that starts at an instant
+abbrev pub cycle_at : Trace → ℕ → Class × Needs
+cycle_at t i = (class_of (levels_at t i), needs_of (levels_at t i))
+
+-- each list has the instants, so far, at which its event happens, and the cycles and answers go with them
+pub record IsIndex (t : Trace) (index : Index) : Type 0 where
+  pub started : index.span.start ≤ last_instant t
+  pub noted : index.noted ≤ last_instant t + 1
+  pub answered : index.answered ≤ index.noted
+  pub count : length index.lists.items ≡ 16
+  pub lists : (k : ℕ) → k < 16 → slice_get index.lists.items k ≡ Some (those (happens_nth t index.span k) 0 index.noted)
+  pub cycles : index.cycles.items ≡ map (cycle_at t) (those (cycle_starts t index.span) 0 index.noted)
+  pub answers : index.answers ≡ those (is_answer t index.span) 0 index.answered
+  pub acknowledges : index.acknowledges ≡ those (is_acknowledged t index.span) 0 index.answered
+
+-- the index of no instants
+pub record IsNew (t : Trace) (span : Span) (index : Index) : Type 0 where
+  pub is : IsIndex t index
+  pub span_is : index.span ≡ span
+  pub noted : index.noted ≡ 0
+  pub answered : index.answered ≡ 0
+
+-- one with an instant more, and one with an answer more
+pub record IsNoted (t : Trace) (old new : Index) : Type 0 where
+  pub is : IsIndex t new
+  pub span_is : new.span ≡ old.span
+  pub noted : new.noted ≡ old.noted + 1
+  pub answered : new.answered ≡ old.answered
+
+pub record IsAnswerNoted (t : Trace) (old new : Index) : Type 0 where
+  pub is : IsIndex t new
+  pub span_is : new.span ≡ old.span
+  pub noted : new.noted ≡ old.noted
+  pub answered : new.answered ≡ old.answered + 1

@@ -1,7 +1,8 @@
 pub mod Agreement
+pub mod ChangedLines
 pub mod Events
-pub mod LevelsAt
+pub mod Following
+pub mod Judging
 pub mod Tests
-pub mod TransferOf
-pub mod Unknowns
-pub mod Watched
+pub mod Watching
+pub mod Words

@@ -1,16 +1,16 @@
 //! Whether the rows of a listing are those of a recording.
 
-ghost use Rattle.std.specs.Prelude.{◌≡◌, ◌+◌, ◌<◌, ◌≤◌, ◌∷◌, ◌++◌, [], List, length, true, false, IfOk, IfSome};
-ghost use Rattle.std.specs.Option.{option_to_list};
-ghost use Rattle.vme_listing.specs.Recorded.{tenure_rows, cycle_rows, transfer_rows, rows_before, listed_end, outcome_of, listing_of, listing_of_span};
-ghost use Rattle.vme_trace.specs.Trace.{last_instant};
-ghost use Rattle.vme_trace.specs.Verdict.{all_rules};
+ghost use Rattle.std.specs.Prelude.{◌≡◌, ◌<◌, ◌≤◌, ◌∷◌, ◌++◌, true, false, Some, slice_get};
+ghost use Rattle.vme_cert.specs.Words.{[], List, length, IfOk, option_to_list, tenure_rows, cycle_rows, transfer_rows, rows_before, listed_end, outcome_of, listing_of};
 ghost use Rattle.vme_listing.specs.declared.row.Row.{Row};
 ghost use Rattle.vme_listing.specs.declared.row.Row.TheVariants.{Start, Verdict};
-ghost use Rattle.vme_cert.specs.Agreement.{Agrees, Compared, Settles};
+ghost use Rattle.vme_cert.specs.Events.{IsIndex};
+ghost use Rattle.vme_cert.specs.Agreement.{Settles};
 
-use crate::events::Judged;
-use crate::recording::Recording;
+use crate::bus::Bus;
+use crate::index::Index;
+use crate::judged::Judged;
+use crate::verdict::least_break;
 use std::alloc::{AllocError, Global};
 use vme_listing::{Listing, Outcome, Row};
 use vme_trace::{Break, Capture};
@@ -27,13 +27,6 @@ pub enum Answer {
     },
 }
 
-/// A row that isn't the one of the recording.
-#[derive(Clone, Copy, Debug, PartialEq, Eq)]
-pub(crate) struct Difference {
-    /// Its number, from 1.
-    pub(crate) row: usize,
-}
-
 /// Whether two rows are one.
 fn is_same(given: &Row, row: &Row) -> bool
     ensures same { result ≡ true → given.now ≡ row.now }
@@ -42,124 +35,104 @@ fn is_same(given: &Row, row: &Row) -> bool
     *given == *row
 }
 
-/// Whether the row, if any, is the next one of some rows of which a front agrees: how many agree then.
-fn follow_row(rows: &[Row], so_far: usize, row: Option<Row>) -> Result<usize, Difference>
-    requires { so_far ≤ length rows.now }
-    ensures compared { (right : List Row) → Agrees rows.now right so_far → Compared rows.now (right ++ option_to_list row) result }
-    ensures within { IfOk result (λ n. n ≤ length rows.now) }
+/// The first instant that isn't listed, that of the break or the one past the last, and what the last row says.
+fn ending(bus: &Bus, found: Option<Break>) -> (u32, Outcome)
+    ensures end { result.0 ≡ listed_end bus.now.capture.now found }
+    ensures outcome { result.1 ≡ outcome_of found }
 {
-    let Some(row) = row else {
-        return Ok(so_far);
-    };
-    if so_far == rows.len() {
-        return Err(Difference { row: so_far + 1 });
-    }
-    if is_same(&rows[so_far], &row) {
-        Ok(so_far + 1)
-    } else {
-        Err(Difference { row: so_far + 1 })
+    match found {
+        None => (bus.last_instant() + 1, Outcome::Conforming),
+        Some(b) if b.rule.is_unreadable() => {
+            (b.instant, Outcome::Unreadable(b.rule, b.instant, b.line))
+        }
+        Some(b) => (b.instant, Outcome::Broken(b.rule, b.instant, b.line)),
     }
 }
 
-/// The answer, by how far the rows agree with the right ones.
-fn answer_of(rows: &[Row], compared: Result<usize, Difference>) -> Answer
-    requires { IfOk compared (λ n. n ≤ length rows.now) }
-    ensures { (right : List Row) → Compared rows.now right compared → Settles rows.now right result }
-{
-    match compared {
-        Ok(so_far) if so_far == rows.len() => Answer::Yes,
-        Ok(so_far) => Answer::No { row: so_far + 1 },
-        Err(difference) => Answer::No {
-            row: difference.row,
-        },
-    }
+/// Given rows, compared with the right ones as these are found.
+#[derive(Clone, Copy, Debug, PartialEq, Eq)]
+struct Follower<'a> {
+    given: &'a [Row],
+    /// How many at the front are the right ones, and whether the next one differs.
+    agree: usize,
+    differs: bool,
+    ghost within: { agree ≤ length given.now },
 }
 
-impl Judged<'_> {
-    /// The first instant that isn't listed, that of the break or the one past the last, and what the last row says.
-    fn ending(&self, found: Option<Break>) -> (u32, Outcome)
-        requires { IfSome found (λ found. found.instant ≤ last_instant self.now.recording) }
-        ensures end { result.0 ≡ listed_end self.now.recording found }
-        ensures outcome { result.1 ≡ outcome_of found }
-        ensures within { result.0 ≤ last_instant self.now.recording + 1 }
+impl Follower<'_> {
+    ghost use Rattle.vme_cert.specs.Following.{Follows};
+    ghost use Rattle.vme_cert.specs.Judging.{trace, span, instant, noted};
+
+    /// Whether the next given row is this one.
+    fn has_next(&self, row: &Row) -> bool
+        ensures same { result ≡ true → slice_get self.now.given.now self.now.agree ≡ Some row.now }
+        ensures other { result ≡ false → slice_get self.now.given.now self.now.agree ≡ Some row.now → ⊥ }
     {
-        match found {
-            None => (self.recording.last_instant() + 1, Outcome::Conforming),
-            Some(found) if found.rule.is_unreadable() => {
-                let outcome = Outcome::Unreadable(found.rule, found.instant, found.line);
-                (found.instant, outcome)
-            }
-            Some(found) => {
-                let outcome = Outcome::Broken(found.rule, found.instant, found.line);
-                (found.instant, outcome)
-            }
+        match self.given.get(self.agree) {
+            Some(given) => is_same(given, row),
+            None => false,
         }
     }
 
-    /// Whether the rows that begin at an instant are the next of some rows.
-    fn follow_instant(
-        &self,
-        end: u32,
-        instant: u32,
-        rows: &[Row],
-        so_far: usize,
-    ) -> Result<usize, Difference>
-        requires reached { so_far ≤ length rows.now }
-        requires listed { instant < end }
-        requires within { end ≤ last_instant self.now.recording + 1 }
-        ensures compared { (right : List Row) → Agrees rows.now right so_far → Compared rows.now (right ++ tenure_rows self.now.recording self.now.span end instant ++ cycle_rows self.now.recording self.now.span end instant ++ transfer_rows self.now.recording self.now.span end instant) result }
-        ensures within { IfOk result (λ n. n ≤ length rows.now) }
+    /// Follows the next right row, if there is one.
+    fn follow(&mut self, row: Option<Row>)
+        ensures given { self.new.given.now ≡ self.old.given.now }
+        ensures rows { (right : List Row) → Follows right self.old → Follows (right ++ option_to_list row) self.new }
     {
-        let tenures = follow_row(rows, so_far, self.tenure_row(end, instant))?;
-        let cycles = follow_row(rows, tenures, self.cycle_row(end, instant))?;
-        follow_row(rows, cycles, self.transfer_row(end, instant))
-    }
-
-    /// Whether the rows are those of a stretch, up to a first instant that isn't listed, and of an outcome.
-    fn follow_span(&self, end: u32, outcome: Outcome, rows: &[Row]) -> Result<usize, Difference>
-        requires { end ≤ last_instant self.now.recording + 1 }
-        ensures compared { Compared rows.now (Start self.now.span.start ∷ rows_before self.now.recording self.now.span end end ++ Verdict outcome ∷ []) result }
-        ensures within { IfOk result (λ n. n ≤ length rows.now) }
-    {
-        let mut so_far = follow_row(
-            rows,
-            0,
-            Some(Row::Start {
-                instant: self.span.start(),
-            }),
-        )?;
-        for instant in 0..end {
-            so_far = self.follow_instant(end, instant, rows, so_far)?;
+        let Some(row) = row else {
+            return;
+        };
+        if self.differs {
+            return;
         }
-        follow_row(rows, so_far, Some(Row::Verdict(outcome)))
-    }
-
-    /// Whether the rows are those of the recording.
-    fn follow(&self, rows: &[Row]) -> Result<usize, Difference>
-        ensures compared { Compared rows.now (listing_of_span all_rules self.now.recording self.now.span) result }
-        ensures within { IfOk result (λ n. n ≤ length rows.now) }
-    {
-        let (end, outcome) = self.ending(self.least_break());
-        self.follow_span(end, outcome, rows)
-    }
-}
-
-/// Whether the rows are those of a recording. The only error is want of memory.
-#[tactic(auto, unfolding(vme_listing::specs::Recorded::listing_by, vme_trace::specs::Judged::judged_spans))]
-fn follow_listing(
-    alloc: Global,
-    recording: Recording,
-    rows: &[Row],
-) -> Result<Result<usize, Difference>, AllocError>
-    ensures compared { IfOk result (λ compared. Compared rows.now (listing_of recording.entry) compared) }
-    ensures within { IfOk result (λ compared. IfOk compared (λ n. n ≤ length rows.now)) }
-{
-    match recording.judged_span() {
-        Some(span) => {
-            let judged = Judged::of(alloc, recording, span)?;
-            Ok(judged.follow(rows))
+        if self.has_next(&row) {
+            self.agree += 1;
+        } else {
+            self.differs = true;
         }
-        None => Ok(follow_row(rows, 0, Some(Row::Verdict(Outcome::NeverIdle)))),
+    }
+
+    /// What the rows so far say.
+    fn answer(&self) -> Answer
+        ensures { (right : List Row) → Follows right self.now → Settles self.now.given.now right result }
+    {
+        if self.differs || self.agree < self.given.len() {
+            return Answer::No {
+                row: self.agree + 1,
+            };
+        }
+        Answer::Yes
+    }
+
+    /// Follows the rows that begin at an instant.
+    fn follow_instant(&mut self, judged: &Judged, end: u32)
+        requires within { end ≤ noted judged.now }
+        requires listed { instant judged.now < end }
+        ensures given { self.new.given.now ≡ self.old.given.now }
+        ensures rows { (right : List Row) → Follows right self.old → Follows (right ++ tenure_rows (trace judged.now) (span judged.now) end (instant judged.now) ++ cycle_rows (trace judged.now) (span judged.now) end (instant judged.now) ++ transfer_rows (trace judged.now) (span judged.now) end (instant judged.now)) self.new }
+    {
+        self.follow(judged.tenure_row(end));
+        self.follow(judged.cycle_row(end));
+        self.follow(judged.transfer_row(end));
+    }
+
+    /// Follows the rows of the judged stretch of a recording, where this is the least break.
+    fn follow_span(&mut self, capture: &Capture, index: &Index, found: Option<Break>)
+        requires index { IsIndex capture.now index.now }
+        requires noted { listed_end capture.now found ≤ index.now.noted }
+        requires answered { listed_end capture.now found ≤ index.now.answered }
+        ensures given { self.new.given.now ≡ self.old.given.now }
+        ensures rows { Follows [] self.old → Follows (Start index.now.span.start ∷ rows_before capture.now index.now.span (listed_end capture.now found) (listed_end capture.now found) ++ Verdict (outcome_of found) ∷ []) self.new }
+    {
+        let (mut bus, span) = (Bus::opening(capture), index.span);
+        let (end, outcome) = ending(&bus, found);
+        let instant = span.start;
+        self.follow(Some(Row::Start { instant }));
+        for _instant in 0..end {
+            self.follow_instant(&Judged { bus: &bus, index }, end);
+            bus.advance();
+        }
+        self.follow(Some(Row::Verdict(outcome)));
     }
 }
 
@@ -168,7 +141,16 @@ fn follow_listing(
 pub fn confirm(alloc: Global, capture: &Capture, listing: &Listing) -> Result<Answer, AllocError>
     ensures { IfOk result (λ answer. Settles listing.now (listing_of capture.now) answer) }
 {
-    let rows = listing.rows();
-    let compared = follow_listing(alloc, Recording::of(alloc, capture)?, rows)?;
-    Ok(answer_of(rows, compared))
+    let mut follower = Follower {
+        given: listing.rows(),
+        agree: 0,
+        differs: false,
+    };
+    let Some(span) = Bus::judged_span(capture) else {
+        follower.follow(Some(Row::Verdict(Outcome::NeverIdle)));
+        return Ok(follower.answer());
+    };
+    let (index, found) = least_break(alloc, capture, span)?;
+    follower.follow_span(capture, &index, found);
+    Ok(follower.answer())
 }

@@ -1,110 +1,164 @@
-//! The instants that are judged.
-#![tactic(auto, unfolding(vme_trace::specs::Judged::is_idle_at, vme_trace::specs::Judged::loses_control_at, vme_trace::specs::Judged::span_end, vme_trace::specs::Judged::judged_span))]
+//! A recording at an instant and what happened up to there: transfers and cycles, by their starts.
+#![tactic(auto, unfolding(vme_trace::specs::Transfers::lasts, vme_trace::specs::Cycles::cycle_of))]
 
-ghost use Rattle.std.specs.Prelude.{◌≡◌, ◌+◌, ◌-◌, ◌<◌, ◌≤◌, true, false, IfSome};
-ghost use Rattle.vme_trace.specs.LineNumbers.{line_count};
-ghost use Rattle.vme_trace.specs.Instants.{least};
-ghost use Rattle.vme_trace.specs.Judged.{is_idle_at, loses_control_at, span_end, judged_span};
-ghost use Rattle.vme_trace.specs.Levels.{is_lost, loses_control};
-ghost use Rattle.vme_trace.specs.Trace.{last_instant};
-ghost use Rattle.vme_trace.specs.WellFormed.{capture_limit};
-ghost use Rattle.vme_cert.specs.Unknowns.{has_unknown};
+ghost use Rattle.std.specs.Prelude.{◌≡◌, ◌+◌, ◌<◌, ◌≤◌};
+ghost use Rattle.vme_cert.specs.Words.{true, IfSome, any, none, least, greatest, cycle_starts, cycle_of, class_at, needs_of, levels_at, answers_of, spoils_pair, turns, lasts, answers, is_answer, answers_write};
+ghost use Rattle.vme_cert.specs.Events.{happens, IsIndex};
 
-use crate::recording::Recording;
-use crate::search::least;
-use crate::span::Span;
-use vme_trace::{Change, Line, Lines};
+use crate::bus::Bus;
+use crate::index::Event::{self, AnswerFall, CycleStart, StrobesHigh, TransferStart, WriteLow};
+use crate::index::Index;
+use vme_trace::{Class, LineSet};
 
-/// How many lines there are, over all backplanes.
-pub(crate) const LINE_COUNT: u8 = 159;
-
-/// Whether the line is a control line of which nothing is known.
-fn is_lost(lines: &Lines, line: Line) -> bool
-    ensures { result ≡ is_lost lines.now line }
-{
-    lines.is_control(line) && !lines.level(line).is_known()
+/// A recording at an instant, and what happens up to there and perhaps later.
+#[derive(Clone, Copy)]
+pub(crate) struct Judged<'a> {
+    pub(crate) bus: &'a Bus<'a>,
+    pub(crate) index: &'a Index,
+    ghost within: { bus.now.instant < index.now.noted },
+    ghost reached: { bus.now.instant ≤ index.now.answered },
+    ghost indexed: { IsIndex bus.now.capture.now index.now },
 }
 
-/// The line of a number.
-pub(crate) fn nth_line(number: u8) -> Line
-    requires { number < line_count }
-    ensures { result ≡ number }
-{
-    Line::from_number(number).unwrap()
-}
+impl Judged<'_> {
+    ghost use Rattle.vme_cert.specs.Judging.{trace, span, instant, noted, IsTransfer};
 
-/// Whether some control line is unknown.
-#[tactic(auto, using(vme_trace::proofs::Ranges::searches), unfolding(vme_trace::specs::Levels::loses_control))]
-fn loses_control(lines: &Lines) -> bool
-    ensures { result ≡ loses_control lines.now }
-{
-    for number in 0..LINE_COUNT {
-        if is_lost(lines, nth_line(number)) {
-            return true;
+    /// The first instant of the range at which it happens.
+    #[inline(always)]
+    pub(crate) fn first(&self, event: Event, first: u32, end: u32) -> Option<u32>
+        requires { end ≤ noted self.now }
+        ensures least { result ≡ least (happens (trace self.now) (span self.now) event) first end }
+        ensures from { IfSome result (λ found. first ≤ found) }
+        ensures before { IfSome result (λ found. found < end) }
+    {
+        self.index.list(event).first(first, end)
+    }
+
+    /// Whether it happens at an instant of the range.
+    pub(crate) fn any(&self, event: Event, first: u32, end: u32) -> bool
+        requires { end ≤ noted self.now }
+        ensures { result ≡ any (happens (trace self.now) (span self.now) event) first end }
+    {
+        self.first(event, first, end).is_some()
+    }
+
+    /// The last instant of the span before an end at which it happens.
+    #[inline(always)]
+    pub(crate) fn last(&self, event: Event, end: u32) -> Option<u32>
+        requires { end ≤ noted self.now }
+        ensures greatest { result ≡ greatest (happens (trace self.now) (span self.now) event) ((span self.now).start + 1) end }
+        ensures from { IfSome result (λ found. (span self.now).start < found) }
+        ensures before { IfSome result (λ found. found < end) }
+    {
+        let span = self.index.span;
+        self.index.list(event).last(span.start + 1, end)
+    }
+
+    /// Whether an instant is one of the transfer that starts at another.
+    #[inline(always)]
+    fn lasts(&self, start: u32, at: u32) -> bool
+        requires { at ≤ noted self.now }
+        ensures { result ≡ lasts (trace self.now) (span self.now) start at }
+    {
+        let span = self.index.span;
+        start <= at && span.contains(at) && !self.any(StrobesHigh, start + 1, at)
+    }
+
+    /// The answer of the transfer that starts at an instant, if it is before an end.
+    #[inline(always)]
+    pub(crate) fn answer_of(&self, start: u32, end: u32) -> Option<u32>
+        requires after { (span self.now).start < start }
+        requires within { end ≤ noted self.now }
+        ensures answer { result ≡ least (answers (trace self.now) (span self.now) start) start end }
+        ensures before { IfSome result (λ answer. answer < end) }
+    {
+        let answer = self.first(AnswerFall, start, end)?;
+        if self.lasts(start, answer) {
+            Some(answer)
+        } else {
+            None
         }
     }
-    false
-}
 
-/// Whether a line becomes unknown by some changes.
-fn has_unknown(changes: &[Change]) -> bool
-    ensures { result ≡ has_unknown changes.now }
-{
-    for change in changes {
-        if !change.level.is_known() {
-            return true;
+    /// The transfer to which an instant belongs, the last one to start, if it lasts: its start, and its answer by then.
+    pub(crate) fn transfer(&self, at: u32) -> Option<(u32, Option<u32>)>
+        requires { at < noted self.now }
+        ensures { IsTransfer (trace self.now) (span self.now) at result }
+    {
+        let start = self.last(TransferStart, at + 1)?;
+        if !self.lasts(start, at) {
+            return None;
+        }
+        Some((start, self.answer_of(start, at + 1)))
+    }
+
+    /// Whether an instant is the answer of a transfer.
+    pub(crate) fn is_answer(&self, at: u32) -> bool
+        requires { at < noted self.now }
+        ensures { result ≡ is_answer (trace self.now) (span self.now) at }
+    {
+        match self.transfer(at) {
+            Some((_start, Some(answer))) => answer == at,
+            Some((_start, None)) => false,
+            None => false,
         }
     }
-    false
-}
 
-impl Recording<'_> {
-    /// The least instant at which the bus is idle.
-    fn least_idle(&self) -> Option<u32>
-        ensures idle { result ≡ least (is_idle_at self.now) 0 (last_instant self.now + 1) }
-        ensures within { IfSome result (λ start. start ≤ last_instant self.now) }
+    /// Whether an instant is the answer of a write.
+    pub(crate) fn answers_write(&self, at: u32) -> bool
+        requires { at < noted self.now }
+        ensures { result ≡ answers_write (trace self.now) (span self.now) at }
     {
-        least(0, self.last_instant() + 1, |instant| {
-            self.levels(instant).is_idle()
-        })
-    }
-
-    /// Whether some control line is unknown at an instant. Where it follows one at which none is, a line has to become unknown.
-    fn is_control_lost(&self, follows: bool, instant: u32) -> bool
-        requires { follows ≡ true → loses_control_at self.now (instant - 1) ≡ false }
-        ensures { result ≡ loses_control_at self.now instant }
-    {
-        if follows && !has_unknown(self.changes_at(instant)) {
-            return false;
+        match self.transfer(at) {
+            Some((start, Some(answer))) => answer == at && self.any(WriteLow, start, start + 1),
+            Some((_start, None)) => false,
+            None => false,
         }
-        loses_control(&self.levels(instant))
     }
 
-    /// The next instant after the start at which a control line is unknown, or past the last.
-    fn span_end(&self, start: u32) -> u32
-        requires { start ≤ last_instant self.now }
-        ensures end { result ≡ span_end self.now start }
-        ensures within { result ≤ last_instant self.now + 1 }
+    /// The cycle to which an answer at an instant belongs: the last one to start.
+    pub(crate) fn cycle_of(&self, answer: u32) -> Option<u32>
+        requires { answer < noted self.now }
+        ensures cycle { result ≡ cycle_of (trace self.now) (span self.now) answer }
+        ensures before { IfSome result (λ start. start ≤ answer) }
     {
-        let end = self.last_instant() + 1;
-        for instant in start + 1..end {
-            if self.is_control_lost(start + 1 < instant, instant) {
-                return instant;
+        self.last(CycleStart, answer + 1)
+    }
+
+    /// The class of a cycle, and what it needs.
+    pub(crate) fn cycle(&self, start: u32) -> (Class, LineSet)
+        requires starts { cycle_starts (trace self.now) (span self.now) start ≡ true }
+        requires within { start < noted self.now }
+        ensures class { result.0 ≡ class_at (trace self.now) (span self.now) start }
+        ensures needs { result.1 ≡ needs_of (levels_at (trace self.now) start) }
+    {
+        let place = self.index.list(CycleStart).count_before(start);
+        self.index.cycles.as_slice()[place]
+    }
+
+    /// Whether the instant, an answer, comes after others of a cycle, and they aren't at most a read and then a write.
+    pub(crate) fn spoils_pair(&self, start: u32) -> bool
+        ensures { result ≡ spoils_pair (trace self.now) (span self.now) (answers_of (trace self.now) (span self.now) start (instant self.now)) (instant self.now) }
+    {
+        let at = self.bus.instant;
+        match self.index.answers.first(start, at) {
+            Some(first) => {
+                self.index.answers.any(first + 1, at)
+                    || self.answers_write(first)
+                    || !self.answers_write(at)
             }
+            None => false,
         }
-        end
     }
 
-    /// The stretch from the least idle instant on.
-    pub(crate) fn judged_span(&self) -> Option<Span>
-        ensures span { result ≡ judged_span self.now }
-        ensures ends { IfSome result (λ span. span.end ≤ last_instant self.now + 1) }
-        ensures started { IfSome result (λ span. span.start ≤ last_instant self.now) }
-        ensures limited { last_instant self.now ≤ capture_limit }
+    /// Whether it comes after others of a cycle, and its direction isn't that of the first.
+    pub(crate) fn turns(&self, start: u32) -> bool
+        ensures { result ≡ turns (trace self.now) (span self.now) (answers_of (trace self.now) (span self.now) start (instant self.now)) (instant self.now) }
     {
-        let _last = self.last_instant();
-        let start = self.least_idle()?;
-        let end = self.span_end(start);
-        Some(Span { start, end })
+        let at = self.bus.instant;
+        match self.index.answers.first(start, at) {
+            Some(first) => self.answers_write(first) != self.answers_write(at),
+            None => false,
+        }
     }
 }

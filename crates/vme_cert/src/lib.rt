@@ -1,5 +1,5 @@
-//! Checks that a listing is that of a recording, by the definitions alone: what holds at an instant is searched for there,
-//! and nothing is carried from one instant to the next.
+//! Checks that a listing is that of a recording, by the definitions alone: one walk keeps the levels at an instant and notes
+//! what happens there, and all else is searched for in what was noted.
 //!
 //! # What is claimed
 //!
@@ -17,31 +17,24 @@
 //! # In which order to read
 //!
 //! 1. The definitions named above, and `specs/Agreement.antt`.
-//! 2. `recording.rt` and `signals.rt`: the levels of a line at any instant, and its edges.
-//! 3. `instants.rt` and `events.rt`: lists of the instants at which something happens, made once. Whether it happens in a
-//!    range (`any`), the first time (`first`, the definitions' `least`) and the last (`last`, their `greatest`) are looked for
-//!    from where the last search ended, and then by halves.
-//! 4. `transfers.rt`, `cycles.rt`, `tenures.rt`, `judged.rt`: one function for each definition, by those searches.
-//! 5. `rules.rt`: each rule beside its definition, in the order of docs/PROTOCOL.md.
-//! 6. `verdict.rt`: the least break. One fact spares most of the work (`proofs/StillLines.antt`): apart from U1, U2, U3 and
-//!    H1 a rule is broken only on a line that changes at the instant.
+//! 2. `bus.rt`: the levels at an instant and at the one before, and where judging starts and ends.
+//! 3. `index.rt`: lists of the instants at which something happens (`specs/Events.antt` says what). The first time in a range
+//!    (`first`, the definitions' `least`) and the last (`last`, their `greatest`) are looked for from where the last search
+//!    ended, and then by halves.
+//! 4. `judged.rt`: transfers and cycles, by those searches.
+//! 5. `rules.rt`: tenures, and each rule beside its definition, in the order of docs/PROTOCOL.md.
+//! 6. `verdict.rt`: the least break. One fact spares most of the work (`proofs/Watched.antt`): apart from U1, U2, U3 and H1
+//!    a rule is broken only on a line that changes at the instant.
 //! 7. `rows.rt` and `compare.rt`: the rows, compared as they are found.
 #![tactic(auto)]
 
+mod bus;
 pub mod compare;
-mod cycles;
-mod events;
-mod instants;
+mod index;
 mod judged;
-mod nets;
-mod recording;
 mod rows;
 mod rules;
 mod search;
-mod signals;
-mod span;
-mod tenures;
-mod transfers;
 mod verdict;
 
 pub use compare::{Answer, confirm};

@@ -1,109 +1,234 @@
-//! The rules, one by one, as they are defined.
-#![tactic(auto, unfolding(vme_trace::specs::Rules::is_broken))]
+//! Tenures, and the rules, one by one, as they are defined.
+#![tactic(auto, unfolding(vme_trace::specs::Signals::low, vme_trace::specs::Signals::high, vme_trace::specs::Signals::known, vme_trace::specs::Signals::has_edge, vme_trace::specs::Cycles::in_cycle, vme_trace::specs::Tenures::is_granting, vme_trace::specs::Tenures::taken_grant, vme_trace::specs::Tenures::tenure_level, vme_trace::specs::Tenures::tenure_slot, vme_trace::specs::Tenures::last_before))]
 
-ghost use Rattle.std.specs.Prelude.{◌≡◌, ◌<◌, IsTrue};
-ghost use Rattle.vme_trace.specs.LineNumbers.{has_line};
-ghost use Rattle.vme_trace.specs.Rules.{is_broken};
+ghost use Rattle.std.specs.Prelude.{◌≡◌, ◌+◌, ◌-◌, ◌<◌, ◌≤◌, ◌==◌, ◌&&◌, ◌||◌};
+ghost use Rattle.vme_cert.specs.Words.{not, true, IfSome, IsTrue, any, none, grant, has_line, line_count, is_slot_grant, is_slot_iack, input_of as input_net, in_transfer, is_answered, in_cycle, low, taken_grant, tenure_level, tenure_slot, last_before, levels_at, last_instant, nat_lt};
+ghost use Rattle.vme_cert.specs.Events.{happens, is_acknowledged};
+ghost use Rattle.vme_cert.specs.Watching.{lines_of, speaks_of, shows, spoils, is_held, asks};
 
-use crate::events::Judged;
-use crate::nets::{
-    grant_level, input_of, is_answer_line, is_arbiter_grant, is_grant, is_slot_grant, is_slot_iack,
-    is_strobe,
+use crate::bus::Bus;
+use crate::index::Event::{
+    self, AcknowledgeFall, AddressRise, BusyFall, CycleStart, ErrorFall, GrantFall, StrobeRise,
+    TransferStart,
 };
-use vme_trace::{Line, Rule};
+use crate::judged::Judged;
+use crate::search::{any, least};
+use vme_trace::Rule::{
+    B1, B2, B3, B4, C1, C2, G1, G2, G3, G4, G5, H1, H2, H3, H4, H5, H6, H7, H8, I1, I2, I3, I4, I5,
+    S1, S2, U1, U2, U3,
+};
+use vme_trace::{Class, Line, Lines, Rule, needed};
 
-impl Judged<'_> {
-    /// Whether a control line is lost at an instant that ends the span.
-    pub(crate) fn is_lost(&self, instant: u32, line: Line) -> bool
-        ensures { result ≡ is_broken self.now.recording self.now.span Rule.U1 instant line }
+/// The line of a number.
+pub(crate) fn nth_line(number: u32) -> Line
+    requires { number < line_count }
+    ensures { result ≡ number }
+{
+    Line::from_number(number as u8).unwrap()
+}
+
+/// The numbers of the lines of which a rule speaks, the first one included and the end not.
+#[inline(always)]
+pub(crate) fn lines_of(rule: Rule) -> (u8, u8)
+    ensures { result ≡ lines_of rule }
+{
+    match rule {
+        U1 => (0, 159),
+        H7 | B3 => (0, 1),
+        H2 | H3 => (1, 3),
+        H1 | H4 | H5 | H6 | H8 | C1 | C2 | I4 | I5 => (3, 5),
+        U2 | S1 => (5, 45),
+        U3 | S2 => (13, 14),
+        B1 | B2 | B4 => (45, 46),
+        G1 | G2 | G3 | G4 | G5 => (50, 138),
+        I1 | I2 | I3 => (138, 159),
+    }
+}
+
+/// The net at the input of the slot that drives a net.
+fn input_of(line: Line) -> Line
+    requires { IsTrue (is_slot_grant line || is_slot_iack line) }
+    ensures { result ≡ input_net line }
+{
+    if line == Line::iack(1) {
+        return Line::IACK;
+    }
+    Line::from_number(line.number() - 1).unwrap()
+}
+
+impl Bus<'_> {
+    /// The levels as the arbiter grants, or else those of the instant before: whose grant a tenure takes that starts here.
+    fn granted(&self) -> &Lines
+        ensures { result.now ≡ levels_at self.now.capture.now (taken_grant self.now.capture.now self.now.instant) }
     {
-        let lines = self.recording.levels(instant);
-        instant == self.span.end()
-            && instant <= self.recording.last_instant()
-            && lines.is_control(line)
-            && !lines.level(line).is_known()
+        let now = &self.levels;
+        let is_granting = any(
+            0,
+            4,
+            |level| now.level(Line::grant(level as u8, 0)).is_low(),
+        );
+        if is_granting { now } else { &self.before }
     }
 
-    /// Whether a rule is broken at a judged instant, on a line that the backplane has.
-    pub(crate) fn is_broken(&self, rule: Rule, at: u32, line: Line) -> bool
-        requires line { IsTrue (has_line self.now.recording.opening.slots line) }
-        requires after { self.now.span.start < at }
-        requires before { at < self.now.span.end }
-        ensures { result ≡ is_broken self.now.recording self.now.span rule at line }
+    /// The level by which a tenure that starts here has its grant, 0 to 3.
+    pub(crate) fn tenure_level(&self) -> Option<u8>
+        ensures level { result ≡ tenure_level self.now.capture.now self.now.instant }
+        ensures below { IfSome result (λ level. level < 4) }
     {
-        let bus = &self.recording;
+        let granted = self.granted();
+        let level = least(
+            0,
+            4,
+            |level| granted.level(Line::grant(level as u8, 0)).is_low(),
+        )?;
+        Some(level as u8)
+    }
+
+    /// The slot that takes its grant, counted from 1: the chain is low up to that slot's input.
+    pub(crate) fn tenure_slot(&self) -> Option<u8>
+        ensures { result ≡ tenure_slot self.now.capture.now self.now.instant }
+    {
+        let level = self.tenure_level()?;
+        let granted = self.granted();
+        let past = u32::from(granted.slots()) + 1;
+        let is_high = |place: u32| !granted.level(Line::grant(level, place as u8)).is_low();
+        let slot = least(0, past, is_high).unwrap_or(past);
+        Some(slot as u8)
+    }
+}
+
+impl Judged<'_> {
+    ghost use Rattle.vme_cert.specs.Judging.{trace, span, instant, noted};
+
+    /// Whether something hasn't happened since the last time, before the instant, that something else did, or so much later.
+    fn is_silent_since(&self, last: Event, later: u32, event: Event) -> bool
+        requires { later ≤ 1 }
+        ensures { result ≡ none (happens (trace self.now) (span self.now) event) (last_before (trace self.now) (span self.now) (happens (trace self.now) (span self.now) last) (instant self.now) + later) (instant self.now + 1) }
+    {
+        let (at, span) = (self.bus.instant, self.index.span);
+        let first = self.last(last, at).unwrap_or(span.start) + later;
+        !self.any(event, first, at + 1)
+    }
+
+    /// Whether a cycle that runs and isn't answered needs the line: one that started where AS* hasn't risen since.
+    fn is_held(&self, line: Line) -> bool
+        ensures { result ≡ is_held (trace self.now) (span self.now) (instant self.now) line }
+    {
+        let (at, span) = (self.bus.instant, self.index.span);
+        let mut from = self.last(AddressRise, at + 1).unwrap_or(span.start + 1);
+        while let Some(start) = self.first(CycleStart, from, at) {
+            if self.cycle(start).1.has(line) && !self.index.answers.any(start, at) {
+                return !self.is_answer(at);
+            }
+            from = start + 1;
+        }
+        false
+    }
+
+    /// Whether the cycle of an answer at the instant is one that a rule on cycles forbids then.
+    fn is_cycle_spoiled(&self, rule: Rule) -> bool
+        ensures { result ≡ spoils (trace self.now) (span self.now) rule (instant self.now) }
+    {
+        let at = self.bus.instant;
+        let Some(start) = self.cycle_of(at) else {
+            return false;
+        };
+        let class = self.cycle(start).0;
         match rule {
-            Rule::U1 => self.is_lost(at, line),
-            Rule::U2 => bus.cycle_starts(self.span, at)
-                && bus.is_needed(at, line)
-                && !bus.known(line, at),
-            Rule::U3 => line == Line::WRITE
-                && bus.transfer_starts(self.span, at)
-                && !bus.known(line, at),
-            Rule::H1 => is_answer_line(line)
-                && bus.transfer_starts(self.span, at)
-                && !bus.high_near(line, at),
-            Rule::H2 => is_strobe(line) && bus.rises(line, at) && self.is_unanswered(at),
-            Rule::H3 => is_strobe(line) && bus.falls(line, at) && self.is_after_answer(at),
-            Rule::H4 => is_answer_line(line) && bus.falls(line, at) && !self.is_in_transfer(at),
-            Rule::H5 => is_answer_line(line) && bus.falls(line, at) && self.is_answered_twice(at),
-            Rule::H6 => is_answer_line(line)
-                && bus.rises(line, at)
-                && self.is_withdrawn_early(at, line),
-            Rule::H7 => line == Line::AS && bus.rises(line, at) && self.is_unanswered(at),
-            Rule::H8 => is_answer_line(line)
-                && bus.falls(line, at)
-                && !bus.low_near(Line::AS, at)
-                && self.is_answer(at),
-            Rule::S1 => bus.has_edge(line, at) && self.is_line_held(at, line),
-            Rule::S2 => line == Line::WRITE && bus.has_edge(line, at) && self.is_direction_held(at),
-            Rule::C1 => is_answer_line(line)
-                && bus.falls(line, at)
-                && self.is_pair_spoiled(at)
-                && self.is_answer(at),
-            Rule::C2 => is_answer_line(line)
-                && bus.falls(line, at)
-                && self.is_block_turned(at)
-                && self.is_answer(at),
-            Rule::G1 => is_slot_grant(line)
-                && bus.falls(line, at)
-                && !bus.low_near(input_of(line), at),
-            Rule::G2 => is_slot_grant(line)
-                && bus.rises(line, at)
-                && !bus.high_near(input_of(line), at),
-            Rule::G3 => is_arbiter_grant(line)
-                && bus.falls(line, at)
-                && bus.is_other_granted(line, at),
-            Rule::G4 => is_grant(line) && bus.falls(line, at) && !bus.high_near(Line::BBSY, at),
-            Rule::G5 => is_arbiter_grant(line)
-                && bus.falls(line, at)
-                && self.is_unrequested(grant_level(line), at),
-            Rule::B1 => line == Line::BBSY
-                && bus.falls(line, at)
-                && !(bus.is_granting(at - 1) || bus.is_granting(at)),
-            Rule::B2 => line == Line::BBSY && bus.falls(line, at) && self.is_ungranted_since(at),
-            Rule::B3 => line == Line::AS && bus.falls(line, at) && !bus.low_near(Line::BBSY, at),
-            Rule::B4 => line == Line::BBSY && bus.falls(line, at) && bus.is_past_slots(at),
-            Rule::I1 => is_slot_iack(line)
-                && bus.falls(line, at)
-                && !bus.low_near(input_of(line), at),
-            Rule::I2 => is_slot_iack(line)
-                && bus.falls(line, at)
-                && !(bus.low_near(Line::AS, at)
-                    && (bus.low_near(Line::DS0, at) || bus.low_near(Line::DS1, at))),
-            Rule::I3 => is_slot_iack(line)
-                && bus.falls(line, at)
-                && bus.low(Line::AS, at - 1)
-                && bus.low(Line::AS, at)
-                && self.is_acknowledged(at),
-            Rule::I4 => is_answer_line(line)
-                && bus.falls(line, at)
-                && self.is_interrupt(at)
-                && self.answers_write(at),
-            Rule::I5 => is_answer_line(line)
-                && bus.falls(line, at)
-                && self.is_interrupt_answered(at)
-                && self.is_answer(at),
+            C1 => matches!(class, Class::S) && self.spoils_pair(start),
+            C2 => matches!(class, Class::K) && self.turns(start),
+            I4 => matches!(class, Class::I),
+            I5 => matches!(class, Class::I) && self.index.answers.any(start, at),
+            _ => false,
+        }
+    }
+
+    /// Whether a line shows what a rule asks first: that nothing is known of it, or an edge.
+    #[inline(always)]
+    pub(crate) fn is_shown(&self, rule: Rule, line: Line) -> bool
+        requires { IsTrue (has_line (trace self.now).opening.slots line) }
+        ensures { result ≡ shows (trace self.now) rule line (instant self.now) }
+    {
+        let bus = self.bus;
+        match rule {
+            U1 | U2 | U3 => !bus.levels.level(line).is_known(),
+            H1 => !bus.high_near(line),
+            H2 | H6 | H7 | G2 => bus.rises(line),
+            S1 | S2 => !bus.before.level(line).is_same(bus.levels.level(line)),
+            _ => bus.falls(line),
+        }
+    }
+
+    /// Whether the rest of what a rule asks is so at the instant, on a line of which it speaks.
+    #[inline(never)]
+    pub(crate) fn asks(&self, rule: Rule, line: Line) -> bool
+        requires line { IsTrue (has_line (trace self.now).opening.slots line) }
+        requires speaks { IsTrue (speaks_of rule line) }
+        requires within { instant self.now ≤ last_instant (trace self.now) }
+        ensures { result ≡ asks (trace self.now) (span self.now) rule (instant self.now) line }
+    {
+        let (bus, span, at) = (self.bus, self.index.span, self.bus.instant);
+        let net = line.number().saturating_sub(50);
+        let (level, place) = (net / 22, net % 22);
+        match rule {
+            U1 => at == span.end && bus.levels.is_control(line),
+            U2 => bus.cycle_starts(span) && needed(&bus.levels).has(line),
+            U3 | H1 => bus.transfer_starts(span),
+            H2 | H7 => match self.transfer(at) {
+                Some((start, answer)) => start < at && answer.is_none(),
+                None => false,
+            },
+            H3 => match self.transfer(at) {
+                Some((_start, answer)) => answer.unwrap_or(at) < at,
+                None => false,
+            },
+            H4 => self.transfer(at).is_none(),
+            H5 => match self.transfer(at) {
+                Some((_start, answer)) => {
+                    answer.unwrap_or(at) < at || (bus.falls(Line::DTACK) && bus.falls(Line::BERR))
+                }
+                None => false,
+            },
+            H6 if line == Line::DTACK => self.is_silent_since(AcknowledgeFall, 0, StrobeRise),
+            H6 => self.is_silent_since(ErrorFall, 0, StrobeRise),
+            H8 => !bus.low_near(Line::AS) && self.is_answer(at),
+            S1 => self.is_held(line),
+            S2 => {
+                let risen = self.last(StrobeRise, at + 1).unwrap_or(span.start + 1);
+                self.any(TransferStart, risen, at)
+            }
+            C1 | C2 | I5 => self.is_cycle_spoiled(rule) && self.is_answer(at),
+            I4 => self.is_cycle_spoiled(rule) && self.answers_write(at),
+            G1 => place != 0 && !bus.low_near(input_of(line)),
+            G2 => place != 0 && !bus.high_near(input_of(line)),
+            G3 => {
+                let is_other = |level| {
+                    let net = Line::grant(level as u8, 0);
+                    net != line && bus.low(net)
+                };
+                place == 0 && any(0, 4, is_other)
+            }
+            G4 => !bus.high_near(Line::BBSY),
+            G5 => place == 0 && self.is_silent_since(GrantFall, 0, Event::request(level)),
+            B1 => bus.tenure_level().is_none(),
+            B2 => self.is_silent_since(BusyFall, 1, GrantFall),
+            B3 => !bus.low_near(Line::BBSY),
+            B4 => match bus.tenure_slot() {
+                Some(slot) => slot == bus.levels.slots() + 1,
+                None => false,
+            },
+            I1 => !bus.low_near(input_of(line)),
+            I2 => {
+                let strobed = bus.low_near(Line::DS0) || bus.low_near(Line::DS1);
+                !(bus.low_near(Line::AS) && strobed)
+            }
+            I3 => match self.cycle_of(at.saturating_sub(1)) {
+                Some(start) => {
+                    let low = bus.was_low(Line::AS) && bus.low(Line::AS);
+                    low && self.index.acknowledges.any(start, at)
+                }
+                None => false,
+            },
         }
     }
 }

@@ -1,229 +1,244 @@
 //! The least break of the rules.
 
-ghost use Rattle.std.specs.Prelude.{◌≡◌, ◌≤◌, IfSome};
-ghost use Rattle.vme_trace.specs.Instants.{any, least};
-ghost use Rattle.vme_trace.specs.Cycle.{needs_of};
-ghost use Rattle.vme_trace.specs.LineNumbers.{IACK, BBSY, line_count};
-ghost use Rattle.vme_trace.specs.Trace.{last_instant};
-ghost use Rattle.vme_trace.specs.Rules.{breaks};
-ghost use Rattle.vme_trace.specs.Verdict.{all_rules, break_at, least_break};
-ghost use Rattle.vme_cert.specs.Watched.{lacks, may_be_needed, changes_needed, has_needed, may_transfer, are_kept, is_kept_on, are_kept_on, is_kept};
+ghost use Rattle.std.specs.Prelude.{◌≡◌, ◌<◌, ◌≤◌, ◌||◌, drop, None};
+ghost use Rattle.vme_cert.specs.Words.{true, false, List, IfOk, IfSome, any, least, line_count, last_instant, breaks, all_rules, break_at, least_break, listed_end};
+ghost use Rattle.vme_trace.specs.Judged.{is_judged};
+ghost use Rattle.vme_trace.specs.Rules.{ends_span};
+ghost use Rattle.vme_cert.specs.ChangedLines.{first_changed};
+ghost use Rattle.vme_cert.specs.Watching.{speaks_of};
+ghost use Rattle.vme_cert.specs.Events.{IsIndex};
 
-use crate::events::Judged;
-use crate::judged::{LINE_COUNT, nth_line};
-use crate::nets::{FIRST_NEEDED, PAST_NEEDED, may_be_needed};
-use vme_trace::{Break, Change, Line, LineSet, Lines, Rule, needed};
+use crate::bus::{Bus, Span};
+use crate::index::Index;
+use crate::judged::Judged;
+use crate::rules::{lines_of, nth_line};
+use std::alloc::{AllocError, Global};
+use vme_trace::Rule::{
+    B1, B2, B3, B4, C1, C2, G1, G2, G3, G4, G5, H1, H2, H3, H4, H5, H6, H7, H8, I1, I2, I3, I4, I5,
+    S1, S2, U1, U2, U3,
+};
+use vme_trace::{Break, Capture, Change, Line, Rule};
 
-/// Every rule, in the order in which breaks at one instant are named.
+/// The rules, in the order in which breaks at one instant are named.
 const RULES: [Rule; 29] = [
-    Rule::U1,
-    Rule::U2,
-    Rule::U3,
-    Rule::H1,
-    Rule::H2,
-    Rule::H3,
-    Rule::H4,
-    Rule::H5,
-    Rule::H6,
-    Rule::H7,
-    Rule::H8,
-    Rule::S1,
-    Rule::S2,
-    Rule::C1,
-    Rule::C2,
-    Rule::G1,
-    Rule::G2,
-    Rule::G3,
-    Rule::G4,
-    Rule::G5,
-    Rule::B1,
-    Rule::B2,
-    Rule::B3,
-    Rule::B4,
-    Rule::I1,
-    Rule::I2,
-    Rule::I3,
-    Rule::I4,
-    Rule::I5,
+    U1, U2, U3, H1, H2, H3, H4, H5, H6, H7, H8, S1, S2, C1, C2, G1, G2, G3, G4, G5, B1, B2, B3, B4,
+    I1, I2, I3, I4, I5,
 ];
 
-/// Whether one of these lines is among some changes.
-fn changes_needed(changes: &[Change]) -> bool
-    ensures { result ≡ changes_needed changes.now }
+/// Whether a rule speaks of a line.
+#[inline(always)]
+fn speaks_of(rule: Rule, line: Line) -> bool
+    ensures is { result ≡ speaks_of rule line }
+    ensures exists { line < line_count }
 {
-    for change in changes {
-        if may_be_needed(change.line) {
-            return true;
-        }
-    }
-    false
-}
-
-/// Whether nothing is known of a line that there is and that a cycle which starts at these levels needs.
-#[tactic(auto, unfolding(vme_trace::specs::Cycle::is_needed))]
-fn is_lacking(lines: &Lines, needs: LineSet, line: Line) -> bool
-    requires { needs ≡ needs_of lines.now }
-    ensures { result ≡ lacks lines.now line }
-{
-    if !lines.has(line) {
-        return false;
-    }
-    !lines.level(line).is_known() && needs.has(line)
-}
-
-/// Whether nothing is known of some line that a cycle which starts at these levels needs.
-#[tactic(auto, using(vme_trace::proofs::Ranges::searches))]
-fn lacks_some(lines: &Lines) -> bool
-    ensures { result ≡ any (lacks lines.now) IACK BBSY }
-{
-    let needs = needed(lines);
-    for number in FIRST_NEEDED..PAST_NEEDED {
-        if is_lacking(lines, needs, nth_line(number)) {
-            return true;
-        }
-    }
-    false
+    let (first, end) = lines_of(rule);
+    let number = line.number();
+    first <= number && number < end
 }
 
 impl Judged<'_> {
-    /// Whether a rule is broken at an instant on a line, where it counts.
-    #[tactic(auto, unfolding(vme_trace::specs::Rules::breaks))]
-    fn breaks(&self, rule: Rule, instant: u32, line: Line) -> bool
-        ensures { result ≡ breaks self.now.recording self.now.span rule instant line }
-    {
-        self.recording.has(line)
-            && match rule {
-                Rule::U1 => self.is_lost(instant, line),
-                _ => self.span.contains(instant) && self.is_broken(rule, instant, line),
-            }
-    }
+    ghost use Rattle.vme_cert.specs.Judging.{trace, span, instant, AreMade, AreSound, breaks_edge};
+    ghost use Rattle.vme_cert.specs.Watching.{asks_for_edge, starts};
 
-    /// Whether none of some rules is broken at an instant on a line.
-    fn are_kept(&self, instant: u32, line: Line, rules: &[Rule]) -> bool
-        ensures { result ≡ are_kept self.now.recording self.now.span instant line rules.now }
+    /// Whether a rule counts at the instant: it is judged, or the rule is the one that ends judging.
+    fn counts(&self, rule: Rule) -> bool
+        ensures { result ≡ (ends_span rule || is_judged (span self.now) (instant self.now)) }
     {
-        for rule in rules {
-            if self.breaks(*rule, instant, line) {
-                return false;
-            }
-        }
-        true
-    }
-
-    /// Whether a change of a line at an instant breaks no rule, where a cycle holds what it needs or where none does.
-    fn is_kept_on(&self, instant: u32, held: bool, line: Line) -> bool
-        ensures { result ≡ is_kept_on self.now.recording self.now.span instant held line }
-    {
-        if may_be_needed(line) {
-            !held || !self.breaks(Rule::S1, instant, line)
-        } else {
-            self.are_kept(instant, line, &RULES[4..])
+        match rule {
+            U1 => true,
+            _ => self.index.span.contains(self.bus.instant),
         }
     }
 
-    /// Whether no change among some at an instant breaks a rule.
-    fn are_kept_on(&self, instant: u32, held: bool, changes: &[Change]) -> bool
-        ensures { result ≡ are_kept_on self.now.recording self.now.span instant held changes.now }
+    /// Whether a rule is broken at the instant on a line, where it counts.
+    #[inline(always)]
+    fn breaks(&self, rule: Rule, line: Line) -> bool
+        ensures { result ≡ breaks (trace self.now) (span self.now) rule (instant self.now) line }
     {
-        for change in changes {
-            if !self.is_kept_on(instant, held, change.line) {
-                return false;
-            }
-        }
-        true
-    }
-
-    /// Whether what a cycle needs is known, if one starts.
-    fn has_needed(&self, instant: u32) -> bool
-        ensures { result ≡ has_needed self.now.recording self.now.span instant }
-    {
-        !self.recording.cycle_starts(self.span, instant)
-            || !lacks_some(&self.recording.levels(instant))
-    }
-
-    /// Whether the direction is known and both answers are high, if a transfer starts.
-    fn may_transfer(&self, instant: u32) -> bool
-        ensures { result ≡ may_transfer self.now.recording self.now.span instant }
-    {
-        !self.recording.transfer_starts(self.span, instant)
-            || (self.recording.known(Line::WRITE, instant)
-                && self.recording.high_near(Line::DTACK, instant)
-                && self.recording.high_near(Line::BERR, instant))
-    }
-
-    /// Whether no rule is broken at an instant with some changes. A rule is broken on a line that changes, or as the span ends, a
-    /// cycle starts or a transfer starts.
-    fn is_kept(&self, instant: u32, changes: &[Change]) -> bool
-        ensures { result ≡ is_kept self.now.recording self.now.span instant changes.now }
-    {
-        if instant == self.span.end() || !self.has_needed(instant) || !self.may_transfer(instant) {
+        if !speaks_of(rule, line) {
             return false;
         }
-        let held = changes_needed(changes) && self.span.contains(instant) && self.is_held(instant);
-        self.are_kept_on(instant, held, changes)
+        if !self.bus.levels.has(line) {
+            return false;
+        }
+        if !self.is_shown(rule, line) {
+            return false;
+        }
+        self.counts(rule) && self.asks(rule, line)
     }
 
-    /// The least line on which a rule is broken at an instant.
-    #[tactic(auto, using(vme_trace::proofs::Ranges::searches))]
-    fn broken_line(&self, rule: Rule, instant: u32) -> Option<Line>
-        ensures { result ≡ least (breaks self.now.recording self.now.span rule instant) 0 line_count }
+    /// Whether what a rule speaks of that asks for no edge is at the instant.
+    #[inline(always)]
+    fn starts(&self, rule: Rule) -> bool
+        ensures { result ≡ starts (trace self.now) (span self.now) rule (instant self.now) }
     {
-        for number in 0..LINE_COUNT {
-            let line = nth_line(number);
-            if self.breaks(rule, instant, line) {
+        let (bus, span) = (self.bus, self.index.span);
+        match rule {
+            U1 => bus.instant == span.end,
+            U2 => bus.cycle_starts(span),
+            _ => bus.transfer_starts(span),
+        }
+    }
+
+    /// The least line on which a rule is broken that speaks of the end of judging or of the start of a cycle or a transfer.
+    #[inline(always)]
+    fn start_break(&self, rule: Rule) -> Option<Line>
+        requires { asks_for_edge rule ≡ false }
+        ensures { result ≡ least (breaks (trace self.now) (span self.now) rule (instant self.now)) 0 line_count }
+    {
+        if !self.starts(rule) {
+            return None;
+        }
+        let (first, end) = lines_of(rule);
+        for number in first..end {
+            let line = nth_line(u32::from(number));
+            if self.breaks(rule, line) {
                 return Some(line);
             }
         }
         None
     }
 
-    /// The first of some rules that is broken at an instant.
-    fn break_at(&self, rules: &[Rule], instant: u32) -> Option<Break>
-        requires { instant ≤ last_instant self.now.recording }
-        ensures break_at { result ≡ break_at self.now.recording self.now.span rules.now instant }
-        ensures there { IfSome result (λ found. found.instant ≡ instant) }
+    /// The first changed line on which a rule is broken.
+    #[inline(always)]
+    fn edge_break(&self, rule: Rule, changes: &[Change]) -> Option<Line>
+        ensures { result ≡ first_changed (breaks (trace self.now) (span self.now) rule (instant self.now)) changes.now }
     {
-        for rule in rules {
-            match self.broken_line(*rule, instant) {
-                Some(line) => {
-                    let time = self.recording.time(instant);
-                    let rule = *rule;
-                    return Some(Break {
-                        instant,
-                        time,
-                        rule,
-                        line,
-                    });
-                }
-                None => continue,
+        for change in changes {
+            if self.breaks(rule, change.line) {
+                return Some(change.line);
             }
         }
         None
     }
 
-    /// The first of the rules that is broken at an instant.
-    fn next_break(&self, instant: u32) -> Option<Break>
-        requires { instant ≤ last_instant self.now.recording }
-        ensures break_at { result ≡ break_at self.now.recording self.now.span all_rules instant }
-        ensures there { IfSome result (λ found. found.instant ≡ instant) }
+    /// The least line on which a rule is broken.
+    fn rule_break(&self, rule: Rule, changes: &[Change]) -> Option<Line>
+        requires made { AreMade self.now changes.now }
+        requires sound { AreSound self.now changes.now }
+        ensures { result ≡ least (breaks (trace self.now) (span self.now) rule (instant self.now)) 0 line_count }
     {
-        if self.is_kept(instant, self.recording.changes_at(instant)) {
-            return None;
+        match rule {
+            U1 => self.start_break(U1),
+            U2 => self.start_break(U2),
+            U3 => self.start_break(U3),
+            H1 => self.start_break(H1),
+            _ => self.edge_break(rule, changes),
         }
-        self.break_at(&RULES, instant)
     }
 
-    /// The least break of the rules.
-    pub(crate) fn least_break(&self) -> Option<Break>
-        ensures least { result ≡ least_break self.now.recording self.now.span all_rules }
-        ensures within { IfSome result (λ found. found.instant ≤ last_instant self.now.recording) }
+    /// Whether a rule that asks for an edge is broken on a line.
+    fn is_edge_broken(&self, line: Line) -> bool
+        ensures { result ≡ breaks_edge self.now line }
     {
-        for instant in 0..self.recording.last_instant() + 1 {
-            match self.next_break(instant) {
-                Some(found) => return Some(found),
-                None => continue,
+        let number = line.number();
+        if number < 1 {
+            return self.breaks(H7, line) || self.breaks(B3, line);
+        }
+        if number < 3 {
+            return self.breaks(H2, line) || self.breaks(H3, line);
+        }
+        if number < 5 {
+            return self.breaks(H4, line)
+                || self.breaks(H5, line)
+                || self.breaks(H6, line)
+                || self.breaks(H8, line)
+                || self.breaks(C1, line)
+                || self.breaks(C2, line)
+                || self.breaks(I4, line)
+                || self.breaks(I5, line);
+        }
+        if number < 45 {
+            return self.breaks(S1, line) || self.breaks(S2, line);
+        }
+        if number < 50 {
+            return self.breaks(B1, line) || self.breaks(B2, line) || self.breaks(B4, line);
+        }
+        if number < 138 {
+            return self.breaks(G1, line)
+                || self.breaks(G2, line)
+                || self.breaks(G3, line)
+                || self.breaks(G4, line)
+                || self.breaks(G5, line);
+        }
+        self.breaks(I1, line) || self.breaks(I2, line) || self.breaks(I3, line)
+    }
+
+    /// The first changed line on which one is.
+    fn changed_break(&self, changes: &[Change]) -> Option<Line>
+        ensures { result ≡ first_changed (breaks_edge self.now) changes.now }
+    {
+        for change in changes {
+            if self.is_edge_broken(change.line) {
+                return Some(change.line);
             }
         }
         None
     }
+
+    /// How many of the rules, from the first on, may be broken: those that ask for no edge, where no other one is.
+    fn suspects(&self, changes: &[Change]) -> usize
+        requires made { AreMade self.now changes.now }
+        requires sound { AreSound self.now changes.now }
+        ensures within { result ≤ 29 }
+        ensures kept { break_at (trace self.now) (span self.now) (drop result all_rules) (instant self.now) ≡ None }
+    {
+        if self.changed_break(changes).is_some() {
+            return 29;
+        }
+        4
+    }
+
+    /// The first of the rules that is broken at the instant.
+    fn break_at(&self) -> Option<Break>
+        ensures break_at { result ≡ break_at (trace self.now) (span self.now) all_rules (instant self.now) }
+        ensures there { IfSome result (λ found. found.instant ≡ instant self.now) }
+    {
+        let (changes, time) = self.bus.step();
+        let instant = self.bus.instant;
+        for place in 0..self.suspects(changes) {
+            let rule = RULES[place];
+            if let Some(line) = self.rule_break(rule, changes) {
+                return Some(Break {
+                    instant,
+                    time,
+                    rule,
+                    line,
+                });
+            }
+        }
+        None
+    }
+}
+
+/// The least break of a recording, and what happens up to there. The only error is want of memory.
+pub(crate) fn least_break(
+    alloc: Global,
+    capture: &Capture,
+    span: Span,
+) -> Result<(Index, Option<Break>), AllocError>
+    requires { span.start ≤ last_instant capture.now }
+    ensures found { IfOk result (λ done. done.1 ≡ least_break capture.now span all_rules) }
+    ensures span { IfOk result (λ done. done.0.span ≡ span) }
+    ensures index { IfOk result (λ done. IsIndex capture.now done.0) }
+    ensures noted { IfOk result (λ done. listed_end capture.now done.1 ≤ done.0.noted) }
+    ensures answered { IfOk result (λ done. listed_end capture.now done.1 ≤ done.0.answered) }
+{
+    let mut bus = Bus::opening(capture);
+    let mut index = Index::new(alloc, span)?;
+    for _instant in 0..bus.last_instant() + 1 {
+        index.note(&bus)?;
+        let judged = Judged {
+            bus: &bus,
+            index: &index,
+        };
+        let found = judged.break_at();
+        if found.is_some() {
+            return Ok((index, found));
+        }
+        let is_answer = bus.answer_falls() && judged.is_answer(bus.instant);
+        index.note_answer(&bus, is_answer)?;
+        bus.advance();
+    }
+    Ok((index, None))
 }

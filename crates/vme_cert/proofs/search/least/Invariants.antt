@@ -3,5 +3,5 @@ use Rattle.vme_trace.specs.Instants.{any}
 use Rattle.vme_cert.specs.Tests.{Tests}
 use Rattle.vme_cert.proofs.search.least.Given as goal
 
-abbrev pub invariant-loop-instant : goal.invariant-loop-instant
-invariant-loop-instant g l = (p : ℕ → Bool) → Tests (goal.F-post g l.fn.test) l.fn.first l.fn.end p → any p l.fn.first l.instant ≡ false
+abbrev pub invariant-loop-number : goal.invariant-loop-number
+invariant-loop-number g l = (p : ℕ → Bool) → Tests (goal.F-post g l.fn.test) l.fn.first l.fn.end p → any p l.fn.first l.number ≡ false

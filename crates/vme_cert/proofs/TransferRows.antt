@@ -1,0 +1,26 @@
+-- The row of a transfer.
+use Rattle.std.proofs.Common.{◌≡◌, ℕ, ◌+◌, ◌≤◌, Bool, true, false, ◌||◌, ◌&&◌, refl, sym, ◌∙◌, arith, [], ◌∷◌}
+use Rattle.std.specs.Prelude.{None, Some, nat_le, if◌then◌else◌}
+use Rattle.std.proofs.lemmas.Bool.Decides.{nat_tests}
+use Rattle.vme_trace.specs.Instants.{any, least}
+use Rattle.vme_trace.specs.Trace.{Trace}
+use Rattle.vme_trace.specs.Judged.{Span}
+use Rattle.vme_trace.specs.Cycles.{cycle_of}
+use Rattle.vme_trace.specs.Transfers.{transfer_starts, answers, is_write, strobes_high}
+use Rattle.vme_trace.proofs.Ranges.{any-step}
+use Rattle.vme_listing.specs.Recorded.{transfer_rows, transfer_row, direction_of, answer_line}
+use Rattle.vme_listing.specs.declared.row.Row.TheVariants.{PendingTransfer, Transfer}
+use Rattle.vme_cert.proofs.Searching.{any-start}
+
+module _ (t : Trace) (span : Span) (end i : ℕ) (starts : transfer_starts t span i ≡ true) where
+  pub row-unanswered : least (answers t span i) i end ≡ None → PendingTransfer i (direction_of t span end i) ∷ [] ≡ transfer_rows t span end i
+  unfolding transfer_rows
+  row-unanswered none = rw (starts, none) refl
+
+  pub row-outside : (r : ℕ) → least (answers t span i) i end ≡ Some r → cycle_of t span r ≡ None → PendingTransfer i (direction_of t span end i) ∷ [] ≡ transfer_rows t span end i
+  unfolding transfer_rows
+  row-outside r e none = rw (starts, e, none) refl
+
+  pub row-answered : (r k : ℕ) → least (answers t span i) i end ≡ Some r → cycle_of t span r ≡ Some k → Transfer i k (direction_of t span end i) (answer_line t span end r) r (least (strobes_high t) (i + 1) end) ∷ [] ≡ transfer_rows t span end i
+  unfolding transfer_rows
+  row-answered r k e f = rw (starts, e, f) refl

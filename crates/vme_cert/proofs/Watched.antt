@@ -1,0 +1,273 @@
+-- A rule is broken where it speaks of the line, the line shows what it asks first, and the rest of it is so. So apart from U1,
+-- U2, U3 and H1 it is broken only on a line that changes.
+use Rattle.std.proofs.Common.{◌≡◌, ℕ, ◌+◌, ◌-◌, ◌<◌, ◌≤◌, Bool, true, false, ◌&&◌, ◌||◌, not, refl, sym, ◌∙◌, ap, arith, inl, inr, ◌⊎◌}
+use Rattle.std.specs.Prelude.{◌==◌, nat_le, nat_lt, Some, None, if◌then◌else◌}
+use Rattle.std.proofs.lemmas.Bool.Decides.{nat_tests}
+use Rattle.vme_trace.specs.Cycle.{needs_of, is_needed, class_of, modifier_of, highest_address, is_extended, is_standard, is_short}
+use Rattle.vme_trace.specs.declared.class.Class.{Class}
+use Rattle.vme_trace.specs.declared.class.Class.TheVariants as class
+use Rattle.vme_trace.specs.Levels.{Levels}
+use Rattle.vme_trace.specs.LineNumbers.{line_count, has_line, is_strobe, is_answer_line, is_grant, is_slot_iack}
+use Rattle.vme_trace.specs.Trace.{Trace, levels_at}
+use Rattle.vme_trace.specs.Signals.{level, known}
+use Rattle.vme_trace.specs.Judged.{Span, is_judged}
+use Rattle.vme_trace.specs.Rules.{is_broken, breaks, ends_span}
+use Rattle.vme_trace.specs.declared.rule.Rule.{Rule}
+use Rattle.vme_trace.specs.declared.rule.Rule.TheVariants.{U1, U2, U3, H1, H2, H3, H4, H5, H6, H7, H8, S1, S2, C1, C2, G1, G2, G3, G4, G5, B1, B2, B3, B4, I1, I2, I3, I4, I5}
+use Rattle.vme_trace.specs.Instants.{any, least}
+use Rattle.vme_trace.proofs.Ranges.{any-fails, fails-any, least-is, least-none}
+use Rattle.vme_cert.specs.Watching.{lines_of, speaks_of, shows, asks, asks_for_edge, starts, is_held}
+use Rattle.vme_cert.proofs.Kept.{no_fall, no_rise, no_edge}
+
+off : (a : Bool) → (a && false) ≡ false
+off true = refl
+off false = refl
+
+on : (a : Bool) → (a && true) ≡ a
+on true = refl
+on false = refl
+
+fails : (a b : Bool) → b ≡ false → (a && b) ≡ false
+fails a b h = rw h (off a)
+
+turn : (a b : Bool) → (a && b) ≡ (b && a)
+turn true b = sym (on b)
+turn false b = sym (off b)
+
+grouped : (p a b : Bool) → (p && a && b) ≡ (p && (a && b))
+grouped true a b = refl
+grouped false a b = refl
+
+highest_31 : (code : ℕ) → highest_address code ≤ 31
+unfolding highest_address
+highest_31 code = by_tests (is_extended code) (is_standard code) (is_short code)
+  where
+    by_tests : (a b c : Bool) → (if a then 31 else if b then 23 else if c then 15 else 0) ≤ 31
+    by_tests true b c = omega arith
+    by_tests false true c = omega arith
+    by_tests false false true = omega arith
+    by_tests false false false = omega arith
+
+pub needs_31 : (v : Levels) → (needs_of v).highest ≤ 31
+unfolding needs_of
+needs_31 v = by_class (class_of v) refl
+  where
+    by_class : (k : Class) → class_of v ≡ k → (needs_of v).highest ≤ 31
+    by_class class.S e = rw e (highest_31 (modifier_of v))
+    by_class class.K e = rw e (highest_31 (modifier_of v))
+    by_class class.I e = rw e (omega arith)
+    by_class class.F e = rw e (omega arith)
+
+outside : (l k : ℕ) (m : Bool) → k ≤ 31 → (nat_le 5 l && nat_lt l 45) ≡ false → ((l == 5) || (m && ((nat_le 6 l && nat_le l 11) || (l == 12))) || (nat_le 14 l && nat_le l (13 + k))) ≡ false
+outside l k m most h = grind (arith, nat_tests)
+
+-- no cycle needs other lines
+not_needed : (v : Levels) (l : ℕ) → (nat_le 5 l && nat_lt l 45) ≡ false → is_needed v l ≡ false
+unfolding is_needed
+not_needed v l h = outside l (needs_of v).highest (needs_of v).modifier (needs_31 v) h
+
+-- the names of lines, by their numbers
+only : (k l : ℕ) → (l == k) ≡ (nat_le k l && nat_lt l (k + 1))
+only k l = by_test (nat_le k l && nat_lt l (k + 1)) refl
+  where
+    by_test : (b : Bool) → (nat_le k l && nat_lt l (k + 1)) ≡ b → (l == k) ≡ b
+    by_test true h = grind (arith, nat_tests)
+    by_test false h = grind (arith, nat_tests)
+
+strobe : (l : ℕ) → is_strobe l ≡ (nat_le 1 l && nat_lt l 3)
+strobe l = by_test (nat_le 1 l && nat_lt l 3) refl
+  where
+    by_test : (b : Bool) → (nat_le 1 l && nat_lt l 3) ≡ b → is_strobe l ≡ b
+    by_test true h = grind (arith, nat_tests)
+    by_test false h = grind (arith, nat_tests)
+
+answer_line : (l : ℕ) → is_answer_line l ≡ (nat_le 3 l && nat_lt l 5)
+answer_line l = by_test (nat_le 3 l && nat_lt l 5) refl
+  where
+    by_test : (b : Bool) → (nat_le 3 l && nat_lt l 5) ≡ b → is_answer_line l ≡ b
+    by_test true h = grind (arith, nat_tests)
+    by_test false h = grind (arith, nat_tests)
+
+below_last : (l : ℕ) → l < line_count → nat_lt l 159 ≡ true
+below_last l below = grind (arith, nat_tests)
+
+all_lines : (l : ℕ) → l < line_count → (nat_le 0 l && nat_lt l 159) ≡ true
+all_lines l below = grind (arith, nat_tests)
+
+-- the parts of a rule in another order
+module _ (q s k : Bool) (named : q ≡ s) where
+  alike : (x : Bool) → (q && k && x) ≡ (s && k && x)
+  alike x = rw named refl
+
+  then_two : (a b : Bool) → (q && k && a && b) ≡ (s && k && (a && b))
+  then_two a b = rw named (grouped (s && k) a b)
+
+  then_three : (a b c : Bool) → (q && k && a && b && c) ≡ (s && k && (a && b && c))
+  then_three a b c = rw (named, grouped (s && k) a b) (grouped (s && k) (a && b) c)
+
+  shown_last : (a : Bool) → (q && a && k) ≡ (s && k && a)
+  shown_last a = rw (named, grouped s a k, turn a k) (sym (grouped s k a))
+
+net : (s p k x : Bool) → (s && p && k && x) ≡ (s && k && (p && x))
+net true true k x = refl
+net true false k x = sym (off k)
+net false p k x = refl
+
+lost : (s a c d : Bool) → s ≡ true → (a && (c && d)) ≡ (s && d && (a && c))
+lost s a c d h = rw (h, sym (grouped a c d)) (turn (a && c) d)
+
+needs : (s a b d : Bool) → (s ≡ false → b ≡ false) → (a && b && d) ≡ (s && d && (a && b))
+needs true a b d h = turn (a && b) d
+needs false a b d h = rw (h refl, off a) refl
+
+held : (s k x : Bool) → (s ≡ false → x ≡ false) → (k && x) ≡ (s && k && x)
+held true k x h = refl
+held false k x h = rw (h refl) (off k)
+
+-- it counts, the line exists, it speaks of it, it is shown, and the rest
+module _ (c e s k x : Bool) where
+  absent : e ≡ false → (c && e && (s && k && x)) ≡ false
+  absent h = rw (h, off c) refl
+
+  unspoken : s ≡ false → (c && e && (s && k && x)) ≡ false
+  unspoken h = rw h (off (c && e))
+
+  unshown : k ≡ false → (c && e && (s && k && x)) ≡ false
+  unshown h = rw (h, off s) (off (c && e))
+
+  unasked : x ≡ false → (c && e && (s && k && x)) ≡ false
+  unasked h = rw (h, off (s && k)) (off (c && e))
+
+  asked : s ≡ true → e ≡ true → k ≡ true → (c && e && (s && k && x)) ≡ (c && x)
+  asked h exists shown = rw (h, exists, shown, on c) refl
+
+module _ (t : Trace) (span : Span) (j l : ℕ) (below : l < line_count) where
+  never_held : (nat_le 5 l && nat_lt l 45) ≡ false → is_held t span j l ≡ false
+  never_held h = fails-any _ (span.start + 1) j (λ i a b. fails _ _ (not_needed (levels_at t i) l h))
+
+  nets : is_slot_iack l ≡ (nat_le 138 l && nat_lt l 159)
+  nets = rw (below_last l below) (sym (on (nat_le 138 l)))
+
+  broken-is : (r : Rule) → is_broken t span r j l ≡ (speaks_of r l && shows t r l j && asks t span r j l)
+  unfolding is_broken known
+  broken-is U1 = lost _ _ _ _ (all_lines l below)
+  broken-is U2 = needs _ _ _ _ (not_needed (levels_at t j) l)
+  broken-is U3 = shown_last _ _ _ (only 13 l) _
+  broken-is H1 = shown_last _ _ _ (answer_line l) _
+  broken-is H2 = alike _ _ _ (strobe l) _
+  broken-is H3 = alike _ _ _ (strobe l) _
+  broken-is H4 = alike _ _ _ (answer_line l) _
+  broken-is H5 = alike _ _ _ (answer_line l) _
+  broken-is H6 = alike _ _ _ (answer_line l) _
+  broken-is H7 = alike _ _ _ (only 0 l) _
+  broken-is H8 = then_two _ _ _ (answer_line l) _ _
+  broken-is S1 = held _ _ _ never_held
+  broken-is S2 = alike _ _ _ (only 13 l) _
+  broken-is C1 = then_two _ _ _ (answer_line l) _ _
+  broken-is C2 = then_two _ _ _ (answer_line l) _ _
+  broken-is G1 = net (is_grant l) _ _ _
+  broken-is G2 = net (is_grant l) _ _ _
+  broken-is G3 = net (is_grant l) _ _ _
+  broken-is G4 = refl
+  broken-is G5 = net (is_grant l) _ _ _
+  broken-is B1 = alike _ _ _ (only 45 l) _
+  broken-is B2 = alike _ _ _ (only 45 l) _
+  broken-is B3 = alike _ _ _ (only 0 l) _
+  broken-is B4 = alike _ _ _ (only 45 l) _
+  broken-is I1 = alike _ _ _ nets _
+  broken-is I2 = alike _ _ _ nets _
+  broken-is I3 = then_three _ _ _ nets _ _ _
+  broken-is I4 = then_two _ _ _ (answer_line l) _ _
+  broken-is I5 = then_two _ _ _ (answer_line l) _ _
+
+  module _ (r : Rule) where
+    breaks-is : breaks t span r j l ≡ ((ends_span r || is_judged span j) && has_line t.opening.slots l && (speaks_of r l && shows t r l j && asks t span r j l))
+    unfolding breaks
+    breaks-is = ap (λ b. (ends_span r || is_judged span j) && has_line t.opening.slots l && b) (broken-is r)
+
+    pub breaks-unspoken : speaks_of r l ≡ false → breaks t span r j l ≡ false
+    breaks-unspoken h = breaks-is ∙ unspoken (ends_span r || is_judged span j) (has_line t.opening.slots l) (speaks_of r l) (shows t r l j) (asks t span r j l) h
+
+    pub breaks-unshown : shows t r l j ≡ false → breaks t span r j l ≡ false
+    breaks-unshown h = breaks-is ∙ unshown (ends_span r || is_judged span j) (has_line t.opening.slots l) (speaks_of r l) (shows t r l j) (asks t span r j l) h
+
+    -- nor on a line that the backplane hasn't
+    pub breaks-absent : has_line t.opening.slots l ≡ false → breaks t span r j l ≡ false
+    breaks-absent h = breaks-is ∙ absent (ends_span r || is_judged span j) (has_line t.opening.slots l) (speaks_of r l) (shows t r l j) (asks t span r j l) h
+
+    pub breaks-asked : speaks_of r l ≡ true → has_line t.opening.slots l ≡ true → shows t r l j ≡ true → breaks t span r j l ≡ ((ends_span r || is_judged span j) && asks t span r j l)
+    breaks-asked s has k = breaks-is ∙ asked (ends_span r || is_judged span j) (has_line t.opening.slots l) (speaks_of r l) (shows t r l j) (asks t span r j l) s has k
+
+    breaks-unasked : asks t span r j l ≡ false → breaks t span r j l ≡ false
+    breaks-unasked h = breaks-is ∙ unasked (ends_span r || is_judged span j) (has_line t.opening.slots l) (speaks_of r l) (shows t r l j) (asks t span r j l) h
+
+  -- a line that stays shows no edge
+  stays : level t l j ≡ level t l (j - 1) → (r : Rule) → asks_for_edge r ≡ true → shows t r l j ≡ false
+  stays still U1 h = absurd (cc)
+  stays still U2 h = absurd (cc)
+  stays still U3 h = absurd (cc)
+  stays still H1 h = absurd (cc)
+  stays still H2 h = no_rise t l j still
+  stays still H6 h = no_rise t l j still
+  stays still H7 h = no_rise t l j still
+  stays still G2 h = no_rise t l j still
+  stays still S1 h = no_edge t l j still
+  stays still S2 h = no_edge t l j still
+  stays still r h = no_fall t l j still
+
+  pub breaks-still : level t l j ≡ level t l (j - 1) → (r : Rule) → asks_for_edge r ≡ true → breaks t span r j l ≡ false
+  breaks-still still r h = breaks-unshown r (stays still r h)
+
+  -- nor is it where what a rule speaks of isn't, that asks for no edge
+  unstarted : (r : Rule) → asks_for_edge r ≡ false → starts t span r j ≡ false → asks t span r j l ≡ false
+  unstarted U1 e h = rw h refl
+  unstarted U2 e h = rw h refl
+  unstarted U3 e h = h
+  unstarted H1 e h = h
+  unstarted r e h = absurd (cc)
+
+  pub breaks-unstarted : (r : Rule) → asks_for_edge r ≡ false → starts t span r j ≡ false → breaks t span r j l ≡ false
+  breaks-unstarted r e h = breaks-unasked r (unstarted r e h)
+
+pub start_lines : (r : Rule) → asks_for_edge r ≡ false → (lines_of r).1 ≤ line_count
+start_lines U1 e = omega arith
+start_lines U2 e = omega arith
+start_lines U3 e = omega arith
+start_lines H1 e = omega arith
+start_lines r e = absurd (cc)
+
+before_lines : (f e l : ℕ) → l < f → (nat_le f l && nat_lt l e) ≡ false
+before_lines f e l h = grind (arith, nat_tests)
+
+past_end : (f e l : ℕ) → e ≤ l → (nat_le f l && nat_lt l e) ≡ false
+past_end f e l h = grind (arith, nat_tests)
+
+early_or_not : (l f : ℕ) → (l < f) ⊎ (f ≤ l)
+early_or_not l f = grind arith
+
+module _ (t : Trace) (span : Span) (j : ℕ) (r : Rule) (e : asks_for_edge r ≡ false) where
+  -- the lines before one are kept, if those of which the rule speaks are
+  none-before : (l : ℕ) → l ≤ line_count → ((k : ℕ) → (lines_of r).0 ≤ k → k < l → k < (lines_of r).1 → breaks t span r j k ≡ false) → any (breaks t span r j) 0 l ≡ false
+  none-before l within kept =
+      fails-any (breaks t span r j) 0 l
+      (λ k a b. elim (early_or_not k (lines_of r).0) [
+        | inl before ↦ breaks-unspoken t span j k (omega arith) r (before_lines (lines_of r).0 (lines_of r).1 k before)
+        | inr from ↦ elim (early_or_not k (lines_of r).1) [
+          | inl inside ↦ kept k from b inside
+          | inr past ↦ breaks-unspoken t span j k (omega arith) r (past_end (lines_of r).0 (lines_of r).1 k past)
+        ]
+      ])
+
+  pub least-start : (l : ℕ) → l < (lines_of r).1 → any (breaks t span r j) (lines_of r).0 l ≡ false → breaks t span r j l ≡ true → Some l ≡ least (breaks t span r j) 0 line_count
+  least-start l below none holds =
+      let end = start_lines r e in
+      sym (least-is (breaks t span r j) 0 line_count l (omega arith) (omega (arith, end)) holds
+      (none-before l (omega (arith, end)) (λ k from b c. any-fails (breaks t span r j) (lines_of r).0 l k none from b)))
+
+  pub least-never : (n : ℕ) → (lines_of r).1 ≤ n → any (breaks t span r j) (lines_of r).0 n ≡ false → None ≡ least (breaks t span r j) 0 line_count
+  least-never n all none =
+      sym (least-none (breaks t span r j) 0 line_count
+      (none-before line_count (omega arith) (λ k from b c. any-fails (breaks t span r j) (lines_of r).0 n k none from (omega arith))))
+
+  pub least-unstarted : starts t span r j ≡ false → None ≡ least (breaks t span r j) 0 line_count
+  least-unstarted h = sym (least-none (breaks t span r j) 0 line_count (fails-any (breaks t span r j) 0 line_count (λ l a b. breaks-unstarted t span j l b r e h)))

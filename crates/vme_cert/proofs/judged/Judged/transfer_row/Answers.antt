@@ -1,0 +1,37 @@
+use Rattle.std.proofs.Common.{rules, ◌≡◌, [], ◌∷◌, sym, ◌∙◌, ap}
+use Rattle.vme_trace.specs.Transfers.{is_write}
+use Rattle.vme_listing.specs.Recorded.{direction_of, answer_line}
+use Rattle.vme_listing.specs.declared.row.AnswerLine.{AnswerLine}
+use Rattle.vme_listing.specs.declared.row.Direction.{Direction}
+use Rattle.vme_listing.specs.declared.row.Row.TheVariants.{PendingTransfer, Transfer}
+use Rattle.vme_cert.specs.Judging.{trace, span, instant}
+use Rattle.vme_cert.proofs.AtAnswers.{any-one}
+use Rattle.vme_cert.proofs.TransferRows.{row-unanswered, row-outside, row-answered}
+use Rattle.vme_cert.proofs.judged.Judged.transfer_row.Goals as goal
+
+pub returns-in_default : goal.returns-in_default
+unfolding is_write
+returns-in_default c =
+    let self = c.args.self.now in
+    let starts = sym c.transfer_starts.ensures ∙ c.if-not-transfer_starts.false in
+    let direction : c.if-low.direction ≡ direction_of (trace self) (span self) c.args.end (instant self) = search rules in
+    ap (λ (d : Direction). PendingTransfer (instant self) d ∷ []) direction ∙ row-unanswered _ _ _ _ starts (sym c.answer_of.ensures.answer ∙ c.in_default.is)
+
+pub returns-in_default-cycle_of : goal.returns-in_default-cycle_of
+unfolding is_write
+returns-in_default-cycle_of c =
+    let self = c.args.self.now in
+    let starts = sym c.transfer_starts.ensures ∙ c.if-not-transfer_starts.false in
+    let direction : c.if-low.direction ≡ direction_of (trace self) (span self) c.args.end (instant self) = search rules in
+    ap (λ (d : Direction). PendingTransfer (instant self) d ∷ []) direction ∙ row-outside _ _ _ _ starts c.in-Some.answer (sym c.answer_of.ensures.answer ∙ c.in-Some.is) (sym c.cycle_of.ensures.cycle ∙ c.in_default-cycle_of.is)
+
+pub returns : goal.returns
+unfolding is_write
+returns c =
+    let self = c.args.self.now in
+    let starts = sym c.transfer_starts.ensures ∙ c.if-not-transfer_starts.false in
+    let direction : c.if-low.direction ≡ direction_of (trace self) (span self) c.args.end (instant self) = search rules in
+    let falls = c.any.ensures ∙ any-one _ c.in-Some.answer in
+    let line : c.if-any.line ≡ answer_line (trace self) (span self) c.args.end c.in-Some.answer = search rules in
+    rw (direction, line, c.first.ensures.least)
+    (row-answered _ _ _ _ starts c.in-Some.answer c.in-Some-cycle_of.cycle (sym c.answer_of.ensures.answer ∙ c.in-Some.is) (sym c.cycle_of.ensures.cycle ∙ c.in-Some-cycle_of.is))

@@ -1,0 +1,47 @@
+-- A recording at an instant, as the contracts of its searches see it.
+use Rattle.std.specs.Prelude.{◌≡◌, ℕ, ◌+◌, ◌-◌, ◌<◌, ◌≤◌, Bool, true, false, Option, None, Some, List}
+use Rattle.vme_trace.specs.Instants.{least}
+use Rattle.vme_trace.specs.Trace.{Trace, levels_at, changed}
+use Rattle.vme_trace.specs.WellFormed.{are_changes}
+use Rattle.vme_trace.specs.declared.step.Change.{Change}
+use Rattle.vme_trace.specs.Judged.{Span}
+use Rattle.vme_trace.specs.Transfers.{lasts, answers, in_transfer}
+use Rattle.vme_cert.specs.declared.judged.Judged.{Judged}
+use Rattle.vme_cert.specs.Watching.{is_edge_broken}
+
+abbrev pub trace : Judged → Trace
+trace judged = judged.bus.now.capture.now
+
+abbrev pub span : Judged → Span
+span judged = judged.index.now.span
+
+abbrev pub instant : Judged → ℕ
+instant judged = judged.bus.now.instant
+
+abbrev pub noted : Judged → ℕ
+noted judged = judged.index.now.noted
+
+-- these changes lead to the levels of the instant
+abbrev pub AreMade : Judged → List Change → Type 0
+AreMade judged cs = levels_at (trace judged) (instant judged) ≡ changed (levels_at (trace judged) (instant judged - 1)) cs
+
+-- each of them changes a line, in their order
+abbrev pub AreSound : Judged → List Change → Type 0
+AreSound judged cs = are_changes (levels_at (trace judged) (instant judged - 1)) 0 cs ≡ true
+
+-- whether a rule that asks for an edge is broken there on a line
+abbrev pub breaks_edge : Judged → ℕ → Bool
+breaks_edge judged = is_edge_broken (trace judged) (span judged) (instant judged)
+
+-- what is asked of the transfer at an instant is asked of the one that starts here, and this is its answer by then
+pub record IsTransferFrom (t : Trace) (span : Span) (at start : ℕ) (answer : Option ℕ) : Type 0 where
+  pub is : (p : ℕ → Bool) → in_transfer t span p at ≡ p start
+  pub after : span.start < start
+  pub order : start ≤ at
+  pub last : lasts t span start at ≡ true
+  pub answer_is : answer ≡ least (answers t span start) start (at + 1)
+
+-- the transfer at an instant, and its answer by then; or there is none
+abbrev pub IsTransfer : Trace → Span → ℕ → Option (ℕ × Option ℕ) → Type 0
+IsTransfer t span at None = (p : ℕ → Bool) → in_transfer t span p at ≡ false
+IsTransfer t span at (Some found) = IsTransferFrom t span at found.0 found.1

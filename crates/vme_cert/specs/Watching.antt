@@ -1,0 +1,130 @@
+-- Where a rule may be broken: the lines of which it speaks, and what such a line shows there.
+use Rattle.std.specs.Prelude.{ℕ, Bool, true, false, not, ◌+◌, ◌-◌, ◌&&◌, ◌||◌, ◌==◌, nat_le, nat_lt, if◌then◌else◌}
+use Rattle.vme_trace.specs.Instants.{any, none}
+use Rattle.vme_trace.specs.LineNumbers.{AS, DS0, DS1, DTACK, BERR, BBSY, BR, grant, grant_level, grant_place, input_of, is_control}
+use Rattle.vme_trace.specs.Tenures.{is_granting, grant_falls, tenure_slot, last_before}
+use Rattle.vme_trace.specs.Trace.{Trace, levels_at, last_instant}
+use Rattle.vme_trace.specs.Judged.{Span}
+use Rattle.vme_trace.specs.Cycle.{is_needed}
+use Rattle.vme_trace.specs.Cycles.{cycle_starts, class_at, cycle_runs, in_cycle, answers_of}
+use Rattle.vme_trace.specs.Transfers.{strobe_rises, transfer_starts, is_answered, answers, in_transfer, is_answer, answers_write}
+use Rattle.vme_trace.specs.Rules.{is_single, is_block_class, is_interrupt, is_later, is_option_equal, spoils_pair, turns, breaks}
+use Rattle.vme_trace.specs.Signals.{near, low, high, known, falls, rises, has_edge}
+use Rattle.vme_trace.specs.declared.rule.Rule.{Rule}
+use Rattle.vme_trace.specs.declared.rule.Rule.TheVariants.{U1, U2, U3, H1, H2, H3, H4, H5, H6, H7, H8, S1, S2, C1, C2, G1, G2, G3, G4, G5, B1, B2, B3, B4, I1, I2, I3, I4, I5}
+
+-- the first of the lines of which a rule speaks, and the one after the last
+abbrev pub lines_of : Rule → ℕ × ℕ
+lines_of U1 = (0, 159)
+lines_of U2 = (5, 45)
+lines_of U3 = (13, 14)
+lines_of H2 = (1, 3)
+lines_of H3 = (1, 3)
+lines_of H7 = (0, 1)
+lines_of S1 = (5, 45)
+lines_of S2 = (13, 14)
+lines_of G1 = (50, 138)
+lines_of G2 = (50, 138)
+lines_of G3 = (50, 138)
+lines_of G4 = (50, 138)
+lines_of G5 = (50, 138)
+lines_of B1 = (45, 46)
+lines_of B2 = (45, 46)
+lines_of B3 = (0, 1)
+lines_of B4 = (45, 46)
+lines_of I1 = (138, 159)
+lines_of I2 = (138, 159)
+lines_of I3 = (138, 159)
+lines_of r = (3, 5)
+
+abbrev pub speaks_of : Rule → ℕ → Bool
+speaks_of r l = nat_le (lines_of r).0 l && nat_lt l (lines_of r).1
+
+-- what the line shows where the rule is broken on it: that nothing is known of it, or an edge
+abbrev pub shows : Trace → Rule → ℕ → ℕ → Bool
+shows t U1 l j = not (known t l j)
+shows t U2 l j = not (known t l j)
+shows t U3 l j = not (known t l j)
+shows t H1 l j = not (near (high t l) j)
+shows t H2 l j = rises t l j
+shows t H6 l j = rises t l j
+shows t H7 l j = rises t l j
+shows t G2 l j = rises t l j
+shows t S1 l j = has_edge t l j
+shows t S2 l j = has_edge t l j
+shows t r l j = falls t l j
+
+module _ (t : Trace) (span : Span) where
+  -- an answer at j belongs to a cycle of the class of which the rule speaks, after others than the rule allows
+  abbrev pub spoils : Rule → ℕ → Bool
+  spoils C1 j = in_cycle t span (λ i. is_single (class_at t span i) && spoils_pair t span (answers_of t span i j) j) j
+  spoils C2 j = in_cycle t span (λ i. is_block_class (class_at t span i) && turns t span (answers_of t span i j) j) j
+  spoils I4 j = in_cycle t span (λ i. is_interrupt (class_at t span i)) j
+  spoils I5 j = in_cycle t span (λ i. is_interrupt (class_at t span i) && is_later (answers_of t span i j)) j
+  spoils r j = false
+
+  -- a cycle that started before j runs through it, isn't answered by then and needs the line
+  abbrev pub is_held : ℕ → ℕ → Bool
+  is_held j l =
+      any (λ i. cycle_starts t span i && cycle_runs t span i j && none (is_answer t span) i (j + 1) && is_needed (levels_at t i) l) (span.start + 1) j
+
+  -- what else a rule asks at an instant, on such a line
+  abbrev pub asks : Rule → ℕ → ℕ → Bool
+  asks U1 j l = (j == span.end) && nat_le j (last_instant t) && is_control (levels_at t j).slots l
+  asks U2 j l = cycle_starts t span j && is_needed (levels_at t j) l
+  asks U3 j l = transfer_starts t span j
+  asks H1 j l = transfer_starts t span j
+  asks H2 j l = in_transfer t span (λ i. nat_lt i j && not (is_answered t span i (j + 1))) j
+  asks H3 j l = in_transfer t span (λ i. nat_lt i j && is_answered t span i j) j
+  asks H4 j l = not (in_transfer t span (λ i. true) j)
+  asks H5 j l = in_transfer t span (λ i. is_answered t span i j || (answers t span i j && falls t DTACK j && falls t BERR j)) j
+  asks H6 j l = none (strobe_rises t) (last_before t span (falls t l) j) (j + 1)
+  asks H7 j l = in_transfer t span (λ i. nat_lt i j && not (is_answered t span i (j + 1))) j
+  asks H8 j l = is_answer t span j && not (near (low t AS) j)
+  asks S1 j l = is_held j l
+  asks S2 j l = any (λ i. transfer_starts t span i && none (strobe_rises t) (i + 1) (j + 1)) (span.start + 1) j
+  asks C1 j l = is_answer t span j && spoils C1 j
+  asks C2 j l = is_answer t span j && spoils C2 j
+  asks G1 j l = nat_lt 0 (grant_place l) && not (near (low t (input_of l)) j)
+  asks G2 j l = nat_lt 0 (grant_place l) && not (near (high t (input_of l)) j)
+  asks G3 j l = (grant_place l == 0) && any (λ n. not (grant n 0 == l) && low t (grant n 0) j) 0 4
+  asks G4 j l = not (near (high t BBSY) j)
+  asks G5 j l = (grant_place l == 0) && none (low t (BR (grant_level l))) (last_before t span (grant_falls t) j) (j + 1)
+  asks B1 j l = not (near (is_granting t) j)
+  asks B2 j l = none (grant_falls t) (last_before t span (falls t BBSY) j + 1) (j + 1)
+  asks B3 j l = not (near (low t BBSY) j)
+  asks B4 j l = is_option_equal (tenure_slot t j) (t.opening.slots + 1)
+  asks I1 j l = not (near (low t (input_of l)) j)
+  asks I2 j l = not (near (low t AS) j && (near (low t DS0) j || near (low t DS1) j))
+  asks I3 j l = low t AS (j - 1) && low t AS j && in_cycle t span (λ i. any (λ r. is_answer t span r && falls t DTACK r) i j) (j - 1)
+  asks I4 j l = answers_write t span j && spoils I4 j
+  asks I5 j l = is_answer t span j && spoils I5 j
+
+-- it is broken only on a line that changes
+abbrev pub asks_for_edge : Rule → Bool
+asks_for_edge U1 = false
+asks_for_edge U2 = false
+asks_for_edge U3 = false
+asks_for_edge H1 = false
+asks_for_edge r = true
+
+-- what a rule speaks of that asks for no edge is at the instant
+abbrev pub starts : Trace → Span → Rule → ℕ → Bool
+starts t span U1 j = j == span.end
+starts t span U2 j = cycle_starts t span j
+starts t span r j = transfer_starts t span j
+
+-- one of the rules that ask for an edge and may speak of a line does this
+abbrev pub is_any : (Rule → Bool) → ℕ → Bool
+is_any p l =
+    if nat_lt l 1 then p H7 || p B3
+    else if nat_lt l 3 then p H2 || p H3
+    else if nat_lt l 5 then p H4 || p H5 || p H6 || p H8 || p C1 || p C2 || p I4 || p I5
+    else if nat_lt l 45 then p S1 || p S2
+    else if nat_lt l 50 then p B1 || p B2 || p B4
+    else if nat_lt l 138 then p G1 || p G2 || p G3 || p G4 || p G5
+    else p I1 || p I2 || p I3
+
+-- one of those rules is broken on it
+abbrev pub is_edge_broken : Trace → Span → ℕ → ℕ → Bool
+is_edge_broken t span j l = is_any (λ r. breaks t span r j l) l

@@ -1,0 +1,205 @@
+//! A recording at one of its instants, as a walk goes from each to the next; and the stretch of it that is judged.
+#![tactic(auto, unfolding(vme_trace::specs::Signals::low, vme_trace::specs::Signals::high, vme_trace::specs::Signals::falls, vme_trace::specs::Signals::rises, vme_trace::specs::Judged::is_idle_at, vme_trace::specs::Judged::judged_span))]
+
+ghost use Rattle.std.specs.Prelude.{◌≡◌, ◌+◌, ◌-◌, ◌≤◌};
+ghost use Rattle.vme_cert.specs.Words.{true, IfSome, IsTrue, Bool, any, near, level, low, high, falls, rises, has_line, changed, levels_at, last_instant, time_at, are_changes, capture_limit, is_idle_at, loses_control_at, judged_span, span_end};
+
+use std::marker::Model;
+use vme_trace::{Capture, Change, Level, Line, Lines};
+
+/// A stretch of instants that is judged as one: those after its start and before its end.
+#[derive(Clone, Copy, Debug, PartialEq, Eq)]
+pub(crate) struct Span {
+    pub(crate) start: u32,
+    pub(crate) end: u32,
+}
+
+impl Model for Span {
+    ghost use Rattle.vme_trace.specs.Judged.{Span as Stretch};
+
+    ghost Value = { Stretch };
+
+    ghost view = { λ a. record { start = a.start; end = a.end } };
+
+    ghost inverse = { λ v. record { start = v.start; end = v.end } };
+}
+
+impl Span {
+    ghost use Rattle.vme_trace.specs.Judged.{is_judged};
+
+    /// Whether the instant is judged.
+    pub(crate) fn contains(self, instant: u32) -> bool
+        ensures { result ≡ is_judged self instant }
+    {
+        self.start < instant && instant < self.end
+    }
+}
+
+/// A recording at an instant: the levels there and at the instant before.
+#[derive(Drop)]
+pub(crate) struct Bus<'a> {
+    pub(crate) capture: &'a Capture,
+    pub(crate) instant: u32,
+    pub(crate) before: Lines,
+    pub(crate) levels: Lines,
+    ghost was: { before ≡ levels_at capture.now (instant - 1) },
+    ghost is: { levels ≡ levels_at capture.now instant },
+    ghost within: { instant ≤ last_instant capture.now + 1 },
+    ghost limited: { last_instant capture.now ≤ capture_limit },
+    ghost few: { capture.now.opening.slots ≤ 21 },
+}
+
+impl<'a> Bus<'a> {
+    /// The recording in a capture, at its opening.
+    #[tactic(auto, unfolding(vme_trace::specs::Trace::levels_at))]
+    pub(crate) fn opening(capture: &'a Capture) -> Bus<'a>
+        ensures trace { result.capture.now ≡ capture.now }
+        ensures instant { result.instant ≡ 0 }
+    {
+        let lines = *capture.opening();
+        let _slots = lines.slots();
+        Bus {
+            capture,
+            instant: 0,
+            before: lines,
+            levels: lines,
+        }
+    }
+
+    /// Goes on to the next instant; past the last one the levels stay.
+    pub(crate) fn advance(&mut self)
+        requires { self.old.instant ≤ last_instant self.old.capture.now }
+        ensures trace { self.new.capture ≡ self.old.capture }
+        ensures instant { self.new.instant ≡ self.old.instant + 1 }
+    {
+        let steps = self.capture.steps();
+        let number = self.instant as usize;
+        if 0 < number {
+            self.before.apply(steps[number - 1].changes.as_slice());
+        }
+        if number < steps.len() {
+            self.levels.apply(steps[number].changes.as_slice());
+        }
+        self.instant += 1;
+    }
+
+    /// The last instant.
+    pub(crate) fn last_instant(&self) -> u32
+        ensures last { result ≡ last_instant self.now.capture.now }
+        ensures limited { result ≤ capture_limit }
+    {
+        self.capture.steps().len() as u32
+    }
+
+    /// The changes at the instant, and its time; the opening has none.
+    pub(crate) fn step(&self) -> (&[Change], u64)
+        requires { self.now.instant ≤ last_instant self.now.capture.now }
+        ensures made { levels_at self.now.capture.now self.now.instant ≡ changed (levels_at self.now.capture.now (self.now.instant - 1)) result.0.now }
+        ensures sound { are_changes (levels_at self.now.capture.now (self.now.instant - 1)) 0 result.0.now ≡ true }
+        ensures time { result.1 ≡ time_at self.now.capture.now self.now.instant }
+    {
+        if self.instant == 0 {
+            return (&[], 0);
+        }
+        let step = &self.capture.steps()[self.instant as usize - 1];
+        (step.changes.as_slice(), step.time)
+    }
+
+    /// Whether the line was low at the instant before.
+    pub(crate) fn was_low(&self, line: Line) -> bool
+        requires { IsTrue (has_line self.now.capture.now.opening.slots line) }
+        ensures { result ≡ low self.now.capture.now line (self.now.instant - 1) }
+    {
+        self.before.level(line).is_low()
+    }
+
+    /// Whether it was high.
+    pub(crate) fn was_high(&self, line: Line) -> bool
+        requires { IsTrue (has_line self.now.capture.now.opening.slots line) }
+        ensures { result ≡ high self.now.capture.now line (self.now.instant - 1) }
+    {
+        self.before.level(line).is_high()
+    }
+
+    /// Whether it is low at the instant.
+    pub(crate) fn low(&self, line: Line) -> bool
+        requires { IsTrue (has_line self.now.capture.now.opening.slots line) }
+        ensures { result ≡ low self.now.capture.now line self.now.instant }
+    {
+        self.levels.level(line).is_low()
+    }
+
+    /// Whether it is high.
+    pub(crate) fn high(&self, line: Line) -> bool
+        requires { IsTrue (has_line self.now.capture.now.opening.slots line) }
+        ensures { result ≡ high self.now.capture.now line self.now.instant }
+    {
+        self.levels.level(line).is_high()
+    }
+
+    /// Whether the line falls.
+    pub(crate) fn falls(&self, line: Line) -> bool
+        requires { IsTrue (has_line self.now.capture.now.opening.slots line) }
+        ensures { result ≡ falls self.now.capture.now line self.now.instant }
+    {
+        self.was_high(line) && self.low(line)
+    }
+
+    /// Whether the line rises.
+    pub(crate) fn rises(&self, line: Line) -> bool
+        requires { IsTrue (has_line self.now.capture.now.opening.slots line) }
+        ensures { result ≡ rises self.now.capture.now line self.now.instant }
+    {
+        self.was_low(line) && self.high(line)
+    }
+
+    /// Whether the line is low at the instant or at the one before.
+    pub(crate) fn low_near(&self, line: Line) -> bool
+        requires { IsTrue (has_line self.now.capture.now.opening.slots line) }
+        ensures { result ≡ near (low self.now.capture.now line) self.now.instant }
+    {
+        self.was_low(line) || self.low(line)
+    }
+
+    /// Whether the line is high at the instant or at the one before.
+    pub(crate) fn high_near(&self, line: Line) -> bool
+        requires { IsTrue (has_line self.now.capture.now.opening.slots line) }
+        ensures { result ≡ near (high self.now.capture.now line) self.now.instant }
+    {
+        self.was_high(line) || self.high(line)
+    }
+
+    /// Goes on from an idle instant to the next at which a control line is unknown, or past the last.
+    fn span_end(&mut self) -> u32
+        requires within { self.old.instant ≤ last_instant self.old.capture.now }
+        requires idle { is_idle_at self.old.capture.now self.old.instant ≡ true }
+        ensures end { result ≡ span_end self.old.capture.now self.old.instant }
+        ensures within { result ≤ last_instant self.old.capture.now + 1 }
+    {
+        let last = self.last_instant();
+        for instant in self.instant + 1..last + 1 {
+            self.advance();
+            if self.levels.lost_among(self.step().0).is_some() {
+                return instant;
+            }
+        }
+        last + 1
+    }
+
+    /// The stretch of a recording from the least idle instant on.
+    pub(crate) fn judged_span(capture: &Capture) -> Option<Span>
+        ensures span { result ≡ judged_span capture.now }
+        ensures ends { IfSome result (λ span. span.end ≤ last_instant capture.now + 1) }
+        ensures started { IfSome result (λ span. span.start ≤ last_instant capture.now) }
+    {
+        let mut bus = Bus::opening(capture);
+        for start in 0..bus.last_instant() + 1 {
+            if bus.levels.is_idle() {
+                let end = bus.span_end();
+                return Some(Span { start, end });
+            }
+            bus.advance();
+        }
+        None
+    }
+}
