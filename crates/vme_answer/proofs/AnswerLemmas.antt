@@ -10,7 +10,8 @@ use Rattle.vcd_read.specs.declared.fault.FaultKind.{FaultKind}
 use Rattle.vcd_read.specs.declared.fault.FaultKind.TheVariants as vcd
 use Rattle.vme_bind.specs.Answers.{FailsAs}
 use Rattle.vme_bind.specs.Binding.{BoundLines, binding_of}
-use Rattle.vme_bind.specs.Capture.{capture_of, limited}
+use Rattle.vme_bind.specs.Capture.{capture_of, limited, recording, recording_of}
+use Rattle.vme_bind.specs.Wires.{wires_in}
 use Rattle.vme_bind.proofs.TextCaptureLemmas.{captured-by, fails-captured}
 use Rattle.vme_trace.specs.WellFormed.{capture_limit}
 use Rattle.vme_bind.specs.TextCapture.{or_binding}
@@ -30,7 +31,7 @@ use Rattle.vme_answer.specs.declared.refusal.Input.{Input}
 use Rattle.vme_answer.specs.declared.refusal.Input.TheVariants.{Binding, Dump}
 use Rattle.vme_answer.specs.declared.refusal.Refusal.{Refusal}
 use Rattle.vme_answer.specs.declared.refusal.Refusal.TheVariants.{TooLong, BadBinding, BadDump, TooManyBlocks, Memory}
-use Rattle.vme_answer.specs.Answers.{Gives, whole, or_bad_binding, or_bad_dump, binding_read, dump_read, capture_by, capture_read, judgement_by, judgement_of, recorded_by, verdict_in_blocks}
+use Rattle.vme_answer.specs.Answers.{Gives, whole, or_bad_binding, or_bad_dump, binding_read, dump_read, capture_by, capture_read, judgement_of, recorded_by, recording_by, recording_read, verdict_in_blocks}
 use Rattle.vme_stream.specs.Inputs.{IsInTime, IsReading, longest_input}
 use Rattle.vme_answer.specs.Refusals.{refused, binding_refusal, dump_refusal, capture_refusal}
 use Rattle.vme_stream.proofs.InputLemmas.{in_time}
@@ -188,8 +189,99 @@ pub capture_by-refused : (bound : BoundLines) (dump : Result Contents Refusal) (
 capture_by-refused bound dump r is =
     subst (Gives (λ (t : Trace). t) (Err r)) (sym (capture_by-is bound dump)) (passes_through r (recorded_by bound dump) or_kept is)
 
+-- ---- the recording, however long it is
+
+-- a recording of a text, or its first fault
+abbrev or_refused : {A : Type 0} → Result A CaptureFault → Result A Refusal
+or_refused (Ok x) = Ok x
+or_refused (Err (capture.Dump fault)) = Err (BadDump fault)
+or_refused (Err (capture.Binding fault)) = Err (BadBinding fault)
+
+of_binding : {A : Type 0} (r : Result A BindFault) → or_bad_binding r ≡ or_refused (or_binding r)
+of_binding (Ok x) = refl
+of_binding (Err fault) = refl
+
+of_dump : (bound : BoundLines) (r : Result Contents VcdFault) → recording_by bound (or_bad_dump r) ≡ or_refused (text.recording_read bound r)
+of_dump bound (Ok dump) = of_binding (recording_of bound dump)
+of_dump bound (Err fault) = refl
+
+module _ (bound : BoundLines) (bytes : List ℕ) where
+  text_recording : recording_by bound (or_bad_dump (dump_of bytes)) ≡ or_refused (text.recording_of_text bound bytes)
+  unfolding text.recording_of_text
+  text_recording = of_dump bound (dump_of bytes)
+
+  pub recording_by-text : (t : Trace) → text.recording_of_text bound bytes ≡ Ok t → recording_by bound (or_bad_dump (dump_of bytes)) ≡ Ok t
+  recording_by-text t e = text_recording ∙ ap or_refused e
+
+  -- a fault of the text or of the binding
+  pub recording_by-fails : (fault : CaptureFault) → text.FailsBy fault (text.recording_of_text bound bytes)
+      → Gives (λ (t : Trace). t) (Err (capture_refusal fault)) (recording_by bound (or_bad_dump (dump_of bytes)))
+  recording_by-fails (capture.Dump fault) h = by_kind fault.line fault.kind h
+    where
+      by_kind : (line : ℕ) (kind : FaultKind) → text.DumpFails line kind (text.recording_of_text bound bytes)
+          → Gives (λ (t : Trace). t) (Err (dump_refusal (record { line = line; kind = kind }))) (recording_by bound (or_bad_dump (dump_of bytes)))
+      by_kind line vcd.Memory h = tt
+      by_kind line kind h = text_recording ∙ ap or_refused h
+  recording_by-fails (capture.Binding fault) h = by_kind fault.line fault.kind h
+    where
+      by_kind : (line : ℕ) (kind : BindKind) → text.BindingFails line kind (text.recording_of_text bound bytes)
+          → Gives (λ (t : Trace). t) (Err (binding_refusal (record { line = line; kind = kind }))) (recording_by bound (or_bad_dump (dump_of bytes)))
+      by_kind line bind.Memory h = tt
+      by_kind line kind h = text_recording ∙ ap or_refused h
+
+pub recording_by-refused : (bound : BoundLines) (dump : Result Contents Refusal) (r : Refusal) → Gives (λ (d : Contents). d) (Err r) dump
+    → Gives (λ (t : Trace). t) (Err r) (recording_by bound dump)
+recording_by-refused bound dump r is = passes_through r dump (λ contents. or_bad_binding (recording_of bound contents)) is
+
+abbrev recorded_of : Option (List ℕ) → BoundLines → Result Trace Refusal
+recorded_of dump bound = recording_by bound (dump_read dump)
+
+pub recording_read-refused : (binding dump : Option (List ℕ)) (r : Refusal) → Gives (λ (b : BoundLines). b) (Err r) (binding_read binding)
+    → Gives (λ (t : Trace). t) (Err r) (recording_read binding dump)
+unfolding recording_read
+recording_read-refused binding dump r is = passes_through r (binding_read binding) (recorded_of dump) is
+
+pub recording_read-bound : (binding dump : Option (List ℕ)) (b : BoundLines) → binding_read binding ≡ Ok b
+    → recording_read binding dump ≡ recording_by b (dump_read dump)
+unfolding recording_read
+recording_read-bound binding dump b is = ap (λ (r : Result BoundLines Refusal). r >>= recorded_of dump) is
+
+-- a recording that isn't too long
+abbrev or_too_long : Trace → Result Trace Refusal
+or_too_long t = or_bad_binding (limited t)
+
+short_in : {W : Type 0} (r : Result W BindFault) (made : W → Trace) → or_bad_binding (r >>= λ w. limited (made w)) ≡ (or_bad_binding (r >>= λ w. Ok (made w)) >>= or_too_long)
+short_in (Ok w) made = refl
+short_in (Err fault) made = refl
+
+short_of : (bound : BoundLines) (contents : Contents) → or_bad_binding (capture_of bound contents) ≡ (or_bad_binding (recording_of bound contents) >>= or_too_long)
+unfolding capture_of recording_of
+short_of bound contents = short_in (wires_in contents.variables bound.assignments) (λ wires. recording bound.slots wires contents.instants (length contents.instants))
+
+capture_by-short : (bound : BoundLines) (dump : Result Contents Refusal) → capture_by bound dump ≡ (recording_by bound dump >>= or_too_long)
+capture_by-short bound (Ok contents) = short_of bound contents
+capture_by-short bound (Err r) = refl
+
 abbrev captured_by : Option (List ℕ) → BoundLines → Result Trace Refusal
 captured_by dump bound = capture_by bound (dump_read dump)
+
+capture_read-short : (binding dump : Option (List ℕ)) → capture_read binding dump ≡ (recording_read binding dump >>= or_too_long)
+unfolding capture_read recording_read
+capture_read-short binding dump = by_binding_read (binding_read binding)
+  where
+    by_binding_read : (r : Result BoundLines Refusal) → (r >>= captured_by dump) ≡ ((r >>= recorded_of dump) >>= or_too_long)
+    by_binding_read (Ok bound) = capture_by-short bound (dump_read dump)
+    by_binding_read (Err r) = refl
+
+-- the recording that there is, however long it is, is the one that is judged where it isn't too long
+pub capture_read-recorded : (binding dump : Option (List ℕ)) (t : Trace) → recording_read binding dump ≡ Ok t → capture_read binding dump ≡ or_bad_binding (limited t)
+capture_read-recorded binding dump t is = capture_read-short binding dump ∙ ap (λ (r : Result Trace Refusal). r >>= or_too_long) is
+
+-- and where there is none, this is why
+pub capture_read-unrecorded : (binding dump : Option (List ℕ)) (r : Refusal) → Gives (λ (t : Trace). t) (Err r) (recording_read binding dump)
+    → Gives (λ (t : Trace). t) (Err r) (capture_read binding dump)
+capture_read-unrecorded binding dump r is =
+    subst (Gives (λ (t : Trace). t) (Err r)) (sym (capture_read-short binding dump)) (passes_through r (recording_read binding dump) or_too_long is)
 
 pub capture_read-refused : (binding dump : Option (List ℕ)) (r : Refusal) → Gives (λ (b : BoundLines). b) (Err r) (binding_read binding)
     → Gives (λ (t : Trace). t) (Err r) (capture_read binding dump)
@@ -212,68 +304,3 @@ pub judgement_of-captured : (binding dump : Option (List ℕ)) (block : ℕ) (t 
     → judgement_of binding dump block ≡ verdict_in_blocks block t
 unfolding judgement_of
 judgement_of-captured binding dump block t is = ap (λ (r : Result Trace Refusal). r >>= verdict_in_blocks block) is
-
-pub judgement_of-bound : (binding dump : Option (List ℕ)) (block : ℕ) (b : BoundLines) → binding_read binding ≡ Ok b
-    → judgement_of binding dump block ≡ judgement_by b (dump_read dump) block
-unfolding judgement_of
-judgement_of-bound binding dump block b is = ap (λ (r : Result Trace Refusal). r >>= verdict_in_blocks block) (capture_read-bound binding dump b is)
-
-pub judgement_by-refused : (bound : BoundLines) (dump : Result Contents Refusal) (block : ℕ) (r : Refusal) → Gives (λ (d : Contents). d) (Err r) dump
-    → Gives (λ (v : Verdict). v) (Err r) (judgement_by bound dump block)
-judgement_by-refused bound dump block r is =
-    passes_through r (capture_by bound dump) (verdict_in_blocks block) (passes_through r dump (λ contents. or_bad_binding (capture_of bound contents)) is)
-
--- ---- the verdict on a recording as it is made
-
--- a recording of too many steps
-abbrev too_long : BindFault
-too_long = record { line = 0; kind = bind.TooManySteps }
-
-pub verdict-long : (t : Trace) (block : ℕ) → capture_limit < length t.steps → (or_bad_binding (limited t) >>= verdict_in_blocks block) ≡ Err (BadBinding too_long)
-verdict-long t block long = rw (lt-ltb capture_limit (length t.steps) long) refl
-
-verdict-short : (t : Trace) (block : ℕ) → length t.steps ≤ capture_limit → (or_bad_binding (limited t) >>= verdict_in_blocks block) ≡ verdict_in_blocks block t
-verdict-short t block short = rw (le-ltb capture_limit (length t.steps) short) refl
-
-pub verdict-many : (t : Trace) (block : ℕ) → length t.steps ≤ capture_limit → 4096 < block_count block t → (or_bad_binding (limited t) >>= verdict_in_blocks block) ≡ Err TooManyBlocks
-verdict-many t block short many = verdict-short t block short ∙ rw (lt-ltb 4096 (block_count block t) many) refl
-
-pub verdict-few : (t : Trace) (block : ℕ) → length t.steps ≤ capture_limit → block_count block t ≤ 4096
-    → (or_bad_binding (limited t) >>= verdict_in_blocks block) ≡ Ok (verdict_by rules_in_force t)
-verdict-few t block short few = verdict-short t block short ∙ rw (le-ltb 4096 (block_count block t) few) refl
-
-module _ (bound : BoundLines) (bytes : List ℕ) (block : ℕ) where
-  abbrev judgement : Result Verdict Refusal
-  judgement = judgement_by bound (or_bad_dump (dump_of bytes)) block
-
-  judged_of : (recorded : Result Trace BindFault) → recorded_by bound (or_bad_dump (dump_of bytes)) ≡ Ok recorded → judgement ≡ (or_bad_binding recorded >>= verdict_in_blocks block)
-  judged_of recorded is = ap (λ (r : Result Trace Refusal). r >>= verdict_in_blocks block) (capture_by-recorded bound (or_bad_dump (dump_of bytes)) recorded is)
-
-  judged_long : (t : Trace) → text.recording_of_text bound bytes ≡ Ok t → capture_limit < length t.steps → judgement ≡ Err (BadBinding too_long)
-  judged_long t e long =
-      let is : limited t ≡ Err too_long = rw (lt-ltb capture_limit (length t.steps) long) refl in
-      judged_of (Err too_long) (text_recorded bound bytes ∙ ap by_either (captured-by bound bytes t (Err too_long) e (sym is)))
-
-  judged_in : (t : Trace) → text.recording_of_text bound bytes ≡ Ok t → length t.steps ≤ capture_limit → judgement ≡ verdict_in_blocks block t
-  judged_in t e short =
-      let is : limited t ≡ Ok t = rw (le-ltb capture_limit (length t.steps) short) refl in
-      judged_of (Ok t) (text_recorded-ok bound bytes t (captured-by bound bytes t (Ok t) e (sym is)))
-
-  -- the verdict on a text is that on its recording
-  pub judged-recorded : (t : Trace) → text.recording_of_text bound bytes ≡ Ok t → judgement ≡ (or_bad_binding (limited t) >>= verdict_in_blocks block)
-  judged-recorded t e =
-      elim (cases_lt capture_limit (length t.steps)) [
-        | inl long ↦ judged_long t e long ∙ sym (verdict-long t block long)
-        | inr short ↦ judged_in t e short ∙ sym (verdict-short t block short)
-      ]
-
-  -- a fault of the text or of the binding
-  refused_capture : (dump : Result Contents Refusal) (r : Refusal) → IsRefused r (recorded_by bound dump) → Gives (λ (t : Trace). t) (Err r) (capture_by bound dump)
-  refused_capture dump (BadBinding fault) is = capture_by-recorded bound dump (Err fault) is
-  refused_capture dump r is = capture_by-refused bound dump r is
-
-  pub judged-refused : (fault : CaptureFault) → text.FailsBy fault (text.recording_of_text bound bytes) → Gives (λ (v : Verdict). v) (Err (capture_refusal fault)) judgement
-  judged-refused fault h =
-      let dump = or_bad_dump (dump_of bytes) in
-      passes_through (capture_refusal fault) (capture_by bound dump) (verdict_in_blocks block)
-      (refused_capture dump (capture_refusal fault) (text_refusal bound bytes fault (fails-captured bound bytes fault h)))

@@ -5,7 +5,7 @@ use Rattle.vcd_read.specs.Header.{◌>>=◌}
 use Rattle.vcd_read.specs.Meaning.{dump_of}
 use Rattle.vcd_read.specs.declared.fault.VcdFault.{VcdFault}
 use Rattle.vme_bind.specs.Binding.{BoundLines, binding_of}
-use Rattle.vme_bind.specs.Capture.{capture_of}
+use Rattle.vme_bind.specs.Capture.{capture_of, recording_of}
 use Rattle.vme_bind.specs.declared.fault.BindFault.{BindFault}
 use Rattle.vme_trace.specs.Blocks.{block_count}
 use Rattle.vme_trace.specs.Trace.{Trace}
@@ -45,6 +45,12 @@ dump_read input = do
   text ← whole Dump input
   or_bad_dump (dump_of text)
 
+-- the recording that a binding makes of what reading the dump gave, however long it is
+abbrev pub recording_by : BoundLines → Result Contents Refusal → Result Trace Refusal
+recording_by bound dump = do
+  contents ← dump
+  or_bad_binding (recording_of bound contents)
+
 -- the recording that a binding makes of what reading the dump gave
 abbrev pub capture_by : BoundLines → Result Contents Refusal → Result Trace Refusal
 capture_by bound dump = do
@@ -57,7 +63,14 @@ recorded_by bound dump = do
   contents ← dump
   Ok (capture_of bound contents)
 
--- the recording that a binding makes of a dump, or the first reason that there is none: the binding is read first
+-- the recording that a binding makes of a dump, however long it is, or the first reason that there is none: the binding is
+-- read first
+unfoldable pub recording_read : Option (List ℕ) → Option (List ℕ) → Result Trace Refusal
+recording_read binding dump = do
+  bound ← binding_read binding
+  recording_by bound (dump_read dump)
+
+-- the same, where it isn't too long
 unfoldable pub capture_read : Option (List ℕ) → Option (List ℕ) → Result Trace Refusal
 capture_read binding dump = do
   bound ← binding_read binding
@@ -66,12 +79,6 @@ capture_read binding dump = do
 -- the verdict on a recording that is cut into blocks of so many steps
 abbrev pub verdict_in_blocks : ℕ → Trace → Result Verdict Refusal
 verdict_in_blocks block t = if nat_lt 4096 (block_count block t) then Err TooManyBlocks else Ok (verdict_by rules_in_force t)
-
--- the verdict on the recording that a binding makes of what reading the dump gave
-abbrev pub judgement_by : BoundLines → Result Contents Refusal → ℕ → Result Verdict Refusal
-judgement_by bound dump block = do
-  t ← capture_by bound dump
-  verdict_in_blocks block t
 
 -- the verdict on the recording that a binding makes of a dump, or the first reason that there is none
 unfoldable pub judgement_of : Option (List ℕ) → Option (List ℕ) → ℕ → Result Verdict Refusal

@@ -9,11 +9,13 @@ use Rattle.vme_bind.specs.declared.fault.CaptureFault.{CaptureFault}
 use Rattle.vme_bind.specs.declared.fault.CaptureFault.TheVariants as capture
 use Rattle.vme_listing.specs.declared.fault.ListFault.{ListFault}
 use Rattle.vme_listing.specs.declared.fault.ListFault.TheVariants as list
+use Rattle.vme_summary.specs.declared.watch.NoVerdict.{NoVerdict}
+use Rattle.vme_summary.specs.declared.watch.NoVerdict.TheVariants as judge
 use Rattle.vme_stream.specs.declared.input.InFault.{InFault}
 use Rattle.vme_stream.specs.declared.input.InFault.TheVariants as read
 use Rattle.vme_answer.specs.declared.refusal.Input.{Input}
 use Rattle.vme_answer.specs.declared.refusal.Refusal.{Refusal}
-use Rattle.vme_answer.specs.declared.refusal.Refusal.TheVariants.{CannotRead, TooLong, BadBinding, BadDump, BadListing, Memory}
+use Rattle.vme_answer.specs.declared.refusal.Refusal.TheVariants.{CannotRead, TooLong, BadBinding, BadDump, BadListing, TooManyBlocks, Memory}
 
 -- an input can't be had
 abbrev pub refused : Input → InFault → Refusal
@@ -41,6 +43,12 @@ binding_refusal fault = binding_refusal_as fault.kind (BadBinding fault)
 abbrev pub capture_refusal : CaptureFault → Refusal
 capture_refusal (capture.Dump fault) = dump_refusal fault
 capture_refusal (capture.Binding fault) = binding_refusal fault
+
+-- a recording isn't judged
+abbrev pub judging_refusal : NoVerdict → Refusal
+judging_refusal judge.TooManySteps = BadBinding (record { line = 0; kind = bind.TooManySteps })
+judging_refusal judge.TooManyBlocks = TooManyBlocks
+judging_refusal judge.Memory = Memory
 
 abbrev pub listing_refusal : ListFault → Refusal
 listing_refusal list.Memory = Memory

@@ -1,7 +1,7 @@
 //! Why a recording isn't judged, or a listing compared with it.
 
 ghost use Rattle.std.specs.Prelude.{◌≡◌};
-ghost use Rattle.vme_answer.specs.Refusals.{refused, dump_refusal, binding_refusal, capture_refusal, listing_refusal};
+ghost use Rattle.vme_answer.specs.Refusals.{refused, dump_refusal, binding_refusal, capture_refusal, judging_refusal, listing_refusal};
 ghost use Rattle.vme_answer.specs.Texts.{refusal_status};
 
 use thiserror::Error;
@@ -9,6 +9,7 @@ use vcd_read::{FaultKind, VcdFault};
 use vme_bind::{BindFault, BindKind, CaptureFault};
 use vme_listing::ListFault;
 use vme_stream::InFault;
+use vme_summary::NoVerdict;
 
 /// What the program reads.
 #[derive(Clone, Copy, Debug, PartialEq, Eq)]
@@ -81,6 +82,20 @@ impl Refusal {
         match fault {
             CaptureFault::Dump(fault) => Refusal::of_dump(fault),
             CaptureFault::Binding(fault) => Refusal::of_binding(fault),
+        }
+    }
+
+    /// Why a recording isn't judged.
+    pub fn of_judging(why: NoVerdict) -> Refusal
+        ensures { result ≡ judging_refusal why }
+    {
+        match why {
+            NoVerdict::TooManySteps => Refusal::BadBinding(BindFault {
+                line: 0,
+                kind: BindKind::TooManySteps,
+            }),
+            NoVerdict::TooManyBlocks => Refusal::TooManyBlocks,
+            NoVerdict::Memory => Refusal::Memory,
         }
     }
 

@@ -11,6 +11,7 @@ use vme_answer::{
 use vme_bind::{BindFault, BindKind};
 use vme_listing::ListFault;
 use vme_stream::{Bytes, InFault};
+use vme_summary::NoVerdict;
 use vme_trace::{Break, Failed, Line, Rule, Sink, Verdict};
 
 /// Six lines are recorded, and the bus is busy.
@@ -242,7 +243,11 @@ fn refusals_are_told(rt: HostRuntime) -> Result<(), Fail> {
             "vmecheck: listing row 2: BadRow\n",
             3,
         ),
-        (Refusal::TooManyBlocks, "vmecheck: too many blocks\n", 3),
+        (
+            Refusal::of_judging(NoVerdict::TooManyBlocks),
+            "vmecheck: too many blocks\n",
+            3,
+        ),
         (
             Refusal::of_listing(ListFault::Memory),
             "vmecheck: out of memory\n",

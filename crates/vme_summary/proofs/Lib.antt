@@ -17,5 +17,6 @@ pub mod MarkedKinds
 pub mod MarkedRowsFound
 pub mod MarkedListing
 pub mod Listed
+pub mod Marked
 pub mod Progressing
 pub mod Watching

@@ -3,20 +3,18 @@ use Rattle.std.proofs.Common.{ℕ, ◌+◌, ◌≤◌, List, ◌++◌, length, l
 use Rattle.vme_trace.specs.Levels.{Levels}
 use Rattle.vme_trace.specs.WellFormed.{capture_limit}
 use Rattle.vme_trace.specs.declared.step.Step.{Step}
-use Rattle.vme_summary.specs.Progressed.{HasJudged, steps_before}
 use Rattle.vme_summary.specs.Watched.{KeepsUp}
-use Rattle.vme_summary.specs.declared.judging.Judging.{Judging}
 
-module _ (count : ℕ) (o : Levels) (taken waiting : List Step) (j : Judging) (k : KeepsUp count o taken waiting j) (le : count ≤ capture_limit) where
+module _ (IsPast : Levels → List Step → Type 0) (count : ℕ) (o : Levels) (taken waiting : List Step) (k : KeepsUp IsPast count o taken waiting) (le : count ≤ capture_limit) where
   within : length taken ≤ capture_limit
   within = omega (arith, le, k.counted)
 
   -- the steps that wait to be judged are few
-  pub few_wait : steps_before j + length waiting ≤ 268435456
+  pub few_wait : (o : Levels) × (x : List Step) × IsPast o x × (length x + length waiting ≤ 268435456)
   few_wait =
       let h = k.kept within in
-      omega (arith, within, h.1.counted, sym (length-append h.0 waiting) ∙ ap length h.2)
+      (o, h.0, h.1, omega (arith, within, sym (length-append h.0 waiting) ∙ ap length h.2))
 
   -- with them, all steps are judged
-  pub all-judged : (next : Judging) → ((o : Levels) (x : List Step) → HasJudged j o x → HasJudged next o (x ++ waiting)) → HasJudged next o taken
-  all-judged next past = let h = k.kept within in subst (HasJudged next o) h.2 (past o h.0 h.1)
+  pub all-judged : (IsNext : Levels → List Step → Type 0) → ((o : Levels) (x : List Step) → IsPast o x → IsNext o (x ++ waiting)) → IsNext o taken
+  all-judged IsNext past = let h = k.kept within in subst (IsNext o) h.2 (past o h.0 h.1)

@@ -21,6 +21,7 @@ use Rattle.vme_summary.specs.Summaries.{StandsForAll, SummaryFindsFor, SummarySt
 use Rattle.vme_summary.specs.Stands.{IsVerdictOf, SpanStandsFor}
 use Rattle.vme_summary.specs.declared.found.Found.{Found}
 use Rattle.vme_summary.specs.declared.span.Span.{Span}
+use Rattle.vme_summary.specs.declared.summary.Summary.{Summary}
 use Rattle.vme_summary.proofs.Chains.{GoOn, chain_of, untimed}
 use Rattle.vme_summary.proofs.Sound.{sound_together, stands_sound}
 
@@ -101,18 +102,18 @@ pub waiting_verdict : (t : Trace) (judged : Bool) → judged ≡ has_span (judge
 unfolding verdict_by
 waiting_verdict t judged started off = judged_none (judged_spans t) t (sym started ∙ off)
 
--- what monitors that begin at the opening of a span find of all its steps
-abbrev pub FindsFrom : Span → Found → Type 0
-FindsFrom s f = (x : List Step) → SummaryFindsFor s.summary s.extent.opening x → HasFound f s.extent.opening x
+-- what monitors that begin at an opening find of all steps of a summary
+abbrev pub FindsFrom : Summary → Levels → Found → Type 0
+FindsFrom s o f = (x : List Step) → SummaryFindsFor s o x → HasFound f o x
 
-pub found_all : (s : Span) (f : Found) (t : Trace) → FindsFrom s f → StandsForAll s.summary s.extent.opening t → HasFoundAll f t
-found_all s f t finds all =
+pub found_all : (s : Summary) (o : Levels) (f : Found) (t : Trace) → FindsFrom s o f → StandsForAll s o t → HasFoundAll f t
+found_all s o f t finds all =
     let same = all.opens in
-    let stands : SummaryStandsFor s.summary s.extent.opening t.steps = subst (λ (v : Levels). SummaryStandsFor s.summary v t.steps) (sym same) all.stands in
+    let stands : SummaryStandsFor s o t.steps = subst (λ (v : Levels). SummaryStandsFor s v t.steps) (sym same) all.stands in
     record { sound = all.sound; few = all.few; found_there = subst (λ (v : Levels). HasFound f v t.steps) same (finds t.steps (stands_finds_all stands)) }
 
-pub verdict_found : (s : Span) → s.extent.opening.slots ≤ 21 → (f : Found) → FindsFrom s f → (v : Verdict) → ((t : Trace) → HasFoundAll f t → verdict_by rules_in_force t ≡ v) → IsVerdictOf s v
+pub verdict_found : (s : Span) → s.extent.opening.slots ≤ 21 → (f : Found) → FindsFrom s.summary s.extent.opening f → (v : Verdict) → ((t : Trace) → HasFoundAll f t → verdict_by rules_in_force t ≡ v) → IsVerdictOf s v
 verdict_found s few f finds v found [] stands = let none : None ≡ Some s.extent.first = stands.extent.first in absurd (cc)
 verdict_found s few f finds v found (b ∷ bs) stands =
     let t : Trace = record { opening = b.opening; steps = joined_steps (b ∷ bs) } in
-    ap Some (found t (found_all s f t finds (span_of_all s few (b ∷ bs) t stands refl)))
+    ap Some (found t (found_all s.summary s.extent.opening f t finds (span_of_all s few (b ∷ bs) t stands refl)))

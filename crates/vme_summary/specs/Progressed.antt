@@ -1,5 +1,5 @@
 -- What judging blocks from the first opening on has come to.
-use Rattle.std.specs.Prelude.{◌≡◌, ℕ, ◌≤◌, List, ◌++◌, length, None}
+use Rattle.std.specs.Prelude.{◌≡◌, ℕ, ◌≤◌, List, [], ◌++◌, length, Option, None, Some}
 use Rattle.vme_trace.specs.Levels.{Levels}
 use Rattle.vme_trace.specs.Trace.{Trace, levels_after}
 use Rattle.vme_trace.specs.WellFormed.{malformed_step}
@@ -14,10 +14,11 @@ use Rattle.vme_stability.specs.StabilitySpec.{stability_begin}
 use Rattle.vme_chains.specs.GrantSpec.{grant_begin}
 use Rattle.vme_chains.specs.AcknowledgeSpec.{acknowledge_begin}
 use Rattle.vme_summary.specs.Runs.{known_run, handshake_run, stability_run, grant_run, acknowledge_run}
-use Rattle.vme_summary.specs.Summaries.{SummaryFindsFor}
+use Rattle.vme_summary.specs.Summaries.{SummaryFindsFor, SummaryStandsFor}
 use Rattle.vme_summary.specs.Stands.{IsExtent, SpanStandsFor}
 use Rattle.vme_summary.specs.declared.found.Found.{Found}
 use Rattle.vme_summary.specs.declared.judging.Judging.{Judging}
+use Rattle.vme_summary.specs.declared.marking.Marking.{Marking}
 use Rattle.vme_summary.specs.declared.progress.Progress.{Progress}
 use Rattle.vme_summary.specs.declared.span.Span.{Span}
 use Rattle.vme_summary.specs.declared.summary.Summary.{Summary}
@@ -56,9 +57,15 @@ pub record HasJudged (j : Judging) (o : Levels) (x : List Step) : Type 0 where
   pub counted : j.steps ≡ length x
   pub found : HasFound j.found o x
 
--- past how many steps it has come
-abbrev pub steps_before : Judging → ℕ
-steps_before j = j.steps
+-- some summary stands for these steps after this opening, or there is none yet of none
+abbrev pub StandsSoFar : Option Summary → Levels → List Step → Type 0
+StandsSoFar None o x = x ≡ []
+StandsSoFar (Some s) o x = SummaryStandsFor s o x
+
+-- and so with the marks: it knows the lines that they leave, and has one summary of them
+pub record HasMarked (m : Marking) (o : Levels) (x : List Step) : Type 0 where
+  pub left : m.left ≡ levels_after o x
+  pub stands : StandsSoFar m.summary o x
 
 -- judging has come past these blocks: they have this extent, and this is found of all their steps after the first opening
 pub record HasCome (p : Progress) (blocks : List Block) : Type 0 where

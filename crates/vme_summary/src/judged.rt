@@ -88,7 +88,7 @@ pub fn judge_block(alloc: Global, block: Block) -> Result<Judged, (Block, AllocE
 }
 
 /// The span of a block of these steps, whatever stood before it.
-pub(crate) fn span_of_steps(
+fn span_of_steps(
     alloc: Global,
     number: u32,
     opening: &Lines,

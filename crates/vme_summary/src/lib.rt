@@ -3,10 +3,11 @@
 //! [`judge_block`] makes of a block a [`Judged`]: the block, and a [`Span`] that stands for it, whatever came before.
 //! [`join`] makes one span of two whose blocks follow one another; [`append`] does it with spans that are given away.
 //! However the blocks of a recording were joined, [`Span::verdict`] is the verdict of the recording, and
-//! [`Span::listing`] its listing, which is well placed. [`verdict_by_blocks`] and [`listing_by_blocks`] do all of this for
-//! a capture, and copy none of its blocks.
+//! [`Span::listing`] its listing, which is well placed.
 //!
-//! For a verdict alone no marks are made and no spans are joined (`judging`).
+//! A recording that is judged in order needs no span: what judges goes on past some steps at once (`advance`), without marks
+//! for a verdict (`judging`) and with them for a listing (`marking`). [`Judge`] and [`Lister`] take the steps as they are
+//! made; [`verdict_by_blocks`] and [`listing_by_blocks`] take a capture, and copy none of its blocks.
 //!
 //! A [`Progress`] goes on past further blocks from where judging has come to, without a join and without memory.
 //!
@@ -15,21 +16,23 @@
 //! monitors there are: their tables stand beside one another in a `Summary`.
 #![tactic(auto)]
 
+pub mod advance;
 mod cut;
 mod extent;
 mod found;
-pub mod judge;
 pub mod judged;
 mod judging;
+mod marking;
 mod monitors;
 pub mod progress;
 mod rows;
 pub mod span;
 mod summary;
 mod taken;
+pub mod watch;
 
 pub use cut::{listing_by_blocks, verdict_by_blocks};
-pub use judge::{Judge, NoVerdict};
 pub use judged::{Judged, judge_block};
 pub use progress::Progress;
 pub use span::{JoinFault, Span, append, join, joined_blocks_are_sound};
+pub use watch::{Judge, Lister, NoVerdict};

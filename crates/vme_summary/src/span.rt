@@ -8,10 +8,9 @@ ghost use Rattle.vme_summary.specs.Joins.{MakeSoundRecording, first_block_number
 ghost use Rattle.vme_summary.specs.Stands.{IsListingOf, IsVerdictOf, SaysTorn, SpanStandsFor, StandsForBlocks, StandsForBoth, first_number, step_count};
 
 use crate::extent::Extent;
-use crate::rows::listing_by;
 use crate::summary::Summary;
 use std::alloc::{AllocError, Global};
-use vme_listing::{Listing, listings_are_well_placed};
+use vme_listing::Listing;
 use vme_trace::{Lines, Verdict};
 
 /// Why two spans make none together.
@@ -56,13 +55,6 @@ impl Span {
         self.summary.steps()
     }
 
-    /// The lines that the last block leaves.
-    pub(crate) fn left(&self) -> &Lines
-        ensures { result.now ≡ self.now.extent.left }
-    {
-        &self.extent.left
-    }
-
     /// The verdict, by the rules in force, of the recording that the blocks make. The first of them has to be the
     /// recording's first. Takes no memory.
     pub fn verdict(&self) -> Verdict
@@ -82,19 +74,9 @@ impl Span {
         ensures listing { IfOk result (IsListingOf self.now) }
         ensures placed { IfOk result (λ rows. StandsForBlocks self.now → is_well_placed rows ≡ true) }
     {
-        listings_are_well_placed();
         let opening = &self.extent.opening;
         prove!(opening.slots() <= 21);
-        prove!(self.steps() <= u32::MAX);
-        let marks = self.summary.marks(alloc, opening)?;
-        let found = self.summary.found_from(opening);
-        listing_by(
-            alloc,
-            opening,
-            found.has_judged(),
-            found.first_break(),
-            marks.as_slice(),
-        )
+        self.summary.listing(alloc, opening)
     }
 }
 

@@ -1,10 +1,10 @@
-use crate::tests::{CHAINS, CYCLES, DUMPS, HELD, Worked, capture_of};
+use crate::tests::{CHAINS, CYCLES, DUMPS, HELD, Worked, capture_of, followed};
 use std::alloc::Global;
 use std::process::Abort;
 use std::test::Fail;
 use vme_listing::{ListFault, Listing, read_listing, write_listing};
-use vme_summary::listing_by_blocks;
-use vme_trace::{Capture, CutFault, Failed, Sink};
+use vme_summary::{Lister, listing_by_blocks};
+use vme_trace::{Capture, CutFault, Failed, Lines, Sink};
 
 /// A sink that keeps what is written.
 #[derive(Drop)]
@@ -62,6 +62,13 @@ fn listing_in(alloc: Global, capture: &Capture, size: u32) -> Result<Listing, Cu
     }
 }
 
+/// The listing of a recording whose steps come one after the other.
+fn listing_as_made(alloc: Global, capture: &Capture) -> Result<Listing, Fail> {
+    let other = Lines::new(1).ok_or("no such backplane")?;
+    let lister = followed(alloc, capture, Lister::new(alloc, &other))?;
+    Ok(lister.listing(alloc, 65536).ok().ok_or("no listing")?)
+}
+
 /// Each recording has its listing, whatever the size of the blocks.
 fn assert_listings(rt: &impl Abort, alloc: Global, recordings: &[Worked]) -> Result<(), Fail> {
     for (start, text, _, rows) in recordings {
@@ -69,6 +76,7 @@ fn assert_listings(rt: &impl Abort, alloc: Global, recordings: &[Worked]) -> Res
         for size in [1, 2, 5, 65536] {
             assert_rows(rt, alloc, &listing_in(alloc, &capture, size)?, rows)?;
         }
+        assert_rows(rt, alloc, &listing_as_made(alloc, &capture)?, rows)?;
     }
     Ok(())
 }

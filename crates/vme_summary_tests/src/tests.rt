@@ -3,10 +3,9 @@ use smallvec::SmallVec;
 use std::alloc::Global;
 use std::process::Abort;
 use std::test::Fail;
-use vme_summary::judge::Judge;
 use vme_summary::judged::{Judged, judge_block};
 use vme_summary::span::{JoinFault, Span, join};
-use vme_summary::verdict_by_blocks;
+use vme_summary::{Judge, verdict_by_blocks};
 use vme_trace::{
     Block, Break, Capture, Change, Changes, CutFault, Follower, Level, Line, Lines, Rule, Step,
     Steps, Verdict,
@@ -364,6 +363,20 @@ fn verdict_in(alloc: Global, capture: &Capture, size: u32) -> Result<Verdict, Cu
     }
 }
 
+/// What took the steps of a capture one after the other.
+pub(crate) fn followed<F: Follower>(
+    alloc: Global,
+    capture: &Capture,
+    follower: F,
+) -> Result<F, Fail> {
+    let mut follower = follower;
+    follower.open(capture.opening());
+    for step in capture.steps() {
+        follower.step(alloc, step.copy(alloc)?)?;
+    }
+    Ok(follower)
+}
+
 /// The verdict on a recording whose steps come one after the other.
 fn verdict_as_made(
     rt: &impl Abort,
@@ -373,11 +386,7 @@ fn verdict_as_made(
 ) -> Result<Verdict, Fail> {
     assert!(rt; size >= 1 && size <= 65536);
     let other = Lines::new(1).ok_or("no such backplane")?;
-    let mut judge = Judge::new(alloc, &other);
-    judge.open(capture.opening());
-    for step in capture.steps() {
-        judge.step(alloc, step.copy(alloc)?)?;
-    }
+    let judge = followed(alloc, capture, Judge::new(alloc, &other))?;
     Ok(judge.verdict(alloc, size).ok().ok_or("no verdict")?)
 }
 

@@ -1,5 +1,6 @@
 pub mod ConfirmLemmas
 pub mod ExplainLemmas
+pub mod JudgedLemmas
 pub mod ListLemmas
 pub mod ToldLemmas
 pub mod UnderwayLemmas

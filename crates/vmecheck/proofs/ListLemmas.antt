@@ -16,15 +16,17 @@ use Rattle.vme_listing.specs.declared.row.Row.{Row}
 use Rattle.vme_listing.specs.declared.row.Row.TheVariants.{Start, Verdict}
 use Rattle.vme_answer.specs.declared.refusal.Refusal.{Refusal}
 use Rattle.vme_answer.specs.declared.refusal.Refusal.TheVariants.{Memory}
-use Rattle.vme_answer.specs.Answers.{Answer, Gives, capture_read}
+use Rattle.vme_answer.specs.Answers.{Answer, Gives, capture_read, recording_read}
 use Rattle.vme_answer.specs.Ends.{Tells}
 use Rattle.vme_answer.specs.Texts.{verdict_status}
+use Rattle.vme_answer.proofs.AnswerLemmas.{capture_read-recorded}
 use Rattle.vme_answer.proofs.EndLemmas.{Does-exact, Does-unwritten, given_is, refusal_status-small, verdict_status-small}
 use Rattle.vme_listing.specs.Written.{AppendsFront}
 use Rattle.vme_stream.specs.Inputs.{TellsWhole}
 use Rattle.vme_trace.specs.Streams.{Reading, Writing}
 use Rattle.vme_stream.proofs.OutputLemmas.{front_is}
-use Rattle.vmecheck.specs.Listings.{GivesListing, Lists, in_blocks, listing_answer_by, listing_answer_of, listing_status, outcome_status, recording_of, row_status}
+use Rattle.vmecheck.specs.Judged.{in_blocks, limited_in_blocks}
+use Rattle.vmecheck.specs.Listings.{GivesListing, Lists, listing_answer_by, listing_answer_of, listing_status, outcome_status, recording_of, row_status}
 
 -- ---- the status
 
@@ -77,10 +79,14 @@ unfolding recording_of
 recording_of-refused binding dump block Memory is = tt
 recording_of-refused binding dump block r is = ap (λ (w : Result Trace Refusal). w >>= in_blocks block) is
 
-pub recording_of-captured : (binding dump : Option (List ℕ)) (block : ℕ) (t : Trace) → capture_read binding dump ≡ Ok t
-    → recording_of binding dump block ≡ in_blocks block t
+pub recording_of-recorded : (binding dump : Option (List ℕ)) (block : ℕ) (t : Trace) → recording_read binding dump ≡ Ok t
+    → recording_of binding dump block ≡ limited_in_blocks block t
 unfolding recording_of
-recording_of-captured binding dump block t is = ap (λ (w : Result Trace Refusal). w >>= in_blocks block) is
+recording_of-recorded binding dump block t is = ap (λ (w : Result Trace Refusal). w >>= in_blocks block) (capture_read-recorded binding dump t is)
+
+pub refused_listing : (r : Refusal) (recording : Result Trace Refusal) → Gives (λ (t : Trace). t) (Err r) recording → GivesListing (Err r) recording
+refused_listing Memory recording given = tt
+refused_listing r recording given = given
 
 pub given_refusal : (r : Refusal) (recording : Result Trace Refusal) → GivesListing (Err r) recording → Gives (λ (t : Trace). t) (Err r) recording
 given_refusal Memory recording given = tt

@@ -1,12 +1,23 @@
--- The verdict on a recording whose steps were judged.
-use Rattle.std.specs.Prelude.{ℕ, Result}
+-- A recording whose steps were judged.
+use Rattle.std.specs.Prelude.{ℕ, nat_lt, if◌then◌else◌, Result, Ok, Err}
 use Rattle.vcd_read.specs.Header.{◌>>=◌}
+use Rattle.vme_trace.specs.Blocks.{block_count}
 use Rattle.vme_trace.specs.Trace.{Trace}
+use Rattle.vme_trace.specs.Verdict.{verdict_by, rules_in_force}
 use Rattle.vme_trace.specs.declared.verdict.Verdict.{Verdict}
 use Rattle.vme_answer.specs.declared.refusal.Refusal.{Refusal}
-use Rattle.vme_answer.specs.Answers.{or_bad_binding, verdict_in_blocks}
+use Rattle.vme_answer.specs.declared.refusal.Refusal.TheVariants.{TooManyBlocks}
+use Rattle.vme_answer.specs.Answers.{or_bad_binding}
 use Rattle.vme_bind.specs.Capture.{limited}
 
--- the verdict on a recording, or why there is none: it is too long, or fills too many blocks of this size
+-- a recording, if it is cut into at most 4,096 blocks of so many steps
+abbrev pub in_blocks : ℕ → Trace → Result Trace Refusal
+in_blocks block t = if nat_lt 4096 (block_count block t) then Err TooManyBlocks else Ok t
+
+-- a recording that is judged, or why it isn't: it is too long, or fills too many blocks of this size
+abbrev pub limited_in_blocks : ℕ → Trace → Result Trace Refusal
+limited_in_blocks block t = or_bad_binding (limited t) >>= in_blocks block
+
+-- the verdict on it
 abbrev pub judged_in_blocks : ℕ → Trace → Result Verdict Refusal
-judged_in_blocks block t = or_bad_binding (limited t) >>= verdict_in_blocks block
+judged_in_blocks block t = limited_in_blocks block t >>= λ t. Ok (verdict_by rules_in_force t)

@@ -1,9 +1,8 @@
 -- Listings as a command finds and ends by them.
-use Rattle.std.specs.Prelude.{◌≡◌, ℕ, [], List, nat_lt, if◌then◌else◌, Option, None, Result, Ok, Err}
+use Rattle.std.specs.Prelude.{◌≡◌, ℕ, [], List, Option, None, Result, Ok, Err}
 use Rattle.std.specs.List.{last_or}
 use Rattle.std.specs.Option.{option_map_or}
 use Rattle.vcd_read.specs.Header.{◌>>=◌}
-use Rattle.vme_trace.specs.Blocks.{block_count}
 use Rattle.vme_trace.specs.Streams.{Reading, Writing}
 use Rattle.vme_trace.specs.Trace.{Trace}
 use Rattle.vme_trace.specs.Verdict.{verdict_by, rules_in_force}
@@ -13,17 +12,14 @@ use Rattle.vme_answer.specs.Answers.{Answer, Gives, capture_read, refusal_answer
 use Rattle.vme_answer.specs.Ends.{Does}
 use Rattle.vme_answer.specs.Texts.{verdict_status}
 use Rattle.vme_answer.specs.declared.refusal.Refusal.{Refusal}
-use Rattle.vme_answer.specs.declared.refusal.Refusal.TheVariants.{Memory, TooManyBlocks}
+use Rattle.vme_answer.specs.declared.refusal.Refusal.TheVariants.{Memory}
+use Rattle.vmecheck.specs.Judged.{in_blocks}
 use Rattle.vme_listing.specs.declared.row.Outcome.{Outcome}
 use Rattle.vme_listing.specs.declared.row.Outcome.TheVariants.{Conforming, NeverIdle, Broken, Unreadable}
 use Rattle.vme_listing.specs.declared.row.Row.{Row}
 use Rattle.vme_listing.specs.declared.row.Row.TheVariants.{Start, OpenTenure, Tenure, AddressedCycle, FreeCycle, InterruptCycle, Transfer, PendingTransfer, Verdict}
 
--- a recording, if it is cut into at most 4,096 blocks of so many steps
-abbrev pub in_blocks : ℕ → Trace → Result Trace Refusal
-in_blocks block t = if nat_lt 4096 (block_count block t) then Err TooManyBlocks else Ok t
-
--- the recording that a binding makes of a dump, if it is cut so, or the first reason that there is none
+-- the recording that a binding makes of a dump, if it is cut into at most 4,096 blocks of so many steps, or the first reason that there is none
 unfoldable pub recording_of : Option (List ℕ) → Option (List ℕ) → ℕ → Result Trace Refusal
 recording_of binding dump block = do
   t ← capture_read binding dump

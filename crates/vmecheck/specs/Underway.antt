@@ -1,6 +1,7 @@
--- What comes of a dump that is judged as it is read.
+-- What comes of a dump whose recording is followed as it is read.
 use Rattle.std.specs.Prelude.{ℕ, List, [], Result, Err}
 use Rattle.vme_trace.specs.Trace.{Trace}
+use Rattle.vme_trace.specs.declared.follower.Follower.{Ghosts}
 use Rattle.vcd_read.specs.Bodies.{place_of}
 use Rattle.vcd_read.specs.Taking.{taking}
 use Rattle.vcd_read.specs.Tokens.{tokens_from}
@@ -12,8 +13,8 @@ use Rattle.vmecheck.specs.declared.underway.Stage.{Stage}
 use Rattle.vmecheck.specs.declared.underway.Stage.TheVariants.{Definitions, Body, Failed}
 
 -- the recording that a binding makes of a dump that is read so far and goes on with these bytes, or why there is none
-abbrev pub ahead_of : BoundLines → Stage → List ℕ → Result Trace CaptureFault
-ahead_of b (Definitions judge) rest = recording_of_text b rest
+abbrev pub ahead_of : {F : Type 0} {follows : Ghosts F} → BoundLines → Stage F follows → List ℕ → Result Trace CaptureFault
+ahead_of b (Definitions follower) rest = recording_of_text b rest
 ahead_of b (Body text) rest =
     outcome_ahead text.fault text.pieces.codes (taking text.pieces.underway.waves.taker text.pieces.underway.waves.clock) text.pieces.underway.bracket
     (place_of text.pieces.underway.place) (tokens_from text.pieces.line rest) []

@@ -1,18 +1,17 @@
 //! The check of one recording.
 
 ghost use Rattle.std.specs.Prelude.{◌≡◌, ◌≢◌, ◌≤◌, ◌↔◌, ℕ, suc, List, Option, Some, None};
-ghost use Rattle.vme_answer.specs.Answers.{Gives, answer_of, dump_read, judgement_by, judgement_of};
+ghost use Rattle.vme_answer.specs.Answers.{Gives, answer_of, judgement_of};
 ghost use Rattle.vme_answer.specs.Ends.{Checks, Tells};
-ghost use Rattle.vme_stream.specs.Inputs.{IsReading, TellsWhole, longest_input};
+ghost use Rattle.vme_stream.specs.Inputs.{IsReading, TellsWhole};
 ghost use Rattle.vme_trace.specs.WellFormed.{malformed_step};
 ghost use Rattle.vmecheck.specs.Judged.{judged_in_blocks};
 
-use crate::underway::Underway;
+use crate::followed::followed;
 use std::alloc::Global;
-use vme_answer::{Input, Refusal, binding_from, refusal_line, tell_verdict};
-use vme_bind::{BindFault, BindKind, Binding};
-use vme_stream::{complain, read_by};
-use vme_summary::{Judge, NoVerdict};
+use vme_answer::{Refusal, refusal_line, tell_verdict};
+use vme_stream::complain;
+use vme_summary::Judge;
 use vme_trace::{Sink, Source, Verdict};
 
 /// Judges the recording that a binding makes of a dump, and writes its verdict to `out`, or why there is none to `err`.
@@ -84,67 +83,19 @@ fn judge<B: Source, D: Source>(
         × IsReading (D.reading dump.old) (D.reading dump.new) dump_bytes
         × Gives (λ verdict. verdict) result (judgement_of binding_bytes dump_bytes block) }
 {
-    match binding_from(alloc, binding) {
-        Ok(bound) => judge_dump(alloc, &bound, dump, block),
+    match followed(alloc, binding, dump, |lines| Judge::new(alloc, lines)) {
+        Ok(judge) => verdict_of(alloc, judge, block),
         Err(refusal) => Err(refusal),
     }
 }
 
-/// How many bytes of a dump are looked at together, where that is enough for its definitions and its longest word.
-const PIECE: usize = 262_144;
-
-/// The verdict on the recording that a binding makes of a dump that is to be read.
-fn judge_dump<D: Source>(
-    alloc: Global,
-    bound: &Binding,
-    dump: &mut D,
-    block: u32,
-) -> Result<Verdict, Refusal>
-    requires { (1 ≤ block) × (block ≤ 65536) }
-    ensures { (bytes : Option (List ℕ))
-        × IsReading (D.reading dump.old) (D.reading dump.new) bytes
-        × Gives (λ verdict. verdict) result (judgement_by bound.now (dump_read bytes) block) }
-{
-    judge_in_pieces(alloc, bound, dump, block, PIECE)
-}
-
-/// The same by pieces of this many bytes, or more where that is too few: the verdict doesn't depend on it.
-pub(crate) fn judge_in_pieces<D: Source>(
-    alloc: Global,
-    bound: &Binding,
-    dump: &mut D,
-    block: u32,
-    piece: usize,
-) -> Result<Verdict, Refusal>
-    requires block { (1 ≤ block) × (block ≤ 65536) }
-    requires piece { (1 ≤ piece) × (piece ≤ longest_input) }
-    ensures { (bytes : Option (List ℕ))
-        × IsReading (D.reading dump.old) (D.reading dump.new) bytes
-        × Gives (λ verdict. verdict) result (judgement_by bound.now (dump_read bytes) block) }
-{
-    let judge = Judge::new(alloc, bound.lines());
-    let underway = Underway::new(bound, judge);
-    match read_by(alloc, dump, underway, piece) {
-        Ok((underway, rest)) => match underway.finish(alloc, rest.as_slice()) {
-            Ok(judge) => verdict_of(alloc, judge, block),
-            Err(fault) => Err(Refusal::of_capture(fault)),
-        },
-        Err(fault) => Err(Refusal::of_input(Input::Dump, fault)),
-    }
-}
-
 /// The verdict on a recording whose steps were judged.
-fn verdict_of(alloc: Global, judge: Judge, block: u32) -> Result<Verdict, Refusal>
+pub(crate) fn verdict_of(alloc: Global, judge: Judge, block: u32) -> Result<Verdict, Refusal>
     requires { (1 ≤ block) × (block ≤ 65536) }
     ensures { malformed_step judge ≡ None → Gives (λ verdict. verdict) result (judged_in_blocks block judge) }
 {
     match judge.verdict(alloc, block) {
         Ok(verdict) => Ok(verdict),
-        Err(NoVerdict::TooManySteps) => Err(Refusal::BadBinding(BindFault {
-            line: 0,
-            kind: BindKind::TooManySteps,
-        })),
-        Err(NoVerdict::TooManyBlocks) => Err(Refusal::TooManyBlocks),
-        Err(NoVerdict::Memory) => Err(Refusal::Memory),
+        Err(why) => Err(Refusal::of_judging(why)),
     }
 }

@@ -1,27 +1,29 @@
 //! The listing of one recording.
 
-ghost use Rattle.std.specs.Prelude.{◌≡◌, ◌≢◌, ◌≤◌, ◌↔◌, ℕ, suc, List, Option, Some, Ok};
+ghost use Rattle.std.specs.Prelude.{◌≡◌, ◌≢◌, ◌≤◌, ◌↔◌, ℕ, suc, List, Option, None, Some, Ok};
 ghost use Rattle.vme_listing.specs.Recorded.{listing_of};
 ghost use Rattle.vme_trace.specs.Trace.{Trace};
-ghost use Rattle.vme_answer.specs.Answers.{Gives};
+ghost use Rattle.vme_trace.specs.WellFormed.{malformed_step};
 ghost use Rattle.vme_answer.specs.Ends.{Ends, Tells};
 ghost use Rattle.vme_stream.specs.Inputs.{IsReading, TellsWhole};
-ghost use Rattle.vmecheck.specs.Listings.{GivesListing, Lists, in_blocks, listing_answer_by, listing_answer_of, recording_of, listing_status, outcome_status, row_status};
+ghost use Rattle.vmecheck.specs.Judged.{limited_in_blocks};
+ghost use Rattle.vmecheck.specs.Listings.{GivesListing, Lists, listing_answer_by, listing_answer_of, recording_of, listing_status, outcome_status, row_status};
 
+use crate::followed::followed;
 use std::alloc::Global;
-use vme_answer::{Refusal, cannot_write_line, capture_from, refusal_line};
+use vme_answer::{Refusal, cannot_write_line, refusal_line};
 use vme_listing::{Listing, Outcome, Row, write_listing};
 use vme_stream::complain;
-use vme_summary::listing_by_blocks;
-use vme_trace::{Capture, CutFault, Sink, Source};
+use vme_summary::Lister;
+use vme_trace::{Sink, Source};
 
 /// Writes to `out` the listing of the recording that a binding makes of a dump, or to `err` why there is none. The answer is
 /// the exit status: that of the listing's verdict, 0 conforming, 1 broken, 2 unreadable or never idle; 3 where an input is
 /// refused, 4 for want of memory, 5 where the listing can't be written.
 ///
-/// The binding is read, and then the dump. The recording is judged in blocks of `block` steps, and the listing is the
-/// same for each size that cuts it into at most 4,096 blocks. It is written in pieces of up to 4,096 bytes. A failure of `err`
-/// is ignored.
+/// The binding is read, and then the dump, piece by piece. Neither the dump nor the recording is kept: the steps are judged as
+/// they are made, and their marks are kept. A recording that fills more than 4,096 blocks of `block` steps is refused, and the
+/// listing is otherwise the same for each size. It is written in pieces of up to 4,096 bytes. A failure of `err` is ignored.
 pub fn list<B: Source, D: Source, O: Sink, E: Sink>(
     alloc: Global,
     binding: &mut B,
@@ -127,19 +129,23 @@ fn listing<B: Source, D: Source>(
         × IsReading (D.reading dump.old) (D.reading dump.new) dump_bytes
         × GivesListing result (recording_of binding_bytes dump_bytes block) }
 {
-    match capture_from(alloc, binding, dump) {
-        Ok(capture) => listing_in_blocks(alloc, &capture, block),
+    match followed(alloc, binding, dump, |lines| Lister::new(alloc, lines)) {
+        Ok(lister) => listing_of_steps(alloc, lister, block),
         Err(refusal) => Err(refusal),
     }
 }
 
-fn listing_in_blocks(alloc: Global, capture: &Capture, block: u32) -> Result<Listing, Refusal>
+/// The listing of a recording whose steps were judged.
+pub(crate) fn listing_of_steps(
+    alloc: Global,
+    lister: Lister,
+    block: u32,
+) -> Result<Listing, Refusal>
     requires { (1 ≤ block) × (block ≤ 65536) }
-    ensures { GivesListing result (in_blocks block capture.now) }
+    ensures { malformed_step lister ≡ None → GivesListing result (limited_in_blocks block lister) }
 {
-    match listing_by_blocks(alloc, capture, block) {
+    match lister.listing(alloc, block) {
         Ok(listing) => Ok(listing),
-        Err(CutFault::TooManyBlocks) => Err(Refusal::TooManyBlocks),
-        Err(CutFault::BadSize) | Err(CutFault::Memory) => Err(Refusal::Memory),
+        Err(why) => Err(Refusal::of_judging(why)),
     }
 }

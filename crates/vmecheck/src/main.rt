@@ -12,6 +12,7 @@ mod bind;
 mod check;
 mod confirm;
 mod explain;
+mod followed;
 mod list;
 #[cfg(test)]
 mod piece_tests;

@@ -1,15 +1,21 @@
-//! A dump that is judged in pieces: the verdict is that of the whole text, wherever it is cut.
+//! A dump that is judged in pieces: the verdict and the listing are those of the whole text, wherever it is cut.
 
 ghost use Rattle.std.specs.Prelude.{◌≤◌};
 
 use crate::BUILT_IN;
-use crate::check::judge_in_pieces;
+use crate::check::verdict_of;
+use crate::followed::followed_in_pieces;
+use crate::list::listing_of_steps;
+use crate::tests::LISTING;
+use std::alloc::Global;
 use std::process::Abort;
 use std::test::Fail;
 use vcd_read::{FaultKind, VcdFault};
 use vme_answer::Refusal;
 use vme_bind::{Binding, read_binding};
+use vme_listing::{Listing, read_listing};
 use vme_stream::Bytes;
+use vme_summary::{Judge, Lister};
 use vme_trace::Verdict;
 
 const HEAD: &str = "$timescale 1 ns $end\n$scope module bus $end\n\
@@ -20,6 +26,44 @@ $upscope $end\n$enddefinitions $end\n";
 /// How long the pieces are that a dump is cut into. The longest is longer than each dump here.
 const PIECES: [usize; 10] = [1, 2, 3, 5, 8, 13, 21, 34, 64, 4096];
 
+/// The verdict on what a dump has, which is read in pieces of this many bytes.
+fn verdict_in_pieces(
+    alloc: Global,
+    bound: &Binding,
+    dump: &str,
+    piece: usize,
+) -> Result<Verdict, Refusal>
+    requires { (1 ≤ piece) × (piece ≤ 4096) }
+{
+    let judge = Judge::new(alloc, bound.lines());
+    let mut bytes = Bytes::new(dump.as_bytes());
+    let judge = followed_in_pieces(alloc, bound, &mut bytes, judge, piece)?;
+    verdict_of(alloc, judge, 16384)
+}
+
+/// Its listing.
+fn listing_in_pieces(
+    alloc: Global,
+    bound: &Binding,
+    dump: &str,
+    piece: usize,
+) -> Result<Listing, Refusal>
+    requires { (1 ≤ piece) × (piece ≤ 4096) }
+{
+    let lister = Lister::new(alloc, bound.lines());
+    let mut bytes = Bytes::new(dump.as_bytes());
+    let lister = followed_in_pieces(alloc, bound, &mut bytes, lister, piece)?;
+    listing_of_steps(alloc, lister, 16384)
+}
+
+/// The text of the listing with this verdict.
+fn text_of(verdict: &Verdict) -> &'static str {
+    match verdict {
+        Verdict::Conforming => LISTING,
+        _ => "vmecheck listing 1\nverdict never-idle\n",
+    }
+}
+
 fn expect_pieces<R: Abort + AllocGlobal>(
     rt: &R,
     bound: &Binding,
@@ -27,14 +71,22 @@ fn expect_pieces<R: Abort + AllocGlobal>(
     expected: &Result<Verdict, Refusal>,
 ) {
     for piece in PIECES {
-        let judged = judge_in_pieces(
-            rt.alloc(),
-            bound,
-            &mut Bytes::new(dump.as_bytes()),
-            16384,
-            piece,
-        );
+        let judged = verdict_in_pieces(rt.alloc(), bound, dump, piece);
         assert!(rt; judged == *expected, "pieces of {piece} bytes: {dump}");
+        match listing_in_pieces(rt.alloc(), bound, dump, piece) {
+            Ok(listing) => {
+                let verdict = expected.as_ref().ok().expect(rt, "no listing");
+                let rows = read_listing(rt.alloc(), text_of(verdict).as_bytes());
+                let is_listed = rows.is_ok_and(|rows| rows.rows() == listing.rows());
+                assert!(rt; is_listed, "listed by pieces of {piece} bytes: {dump}");
+            }
+            Err(refusal) => {
+                assert!(rt;
+                    *expected == Err(refusal),
+                    "listed by pieces of {piece} bytes: {dump}"
+                );
+            }
+        }
     }
 }
 

@@ -29,7 +29,7 @@ const BODY: &str = "#0 1p 1q 1r 1s 1t 1u\n#10 0p\n#20 0q\n#30 0s\n#40 1p 1q\n#50
 const UNBOUND: &str = "$enddefinitions $end\n";
 
 /// The listing of the dump of this head and body by the built-in binding.
-const LISTING: &str =
+pub(crate) const LISTING: &str =
     "vmecheck listing 1\nstart 1\ntenure 1 open end -\ncycle 2 S 3D FFFFFE end 5\n\
 transfer 3 of 2 read DTACK 4 close 5\nverdict conforming\n";
 

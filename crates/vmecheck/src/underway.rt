@@ -1,4 +1,4 @@
-//! A dump that is judged as it is read.
+//! A dump whose recording is followed as it is read.
 
 ghost use Rattle.std.specs.Prelude.{◌≡◌, ◌≤◌, ℕ, List, length, take, false, Result, Err, IfOk};
 ghost use Rattle.vme_trace.specs.Trace.{Trace};
@@ -13,43 +13,43 @@ use std::alloc::{AllocError, Global};
 use vcd_read::whole_tokens;
 use vme_bind::{Binding, CaptureFault, TextPieces};
 use vme_stream::Intake;
-use vme_summary::Judge;
+use vme_trace::Follower;
 
 /// How far a dump is read.
 #[derive(Drop)]
-enum Stage {
+enum Stage<F: Follower> {
     /// Its definitions don't end in what was seen, of which nothing was taken.
-    Definitions(Judge),
-    Body(TextPieces<Judge>),
+    Definitions(F),
+    Body(TextPieces<F>),
     /// It has a fault.
     Failed(Told),
 }
 
-/// A dump whose recording by a binding is judged as it is read.
+/// A dump whose recording by a binding is followed as it is read.
 #[derive(Drop)]
-pub(crate) struct Underway<'b> {
+pub(crate) struct Underway<'b, F: Follower> {
     bound: &'b Binding,
-    stage: Stage,
+    stage: Stage<F>,
 }
 
-impl<'b> Underway<'b> {
+impl<'b, F: Follower> Underway<'b, F> {
     /// Before the first byte.
-    pub fn new(bound: &'b Binding, judge: Judge) -> Underway<'b>
+    pub fn new(bound: &'b Binding, follower: F) -> Underway<'b, F>
         ensures { (rest : List ℕ) → ahead_of result.bound.now result.stage rest ≡ recording_of_text bound.now rest }
     {
         Underway {
             bound,
-            stage: Stage::Definitions(judge),
+            stage: Stage::Definitions(follower),
         }
     }
 
-    /// What judged the recording of the dump, whose last bytes these are.
-    pub fn finish(self, alloc: Global, rest: &[u8]) -> Result<Judge, CaptureFault>
-        ensures { GivesBy (λ judge. judge) result (ahead_of self.entry.bound.now self.entry.stage rest.now) }
+    /// What followed the recording of the dump, whose last bytes these are.
+    pub fn finish(self, alloc: Global, rest: &[u8]) -> Result<F, CaptureFault>
+        ensures { GivesBy F.recorded result (ahead_of self.entry.bound.now self.entry.stage rest.now) }
     {
         let Underway { bound, stage } = self;
         match stage {
-            Stage::Definitions(judge) => bound.record_text(alloc, rest, judge),
+            Stage::Definitions(follower) => bound.record_text(alloc, rest, follower),
             Stage::Body(text) => match text.read(alloc, rest) {
                 Ok(text) => text.finish(alloc),
                 Err(fault) => Err(fault),
@@ -59,7 +59,7 @@ impl<'b> Underway<'b> {
     }
 
     /// What is to be read of a dump that has this fault: all of it, though no more is looked at.
-    fn failed(bound: &'b Binding, fault: CaptureFault) -> Result<Underway<'b>, AllocError>
+    fn failed(bound: &'b Binding, fault: CaptureFault) -> Result<Underway<'b, F>, AllocError>
         ensures told { IfOk result (λ u. is_want fault ≡ false) }
         ensures ahead { IfOk result (λ u. (rest : List ℕ) → ahead_of u.bound.now u.stage rest ≡ Err fault) }
     {
@@ -73,16 +73,20 @@ impl<'b> Underway<'b> {
     }
 }
 
-impl<'b> Intake for Underway<'b> {
+impl<'b, F: Follower> Intake for Underway<'b, F> {
     ghost Outcome = { Result Trace CaptureFault };
 
     ghost ahead = { λ u. ahead_of u.bound.now u.stage };
 
-    fn take(self, alloc: Global, bytes: &[u8]) -> Result<(Underway<'b>, usize), AllocError> {
+    fn take(self, alloc: Global, bytes: &[u8]) -> Result<(Underway<'b, F>, usize), AllocError> {
         let Underway { bound, stage } = self;
         let count = whole_tokens(bytes);
         match stage {
-            Stage::Definitions(judge) => match bound.begin_text(alloc, &bytes[..count], judge) {
+            Stage::Definitions(follower) => match bound.begin_text(
+                alloc,
+                &bytes[..count],
+                follower,
+            ) {
                 Ok(Ok(text)) => Ok((
                     Underway {
                         bound,
@@ -90,7 +94,7 @@ impl<'b> Intake for Underway<'b> {
                     },
                     count,
                 )),
-                Ok(Err(judge)) => Ok((Underway::new(bound, judge), 0)),
+                Ok(Err(follower)) => Ok((Underway::new(bound, follower), 0)),
                 Err(fault) => Ok((Underway::failed(bound, fault)?, count)),
             },
             Stage::Body(text) => match text.read(alloc, &bytes[..count]) {

@@ -6,15 +6,15 @@ use Rattle.vmecheck.proofs.UnderwayLemmas.{is-told}
 use Rattle.vmecheck.proofs.underway.Underway.finish.Goals as goal
 
 pub returns-in-Definitions : goal.returns-in-Definitions
-returns-in-Definitions c = rw c.in-Definitions.is c.record_text.ensures.gives
+returns-in-Definitions g c = rw c.in-Definitions.is c.record_text.ensures.gives
 
 pub returns-in-Ok : goal.returns-in-Ok
-returns-in-Ok c = rw c.in-Body.is (subst (λ (r : Result Trace CaptureFault). GivesBy (λ (t : Trace). t) c.finish.result r) (sym (c.in-Ok.ensures.rest [])) c.finish.ensures)
+returns-in-Ok g c = rw c.in-Body.is (subst (λ (r : Result Trace CaptureFault). GivesBy g.F.Follower.recorded c.finish.result r) (sym (c.in-Ok.ensures.rest [])) c.finish.ensures)
 
 pub returns-in-Err : goal.returns-in-Err
-returns-in-Err c = rw c.in-Body.is (c.in-Err.ensures.rest [])
+returns-in-Err g c = rw c.in-Body.is (c.in-Err.ensures.rest [])
 
 pub returns-in-Failed : goal.returns-in-Failed
-returns-in-Failed c =
+returns-in-Failed g c =
     let told = c.in-Failed.told in
     rw c.in-Failed.is (is-told told.fault (Err told.fault) told.told refl)

@@ -1,7 +1,7 @@
 -- What the steps do is found whatever stood before them.
 use Rattle.std.proofs.Common.{◌+◌, ap}
 use Rattle.vme_summary.proofs.Progressing.{judged_on}
-use Rattle.vme_summary.proofs.judging.Judging.go_on.Goals as goal
+use Rattle.vme_summary.proofs.judging.JudgingAdvance.go_on.Goals as goal
 
 pub returns-clause-past : goal.returns-clause-past
 returns-clause-past c =

@@ -1,0 +1,175 @@
+//! What judges a recording as it is made.
+
+ghost use Rattle.std.specs.Prelude.{◌≡◌, ◌<◌, ◌≤◌, ◌↔◌, [], length, true, IfOk, Err, None};
+ghost use Rattle.vme_trace.specs.Blocks.{block_count};
+ghost use Rattle.vme_trace.specs.Verdict.{rules_in_force, verdict_by};
+ghost use Rattle.vme_trace.specs.WellFormed.{capture_limit, malformed_step};
+ghost use Rattle.vme_listing.specs.Places.{is_well_placed};
+ghost use Rattle.vme_listing.specs.Recorded.{listing_of};
+
+use crate::advance::Advance;
+use crate::judging::Judging;
+use crate::marking::Marking;
+use crate::taken::Taken;
+use std::alloc::{AllocError, Global};
+use std::marker::Model;
+use vme_listing::Listing;
+use vme_trace::{Follower, Lines, Step, Verdict};
+
+/// How many blocks there are at most.
+const MOST_BLOCKS: u32 = 4096;
+
+/// How many steps a recording has at most.
+const MOST_STEPS: u32 = 268435456;
+
+/// How many steps are judged at once.
+const AT_ONCE: usize = 16384;
+
+/// Why there is no verdict, and no listing.
+#[derive(Clone, Copy, Debug, PartialEq, Eq)]
+pub enum NoVerdict {
+    /// There are over 268,435,456 steps.
+    TooManySteps,
+    /// They fill over 4,096 blocks.
+    TooManyBlocks,
+    /// There is no memory.
+    Memory,
+}
+
+/// Judges a recording as its steps come, 16,384 of them at once: of its steps no more are kept.
+#[derive(Drop)]
+pub struct Watch<J: Advance> {
+    /// How many steps came, or one over the most.
+    count: u32,
+    opening: Lines,
+    judging: J,
+    /// The steps that came since some were judged.
+    waiting: Vec<Step>,
+    taken: Taken,
+}
+
+/// Judges a recording for its verdict: without marks, so that nothing is kept of what was judged.
+pub type Judge = Watch<Judging>;
+
+/// Judges a recording for its listing: its marks are kept.
+pub type Lister = Watch<Marking>;
+
+impl<J: Advance> Model for Watch<J> {
+    ghost use Rattle.vme_trace.specs.Trace.{Trace};
+    ghost use Rattle.vme_summary.specs.Watched.{KeepsUp};
+
+    ghost Value = { Trace };
+
+    ghost view = { λ w. record { opening = w.opening; steps = w.taken.items } };
+
+    ghost invariant = { λ w. KeepsUp (J.is_past w.judging) w.count w.opening w.taken.items w.waiting.items };
+}
+
+impl<J: Advance> Watch<J> {
+    /// Before the first step.
+    pub fn new(alloc: Global, opening: &Lines) -> Watch<J>
+        ensures { result ≡ record { opening = opening.now; steps = [] } }
+    {
+        Watch {
+            count: 0,
+            opening: *opening,
+            judging: J::at(opening),
+            waiting: Vec::new(alloc),
+            taken: Taken::new(),
+        }
+    }
+
+    /// What judged all steps that came, if there are at most 268,435,456 of them, and they fill at most 4,096 blocks of
+    /// `size` steps.
+    fn finish(self, alloc: Global, size: u32) -> Result<J, NoVerdict>
+        requires { (1 ≤ size) × (size ≤ 65536) }
+        ensures too_many_steps { (result ≡ Err NoVerdict.TooManySteps) ↔ (capture_limit < length self.steps) }
+        ensures too_many_blocks { (result ≡ Err NoVerdict.TooManyBlocks)
+            ↔ ((length self.steps ≤ capture_limit) × (4096 < block_count size self)) }
+        ensures past { IfOk result (λ judging. J.is_past judging self.opening self.steps) }
+    {
+        if self.count > MOST_STEPS {
+            return Err(NoVerdict::TooManySteps);
+        }
+        if self.count.div_ceil(size).max(1) > MOST_BLOCKS {
+            return Err(NoVerdict::TooManyBlocks);
+        }
+        let mut judging = self.judging;
+        match judging.go_on(alloc, &self.waiting) {
+            Ok(()) => Ok(judging),
+            Err(_) => Err(NoVerdict::Memory),
+        }
+    }
+}
+
+impl Watch<Judging> {
+    /// The verdict, by the rules in force, on the recording whose steps came, if it has at most 268,435,456 of them, and
+    /// they fill at most 4,096 blocks of `size` steps.
+    pub fn verdict(self, alloc: Global, size: u32) -> Result<Verdict, NoVerdict>
+        requires { (1 ≤ size) × (size ≤ 65536) }
+        ensures too_many_steps { (result ≡ Err NoVerdict.TooManySteps) ↔ (capture_limit < length self.steps) }
+        ensures too_many_blocks { (result ≡ Err NoVerdict.TooManyBlocks)
+            ↔ ((length self.steps ≤ capture_limit) × (4096 < block_count size self)) }
+        ensures verdict { malformed_step self ≡ None
+            → IfOk result (λ verdict. verdict ≡ verdict_by rules_in_force self) }
+    {
+        prove!(self.opening.slots() <= 21);
+        match self.finish(alloc, size) {
+            Ok(judging) => Ok(judging.verdict()),
+            Err(why) => Err(why),
+        }
+    }
+}
+
+impl Watch<Marking> {
+    /// The listing, by the rules in force, of that recording: its tenures, cycles and transfers before the least break,
+    /// and the verdict.
+    pub fn listing(self, alloc: Global, size: u32) -> Result<Listing, NoVerdict>
+        requires { (1 ≤ size) × (size ≤ 65536) }
+        ensures too_many_steps { (result ≡ Err NoVerdict.TooManySteps) ↔ (capture_limit < length self.steps) }
+        ensures too_many_blocks { (result ≡ Err NoVerdict.TooManyBlocks)
+            ↔ ((length self.steps ≤ capture_limit) × (4096 < block_count size self)) }
+        ensures listing { malformed_step self ≡ None → IfOk result (λ listing. listing ≡ listing_of self) }
+        ensures placed { malformed_step self ≡ None → IfOk result (λ listing. is_well_placed listing ≡ true) }
+    {
+        let opening = self.opening;
+        prove!(opening.slots() <= 21);
+        match self.finish(alloc, size) {
+            Ok(marking) => match marking.listing(alloc, &opening) {
+                Ok(listing) => Ok(listing),
+                Err(_) => Err(NoVerdict::Memory),
+            },
+            Err(why) => Err(why),
+        }
+    }
+}
+
+impl<J: Advance> Follower for Watch<J> {
+    ghost recorded = { λ w. w };
+
+    fn open(&mut self, opening: &Lines) {
+        self.count = 0;
+        self.opening = *opening;
+        self.judging = J::at(opening);
+        self.waiting.clear();
+        self.taken = Taken::new();
+    }
+
+    // Past the most that a recording has, steps are dropped.
+    fn step(&mut self, alloc: Global, step: Step) -> Result<(), AllocError> {
+        let taken = self.taken.and(&step);
+        if self.count >= MOST_STEPS {
+            self.count = MOST_STEPS + 1;
+            self.taken = taken;
+            return Ok(());
+        }
+        self.waiting.push(step)?;
+        self.count += 1;
+        self.taken = taken;
+        if self.waiting.len() >= AT_ONCE {
+            self.judging.go_on(alloc, &self.waiting)?;
+            self.waiting.clear();
+        }
+        Ok(())
+    }
+}
