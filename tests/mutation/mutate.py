@@ -18,6 +18,7 @@ It prints each run that fails, with the command, and keeps its files in FOLDER; 
 import argparse
 import concurrent.futures
 import contextlib
+import functools
 import os
 import pathlib
 import random
@@ -197,6 +198,7 @@ def mutated(rng, text):
 
 # ---- what is run
 
+@functools.cache
 def seeds():
     """The pairs of a binding and a dump that are mutated."""
     bench = (EXAMPLES / "backplane.bind").read_bytes()
