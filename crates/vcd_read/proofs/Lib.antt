@@ -16,3 +16,4 @@ pub mod SectionLemmas
 pub mod HeaderLemmas
 pub mod FrontLemmas
 pub mod PieceLemmas
+pub mod ApartLemmas

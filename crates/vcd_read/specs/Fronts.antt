@@ -9,6 +9,11 @@ use Rattle.vcd_read.specs.Header.{Declared}
 use Rattle.vcd_read.specs.Sections.{Headed, defined, header_of}
 use Rattle.vcd_read.specs.Meaning.{Fails}
 
+-- The header that a front has, and the line that the front ends on.
+pub record ReadFront : Type 0 where
+  pub head : Headed
+  pub line : ℕ
+
 -- a header whose text goes on
 abbrev pub going_on : Headed → List Token → Headed
 going_on head more = record head { body = head.body ++ more }

@@ -15,6 +15,8 @@ pub mod CodeNumbers
 pub mod CodeIndexes
 pub mod Shapes
 pub mod Bodies
+pub mod Reached
+pub mod Apart
 pub mod Scopes
 pub mod Sections
 pub mod Fronts

@@ -1,6 +1,7 @@
 //! A reader of four-state value change dumps (IEEE Std 1364-2005, clause 18).
 #![tactic(auto)]
 
+mod apart;
 mod bits;
 mod body;
 mod code_index;
@@ -26,11 +27,13 @@ mod underway;
 mod variables;
 mod waves;
 
+pub use apart::Apart;
 pub use bits::bit_at;
 pub use declarations::{Declaration, Declarations};
 pub use dump::{Bit, Bits, Dump, Instant, Path, Value, Values, Variable};
 pub use fault::{FaultKind, VcdFault};
 pub use head::{Head, read_definitions};
+pub use lines::line_feeds;
 pub use pieces::{Front, Pieces, read_front};
 pub use read::read_vcd;
 pub use scopes::Scopes;

@@ -16,8 +16,8 @@ fn line_feeds_of_few(bytes: &[u8]) -> u8
     count
 }
 
-/// How many bytes are line feeds.
-pub(crate) fn line_feeds(bytes: &[u8]) -> u64
+/// How many bytes are line feeds, so many lines a text ends.
+pub fn line_feeds(bytes: &[u8]) -> u64
     requires { length bytes.now < 2 ^ 64 }
     ensures { result ≡ count_by (λ b. b == 10) bytes.now }
 {

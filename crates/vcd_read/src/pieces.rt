@@ -5,10 +5,11 @@ ghost use Rattle.vcd_read.specs.Header.{nothing_declared};
 ghost use Rattle.vcd_read.specs.Tokens.{tokens_from};
 ghost use Rattle.vcd_read.specs.Reading.{line_behind};
 ghost use Rattle.vcd_read.specs.Body.{body_from, ready};
-ghost use Rattle.vcd_read.specs.Bodies.{Leads, ahead, finished, place_of};
+ghost use Rattle.vcd_read.specs.Bodies.{Leads};
 ghost use Rattle.vcd_read.specs.Fronts.{BeginsAs};
 ghost use Rattle.vcd_read.specs.Meaning.{Gives};
-ghost use Rattle.vcd_read.specs.Taking.{at_first, steps, taking};
+ghost use Rattle.vcd_read.specs.Reached.{outcome_of, reached, rest_of};
+ghost use Rattle.vcd_read.specs.Taking.{at_first, steps};
 
 use crate::body::read_piece;
 use crate::codes::Codes;
@@ -20,6 +21,7 @@ use crate::taker::Taker;
 use crate::token::Reader;
 use crate::underway::Underway;
 use std::alloc::Global;
+use std::marker::Model;
 
 /// The front of a text, whose definitions are read, and of whose body nothing is.
 #[derive(Drop)]
@@ -29,13 +31,21 @@ pub struct Front<'a> {
     line: u64,
 }
 
+impl<'a> Model for Front<'a> {
+    ghost use Rattle.vcd_read.specs.Fronts.{ReadFront};
+
+    ghost Value = { ReadFront };
+
+    ghost view = { λ f. record { head = f.head; line = f.line } };
+}
+
 /// A dump whose definitions are read, and its body as far as some pieces go.
 #[derive(Drop)]
 pub struct Pieces<T: Taker> {
-    codes: Codes,
-    underway: Underway<T>,
+    pub(crate) codes: Codes,
+    pub(crate) underway: Underway<T>,
     /// The line that the next piece begins on.
-    line: u64,
+    pub(crate) line: u64,
 }
 
 /// Reads the definitions of a text by a front of it that ends behind a space, and gives its scopes and variables to what
@@ -65,10 +75,8 @@ pub fn read_front<D: Declarations>(
 impl<'a> Front<'a> {
     /// Gives the changes that the front has to a taker.
     pub fn pieces<T: Taker>(self, alloc: Global, taker: T) -> Result<Pieces<T>, VcdFault>
-        ensures line { IfOk result (λ pieces. pieces.line ≡ self.entry.line) }
-        ensures rest { Leads (λ pieces. ahead T.with_change T.with_instant pieces.codes
-            (taking (T.taken pieces.underway.waves.taker) pieces.underway.waves.clock) pieces.underway.bracket
-            (place_of pieces.underway.place) []) result
+        ensures line { IfOk result (λ pieces. (reached T.taken pieces).line ≡ self.entry.line) }
+        ensures rest { Leads (λ pieces. rest_of T.with_change T.with_instant (reached T.taken pieces) []) result
             (λ more. steps T.with_change T.with_instant self.entry.head.nets (at_first (T.taken taker))
             (body_from ready (self.entry.head.body ++ more))) }
     {
@@ -86,13 +94,12 @@ impl<T: Taker> Pieces<T> {
     /// Reads the next piece of the body, which ends behind a space, or where the text does. The first fault met is that of
     /// every text that goes on so. Where lines could no longer be counted, memory is said to run out.
     pub fn read(self, alloc: Global, piece: &[u8]) -> Result<Pieces<T>, VcdFault>
-        ensures line { IfOk result (λ pieces. pieces.line ≡ line_behind self.line piece.now) }
-        ensures rest { Leads (λ pieces. ahead T.with_change T.with_instant pieces.codes
-            (taking (T.taken pieces.underway.waves.taker) pieces.underway.waves.clock) pieces.underway.bracket
-            (place_of pieces.underway.place) []) result
-            (ahead T.with_change T.with_instant self.codes
-            (taking (T.taken self.underway.waves.taker) self.underway.waves.clock)
-            self.underway.bracket (place_of self.underway.place) (tokens_from self.line piece.now)) }
+        ensures nets { IfOk result (λ pieces. (reached T.taken pieces).nets ≡ (reached T.taken self).nets) }
+        ensures line { IfOk result (λ pieces. (reached T.taken pieces).line
+            ≡ line_behind (reached T.taken self).line piece.now) }
+        ensures rest { Leads (λ pieces. rest_of T.with_change T.with_instant (reached T.taken pieces) []) result
+            (rest_of T.with_change T.with_instant (reached T.taken self)
+            (tokens_from (reached T.taken self).line piece.now)) }
     {
         let Pieces {
             codes,
@@ -120,9 +127,7 @@ impl<T: Taker> Pieces<T> {
     /// here.
     pub fn finish(self, alloc: Global) -> Result<T, VcdFault>
         ensures { Gives (λ t. T.taken t) result
-            (finished T.with_change T.with_instant self.codes
-            (taking (T.taken self.underway.waves.taker) self.underway.waves.clock)
-            self.underway.bracket (place_of self.underway.place)) }
+            (outcome_of T.with_change T.with_instant (reached T.taken self)) }
     {
         self.underway.finish(alloc)
     }

@@ -3,8 +3,8 @@ use std::alloc::{AllocError, Global};
 use std::process::Abort;
 use std::test::Fail;
 use vcd_read::{
-    Bit, Bits, Dump, FaultKind, Path, Pieces, Taker, Value, Values, Variable, Variables, VcdFault,
-    read_front, read_vcd,
+    Apart, Bit, Bits, Dump, FaultKind, Path, Pieces, Taker, Value, Values, Variable, Variables,
+    VcdFault, line_feeds, read_front, read_vcd,
 };
 
 /// What a dump says, a line for each variable and each instant.
@@ -79,18 +79,33 @@ impl Taker for Telling {
         size: u32,
         digits: &[u8],
     ) -> Result<(), AllocError> {
-        let first = digits.first().copied().unwrap_or(b'x');
-        let fill = if first == b'1' { b'0' } else { first };
-        let mut bits = Vec::new(alloc);
-        bits.resize((size as usize).saturating_sub(digits.len()), fill)?;
-        bits.extend_from_slice(digits)?;
-        bits.make_ascii_lowercase();
-        self.changed.retain(|changed| changed.net != net);
-        self.changed.push(Changed { net, bits })?;
-        Ok(())
+        self.set(bits_of(alloc, net, size, digits)?)
     }
 
     fn end_instant(&mut self, alloc: Global, time: u64) -> Result<(), AllocError> {
+        self.tell(alloc, time)
+    }
+}
+
+/// The bits of a value, extended on the left.
+fn bits_of(alloc: Global, net: u32, size: u32, digits: &[u8]) -> Result<Changed, AllocError> {
+    let first = digits.first().copied().unwrap_or(b'x');
+    let fill = if first == b'1' { b'0' } else { first };
+    let mut bits = Vec::new(alloc);
+    bits.resize((size as usize).saturating_sub(digits.len()), fill)?;
+    bits.extend_from_slice(digits)?;
+    bits.make_ascii_lowercase();
+    Ok(Changed { net, bits })
+}
+
+impl Telling {
+    fn set(&mut self, change: Changed) -> Result<(), AllocError> {
+        self.changed.retain(|changed| changed.net != change.net);
+        self.changed.push(change)?;
+        Ok(())
+    }
+
+    fn tell(&mut self, alloc: Global, time: u64) -> Result<(), AllocError> {
         self.changed.sort_unstable_by_key(|changed| changed.net);
         self.text
             .extend_from_slice(format!(in alloc; "#{time}")?.as_bytes())?;
@@ -102,6 +117,47 @@ impl Taker for Telling {
         }
         self.text.push(b'\n')?;
         self.changed.clear();
+        Ok(())
+    }
+}
+
+/// What a taker is told.
+#[derive(Drop)]
+enum Told {
+    Change(Changed),
+    End(u64),
+}
+
+/// Keeps all that it is told.
+#[derive(Drop)]
+struct Keeping {
+    told: Vec<Told>,
+}
+
+impl Taker for Keeping {
+    ghost Taken = { Unit {0} };
+
+    ghost taken = { λ k. tt };
+
+    ghost with_change = { λ k net bits. k };
+
+    ghost with_instant = { λ k time. k };
+
+    fn change(
+        &mut self,
+        alloc: Global,
+        net: u32,
+        size: u32,
+        digits: &[u8],
+    ) -> Result<(), AllocError> {
+        self.told
+            .push(Told::Change(bits_of(alloc, net, size, digits)?))?;
+        Ok(())
+    }
+
+    fn end_instant(&mut self, alloc: Global, time: u64) -> Result<(), AllocError> {
+        let _ = alloc;
+        self.told.push(Told::End(time))?;
         Ok(())
     }
 }
@@ -155,6 +211,103 @@ fn shown_by_pieces(alloc: Global, text: &[u8], size: usize) -> Result<Option<Vec
     Ok(Some(found))
 }
 
+/// Where a text may be cut in front of a time at the beginning of a line.
+fn times_of(alloc: Global, text: &[u8]) -> Result<Vec<usize>, AllocError> {
+    let mut ends = Vec::new(alloc);
+    for (at, b) in text.iter().enumerate() {
+        if *b == b'#' && at > 0 && text.get(at - 1) == Some(&b'\n') {
+            ends.push(at)?;
+        }
+    }
+    ends.push(text.len())?;
+    Ok(ends)
+}
+
+/// A piece, and what it tells where it is read apart.
+#[derive(Drop)]
+struct Kept<'a> {
+    piece: &'a [u8],
+    apart: Option<Apart<Keeping>>,
+}
+
+/// Reads each piece of a body apart from the others.
+fn read_apart<'a>(
+    alloc: Global,
+    pieces: &Pieces<Telling>,
+    body: &'a [u8],
+    ends: &[usize],
+) -> Result<Vec<Kept<'a>>, AllocError> {
+    let mut all = Vec::new(alloc);
+    let mut from = 0;
+    let mut line = pieces.line();
+    for end in ends {
+        let piece = body.get(from..*end).unwrap_or(&[]);
+        let told = Vec::new(alloc);
+        let apart = pieces.apart(alloc, piece, line, Keeping { told });
+        all.push(Kept { piece, apart })?;
+        line = line.saturating_add(line_feeds(piece));
+        from = *end;
+    }
+    Ok(all)
+}
+
+/// What a body is that was read, and how many of its pieces were joined.
+#[derive(Drop)]
+struct Joined {
+    pieces: Pieces<Telling>,
+    count: usize,
+}
+
+/// Goes on behind a piece: it is joined where it fits, and read in order elsewhere.
+fn join_piece(alloc: Global, so_far: Joined, kept: Kept<'_>) -> Result<Joined, VcdFault> {
+    let Joined { pieces, count } = so_far;
+    let Kept { piece, apart } = kept;
+    let Some(apart) = apart else {
+        let pieces = pieces.read(alloc, piece)?;
+        return Ok(Joined { pieces, count });
+    };
+    if !pieces.may_join(&apart) {
+        let pieces = pieces.read(alloc, piece)?;
+        return Ok(Joined { pieces, count });
+    }
+    let ended = pieces.ended_by(&apart);
+    let (pieces, mut telling) = pieces.join(apart);
+    let (pieces, keeping) = pieces.with_taker(Silent);
+    if let Some(time) = ended {
+        telling.tell(alloc, time)?;
+    }
+    for told in keeping.told {
+        match told {
+            Told::Change(change) => telling.set(change)?,
+            Told::End(time) => telling.tell(alloc, time)?,
+        }
+    }
+    let (pieces, _) = pieces.with_taker(telling);
+    Ok(Joined {
+        pieces,
+        count: count.saturating_add(1),
+    })
+}
+
+/// What a dump says whose definitions end in a front, and whose body is cut here, and how many pieces of it were joined.
+fn shown_by_joining(
+    alloc: Global,
+    front: &[u8],
+    body: &[u8],
+    ends: &[usize],
+) -> Result<Option<(Vec<u8>, usize)>, VcdFault> {
+    let Some((pieces, _)) = begun(alloc, front)? else {
+        return Ok(None);
+    };
+    let all = read_apart(alloc, &pieces, body, ends)?;
+    let mut so_far = Joined { pieces, count: 0 };
+    for kept in all {
+        so_far = join_piece(alloc, so_far, kept)?;
+    }
+    let count = so_far.count;
+    Ok(Some((so_far.pieces.finish(alloc)?.text, count)))
+}
+
 /// The sizes of pieces that are tried.
 const SIZES: [usize; 6] = [1, 2, 5, 13, 40, 64];
 
@@ -193,6 +346,40 @@ fn fails_with(alloc: Global, text: &[u8], line: u64, kind: FaultKind) -> bool {
         };
     }
     same
+}
+
+/// Takes changes of which nothing is kept.
+#[derive(Drop)]
+struct Silent;
+
+impl Taker for Silent {
+    ghost Taken = { Unit {0} };
+
+    ghost taken = { λ s. tt };
+
+    ghost with_change = { λ s net bits. s };
+
+    ghost with_instant = { λ s time. s };
+
+    fn change(
+        &mut self,
+        alloc: Global,
+        net: u32,
+        size: u32,
+        digits: &[u8],
+    ) -> Result<(), AllocError> {
+        let _ = alloc;
+        let _ = net;
+        let _ = size;
+        let _ = digits;
+        Ok(())
+    }
+
+    fn end_instant(&mut self, alloc: Global, time: u64) -> Result<(), AllocError> {
+        let _ = alloc;
+        let _ = time;
+        Ok(())
+    }
 }
 
 /// A recording of six lines of the bus.
@@ -444,6 +631,78 @@ fn want_of_memory_is_the_fault(rt: HostRuntime) {
                 fault.line == 0 && fault.kind == FaultKind::Memory,
                 "{fault:?}"
             )
+        }
+    }
+}
+
+/// Definitions with a code that looks like a time.
+const FRONT: &str =
+    "$var wire 1 p P $end $var wire 2 q Q $end $var wire 2 #9 R $end $enddefinitions $end\n";
+
+/// A body that is cut in front of each `#` that begins a line: of its pieces the ones at 0, 5, 5, 6, 10 and 12 fit.
+const BODY: &str = "\
+0p
+#0 1p
+#5 b10 q
+#5 0p
+#6 $dumpvars 1p
+#7 0p $end
+#8 b1
+#9 1p
+#10 0p
+#10 $comment
+#11 $end 1p
+#12 0p
+";
+
+/// What it says.
+const BODY_SHOWN: &str = "\
+#0 0=1
+#5 0=0 1=10
+#6 0=1
+#7 0=0
+#8 0=1 2=01
+#10 0=1
+#12 0=0
+";
+
+#[test]
+fn pieces_are_joined_where_they_fit(rt: HostRuntime) -> Result<(), Fail> {
+    let alloc = rt.alloc();
+    let body = BODY.as_bytes();
+    let Some((found, count)) = shown_by_joining(
+        alloc,
+        FRONT.as_bytes(),
+        body,
+        &times_of(alloc, body)?,
+    )?
+    else {
+        return Err(Fail::new("no definitions"));
+    };
+    assert!(rt; found.as_slice() == BODY_SHOWN.as_bytes(), "{BODY_SHOWN}");
+    assert_eq!(rt; count, 6);
+    for size in SIZES {
+        let ends = ends_of(alloc, body, size)?;
+        let Some((found, _)) = shown_by_joining(alloc, FRONT.as_bytes(), body, &ends)? else {
+            return Err(Fail::new("no definitions"));
+        };
+        assert!(rt; found.as_slice() == BODY_SHOWN.as_bytes(), "by {size}");
+    }
+    Ok(())
+}
+
+#[test]
+fn an_earlier_time_is_a_fault_where_pieces_are_joined(rt: HostRuntime) -> Result<(), Fail> {
+    let alloc = rt.alloc();
+    let body = b"#5 1p\n#3 0p\n#6 1p\n";
+    match shown_by_joining(alloc, FRONT.as_bytes(), body, &times_of(alloc, body)?) {
+        Ok(_) => Err(Fail::new("no fault")),
+        Err(fault) => {
+            assert!(rt;
+                fault.line == 3 && fault.kind == FaultKind::TimeBackwards,
+                "{fault:?}"
+            );
+            Ok(())
         }
     }
 }

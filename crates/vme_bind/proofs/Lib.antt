@@ -10,5 +10,7 @@ pub mod TapsLemmas
 pub mod EndLemmas
 pub mod OpeningLemmas
 pub mod MakingLemmas
+pub mod NotesLemmas
 pub mod TextCaptureLemmas
 pub mod TextPieceLemmas
+pub mod WaveLemmas

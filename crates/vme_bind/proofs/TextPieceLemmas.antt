@@ -22,8 +22,8 @@ use Rattle.vme_bind.specs.Answers.{Fails as BindFails, FailsAs as BindFailsAs}
 use Rattle.vme_bind.specs.Binding.{BoundLines}
 use Rattle.vme_bind.specs.Sought.{Seen, with_variable}
 use Rattle.vme_bind.specs.Wires.{wires_in}
-use Rattle.vme_bind.specs.TextCapture.{FailsBy, DumpFails, BindingFails, recording_behind, recording_of_text}
-use Rattle.vme_bind.specs.TextPieces.{IsOfBinding, LeadsTo, body_outcome, outcome}
+use Rattle.vme_bind.specs.TextCapture.{FailsBy, DumpFails, BindingFails, IsOfBinding, recording_behind, recording_of_text}
+use Rattle.vme_bind.specs.TextPieces.{LeadsTo, body_outcome, outcome}
 use Rattle.vme_bind.proofs.TextCaptureLemmas.{by_instants, by_refusal, text-head}
 
 -- a fault of the dump comes first, whatever the binding has

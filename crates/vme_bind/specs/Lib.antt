@@ -10,5 +10,7 @@ pub mod Taps
 pub mod Capture
 pub mod Recording
 pub mod Made
+pub mod Notes
 pub mod TextCapture
 pub mod TextPieces
+pub mod TextWaves

@@ -69,3 +69,7 @@ FailsBy (Binding fault) answer = BindingFails fault.line fault.kind answer
 abbrev pub GivesBy : {X Y : Type 0} → (X → Y) → Result X CaptureFault → Result Y CaptureFault → Type 0
 GivesBy view (Ok x) answer = answer ≡ Ok (view x)
 GivesBy view (Err fault) answer = FailsBy fault answer
+
+-- a fault that a binding has, and not want of memory
+abbrev pub IsOfBinding : BindFault → Type 0
+IsOfBinding fault = fault.kind ≡ NoMemory → ⊥

@@ -1,18 +1,18 @@
 -- The recording that a binding makes of a dump that is read piece by piece.
 use Rattle.std.specs.Prelude.{◌≡◌, ℕ, List, ◌++◌, Option, None, Some, Result, Ok, Err}
 use Rattle.vme_trace.specs.Trace.{Trace}
+use Rattle.vme_trace.specs.declared.follower.Follower.{Ghosts}
 use Rattle.vcd_read.specs.Fronts.{IsMetAtTheEnd}
-use Rattle.vcd_read.specs.Header.{◌>>=◌, Net}
+use Rattle.vcd_read.specs.Header.{◌>>=◌}
 use Rattle.vcd_read.specs.Meaning.{instants_from}
 use Rattle.vcd_read.specs.Sections.{Headed}
-use Rattle.vcd_read.specs.Body.{BodyPlace}
-use Rattle.vcd_read.specs.Bodies.{ahead}
-use Rattle.vcd_read.specs.Taking.{Taking, at_end}
+use Rattle.vcd_read.specs.Reached.{Reached, reached, rest_of}
+use Rattle.vcd_read.specs.Taking.{at_end}
 use Rattle.vcd_read.specs.Tokens.{Token, tokens}
 use Rattle.vcd_read.specs.declared.fault.VcdFault.{VcdFault}
 use Rattle.vme_bind.specs.declared.fault.BindFault.{BindFault}
-use Rattle.vme_bind.specs.declared.fault.BindKind.TheVariants.{Memory}
 use Rattle.vme_bind.specs.declared.fault.CaptureFault.{CaptureFault}
+use Rattle.vme_bind.specs.declared.text_state.TextPieces.{TextPieces}
 use Rattle.vme_bind.specs.declared.fault.CaptureFault.TheVariants.{Dump, Binding}
 use Rattle.vme_bind.specs.Made.{Made, made_change, made_instant}
 use Rattle.vme_bind.specs.TextCapture.{FailsBy, body_recording, or_dump, recording_of_text}
@@ -29,18 +29,22 @@ abbrev pub outcome : Option BindFault → Result Made VcdFault → Result Trace 
 outcome None body = or_dump body >>= λ made. Ok made.recorded
 outcome (Some fault) body = or_dump body >>= λ made. Err (Binding fault)
 
--- what comes of these tokens, and more behind them, where a body is read so far
-abbrev pub outcome_ahead : Option BindFault → List Net → Taking Made → Option ℕ → BodyPlace → List Token → List Token → Result Trace CaptureFault
-outcome_ahead fault nets waves bracket place tokens more = outcome fault (ahead made_change made_instant nets waves bracket place tokens more >>= at_end made_instant)
+-- how far the recording of a dump is made: the fault that its binding has, and what is made of its body
+pub record TextReached : Type 0 where
+  pub fault : Option BindFault
+  pub body : Reached Made
+
+abbrev pub text_reached : {F : Type 0} {follows : Ghosts F} → TextPieces F follows → TextReached
+text_reached text = record { fault = text.fault; body = reached (λ made. made) text.pieces }
+
+-- what comes of these tokens, and more behind them, where the recording is made so far
+abbrev pub outcome_ahead : TextReached → List Token → List Token → Result Trace CaptureFault
+outcome_ahead t tokens more = outcome t.fault (rest_of made_change made_instant t.body tokens more >>= at_end made_instant)
 
 -- what was read to leaves what comes of the text, whatever follows, or this fault does
 abbrev pub LeadsTo : {X : Type 0} → (X → List Token → Result Trace CaptureFault) → Result X CaptureFault → (List Token → Result Trace CaptureFault) → Type 0
 LeadsTo view (Ok x) before = (more : List Token) → before more ≡ view x more
 LeadsTo view (Err fault) before = (more : List Token) → FailsBy fault (before more)
-
--- a fault that a binding has, and not want of memory
-abbrev pub IsOfBinding : BindFault → Type 0
-IsOfBinding fault = fault.kind ≡ Memory → ⊥
 
 -- what is begun of a text by its front is what comes of each text that goes on so, unless its definitions don't end in it
 abbrev pub BeginsText : {X Y : Type 0} → (X → List Token → Result Trace CaptureFault) → BoundLines → List ℕ → Result (Result X Y) CaptureFault → Type 0

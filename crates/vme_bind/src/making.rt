@@ -47,6 +47,19 @@ impl<F: Follower> Making<F> {
         }
     }
 
+    /// The lines of the nets, their levels, and what took the recording.
+    pub fn into_parts(self) -> (Taps, Recorder, F)
+        ensures parts { self ≡ record { taps = result.0; progress = result.1; recorded = F.recorded result.2 } }
+        ensures lines { (net : ℕ) → AreLines result.1.now.slots (taps_of result.0 net) }
+    {
+        let Making {
+            taps,
+            recorder,
+            follower,
+        } = self;
+        (taps, recorder, follower)
+    }
+
     /// What took the recording.
     pub fn into_follower(self) -> F
         ensures { F.recorded result ≡ self.recorded }

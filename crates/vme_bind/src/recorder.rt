@@ -1,6 +1,6 @@
 //! The levels of the lines as a dump goes on, and the step at which they change.
 
-ghost use Rattle.std.specs.Prelude.{◌≡◌, ◌≢◌, ◌≤◌, ◌<◌, ℕ, false, IfOk, OnOk, map, length};
+ghost use Rattle.std.specs.Prelude.{◌≡◌, ◌≢◌, ◌≤◌, ◌<◌, ℕ, false, IfOk, OnOk, map, length, ◌++◌, All, IfSome};
 ghost use Rattle.std.specs.List.Sorted.{IsNonDecreasing};
 ghost use Rattle.vme_trace.specs.LineNumbers.{line_count};
 ghost use Rattle.vme_trace.specs.Levels.{set_level};
@@ -8,8 +8,10 @@ ghost use Rattle.vme_trace.specs.Trace.{changed};
 ghost use Rattle.vcd_read.specs.Numbers.{extended};
 ghost use Rattle.vme_bind.specs.Capture.{level_of, level_in};
 ghost use Rattle.vme_bind.specs.Taps.{taps_of};
+ghost use Rattle.vme_bind.specs.Notes.{AreOfOne, IsEnd, IsOfLine, end_noted, level_noted, levels_noted, step_noted, steps_noted, with_note, with_notes};
 ghost use Rattle.vme_bind.specs.Recording.{IsLine, differs, AreTouched, AreLines, tapped, valued, changes_between, step_between, step_in};
 
+use crate::note::Note;
 use crate::taps::{Tap, Taps};
 use smallvec::SmallVec;
 use std::alloc::{AllocError, Global};
@@ -64,7 +66,7 @@ fn level_in(tap: Tap, bits: &[Bit]) -> Level
 }
 
 /// What the digits of a value say of the line of a tap.
-fn level_by_digits(tap: Tap, size: u32, digits: &[u8]) -> Level
+pub(crate) fn level_by_digits(tap: Tap, size: u32, digits: &[u8]) -> Level
     requires some { 0 < length digits.now }
     requires fits { length digits.now ≤ size }
     ensures { result ≡ level_in tap.line tap.place (extended size digits.now) }
@@ -95,6 +97,43 @@ fn show(
         }
     }
     Ok(changes)
+}
+
+/// The place of the last end of an instant.
+fn last_end(notes: &[Note]) -> Option<usize>
+    ensures { IfSome result (IsEnd notes.now) }
+{
+    let mut place = notes.len();
+    while 0 < place {
+        place -= 1;
+        if let Note::Ended(_) = notes[place] {
+            return Some(place);
+        }
+    }
+    None
+}
+
+/// Gives a line the level of a note, if it is of one.
+fn set_noted(levels: &mut Lines, note: Note)
+    requires { IsOfLine levels.old.slots note }
+    ensures { levels.new ≡ level_noted levels.old note }
+{
+    match note {
+        Note::Changed(change) => levels.set(change.line, change.level),
+        Note::Ended(_) => {}
+    }
+}
+
+/// The levels behind some notes.
+fn levels_behind(now: &Lines, notes: &[Note]) -> Lines
+    requires { All (IsOfLine now.now.slots) notes.now }
+    ensures { result ≡ levels_noted now.now notes.now }
+{
+    let mut levels = *now;
+    for note in notes {
+        set_noted(&mut levels, *note);
+    }
+    levels
 }
 
 impl Recorder {
@@ -259,5 +298,125 @@ impl Recorder {
     {
         self.set_values(taps, values)?;
         self.end_instant(alloc, time)
+    }
+
+    /// The levels after the steps so far.
+    pub fn shown(&self) -> &Lines
+        ensures { result.now ≡ self.entry.now.shown }
+    {
+        &self.shown
+    }
+
+    /// The same levels again. The only error is want of memory.
+    pub fn copy(&self, alloc: Global) -> Result<Recorder, AllocError>
+        ensures same { IfOk result (λ recorder. recorder ≡ self.entry.now) }
+        ensures one { AreOfOne self.entry.now }
+    {
+        Ok(Recorder {
+            shown: self.shown,
+            now: self.now,
+            touched: Vec::from_slice(alloc, &self.touched)?,
+        })
+    }
+
+    /// Makes the step of a note, if it is the end of an instant at which some line changes.
+    pub fn make(
+        &mut self,
+        alloc: Global,
+        note: Note,
+        steps: &mut Vec<Step>,
+    ) -> Result<(), AllocError>
+        requires { IsOfLine self.old.now.slots note }
+        ensures slots { self.new.now.slots ≡ self.old.now.slots }
+        ensures levels { OnOk result (self.new ≡ with_note self.old note) }
+        ensures steps { OnOk result (steps.new.items ≡ steps.old.items ++ step_noted self.old note) }
+    {
+        match note {
+            Note::Changed(change) => self.set_line(change.line, change.level),
+            Note::Ended(time) => {
+                if let Some(step) = self.end_instant(alloc, time)? {
+                    steps.push(step)?;
+                }
+                Ok(())
+            }
+        }
+    }
+
+    /// Makes the steps of some notes, behind others.
+    pub fn replay(
+        &mut self,
+        alloc: Global,
+        notes: &[Note],
+        steps: &mut Vec<Step>,
+    ) -> Result<(), AllocError>
+        requires { All (IsOfLine self.old.now.slots) notes.now }
+        ensures levels { OnOk result (self.new ≡ with_notes self.old notes.now) }
+        ensures steps { OnOk result (steps.new.items ≡ steps.old.items ++ steps_noted self.old notes.now) }
+    {
+        for note in notes {
+            self.make(alloc, *note, steps)?;
+        }
+        Ok(())
+    }
+
+    /// Goes on over some notes, whose steps aren't made. The levels up to the last end of an instant are shown at once.
+    pub fn pass(&mut self, notes: &[Note]) -> Result<(), AllocError>
+        requires { All (IsOfLine self.old.now.slots) notes.now }
+        ensures { OnOk result (self.new ≡ with_notes self.old notes.now) }
+    {
+        match last_end(notes) {
+            Some(place) => {
+                self.end_behind(&notes[..place]);
+                self.pass_each(&notes[place + 1..])
+            }
+            None => self.pass_each(notes),
+        }
+    }
+
+    /// Goes on over the end of an instant, if there is one.
+    pub fn pass_end(&mut self, time: Option<u64>)
+        ensures slots { self.new.now.slots ≡ self.old.now.slots }
+        ensures levels { self.new ≡ with_notes self.old (end_noted time) }
+    {
+        if time.is_some() {
+            self.end_behind(&[]);
+        }
+    }
+
+    /// Goes on over some notes, and the end of an instant behind them.
+    fn end_behind(&mut self, notes: &[Note])
+        requires { All (IsOfLine self.old.now.slots) notes.now }
+        ensures { self.new ≡ record
+            { shown = levels_noted self.old.now notes.now; now = levels_noted self.old.now notes.now } }
+    {
+        let levels = levels_behind(&self.now, notes);
+        self.shown = levels;
+        self.now = levels;
+        self.touched.clear();
+    }
+
+    /// Goes on over some notes, one after another.
+    fn pass_each(&mut self, notes: &[Note]) -> Result<(), AllocError>
+        requires { All (IsOfLine self.old.now.slots) notes.now }
+        ensures { OnOk result (self.new ≡ with_notes self.old notes.now) }
+    {
+        for note in notes {
+            self.pass_one(*note)?;
+        }
+        Ok(())
+    }
+
+    fn pass_one(&mut self, note: Note) -> Result<(), AllocError>
+        requires { IsOfLine self.old.now.slots note }
+        ensures slots { self.new.now.slots ≡ self.old.now.slots }
+        ensures levels { OnOk result (self.new ≡ with_note self.old note) }
+    {
+        match note {
+            Note::Changed(change) => self.set_line(change.line, change.level),
+            Note::Ended(_) => {
+                self.end_behind(&[]);
+                Ok(())
+            }
+        }
     }
 }

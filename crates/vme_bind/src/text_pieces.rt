@@ -4,35 +4,24 @@ ghost use Rattle.std.specs.Prelude.{◌≡◌, ◌++◌, ℕ, List, [], IfOk, No
 ghost use Rattle.std.specs.List.{fold};
 ghost use Rattle.std.specs.Option.{ForSome};
 ghost use Rattle.vme_trace.specs.declared.level.Level.TheVariants.{Unknown};
-ghost use Rattle.vcd_read.specs.Bodies.{place_of};
 ghost use Rattle.vcd_read.specs.Reading.{line_behind};
-ghost use Rattle.vcd_read.specs.Taking.{taking};
 ghost use Rattle.vcd_read.specs.Tokens.{tokens_from};
 ghost use Rattle.vcd_read.specs.declared.dump.Variable.{Variable};
 ghost use Rattle.vcd_read.specs.Fronts.{going_on};
 ghost use Rattle.vcd_read.specs.Sections.{defined};
 ghost use Rattle.vme_bind.specs.Sought.{seen_in, unseen, with_variable};
-ghost use Rattle.vme_bind.specs.TextCapture.{GivesBy, recording_behind};
-ghost use Rattle.vme_bind.specs.TextPieces.{BeginsText, IsOfBinding, LeadsTo, body_outcome, outcome_ahead};
+ghost use Rattle.vme_bind.specs.TextCapture.{GivesBy, IsOfBinding, recording_behind};
+ghost use Rattle.vme_bind.specs.TextPieces.{BeginsText, LeadsTo, body_outcome, outcome_ahead, text_reached};
 
 use crate::binding::Binding;
 use crate::fault::{BindFault, BindKind, CaptureFault};
-use crate::making::Making;
 use crate::search::Search;
 use crate::text_capture::{making_of, want_of_memory};
+use crate::text_state::TextPieces;
 use crate::wires::Wire;
 use std::alloc::Global;
-use vcd_read::{Front, Pieces, read_front};
+use vcd_read::{Front, read_front};
 use vme_trace::{Follower, Lines};
-
-/// The recording that a binding makes of a dump, as far as some pieces of its text go.
-#[derive(Drop)]
-pub struct TextPieces<F: Follower> {
-    pieces: Pieces<Making<F>>,
-    /// Why the binding makes no recording of it, which is told at the end, if the dump has no fault.
-    fault: Option<BindFault>,
-    ghost own: { ForSome fault IsOfBinding },
-}
 
 /// Begins to make the recording of a body by what the front of a text has of it, with these wires, or a fault of the
 /// binding.
@@ -46,10 +35,8 @@ fn begin_wires<F: Follower>(
 ) -> Result<TextPieces<F>, CaptureFault>
     requires lines { lines.now.levels ≡ replicate 159 Unknown }
     requires own { ForSome fault IsOfBinding }
-    ensures line { IfOk result (λ text. text.pieces.line ≡ front.entry.line) }
-    ensures rest { LeadsTo (λ text. outcome_ahead text.fault text.pieces.codes
-        (taking text.pieces.underway.waves.taker text.pieces.underway.waves.clock) text.pieces.underway.bracket
-        (place_of text.pieces.underway.place) []) result
+    ensures line { IfOk result (λ text. (text_reached text).body.line ≡ front.entry.line) }
+    ensures rest { LeadsTo (λ text. outcome_ahead (text_reached text) []) result
         (λ more. body_outcome fault lines.now.slots wires.now (going_on front.entry.head more)) }
 {
     let made = match making_of(alloc, lines, wires, follower) {
@@ -71,10 +58,9 @@ impl Binding {
         front: &[u8],
         follower: F,
     ) -> Result<Result<TextPieces<F>, F>, CaptureFault>
-        ensures line { IfOk result (λ begun. IfOk begun (λ text. text.pieces.line ≡ line_behind 1 front.now)) }
-        ensures begins { BeginsText (λ text. outcome_ahead text.fault text.pieces.codes
-            (taking text.pieces.underway.waves.taker text.pieces.underway.waves.clock) text.pieces.underway.bracket
-            (place_of text.pieces.underway.place) []) self.now front.now result }
+        ensures line { IfOk result (λ begun. IfOk begun (λ text. (text_reached text).body.line
+            ≡ line_behind 1 front.now)) }
+        ensures begins { BeginsText (λ text. outcome_ahead (text_reached text) []) self.now front.now result }
     {
         let search = match Search::new(alloc, self.assignments()) {
             Ok(search) => search,
@@ -100,12 +86,10 @@ impl Binding {
         search: &Search<'_>,
         follower: F,
     ) -> Result<TextPieces<F>, CaptureFault>
-        ensures line { IfOk result (λ text. text.pieces.line ≡ front.entry.line) }
+        ensures line { IfOk result (λ text. (text_reached text).body.line ≡ front.entry.line) }
         ensures rest { (variables : List Variable)
             → map seen_in search.now.sought.items ≡ fold with_variable (map unseen self.now.assignments) variables
-            → LeadsTo (λ text. outcome_ahead text.fault text.pieces.codes
-            (taking text.pieces.underway.waves.taker text.pieces.underway.waves.clock) text.pieces.underway.bracket
-            (place_of text.pieces.underway.place) []) result
+            → LeadsTo (λ text. outcome_ahead (text_reached text) []) result
             (λ more. recording_behind self.now (defined (going_on front.entry.head more) variables)) }
     {
         match search.wires(alloc) {
@@ -121,14 +105,10 @@ impl Binding {
 impl<F: Follower> TextPieces<F> {
     /// Takes the next piece of the text, which ends behind a space, or where the text does.
     pub fn read(self, alloc: Global, piece: &[u8]) -> Result<TextPieces<F>, CaptureFault>
-        ensures line { IfOk result (λ text. text.pieces.line ≡ line_behind self.pieces.line piece.now) }
-        ensures rest { LeadsTo (λ text. outcome_ahead text.fault text.pieces.codes
-            (taking text.pieces.underway.waves.taker text.pieces.underway.waves.clock) text.pieces.underway.bracket
-            (place_of text.pieces.underway.place) []) result
-            (outcome_ahead self.fault self.pieces.codes
-            (taking self.pieces.underway.waves.taker self.pieces.underway.waves.clock)
-            self.pieces.underway.bracket (place_of self.pieces.underway.place)
-            (tokens_from self.pieces.line piece.now)) }
+        ensures line { IfOk result (λ text. (text_reached text).body.line
+            ≡ line_behind (text_reached self).body.line piece.now) }
+        ensures rest { LeadsTo (λ text. outcome_ahead (text_reached text) []) result
+            (outcome_ahead (text_reached self) (tokens_from (text_reached self).body.line piece.now)) }
     {
         let TextPieces { pieces, fault } = self;
         match pieces.read(alloc, piece) {
@@ -139,9 +119,7 @@ impl<F: Follower> TextPieces<F> {
 
     /// What took the recording of the text, of which nothing is left. A fault of the dump comes before one of the binding.
     pub fn finish(self, alloc: Global) -> Result<F, CaptureFault>
-        ensures { GivesBy (λ f. F.recorded f) result (outcome_ahead self.fault self.pieces.codes
-            (taking self.pieces.underway.waves.taker self.pieces.underway.waves.clock) self.pieces.underway.bracket
-            (place_of self.pieces.underway.place) [] []) }
+        ensures { GivesBy (λ f. F.recorded f) result (outcome_ahead (text_reached self) [] []) }
     {
         let TextPieces { pieces, fault } = self;
         match pieces.finish(alloc) {

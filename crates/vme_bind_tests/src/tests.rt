@@ -1,9 +1,11 @@
+ghost use Rattle.std.specs.Prelude.{◌≡◌};
+
 use std::alloc::{AllocError, Global};
 use std::process::Abort;
 use std::test::Fail;
 use vcd_read::{FaultKind, VcdFault, read_vcd};
-use vme_bind::{BindFault, BindKind, Binding, CaptureFault, read_binding};
-use vme_trace::{Capture, Level, Line};
+use vme_bind::{BindFault, BindKind, Binding, CaptureFault, TextWave, read_binding};
+use vme_trace::{Capture, Follower, Level, Line, Lines, Step};
 
 /// A binding of six lines to variables, and of the others to levels.
 const BUS_LINES: &str = "\
@@ -80,8 +82,12 @@ fn sign_of(level: Level) -> u8 {
 
 /// The steps of a recording, a line each.
 fn shown(alloc: Global, capture: &Capture) -> Result<Vec<u8>, AllocError> {
+    written(alloc, capture.steps())
+}
+
+fn written(alloc: Global, steps: &[Step]) -> Result<Vec<u8>, AllocError> {
     let mut text = Vec::new(alloc);
-    for step in capture.steps() {
+    for step in steps {
         let time = step.time;
         text.extend_from_slice(format!(in alloc; "#{time}")?.as_bytes())?;
         for change in step.changes.as_slice() {
@@ -502,4 +508,101 @@ fn want_of_memory_at_a_text_is_the_fault(rt: HostRuntime) {
         Err(CaptureFault::Binding(fault)) => assert!(rt; fault.kind == BindKind::Memory),
         Err(CaptureFault::Dump(fault)) => assert!(rt; fault.kind == FaultKind::Memory),
     }
+}
+
+/// A recording that is kept as it is made.
+#[derive(Drop)]
+struct Kept {
+    opening: Lines,
+    steps: Vec<Step>,
+}
+
+impl Follower for Kept {
+    ghost recorded = { λ kept. record { opening = kept.opening; steps = kept.steps.items } };
+
+    fn open(&mut self, opening: &Lines) {
+        self.opening = *opening;
+        self.steps.clear();
+    }
+
+    fn step(&mut self, alloc: Global, step: Step) -> Result<(), AllocError> {
+        let _ = alloc;
+        self.steps.push(step)?;
+        Ok(())
+    }
+}
+
+fn shared<T: Sync>(value: &T) -> &T
+    ensures { result.now ≡ value.now }
+{
+    value
+}
+
+fn sent<T: Send>(value: T) -> T
+    ensures { result ≡ value }
+{
+    value
+}
+
+/// Reads a piece apart and joins it at once. None is given where it doesn't fit.
+fn joined(
+    alloc: Global,
+    wave: TextWave,
+    piece: &[u8],
+    kept: &mut Kept,
+) -> Result<Option<TextWave>, AllocError> {
+    let line = wave.line();
+    let Some(noted) = shared(&wave).read_apart(alloc, piece, line) else {
+        return Ok(None);
+    };
+    let noted = sent(noted);
+    if !wave.may_join(&noted) {
+        return Ok(None);
+    }
+    let (wave, part) = wave.join(alloc, piece, noted)?;
+    for step in sent(part).steps(alloc)? {
+        kept.step(alloc, step)?;
+    }
+    Ok(Some(wave))
+}
+
+/// Reads this body behind the front of the bus, by a wave of pieces, each of which is a line.
+fn in_a_wave(alloc: Global, front: &str, lines: &[&str]) -> Result<Option<Vec<u8>>, Fail> {
+    let binding = read_binding(alloc, BUS_LINES.as_bytes())?;
+    let kept = Kept {
+        opening: Lines::new(1).ok_or("no slots")?,
+        steps: Vec::new(alloc),
+    };
+    let Ok(text) = binding.begin_text(alloc, front.as_bytes(), kept)? else {
+        return Ok(None);
+    };
+    let (mut wave, mut kept) = text.into_wave();
+    for line in lines {
+        match joined(alloc, wave, line.as_bytes(), &mut kept)? {
+            Some(next) => wave = next,
+            None => return Ok(None),
+        }
+    }
+    let kept = wave.with_follower(kept).finish(alloc)?;
+    Ok(Some(written(alloc, &kept.steps)?))
+}
+
+#[test]
+fn a_wave_of_pieces_records_what_their_text_does(rt: HostRuntime) -> Result<(), Fail> {
+    let front = bus_dump(rt.alloc(), AS, "#0 1p 1q 1r 1s 1t 1u\n")?;
+    let lines = ["#10 0p\n", "#20 0q\n", "#30 0s\n#40 1p 1q\n", "#50 1s\n"];
+    let found = in_a_wave(rt.alloc(), front.as_str(), &lines)?;
+    let found = found.ok_or("a piece doesn't fit")?;
+    assert!(rt; found.as_slice() == READ_STEPS.as_bytes());
+    Ok(())
+}
+
+#[test]
+fn a_piece_that_does_not_fit_is_not_joined(rt: HostRuntime) -> Result<(), Fail> {
+    let front = bus_dump(rt.alloc(), AS, "#20 1p $dumpvars 1q\n")?;
+    assert!(rt; in_a_wave(rt.alloc(), front.as_str(), &["#30 0p\n"])?.is_none());
+    let front = bus_dump(rt.alloc(), AS, "#20 1p 1q\n")?;
+    assert!(rt; in_a_wave(rt.alloc(), front.as_str(), &["#10 0p\n"])?.is_none());
+    assert!(rt; in_a_wave(rt.alloc(), front.as_str(), &["0p\n"])?.is_none());
+    Ok(())
 }

@@ -6,6 +6,7 @@ use Rattle.vcd_read.specs.declared.fault.VcdFault.{VcdFault}
 use Rattle.vcd_read.specs.declared.fault.FaultKind.TheVariants.{Memory}
 use Rattle.vme_bind.specs.Binding.{BoundLines, binding_of}
 use Rattle.vme_bind.specs.TextCapture.{capture_of_text}
+use Rattle.vme_bind.specs.declared.fault.BindKind.TheVariants.{Memory as NoMemory}
 use Rattle.vme_bind.specs.declared.fault.CaptureFault.{CaptureFault}
 use Rattle.vme_bind.specs.declared.fault.CaptureFault.TheVariants.{Dump, Binding}
 use Rattle.vme_trace.specs.Trace.{Trace}
@@ -30,3 +31,8 @@ IsDumpFault dump (Binding fault) = Unit {0}
 abbrev pub IsNoMemory : CaptureFault → Type 0
 IsNoMemory (Dump fault) = fault ≡ record { line = 0; kind = Memory }
 IsNoMemory (Binding fault) = Unit {0}
+
+-- the fault is want of memory
+abbrev pub IsWantOfMemory : CaptureFault → Type 0
+IsWantOfMemory (Dump fault) = fault.kind ≡ Memory
+IsWantOfMemory (Binding fault) = fault.kind ≡ NoMemory

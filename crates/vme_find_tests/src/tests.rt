@@ -1,6 +1,8 @@
 use memchr::memmem;
 use std::alloc::Global;
 use std::test::Fail;
+use vcd_read::{FaultKind, VcdFault};
+use vme_bind::{BindFault, BindKind, CaptureFault};
 use vme_find::{time_unit, variables_text, write_binding};
 
 /// A dump of one variable under a standard name, and of one that is none.
@@ -28,6 +30,28 @@ fn a_variable_is_found_by_its_name(rt: HostRuntime) -> Result<(), Fail> {
             assert!(rt; text.as_bytes().starts_with(head));
         }
         Err(_) => assert!(rt; false),
+    }
+    Ok(())
+}
+
+/// The binding of `DUMP`, or want of memory and no other fault: lines that could not be looked for aren't bound to constants.
+#[test]
+fn each_growth_fails_once(rt: HostRuntime) -> Result<(), Fail> {
+    let no_memory = VcdFault {
+        line: 0,
+        kind: FaultKind::Memory,
+    };
+    let no_memory_for_binding = BindFault {
+        line: 0,
+        kind: BindKind::Memory,
+    };
+    match write_binding(rt.alloc(), DUMP.as_bytes(), Some(2)) {
+        Ok(text) => assert!(rt;
+            text.as_bytes()
+                .starts_with(b"# Found by the names in the scope bus")
+        ),
+        Err(CaptureFault::Dump(fault)) => assert_eq!(rt; fault, no_memory),
+        Err(CaptureFault::Binding(fault)) => assert_eq!(rt; fault, no_memory_for_binding),
     }
     Ok(())
 }

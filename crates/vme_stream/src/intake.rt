@@ -1,6 +1,6 @@
 //! Reading a source to its end, by what takes its bytes as they come.
 
-ghost use Rattle.std.specs.Prelude.{◌≡◌, ℕ, ◌+◌, ◌*◌, ◌-◌, ◌≤◌, ◌<◌, List, length, take, drop, Some, None, Err, IfOk, vec_len};
+ghost use Rattle.std.specs.Prelude.{◌≡◌, ℕ, ◌+◌, ◌*◌, ◌-◌, ◌≤◌, ◌<◌, List, length, take, drop, Some, None, Ok, Err, IfOk, vec_len};
 ghost use Rattle.vme_stream.specs.Inputs.{IsInTime, IsReading, longest_input, most_reads};
 ghost use Rattle.vme_stream.specs.Intakes.{Passes};
 
@@ -8,32 +8,32 @@ use crate::input::{InFault, LONGEST, MOST_READS, read_behind};
 use std::alloc::{AllocError, Global};
 use vme_trace::Source;
 
-/// What takes the bytes of an input as they are read.
+/// What the bytes of an input come to, as they are read.
 pub trait Intake: Drop + Sized {
     /// What an input can come to.
     ghost Outcome: { Type 0 };
 
     /// What comes of these bytes, behind those that were taken.
     ghost ahead: { Self → List ℕ → Self.Outcome };
-
-    /// Takes some of the first of these bytes, and says how many. The others come again, with more behind them.
-    fn take(self, alloc: Global, bytes: &[u8]) -> Result<(Self, usize), AllocError>
-        ensures within { IfOk result (λ made. made.1 ≤ length bytes.now) }
-        ensures taken { IfOk result (λ made. Passes (Self.ahead self) (Self.ahead made.0) (take made.1 bytes.now)) };
 }
 
-/// Reads a source to its end, and gives its bytes to what takes them, `piece` of them at once, or more where none of so many
-/// can be taken. The answer is what took them, and the last bytes, which it left.
+/// Reads a source to its end, and has its bytes taken, `piece` of them at once, or more where none of so many can be taken:
+/// `taker` takes some of the first of those that it is given, and says how many. The others come again, with more behind
+/// them. The answer is what all of them came to, and the last bytes, which were left.
 ///
 /// The answer is Read exactly where a read failed, or 16,777,216 gave bytes; else it is TooLong where there are more than
 /// 268,435,456 bytes, unless there is no memory.
-pub fn read_by<R: Source, T: Intake>(
+pub fn read_by<R: Source, T: Intake, M: Fn(T, &[u8]) -> Result<(T, usize), AllocError>>(
     alloc: Global,
     source: &mut R,
     intake: T,
     piece: usize,
+    taker: &M,
 ) -> Result<(T, Vec<u8>), InFault>
-    requires { (1 ≤ piece) × (piece ≤ longest_input) }
+    requires piece { (1 ≤ piece) × (piece ≤ longest_input) }
+    requires callable { M.IsAlwaysCallable taker.now }
+    requires takes { (t : T) (bytes : _) (made : _) → M.post taker.now t bytes (Ok made)
+        → (made.1 ≤ length bytes.now) × Passes (T.ahead t) (T.ahead made.0) (take made.1 bytes.now) }
     ensures bytes { IfOk result (λ made. (bytes : List ℕ) × (length bytes ≤ longest_input)
         × IsReading (R.reading source.old) (R.reading source.new) (Some bytes)
         × (T.ahead intake bytes ≡ T.ahead made.0 made.1.items)) }
@@ -53,7 +53,7 @@ pub fn read_by<R: Source, T: Intake>(
         if taken + filled > LONGEST {
             return Err(InFault::TooLong);
         }
-        let (next, count) = make_room(alloc, intake, &mut bytes, filled)?;
+        let (next, count) = make_room(intake, &mut bytes, filled, taker)?;
         intake = next;
         taken += count;
         filled -= count;
@@ -72,12 +72,15 @@ pub fn read_by<R: Source, T: Intake>(
 
 /// Makes room behind the first `filled` bytes: where there is none, some are taken, or if none can be there is as much room
 /// again. Says how many were taken: those behind them stand at the front then.
-fn make_room<T: Intake>(
-    alloc: Global,
+fn make_room<T: Intake, M: Fn(T, &[u8]) -> Result<(T, usize), AllocError>>(
     intake: T,
     bytes: &mut Vec<u8>,
     filled: usize,
+    taker: &M,
 ) -> Result<(T, usize), AllocError>
+    requires callable { M.IsAlwaysCallable taker.now }
+    requires takes { (t : T) (bytes : _) (made : _) → M.post taker.now t bytes (Ok made)
+        → (made.1 ≤ length bytes.now) × Passes (T.ahead t) (T.ahead made.0) (take made.1 bytes.now) }
     requires within { filled ≤ vec_len bytes.old }
     requires some { 0 < vec_len bytes.old }
     requires short { filled ≤ longest_input }
@@ -90,7 +93,7 @@ fn make_room<T: Intake>(
     if filled < bytes.len() {
         return Ok((intake, 0));
     }
-    let (intake, count) = intake.take(alloc, bytes.as_slice())?;
+    let (intake, count) = taker(intake, bytes.as_slice())?;
     if count == 0 {
         bytes.resize(2 * filled, 0)?;
     } else {

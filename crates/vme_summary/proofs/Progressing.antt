@@ -14,17 +14,17 @@ use Rattle.vme_monitor.specs.Run.{run_of}
 use Rattle.vme_monitor.specs.Runs.{levels_after-append, run_joined}
 use Rattle.vme_monitor.specs.Silence.{FindsFor}
 use Rattle.vme_monitor.specs.declared.mark.Next.{Next}
-use Rattle.vme_summary.specs.Summaries.{SummaryFindsFor, SummaryStandsFor, stands_finds_all, summary_steps}
+use Rattle.vme_summary.specs.Summaries.{SummaryStandsFor, stands_finds_all, summary_steps}
 use Rattle.vme_summary.specs.Joins.{BlocksJoin}
 use Rattle.vme_summary.specs.Stands.{IsExtent, Meets, SpanStandsFor, first_number, joined_extent, recorded, step_count}
-use Rattle.vme_summary.specs.Progressed.{FoundAfter, HasCome, HasFound, HasFoundAll, HasJudged, HasSeen, judged_steps}
+use Rattle.vme_summary.specs.Progressed.{FoundAfter, HasCome, HasFound, HasFoundAll, HasJudged, HasSeen, IsFoundOf, judged_steps}
 use Rattle.vme_summary.specs.declared.extent.Extent.{Extent}
 use Rattle.vme_summary.specs.declared.found.Found.{Found}
 use Rattle.vme_summary.specs.declared.progress.Progress.{Progress}
 use Rattle.vme_summary.specs.declared.found.Seen.{Seen}
+use Rattle.vme_summary.specs.declared.judgement.Judgement.{Judgement}
 use Rattle.vme_summary.specs.declared.judging.Judging.{Judging}
 use Rattle.vme_summary.specs.declared.span.Span.{Span}
-use Rattle.vme_summary.specs.declared.summary.Summary.{Summary}
 use Rattle.vme_summary.proofs.Chains.{steps-append}
 use Rattle.vme_summary.proofs.Extents.{extent_joined, left_by_steps}
 use Rattle.vme_summary.proofs.Whole.{joined_sound}
@@ -92,12 +92,12 @@ pub come_join : (p : Progress) (blocks : List Block) → HasCome p blocks → Bl
 come_join p blocks c = c.extent.join
 
 -- judging goes on past further steps
-pub judged_on : (j : Judging) (s : Summary) (v : Levels) (n : ℕ) (f : Found) (y : List Step) → SummaryFindsFor s j.left y → v ≡ levels_after j.left y → n ≡ j.steps + summary_steps s → FoundAfter j.found j.steps s f
-    → (o : Levels) (x : List Step) → HasJudged j o x → HasJudged (record { left = v; steps = n; found = f }) o (x ++ y)
-judged_on j s v n f y finds left count found o x h =
-    let long : summary_steps s ≡ length y = finds.known.counted in
+pub judged_on : (j : Judging) (m : Judgement) (n : ℕ) (f : Found) → n ≡ j.steps + summary_steps m.summary → FoundAfter j.found j.steps m.summary f
+    → (o : Levels) (x y : List Step) → HasJudged j o x → IsFoundOf m (levels_after o x) y → HasJudged (record { left = m.left; steps = n; found = f }) o (x ++ y)
+judged_on j m n f count found o x y h made =
+    let long : summary_steps m.summary ≡ length y = made.finds.known.counted in
     record {
-      left = left ∙ ap (λ (w : Levels). levels_after w y) h.left ∙ sym (levels_after-append x y o);
-      counted = count ∙ ap (λ k. k + summary_steps s) h.counted ∙ ap (λ k. length x + k) long ∙ sym (length-append x y);
-      found = found o x y h.counted h.found (subst (λ (w : Levels). SummaryFindsFor s w y) h.left finds);
+      left = made.left ∙ sym (levels_after-append x y o);
+      counted = count ∙ ap (λ k. k + summary_steps m.summary) h.counted ∙ ap (λ k. length x + k) long ∙ sym (length-append x y);
+      found = found o x y h.counted h.found made.finds;
     }

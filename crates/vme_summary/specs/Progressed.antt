@@ -17,6 +17,7 @@ use Rattle.vme_summary.specs.Runs.{known_run, handshake_run, stability_run, gran
 use Rattle.vme_summary.specs.Summaries.{SummaryFindsFor, SummaryStandsFor}
 use Rattle.vme_summary.specs.Stands.{IsExtent, SpanStandsFor}
 use Rattle.vme_summary.specs.declared.found.Found.{Found}
+use Rattle.vme_summary.specs.declared.judgement.Judgement.{Judgement}
 use Rattle.vme_summary.specs.declared.judging.Judging.{Judging}
 use Rattle.vme_summary.specs.declared.marking.Marking.{Marking}
 use Rattle.vme_summary.specs.declared.progress.Progress.{Progress}
@@ -57,6 +58,11 @@ pub record HasJudged (j : Judging) (o : Levels) (x : List Step) : Type 0 where
   pub counted : j.steps ≡ length x
   pub found : HasFound j.found o x
 
+-- steps that follow this opening were judged by themselves: this is found of them, and they leave these lines
+pub record IsFoundOf (j : Judgement) (o : Levels) (y : List Step) : Type 0 where
+  pub finds : SummaryFindsFor j.summary o y
+  pub left : j.left ≡ levels_after o y
+
 -- some summary stands for these steps after this opening, or there is none yet of none
 abbrev pub StandsSoFar : Option Summary → Levels → List Step → Type 0
 StandsSoFar None o x = x ≡ []
@@ -66,6 +72,11 @@ StandsSoFar (Some s) o x = SummaryStandsFor s o x
 pub record HasMarked (m : Marking) (o : Levels) (x : List Step) : Type 0 where
   pub left : m.left ≡ levels_after o x
   pub stands : StandsSoFar m.summary o x
+
+-- and so with the marks
+pub record IsMarkedOf (j : Judgement) (o : Levels) (y : List Step) : Type 0 where
+  pub stands : SummaryStandsFor j.summary o y
+  pub left : j.left ≡ levels_after o y
 
 -- judging has come past these blocks: they have this extent, and this is found of all their steps after the first opening
 pub record HasCome (p : Progress) (blocks : List Block) : Type 0 where

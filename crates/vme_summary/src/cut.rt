@@ -7,7 +7,7 @@ ghost use Rattle.vme_listing.specs.Places.{is_well_placed};
 ghost use Rattle.vme_listing.specs.Recorded.{listing_of};
 ghost use Rattle.vme_summary.specs.CutFaults.{HasTooManyBlocks, IsBadSize};
 
-use crate::advance::Advance;
+use crate::advance::{Advance, go_on};
 use crate::judging::Judging;
 use crate::marking::Marking;
 use std::alloc::Global;
@@ -46,7 +46,7 @@ fn judged_by_blocks<J: Advance>(alloc: Global, capture: &Capture, size: u32) -> 
     let mut judging = J::at(capture.opening());
     let steps = capture.steps();
     for block in steps.chunks(size as usize) {
-        let Ok(()) = judging.go_on(alloc, block) else {
+        let Ok(()) = go_on(&mut judging, alloc, block) else {
             return Err(CutFault::Memory);
         };
     }

@@ -8,6 +8,7 @@ ghost use Rattle.vme_summary.specs.Progressed.{HasJudged};
 
 use crate::advance::Advance;
 use crate::found::Found;
+use crate::judgement::Judgement;
 use crate::summary::Summary;
 use std::alloc::{AllocError, Global};
 use vme_trace::{Lines, Step, Verdict};
@@ -22,9 +23,11 @@ pub struct Judging {
 }
 
 impl Advance for Judging {
-    ghost use Rattle.vme_summary.specs.Progressed.{HasJudged};
+    ghost use Rattle.vme_summary.specs.Progressed.{HasJudged, IsFoundOf};
 
     ghost is_past = { HasJudged };
+
+    ghost is_made_of = { IsFoundOf };
 
     fn at(opening: &Lines) -> Judging {
         Judging {
@@ -34,11 +37,20 @@ impl Advance for Judging {
         }
     }
 
-    fn go_on(&mut self, alloc: Global, steps: &[Step]) -> Result<(), AllocError> {
-        let (summary, left) = Summary::in_silence(alloc, &self.left, steps)?;
-        self.found = summary.found_after(&self.found, self.steps);
-        self.steps += summary.steps();
-        self.left = left;
+    fn left(&self) -> &Lines {
+        &self.left
+    }
+
+    fn judge(alloc: Global, opening: &Lines, steps: &[Step]) -> Result<Judgement, AllocError> {
+        let (summary, left) = Summary::in_silence(alloc, opening, steps)?;
+        Ok(Judgement { summary, left })
+    }
+
+    fn pass(&mut self, alloc: Global, judgement: Judgement) -> Result<(), AllocError> {
+        let _ = alloc;
+        self.found = judgement.summary.found_after(&self.found, self.steps);
+        self.steps += judgement.summary.steps();
+        self.left = judgement.left;
         Ok(())
     }
 }

@@ -9,6 +9,9 @@
 //! for a verdict (`judging`) and with them for a listing (`marking`). [`Judge`] and [`Lister`] take the steps as they are
 //! made; [`verdict_by_blocks`] and [`listing_by_blocks`] take a capture, and copy none of its blocks.
 //!
+//! What judges takes steps that were judged apart, too: a [`JudgedPart`] is made of steps that follow some lines, on any
+//! thread, and the parts of a recording are passed in order to what judges it.
+//!
 //! A [`Progress`] goes on past further blocks from where judging has come to, without a join and without memory.
 //!
 //! Contracts have one word: `SpanStandsFor span blocks` (`specs/Stands`). Start there and with `span`. `Span` and
@@ -21,9 +24,11 @@ mod cut;
 mod extent;
 mod found;
 pub mod judged;
+mod judgement;
 mod judging;
 mod marking;
 mod monitors;
+mod part;
 pub mod progress;
 mod rows;
 pub mod span;
@@ -33,6 +38,7 @@ pub mod watch;
 
 pub use cut::{listing_by_blocks, verdict_by_blocks};
 pub use judged::{Judged, judge_block};
+pub use part::JudgedPart;
 pub use progress::Progress;
 pub use span::{JoinFault, Span, append, join, joined_blocks_are_sound};
 pub use watch::{Judge, Lister, NoVerdict};

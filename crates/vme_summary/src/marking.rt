@@ -11,6 +11,7 @@ ghost use Rattle.vme_summary.specs.Progressed.{HasMarked, StandsSoFar};
 ghost use Rattle.vme_summary.specs.Summaries.{SummaryStandsFor, summary_steps};
 
 use crate::advance::Advance;
+use crate::judgement::Judgement;
 use crate::summary::Summary;
 use std::alloc::{AllocError, Global};
 use vme_listing::Listing;
@@ -26,9 +27,11 @@ pub struct Marking {
 }
 
 impl Advance for Marking {
-    ghost use Rattle.vme_summary.specs.Progressed.{HasMarked};
+    ghost use Rattle.vme_summary.specs.Progressed.{HasMarked, IsMarkedOf};
 
     ghost is_past = { HasMarked };
+
+    ghost is_made_of = { IsMarkedOf };
 
     fn at(opening: &Lines) -> Marking {
         Marking {
@@ -37,10 +40,18 @@ impl Advance for Marking {
         }
     }
 
-    fn go_on(&mut self, alloc: Global, steps: &[Step]) -> Result<(), AllocError> {
-        let (next, left) = Summary::of_steps(alloc, &self.left, steps)?;
-        self.append(alloc, next)?;
-        self.left = left;
+    fn left(&self) -> &Lines {
+        &self.left
+    }
+
+    fn judge(alloc: Global, opening: &Lines, steps: &[Step]) -> Result<Judgement, AllocError> {
+        let (summary, left) = Summary::of_steps(alloc, opening, steps)?;
+        Ok(Judgement { summary, left })
+    }
+
+    fn pass(&mut self, alloc: Global, judgement: Judgement) -> Result<(), AllocError> {
+        self.append(alloc, judgement.summary)?;
+        self.left = judgement.left;
         Ok(())
     }
 }

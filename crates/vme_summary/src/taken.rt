@@ -17,6 +17,9 @@ impl Model for Taken {
     ghost also_owns = { λ _. ftrue };
 }
 
+// It owns nothing, and so it may go to another thread.
+unsafe impl Send for Taken {}
+
 impl Taken {
     /// No step was taken.
     pub(crate) fn new() -> Taken
@@ -28,6 +31,24 @@ impl Taken {
     /// One more was taken.
     pub(crate) fn and(&self, step: &Step) -> Taken
         ensures { result.items ≡ self.now.items ++ step.now ∷ [] }
+    {
+        Taken {}
+    }
+
+    /// These were taken.
+    pub(crate) fn of(steps: &[Step]) -> Taken
+        ensures { result.items ≡ steps.now }
+    {
+        let mut taken = Taken::new();
+        for step in steps {
+            taken = taken.and(step);
+        }
+        taken
+    }
+
+    /// And then others.
+    pub(crate) fn and_all(&self, more: &Taken) -> Taken
+        ensures { result.items ≡ self.now.items ++ more.now.items }
     {
         Taken {}
     }

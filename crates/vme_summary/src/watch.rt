@@ -1,15 +1,18 @@
 //! What judges a recording as it is made.
 
-ghost use Rattle.std.specs.Prelude.{◌≡◌, ◌<◌, ◌≤◌, ◌↔◌, [], length, true, IfOk, Err, None};
+ghost use Rattle.std.specs.Prelude.{◌≡◌, ◌<◌, ◌≤◌, ◌↔◌, [], length, true, IfOk, IsTrue, OnOk, Err, None};
 ghost use Rattle.vme_trace.specs.Blocks.{block_count};
+ghost use Rattle.vme_trace.specs.Followed.{with_steps};
+ghost use Rattle.vme_trace.specs.Trace.{levels_after};
 ghost use Rattle.vme_trace.specs.Verdict.{rules_in_force, verdict_by};
 ghost use Rattle.vme_trace.specs.WellFormed.{capture_limit, malformed_step};
 ghost use Rattle.vme_listing.specs.Places.{is_well_placed};
 ghost use Rattle.vme_listing.specs.Recorded.{listing_of};
 
-use crate::advance::Advance;
+use crate::advance::{Advance, MOST_STEPS, go_on};
 use crate::judging::Judging;
 use crate::marking::Marking;
+use crate::part::JudgedPart;
 use crate::taken::Taken;
 use std::alloc::{AllocError, Global};
 use std::marker::Model;
@@ -18,9 +21,6 @@ use vme_trace::{Follower, Lines, Step, Verdict};
 
 /// How many blocks there are at most.
 const MOST_BLOCKS: u32 = 4096;
-
-/// How many steps a recording has at most.
-const MOST_STEPS: u32 = 268435456;
 
 /// How many steps are judged at once.
 const AT_ONCE: usize = 16384;
@@ -79,6 +79,40 @@ impl<J: Advance> Watch<J> {
         }
     }
 
+    /// Whether the steps that came leave these lines. All of them are judged first; where there are over 268,435,456,
+    /// this isn't known, and the answer is no. The only error is want of memory.
+    pub fn leaves(&mut self, alloc: Global, lines: &Lines) -> Result<bool, AllocError>
+        ensures same { self.new ≡ self.old }
+        ensures leaves { IfOk result (λ leaves. IsTrue leaves → levels_after self.old.opening self.old.steps ≡ lines.now) }
+    {
+        if self.count > MOST_STEPS {
+            return Ok(false);
+        }
+        go_on(&mut self.judging, alloc, &self.waiting)?;
+        self.waiting.clear();
+        Ok(*self.judging.left() == *lines)
+    }
+
+    /// Takes steps that were judged by themselves, and follow those that came. The only error is want of memory.
+    pub fn pass(&mut self, alloc: Global, part: JudgedPart<J>) -> Result<(), AllocError>
+        requires { part.opening ≡ levels_after self.old.opening self.old.steps }
+        ensures { OnOk result (self.new ≡ with_steps self.old part.steps) }
+    {
+        let count = self.count + part.count;
+        let taken = self.taken.and_all(&part.taken);
+        if count > MOST_STEPS {
+            self.count = MOST_STEPS + 1;
+            self.taken = taken;
+            return Ok(());
+        }
+        go_on(&mut self.judging, alloc, &self.waiting)?;
+        self.waiting.clear();
+        self.judging.pass(alloc, part.judgement)?;
+        self.count = count;
+        self.taken = taken;
+        Ok(())
+    }
+
     /// What judged all steps that came, if there are at most 268,435,456 of them, and they fill at most 4,096 blocks of
     /// `size` steps.
     fn finish(self, alloc: Global, size: u32) -> Result<J, NoVerdict>
@@ -95,7 +129,7 @@ impl<J: Advance> Watch<J> {
             return Err(NoVerdict::TooManyBlocks);
         }
         let mut judging = self.judging;
-        match judging.go_on(alloc, &self.waiting) {
+        match go_on(&mut judging, alloc, &self.waiting) {
             Ok(()) => Ok(judging),
             Err(_) => Err(NoVerdict::Memory),
         }
@@ -167,7 +201,7 @@ impl<J: Advance> Follower for Watch<J> {
         self.count += 1;
         self.taken = taken;
         if self.waiting.len() >= AT_ONCE {
-            self.judging.go_on(alloc, &self.waiting)?;
+            go_on(&mut self.judging, alloc, &self.waiting)?;
             self.waiting.clear();
         }
         Ok(())

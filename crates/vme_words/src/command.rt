@@ -205,7 +205,9 @@ fn workers_option<'a>(alloc: Global) -> Arg<'a>
         .long("workers")
         .value_parser(value_parser!(u32).range(1..=64))
         .default_value("4")
-        .help("How many workers judge, 1 to 64; one judges as yet, and this changes nothing")
+        .help(
+            "How many workers read and judge, 1 to 64; what is answered is the same for each number",
+        )
 }
 
 fn file<'a>(alloc: Global, name: &'a str, help: &'a str) -> Arg<'a>

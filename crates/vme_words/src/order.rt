@@ -28,7 +28,7 @@ pub struct Order {
     pub command: Task,
     /// How many steps a block has, 1 to 65,536.
     pub block: u32,
-    /// How many workers the words ask for, 1 to 64. One judges as yet.
+    /// How many workers read and judge a dump, 1 to 64.
     pub workers: u32,
     /// The words behind the task, by it: the binding and the dump, and for a confirmation the listing, or for an explanation
     /// the waveform viewer's file, if one is wanted; the dump, and for a binding the number of slots, if it is told; or a rule,

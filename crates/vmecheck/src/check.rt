@@ -8,7 +8,9 @@ ghost use Rattle.vme_trace.specs.WellFormed.{malformed_step};
 ghost use Rattle.vmecheck.specs.Judged.{judged_in_blocks};
 
 use crate::followed::followed;
+use crate::workers::Workers;
 use std::alloc::Global;
+use std::thread::Threads;
 use vme_answer::{Refusal, refusal_line, tell_verdict};
 use vme_stream::complain;
 use vme_summary::Judge;
@@ -21,7 +23,8 @@ use vme_trace::{Sink, Source, Verdict};
 /// The binding is read, and then the dump, piece by piece. Neither the dump nor the recording is kept: the steps are judged as
 /// they are made. A recording that fills more than 4,096 blocks of `block` steps is refused, and the verdict is otherwise the
 /// same for each size. A failure of `err` is ignored.
-pub fn check<B: Source, D: Source, O: Sink, E: Sink>(
+pub fn check<R: Threads + Sync, B: Source, D: Source, O: Sink, E: Sink>(
+    rt: &R,
     alloc: Global,
     binding: &mut B,
     dump: &mut D,
@@ -44,12 +47,20 @@ pub fn check<B: Source, D: Source, O: Sink, E: Sink>(
         → Tells (answer_of (Some b) (Some d) block)
         (O.writing out.old, O.writing out.new) (E.writing err.old, E.writing err.new) result }
 {
-    let _ = workers;
-    answer(alloc, binding, dump, block, out, err)
+    answer(
+        alloc,
+        &Workers::new(rt, workers),
+        binding,
+        dump,
+        block,
+        out,
+        err,
+    )
 }
 
-fn answer<B: Source, D: Source, O: Sink, E: Sink>(
+fn answer<R: Threads + Sync, B: Source, D: Source, O: Sink, E: Sink>(
     alloc: Global,
+    workers: &Workers<'_, R>,
     binding: &mut B,
     dump: &mut D,
     block: u32,
@@ -61,7 +72,7 @@ fn answer<B: Source, D: Source, O: Sink, E: Sink>(
         (B.reading binding.old, B.reading binding.new) (D.reading dump.old, D.reading dump.new) block
         (O.writing out.old, O.writing out.new) (E.writing err.old, E.writing err.new) result }
 {
-    match judge(alloc, binding, dump, block) {
+    match judge(alloc, workers, binding, dump, block) {
         Ok(verdict) => tell_verdict(&verdict, out, err),
         Err(refusal) => {
             complain(err, refusal_line(&refusal));
@@ -71,8 +82,9 @@ fn answer<B: Source, D: Source, O: Sink, E: Sink>(
 }
 
 /// The verdict on the recording that a binding makes of a dump, or the first reason that there is none.
-fn judge<B: Source, D: Source>(
+fn judge<R: Threads + Sync, B: Source, D: Source>(
     alloc: Global,
+    workers: &Workers<'_, R>,
     binding: &mut B,
     dump: &mut D,
     block: u32,
@@ -83,7 +95,7 @@ fn judge<B: Source, D: Source>(
         × IsReading (D.reading dump.old) (D.reading dump.new) dump_bytes
         × Gives (λ verdict. verdict) result (judgement_of binding_bytes dump_bytes block) }
 {
-    match followed(alloc, binding, dump, |lines| Judge::new(alloc, lines)) {
+    match followed(alloc, workers, binding, dump) {
         Ok(judge) => verdict_of(alloc, judge, block),
         Err(refusal) => Err(refusal),
     }

@@ -10,7 +10,9 @@ ghost use Rattle.vmecheck.specs.Judged.{limited_in_blocks};
 ghost use Rattle.vmecheck.specs.Listings.{GivesListing, Lists, listing_answer_by, listing_answer_of, recording_of, listing_status, outcome_status, row_status};
 
 use crate::followed::followed;
+use crate::workers::Workers;
 use std::alloc::Global;
+use std::thread::Threads;
 use vme_answer::{Refusal, cannot_write_line, refusal_line};
 use vme_listing::{Listing, Outcome, Row, write_listing};
 use vme_stream::complain;
@@ -24,7 +26,8 @@ use vme_trace::{Sink, Source};
 /// The binding is read, and then the dump, piece by piece. Neither the dump nor the recording is kept: the steps are judged as
 /// they are made, and their marks are kept. A recording that fills more than 4,096 blocks of `block` steps is refused, and the
 /// listing is otherwise the same for each size. It is written in pieces of up to 4,096 bytes. A failure of `err` is ignored.
-pub fn list<B: Source, D: Source, O: Sink, E: Sink>(
+pub fn list<R: Threads + Sync, B: Source, D: Source, O: Sink, E: Sink>(
+    rt: &R,
     alloc: Global,
     binding: &mut B,
     dump: &mut D,
@@ -47,12 +50,20 @@ pub fn list<B: Source, D: Source, O: Sink, E: Sink>(
         → Tells (listing_answer_of (Some b) (Some d) block)
         (O.writing out.old, O.writing out.new) (E.writing err.old, E.writing err.new) result }
 {
-    let _ = workers;
-    answer(alloc, binding, dump, block, out, err)
+    answer(
+        alloc,
+        &Workers::new(rt, workers),
+        binding,
+        dump,
+        block,
+        out,
+        err,
+    )
 }
 
-fn answer<B: Source, D: Source, O: Sink, E: Sink>(
+fn answer<R: Threads + Sync, B: Source, D: Source, O: Sink, E: Sink>(
     alloc: Global,
+    workers: &Workers<'_, R>,
     binding: &mut B,
     dump: &mut D,
     block: u32,
@@ -64,7 +75,7 @@ fn answer<B: Source, D: Source, O: Sink, E: Sink>(
         (B.reading binding.old, B.reading binding.new) (D.reading dump.old, D.reading dump.new) block
         (O.writing out.old, O.writing out.new) (E.writing err.old, E.writing err.new) result }
 {
-    match listing(alloc, binding, dump, block) {
+    match listing(alloc, workers, binding, dump, block) {
         Ok(listing) => tell(&listing, out, err),
         Err(refusal) => {
             complain(err, refusal_line(&refusal));
@@ -117,8 +128,9 @@ fn outcome_code(outcome: Outcome) -> u8
 }
 
 /// The listing of the recording that a binding makes of a dump, or the first reason that there is none.
-fn listing<B: Source, D: Source>(
+fn listing<R: Threads + Sync, B: Source, D: Source>(
     alloc: Global,
+    workers: &Workers<'_, R>,
     binding: &mut B,
     dump: &mut D,
     block: u32,
@@ -129,7 +141,7 @@ fn listing<B: Source, D: Source>(
         × IsReading (D.reading dump.old) (D.reading dump.new) dump_bytes
         × GivesListing result (recording_of binding_bytes dump_bytes block) }
 {
-    match followed(alloc, binding, dump, |lines| Lister::new(alloc, lines)) {
+    match followed(alloc, workers, binding, dump) {
         Ok(lister) => listing_of_steps(alloc, lister, block),
         Err(refusal) => Err(refusal),
     }

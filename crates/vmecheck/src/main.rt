@@ -26,6 +26,7 @@ mod told;
 mod underway;
 mod variables;
 mod words;
+mod workers;
 
 use bind::bind;
 use check::check;
@@ -37,6 +38,7 @@ use std::env;
 use std::fs::{self, File};
 use std::io::ErrorKind;
 use std::process::ExitCode;
+use std::thread::Threads;
 use variables::tell_variables;
 use vme_answer::{Input, Refusal, cannot_write_line, refusal_line};
 use vme_stream::{Bytes, Io, complain, write_all};
@@ -75,17 +77,17 @@ IA = 1
 const BLOCK: u32 = 16_384;
 
 fn main(rt: HostRuntime) -> ExitCode {
-    ExitCode::from(run(&rt))
+    ExitCode::from(run(&rt, &rt))
 }
 
 /// What the words ask for; the answer is the exit status.
-fn run(rt: &HostRuntime) -> u8 {
+fn run<R: Threads + Sync>(rt: &HostRuntime, threads: &R) -> u8 {
     match asked(rt) {
-        Ok(Some(order)) => match work(rt, &order) {
+        Ok(Some(order)) => match work(rt, threads, &order) {
             Ok(status) => status,
             Err(refusal) => refuse(rt, &refusal),
         },
-        Ok(None) => check_input(rt),
+        Ok(None) => check_input(rt, threads),
         Err(fault) => refuse_words(rt, &fault),
     }
 }
@@ -108,8 +110,9 @@ fn asked(rt: &HostRuntime) -> Result<Option<Order>, OrderFault>
 }
 
 /// Checks the dump on standard input by the built-in binding.
-fn check_input(rt: &HostRuntime) -> u8 {
+fn check_input<R: Threads + Sync>(rt: &HostRuntime, threads: &R) -> u8 {
     check(
+        threads,
         rt.alloc(),
         &mut Bytes::new(BUILT_IN),
         &mut Io::new(rt.stdin()),
@@ -121,13 +124,14 @@ fn check_input(rt: &HostRuntime) -> u8 {
 }
 
 /// Does what is asked for. A refusal says which file can't be opened: all are opened before one is read.
-fn work(rt: &HostRuntime, order: &Order) -> Result<u8, Refusal> {
+fn work<R: Threads + Sync>(rt: &HostRuntime, threads: &R, order: &Order) -> Result<u8, Refusal> {
     match order.command {
         Task::Check => {
             let (mut binding, mut dump) = open_recording(rt, order)?;
             let (mut out, mut err) = (Io::new(rt.stdout()), Io::new(rt.stderr()));
             let (alloc, block, workers) = (rt.alloc(), order.block, order.workers);
             Ok(check(
+                threads,
                 alloc,
                 &mut binding,
                 &mut dump,
@@ -142,6 +146,7 @@ fn work(rt: &HostRuntime, order: &Order) -> Result<u8, Refusal> {
             let (mut out, mut err) = (Io::new(rt.stdout()), Io::new(rt.stderr()));
             let (alloc, block, workers) = (rt.alloc(), order.block, order.workers);
             Ok(list(
+                threads,
                 alloc,
                 &mut binding,
                 &mut dump,

@@ -4,18 +4,18 @@ ghost use Rattle.std.specs.Prelude.{◌≤◌};
 
 use crate::BUILT_IN;
 use crate::check::verdict_of;
-use crate::followed::followed_in_pieces;
+use crate::followed::followed_by;
 use crate::list::listing_of_steps;
 use crate::tests::LISTING;
-use std::alloc::Global;
+use crate::workers::Workers;
 use std::process::Abort;
 use std::test::Fail;
+use std::thread::Threads;
 use vcd_read::{FaultKind, VcdFault};
 use vme_answer::Refusal;
 use vme_bind::{Binding, read_binding};
 use vme_listing::{Listing, read_listing};
 use vme_stream::Bytes;
-use vme_summary::{Judge, Lister};
 use vme_trace::Verdict;
 
 const HEAD: &str = "$timescale 1 ns $end\n$scope module bus $end\n\
@@ -26,34 +26,31 @@ $upscope $end\n$enddefinitions $end\n";
 /// How long the pieces are that a dump is cut into. The longest is longer than each dump here.
 const PIECES: [usize; 10] = [1, 2, 3, 5, 8, 13, 21, 34, 64, 4096];
 
-/// The verdict on what a dump has, which is read in pieces of this many bytes.
-fn verdict_in_pieces(
-    alloc: Global,
+/// How many workers read each dump.
+const WORKERS: [u32; 3] = [1, 2, 5];
+
+/// The verdict on what a dump has, which these workers read.
+fn verdict_by_workers<R: AllocGlobal + Threads + Sync>(
+    rt: &R,
     bound: &Binding,
     dump: &str,
-    piece: usize,
-) -> Result<Verdict, Refusal>
-    requires { (1 ≤ piece) × (piece ≤ 4096) }
-{
-    let judge = Judge::new(alloc, bound.lines());
+    workers: &Workers<'_, R>,
+) -> Result<Verdict, Refusal> {
     let mut bytes = Bytes::new(dump.as_bytes());
-    let judge = followed_in_pieces(alloc, bound, &mut bytes, judge, piece)?;
-    verdict_of(alloc, judge, 16384)
+    let judge = followed_by(rt.alloc(), workers, bound, &mut bytes)?;
+    verdict_of(rt.alloc(), judge, 16384)
 }
 
 /// Its listing.
-fn listing_in_pieces(
-    alloc: Global,
+fn listing_by_workers<R: AllocGlobal + Threads + Sync>(
+    rt: &R,
     bound: &Binding,
     dump: &str,
-    piece: usize,
-) -> Result<Listing, Refusal>
-    requires { (1 ≤ piece) × (piece ≤ 4096) }
-{
-    let lister = Lister::new(alloc, bound.lines());
+    workers: &Workers<'_, R>,
+) -> Result<Listing, Refusal> {
     let mut bytes = Bytes::new(dump.as_bytes());
-    let lister = followed_in_pieces(alloc, bound, &mut bytes, lister, piece)?;
-    listing_of_steps(alloc, lister, 16384)
+    let lister = followed_by(rt.alloc(), workers, bound, &mut bytes)?;
+    listing_of_steps(rt.alloc(), lister, 16384)
 }
 
 /// The text of the listing with this verdict.
@@ -64,28 +61,47 @@ fn text_of(verdict: &Verdict) -> &'static str {
     }
 }
 
-fn expect_pieces<R: Abort + AllocGlobal>(
+fn expect_pieces<R: Abort + AllocGlobal + Threads + Sync>(
     rt: &R,
     bound: &Binding,
     dump: &str,
     expected: &Result<Verdict, Refusal>,
 ) {
     for piece in PIECES {
-        let judged = verdict_in_pieces(rt.alloc(), bound, dump, piece);
-        assert!(rt; judged == *expected, "pieces of {piece} bytes: {dump}");
-        match listing_in_pieces(rt.alloc(), bound, dump, piece) {
-            Ok(listing) => {
-                let verdict = expected.as_ref().ok().expect(rt, "no listing");
-                let rows = read_listing(rt.alloc(), text_of(verdict).as_bytes());
-                let is_listed = rows.is_ok_and(|rows| rows.rows() == listing.rows());
-                assert!(rt; is_listed, "listed by pieces of {piece} bytes: {dump}");
-            }
-            Err(refusal) => {
-                assert!(rt;
-                    *expected == Err(refusal),
-                    "listed by pieces of {piece} bytes: {dump}"
-                );
-            }
+        for count in WORKERS {
+            expect_by(
+                rt,
+                bound,
+                dump,
+                &Workers::with_pieces(rt, count, piece),
+                expected,
+            );
+        }
+    }
+}
+
+fn expect_by<R: Abort + AllocGlobal + Threads + Sync>(
+    rt: &R,
+    bound: &Binding,
+    dump: &str,
+    workers: &Workers<'_, R>,
+    expected: &Result<Verdict, Refusal>,
+) {
+    let piece = workers.piece();
+    let judged = verdict_by_workers(rt, bound, dump, workers);
+    assert!(rt; judged == *expected, "pieces of {piece} bytes: {dump}");
+    match listing_by_workers(rt, bound, dump, workers) {
+        Ok(listing) => {
+            let verdict = expected.as_ref().ok().expect(rt, "no listing");
+            let rows = read_listing(rt.alloc(), text_of(verdict).as_bytes());
+            let is_listed = rows.is_ok_and(|rows| rows.rows() == listing.rows());
+            assert!(rt; is_listed, "listed by pieces of {piece} bytes: {dump}");
+        }
+        Err(refusal) => {
+            assert!(rt;
+                *expected == Err(refusal),
+                "listed by pieces of {piece} bytes: {dump}"
+            );
         }
     }
 }

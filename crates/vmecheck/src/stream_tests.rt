@@ -12,6 +12,7 @@ use std::alloc::Global;
 use std::io::{self, Error, ErrorKind, Read, Write};
 use std::process::Abort;
 use std::test::Fail;
+use std::thread::Threads;
 use vme_stream::{Bytes, Io};
 use vme_trace::Source;
 use vme_words::Task;
@@ -167,8 +168,8 @@ impl Write for Deaf {
 }
 
 /// The status with which a command ends.
-fn ended<B: Source, D: Source, L: Source>(
-    alloc: Global,
+fn ended<R: AllocGlobal + Threads + Sync, B: Source, D: Source, L: Source>(
+    rt: &R,
     task: Task,
     binding: &mut B,
     dump: &mut D,
@@ -178,9 +179,10 @@ fn ended<B: Source, D: Source, L: Source>(
 ) -> u8 {
     let (mut out, mut err) = (Io::new(out), Io::new(err));
     let (out, err) = (&mut out, &mut err);
+    let alloc = rt.alloc();
     match task {
-        Task::Check => check(alloc, binding, dump, BLOCK, 1, out, err),
-        Task::List => list(alloc, binding, dump, BLOCK, 1, out, err),
+        Task::Check => check(rt, alloc, binding, dump, BLOCK, 1, out, err),
+        Task::List => list(rt, alloc, binding, dump, BLOCK, 1, out, err),
         Task::Confirm => confirm_with(alloc, binding, dump, listing, out, err),
         Task::Explain => explain(alloc, binding, dump, b"bus.vcd", out, err).0,
         Task::Bind => bind(alloc, dump, None, out, err),
@@ -189,7 +191,7 @@ fn ended<B: Source, D: Source, L: Source>(
     }
 }
 
-fn expect_refusal<R: Abort + AllocGlobal, B: Source, D: Source, L: Source>(
+fn expect_refusal<R: Abort + AllocGlobal + Threads + Sync, B: Source, D: Source, L: Source>(
     rt: &R,
     task: Task,
     binding: &mut B,
@@ -199,7 +201,7 @@ fn expect_refusal<R: Abort + AllocGlobal, B: Source, D: Source, L: Source>(
 ) {
     let mut out = Page::new(rt.alloc(), 1000, 1000);
     let mut err = Page::new(rt.alloc(), 1000, 1000);
-    let status = ended(rt.alloc(), task, binding, dump, listing, &mut out, &mut err);
+    let status = ended(rt, task, binding, dump, listing, &mut out, &mut err);
     assert!(rt; out.bytes.is_empty());
     assert!(rt; err.bytes.as_slice() == text.as_bytes(), "{text}");
     assert_eq!(rt; status, 3);
@@ -304,6 +306,7 @@ fn a_reader_that_is_interrupted_for_good(rt: HostRuntime) {
 fn a_writer_that_takes_nothing(rt: HostRuntime) {
     let mut err = Page::new(rt.alloc(), 1000, 1000);
     let status = check(
+        &rt,
         rt.alloc(),
         &mut Bytes::new(BUILT_IN),
         &mut Bytes::new(DUMP.as_bytes()),
@@ -317,7 +320,7 @@ fn a_writer_that_takes_nothing(rt: HostRuntime) {
 }
 
 /// What a command wrote to a page with so much room, and its status, which are a front of a text and this one.
-fn expect_front<R: Abort + AllocGlobal>(
+fn expect_front<R: Abort + AllocGlobal + Threads + Sync>(
     rt: &R,
     task: Task,
     dump: &str,
@@ -328,7 +331,7 @@ fn expect_front<R: Abort + AllocGlobal>(
     let mut out = Page::new(rt.alloc(), room, 5);
     let mut err = Page::new(rt.alloc(), 1000, 1000);
     let status = ended(
-        rt.alloc(),
+        rt,
         task,
         &mut Bytes::new(BUILT_IN),
         &mut Bytes::new(dump.as_bytes()),

@@ -12,6 +12,7 @@ use std::alloc::{AllocError, Global};
 use std::io::{self, Error, Read};
 use std::process::Abort;
 use std::test::Fail;
+use std::thread::Threads;
 use vme_answer::Input;
 use vme_stream::{Bytes, Io};
 use vme_trace::{Failed, Sink, Source};
@@ -91,13 +92,19 @@ impl Read for Broken {
 }
 
 /// What the check of a dump by a binding writes, and its status.
-fn check_text(alloc: Global, binding: &[u8], dump: &[u8], block: u32) -> (Page, Page, u8)
+fn check_text<R: AllocGlobal + Threads + Sync>(
+    rt: &R,
+    binding: &[u8],
+    dump: &[u8],
+    block: u32,
+) -> (Page, Page, u8)
     requires { (1 ≤ block) × (block ≤ 65536) }
 {
-    let mut out = Page::new(alloc, 1000);
-    let mut err = Page::new(alloc, 1000);
+    let mut out = Page::new(rt.alloc(), 1000);
+    let mut err = Page::new(rt.alloc(), 1000);
     let status = check(
-        alloc,
+        rt,
+        rt.alloc(),
         &mut Bytes::new(binding),
         &mut Bytes::new(dump),
         block,
@@ -108,23 +115,39 @@ fn check_text(alloc: Global, binding: &[u8], dump: &[u8], block: u32) -> (Page, 
     (out, err, status)
 }
 
-fn expect_verdict<R: Abort + AllocGlobal>(rt: &R, dump: &str, text: &str, status: u8) {
+fn expect_verdict<R: Abort + AllocGlobal + Threads + Sync>(
+    rt: &R,
+    dump: &str,
+    text: &str,
+    status: u8,
+) {
     expect_in_blocks(rt, dump, 1, text, status);
     expect_in_blocks(rt, dump, 3, text, status);
     expect_in_blocks(rt, dump, BLOCK, text, status);
 }
 
-fn expect_in_blocks<R: Abort + AllocGlobal>(rt: &R, dump: &str, block: u32, text: &str, status: u8)
+fn expect_in_blocks<R: Abort + AllocGlobal + Threads + Sync>(
+    rt: &R,
+    dump: &str,
+    block: u32,
+    text: &str,
+    status: u8,
+)
     requires { (1 ≤ block) × (block ≤ 65536) }
 {
-    let (out, err, ended) = check_text(rt.alloc(), BUILT_IN, dump.as_bytes(), block);
+    let (out, err, ended) = check_text(rt, BUILT_IN, dump.as_bytes(), block);
     assert!(rt; out.bytes.as_slice() == text.as_bytes(), "{dump}");
     assert!(rt; err.bytes.is_empty());
     assert_eq!(rt; ended, status);
 }
 
-fn expect_refusal<R: Abort + AllocGlobal>(rt: &R, binding: &str, dump: &str, text: &str) {
-    let (out, err, ended) = check_text(rt.alloc(), binding.as_bytes(), dump.as_bytes(), BLOCK);
+fn expect_refusal<R: Abort + AllocGlobal + Threads + Sync>(
+    rt: &R,
+    binding: &str,
+    dump: &str,
+    text: &str,
+) {
+    let (out, err, ended) = check_text(rt, binding.as_bytes(), dump.as_bytes(), BLOCK);
     assert!(rt; out.bytes.is_empty());
     assert!(rt; err.bytes.as_slice() == text.as_bytes(), "{text}");
     assert_eq!(rt; ended, 3);
@@ -164,13 +187,19 @@ fn verdicts(rt: HostRuntime) -> Result<(), Fail> {
 }
 
 /// What the listing of a dump by the built-in binding writes, and its status.
-fn list_text(alloc: Global, dump: &[u8], block: u32, room: usize) -> (Page, Page, u8)
+fn list_text<R: AllocGlobal + Threads + Sync>(
+    rt: &R,
+    dump: &[u8],
+    block: u32,
+    room: usize,
+) -> (Page, Page, u8)
     requires { (1 ≤ block) × (block ≤ 65536) }
 {
-    let mut out = Page::new(alloc, room);
-    let mut err = Page::new(alloc, 1000);
+    let mut out = Page::new(rt.alloc(), room);
+    let mut err = Page::new(rt.alloc(), 1000);
     let status = list(
-        alloc,
+        rt,
+        rt.alloc(),
         &mut Bytes::new(BUILT_IN),
         &mut Bytes::new(dump),
         block,
@@ -181,10 +210,16 @@ fn list_text(alloc: Global, dump: &[u8], block: u32, room: usize) -> (Page, Page
     (out, err, status)
 }
 
-fn expect_listing<R: Abort + AllocGlobal>(rt: &R, dump: &str, block: u32, text: &str, status: u8)
+fn expect_listing<R: Abort + AllocGlobal + Threads + Sync>(
+    rt: &R,
+    dump: &str,
+    block: u32,
+    text: &str,
+    status: u8,
+)
     requires { (1 ≤ block) × (block ≤ 65536) }
 {
-    let (out, err, ended) = list_text(rt.alloc(), dump.as_bytes(), block, 1000);
+    let (out, err, ended) = list_text(rt, dump.as_bytes(), block, 1000);
     assert!(rt; out.bytes.as_slice() == text.as_bytes(), "{dump}");
     assert!(rt; err.bytes.is_empty());
     assert_eq!(rt; ended, status);
@@ -218,7 +253,7 @@ verdict broken H4 3 DTACK\n",
 #[test]
 fn listing_not_written(rt: HostRuntime) -> Result<(), Fail> {
     let dump = dump_of(rt.alloc(), HEAD, BODY)?;
-    let (_, err, ended) = list_text(rt.alloc(), dump.as_bytes(), BLOCK, 0);
+    let (_, err, ended) = list_text(&rt, dump.as_bytes(), BLOCK, 0);
     assert!(rt; err.bytes.as_slice() == b"vmecheck: cannot write\n".as_slice());
     assert_eq!(rt; ended, 5);
     Ok(())
@@ -444,7 +479,7 @@ fn dump_faults(rt: HostRuntime) -> Result<(), Fail> {
         ("", "", "vmecheck: dump line 1: NoEndDefinitions\n"),
     ] {
         let dump = dump_of(rt.alloc(), head, body)?;
-        let (out, err, ended) = check_text(rt.alloc(), BUILT_IN, dump.as_bytes(), BLOCK);
+        let (out, err, ended) = check_text(&rt, BUILT_IN, dump.as_bytes(), BLOCK);
         assert!(rt; out.bytes.is_empty());
         assert!(rt; err.bytes.as_slice() == text.as_bytes(), "{text}");
         assert_eq!(rt; ended, 3);
@@ -514,7 +549,7 @@ fn blocks(rt: HostRuntime) -> Result<(), Fail> {
         let level = if time % 2 == 0 { "1" } else { "0" };
         dump.push_str(format!(in rt.alloc(); "#{time} {level}p\n")?.as_str())?;
     }
-    let (_, err, ended) = check_text(rt.alloc(), BUILT_IN, dump.as_bytes(), 1);
+    let (_, err, ended) = check_text(&rt, BUILT_IN, dump.as_bytes(), 1);
     assert!(rt; err.bytes.as_slice() == b"vmecheck: too many blocks\n".as_slice());
     assert_eq!(rt; ended, 3);
     expect_in_blocks(&rt, dump.as_str(), 2, "never idle\n", 2);
@@ -526,6 +561,7 @@ fn failing_reader(rt: HostRuntime) {
     let mut out = Page::new(rt.alloc(), 1000);
     let mut err = Page::new(rt.alloc(), 1000);
     let ended = check(
+        &rt,
         rt.alloc(),
         &mut Bytes::new(BUILT_IN),
         &mut Io::new(Broken { reads: 0 }),
@@ -545,6 +581,7 @@ fn failing_writer(rt: HostRuntime) -> Result<(), Fail> {
     let mut out = Page::new(rt.alloc(), 0);
     let mut err = Page::new(rt.alloc(), 1000);
     let ended = check(
+        &rt,
         rt.alloc(),
         &mut Bytes::new(BUILT_IN),
         &mut Bytes::new(dump.as_bytes()),

@@ -5,7 +5,7 @@ use Rattle.vmecheck.proofs.followed.followed.Goals as goal
 pub returns-in-Ok-clause-gives : goal.returns-in-Ok-clause-gives
 returns-in-Ok-clause-gives g c =
     let (bound, bound_reading, bound_is) = c.in-Ok.ensures in
-    let (bytes, reading, given) = c.followed_in_pieces.ensures.gives in
+    let (bytes, reading, given) = c.followed_by.ensures.gives in
     (bound, bytes, bound_reading, reading, rw (recording_read-bound bound bytes _ bound_is) given)
 
 pub returns-in-Err-clause-gives : goal.returns-in-Err-clause-gives

@@ -1,8 +1,8 @@
-use Rattle.std.proofs.Common.{◌≡◌, map, take, refl, ◌∙◌, ap, sym, subst}
+use Rattle.std.proofs.Common.{refl, ◌∙◌, ap, sym, subst}
 use Rattle.vme_trace.specs.Levels.{Levels, set_level}
 use Rattle.vme_trace.specs.Trace.{changed}
 use Rattle.vme_bind.specs.declared.taps.Tap.{Tap}
-use Rattle.vme_bind.specs.Recording.{IsLine, Progress, tapped}
+use Rattle.vme_bind.specs.Recording.{IsLine, Progress}
 use Rattle.vme_bind.proofs.TapsLemmas.{tapped-more}
 use Rattle.vme_bind.proofs.recorder.Recorder.set_lines.Goals as goal
 

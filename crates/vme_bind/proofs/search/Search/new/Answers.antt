@@ -1,4 +1,4 @@
-use Rattle.std.proofs.Common.{ap, sym, ◌∙◌, ◌≡◌, [], ◌∷◌, map, arith}
+use Rattle.std.proofs.Common.{sym, ◌∙◌, [], ◌∷◌, arith}
 use Rattle.std.proofs.lemmas.List.{map-append, take_more}
 use Rattle.std.proofs.lemmas.List.Elements.{All-push}
 use Rattle.vme_bind.specs.Sought.{IsBegun, seen_in, unseen}

@@ -1,4 +1,4 @@
-use Rattle.std.proofs.Common.{◌≡◌, map, drop, length, vec_len, vec_capacity}
+use Rattle.std.proofs.Common.{◌≡◌, map, drop, vec_len, vec_capacity}
 use Rattle.vme_bind.specs.Sought.{seen_in, wires_of}
 use Rattle.vme_bind.proofs.WiresLemmas.{behind_wires}
 use Rattle.vme_bind.proofs.search.Search.wires.Given as goal

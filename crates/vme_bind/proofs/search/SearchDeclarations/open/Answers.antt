@@ -1,4 +1,4 @@
-use Rattle.std.proofs.Common.{refl, ap, sym, ◌∙◌, ◌≡◌, ◌-◌, length, drop, arith, List, ℕ}
+use Rattle.std.proofs.Common.{refl, ap, ◌∙◌, ◌≡◌, ◌-◌, length, drop, arith, List, ℕ}
 use Rattle.vme_bind.specs.Sought.{opened}
 use Rattle.vme_bind.proofs.SoughtLemmas.{opened-back, seen-back}
 use Rattle.vme_bind.proofs.search.SearchDeclarations.open.Goals as goal

@@ -1,0 +1,40 @@
+-- How far a body is read between two of its pieces.
+use Rattle.std.specs.Prelude.{ℕ, List, Option, Result}
+use Rattle.vcd_read.specs.declared.dump.Bit.{Bit}
+use Rattle.vcd_read.specs.declared.fault.VcdFault.{VcdFault}
+use Rattle.vcd_read.specs.declared.pieces.Pieces.{Pieces}
+use Rattle.vcd_read.specs.Tokens.{Token}
+use Rattle.vcd_read.specs.Header.{Net}
+use Rattle.vcd_read.specs.Body.{BodyPlace}
+use Rattle.vcd_read.specs.Taking.{Taking, State, taking}
+use Rattle.vcd_read.specs.Bodies.{ahead, finished, place_of}
+
+-- How far a body is read: what came of it, and where reading goes on.
+pub record Reached (A : Type 0) : Type 0 where
+  pub nets : List Net
+  pub progress : Taking A
+  -- the line of the bracket that is open
+  pub bracket : Option ℕ
+  pub place : BodyPlace
+  -- the line that the next piece begins on
+  pub line : ℕ
+
+-- how far some pieces go, by what was taken
+abbrev pub reached : {T A : Type 0} → (T → A) → Pieces T → Reached A
+reached taken p =
+    record {
+      nets = p.codes;
+      progress = taking (taken p.underway.waves.taker) p.underway.waves.clock;
+      bracket = p.underway.bracket;
+      place = place_of p.underway.place;
+      line = p.line;
+    }
+
+module _ {A : Type 0} (with_change : A → ℕ → List Bit → A) (with_instant : A → ℕ → A) where
+  -- what reading gives from there on: these tokens, and more behind them
+  abbrev pub rest_of : Reached A → List Token → List Token → Result (State A) VcdFault
+  rest_of r tokens more = ahead with_change with_instant r.nets r.progress r.bracket r.place tokens more
+
+  -- what comes of it where nothing is left of the body
+  abbrev pub outcome_of : Reached A → Result A VcdFault
+  outcome_of r = finished with_change with_instant r.nets r.progress r.bracket r.place

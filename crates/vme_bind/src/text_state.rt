@@ -1,0 +1,18 @@
+//! How far the recording of a dump is made.
+
+ghost use Rattle.std.specs.Option.{ForSome};
+ghost use Rattle.vme_bind.specs.TextCapture.{IsOfBinding};
+
+use crate::fault::BindFault;
+use crate::making::Making;
+use vcd_read::Pieces;
+use vme_trace::Follower;
+
+/// The recording that a binding makes of a dump, as far as some pieces of its text go.
+#[derive(Drop)]
+pub struct TextPieces<F: Follower> {
+    pub(crate) pieces: Pieces<Making<F>>,
+    /// Why the binding makes no recording of it, which is told at the end, if the dump has no fault.
+    pub(crate) fault: Option<BindFault>,
+    ghost own: { ForSome fault IsOfBinding },
+}

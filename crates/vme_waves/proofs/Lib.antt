@@ -1,0 +1,4 @@
+pub mod CutLemmas
+pub mod JoinLemmas
+pub mod PassLemmas
+pub mod ReadLemmas

@@ -1,0 +1,131 @@
+//! A piece of a dump that is read and judged by several workers.
+
+ghost use Rattle.std.specs.Prelude.{◌≡◌, ◌≤◌, [], Result, drop, length, IfOk};
+ghost use Rattle.vme_trace.specs.Trace.{Trace, levels_after};
+ghost use Rattle.vcd_read.specs.Reading.{line_behind};
+ghost use Rattle.vcd_read.specs.Tokens.{tokens_from};
+ghost use Rattle.vme_bind.specs.TextCapture.{FailsBy};
+ghost use Rattle.vme_bind.specs.TextPieces.{LeadsTo, outcome_ahead, text_reached};
+ghost use Rattle.vme_bind.specs.TextWaves.{with_recording};
+ghost use Rattle.vme_bind.specs.declared.fault.CaptureFault.{CaptureFault as Why};
+ghost use Rattle.vme_waves.specs.Waves.{AreTaken};
+
+use crate::apart::read_each_apart;
+use crate::cut::{Piece, cut, cut_at_last_time, cut_at_time};
+use crate::in_order::read_in_order;
+use crate::joining::{Joined, join_in_order};
+use crate::judging::{judge_each_apart, pass_in_order};
+use std::alloc::{AllocError, Global};
+use std::thread::Threads;
+use vcd_read::{FaultKind, VcdFault};
+use vme_bind::{CaptureFault, TextPieces, TextWave};
+use vme_summary::advance::Advance;
+use vme_summary::watch::Watch;
+
+fn want_of_memory() -> CaptureFault
+    ensures { (answer : Result Trace Why) → FailsBy result answer }
+{
+    CaptureFault::Dump(VcdFault {
+        line: 0,
+        kind: FaultKind::Memory,
+    })
+}
+
+/// Reads the pieces apart from one another, joins them in order as far as they fit, and passes their steps, which were
+/// judged apart from one another. How many pieces were taken so is told too. The only error is want of memory.
+fn take_apart<R: Threads + Sync, J: Advance + Send>(
+    rt: &R,
+    alloc: Global,
+    wave: TextWave,
+    watch: Watch<J>,
+    pieces: &[Piece<'_>],
+) -> Result<(TextPieces<Watch<J>>, usize), AllocError>
+    requires { levels_after watch.opening watch.steps ≡ wave.body.progress.taken.shown }
+    ensures count { IfOk result (λ taken. taken.1 ≤ length pieces.now) }
+    ensures taken { IfOk result (λ taken.
+        AreTaken pieces.now (with_recording watch wave) (text_reached taken.0) (drop taken.1 pieces.now)) }
+{
+    let noted = read_each_apart(rt, alloc, &wave, pieces)?;
+    let Joined { wave, parts, count } = join_in_order(alloc, wave, pieces, noted)?;
+    let judged = judge_each_apart(rt, alloc, parts)?;
+    let watch = pass_in_order(alloc, watch, judged)?;
+    Ok((wave.with_follower(watch), count))
+}
+
+/// Takes the next piece of the text, which ends behind a space, or where the text does. It is read and judged by so
+/// many threads at most. What doesn't fit behind what stands before it is read in order, and so is what stands behind
+/// that; all of it is where it isn't known that the steps so far leave the levels that are shown.
+fn read_body<R: Threads + Sync, J: Advance + Send>(
+    rt: &R,
+    alloc: Global,
+    text: TextPieces<Watch<J>>,
+    piece: &[u8],
+    workers: u32,
+) -> Result<TextPieces<Watch<J>>, CaptureFault>
+    ensures line { IfOk result (λ text'. (text_reached text').body.line
+        ≡ line_behind (text_reached text).body.line piece.now) }
+    ensures rest { LeadsTo (λ text'. outcome_ahead (text_reached text') []) result
+        (outcome_ahead (text_reached text) (tokens_from (text_reached text).body.line piece.now)) }
+{
+    let (wave, watch) = text.into_wave();
+    let mut watch = watch;
+    let Ok(leaves) = watch.leaves(alloc, wave.shown()) else {
+        return Err(want_of_memory());
+    };
+    if !leaves {
+        return wave.with_follower(watch).read(alloc, piece);
+    }
+    let Ok(pieces) = cut(alloc, piece, wave.line(), workers) else {
+        return Err(want_of_memory());
+    };
+    match take_apart(rt, alloc, wave, watch, &pieces) {
+        Ok((text, count)) => read_in_order(alloc, text, &pieces[count..]),
+        Err(_) => Err(want_of_memory()),
+    }
+}
+
+/// The same, but what stands behind the last time is read in order, since it may end within an item.
+fn read_up_to_last_time<R: Threads + Sync, J: Advance + Send>(
+    rt: &R,
+    alloc: Global,
+    text: TextPieces<Watch<J>>,
+    piece: &[u8],
+    workers: u32,
+) -> Result<TextPieces<Watch<J>>, CaptureFault>
+    ensures line { IfOk result (λ text'. (text_reached text').body.line
+        ≡ line_behind (text_reached text).body.line piece.now) }
+    ensures rest { LeadsTo (λ text'. outcome_ahead (text_reached text') []) result
+        (outcome_ahead (text_reached text) (tokens_from (text_reached text).body.line piece.now)) }
+{
+    let Some((front, behind)) = cut_at_last_time(piece) else {
+        return text.read(alloc, piece);
+    };
+    let text = read_body(rt, alloc, text, front, workers)?;
+    text.read(alloc, behind)
+}
+
+/// Takes the next piece of the text, which ends behind a space, or where the text does. From its first time to its last
+/// it is read and judged by so many workers, each in a thread of its own, as far as it fits behind what stands before;
+/// all else is read in order. One worker reads all of it in order, without a thread. Errors are those of
+/// `TextPieces::read`.
+pub fn read_by_workers<R: Threads + Sync, J: Advance + Send>(
+    rt: &R,
+    alloc: Global,
+    text: TextPieces<Watch<J>>,
+    piece: &[u8],
+    workers: u32,
+) -> Result<TextPieces<Watch<J>>, CaptureFault>
+    ensures line { IfOk result (λ text'. (text_reached text').body.line
+        ≡ line_behind (text_reached text).body.line piece.now) }
+    ensures rest { LeadsTo (λ text'. outcome_ahead (text_reached text') []) result
+        (outcome_ahead (text_reached text) (tokens_from (text_reached text).body.line piece.now)) }
+{
+    if workers <= 1 {
+        return text.read(alloc, piece);
+    }
+    let Some((front, behind)) = cut_at_time(piece, 0) else {
+        return text.read(alloc, piece);
+    };
+    let text = text.read(alloc, front)?;
+    read_up_to_last_time(rt, alloc, text, behind, workers)
+}
