@@ -7,7 +7,7 @@ use Rattle.vme_bind.specs.declared.fault.BindKind.{BindKind}
 use Rattle.vme_bind.specs.declared.fault.BindKind.TheVariants.{Memory, SlotsFirst, Unbound}
 use Rattle.vme_bind.specs.Answers.{at_line, FailsAs, Fails, Gives}
 use Rattle.vme_bind.specs.Text.{Saying, all_said, end_line}
-use Rattle.vme_bind.specs.Binding.{BoundLines, slots_behind, bound, bound_all, all_bound, least_unbound, unless_unbound, no_assignments, binding_from, binding_of}
+use Rattle.vme_bind.specs.Binding.{BoundLines, slots_behind, bound, bound_all, all_bound, finished, least_unbound, unless_unbound, no_assignments, with_data, binding_from, binding_of}
 
 fails_then : {X Y : Type 0} (line : ℕ) (kind : BindKind) (r : Result X BindFault) (next : X → Result Y BindFault) → FailsAs line kind r → FailsAs line kind (r >>= next)
 fails_then line Memory r next h = h
@@ -36,10 +36,10 @@ unfolding binding_of
 says_nothing text line e h = rw (e, ← h) refl
 
 abbrev pub rest_bound : List ℕ → Result BoundLines BindFault → Result BoundLines BindFault
-rest_bound text r = r >>= all_bound (end_line text)
+rest_bound text r = r >>= finished (end_line text)
 
 says_slots : (text : List ℕ) (s : Saying) (ss : List Saying) → all_said text ≡ s ∷ ss
-    → binding_of text ≡ (at_line s.line (slots_behind s.first s.others) >>= λ slots. bound_all (no_assignments slots) ss >>= all_bound (end_line text))
+    → binding_of text ≡ (at_line s.line (slots_behind s.first s.others) >>= λ slots. bound_all (no_assignments slots) ss >>= finished (end_line text))
 unfolding binding_of
 says_slots text s ss e = ap (binding_from (end_line text)) e
 
@@ -47,14 +47,17 @@ pub no_slots : (text : List ℕ) (s : Saying) (ss : List Saying) → all_said te
 no_slots text s ss e h = says_slots text s ss e ∙ rw h refl
 
 pub some_slots : (text : List ℕ) (s : Saying) (ss : List Saying) (slots : ℕ) → all_said text ≡ s ∷ ss → slots_behind s.first s.others ≡ Ok slots
-    → binding_of text ≡ (bound_all (no_assignments slots) ss >>= all_bound (end_line text))
+    → binding_of text ≡ (bound_all (no_assignments slots) ss >>= finished (end_line text))
 some_slots text s ss slots e h = says_slots text s ss e ∙ rw h refl
 
-pub is_whole : (line : ℕ) (r : Result BoundLines BindFault) (b : BoundLines) → r ≡ Ok b → None ≡ least_unbound b → (r >>= all_bound line) ≡ Ok b
-is_whole line r b e h = ap (λ (r : Result BoundLines BindFault). r >>= all_bound line) e ∙ ap (unless_unbound line b) (sym h)
+pub is_whole : (line : ℕ) (r : Result BoundLines BindFault) (b whole : BoundLines) → r ≡ Ok b → whole ≡ with_data line b → None ≡ least_unbound whole → (r >>= finished line) ≡ Ok whole
+is_whole line r b whole e w h = ap (λ (r : Result BoundLines BindFault). r >>= finished line) e ∙ ap (all_bound line) (sym w) ∙ ap (unless_unbound line whole) (sym h)
 
-pub lacks : (line last : ℕ) (r : Result BoundLines BindFault) (b : BoundLines) (l : ℕ) → r ≡ Ok b → Some l ≡ least_unbound b → last ≡ line → (r >>= all_bound line) ≡ Err (record { line = last; kind = Unbound l })
-lacks line last r b l e h k = ap (λ (r : Result BoundLines BindFault). r >>= all_bound line) e ∙ ap (unless_unbound line b) (sym h) ∙ ap (λ (n : ℕ). Err (record { line = n; kind = Unbound l })) (sym k)
+pub lacks : (line last : ℕ) (r : Result BoundLines BindFault) (b whole : BoundLines) (l : ℕ) → r ≡ Ok b → whole ≡ with_data line b → Some l ≡ least_unbound whole → last ≡ line
+    → (r >>= finished line) ≡ Err (record { line = last; kind = Unbound l })
+lacks line last r b whole l e w h k =
+    ap (λ (r : Result BoundLines BindFault). r >>= finished line) e ∙ ap (all_bound line) (sym w) ∙ ap (unless_unbound line whole) (sym h)
+    ∙ ap (λ (n : ℕ). Err (record { line = n; kind = Unbound l })) (sym k)
 
 -- a statement more is bound
 pub bound_step : (b next : BoundLines) (s : Saying) (ss : List Saying) → at_line s.line (bound b s) ≡ Ok next → bound_all b (s ∷ ss) ≡ bound_all next ss

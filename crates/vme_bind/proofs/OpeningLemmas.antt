@@ -53,12 +53,12 @@ pub record IsOpened (slots : ℕ) (wires : List Wire) (n : ℕ) (v : Levels) : T
   pub below : (l : ℕ) → l < n → level_at v l ≡ first_level (line_source slots wires l)
   pub above : (l : ℕ) → n ≤ l → level_at v l ≡ Unknown
 
-pub opened-first : (wires : List Wire) (v : Levels) → v.levels ≡ replicate 159 Unknown → IsOpened v.slots wires 0 v
+pub opened-first : (wires : List Wire) (v : Levels) → v.levels ≡ replicate line_count Unknown → IsOpened v.slots wires 0 v
 opened-first wires v e = record {
   same_slots = refl;
-  all = ap length e ∙ length-replicate 159 Unknown;
+  all = ap length e ∙ length-replicate line_count Unknown;
   below = λ l lt. absurd (omega (arith, lt));
-  above = λ l le. unwrap_or-slice_get v.levels l Unknown ∙ ap (λ (xs : List Level). get_or xs l Unknown) e ∙ unknown_at 159 l;
+  above = λ l le. unwrap_or-slice_get v.levels l Unknown ∙ ap (λ (xs : List Level). get_or xs l Unknown) e ∙ unknown_at line_count l;
 }
 
 pub opened-same : (slots : ℕ) (wires : List Wire) (n : ℕ) (v : Levels) → Unknown ≡ first_level (line_source slots wires n) → IsOpened slots wires n v → IsOpened slots wires (n + 1) v

@@ -1,12 +1,16 @@
 -- The lines that a name stands for.
 use Rattle.std.specs.Prelude.{ℕ, ◌+◌, Bool, ◌&&◌, nat_le, nat_lt, if◌then◌else◌, List, codes, bytes_eq, Option, Some, None, option_and_then}
-use Rattle.vme_trace.specs.LineNumbers.{AM, A, BR, grant, iack, has_line}
+use Rattle.vme_trace.specs.LineNumbers.{AM, A, BR, D, grant, iack, has_line}
 use Rattle.vme_trace.specs.Names.{line_named}
 use Rattle.vme_bind.specs.declared.group.Group.{Group}
 
 -- so many lines, from the first one down
 abbrev pub down_from : ℕ → ℕ → Group
 down_from first count = record { first = first; count = count }
+
+-- the data lines
+abbrev pub data_group : Group
+data_group = down_from (D 31) 32
 
 -- the group holds the line
 abbrev pub holds : Group → ℕ → Bool
@@ -31,4 +35,5 @@ group_named slots name =
     else if bytes_eq name (codes "BG2") then Some (down_from (grant 2 slots) (slots + 1))
     else if bytes_eq name (codes "BG3") then Some (down_from (grant 3 slots) (slots + 1))
     else if bytes_eq name (codes "IA") then Some (down_from (iack slots) slots)
+    else if bytes_eq name (codes "D") then Some data_group
     else option_and_then (single slots) (line_named name)

@@ -1,19 +1,22 @@
 //! A binding, and how its text is read.
 
-ghost use Rattle.std.specs.Prelude.{◌≡◌, ◌++◌, ◌∷◌, [], MatchOption, IfSome, OnOk, Ok, Err, replicate};
+ghost use Rattle.std.specs.Prelude.{◌≡◌, ◌++◌, ◌∷◌, [], MatchOption, IfSome, OnOk, Ok, Err, codes, replicate};
+ghost use Rattle.vme_trace.specs.LineNumbers.{line_count};
 ghost use Rattle.vme_trace.specs.declared.level.Level.TheVariants.{Unknown};
 ghost use Rattle.vme_bind.specs.declared.fault.BindKind.TheVariants.{BadLine, SlotsFirst};
 ghost use Rattle.vme_bind.specs.Answers.{Gives, at_line};
 ghost use Rattle.vme_bind.specs.Binding.{binding_of};
+ghost use Rattle.vme_bind.specs.Groups.{data_group};
+ghost use Rattle.vme_bind.specs.Sources.{source_of};
 
 use crate::assignment::Assignment;
 use crate::fault::{BindFault, BindKind};
-use crate::group::{Group, LINE_COUNT};
+use crate::group::Group;
 use crate::source::Source;
 use crate::statements::{Statement, Statements};
-use std::alloc::Global;
+use std::alloc::{AllocError, Global};
 use std::marker::Model;
-use vme_trace::{Line, Lines};
+use vme_trace::{LINE_COUNT, Level, Line, Lines};
 
 /// What each line of a backplane is bound to.
 #[derive(Drop)]
@@ -26,6 +29,7 @@ pub struct Binding {
 
 impl Model for Binding {
     ghost use Rattle.std.specs.Prelude.{◌≡◌, replicate};
+    ghost use Rattle.vme_trace.specs.LineNumbers.{line_count};
     ghost use Rattle.vme_trace.specs.declared.level.Level.TheVariants.{Unknown};
     ghost use Rattle.vme_bind.specs.Binding.{BoundLines};
 
@@ -33,12 +37,12 @@ impl Model for Binding {
 
     ghost view = { λ b. record { slots = b.lines.slots; assignments = b.assignments.items } };
 
-    ghost invariant = { λ b. b.lines.levels ≡ replicate 159 Unknown };
+    ghost invariant = { λ b. b.lines.levels ≡ replicate line_count Unknown };
 }
 
 impl Binding {
     ghost use Rattle.vme_bind.specs.Reading.{saying, left, last_line};
-    ghost use Rattle.vme_bind.specs.Binding.{slot_count, slots_behind, name_and_source, is_taken, is_bound, bound, bound_all, least_unbound, no_assignments};
+    ghost use Rattle.vme_bind.specs.Binding.{slot_count, slots_behind, name_and_source, is_taken, is_bound, bound, bound_all, least_unbound, no_assignments, with_data};
 
     /// The number of slots that a word is: 1 to 21, without a leading zero.
     fn slot_count(word: &[u8]) -> Option<u8>
@@ -59,7 +63,7 @@ impl Binding {
         ensures slots { MatchOption result
             (slots_behind (saying statement.entry).first (saying statement.entry).others ≡ Err SlotsFirst)
             (λ lines. slots_behind (saying statement.entry).first (saying statement.entry).others ≡ Ok lines.slots) }
-        ensures unknown { IfSome result (λ lines. lines.levels ≡ replicate 159 Unknown) }
+        ensures unknown { IfSome result (λ lines. lines.levels ≡ replicate line_count Unknown) }
     {
         let Statement {
             first,
@@ -94,7 +98,7 @@ impl Binding {
 
     /// Nothing is bound yet.
     fn new(alloc: Global, lines: Lines) -> Binding
-        requires { lines.levels ≡ replicate 159 Unknown }
+        requires { lines.levels ≡ replicate line_count Unknown }
         ensures { result ≡ no_assignments lines.slots }
     {
         Binding {
@@ -106,7 +110,7 @@ impl Binding {
     /// The backplane, with all lines unknown.
     pub fn lines(&self) -> &Lines
         ensures slots { result.now.slots ≡ self.now.slots }
-        ensures unknown { result.now.levels ≡ replicate 159 Unknown }
+        ensures unknown { result.now.levels ≡ replicate line_count Unknown }
     {
         &self.lines
     }
@@ -185,6 +189,28 @@ impl Binding {
         Ok(())
     }
 
+    /// The data lines, bound to high for good by this line of the text.
+    fn high_data(line: u64) -> Assignment
+        ensures { result ≡ record { line = line; group = data_group; source = source_of (codes "1") } }
+    {
+        let source = Source::Constant(Level::High);
+        Assignment {
+            line,
+            group: Group::data(),
+            source,
+        }
+    }
+
+    /// Binds the data lines to high for good, where the text, which ends at this line, names none of them.
+    fn bind_data(&mut self, line: u64) -> Result<(), AllocError>
+        ensures { OnOk result (self.new ≡ with_data line self.old) }
+    {
+        if !self.is_taken(Group::data()) {
+            self.assignments.push(Binding::high_data(line))?;
+        }
+        Ok(())
+    }
+
     /// The least line that isn't bound.
     #[tactic(auto, using(vme_trace::proofs::Ranges::searches))]
     fn least_unbound(&self) -> Option<Line>
@@ -202,7 +228,7 @@ impl Binding {
 }
 
 /// Reads the text of a binding: a line `slots N`, and behind it lines `NAME = SOURCE` that bind each line of the
-/// backplane once.
+/// backplane once. The data lines may all be left out, and are then high for good.
 ///
 /// The text is read from the top, and an error names the first fault met and its line. A line that isn't bound is
 /// met at the end of the text. Where memory runs out, that is the fault, at line 0.
@@ -225,6 +251,7 @@ pub fn read_binding(alloc: Global, text: &[u8]) -> Result<Binding, BindFault>
     };
     let mut binding = Binding::new(alloc, lines);
     binding.bind_all(alloc, &mut statements)?;
+    binding.bind_data(statements.line())?;
     match binding.least_unbound() {
         Some(unbound) => Err(BindFault {
             line: statements.line(),

@@ -2,6 +2,7 @@
 
 ghost use Rattle.std.specs.Prelude.{◌≡◌, List, None, IfOk, length, replicate};
 ghost use Rattle.vme_trace.specs.WellFormed.{malformed_step};
+ghost use Rattle.vme_trace.specs.LineNumbers.{line_count};
 ghost use Rattle.vme_trace.specs.declared.level.Level.TheVariants.{Unknown};
 ghost use Rattle.vcd_read.specs.declared.dump.Instant.{Instant};
 ghost use Rattle.vme_bind.specs.Answers.{Gives};
@@ -9,17 +10,16 @@ ghost use Rattle.vme_bind.specs.Capture.{levels_after, recording, limited, captu
 
 use crate::binding::Binding;
 use crate::fault::{BindFault, BindKind};
-use crate::group::LINE_COUNT;
 use crate::recorder::Recorder;
 use crate::taps::{Taps, line_source};
 use crate::wires::{LineSource, Wire};
 use std::alloc::{AllocError, Global};
 use vcd_read::{Dump, Instant as DumpInstant};
-use vme_trace::{Capture, Line, Lines, Step};
+use vme_trace::{Capture, LINE_COUNT, Line, Lines, Step};
 
 /// The levels before any change: a line has a level where it is bound to one for good.
 pub(crate) fn opening_of(lines: &Lines, wires: &[Wire]) -> Lines
-    requires { lines.now.levels ≡ replicate 159 Unknown }
+    requires { lines.now.levels ≡ replicate line_count Unknown }
     ensures { (instants : List Instant) → result ≡ levels_after lines.now.slots wires.now instants 0 }
 {
     let mut opening = *lines;
@@ -42,7 +42,7 @@ fn record_all(
     wires: &[Wire],
     instants: &[DumpInstant],
 ) -> Result<(Lines, Vec<Step>), AllocError>
-    requires { lines.now.levels ≡ replicate 159 Unknown }
+    requires { lines.now.levels ≡ replicate line_count Unknown }
     ensures { IfOk result (λ made. recording lines.now.slots wires.now instants.now (length instants.now) ≡ record { opening = made.0; steps = made.1.items }) }
 {
     let taps = Taps::of_wires(alloc, lines, wires)?;

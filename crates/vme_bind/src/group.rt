@@ -5,9 +5,6 @@ ghost use Rattle.vme_trace.specs.Names.{line_named};
 
 use vme_trace::{Line, Lines};
 
-/// One more than the greatest number of a line.
-pub(crate) const LINE_COUNT: u8 = 159;
-
 /// Lines that one name stands for.
 #[derive(Clone, Copy)]
 pub(crate) struct Group {
@@ -18,7 +15,17 @@ pub(crate) struct Group {
 }
 
 impl Group {
-    ghost use Rattle.vme_bind.specs.Groups.{holds, share, group_named, single};
+    ghost use Rattle.vme_bind.specs.Groups.{data_group, holds, share, group_named, single};
+
+    /// The data lines, D31 to D00.
+    pub fn data() -> Group
+        ensures { result ≡ data_group }
+    {
+        Group {
+            first: Line::data(31),
+            count: 32,
+        }
+    }
 
     /// Whether the line is one of them.
     pub fn holds(self, line: Line) -> bool
@@ -59,6 +66,8 @@ impl Group {
             (Line::grant(3, slots), slots + 1)
         } else if name == b"IA".as_slice() {
             (Line::iack(slots), slots)
+        } else if name == b"D".as_slice() {
+            return Some(Group::data());
         } else {
             return Group::single(lines, name);
         };

@@ -49,10 +49,10 @@ fn level_of(line: Line, bit: Bit) -> Level
         Bit::One => Level::High,
         Bit::X => Level::Unknown,
         Bit::Z => {
-            if line.number() < Line::grant(0, 0).number() {
-                Level::High
-            } else {
+            if line.is_net() {
                 Level::Unknown
+            } else {
+                Level::High
             }
         }
     }

@@ -4,11 +4,10 @@ ghost use Rattle.std.specs.Prelude.{◌≡◌, ◌≤◌, ◌<◌, ◌^◌, ◌+
 ghost use Rattle.vme_trace.specs.LineNumbers.{line_count};
 ghost use Rattle.vme_bind.specs.Wires.{line_source};
 
-use crate::group::LINE_COUNT;
 use crate::wires::{LineSource, Wire, wire_source};
 use std::alloc::{AllocError, Global};
 use std::marker::Model;
-use vme_trace::{Line, Lines};
+use vme_trace::{LINE_COUNT, Line, Lines};
 
 /// A line, and the place of its bit in the values of a net, from the left.
 #[derive(Clone, Copy)]

@@ -3,6 +3,7 @@
 ghost use Rattle.std.specs.Prelude.{◌≡◌, ℕ, List, IfOk, None, map, replicate};
 ghost use Rattle.std.specs.List.{fold};
 ghost use Rattle.vme_trace.specs.WellFormed.{malformed_step};
+ghost use Rattle.vme_trace.specs.LineNumbers.{line_count};
 ghost use Rattle.vme_trace.specs.declared.level.Level.TheVariants.{Unknown};
 ghost use Rattle.vme_bind.specs.Answers.{Fails};
 ghost use Rattle.vme_bind.specs.declared.fault.BindKind.TheVariants.{Memory};
@@ -35,7 +36,7 @@ pub(crate) fn making_of<F: Follower>(
     wires: &[Wire],
     follower: F,
 ) -> Result<Making<F>, AllocError>
-    requires { lines.now.levels ≡ replicate 159 Unknown }
+    requires { lines.now.levels ≡ replicate line_count Unknown }
     ensures { IfOk result (IsBegun lines.now.slots wires.now) }
 {
     let taps = Taps::of_wires(alloc, lines, wires)?;
@@ -68,7 +69,7 @@ fn record_wires<F: Follower>(
     head: &Head<'_>,
     follower: F,
 ) -> Result<F, CaptureFault>
-    requires { lines.now.levels ≡ replicate 159 Unknown }
+    requires { lines.now.levels ≡ replicate line_count Unknown }
     ensures { GivesBy (λ f. F.recorded f) result (body_recording lines.now.slots wires.now head.now) }
 {
     match making_of(alloc, lines, wires, follower) {

@@ -3,6 +3,7 @@
 ghost use Rattle.std.specs.Prelude.{◌≡◌, ◌++◌, ℕ, List, [], IfOk, None, Some, map, replicate};
 ghost use Rattle.std.specs.List.{fold};
 ghost use Rattle.std.specs.Option.{ForSome};
+ghost use Rattle.vme_trace.specs.LineNumbers.{line_count};
 ghost use Rattle.vme_trace.specs.declared.level.Level.TheVariants.{Unknown};
 ghost use Rattle.vcd_read.specs.Reading.{line_behind};
 ghost use Rattle.vcd_read.specs.Tokens.{tokens_from};
@@ -33,7 +34,7 @@ fn begin_wires<F: Follower>(
     front: Front<'_>,
     follower: F,
 ) -> Result<TextPieces<F>, CaptureFault>
-    requires lines { lines.now.levels ≡ replicate 159 Unknown }
+    requires lines { lines.now.levels ≡ replicate line_count Unknown }
     requires own { ForSome fault IsOfBinding }
     ensures line { IfOk result (λ text. (text_reached text).body.line ≡ front.entry.line) }
     ensures rest { LeadsTo (λ text. outcome_ahead (text_reached text) []) result

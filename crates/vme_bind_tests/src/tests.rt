@@ -155,6 +155,45 @@ fn records_a_read(rt: HostRuntime) -> Result<(), Fail> {
 }
 
 #[test]
+fn data_lines_that_are_left_out_are_high(rt: HostRuntime) -> Result<(), Fail> {
+    let dump = bus_dump(rt.alloc(), AS, READ)?;
+    let capture = captured(rt.alloc(), BUS_LINES, dump.as_str())?;
+    for bit in 0..32 {
+        assert!(rt;
+            capture.opening().level(Line::data(bit)) == Level::High,
+            "{bit}"
+        );
+    }
+    Ok(())
+}
+
+#[test]
+fn data_lines_are_bound_as_a_group(rt: HostRuntime) -> Result<(), Fail> {
+    let binding = format!(in rt.alloc(); "{BUS_LINES}D = bus.D\n")?;
+    let declared = "$var wire 1 p AS $end $var wire 32 d D $end";
+    let dump = bus_dump(rt.alloc(), declared, "#1 1p b0 d #2 b100x d #3 bz1 d")?;
+    let wanted =
+        "#1 AS=1 D00=0 D01=0 D02=0 D03=0 D04=0 D05=0 D06=0 D07=0 D08=0 D09=0 D10=0 D11=0 D12=0 D13=0 D14=0 \
+        D15=0 D16=0 D17=0 D18=0 D19=0 D20=0 D21=0 D22=0 D23=0 D24=0 D25=0 D26=0 D27=0 D28=0 D29=0 D30=0 D31=0\n\
+        #2 D00=x D03=1\n\
+        #3 D00=1 D01=1 D02=1 D04=1 D05=1 D06=1 D07=1 D08=1 D09=1 D10=1 D11=1 D12=1 D13=1 D14=1 D15=1 D16=1 \
+        D17=1 D18=1 D19=1 D20=1 D21=1 D22=1 D23=1 D24=1 D25=1 D26=1 D27=1 D28=1 D29=1 D30=1 D31=1\n";
+    records_as(&rt, rt.alloc(), binding.as_str(), dump.as_str(), wanted)
+}
+
+#[test]
+fn data_lines_are_all_bound_or_none(rt: HostRuntime) -> Result<(), Fail> {
+    let alloc = rt.alloc();
+    let one = format!(in alloc; "{BUS_LINES}D00 = 1\n")?;
+    assert!(rt; fails_with(alloc, one.as_str(), 25, BindKind::Unbound(Line::data(1))));
+    let twice = format!(in alloc; "{BUS_LINES}D = 1\nD31 = 1\n")?;
+    assert!(rt; fails_with(alloc, twice.as_str(), 25, BindKind::NamedTwice));
+    let without = format!(in alloc; "{BUS_LINES}D32 = 1\n")?;
+    assert!(rt; fails_with(alloc, without.as_str(), 24, BindKind::UnknownName));
+    Ok(())
+}
+
+#[test]
 fn an_alias_changes_nothing(rt: HostRuntime) -> Result<(), Fail> {
     let declared = "$var wire 1 p AS $end $var wire 1 p AS2 $end $var wire 1 p AS $end";
     let dump = bus_dump(rt.alloc(), declared, READ)?;

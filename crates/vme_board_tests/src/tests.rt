@@ -7,7 +7,9 @@ use std::process::Abort;
 use std::test::Fail;
 use vme_board::{Bench, Board, BoardFault, Closed, Filed, Refusal, Refused, Stage};
 use vme_summary::{Judged, Span, join};
-use vme_trace::{Block, Capture, Change, Changes, Level, Line, Lines, Step, Steps, Verdict};
+use vme_trace::{
+    Block, Capture, Change, Changes, LINE_COUNT, Level, Line, Lines, Step, Steps, Verdict,
+};
 
 /// A read by modifier 39 after a grant to slot 2, from the instant on at which every line but A24 to A31 gets high.
 /// The steps stand ten units apart.
@@ -50,7 +52,7 @@ fn step_of(alloc: Global, time: u64, changes: &[Change]) -> Result<Step, AllocEr
 /// Every line of three slots but A24 to A31 gets high.
 fn all_high(alloc: Global, lines: &Lines) -> Result<Vec<Change>, Fail> {
     let mut changes = Vec::new(alloc);
-    for number in 0..159 {
+    for number in 0..LINE_COUNT {
         let line = Line::from_number(number).ok_or("no such line")?;
         if lines.has(line) && (number < 37 || 44 < number) {
             changes.push(Change {

@@ -9,7 +9,8 @@ use vme_book::{Book, BookFault, CloseFault, InsertFault, Whole};
 use vme_listing::read_listing;
 use vme_summary::{Judged, judge_block};
 use vme_trace::{
-    Block, Break, Capture, Change, Changes, Level, Line, Lines, Rule, Step, Steps, Verdict,
+    Block, Break, Capture, Change, Changes, LINE_COUNT, Level, Line, Lines, Rule, Step, Steps,
+    Verdict,
 };
 
 /// A read by modifier 39 of a requester in slot 2, in steps ten units apart. `quiet` is every line high but A24 to A31.
@@ -56,7 +57,7 @@ fn change_of(word: &str) -> Option<Change> {
 fn step_of(alloc: Global, lines: &Lines, time: u64, text: &str) -> Result<Step, &'static str> {
     let mut changes = Vec::new(alloc);
     if text == "quiet" {
-        for number in 0..159 {
+        for number in 0..LINE_COUNT {
             let line = Line::from_number(number).ok_or("no such line")?;
             if lines.has(line) && (number < 37 || 44 < number) {
                 let change = Change {

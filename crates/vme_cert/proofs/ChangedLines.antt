@@ -20,7 +20,7 @@ use Rattle.vme_cert.specs.Watching.{asks_for_edge}
 use Rattle.vme_cert.proofs.Watched.{breaks-still}
 use Rattle.vme_cert.proofs.Truth.{equal}
 
-pub line_below : (slots l : ℕ) → slots ≤ 21 → has_line slots l ≡ true → l < 159
+pub line_below : (slots l : ℕ) → slots ≤ 21 → has_line slots l ≡ true → l < line_count
 line_below slots l few h = grind (arith, nat_tests)
 
 -- the parts of what is known of the first change

@@ -88,10 +88,7 @@ answer_line l = by_test (nat_le 3 l && nat_lt l 5) refl
     by_test true h = grind (arith, nat_tests)
     by_test false h = grind (arith, nat_tests)
 
-below_last : (l : ℕ) → l < line_count → nat_lt l 159 ≡ true
-below_last l below = grind (arith, nat_tests)
-
-all_lines : (l : ℕ) → l < line_count → (nat_le 0 l && nat_lt l 159) ≡ true
+all_lines : (l : ℕ) → l < line_count → (nat_le 0 l && nat_lt l 191) ≡ true
 all_lines l below = grind (arith, nat_tests)
 
 -- the parts of a rule in another order
@@ -146,7 +143,7 @@ module _ (t : Trace) (span : Span) (j l : ℕ) (below : l < line_count) where
   never_held h = fails-any _ (span.start + 1) j (λ i a b. fails _ _ (not_needed (levels_at t i) l h))
 
   nets : is_slot_iack l ≡ (nat_le 138 l && nat_lt l 159)
-  nets = rw (below_last l below) (sym (on (nat_le 138 l)))
+  nets = refl
 
   broken-is : (r : Rule) → is_broken t span r j l ≡ (speaks_of r l && shows t r l j && asks t span r j l)
   unfolding is_broken known

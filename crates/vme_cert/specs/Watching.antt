@@ -15,7 +15,7 @@ use Rattle.vme_trace.specs.declared.rule.Rule.TheVariants.{U1, U2, U3, H1, H2, H
 
 -- the first of the lines of which a rule speaks, and the one after the last
 abbrev pub lines_of : Rule → ℕ × ℕ
-lines_of U1 = (0, 159)
+lines_of U1 = (0, 191)
 lines_of U2 = (5, 45)
 lines_of U3 = (13, 14)
 lines_of H2 = (1, 3)

@@ -33,7 +33,7 @@ pub(crate) fn lines_of(rule: Rule) -> (u8, u8)
     ensures { result ≡ lines_of rule }
 {
     match rule {
-        U1 => (0, 159),
+        U1 => (0, 191),
         H7 | B3 => (0, 1),
         H2 | H3 => (1, 3),
         H1 | H4 | H5 | H6 | H8 | C1 | C2 | I4 | I5 => (3, 5),

@@ -4,7 +4,7 @@ use std::process::Abort;
 use std::test::Fail;
 use vme_cert::{Answer, confirm};
 use vme_listing::{Direction, Listing, Outcome, Row, read_listing};
-use vme_trace::{Capture, Change, Changes, Level, Line, Lines, Step};
+use vme_trace::{Capture, Change, Changes, LINE_COUNT, Level, Line, Lines, Step};
 
 /// How a recording starts: its slots, the levels of its opening, and its first steps. A step is the lines that change, with their
 /// new levels, and they stand ten units apart. `high` is every line high, and `quiet` every line but A24 to A31.
@@ -162,7 +162,7 @@ fn change_of(word: &str) -> Option<Change> {
 
 /// Adds that each line gets high, but those of some numbers.
 fn push_high(changes: &mut Vec<Change>, lines: &Lines, first: u8, last: u8) -> Result<(), Fail> {
-    for number in 0..159 {
+    for number in 0..LINE_COUNT {
         let line = Line::from_number(number).ok_or("no such line")?;
         if lines.has(line) && (number < first || last < number) {
             changes.push(Change {
@@ -179,7 +179,7 @@ fn changes_of(alloc: Global, lines: &Lines, text: &str) -> Result<Vec<Change>, F
     let mut changes = Vec::new(alloc);
     for word in text.split_whitespace() {
         if word == "high" {
-            push_high(&mut changes, lines, 159, 159)?;
+            push_high(&mut changes, lines, LINE_COUNT, LINE_COUNT)?;
         } else if word == "quiet" {
             push_high(&mut changes, lines, 37, 44)?;
         } else {

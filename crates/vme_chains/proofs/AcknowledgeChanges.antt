@@ -50,7 +50,7 @@ below_changes v lowest l (c ∷ cs) h b =
     unlike : (k m l : ℕ) → nat_le k m ≡ true → l < k → ((m == l) || false) ≡ false
     unlike k m l h b = grind (arith, nat_tests)
 
-exists_below : (slots l : ℕ) → slots ≤ 21 → has_line slots l ≡ true → l < 159
+exists_below : (slots l : ℕ) → slots ≤ 21 → has_line slots l ≡ true → l < line_count
 exists_below slots l few h = grind (arith, nat_tests)
 
 -- the first changed line that has a property is the least that has it, if changed lines alone have it

@@ -20,7 +20,7 @@ and_true : (a b : Bool) → (a && b) ≡ true → (a ≡ true) × (b ≡ true)
 and_true true b h = (refl, h)
 and_true false b h = absurd (cc)
 
-exists_below : (slots l : ℕ) → slots ≤ 21 → has_line slots l ≡ true → l < 159
+exists_below : (slots l : ℕ) → slots ≤ 21 → has_line slots l ≡ true → l < line_count
 exists_below slots l few h = grind (arith, nat_tests)
 
 one_more : (l k : ℕ) → l < k → l < k + 1

@@ -128,7 +128,7 @@ fn is_low_near(before: &Lines, after: &Lines, line: Line) -> bool
 fn is_output(line: Line) -> bool
     ensures { result ≡ is_slot_iack line }
 {
-    line.number() >= Line::iack(1).number()
+    line.is_net() && line.number() >= Line::iack(1).number()
 }
 
 /// The acknowledge input of the slot that has an acknowledge output.

@@ -39,7 +39,7 @@ false_of_not : (b : Bool) → not b ≡ true → b ≡ false
 false_of_not true h = absurd (cc)
 false_of_not false h = refl
 
-idle_line : (v : Levels) (l : ℕ) → l < 159 → is_idle v ≡ true → is_idle_on v l ≡ true
+idle_line : (v : Levels) (l : ℕ) → l < line_count → is_idle v ≡ true → is_idle_on v l ≡ true
 unfolding is_idle
 idle_line v l below idle = true_of_not _ (any-fails (λ k. not (is_idle_on v k)) 0 line_count l (false_of_not _ idle) (omega arith) below)
 

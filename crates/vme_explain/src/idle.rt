@@ -1,14 +1,11 @@
 //! Which lines move, and which keep the bus from being idle.
 
-use vme_trace::{Capture, Change, Level, Line, Lines};
-
-/// One more than the greatest number of a line.
-const LINE_COUNT: u8 = 159;
+use vme_trace::{Capture, Change, LINE_COUNT, Level, Line, Lines};
 
 /// A mark for each line, by its number.
 #[derive(Clone, Copy)]
 pub(crate) struct Marked {
-    lines: [bool; 159],
+    lines: [bool; LINE_COUNT as usize],
 }
 
 impl Marked {
@@ -41,7 +38,7 @@ pub(crate) fn control_line(lines: &Lines, number: u8) -> Option<Line> {
 /// control lines are known.
 fn is_fit(line: Line, level: Level) -> bool {
     let number = line.number();
-    if number <= 4 || 50 <= number {
+    if number <= 4 || line.is_net() {
         level == Level::High
     } else {
         level != Level::Unknown
@@ -59,7 +56,7 @@ fn mark_fit(marked: &mut Marked, changes: &[Change]) {
 /// The lines that show at some instant what an idle bus asks of them.
 pub(crate) fn fit_lines(capture: &Capture) -> Marked {
     let mut marked = Marked {
-        lines: [false; 159],
+        lines: [false; LINE_COUNT as usize],
     };
     let opening = capture.opening();
     for number in 0..LINE_COUNT {
@@ -83,7 +80,7 @@ pub(crate) fn is_fit_in(lines: &Lines, line: Line) -> bool {
 /// The lines that change behind an instant.
 pub(crate) fn moved_lines(capture: &Capture, from: u32) -> Marked {
     let mut marked = Marked {
-        lines: [false; 159],
+        lines: [false; LINE_COUNT as usize],
     };
     let steps = capture.steps();
     let first = steps.len().min(from as usize);

@@ -60,6 +60,7 @@ fn group(name: &[u8], slots: u8) -> Option<(u8, u8)> {
     match name {
         b"AM" => Some((Line::address_modifier(5).number(), 6)),
         b"A" => Some((Line::address(31).number(), 31)),
+        b"D" => Some((Line::data(31).number(), 32)),
         b"BR" => Some((Line::bus_request(3).number(), 4)),
         b"IA" => Some((Line::iack(slots).number(), slots)),
         [b'B', b'G', digit @ b'0'..=b'3'] => {

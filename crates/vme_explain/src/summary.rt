@@ -7,10 +7,7 @@ use crate::rows::{Kind, Part, count_of, open_row};
 use std::alloc::{AllocError, Global};
 use vme_listing::Row;
 use vme_text::Text;
-use vme_trace::{Line, Lines};
-
-/// One more than the greatest number of a line.
-const LINE_COUNT: u8 = 159;
+use vme_trace::{LINE_COUNT, Line, Lines};
 
 /// What was judged of a conforming recording, and what was pending at its end.
 pub(crate) fn push_summary(
@@ -134,7 +131,7 @@ fn push_unmoved(text: &mut Text, subject: &Subject<'_>, start: u32) -> Result<()
 /// What an idle bus asks of a line.
 fn wanted(line: Line) -> &'static str {
     let number = line.number();
-    if number <= 4 || 50 <= number {
+    if number <= 4 || line.is_net() {
         ": not High"
     } else {
         ": not known"

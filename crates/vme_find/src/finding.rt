@@ -3,7 +3,7 @@
 use crate::names::{Fit, Named, meaning, scope_and_name};
 use std::alloc::{AllocError, Global};
 use vcd_read::Variable;
-use vme_trace::Line;
+use vme_trace::{LINE_COUNT, Line};
 
 /// How many bits of a variable are looked at.
 const MOST_BITS: u32 = 64;
@@ -30,7 +30,7 @@ struct Candidate {
 pub(crate) struct Scope<'a> {
     /// The names of the scopes, joined by dots.
     pub path: &'a [u8],
-    lines: [bool; 159],
+    lines: [bool; LINE_COUNT as usize],
 }
 
 impl<'a> Scope<'a> {
@@ -44,7 +44,7 @@ impl<'a> Scope<'a> {
 #[derive(Drop)]
 pub(crate) struct Found<'a> {
     /// A bit of a variable for each line, by the line's number.
-    taps: [Option<Tap>; 159],
+    taps: [Option<Tap>; LINE_COUNT as usize],
     /// The scope in which they all stand.
     pub scope: &'a [u8],
     /// Other scopes that hold at least half as many of the names.
@@ -86,7 +86,7 @@ fn candidates(alloc: Global, variables: &[Variable]) -> Result<Vec<Candidate>, A
 }
 
 /// Notes which lines a variable is named as.
-fn note_lines(lines: &mut [bool; 159], declared: &Variable, named: &Named) {
+fn note_lines(lines: &mut [bool; LINE_COUNT as usize], declared: &Variable, named: &Named) {
     for place in 0..declared.size.min(MOST_BITS) {
         if let Some(line) = named.line_at(declared, place) {
             note_line(lines, line);
@@ -94,7 +94,7 @@ fn note_lines(lines: &mut [bool; 159], declared: &Variable, named: &Named) {
     }
 }
 
-fn note_line(lines: &mut [bool; 159], line: Line) {
+fn note_line(lines: &mut [bool; LINE_COUNT as usize], line: Line) {
     if let Some(noted) = lines.get_mut(usize::from(line.number())) {
         *noted = true;
     }
@@ -115,7 +115,7 @@ fn scopes<'a>(
                 None => {
                     scopes.push(Scope {
                         path,
-                        lines: [false; 159],
+                        lines: [false; LINE_COUNT as usize],
                     })?;
                     scopes.len() - 1
                 }
@@ -129,7 +129,11 @@ fn scopes<'a>(
 }
 
 /// Takes a variable's bits for the lines that have none yet.
-fn take_bits(taps: &mut [Option<Tap>; 159], variables: &[Variable], candidate: Candidate) {
+fn take_bits(
+    taps: &mut [Option<Tap>; LINE_COUNT as usize],
+    variables: &[Variable],
+    candidate: Candidate,
+) {
     let Some(declared) = variables.get(candidate.variable) else {
         return;
     };
@@ -145,7 +149,7 @@ fn take_bits(taps: &mut [Option<Tap>; 159], variables: &[Variable], candidate: C
 }
 
 /// Takes a bit for a line, if it has none yet.
-fn take_bit(taps: &mut [Option<Tap>; 159], line: Line, tap: Tap) {
+fn take_bit(taps: &mut [Option<Tap>; LINE_COUNT as usize], line: Line, tap: Tap) {
     if let Some(taken) = taps.get_mut(usize::from(line.number())) {
         if taken.is_none() {
             *taken = Some(tap);
@@ -155,7 +159,7 @@ fn take_bit(taps: &mut [Option<Tap>; 159], line: Line, tap: Tap) {
 
 /// Takes the bits of the candidates of a scope, those that fit best first.
 fn take_scope(
-    taps: &mut [Option<Tap>; 159],
+    taps: &mut [Option<Tap>; LINE_COUNT as usize],
     variables: &[Variable],
     candidates: &[Candidate],
     scope: &[u8],
@@ -188,7 +192,7 @@ pub(crate) fn find<'a>(alloc: Global, variables: &'a [Variable]) -> Result<Found
             others.push(other.path)?;
         }
     }
-    let mut taps = [None; 159];
+    let mut taps = [None; LINE_COUNT as usize];
     take_scope(&mut taps, variables, &candidates, scope);
     Ok(Found {
         taps,

@@ -5,7 +5,7 @@ use crate::names::bit_number;
 use std::alloc::{AllocError, Global};
 use vcd_read::Variable;
 use vme_text::Text;
-use vme_trace::Line;
+use vme_trace::{LINE_COUNT, Line};
 
 /// What to know of a line that wasn't found, by the beginning of its name.
 const HINTS: [(&[u8], &str); 13] = [
@@ -263,7 +263,7 @@ impl<'a> Proposal<'a> {
 
     /// Whether the format can name a bit that was found for any line.
     fn is_any_named(&self) -> bool {
-        (0..159).any(|number| self.is_named(number, 0))
+        (0..LINE_COUNT).any(|number| self.is_named(number, 0))
     }
 
     /// The first variable that was found for one of some lines and can't be told from another one.

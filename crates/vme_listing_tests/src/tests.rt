@@ -368,7 +368,7 @@ const BAD_LINES: [&[u8]; 28] = [
     b"verdict never-idle",
     b"verdict broken U1 10 AS",
     b"verdict unreadable H4 10 DTACK",
-    b"verdict broken H4 10 D00",
+    b"verdict broken H4 10 D32",
 ];
 
 #[test]

@@ -8,7 +8,9 @@ use vme_monitor::known::{Known, KnownRules};
 use vme_monitor::mark::{Kind, Mark};
 use vme_monitor::monitor::{Monitor, join, none};
 use vme_monitor::silent::BreaksOf;
-use vme_trace::{Block, Break, Capture, Change, Changes, Level, Line, Lines, Rule, Step};
+use vme_trace::{
+    Block, Break, Capture, Change, Changes, LINE_COUNT, Level, Line, Lines, Rule, Step,
+};
 
 /// A recording: its slots, the levels of its opening, and its steps, ten units apart. A step is the lines that change, with their
 /// new levels. `high` is every line high, and `quiet` every line but A24 to A31.
@@ -63,7 +65,7 @@ fn change_of(word: &str) -> Option<Change> {
 
 /// Adds that each line gets high, but those of some numbers.
 fn push_high(changes: &mut Vec<Change>, lines: &Lines, first: u8, last: u8) -> Result<(), Fail> {
-    for number in 0..159 {
+    for number in 0..LINE_COUNT {
         let line = Line::from_number(number).ok_or("no such line")?;
         if lines.has(line) && (number < first || last < number) {
             changes.push(Change {
@@ -80,7 +82,7 @@ fn changes_of(alloc: Global, lines: &Lines, text: &str) -> Result<Vec<Change>, F
     let mut changes = Vec::new(alloc);
     for word in text.split_whitespace() {
         if word == "high" {
-            push_high(&mut changes, lines, 159, 159)?;
+            push_high(&mut changes, lines, LINE_COUNT, LINE_COUNT)?;
         } else if word == "quiet" {
             push_high(&mut changes, lines, 37, 44)?;
         } else {

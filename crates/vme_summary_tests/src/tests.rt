@@ -7,8 +7,8 @@ use vme_summary::judged::{Judged, judge_block};
 use vme_summary::span::{JoinFault, Span, join};
 use vme_summary::{Judge, verdict_by_blocks};
 use vme_trace::{
-    Block, Break, Capture, Change, Changes, CutFault, Follower, Level, Line, Lines, Rule, Step,
-    Steps, Verdict,
+    Block, Break, Capture, Change, Changes, CutFault, Follower, LINE_COUNT, Level, Line, Lines,
+    Rule, Step, Steps, Verdict,
 };
 
 /// How a recording starts: its slots, the levels of its opening, and its first steps. A step is the lines that change, with their
@@ -286,7 +286,7 @@ fn push_high(
     first: u8,
     last: u8,
 ) -> Result<(), &'static str> {
-    for number in 0..159 {
+    for number in 0..LINE_COUNT {
         let line = Line::from_number(number).ok_or("no such line")?;
         if lines.has(line) && (number < first || last < number) {
             let change = Change {
@@ -304,7 +304,7 @@ fn changes_of(alloc: Global, lines: &Lines, text: &str) -> Result<Vec<Change>, &
     let mut changes = Vec::new(alloc);
     for word in text.split_whitespace() {
         if word == "high" {
-            push_high(&mut changes, lines, 159, 159)?;
+            push_high(&mut changes, lines, LINE_COUNT, LINE_COUNT)?;
         } else if word == "quiet" {
             push_high(&mut changes, lines, 37, 44)?;
         } else {

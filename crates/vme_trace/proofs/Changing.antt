@@ -5,7 +5,7 @@ use Rattle.std.proofs.lemmas.Bool.Decides.{nat_tests}
 use Rattle.std.proofs.lemmas.List.{get_or-set_other}
 use Rattle.std.proofs.lemmas.Option.{unwrap_or-slice_get}
 use Rattle.vme_trace.specs.Instants.{any, every, least}
-use Rattle.vme_trace.specs.LineNumbers.{line_count, has_line, is_control}
+use Rattle.vme_trace.specs.LineNumbers.{line_count, has_line, is_control, is_net}
 use Rattle.vme_trace.specs.Levels.{Levels, level_at, set_level, is_idle, is_idle_on, is_lost, is_high, is_known, same_level, loses_control}
 use Rattle.vme_trace.specs.Trace.{changed}
 use Rattle.vme_trace.specs.WellFormed.{are_changes}
@@ -62,7 +62,7 @@ untouched slots (c ∷ cs) l h k =
 idle_on-kept : (v : Levels) (cs : List Change) (l : ℕ) → touches_control v.slots cs ≡ false → is_idle_on (changed v cs) l ≡ is_idle_on v l
 idle_on-kept v cs l h = rw (slots-kept v cs) (by_control (is_control v.slots l) refl)
   where
-    by_control : (b : Bool) → is_control v.slots l ≡ b → cond (not b) true (cond (nat_le l 4 || nat_le 50 l) (is_high (level_at (changed v cs) l)) (is_known (level_at (changed v cs) l))) ≡ cond (not b) true (cond (nat_le l 4 || nat_le 50 l) (is_high (level_at v l)) (is_known (level_at v l)))
+    by_control : (b : Bool) → is_control v.slots l ≡ b → cond (not b) true (cond (nat_le l 4 || is_net l) (is_high (level_at (changed v cs) l)) (is_known (level_at (changed v cs) l))) ≡ cond (not b) true (cond (nat_le l 4 || is_net l) (is_high (level_at v l)) (is_known (level_at v l)))
     by_control false e = refl
     by_control true e = rw (level-kept v cs l (untouched v.slots cs l h e)) refl
 
@@ -92,7 +92,7 @@ below_changes v lowest l (c ∷ cs) h b =
         unlike : (k m l : ℕ) → nat_le k m ≡ true → l < k → ((m == l) || false) ≡ false
         unlike k m l h b = grind (arith, nat_tests)
 
-exists_below : (slots l : ℕ) → slots ≤ 21 → has_line slots l ≡ true → l < 159
+exists_below : (slots l : ℕ) → slots ≤ 21 → has_line slots l ≡ true → l < line_count
 exists_below slots l few h = grind (arith, nat_tests)
 
 one_more : (l k : ℕ) → l < k → l < k + 1

@@ -105,7 +105,7 @@ reads_strobes t s idle = record {
   second = λ j a b. true_of_not _ (any-fails (is_lost (levels_at t j)) 0 line_count 2 (not_lost t s j a b) (lit≤ tt) (lit< tt));
 }
   where
-    idle_line : (l : ℕ) → l < 159 → is_idle_on (levels_at t s) l ≡ true
+    idle_line : (l : ℕ) → l < line_count → is_idle_on (levels_at t s) l ≡ true
     idle_line l below = true_of_not _ (any-fails (λ k. not (is_idle_on (levels_at t s) k)) 0 line_count l (false_of_not _ idle) (omega arith) below)
 
     both : {a b : Bool} → a ≡ true → b ≡ true → (a && b) ≡ true

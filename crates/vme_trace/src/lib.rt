@@ -22,7 +22,7 @@ pub use class::Class;
 pub use cycle::{LineSet, am_class, am_code, needed};
 pub use follower::Follower;
 pub use level::Level;
-pub use line::Line;
+pub use line::{LINE_COUNT, Line};
 pub use lines::Lines;
 pub use name::Name;
 pub use rule::Rule;

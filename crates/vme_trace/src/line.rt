@@ -1,5 +1,5 @@
 ghost use Rattle.std.specs.Prelude.{◌≡◌, ℕ, ◌+◌, ◌*◌, ◌<◌, ◌≤◌, SomeIff, IfSome, Some, nat_lt};
-ghost use Rattle.vme_trace.specs.LineNumbers.{AM, A, BR, grant, iack, line_count};
+ghost use Rattle.vme_trace.specs.LineNumbers.{AM, A, BR, D, grant, iack, is_net, line_count};
 ghost use Rattle.vme_trace.specs.Names.{line_name, line_named};
 
 use crate::name::Name;
@@ -26,7 +26,7 @@ impl Model for Line {
 }
 
 /// How many lines there are, over all backplanes.
-pub(crate) const COUNT: u8 = 159;
+pub const LINE_COUNT: u8 = 191;
 
 /// The bused lines of which a backplane has one each.
 impl Line {
@@ -59,11 +59,11 @@ impl Line {
 }
 
 impl Line {
-    /// The line of a number, if there is one: the numbers are 0 to 158.
+    /// The line of a number, if there is one: the numbers are 0 to 190.
     pub fn from_number(number: u8) -> Option<Line>
         ensures { SomeIff result (number < line_count) number }
     {
-        if number < COUNT {
+        if number < LINE_COUNT {
             Some(Line { number })
         } else {
             None
@@ -78,7 +78,7 @@ impl Line {
         Line { number }
     }
 
-    /// The number of the line, below 159.
+    /// The number of the line, below 191.
     pub fn number(self) -> u8
         ensures number { result ≡ self }
         ensures exists { result < line_count }
@@ -132,8 +132,23 @@ impl Line {
         Line { number: 137 + slot }
     }
 
+    /// D00 to D31, a bit of the data, by its place: 0 to 31.
+    pub fn data(bit: u8) -> Line
+        requires { bit < 32 }
+        ensures { result ≡ D bit }
+    {
+        Line { number: 159 + bit }
+    }
+
+    /// Whether it is a net of a daisy chain: a bus grant or an acknowledge output. All others are bused.
+    pub fn is_net(self) -> bool
+        ensures { result ≡ is_net self }
+    {
+        50 <= self.number && self.number < 159
+    }
+
     /// The name of the line, without the asterisk: AS, DS0, DS1, DTACK, BERR, IACK, AM0 to AM5, LWORD,
-    /// WRITE, A01 to A31, BBSY, BR0 to BR3, BG0.0 to BG3.21 (level, place), IA.1 to IA.21 (slot).
+    /// WRITE, A01 to A31, BBSY, BR0 to BR3, BG0.0 to BG3.21 (level, place), IA.1 to IA.21 (slot), D00 to D31.
     pub fn name(self) -> Name
         ensures { result ≡ line_name self }
     {
@@ -152,7 +167,8 @@ impl Line {
             45 => Name::of(b"BBSY"),
             46..=49 => Name::of(b"BR").with_decimal(number - 46),
             50..=137 => grant_name((number - 50) / 22, (number - 50) % 22),
-            _ => Name::of(b"IA.").with_decimal(number - 137),
+            138..=158 => Name::of(b"IA.").with_decimal(number - 137),
+            _ => Name::of(b"D").with_two_digits(number - 159),
         }
     }
 
@@ -163,7 +179,7 @@ impl Line {
         ensures named { IfSome result (λ line. line_name line ≡ name.now) }
         ensures found { (line : ℕ) → line < line_count → line_name line ≡ name.now → result ≡ Some line }
     {
-        for number in 0..COUNT {
+        for number in 0..LINE_COUNT {
             let line = Line::nth(number);
             if line.name().as_bytes() == name {
                 return Some(line);

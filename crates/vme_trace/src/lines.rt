@@ -10,7 +10,7 @@ use std::marker::Model;
 #[derive(Clone, Copy, Debug, PartialEq, Eq)]
 pub struct Lines {
     slots: u8,
-    levels: [Level; 159],
+    levels: [Level; 191],
 }
 
 impl Model for Lines {
@@ -35,12 +35,12 @@ impl Lines {
 
     /// A backplane of that many slots, 1 to 21, with all lines unknown.
     pub fn new(slots: u8) -> Option<Lines>
-        ensures { SomeIff result ((1 ≤ slots) × (slots ≤ 21)) (record { slots = slots; levels = replicate 159 Unknown }) }
+        ensures { SomeIff result ((1 ≤ slots) × (slots ≤ 21)) (record { slots = slots; levels = replicate line_count Unknown }) }
     {
         if 1 <= slots && slots <= 21 {
             Some(Lines {
                 slots,
-                levels: [Level::Unknown; 159],
+                levels: [Level::Unknown; 191],
             })
         } else {
             None
@@ -66,7 +66,7 @@ impl Lines {
         } else if number < 138 {
             (number - 50) % 22 <= self.slots
         } else {
-            number <= 137 + self.slots
+            159 <= number || number <= 137 + self.slots
         }
     }
 
@@ -115,7 +115,7 @@ impl Lines {
         ensures { result ≡ is_control self.now.slots line }
     {
         let number = line.number();
-        self.has(line) && (number <= 5 || 45 <= number)
+        self.has(line) && (number <= 5 || (45 <= number && number < 159))
     }
 
     fn is_lost(&self, line: Line) -> bool

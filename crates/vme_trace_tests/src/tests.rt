@@ -2,8 +2,8 @@ use smallvec::SmallVec;
 use std::alloc::{AllocError, Global};
 use std::test::Fail;
 use vme_trace::{
-    Block, Capture, Change, Changes, Class, CutFault, Level, Line, LineSet, Lines, Malformed, Rule,
-    Step, Steps, am_class, am_code, needed,
+    Block, Capture, Change, Changes, Class, CutFault, LINE_COUNT, Level, Line, LineSet, Lines,
+    Malformed, Rule, Step, Steps, am_class, am_code, needed,
 };
 
 fn low(line: Line) -> Change {
@@ -68,7 +68,7 @@ fn toggles(alloc: Global, count: u64) -> Result<Vec<Step>, AllocError> {
 /// One slot: the first six lines unknown, the address modifier 3D, the bus busy, all else high.
 fn dump_lines() -> Result<Lines, Fail> {
     let mut lines = Lines::new(1).ok_or("no such backplane")?;
-    for number in 6..159 {
+    for number in 6..LINE_COUNT {
         let line = Line::from_number(number).ok_or("no such line")?;
         if lines.has(line) {
             lines.set(line, Level::High);
@@ -82,7 +82,7 @@ fn dump_lines() -> Result<Lines, Fail> {
 /// Every line of a backplane high.
 fn high_lines(slots: u8) -> Result<Lines, Fail> {
     let mut lines = Lines::new(slots).ok_or("no such backplane")?;
-    for number in 0..159 {
+    for number in 0..LINE_COUNT {
         let line = Line::from_number(number).ok_or("no such line")?;
         if lines.has(line) {
             lines.set(line, Level::High);
@@ -135,16 +135,20 @@ fn line_names(rt: HostRuntime) {
         (137, "BG3.21"),
         (138, "IA.1"),
         (158, "IA.21"),
+        (159, "D00"),
+        (168, "D09"),
+        (169, "D10"),
+        (190, "D31"),
     ] {
         assert!(rt; is_named(number, name.as_bytes()), "{name}");
     }
     for name in [
         "", "A", "A00", "A1", "A001", "A32", "AM6", "BR4", "BG4.0", "BG0.22", "BG0.01", "IA.0",
-        "IA.22", "D00", "SYSRESET", "as", "AS ", "AS*",
+        "IA.22", "D", "D0", "D32", "SYSRESET", "as", "AS ", "AS*",
     ] {
         assert!(rt; Line::from_name(name.as_bytes()).is_none(), "{name}");
     }
-    for number in [159, 190, 191, 255] {
+    for number in [191, 255] {
         assert!(rt; Line::from_number(number).is_none());
     }
 }
@@ -160,6 +164,8 @@ fn lines_by_place(rt: HostRuntime) {
         (Line::bus_request(3), 49),
         (Line::grant(3, 2), 118),
         (Line::iack(21), 158),
+        (Line::data(0), 159),
+        (Line::data(31), 190),
     ] {
         assert!(rt; line.number() == number);
     }

@@ -3,7 +3,7 @@
 use smallvec::SmallVec;
 use std::alloc::Global;
 use std::test::Fail;
-use vme_trace::{Block, Capture, Change, Changes, Level, Line, Lines, Step};
+use vme_trace::{Block, Capture, Change, Changes, LINE_COUNT, Level, Line, Lines, Step};
 
 /// Every line gets high but A24 to A31, and a requester in slot 2 takes the bus by level 3.
 const GRANTED: &str = "quiet;BR3=0;BG3.0=0;BG3.1=0;BBSY=0 BR3=1;BG3.0=1;BG3.1=1";
@@ -37,7 +37,7 @@ fn change_of(word: &str) -> Option<Change> {
 
 /// Adds that each line but A24 to A31 gets high.
 fn push_quiet(changes: &mut Vec<Change>, lines: &Lines) -> Result<(), &'static str> {
-    for number in 0..159 {
+    for number in 0..LINE_COUNT {
         let line = Line::from_number(number).ok_or("no such line")?;
         if lines.has(line) && !(37..=44).contains(&number) {
             let change = Change {

@@ -1,4 +1,5 @@
-use Rattle.std.proofs.Common.{◌≡◌, ℕ, ◌&&◌, not, true, false, Bool, sym, arith, refl, rules}
+use Rattle.std.proofs.Common.{◌≡◌, ℕ, ◌&&◌, not, true, false, Bool, sym, ap, ◌∙◌, arith, refl, rules}
+use Rattle.vme_trace.specs.Instants.{any}
 use Rattle.vme_trace.specs.LineNumbers.{has_line, line_count}
 use Rattle.vme_trace.proofs.Ranges.{least-is, least-none}
 use Rattle.vme_bind.specs.Binding.{is_bound}
@@ -19,4 +20,4 @@ pub returns : goal.returns
 returns c =
     let b = c.args.self.now in
     let end : c.loop-number.number ≡ line_count = omega arith in
-    sym (least-none (λ (k : ℕ). has_line b.slots k && not (is_bound b.assignments k)) 0 line_count (rw (← end) c.loop-number.invariant))
+    sym (least-none (λ (k : ℕ). has_line b.slots k && not (is_bound b.assignments k)) 0 line_count (ap (λ (n : ℕ). any (λ (k : ℕ). has_line b.slots k && not (is_bound b.assignments k)) 0 n) (sym end) ∙ c.loop-number.invariant))
