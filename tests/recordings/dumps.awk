@@ -8,7 +8,7 @@ function line_name(text) {
   gsub(/[()]/, "", text)
   split(text, word, " ")
   if (word[1] == "AM" || word[1] == "BR") return word[1] word[2]
-  if (word[1] == "A") return sprintf("A%02d", word[2])
+  if (word[1] == "A" || word[1] == "D") return sprintf("%s%02d", word[1], word[2])
   if (word[1] == "grant") return "BG" word[2] "." word[3]
   if (word[1] == "iack") return "IA." word[2]
   return word[1]
@@ -62,6 +62,7 @@ function lines_of(slots, names, n, k) {
   names = names " BBSY BR0 BR1 BR2 BR3"
   for (n = 0; n < 4; n++) for (k = 0; k <= slots; k++) names = names " BG" n "." k
   for (k = 1; k <= slots; k++) names = names " IA." k
+  for (n = 0; n < 32; n++) names = names sprintf(" D%02d", n)
   return names
 }
 

@@ -9,8 +9,7 @@ use Rattle.vme_trace.specs.Levels.{Levels, level_at, is_high}
 use Rattle.vme_trace.specs.declared.class.Class.{Class}
 use Rattle.vme_trace.specs.declared.class.Class.TheVariants as class
 use Rattle.vme_listing.specs.Recorded.{address_to, cycle_row}
-use Rattle.vme_listing.specs.declared.row.Row.{Row}
-use Rattle.vme_listing.specs.declared.row.Row.TheVariants.{AddressedCycle, InterruptCycle}
+use Rattle.vme_listing.specs.declared.row.Row.TheVariants.{AddressedCycle}
 
 pub next-weight : (n : ℕ) → 2 ^ (n + 1) ≡ 2 * 2 ^ n
 next-weight n = rw add-one (pow-succ' 2 n)

@@ -1,5 +1,5 @@
 -- The answers of a cycle, by the first of them.
-use Rattle.std.proofs.Common.{◌≡◌, ℕ, ◌+◌, Bool, true, false, ◌||◌, not, [], ◌∷◌, List, refl, sym, ◌∙◌, ap}
+use Rattle.std.proofs.Common.{◌≡◌, ℕ, ◌+◌, Bool, false, ◌||◌, not, [], ◌∷◌, List, refl, sym, ◌∙◌, ap}
 use Rattle.std.specs.Prelude.{Option, None, Some, is_some}
 use Rattle.vme_trace.specs.Instants.{any, least, those}
 use Rattle.vme_trace.specs.Trace.{Trace}

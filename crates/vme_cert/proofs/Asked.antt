@@ -1,17 +1,18 @@
 -- What the rules ask of the transfer at an instant, and of the grant that a tenure takes.
-use Rattle.std.proofs.Common.{◌≡◌, ℕ, zero, suc, ◌+◌, ◌-◌, ◌<◌, ◌≤◌, Bool, true, false, ◌&&◌, ◌||◌, not, List, [], ◌∷◌, refl, sym, ◌∙◌, ap, arith}
+use Rattle.std.proofs.Common.{◌≡◌, ℕ, ◌+◌, ◌-◌, ◌≤◌, Bool, true, false, ◌&&◌, ◌||◌, not, refl, sym, ◌∙◌, ap, arith}
 use Rattle.std.specs.Prelude.{Option, None, Some, is_some, unwrap_or, nat_lt}
 use Rattle.std.specs.Option.{option_map_or}
 use Rattle.std.proofs.lemmas.Bool.Decides.{nat_tests}
-use Rattle.vme_trace.specs.Instants.{any, least}
+use Rattle.vme_trace.specs.Instants.{any, none, least}
 use Rattle.vme_trace.specs.Trace.{Trace}
 use Rattle.vme_trace.specs.Judged.{Span}
-use Rattle.vme_trace.specs.LineNumbers.{grant, DTACK, BERR}
+use Rattle.vme_trace.specs.LineNumbers.{grant, DTACK, BERR, WRITE}
 use Rattle.vme_trace.specs.Signals.{low, near, falls}
 use Rattle.vme_trace.specs.Tenures.{is_granting, taken_grant, tenure_level}
-use Rattle.vme_trace.specs.Transfers.{lasts, is_answered, answers, in_transfer}
+use Rattle.vme_trace.specs.Transfers.{strobe_rises, lasts, is_answered, answers, is_write, in_transfer}
 use Rattle.vme_trace.proofs.Ranges.{least-found}
 use Rattle.vme_cert.specs.Judging.{IsTransferFrom}
+use Rattle.vme_cert.specs.Watching.{is_open_write, is_held_write}
 use Rattle.vme_cert.proofs.AtTransfers.{answered-by, answered-before}
 use Rattle.vme_cert.proofs.Those.{any-first}
 
@@ -57,6 +58,18 @@ module _ (t : Trace) (span : Span) (j start : ℕ) (answer : Option ℕ) (h : Is
       by_falls l false true false e = rw e refl
       by_falls l false false true e = rw e refl
       by_falls l false false false e = rw e refl
+
+  -- it is a write that isn't answered before
+  pub open-write : is_open_write t span j ≡ (low t WRITE start && not (nat_lt (unwrap_or answer j) j))
+  unfolding is_write
+  open-write = h.is (λ i. is_write t span i && not (is_answered t span i j)) ∙ rw earlier refl
+
+  -- it is one that started before and isn't answered, and no strobe rose
+  pub held-write : is_held_write t span j ≡ (nat_lt start j && low t WRITE start && not (is_some answer) && none (strobe_rises t) (start + 1) (j + 1))
+  unfolding is_write
+  held-write =
+      h.is (λ i. nat_lt i j && is_write t span i && not (is_answered t span i (j + 1)) && none (strobe_rises t) (i + 1) (j + 1))
+      ∙ rw (answered-by t span start j h.order answer h.answer_is) refl
 
 granting-is : (t : Trace) (i : ℕ) → any (λ n. low t (grant n 0) i) 0 4 ≡ is_granting t i
 unfolding is_granting

@@ -2,12 +2,11 @@
 use Rattle.std.proofs.Common.{◌≡◌, ℕ, ◌+◌, ◌<◌, ◌≤◌, Bool, true, false, ◌&&◌, not, refl, sym, ◌∙◌, ap, arith, inl, inr, ◌⊎◌}
 use Rattle.std.specs.Prelude.{Option, None, Some, is_some, nat_le, nat_lt, ◌==◌}
 use Rattle.std.specs.Option.{option_map_or}
-use Rattle.std.proofs.lemmas.Bool.Decides.{nat_tests}
 use Rattle.vme_trace.specs.Instants.{any, least, greatest}
 use Rattle.vme_trace.specs.Trace.{Trace}
 use Rattle.vme_trace.specs.Judged.{Span, is_judged}
-use Rattle.vme_trace.specs.Transfers.{strobes_high, answer_falls, transfer_starts, lasts, is_answered, answers, in_transfer, is_answer}
-use Rattle.vme_trace.proofs.Ranges.{IsLeast, least-is, least-none, least-alike, any-holds, any-fails, fails-any, least-found, least-none-any, clash}
+use Rattle.vme_trace.specs.Transfers.{strobes_high, answer_falls, transfer_starts, lasts, is_answered, answers, in_transfer}
+use Rattle.vme_trace.proofs.Ranges.{IsLeast, least-is, least-none, any-holds, any-fails, fails-any, least-found, least-none-any, clash}
 use Rattle.vme_trace.proofs.OpenTransfers.{bool_cases, in_transfer-is}
 use Rattle.vme_cert.proofs.Finding.{IsGreatest, greatest-none-any, greatest-found, none-shorter, none-later}
 use Rattle.vme_cert.proofs.Those.{any-first}

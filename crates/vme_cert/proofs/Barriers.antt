@@ -1,5 +1,5 @@
 -- How far back a search for what is held has to go.
-use Rattle.std.proofs.Common.{◌≡◌, ℕ, ◌+◌, ◌<◌, ◌≤◌, Bool, true, false, ◌&&◌, not, refl, sym, ◌∙◌, ap, arith, inl, inr, ◌⊎◌}
+use Rattle.std.proofs.Common.{◌≡◌, ℕ, ◌+◌, ◌<◌, ◌≤◌, Bool, true, false, ◌&&◌, not, refl, sym, ◌∙◌, ap, arith, inl, inr}
 use Rattle.std.specs.Prelude.{Option, None, Some, is_some, unwrap_or, nat_le}
 use Rattle.vme_trace.specs.Instants.{any, none, least, greatest}
 use Rattle.vme_trace.specs.Cycle.{is_needed}

@@ -1,9 +1,8 @@
 -- Requests and nets of a grant chain that a backplane has, and how far a grant has come.
-use Rattle.std.proofs.Common.{◌≡◌, ℕ, zero, suc, ◌+◌, ◌-◌, ◌<◌, ◌≤◌, Bool, true, false, ◌&&◌, not, cond, refl, sym, ◌∙◌, ap, arith, inl, inr, ◌⊎◌}
-use Rattle.std.specs.Prelude.{Option, None, Some, option_map, unwrap_or, nat_le, nat_lt}
-use Rattle.std.proofs.lemmas.Bool.Decides.{nat_tests}
+use Rattle.std.proofs.Common.{◌≡◌, ℕ, ◌+◌, ◌-◌, ◌<◌, ◌≤◌, Bool, true, false, not, refl, sym, ◌∙◌, ap, arith, inl, inr, ◌⊎◌}
+use Rattle.std.specs.Prelude.{Option, None, Some, option_map, unwrap_or}
 use Rattle.vme_trace.specs.Instants.{any, every, least, greatest}
-use Rattle.vme_trace.specs.LineNumbers.{has_line, grant, grant_place, BR}
+use Rattle.vme_trace.specs.LineNumbers.{grant, grant_place}
 use Rattle.vme_trace.specs.Signals.{low}
 use Rattle.vme_trace.specs.Tenures.{taken_grant, tenure_level, tenure_slot, has_reached}
 use Rattle.vme_trace.specs.Trace.{Trace}

@@ -1,7 +1,6 @@
 -- What the greatest of a range is.
 use Rattle.std.proofs.Common.{◌≡◌, ℕ, zero, suc, ◌+◌, ◌<◌, ◌≤◌, Bool, true, false, ◌&&◌, ◌||◌, refl, sym, ◌∙◌, ap, arith, inl, inr, ◌⊎◌, cond}
 use Rattle.std.specs.Prelude.{Option, None, Some, nat_le}
-use Rattle.std.proofs.lemmas.Bool.Decides.{nat_tests}
 use Rattle.vme_trace.specs.Instants.{any, greatest}
 use Rattle.vme_trace.proofs.Ranges.{any-fails, fails-any, clash}
 use Rattle.vme_cert.proofs.Truth.{and_true, le_holds, le_of}

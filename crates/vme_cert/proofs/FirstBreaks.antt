@@ -1,5 +1,5 @@
 -- The first of some rules that is broken, and the first instant at which one is.
-use Rattle.std.proofs.Common.{◌≡◌, ℕ, ◌+◌, ◌≤◌, Bool, true, false, List, [], ◌∷◌, refl, sym, ◌∙◌, ap, arith, add-one}
+use Rattle.std.proofs.Common.{◌≡◌, ℕ, ◌+◌, ◌≤◌, true, false, List, [], ◌∷◌, refl, sym, ◌∙◌, ap, arith, add-one}
 use Rattle.std.specs.Prelude.{Option, None, Some, is_some, IfSome}
 use Rattle.vme_listing.specs.Recorded.{listed_end}
 use Rattle.vme_trace.specs.Instants.{least}

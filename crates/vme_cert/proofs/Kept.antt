@@ -1,12 +1,10 @@
 -- What the changes at an instant do, and what stays where a line shows what it did before.
-use Rattle.std.proofs.Common.{◌≡◌, ℕ, zero, suc, ◌+◌, ◌-◌, ◌<◌, ◌≤◌, Bool, true, false, ◌&&◌, ◌||◌, not, List, [], refl, sym, ◌∙◌, ap, subst, arith, length, get_or, inl, inr, ◌⊎◌, add-one}
-use Rattle.std.specs.Prelude.{None, Some, slice_get, nat_le, ◌==◌}
-use Rattle.std.proofs.lemmas.Bool.Decides.{nat_tests}
+use Rattle.std.proofs.Common.{◌≡◌, ℕ, zero, suc, ◌+◌, ◌-◌, ◌<◌, ◌≤◌, Bool, true, false, ◌&&◌, not, List, [], refl, sym, ◌∙◌, ap, subst, arith, length, get_or, inl, inr, ◌⊎◌, add-one}
+use Rattle.std.specs.Prelude.{None, Some, slice_get}
 use Rattle.std.proofs.lemmas.Option.{slice_get_past, slice_get_read, slice_get_within}
 use Rattle.vme_trace.specs.LineNumbers.{has_line}
 use Rattle.vme_trace.specs.WellFormed.{are_changes, is_step, malformed_step}
-use Rattle.vme_trace.specs.Changes.{is_changed}
-use Rattle.vme_trace.specs.Levels.{Levels, level_at, is_low, is_high, same_level}
+use Rattle.vme_trace.specs.Levels.{Levels, is_low, is_high, same_level}
 use Rattle.vme_trace.specs.Trace.{Trace, levels_at, changed, time_at}
 use Rattle.vme_trace.specs.Signals.{level, low, high, falls, rises, has_edge}
 use Rattle.vme_trace.specs.declared.step.Step.{Step}

@@ -1,10 +1,10 @@
 -- A control line is lost where one of the changes loses it, and none is where the bus is idle.
-use Rattle.std.proofs.Common.{◌≡◌, ℕ, ◌+◌, ◌-◌, ◌<◌, ◌≤◌, Bool, true, false, ◌&&◌, ◌||◌, not, cond, List, refl, sym, ◌∙◌, ap, arith}
-use Rattle.std.specs.Prelude.{Option, None, Some, is_some, option_map, nat_le}
+use Rattle.std.proofs.Common.{◌≡◌, ℕ, ◌+◌, ◌-◌, ◌≤◌, Bool, true, false, ◌&&◌, ◌||◌, not, cond, List, refl, sym, ◌∙◌, ap, arith}
+use Rattle.std.specs.Prelude.{None, Some, is_some, option_map, nat_le}
 use Rattle.vme_trace.specs.LineNumbers.{line_count, is_control, is_net, BERR}
 use Rattle.vme_trace.specs.Levels.{Levels, level_at, is_high, is_known, is_idle, is_idle_on, is_lost, loses_control}
 use Rattle.vme_trace.specs.Changes.{lost_among}
-use Rattle.vme_trace.specs.Instants.{any, least}
+use Rattle.vme_trace.specs.Instants.{any}
 use Rattle.vme_trace.specs.Judged.{Span, is_idle_at, loses_control_at, judged_span, span_end, span_from}
 use Rattle.vme_trace.specs.Trace.{Trace, levels_at, changed, last_instant}
 use Rattle.vme_trace.specs.WellFormed.{are_changes}

@@ -1,24 +1,26 @@
 -- No rule that asks for an edge is broken where none is on a line that changes.
-use Rattle.std.proofs.Common.{◌≡◌, ℕ, ◌+◌, ◌-◌, ◌<◌, ◌≤◌, Bool, true, false, ◌&&◌, ◌||◌, not, List, [], ◌∷◌, drop, refl, sym, ◌∙◌, ap, cond, arith}
+use Rattle.std.proofs.Common.{◌≡◌, ℕ, ◌+◌, ◌-◌, ◌<◌, ◌≤◌, Bool, true, false, ◌&&◌, ◌||◌, not, List, [], ◌∷◌, drop, refl, sym, ◌∙◌, cond, arith}
 use Rattle.std.specs.Prelude.{Option, None, Some, nat_le, nat_lt}
 use Rattle.std.proofs.lemmas.Bool.Decides.{nat_tests}
 use Rattle.vme_trace.specs.Instants.{least}
-use Rattle.vme_trace.specs.Judged.{Span}
+use Rattle.vme_trace.specs.Judged.{Span, is_judged}
 use Rattle.vme_trace.specs.Levels.{Levels, level_at, same_level}
-use Rattle.vme_trace.specs.LineNumbers.{line_count, has_line}
+use Rattle.vme_trace.specs.LineNumbers.{DS0, DS1, line_count, has_line}
 use Rattle.vme_trace.specs.Rules.{breaks}
+use Rattle.vme_trace.specs.Signals.{low, high, falls}
 use Rattle.vme_trace.specs.Trace.{Trace, levels_at, changed}
+use Rattle.vme_trace.specs.Transfers.{strobe_falls, transfer_starts}
 use Rattle.vme_trace.specs.Verdict.{all_rules, break_at}
 use Rattle.vme_trace.specs.WellFormed.{are_changes}
 use Rattle.vme_trace.specs.declared.rule.Rule.{Rule}
-use Rattle.vme_trace.specs.declared.rule.Rule.TheVariants.{U1, U2, U3, H1, H2, H3, H4, H5, H6, H7, H8, S1, S2, C1, C2, G1, G2, G3, G4, G5, B1, B2, B3, B4, I1, I2, I3, I4, I5}
+use Rattle.vme_trace.specs.declared.rule.Rule.TheVariants.{U1, U2, U3, U4, H1, H2, H3, H4, H5, H6, H7, H8, S1, S2, S3, C1, C2, G1, G2, G3, G4, G5, B1, B2, B3, B4, I1, I2, I3, I4, I5}
 use Rattle.vme_trace.specs.declared.step.Change.{Change}
 use Rattle.vme_trace.proofs.SpanEnds.{slots_at}
 use Rattle.vme_cert.specs.ChangedLines.{first_changed}
-use Rattle.vme_cert.specs.Watching.{speaks_of, asks_for_edge, is_any, is_edge_broken}
+use Rattle.vme_cert.specs.Watching.{speaks_of, asks_for_edge, starts, starts_any, is_held_write, is_any, is_edge_broken}
 use Rattle.vme_cert.proofs.ChangedLines.{edge-least, line_below, parts}
 use Rattle.vme_cert.proofs.FirstBreaks.{break_at-next, break_at-empty}
-use Rattle.vme_cert.proofs.Watched.{breaks-unspoken}
+use Rattle.vme_cert.proofs.Watched.{breaks-unspoken, breaks-unheld, least-unstarted}
 
 one : (a b : Bool) → (a || b) ≡ false → a ≡ false
 one true b h = absurd (cc)
@@ -53,14 +55,18 @@ module _ (p : Rule → Bool) (l : ℕ) (kept : is_any p l ≡ false) where
   on_grant : (f e : ℕ) → 50 ≤ f → e ≤ 138 → (nat_le f l && nat_lt l e) ≡ true → (p G1 || p G2 || p G3 || p G4 || p G5) ≡ false
   on_grant f e from end s = let e_is : is_any p l ≡ (p G1 || p G2 || p G3 || p G4 || p G5) = rw (over f e l 1 (omega (arith, from)) s, over f e l 3 (omega (arith, from)) s, over f e l 5 (omega (arith, from)) s, over f e l 45 (omega (arith, from)) s, over f e l 50 from s, under f e l 138 end s) refl in sym e_is ∙ kept
 
-  on_chain : (f e : ℕ) → 138 ≤ f → (nat_le f l && nat_lt l e) ≡ true → (p I1 || p I2 || p I3) ≡ false
-  on_chain f e from s = let e_is : is_any p l ≡ (p I1 || p I2 || p I3) = rw (over f e l 1 (omega (arith, from)) s, over f e l 3 (omega (arith, from)) s, over f e l 5 (omega (arith, from)) s, over f e l 45 (omega (arith, from)) s, over f e l 50 (omega (arith, from)) s, over f e l 138 from s) refl in sym e_is ∙ kept
+  on_chain : (f e : ℕ) → 138 ≤ f → e ≤ 159 → (nat_le f l && nat_lt l e) ≡ true → (p I1 || p I2 || p I3) ≡ false
+  on_chain f e from end s = let e_is : is_any p l ≡ (p I1 || p I2 || p I3) = rw (over f e l 1 (omega (arith, from)) s, over f e l 3 (omega (arith, from)) s, over f e l 5 (omega (arith, from)) s, over f e l 45 (omega (arith, from)) s, over f e l 50 (omega (arith, from)) s, over f e l 138 from s, under f e l 159 end s) refl in sym e_is ∙ kept
+
+  on_data : (f e : ℕ) → 159 ≤ f → (nat_le f l && nat_lt l e) ≡ true → p S3 ≡ false
+  on_data f e from s = let e_is : is_any p l ≡ p S3 = rw (over f e l 1 (omega (arith, from)) s, over f e l 3 (omega (arith, from)) s, over f e l 5 (omega (arith, from)) s, over f e l 45 (omega (arith, from)) s, over f e l 50 (omega (arith, from)) s, over f e l 138 (omega (arith, from)) s, over f e l 159 from s) refl in sym e_is ∙ kept
 
   -- where it speaks of the line, it is one of those
   edge-among : (r : Rule) → asks_for_edge r ≡ true → speaks_of r l ≡ true → p r ≡ false
   edge-among U1 e s = absurd (cc)
   edge-among U2 e s = absurd (cc)
   edge-among U3 e s = absurd (cc)
+  edge-among U4 e s = absurd (cc)
   edge-among H1 e s = absurd (cc)
   edge-among H2 e s = one _ _ (on_strobe 1 3 (omega arith) (omega arith) s)
   edge-among H3 e s = more _ _ (on_strobe 1 3 (omega arith) (omega arith) s)
@@ -71,6 +77,7 @@ module _ (p : Rule → Bool) (l : ℕ) (kept : is_any p l ≡ false) where
   edge-among H8 e s = more _ _ (one _ _ (one _ _ (one _ _ (one _ _ (on_answer 3 5 (omega arith) (omega arith) s)))))
   edge-among S1 e s = one _ _ (on_needed 5 45 (omega arith) (omega arith) s)
   edge-among S2 e s = more _ _ (on_needed 13 14 (omega arith) (omega arith) s)
+  edge-among S3 e s = on_data 159 191 (omega arith) s
   edge-among C1 e s = more _ _ (one _ _ (one _ _ (one _ _ (on_answer 3 5 (omega arith) (omega arith) s))))
   edge-among C2 e s = more _ _ (one _ _ (one _ _ (on_answer 3 5 (omega arith) (omega arith) s)))
   edge-among G1 e s = one _ _ (one _ _ (one _ _ (one _ _ (on_grant 50 138 (omega arith) (omega arith) s))))
@@ -82,11 +89,21 @@ module _ (p : Rule → Bool) (l : ℕ) (kept : is_any p l ≡ false) where
   edge-among B2 e s = more _ _ (one _ _ (on_busy 45 46 (omega arith) (omega arith) s))
   edge-among B3 e s = more _ _ (on_address 0 1 (omega arith) s)
   edge-among B4 e s = more _ _ (on_busy 45 46 (omega arith) (omega arith) s)
-  edge-among I1 e s = one _ _ (one _ _ (on_chain 138 159 (omega arith) s))
-  edge-among I2 e s = more _ _ (one _ _ (on_chain 138 159 (omega arith) s))
-  edge-among I3 e s = more _ _ (on_chain 138 159 (omega arith) s)
+  edge-among I1 e s = one _ _ (one _ _ (on_chain 138 159 (omega arith) (omega arith) s))
+  edge-among I2 e s = more _ _ (one _ _ (on_chain 138 159 (omega arith) (omega arith) s))
+  edge-among I3 e s = more _ _ (on_chain 138 159 (omega arith) (omega arith) s)
   edge-among I4 e s = more _ _ (one _ _ (on_answer 3 5 (omega arith) (omega arith) s))
   edge-among I5 e s = more _ _ (on_answer 3 5 (omega arith) (omega arith) s)
+
+beyond : (k l : ℕ) → k ≤ l → nat_lt l k ≡ false
+beyond k l h = grind (arith, nat_tests)
+
+-- nor on a line of data where no write holds them
+pub data-kept : (t : Trace) (span : Span) (j l : ℕ) → l < line_count → 159 ≤ l → is_held_write t span j ≡ false → is_edge_broken t span j l ≡ false
+data-kept t span j l below from h =
+    let only : is_edge_broken t span j l ≡ breaks t span S3 j l =
+    rw (beyond 1 l (omega arith), beyond 3 l (omega arith), beyond 5 l (omega arith), beyond 45 l (omega arith), beyond 50 l (omega arith), beyond 138 l (omega arith), beyond 159 l from) refl in
+    only ∙ breaks-unheld t span j l below h
 
 edge-kept : (t : Trace) (span : Span) (j l : ℕ) → l < line_count → is_edge_broken t span j l ≡ false → (r : Rule) → asks_for_edge r ≡ true → breaks t span r j l ≡ false
 edge-kept t span j l below kept r e = by_test (speaks_of r l) refl
@@ -122,8 +139,32 @@ module _ (t : Trace) (span : Span) (j : ℕ) where
       both true b h = (refl, h)
       both false b h = absurd (cc)
 
-  pub edges-kept : (cs : List Change) → t.opening.slots ≤ 21 → levels_at t j ≡ changed (levels_at t (j - 1)) cs → are_changes (levels_at t (j - 1)) 0 cs ≡ true → first_changed (is_edge_broken t span j) cs ≡ None → break_at t span (drop 4 all_rules) j ≡ None
+  pub edges-kept : (cs : List Change) → t.opening.slots ≤ 21 → levels_at t j ≡ changed (levels_at t (j - 1)) cs → are_changes (levels_at t (j - 1)) 0 cs ≡ true → first_changed (is_edge_broken t span j) cs ≡ None → break_at t span (drop 5 all_rules) j ≡ None
   edges-kept cs few made sound none =
-      none-of (drop 4 all_rules) refl
+      none-of (drop 5 all_rules) refl
       (λ r e. sym (edge-least t span j r cs e few made sound)
       ∙ none-changed (breaks t span r j) (is_edge_broken t span j) (levels_at t (j - 1)) (rw (slots_at t (j - 1)) few) (λ l below h. edge-kept t span j l below h r e) 0 cs sound none)
+
+-- no transfer starts where no strobe falls
+still-strobes : (judged a b c d : Bool) → ((a && c) || (b && d)) ≡ false → (judged && (a && b) && (c || d)) ≡ false
+still-strobes true true true true d h = absurd (cc)
+still-strobes true true true false d h = h
+still-strobes true true false c d h = refl
+still-strobes true false b c d h = refl
+still-strobes false a b c d h = refl
+
+module _ (t : Trace) (span : Span) (j : ℕ) where
+  unstarted : strobe_falls t j ≡ false → transfer_starts t span j ≡ false
+  unfolding transfer_starts falls
+  unstarted h = still-strobes (is_judged span j) (high t DS0 (j - 1)) (high t DS1 (j - 1)) (low t DS0 j) (low t DS1 j) h
+
+  -- where nothing starts, the rules that ask for no edge are kept too
+  pub all-kept : break_at t span (drop 5 all_rules) j ≡ None → starts_any t span j ≡ false → break_at t span all_rules j ≡ None
+  all-kept edges none =
+      let ends = one (starts t span U1 j) (starts t span U2 j) (one _ (starts t span U4 j) none) in
+      let cycle = more (starts t span U1 j) (starts t span U2 j) (one _ (starts t span U4 j) none) in
+      let falling = more (starts t span U1 j || starts t span U2 j) (starts t span U4 j) none in
+      kept_next U1 _ refl ends (kept_next U2 _ refl cycle (kept_next U3 _ refl (unstarted falling) (kept_next U4 _ refl falling (kept_next H1 _ refl (unstarted falling) edges))))
+    where
+      kept_next : (r : Rule) (rs : List Rule) → asks_for_edge r ≡ false → starts t span r j ≡ false → break_at t span rs j ≡ None → break_at t span (r ∷ rs) j ≡ None
+      kept_next r rs e h rest = break_at-next t span r rs j (sym (least-unstarted t span j r e h)) ∙ rest

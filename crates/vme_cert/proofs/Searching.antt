@@ -1,9 +1,9 @@
 -- One instant more, or less, of a search.
-use Rattle.std.proofs.Common.{◌≡◌, ℕ, zero, suc, ◌+◌, ◌-◌, ◌<◌, ◌≤◌, Bool, true, false, ◌||◌, ◌&&◌, cond, refl, sym, ◌∙◌, ap, arith}
+use Rattle.std.proofs.Common.{◌≡◌, ℕ, zero, suc, ◌+◌, ◌<◌, ◌≤◌, Bool, false, ◌||◌, ◌&&◌, cond, refl, ◌∙◌, arith}
 use Rattle.std.specs.Prelude.{Option, None, Some, nat_le}
 use Rattle.std.proofs.lemmas.Bool.Decides.{nat_tests}
 use Rattle.vme_trace.specs.Instants.{any, greatest}
-use Rattle.vme_trace.proofs.Ranges.{any-step, any-holds, any-fails, fails-any}
+use Rattle.vme_trace.proofs.Ranges.{any-step, any-fails, fails-any}
 
 pub any-start : (p : ℕ → Bool) (f n : ℕ) → n ≤ f → any p f n ≡ false
 any-start p f n h = fails-any p f n (λ i a b. absurd (omega arith))

@@ -1,5 +1,5 @@
 -- The list of those in a range, by its places.
-use Rattle.std.proofs.Common.{◌≡◌, ℕ, zero, suc, ◌+◌, ◌-◌, ◌<◌, ◌≤◌, Bool, true, false, ◌&&◌, ◌||◌, [], ◌∷◌, ◌++◌, List, length, refl, sym, ◌∙◌, ap, arith, inl, inr, ◌⊎◌, cond, append_assoc, length-append, add-one, ltb}
+use Rattle.std.proofs.Common.{◌≡◌, ℕ, zero, suc, ◌+◌, ◌-◌, ◌<◌, ◌≤◌, Bool, true, false, ◌&&◌, ◌||◌, [], ◌∷◌, ◌++◌, List, length, refl, sym, ◌∙◌, ap, arith, inl, inr, ◌⊎◌, cond, append_assoc, length-append, add-one}
 use Rattle.std.specs.Prelude.{Option, None, Some, is_some, nat_le, IfSome, slice_get, slice_index_or}
 use Rattle.std.proofs.lemmas.Bool.Decides.{nat_tests}
 use Rattle.std.proofs.Math.Seq.{get_or-append_seam, get_or-append_right}

@@ -1,16 +1,13 @@
 -- The row of a transfer.
-use Rattle.std.proofs.Common.{◌≡◌, ℕ, ◌+◌, ◌≤◌, Bool, true, false, ◌||◌, ◌&&◌, refl, sym, ◌∙◌, arith, [], ◌∷◌}
-use Rattle.std.specs.Prelude.{None, Some, nat_le, if◌then◌else◌}
-use Rattle.std.proofs.lemmas.Bool.Decides.{nat_tests}
-use Rattle.vme_trace.specs.Instants.{any, least}
+use Rattle.std.proofs.Common.{◌≡◌, ℕ, ◌+◌, true, refl, [], ◌∷◌}
+use Rattle.std.specs.Prelude.{None, Some}
+use Rattle.vme_trace.specs.Instants.{least}
 use Rattle.vme_trace.specs.Trace.{Trace}
 use Rattle.vme_trace.specs.Judged.{Span}
 use Rattle.vme_trace.specs.Cycles.{cycle_of}
-use Rattle.vme_trace.specs.Transfers.{transfer_starts, answers, is_write, strobes_high}
-use Rattle.vme_trace.proofs.Ranges.{any-step}
-use Rattle.vme_listing.specs.Recorded.{transfer_rows, transfer_row, direction_of, answer_line}
+use Rattle.vme_trace.specs.Transfers.{transfer_starts, answers, strobes_high}
+use Rattle.vme_listing.specs.Recorded.{transfer_rows, direction_of, answer_line}
 use Rattle.vme_listing.specs.declared.row.Row.TheVariants.{PendingTransfer, Transfer}
-use Rattle.vme_cert.proofs.Searching.{any-start}
 
 module _ (t : Trace) (span : Span) (end i : ℕ) (starts : transfer_starts t span i ≡ true) where
   pub row-unanswered : least (answers t span i) i end ≡ None → PendingTransfer i (direction_of t span end i) ∷ [] ≡ transfer_rows t span end i

@@ -1,22 +1,23 @@
 -- A rule is broken where it speaks of the line, the line shows what it asks first, and the rest of it is so. So apart from U1,
--- U2, U3 and H1 it is broken only on a line that changes.
-use Rattle.std.proofs.Common.{◌≡◌, ℕ, ◌+◌, ◌-◌, ◌<◌, ◌≤◌, Bool, true, false, ◌&&◌, ◌||◌, not, refl, sym, ◌∙◌, ap, arith, inl, inr, ◌⊎◌}
+-- U2, U3, U4 and H1 it is broken only on a line that changes.
+use Rattle.std.proofs.Common.{◌≡◌, ℕ, ◌+◌, ◌-◌, ◌<◌, ◌≤◌, Bool, true, false, ◌&&◌, ◌||◌, refl, sym, ◌∙◌, ap, arith, inl, inr, ◌⊎◌}
 use Rattle.std.specs.Prelude.{◌==◌, nat_le, nat_lt, Some, None, if◌then◌else◌}
 use Rattle.std.proofs.lemmas.Bool.Decides.{nat_tests}
 use Rattle.vme_trace.specs.Cycle.{needs_of, is_needed, class_of, modifier_of, highest_address, is_extended, is_standard, is_short}
+use Rattle.vme_trace.specs.Data.{is_selected}
 use Rattle.vme_trace.specs.declared.class.Class.{Class}
 use Rattle.vme_trace.specs.declared.class.Class.TheVariants as class
-use Rattle.vme_trace.specs.Levels.{Levels}
-use Rattle.vme_trace.specs.LineNumbers.{line_count, has_line, is_strobe, is_answer_line, is_grant, is_slot_iack}
+use Rattle.vme_trace.specs.Levels.{Levels, level_at, is_low, is_high}
+use Rattle.vme_trace.specs.LineNumbers.{DS0, DS1, LWORD, A, line_count, has_line, is_strobe, is_answer_line, is_grant, is_slot_iack}
 use Rattle.vme_trace.specs.Trace.{Trace, levels_at}
 use Rattle.vme_trace.specs.Signals.{level, known}
 use Rattle.vme_trace.specs.Judged.{Span, is_judged}
 use Rattle.vme_trace.specs.Rules.{is_broken, breaks, ends_span}
 use Rattle.vme_trace.specs.declared.rule.Rule.{Rule}
-use Rattle.vme_trace.specs.declared.rule.Rule.TheVariants.{U1, U2, U3, H1, H2, H3, H4, H5, H6, H7, H8, S1, S2, C1, C2, G1, G2, G3, G4, G5, B1, B2, B3, B4, I1, I2, I3, I4, I5}
+use Rattle.vme_trace.specs.declared.rule.Rule.TheVariants.{U1, U2, U3, U4, H1, H2, H3, H4, H5, H6, H7, H8, S1, S2, S3, C1, C2, G1, G2, G3, G4, G5, B1, B2, B3, B4, I1, I2, I3, I4, I5}
 use Rattle.vme_trace.specs.Instants.{any, least}
 use Rattle.vme_trace.proofs.Ranges.{any-fails, fails-any, least-is, least-none}
-use Rattle.vme_cert.specs.Watching.{lines_of, speaks_of, shows, asks, asks_for_edge, starts, is_held}
+use Rattle.vme_cert.specs.Watching.{lines_of, speaks_of, shows, asks, asks_for_edge, starts, is_held, is_held_write}
 use Rattle.vme_cert.proofs.Kept.{no_fall, no_rise, no_edge}
 
 off : (a : Bool) → (a && false) ≡ false
@@ -66,6 +67,15 @@ not_needed : (v : Levels) (l : ℕ) → (nat_le 5 l && nat_lt l 45) ≡ false �
 unfolding is_needed
 not_needed v l h = outside l (needs_of v).highest (needs_of v).modifier (needs_31 v) h
 
+apart : (l : ℕ) (w x y u v : Bool) → (nat_le 159 l && nat_lt l 191) ≡ false → ((w && ((x && (nat_le 159 l && nat_le l 166)) || (y && (nat_le 167 l && nat_le l 174)))) || (u && v && x && y && (nat_le 159 l && nat_le l 190))) ≡ false
+apart l w x y u v h = grind (arith, nat_tests)
+
+-- a transfer moves no other lines than those of data
+not_selected : (v : Levels) (l : ℕ) → (nat_le 159 l && nat_lt l 191) ≡ false → is_selected v l ≡ false
+unfolding is_selected
+not_selected v l h =
+    apart l (is_high (level_at v LWORD)) (is_low (level_at v DS0)) (is_low (level_at v DS1)) (is_low (level_at v LWORD)) (is_low (level_at v (A 1))) h
+
 -- the names of lines, by their numbers
 only : (k l : ℕ) → (l == k) ≡ (nat_le k l && nat_lt l (k + 1))
 only k l = by_test (nat_le k l && nat_lt l (k + 1)) refl
@@ -105,6 +115,9 @@ module _ (q s k : Bool) (named : q ≡ s) where
   shown_last : (a : Bool) → (q && a && k) ≡ (s && k && a)
   shown_last a = rw (named, grouped s a k, turn a k) (sym (grouped s k a))
 
+started : (a b x : Bool) → b ≡ false → (a && b && x) ≡ false
+started a b x h = rw (h, off a) refl
+
 net : (s p k x : Bool) → (s && p && k && x) ≡ (s && k && (p && x))
 net true true k x = refl
 net true false k x = sym (off k)
@@ -116,6 +129,14 @@ lost s a c d h = rw (h, sym (grouped a c d)) (turn (a && c) d)
 needs : (s a b d : Bool) → (s ≡ false → b ≡ false) → (a && b && d) ≡ (s && d && (a && b))
 needs true a b d h = turn (a && b) d
 needs false a b d h = rw (h refl, off a) refl
+
+moved : (s a k x : Bool) → (s ≡ false → a ≡ false) → (a && k && x) ≡ (s && k && (a && x))
+moved true true k x h = refl
+moved true false k x h = sym (off k)
+moved false a k x h = rw (h refl) refl
+
+moved_twice : (s a k x y : Bool) → (s ≡ false → a ≡ false) → (a && k && x && y) ≡ (s && k && (a && x && y))
+moved_twice s a k x y h = grouped (a && k) x y ∙ (moved s a k (x && y) h ∙ ap (λ b. s && k && b) (sym (grouped a x y)))
 
 held : (s k x : Bool) → (s ≡ false → x ≡ false) → (k && x) ≡ (s && k && x)
 held true k x h = refl
@@ -150,6 +171,7 @@ module _ (t : Trace) (span : Span) (j l : ℕ) (below : l < line_count) where
   broken-is U1 = lost _ _ _ _ (all_lines l below)
   broken-is U2 = needs _ _ _ _ (not_needed (levels_at t j) l)
   broken-is U3 = shown_last _ _ _ (only 13 l) _
+  broken-is U4 = moved_twice _ _ _ _ _ (not_selected (levels_at t j) l)
   broken-is H1 = shown_last _ _ _ (answer_line l) _
   broken-is H2 = alike _ _ _ (strobe l) _
   broken-is H3 = alike _ _ _ (strobe l) _
@@ -160,6 +182,7 @@ module _ (t : Trace) (span : Span) (j l : ℕ) (below : l < line_count) where
   broken-is H8 = then_two _ _ _ (answer_line l) _ _
   broken-is S1 = held _ _ _ never_held
   broken-is S2 = alike _ _ _ (only 13 l) _
+  broken-is S3 = moved _ _ _ _ (not_selected (levels_at t (j - 1)) l)
   broken-is C1 = then_two _ _ _ (answer_line l) _ _
   broken-is C2 = then_two _ _ _ (answer_line l) _ _
   broken-is G1 = net (is_grant l) _ _ _
@@ -203,6 +226,7 @@ module _ (t : Trace) (span : Span) (j l : ℕ) (below : l < line_count) where
   stays still U1 h = absurd (cc)
   stays still U2 h = absurd (cc)
   stays still U3 h = absurd (cc)
+  stays still U4 h = absurd (cc)
   stays still H1 h = absurd (cc)
   stays still H2 h = no_rise t l j still
   stays still H6 h = no_rise t l j still
@@ -210,16 +234,22 @@ module _ (t : Trace) (span : Span) (j l : ℕ) (below : l < line_count) where
   stays still G2 h = no_rise t l j still
   stays still S1 h = no_edge t l j still
   stays still S2 h = no_edge t l j still
+  stays still S3 h = no_edge t l j still
   stays still r h = no_fall t l j still
 
   pub breaks-still : level t l j ≡ level t l (j - 1) → (r : Rule) → asks_for_edge r ≡ true → breaks t span r j l ≡ false
   breaks-still still r h = breaks-unshown r (stays still r h)
+
+  -- nor are data where no write holds them
+  pub breaks-unheld : is_held_write t span j ≡ false → breaks t span S3 j l ≡ false
+  breaks-unheld h = breaks-unasked S3 (rw h (off (is_selected (levels_at t (j - 1)) l)))
 
   -- nor is it where what a rule speaks of isn't, that asks for no edge
   unstarted : (r : Rule) → asks_for_edge r ≡ false → starts t span r j ≡ false → asks t span r j l ≡ false
   unstarted U1 e h = rw h refl
   unstarted U2 e h = rw h refl
   unstarted U3 e h = h
+  unstarted U4 e h = started _ _ _ h
   unstarted H1 e h = h
   unstarted r e h = absurd (cc)
 
@@ -230,6 +260,7 @@ pub start_lines : (r : Rule) → asks_for_edge r ≡ false → (lines_of r).1 �
 start_lines U1 e = omega arith
 start_lines U2 e = omega arith
 start_lines U3 e = omega arith
+start_lines U4 e = omega arith
 start_lines H1 e = omega arith
 start_lines r e = absurd (cc)
 

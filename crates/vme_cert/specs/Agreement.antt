@@ -1,5 +1,5 @@
 -- How far given rows agree with the right ones.
-use Rattle.std.specs.Prelude.{◌≡◌, ℕ, ◌+◌, ◌-◌, ◌≤◌, true, false, List, length, take, slice_get}
+use Rattle.std.specs.Prelude.{◌≡◌, ℕ, ◌-◌, ◌≤◌, List, length, take, slice_get}
 use Rattle.vme_listing.specs.declared.row.Row.{Row}
 use Rattle.vme_cert.specs.declared.compare.Answer.{Answer}
 use Rattle.vme_cert.specs.declared.compare.Answer.TheVariants.{Yes, No}

@@ -6,23 +6,26 @@ use Rattle.vme_trace.specs.Tenures.{is_granting, grant_falls, tenure_slot, last_
 use Rattle.vme_trace.specs.Trace.{Trace, levels_at, last_instant}
 use Rattle.vme_trace.specs.Judged.{Span}
 use Rattle.vme_trace.specs.Cycle.{is_needed}
+use Rattle.vme_trace.specs.Data.{is_selected}
 use Rattle.vme_trace.specs.Cycles.{cycle_starts, class_at, cycle_runs, in_cycle, answers_of}
-use Rattle.vme_trace.specs.Transfers.{strobe_rises, transfer_starts, is_answered, answers, in_transfer, is_answer, answers_write}
+use Rattle.vme_trace.specs.Transfers.{strobe_rises, strobe_falls, transfer_starts, is_answered, answers, is_write, in_transfer, is_answer, answers_write}
 use Rattle.vme_trace.specs.Rules.{is_single, is_block_class, is_interrupt, is_later, is_option_equal, spoils_pair, turns, breaks}
 use Rattle.vme_trace.specs.Signals.{near, low, high, known, falls, rises, has_edge}
 use Rattle.vme_trace.specs.declared.rule.Rule.{Rule}
-use Rattle.vme_trace.specs.declared.rule.Rule.TheVariants.{U1, U2, U3, H1, H2, H3, H4, H5, H6, H7, H8, S1, S2, C1, C2, G1, G2, G3, G4, G5, B1, B2, B3, B4, I1, I2, I3, I4, I5}
+use Rattle.vme_trace.specs.declared.rule.Rule.TheVariants.{U1, U2, U3, U4, H1, H2, H3, H4, H5, H6, H7, H8, S1, S2, S3, C1, C2, G1, G2, G3, G4, G5, B1, B2, B3, B4, I1, I2, I3, I4, I5}
 
 -- the first of the lines of which a rule speaks, and the one after the last
 abbrev pub lines_of : Rule → ℕ × ℕ
 lines_of U1 = (0, 191)
 lines_of U2 = (5, 45)
 lines_of U3 = (13, 14)
+lines_of U4 = (159, 191)
 lines_of H2 = (1, 3)
 lines_of H3 = (1, 3)
 lines_of H7 = (0, 1)
 lines_of S1 = (5, 45)
 lines_of S2 = (13, 14)
+lines_of S3 = (159, 191)
 lines_of G1 = (50, 138)
 lines_of G2 = (50, 138)
 lines_of G3 = (50, 138)
@@ -45,6 +48,7 @@ abbrev pub shows : Trace → Rule → ℕ → ℕ → Bool
 shows t U1 l j = not (known t l j)
 shows t U2 l j = not (known t l j)
 shows t U3 l j = not (known t l j)
+shows t U4 l j = not (known t l j)
 shows t H1 l j = not (near (high t l) j)
 shows t H2 l j = rises t l j
 shows t H6 l j = rises t l j
@@ -52,6 +56,7 @@ shows t H7 l j = rises t l j
 shows t G2 l j = rises t l j
 shows t S1 l j = has_edge t l j
 shows t S2 l j = has_edge t l j
+shows t S3 l j = has_edge t l j
 shows t r l j = falls t l j
 
 module _ (t : Trace) (span : Span) where
@@ -68,11 +73,23 @@ module _ (t : Trace) (span : Span) where
   is_held j l =
       any (λ i. cycle_starts t span i && cycle_runs t span i j && none (is_answer t span) i (j + 1) && is_needed (levels_at t i) l) (span.start + 1) j
 
+  -- j is in a write that isn't answered before
+  abbrev pub is_open_write : ℕ → Bool
+  is_open_write j = in_transfer t span (λ i. is_write t span i && not (is_answered t span i j)) j
+
+  -- j is in a write that started before and isn't answered by then, and no strobe rose since
+  abbrev pub is_held_write : ℕ → Bool
+  is_held_write j =
+      in_transfer t span
+      (λ i. nat_lt i j && is_write t span i && not (is_answered t span i (j + 1)) && none (strobe_rises t) (i + 1) (j + 1))
+      j
+
   -- what else a rule asks at an instant, on such a line
   abbrev pub asks : Rule → ℕ → ℕ → Bool
   asks U1 j l = (j == span.end) && nat_le j (last_instant t) && is_control (levels_at t j).slots l
   asks U2 j l = cycle_starts t span j && is_needed (levels_at t j) l
   asks U3 j l = transfer_starts t span j
+  asks U4 j l = is_selected (levels_at t j) l && strobe_falls t j && is_open_write j
   asks H1 j l = transfer_starts t span j
   asks H2 j l = in_transfer t span (λ i. nat_lt i j && not (is_answered t span i (j + 1))) j
   asks H3 j l = in_transfer t span (λ i. nat_lt i j && is_answered t span i j) j
@@ -83,6 +100,7 @@ module _ (t : Trace) (span : Span) where
   asks H8 j l = is_answer t span j && not (near (low t AS) j)
   asks S1 j l = is_held j l
   asks S2 j l = any (λ i. transfer_starts t span i && none (strobe_rises t) (i + 1) (j + 1)) (span.start + 1) j
+  asks S3 j l = is_selected (levels_at t (j - 1)) l && is_held_write j
   asks C1 j l = is_answer t span j && spoils C1 j
   asks C2 j l = is_answer t span j && spoils C2 j
   asks G1 j l = nat_lt 0 (grant_place l) && not (near (low t (input_of l)) j)
@@ -105,6 +123,7 @@ abbrev pub asks_for_edge : Rule → Bool
 asks_for_edge U1 = false
 asks_for_edge U2 = false
 asks_for_edge U3 = false
+asks_for_edge U4 = false
 asks_for_edge H1 = false
 asks_for_edge r = true
 
@@ -112,7 +131,12 @@ asks_for_edge r = true
 abbrev pub starts : Trace → Span → Rule → ℕ → Bool
 starts t span U1 j = j == span.end
 starts t span U2 j = cycle_starts t span j
+starts t span U4 j = strobe_falls t j
 starts t span r j = transfer_starts t span j
+
+-- any of it is: a transfer starts where a strobe falls
+abbrev pub starts_any : Trace → Span → ℕ → Bool
+starts_any t span j = starts t span U1 j || starts t span U2 j || starts t span U4 j
 
 -- one of the rules that ask for an edge and may speak of a line does this
 abbrev pub is_any : (Rule → Bool) → ℕ → Bool
@@ -123,7 +147,8 @@ is_any p l =
     else if nat_lt l 45 then p S1 || p S2
     else if nat_lt l 50 then p B1 || p B2 || p B4
     else if nat_lt l 138 then p G1 || p G2 || p G3 || p G4 || p G5
-    else p I1 || p I2 || p I3
+    else if nat_lt l 159 then p I1 || p I2 || p I3
+    else p S3
 
 -- one of those rules is broken on it
 abbrev pub is_edge_broken : Trace → Span → ℕ → ℕ → Bool

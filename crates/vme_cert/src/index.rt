@@ -2,7 +2,7 @@
 #![tactic(auto, unfolding(vme_trace::specs::Cycles::cycle_starts, vme_trace::specs::Transfers::transfer_starts, vme_trace::specs::Tenures::grant_falls))]
 
 ghost use Rattle.std.specs.Prelude.{◌≡◌, ◌+◌, ◌<◌, ◌≤◌};
-ghost use Rattle.vme_cert.specs.Words.{ℕ, Bool, [], IfOk, IfSome, length, Trace, low, any, least, greatest, those, last_instant, cycle_starts, transfer_starts, strobe_rises, strobes_high, answer_falls, grant_falls, is_answer};
+ghost use Rattle.vme_cert.specs.Words.{ℕ, Bool, [], IfOk, IfSome, length, Trace, low, any, least, greatest, those, last_instant, cycle_starts, transfer_starts, strobe_rises, strobe_falls, strobes_high, answer_falls, grant_falls, is_answer};
 ghost use Rattle.vme_trace.specs.LineNumbers.{BR};
 ghost use Rattle.vme_trace.specs.Judged.{Span as Stretch};
 ghost use Rattle.vme_cert.specs.Events.{number_of, happenings, happens, IsIndex, IsNew, IsNoted, IsAnswerNoted};
@@ -203,6 +203,13 @@ impl Bus<'_> {
         ensures { result ≡ strobe_rises self.now.capture.now self.now.instant }
     {
         self.rises(Line::DS0) || self.rises(Line::DS1)
+    }
+
+    /// Whether a strobe falls.
+    pub(crate) fn strobe_falls(&self) -> bool
+        ensures { result ≡ strobe_falls self.now.capture.now self.now.instant }
+    {
+        self.falls(Line::DS0) || self.falls(Line::DS1)
     }
 
     /// Whether both strobes are high.

@@ -23,8 +23,8 @@
 //!    ended, and then by halves.
 //! 4. `judged.rt`: transfers and cycles, by those searches.
 //! 5. `rules.rt`: tenures, and each rule beside its definition, in the order of docs/PROTOCOL.md.
-//! 6. `verdict.rt`: the least break. One fact spares most of the work (`proofs/Watched.antt`): apart from U1, U2, U3 and H1
-//!    a rule is broken only on a line that changes at the instant.
+//! 6. `verdict.rt`: the least break. One fact spares most of the work (`proofs/Watched.antt`): apart from U1, U2, U3, U4
+//!    and H1 a rule is broken only on a line that changes at the instant.
 //! 7. `rows.rt` and `compare.rt`: the rows, compared as they are found.
 #![tactic(auto)]
 

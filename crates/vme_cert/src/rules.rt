@@ -4,20 +4,20 @@
 ghost use Rattle.std.specs.Prelude.{◌≡◌, ◌+◌, ◌-◌, ◌<◌, ◌≤◌, ◌==◌, ◌&&◌, ◌||◌};
 ghost use Rattle.vme_cert.specs.Words.{not, true, IfSome, IsTrue, any, none, grant, has_line, line_count, is_slot_grant, is_slot_iack, input_of as input_net, in_transfer, is_answered, in_cycle, low, taken_grant, tenure_level, tenure_slot, last_before, levels_at, last_instant, nat_lt};
 ghost use Rattle.vme_cert.specs.Events.{happens, is_acknowledged};
-ghost use Rattle.vme_cert.specs.Watching.{lines_of, speaks_of, shows, spoils, is_held, asks};
+ghost use Rattle.vme_cert.specs.Watching.{lines_of, speaks_of, shows, spoils, is_held, is_open_write, is_held_write, asks};
 
 use crate::bus::Bus;
 use crate::index::Event::{
     self, AcknowledgeFall, AddressRise, BusyFall, CycleStart, ErrorFall, GrantFall, StrobeRise,
-    TransferStart,
+    TransferStart, WriteLow,
 };
 use crate::judged::Judged;
 use crate::search::{any, least};
 use vme_trace::Rule::{
     B1, B2, B3, B4, C1, C2, G1, G2, G3, G4, G5, H1, H2, H3, H4, H5, H6, H7, H8, I1, I2, I3, I4, I5,
-    S1, S2, U1, U2, U3,
+    S1, S2, S3, U1, U2, U3, U4,
 };
-use vme_trace::{Class, Line, Lines, Rule, needed};
+use vme_trace::{Class, Line, Lines, Rule, is_selected, needed};
 
 /// The line of a number.
 pub(crate) fn nth_line(number: u32) -> Line
@@ -42,6 +42,7 @@ pub(crate) fn lines_of(rule: Rule) -> (u8, u8)
         B1 | B2 | B4 => (45, 46),
         G1 | G2 | G3 | G4 | G5 => (50, 138),
         I1 | I2 | I3 => (138, 159),
+        U4 | S3 => (159, 191),
     }
 }
 
@@ -125,6 +126,35 @@ impl Judged<'_> {
         false
     }
 
+    /// Whether the instant is in a write that isn't answered before.
+    fn is_open_write(&self) -> bool
+        ensures { result ≡ is_open_write (trace self.now) (span self.now) (instant self.now) }
+    {
+        let at = self.bus.instant;
+        match self.transfer(at) {
+            Some((start, answer)) => {
+                answer.unwrap_or(at) >= at && self.any(WriteLow, start, start + 1)
+            }
+            None => false,
+        }
+    }
+
+    /// Whether it is in a write that started before and isn't answered by then, and no strobe rose since.
+    pub(crate) fn is_held_write(&self) -> bool
+        ensures { result ≡ is_held_write (trace self.now) (span self.now) (instant self.now) }
+    {
+        let at = self.bus.instant;
+        match self.transfer(at) {
+            Some((start, answer)) => {
+                start < at
+                    && answer.is_none()
+                    && self.any(WriteLow, start, start + 1)
+                    && !self.any(StrobeRise, start + 1, at + 1)
+            }
+            None => false,
+        }
+    }
+
     /// Whether the cycle of an answer at the instant is one that a rule on cycles forbids then.
     fn is_cycle_spoiled(&self, rule: Rule) -> bool
         ensures { result ≡ spoils (trace self.now) (span self.now) rule (instant self.now) }
@@ -151,10 +181,10 @@ impl Judged<'_> {
     {
         let bus = self.bus;
         match rule {
-            U1 | U2 | U3 => !bus.levels.level(line).is_known(),
+            U1 | U2 | U3 | U4 => !bus.levels.level(line).is_known(),
             H1 => !bus.high_near(line),
             H2 | H6 | H7 | G2 => bus.rises(line),
-            S1 | S2 => !bus.before.level(line).is_same(bus.levels.level(line)),
+            S1 | S2 | S3 => !bus.before.level(line).is_same(bus.levels.level(line)),
             _ => bus.falls(line),
         }
     }
@@ -174,6 +204,7 @@ impl Judged<'_> {
             U1 => at == span.end && bus.levels.is_control(line),
             U2 => bus.cycle_starts(span) && needed(&bus.levels).has(line),
             U3 | H1 => bus.transfer_starts(span),
+            U4 => is_selected(&bus.levels, line) && bus.strobe_falls() && self.is_open_write(),
             H2 | H7 => match self.transfer(at) {
                 Some((start, answer)) => start < at && answer.is_none(),
                 None => false,
@@ -197,6 +228,7 @@ impl Judged<'_> {
                 let risen = self.last(StrobeRise, at + 1).unwrap_or(span.start + 1);
                 self.any(TransferStart, risen, at)
             }
+            S3 => is_selected(&bus.before, line) && self.is_held_write(),
             C1 | C2 | I5 => self.is_cycle_spoiled(rule) && self.is_answer(at),
             I4 => self.is_cycle_spoiled(rule) && self.answers_write(at),
             G1 => place != 0 && !bus.low_near(input_of(line)),

@@ -15,14 +15,14 @@ use crate::rules::{lines_of, nth_line};
 use std::alloc::{AllocError, Global};
 use vme_trace::Rule::{
     B1, B2, B3, B4, C1, C2, G1, G2, G3, G4, G5, H1, H2, H3, H4, H5, H6, H7, H8, I1, I2, I3, I4, I5,
-    S1, S2, U1, U2, U3,
+    S1, S2, S3, U1, U2, U3, U4,
 };
 use vme_trace::{Break, Capture, Change, Line, Rule};
 
 /// The rules, in the order in which breaks at one instant are named.
-const RULES: [Rule; 29] = [
-    U1, U2, U3, H1, H2, H3, H4, H5, H6, H7, H8, S1, S2, C1, C2, G1, G2, G3, G4, G5, B1, B2, B3, B4,
-    I1, I2, I3, I4, I5,
+const RULES: [Rule; 31] = [
+    U1, U2, U3, U4, H1, H2, H3, H4, H5, H6, H7, H8, S1, S2, S3, C1, C2, G1, G2, G3, G4, G5, B1, B2,
+    B3, B4, I1, I2, I3, I4, I5,
 ];
 
 /// Whether a rule speaks of a line.
@@ -38,7 +38,7 @@ fn speaks_of(rule: Rule, line: Line) -> bool
 
 impl Judged<'_> {
     ghost use Rattle.vme_cert.specs.Judging.{trace, span, instant, AreMade, AreSound, breaks_edge};
-    ghost use Rattle.vme_cert.specs.Watching.{asks_for_edge, starts};
+    ghost use Rattle.vme_cert.specs.Watching.{asks_for_edge, starts, starts_any, is_held_write};
 
     /// Whether a rule counts at the instant: it is judged, or the rule is the one that ends judging.
     fn counts(&self, rule: Rule) -> bool
@@ -76,11 +76,13 @@ impl Judged<'_> {
         match rule {
             U1 => bus.instant == span.end,
             U2 => bus.cycle_starts(span),
+            U4 => bus.strobe_falls(),
             _ => bus.transfer_starts(span),
         }
     }
 
-    /// The least line on which a rule is broken that speaks of the end of judging or of the start of a cycle or a transfer.
+    /// The least line on which a rule is broken that speaks of the end of judging, the start of a cycle or a transfer,
+    /// or the fall of a strobe.
     #[inline(always)]
     fn start_break(&self, rule: Rule) -> Option<Line>
         requires { asks_for_edge rule ≡ false }
@@ -122,13 +124,15 @@ impl Judged<'_> {
             U1 => self.start_break(U1),
             U2 => self.start_break(U2),
             U3 => self.start_break(U3),
+            U4 => self.start_break(U4),
             H1 => self.start_break(H1),
             _ => self.edge_break(rule, changes),
         }
     }
 
-    /// Whether a rule that asks for an edge is broken on a line.
-    fn is_edge_broken(&self, line: Line) -> bool
+    /// Whether a rule that asks for an edge is broken on a line, where perhaps a write holds its data.
+    fn is_edge_broken(&self, line: Line, may_hold: bool) -> bool
+        requires { may_hold ≡ false → is_held_write (trace self.now) (span self.now) (instant self.now) ≡ false }
         ensures { result ≡ breaks_edge self.now line }
     {
         let number = line.number();
@@ -161,32 +165,49 @@ impl Judged<'_> {
                 || self.breaks(G4, line)
                 || self.breaks(G5, line);
         }
-        self.breaks(I1, line) || self.breaks(I2, line) || self.breaks(I3, line)
+        if number < 159 {
+            return self.breaks(I1, line) || self.breaks(I2, line) || self.breaks(I3, line);
+        }
+        may_hold && self.breaks(S3, line)
     }
 
-    /// The first changed line on which one is.
+    /// The first changed line on which one is. Whether a write holds its data is asked once, if it doesn't.
     fn changed_break(&self, changes: &[Change]) -> Option<Line>
         ensures { result ≡ first_changed (breaks_edge self.now) changes.now }
     {
+        let mut may_hold = true;
         for change in changes {
-            if self.is_edge_broken(change.line) {
+            if may_hold && 159 <= change.line.number() {
+                may_hold = self.is_held_write();
+            }
+            if self.is_edge_broken(change.line, may_hold) {
                 return Some(change.line);
             }
         }
         None
     }
 
-    /// How many of the rules, from the first on, may be broken: those that ask for no edge, where no other one is.
+    /// Whether anything is at the instant of which a rule speaks that asks for no edge. A transfer starts where a strobe
+    /// falls.
+    #[inline(always)]
+    fn starts_any(&self) -> bool
+        ensures { result ≡ starts_any (trace self.now) (span self.now) (instant self.now) }
+    {
+        self.starts(U1) || self.starts(U2) || self.starts(U4)
+    }
+
+    /// How many of the rules, from the first on, may be broken: those that ask for no edge, where no other one is, or
+    /// none.
     fn suspects(&self, changes: &[Change]) -> usize
         requires made { AreMade self.now changes.now }
         requires sound { AreSound self.now changes.now }
-        ensures within { result ≤ 29 }
+        ensures within { result ≤ 31 }
         ensures kept { break_at (trace self.now) (span self.now) (drop result all_rules) (instant self.now) ≡ None }
     {
         if self.changed_break(changes).is_some() {
-            return 29;
+            return 31;
         }
-        4
+        if self.starts_any() { 5 } else { 0 }
     }
 
     /// The first of the rules that is broken at the instant.

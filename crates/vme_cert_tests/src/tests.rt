@@ -146,6 +146,42 @@ const LISTINGS: [(Start, &'static str, &'static str); 20] = [
     ),
 ];
 
+/// What follows that start, with the data lines of a transfer, and the rows of its listing.
+const DATA: [(&'static str, &'static str); 7] = [
+    // a line that DS0* moves is unknown as both strobes fall, or as the later one does
+    (
+        "AM1=0 AM2=0 WRITE=0 D03=x;AS=0;DS0=0 DS1=0;D03=1;DTACK=0",
+        "start 1\ntenure 5 level 3 slot 2 end -\ncycle 9 S 39 FFFFFE end -\nverdict unreadable U4 10 D03\n",
+    ),
+    (
+        "AM1=0 AM2=0 WRITE=0 D03=x;AS=0;DS1=0;DS0=0;DTACK=0",
+        "start 1\ntenure 5 level 3 slot 2 end -\ncycle 9 S 39 FFFFFE end -\ntransfer 10 write pending\nverdict unreadable U4 11 D03\n",
+    ),
+    // a long word moves D16, and two bytes don't
+    (
+        "AM1=0 AM2=0 LWORD=0 WRITE=0 A01=0 D16=x;AS=0;DS0=0 DS1=0;DTACK=0",
+        "start 1\ntenure 5 level 3 slot 2 end -\ncycle 9 S 39 FFFFFC end -\nverdict unreadable U4 10 D16\n",
+    ),
+    (
+        "AM1=0 AM2=0 WRITE=0 D16=x;AS=0;DS0=0 DS1=0;D16=0;DTACK=0;AS=1 DS0=1 DS1=1;DTACK=1",
+        "start 1\ntenure 5 level 3 slot 2 end -\ncycle 9 S 39 FFFFFE end 13\ntransfer 10 of 9 write DTACK 12 close 13\nverdict conforming\n",
+    ),
+    // data change before the answer, or as the write starts and as it is answered
+    (
+        "AM1=0 AM2=0 WRITE=0;AS=0;DS0=0 DS1=0;D03=0;DTACK=0",
+        "start 1\ntenure 5 level 3 slot 2 end -\ncycle 9 S 39 FFFFFE end -\ntransfer 10 write pending\nverdict broken S3 11 D03\n",
+    ),
+    (
+        "AM1=0 AM2=0 WRITE=0;AS=0;DS0=0 DS1=0 D03=0;DTACK=0 D03=1;AS=1 DS0=1 DS1=1;DTACK=1",
+        "start 1\ntenure 5 level 3 slot 2 end -\ncycle 9 S 39 FFFFFE end 12\ntransfer 10 of 9 write DTACK 11 close 12\nverdict conforming\n",
+    ),
+    // the data of a read may be unknown and change
+    (
+        "AM1=0 AM2=0 D03=x;AS=0;DS0=0 DS1=0;D03=0;DTACK=0;AS=1 DS0=1 DS1=1;DTACK=1",
+        "start 1\ntenure 5 level 3 slot 2 end -\ncycle 9 S 39 FFFFFE end 13\ntransfer 10 of 9 read DTACK 12 close 13\nverdict conforming\n",
+    ),
+];
+
 /// The change that a word says, as BR3=0.
 fn change_of(word: &str) -> Option<Change> {
     let (name, level) = word.split_once('=')?;
@@ -364,18 +400,37 @@ fn assert_each_row_counts(
     Ok(())
 }
 
+/// The rows of a text are the listing of a recording, and no others are.
+fn assert_listed(
+    rt: &impl Abort,
+    alloc: Global,
+    start: Start,
+    steps: &str,
+    text: &str,
+) -> Result<(), Fail> {
+    let capture = capture_of(alloc, start, steps)?;
+    let rows = rows_of(alloc, text)?;
+    let rows = rows.as_slice();
+    assert_eq!(rt;
+        answer(alloc, &capture, rows, &[], &[])?,
+        Answer::Yes,
+        "{text}"
+    );
+    assert_each_row_counts(rt, alloc, &capture, rows)
+}
+
 #[test]
 fn listings(rt: HostRuntime) -> Result<(), Fail> {
     for (start, steps, text) in LISTINGS {
-        let capture = capture_of(rt.alloc(), start, steps)?;
-        let rows = rows_of(rt.alloc(), text)?;
-        let rows = rows.as_slice();
-        assert_eq!(rt;
-            answer(rt.alloc(), &capture, rows, &[], &[])?,
-            Answer::Yes,
-            "{text}"
-        );
-        assert_each_row_counts(&rt, rt.alloc(), &capture, rows)?;
+        assert_listed(&rt, rt.alloc(), start, steps, text)?;
+    }
+    Ok(())
+}
+
+#[test]
+fn data_lines(rt: HostRuntime) -> Result<(), Fail> {
+    for (steps, text) in DATA {
+        assert_listed(&rt, rt.alloc(), GRANTED, steps, text)?;
     }
     Ok(())
 }

@@ -4,6 +4,7 @@ use Rattle.std.specs.Fmt.{digits}
 use Rattle.vme_trace.specs.Instants.{any, least, greatest, those}
 use Rattle.vme_trace.specs.Levels.{is_idle, loses_control}
 use Rattle.vme_trace.specs.Cycle.{modifier_of, highest_address, class_of, needs_of, is_needed}
+use Rattle.vme_trace.specs.Data.{is_selected}
 use Rattle.vme_trace.specs.Trace.{levels_at, changed}
 use Rattle.vme_trace.specs.Signals.{low, high, known, falls, rises, has_edge}
 use Rattle.vme_trace.specs.Judged.{judged_spans, judged_span, span_end, is_idle_at, loses_control_at}
@@ -18,7 +19,7 @@ use Rattle.vme_listing.specs.RowText.{hexadecimal, row_text}
 use Rattle.vme_eval.specs.Steps.{idle_lines}
 
 unfoldable pub everything : ℕ
-unfolding verdict_by least_break break_before break_at rule_break breaks is_broken spoils_pair turns is_answered answers is_write is_answer answers_write in_transfer lasts transfer_starts cycle_starts cycle_runs cycle_of in_cycle answers_of is_granting grant_falls taken_grant tenure_level has_reached tenure_slot tenure_starts last_before modifier_of highest_address class_of needs_of is_needed judged_spans judged_span span_end is_idle_at loses_control_at loses_control least greatest those any is_idle levels_at changed known low high falls rises has_edge malformed_step is_step are_changes idle_lines
+unfolding verdict_by least_break break_before break_at rule_break breaks is_broken spoils_pair turns is_answered answers is_write is_answer answers_write in_transfer lasts transfer_starts cycle_starts cycle_runs cycle_of in_cycle answers_of is_granting grant_falls taken_grant tenure_level has_reached tenure_slot tenure_starts last_before modifier_of highest_address class_of needs_of is_needed is_selected judged_spans judged_span span_end is_idle_at loses_control_at loses_control least greatest those any is_idle levels_at changed known low high falls rises has_edge malformed_step is_step are_changes idle_lines
 everything = 0
 
 unfoldable pub rows : ℕ

@@ -9,3 +9,4 @@ pub mod ShownRules
 pub mod TableRows
 pub mod TenuresAgree
 pub mod TransfersAgree
+pub mod WriteDataAgree

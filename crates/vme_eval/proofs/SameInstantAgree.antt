@@ -1,7 +1,7 @@
 -- Computed from the definitions.
 use Rattle.std.proofs.Common.{refl}
 use Rattle.vme_eval.specs.Recording.{Agrees}
-use Rattle.vme_eval.specs.SameInstant.{modifier_and_direction_unknown, direction_unknown_as_the_answer_is_low, answered_again_as_the_answer_is_withdrawn, address_and_direction_change, direction_changes_with_a_second_answer, block_turns_as_a_slot_grants, slot_grants_as_another_ends_its_grant, slot_ends_its_grant_as_a_level_is_granted, two_levels_granted_while_busy, unasked_level_granted_while_busy, past_the_last_slot_with_an_acknowledge, acknowledge_of_nothing, acknowledge_after_answer_and_strobe, acknowledge_with_a_second_write, second_acknowledge_is_a_write}
+use Rattle.vme_eval.specs.SameInstant.{modifier_and_direction_unknown, direction_unknown_as_the_answer_is_low, data_unknown_as_the_answer_is_low, answered_again_as_the_answer_is_withdrawn, address_and_direction_change, direction_and_data_change, direction_changes_with_a_second_answer, block_turns_as_a_slot_grants, slot_grants_as_another_ends_its_grant, slot_ends_its_grant_as_a_level_is_granted, two_levels_granted_while_busy, unasked_level_granted_while_busy, past_the_last_slot_with_an_acknowledge, acknowledge_of_nothing, acknowledge_after_answer_and_strobe, acknowledge_with_a_second_write, second_acknowledge_is_a_write}
 use Rattle.vme_eval.proofs.Everything.{everything, rows}
 
 pub modifier_and_direction_unknown_agrees : Agrees modifier_and_direction_unknown
@@ -12,6 +12,10 @@ pub direction_unknown_as_the_answer_is_low_agrees : Agrees direction_unknown_as_
 unfolding everything rows direction_unknown_as_the_answer_is_low
 direction_unknown_as_the_answer_is_low_agrees = record { well_formed = refl; verdict = refl; rows = refl }
 
+pub data_unknown_as_the_answer_is_low_agrees : Agrees data_unknown_as_the_answer_is_low
+unfolding everything rows data_unknown_as_the_answer_is_low
+data_unknown_as_the_answer_is_low_agrees = record { well_formed = refl; verdict = refl; rows = refl }
+
 pub answered_again_as_the_answer_is_withdrawn_agrees : Agrees answered_again_as_the_answer_is_withdrawn
 unfolding everything rows answered_again_as_the_answer_is_withdrawn
 answered_again_as_the_answer_is_withdrawn_agrees = record { well_formed = refl; verdict = refl; rows = refl }
@@ -19,6 +23,10 @@ answered_again_as_the_answer_is_withdrawn_agrees = record { well_formed = refl; 
 pub address_and_direction_change_agrees : Agrees address_and_direction_change
 unfolding everything rows address_and_direction_change
 address_and_direction_change_agrees = record { well_formed = refl; verdict = refl; rows = refl }
+
+pub direction_and_data_change_agrees : Agrees direction_and_data_change
+unfolding everything rows direction_and_data_change
+direction_and_data_change_agrees = record { well_formed = refl; verdict = refl; rows = refl }
 
 pub direction_changes_with_a_second_answer_agrees : Agrees direction_changes_with_a_second_answer
 unfolding everything rows direction_changes_with_a_second_answer

@@ -4,7 +4,7 @@ use Rattle.std.specs.Prelude.{[], ◌∷◌, List, All}
 use Rattle.std.proofs.lemmas.List.Elements.{All-nil, All-cons}
 use Rattle.vme_trace.specs.Trace.{Trace}
 use Rattle.vme_trace.specs.declared.rule.Rule.{Rule}
-use Rattle.vme_trace.specs.declared.rule.Rule.TheVariants.{U1, U2, U3, H1, H2, H3, H4, H5, H6, H7, H8, S1, S2, C1, C2, G1, G2, G3, G4, G5, B1, B2, B3, B4, I1, I2, I3, I4, I5}
+use Rattle.vme_trace.specs.declared.rule.Rule.TheVariants.{U1, U2, U3, U4, H1, H2, H3, H4, H5, H6, H7, H8, S1, S2, S3, C1, C2, G1, G2, G3, G4, G5, B1, B2, B3, B4, I1, I2, I3, I4, I5}
 use Rattle.vme_eval.specs.Examples.{Conforms, IsShown, named_rule, says_unreadable}
 use Rattle.vme_eval.specs.Dumps.{strobe_lost_at_once, answer_low_before_judging, address_lost_between_cycles}
 use Rattle.vme_eval.proofs.DumpsAgree.{strobe_lost_at_once_agrees, answer_low_before_judging_agrees, address_lost_between_cycles_agrees}
@@ -14,6 +14,8 @@ use Rattle.vme_eval.specs.Cycles.{read_modify_write, write_then_read, block_read
 use Rattle.vme_eval.proofs.CyclesAgree.{read_modify_write_agrees, write_then_read_agrees, block_read_agrees, block_turns_agrees, free_cycle_reads_writes_and_reads_agrees}
 use Rattle.vme_eval.specs.HeldLines.{address_changes_early, address_changes_with_answer, unneeded_line_changes, address_changes_as_the_cycle_ends, address_changes_after_an_answer_at_the_start, address_lost_as_the_cycle_starts, address_known_as_the_cycle_starts, direction_unknown, direction_known_as_the_transfer_starts, direction_settles_as_the_transfer_starts, direction_changes, direction_changes_as_a_strobe_rises}
 use Rattle.vme_eval.proofs.HeldLinesAgree.{address_changes_early_agrees, address_changes_with_answer_agrees, unneeded_line_changes_agrees, address_changes_as_the_cycle_ends_agrees, address_changes_after_an_answer_at_the_start_agrees, address_lost_as_the_cycle_starts_agrees, address_known_as_the_cycle_starts_agrees, direction_unknown_agrees, direction_known_as_the_transfer_starts_agrees, direction_settles_as_the_transfer_starts_agrees, direction_changes_agrees, direction_changes_as_a_strobe_rises_agrees}
+use Rattle.vme_eval.specs.WriteData.{data_unknown, data_change, unmoved_data_unknown, data_of_a_read, data_change_with_the_answer, second_byte_settles, unmoved_data_change}
+use Rattle.vme_eval.proofs.WriteDataAgree.{data_unknown_agrees, data_change_agrees, unmoved_data_unknown_agrees, data_of_a_read_agrees, data_change_with_the_answer_agrees, second_byte_settles_agrees, unmoved_data_change_agrees}
 use Rattle.vme_eval.specs.Grants.{slot_grants_ungranted, slot_grants_with_its_input, slot_grants_as_its_input_rises, slot_ends_its_grant_early, slot_ends_its_grant_as_its_input_falls, second_level_granted, another_level_granted_as_the_first_ends, grant_while_busy, grant_falls_as_the_bus_is_let_go, grant_unasked, request_with_the_grant, request_low_at_the_start, request_of_the_grant_before_serves_again, grant_withdrawn}
 use Rattle.vme_eval.proofs.GrantsAgree.{slot_grants_ungranted_agrees, slot_grants_with_its_input_agrees, slot_grants_as_its_input_rises_agrees, slot_ends_its_grant_early_agrees, slot_ends_its_grant_as_its_input_falls_agrees, second_level_granted_agrees, another_level_granted_as_the_first_ends_agrees, grant_while_busy_agrees, grant_falls_as_the_bus_is_let_go_agrees, grant_unasked_agrees, request_with_the_grant_agrees, request_low_at_the_start_agrees, request_of_the_grant_before_serves_again_agrees, grant_withdrawn_agrees}
 use Rattle.vme_eval.specs.Tenures.{taken_by_the_last_slot, grant_read_at_the_instant_before, slot_read_as_the_bus_is_taken, another_levels_grant_taken, bus_taken_ungranted, grant_taken_twice, cycle_without_the_bus, cycle_starts_as_the_bus_is_taken, cycle_starts_as_the_bus_is_let_go, grant_past_last_slot}
@@ -52,6 +54,15 @@ U3_is_shown = record {
   unreadable = ap says_unreadable direction_unknown_agrees.verdict;
   some = omega arith;
   spared = alone direction_known_as_the_transfer_starts.trace direction_known_as_the_transfer_starts_agrees.verdict;
+}
+
+U4_is_shown : IsShown U4
+unfolding data_unknown unmoved_data_unknown data_of_a_read
+U4_is_shown = record {
+  rule = ap named_rule data_unknown_agrees.verdict;
+  unreadable = ap says_unreadable data_unknown_agrees.verdict;
+  some = omega arith;
+  spared = before unmoved_data_unknown.trace (data_of_a_read.trace ∷ []) unmoved_data_unknown_agrees.verdict (alone data_of_a_read.trace data_of_a_read_agrees.verdict);
 }
 
 H1_is_shown : IsShown H1
@@ -142,6 +153,15 @@ S2_is_shown = record {
   unreadable = ap says_unreadable direction_changes_agrees.verdict;
   some = omega arith;
   spared = before direction_changes_as_a_strobe_rises.trace (direction_settles_as_the_transfer_starts.trace ∷ []) direction_changes_as_a_strobe_rises_agrees.verdict (alone direction_settles_as_the_transfer_starts.trace direction_settles_as_the_transfer_starts_agrees.verdict);
+}
+
+S3_is_shown : IsShown S3
+unfolding data_change data_change_with_the_answer second_byte_settles unmoved_data_change
+S3_is_shown = record {
+  rule = ap named_rule data_change_agrees.verdict;
+  unreadable = ap says_unreadable data_change_agrees.verdict;
+  some = omega arith;
+  spared = before data_change_with_the_answer.trace (second_byte_settles.trace ∷ unmoved_data_change.trace ∷ []) data_change_with_the_answer_agrees.verdict (before second_byte_settles.trace (unmoved_data_change.trace ∷ []) second_byte_settles_agrees.verdict (alone unmoved_data_change.trace unmoved_data_change_agrees.verdict));
 }
 
 C1_is_shown : IsShown C1
@@ -293,6 +313,7 @@ pub rule_is_shown : (r : Rule) → IsShown r
 rule_is_shown U1 = U1_is_shown
 rule_is_shown U2 = U2_is_shown
 rule_is_shown U3 = U3_is_shown
+rule_is_shown U4 = U4_is_shown
 rule_is_shown H1 = H1_is_shown
 rule_is_shown H2 = H2_is_shown
 rule_is_shown H3 = H3_is_shown
@@ -303,6 +324,7 @@ rule_is_shown H7 = H7_is_shown
 rule_is_shown H8 = H8_is_shown
 rule_is_shown S1 = S1_is_shown
 rule_is_shown S2 = S2_is_shown
+rule_is_shown S3 = S3_is_shown
 rule_is_shown C1 = C1_is_shown
 rule_is_shown C2 = C2_is_shown
 rule_is_shown G1 = G1_is_shown

@@ -10,3 +10,4 @@ pub mod Steps
 pub mod Tables
 pub mod Tenures
 pub mod Transfers
+pub mod WriteData

@@ -1,7 +1,7 @@
 -- Recordings that break two rules at one instant, of which the one that stands first is named.
 use Rattle.std.specs.Prelude.{[], ◌∷◌, codes}
-use Rattle.vme_trace.specs.LineNumbers.{AS, DS0, DS1, DTACK, BERR, WRITE, AM, A, BR, BBSY, grant, iack}
-use Rattle.vme_trace.specs.declared.rule.Rule.TheVariants.{U2, U3, H5, S1, S2, C2, G1, G2, G3, G4, B4, I1, I2, I3, I4}
+use Rattle.vme_trace.specs.LineNumbers.{AS, DS0, DS1, DTACK, BERR, WRITE, AM, A, BR, BBSY, D, grant, iack}
+use Rattle.vme_trace.specs.declared.rule.Rule.TheVariants.{U2, U3, U4, H5, S1, S2, C2, G1, G2, G3, G4, B4, I1, I2, I3, I4}
 use Rattle.vme_trace.specs.declared.verdict.Verdict.TheVariants.{Broken, Unreadable}
 use Rattle.vme_eval.specs.Recording.{Recording}
 use Rattle.vme_eval.specs.Steps.{low, high, unknown, asking, acknowledging, from_idle, once_granted, passed_on}
@@ -26,6 +26,18 @@ direction_unknown_as_the_answer_is_low = record {
       ∷ codes "transfer 10 of 9 read BERR 11 close 12" ∷ codes "verdict unreadable U3 14 WRITE" ∷ [];
 }
 
+-- a data line, and then the answer of the transfer before
+unfoldable pub data_unknown_as_the_answer_is_low : Recording
+data_unknown_as_the_answer_is_low = record {
+  trace =
+      once_granted ((low (AM 1) ∷ low (A 5) ∷ []) ∷ (low AS ∷ []) ∷ (low DS0 ∷ low DS1 ∷ []) ∷ (low BERR ∷ [])
+      ∷ (high DS0 ∷ high DS1 ∷ []) ∷ (low WRITE ∷ unknown (D 3) ∷ []) ∷ (low DS0 ∷ []) ∷ []);
+  verdict = Unreadable (record { instant = 14; time = 130; rule = U4; line = D 3 });
+  rows =
+      codes "start 1" ∷ codes "tenure 5 level 3 slot 2 end -" ∷ codes "cycle 9 S 3D FFFFDE end -"
+      ∷ codes "transfer 10 of 9 read BERR 11 close 12" ∷ codes "verdict unreadable U4 14 D03" ∷ [];
+}
+
 -- the second answer, and then the first one that rises
 unfoldable pub answered_again_as_the_answer_is_withdrawn : Recording
 answered_again_as_the_answer_is_withdrawn = record {
@@ -45,6 +57,18 @@ address_and_direction_change = record {
   rows =
       codes "start 1" ∷ codes "tenure 5 level 3 slot 2 end -" ∷ codes "cycle 9 S 39 FFFFDE end -"
       ∷ codes "transfer 10 read pending" ∷ codes "verdict broken S1 11 A05" ∷ [];
+}
+
+-- the direction, and then a data line
+unfoldable pub direction_and_data_change : Recording
+direction_and_data_change = record {
+  trace =
+      once_granted ((low (AM 1) ∷ low (AM 2) ∷ low WRITE ∷ low (A 5) ∷ []) ∷ (low AS ∷ []) ∷ (low DS0 ∷ low DS1 ∷ [])
+      ∷ (high WRITE ∷ low (D 3) ∷ []) ∷ []);
+  verdict = Broken (record { instant = 11; time = 100; rule = S2; line = WRITE });
+  rows =
+      codes "start 1" ∷ codes "tenure 5 level 3 slot 2 end -" ∷ codes "cycle 9 S 39 FFFFDE end -"
+      ∷ codes "transfer 10 write pending" ∷ codes "verdict broken S2 11 WRITE" ∷ [];
 }
 
 -- the direction, and then the second read

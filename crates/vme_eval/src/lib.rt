@@ -23,7 +23,8 @@ ghost use Rattle.vme_eval.specs.HeldLines.{short_address, address_changes_early,
 ghost use Rattle.vme_eval.specs.Grants.{slot_grants_ungranted, slot_grants_with_its_input, slot_grants_as_its_input_rises, slot_ends_its_grant_early, slot_ends_its_grant_as_its_input_falls, second_level_granted, higher_level_granted_second, two_levels_granted_at_once, another_level_granted_as_the_first_ends, grant_while_busy, slot_grants_while_busy, grant_falls_as_the_bus_is_let_go, grant_unasked, request_with_the_grant, request_low_at_the_start, request_of_the_grant_before_serves_again, request_before_another_levels_grant, request_of_two_grants_before, grant_withdrawn};
 ghost use Rattle.vme_eval.specs.Tenures.{tenure_on_level_0, tenure_on_level_1, tenure_on_level_2, taken_by_the_last_slot, open_tenure_ends, tenure_after_an_open_one, two_tenures, grant_read_at_the_instant_before, slot_read_as_the_bus_is_taken, another_levels_grant_taken, higher_levels_grant_taken, grant_chain_with_a_gap, bus_taken_ungranted, taken_by_a_slots_grant_alone, grant_taken_twice, grant_of_the_same_instant_taken_twice, taken_again_by_a_slots_grant, third_tenure_without_a_grant, cycle_without_the_bus, cycle_starts_as_the_bus_is_taken, cycle_starts_as_the_bus_is_let_go, everything_starts_at_one_instant, grant_past_last_slot, past_the_last_slot_as_the_grant_ends};
 ghost use Rattle.vme_eval.specs.Acknowledges.{acknowledge_cycle, acknowledge_of_level_3, acknowledge_skips_slot, acknowledge_outside_an_acknowledge_cycle, acknowledge_with_its_input, acknowledge_as_its_input_rises, acknowledge_before_strobe, acknowledge_before_the_cycle, acknowledge_by_the_second_strobe, acknowledge_as_the_strobe_rises, acknowledge_as_the_second_strobe_rises, acknowledge_as_the_second_strobe_falls, acknowledge_near_a_strobe_and_near_the_cycle, acknowledge_after_answer, acknowledge_after_an_answer_at_the_start, acknowledge_after_the_answer_of_a_data_cycle, acknowledge_with_the_answer, acknowledge_after_a_bus_error, acknowledge_as_the_next_cycle_starts, acknowledge_write, acknowledge_turns_to_a_read, acknowledge_is_a_read_from_its_start, acknowledged_twice};
-ghost use Rattle.vme_eval.specs.SameInstant.{modifier_and_direction_unknown, direction_unknown_as_the_answer_is_low, answered_again_as_the_answer_is_withdrawn, address_and_direction_change, direction_changes_with_a_second_answer, block_turns_as_a_slot_grants, slot_grants_as_another_ends_its_grant, slot_ends_its_grant_as_a_level_is_granted, two_levels_granted_while_busy, unasked_level_granted_while_busy, past_the_last_slot_with_an_acknowledge, acknowledge_of_nothing, acknowledge_after_answer_and_strobe, acknowledge_with_a_second_write, second_acknowledge_is_a_write};
+ghost use Rattle.vme_eval.specs.WriteData.{data_unknown, unmoved_data_unknown, data_change_with_the_answer, data_change, unmoved_data_change, data_of_a_read, second_byte_unknown, second_byte_unknown_with_the_answer, second_byte_unknown_after_the_answer, upper_byte_alone, second_byte_settles, data_lost, data_change_after_the_answer, long_word, long_word_unknown, long_word_changes, no_long_word_at_an_odd_word};
+ghost use Rattle.vme_eval.specs.SameInstant.{modifier_and_direction_unknown, direction_unknown_as_the_answer_is_low, data_unknown_as_the_answer_is_low, answered_again_as_the_answer_is_withdrawn, address_and_direction_change, direction_and_data_change, direction_changes_with_a_second_answer, block_turns_as_a_slot_grants, slot_grants_as_another_ends_its_grant, slot_ends_its_grant_as_a_level_is_granted, two_levels_granted_while_busy, unasked_level_granted_while_busy, past_the_last_slot_with_an_acknowledge, acknowledge_of_nothing, acknowledge_after_answer_and_strobe, acknowledge_with_a_second_write, second_acknowledge_is_a_write};
 
 /// Each rule is broken in its example, and the recordings nearest to that conform.
 pub fn every_rule()
@@ -133,6 +134,27 @@ pub fn held_lines()
     ensures direction_changes_as_a_strobe_rises { Agrees direction_changes_as_a_strobe_rises }
 {}
 
+/// Data lines that a write moves: known as its strobes fall, and held until the answer.
+pub fn write_data()
+    ensures data_unknown { Agrees data_unknown }
+    ensures unmoved_data_unknown { Agrees unmoved_data_unknown }
+    ensures data_change_with_the_answer { Agrees data_change_with_the_answer }
+    ensures data_change { Agrees data_change }
+    ensures unmoved_data_change { Agrees unmoved_data_change }
+    ensures data_of_a_read { Agrees data_of_a_read }
+    ensures second_byte_unknown { Agrees second_byte_unknown }
+    ensures second_byte_unknown_with_the_answer { Agrees second_byte_unknown_with_the_answer }
+    ensures second_byte_unknown_after_the_answer { Agrees second_byte_unknown_after_the_answer }
+    ensures upper_byte_alone { Agrees upper_byte_alone }
+    ensures second_byte_settles { Agrees second_byte_settles }
+    ensures data_lost { Agrees data_lost }
+    ensures data_change_after_the_answer { Agrees data_change_after_the_answer }
+    ensures long_word { Agrees long_word }
+    ensures long_word_unknown { Agrees long_word_unknown }
+    ensures long_word_changes { Agrees long_word_changes }
+    ensures no_long_word_at_an_odd_word { Agrees no_long_word_at_an_odd_word }
+{}
+
 /// Grants along their chains, and the requests that they answer.
 pub fn grants()
     ensures slot_grants_ungranted { Agrees slot_grants_ungranted }
@@ -215,8 +237,10 @@ pub fn acknowledges()
 pub fn same_instant()
     ensures modifier_and_direction_unknown { Agrees modifier_and_direction_unknown }
     ensures direction_unknown_as_the_answer_is_low { Agrees direction_unknown_as_the_answer_is_low }
+    ensures data_unknown_as_the_answer_is_low { Agrees data_unknown_as_the_answer_is_low }
     ensures answered_again_as_the_answer_is_withdrawn { Agrees answered_again_as_the_answer_is_withdrawn }
     ensures address_and_direction_change { Agrees address_and_direction_change }
+    ensures direction_and_data_change { Agrees direction_and_data_change }
     ensures direction_changes_with_a_second_answer { Agrees direction_changes_with_a_second_answer }
     ensures block_turns_as_a_slot_grants { Agrees block_turns_as_a_slot_grants }
     ensures slot_grants_as_another_ends_its_grant { Agrees slot_grants_as_another_ends_its_grant }

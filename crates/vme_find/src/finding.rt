@@ -34,7 +34,7 @@ pub(crate) struct Scope<'a> {
 }
 
 impl<'a> Scope<'a> {
-    /// How many lines have a variable here.
+    /// How many lines, the data lines left out, have a variable here.
     pub(crate) fn line_count(&self) -> usize {
         self.lines.iter().filter(|named| **named).count()
     }
@@ -85,11 +85,13 @@ fn candidates(alloc: Global, variables: &[Variable]) -> Result<Vec<Candidate>, A
     Ok(found)
 }
 
-/// Notes which lines a variable is named as.
+/// Notes which lines a variable is named as, the data lines left out: a memory has those too, and no bus.
 fn note_lines(lines: &mut [bool; LINE_COUNT as usize], declared: &Variable, named: &Named) {
     for place in 0..declared.size.min(MOST_BITS) {
         if let Some(line) = named.line_at(declared, place) {
-            note_line(lines, line);
+            if line < Line::data(0) {
+                note_line(lines, line);
+            }
         }
     }
 }

@@ -28,6 +28,8 @@ pub(crate) enum Named {
     Modifiers,
     /// A31 to A01, or some of them.
     Addresses,
+    /// D31 to D00, or some of them.
+    Data,
     /// BR3 to BR0.
     Requests,
     /// The nets of a level's grant chain.
@@ -130,14 +132,20 @@ fn grouped(stem: &[u8]) -> Option<Named> {
     if let Some(rest) = behind(stem, b"ia") {
         return acknowledge(rest);
     }
-    let rest = behind(stem, b"a")?;
-    address(rest)
+    if let Some(rest) = behind(stem, b"a") {
+        return address(rest);
+    }
+    let rest = behind(stem, b"d")?;
+    data(rest)
 }
 
-/// Other names of the address lines and of the acknowledge chain.
+/// Other names of the address lines, of the data lines and of the acknowledge chain.
 fn synonym(stem: &[u8]) -> Option<Named> {
     if let Some(rest) = behind(stem, b"address").or_else(|| behind(stem, b"addr")) {
         return address(rest);
+    }
+    if let Some(rest) = behind(stem, b"data") {
+        return data(rest);
     }
     if let Some(rest) = behind(stem, b"iackout") {
         return acknowledge(rest);
@@ -182,6 +190,18 @@ fn address(rest: &[u8]) -> Option<Named> {
     let bit = number(rest)?;
     if 1 <= bit && bit <= 31 {
         Some(Named::Line(Line::address(bit)))
+    } else {
+        None
+    }
+}
+
+fn data(rest: &[u8]) -> Option<Named> {
+    if rest.is_empty() {
+        return Some(Named::Data);
+    }
+    let bit = number(rest)?;
+    if bit < 32 {
+        Some(Named::Line(Line::data(bit)))
     } else {
         None
     }
@@ -250,7 +270,8 @@ fn address_shift(variable: &Variable) -> u32 {
 }
 
 impl Named {
-    /// The line that a bit of a variable of this name is, by its place from the left.
+    /// The line that a bit of a variable of this name is, by its place from the left. A `d` of one bit without an index is
+    /// no data line, but what goes into a flip-flop.
     pub(crate) fn line_at(&self, variable: &Variable, place: u32) -> Option<Line> {
         if let Named::Line(line) = self {
             return if variable.size == 1 {
@@ -258,6 +279,10 @@ impl Named {
             } else {
                 None
             };
+        }
+        let is_lone_bit = variable.size == 1 && variable.index.is_none();
+        if is_lone_bit && *self == Named::Data {
+            return None;
         }
         let shift = match self {
             Named::Addresses => address_shift(variable),
@@ -275,6 +300,7 @@ impl Named {
             Named::Strobes if bit == 1 => Some(Line::DS1),
             Named::Modifiers if bit < 6 => Some(Line::address_modifier(bit)),
             Named::Addresses if 1 <= bit && bit <= 31 => Some(Line::address(bit)),
+            Named::Data if bit < 32 => Some(Line::data(bit)),
             Named::Requests if bit < 4 => Some(Line::bus_request(bit)),
             Named::Grants(level) if *level < 4 && bit <= 21 => Some(Line::grant(*level, bit)),
             Named::Acknowledges | Named::AcknowledgeChain if bit == 0 => Some(Line::IACK),

@@ -8,7 +8,7 @@ use vme_text::Text;
 use vme_trace::{LINE_COUNT, Line};
 
 /// What to know of a line that wasn't found, by the beginning of its name.
-const HINTS: [(&[u8], &str); 13] = [
+const HINTS: [(&[u8], &str); 14] = [
     (
         b"AM",
         "AM is then 3F, a block transfer of the standard space; bind the code that the masters use, bit by bit",
@@ -49,7 +49,14 @@ const HINTS: [(&[u8], &str); 13] = [
     (b"IA", "right where no interrupt is acknowledged"),
     (b"LWORD", "it is only asked to be known and held"),
     (b"WRITE", "each transfer then counts as a read"),
+    (
+        b"D",
+        "right for D16 to D31 of a bus on P1 alone; that a missing line is unknown or changes isn't seen",
+    ),
 ];
+
+/// What is said where no data line was found.
+const NO_DATA: &str = "# D wasn't found and is left out: the data of writes aren't judged\n";
 
 /// What is said of a name of which no line was found.
 const NOT_FOUND: &str = " wasn't found: 1 is what it shows when nobody drives it";
@@ -158,8 +165,18 @@ impl<'a> Proposal<'a> {
         }
         self.write_group(b"AM", Line::address_modifier(5).number(), 6)?;
         self.write_group(b"A", Line::address(31).number(), 31)?;
+        self.write_data()?;
         self.write_group(b"BR", Line::bus_request(3).number(), 4)?;
         self.write_chains(slots)
+    }
+
+    /// Writes the data lines, or why they are left out.
+    fn write_data(&mut self) -> Result<(), AllocError> {
+        let first = Line::data(31).number();
+        if (0..32).all(|place| self.tap(first, place).is_none()) {
+            return self.text.push(NO_DATA.as_bytes());
+        }
+        self.write_group(b"D", first, 32)
     }
 
     /// Writes the nets of the daisy chains.

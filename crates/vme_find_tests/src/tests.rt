@@ -93,6 +93,27 @@ fn an_ambiguous_path_alone_is_left_out(rt: HostRuntime) -> Result<(), Fail> {
     Ok(())
 }
 
+/// A dump of a bus of 16 data lines, and of a flip-flop whose input is called D.
+const DATA: &str =
+    "$scope module bus $end\n$var wire 1 p AS $end\n$var wire 16 q data [15:0] $end\n\
+$upscope $end\n$scope module latch $end\n$var wire 1 r D $end\n$upscope $end\n$enddefinitions $end\n#0 1p\n";
+
+#[test]
+fn data_lines_are_found(rt: HostRuntime) -> Result<(), Fail> {
+    let alloc = rt.alloc();
+    assert!(rt; binding_has(alloc, DATA, "\nD16 = 1\nD15 = bus.data[15]\n"));
+    assert!(rt; binding_has(alloc, DATA, "\nD00 = bus.data[0]\n"));
+    let left_out = "# D wasn't found and is left out: ";
+    assert!(rt; binding_has(alloc, DUMP, left_out));
+    let long_word = "$var wire 32 d D [31:0] $end\n$enddefinitions $end\n#0 b0 d\n";
+    assert!(rt; binding_has(alloc, long_word, "\nD = D\n"));
+    let flip_flop = "$var wire 1 p AS $end\n$var wire 1 d D $end\n$enddefinitions $end\n#0 1p\n";
+    assert!(rt; binding_has(alloc, flip_flop, left_out));
+    let one_by_one = "$var wire 1 p AS $end\n$var wire 1 d D07 $end\n$enddefinitions $end\n#0 1p\n";
+    assert!(rt; binding_has(alloc, one_by_one, "\nD07 = D07\n"));
+    Ok(())
+}
+
 #[test]
 fn a_dump_of_no_line_is_told(rt: HostRuntime) -> Result<(), Fail> {
     let dump = "$var wire 1 p clock $end\n$enddefinitions $end\n#0 1p\n";

@@ -14,7 +14,7 @@ use Rattle.vme_trace.specs.Names.{line_name, rule_name}
 use Rattle.vme_trace.specs.declared.class.Class.{Class}
 use Rattle.vme_trace.specs.declared.class.Class.TheVariants as class
 use Rattle.vme_trace.specs.declared.rule.Rule.{Rule}
-use Rattle.vme_trace.specs.declared.rule.Rule.TheVariants.{U1, U2, U3, H1, H2, H3, H4, H5, H6, H7, H8, S1, S2, C1, C2, G1, G2, G3, G4, G5, B1, B2, B3, B4, I1, I2, I3, I4, I5}
+use Rattle.vme_trace.specs.declared.rule.Rule.TheVariants.{U1, U2, U3, U4, H1, H2, H3, H4, H5, H6, H7, H8, S1, S2, S3, C1, C2, G1, G2, G3, G4, G5, B1, B2, B3, B4, I1, I2, I3, I4, I5}
 use Rattle.vme_listing.proofs.Cuts.{are_glyphs, decimal-glyphs, hexadecimal-glyphs}
 use Rattle.vme_listing.specs.Places.{is_number, is_edge, has_class, is_address, is_outcome, is_row}
 use Rattle.vme_listing.specs.RowText.{edge_text, hexadecimal, address_digits, class_text, direction_text, answer_text, break_text, row_text, line_of}
@@ -73,6 +73,7 @@ rule-inside rule =
       | U1 ↦ refl
       | U2 ↦ refl
       | U3 ↦ refl
+      | U4 ↦ refl
       | H1 ↦ refl
       | H2 ↦ refl
       | H3 ↦ refl
@@ -83,6 +84,7 @@ rule-inside rule =
       | H8 ↦ refl
       | S1 ↦ refl
       | S2 ↦ refl
+      | S3 ↦ refl
       | C1 ↦ refl
       | C2 ↦ refl
       | G1 ↦ refl

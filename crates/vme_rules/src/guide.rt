@@ -43,6 +43,14 @@ const U3: Guide = Guide {
     causes: "the master drives a strobe before WRITE; two masters drive WRITE at once",
 };
 
+const U4: Guide = Guide {
+    rule: Rule::U4,
+    sentence: "a strobe falls in a write, no later than its answer, and a data line that the write moves is Unknown",
+    line: "the data line",
+    section: "chapter 2, Data Transfer Bus; profile",
+    causes: "the master's data register isn't set before its strobes; two boards drive the data lines at once; a data line that is bound to x",
+};
+
 const H1: Guide = Guide {
     rule: Rule::H1,
     sentence: "a transfer starts, and DTACK, or BERR, isn't High near",
@@ -121,6 +129,14 @@ const S2: Guide = Guide {
     line: "WRITE",
     section: "chapter 2, Data Transfer Bus",
     causes: "the master turns WRITE for its next access before the strobes are High; WRITE is let go together with the address, at the answer",
+};
+
+const S3: Guide = Guide {
+    rule: Rule::S3,
+    sentence: "a data line that a write moves has an edge after its start, before its answer and before a strobe rises in it",
+    line: "the data line with the edge",
+    section: "chapter 2, Data Transfer Bus",
+    causes: "the master drives its data after the strobe; the master lets its next data through before the answer; a slave that drives the data lines in a write",
 };
 
 const C1: Guide = Guide {
@@ -252,10 +268,11 @@ const I5: Guide = Guide {
 };
 
 /// All rules, in the order in which breaks at one instant are named.
-pub(crate) const ALL: [Rule; 29] = [
+pub(crate) const ALL: [Rule; 31] = [
     Rule::U1,
     Rule::U2,
     Rule::U3,
+    Rule::U4,
     Rule::H1,
     Rule::H2,
     Rule::H3,
@@ -266,6 +283,7 @@ pub(crate) const ALL: [Rule; 29] = [
     Rule::H8,
     Rule::S1,
     Rule::S2,
+    Rule::S3,
     Rule::C1,
     Rule::C2,
     Rule::G1,
@@ -293,6 +311,7 @@ impl Guide {
             Rule::U1 => U1,
             Rule::U2 => U2,
             Rule::U3 => U3,
+            Rule::U4 => U4,
             Rule::H1 => H1,
             Rule::H2 => H2,
             Rule::H3 => H3,
@@ -303,6 +322,7 @@ impl Guide {
             Rule::H8 => H8,
             Rule::S1 => S1,
             Rule::S2 => S2,
+            Rule::S3 => S3,
             Rule::C1 => C1,
             Rule::C2 => C2,
             Rule::G1 => G1,

@@ -26,7 +26,7 @@ fn all_rules_are_told_in_their_order(rt: HostRuntime) -> Result<(), Fail> {
     );
     assert_eq!(rt;
         text.as_bytes().iter().filter(|b| **b == b'\n').count(),
-        116
+        124
     );
     assert_eq!(rt; Guide::of(Rule::H4).line, "the answer line that falls");
     Ok(())

@@ -20,7 +20,7 @@ use Rattle.vme_stability.specs.StabilitySpec.{lacks, starts_between, unknown_add
 use Rattle.vme_stability.proofs.Holds.{judged, cycle_starts_is, transfer_starts_is}
 use Rattle.vme_stability.proofs.Needed.{bused_line, needed_below}
 
-least_and : (b : Bool) (p : ℕ → Bool) → least (λ l. b && p l) 0 line_count ≡ cond b (least p 0 line_count) None
+pub least_and : (b : Bool) (p : ℕ → Bool) → least (λ l. b && p l) 0 line_count ≡ cond b (least p 0 line_count) None
 least_and true p = refl
 least_and false p = least-none (λ l. false) 0 line_count (fails-any (λ l. false) 0 line_count (λ l a b. refl))
 

@@ -5,7 +5,6 @@ use Rattle.std.proofs.lemmas.Bool.Decides.{nat_tests}
 use Rattle.std.proofs.lemmas.List.{length-set, get_or-set_same}
 use Rattle.std.proofs.lemmas.Option.{unwrap_or-slice_get}
 use Rattle.vme_trace.specs.Instants.{any, least}
-use Rattle.vme_trace.specs.Cycle.{Needs, is_within}
 use Rattle.vme_trace.specs.Levels.{Levels, level_at, set_level, same_level}
 use Rattle.vme_trace.specs.Trace.{changed}
 use Rattle.vme_trace.specs.WellFormed.{are_changes}
@@ -15,7 +14,7 @@ use Rattle.vme_trace.specs.declared.level.Level.TheVariants.{Low, High, Unknown}
 use Rattle.vme_trace.specs.declared.step.Change.{Change}
 use Rattle.vme_trace.proofs.Changing.{level-kept}
 use Rattle.vme_trace.proofs.Ranges.{fails-any, least-is, least-none}
-use Rattle.vme_stability.specs.StabilitySpec.{first_needed}
+use Rattle.vme_stability.specs.StabilitySpec.{first_among}
 
 pub and_true : (a b : Bool) → (a && b) ≡ true → (a ≡ true) × (b ≡ true)
 and_true true b h = (refl, h)
@@ -92,10 +91,10 @@ edge_is v cs l h inside = by_test (is_changed cs l) refl
     by_test true e = ap not (changed_differs v v 0 cs l h e inside)
     by_test false e = rw (level-kept v cs l e) (ap not (same_itself (level_at v l)))
 
--- the least line with some property among the changed ones is the first that a set has, where the two are alike
-module _ (p : ℕ → Bool) (needs : Needs) (n : ℕ) (bound : (l : ℕ) → is_within needs l ≡ true → l < n) where
-  first_here : (c : Change) (cs : List Change) (b : Bool) → is_within needs c.line ≡ b → (b ≡ true → p c.line ≡ true) → any p 0 c.line ≡ false → (b ≡ false → first_needed needs cs ≡ least p 0 n)
-      → cond b (Some c.line) (first_needed needs cs) ≡ least p 0 n
+-- the least line with some property among the changed ones is the first that has another, where the two are alike
+module _ (p q : ℕ → Bool) (n : ℕ) (bound : (l : ℕ) → q l ≡ true → l < n) where
+  first_here : (c : Change) (cs : List Change) (b : Bool) → q c.line ≡ b → (b ≡ true → p c.line ≡ true) → any p 0 c.line ≡ false → (b ≡ false → first_among q cs ≡ least p 0 n)
+      → cond b (Some c.line) (first_among q cs) ≡ least p 0 n
   first_here c cs true e holds none rest = sym (least-is p 0 n c.line (omega arith) (bound c.line e) (holds refl) none)
   first_here c cs false e holds none rest = rest refl
 
@@ -113,13 +112,13 @@ module _ (p : ℕ → Bool) (needs : Needs) (n : ℕ) (bound : (l : ℕ) → is_
   or_last true b h = refl
   or_last false b h = h
 
-  pub first_least : (v : Levels) (lowest : ℕ) (cs : List Change) → are_changes v lowest cs ≡ true → ((l : ℕ) → is_changed cs l ≡ false → p l ≡ false) → ((l : ℕ) → is_changed cs l ≡ true → p l ≡ is_within needs l)
-      → first_needed needs cs ≡ least p 0 n
+  pub first_least : (v : Levels) (lowest : ℕ) (cs : List Change) → are_changes v lowest cs ≡ true → ((l : ℕ) → is_changed cs l ≡ false → p l ≡ false) → ((l : ℕ) → is_changed cs l ≡ true → p l ≡ q l)
+      → first_among q cs ≡ least p 0 n
   unfolding are_changes
   first_least v lowest [] h fails alike = sym (least-none p 0 n (fails-any p 0 n (λ l a b. fails l refl)))
   first_least v lowest (c ∷ cs) h fails alike =
       let parts = and_true _ _ h in
-      let here : p c.line ≡ is_within needs c.line = alike c.line (rw (same_line c.line) refl) in
-      first_here c cs (is_within needs c.line) refl (λ e. here ∙ e)
+      let here : p c.line ≡ q c.line = alike c.line (rw (same_line c.line) refl) in
+      first_here c cs (q c.line) refl (λ e. here ∙ e)
       (fails-any p 0 c.line (λ l a b. fails l (rw (unlike c.line l b, below_changes v (c.line + 1) l cs parts.1 (one_more l c.line b)) refl)))
       (λ e. first_least v (c.line + 1) cs parts.1 (fails_else c cs fails (here ∙ e)) (λ l k. alike l (or_last (c.line == l) (is_changed cs l) k)))

@@ -18,7 +18,7 @@ use Rattle.vme_trace.specs.Rules.{breaks, is_broken}
 use Rattle.vme_trace.specs.Verdict.{break_at, break_before, rule_break}
 use Rattle.vme_trace.specs.declared.level.Level.{Level}
 use Rattle.vme_trace.specs.declared.level.Level.TheVariants.{Low, High, Unknown}
-use Rattle.vme_trace.specs.declared.rule.Rule.TheVariants.{U2, U3, S1, S2}
+use Rattle.vme_trace.specs.declared.rule.Rule.TheVariants.{U2, U3, U4, S1, S2, S3}
 use Rattle.vme_trace.specs.declared.step.Change.{Change}
 use Rattle.vme_trace.proofs.Changing.{level-kept}
 use Rattle.vme_trace.proofs.OpenTransfers.{suc-sub-one, is_judged-holds}
@@ -92,8 +92,29 @@ module _ (t : Trace) (span : Span) where
   S1_least : (k : ℕ) → break_at t span stability_rules k ≡ None → rule_break t span k S1 ≡ None
   unfolding break_at
   S1_least k h =
-      let later : option_or (rule_break t span k U3) (option_or (rule_break t span k S1) (option_or (rule_break t span k S2) None)) ≡ None = (or_none (rule_break t span k U2) _ h).1 in
-      (or_none (rule_break t span k S1) (option_or (rule_break t span k S2) None) (or_none (rule_break t span k U3) _ later).1).0
+      let second = (or_none (rule_break t span k U2) (option_or (rule_break t span k U3) (option_or (rule_break t span k U4) (option_or (rule_break t span k S1) (option_or (rule_break t span k S2) (option_or (rule_break t span k S3) None))))) h).1 in
+      let third = (or_none (rule_break t span k U3) (option_or (rule_break t span k U4) (option_or (rule_break t span k S1) (option_or (rule_break t span k S2) (option_or (rule_break t span k S3) None)))) second).1 in
+      let fourth = (or_none (rule_break t span k U4) (option_or (rule_break t span k S1) (option_or (rule_break t span k S2) (option_or (rule_break t span k S3) None))) third).1 in
+      (or_none (rule_break t span k S1) (option_or (rule_break t span k S2) (option_or (rule_break t span k S3) None)) fourth).0
+
+  pub S2_least : (k : ℕ) → break_at t span stability_rules k ≡ None → rule_break t span k S2 ≡ None
+  unfolding break_at
+  S2_least k h =
+      let second = (or_none (rule_break t span k U2) (option_or (rule_break t span k U3) (option_or (rule_break t span k U4) (option_or (rule_break t span k S1) (option_or (rule_break t span k S2) (option_or (rule_break t span k S3) None))))) h).1 in
+      let third = (or_none (rule_break t span k U3) (option_or (rule_break t span k U4) (option_or (rule_break t span k S1) (option_or (rule_break t span k S2) (option_or (rule_break t span k S3) None)))) second).1 in
+      let fourth = (or_none (rule_break t span k U4) (option_or (rule_break t span k S1) (option_or (rule_break t span k S2) (option_or (rule_break t span k S3) None))) third).1 in
+      let fifth = (or_none (rule_break t span k S1) (option_or (rule_break t span k S2) (option_or (rule_break t span k S3) None)) fourth).1 in
+      (or_none (rule_break t span k S2) (option_or (rule_break t span k S3) None) fifth).0
+
+  -- no break before the next instant: none before this one, and none at it
+  pub before_last : (n : ℕ) → break_before t span stability_rules (suc n) ≡ None → (break_before t span stability_rules n ≡ None) × (break_at t span stability_rules n ≡ None)
+  unfolding break_before
+  before_last n h = or_none (break_before t span stability_rules n) (break_at t span stability_rules n) h
+
+  -- no line on which a rule isn't broken
+  pub no_fault : (k : ℕ) (f : Option ℕ) → least (breaks t span S2 k) 0 line_count ≡ f → rule_break t span k S2 ≡ None → f ≡ None
+  unfolding rule_break
+  no_fault k f e h = sym e ∙ unmapped (λ (x : ℕ). record { instant = k; time = time_at t k; rule = S2; line = x }) (least (breaks t span S2 k) 0 line_count) h
 
   unbroken_at : (k : ℕ) → rule_break t span k S1 ≡ None → (l : ℕ) → l < line_count → breaks t span S1 k l ≡ false
   unfolding rule_break
@@ -242,7 +263,7 @@ module _ (t : Trace) (span : Span) where
           by_need false e = ends_false (has_line t.opening.slots l) (not (same_level (level_at old l) (level_at (changed old cs) l)))
 
       least_by : (b : Bool) → still_held ≡ b → least (breaks t span S1 (suc n)) 0 line_count ≡ cond b (address_moved old cs) None
-      least_by true held = sym (rw (low_before held) (first_least (breaks t span S1 (suc n)) (needs_of old) line_count bound old 0 cs fit unchanged (changed_line held)))
+      least_by true held = sym (rw (low_before held) (first_least (breaks t span S1 (suc n)) (is_within (needs_of old)) line_count bound old 0 cs fit unchanged (changed_line held)))
       least_by false held = least-none (breaks t span S1 (suc n)) 0 line_count (fails-any (breaks t span S1 (suc n)) 0 line_count (λ l a b. breaks_is l ∙ rw held (nothing_held (is_judged span (suc n)) (has_line t.opening.slots l) (not (same_level (level_at old l) (level_at new l))))))
         where
           nothing_held : (a b c : Bool) → (a && b && (c && false)) ≡ false

@@ -1,12 +1,15 @@
 -- What the memory says of a judged instant, in the words of transfers and cycles; it keeps saying so, whatever rule is broken.
-use Rattle.std.proofs.Common.{◌≡◌, ℕ, suc, ◌+◌, ◌<◌, ◌≤◌, Bool, true, false, ◌||◌, ◌&&◌, not, refl, sym, ◌∙◌, arith, cond}
+use Rattle.std.proofs.Common.{◌≡◌, ℕ, suc, ◌+◌, ◌<◌, ◌≤◌, Bool, true, false, ◌||◌, ◌&&◌, not, refl, sym, ◌∙◌, ap, arith, cond}
 use Rattle.vme_trace.specs.Instants.{any, none}
+use Rattle.std.proofs.Common.{inl, inr, ◌⊎◌}
+use Rattle.std.specs.Prelude.{None}
 use Rattle.vme_trace.specs.LineNumbers.{AS, DS0, DS1, WRITE}
 use Rattle.vme_trace.specs.Levels.{Levels, level_at, is_low, is_high, is_known}
 use Rattle.vme_trace.specs.Trace.{Trace, levels_at}
 use Rattle.vme_trace.specs.Signals.{low, high, falls, rises}
 use Rattle.vme_trace.specs.Judged.{Span, is_judged}
-use Rattle.vme_trace.specs.Transfers.{strobe_rises, transfer_starts, is_answer}
+use Rattle.vme_trace.specs.Transfers.{strobe_rises, strobes_high, transfer_starts, is_answer}
+use Rattle.vme_trace.specs.Verdict.{break_before}
 use Rattle.vme_trace.specs.Cycles.{cycle_starts, cycle_runs}
 use Rattle.vme_trace.specs.declared.level.Level.{Level}
 use Rattle.vme_trace.specs.declared.level.Level.TheVariants.{Low, High, Unknown}
@@ -14,26 +17,16 @@ use Rattle.vme_trace.proofs.OpenTransfers.{suc-sub-one, is_judged-holds, ReadsSt
 use Rattle.vme_trace.proofs.Ranges.{any-step, clash, fails-any}
 use Rattle.vme_monitor.specs.Edges.{falls_between}
 use Rattle.vme_monitor.specs.Tracked.{Says}
-use Rattle.vme_monitor.specs.Tracking.{answer_between, answered_by, is_unanswered, strobe_low_in, strobes_high_in, tracked}
+use Rattle.vme_monitor.specs.Tracking.{answer_between, answered_by, is_unanswered, is_writing, strobe_low_in, strobes_high_in, tracked}
 use Rattle.vme_monitor.specs.declared.tracking.Pending.{Pending}
 use Rattle.vme_monitor.specs.declared.tracking.Pending.TheVariants.{Closed, Reading, Writing, Answered}
 use Rattle.vme_monitor.proofs.TrackedTransfers.{says_start, tracked_is, is_answer_is}
-use Rattle.vme_stability.specs.StabilitySpec.{answers_in, awaits_answer, holds_direction as holds_direction_of, keeps_address, keeps_direction, rises_between, starts_between, stability_begin, stepped, strobe_rises_between}
+use Rattle.vme_stability.specs.StabilitySpec.{answers_in, awaits_answer, holds_direction as holds_direction_of, keeps_address, keeps_direction, rises_between, starts_between, stability_begin, stability_rules, stepped, strobe_rises_between}
 use Rattle.vme_stability.specs.declared.holding.Holding.{Holding}
+use Rattle.vme_stability.specs.HoldingPlaces.{has_risen, was_answered, writes_of}
+use Rattle.vme_stability.proofs.Progressing.{directed_by, fresh_here, fresh_more, is_answered_state, is_closed, risen_passed, was_passed}
 use Rattle.vme_stability.proofs.Edges.{and_true, or_false}
 use Rattle.vme_stability.proofs.Lasting.{le_holds, none_more, none_empty, none_one, lasts_on}
-
-abbrev pub is_answered_state : Pending → Bool
-is_answered_state Answered = true
-is_answered_state Closed = false
-is_answered_state Reading = false
-is_answered_state Writing = false
-
-abbrev pub is_closed : Pending → Bool
-is_closed Closed = true
-is_closed Reading = false
-is_closed Writing = false
-is_closed Answered = false
 
 -- the transfer that the step enters, or that was open, has had no answer
 unanswered_is : (p : Pending) (h l w : Bool) → h ≡ is_closed p → is_unanswered (cond (h && l) (cond w Writing Reading) p) ≡ (not (is_answered_state p) && (not h || l))
@@ -120,8 +113,10 @@ module _ (t : Trace) (span : Span) where
   pub record Holds (n : ℕ) (m : Holding) : Type 0 where
     pub state : Pending
     pub says : Says t span n state
-    pub transfer : is_answered_state state ≡ m.transfer_answered
-    pub closed : strobes_high_in (levels_at t n) ≡ true → m.strobe_risen ≡ false
+    pub transfer : is_answered_state state ≡ was_answered m.transfer
+    pub closed : strobes_high_in (levels_at t n) ≡ true → has_risen m.transfer ≡ false
+    pub fresh : (i : ℕ) → i ≤ n → transfer_starts t span i ≡ true → ((r : ℕ) → i ≤ r → r ≤ n → strobes_high t r ≡ false) → none (strobe_rises t) (i + 1) (n + 1) ≡ not (has_risen m.transfer)
+    pub directed : break_before t span stability_rules (suc n) ≡ None → strobes_high_in (levels_at t n) ≡ false → writes_of m.transfer (is_low (level_at (levels_at t n) WRITE)) ≡ is_writing state
     pub idle : is_low (level_at (levels_at t n) AS) ≡ false → m.cycle_answered ≡ false
     pub address : awaits_answer m (levels_at t n) ≡ any (holds_address n) (span.start + 1) (n + 1)
     pub direction : holds_direction_of m (levels_at t n) ≡ any (holds_direction n) (span.start + 1) (n + 1)
@@ -135,10 +130,15 @@ module _ (t : Trace) (span : Span) where
         says = says_start t span reads;
         transfer = refl;
         closed = λ h. refl;
+        fresh = λ i a s low. absurd (clash (strobes_high t span.start) reads.opens (low_there i a low));
+        directed = λ unbroken low. absurd (clash (strobes_high t span.start) reads.opens low);
         idle = λ h. refl;
         address = rw off (sym (fails-any (holds_address span.start) (span.start + 1) (span.start + 1) (λ i a b. absurd (omega arith))));
         direction = rw reads.opens (sym (fails-any (holds_direction span.start) (span.start + 1) (span.start + 1) (λ i a b. absurd (omega arith))));
       }
+    where
+      low_there : (i : ℕ) → i ≤ span.start → ((r : ℕ) → i ≤ r → r ≤ span.start → strobes_high t r ≡ false) → strobes_high t span.start ≡ false
+      low_there i a low = low span.start a (omega arith)
 
   -- the levels on both sides of the step to suc n
   module _ (reads : ReadsStrobes t span) (n : ℕ) (from : span.start ≤ n) (before : suc n < span.end) where
@@ -259,20 +259,59 @@ module _ (t : Trace) (span : Span) where
     direction_next m h =
         rw (keeps_direction_is m h) (sym (any-step (holds_direction (suc n)) (span.start + 1) (suc n) ∙ rw (le_holds (span.start + 1) (suc n) (omega arith), direction_here) refl))
 
-    -- so the memory says the same one instant later
-    pub holds_next : ((l : ℕ) → l < 3 → is_known (level_at old l) ≡ true) → ((l : ℕ) → l < 3 → is_known (level_at new l) ≡ true) → (m : Holding) → Holds n m → Holds (suc n) (stepped m old new)
-    holds_next known_old known_new m h =
+    abbrev answered_now : Holding → Bool
+    answered_now m = not (strobes_high_in new) && (was_answered m.transfer || answer_between old new)
+
+    abbrev risen_now : Holding → Bool
+    risen_now m = not (strobes_high_in new) && (has_risen m.transfer || strobe_rises_between old new)
+
+    abbrev writing_now : Holding → Bool
+    writing_now m = writes_of m.transfer (is_low (level_at old WRITE))
+
+    high_old : transfer_starts t span (suc n) ≡ true → strobes_high_in old ≡ true
+    high_old s = (and_true (strobes_high_in old) (strobe_low_in new) (sym transfer_starts_is ∙ s)).0
+
+    last_or_before : (i : ℕ) → i ≤ suc n → (i ≡ suc n) ⊎ (i ≤ n)
+    last_or_before i h = grind arith
+
+    -- no strobe has risen in the transfer that is open
+    fresh_next : (m : Holding) → Holds n m → (i : ℕ) → i ≤ suc n → transfer_starts t span i ≡ true → ((r : ℕ) → i ≤ r → r ≤ suc n → strobes_high t r ≡ false) → none (strobe_rises t) (i + 1) (suc n + 1) ≡ not (risen_now m)
+    unfolding high
+    fresh_next m h i a s low =
+        elim (last_or_before i a) [
+          | inl e ↦
+              rw e
+              (none_empty (strobe_rises t) (suc n + 1)
+              ∙ fresh_here (strobes_high_in new) (has_risen m.transfer) (strobe_rises_between old new) (h.closed (high_old (rw e at s)))
+              (no_rise (level_at old DS0) (level_at old DS1) (level_at new DS0) (level_at new DS1) (high_old (rw e at s))))
+          | inr b ↦
+              none_more (strobe_rises t) (i + 1) n (omega arith)
+              ∙ rw (h.fresh i b s (λ r x y. low r x (omega arith)), strobe_rises_is)
+              (fresh_more (strobes_high_in new) (has_risen m.transfer) (strobe_rises_between old new) (low (suc n) a (omega arith)))
+        ]
+
+    -- so the memory says the same one instant later, where the direction stays while it is held
+    pub holds_next : (break_before t span stability_rules (suc (suc n)) ≡ None → break_before t span stability_rules (suc n) ≡ None)
+        → ((m : Holding) → Holds n m → break_before t span stability_rules (suc (suc n)) ≡ None → keeps_direction m old new ≡ true → is_low (level_at new WRITE) ≡ is_low (level_at old WRITE))
+        → ((l : ℕ) → l < 3 → is_known (level_at old l) ≡ true) → ((l : ℕ) → l < 3 → is_known (level_at new l) ≡ true) → (m : Holding) → Holds n m → Holds (suc n) (stepped m old new)
+    holds_next earlier stays known_old known_new m h =
         let low_new = low_is (level_at new DS0) (level_at new DS1) (known_new DS0 (omega arith)) (known_new DS1 (omega arith)) in
         record {
           state = tracked h.state old new;
           says = tracked_is t span reads n from before h.state h.says;
-          transfer = answered_next h.state (strobes_high_in old) (strobe_low_in new) (is_low (level_at new WRITE)) (strobes_high_in new) (answer_between old new) (high_is h.state h.says) low_new ∙ rw h.transfer refl;
-          closed = λ highs. rw highs refl;
+          transfer = answered_next h.state (strobes_high_in old) (strobe_low_in new) (is_low (level_at new WRITE)) (strobes_high_in new) (answer_between old new) (high_is h.state h.says) low_new ∙ rw h.transfer (sym (was_passed (answered_now m) (risen_now m) (writing_now m)));
+          closed = λ highs. risen_passed (answered_now m) (risen_now m) (writing_now m) ∙ rw highs refl;
+          fresh = λ i a s low. fresh_next m h i a s low ∙ ap not (sym (risen_passed (answered_now m) (risen_now m) (writing_now m)));
+          directed = λ unbroken low.
+              directed_by h.state m.transfer (strobes_high_in old) (strobe_low_in new) (strobes_high_in new) (answer_between old new) (strobe_rises_between old new)
+              (is_low (level_at old WRITE)) (is_low (level_at new WRITE)) (high_is h.state h.says) low_new low h.transfer h.closed
+              (no_rise (level_at old DS0) (level_at old DS1) (level_at new DS0) (level_at new DS1)) (h.directed (earlier unbroken)) (stays m h unbroken);
           idle = λ off. rw off refl;
           address = awaits_next (level_at old AS) (level_at new AS) m.cycle_answered (answers_in m old new) (known_old AS (omega arith)) (known_new AS (omega arith)) h.idle ∙ address_next m h;
           direction =
-              unturned_next (strobes_high_in old) (strobes_high_in new) (strobe_low_in new) (strobe_rises_between old new) m.strobe_risen h.closed
+              rw (risen_passed (answered_now m) (risen_now m) (writing_now m))
+              (unturned_next (strobes_high_in old) (strobes_high_in new) (strobe_low_in new) (strobe_rises_between old new) (has_risen m.transfer) h.closed
               (no_rise (level_at old DS0) (level_at old DS1) (level_at new DS0) (level_at new DS1)) low_new
               (high_before old new (known_old DS0 (omega arith)) (known_old DS1 (omega arith)))
-              ∙ direction_next m h;
+              ∙ direction_next m h);
         }

@@ -2,11 +2,15 @@ pub mod Edges
 pub mod Needed
 pub mod Lasting
 pub mod LackedLines
+pub mod Progressing
 pub mod Holds
 pub mod AskedLines
 pub mod HeldDirection
 pub mod HeldAddress
+pub mod HeldData
 pub mod Unnoticed
 pub mod StabilityJudges
 pub mod PassedNeeds
 pub mod HeldFaults
+pub mod PassedData
+pub mod UndrivenLines

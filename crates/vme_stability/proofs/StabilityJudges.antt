@@ -1,17 +1,17 @@
 -- What the monitor finds at each judged instant is what the rules say.
-use Rattle.std.proofs.Common.{◌≡◌, ℕ, zero, suc, ◌<◌, ◌≤◌, Bool, true, false, not, List, refl, sym, arith, cond, inl, inr, ◌⊎◌, length, lit<, subst}
+use Rattle.std.proofs.Common.{◌≡◌, ℕ, zero, suc, ◌<◌, ◌≤◌, Bool, true, false, not, ◌&&◌, List, [], refl, sym, arith, cond, inl, inr, ◌⊎◌, length, lit<, subst}
 use Rattle.std.specs.Prelude.{Option, None, Some, option_map, slice_get, nat_lt}
 use Rattle.std.specs.Option.{option_map_or, option_or}
 use Rattle.std.proofs.lemmas.Bool.Decides.{nat_tests}
-use Rattle.vme_trace.specs.LineNumbers.{line_count, AS, is_control}
-use Rattle.vme_trace.specs.Levels.{Levels, level_at, is_low, is_high, is_idle, is_idle_on}
+use Rattle.vme_trace.specs.LineNumbers.{line_count, AS, WRITE, is_control}
+use Rattle.vme_trace.specs.Levels.{Levels, level_at, is_low, is_high, is_idle, is_idle_on, same_level}
 use Rattle.vme_trace.specs.Trace.{Trace, levels_at, time_at}
 use Rattle.vme_trace.specs.WellFormed.{malformed_step}
 use Rattle.vme_trace.specs.Judged.{Span}
 use Rattle.vme_trace.specs.Verdict.{break_at as rules_break_at, break_before, rule_break}
 use Rattle.vme_trace.specs.declared.level.Level.{Level}
 use Rattle.vme_trace.specs.declared.level.Level.TheVariants.{Low, High, Unknown}
-use Rattle.vme_trace.specs.declared.rule.Rule.TheVariants.{U2, U3, S1, S2}
+use Rattle.vme_trace.specs.declared.rule.Rule.TheVariants.{U2, U3, U4, S1, S2, S3}
 use Rattle.vme_trace.specs.declared.step.Change.{Change}
 use Rattle.vme_trace.proofs.Ranges.{any-fails}
 use Rattle.vme_monitor.specs.Along.{changes_of, memory_from, next_at}
@@ -22,12 +22,13 @@ use Rattle.vme_monitor.specs.declared.mark.Next.{Next}
 use Rattle.vme_monitor.proofs.OwnRules.{own_event, own_marks}
 use Rattle.vme_monitor.proofs.SpanFacts.{IsSpan}
 use Rattle.vme_monitor.proofs.Spans.{changes_fit, levels_step, memory_early}
-use Rattle.vme_stability.specs.StabilitySpec.{fault_on, is_noticed, moved_fault, sight_of, stability_begin, stability_ends, stability_next, stability_opens, stability_rules, stability_shown, stability_sight, turned_fault, unknown_address, unknown_direction}
+use Rattle.vme_stability.specs.StabilitySpec.{fault_on, is_noticed, shifted_fault, undriven_fault, keeps_direction, direction_turned, moved_fault, sight_of, stability_begin, stability_ends, stability_next, stability_opens, stability_rules, stability_shown, stability_sight, turned_fault, unknown_address, unknown_direction}
 use Rattle.vme_stability.specs.declared.holding.Holding.{Holding}
 use Rattle.vme_stability.specs.declared.sight.Sight.{Sight}
 use Rattle.vme_stability.proofs.AskedLines.{address_least, direction_least}
 use Rattle.vme_stability.proofs.Edges.{false_of_not}
-use Rattle.vme_stability.proofs.HeldAddress.{moved_least}
+use Rattle.vme_stability.proofs.HeldAddress.{S2_least, before_last, moved_least, no_fault}
+use Rattle.vme_stability.proofs.HeldData.{shifted_least, undriven_least}
 use Rattle.vme_stability.proofs.HeldDirection.{turned_least}
 use Rattle.vme_stability.proofs.Holds.{Holds, holds_next, holds_start}
 use Rattle.vme_stability.proofs.Unnoticed.{quiet_there}
@@ -35,15 +36,17 @@ use Rattle.vme_stability.proofs.Unnoticed.{quiet_there}
 abbrev step : Holding → Levels → Levels → List Change → Next Holding
 step = noticed stability_sight stability_next
 
--- the least rule, of four, that is broken on a line
-first_fault : (n time : ℕ) (a b c d : Option ℕ)
-    → option_map (break_at n time) (option_or (option_or (fault_on U2 a) (fault_on U3 b)) (option_or (fault_on S1 c) (fault_on S2 d)))
-    ≡ option_or (option_map (λ (l : ℕ). record { instant = n; time = time; rule = U2; line = l }) a) (option_or (option_map (λ (l : ℕ). record { instant = n; time = time; rule = U3; line = l }) b) (option_or (option_map (λ (l : ℕ). record { instant = n; time = time; rule = S1; line = l }) c) (option_or (option_map (λ (l : ℕ). record { instant = n; time = time; rule = S2; line = l }) d) None)))
-first_fault n time (Some l) b c d = refl
-first_fault n time None (Some l) c d = refl
-first_fault n time None None (Some l) d = refl
-first_fault n time None None None (Some l) = refl
-first_fault n time None None None None = refl
+-- the least rule, of six, that is broken on a line
+first_fault : (n time : ℕ) (a b c d e f : Option ℕ)
+    → option_map (break_at n time) (option_or (option_or (fault_on U2 a) (fault_on U3 b)) (option_or (fault_on U4 c) (option_or (option_or (fault_on S1 d) (fault_on S2 e)) (fault_on S3 f))))
+    ≡ option_or (option_map (λ (l : ℕ). record { instant = n; time = time; rule = U2; line = l }) a) (option_or (option_map (λ (l : ℕ). record { instant = n; time = time; rule = U3; line = l }) b) (option_or (option_map (λ (l : ℕ). record { instant = n; time = time; rule = U4; line = l }) c) (option_or (option_map (λ (l : ℕ). record { instant = n; time = time; rule = S1; line = l }) d) (option_or (option_map (λ (l : ℕ). record { instant = n; time = time; rule = S2; line = l }) e) (option_or (option_map (λ (l : ℕ). record { instant = n; time = time; rule = S3; line = l }) f) None)))))
+first_fault n time (Some l) b c d e f = refl
+first_fault n time None (Some l) c d e f = refl
+first_fault n time None None (Some l) d e f = refl
+first_fault n time None None None (Some l) e f = refl
+first_fault n time None None None None (Some l) f = refl
+first_fault n time None None None None None (Some l) = refl
+first_fault n time None None None None None None = refl
 
 module _ (t : Trace) (span : Span) (ok : malformed_step t ≡ None) (facts : IsSpan t span) where
   abbrev memory_at : ℕ → Holding
@@ -71,12 +74,44 @@ module _ (t : Trace) (span : Span) (ok : malformed_step t ≡ None) (facts : IsS
         rw (
           address_least t span facts.reads n from before,
           direction_least t span facts.reads n from before,
+          undriven_least t span facts.reads n from before m holds unbroken (changes_at n),
           moved_least t span facts n from before unbroken (changes_at n) (levels_step t n within) (changes_fit t n ok within) m holds,
           turned_least t span facts.reads n from before m holds (changes_at n),
+          shifted_least t span facts.reads n from before m holds unbroken (changes_at n) (levels_step t n within) (changes_fit t n ok within),
         )
         (first_fault (suc n) (time_at t (suc n)) (unknown_address (levels_at t n) (levels_at t (suc n))) (unknown_direction (levels_at t n) (levels_at t (suc n)))
+        (undriven_fault m (levels_at t n) (levels_at t (suc n)) (sight_of (levels_at t n) (levels_at t (suc n)) (changes_at n)))
         (moved_fault m (levels_at t n) (levels_at t (suc n)) (sight_of (levels_at t n) (levels_at t (suc n)) (changes_at n)))
-        (turned_fault m (levels_at t n) (levels_at t (suc n)) (sight_of (levels_at t n) (levels_at t (suc n)) (changes_at n))))
+        (turned_fault m (levels_at t n) (levels_at t (suc n)) (sight_of (levels_at t n) (levels_at t (suc n)) (changes_at n)))
+        (shifted_fault m (levels_at t n) (levels_at t (suc n)) (sight_of (levels_at t n) (levels_at t (suc n)) (changes_at n))))
+
+  earlier : (n : ℕ) → break_before t span stability_rules (suc (suc n)) ≡ None → break_before t span stability_rules (suc n) ≡ None
+  earlier n h = (before_last t span (suc n) h).0
+
+  unturned : (b c : Bool) → b ≡ true → cond (b && c) (Some WRITE) None ≡ None → c ≡ false
+  unturned true true e h = absurd (cc)
+  unturned true false e h = refl
+  unturned false c e h = absurd (cc)
+
+  same_low : (x y : Level) → not (same_level x y) ≡ false → is_low y ≡ is_low x
+  same_low Low Low h = refl
+  same_low Low High h = absurd (cc)
+  same_low Low Unknown h = absurd (cc)
+  same_low High Low h = absurd (cc)
+  same_low High High h = refl
+  same_low High Unknown h = refl
+  same_low Unknown Low h = absurd (cc)
+  same_low Unknown High h = refl
+  same_low Unknown Unknown h = refl
+
+  -- while the direction is held it stays, where no rule is broken
+  stays : (n : ℕ) → span.start ≤ n → suc n < span.end → (m : Holding) → Holds t span n m → break_before t span stability_rules (suc (suc n)) ≡ None → keeps_direction m (levels_at t n) (levels_at t (suc n)) ≡ true
+      → is_low (level_at (levels_at t (suc n)) WRITE) ≡ is_low (level_at (levels_at t n) WRITE)
+  stays n from before m holds unbroken keeps =
+      same_low (level_at (levels_at t n) WRITE) (level_at (levels_at t (suc n)) WRITE)
+      (unturned (keeps_direction m (levels_at t n) (levels_at t (suc n))) (direction_turned (levels_at t n) (levels_at t (suc n))) keeps
+      (no_fault t span (suc n) (turned_fault m (levels_at t n) (levels_at t (suc n)) (sight_of (levels_at t n) (levels_at t (suc n)) [])) (turned_least t span facts.reads n from before m holds [])
+      (S2_least t span (suc n) (before_last t span (suc n) unbroken).1)))
 
   after_test : (n s : ℕ) → s ≤ n → nat_lt n s ≡ false
   after_test n s h = grind (arith, nat_tests)
@@ -104,7 +139,7 @@ module _ (t : Trace) (span : Span) (ok : malformed_step t ≡ None) (facts : IsS
       elim (first_or_later span.start n from) [
         | inl e ↦ at_start e
         | inr later ↦ let holds = holds_at n later (omega arith) (omega arith) in
-            rw (after_test n span.start later, next_is n later before (omega arith) (memory_at n) holds) (holds_next t span facts.reads n later before (λ l below. facts.known n l later (omega arith) (omega arith) (strobe_control t.opening.slots l below)) (λ l below. facts.known (suc n) l (omega arith) before (omega arith) (strobe_control t.opening.slots l below)) (memory_at n) holds)
+            rw (after_test n span.start later, next_is n later before (omega arith) (memory_at n) holds) (holds_next t span facts.reads n later before (earlier n) (stays n later before) (λ l below. facts.known n l later (omega arith) (omega arith) (strobe_control t.opening.slots l below)) (λ l below. facts.known (suc n) l (omega arith) before (omega arith) (strobe_control t.opening.slots l below)) (memory_at n) holds)
       ]
     where
       at_start : span.start ≡ suc n → Holds t span (suc n) (memory_at (suc n))

@@ -16,10 +16,12 @@ use Rattle.vme_monitor.specs.Tracking.{answer_between, strobe_low_in, strobes_hi
 use Rattle.vme_monitor.specs.declared.tracking.Pending.{Pending}
 use Rattle.vme_monitor.specs.declared.tracking.Pending.TheVariants.{Closed, Reading, Writing, Answered}
 use Rattle.vme_monitor.proofs.SpanFacts.{IsSpan}
-use Rattle.vme_stability.specs.StabilitySpec.{address_moved, changes_holding, direction_turned, fault_on, faults_unknown, held_fault, is_noticed, keeps_address, keeps_direction, rises_between, sight_of, stability_next, stepped, strobe_rises_between}
+use Rattle.vme_stability.specs.StabilitySpec.{address_moved, changes_holding, direction_turned, fault_on, faults_unknown, held_fault, is_noticed, keeps_address, keeps_direction, rises_between, sight_of, shifted_line, stability_next, stepped, strobe_rises_between, undriven_line}
 use Rattle.vme_stability.specs.declared.holding.Holding.{Holding}
+use Rattle.vme_stability.specs.HoldingPlaces.{has_risen, was_answered}
 use Rattle.vme_stability.proofs.Edges.{or_false}
-use Rattle.vme_stability.proofs.Holds.{Holds, high_before, high_is, is_answered_state, is_closed}
+use Rattle.vme_stability.proofs.Holds.{Holds, high_before, high_is}
+use Rattle.vme_stability.proofs.Progressing.{is_answered_state, is_closed, passed_same}
 
 none_of : {A : Type 0} (o : Option A) → is_some o ≡ false → o ≡ None
 none_of None h = refl
@@ -42,13 +44,14 @@ same_open false false off = refl
 
 -- where a step changes nothing that is remembered
 same_memory : (v w : Levels) (m : Holding) → answer_between v w ≡ false → strobe_rises_between v w ≡ false → rises_between v w AS ≡ false
-    → (strobes_high_in w ≡ true → m.transfer_answered ≡ false) → (strobes_high_in w ≡ true → m.strobe_risen ≡ false) → (is_low (level_at v AS) ≡ false → m.cycle_answered ≡ false) → is_known (level_at w AS) ≡ true → stepped m v w ≡ m
+    → (strobes_high_in w ≡ true → was_answered m.transfer ≡ false) → (strobes_high_in w ≡ true → has_risen m.transfer ≡ false) → (is_low (level_at v AS) ≡ false → m.cycle_answered ≡ false) → is_known (level_at w AS) ≡ true → stepped m v w ≡ m
 same_memory v w m answer strobe address closed still idle known =
     rw (answer, strobe)
     (rw (
-      same_open (strobes_high_in w) m.transfer_answered closed,
-      same_open (strobes_high_in w) m.strobe_risen still,
-      same_answered (level_at v AS) (level_at w AS) m.cycle_answered (not m.transfer_answered && (not (strobes_high_in v) || strobe_low_in w)) known idle address,
+      same_open (strobes_high_in w) (was_answered m.transfer) closed,
+      same_open (strobes_high_in w) (has_risen m.transfer) still,
+      passed_same m.transfer (is_low (level_at v WRITE)),
+      same_answered (level_at v AS) (level_at w AS) m.cycle_answered (not (was_answered m.transfer) && (not (strobes_high_in v) || strobe_low_in w)) known idle address,
     )
     refl)
 
@@ -77,7 +80,9 @@ module _ (t : Trace) (span : Span) (facts : IsSpan t span) (n : ℕ) (from : spa
 
   pub quiet_there : (m : Holding) (cs : List Change) → Holds t span n m → is_noticed old new cs ≡ false → stability_next m old new (sight_of old new cs) ≡ quiet m
   quiet_there m cs holds h =
-      let held = or_false (is_some (faults_unknown old new) || is_some (address_moved old cs) || direction_turned old new) (changes_holding old new) h in
+      let all = or_false (is_some (faults_unknown old new) || is_some (address_moved old cs) || direction_turned old new || changes_holding old new || is_some (undriven_line old new)) (is_some (shifted_line old new cs)) h in
+      let most = or_false (is_some (faults_unknown old new) || is_some (address_moved old cs) || direction_turned old new || changes_holding old new) (is_some (undriven_line old new)) all.0 in
+      let held = or_false (is_some (faults_unknown old new) || is_some (address_moved old cs) || direction_turned old new) (changes_holding old new) most.0 in
       let turned = or_false (is_some (faults_unknown old new) || is_some (address_moved old cs)) (direction_turned old new) held.0 in
       let moved = or_false (is_some (faults_unknown old new)) (is_some (address_moved old cs)) turned.0 in
       let address = or_false (answer_between old new || strobe_rises_between old new) (rises_between old new AS) held.1 in
@@ -85,6 +90,8 @@ module _ (t : Trace) (span : Span) (facts : IsSpan t span) (n : ℕ) (from : spa
       let highs = high_before old new (facts.known n DS0 from (omega arith) (lit< tt) refl) (facts.known n DS1 from (omega arith) (lit< tt) refl) strobe.1 in
       rw (
         none_of (faults_unknown old new) moved.0,
+        none_of (undriven_line old new) most.1,
+        none_of (shifted_line old new cs) all.1,
         none_held old new m cs (none_of (address_moved old cs) moved.1) turned.1,
         same_memory old new m strobe.0 strobe.1 address.1
             (λ h. sym holds.transfer ∙ closed_there holds.state (high_is t span facts.reads n from before holds.state holds.says) (highs h))

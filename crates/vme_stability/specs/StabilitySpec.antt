@@ -2,31 +2,37 @@
 use Rattle.std.specs.Prelude.{ℕ, Bool, false, not, ◌&&◌, ◌||◌, List, [], ◌∷◌, Option, None, Some, if◌then◌else◌}
 use Rattle.std.specs.Option.{option_or, is_some}
 use Rattle.vme_trace.specs.Instants.{least}
-use Rattle.vme_trace.specs.LineNumbers.{line_count, AS, DS0, DS1, WRITE}
+use Rattle.vme_trace.specs.LineNumbers.{line_count, AS, DS0, DS1, WRITE, has_line}
 use Rattle.vme_trace.specs.Levels.{Levels, level_at, is_low, is_high, is_known_on, same_level}
+use Rattle.vme_trace.specs.Data.{is_selected}
 use Rattle.vme_trace.specs.Cycle.{Needs, is_needed, is_within, needs_of}
 use Rattle.vme_trace.specs.Judged.{Span}
 use Rattle.vme_trace.specs.Trace.{Trace}
 use Rattle.vme_trace.specs.declared.step.Change.{Change}
 use Rattle.vme_trace.specs.declared.rule.Rule.{Rule}
-use Rattle.vme_trace.specs.declared.rule.Rule.TheVariants.{U2, U3, S1, S2}
+use Rattle.vme_trace.specs.declared.rule.Rule.TheVariants.{U2, U3, U4, S1, S2, S3}
 use Rattle.vme_monitor.specs.Run.{nothing}
 use Rattle.vme_monitor.specs.Edges.{falls_between}
 use Rattle.vme_monitor.specs.Tracking.{strobes_high_in, strobe_low_in, answer_between}
 use Rattle.vme_monitor.specs.declared.mark.Fault.{Fault}
 use Rattle.vme_monitor.specs.declared.mark.Kinds.{Kinds}
 use Rattle.vme_monitor.specs.declared.mark.Next.{Next}
+use Rattle.vme_stability.specs.HoldingPlaces.{has_risen, passed, was_answered, writes_of}
 use Rattle.vme_stability.specs.declared.holding.Holding.{Holding}
+use Rattle.vme_stability.specs.declared.holding.Progress.TheVariants.{Fresh}
 use Rattle.vme_stability.specs.declared.sight.Sight.{Sight}
 
 abbrev pub stability_rules : List Rule
-stability_rules = U2 ∷ U3 ∷ S1 ∷ S2 ∷ []
+stability_rules = U2 ∷ U3 ∷ U4 ∷ S1 ∷ S2 ∷ S3 ∷ []
 
 abbrev pub rises_between : Levels → Levels → ℕ → Bool
 rises_between v w l = is_low (level_at v l) && is_high (level_at w l)
 
 abbrev pub strobe_rises_between : Levels → Levels → Bool
 strobe_rises_between v w = rises_between v w DS0 || rises_between v w DS1
+
+abbrev pub strobe_falls_between : Levels → Levels → Bool
+strobe_falls_between v w = falls_between v w DS0 || falls_between v w DS1
 
 -- a transfer starts
 abbrev pub starts_between : Levels → Levels → Bool
@@ -56,10 +62,34 @@ unknown_direction v w = if starts_between v w && not (is_known_on w WRITE) then 
 abbrev pub faults_unknown : Levels → Levels → Option Fault
 faults_unknown v w = option_or (fault_on U2 (unknown_address v w)) (fault_on U3 (unknown_direction v w))
 
+-- a transfer at these levels moves the line, and nothing is known of it
+abbrev pub is_undriven : Levels → ℕ → Bool
+is_undriven w l = is_selected w l && not (is_known_on w l)
+
+-- the transfer may be a write: it was open, or WRITE* is low as it starts
+abbrev pub may_write : Levels → Levels → Bool
+may_write v w = not (strobes_high_in v) || is_low (level_at w WRITE)
+
+-- the least data line of which nothing is known, where a strobe falls that may be a write's
+abbrev pub undriven_line : Levels → Levels → Option ℕ
+undriven_line v w = if strobe_falls_between v w && may_write v w then least (is_undriven w) 0 line_count else None
+
+-- the first changed line that has a property
+abbrev pub first_among : (ℕ → Bool) → List Change → Option ℕ
+first_among p [] = None
+first_among p (c ∷ cs) = if p c.line then Some c.line else first_among p cs
+
 -- the first changed line of a set
 abbrev pub first_needed : Needs → List Change → Option ℕ
-first_needed needs [] = None
-first_needed needs (c ∷ cs) = if is_within needs c.line then Some c.line else first_needed needs cs
+first_needed needs cs = first_among (is_within needs) cs
+
+-- a transfer moved the line before the step, and the line has another level after it
+abbrev pub is_shifted : Levels → Levels → ℕ → Bool
+is_shifted v w l = has_line v.slots l && has_line w.slots l && (is_selected v l && not (same_level (level_at v l) (level_at w l)))
+
+-- the first changed one, if the transfer was a write by what WRITE* showed
+abbrev pub shifted_line : Levels → Levels → List Change → Option ℕ
+shifted_line v w cs = if is_low (level_at v WRITE) then first_among (is_shifted v w) cs else None
 
 -- the first changed line that a cycle needs whose address strobe was low before
 abbrev pub address_moved : Levels → List Change → Option ℕ
@@ -73,18 +103,18 @@ abbrev pub changes_holding : Levels → Levels → Bool
 changes_holding v w = answer_between v w || strobe_rises_between v w || rises_between v w AS
 
 abbrev pub sight_of : Levels → Levels → List Change → Sight
-sight_of v w cs = record { unknown = faults_unknown v w; moved = address_moved v cs; turned = direction_turned v w }
+sight_of v w cs = record { unknown = faults_unknown v w; undriven = undriven_line v w; moved = address_moved v cs; turned = direction_turned v w; shifted = shifted_line v w cs }
 
 -- nothing that counts has changed where none of these holds
 abbrev pub is_noticed : Levels → Levels → List Change → Bool
-is_noticed v w cs = is_some (faults_unknown v w) || is_some (address_moved v cs) || direction_turned v w || changes_holding v w
+is_noticed v w cs = is_some (faults_unknown v w) || is_some (address_moved v cs) || direction_turned v w || changes_holding v w || is_some (undriven_line v w) || is_some (shifted_line v w cs)
 
 abbrev pub stability_sight : Levels → Levels → List Change → Option Sight
 stability_sight v w cs = if is_noticed v w cs then Some (sight_of v w cs) else None
 
 -- the answer of a transfer comes
 abbrev pub answers_in : Holding → Levels → Levels → Bool
-answers_in m v w = not m.transfer_answered && (not (strobes_high_in v) || strobe_low_in w) && answer_between v w
+answers_in m v w = not (was_answered m.transfer) && (not (strobes_high_in v) || strobe_low_in w) && answer_between v w
 
 -- a cycle runs that has had no answer
 abbrev pub awaits_answer : Holding → Levels → Bool
@@ -96,18 +126,27 @@ keeps_address m v w = awaits_answer m v && not (rises_between v w AS) && not (an
 
 -- a transfer is open in which no strobe has risen
 abbrev pub holds_direction : Holding → Levels → Bool
-holds_direction m v = not (strobes_high_in v) && not m.strobe_risen
+holds_direction m v = not (strobes_high_in v) && not (has_risen m.transfer)
 
 -- the direction is held on
 abbrev pub keeps_direction : Holding → Levels → Levels → Bool
 keeps_direction m v w = holds_direction m v && not (strobe_rises_between v w)
 
+-- the data lines of a write are held on: nothing has come of the transfer
+abbrev pub keeps_data : Holding → Levels → Levels → Bool
+keeps_data m v w = keeps_direction m v w && not (was_answered m.transfer) && not (answer_between v w)
+
+-- the transfer in which the instant after the step is, is a write that had no answer before
+abbrev pub writes_now : Holding → Levels → Levels → Bool
+writes_now m v w = if strobes_high_in v then strobe_low_in w && is_low (level_at w WRITE) else writes_of m.transfer (is_low (level_at v WRITE))
+
 abbrev pub stepped : Holding → Levels → Levels → Holding
 stepped m v w =
     record {
-      transfer_answered = not (strobes_high_in w) && (m.transfer_answered || answer_between v w);
+      transfer =
+          passed (not (strobes_high_in w) && (was_answered m.transfer || answer_between v w)) (not (strobes_high_in w) && (has_risen m.transfer || strobe_rises_between v w))
+          (writes_of m.transfer (is_low (level_at v WRITE)));
       cycle_answered = is_low (level_at w AS) && (m.cycle_answered || answers_in m v w);
-      strobe_risen = not (strobes_high_in w) && (m.strobe_risen || strobe_rises_between v w);
     }
 
 abbrev pub moved_fault : Holding → Levels → Levels → Sight → Option ℕ
@@ -120,8 +159,25 @@ turned_fault m v w seen = if keeps_direction m v w && seen.turned then Some WRIT
 abbrev pub held_fault : Holding → Levels → Levels → Sight → Option Fault
 held_fault m v w seen = option_or (fault_on S1 (moved_fault m v w seen)) (fault_on S2 (turned_fault m v w seen))
 
+-- a line, where a test holds
+abbrev pub kept : Bool → Option ℕ → Option ℕ
+kept b None = None
+kept b (Some l) = if b then Some l else None
+
+abbrev pub undriven_fault : Holding → Levels → Levels → Sight → Option ℕ
+undriven_fault m v w seen = kept (writes_now m v w) seen.undriven
+
+abbrev pub shifted_fault : Holding → Levels → Levels → Sight → Option ℕ
+shifted_fault m v w seen = kept (keeps_data m v w) seen.shifted
+
+-- the first rule that the step breaks
+abbrev pub fault_in : Holding → Levels → Levels → Sight → Option Fault
+fault_in m v w seen =
+    option_or seen.unknown
+    (option_or (fault_on U4 (undriven_fault m v w seen)) (option_or (held_fault m v w seen) (fault_on S3 (shifted_fault m v w seen))))
+
 abbrev pub stability_begin : Levels → Holding
-stability_begin v = record { transfer_answered = false; cycle_answered = false; strobe_risen = false }
+stability_begin v = record { transfer = Fresh; cycle_answered = false }
 
 abbrev pub stability_opens : Levels → Kinds
 stability_opens v = nothing
@@ -130,7 +186,7 @@ abbrev pub stability_ends : ℕ → Option Fault
 stability_ends l = None
 
 abbrev pub stability_next : Holding → Levels → Levels → Sight → Next Holding
-stability_next m v w seen = record { memory = stepped m v w; fault = option_or seen.unknown (held_fault m v w seen); kinds = nothing }
+stability_next m v w seen = record { memory = stepped m v w; fault = fault_in m v w seen; kinds = nothing }
 
 -- nothing is shown
 abbrev pub stability_shown : Trace → Span → ℕ → Kinds

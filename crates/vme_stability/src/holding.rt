@@ -1,24 +1,105 @@
 //! What is being held.
 
 ghost use Rattle.std.specs.Prelude.{◌≡◌};
+ghost use Rattle.vme_stability.specs.HoldingPlaces.{has_risen as risen_of, passed, progress_nth, progress_place, was_answered as answered_of, writes_of};
 
 use vme_monitor::machine::{Places, Small};
+
+/// What has come of a transfer, so whether it is held, and for which direction.
+#[derive(Clone, Copy, PartialEq, Eq, Debug)]
+pub enum Progress {
+    /// No transfer is open, or nothing has come of it, so its direction is the one that WRITE* shows.
+    Fresh,
+    /// A data strobe has risen in a read that has had no answer.
+    RisenInRead,
+    /// A data strobe has risen in a write that has had no answer.
+    RisenInWrite,
+    /// A transfer was answered, and no data strobe has risen in it.
+    Answered,
+    /// A transfer was answered, and a data strobe has risen in it.
+    Over,
+}
+
+impl Progress {
+    /// What has come of an open transfer.
+    pub(crate) fn of(answered: bool, risen: bool, writes: bool) -> Progress
+        ensures { result ≡ passed answered risen writes }
+    {
+        match (answered, risen, writes) {
+            (true, true, _) => Progress::Over,
+            (true, false, _) => Progress::Answered,
+            (false, true, true) => Progress::RisenInWrite,
+            (false, true, false) => Progress::RisenInRead,
+            (false, false, _) => Progress::Fresh,
+        }
+    }
+
+    /// An answer has come.
+    pub(crate) fn was_answered(self) -> bool
+        ensures { result ≡ answered_of self }
+    {
+        matches!(self, Progress::Answered | Progress::Over)
+    }
+
+    /// A data strobe has risen, so WRITE* isn't held any more.
+    pub(crate) fn has_risen(self) -> bool
+        ensures { result ≡ risen_of self }
+    {
+        matches!(
+            self,
+            Progress::RisenInRead | Progress::RisenInWrite | Progress::Over
+        )
+    }
+
+    /// It is a write that has had no answer, where WRITE* is low as told.
+    pub(crate) fn writes(self, low: bool) -> bool
+        ensures { result ≡ writes_of self low }
+    {
+        match self {
+            Progress::Fresh => low,
+            Progress::RisenInWrite => true,
+            Progress::RisenInRead | Progress::Answered | Progress::Over => false,
+        }
+    }
+
+    fn place(self) -> usize
+        ensures { result ≡ progress_place self }
+    {
+        match self {
+            Progress::Fresh => 0,
+            Progress::RisenInRead => 1,
+            Progress::RisenInWrite => 2,
+            Progress::Answered => 3,
+            Progress::Over => 4,
+        }
+    }
+
+    fn nth(k: usize) -> Progress
+        ensures { result ≡ progress_nth k }
+    {
+        match k {
+            0 => Progress::Fresh,
+            1 => Progress::RisenInRead,
+            2 => Progress::RisenInWrite,
+            3 => Progress::Answered,
+            _ => Progress::Over,
+        }
+    }
+}
 
 /// What has come of a cycle and of a transfer, so which lines have to stay as they are.
 #[derive(Clone, Copy, PartialEq, Eq, Debug)]
 pub struct Holding {
-    /// A transfer is open, and was answered.
-    pub transfer_answered: bool,
+    /// What has come of the transfer.
+    pub transfer: Progress,
     /// A cycle runs, and was answered, so the lines that it needs aren't held any more.
     pub cycle_answered: bool,
-    /// A transfer is open, and a data strobe has risen in it, so WRITE* isn't held any more.
-    pub strobe_risen: bool,
 }
 
 impl Places for Holding {
     ghost use Rattle.vme_stability.specs.HoldingPlaces.{holding_nth, holding_place, holding_found, holding_placed};
 
-    ghost COUNT = { 8 };
+    ghost COUNT = { 10 };
 
     ghost place_of = { holding_place };
 
@@ -28,20 +109,17 @@ impl Places for Holding {
 
     ghost found = { holding_found };
 
-    const COUNT: usize = 8;
+    const COUNT: usize = 10;
 
     fn place(self) -> usize {
-        let transfer = if self.transfer_answered { 1 } else { 0 };
-        let cycle = if self.cycle_answered { 2 } else { 0 };
-        let strobe = if self.strobe_risen { 4 } else { 0 };
-        transfer + cycle + strobe
+        let cycle = if self.cycle_answered { 5 } else { 0 };
+        self.transfer.place() + cycle
     }
 
     fn nth(k: usize) -> Holding {
         Holding {
-            transfer_answered: k % 2 == 1,
-            cycle_answered: k / 2 % 2 == 1,
-            strobe_risen: k / 4 == 1,
+            transfer: Progress::nth(k % 5),
+            cycle_answered: k / 5 == 1,
         }
     }
 }

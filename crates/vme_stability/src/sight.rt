@@ -2,24 +2,30 @@
 
 ghost use Rattle.std.specs.Prelude.{◌≡◌, IsTrue, None, false, true};
 ghost use Rattle.vme_trace.specs.Cycle.{Needs};
-ghost use Rattle.vme_trace.specs.LineNumbers.{has_line};
+ghost use Rattle.vme_trace.specs.Instants.{least};
+ghost use Rattle.vme_trace.specs.Levels.{Levels};
+ghost use Rattle.vme_trace.specs.LineNumbers.{has_line, line_count};
 ghost use Rattle.vme_monitor.specs.Edges.{falls_between};
 ghost use Rattle.vme_monitor.specs.Tracking.{strobe_low_in};
-ghost use Rattle.vme_stability.specs.StabilitySpec.{address_moved, changes_holding as changes_holding_of, direction_turned, fault_on as fault_on_line, faults_unknown, first_needed as first_needed_of, rises_between, starts_between, strobe_rises_between, unknown_direction as unknown_direction_of, unknown_need};
+ghost use Rattle.vme_stability.specs.StabilitySpec.{address_moved, changes_holding as changes_holding_of, direction_turned, fault_on as fault_on_line, faults_unknown, first_among, first_needed as first_needed_of, is_shifted, is_undriven, may_write as may_write_of, rises_between, shifted_line as shifted_line_of, starts_between, strobe_falls_between, strobe_rises_between, undriven_line as undriven_line_of, unknown_direction as unknown_direction_of, unknown_need};
 
 use vme_monitor::mark::Fault;
 use vme_monitor::tracking::{answer_between, has_strobes_high};
-use vme_trace::{Change, Line, LineSet, Lines, Rule, needed};
+use vme_trace::{Change, LINE_COUNT, Line, LineSet, Lines, Rule, is_selected, needed};
 
 /// What one step shows.
 #[derive(Drop)]
 pub struct Sight {
     /// A line is unknown that is asked for at this step.
     pub unknown: Option<Fault>,
+    /// A data strobe falls, and this is the least line of which nothing is known that the transfer moves, which may be a write.
+    pub undriven: Option<Line>,
     /// The first changed line that a cycle needs whose address strobe was low before.
     pub moved: Option<Line>,
     /// WRITE* changes.
     pub turned: bool,
+    /// The first changed line that a transfer moved before, which may be a write.
+    pub shifted: Option<Line>,
 }
 
 /// Whether a line that the backplane has falls.
@@ -166,6 +172,91 @@ fn moved_line(before: &Lines, changes: &[Change]) -> Option<Line>
     }
 }
 
+/// Whether a data strobe falls.
+fn strobe_falls(before: &Lines, after: &Lines) -> bool
+    ensures { result ≡ strobe_falls_between before.now after.now }
+{
+    falls(Line::DS0, before, after) || falls(Line::DS1, before, after)
+}
+
+/// Whether the transfer after a step may be a write: it was open, or WRITE* is low as it starts.
+fn may_write(before: &Lines, after: &Lines) -> bool
+    ensures { result ≡ may_write_of before.now after.now }
+{
+    !has_strobes_high(before) || after.level(Line::WRITE).is_low()
+}
+
+/// The least line that is moved and of which nothing is known.
+fn least_undriven(lines: &Lines) -> Option<Line>
+    ensures { result ≡ least (is_undriven lines.now) 0 line_count }
+{
+    for number in 159..LINE_COUNT {
+        if let Some(line) = Line::from_number(number) {
+            if !lines.level(line).is_known() && is_selected(lines, line) {
+                return Some(line);
+            }
+        }
+    }
+    None
+}
+
+/// The same, where a strobe falls that may be a write's.
+fn undriven_line(before: &Lines, after: &Lines) -> Option<Line>
+    ensures { result ≡ undriven_line_of before.now after.now }
+{
+    if strobe_falls(before, after) && may_write(before, after) {
+        least_undriven(after)
+    } else {
+        None
+    }
+}
+
+/// Whether a data line is among the changes: no transfer moves others.
+fn touches_data(changes: &[Change]) -> bool
+    ensures { result ≡ false → (v w : Levels) → first_among (is_shifted v w) changes.now ≡ None }
+{
+    for change in changes {
+        if change.line.number() >= 159 {
+            return true;
+        }
+    }
+    false
+}
+
+/// Whether a transfer moved the line before the step, and the step gives it another level.
+fn shifts(line: Line, before: &Lines, after: &Lines) -> bool
+    ensures { result ≡ is_shifted before.now after.now line }
+{
+    before.has(line)
+        && after.has(line)
+        && is_selected(before, line)
+        && !before.level(line).is_same(after.level(line))
+}
+
+/// The first changed line that a transfer moved before.
+fn first_shifted(before: &Lines, after: &Lines, changes: &[Change]) -> Option<Line>
+    ensures { result ≡ first_among (is_shifted before.now after.now) changes.now }
+{
+    for change in changes {
+        if shifts(change.line, before, after) {
+            return Some(change.line);
+        }
+    }
+    None
+}
+
+/// The same, where WRITE* was low.
+#[inline(always)]
+fn shifted_line(before: &Lines, after: &Lines, changes: &[Change]) -> Option<Line>
+    ensures { result ≡ shifted_line_of before.now after.now changes.now }
+{
+    if before.level(Line::WRITE).is_low() && touches_data(changes) {
+        first_shifted(before, after, changes)
+    } else {
+        None
+    }
+}
+
 /// Whether what is remembered may change: an answer comes, or a strobe rises.
 fn changes_holding(before: &Lines, after: &Lines) -> bool
     ensures { result ≡ changes_holding_of before.now after.now }
@@ -184,11 +275,21 @@ impl Sight {
         let unknown = fault_of_unknown(before, after);
         let moved = moved_line(before, changes);
         let turned = !before.level(Line::WRITE).is_same(after.level(Line::WRITE));
-        if unknown.is_some() || moved.is_some() || turned || changes_holding(before, after) {
+        let undriven = undriven_line(before, after);
+        let shifted = shifted_line(before, after, changes);
+        if unknown.is_some()
+            || moved.is_some()
+            || turned
+            || changes_holding(before, after)
+            || undriven.is_some()
+            || shifted.is_some()
+        {
             Some(Sight {
                 unknown,
+                undriven,
                 moved,
                 turned,
+                shifted,
             })
         } else {
             None

@@ -2,9 +2,10 @@
 
 ghost use Rattle.std.specs.Prelude.{◌≡◌, ◌&&◌};
 ghost use Rattle.vme_monitor.specs.Whole.{FindsLeast, ShowsAll};
-ghost use Rattle.vme_stability.specs.StabilitySpec.{answers_in, held_fault, stability_rules, stability_shown, stepped};
+ghost use Rattle.vme_trace.specs.declared.rule.Rule.TheVariants.{S3, U4};
+ghost use Rattle.vme_stability.specs.StabilitySpec.{answers_in, fault_in, fault_on as fault_on_line, held_fault, keeps_data as keeps_data_in, shifted_fault, stability_rules, stability_shown, stepped, undriven_fault, writes_now};
 
-use crate::holding::Holding;
+use crate::holding::{Holding, Progress};
 use crate::sight::{Sight, fault_on, has_strobe_low, rises, strobe_rises};
 use vme_monitor::mark::{Fault, Kinds, NOTHING, Next};
 use vme_monitor::monitor::Monitor;
@@ -22,7 +23,7 @@ impl Holding {
     fn is_answer(self, before: &Lines, after: &Lines) -> bool
         ensures { result ≡ answers_in self before.now after.now }
     {
-        !self.transfer_answered
+        !self.transfer.was_answered()
             && answer_between(before, after)
             && (!has_strobes_high(before) || has_strobe_low(after))
     }
@@ -47,7 +48,7 @@ impl Holding {
     fn keeps_direction(self, before: &Lines, after: &Lines) -> bool
         ensures { result ≡ keeps_direction self before.now after.now }
     {
-        !has_strobes_high(before) && !self.strobe_risen && !strobe_rises(before, after)
+        !has_strobes_high(before) && !self.transfer.has_risen() && !strobe_rises(before, after)
     }
 
     /// What is remembered after a step.
@@ -57,10 +58,13 @@ impl Holding {
     {
         let open = !has_strobes_high(after);
         Holding {
-            transfer_answered: open && (self.transfer_answered || answer_between(before, after)),
+            transfer: Progress::of(
+                open && (self.transfer.was_answered() || answer_between(before, after)),
+                open && (self.transfer.has_risen() || strobe_rises(before, after)),
+                self.transfer.writes(before.level(Line::WRITE).is_low()),
+            ),
             cycle_answered: after.level(Line::AS).is_low()
                 && (self.cycle_answered || self.is_answer(before, after)),
-            strobe_risen: open && (self.strobe_risen || strobe_rises(before, after)),
         }
     }
 
@@ -74,6 +78,83 @@ impl Holding {
             fault_on(Rule::S2, Some(Line::WRITE))
         } else {
             None
+        }
+    }
+}
+
+impl Holding {
+    /// Whether nothing has come of the transfer that was open, so the data lines of a write are held on.
+    fn keeps_data(self, before: &Lines, after: &Lines) -> bool
+        ensures { result ≡ keeps_data_in self before.now after.now }
+    {
+        self.keeps_direction(before, after)
+            && !self.transfer.was_answered()
+            && !answer_between(before, after)
+    }
+
+    /// Whether the transfer after a step is a write that had no answer before.
+    fn writes(self, before: &Lines, after: &Lines) -> bool
+        ensures { result ≡ writes_now self before.now after.now }
+    {
+        if has_strobes_high(before) {
+            has_strobe_low(after) && after.level(Line::WRITE).is_low()
+        } else {
+            self.transfer.writes(before.level(Line::WRITE).is_low())
+        }
+    }
+
+    /// The data line of a write that isn't known as a strobe falls.
+    fn undriven(self, before: &Lines, after: &Lines, seen: &Sight) -> Option<Fault>
+        ensures { result ≡ fault_on_line U4 (undriven_fault self before.now after.now seen.now) }
+    {
+        match seen.undriven {
+            Some(line) => {
+                if self.writes(before, after) {
+                    Some(Fault {
+                        rule: Rule::U4,
+                        line,
+                    })
+                } else {
+                    None
+                }
+            }
+            None => None,
+        }
+    }
+
+    /// The data line of a write that changes while it is held.
+    fn shifted(self, before: &Lines, after: &Lines, seen: &Sight) -> Option<Fault>
+        ensures { result ≡ fault_on_line S3 (shifted_fault self before.now after.now seen.now) }
+    {
+        match seen.shifted {
+            Some(line) => {
+                if self.keeps_data(before, after) {
+                    Some(Fault {
+                        rule: Rule::S3,
+                        line,
+                    })
+                } else {
+                    None
+                }
+            }
+            None => None,
+        }
+    }
+
+    /// The first rule that the step breaks.
+    #[inline(always)]
+    fn fault(self, before: &Lines, after: &Lines, seen: &Sight) -> Option<Fault>
+        ensures { result ≡ fault_in self before.now after.now seen.now }
+    {
+        match seen.unknown {
+            Some(fault) => Some(fault),
+            None => match self.undriven(before, after, seen) {
+                Some(fault) => Some(fault),
+                None => match self.broken(before, after, seen) {
+                    Some(fault) => Some(fault),
+                    None => self.shifted(before, after, seen),
+                },
+            },
         }
     }
 }
@@ -97,9 +178,8 @@ impl Rules for StabilityRules {
 
     fn at_start(_lines: &Lines) -> Holding {
         Holding {
-            transfer_answered: false,
+            transfer: Progress::Fresh,
             cycle_answered: false,
-            strobe_risen: false,
         }
     }
 
@@ -120,21 +200,19 @@ impl Rules for StabilityRules {
     fn step(memory: Holding, before: &Lines, after: &Lines, seen: &Sight) -> Next<Holding> {
         Next {
             memory: memory.after_step(before, after),
-            fault: match seen.unknown {
-                Some(fault) => Some(fault),
-                None => memory.broken(before, after, seen),
-            },
+            fault: memory.fault(before, after, seen),
             kinds: NOTHING,
         }
     }
 }
 
-/// The monitor of the rules U2 (a line that a cycle needs is unknown as AS* falls), U3 (WRITE* is unknown as a transfer starts), S1
-/// (a line that a cycle needs changes before the first answer of the cycle) and S2 (WRITE* changes in a transfer before a data
-/// strobe rises).
+/// The monitor of the rules U2 (a line that a cycle needs is unknown as AS* falls), U3 (WRITE* is unknown as a transfer starts), U4
+/// (a data line that a write moves is unknown as a data strobe falls), S1 (a line that a cycle needs changes before the first answer
+/// of the cycle), S2 (WRITE* changes in a transfer before a data strobe rises) and S3 (a data line that a write moves changes before
+/// the answer and before a data strobe rises).
 pub type Stability = Within<StabilityRules>;
 
-/// Over a whole capture, the event is the least break of U2, U3, S1 and S2, and there are no marks.
+/// Over a whole capture, the event is the least break of U2, U3, U4, S1, S2 and S3, and there are no marks.
 pub fn stability_over_captures()
     ensures event { FindsLeast ⟦<Stability as Monitor>⟧.run ⟦<Stability as Monitor>⟧.begin stability_rules }
     ensures marks { ShowsAll ⟦<Stability as Monitor>⟧.run ⟦<Stability as Monitor>⟧.begin stability_shown }

@@ -49,6 +49,14 @@ const BG3_0: u8 = 116;
 
 const BG3_1: u8 = 117;
 
+const D00: u8 = 159;
+
+const D03: u8 = 162;
+
+const D08: u8 = 167;
+
+const D16: u8 = 175;
+
 const HIGH: Level = Level::High;
 
 const LOW: Level = Level::Low;
@@ -252,9 +260,65 @@ fn the_direction_is_known_and_held(rt: HostRuntime) -> Result<(), Fail> {
     assert_judged(&rt, alloc, &rows, Some((10, 90, Rule::U3, WRITE)))
 }
 
+/// The same with the data lines of two bytes high.
+fn all_high_with_data(rt: &impl Abort, alloc: Global) -> Result<Vec<(u8, Level)>, Fail> {
+    let mut changes = all_high(rt, alloc)?;
+    for number in D00..D16 {
+        changes.push((number, HIGH))?;
+    }
+    Ok(changes)
+}
+
+#[test]
+fn data_of_a_write_are_known(rt: HostRuntime) -> Result<(), Fail> {
+    let alloc = rt.alloc();
+    let undriven = all_high(&rt, alloc)?;
+    let idle = all_high_with_data(&rt, alloc)?;
+    let reading = [(AM1, LOW), (AM2, LOW), (A05, LOW)];
+    let asking = [(AM1, LOW), (AM2, LOW), (WRITE, LOW), (A05, LOW)];
+    let both = [(DS0, LOW), (DS1, LOW)];
+    let answering = [(DTACK, LOW)];
+    let rows = read_cycle(undriven.as_slice(), &asking, &both, &answering);
+    assert_judged(&rt, alloc, &rows[..11], Some((10, 90, Rule::U4, D00)))?;
+    let rows = read_cycle(undriven.as_slice(), &reading, &both, &answering);
+    assert_judged(&rt, alloc, &rows[..11], None)?;
+    let rows = read_cycle(idle.as_slice(), &asking, &both, &answering);
+    assert_judged(&rt, alloc, &rows[..11], None)?;
+    let lost = [(DS0, LOW), (DS1, LOW), (D03, UNKNOWN)];
+    let rows = read_cycle(idle.as_slice(), &asking, &lost, &answering);
+    assert_judged(&rt, alloc, &rows[..11], Some((10, 90, Rule::U4, D03)))?;
+    let first = [(DS0, LOW), (D08, UNKNOWN)];
+    let rows = read_cycle(idle.as_slice(), &asking, &first, &answering);
+    assert_judged(&rt, alloc, &rows[..11], None)?;
+    let second = [(DS1, LOW)];
+    let rows = read_cycle(idle.as_slice(), &asking, &first, &second);
+    assert_judged(&rt, alloc, &rows[..11], Some((11, 100, Rule::U4, D08)))
+}
+
+#[test]
+fn data_of_a_write_are_held(rt: HostRuntime) -> Result<(), Fail> {
+    let alloc = rt.alloc();
+    let idle = all_high_with_data(&rt, alloc)?;
+    let asking = [(AM1, LOW), (AM2, LOW), (WRITE, LOW), (A05, LOW)];
+    let both = [(DS0, LOW), (DS1, LOW)];
+    let early = [(D03, LOW)];
+    let rows = read_cycle(idle.as_slice(), &asking, &both, &early);
+    assert_judged(&rt, alloc, &rows[..11], Some((11, 100, Rule::S3, D03)))?;
+    let with_answer = [(DTACK, LOW), (D03, LOW)];
+    let rows = read_cycle(idle.as_slice(), &asking, &both, &with_answer);
+    assert_judged(&rt, alloc, &rows[..11], None)?;
+    let unmoved = [(D16, LOW)];
+    let rows = read_cycle(idle.as_slice(), &asking, &both, &unmoved);
+    assert_judged(&rt, alloc, &rows[..11], None)?;
+    let with_strobes = [(DS0, LOW), (DS1, LOW), (D03, LOW)];
+    let answering = [(DTACK, LOW)];
+    let rows = read_cycle(idle.as_slice(), &asking, &with_strobes, &answering);
+    assert_judged(&rt, alloc, &rows[..11], None)
+}
+
 #[test]
 fn memories_have_places(rt: HostRuntime) {
-    assert_eq!(rt; Stability::COUNT, 10);
+    assert_eq!(rt; Stability::COUNT, 12);
     for k in 0..Stability::COUNT {
         assert_eq!(rt; Stability::place(Stability::nth(k)), k);
     }

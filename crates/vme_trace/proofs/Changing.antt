@@ -1,12 +1,12 @@
 -- What changes leave as it was, and the control lines that they lose.
-use Rattle.std.proofs.Common.{◌≡◌, ℕ, ◌+◌, ◌<◌, ◌≤◌, Bool, true, false, ◌||◌, ◌&&◌, not, List, [], ◌∷◌, refl, sym, ◌∙◌, ap, arith, inl, inr, ◌⊎◌, length, ◌≢◌, cond}
-use Rattle.std.specs.Prelude.{Option, None, Some, ◌==◌, nat_le, nat_lt, slice_get, slice_set, unwrap_or}
+use Rattle.std.proofs.Common.{◌≡◌, ℕ, ◌+◌, ◌<◌, ◌≤◌, Bool, true, false, ◌||◌, ◌&&◌, not, List, [], ◌∷◌, refl, sym, ◌∙◌, ap, arith, ◌≢◌, cond}
+use Rattle.std.specs.Prelude.{None, Some, ◌==◌, nat_le, slice_set}
 use Rattle.std.proofs.lemmas.Bool.Decides.{nat_tests}
 use Rattle.std.proofs.lemmas.List.{get_or-set_other}
 use Rattle.std.proofs.lemmas.Option.{unwrap_or-slice_get}
-use Rattle.vme_trace.specs.Instants.{any, every, least}
+use Rattle.vme_trace.specs.Instants.{any, least}
 use Rattle.vme_trace.specs.LineNumbers.{line_count, has_line, is_control, is_net}
-use Rattle.vme_trace.specs.Levels.{Levels, level_at, set_level, is_idle, is_idle_on, is_lost, is_high, is_known, same_level, loses_control}
+use Rattle.vme_trace.specs.Levels.{Levels, level_at, set_level, is_idle, is_idle_on, is_lost, is_high, is_known, loses_control}
 use Rattle.vme_trace.specs.Trace.{changed}
 use Rattle.vme_trace.specs.WellFormed.{are_changes}
 use Rattle.vme_trace.specs.Changes.{is_changed, touches_control, lost_among}
@@ -14,7 +14,6 @@ use Rattle.vme_trace.specs.declared.level.Level.{Level}
 use Rattle.vme_trace.specs.declared.level.Level.TheVariants.{Unknown}
 use Rattle.vme_trace.specs.declared.step.Change.{Change}
 use Rattle.vme_trace.proofs.Ranges.{any-fails, fails-any, any-alike, least-is, least-none, clash}
-use Rattle.vme_trace.proofs.OpenTransfers.{bool_cases}
 
 or_false : (a b : Bool) → (a || b) ≡ false → (a ≡ false) × (b ≡ false)
 or_false true b h = absurd (cc)

@@ -1,9 +1,9 @@
 -- An idle bus, by the ranges of lines that a backplane has.
-use Rattle.std.proofs.Common.{◌≡◌, ℕ, ◌+◌, ◌*◌, ◌<◌, ◌≤◌, Bool, true, false, ◌&&◌, ◌||◌, not, refl, sym, ◌∙◌, ap, arith, cond}
+use Rattle.std.proofs.Common.{◌≡◌, ℕ, ◌+◌, ◌*◌, ◌<◌, ◌≤◌, Bool, true, false, ◌&&◌, ◌||◌, not, refl, ◌∙◌, arith, cond}
 use Rattle.std.specs.Prelude.{nat_le, ◌-◌}
 use Rattle.std.proofs.lemmas.Bool.Decides.{nat_tests}
 use Rattle.vme_trace.specs.Instants.{every}
-use Rattle.vme_trace.specs.LineNumbers.{line_count, is_control, is_net}
+use Rattle.vme_trace.specs.LineNumbers.{is_control, is_net}
 use Rattle.vme_trace.specs.Levels.{Levels, is_idle, is_idle_on, is_high_on, is_known_on, idle_by_ranges}
 use Rattle.vme_trace.proofs.Ranges.{every-split, every-alike, every-holds}
 

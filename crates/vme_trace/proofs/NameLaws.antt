@@ -1,17 +1,17 @@
 -- Lines and rules differ in their names.
-use Rattle.std.proofs.Common.{◌≡◌, ℕ, ◌+◌, ◌<◌, ◌≤◌, Bool, true, false, not, List, [], ◌∷◌, map, refl, sym, ◌∙◌, ap, arith, inl, inr, ◌⊎◌, get_or, cond}
+use Rattle.std.proofs.Common.{◌≡◌, ℕ, ◌<◌, ◌≤◌, Bool, true, false, not, List, [], ◌∷◌, map, refl, sym, ◌∙◌, ap, arith, inl, inr, ◌⊎◌, get_or, cond}
 use Rattle.std.specs.Prelude.{Option, None, Some, IfSome, bytes_eq, decimal, find, nat_lt}
 use Rattle.std.specs.Fmt.{digits}
 use Rattle.std.specs.List.{range_with_len}
 use Rattle.std.proofs.lemmas.Bool.Decides.{nat_tests}
 use Rattle.std.proofs.lemmas.List.FromFn.{get_or-map-range_with_len}
 use Rattle.std.proofs.lemmas.Slice.Eq.{bytes_eq-Decides}
-use Rattle.vme_trace.specs.Instants.{any, none, every, least}
+use Rattle.vme_trace.specs.Instants.{any, none, every}
 use Rattle.vme_trace.specs.LineNumbers.{line_count}
 use Rattle.vme_trace.specs.Names.{two_digits, line_name, line_named, is_line_name, rule_name, rule_named, is_rule_name}
 use Rattle.vme_trace.specs.Verdict.{all_rules}
 use Rattle.vme_trace.specs.declared.rule.Rule.{Rule}
-use Rattle.vme_trace.specs.declared.rule.Rule.TheVariants.{U1, U2, U3, H1, H2, H3, H4, H5, H6, H7, H8, S1, S2, C1, C2, G1, G2, G3, G4, G5, B1, B2, B3, B4, I1, I2, I3, I4, I5}
+use Rattle.vme_trace.specs.declared.rule.Rule.TheVariants.{U1, U2, U3, U4, H1, H2, H3, H4, H5, H6, H7, H8, S1, S2, S3, C1, C2, G1, G2, G3, G4, G5, B1, B2, B3, B4, I1, I2, I3, I4, I5}
 use Rattle.vme_trace.proofs.Ranges.{any-fails, least-is, least-none, least-found, fails-any, clash}
 
 numbers : map (λ n. cond (nat_lt n 10) (two_digits n) (decimal n)) (range_with_len 0 100) ≡ map two_digits (range_with_len 0 100)
@@ -94,6 +94,7 @@ unfolding rule_named
 own U1 = refl
 own U2 = refl
 own U3 = refl
+own U4 = refl
 own H1 = refl
 own H2 = refl
 own H3 = refl
@@ -104,6 +105,7 @@ own H7 = refl
 own H8 = refl
 own S1 = refl
 own S2 = refl
+own S3 = refl
 own C1 = refl
 own C2 = refl
 own G1 = refl

@@ -3,6 +3,7 @@ pub mod Blocks
 pub mod Changes
 pub mod Cycle
 pub mod Cycles
+pub mod Data
 pub mod Followed
 pub mod Instants
 pub mod Judged

@@ -4,7 +4,7 @@ use Rattle.vme_trace.specs.Instants.{least}
 use Rattle.vme_trace.specs.LineNumbers.{line_count, AS, DS0, DS1, DTACK, BERR, IACK, AM, LWORD, WRITE, A, BBSY, BR, grant, iack, D, grant_level, grant_place}
 use Rattle.vme_trace.specs.Verdict.{all_rules}
 use Rattle.vme_trace.specs.declared.rule.Rule.{Rule}
-use Rattle.vme_trace.specs.declared.rule.Rule.TheVariants.{U1, U2, U3, H1, H2, H3, H4, H5, H6, H7, H8, S1, S2, C1, C2, G1, G2, G3, G4, G5, B1, B2, B3, B4, I1, I2, I3, I4, I5}
+use Rattle.vme_trace.specs.declared.rule.Rule.TheVariants.{U1, U2, U3, U4, H1, H2, H3, H4, H5, H6, H7, H8, S1, S2, S3, C1, C2, G1, G2, G3, G4, G5, B1, B2, B3, B4, I1, I2, I3, I4, I5}
 
 -- a number below 100, with a leading zero where it is below 10
 abbrev pub two_digits : ℕ → List ℕ
@@ -40,6 +40,7 @@ abbrev pub rule_name : Rule → List ℕ
 rule_name U1 = codes "U1"
 rule_name U2 = codes "U2"
 rule_name U3 = codes "U3"
+rule_name U4 = codes "U4"
 rule_name H1 = codes "H1"
 rule_name H2 = codes "H2"
 rule_name H3 = codes "H3"
@@ -50,6 +51,7 @@ rule_name H7 = codes "H7"
 rule_name H8 = codes "H8"
 rule_name S1 = codes "S1"
 rule_name S2 = codes "S2"
+rule_name S3 = codes "S3"
 rule_name C1 = codes "C1"
 rule_name C2 = codes "C2"
 rule_name G1 = codes "G1"

@@ -14,6 +14,8 @@ pub enum Rule {
     U2,
     /// WRITE* is unknown as a transfer starts.
     U3,
+    /// A data line that a write moves is unknown as a strobe falls before its answer.
+    U4,
     /// A transfer starts, and DTACK* or BERR* isn't high near.
     H1,
     /// A strobe rises before the transfer is answered.
@@ -34,6 +36,8 @@ pub enum Rule {
     S1,
     /// WRITE* changes before a strobe rises.
     S2,
+    /// A data line that a write moves changes before the answer and before a strobe rises.
+    S3,
     /// A single cycle has two transfers other than a read and then a write, or more.
     C1,
     /// A block transfer turns its direction.
@@ -69,10 +73,11 @@ pub enum Rule {
 }
 
 /// All rules, in their order.
-const ALL: [Rule; 29] = [
+const ALL: [Rule; 31] = [
     Rule::U1,
     Rule::U2,
     Rule::U3,
+    Rule::U4,
     Rule::H1,
     Rule::H2,
     Rule::H3,
@@ -83,6 +88,7 @@ const ALL: [Rule; 29] = [
     Rule::H8,
     Rule::S1,
     Rule::S2,
+    Rule::S3,
     Rule::C1,
     Rule::C2,
     Rule::G1,
@@ -110,7 +116,7 @@ impl Rule {
     pub fn is_unreadable(self) -> bool
         ensures { result ≡ is_unreadable self }
     {
-        matches!(self, Rule::U1 | Rule::U2 | Rule::U3)
+        matches!(self, Rule::U1 | Rule::U2 | Rule::U3 | Rule::U4)
     }
 
     /// The name of the rule, as in the source.
@@ -121,6 +127,7 @@ impl Rule {
             Rule::U1 => b"U1",
             Rule::U2 => b"U2",
             Rule::U3 => b"U3",
+            Rule::U4 => b"U4",
             Rule::H1 => b"H1",
             Rule::H2 => b"H2",
             Rule::H3 => b"H3",
@@ -131,6 +138,7 @@ impl Rule {
             Rule::H8 => b"H8",
             Rule::S1 => b"S1",
             Rule::S2 => b"S2",
+            Rule::S3 => b"S3",
             Rule::C1 => b"C1",
             Rule::C2 => b"C2",
             Rule::G1 => b"G1",

@@ -3,7 +3,7 @@ use std::alloc::{AllocError, Global};
 use std::test::Fail;
 use vme_trace::{
     Block, Capture, Change, Changes, Class, CutFault, LINE_COUNT, Level, Line, LineSet, Lines,
-    Malformed, Rule, Step, Steps, am_class, am_code, needed,
+    Malformed, Rule, Step, Steps, am_class, am_code, is_selected, needed,
 };
 
 fn low(line: Line) -> Change {
@@ -184,13 +184,14 @@ fn is_rule(name: &[u8]) -> bool {
 #[test]
 fn rule_names(rt: HostRuntime) {
     for name in [
-        "U1", "U2", "U3", "H1", "H2", "H3", "H4", "H5", "H6", "H7", "H8", "S1", "S2", "C1", "C2",
-        "G1", "G2", "G3", "G4", "G5", "B1", "B2", "B3", "B4", "I1", "I2", "I3", "I4", "I5",
+        "U1", "U2", "U3", "U4", "H1", "H2", "H3", "H4", "H5", "H6", "H7", "H8", "S1", "S2", "S3",
+        "C1", "C2", "G1", "G2", "G3", "G4", "G5", "B1", "B2", "B3", "B4", "I1", "I2", "I3", "I4",
+        "I5",
     ] {
         assert!(rt; is_rule(name.as_bytes()), "{name}");
     }
     for name in [
-        "", "U", "U0", "U4", "H9", "S3", "C3", "G6", "B5", "I6", "u1", "U1 ",
+        "", "U", "U0", "U5", "H9", "S4", "C3", "G6", "B5", "I6", "u1", "U1 ",
     ] {
         assert!(rt; Rule::from_name(name.as_bytes()).is_none(), "{name}");
     }
@@ -254,6 +255,42 @@ fn idle_buses(rt: HostRuntime) -> Result<(), Fail> {
         assert!(rt; is_idle_with(line, Level::High)?);
         assert!(rt; is_idle_with(line, Level::Low)? == low_is_idle);
         assert!(rt; is_idle_with(line, Level::Unknown)? == unknown_is_idle);
+    }
+    Ok(())
+}
+
+/// Whether a transfer moves just the lines with these numbers, where LWORD*, A01, DS0* and DS1* show these levels.
+fn moves(levels: [Level; 4], first: u8, end: u8) -> Result<bool, Fail> {
+    let mut lines = high_lines(1)?;
+    lines.set(Line::LWORD, levels[0]);
+    lines.set(Line::address(1), levels[1]);
+    lines.set(Line::DS0, levels[2]);
+    lines.set(Line::DS1, levels[3]);
+    for number in 0..LINE_COUNT {
+        let line = Line::from_number(number).ok_or("no such line")?;
+        if is_selected(&lines, line) != (first <= number && number < end) {
+            return Ok(false);
+        }
+    }
+    Ok(true)
+}
+
+#[test]
+fn moved_data_lines(rt: HostRuntime) -> Result<(), Fail> {
+    let (low, high) = (Level::Low, Level::High);
+    assert!(rt; moves([high, high, low, high], 159, 167)?);
+    assert!(rt; moves([high, high, high, low], 167, 175)?);
+    assert!(rt; moves([high, low, low, low], 159, 175)?);
+    assert!(rt; moves([low, low, low, low], 159, 191)?);
+    for levels in [
+        [high, high, high, high],
+        [low, low, low, high],
+        [low, low, high, low],
+        [low, high, low, low],
+        [low, Level::Unknown, low, low],
+        [Level::Unknown, low, low, low],
+    ] {
+        assert!(rt; moves(levels, 0, 0)?);
     }
     Ok(())
 }

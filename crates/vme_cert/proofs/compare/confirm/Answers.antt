@@ -5,7 +5,7 @@ use Rattle.vme_trace.specs.Trace.{Trace}
 use Rattle.vme_trace.specs.Judged.{Span, judged_span, judged_spans}
 use Rattle.vme_trace.specs.Verdict.{all_rules, least_break}
 use Rattle.vme_trace.specs.declared.verdict.Break.{Break}
-use Rattle.vme_listing.specs.Recorded.{listing_by, listing_of, listing_of_span, rows_before, listed_end, outcome_of}
+use Rattle.vme_listing.specs.Recorded.{listing_by, listing_of, rows_before, listed_end, outcome_of}
 use Rattle.vme_listing.specs.declared.row.Outcome.TheVariants.{NeverIdle}
 use Rattle.vme_listing.specs.declared.row.Row.{Row}
 use Rattle.vme_listing.specs.declared.row.Row.TheVariants.{Start, Verdict}

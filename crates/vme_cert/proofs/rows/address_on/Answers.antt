@@ -1,8 +1,7 @@
 -- The lines up to the one at hand make the address so far.
-use Rattle.std.proofs.Common.{◌≡◌, ◌+◌, ◌*◌, ◌^◌, ◌%◌, ◌<◌, ◌≤◌, true, false, ℕ, sym, ◌∙◌, ap, arith}
+use Rattle.std.proofs.Common.{◌≡◌, ◌+◌, ◌*◌, ◌^◌, ◌%◌, ◌<◌, ◌≤◌, ℕ, sym, ◌∙◌, ap, arith}
 use Rattle.vme_trace.specs.Cycle.{Needs, is_within}
 use Rattle.vme_trace.specs.Levels.{level_at, is_high}
-use Rattle.vme_trace.specs.LineNumbers.{A}
 use Rattle.vme_listing.specs.Recorded.{address_to}
 use Rattle.vme_cert.proofs.Addresses.{weight_below, weight-is, next-weight, address-below, address_line, no_address_line, with_high, without_high}
 use Rattle.vme_cert.proofs.Watched.{needs_31}

@@ -1,7 +1,6 @@
-use Rattle.std.proofs.Common.{◌≡◌, ◌<◌, ℕ, ap, arith, sym, subst, ◌∙◌}
+use Rattle.std.proofs.Common.{ap, arith, sym, ◌∙◌}
 use Rattle.std.specs.Prelude.{◌/◌}
 use Rattle.vme_trace.specs.Cycle.{modifier_of}
-use Rattle.vme_trace.specs.declared.class.Class.{Class}
 use Rattle.vme_listing.specs.Recorded.{address_to, cycle_row}
 use Rattle.vme_listing.specs.declared.row.Row.TheVariants.{InterruptCycle, AddressedCycle}
 use Rattle.vme_cert.proofs.Addresses.{address-below, addressed-row, interrupt-highest}

@@ -1,5 +1,5 @@
 -- What was seen of the bits up to the one at hand, and of that one.
-use Rattle.std.proofs.Common.{◌≡◌, sym, ◌∙◌, ap, arith}
+use Rattle.std.proofs.Common.{sym, ◌∙◌, ap, arith}
 use Rattle.vme_trace.specs.Levels.{is_known, level_at}
 use Rattle.vme_trace.specs.Cycle.{is_modifier_bit_known}
 use Rattle.vme_trace.proofs.Ranges.{every-fails}

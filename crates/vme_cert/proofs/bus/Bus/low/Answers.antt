@@ -1,4 +1,4 @@
-use Rattle.std.proofs.Common.{◌-◌, ◌∙◌, ap}
+use Rattle.std.proofs.Common.{◌∙◌, ap}
 use Rattle.vme_trace.specs.Levels.{Levels, level_at, is_low}
 use Rattle.vme_trace.specs.Signals.{low}
 use Rattle.vme_cert.proofs.Kept.{has_at}

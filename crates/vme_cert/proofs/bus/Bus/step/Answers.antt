@@ -1,7 +1,7 @@
 -- The step at the instant makes its changes; the opening has none.
-use Rattle.std.proofs.Common.{◌≡◌, ◌-◌, ◌<◌, Some, refl, sym, ◌∙◌, ap, arith, inl}
+use Rattle.std.proofs.Common.{◌≡◌, ◌-◌, Some, refl, sym, ◌∙◌, ap, arith, inl}
 use Rattle.std.specs.Prelude.{slice_get}
-use Rattle.vme_trace.specs.Trace.{Trace, levels_at, changed}
+use Rattle.vme_trace.specs.Trace.{levels_at, changed}
 use Rattle.vme_trace.specs.WellFormed.{are_changes}
 use Rattle.vme_cert.proofs.Kept.{step_at, made, none_made, sound-step, timed}
 use Rattle.vme_cert.proofs.bus.Bus.step.Goals as goal

@@ -1,6 +1,6 @@
 -- The chain is low as far as the net before the first that isn't.
-use Rattle.std.proofs.Common.{rules, ◌≡◌, ℕ, ◌+◌, Bool, not, sym, ◌∙◌, ap, arith}
-use Rattle.std.specs.Prelude.{Option, Some, unwrap_or}
+use Rattle.std.proofs.Common.{rules, ℕ, ◌+◌, not, sym, ◌∙◌, ap}
+use Rattle.std.specs.Prelude.{Some}
 use Rattle.vme_trace.specs.Signals.{low}
 use Rattle.vme_trace.specs.Levels.{Levels}
 use Rattle.vme_trace.proofs.SpanEnds.{slots_at}

@@ -1,4 +1,4 @@
-use Rattle.vme_cert.proofs.Agreeing.{settled, settled-more}
+use Rattle.vme_cert.proofs.Agreeing.{settled-more}
 use Rattle.vme_cert.proofs.compare.Follower.answer.Goals as goal
 use Rattle.vme_cert.proofs.compare.Follower.answer.Goals.{then-self-via-then-self, then-self-via-else-self+then-self-2}
 

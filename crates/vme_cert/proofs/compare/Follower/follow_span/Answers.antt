@@ -1,5 +1,5 @@
 -- The rows so far, with those of the instant at hand.
-use Rattle.std.proofs.Common.{◌≡◌, ℕ, ◌+◌, List, [], ◌∷◌, ◌++◌, refl, sym, ◌∙◌, ap, subst, arith, add-one}
+use Rattle.std.proofs.Common.{◌≡◌, ℕ, ◌+◌, List, [], ◌∷◌, ◌++◌, refl, ◌∙◌, ap, subst, arith, add-one}
 use Rattle.std.specs.Prelude.{Option}
 use Rattle.vme_trace.specs.Trace.{Trace}
 use Rattle.vme_trace.specs.Judged.{Span}
@@ -9,7 +9,6 @@ use Rattle.vme_listing.specs.declared.row.Outcome.{Outcome}
 use Rattle.vme_listing.specs.declared.row.Row.{Row}
 use Rattle.vme_listing.specs.declared.row.Row.TheVariants.{Start, Verdict}
 use Rattle.vme_cert.specs.declared.compare.Follower.{Follower}
-use Rattle.vme_cert.specs.Events.{IsIndex}
 use Rattle.vme_cert.specs.Following.{Follows}
 use Rattle.vme_cert.proofs.compare.Follower.follow_span.Goals as goal
 

@@ -1,5 +1,5 @@
 -- Empty lists have the instants before the opening.
-use Rattle.std.proofs.Common.{◌≡◌, ◌∙◌, List, [], replicate, map, length, refl, sym, ap, arith}
+use Rattle.std.proofs.Common.{◌≡◌, ◌∙◌, [], replicate, map, length, refl, sym, ap, arith}
 use Rattle.std.specs.Prelude.{slice_get}
 use Rattle.vme_trace.specs.Cycles.{cycle_starts}
 use Rattle.vme_trace.specs.Transfers.{is_answer}

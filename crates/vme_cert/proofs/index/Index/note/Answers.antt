@@ -1,5 +1,5 @@
 -- Each list has the instant, and the cycles have one that starts there.
-use Rattle.std.proofs.Common.{◌≡◌, ◌+◌, ◌∙◌, List, map, get_or, false, refl, sym, ap, arith}
+use Rattle.std.proofs.Common.{◌∙◌, map, get_or, false, refl, sym, ap, arith}
 use Rattle.vme_trace.specs.Instants.{those}
 use Rattle.vme_trace.specs.Cycles.{cycle_starts}
 use Rattle.vme_cert.specs.declared.index.Index.{Index}

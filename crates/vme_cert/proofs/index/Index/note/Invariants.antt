@@ -1,4 +1,4 @@
-use Rattle.std.proofs.Common.{◌≡◌, ◌+◌, length}
+use Rattle.std.proofs.Common.{◌≡◌}
 use Rattle.vme_cert.specs.Events.{happens_nth}
 use Rattle.vme_cert.proofs.Noted.{AreNoted}
 use Rattle.vme_cert.proofs.index.Index.note.Given as goal

@@ -3,13 +3,11 @@ use Rattle.std.specs.Prelude.{Option, ◌==◌, is_some, unwrap_or, nat_lt}
 use Rattle.std.proofs.lemmas.Bool.Decides.{nat_tests}
 use Rattle.vme_trace.specs.Instants.{any, none, greatest}
 use Rattle.vme_trace.specs.Cycle.{Needs, needs_of, is_within, is_needed}
-use Rattle.vme_trace.specs.Cycles.{cycle_starts}
 use Rattle.vme_trace.specs.Judged.{Span}
 use Rattle.vme_trace.specs.Levels.{Levels}
 use Rattle.vme_trace.specs.LineNumbers.{DTACK, BERR, BR, grant_place}
 use Rattle.vme_trace.specs.Tenures.{last_before, grant_falls}
 use Rattle.vme_trace.specs.Signals.{low, falls}
-use Rattle.vme_trace.specs.Trace.{Trace}
 use Rattle.vme_trace.proofs.SpanEnds.{slots_at}
 use Rattle.vme_cert.specs.Events.{happens}
 use Rattle.vme_trace.specs.Transfers.{transfer_starts, strobe_rises}

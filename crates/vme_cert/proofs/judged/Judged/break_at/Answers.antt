@@ -13,7 +13,7 @@ step-time-requires c = let within = c.args.self.now.within in let noted = c.args
 pub returns-in-Some-clause-break_at : goal.returns-in-Some-clause-break_at
 returns-in-Some-clause-break_at c =
     let self = c.args.self.now in
-    let within : c.loop-place.place < 29 = omega (arith, c.suspects-place-end.ensures.within) in
+    let within : c.loop-place.place < 31 = omega (arith, c.suspects-place-end.ensures.within) in
     rw c.step-time.ensures.time
     (sym
     (sym c.loop-place.invariant
@@ -23,7 +23,7 @@ returns-in-Some-clause-break_at c =
 pub loop-place-preserved : goal.loop-place-preserved
 loop-place-preserved c =
     let self = c.args.self.now in
-    let within : c.loop-place.place < 29 = omega (arith, c.suspects-place-end.ensures.within) in
+    let within : c.loop-place.place < 31 = omega (arith, c.suspects-place-end.ensures.within) in
     rw add-one
     (sym (break_at-next (trace self) (span self) _ _ (instant self) (sym c.rule_break.ensures ∙ c.in_default.is))
     ∙ (sym (ap (λ (rs : List Rule). break_at (trace self) (span self) rs (instant self)) (drop-cons all_rules c.loop-place.place U1 within))

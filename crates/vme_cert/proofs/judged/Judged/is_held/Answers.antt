@@ -1,6 +1,6 @@
 -- The cycles up to the one at hand don't wait: the next one does, or the instant is its answer.
-use Rattle.std.proofs.Common.{◌≡◌, ℕ, ◌+◌, ◌&&◌, true, false, not, refl, sym, ◌∙◌, ap}
-use Rattle.std.specs.Prelude.{Option, Some, None, unwrap_or}
+use Rattle.std.proofs.Common.{◌≡◌, ℕ, ◌+◌, ◌&&◌, true, false, not, sym, ◌∙◌, ap}
+use Rattle.std.specs.Prelude.{Option, unwrap_or}
 use Rattle.vme_trace.specs.Instants.{any, greatest}
 use Rattle.vme_trace.specs.Judged.{Span}
 use Rattle.vme_trace.specs.LineNumbers.{AS}

@@ -1,9 +1,8 @@
 use Rattle.std.proofs.Common.{rules, ◌≡◌, [], ◌∷◌, sym, ◌∙◌, ap}
 use Rattle.vme_trace.specs.Transfers.{is_write}
 use Rattle.vme_listing.specs.Recorded.{direction_of, answer_line}
-use Rattle.vme_listing.specs.declared.row.AnswerLine.{AnswerLine}
 use Rattle.vme_listing.specs.declared.row.Direction.{Direction}
-use Rattle.vme_listing.specs.declared.row.Row.TheVariants.{PendingTransfer, Transfer}
+use Rattle.vme_listing.specs.declared.row.Row.TheVariants.{PendingTransfer}
 use Rattle.vme_cert.specs.Judging.{trace, span, instant}
 use Rattle.vme_cert.proofs.AtAnswers.{any-one}
 use Rattle.vme_cert.proofs.TransferRows.{row-unanswered, row-outside, row-answered}

@@ -1,5 +1,5 @@
 -- The first answer of the cycle tells.
-use Rattle.std.proofs.Common.{◌≡◌, Bool, true, false, ◌&&◌, ◌||◌, not, refl, sym, ◌∙◌, ap}
+use Rattle.std.proofs.Common.{◌≡◌, Bool, true, false, not, refl, sym, ◌∙◌}
 use Rattle.std.proofs.Math.Bool.{beq}
 use Rattle.vme_trace.specs.Rules.{differ}
 use Rattle.vme_trace.specs.Transfers.{is_answer}

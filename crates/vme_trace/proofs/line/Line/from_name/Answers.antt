@@ -1,6 +1,6 @@
 -- The lines before the one at hand have other names.
-use Rattle.std.proofs.Common.{◌≡◌, ◌<◌, true, sym, ◌∙◌, ap, arith, below_more}
-use Rattle.std.specs.Prelude.{bytes_eq, Some}
+use Rattle.std.proofs.Common.{◌≡◌, ◌<◌, sym, ◌∙◌, ap, arith, below_more}
+use Rattle.std.specs.Prelude.{Some}
 use Rattle.vme_trace.specs.LineNumbers.{line_count}
 use Rattle.vme_trace.specs.Names.{line_name}
 use Rattle.vme_trace.proofs.Ranges.{clash}

@@ -1,5 +1,5 @@
 -- What is found among all rules is the rule of the name.
-use Rattle.std.proofs.Common.{◌≡◌, ◌∙◌}
+use Rattle.std.proofs.Common.{◌∙◌}
 use Rattle.vme_trace.specs.Names.{rule_named}
 use Rattle.vme_trace.proofs.NameLaws.{rule_named-is, named_by}
 use Rattle.vme_trace.proofs.rule.Rule.from_name.Goals as goal

@@ -1,0 +1,47 @@
+-- The search for a data line that is moved and of which nothing is known.
+use Rattle.std.proofs.Common.{◌≡◌, ℕ, ◌+◌, ◌<◌, ◌≤◌, Bool, true, false, ◌&&◌, not, refl, ◌∙◌, arith}
+use Rattle.std.specs.Prelude.{None, Some, nat_le}
+use Rattle.vme_trace.specs.Instants.{any, least}
+use Rattle.vme_trace.specs.LineNumbers.{line_count}
+use Rattle.vme_trace.specs.Data.{is_selected}
+use Rattle.vme_trace.specs.Levels.{Levels, is_known_on}
+use Rattle.vme_trace.proofs.Ranges.{any-step, fails-any, least-is, least-none}
+use Rattle.vme_stability.specs.StabilitySpec.{is_undriven}
+use Rattle.vme_stability.proofs.HeldData.{selected_from}
+
+first_false : (a b : Bool) → (a ≡ true → ⊥) → (a && b) ≡ false
+first_false true b h = absurd (h refl)
+first_false false b h = refl
+
+and_false : (a : Bool) → (a && false) ≡ false
+and_false true = refl
+and_false false = refl
+
+module _ (v : Levels) where
+  outside : (l : ℕ) → l < 159 → is_undriven v l ≡ false
+  outside l h = first_false (is_selected v l) (not (is_known_on v l)) (λ e. apart l h (selected_from v l e))
+    where
+      apart : (l : ℕ) → l < 159 → 159 ≤ l → ⊥
+      apart l h k = omega arith
+
+  pub undriven_first : any (is_undriven v) 0 159 ≡ false
+  undriven_first = fails-any (is_undriven v) 0 159 (λ l a b. outside l b)
+
+  pub undriven_none : (n : ℕ) → n ≡ line_count → any (is_undriven v) 0 n ≡ false → least (is_undriven v) 0 line_count ≡ None
+  undriven_none n e h = least-none (is_undriven v) 0 line_count (rw (← e) h)
+
+  pub undriven_here : (n : ℕ) → n < line_count → any (is_undriven v) 0 n ≡ false → is_undriven v n ≡ true → least (is_undriven v) 0 line_count ≡ Some n
+  undriven_here n below h e = least-is (is_undriven v) 0 line_count n (omega arith) below e h
+
+  pub undriven_more : (n : ℕ) → any (is_undriven v) 0 n ≡ false → is_undriven v n ≡ false → any (is_undriven v) 0 (n + 1) ≡ false
+  undriven_more n h e = any-step (is_undriven v) 0 n ∙ rw (h, e) (and_false (nat_le 0 n))
+
+  module _ (n l : ℕ) (there : l ≡ n) where
+    pub undriven_there : is_selected v l ≡ true → is_known_on v l ≡ false → is_undriven v n ≡ true
+    undriven_there h k = rw (← there, h, k) refl
+
+    pub not_moved : is_selected v l ≡ false → is_undriven v n ≡ false
+    not_moved h = rw (← there, h) refl
+
+    pub not_unknown : is_known_on v l ≡ true → is_undriven v n ≡ false
+    not_unknown k = rw (← there, k) (and_false (is_selected v l))
