@@ -34,12 +34,13 @@ EXAMPLES = HERE.parent.parent / "examples"
 MEMORY = 1 << 30
 SECONDS = 10
 
-LINE = rb"(?:AS|DS[01]|DTACK|BERR|IACK|AM[0-5]|LWORD|WRITE|A(?:0[1-9]|[12][0-9]|3[01])|BBSY|BR[0-3]|BG[0-3]\.\d{1,2}|IA\.\d{1,2})"
-BROKEN = rb"(?:H[1-8]|S[12]|C[12]|G[1-5]|B[1-4]|I[1-5])"
+LINE = (rb"(?:AS|DS[01]|DTACK|BERR|IACK|AM[0-5]|LWORD|WRITE|A(?:0[1-9]|[12][0-9]|3[01])|BBSY|BR[0-3]|BG[0-3]\.\d{1,2}|IA\.\d{1,2}|"
+        rb"D(?:[0-2][0-9]|3[01]))")
+BROKEN = rb"(?:H[1-8]|S[1-3]|C[12]|G[1-5]|B[1-4]|I[1-5])"
 VERDICTS = [
     (0, re.compile(rb"conforming\n")),
     (1, re.compile(rb"broken " + BROKEN + rb" at instant \d+ time \d+ line " + LINE + rb"\n")),
-    (2, re.compile(rb"unreadable U[1-3] at instant \d+ time \d+ line " + LINE + rb"\n")),
+    (2, re.compile(rb"unreadable U[1-4] at instant \d+ time \d+ line " + LINE + rb"\n")),
     (2, re.compile(rb"never idle\n")),
 ]
 DUMP_KIND = (rb"BadToken|UnfinishedSection|BadVar|ScopeUnderflow|NoEndDefinitions|UndeclaredCode|TooWide|SizeConflict|"
