@@ -268,7 +268,7 @@ def check_listing(case, rng, verdict):
         if (status, out, err) != verdict:
             raise Failed(f"list: status {status}, {out[:200]!r}, {err[:200]!r}, and check: {verdict[2][:200]!r}")
         return
-    if status != verdict[0] or err or not out.startswith(b"vmecheck listing 1\n") or not out.endswith(b"\n" + verdict_row(verdict[1])):
+    if status != verdict[0] or err or not out.startswith(b"vmecheck listing 2\n") or not out.endswith(b"\n" + verdict_row(verdict[1])):
         raise Failed(f"list: status {status}, {out[:200]!r}, {err[:200]!r}, and check: {verdict[1]!r}")
     case.write("listing", out)
     answer = case.run("confirm", "binding", "dump", "listing")

@@ -101,11 +101,17 @@ function said(verdict, part) {
 }
 
 # The row with something else in it.
-function changed(row) {
+function changed(row, digit) {
   if (row ~ /^start/) return row "0"
   if (row == "verdict never-idle") return "start 0\nverdict conforming"
   if (row == "verdict conforming") return "verdict broken H4 9 DTACK"
   if (row ~ /^verdict/) return "verdict conforming"
+  if (row ~ / data -+$/) { sub(/--$/, "00", row); return row }
+  if (row ~ / data /) {
+    match(row, /[0-9A-FX]-*$/)
+    digit = substr(row, RSTART, 1)
+    return substr(row, 1, RSTART - 1) (digit == "0" ? "1" : "0") substr(row, RSTART + 1)
+  }
   if (row ~ /-$/) { sub(/-$/, "9999", row); return row }
   if (row ~ /read pending$/) { sub(/read/, "write", row); return row }
   if (row ~ /write pending$/) { sub(/write/, "read", row); return row }
@@ -115,7 +121,7 @@ function changed(row) {
 
 # Writes the listing, with another row in place of row K, or none.
 function listing(file, k, other, i) {
-  print "vmecheck listing 1" >file
+  print "vmecheck listing 2" >file
   for (i = 1; i <= count; i++) {
     if (i != k) print row[i] >file
     else if (other != "") print other >file

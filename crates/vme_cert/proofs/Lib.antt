@@ -17,4 +17,5 @@ pub mod Searching
 pub mod Those
 pub mod TransferRows
 pub mod Truth
+pub mod Versions
 pub mod Watched

@@ -83,6 +83,25 @@ impl<'a> Bus<'a> {
         self.instant += 1;
     }
 
+    /// The recording at this instant or a later one.
+    pub(crate) fn later(&self, instant: u32) -> Bus<'a>
+        requires from { self.now.instant ≤ instant }
+        requires within { instant ≤ last_instant self.now.capture.now + 1 }
+        ensures trace { result.capture.now ≡ self.now.capture.now }
+        ensures instant { result.instant ≡ instant }
+    {
+        let mut bus = Bus {
+            capture: self.capture,
+            instant: self.instant,
+            before: self.before,
+            levels: self.levels,
+        };
+        for _instant in self.instant..instant {
+            bus.advance();
+        }
+        bus
+    }
+
     /// The last instant.
     pub(crate) fn last_instant(&self) -> u32
         ensures last { result ≡ last_instant self.now.capture.now }

@@ -1,7 +1,7 @@
 //! Whether the rows of a listing are those of a recording.
 
 ghost use Rattle.std.specs.Prelude.{◌≡◌, ◌<◌, ◌≤◌, ◌∷◌, ◌++◌, true, false, Some, slice_get};
-ghost use Rattle.vme_cert.specs.Words.{[], List, length, IfOk, option_to_list, tenure_rows, cycle_rows, transfer_rows, rows_before, listed_end, outcome_of, listing_of};
+ghost use Rattle.vme_cert.specs.Words.{[], List, length, IfOk, option_to_list, tenure_rows, cycle_rows, transfer_rows, rows_before, listed_end, outcome_of, recorded_rows, rows_in};
 ghost use Rattle.vme_listing.specs.declared.row.Row.{Row};
 ghost use Rattle.vme_listing.specs.declared.row.Row.TheVariants.{Start, Verdict};
 ghost use Rattle.vme_cert.specs.Events.{IsIndex};
@@ -12,7 +12,7 @@ use crate::index::Index;
 use crate::judged::Judged;
 use crate::verdict::least_break;
 use std::alloc::{AllocError, Global};
-use vme_listing::{Listing, Outcome, Row};
+use vme_listing::{Listing, Outcome, Row, Version};
 use vme_trace::{Break, Capture};
 
 /// What a check of a listing says.
@@ -53,6 +53,8 @@ fn ending(bus: &Bus, found: Option<Break>) -> (u32, Outcome)
 #[derive(Clone, Copy, Debug, PartialEq, Eq)]
 struct Follower<'a> {
     given: &'a [Row],
+    /// The version of their listing.
+    version: Version,
     /// How many at the front are the right ones, and whether the next one differs.
     agree: usize,
     differs: bool,
@@ -77,6 +79,7 @@ impl Follower<'_> {
     /// Follows the next right row, if there is one.
     fn follow(&mut self, row: Option<Row>)
         ensures given { self.new.given.now ≡ self.old.given.now }
+        ensures version { self.new.version ≡ self.old.version }
         ensures rows { (right : List Row) → Follows right self.old → Follows (right ++ option_to_list row) self.new }
     {
         let Some(row) = row else {
@@ -85,7 +88,7 @@ impl Follower<'_> {
         if self.differs {
             return;
         }
-        if self.has_next(&row) {
+        if self.has_next(&row.in_version(self.version)) {
             self.agree += 1;
         } else {
             self.differs = true;
@@ -94,7 +97,7 @@ impl Follower<'_> {
 
     /// What the rows so far say.
     fn answer(&self) -> Answer
-        ensures { (right : List Row) → Follows right self.now → Settles self.now.given.now right result }
+        ensures { (right : List Row) → Follows right self.now → Settles self.now.given.now (rows_in self.now.version right) result }
     {
         if self.differs || self.agree < self.given.len() {
             return Answer::No {
@@ -109,6 +112,7 @@ impl Follower<'_> {
         requires within { end ≤ noted judged.now }
         requires listed { instant judged.now < end }
         ensures given { self.new.given.now ≡ self.old.given.now }
+        ensures version { self.new.version ≡ self.old.version }
         ensures rows { (right : List Row) → Follows right self.old → Follows (right ++ tenure_rows (trace judged.now) (span judged.now) end (instant judged.now) ++ cycle_rows (trace judged.now) (span judged.now) end (instant judged.now) ++ transfer_rows (trace judged.now) (span judged.now) end (instant judged.now)) self.new }
     {
         self.follow(judged.tenure_row(end));
@@ -122,6 +126,7 @@ impl Follower<'_> {
         requires noted { listed_end capture.now found ≤ index.now.noted }
         requires answered { listed_end capture.now found ≤ index.now.answered }
         ensures given { self.new.given.now ≡ self.old.given.now }
+        ensures version { self.new.version ≡ self.old.version }
         ensures rows { Follows [] self.old → Follows (Start index.now.span.start ∷ rows_before capture.now index.now.span (listed_end capture.now found) (listed_end capture.now found) ++ Verdict (outcome_of found) ∷ []) self.new }
     {
         let (mut bus, span) = (Bus::opening(capture), index.span);
@@ -136,13 +141,14 @@ impl Follower<'_> {
     }
 }
 
-/// Whether a listing is the one of a capture, by the definitions alone. If not, the first row that differs. The only
+/// Whether a listing is the one of a capture in its version, by the definitions alone. If not, the first row that differs. The only
 /// error is want of memory.
 pub fn confirm(alloc: Global, capture: &Capture, listing: &Listing) -> Result<Answer, AllocError>
-    ensures { IfOk result (λ answer. Settles listing.now (listing_of capture.now) answer) }
+    ensures { IfOk result (λ answer. Settles listing.now.rows (rows_in listing.now.version (recorded_rows capture.now)) answer) }
 {
     let mut follower = Follower {
         given: listing.rows(),
+        version: listing.version(),
         agree: 0,
         differs: false,
     };

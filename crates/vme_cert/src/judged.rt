@@ -2,13 +2,13 @@
 #![tactic(auto, unfolding(vme_trace::specs::Transfers::lasts, vme_trace::specs::Cycles::cycle_of))]
 
 ghost use Rattle.std.specs.Prelude.{◌≡◌, ◌+◌, ◌<◌, ◌≤◌};
-ghost use Rattle.vme_cert.specs.Words.{true, IfSome, any, none, least, greatest, cycle_starts, cycle_of, class_at, needs_of, levels_at, answers_of, spoils_pair, turns, lasts, answers, is_answer, answers_write};
+ghost use Rattle.vme_cert.specs.Words.{true, IfSome, any, none, least, greatest, cycle_starts, cycle_of, class_at, needs_of, levels_at, answers_of, spoils_pair, turns, lasts, answers, is_answer, answers_write, transfer_starts, data_at, last_instant};
 ghost use Rattle.vme_cert.specs.Events.{happens, IsIndex};
 
 use crate::bus::Bus;
 use crate::index::Event::{self, AnswerFall, CycleStart, StrobesHigh, TransferStart, WriteLow};
 use crate::index::Index;
-use vme_trace::{Class, LineSet};
+use vme_trace::{Class, Lanes, LineSet, moved_data};
 
 /// A recording at an instant, and what happens up to there and perhaps later.
 #[derive(Clone, Copy)]
@@ -77,6 +77,22 @@ impl Judged<'_> {
             Some(answer)
         } else {
             None
+        }
+    }
+
+    /// The data that the answer takes of the transfer that starts at the instant: what the lines say before it, or as the
+    /// transfer starts.
+    pub(crate) fn data(&self, answer: u32) -> Lanes
+        requires starts { transfer_starts (trace self.now) (span self.now) (instant self.now) ≡ true }
+        requires answer { answers (trace self.now) (span self.now) (instant self.now) answer ≡ true }
+        requires from { instant self.now ≤ answer }
+        requires within { answer ≤ last_instant (trace self.now) }
+        ensures { result ≡ data_at (trace self.now) (span self.now) answer }
+    {
+        if answer == self.bus.instant {
+            moved_data(&self.bus.levels)
+        } else {
+            moved_data(&self.bus.later(answer - 1).levels)
         }
     }
 

@@ -1,13 +1,13 @@
 //! The rows that begin at an instant.
 #![tactic(auto, unfolding(vme_trace::specs::Signals::low, vme_listing::specs::Recorded::tenure_rows, vme_listing::specs::Recorded::cycle_rows, vme_listing::specs::Recorded::transfer_rows, vme_trace::specs::Transfers::transfer_starts, vme_trace::specs::Tenures::tenure_starts))]
 
-ghost use Rattle.std.specs.Prelude.{◌≡◌, ◌+◌, ◌^◌, ◌<◌, ◌≤◌};
-ghost use Rattle.vme_cert.specs.Words.{option_to_list, class_of, needs_of, address_to, cycle_row, tenure_rows, cycle_rows, transfer_rows};
+ghost use Rattle.std.specs.Prelude.{◌≡◌, ◌+◌, ◌^◌, ◌<◌, ◌≤◌, true, Some, None, if◌then◌else◌};
+ghost use Rattle.vme_cert.specs.Words.{option_to_list, class_of, needs_of, address_to, cycle_row, tenure_rows, cycle_rows, transfer_rows, transfer_starts, answers, is_write, data_at, last_instant};
 
 use crate::index::Event::{AcknowledgeFall, AddressRise, BusyRise, StrobesHigh};
 use crate::judged::Judged;
 use vme_listing::{AnswerLine, Direction, Row};
-use vme_trace::{Class, Line, Lines, am_class, am_code, needed};
+use vme_trace::{Class, Lanes, Line, Lines, am_class, am_code, needed};
 
 /// The address on the address lines that a cycle needs which starts at these levels, a high line being 1 and any other 0.
 fn address_on(lines: &Lines) -> u32
@@ -92,6 +92,23 @@ impl Judged<'_> {
         Some(cycle_row(start, &self.bus.levels, end))
     }
 
+    /// The data that the answer takes of the transfer that starts at the instant, if it is a write.
+    #[tactic(auto, unfolding(vme_trace::specs::Transfers::is_write))]
+    fn write_data(&self, answer: u32) -> Option<Lanes>
+        requires starts { transfer_starts (trace self.now) (span self.now) (instant self.now) ≡ true }
+        requires answer { answers (trace self.now) (span self.now) (instant self.now) answer ≡ true }
+        requires from { instant self.now ≤ answer }
+        requires within { answer ≤ last_instant (trace self.now) }
+        ensures { result ≡ (if is_write (trace self.now) (span self.now) (instant self.now)
+            then Some (data_at (trace self.now) (span self.now) answer) else None) }
+    {
+        if self.bus.low(Line::WRITE) {
+            Some(self.data(answer))
+        } else {
+            None
+        }
+    }
+
     /// The row of the transfer that starts at the instant.
     pub(crate) fn transfer_row(&self, end: u32) -> Option<Row>
         requires within { end ≤ noted self.now }
@@ -125,6 +142,7 @@ impl Judged<'_> {
             line,
             answer,
             close: self.first(StrobesHigh, start + 1, end),
+            lanes: self.write_data(answer),
         })
     }
 }

@@ -3,7 +3,7 @@ use std::alloc::Global;
 use std::process::Abort;
 use std::test::Fail;
 use vme_cert::{Answer, confirm};
-use vme_listing::{Direction, Listing, Outcome, Row, read_listing};
+use vme_listing::{Direction, Listing, Outcome, Row, Version, read_listing};
 use vme_trace::{Capture, Change, Changes, LINE_COUNT, Level, Line, Lines, Step};
 
 /// How a recording starts: its slots, the levels of its opening, and its first steps. A step is the lines that change, with their
@@ -82,12 +82,12 @@ const LISTINGS: [(Start, &'static str, &'static str); 20] = [
     (
         GRANTED,
         "AM1=0 A05=0;AS=0;DS0=0 DS1=0;DTACK=0;DS0=1 DS1=1;DTACK=1;WRITE=0;DS0=0 DS1=0;DTACK=0;AS=1 DS0=1 DS1=1;DTACK=1",
-        "start 1\ntenure 5 level 3 slot 2 end -\ncycle 9 S 3D FFFFDE end 17\ntransfer 10 of 9 read DTACK 11 close 12\ntransfer 15 of 9 write DTACK 16 close 17\nverdict conforming\n",
+        "start 1\ntenure 5 level 3 slot 2 end -\ncycle 9 S 3D FFFFDE end 17\ntransfer 10 of 9 read DTACK 11 close 12\ntransfer 15 of 9 write DTACK 16 close 17 data ----FFFF\nverdict conforming\n",
     ),
     (
         GRANTED,
         "AM1=0 WRITE=0 A05=0;AS=0;DS0=0 DS1=0;DTACK=0;DS0=1 DS1=1;DTACK=1;WRITE=1;DS0=0 DS1=0;DTACK=0;AS=1 DS0=1 DS1=1;DTACK=1",
-        "start 1\ntenure 5 level 3 slot 2 end -\ncycle 9 S 3D FFFFDE end -\ntransfer 10 of 9 write DTACK 11 close 12\ntransfer 15 read pending\nverdict broken C1 16 DTACK\n",
+        "start 1\ntenure 5 level 3 slot 2 end -\ncycle 9 S 3D FFFFDE end -\ntransfer 10 of 9 write DTACK 11 close 12 data ----FFFF\ntransfer 15 read pending\nverdict broken C1 16 DTACK\n",
     ),
     (
         GRANTED,
@@ -164,7 +164,7 @@ const DATA: [(&'static str, &'static str); 7] = [
     ),
     (
         "AM1=0 AM2=0 WRITE=0 D16=x;AS=0;DS0=0 DS1=0;D16=0;DTACK=0;AS=1 DS0=1 DS1=1;DTACK=1",
-        "start 1\ntenure 5 level 3 slot 2 end -\ncycle 9 S 39 FFFFFE end 13\ntransfer 10 of 9 write DTACK 12 close 13\nverdict conforming\n",
+        "start 1\ntenure 5 level 3 slot 2 end -\ncycle 9 S 39 FFFFFE end 13\ntransfer 10 of 9 write DTACK 12 close 13 data ----FFFF\nverdict conforming\n",
     ),
     // data change before the answer, or as the write starts and as it is answered
     (
@@ -173,7 +173,7 @@ const DATA: [(&'static str, &'static str); 7] = [
     ),
     (
         "AM1=0 AM2=0 WRITE=0;AS=0;DS0=0 DS1=0 D03=0;DTACK=0 D03=1;AS=1 DS0=1 DS1=1;DTACK=1",
-        "start 1\ntenure 5 level 3 slot 2 end -\ncycle 9 S 39 FFFFFE end 12\ntransfer 10 of 9 write DTACK 11 close 12\nverdict conforming\n",
+        "start 1\ntenure 5 level 3 slot 2 end -\ncycle 9 S 39 FFFFFE end 12\ntransfer 10 of 9 write DTACK 11 close 12 data ----FFF7\nverdict conforming\n",
     ),
     // the data of a read may be unknown and change
     (
@@ -252,7 +252,7 @@ fn capture_of(alloc: Global, start: Start, text: &str) -> Result<Capture, Fail> 
 }
 
 fn rows_of(alloc: Global, text: &str) -> Result<Vec<Row>, Fail> {
-    let mut bytes = Vec::from_slice(alloc, b"vmecheck listing 1\n")?;
+    let mut bytes = Vec::from_slice(alloc, b"vmecheck listing 2\n")?;
     bytes.extend_from_slice(text.as_bytes())?;
     let listing = read_listing(alloc, bytes.as_slice());
     Ok(listing.ok().ok_or("no listing")?.into_rows())
@@ -270,7 +270,7 @@ fn answer(
     let mut rows = Vec::from_slice(alloc, front)?;
     rows.extend_from_slice(more)?;
     rows.extend_from_slice(back)?;
-    let listing = Listing::new(rows);
+    let listing = Listing::new(Version::Two, rows);
     match confirm(alloc, capture, &listing) {
         Ok(answer) => Ok(answer),
         Err(_) => Ok(confirm(alloc, capture, &listing)?),
@@ -340,6 +340,7 @@ fn changed(row: Row) -> Row {
             line,
             answer,
             close,
+            lanes,
         } => Row::Transfer {
             start,
             cycle,
@@ -347,6 +348,7 @@ fn changed(row: Row) -> Row {
             line,
             answer,
             close: other_end(close),
+            lanes,
         },
         Row::PendingTransfer { start, direction } => Row::PendingTransfer {
             start: start ^ 1,
@@ -431,6 +433,37 @@ fn listings(rt: HostRuntime) -> Result<(), Fail> {
 fn data_lines(rt: HostRuntime) -> Result<(), Fail> {
     for (steps, text) in DATA {
         assert_listed(&rt, rt.alloc(), GRANTED, steps, text)?;
+    }
+    Ok(())
+}
+
+/// A read and then a write of both bytes, in which every data line is high.
+const READ_AND_WRITE: &'static str =
+    "AM1=0 A05=0;AS=0;DS0=0 DS1=0;DTACK=0;DS0=1 DS1=1;DTACK=1;WRITE=0;DS0=0 DS1=0;DTACK=0;AS=1 DS0=1 DS1=1;DTACK=1";
+
+/// The data of a write count in a listing of version 2, and one of version 1 has none.
+#[test]
+fn data_count_by_the_version(rt: HostRuntime) -> Result<(), Fail> {
+    let alloc = rt.alloc();
+    let capture = capture_of(alloc, GRANTED, READ_AND_WRITE)?;
+    for (text, wanted) in [
+        (
+            "vmecheck listing 2\nstart 1\ntenure 5 level 3 slot 2 end -\ncycle 9 S 3D FFFFDE end 17\ntransfer 10 of 9 read DTACK 11 close 12\ntransfer 15 of 9 write DTACK 16 close 17 data ----FFFF\nverdict conforming\n",
+            Answer::Yes,
+        ),
+        (
+            "vmecheck listing 2\nstart 1\ntenure 5 level 3 slot 2 end -\ncycle 9 S 3D FFFFDE end 17\ntransfer 10 of 9 read DTACK 11 close 12\ntransfer 15 of 9 write DTACK 16 close 17 data ----FFFE\nverdict conforming\n",
+            Answer::No { row: 5 },
+        ),
+        (
+            "vmecheck listing 1\nstart 1\ntenure 5 level 3 slot 2 end -\ncycle 9 S 3D FFFFDE end 17\ntransfer 10 of 9 read DTACK 11 close 12\ntransfer 15 of 9 write DTACK 16 close 17\nverdict conforming\n",
+            Answer::Yes,
+        ),
+    ] {
+        let listing = read_listing(alloc, text.as_bytes())
+            .ok()
+            .ok_or("no listing")?;
+        assert_eq!(rt; confirm(alloc, &capture, &listing)?, wanted);
     }
     Ok(())
 }

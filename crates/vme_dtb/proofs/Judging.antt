@@ -4,14 +4,17 @@ use Rattle.std.specs.Prelude.{option_map, is_some, slice_get, nat_lt}
 use Rattle.std.specs.Option.{option_or}
 use Rattle.vme_trace.specs.Instants.{least}
 use Rattle.vme_trace.specs.LineNumbers.{line_count, AS, WRITE, is_answer_line}
+use Rattle.vme_trace.specs.Lanes.{lanes_at}
 use Rattle.vme_trace.specs.Levels.{level_at, is_low}
-use Rattle.vme_trace.specs.Trace.{Trace, time_at}
+use Rattle.vme_trace.specs.Trace.{Trace, levels_at, time_at}
 use Rattle.vme_trace.specs.Signals.{falls, rises, low, high}
 use Rattle.vme_trace.specs.Judged.{Span, is_judged}
-use Rattle.vme_trace.specs.Transfers.{strobes_high, transfer_starts, lasts, in_transfer, answers, is_answer, is_write}
+use Rattle.vme_trace.specs.Transfers.{strobes_high, transfer_starts, lasts, in_transfer, answers, is_answer, is_write, answers_write, data_at}
 use Rattle.vme_trace.specs.Cycles.{cycle_starts}
 use Rattle.vme_trace.specs.Verdict.{break_at as rules_break_at}
+use Rattle.vme_trace.specs.declared.data.Lanes.{Lanes}
 use Rattle.vme_trace.specs.declared.verdict.Break.{Break}
+use Rattle.vme_trace.proofs.OpenTransfers.{suc-sub-one}
 use Rattle.vme_trace.proofs.Ranges.{fails-any}
 use Rattle.vme_monitor.specs.Along.{changes_of, next_at}
 use Rattle.vme_monitor.specs.Run.{break_at, noticed, nothing, run_of}
@@ -19,6 +22,7 @@ use Rattle.vme_monitor.specs.Spanned.{noted, spanned, start_in}
 use Rattle.vme_monitor.specs.Tracked.{Says}
 use Rattle.vme_monitor.specs.Tracking.{entered, is_unanswered, is_within, is_writing, strobes_high_in}
 use Rattle.vme_monitor.specs.Whole.{FindsLeast, ShowsAll}
+use Rattle.vme_monitor.specs.declared.mark.Answered.{Answered as Answer}
 use Rattle.vme_monitor.specs.declared.mark.Asked.{Asked}
 use Rattle.vme_monitor.specs.declared.mark.Fault.{Fault}
 use Rattle.vme_monitor.specs.declared.mark.Next.{Next}
@@ -28,14 +32,14 @@ use Rattle.vme_monitor.proofs.LeastLines.{least_answer}
 use Rattle.vme_monitor.proofs.OwnRules.{own_event, own_marks}
 use Rattle.vme_monitor.proofs.SpanFacts.{IsSpan}
 use Rattle.vme_dtb.specs.Edge.{asked_of, edges_between, falls_between, rises_between, starts_transfer}
-use Rattle.vme_dtb.specs.Machine.{answer_in, broken, dropped, dtb_begin, dtb_ends, dtb_next, dtb_opens, dtb_sight, dtb_step, fault_in, is_doubled, is_replied, is_unserved}
+use Rattle.vme_dtb.specs.Machine.{answer_in, answered_in, broken, dropped, dtb_begin, dtb_ends, dtb_next, dtb_opens, dtb_sight, dtb_step, fault_in, is_doubled, is_replied, is_unserved}
 use Rattle.vme_dtb.specs.declared.cycle.Cycle.{Cycle}
 use Rattle.vme_dtb.specs.CycleState.{cycle_entered, is_acknowledge, is_acknowledged, is_pair_spoiled, is_turned}
 use Rattle.vme_trace.specs.declared.rule.Rule.TheVariants.{H1, H2, H3, H4, H5, H6, H7, H8, C1, C2, I4, I5}
-use Rattle.vme_dtb.specs.Shown.{answer_line, closes, handshake_rules, handshake_shown}
+use Rattle.vme_dtb.specs.Shown.{answer_line, answered, closes, handshake_rules, handshake_shown}
 use Rattle.vme_dtb.specs.declared.edges.Edges.{Edges}
 use Rattle.vme_dtb.specs.declared.memory.Memory.{Memory}
-use Rattle.vme_dtb.proofs.CycleBreaks.{c1, c2, cycle_starts_is, i4, i5}
+use Rattle.vme_dtb.proofs.CycleBreaks.{c1, c2, cycle_starts_is, i4, i5, write_is}
 use Rattle.vme_dtb.proofs.HandshakeBreaks.{answer_is, h1, h2, h3, h4, h5, h6, h7, h8}
 use Rattle.vme_dtb.proofs.Held.{Holds}
 use Rattle.vme_dtb.proofs.Holding.{holds_at, memory_at}
@@ -97,6 +101,17 @@ answered_line true None = refl
 answered_line true (Some l) = refl
 answered_line false o = refl
 
+abbrev told : Option Lanes → Option ℕ → Option Answer
+told d o = option_map (λ l. record { line = l; lanes = d }) o
+
+-- an answer of a write is one that falls
+told_by_write : (e : Pending) (o : Option ℕ) (d : Lanes) → told (cond (is_writing e && is_some o) (Some d) None) (cond (is_unanswered e) o None) ≡ told (cond (is_writing e) (Some d) None) (cond (is_unanswered e) o None)
+told_by_write Closed o d = refl
+told_by_write Reading o d = refl
+told_by_write Writing None d = refl
+told_by_write Writing (Some l) d = refl
+told_by_write Answered o d = refl
+
 module _ (t : Trace) (span : Span) (facts : IsSpan t span) (n : ℕ) (from : span.start ≤ n) (before : suc n < span.end) (m : Memory) (holds : Holds t span n m) where
   abbrev seen : Edges
   seen = edges_between (old t n) (new t n)
@@ -143,6 +158,24 @@ module _ (t : Trace) (span : Span) (facts : IsSpan t span) (n : ℕ) (from : spa
       same_answer : (a b : Bool) (o q : Option ℕ) → a ≡ b → o ≡ q → cond a o None ≡ cond b q None
       same_answer a b o q e f = rw (e, f) refl
 
+  data_is : data_at t span (suc n) ≡ lanes_at (cond (starts_transfer (old t n) (new t n)) (new t n) (old t n))
+  unfolding data_at
+  data_is = rw (starts_is t n span from before, suc-sub-one n) (by_start (starts_transfer (old t n) (new t n)))
+    where
+      by_start : (b : Bool) → lanes_at (levels_at t (cond b (suc n) n)) ≡ lanes_at (cond b (new t n) (old t n))
+      by_start true = refl
+      by_start false = refl
+
+  answered_is : answered t span (suc n) ≡ answered_in within (old t n) (new t n) seen
+  unfolding answered
+  answered_is =
+      same_told (answers_write t span (suc n)) (is_writing within && is_some seen.answer_fall) (data_at t span (suc n)) (lanes_at (cond (starts_transfer (old t n) (new t n)) (new t n) (old t n))) (answer_line t span (suc n)) (answer_in within seen)
+      (write_is t span facts.reads n from before m holds) data_is answer_line_is
+      ∙ told_by_write within seen.answer_fall (lanes_at (cond (starts_transfer (old t n) (new t n)) (new t n) (old t n)))
+    where
+      same_told : (a b : Bool) (d e : Lanes) (o q : Option ℕ) → a ≡ b → d ≡ e → o ≡ q → told (cond a (Some d) None) o ≡ told (cond b (Some e) None) q
+      same_told a b d e o q x y z = rw (x, y, z) refl
+
   open_unless : (p : Pending) → Says t span n p → is_within p ≡ not (strobes_high t n)
   open_unless Closed h = rw h refl
   open_unless Reading o = rw (o.1.still n o.1.within (omega arith)) refl
@@ -163,12 +196,12 @@ module _ (t : Trace) (span : Span) (facts : IsSpan t span) (n : ℕ) (from : spa
   cycle_is : cond (cycle_starts t span (suc n)) (Some (asked_of (new t n))) None ≡ cond (falls_between (old t n) (new t n) AS) (Some (asked_of (new t n))) None
   cycle_is = ap (λ b. cond b (Some (asked_of (new t n))) None) (cycle_starts_is t span facts.reads n from before m holds)
 
-  same_kinds : (a b : Option Asked) (c d : Bool) (e f : Option Bool) (g h : Option ℕ) (i j : Bool) → a ≡ b → c ≡ d → e ≡ f → g ≡ h → i ≡ j
+  same_kinds : (a b : Option Asked) (c d : Bool) (e f : Option Bool) (g h : Option Answer) (i j : Bool) → a ≡ b → c ≡ d → e ≡ f → g ≡ h → i ≡ j
       → record nothing { cycle = a; cycle_end = c; transfer = e; answer = g; close = i } ≡ record nothing { cycle = b; cycle_end = d; transfer = f; answer = h; close = j }
   same_kinds a b c d e f g h i j x y z u v = rw (x, y, z, u, v) refl
 
   kinds_are : (dtb_next m (old t n) (new t n) seen).kinds ≡ handshake_shown t span (suc n)
-  kinds_are = same_kinds _ _ _ _ _ _ _ _ _ _ (sym cycle_is) (sym cycle_end_is) (sym transfer_is) (sym answer_line_is) (sym closes_is)
+  kinds_are = same_kinds _ _ _ _ _ _ _ _ _ _ (sym cycle_is) (sym cycle_end_is) (sym transfer_is) (sym answered_is) (sym closes_is)
 
   pub dtb_kinds : (next_at (noticed dtb_sight dtb_step) t m n).kinds ≡ handshake_shown t span (suc n)
   dtb_kinds = ap (λ (x : Next Memory). x.kinds) (noticed_is t span n m holds (changes_of (slice_get t.steps n))) ∙ kinds_are
@@ -186,7 +219,7 @@ module _ (t : Trace) (span : Span) where
   and_false false = refl
 
   shown_start : nothing ≡ handshake_shown t span span.start
-  unfolding cycle_starts transfer_starts answer_line is_answer closes
+  unfolding cycle_starts transfer_starts answered answer_line is_answer closes
   shown_start = rw (unjudged, in_none (λ i. answers t span i span.start), in_none (λ i. nat_lt i span.start), and_false (strobes_high t span.start)) refl
 
 pub dtb_event : FindsLeast (run_of (noticed (noted dtb_sight) (spanned dtb_begin dtb_opens (λ l. None) dtb_step))) (start_in dtb_begin) handshake_rules

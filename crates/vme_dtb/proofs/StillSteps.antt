@@ -1,6 +1,6 @@
 -- Where the address strobe, the strobes and the answer lines stay as they are, nothing happens.
 use Rattle.std.proofs.Common.{◌≡◌, ℕ, Bool, true, false, ◌&&◌, ◌||◌, not, refl, sym, ◌∙◌, ap, arith, List, Option, Some, None, cond}
-use Rattle.std.specs.Prelude.{is_some}
+use Rattle.std.specs.Prelude.{is_some, option_map}
 use Rattle.std.specs.Option.{option_or, option_map_or}
 use Rattle.vme_trace.specs.LineNumbers.{AS, DS0, DS1, DTACK, BERR, WRITE}
 use Rattle.vme_trace.specs.Levels.{Levels, level_at, is_low, is_high, same_level}
@@ -15,13 +15,14 @@ use Rattle.vme_trace.specs.declared.step.Change.{Change}
 use Rattle.vme_monitor.specs.Run.{noticed, nothing, quiet}
 use Rattle.vme_monitor.specs.Tracked.{Says}
 use Rattle.vme_monitor.specs.Tracking.{answer_between, answered_by, entered, is_unanswered, is_within, is_writing, strobe_low_in, strobes_high_in, tracked}
+use Rattle.vme_monitor.specs.declared.mark.Answered.{Answered as Answer}
 use Rattle.vme_monitor.specs.declared.mark.Asked.{Asked}
 use Rattle.vme_monitor.specs.declared.mark.Fault.{Fault}
 use Rattle.vme_monitor.specs.declared.tracking.Pending.{Pending}
 use Rattle.vme_monitor.specs.declared.tracking.Pending.TheVariants.{Closed, Reading, Writing, Answered}
 use Rattle.vme_dtb.specs.CycleState.{after_answer, is_acknowledge, is_acknowledged, is_pair_spoiled, is_turned}
 use Rattle.vme_dtb.specs.Edge.{asked_of, edges_between, falls_between, first_of, is_still, is_unready, rises_between, starts_transfer}
-use Rattle.vme_dtb.specs.Machine.{answer_in, broken, cycle_fault, dtb_next, dtb_sight, dtb_step, handshake_fault, is_doubled, is_replied, is_unserved, memory_after}
+use Rattle.vme_dtb.specs.Machine.{answer_in, answered_in, broken, cycle_fault, data_in, dtb_next, dtb_sight, dtb_step, handshake_fault, is_doubled, is_replied, is_unserved, memory_after}
 use Rattle.vme_dtb.specs.declared.cycle.Cycle.{Cycle}
 use Rattle.vme_dtb.specs.declared.edges.Edges.{Edges}
 use Rattle.vme_dtb.specs.declared.memory.Memory.{Memory}
@@ -188,11 +189,14 @@ module _ (t : Trace) (span : Span) (n : ℕ) (m : Memory) (holds : Holds t span 
       by_level true false = refl
       by_level false b = refl
 
-  same_next : (k : Memory) (f : Option Fault) (a : Option ℕ) → k ≡ m → f ≡ None → a ≡ None → record { memory = k; fault = f; kinds = record nothing { answer = a } } ≡ quiet m
+  same_next : (k : Memory) (f : Option Fault) (a : Option Answer) → k ≡ m → f ≡ None → a ≡ None → record { memory = k; fault = f; kinds = record nothing { answer = a } } ≡ quiet m
   same_next k f a x y z = rw (x, y, z) refl
 
   same_memory : (p : Pending) (c : Cycle) (a b : Bool) → p ≡ m.pending → c ≡ m.cycle → a ≡ m.dtack_freed → b ≡ m.berr_freed → record { pending = p; cycle = c; dtack_freed = a; berr_freed = b } ≡ m
   same_memory p c a b x y z u = rw (x, y, z, u) refl
+
+  abbrev told : Pending → ℕ → Answer
+  told e l = record { line = l; lanes = data_in e (old t n) (new t n) }
 
   -- a step without edges leaves all as it is
   pub next_still : is_still (old t n) (new t n) ≡ true → dtb_next m (old t n) (new t n) (edges_between (old t n) (new t n)) ≡ quiet m
@@ -204,8 +208,9 @@ module _ (t : Trace) (span : Span) (n : ℕ) (m : Memory) (holds : Holds t span 
       let e = entered m.pending v w in
       let kept = each v w still in
       let none : answer_in e (silent u) ≡ None = nowhere (is_unanswered e) None refl in
+      let no_mark : answered_in e v w (silent u) ≡ None = ap (λ (o : Option ℕ). option_map (λ (l : ℕ). told e l) o) none in
       ap (dtb_next m v w) (edges_still v w still)
-      ∙ same_next (memory_after m v w (silent u)) (option_or (handshake_fault m e (silent u)) (cycle_fault m.cycle (is_writing e) (answer_in e (silent u)))) (answer_in e (silent u))
+      ∙ same_next (memory_after m v w (silent u)) (option_or (handshake_fault m e (silent u)) (cycle_fault m.cycle (is_writing e) (answer_in e (silent u)))) (answered_in e v w (silent u))
       (same_memory (tracked m.pending v w) (cond (is_some (answer_in e (silent u))) (after_answer m.cycle (is_writing e)) m.cycle) (is_low (level_at w DTACK) && (m.dtack_freed || false)) (is_low (level_at w BERR) && (m.berr_freed || false))
       (tracked_still v w still m.pending ∙ pending_kept m.pending holds.transfer) (ap (λ o. cond (is_some o) (after_answer m.cycle (is_writing e)) m.cycle) none)
       (freed_kept (is_low (level_at w DTACK)) (is_low (level_at v DTACK)) _ m.dtack_freed (ap is_low kept.3) holds.dtack) (freed_kept (is_low (level_at w BERR)) (is_low (level_at v BERR)) _ m.berr_freed (ap is_low kept.4) holds.berr))
@@ -227,7 +232,7 @@ module _ (t : Trace) (span : Span) (n : ℕ) (m : Memory) (holds : Holds t span 
       (cycle_fault m.cycle (is_writing e) o)) none
       ∙ all_unbroken (is_unserved m.pending (silent u)) (is_replied m.pending) (not (is_within e)) (is_doubled e (silent u)) (is_unserved m.pending (silent u)) u (is_pair_spoiled m.cycle (is_writing e)) (is_turned m.cycle (is_writing e)) (is_acknowledge m.cycle && is_writing e)
       (is_acknowledged m.cycle))
-      none
+      no_mark
 
   -- so a step that isn't noticed is done all the same
   pub noticed_is : (cs : List Change) → noticed dtb_sight dtb_step m (old t n) (new t n) cs ≡ dtb_next m (old t n) (new t n) (edges_between (old t n) (new t n))

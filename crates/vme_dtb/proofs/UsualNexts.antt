@@ -1,20 +1,23 @@
 -- What follows from the usual kinds of steps.
 use Rattle.std.proofs.Common.{◌≡◌, ℕ, Bool, true, false, ◌&&◌, ◌||◌, not, refl, sym, ◌∙◌, ap, Option, Some, None, cond}
-use Rattle.std.specs.Prelude.{is_some}
+use Rattle.std.specs.Prelude.{is_some, option_map}
 use Rattle.std.specs.Option.{option_or}
 use Rattle.vme_trace.specs.LineNumbers.{AS, DS0, DS1, DTACK, BERR, WRITE}
+use Rattle.vme_trace.specs.Lanes.{lanes_at}
 use Rattle.vme_trace.specs.Levels.{Levels, level_at, is_low, is_high}
+use Rattle.vme_trace.specs.declared.data.Lanes.{Lanes}
 use Rattle.vme_trace.specs.declared.rule.Rule.{Rule}
 use Rattle.vme_trace.specs.declared.rule.Rule.TheVariants.{H2, H3, H4, H5, H7, H8}
 use Rattle.vme_monitor.specs.Run.{nothing, quiet}
 use Rattle.vme_monitor.specs.Tracking.{answered_by, entered, is_unanswered, is_within, is_writing, strobes_high_in, tracked}
+use Rattle.vme_monitor.specs.declared.mark.Answered.{Answered as Answer}
 use Rattle.vme_monitor.specs.declared.mark.Fault.{Fault}
 use Rattle.vme_monitor.specs.declared.mark.Kinds.{Kinds}
 use Rattle.vme_monitor.specs.declared.mark.Next.{Next}
 use Rattle.vme_monitor.specs.declared.tracking.Pending.{Pending}
 use Rattle.vme_monitor.specs.declared.tracking.Pending.TheVariants.{Closed, Reading, Writing, Answered}
 use Rattle.vme_dtb.specs.CycleState.{after_answer, unanswered_of}
-use Rattle.vme_dtb.specs.Machine.{broken, cycle_fault, dtb_next, handshake_fault, is_doubled, is_replied, is_unserved}
+use Rattle.vme_dtb.specs.Machine.{broken, cycle_fault, data_in, dtb_next, handshake_fault, is_doubled, is_replied, is_unserved}
 use Rattle.vme_dtb.specs.Edge.{asked_of, closes_between, edges_between, falls_between, first_of, is_addressed, rises_between, starts_transfer, stays_on, strobe_falls_between, strobe_rises_between}
 use Rattle.vme_dtb.specs.UsualSteps.{is_answer_alone, is_hasty, is_start_alone, is_strobes_alone, memory_left}
 use Rattle.vme_dtb.specs.declared.cycle.Cycle.{Cycle}
@@ -27,7 +30,7 @@ all_none : (h1 h2 h3 h4 h5 h6 h7 h8 : Option Fault) → h1 ≡ None → h2 ≡ N
     → option_or (option_or (option_or (option_or (option_or (option_or (option_or h1 h2) h3) h4) h5) h6) h7) h8 ≡ None
 all_none h1 h2 h3 h4 h5 h6 h7 h8 e1 e2 e3 e4 e5 e6 e7 e8 = rw (e1, e2, e3, e4, e5, e6, e7, e8) refl
 
-same_next : (p l : Pending) (k : Kinds) (c d : Cycle) (x y : Bool) (h q r : Option Fault) (a b : Option ℕ) → p ≡ l → c ≡ d → h ≡ None → q ≡ r → a ≡ b
+same_next : (p l : Pending) (k : Kinds) (c d : Cycle) (x y : Bool) (h q r : Option Fault) (a b : Option Answer) → p ≡ l → c ≡ d → h ≡ None → q ≡ r → a ≡ b
     → ◌≡◌ {A = Next Memory} (record { memory = record { pending = p; cycle = c; dtack_freed = x; berr_freed = y }; fault = option_or h q; kinds = record k { answer = a } })
     (record { memory = record { pending = l; cycle = d; dtack_freed = x; berr_freed = y }; fault = r; kinds = record k { answer = b } })
 same_next p l k c d x y h q r a b o e f g i = rw (o, e, f, g, i) refl
@@ -120,6 +123,25 @@ module _ (m : Memory) (v w : Levels) where
   within_is : starts_transfer v w ≡ false → within ≡ m.pending
   within_is s = ap (λ (b : Bool). cond b (cond (is_low (level_at w WRITE)) Writing Reading) m.pending) s
 
+  abbrev told_with : Option Lanes → ℕ → Answer
+  told_with d l = record { line = l; lanes = d }
+
+  abbrev told : ℕ → Answer
+  told = told_with (data_in within v w)
+
+  no_mark : option_map told (cond (is_unanswered within) None None) ≡ None
+  no_mark = ap (option_map told) (nowhere (is_unanswered within))
+
+  -- the answer of a transfer that started earlier
+  abbrev pub plain_answer : ℕ → Answer
+  plain_answer = told_with (cond (is_writing m.pending) (Some (lanes_at v)) None)
+
+  plain_data : starts_transfer v w ≡ false → data_in within v w ≡ cond (is_writing m.pending) (Some (lanes_at v)) None
+  plain_data s = by_start (starts_transfer v w) within m.pending s (within_is s)
+    where
+      by_start : (b : Bool) (e p : Pending) → b ≡ false → e ≡ p → cond (is_writing e) (Some (lanes_at (cond b w v))) None ≡ cond (is_writing p) (Some (lanes_at v)) None
+      by_start b e p x y = rw (x, y) refl
+
   pub start_next : is_start_alone v w ≡ true
       → record { memory = memory_left m w m.pending (unanswered_of (asked_of w).class) false; fault = None; kinds = record nothing { cycle = Some (asked_of w) } } ≡ dtb_next m v w (edges_between v w)
   start_next alone =
@@ -129,7 +151,7 @@ module _ (m : Memory) (v w : Levels) where
       sym
       (same_next (tracked m.pending v w) _ s.shown _ c _ _ (handshake_fault m within s) _ None _ None (unanswered_left m.pending (no_fall v w DTACK all.3) (no_fall v w BERR all.4) (within_is (no_start v w all.1 all.2))) (kept_cycle c)
       (all_none _ _ _ _ _ _ _ _ refl (unnamed H2 (is_unserved m.pending s)) (unnamed H3 (is_replied m.pending)) (unnamed H4 (not (is_within within))) (unnamed H5 (is_doubled within s)) refl (not_applied H7 _ (Some AS) (and_false (is_unserved m.pending s))) (no_h8 false))
-      (unanswered_here c) (nowhere (is_unanswered within)))
+      (unanswered_here c) no_mark)
       ∙ ap (dtb_next m v w) (start_is v w alone)
 
   pub strobes_next : is_strobes_alone v w ≡ true → is_hasty m.pending (strobe_rises_between v w) (rises_between v w AS) (strobe_falls_between v w) ≡ false
@@ -142,24 +164,25 @@ module _ (m : Memory) (v w : Levels) where
       (same_next (tracked m.pending v w) _ s.shown _ m.cycle _ _ (handshake_fault m within s) _ None _ None (unanswered_left within (no_fall v w DTACK all.1) (no_fall v w BERR all.2) refl) (kept_cycle m.cycle)
       (all_none _ _ _ _ _ _ _ _ refl (hasty_rise m.pending (rises_between v w DS0) (rises_between v w DS1) (rises_between v w AS) (strobe_falls_between v w) calm) (hasty_fall m.pending (strobe_rises_between v w) (rises_between v w AS) (falls_between v w DS0) (falls_between v w DS1) calm)
       (unnamed H4 (not (is_within within))) (unnamed H5 (is_doubled within s)) refl (not_applied H7 _ (Some AS) (hasty_end m.pending (strobe_rises_between v w) (rises_between v w AS) (strobe_falls_between v w) calm)) (no_h8 false))
-      (unanswered_here m.cycle) (nowhere (is_unanswered within)))
+      (unanswered_here m.cycle) no_mark)
       ∙ ap (dtb_next m v w) (strobes_are v w alone)
     where
       by_rise : Memory → Next Memory
       by_rise left = record { memory = left; fault = None; kinds = record nothing { cycle_end = rises_between v w AS; transfer = cond (starts_transfer v w) (Some (is_low (level_at w WRITE))) None; close = closes_between v w } }
 
   pub answer_next : is_answer_alone v w ≡ true → falls_between v w DTACK ≡ true → is_addressed v w ≡ true → is_unanswered m.pending ≡ true
-      → record { memory = memory_left m w Answered (after_answer m.cycle (is_writing m.pending)) false; fault = cycle_fault m.cycle (is_writing m.pending) (Some DTACK); kinds = record nothing { answer = Some DTACK } } ≡ dtb_next m v w (edges_between v w)
+      → record { memory = memory_left m w Answered (after_answer m.cycle (is_writing m.pending)) false; fault = cycle_fault m.cycle (is_writing m.pending) (Some DTACK); kinds = record nothing { answer = Some (plain_answer DTACK) } } ≡ dtb_next m v w (edges_between v w)
   answer_next alone falls addressed waits =
       let all = all_four (stays_on v w AS) (stays_on v w DS0) (stays_on v w DS1) (stays_on v w BERR) alone in
       let s = answer_edges in
       let same = within_is (no_start v w all.1 all.2) in
       let one = one_answer within (ap is_unanswered same ∙ waits) in
       sym
-      (same_next (tracked m.pending v w) _ s.shown _ (after_answer m.cycle (is_writing m.pending)) _ _ (handshake_fault m within s) _ (cycle_fault m.cycle (is_writing m.pending) (Some DTACK)) _ (Some DTACK) (answered_left falls (ap is_unanswered same ∙ waits))
+      (same_next (tracked m.pending v w) _ s.shown _ (after_answer m.cycle (is_writing m.pending)) _ _ (handshake_fault m within s) _ (cycle_fault m.cycle (is_writing m.pending) (Some DTACK)) _ (Some (plain_answer DTACK)) (answered_left falls (ap is_unanswered same ∙ waits))
       (ap (λ (o : Option ℕ). cond (is_some o) (after_answer m.cycle (is_writing within)) m.cycle) one.2 ∙ ap (λ (p : Pending). after_answer m.cycle (is_writing p)) same)
       (all_none _ _ _ _ _ _ _ _ refl (unnamed H2 (is_unserved m.pending s)) (unnamed H3 (is_replied m.pending)) (not_applied H4 _ (Some DTACK) one.0) (not_applied H5 _ (Some DTACK) one.1) refl (not_applied H7 _ (Some AS) (and_false (is_unserved m.pending s))) refl)
-      (ap (cycle_fault m.cycle (is_writing within)) one.2 ∙ ap (λ (p : Pending). cycle_fault m.cycle (is_writing p) (Some DTACK)) same) one.2)
+      (ap (cycle_fault m.cycle (is_writing within)) one.2 ∙ ap (λ (p : Pending). cycle_fault m.cycle (is_writing p) (Some DTACK)) same)
+      (ap (option_map told) one.2 ∙ ap (λ (d : Option Lanes). Some (told_with d DTACK)) (plain_data (no_start v w all.1 all.2))))
       ∙ ap (dtb_next m v w) (answer_is v w alone falls addressed)
 
   pub ready_next : is_answer_alone v w ≡ true → rises_between v w DTACK ≡ true → m.dtack_freed ≡ true → quiet (memory_left m w m.pending m.cycle false) ≡ dtb_next m v w (edges_between v w)
@@ -170,5 +193,5 @@ module _ (m : Memory) (v w : Levels) where
       (same_next (tracked m.pending v w) _ s.shown _ m.cycle _ _ (handshake_fault m within s) _ None _ None
       (unanswered_left m.pending (rises_alone (level_at v DTACK) (level_at w DTACK) rises) (no_fall v w BERR all.3) (within_is (no_start v w all.1 all.2))) (kept_cycle m.cycle)
       (all_none _ _ _ _ _ _ _ _ refl (unnamed H2 (is_unserved m.pending s)) (unnamed H3 (is_replied m.pending)) (unnamed H4 (not (is_within within))) (unnamed H5 (is_doubled within s)) (rw gone refl) (not_applied H7 _ (Some AS) (and_false (is_unserved m.pending s))) (no_h8 (not (is_addressed v w))))
-      (unanswered_here m.cycle) (nowhere (is_unanswered within)))
+      (unanswered_here m.cycle) no_mark)
       ∙ ap (dtb_next m v w) (ready_is v w alone rises)

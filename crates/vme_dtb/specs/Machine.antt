@@ -3,18 +3,21 @@ use Rattle.std.specs.Prelude.{ℕ, Bool, true, false, not, ◌&&◌, ◌||◌, L
 use Rattle.std.specs.Option.{option_or}
 use Rattle.vme_trace.specs.LineNumbers.{AS, DTACK, BERR}
 use Rattle.vme_trace.specs.Levels.{Levels, level_at, is_low}
+use Rattle.vme_trace.specs.Lanes.{lanes_at}
+use Rattle.vme_trace.specs.declared.data.Lanes.{Lanes}
 use Rattle.vme_trace.specs.declared.rule.Rule.{Rule}
 use Rattle.vme_trace.specs.declared.rule.Rule.TheVariants.{H1, H2, H3, H4, H5, H6, H7, H8, C1, C2, I4, I5}
 use Rattle.vme_trace.specs.declared.step.Change.{Change}
 use Rattle.vme_monitor.specs.Run.{nothing}
 use Rattle.vme_monitor.specs.Tracking.{entered, is_unanswered, is_within, is_writing, tracked}
+use Rattle.vme_monitor.specs.declared.mark.Answered.{Answered as Answer}
 use Rattle.vme_monitor.specs.declared.mark.Fault.{Fault}
 use Rattle.vme_monitor.specs.declared.mark.Kinds.{Kinds}
 use Rattle.vme_monitor.specs.declared.mark.Next.{Next}
 use Rattle.vme_monitor.specs.declared.tracking.Pending.{Pending}
 use Rattle.vme_monitor.specs.declared.tracking.Pending.TheVariants.{Closed, Answered}
 use Rattle.vme_dtb.specs.CycleState.{after_answer, cycle_entered, is_acknowledge, is_acknowledged, is_pair_spoiled, is_turned}
-use Rattle.vme_dtb.specs.Edge.{edges_between, first_of, is_still}
+use Rattle.vme_dtb.specs.Edge.{edges_between, first_of, is_still, starts_transfer}
 use Rattle.vme_dtb.specs.declared.cycle.Cycle.{Cycle}
 use Rattle.vme_dtb.specs.declared.cycle.Cycle.TheVariants.{Free}
 use Rattle.vme_dtb.specs.declared.edges.Edges.{Edges}
@@ -32,6 +35,15 @@ broken r applies line = if applies then option_map (λ l. record { rule = r; lin
 -- the line that answers the transfer in which the step ends, if any
 abbrev pub answer_in : Pending → Edges → Option ℕ
 answer_in e s = if is_unanswered e then s.answer_fall else None
+
+-- the data that an answer takes, if the transfer is a write: what the lines say before the step, or after it where the
+-- transfer starts there
+abbrev pub data_in : Pending → Levels → Levels → Option Lanes
+data_in e v w = if is_writing e then Some (lanes_at (if starts_transfer v w then w else v)) else None
+
+-- the answer of the transfer in which the step ends, if any
+abbrev pub answered_in : Pending → Levels → Levels → Edges → Option Answer
+answered_in e v w s = option_map (λ l. record { line = l; lanes = data_in e v w }) (answer_in e s)
 
 -- a strobe has risen since the answer line fell
 abbrev pub freed : Bool → Edges → Bool
@@ -108,7 +120,7 @@ dtb_next m v w s =
     record {
       memory = memory_after m v w s;
       fault = fault_in m v w s;
-      kinds = record s.shown { answer = answer_in (entered m.pending v w) s };
+      kinds = record s.shown { answer = answered_in (entered m.pending v w) v w s };
     }
 
 abbrev pub dtb_step : Memory → Levels → Levels → Moved → Next Memory

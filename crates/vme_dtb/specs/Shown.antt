@@ -1,15 +1,17 @@
 -- The rules of the handshake and of cycles, and what cycles and transfers show at each instant.
-use Rattle.std.specs.Prelude.{ℕ, Bool, ◌&&◌, List, [], ◌∷◌, Option, None, Some, nat_lt, if◌then◌else◌}
+use Rattle.std.specs.Prelude.{ℕ, Bool, ◌&&◌, List, [], ◌∷◌, Option, None, Some, option_map, nat_lt, if◌then◌else◌}
 use Rattle.vme_trace.specs.Instants.{least}
 use Rattle.vme_trace.specs.LineNumbers.{line_count, AS, is_answer_line}
 use Rattle.vme_trace.specs.Trace.{Trace, levels_at}
 use Rattle.vme_trace.specs.Signals.{falls, rises}
 use Rattle.vme_trace.specs.Judged.{Span, is_judged}
 use Rattle.vme_trace.specs.Transfers.{strobes_high, transfer_starts, in_transfer, is_answer, is_write}
+use Rattle.vme_trace.specs.Transfers.{answers_write, data_at}
 use Rattle.vme_trace.specs.Cycles.{cycle_starts}
 use Rattle.vme_trace.specs.declared.rule.Rule.{Rule}
 use Rattle.vme_trace.specs.declared.rule.Rule.TheVariants.{H1, H2, H3, H4, H5, H6, H7, H8, C1, C2, I4, I5}
 use Rattle.vme_monitor.specs.Run.{nothing}
+use Rattle.vme_monitor.specs.declared.mark.Answered.{Answered}
 use Rattle.vme_monitor.specs.declared.mark.Kinds.{Kinds}
 use Rattle.vme_dtb.specs.Edge.{asked_of}
 
@@ -25,6 +27,12 @@ module _ (t : Trace) (span : Span) where
   unfoldable pub answer_line : ℕ → Option ℕ
   answer_line j = if is_answer t span j then least (λ l. is_answer_line l && falls t l j) 0 line_count else None
 
+  -- the answer of a transfer, which takes data if the transfer is a write
+  unfoldable pub answered : ℕ → Option Answered
+  answered j =
+      let lanes = if answers_write t span j then Some (data_at t span j) else None in
+      option_map (λ l. record { line = l; lanes = lanes }) (answer_line j)
+
 -- cycles that start and end, and transfers that start, are answered and close
 abbrev pub handshake_shown : Trace → Span → ℕ → Kinds
 handshake_shown t span j =
@@ -32,6 +40,6 @@ handshake_shown t span j =
       cycle = (if cycle_starts t span j then Some (asked_of (levels_at t j)) else None);
       cycle_end = (is_judged span j && rises t AS j);
       transfer = (if transfer_starts t span j then Some (is_write t span j) else None);
-      answer = answer_line t span j;
+      answer = answered t span j;
       close = closes t span j;
     }

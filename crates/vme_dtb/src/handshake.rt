@@ -4,11 +4,12 @@
 //! a strobe has risen. A single cycle has a transfer, or a read and then a write; a block transfer keeps its direction; an
 //! interrupt acknowledge is one read.
 
-ghost use Rattle.std.specs.Prelude.{◌≡◌, true};
+ghost use Rattle.std.specs.Prelude.{◌≡◌, None, Some, true, if◌then◌else◌};
+ghost use Rattle.vme_trace.specs.Lanes.{lanes_at};
 ghost use Rattle.vme_trace.specs.LineNumbers.{DTACK};
 ghost use Rattle.vme_monitor.specs.Tracking.{is_unanswered, is_within, is_writing};
 ghost use Rattle.vme_monitor.specs.Whole.{FindsLeast, ShowsAll};
-ghost use Rattle.vme_dtb.specs.Machine.{answer_in, broken as broken_on, cycle_fault as fault_of_cycle, dropped as dropped_line, dtb_next, freed as is_freed, handshake_fault as fault_of_handshake, is_doubled, is_replied, is_unserved};
+ghost use Rattle.vme_dtb.specs.Machine.{answer_in, answered_in, broken as broken_on, cycle_fault as fault_of_cycle, data_in, dropped as dropped_line, dtb_next, freed as is_freed, handshake_fault as fault_of_handshake, is_doubled, is_replied, is_unserved};
 ghost use Rattle.vme_dtb.specs.Edge.{edges_between, falls_between, is_addressed, rises_between};
 ghost use Rattle.vme_dtb.specs.UsualSteps.{is_answer_alone, is_hasty, is_start_alone, is_strobes_alone, memory_left};
 ghost use Rattle.vme_dtb.specs.Shown.{handshake_rules, handshake_shown};
@@ -16,14 +17,15 @@ ghost use Rattle.vme_dtb.specs.Shown.{handshake_rules, handshake_shown};
 use crate::cycle::Cycle;
 use crate::edges::{
     Edges, asked, closes, falls, first_answer, is_addressed, is_answer_alone, is_handshake_still,
-    is_start_alone, is_strobes_alone, rises, strobe_falls, strobe_rises, transfer_started,
+    is_start_alone, is_strobes_alone, is_transfer_start, rises, strobe_falls, strobe_rises,
+    transfer_started,
 };
 use crate::memory::Memory;
-use vme_monitor::mark::{Fault, Kinds, NOTHING, Next, quiet};
+use vme_monitor::mark::{Answered, Fault, Kinds, NOTHING, Next, quiet};
 use vme_monitor::monitor::Monitor;
 use vme_monitor::spanned::{Rules, Within};
 use vme_monitor::tracking::{Pending, has_strobes_high};
-use vme_trace::{Change, Line, Lines, Rule};
+use vme_trace::{Change, Lanes, Line, Lines, Rule, moved_data};
 
 /// The rules of the handshake, H1 to H8, and of the answers that a cycle admits, C1, C2, I4 and I5.
 pub struct HandshakeRules;
@@ -78,6 +80,38 @@ fn answer_of(entered: Pending, seen: &Edges) -> Option<Line>
         seen.answer_fall
     } else {
         None
+    }
+}
+
+/// The data that the lines say, if they are those of a write.
+#[inline(always)]
+fn taken(write: bool, lines: &Lines) -> Option<Lanes>
+    ensures { result ≡ (if write then Some (lanes_at lines.now) else None) }
+{
+    if write { Some(moved_data(lines)) } else { None }
+}
+
+/// The data that an answer takes, if the transfer in which the step ends is a write.
+fn data_of(entered: Pending, before: &Lines, after: &Lines) -> Option<Lanes>
+    ensures { result ≡ data_in entered before.now after.now }
+{
+    if is_transfer_start(before, after) {
+        taken(is_writing(entered), after)
+    } else {
+        taken(is_writing(entered), before)
+    }
+}
+
+/// The answer of the transfer in which a step ends, if any.
+fn answered(entered: Pending, before: &Lines, after: &Lines, seen: &Edges) -> Option<Answered>
+    ensures { result ≡ answered_in entered before.now after.now seen.now }
+{
+    match answer_of(entered, seen) {
+        Some(line) => Some(Answered {
+            line,
+            lanes: data_of(entered, before, after),
+        }),
+        None => None,
     }
 }
 
@@ -169,7 +203,7 @@ impl Memory {
             memory: self.left(after, pending, cycle, seen.strobe_rise.is_some()),
             fault,
             kinds: Kinds {
-                answer,
+                answer: answered(entered, before, after, &seen),
                 ..seen.shown
             },
         }
@@ -260,7 +294,10 @@ impl Memory {
             memory: self.left(after, Pending::Answered, self.cycle.answered(write), false),
             fault: cycle_fault(self.cycle, write, Some(Line::DTACK)),
             kinds: Kinds {
-                answer: Some(Line::DTACK),
+                answer: Some(Answered {
+                    line: Line::DTACK,
+                    lanes: taken(write, before),
+                }),
                 ..NOTHING
             },
         }

@@ -2,13 +2,16 @@ use smallvec::SmallVec;
 use std::alloc::Global;
 use std::process::Abort;
 use std::test::Fail;
-use vme_dtb::handshake::Dtb;
+use vme_dtb::handshake::{Dtb, HandshakeRules};
 use vme_monitor::both::Both;
 use vme_monitor::finite::Finite;
 use vme_monitor::known::Known;
 use vme_monitor::mark::{Kind, Mark};
 use vme_monitor::monitor::{Monitor, join, none};
-use vme_trace::{Block, Change, Changes, Class, Level, Line, Lines, Rule, Step, Steps};
+use vme_monitor::silent::BreaksOf;
+use vme_trace::{
+    Block, Change, Changes, Class, Lanes, Level, Line, Lines, Moved, Rule, Step, Steps,
+};
 
 /// The numbers of the lines that change at a step, with their new levels.
 type Row<'a> = &'a [(u8, Level)];
@@ -48,6 +51,22 @@ const GRANT_0: u8 = 116;
 const GRANT_1: u8 = 117;
 
 const ACKNOWLEDGE_1: u8 = 138;
+
+const D00: u8 = 159;
+
+const D01: u8 = 160;
+
+const D02: u8 = 161;
+
+const D03: u8 = 162;
+
+const D04: u8 = 163;
+
+const D05: u8 = 164;
+
+const D06: u8 = 165;
+
+const D07: u8 = 166;
 
 const HIGH: Level = Level::High;
 
@@ -227,6 +246,18 @@ fn answer(rt: &impl Abort, instant: u32) -> Mark {
         instant,
         kind: Kind::Answer {
             line: line_of(rt, DTACK),
+            lanes: None,
+        },
+    }
+}
+
+/// The answer of a write.
+fn answer_with(rt: &impl Abort, instant: u32, lanes: Lanes) -> Mark {
+    Mark {
+        instant,
+        kind: Kind::Answer {
+            line: line_of(rt, DTACK),
+            lanes: Some(lanes),
         },
     }
 }
@@ -296,6 +327,83 @@ fn two_monitors_show_their_marks_in_order(rt: HostRuntime) -> Result<(), Fail> {
         &[(DTACK, HIGH)],
     ];
     assert_shown(&rt, rt.alloc(), &read, &want)
+}
+
+/// The marks of the answers over a recording.
+fn answers_of(rt: &impl Abort, alloc: Global, rows: &[Row<'_>]) -> Result<Vec<Mark>, Fail> {
+    let opening = Lines::new(3).expect(rt, "three slots");
+    let (whole, _) = summary_of(rt, alloc, &opening, steps_of(rt, alloc, rows)?)?;
+    let mut answers = Vec::new(alloc);
+    for mark in Dtb::marks(alloc, &whole, Dtb::start(&opening))? {
+        if let Kind::Answer { .. } = mark.kind {
+            answers.push(mark)?;
+        }
+    }
+    Ok(answers)
+}
+
+/// What is on D00 to D07 before the answer of a write is written, whatever they change to with it; a read has no data.
+#[test]
+fn the_answer_of_a_write_has_its_data(rt: HostRuntime) -> Result<(), Fail> {
+    let alloc = rt.alloc();
+    let read_and_write: [Row<'_>; 11] = [
+        &[
+            (AM1, LOW),
+            (A05, LOW),
+            (D00, HIGH),
+            (D01, LOW),
+            (D02, LOW),
+            (D03, HIGH),
+        ],
+        &[(AS, LOW), (D04, LOW), (D05, HIGH), (D06, LOW), (D07, HIGH)],
+        &[(DS0, LOW)],
+        &[(DTACK, LOW)],
+        &[(DS0, HIGH)],
+        &[(DTACK, HIGH)],
+        &[(WRITE, LOW)],
+        &[(DS0, LOW)],
+        &[(DTACK, LOW), (D01, HIGH)],
+        &[(AS, HIGH), (DS0, HIGH), (D00, LOW)],
+        &[(DTACK, HIGH)],
+    ];
+    let byte = Lanes {
+        moved: Moved::OddByte,
+        value: 0xA9,
+        unknown: 0,
+    };
+    let want = [answer(&rt, 11), answer_with(&rt, 16, byte)];
+    let answers = answers_of(&rt, alloc, &read_and_write)?;
+    assert!(rt; answers.as_slice() == want.as_slice());
+    Ok(())
+}
+
+/// A digit of which a line is unknown is told as such. Where the answer comes as the transfer starts, the data are those
+/// there.
+#[test]
+fn the_data_of_a_write_may_be_unknown(rt: HostRuntime) -> Result<(), Fail> {
+    let alloc = rt.alloc();
+    let at_once: [Row<'_>; 4] = [
+        &[
+            (AM1, LOW),
+            (WRITE, LOW),
+            (A05, LOW),
+            (D00, LOW),
+            (D01, LOW),
+            (D02, LOW),
+            (D03, LOW),
+        ],
+        &[(AS, LOW), (D04, LOW), (D05, LOW), (D06, LOW)],
+        &[(DS0, LOW), (DS1, LOW), (DTACK, LOW), (D00, HIGH)],
+        &[(BBSY, HIGH)],
+    ];
+    let word = Lanes {
+        moved: Moved::Word,
+        value: 0x1,
+        unknown: 0b1110,
+    };
+    let answers = answers_of(&rt, alloc, &at_once)?;
+    assert!(rt; answers.as_slice() == [answer_with(&rt, 10, word)].as_slice());
+    Ok(())
 }
 
 #[test]
@@ -443,5 +551,33 @@ fn runs_that_met_store_their_marks_once(rt: HostRuntime) -> Result<(), Fail> {
     let (whole, _) = summary_of(&rt, alloc, &opening, steps_of(&rt, alloc, &read)?)?;
     let stored = Dtb::stored(&whole);
     assert!(rt; 0 < stored && stored <= shown as u64);
+    Ok(())
+}
+
+/// Who asks for the first break alone finds it, and no marks are made for it.
+#[test]
+fn breaks_are_found_in_silence(rt: HostRuntime) -> Result<(), Fail> {
+    let alloc = rt.alloc();
+    let early: [Row<'_>; 5] = [
+        &[(AM1, LOW), (AM2, LOW), (WRITE, LOW), (A05, LOW)],
+        &[(AS, LOW)],
+        STROBES_LOW,
+        STROBES_HIGH,
+        &[(DTACK, LOW)],
+    ];
+    let opening = Lines::new(3).expect(&rt, "three slots");
+    let block = Block {
+        number: 0,
+        opening,
+        steps: Steps::new(steps_of(&rt, alloc, &early)?),
+    };
+    block.check().expect(&rt, "well formed");
+    assert!(rt; block.steps.as_slice().len() <= 1000);
+    let whole = BreaksOf::<HandshakeRules>::summarise(alloc, &opening, block.steps.as_slice())?;
+    let start = BreaksOf::<HandshakeRules>::start(&opening);
+    let found = BreaksOf::<HandshakeRules>::event(&whole, start).expect(&rt, "a break");
+    assert_eq!(rt; found.instant, 11);
+    assert!(rt; found.rule == Rule::H2);
+    assert!(rt; BreaksOf::<HandshakeRules>::marks(alloc, &whole, start)?.is_empty());
     Ok(())
 }

@@ -5,17 +5,18 @@ use Rattle.vme_trace.specs.Instants.{any, least, greatest, those}
 use Rattle.vme_trace.specs.Levels.{is_idle, loses_control}
 use Rattle.vme_trace.specs.Cycle.{modifier_of, highest_address, class_of, needs_of, is_needed}
 use Rattle.vme_trace.specs.Data.{is_selected}
+use Rattle.vme_trace.specs.Lanes.{moved_at, digit_at, flag_at, lanes_at}
 use Rattle.vme_trace.specs.Trace.{levels_at, changed}
 use Rattle.vme_trace.specs.Signals.{low, high, known, falls, rises, has_edge}
 use Rattle.vme_trace.specs.Judged.{judged_spans, judged_span, span_end, is_idle_at, loses_control_at}
-use Rattle.vme_trace.specs.Transfers.{transfer_starts, lasts, is_answered, answers, is_write, in_transfer, is_answer, answers_write}
+use Rattle.vme_trace.specs.Transfers.{transfer_starts, lasts, is_answered, answers, is_write, in_transfer, is_answer, answers_write, data_at}
 use Rattle.vme_trace.specs.Cycles.{cycle_starts, cycle_runs, cycle_of, in_cycle, answers_of}
 use Rattle.vme_trace.specs.Tenures.{is_granting, grant_falls, taken_grant, tenure_level, has_reached, tenure_slot, tenure_starts, last_before}
 use Rattle.vme_trace.specs.Rules.{spoils_pair, turns, is_broken, breaks}
 use Rattle.vme_trace.specs.Verdict.{rule_break, break_at, break_before, least_break, verdict_by}
 use Rattle.vme_trace.specs.WellFormed.{malformed_step, is_step, are_changes}
 use Rattle.vme_listing.specs.Recorded.{tenure_rows, cycle_rows, transfer_rows, rows_before, listing_by}
-use Rattle.vme_listing.specs.RowText.{hexadecimal, row_text}
+use Rattle.vme_listing.specs.RowText.{hexadecimal, lanes_text, row_text}
 use Rattle.vme_eval.specs.Steps.{idle_lines}
 
 unfoldable pub everything : ℕ
@@ -23,5 +24,5 @@ unfolding verdict_by least_break break_before break_at rule_break breaks is_brok
 everything = 0
 
 unfoldable pub rows : ℕ
-unfolding listing_by rows_before tenure_rows cycle_rows transfer_rows row_text hexadecimal digits
+unfolding listing_by rows_before tenure_rows cycle_rows transfer_rows data_at lanes_at moved_at digit_at flag_at row_text lanes_text hexadecimal digits
 rows = 0

@@ -1,7 +1,7 @@
 -- Computed from the definitions.
 use Rattle.std.proofs.Common.{refl}
 use Rattle.vme_eval.specs.Recording.{Agrees}
-use Rattle.vme_eval.specs.WriteData.{data_unknown, unmoved_data_unknown, data_change_with_the_answer, data_change, unmoved_data_change, data_of_a_read, second_byte_unknown, second_byte_unknown_with_the_answer, second_byte_unknown_after_the_answer, upper_byte_alone, second_byte_settles, data_lost, data_change_after_the_answer, long_word, long_word_unknown, long_word_changes, no_long_word_at_an_odd_word}
+use Rattle.vme_eval.specs.WriteData.{data_unknown, unmoved_data_unknown, data_change_with_the_answer, data_change, unmoved_data_change, data_of_a_read, second_byte_unknown, second_byte_unknown_with_the_answer, second_byte_unknown_after_the_answer, upper_byte_alone, second_byte_settles, data_lost, data_change_after_the_answer, long_word, long_word_unknown, long_word_changes, no_long_word_at_an_odd_word, lanes_unknown, answered_as_it_starts}
 use Rattle.vme_eval.proofs.Everything.{everything, rows}
 
 pub data_unknown_agrees : Agrees data_unknown
@@ -71,3 +71,11 @@ long_word_changes_agrees = record { well_formed = refl; verdict = refl; rows = r
 pub no_long_word_at_an_odd_word_agrees : Agrees no_long_word_at_an_odd_word
 unfolding everything rows no_long_word_at_an_odd_word
 no_long_word_at_an_odd_word_agrees = record { well_formed = refl; verdict = refl; rows = refl }
+
+pub lanes_unknown_agrees : Agrees lanes_unknown
+unfolding everything rows lanes_unknown
+lanes_unknown_agrees = record { well_formed = refl; verdict = refl; rows = refl }
+
+pub answered_as_it_starts_agrees : Agrees answered_as_it_starts
+unfolding everything rows answered_as_it_starts
+answered_as_it_starts_agrees = record { well_formed = refl; verdict = refl; rows = refl }

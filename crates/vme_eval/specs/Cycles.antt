@@ -16,7 +16,7 @@ read_modify_write = record {
   verdict = Conforming;
   rows =
       codes "start 1" ∷ codes "tenure 5 level 3 slot 2 end -" ∷ codes "cycle 9 S 3D FFFFDE end 17"
-      ∷ codes "transfer 10 of 9 read DTACK 11 close 12" ∷ codes "transfer 15 of 9 write DTACK 16 close 17"
+      ∷ codes "transfer 10 of 9 read DTACK 11 close 12" ∷ codes "transfer 15 of 9 write DTACK 16 close 17 data ----FFFF"
       ∷ codes "verdict conforming" ∷ [];
 }
 
@@ -30,7 +30,7 @@ write_then_read = record {
   verdict = Broken (record { instant = 16; time = 150; rule = C1; line = DTACK });
   rows =
       codes "start 1" ∷ codes "tenure 5 level 3 slot 2 end -" ∷ codes "cycle 9 S 3D FFFFDE end -"
-      ∷ codes "transfer 10 of 9 write DTACK 11 close 12" ∷ codes "transfer 15 read pending"
+      ∷ codes "transfer 10 of 9 write DTACK 11 close 12 data ----FFFF" ∷ codes "transfer 15 read pending"
       ∷ codes "verdict broken C1 16 DTACK" ∷ [];
 }
 
@@ -44,7 +44,7 @@ two_writes = record {
   verdict = Broken (record { instant = 16; time = 150; rule = C1; line = DTACK });
   rows =
       codes "start 1" ∷ codes "tenure 5 level 3 slot 2 end -" ∷ codes "cycle 10 S 3D FFFFDE end -"
-      ∷ codes "transfer 11 of 10 write DTACK 12 close 13" ∷ codes "transfer 15 write pending"
+      ∷ codes "transfer 11 of 10 write DTACK 12 close 13 data ----FFFF" ∷ codes "transfer 15 write pending"
       ∷ codes "verdict broken C1 16 DTACK" ∷ [];
 }
 
@@ -59,7 +59,7 @@ read_write_write = record {
   verdict = Broken (record { instant = 20; time = 190; rule = C1; line = DTACK });
   rows =
       codes "start 1" ∷ codes "tenure 5 level 3 slot 2 end -" ∷ codes "cycle 9 S 3D FFFFDE end -"
-      ∷ codes "transfer 10 of 9 read DTACK 11 close 12" ∷ codes "transfer 15 of 9 write DTACK 16 close 17"
+      ∷ codes "transfer 10 of 9 read DTACK 11 close 12" ∷ codes "transfer 15 of 9 write DTACK 16 close 17 data ----FFFF"
       ∷ codes "transfer 19 write pending" ∷ codes "verdict broken C1 20 DTACK" ∷ [];
 }
 
@@ -113,7 +113,7 @@ block_turns_from_write_to_read = record {
   verdict = Broken (record { instant = 16; time = 150; rule = C2; line = DTACK });
   rows =
       codes "start 1" ∷ codes "tenure 5 level 3 slot 2 end -" ∷ codes "cycle 9 K 3B FFFFDE end -"
-      ∷ codes "transfer 10 of 9 write DTACK 11 close 12" ∷ codes "transfer 15 read pending"
+      ∷ codes "transfer 10 of 9 write DTACK 11 close 12 data ----FFFF" ∷ codes "transfer 15 read pending"
       ∷ codes "verdict broken C2 16 DTACK" ∷ [];
 }
 
@@ -141,7 +141,7 @@ free_cycle_reads_writes_and_reads = record {
   verdict = Conforming;
   rows =
       codes "start 1" ∷ codes "tenure 5 level 3 slot 2 end 25" ∷ codes "cycle 9 F 00 end 24"
-      ∷ codes "transfer 10 of 9 read DTACK 11 close 12" ∷ codes "transfer 15 of 9 write DTACK 16 close 17"
+      ∷ codes "transfer 10 of 9 read DTACK 11 close 12" ∷ codes "transfer 15 of 9 write DTACK 16 close 17 data ----FFFF"
       ∷ codes "transfer 20 of 9 read DTACK 21 close 22" ∷ codes "verdict conforming" ∷ [];
 }
 

@@ -174,7 +174,7 @@ direction_known_as_the_transfer_starts = record {
   verdict = Conforming;
   rows =
       codes "start 1" ∷ codes "tenure 5 level 3 slot 2 end -" ∷ codes "cycle 9 K 3F FFFFFE end 12"
-      ∷ codes "transfer 10 of 9 write DTACK 11 close 12" ∷ codes "verdict conforming" ∷ [];
+      ∷ codes "transfer 10 of 9 write DTACK 11 close 12 data ------FF" ∷ codes "verdict conforming" ∷ [];
 }
 
 -- the direction changes as the strobe falls

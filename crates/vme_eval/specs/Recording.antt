@@ -4,12 +4,12 @@ use Rattle.vme_trace.specs.Trace.{Trace}
 use Rattle.vme_trace.specs.Verdict.{verdict}
 use Rattle.vme_trace.specs.WellFormed.{malformed_step}
 use Rattle.vme_trace.specs.declared.verdict.Verdict.{Verdict}
-use Rattle.vme_listing.specs.Recorded.{listing_of}
+use Rattle.vme_listing.specs.Recorded.{recorded_rows}
 use Rattle.vme_listing.specs.RowText.{row_text}
 
 -- the listing of a recording, each row as its text
 abbrev pub told : Trace → List (List ℕ)
-told t = map row_text (listing_of t)
+told t = map row_text (recorded_rows t)
 
 -- a recording with the verdict and the rows that it should get
 pub record Recording : Type 0 where

@@ -29,7 +29,7 @@ unmoved_data_unknown = record {
   verdict = Conforming;
   rows =
       codes "start 1" ∷ codes "tenure 5 level 3 slot 2 end -" ∷ codes "cycle 9 S 3D FFFFDE end 17"
-      ∷ codes "transfer 10 of 9 read DTACK 11 close 12" ∷ codes "transfer 15 of 9 write DTACK 16 close 17"
+      ∷ codes "transfer 10 of 9 read DTACK 11 close 12" ∷ codes "transfer 15 of 9 write DTACK 16 close 17 data ----FFFF"
       ∷ codes "verdict conforming" ∷ [];
 }
 
@@ -43,7 +43,7 @@ data_change_with_the_answer = record {
   verdict = Conforming;
   rows =
       codes "start 1" ∷ codes "tenure 5 level 3 slot 2 end -" ∷ codes "cycle 9 S 3D FFFFDE end 17"
-      ∷ codes "transfer 10 of 9 read DTACK 11 close 12" ∷ codes "transfer 15 of 9 write DTACK 16 close 17"
+      ∷ codes "transfer 10 of 9 read DTACK 11 close 12" ∷ codes "transfer 15 of 9 write DTACK 16 close 17 data ----FFFF"
       ∷ codes "verdict conforming" ∷ [];
 }
 
@@ -71,7 +71,7 @@ unmoved_data_change = record {
   verdict = Conforming;
   rows =
       codes "start 1" ∷ codes "tenure 5 level 3 slot 2 end -" ∷ codes "cycle 9 S 3D FFFFDE end 18"
-      ∷ codes "transfer 10 of 9 read DTACK 11 close 12" ∷ codes "transfer 15 of 9 write DTACK 17 close 18"
+      ∷ codes "transfer 10 of 9 read DTACK 11 close 12" ∷ codes "transfer 15 of 9 write DTACK 17 close 18 data ----FFFF"
       ∷ codes "verdict conforming" ∷ [];
 }
 
@@ -121,7 +121,7 @@ second_byte_unknown_after_the_answer = record {
   verdict = Broken (record { instant = 12; time = 110; rule = H3; line = DS1 });
   rows =
       codes "start 1" ∷ codes "tenure 5 level 3 slot 2 end -" ∷ codes "cycle 9 S 39 FFFFDE end -"
-      ∷ codes "transfer 10 of 9 write DTACK 11 close -" ∷ codes "verdict broken H3 12 DS1" ∷ [];
+      ∷ codes "transfer 10 of 9 write DTACK 11 close - data ------FF" ∷ codes "verdict broken H3 12 DS1" ∷ [];
 }
 
 -- the upper byte alone is written, and the lower one is unknown
@@ -133,7 +133,7 @@ upper_byte_alone = record {
   verdict = Conforming;
   rows =
       codes "start 1" ∷ codes "tenure 5 level 3 slot 2 end -" ∷ codes "cycle 9 S 39 FFFFDE end 12"
-      ∷ codes "transfer 10 of 9 write DTACK 11 close 12" ∷ codes "verdict conforming" ∷ [];
+      ∷ codes "transfer 10 of 9 write DTACK 11 close 12 data ----FF--" ∷ codes "verdict conforming" ∷ [];
 }
 
 -- the byte of the second strobe changes as it falls
@@ -146,7 +146,7 @@ second_byte_settles = record {
   verdict = Conforming;
   rows =
       codes "start 1" ∷ codes "tenure 5 level 3 slot 2 end -" ∷ codes "cycle 9 S 39 FFFFDE end 13"
-      ∷ codes "transfer 10 of 9 write DTACK 12 close 13" ∷ codes "verdict conforming" ∷ [];
+      ∷ codes "transfer 10 of 9 write DTACK 12 close 13 data ----FEFF" ∷ codes "verdict conforming" ∷ [];
 }
 
 -- a data line becomes unknown before the answer of the write
@@ -170,7 +170,7 @@ data_change_after_the_answer = record {
   verdict = Conforming;
   rows =
       codes "start 1" ∷ codes "tenure 5 level 3 slot 2 end -" ∷ codes "cycle 9 S 39 FFFFDE end 13"
-      ∷ codes "transfer 10 of 9 write DTACK 11 close 13" ∷ codes "verdict conforming" ∷ [];
+      ∷ codes "transfer 10 of 9 write DTACK 11 close 13 data ----FFFF" ∷ codes "verdict conforming" ∷ [];
 }
 
 -- a long word whose data lines are known and held
@@ -183,7 +183,7 @@ long_word = record {
   verdict = Conforming;
   rows =
       codes "start 1" ∷ codes "tenure 5 level 3 slot 2 end -" ∷ codes "cycle 9 S 39 FFFFDC end 12"
-      ∷ codes "transfer 10 of 9 write DTACK 11 close 12" ∷ codes "verdict conforming" ∷ [];
+      ∷ codes "transfer 10 of 9 write DTACK 11 close 12 data 7FFFFFFF" ∷ codes "verdict conforming" ∷ [];
 }
 
 -- the highest data line of a long word is unknown
@@ -219,5 +219,31 @@ no_long_word_at_an_odd_word = record {
   verdict = Conforming;
   rows =
       codes "start 1" ∷ codes "tenure 5 level 3 slot 2 end -" ∷ codes "cycle 9 S 39 FFFFDE end 12"
-      ∷ codes "transfer 10 of 9 write DTACK 11 close 12" ∷ codes "verdict conforming" ∷ [];
+      ∷ codes "transfer 10 of 9 write DTACK 11 close 12 data --------" ∷ codes "verdict conforming" ∷ [];
+}
+
+-- the second transfer of a block becomes one of a long word before its answer, and a line of the upper half is unknown
+unfoldable pub lanes_unknown : Recording
+lanes_unknown = record {
+  trace =
+      once_granted ((low (AM 2) ∷ low WRITE ∷ low (A 5) ∷ unknown (D 16) ∷ []) ∷ (low AS ∷ []) ∷ (low DS0 ∷ low DS1 ∷ [])
+      ∷ (low DTACK ∷ []) ∷ (high DS0 ∷ high DS1 ∷ []) ∷ (high DTACK ∷ []) ∷ (low DS0 ∷ low DS1 ∷ [])
+      ∷ (low LWORD ∷ low (A 1) ∷ []) ∷ (low DTACK ∷ []) ∷ (high AS ∷ high DS0 ∷ high DS1 ∷ []) ∷ (high DTACK ∷ []) ∷ []);
+  verdict = Conforming;
+  rows =
+      codes "start 1" ∷ codes "tenure 5 level 3 slot 2 end -" ∷ codes "cycle 9 K 3B FFFFDE end 17"
+      ∷ codes "transfer 10 of 9 write DTACK 11 close 12 data ----FFFF"
+      ∷ codes "transfer 14 of 9 write DTACK 16 close 17 data FFFXFFFF" ∷ codes "verdict conforming" ∷ [];
+}
+
+-- a write is answered as it starts
+unfoldable pub answered_as_it_starts : Recording
+answered_as_it_starts = record {
+  trace =
+      once_granted ((low (AM 1) ∷ low (AM 2) ∷ low WRITE ∷ low (A 5) ∷ []) ∷ (low AS ∷ [])
+      ∷ (low DS0 ∷ low DS1 ∷ low DTACK ∷ low (D 0) ∷ []) ∷ (high AS ∷ high DS0 ∷ high DS1 ∷ []) ∷ (high DTACK ∷ []) ∷ []);
+  verdict = Conforming;
+  rows =
+      codes "start 1" ∷ codes "tenure 5 level 3 slot 2 end -" ∷ codes "cycle 9 S 39 FFFFDE end 11"
+      ∷ codes "transfer 10 of 9 write DTACK 10 close 11 data ----FFFE" ∷ codes "verdict conforming" ∷ [];
 }

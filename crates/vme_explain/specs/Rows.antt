@@ -51,11 +51,11 @@ is_interrupt_cycle (row.InterruptCycle start level end) = true
 is_interrupt_cycle r = false
 
 abbrev pub is_transfer_in : Direction → Row → Bool
-is_transfer_in direction (row.Transfer start cycle own line answer close) = same_direction own direction
+is_transfer_in direction (row.Transfer start cycle own line answer close lanes) = same_direction own direction
 is_transfer_in direction r = false
 
 abbrev pub is_answered_by : AnswerLine → Row → Bool
-is_answered_by line (row.Transfer start cycle direction own answer close) = same_answer own line
+is_answered_by line (row.Transfer start cycle direction own answer close lanes) = same_answer own line
 is_answered_by line r = false
 
 abbrev pub is_pending : Row → Bool
@@ -93,7 +93,7 @@ is_cycle_open (row.InterruptCycle start level end) = has_no_end end
 is_cycle_open r = false
 
 abbrev pub is_transfer_open : Row → Bool
-is_transfer_open (row.Transfer start cycle direction line answer close) = has_no_end close
+is_transfer_open (row.Transfer start cycle direction line answer close lanes) = has_no_end close
 is_transfer_open (row.PendingTransfer start direction) = true
 is_transfer_open r = false
 

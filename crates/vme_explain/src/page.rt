@@ -7,10 +7,10 @@ use crate::sources::{bound_to, push_variable};
 use crate::summary::{push_never_idle, push_summary};
 use std::alloc::{AllocError, Global};
 use vcd_read::Variable;
-use vme_listing::{AnswerLine, Direction, Row};
+use vme_listing::{AnswerLine, Direction, Row, data_digits};
 use vme_rules::push_rule;
 use vme_text::Text;
-use vme_trace::{Break, Capture, Class, Line, Lines, Verdict};
+use vme_trace::{Break, Capture, Class, Lanes, Line, Lines, Verdict};
 
 /// How many instants an excerpt shows before and behind the break.
 const BEFORE: u32 = 8;
@@ -147,6 +147,7 @@ fn push_open_transfer(
             direction,
             line,
             answer,
+            lanes,
             ..
         } => {
             push_direction(text, *direction)?;
@@ -155,7 +156,8 @@ fn push_open_transfer(
                 AnswerLine::Dtack => text.push(b", answered by DTACK at instant ")?,
                 AnswerLine::Berr => text.push(b", answered by BERR at instant ")?,
             }
-            push_instant(text, alloc, capture, *answer)
+            push_instant(text, alloc, capture, *answer)?;
+            push_data(text, *lanes)
         }
         Row::PendingTransfer { start, direction } => {
             push_direction(text, *direction)?;
@@ -163,6 +165,17 @@ fn push_open_transfer(
             text.push(b", not answered")
         }
         _ => Ok(()),
+    }
+}
+
+/// Appends the data of a write.
+fn push_data(text: &mut Text, lanes: Option<Lanes>) -> Result<(), AllocError> {
+    match lanes {
+        Some(lanes) => {
+            text.push(b", data ")?;
+            text.push(&data_digits(lanes))
+        }
+        None => Ok(()),
     }
 }
 

@@ -20,6 +20,7 @@ const ROWS: [Row; 4] = [
         line: AnswerLine::Dtack,
         answer: 11,
         close: Some(12),
+        lanes: None,
     },
     Row::PendingTransfer {
         start: 14,

@@ -113,7 +113,7 @@ fn assert_rows(rt: &impl Abort, alloc: Global, span: &Span, rows: &str) -> Resul
         None => text_of(alloc, span).ok_or("not written")?,
     };
     assert!(rt;
-        page.bytes.as_slice().strip_prefix(b"vmecheck listing 1\n") == Some(rows.as_bytes())
+        page.bytes.as_slice().strip_prefix(b"vmecheck listing 2\n") == Some(rows.as_bytes())
     );
     Ok(())
 }

@@ -1,6 +1,6 @@
 -- Each row is read from its own text, so rows differ in their text.
 use Rattle.std.proofs.Common.{◌≡◌, ℕ, ◌%◌, ◌^◌, ◌<◌, ◌≤◌, Bool, true, not, ◌&&◌, List, [], ◌∷◌, refl, ap, ◌∙◌, arith}
-use Rattle.std.specs.Prelude.{Option, Some, codes, decimal, nat_lt, nat_le}
+use Rattle.std.specs.Prelude.{Option, None, Some, codes, decimal, nat_lt, nat_le}
 use Rattle.std.specs.Fmt.{digits}
 use Rattle.std.proofs.Math.Nat.{mod-eq_of_lt}
 use Rattle.std.proofs.lemmas.Bool.{and_parts, and_from, ltb-true, leb-true, not-true, not-false}
@@ -9,6 +9,7 @@ use Rattle.vme_trace.specs.LineNumbers.{line_count}
 use Rattle.vme_trace.specs.Names.{line_name, rule_name}
 use Rattle.vme_trace.specs.declared.class.Class.{Class}
 use Rattle.vme_trace.specs.declared.class.Class.TheVariants as class
+use Rattle.vme_trace.specs.declared.data.Lanes.{Lanes}
 use Rattle.vme_trace.specs.declared.rule.Rule.{Rule}
 use Rattle.vme_trace.specs.declared.rule.Rule.TheVariants.{U1, U2, U3, U4, H1, H2, H3, H4, H5, H6, H7, H8, S1, S2, S3, C1, C2, G1, G2, G3, G4, G5, B1, B2, B3, B4, I1, I2, I3, I4, I5}
 use Rattle.vme_trace.proofs.NameLaws.{line_named-is, rule_named-is}
@@ -19,15 +20,18 @@ use Rattle.vme_listing.specs.declared.row.Direction.{Direction}
 use Rattle.vme_listing.specs.declared.row.Direction.TheVariants.{Read, Write}
 use Rattle.vme_listing.specs.declared.row.Outcome.{Outcome}
 use Rattle.vme_listing.specs.declared.row.Outcome.TheVariants.{Conforming, NeverIdle, Broken, Unreadable}
+use Rattle.vme_listing.specs.declared.row.Version.{Version}
+use Rattle.vme_listing.specs.declared.row.Version.TheVariants.{One, Two}
 use Rattle.vme_listing.specs.declared.row.Row.{Row}
 use Rattle.vme_listing.specs.declared.row.Row.TheVariants.{Start, OpenTenure, Tenure, AddressedCycle, FreeCycle, InterruptCycle, Transfer, PendingTransfer, Verdict}
-use Rattle.vme_listing.specs.Places.{is_number, is_edge, has_class, is_address, is_outcome, is_row}
-use Rattle.vme_listing.specs.RowText.{edge_text, hexadecimal, address_digits, direction_text, answer_text, row_text}
-use Rattle.vme_listing.specs.Words.{words, number_of, small_of, edge_of, direction_of, answer_of, tenure_of, cycle_of, transfer_of, outcome_of, row_of}
+use Rattle.vme_listing.specs.Places.{is_number, is_edge, has_class, is_address, is_outcome, is_lanes, has_data, is_row}
+use Rattle.vme_listing.specs.RowText.{edge_text, hexadecimal, address_digits, direction_text, answer_text, lanes_text, row_text}
+use Rattle.vme_listing.specs.Words.{words, number_of, small_of, edge_of, direction_of, answer_of, tenure_of, cycle_of, lanes_of, transfer_of, outcome_of, row_of}
 use Rattle.vme_listing.proofs.Addresses.{HasDigits, address-digits}
 use Rattle.vme_listing.proofs.Cuts.{is_plain, are_plain, decimal-glyphs, glyphs-plain, hexadecimal-glyphs}
+use Rattle.vme_listing.proofs.LaneTexts.{lanes_read, lanes-plain}
 use Rattle.vme_listing.proofs.Numerals.{number_of-decimal, number_of-hexadecimal, edge_of-text, edge_text-plain}
-use Rattle.vme_listing.proofs.RowWords.{by_words, start_text, open_tenure_text, tenure_text, addressed_cycle_text, free_cycle_text, interrupt_cycle_text, transfer_text, pending_text, broken_text, unreadable_text}
+use Rattle.vme_listing.proofs.RowWords.{by_words, start_text, open_tenure_text, tenure_text, addressed_cycle_text, free_cycle_text, interrupt_cycle_text, transfer_text, data_transfer_text, pending_text, broken_text, unreadable_text}
 
 abbrev IsRead : Row → Type 0
 IsRead row = row_of (words (row_text row)) ≡ Some row
@@ -135,23 +139,60 @@ answer_read : (line : AnswerLine) → answer_of (answer_text line) ≡ line
 answer_read Dtack = refl
 answer_read Berr = refl
 
-transfer_read : (start cycle : ℕ) (direction : Direction) (line : AnswerLine) (answer : ℕ) (close : Option ℕ) → is_number start ≡ true → is_number cycle ≡ true → is_number answer ≡ true → is_edge close ≡ true
-    → IsRead (Transfer start cycle direction line answer close)
-unfolding row_of transfer_of
-transfer_read start cycle direction line answer close h c a e =
-    by_words (Transfer start cycle direction line answer close) (codes "transfer")
-    (decimal start ∷ codes "of" ∷ decimal cycle ∷ direction_text direction ∷ answer_text line ∷ decimal answer ∷ codes "close" ∷ edge_text close ∷ [])
-    (transfer_text start cycle direction line answer close)
-    (and_from _ _ (number_plain start (below_32 start h))
+transfer_plain : (start cycle : ℕ) (direction : Direction) (line : AnswerLine) (answer : ℕ) (close : Option ℕ) (more : List (List ℕ))
+    → is_number start ≡ true → is_number cycle ≡ true → is_number answer ≡ true → is_edge close ≡ true → are_plain more ≡ true
+    → are_plain (codes "transfer" ∷ decimal start ∷ codes "of" ∷ decimal cycle ∷ direction_text direction ∷ answer_text line ∷ decimal answer ∷ codes "close" ∷ edge_text close ∷ more) ≡ true
+transfer_plain start cycle direction line answer close more h c a e plain =
+    and_from _ _ (number_plain start (below_32 start h))
     (and_from _ _ (number_plain cycle (below_32 cycle c))
     (and_from _ _ (direction_plain direction)
-    (and_from _ _ (answer_plain line) (and_from _ _ (number_plain answer (below_32 answer a)) (and_from _ _ (edge_text-plain close e) refl))))))
-    (ap (λ n. Some (Transfer n (number_of 10 (decimal cycle)) (direction_of (direction_text direction)) (answer_of (answer_text line)) (number_of 10 (decimal answer)) (edge_of (edge_text close)))) (number_read start h)
-    ∙ ap (λ n. Some (Transfer start n (direction_of (direction_text direction)) (answer_of (answer_text line)) (number_of 10 (decimal answer)) (edge_of (edge_text close)))) (number_read cycle c)
-    ∙ ap (λ d. Some (Transfer start cycle d (answer_of (answer_text line)) (number_of 10 (decimal answer)) (edge_of (edge_text close)))) (direction_read direction)
-    ∙ ap (λ l. Some (Transfer start cycle direction l (number_of 10 (decimal answer)) (edge_of (edge_text close)))) (answer_read line)
-    ∙ ap (λ n. Some (Transfer start cycle direction line n (edge_of (edge_text close)))) (number_read answer a)
-    ∙ ap (λ x. Some (Transfer start cycle direction line answer x)) (edge_of-text close e))
+    (and_from _ _ (answer_plain line) (and_from _ _ (number_plain answer (below_32 answer a)) (and_from _ _ (edge_text-plain close e) plain)))))
+
+transfer_words : (start cycle : ℕ) (direction : Direction) (line : AnswerLine) (answer : ℕ) (close : Option ℕ) (read lanes : Option Lanes)
+    → is_number start ≡ true → is_number cycle ≡ true → is_number answer ≡ true → is_edge close ≡ true → read ≡ lanes
+    → Some (Transfer (number_of 10 (decimal start)) (number_of 10 (decimal cycle)) (direction_of (direction_text direction)) (answer_of (answer_text line)) (number_of 10 (decimal answer)) (edge_of (edge_text close)) read)
+    ≡ Some (Transfer start cycle direction line answer close lanes)
+transfer_words start cycle direction line answer close read lanes h c a e same =
+    ap (λ n. Some (Transfer n (number_of 10 (decimal cycle)) (direction_of (direction_text direction)) (answer_of (answer_text line)) (number_of 10 (decimal answer)) (edge_of (edge_text close)) read)) (number_read start h)
+    ∙ ap (λ n. Some (Transfer start n (direction_of (direction_text direction)) (answer_of (answer_text line)) (number_of 10 (decimal answer)) (edge_of (edge_text close)) read)) (number_read cycle c)
+    ∙ ap (λ d. Some (Transfer start cycle d (answer_of (answer_text line)) (number_of 10 (decimal answer)) (edge_of (edge_text close)) read)) (direction_read direction)
+    ∙ ap (λ l. Some (Transfer start cycle direction l (number_of 10 (decimal answer)) (edge_of (edge_text close)) read)) (answer_read line)
+    ∙ ap (λ n. Some (Transfer start cycle direction line n (edge_of (edge_text close)) read)) (number_read answer a)
+    ∙ ap (λ x. Some (Transfer start cycle direction line answer x read)) (edge_of-text close e)
+    ∙ ap (λ x. Some (Transfer start cycle direction line answer close x)) same
+
+transfer_read : (start cycle : ℕ) (direction : Direction) (line : AnswerLine) (answer : ℕ) (close : Option ℕ) → is_number start ≡ true → is_number cycle ≡ true → is_number answer ≡ true → is_edge close ≡ true
+    → IsRead (Transfer start cycle direction line answer close None)
+unfolding row_of transfer_of lanes_of
+transfer_read start cycle direction line answer close h c a e =
+    by_words (Transfer start cycle direction line answer close None) (codes "transfer")
+    (decimal start ∷ codes "of" ∷ decimal cycle ∷ direction_text direction ∷ answer_text line ∷ decimal answer ∷ codes "close" ∷ edge_text close ∷ [])
+    (transfer_text start cycle direction line answer close)
+    (transfer_plain start cycle direction line answer close [] h c a e refl)
+    (transfer_words start cycle direction line answer close None None h c a e refl)
+
+data_transfer_read : (start cycle : ℕ) (direction : Direction) (line : AnswerLine) (answer : ℕ) (close : Option ℕ) (lanes : Lanes)
+    → is_number start ≡ true → is_number cycle ≡ true → is_number answer ≡ true → is_edge close ≡ true → is_lanes lanes ≡ true
+    → IsRead (Transfer start cycle direction line answer close (Some lanes))
+unfolding row_of transfer_of
+data_transfer_read start cycle direction line answer close lanes h c a e is =
+    by_words (Transfer start cycle direction line answer close (Some lanes)) (codes "transfer")
+    (decimal start ∷ codes "of" ∷ decimal cycle ∷ direction_text direction ∷ answer_text line ∷ decimal answer ∷ codes "close" ∷ edge_text close ∷ codes "data" ∷ lanes_text lanes ∷ [])
+    (data_transfer_text start cycle direction line answer close lanes)
+    (transfer_plain start cycle direction line answer close (codes "data" ∷ lanes_text lanes ∷ []) h c a e (and_from _ _ (lanes-plain lanes) refl))
+    (transfer_words start cycle direction line answer close (lanes_of (codes "data") (lanes_text lanes)) (Some lanes) h c a e (lanes_read lanes is))
+
+has_lanes : (version : Version) (direction : Direction) (lanes : Lanes) → has_data version direction (Some lanes) ≡ true → is_lanes lanes ≡ true
+has_lanes One direction lanes h = absurd (cc)
+has_lanes Two Read lanes h = absurd (cc)
+has_lanes Two Write lanes h = h
+
+any_transfer_read : (version : Version) (start cycle : ℕ) (direction : Direction) (line : AnswerLine) (answer : ℕ) (close : Option ℕ) (lanes : Option Lanes)
+    → is_number start ≡ true → is_number cycle ≡ true → is_number answer ≡ true → is_edge close ≡ true → has_data version direction lanes ≡ true
+    → IsRead (Transfer start cycle direction line answer close lanes)
+any_transfer_read version start cycle direction line answer close None h c a e is = transfer_read start cycle direction line answer close h c a e
+any_transfer_read version start cycle direction line answer close (Some lanes) h c a e is =
+    data_transfer_read start cycle direction line answer close lanes h c a e (has_lanes version direction lanes is)
 
 pending_plain : (start : ℕ) (direction : Direction) → is_number start ≡ true → are_plain (codes "transfer" ∷ decimal start ∷ direction_text direction ∷ codes "pending" ∷ []) ≡ true
 pending_plain start direction h = and_from _ _ (number_plain start (below_32 start h)) (and_from _ _ (direction_plain direction) refl)
@@ -240,34 +281,35 @@ verdict_read (Unreadable rule instant line) h =
     unreadable_read rule instant line (and_parts _ (is_number instant) parts.0).1 (ltb-true line line_count parts.1)
 
 -- the row of a row's own text is that row
-pub row_read : (row : Row) → is_row row ≡ true → row_of (words (row_text row)) ≡ Some row
+pub row_read : (version : Version) (row : Row) → is_row version row ≡ true → row_of (words (row_text row)) ≡ Some row
 unfolding is_row
-row_read (Start instant) h = start_read instant h
-row_read (OpenTenure start end) h = let p = and_parts (is_number start) (is_edge end) h in open_tenure_read start end p.0 p.1
-row_read (Tenure start level slot end) h =
+row_read version (Start instant) h = start_read instant h
+row_read version (OpenTenure start end) h = let p = and_parts (is_number start) (is_edge end) h in open_tenure_read start end p.0 p.1
+row_read version (Tenure start level slot end) h =
     let e = and_parts (is_number start && nat_lt level 4 && nat_le 1 slot && nat_le slot 21) (is_edge end) h in
     let most = and_parts (is_number start && nat_lt level 4 && nat_le 1 slot) (nat_le slot 21) e.0 in
     let least = and_parts (is_number start && nat_lt level 4) (nat_le 1 slot) most.0 in
     let p = and_parts (is_number start) (nat_lt level 4) least.0 in
     tenure_read start level slot end p.0 (ltb-true level 4 p.1) (leb-true slot 21 most.1) e.1
-row_read (AddressedCycle start class modifier address end) h =
+row_read version (AddressedCycle start class modifier address end) h =
     let e = and_parts (is_number start && has_class modifier class && is_address modifier address) (is_edge end) h in
     let a = and_parts (is_number start && has_class modifier class) (is_address modifier address) e.0 in
     let p = and_parts (is_number start) (has_class modifier class) a.0 in
     addressed_cycle_read start class modifier address end p.0 p.1 (address-digits modifier address a.1) e.1
-row_read (FreeCycle start modifier end) h =
+row_read version (FreeCycle start modifier end) h =
     let e = and_parts _ (is_edge end) h in
     let free = and_parts (is_number start && nat_lt modifier 64) _ e.0 in
     let p = and_parts (is_number start) (nat_lt modifier 64) free.0 in
     free_cycle_read start modifier end p.0 (ltb-true modifier 64 p.1) e.1
-row_read (InterruptCycle start level end) h =
+row_read version (InterruptCycle start level end) h =
     let e = and_parts (is_number start && nat_lt level 8) (is_edge end) h in
     let p = and_parts (is_number start) (nat_lt level 8) e.0 in
     interrupt_cycle_read start level end p.0 (ltb-true level 8 p.1) e.1
-row_read (Transfer start cycle direction line answer close) h =
-    let e = and_parts (is_number start && is_number cycle && is_number answer) (is_edge close) h in
+row_read version (Transfer start cycle direction line answer close lanes) h =
+    let d = and_parts (is_number start && is_number cycle && is_number answer && is_edge close) (has_data version direction lanes) h in
+    let e = and_parts (is_number start && is_number cycle && is_number answer) (is_edge close) d.0 in
     let a = and_parts (is_number start && is_number cycle) (is_number answer) e.0 in
     let p = and_parts (is_number start) (is_number cycle) a.0 in
-    transfer_read start cycle direction line answer close p.0 p.1 a.1 e.1
-row_read (PendingTransfer start direction) h = pending_read start direction h
-row_read (Verdict outcome) h = verdict_read outcome h
+    any_transfer_read version start cycle direction line answer close lanes p.0 p.1 a.1 e.1 d.1
+row_read version (PendingTransfer start direction) h = pending_read start direction h
+row_read version (Verdict outcome) h = verdict_read outcome h

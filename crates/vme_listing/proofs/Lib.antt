@@ -5,9 +5,13 @@ pub mod Digits
 pub mod Fronts
 pub mod LineFeeds
 pub mod Numerals
+pub mod DigitTexts
+pub mod LaneTexts
+pub mod RecordedLanes
 pub mod Readings
 pub mod RowWords
 pub mod FoundBreaks
 pub mod RowForms
 pub mod RecordedRows
 pub mod WellPlaced
+pub mod WithoutData

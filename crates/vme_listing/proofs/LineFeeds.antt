@@ -15,15 +15,18 @@ use Rattle.vme_trace.specs.declared.class.Class.{Class}
 use Rattle.vme_trace.specs.declared.class.Class.TheVariants as class
 use Rattle.vme_trace.specs.declared.rule.Rule.{Rule}
 use Rattle.vme_trace.specs.declared.rule.Rule.TheVariants.{U1, U2, U3, U4, H1, H2, H3, H4, H5, H6, H7, H8, S1, S2, S3, C1, C2, G1, G2, G3, G4, G5, B1, B2, B3, B4, I1, I2, I3, I4, I5}
+use Rattle.vme_trace.specs.declared.data.Lanes.{Lanes}
 use Rattle.vme_listing.proofs.Cuts.{are_glyphs, decimal-glyphs, hexadecimal-glyphs}
-use Rattle.vme_listing.specs.Places.{is_number, is_edge, has_class, is_address, is_outcome, is_row}
-use Rattle.vme_listing.specs.RowText.{edge_text, hexadecimal, address_digits, class_text, direction_text, answer_text, break_text, row_text, line_of}
+use Rattle.vme_listing.proofs.LaneTexts.{lanes-inside}
+use Rattle.vme_listing.specs.Places.{is_number, is_edge, has_class, is_address, is_outcome, has_data, is_row}
+use Rattle.vme_listing.specs.RowText.{edge_text, hexadecimal, address_digits, class_text, direction_text, answer_text, data_text, break_text, row_text, line_of}
 use Rattle.vme_listing.specs.declared.row.AnswerLine.{AnswerLine}
 use Rattle.vme_listing.specs.declared.row.AnswerLine.TheVariants.{Dtack, Berr}
 use Rattle.vme_listing.specs.declared.row.Direction.{Direction}
 use Rattle.vme_listing.specs.declared.row.Direction.TheVariants.{Read, Write}
 use Rattle.vme_listing.specs.declared.row.Outcome.{Outcome}
 use Rattle.vme_listing.specs.declared.row.Outcome.TheVariants.{Conforming, NeverIdle, Broken, Unreadable}
+use Rattle.vme_listing.specs.declared.row.Version.{Version}
 use Rattle.vme_listing.specs.declared.row.Row.{Row}
 use Rattle.vme_listing.specs.declared.row.Row.TheVariants.{Start, OpenTenure, Tenure, AddressedCycle, FreeCycle, InterruptCycle, Transfer, PendingTransfer, Verdict}
 
@@ -66,6 +69,10 @@ direction-inside Write = refl
 answer-inside : (line : AnswerLine) → is_inside (answer_text line) ≡ true
 answer-inside Dtack = refl
 answer-inside Berr = refl
+
+data-inside : (lanes : Option Lanes) → is_inside (data_text lanes) ≡ true
+data-inside None = refl
+data-inside (Some a) = lanes-inside a
 
 rule-inside : (rule : Rule) → is_inside (rule_name rule) ≡ true
 rule-inside rule =
@@ -150,22 +157,22 @@ outcome-inside NeverIdle h = refl
 outcome-inside (Broken rule instant line) h = let p = three _ (is_number instant) (nat_lt line line_count) h in break-inside rule instant line p.1 p.2
 outcome-inside (Unreadable rule instant line) h = let p = three _ (is_number instant) (nat_lt line line_count) h in break-inside rule instant line p.1 p.2
 
-row-inside : (row : Row) → is_row row ≡ true → is_inside (row_text row) ≡ true
+row-inside : (version : Version) (row : Row) → is_row version row ≡ true → is_inside (row_text row) ≡ true
 unfolding is_row row_text
-row-inside (Start instant) h = number-inside instant h
-row-inside (OpenTenure start end) h =
+row-inside version (Start instant) h = number-inside instant h
+row-inside version (OpenTenure start end) h =
     let p = two (is_number start) (is_edge end) h in
     let s = number-inside start p.0 in
     let e = edge-inside end p.1 in
     simp (list_all-append, s, e)
-row-inside (Tenure start level slot end) h =
+row-inside version (Tenure start level slot end) h =
     let p = five (is_number start) (nat_lt level 4) (nat_le 1 slot) (nat_le slot 21) (is_edge end) h in
     let s = number-inside start p.0 in
     let l = decimal-inside level (omega (arith, ltb-true level 4 p.1)) in
     let n = decimal-inside slot (omega (arith, leb-true slot 21 p.3)) in
     let e = edge-inside end p.4 in
     simp (list_all-append, s, l, n, e)
-row-inside (AddressedCycle start class modifier address end) h =
+row-inside version (AddressedCycle start class modifier address end) h =
     let p = four (is_number start) (has_class modifier class) (is_address modifier address) (is_edge end) h in
     let s = number-inside start p.0 in
     let k = class-inside class in
@@ -173,32 +180,33 @@ row-inside (AddressedCycle start class modifier address end) h =
     let a = hexadecimal-inside (address_digits modifier) address in
     let e = edge-inside end p.3 in
     simp (list_all-append, s, k, m, a, e)
-row-inside (FreeCycle start modifier end) h =
+row-inside version (FreeCycle start modifier end) h =
     let p = four (is_number start) (nat_lt modifier 64) (highest_address modifier == 0) (is_edge end) h in
     let s = number-inside start p.0 in
     let m = hexadecimal-inside 2 modifier in
     let e = edge-inside end p.3 in
     simp (list_all-append, s, m, e)
-row-inside (InterruptCycle start level end) h =
+row-inside version (InterruptCycle start level end) h =
     let p = three (is_number start) (nat_lt level 8) (is_edge end) h in
     let s = number-inside start p.0 in
     let l = decimal-inside level (omega (arith, ltb-true level 8 p.1)) in
     let e = edge-inside end p.2 in
     simp (list_all-append, s, l, e)
-row-inside (Transfer start cycle direction line answer close) h =
-    let p = four (is_number start) (is_number cycle) (is_number answer) (is_edge close) h in
+row-inside version (Transfer start cycle direction line answer close lanes) h =
+    let p = five (is_number start) (is_number cycle) (is_number answer) (is_edge close) (has_data version direction lanes) h in
     let s = number-inside start p.0 in
     let i = number-inside cycle p.1 in
     let d = direction-inside direction in
     let l = answer-inside line in
     let a = number-inside answer p.2 in
     let e = edge-inside close p.3 in
-    simp (list_all-append, s, i, d, l, a, e)
-row-inside (PendingTransfer start direction) h =
+    let w = data-inside lanes in
+    simp (list_all-append, s, i, d, l, a, e, w)
+row-inside version (PendingTransfer start direction) h =
     let s = number-inside start h in
     let d = direction-inside direction in
     simp (list_all-append, s, d)
-row-inside (Verdict outcome) h = outcome-inside outcome h
+row-inside version (Verdict outcome) h = outcome-inside outcome h
 
 first_line : (line more : List ℕ) (end : ℕ) → is_inside line ≡ true → IsFirstByte (is_byte 10) (line ++ 10 ∷ more) (Some end) → end ≡ length line
 first_line line more end inside f = by_order (cases_order end (length line))
@@ -217,10 +225,10 @@ first_line line more end inside f = by_order (cases_order end (length line))
     by_order (inr (inr h)) = absurd (behind h)
 
 -- where the line of a row is at the front of a text, the first line feed ends it
-pub front_line : (text : List ℕ) (end : ℕ) (row : Row) (more : List ℕ) → IsFirstByte (is_byte 10) text (Some end) → is_row row ≡ true → text ≡ line_of row ++ more → (row_text row ≡ take end text) × (drop (end + 1) text ≡ more)
-front_line text end row more f h e =
+pub front_line : (version : Version) (text : List ℕ) (end : ℕ) (row : Row) (more : List ℕ) → IsFirstByte (is_byte 10) text (Some end) → is_row version row ≡ true → text ≡ line_of row ++ more → (row_text row ≡ take end text) × (drop (end + 1) text ≡ more)
+front_line version text end row more f h e =
     let line = row_text row in
     let split : text ≡ line ++ 10 ∷ more = e ∙ append_assoc line (10 ∷ []) more in
-    let n : end ≡ length line = first_line line more end (row-inside row h) (subst (λ t. IsFirstByte (is_byte 10) t (Some end)) split f) in
+    let n : end ≡ length line = first_line line more end (row-inside version row h) (subst (λ t. IsFirstByte (is_byte 10) t (Some end)) split f) in
     let after : length (line ++ 10 ∷ []) ≡ end + 1 = omega (arith, length-append line (10 ∷ [])) in
     (sym (ap (take end) split ∙ take_at line (10 ∷ more) end (sym n)), ap (drop (end + 1)) e ∙ drop_at (line ++ 10 ∷ []) more (end + 1) after)

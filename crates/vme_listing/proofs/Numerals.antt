@@ -19,11 +19,11 @@ number_push base n (first ∷ word) byte = number_push base ((n * base % 2 ^ 32 
 digit_of-decimal : (digit : ℕ) → digit < 10 → digit_of (48 + digit) ≡ digit
 digit_of-decimal digit small = grind (arith, nat_tests)
 
-digit_of-glyph : (digit : ℕ) → digit < 16 → digit_of (digit_glyph true digit) ≡ digit
+pub digit_of-glyph : (digit : ℕ) → digit < 16 → digit_of (digit_glyph true digit) ≡ digit
 digit_of-glyph digit small = grind (arith, nat_tests)
 
 -- a last digit, by 32 bits
-last : (base front digit n : ℕ) → front * base + digit ≡ n → n < 2 ^ 32 → (front * base % 2 ^ 32 + digit) % 2 ^ 32 ≡ n
+pub last : (base front digit n : ℕ) → front * base + digit ≡ n → n < 2 ^ 32 → (front * base % 2 ^ 32 + digit) % 2 ^ 32 ≡ n
 last base front digit n e below =
     let small : front * base < 2 ^ 32 = omega arith in
     ap (λ x. (x + digit) % 2 ^ 32) (mod-eq_of_lt small) ∙ ap (λ x. x % 2 ^ 32) e ∙ mod-eq_of_lt below

@@ -1,6 +1,6 @@
 -- At each listed instant at most one tenure, one cycle and one transfer begin, each with a row that its form allows.
-use Rattle.std.proofs.Common.{◌≡◌, ◌≢◌, ℕ, zero, suc, ◌+◌, ◌^◌, ◌<◌, ◌≤◌, ◌==◌, Bool, true, false, ◌&&◌, not, cond, List, [], ◌∷◌, refl, arith}
-use Rattle.std.specs.Prelude.{Option, None, Some, nat_le, option_map, option_and_then}
+use Rattle.std.proofs.Common.{◌≡◌, ◌≢◌, ℕ, zero, suc, ◌+◌, ◌-◌, ◌^◌, ◌<◌, ◌≤◌, ◌==◌, Bool, true, false, ◌&&◌, not, cond, List, [], ◌∷◌, refl, arith}
+use Rattle.std.specs.Prelude.{Option, None, Some, nat_le, option_map, option_and_then, if◌then◌else◌}
 use Rattle.std.proofs.lemmas.Bool.Decides.{nat_tests}
 use Rattle.vme_trace.specs.Instants.{greatest, least}
 use Rattle.vme_trace.specs.LineNumbers.{AM, AS, BBSY, grant, has_line, line_count}
@@ -9,17 +9,21 @@ use Rattle.vme_trace.specs.Cycle.{class_of, has_known_modifier, is_modifier_bit_
 use Rattle.vme_trace.specs.Trace.{Trace, levels_at}
 use Rattle.vme_trace.specs.Signals.{falls, known, low, rises}
 use Rattle.vme_trace.specs.Judged.{Span, is_judged}
-use Rattle.vme_trace.specs.Transfers.{answers, strobes_high, transfer_starts}
+use Rattle.vme_trace.specs.Transfers.{answers, data_at, is_write, strobes_high, transfer_starts}
 use Rattle.vme_trace.specs.Cycles.{cycle_of, cycle_starts}
 use Rattle.vme_trace.specs.Tenures.{has_reached, taken_grant, tenure_level, tenure_slot, tenure_starts}
 use Rattle.vme_trace.specs.Rules.{breaks, is_broken, is_option_equal}
 use Rattle.vme_trace.specs.declared.class.Class.TheVariants as class
 use Rattle.vme_trace.specs.declared.rule.Rule.TheVariants.{U2, B4}
 use Rattle.vme_trace.proofs.Ranges.{any-least, least-found}
-use Rattle.vme_listing.specs.Places.{is_row}
-use Rattle.vme_listing.specs.Recorded.{answered_row, cycle_row, cycle_rows, direction_of, tenure_row, tenure_rows, transfer_row, transfer_rows}
+use Rattle.vme_trace.specs.declared.data.Lanes.{Lanes}
+use Rattle.vme_listing.specs.Places.{is_lanes, has_data, is_row}
+use Rattle.vme_listing.specs.Recorded.{answered_row, cycle_row, cycle_rows, data_of, direction_of, tenure_row, tenure_rows, transfer_row, transfer_rows}
+use Rattle.vme_listing.specs.declared.row.Direction.TheVariants.{Read, Write}
+use Rattle.vme_listing.specs.declared.row.Version.TheVariants.{Two}
 use Rattle.vme_listing.specs.declared.row.Row.{Row}
 use Rattle.vme_listing.specs.declared.row.Row.TheVariants.{OpenTenure, PendingTransfer}
+use Rattle.vme_listing.proofs.RecordedLanes.{lanes_form}
 use Rattle.vme_listing.proofs.RowForms.{IsMiddle, both, cycle_form, edge, number, tenure_form}
 
 -- at most one row, of this instant and kind
@@ -96,6 +100,15 @@ code_known t span i starts unbroken free unknown =
     negated true h = refl
     negated false h = absurd (cc)
 
+data_by : (write : Bool) (lanes : Lanes) → is_lanes lanes ≡ true → has_data Two (cond write Write Read) (cond write (Some lanes) None) ≡ true
+data_by true lanes h = h
+data_by false lanes h = refl
+
+-- the data of a transfer is what the row of its direction has
+data_form : (t : Trace) (span : Span) (end i r : ℕ) → has_data Two (direction_of t span end i) (data_of t span end i r) ≡ true
+unfolding data_at
+data_form t span end i r = data_by (is_write t span i) (data_at t span r) (lanes_form (levels_at t (if transfer_starts t span r then r else r - 1)))
+
 module _ (t : Trace) (span : Span) (end : ℕ) (few : end ≤ 2 ^ 32) (i : ℕ) (listed : i < end) where
   pub tenure_one : t.opening.slots ≤ 21 → breaks t span B4 i BBSY ≡ false → AtMostOne i 0 (tenure_rows t span end i)
   unfolding tenure_rows is_row
@@ -134,7 +147,10 @@ module _ (t : Trace) (span : Span) (end : ℕ) (few : end ≤ 2 ^ 32) (i : ℕ) 
       answered r below (Some cycle) e =
           let first = greatest-below (cycle_starts t span) (span.start + 1) (r + 1) cycle e in
           record {
-            allowed = both _ _ (both _ _ (both _ _ (number i end listed few) (number cycle end (omega (arith, first)) few)) (number r end below few)) (edge (strobes_high t) (i + 1) end few);
+            allowed =
+                both _ _
+                (both _ _ (both _ _ (both _ _ (number i end listed few) (number cycle end (omega (arith, first)) few)) (number r end below few)) (edge (strobes_high t) (i + 1) end few))
+                (data_form t span end i r);
             place = refl;
           }
 

@@ -13,12 +13,13 @@ use Rattle.vme_trace.specs.declared.class.Class.TheVariants as class
 use Rattle.vme_trace.proofs.Ranges.{least-found}
 use Rattle.vme_listing.specs.Places.{is_address, is_edge, is_number, is_row, place_of}
 use Rattle.vme_listing.specs.Recorded.{address_to, cycle_row}
+use Rattle.vme_listing.specs.declared.row.Version.TheVariants.{Two}
 use Rattle.vme_listing.specs.declared.row.Row.{Row}
 use Rattle.vme_listing.specs.declared.row.Row.TheVariants.{Tenure}
 
--- a row that may stand between the first and the last, of this instant and kind
+-- a row of version 2 that may stand between the first and the last, of this instant and kind
 pub record IsMiddle (i kind : ℕ) (row : Row) : Type 0 where
-  pub allowed : is_row row ≡ true
+  pub allowed : is_row Two row ≡ true
   pub place : place_of row ≡ Some (i, kind)
 
 -- tests that hold hold together

@@ -1,23 +1,25 @@
 -- The words of each row's text.
 use Rattle.std.proofs.Common.{◌≡◌, ℕ, ◌<◌, true, List, [], ◌∷◌, refl, ap, ◌∙◌, append_assoc, arith}
-use Rattle.std.specs.Prelude.{Option, Some, codes, decimal}
+use Rattle.std.specs.Prelude.{Option, None, Some, codes, decimal}
+use Rattle.std.proofs.lemmas.List.{append-nil}
 use Rattle.vme_trace.specs.Names.{line_name, rule_name}
 use Rattle.vme_trace.specs.declared.class.Class.{Class}
+use Rattle.vme_trace.specs.declared.data.Lanes.{Lanes}
 use Rattle.vme_trace.specs.declared.rule.Rule.{Rule}
 use Rattle.vme_listing.specs.declared.row.AnswerLine.{AnswerLine}
 use Rattle.vme_listing.specs.declared.row.Direction.{Direction}
 use Rattle.vme_listing.specs.declared.row.Outcome.TheVariants.{Broken, Unreadable}
 use Rattle.vme_listing.specs.declared.row.Row.{Row}
 use Rattle.vme_listing.specs.declared.row.Row.TheVariants.{Start, OpenTenure, Tenure, AddressedCycle, FreeCycle, InterruptCycle, Transfer, PendingTransfer, Verdict}
-use Rattle.vme_listing.specs.RowText.{edge_text, hexadecimal, address_digits, class_text, direction_text, answer_text, row_text}
+use Rattle.vme_listing.specs.RowText.{edge_text, hexadecimal, address_digits, class_text, direction_text, answer_text, lanes_text, row_text}
 use Rattle.vme_listing.specs.Words.{words, word_at, tenure_of, cycle_of, transfer_of, outcome_of, row_of}
 use Rattle.vme_listing.proofs.Cuts.{are_plain, joined, words_joined}
 
--- a row is read from its first nine words
-pub by_first_nine : (ws vs : List (List ℕ)) → ((place : ℕ) → place < 9 → word_at ws place ≡ word_at vs place) → row_of ws ≡ row_of vs
+-- a row is read from its first eleven words
+pub by_first_words : (ws vs : List (List ℕ)) → ((place : ℕ) → place < 11 → word_at ws place ≡ word_at vs place) → row_of ws ≡ row_of vs
 unfolding row_of tenure_of cycle_of transfer_of outcome_of
-by_first_nine ws vs same =
-    rw (same 0 (omega arith), same 1 (omega arith), same 2 (omega arith), same 3 (omega arith), same 4 (omega arith), same 5 (omega arith), same 6 (omega arith), same 7 (omega arith), same 8 (omega arith))
+by_first_words ws vs same =
+    rw (same 0 (omega arith), same 1 (omega arith), same 2 (omega arith), same 3 (omega arith), same 4 (omega arith), same 5 (omega arith), same 6 (omega arith), same 7 (omega arith), same 8 (omega arith), same 9 (omega arith), same 10 (omega arith))
     refl
 
 -- a row is read from its words
@@ -55,10 +57,17 @@ unfolding row_text
 interrupt_cycle_text start level end = simp append_assoc
 
 pub transfer_text : (start cycle : ℕ) (direction : Direction) (line : AnswerLine) (answer : ℕ) (close : Option ℕ)
-    → row_text (Transfer start cycle direction line answer close)
+    → row_text (Transfer start cycle direction line answer close None)
     ≡ joined (codes "transfer") (decimal start ∷ codes "of" ∷ decimal cycle ∷ direction_text direction ∷ answer_text line ∷ decimal answer ∷ codes "close" ∷ edge_text close ∷ [])
 unfolding row_text
-transfer_text start cycle direction line answer close = simp append_assoc
+transfer_text start cycle direction line answer close = rw append-nil (simp append_assoc)
+
+pub data_transfer_text : (start cycle : ℕ) (direction : Direction) (line : AnswerLine) (answer : ℕ) (close : Option ℕ) (lanes : Lanes)
+    → row_text (Transfer start cycle direction line answer close (Some lanes))
+    ≡ joined (codes "transfer")
+    (decimal start ∷ codes "of" ∷ decimal cycle ∷ direction_text direction ∷ answer_text line ∷ decimal answer ∷ codes "close" ∷ edge_text close ∷ codes "data" ∷ lanes_text lanes ∷ [])
+unfolding row_text
+data_transfer_text start cycle direction line answer close lanes = simp append_assoc
 
 pub pending_text : (start : ℕ) (direction : Direction) → row_text (PendingTransfer start direction) ≡ joined (codes "transfer") (decimal start ∷ direction_text direction ∷ codes "pending" ∷ [])
 unfolding row_text

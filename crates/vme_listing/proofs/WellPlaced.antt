@@ -14,7 +14,8 @@ use Rattle.vme_trace.specs.declared.rule.Rule.TheVariants.{U1, U2, U3, U4, H1, H
 use Rattle.vme_trace.specs.declared.verdict.Break.{Break}
 use Rattle.vme_trace.proofs.Ranges.{least-found}
 use Rattle.vme_listing.specs.Places.{follows, is_later, is_never_idle, is_outcome, is_rest, is_row, is_start, is_verdict, is_well_placed, never_idles, place_of}
-use Rattle.vme_listing.specs.Recorded.{cycle_rows, listed_end, listing_by, listing_of, listing_of_span, listing_of_spans, outcome_of, rows_before, tenure_rows, transfer_rows}
+use Rattle.vme_listing.specs.Recorded.{cycle_rows, listed_end, listing_by, recorded_rows, listing_of_span, listing_of_spans, outcome_of, rows_before, tenure_rows, transfer_rows}
+use Rattle.vme_listing.specs.declared.row.Version.TheVariants.{Two}
 use Rattle.vme_listing.specs.declared.row.Row.{Row}
 use Rattle.vme_listing.specs.declared.row.Row.TheVariants.{Start, OpenTenure, Tenure, AddressedCycle, FreeCycle, InterruptCycle, Transfer, PendingTransfer, Verdict}
 use Rattle.vme_listing.proofs.FoundBreaks.{least_break-within, unbroken_always, unbroken_before}
@@ -47,12 +48,12 @@ inside (Tenure start level slot end) p e = record { no_start = refl; no_verdict 
 inside (AddressedCycle start class modifier address end) p e = record { no_start = refl; no_verdict = refl; no_idle = refl }
 inside (FreeCycle start modifier end) p e = record { no_start = refl; no_verdict = refl; no_idle = refl }
 inside (InterruptCycle start level end) p e = record { no_start = refl; no_verdict = refl; no_idle = refl }
-inside (Transfer start cycle direction line answer close) p e = record { no_start = refl; no_verdict = refl; no_idle = refl }
+inside (Transfer start cycle direction line answer close lanes) p e = record { no_start = refl; no_verdict = refl; no_idle = refl }
 inside (PendingTransfer start direction) p e = record { no_start = refl; no_verdict = refl; no_idle = refl }
 inside (Verdict outcome) p e = absurd (cc)
 
 -- a row of this instant and kind may stand behind one that precedes it
-follows_on : (before row : Row) (i kind : ℕ) → Precedes before i kind → IsMiddle i kind row → follows (Some before) row ≡ true
+follows_on : (before row : Row) (i kind : ℕ) → Precedes before i kind → IsMiddle i kind row → follows Two (Some before) row ≡ true
 unfolding follows
 follows_on before row i kind p m =
     let is = inside row (i, kind) m.place in
@@ -69,7 +70,7 @@ next_kind row i kind m =
     higher i kind = grind (arith, nat_tests)
 
 -- at most one row of this instant and kind, and rows that may stand behind it
-group : (before : Row) (i kind : ℕ) (rows more : List Row) → AtMostOne i kind rows → Precedes before i kind → ((row : Row) → Precedes row i (kind + 1) → is_rest (Some row) more ≡ true) → is_rest (Some before) (rows ++ more) ≡ true
+group : (before : Row) (i kind : ℕ) (rows more : List Row) → AtMostOne i kind rows → Precedes before i kind → ((row : Row) → Precedes row i (kind + 1) → is_rest Two (Some row) more ≡ true) → is_rest Two (Some before) (rows ++ more) ≡ true
 unfolding is_rest
 group before i kind [] more one p rest = rest before (record { unfinished = p.unfinished; earlier = later_than (place_of before) i i kind (kind + 1) (inr (refl, omega arith)) p.earlier })
 group before i kind (row ∷ []) more one p rest = both _ _ (follows_on before row i kind p one) (rest row (next_kind row i kind one))
@@ -78,7 +79,7 @@ group before i kind (row ∷ next ∷ rows) more one p rest = absurd one
 module _ (t : Trace) (slots : t.opening.slots ≤ 21) (few : length t.steps < 2 ^ 32) (span : Span) where
   module _ (end : ℕ) (within : end ≤ 2 ^ 32) (needed : (i l : ℕ) → i < end → l < line_count → breaks t span U2 i l ≡ false) (taken : (i l : ℕ) → i < end → l < line_count → breaks t span B4 i l ≡ false) where
     -- the rows that begin before an instant, and rows that may stand behind them
-    placed_before : (n : ℕ) → n ≤ end → (before : Row) → Precedes before 0 0 → (more : List Row) → ((row : Row) → Precedes row n 0 → is_rest (Some row) more ≡ true) → is_rest (Some before) (rows_before t span end n ++ more) ≡ true
+    placed_before : (n : ℕ) → n ≤ end → (before : Row) → Precedes before 0 0 → (more : List Row) → ((row : Row) → Precedes row n 0 → is_rest Two (Some row) more ≡ true) → is_rest Two (Some before) (rows_before t span end n ++ more) ≡ true
     unfolding rows_before
     placed_before zero below before p more rest = rest before p
     placed_before (suc i) below before p more rest =
@@ -86,7 +87,7 @@ module _ (t : Trace) (slots : t.opening.slots ≤ 21) (few : length t.steps < 2 
         let cycles = cycle_rows t span end i in
         let transfers = transfer_rows t span end i in
         let split : rows_before t span end (suc i) ++ more ≡ rows_before t span end i ++ (tenures ++ (cycles ++ (transfers ++ more))) = simp append_assoc in
-        subst (λ rows. is_rest (Some before) rows ≡ true) (sym split)
+        subst (λ rows. is_rest Two (Some before) rows ≡ true) (sym split)
         (placed_before i (omega arith) before p (tenures ++ (cycles ++ (transfers ++ more)))
         (λ a pa. group a i 0 tenures (cycles ++ (transfers ++ more)) (tenure_one t span end within i (omega arith) slots (taken i BBSY (omega arith) (omega arith))) pa
         (λ b pb. group b i 1 cycles (transfers ++ more) (cycle_one t span end within i (omega arith) (λ l there. needed i l (omega arith) there)) pb
@@ -94,7 +95,7 @@ module _ (t : Trace) (slots : t.opening.slots ≤ 21) (few : length t.steps < 2 
         (λ d pd. rest d (record { unfinished = pd.unfinished; earlier = later_than (place_of d) i (suc i) 3 0 (inl (omega arith)) pd.earlier }))))))
 
   -- the verdict may stand behind a row that isn't one
-  last_is : (row : Row) (found : Option Break) → is_outcome (outcome_of found) ≡ true → is_verdict row ≡ false → is_rest (Some row) (Verdict (outcome_of found) ∷ []) ≡ true
+  last_is : (row : Row) (found : Option Break) → is_outcome (outcome_of found) ≡ true → is_verdict row ≡ false → is_rest Two (Some row) (Verdict (outcome_of found) ∷ []) ≡ true
   unfolding is_rest follows is_row
   last_is row found is e = both _ _ (both _ _ (both _ _ is (both _ _ (both _ _ (ap not e) refl) (ap not (named found)))) (unplaced (place_of row))) refl
     where
@@ -133,7 +134,7 @@ module _ (t : Trace) (slots : t.opening.slots ≤ 21) (few : length t.steps < 2 
   from_taken = I1 ∷ I2 ∷ I3 ∷ I4 ∷ I5 ∷ []
 
   -- the rows before the break, or all, behind the start, and the verdict
-  all_placed : (found : Option Break) → least_break t span all_rules ≡ found → (before : Row) → Precedes before 0 0 → is_rest (Some before) (rows_before t span (listed_end t found) (listed_end t found) ++ Verdict (outcome_of found) ∷ []) ≡ true
+  all_placed : (found : Option Break) → least_break t span all_rules ≡ found → (before : Row) → Precedes before 0 0 → is_rest Two (Some before) (rows_before t span (listed_end t found) (listed_end t found) ++ Verdict (outcome_of found) ∷ []) ≡ true
   all_placed None e before p =
       let end = last_instant t + 1 in
       placed_before end (omega arith) (λ i l below there. unbroken_always t span till_needed from_needed U2 i l e below there) (λ i l below there. unbroken_always t span till_taken from_taken B4 i l e below there)
@@ -143,7 +144,7 @@ module _ (t : Trace) (slots : t.opening.slots ≤ 21) (few : length t.steps < 2 
       placed_before b.instant (omega arith) (λ i l below there. unbroken_before t span till_needed from_needed U2 b i l e below there) (λ i l below there. unbroken_before t span till_taken from_taken B4 b i l e below there)
       b.instant (omega arith) before p (Verdict (outcome_of (Some b)) ∷ []) (λ row q. last_is row (Some b) (outcome_form (Some b) e) q.unfinished)
 
-  span_placed : span.start < last_instant t + 1 → is_well_placed (listing_of_span all_rules t span) ≡ true
+  span_placed : span.start < last_instant t + 1 → is_rest Two None (listing_of_span all_rules t span) ≡ true
   unfolding is_rest follows is_row
   span_placed first =
       both _ _ (both _ _ (both _ _ (number span.start (last_instant t + 1) first (omega arith)) refl) refl)
@@ -160,10 +161,10 @@ starts_within t span spans e = by_start (least (is_idle_at t) 0 (last_instant t 
         subst (λ (x : Span). x.start < last_instant t + 1) same (h s refl)
 
 -- the listing of a recording whose slots and instants can be written is well placed
-pub listing_placed : (t : Trace) → t.opening.slots ≤ 21 → length t.steps < 2 ^ 32 → is_well_placed (listing_of t) ≡ true
+pub listing_placed : (t : Trace) → t.opening.slots ≤ 21 → length t.steps < 2 ^ 32 → is_well_placed (record { version = Two; rows = recorded_rows t }) ≡ true
 unfolding listing_by is_rest follows is_row
 listing_placed t slots few = by_spans (judged_spans t) refl
   where
-    by_spans : (spans : List Span) → judged_spans t ≡ spans → is_well_placed (listing_of_spans all_rules t spans) ≡ true
+    by_spans : (spans : List Span) → judged_spans t ≡ spans → is_rest Two None (listing_of_spans all_rules t spans) ≡ true
     by_spans [] e = refl
     by_spans (span ∷ spans) e = span_placed t slots few span (starts_within t span spans e)

@@ -1,3 +1,5 @@
+pub mod LaneDigits
+pub mod Listed
 pub mod Places
 pub mod Reading
 pub mod Recorded

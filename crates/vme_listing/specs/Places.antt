@@ -1,11 +1,19 @@
 -- Which listings are well placed: each row is one that its table allows and stands where it may, and the rows
 -- between the first and the last ascend by their first instant and then by their kind.
-use Rattle.std.specs.Prelude.{ℕ, Bool, true, false, not, ◌+◌, ◌^◌, ◌%◌, ◌==◌, ◌&&◌, ◌||◌, List, [], ◌∷◌, Option, None, Some, nat_lt, nat_le}
+use Rattle.std.specs.Prelude.{ℕ, Bool, true, false, not, ◌+◌, ◌^◌, ◌%◌, ◌==◌, ◌&&◌, ◌||◌, List, [], ◌∷◌}
+use Rattle.std.specs.Prelude.{Option, None, Some, nat_lt, nat_le}
 use Rattle.vme_trace.specs.Cycle.{highest_address, is_block}
 use Rattle.vme_trace.specs.LineNumbers.{line_count}
 use Rattle.vme_trace.specs.Verdict.{is_unreadable}
 use Rattle.vme_trace.specs.declared.class.Class.{Class}
 use Rattle.vme_trace.specs.declared.class.Class.TheVariants as class
+use Rattle.vme_trace.specs.declared.data.Lanes.{Lanes}
+use Rattle.vme_listing.specs.LaneDigits.{is_moved_in, digit_in, flag_in}
+use Rattle.vme_listing.specs.Listed.{Listed}
+use Rattle.vme_listing.specs.declared.row.Direction.{Direction}
+use Rattle.vme_listing.specs.declared.row.Direction.TheVariants.{Read, Write}
+use Rattle.vme_listing.specs.declared.row.Version.{Version}
+use Rattle.vme_listing.specs.declared.row.Version.TheVariants.{One, Two}
 use Rattle.vme_listing.specs.declared.row.Outcome.{Outcome}
 use Rattle.vme_listing.specs.declared.row.Outcome.TheVariants.{Conforming, NeverIdle, Broken, Unreadable}
 use Rattle.vme_listing.specs.declared.row.Row.{Row}
@@ -36,17 +44,46 @@ is_outcome NeverIdle = true
 is_outcome (Broken rule instant line) = not (is_unreadable rule) && is_number instant && nat_lt line line_count
 is_outcome (Unreadable rule instant line) = is_unreadable rule && is_number instant && nat_lt line line_count
 
+-- a digit is unknown only where it is moved, and is other than 0 only where it is moved and known
+abbrev pub is_digit : Bool → ℕ → ℕ → Bool
+is_digit moved digit flag = (moved || (flag == 0)) && ((moved && (flag == 0)) || (digit == 0))
+
+abbrev pub is_digit_in : Lanes → ℕ → Bool
+is_digit_in a place = is_digit (is_moved_in a place) (digit_in a place) (flag_in a place)
+
+-- so are the four digits from a place on
+abbrev pub are_digits_from : Lanes → ℕ → Bool
+are_digits_from a place =
+    is_digit_in a place && is_digit_in a (place + 1) && is_digit_in a (place + 2) && is_digit_in a (place + 3)
+
+-- so are all eight
+unfoldable pub is_lanes : Lanes → Bool
+is_lanes a = nat_lt a.value (2 ^ 32) && nat_lt a.unknown 256 && are_digits_from a 0 && are_digits_from a 4
+
+-- the row of an answered write has data in version 2, and no other row has
+abbrev pub has_data : Version → Direction → Option Lanes → Bool
+has_data One direction None = true
+has_data One direction (Some a) = false
+has_data Two Read None = true
+has_data Two Read (Some a) = false
+has_data Two Write None = false
+has_data Two Write (Some a) = is_lanes a
+
 -- the row is one that its form allows
-unfoldable pub is_row : Row → Bool
-is_row (Start instant) = is_number instant
-is_row (OpenTenure start end) = is_number start && is_edge end
-is_row (Tenure start level slot end) = is_number start && nat_lt level 4 && nat_le 1 slot && nat_le slot 21 && is_edge end
-is_row (AddressedCycle start class modifier address end) = is_number start && has_class modifier class && is_address modifier address && is_edge end
-is_row (FreeCycle start modifier end) = is_number start && nat_lt modifier 64 && (highest_address modifier == 0) && is_edge end
-is_row (InterruptCycle start level end) = is_number start && nat_lt level 8 && is_edge end
-is_row (Transfer start cycle direction line answer close) = is_number start && is_number cycle && is_number answer && is_edge close
-is_row (PendingTransfer start direction) = is_number start
-is_row (Verdict outcome) = is_outcome outcome
+unfoldable pub is_row : Version → Row → Bool
+is_row version (Start instant) = is_number instant
+is_row version (OpenTenure start end) = is_number start && is_edge end
+is_row version (Tenure start level slot end) =
+    is_number start && nat_lt level 4 && nat_le 1 slot && nat_le slot 21 && is_edge end
+is_row version (AddressedCycle start class modifier address end) =
+    is_number start && has_class modifier class && is_address modifier address && is_edge end
+is_row version (FreeCycle start modifier end) =
+    is_number start && nat_lt modifier 64 && (highest_address modifier == 0) && is_edge end
+is_row version (InterruptCycle start level end) = is_number start && nat_lt level 8 && is_edge end
+is_row version (Transfer start cycle direction line answer close lanes) =
+    is_number start && is_number cycle && is_number answer && is_edge close && has_data version direction lanes
+is_row version (PendingTransfer start direction) = is_number start
+is_row version (Verdict outcome) = is_outcome outcome
 
 abbrev pub is_start : Row → Bool
 is_start (Start instant) = true
@@ -55,7 +92,7 @@ is_start (Tenure start level slot end) = false
 is_start (AddressedCycle start class modifier address end) = false
 is_start (FreeCycle start modifier end) = false
 is_start (InterruptCycle start level end) = false
-is_start (Transfer start cycle direction line answer close) = false
+is_start (Transfer start cycle direction line answer close lanes) = false
 is_start (PendingTransfer start direction) = false
 is_start (Verdict outcome) = false
 
@@ -66,7 +103,7 @@ is_verdict (Tenure start level slot end) = false
 is_verdict (AddressedCycle start class modifier address end) = false
 is_verdict (FreeCycle start modifier end) = false
 is_verdict (InterruptCycle start level end) = false
-is_verdict (Transfer start cycle direction line answer close) = false
+is_verdict (Transfer start cycle direction line answer close lanes) = false
 is_verdict (PendingTransfer start direction) = false
 is_verdict (Verdict outcome) = true
 
@@ -83,7 +120,7 @@ is_never_idle (Tenure start level slot end) = false
 is_never_idle (AddressedCycle start class modifier address end) = false
 is_never_idle (FreeCycle start modifier end) = false
 is_never_idle (InterruptCycle start level end) = false
-is_never_idle (Transfer start cycle direction line answer close) = false
+is_never_idle (Transfer start cycle direction line answer close lanes) = false
 is_never_idle (PendingTransfer start direction) = false
 is_never_idle (Verdict outcome) = never_idles outcome
 
@@ -95,7 +132,7 @@ place_of (Tenure start level slot end) = Some (start, 0)
 place_of (AddressedCycle start class modifier address end) = Some (start, 1)
 place_of (FreeCycle start modifier end) = Some (start, 1)
 place_of (InterruptCycle start level end) = Some (start, 1)
-place_of (Transfer start cycle direction line answer close) = Some (start, 2)
+place_of (Transfer start cycle direction line answer close lanes) = Some (start, 2)
 place_of (PendingTransfer start direction) = Some (start, 2)
 place_of (Verdict outcome) = None
 
@@ -116,17 +153,17 @@ ascends None row = true
 ascends (Some before) row = is_later (place_of before) (place_of row)
 
 -- the row may stand behind the one before it
-unfoldable pub follows : Option Row → Row → Bool
-follows before row = is_row row && may_follow before row && ascends before row
+unfoldable pub follows : Version → Option Row → Row → Bool
+follows version before row = is_row version row && may_follow before row && ascends before row
 
 abbrev pub ends_listing : Option Row → Bool
 ends_listing None = false
 ends_listing (Some row) = is_verdict row
 
 -- the rows may stand behind one another and behind the one before them, and the last is the verdict
-unfoldable pub is_rest : Option Row → List Row → Bool
-is_rest before [] = ends_listing before
-is_rest before (row ∷ rows) = follows before row && is_rest (Some row) rows
+unfoldable pub is_rest : Version → Option Row → List Row → Bool
+is_rest version before [] = ends_listing before
+is_rest version before (row ∷ rows) = follows version before row && is_rest version (Some row) rows
 
-abbrev pub is_well_placed : List Row → Bool
-is_well_placed rows = is_rest None rows
+abbrev pub is_well_placed : Listed → Bool
+is_well_placed l = is_rest l.version None l.rows

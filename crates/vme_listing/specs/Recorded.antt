@@ -1,5 +1,6 @@
 -- The listing of a recording: its judged tenures, cycles and transfers before the least break, and the verdict.
-use Rattle.std.specs.Prelude.{ℕ, zero, suc, ◌+◌, ◌/◌, ◌^◌, ◌==◌, ◌&&◌, List, [], ◌∷◌, ◌++◌, Option, None, Some, if◌then◌else◌}
+use Rattle.std.specs.Prelude.{ℕ, zero, suc, ◌+◌, ◌/◌, ◌^◌, ◌==◌, ◌&&◌, List, [], ◌∷◌, ◌++◌, map}
+use Rattle.std.specs.Prelude.{Option, None, Some, if◌then◌else◌}
 use Rattle.vme_trace.specs.Instants.{least}
 use Rattle.vme_trace.specs.LineNumbers.{AS, DTACK, BBSY, A}
 use Rattle.vme_trace.specs.Levels.{Levels, level_at, is_high}
@@ -7,12 +8,13 @@ use Rattle.vme_trace.specs.Cycle.{modifier_of, highest_address, class_of}
 use Rattle.vme_trace.specs.Trace.{Trace, levels_at, last_instant}
 use Rattle.vme_trace.specs.Signals.{low, falls, rises}
 use Rattle.vme_trace.specs.Judged.{Span, judged_spans}
-use Rattle.vme_trace.specs.Transfers.{strobes_high, transfer_starts, answers, is_write}
+use Rattle.vme_trace.specs.Transfers.{strobes_high, transfer_starts, answers, is_write, data_at}
 use Rattle.vme_trace.specs.Cycles.{cycle_starts, cycle_of}
 use Rattle.vme_trace.specs.Tenures.{tenure_starts, tenure_level, tenure_slot}
 use Rattle.vme_trace.specs.Verdict.{all_rules, least_break, is_unreadable}
 use Rattle.vme_trace.specs.declared.class.Class.{Class}
 use Rattle.vme_trace.specs.declared.class.Class.TheVariants as class
+use Rattle.vme_trace.specs.declared.data.Lanes.{Lanes}
 use Rattle.vme_trace.specs.declared.rule.Rule.{Rule}
 use Rattle.vme_trace.specs.declared.verdict.Break.{Break}
 use Rattle.vme_listing.specs.declared.row.AnswerLine.{AnswerLine}
@@ -21,6 +23,9 @@ use Rattle.vme_listing.specs.declared.row.Direction.{Direction}
 use Rattle.vme_listing.specs.declared.row.Direction.TheVariants.{Read, Write}
 use Rattle.vme_listing.specs.declared.row.Outcome.{Outcome}
 use Rattle.vme_listing.specs.declared.row.Outcome.TheVariants.{Conforming, NeverIdle, Broken, Unreadable}
+use Rattle.vme_listing.specs.Listed.{Listed, in_newest_version}
+use Rattle.vme_listing.specs.declared.row.Version.{Version}
+use Rattle.vme_listing.specs.declared.row.Version.TheVariants.{One, Two}
 use Rattle.vme_listing.specs.declared.row.Row.{Row}
 use Rattle.vme_listing.specs.declared.row.Row.TheVariants.{Start, OpenTenure, Tenure, AddressedCycle, FreeCycle, InterruptCycle, Transfer, PendingTransfer, Verdict}
 
@@ -66,10 +71,15 @@ module _ (t : Trace) (span : Span) (end : ℕ) where
   abbrev pub answer_line : ℕ → AnswerLine
   answer_line r = if falls t DTACK r then Dtack else Berr
 
+  -- of a write the data, as of its answer
+  abbrev pub data_of : ℕ → ℕ → Option Lanes
+  data_of i r = if is_write t span i then Some (data_at t span r) else None
+
   -- an answer outside every cycle breaks a rule, so it isn't listed
   abbrev pub answered_row : ℕ → ℕ → Option ℕ → Row
   answered_row i r None = PendingTransfer i (direction_of i)
-  answered_row i r (Some cycle) = Transfer i cycle (direction_of i) (answer_line r) r (least (strobes_high t) (i + 1) end)
+  answered_row i r (Some cycle) =
+      Transfer i cycle (direction_of i) (answer_line r) r (least (strobes_high t) (i + 1) end) (data_of i r)
 
   abbrev pub transfer_row : ℕ → Option ℕ → Row
   transfer_row i None = PendingTransfer i (direction_of i)
@@ -105,6 +115,33 @@ listing_of_spans rules t (span ∷ spans) = listing_of_span rules t span
 unfoldable pub listing_by : List Rule → Trace → List Row
 listing_by rules t = listing_of_spans rules t (judged_spans t)
 
+-- the rows of a recording's listing, in the newest version
+abbrev pub recorded_rows : Trace → List Row
+recorded_rows t = listing_by all_rules t
+
 -- the listing of a recording
-abbrev pub listing_of : Trace → List Row
-listing_of t = listing_by all_rules t
+abbrev pub listing_of : Trace → Listed
+listing_of t = in_newest_version (recorded_rows t)
+
+-- the row without its data
+abbrev pub without_data : Row → Row
+without_data (Start instant) = Start instant
+without_data (OpenTenure start end) = OpenTenure start end
+without_data (Tenure start level slot end) = Tenure start level slot end
+without_data (AddressedCycle start class modifier address end) = AddressedCycle start class modifier address end
+without_data (FreeCycle start modifier end) = FreeCycle start modifier end
+without_data (InterruptCycle start level end) = InterruptCycle start level end
+without_data (Transfer start cycle direction line answer close lanes) =
+    Transfer start cycle direction line answer close None
+without_data (PendingTransfer start direction) = PendingTransfer start direction
+without_data (Verdict outcome) = Verdict outcome
+
+-- the row of a listing of version 2 as one of this version
+abbrev pub row_in : Version → Row → Row
+row_in One row = without_data row
+row_in Two row = row
+
+-- the rows
+unfoldable pub rows_in : Version → List Row → List Row
+rows_in One rows = map without_data rows
+rows_in Two rows = rows

@@ -1,18 +1,24 @@
--- The text of a listing, version 1: ASCII, a header, and then one line for each row. Every line ends with one
--- line feed, words are separated by one space, and numbers are decimal without leading zeros.
-use Rattle.std.specs.Prelude.{ℕ, zero, suc, true, ◌+◌, ◌/◌, ◌%◌, List, [], ◌∷◌, ◌++◌, Option, None, Some, codes, decimal, flat_map}
+-- The text of a listing: ASCII, a header, and then one line for each row. Every line ends with one line feed, words
+-- are separated by one space, and numbers are decimal without leading zeros.
+use Rattle.std.specs.Prelude.{ℕ, zero, suc, Bool, true, not, ◌+◌, ◌/◌, ◌%◌, ◌==◌, List, [], ◌∷◌, ◌++◌, flat_map}
+use Rattle.std.specs.Prelude.{Option, None, Some, codes, decimal, if◌then◌else◌}
 use Rattle.std.specs.Fmt.{digit_glyph}
 use Rattle.vme_trace.specs.Cycle.{highest_address}
 use Rattle.vme_trace.specs.Names.{line_name, rule_name}
+use Rattle.vme_trace.specs.declared.data.Lanes.{Lanes}
 use Rattle.vme_trace.specs.declared.rule.Rule.{Rule}
 use Rattle.vme_trace.specs.declared.class.Class.{Class}
 use Rattle.vme_trace.specs.declared.class.Class.TheVariants as class
+use Rattle.vme_listing.specs.LaneDigits.{is_moved_in, digit_in, flag_in}
+use Rattle.vme_listing.specs.Listed.{Listed}
 use Rattle.vme_listing.specs.declared.row.AnswerLine.{AnswerLine}
 use Rattle.vme_listing.specs.declared.row.AnswerLine.TheVariants.{Dtack, Berr}
 use Rattle.vme_listing.specs.declared.row.Direction.{Direction}
 use Rattle.vme_listing.specs.declared.row.Direction.TheVariants.{Read, Write}
 use Rattle.vme_listing.specs.declared.row.Outcome.{Outcome}
 use Rattle.vme_listing.specs.declared.row.Outcome.TheVariants.{Conforming, NeverIdle, Broken, Unreadable}
+use Rattle.vme_listing.specs.declared.row.Version.{Version}
+use Rattle.vme_listing.specs.declared.row.Version.TheVariants.{One, Two}
 use Rattle.vme_listing.specs.declared.row.Row.{Row}
 use Rattle.vme_listing.specs.declared.row.Row.TheVariants.{Start, OpenTenure, Tenure, AddressedCycle, FreeCycle, InterruptCycle, Transfer, PendingTransfer, Verdict}
 
@@ -44,6 +50,24 @@ abbrev pub answer_text : AnswerLine → List ℕ
 answer_text Dtack = codes "DTACK"
 answer_text Berr = codes "BERR"
 
+-- a digit of the data: a hyphen where it isn't moved, X where it's unknown, else the digit, the letters in upper case
+abbrev pub digit_text : Bool → ℕ → ℕ → ℕ
+digit_text moved digit flag = if not moved then 45 else if flag == 1 then 88 else digit_glyph true digit
+
+abbrev pub digit_text_in : Lanes → ℕ → ℕ
+digit_text_in a place = digit_text (is_moved_in a place) (digit_in a place) (flag_in a place)
+
+-- the eight digits of the data, the highest first
+unfoldable pub lanes_text : Lanes → List ℕ
+lanes_text a =
+    digit_text_in a 7 ∷ digit_text_in a 6 ∷ digit_text_in a 5 ∷ digit_text_in a 4 ∷ digit_text_in a 3
+    ∷ digit_text_in a 2 ∷ digit_text_in a 1 ∷ digit_text_in a 0 ∷ []
+
+-- the data of a transfer, if it has some
+abbrev pub data_text : Option Lanes → List ℕ
+data_text None = []
+data_text (Some a) = codes " data " ++ lanes_text a
+
 -- a break: its rule, its instant and its line
 abbrev pub break_text : Rule → ℕ → ℕ → List ℕ
 break_text rule instant line = rule_name rule ++ codes " " ++ decimal instant ++ codes " " ++ line_name line
@@ -63,24 +87,28 @@ row_text (Tenure start level slot end) =
 row_text (AddressedCycle start class modifier address end) =
     codes "cycle " ++ decimal start ++ codes " " ++ class_text class ++ codes " " ++ hexadecimal 2 modifier ++ codes " "
     ++ hexadecimal (address_digits modifier) address ++ codes " end " ++ edge_text end
-row_text (FreeCycle start modifier end) = codes "cycle " ++ decimal start ++ codes " F " ++ hexadecimal 2 modifier ++ codes " end " ++ edge_text end
-row_text (InterruptCycle start level end) = codes "cycle " ++ decimal start ++ codes " I " ++ decimal level ++ codes " end " ++ edge_text end
-row_text (Transfer start cycle direction line answer close) =
+row_text (FreeCycle start modifier end) =
+    codes "cycle " ++ decimal start ++ codes " F " ++ hexadecimal 2 modifier ++ codes " end " ++ edge_text end
+row_text (InterruptCycle start level end) =
+    codes "cycle " ++ decimal start ++ codes " I " ++ decimal level ++ codes " end " ++ edge_text end
+row_text (Transfer start cycle direction line answer close lanes) =
     codes "transfer " ++ decimal start ++ codes " of " ++ decimal cycle ++ codes " " ++ direction_text direction ++ codes " "
-    ++ answer_text line ++ codes " " ++ decimal answer ++ codes " close " ++ edge_text close
-row_text (PendingTransfer start direction) = codes "transfer " ++ decimal start ++ codes " " ++ direction_text direction ++ codes " pending"
+    ++ answer_text line ++ codes " " ++ decimal answer ++ codes " close " ++ edge_text close ++ data_text lanes
+row_text (PendingTransfer start direction) =
+    codes "transfer " ++ decimal start ++ codes " " ++ direction_text direction ++ codes " pending"
 row_text (Verdict outcome) = verdict_text outcome
 
 abbrev pub line_feed : ℕ
 line_feed = 10
 
-abbrev pub header : List ℕ
-header = codes "vmecheck listing 1" ++ line_feed ∷ []
+abbrev pub header : Version → List ℕ
+header One = codes "vmecheck listing 1" ++ line_feed ∷ []
+header Two = codes "vmecheck listing 2" ++ line_feed ∷ []
 
 -- the line of a row
 abbrev pub line_of : Row → List ℕ
 line_of row = row_text row ++ line_feed ∷ []
 
 -- the text of a listing
-abbrev pub text_of : List Row → List ℕ
-text_of rows = header ++ flat_map line_of rows
+abbrev pub text_of : Listed → List ℕ
+text_of l = header l.version ++ flat_map line_of l.rows

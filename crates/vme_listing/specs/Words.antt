@@ -1,8 +1,12 @@
 -- The row that a line may be the text of, told by the line's words alone. Nothing is asked of a word that isn't
 -- looked at, and a word that is no number counts as some number: whether the line is the row's text is another matter.
-use Rattle.std.specs.Prelude.{ℕ, ◌+◌, ◌-◌, ◌*◌, ◌%◌, ◌^◌, ◌==◌, List, [], ◌∷◌, Option, None, Some, codes, bytes_eq, nat_le, ◌&&◌, slice_index_or, if◌then◌else◌}
+use Rattle.std.specs.Prelude.{ℕ, Bool, not, ◌+◌, ◌-◌, ◌*◌, ◌%◌, ◌^◌, ◌==◌, ◌&&◌, List, [], ◌∷◌, Option, None, Some}
+use Rattle.std.specs.Prelude.{codes, bytes_eq, nat_le, slice_index_or, if◌then◌else◌}
 use Rattle.std.specs.List.{slice_split}
 use Rattle.vme_trace.specs.Names.{line_named, rule_named}
+use Rattle.vme_trace.specs.declared.data.Lanes.{Lanes}
+use Rattle.vme_trace.specs.declared.data.Moved.{Moved}
+use Rattle.vme_trace.specs.declared.data.Moved.TheVariants.{Nothing, OddByte, EvenByte, Word, LongWord}
 use Rattle.vme_trace.specs.declared.rule.Rule.{Rule}
 use Rattle.vme_trace.specs.declared.class.Class.{Class}
 use Rattle.vme_trace.specs.declared.class.Class.TheVariants as class
@@ -52,6 +56,38 @@ answer_of word = if bytes_eq word (codes "DTACK") then Dtack else Berr
 abbrev pub class_of : List ℕ → Class
 class_of word = if bytes_eq word (codes "K") then class.K else class.S
 
+-- X is 1; any other byte counts as 0
+abbrev pub flag_of : ℕ → ℕ
+flag_of byte = if byte == 88 then 1 else 0
+
+-- such bits after others, by 8 bits
+abbrev pub flags_after : ℕ → List ℕ → ℕ
+flags_after n [] = n
+flags_after n (byte ∷ word) = flags_after (n * 2 % 256 + flag_of byte) word
+
+-- the bits of a word
+unfoldable pub flags_of : List ℕ → ℕ
+flags_of word = flags_after 0 word
+
+-- a word has a byte at a place, and no hyphen there
+abbrev pub is_shown : List ℕ → ℕ → Bool
+is_shown word place = not (slice_index_or word place 45 == 45)
+
+-- the bytes of the data bus that the digits of a word show
+unfoldable pub moved_of : List ℕ → Moved
+moved_of word =
+    if is_shown word 0 then LongWord
+    else if is_shown word 5 then (if is_shown word 7 then Word else EvenByte)
+    else if is_shown word 7 then OddByte
+    else Nothing
+
+-- the data that a word is behind the word data
+unfoldable pub lanes_of : List ℕ → List ℕ → Option Lanes
+lanes_of kind word =
+    if bytes_eq kind (codes "data")
+    then Some (record { moved = moved_of word; value = number_of 16 word; unknown = flags_of word })
+    else None
+
 unfoldable pub tenure_of : List (List ℕ) → Row
 tenure_of ws =
     if bytes_eq (word_at ws 2) (codes "open") then OpenTenure (number_of 10 (word_at ws 1)) (edge_of (word_at ws 4))
@@ -66,7 +102,10 @@ cycle_of ws =
 unfoldable pub transfer_of : List (List ℕ) → Row
 transfer_of ws =
     if bytes_eq (word_at ws 2) (codes "of")
-    then Transfer (number_of 10 (word_at ws 1)) (number_of 10 (word_at ws 3)) (direction_of (word_at ws 4)) (answer_of (word_at ws 5)) (number_of 10 (word_at ws 6)) (edge_of (word_at ws 8))
+    then
+    Transfer (number_of 10 (word_at ws 1)) (number_of 10 (word_at ws 3)) (direction_of (word_at ws 4))
+    (answer_of (word_at ws 5)) (number_of 10 (word_at ws 6)) (edge_of (word_at ws 8))
+    (lanes_of (word_at ws 9) (word_at ws 10))
     else PendingTransfer (number_of 10 (word_at ws 1)) (direction_of (word_at ws 2))
 
 -- what the words say after broken, or another word

@@ -14,5 +14,6 @@ pub mod write;
 pub use fault::ListFault;
 pub use listing::{Listing, listings_are_well_placed};
 pub use read::read_listing;
-pub use row::{AnswerLine, Direction, Outcome, Row};
+pub use row::{AnswerLine, Direction, Outcome, Row, Version};
+pub use text::data_digits;
 pub use write::{Write, write_listing};

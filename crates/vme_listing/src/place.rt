@@ -3,11 +3,13 @@
 
 ghost use Rattle.std.specs.Prelude.{◌≡◌, ◌==◌};
 ghost use Rattle.vme_trace.specs.Cycle.{highest_address, is_block};
-ghost use Rattle.vme_listing.specs.Places.{has_class, is_address, is_outcome, is_row, is_start, is_verdict, is_never_idle, place_of, may_follow, ascends};
+ghost use Rattle.vme_listing.specs.Places.{has_class, is_address, is_outcome, is_digit, are_digits_from, is_lanes};
+ghost use Rattle.vme_listing.specs.Places.{has_data, is_row, is_start, is_verdict, is_never_idle, place_of, may_follow};
+ghost use Rattle.vme_listing.specs.Places.{ascends};
 
-use crate::row::{Outcome, Row};
+use crate::row::{Direction, Outcome, Row, Version};
 use crate::text::address_digits;
-use vme_trace::Class;
+use vme_trace::{Class, Lanes};
 
 /// Whether a code of the address modifier is one of block transfers.
 fn is_block(modifier: u8) -> bool
@@ -62,16 +64,69 @@ impl Outcome {
     }
 }
 
+/// Whether a digit of the data of a write is one that its form allows, with its bit of the unknown digits.
+fn is_digit(is_moved: bool, digit: u32, flag: u8) -> bool
+    ensures { result ≡ is_digit is_moved digit flag }
+{
+    (is_moved || flag == 0) && ((is_moved && flag == 0) || digit == 0)
+}
+
+/// Whether the four lower digits of the data of a write are ones that their form allows.
+fn are_low_digits(lanes: Lanes) -> bool
+    ensures { result ≡ are_digits_from lanes 0 }
+{
+    let moved = lanes.moved;
+    let value = lanes.value;
+    let flags = lanes.unknown;
+    is_digit(moved.has_digit(0), value % 16, flags % 2)
+        && is_digit(moved.has_digit(1), value / 0x10 % 16, flags / 2 % 2)
+        && is_digit(moved.has_digit(2), value / 0x100 % 16, flags / 4 % 2)
+        && is_digit(moved.has_digit(3), value / 0x1000 % 16, flags / 8 % 2)
+}
+
+/// Whether the four higher digits of the data of a write are ones that their form allows.
+fn are_high_digits(lanes: Lanes) -> bool
+    ensures { result ≡ are_digits_from lanes 4 }
+{
+    let moved = lanes.moved;
+    let value = lanes.value;
+    let flags = lanes.unknown;
+    is_digit(moved.has_digit(4), value / 0x1_0000 % 16, flags / 16 % 2)
+        && is_digit(moved.has_digit(5), value / 0x10_0000 % 16, flags / 32 % 2)
+        && is_digit(moved.has_digit(6), value / 0x100_0000 % 16, flags / 64 % 2)
+        && is_digit(
+            moved.has_digit(7),
+            value / 0x1000_0000 % 16,
+            flags / 128 % 2,
+        )
+}
+
+/// Whether the data of a write is data that its form allows: the types bound its numbers.
+#[tactic(auto, unfolding(crate::specs::Places::is_lanes))]
+fn is_lanes(lanes: Lanes) -> bool
+    ensures { result ≡ is_lanes lanes }
+{
+    are_low_digits(lanes) && are_high_digits(lanes)
+}
+
+/// Whether the row of an answered transfer of this direction has this data, or none.
+fn has_data(version: Version, direction: Direction, lanes: Option<Lanes>) -> bool
+    ensures { result ≡ has_data version direction lanes }
+{
+    match (version, direction, lanes) {
+        (Version::Two, Direction::Write, Some(lanes)) => is_lanes(lanes),
+        (Version::One, _, None) | (Version::Two, Direction::Read, None) => true,
+        _ => false,
+    }
+}
+
 /// Whether the row is one that its form allows: the types bound its other numbers.
 #[tactic(auto, unfolding(crate::specs::Places::is_row))]
-fn is_allowed(row: Row) -> bool
-    ensures { result ≡ is_row row }
+fn is_allowed(version: Version, row: Row) -> bool
+    ensures { result ≡ is_row version row }
 {
     match row {
-        Row::Start { .. }
-        | Row::OpenTenure { .. }
-        | Row::Transfer { .. }
-        | Row::PendingTransfer { .. } => true,
+        Row::Start { .. } | Row::OpenTenure { .. } | Row::PendingTransfer { .. } => true,
         Row::Tenure { level, slot, .. } => level < 4 && 1 <= slot && slot <= 21,
         Row::AddressedCycle {
             class,
@@ -81,16 +136,21 @@ fn is_allowed(row: Row) -> bool
         } => has_class(modifier, class) && is_address(modifier, address),
         Row::FreeCycle { modifier, .. } => modifier < 64 && is_free(modifier),
         Row::InterruptCycle { level, .. } => level < 8,
+        Row::Transfer {
+            direction,
+            lanes,
+            ..
+        } => has_data(version, direction, lanes),
         Row::Verdict(outcome) => outcome.is_outcome(),
     }
 }
 
 impl Row {
     /// Whether the row is one that its form allows.
-    pub(crate) fn is_row(&self) -> bool
-        ensures { result ≡ is_row self.now }
+    pub(crate) fn is_row(&self, version: Version) -> bool
+        ensures { result ≡ is_row version self.now }
     {
-        is_allowed(*self)
+        is_allowed(version, *self)
     }
 
     fn is_start(&self) -> bool

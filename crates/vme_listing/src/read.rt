@@ -1,27 +1,42 @@
 //! A listing from its text.
 
-ghost use Rattle.std.specs.Prelude.{◌≡◌, ◌↔◌, ℕ, true, None, List, [], ◌++◌, IfSome, IsSomeAnd, IfOk, IsOkAnd, IfErr, IsTrue};
+ghost use Rattle.std.specs.Prelude.{◌≡◌, ◌≢◌, ◌↔◌, ℕ, true, None, List, [], ◌++◌};
+ghost use Rattle.std.specs.Prelude.{IfSome, IsSomeAnd, IfOk, IsOkAnd, IfErr, IsTrue};
 ghost use Rattle.vme_listing.specs.Places.{is_row, follows, ends_listing, is_well_placed};
 ghost use Rattle.vme_listing.specs.Reading.{last_of, IsFront, IsRowFault, IsFirstFault, IsNoListing, IsOnlyListing};
-ghost use Rattle.vme_listing.specs.RowText.{text_of};
+ghost use Rattle.vme_listing.specs.RowText.{header, text_of};
 ghost use Rattle.vme_listing.specs.declared.row.Row.{Row};
+ghost use Rattle.vme_listing.specs.declared.row.Version.{Version};
 
 use crate::fault::ListFault;
 use crate::listing::Listing;
-use crate::row::Row;
-use crate::text::{HEADER, Text};
+use crate::row::{Row, Version};
+use crate::text::{HEADER_ONE, HEADER_TWO, Text};
 use crate::words::read_row;
 use memchr::memchr;
 use std::alloc::Global;
 
-/// The row whose line is at the front of the text, and what follows the line. Nothing may follow a verdict. The buffer
-/// is for the text of the row.
-fn front_row<'a>(text: &'a [u8], buffer: &mut Text) -> Option<(Row, &'a [u8])>
-    ensures named { IfSome result (λ front. (is_row front.0 ≡ true) × IsFront text.now front.0 front.1.now) }
-    ensures found { (row : Row) (more : List ℕ) → is_row row ≡ true → IsFront text.now row more → IsSomeAnd result (λ front. (front.0 ≡ row) × (front.1.now ≡ more)) }
+/// The version of which the header is at the front of the text, and what follows the header.
+fn front_header(text: &[u8]) -> Option<(Version, &[u8])>
+    ensures named { IfSome result (λ front. text.now ≡ header front.0 ++ front.1.now) }
+    ensures none { result ≡ None → (version : Version) (rest : List ℕ) → text.now ≢ header version ++ rest }
+{
+    if let Some(rest) = text.strip_prefix(HEADER_ONE) {
+        return Some((Version::One, rest));
+    }
+    let rest = text.strip_prefix(HEADER_TWO)?;
+    Some((Version::Two, rest))
+}
+
+/// The row of the version whose line is at the front of the text, and what follows the line. Nothing may follow a
+/// verdict. The buffer is for the text of the row.
+fn front_row<'a>(version: Version, text: &'a [u8], buffer: &mut Text) -> Option<(Row, &'a [u8])>
+    ensures named { IfSome result (λ front. (is_row version front.0 ≡ true) × IsFront text.now front.0 front.1.now) }
+    ensures found { (row : Row) (more : List ℕ) → is_row version row ≡ true → IsFront text.now row more
+        → IsSomeAnd result (λ front. (front.0 ≡ row) × (front.1.now ≡ more)) }
 {
     let end = memchr(b'\n', text)?;
-    let row = read_row(&text[..end], buffer)?;
+    let row = read_row(version, &text[..end], buffer)?;
     let more = &text[end + 1..];
     if row.is_verdict() && !more.is_empty() {
         return None;
@@ -46,19 +61,22 @@ fn is_end(rows: &[Row], rest: &[u8]) -> bool
     }
 }
 
-/// The row that follows the rows before it, and what follows its line; or its fault. The buffer is for the text of the
-/// row.
+/// The row of the version that follows the rows before it, and what follows its line; or its fault. The buffer is for
+/// the text of the row.
 fn next_row<'a>(
+    version: Version,
     rows: &[Row],
     rest: &'a [u8],
     buffer: &mut Text,
 ) -> Result<(Row, &'a [u8]), ListFault>
-    ensures placed { IfOk result (λ next. (follows (last_of None rows.now) next.0 ≡ true) × IsFront rest.now next.0 next.1.now) }
-    ensures found { (row : Row) (more : List ℕ) → follows (last_of None rows.now) row ≡ true → IsFront rest.now row more → IsOkAnd result (λ next. (next.0 ≡ row) × (next.1.now ≡ more)) }
-    ensures fault { IfErr result (λ fault. IsRowFault rows.now rest.now fault) }
+    ensures placed { IfOk result
+        (λ next. (follows version (last_of None rows.now) next.0 ≡ true) × IsFront rest.now next.0 next.1.now) }
+    ensures found { (row : Row) (more : List ℕ) → follows version (last_of None rows.now) row ≡ true
+        → IsFront rest.now row more → IsOkAnd result (λ next. (next.0 ≡ row) × (next.1.now ≡ more)) }
+    ensures fault { IfErr result (λ fault. IsRowFault version rows.now rest.now fault) }
 {
     let number = rows.len() + 1;
-    let Some((row, more)) = front_row(rest, buffer) else {
+    let Some((row, more)) = front_row(version, rest, buffer) else {
         return Err(ListFault::BadRow { row: number });
     };
     if !row.may_follow(last_row(rows)) {
@@ -70,21 +88,23 @@ fn next_row<'a>(
     Ok((row, more))
 }
 
-/// Reads the text of a listing, version 1. The text is read from the top, and the first fault is named: the header, a
-/// row that isn't written so, may not stand there or is missing, a row out of order, or want of memory.
+/// Reads the text of a listing, of version 1 or 2 as its header says. The text is read from the top, and the first
+/// fault is named: the header, a row that isn't written so, may not stand there or is missing, a row out of order, or
+/// want of memory.
 pub fn read_listing(alloc: Global, text: &[u8]) -> Result<Listing, ListFault>
     ensures listing { IfOk result (λ l. (is_well_placed l ≡ true) × (text_of l ≡ text.now)) }
     ensures only { IfOk result (λ l. IsOnlyListing text.now l) }
     ensures first { IfErr result (λ fault. IsFirstFault text.now fault) }
     ensures none { IfErr result (λ fault. IsNoListing text.now fault) }
 {
-    let Some(mut rest) = text.strip_prefix(HEADER) else {
+    let Some((version, behind)) = front_header(text) else {
         return Err(ListFault::BadHeader);
     };
+    let mut rest = behind;
     let mut buffer = Text::new();
     let mut rows: Vec<Row> = Vec::new(alloc);
     while !is_end(rows.as_slice(), rest) {
-        match next_row(rows.as_slice(), rest, &mut buffer) {
+        match next_row(version, rows.as_slice(), rest, &mut buffer) {
             Ok((row, more)) => {
                 if rows.push(row).is_err() {
                     return Err(ListFault::Memory);
@@ -94,5 +114,5 @@ pub fn read_listing(alloc: Global, text: &[u8]) -> Result<Listing, ListFault>
             Err(fault) => return Err(fault),
         }
     }
-    Ok(Listing::new(rows))
+    Ok(Listing::new(version, rows))
 }

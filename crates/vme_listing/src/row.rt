@@ -1,4 +1,15 @@
-use vme_trace::{Class, Line, Rule};
+ghost use Rattle.std.specs.Prelude.{◌≡◌};
+
+use vme_trace::{Class, Lanes, Line, Rule};
+
+/// The version of a listing.
+#[derive(Clone, Copy, Debug, PartialEq, Eq)]
+pub enum Version {
+    /// No row has data.
+    One,
+    /// The row of each answered write has its data.
+    Two,
+}
 
 /// The direction of a transfer.
 #[derive(Clone, Copy, Debug, PartialEq, Eq)]
@@ -103,6 +114,8 @@ pub enum Row {
         answer: u32,
         /// Where both strobes are high again.
         close: Option<u32>,
+        /// The data of a write, in a listing of version 2.
+        lanes: Option<Lanes>,
     },
     /// A transfer that isn't answered at a listed instant.
     PendingTransfer {
@@ -113,4 +126,43 @@ pub enum Row {
     },
     /// What the rules say.
     Verdict(Outcome),
+}
+
+impl Row {
+    ghost use Rattle.vme_listing.specs.Recorded.{row_in, without_data};
+
+    /// The row in a listing of a version: in version 1 without its data.
+    pub fn in_version(self, version: Version) -> Row
+        ensures { result ≡ row_in version self }
+    {
+        match version {
+            Version::One => self.without_data(),
+            Version::Two => self,
+        }
+    }
+
+    fn without_data(self) -> Row
+        ensures { result ≡ without_data self }
+    {
+        match self {
+            Row::Transfer {
+                start,
+                cycle,
+                direction,
+                line,
+                answer,
+                close,
+                lanes: _,
+            } => Row::Transfer {
+                start,
+                cycle,
+                direction,
+                line,
+                answer,
+                close,
+                lanes: None,
+            },
+            row => row,
+        }
+    }
 }

@@ -3,15 +3,20 @@
 
 ghost use Rattle.std.specs.Prelude.{◌≡◌, ◌+◌, ◌<◌, ◌≤◌, ◌∷◌, ◌++◌, ◌↔◌, [], true, length, decimal, IsTrue};
 ghost use Rattle.std.specs.Fmt.{digit_glyph};
-ghost use Rattle.vme_listing.specs.RowText.{edge_text, hexadecimal, address_digits, class_text, direction_text, answer_text, break_text, row_text, line_of};
+ghost use Rattle.vme_listing.specs.RowText.{edge_text, hexadecimal, address_digits, class_text, direction_text};
+ghost use Rattle.vme_listing.specs.RowText.{answer_text, digit_text, lanes_text, data_text, break_text, row_text};
+ghost use Rattle.vme_listing.specs.RowText.{header, line_of};
 ghost use Rattle.vme_listing.specs.declared.row.Row.TheVariants.{OpenTenure, Tenure, AddressedCycle, FreeCycle, InterruptCycle, Transfer, PendingTransfer, Verdict};
 
-use crate::row::{AnswerLine, Direction, Outcome, Row};
+use crate::row::{AnswerLine, Direction, Outcome, Row, Version};
 use std::marker::Model;
-use vme_trace::{Class, Line, Rule};
+use vme_trace::{Class, Lanes, Line, Rule};
 
-/// The first line of a listing.
-pub(crate) const HEADER: &[u8] = b"vmecheck listing 1\n";
+/// The first line of a listing of version 1.
+pub(crate) const HEADER_ONE: &[u8] = b"vmecheck listing 1\n";
+
+/// The first line of a listing of version 2.
+pub(crate) const HEADER_TWO: &[u8] = b"vmecheck listing 2\n";
 
 /// How many bytes a line of a listing has at most.
 pub(crate) const LONGEST_LINE: usize = 96;
@@ -82,6 +87,17 @@ impl Text {
         let end = self.len + text.len();
         self.bytes[self.len..end].copy_from_slice(text);
         self.len = end;
+    }
+
+    /// The first line of a listing.
+    pub(crate) fn push_header(&mut self, version: Version)
+        requires { length self.old + 19 ≤ MOST }
+        ensures { self.new ≡ self.old ++ header version }
+    {
+        match version {
+            Version::One => self.extend(HEADER_ONE),
+            Version::Two => self.extend(HEADER_TWO),
+        }
     }
 
     fn push_decimal(&mut self, number: u32)
@@ -163,6 +179,17 @@ impl Text {
         match line {
             AnswerLine::Dtack => self.extend(b"DTACK"),
             AnswerLine::Berr => self.extend(b"BERR"),
+        }
+    }
+
+    fn push_data(&mut self, lanes: Option<Lanes>)
+        requires { length self.old + 14 ≤ MOST }
+        ensures text { self.new ≡ self.old ++ data_text lanes }
+        ensures length { length self.new ≤ length self.old + 14 }
+    {
+        if let Some(lanes) = lanes {
+            self.extend(b" data ");
+            self.extend(&data_digits(lanes));
         }
     }
 
@@ -265,9 +292,10 @@ impl Text {
         line: AnswerLine,
         answer: u32,
         close: Option<u32>,
+        lanes: Option<Lanes>,
     )
         requires { length self.old + 95 ≤ MOST }
-        ensures text { self.new ≡ self.old ++ row_text (Transfer start cycle direction line answer close) }
+        ensures text { self.new ≡ self.old ++ row_text (Transfer start cycle direction line answer close lanes) }
         ensures length { length self.new ≤ length self.old + 95 }
     {
         self.extend(b"transfer ");
@@ -282,6 +310,7 @@ impl Text {
         self.push_decimal(answer);
         self.extend(b" close ");
         self.push_edge(close);
+        self.push_data(lanes);
     }
 
     fn push_pending(&mut self, start: u32, direction: Direction)
@@ -355,7 +384,8 @@ impl Text {
                 line,
                 answer,
                 close,
-            } => self.push_transfer(start, cycle, direction, line, answer, close),
+                lanes,
+            } => self.push_transfer(start, cycle, direction, line, answer, close, lanes),
             Row::PendingTransfer { start, direction } => self.push_pending(start, direction),
             Row::Verdict(outcome) => self.push_verdict(outcome),
         }
@@ -384,6 +414,45 @@ pub(crate) fn address_digits(modifier: u8) -> usize
         0x29 | 0x2D => 4,
         _ => 0,
     }
+}
+
+/// A digit of the data of a write, with its bit of the unknown digits.
+fn lane_digit(is_moved: bool, digit: u32, flag: u8) -> u8
+    requires { digit < 16 }
+    ensures { result ≡ digit_text is_moved digit flag }
+{
+    if !is_moved {
+        b'-'
+    } else if flag == 1 {
+        b'X'
+    } else {
+        hexadecimal_digit(digit as u8)
+    }
+}
+
+/// The data of a write as a listing tells them, a character for four lines each, D31 to D28 first: `-` where they aren't moved, `X`
+/// where one of them is unknown, else a hexadecimal digit.
+#[tactic(auto, unfolding(crate::specs::RowText::lanes_text))]
+pub fn data_digits(lanes: Lanes) -> [u8; 8]
+    ensures { result ≡ lanes_text lanes }
+{
+    let moved = lanes.moved;
+    let value = lanes.value;
+    let flags = lanes.unknown;
+    [
+        lane_digit(
+            moved.has_digit(7),
+            value / 0x1000_0000 % 16,
+            flags / 128 % 2,
+        ),
+        lane_digit(moved.has_digit(6), value / 0x100_0000 % 16, flags / 64 % 2),
+        lane_digit(moved.has_digit(5), value / 0x10_0000 % 16, flags / 32 % 2),
+        lane_digit(moved.has_digit(4), value / 0x1_0000 % 16, flags / 16 % 2),
+        lane_digit(moved.has_digit(3), value / 0x1000 % 16, flags / 8 % 2),
+        lane_digit(moved.has_digit(2), value / 0x100 % 16, flags / 4 % 2),
+        lane_digit(moved.has_digit(1), value / 0x10 % 16, flags / 2 % 2),
+        lane_digit(moved.has_digit(0), value % 16, flags % 2),
+    ]
 }
 
 /// A digit in base 16.

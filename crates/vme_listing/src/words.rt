@@ -2,22 +2,24 @@
 //! row's text is seen where the row is written again.
 #![tactic(auto)]
 
-ghost use Rattle.std.specs.Prelude.{◌≡◌, ◌+◌, ◌%◌, ◌^◌, ◌<◌, ◌↔◌, ℕ, true, IfSome, IsTrue};
+ghost use Rattle.std.specs.Prelude.{◌≡◌, ◌+◌, ◌*◌, ◌%◌, ◌^◌, ◌<◌, ◌↔◌, ℕ, true, IfSome, IsTrue};
 ghost use Rattle.vme_listing.specs.declared.row.Row.{Row};
 ghost use Rattle.vme_listing.specs.Places.{is_row};
 ghost use Rattle.vme_listing.specs.RowText.{row_text};
-ghost use Rattle.vme_listing.specs.Words.{words, word_at, digit_of, number_of, small_of, edge_of, direction_of, answer_of, class_of, tenure_of, cycle_of, transfer_of, outcome_of, row_of};
+ghost use Rattle.vme_listing.specs.Words.{words, word_at, digit_of, number_of, small_of, edge_of, direction_of};
+ghost use Rattle.vme_listing.specs.Words.{answer_of, class_of, flag_of, flags_of, is_shown, moved_of, lanes_of};
+ghost use Rattle.vme_listing.specs.Words.{tenure_of, cycle_of, transfer_of, outcome_of, row_of};
 
-use crate::row::{AnswerLine, Direction, Outcome, Row};
+use crate::row::{AnswerLine, Direction, Outcome, Row, Version};
 use crate::text::Text;
 use memchr::memchr;
 use std::marker::Model;
-use vme_trace::{Class, Line, Rule};
+use vme_trace::{Class, Lanes, Line, Moved, Rule};
 
-/// The first nine words of a line: no row has more. Past the last they have no bytes.
+/// The first eleven words of a line: no row has more. Past the last they have no bytes.
 #[derive(Drop)]
 struct Words<'a> {
-    words: [&'a [u8]; 9],
+    words: [&'a [u8]; 11],
 }
 
 impl<'a> Model for Words<'a> {
@@ -30,12 +32,12 @@ impl<'a> Model for Words<'a> {
 
 impl<'a> Words<'a> {
     fn of(line: &'a [u8]) -> Words<'a>
-        ensures { (place : ℕ) → place < 9 → word_at result place ≡ word_at (words line.now) place }
+        ensures { (place : ℕ) → place < 11 → word_at result place ≡ word_at (words line.now) place }
     {
-        let mut words = [b"".as_slice(); 9];
+        let mut words = [b"".as_slice(); 11];
         let mut rest = line;
         let mut place = 0;
-        while place < 9 {
+        while place < 11 {
             let (word, more) = cut(rest);
             words[place] = word;
             rest = more;
@@ -46,7 +48,7 @@ impl<'a> Words<'a> {
 
     /// The word at a place, from 0.
     fn at(&self, place: usize) -> &'a [u8]
-        requires { place < 9 }
+        requires { place < 11 }
         ensures { result.now ≡ word_at self.now place }
     {
         self.words[place]
@@ -136,6 +138,71 @@ fn class(word: &[u8]) -> Class
     }
 }
 
+/// 1 for an X, else 0.
+fn flag(byte: u8) -> u8
+    ensures flag { result ≡ flag_of byte }
+    ensures most { result < 2 }
+{
+    u8::from(byte == b'X')
+}
+
+/// A bit for each byte of a word, 1 for an X, the last that of 1: by 8 bits.
+fn flags(word: &[u8]) -> u8
+    ensures { result ≡ flags_of word.now }
+{
+    let mut flags: u8 = 0;
+    for byte in word {
+        flags = flags.wrapping_mul(2) + flag(*byte);
+    }
+    flags
+}
+
+/// Whether the word has a byte at a place, and no hyphen there.
+fn is_shown(word: &[u8], place: usize) -> bool
+    ensures { result ≡ is_shown word.now place }
+{
+    match word.get(place) {
+        Some(byte) => *byte != b'-',
+        None => false,
+    }
+}
+
+/// The bytes of the data bus that the digits of a word show.
+#[tactic(auto, unfolding(crate::specs::Words::moved_of))]
+fn moved(word: &[u8]) -> Moved
+    ensures { result ≡ moved_of word.now }
+{
+    if is_shown(word, 0) {
+        Moved::LongWord
+    } else if is_shown(word, 5) {
+        if is_shown(word, 7) {
+            Moved::Word
+        } else {
+            Moved::EvenByte
+        }
+    } else if is_shown(word, 7) {
+        Moved::OddByte
+    } else {
+        Moved::Nothing
+    }
+}
+
+/// The data that a word is behind the word data.
+#[tactic(auto, unfolding(crate::specs::Words::lanes_of))]
+fn lanes(kind: &[u8], word: &[u8]) -> Option<Lanes>
+    ensures { result ≡ lanes_of kind.now word.now }
+{
+    if kind == b"data".as_slice() {
+        Some(Lanes {
+            moved: moved(word),
+            value: number(16, word),
+            unknown: flags(word),
+        })
+    } else {
+        None
+    }
+}
+
 #[tactic(auto, unfolding(crate::specs::Words::tenure_of))]
 fn tenure(words: &Words) -> Row
     ensures { result ≡ tenure_of words.now }
@@ -196,6 +263,7 @@ fn transfer(words: &Words) -> Row
             line: answer_line(words.at(5)),
             answer: number(10, words.at(6)),
             close: edge(words.at(8)),
+            lanes: lanes(words.at(9), words.at(10)),
         }
     } else {
         Row::PendingTransfer {
@@ -258,13 +326,14 @@ fn is_text(row: &Row, line: &[u8], buffer: &mut Text) -> bool
     buffer.as_bytes() == line
 }
 
-/// The row whose text the line is, without its line feed; rows differ in their text. The buffer is for that text.
-pub(crate) fn read_row(line: &[u8], buffer: &mut Text) -> Option<Row>
-    ensures named { IfSome result (λ row. (is_row row ≡ true) × (row_text row ≡ line.now)) }
-    ensures found { (row : Row) → is_row row ≡ true → row_text row ≡ line.now → result ≡ Some row }
+/// The row of the version whose text the line is, without its line feed; rows differ in their text. The buffer is for
+/// that text.
+pub(crate) fn read_row(version: Version, line: &[u8], buffer: &mut Text) -> Option<Row>
+    ensures named { IfSome result (λ row. (is_row version row ≡ true) × (row_text row ≡ line.now)) }
+    ensures found { (row : Row) → is_row version row ≡ true → row_text row ≡ line.now → result ≡ Some row }
 {
     let row = candidate(&Words::of(line))?;
-    if row.is_row() && is_text(&row, line, buffer) {
+    if row.is_row(version) && is_text(&row, line, buffer) {
         Some(row)
     } else {
         None

@@ -7,7 +7,7 @@ ghost use Rattle.vme_listing.specs.RowText.{text_of};
 ghost use Rattle.vme_listing.specs.Written.{AppendsFront, Moves};
 
 use crate::listing::Listing;
-use crate::text::{HEADER, LONGEST_LINE, MOST, Text};
+use crate::text::{LONGEST_LINE, MOST, Text};
 use vme_trace::Sink;
 
 /// A write failed.
@@ -44,8 +44,8 @@ fn make_room<W: Sink>(sink: &mut W, held: &mut Text) -> Result<(), Write>
     Ok(())
 }
 
-/// Writes the text of a listing, version 1: a header, and a line for each row. It is written in pieces of up to 4,096
-/// bytes, and takes no memory. After an error a front of the text is written.
+/// Writes the text of a listing: a header, by its version, and a line for each row. It is written in pieces of up to
+/// 4,096 bytes, and takes no memory. After an error a front of the text is written.
 pub fn write_listing<W: Sink>(listing: &Listing, sink: &mut W) -> Result<(), Write>
     ensures whole { OnOk result (Appends (W.writing sink.old).taken (W.writing sink.new).taken (text_of listing.now)) }
     ensures front { OnErr result
@@ -53,7 +53,7 @@ pub fn write_listing<W: Sink>(listing: &Listing, sink: &mut W) -> Result<(), Wri
     ensures failures { CountsFailure (W.writing sink.old).failures (W.writing sink.new).failures result }
 {
     let mut piece = Text::new();
-    piece.extend(HEADER);
+    piece.push_header(listing.version());
     let rows = listing.rows();
     for row in rows {
         make_room(sink, &mut piece)?;

@@ -1,9 +1,10 @@
 use std::alloc::Global;
 use std::test::Fail;
 use vme_listing::{
-    AnswerLine, Direction, ListFault, Listing, Outcome, Row, Write, read_listing, write_listing,
+    AnswerLine, Direction, ListFault, Listing, Outcome, Row, Version, Write, data_digits,
+    read_listing, write_listing,
 };
-use vme_trace::{Class, Failed, Line, Rule, Sink};
+use vme_trace::{Class, Failed, Lanes, Line, Moved, Rule, Sink};
 
 /// A sink that takes at most 50 bytes a write, and none once it has so many.
 #[derive(Drop)]
@@ -32,8 +33,13 @@ impl Sink for Page {
 }
 
 /// What goes out of the listing of some rows, into a sink of that size.
-fn written(alloc: Global, rows: &[Row], most: usize) -> Result<(Result<(), Write>, Page), Fail> {
-    let listing = Listing::new(Vec::from_slice(alloc, rows)?);
+fn written(
+    alloc: Global,
+    version: Version,
+    rows: &[Row],
+    most: usize,
+) -> Result<(Result<(), Write>, Page), Fail> {
+    let listing = Listing::new(version, Vec::from_slice(alloc, rows)?);
     let mut page = Page {
         bytes: Vec::with_capacity(alloc, most)?,
         most,
@@ -45,9 +51,15 @@ fn written(alloc: Global, rows: &[Row], most: usize) -> Result<(Result<(), Write
 
 /// Whether the rows are written as the header and this text.
 fn is_text(alloc: Global, rows: &[Row], text: &[u8]) -> Result<bool, Fail> {
-    let (result, page) = written(alloc, rows, 10000)?;
+    let (result, page) = written(alloc, Version::One, rows, 10000)?;
     let lines = page.bytes.as_slice().strip_prefix(b"vmecheck listing 1\n");
     Ok(result == Ok(()) && page.failures == 0 && lines == Some(text))
+}
+
+/// Whether a listing is written as this text.
+fn is_written(alloc: Global, listing: &Listing, text: &[u8]) -> Result<bool, Fail> {
+    let (result, page) = written(alloc, listing.version(), listing.rows(), 10000)?;
+    Ok(result == Ok(()) && page.failures == 0 && page.bytes.as_slice() == text)
 }
 
 const START: Row = Row::Start { instant: 1 };
@@ -81,6 +93,20 @@ fn transfer(start: u32, cycle: u32, direction: Direction, answer: u32, close: u3
         line: AnswerLine::Dtack,
         answer,
         close: Some(close),
+        lanes: None,
+    }
+}
+
+/// A write with its data.
+fn write_of(start: u32, lanes: Lanes) -> Row {
+    Row::Transfer {
+        start,
+        cycle: 9,
+        direction: Direction::Write,
+        line: AnswerLine::Dtack,
+        answer: 11,
+        close: None,
+        lanes: Some(lanes),
     }
 }
 
@@ -200,6 +226,71 @@ fn transfers(rt: HostRuntime) -> Result<(), Fail> {
     Ok(())
 }
 
+/// Writes with their data, of each pattern of bytes that are moved.
+#[test]
+fn writes(rt: HostRuntime) -> Result<(), Fail> {
+    let alloc = rt.alloc();
+    let long = Lanes {
+        moved: Moved::LongWord,
+        value: 0x7FFFFFFF,
+        unknown: 0,
+    };
+    let word = Lanes {
+        moved: Moved::Word,
+        value: 0xFFFF,
+        unknown: 0,
+    };
+    let even = Lanes {
+        moved: Moved::EvenByte,
+        value: 0xA00,
+        unknown: 8,
+    };
+    let odd = Lanes {
+        moved: Moved::OddByte,
+        value: 0,
+        unknown: 2,
+    };
+    let nothing = Lanes {
+        moved: Moved::Nothing,
+        value: 0,
+        unknown: 0,
+    };
+    let rows = [
+        write_of(10, long),
+        write_of(11, word),
+        write_of(12, even),
+        write_of(13, odd),
+        write_of(14, nothing),
+        transfer(15, 9, Direction::Read, 16, 17),
+    ];
+    let listing = Listing::new(Version::Two, Vec::from_slice(alloc, &rows)?);
+    assert!(rt;
+        is_written(
+            alloc,
+            &listing,
+            b"vmecheck listing 2\ntransfer 10 of 9 write DTACK 11 close - data 7FFFFFFF\ntransfer 11 of 9 write DTACK 11 close - data ----FFFF\ntransfer 12 of 9 write DTACK 11 close - data ----XA--\ntransfer 13 of 9 write DTACK 11 close - data ------X0\ntransfer 14 of 9 write DTACK 11 close - data --------\ntransfer 15 of 9 read DTACK 16 close 17\n"
+        )?
+    );
+    Ok(())
+}
+
+/// The digits of the data of a write: those that aren't moved, one of which a line is unknown, and the others.
+#[test]
+fn digits_of_data(rt: HostRuntime) {
+    let word = Lanes {
+        moved: Moved::Word,
+        value: 0x1034,
+        unknown: 4,
+    };
+    assert!(rt; data_digits(word) == *b"----1X34");
+    let nothing = Lanes {
+        moved: Moved::Nothing,
+        value: 0,
+        unknown: 0,
+    };
+    assert!(rt; data_digits(nothing) == *b"--------");
+}
+
 /// The other verdicts.
 #[test]
 fn verdicts(rt: HostRuntime) -> Result<(), Fail> {
@@ -237,14 +328,14 @@ fn pieces(rt: HostRuntime) -> Result<(), Fail> {
         1000000000,
         1000000000,
     ); 100];
-    let (result, whole) = written(alloc, &rows, 10000)?;
+    let (result, whole) = written(alloc, Version::One, &rows, 10000)?;
     assert!(rt; result == Ok(()) && whole.bytes.len() == 19 + 100 * 73);
     assert!(rt;
         whole.bytes.as_slice().ends_with(
             b"\ntransfer 1000000000 of 1000000000 read DTACK 1000000000 close 1000000000\n"
         )
     );
-    let (result, part) = written(alloc, &rows, 4200)?;
+    let (result, part) = written(alloc, Version::One, &rows, 4200)?;
     assert!(rt; result == Err(Write) && part.failures == 1);
     assert!(rt;
         part.bytes.len() < 4300 && whole.bytes.as_slice().starts_with(part.bytes.as_slice())
@@ -255,6 +346,10 @@ fn pieces(rt: HostRuntime) -> Result<(), Fail> {
 /// A listing of five rows: a read in the standard space.
 const WORKED: &[u8] =
     b"vmecheck listing 1\nstart 1\ntenure 5 level 3 slot 2 end 14\ncycle 9 S 39 FFFFDE end 12\ntransfer 10 of 9 read DTACK 11 close 12\nverdict conforming\n";
+
+/// A listing of version 2: a read, and writes of each pattern of bytes that are moved, one unanswered.
+const WORKED_WRITES: &[u8] =
+    b"vmecheck listing 2\nstart 1\ncycle 9 S 39 FFFFDE end -\ntransfer 10 of 9 read DTACK 11 close 12\ntransfer 13 of 9 write BERR 14 close 15 data ----FFFF\ntransfer 16 of 9 write DTACK 17 close 18 data 7FFFFFFF\ntransfer 19 of 9 write DTACK 20 close 21 data ------X0\ntransfer 22 of 9 write DTACK 23 close 24 data ----1B--\ntransfer 25 of 9 write DTACK 26 close - data --------\ntransfer 28 write pending\nverdict conforming\n";
 
 /// What a text reads as. Where memory is short once, it is read again.
 fn read(alloc: Global, text: &[u8]) -> Result<Listing, ListFault> {
@@ -274,24 +369,53 @@ fn fault_of(alloc: Global, text: &[u8]) -> Option<ListFault> {
 fn read_back(rt: HostRuntime) -> Result<(), Fail> {
     let alloc = rt.alloc();
     let idle = b"vmecheck listing 1\nverdict never-idle\n".as_slice();
-    for text in [WORKED, idle] {
+    let second = b"vmecheck listing 2\nverdict never-idle\n".as_slice();
+    for text in [WORKED, WORKED_WRITES, idle, second] {
         let listing = read(alloc, text).ok().ok_or("no listing")?;
-        let lines = text.strip_prefix(b"vmecheck listing 1\n");
-        assert!(rt; is_text(alloc, listing.rows(), lines.ok_or("no header")?)?);
+        assert!(rt; is_written(alloc, &listing, text)?);
     }
+    Ok(())
+}
+
+/// The data of a write, as it is read.
+#[test]
+fn read_data(rt: HostRuntime) -> Result<(), Fail> {
+    let alloc = rt.alloc();
+    let one = read(alloc, WORKED).ok().ok_or("no listing")?;
+    assert!(rt; one.version() == Version::One);
+    let two = read(alloc, WORKED_WRITES).ok().ok_or("no listing")?;
+    assert!(rt; two.version() == Version::Two);
+    let rows = two.into_rows();
+    let row = *rows.as_slice().get(5).ok_or("no row")?;
+    assert!(rt;
+        row == Row::Transfer {
+            start: 19,
+            cycle: 9,
+            direction: Direction::Write,
+            line: AnswerLine::Dtack,
+            answer: 20,
+            close: Some(21),
+            lanes: Some(Lanes {
+                moved: Moved::OddByte,
+                value: 0,
+                unknown: 2,
+            }),
+        }
+    );
     Ok(())
 }
 
 /// Texts with a fault: its kind and its row.
 #[test]
 fn faults(rt: HostRuntime) {
-    let texts: [(&[u8], ListFault); 14] = [
+    let texts: [(&[u8], ListFault); 15] = [
         (b"", ListFault::BadHeader),
         (b"vmecheck listing 1", ListFault::BadHeader),
         (
-            b"vmecheck listing 2\nverdict never-idle\n",
+            b"vmecheck listing 3\nverdict never-idle\n",
             ListFault::BadHeader,
         ),
+        (b"vmecheck listing 2\n", ListFault::BadRow { row: 1 }),
         (b"vmecheck listing 1\n", ListFault::BadRow { row: 1 }),
         (
             b"vmecheck listing 1\ntenure 5 open end 7\n",
@@ -340,7 +464,7 @@ fn faults(rt: HostRuntime) {
 }
 
 /// Lines that are no row behind `start 1`.
-const BAD_LINES: [&[u8]; 28] = [
+const BAD_LINES: [&[u8]; 30] = [
     b"",
     b"start 2",
     b"tenure 05 level 3 slot 2 end 14",
@@ -364,6 +488,8 @@ const BAD_LINES: [&[u8]; 28] = [
     b"cycle 9 I 8 end 12",
     b"transfer 10 of 9 read AS 11 close 12",
     b"transfer 10 of 9 read DTACK 11 close 12\r",
+    b"transfer 10 of 9 write DTACK 11 close 12 data 7FFFFFFF",
+    b"transfer 10 of 9 write DTACK 11 close 12 data --------",
     b"transfer 10 read",
     b"verdict never-idle",
     b"verdict broken U1 10 AS",
@@ -371,13 +497,50 @@ const BAD_LINES: [&[u8]; 28] = [
     b"verdict broken H4 10 D32",
 ];
 
+/// The fault of a text with these two lines at its front, or none.
+fn fault_behind(alloc: Global, front: &[u8], line: &[u8]) -> Result<Option<ListFault>, Fail> {
+    let mut text = Vec::from_slice(alloc, front)?;
+    text.extend_from_slice(line)?;
+    text.extend_from_slice(b"\nverdict conforming\n")?;
+    Ok(fault_of(alloc, text.as_slice()))
+}
+
 #[test]
 fn bad_lines(rt: HostRuntime) -> Result<(), Fail> {
     for line in BAD_LINES {
-        let mut text = Vec::from_slice(rt.alloc(), b"vmecheck listing 1\nstart 1\n")?;
-        text.extend_from_slice(line)?;
-        text.extend_from_slice(b"\nverdict conforming\n")?;
-        let fault = fault_of(rt.alloc(), text.as_slice());
+        let fault = fault_behind(rt.alloc(), b"vmecheck listing 1\nstart 1\n", line)?;
+        assert!(rt; fault == Some(ListFault::BadRow { row: 2 }));
+    }
+    Ok(())
+}
+
+/// Lines that are no row behind `start 1` in version 2.
+const BAD_WRITES: [&[u8]; 19] = [
+    b"transfer 10 of 9 write DTACK 11 close 12",
+    b"transfer 10 of 9 write DTACK 11 close 12 data",
+    b"transfer 10 of 9 write DTACK 11 close 12 data ",
+    b"transfer 10 of 9 write DTACK 11 close 12 7FFFFFFF",
+    b"transfer 10 of 9 write DTACK 11 close 12 date 7FFFFFFF",
+    b"transfer 10 of 9 read DTACK 11 close 12 data 7FFFFFFF",
+    b"transfer 10 of 9 read DTACK 11 close 12 data --------",
+    b"transfer 10 write pending data 7FFFFFFF",
+    b"transfer 10 of 9 write DTACK 11 close 12 data FF------",
+    b"transfer 10 of 9 write DTACK 11 close 12 data FFFF----",
+    b"transfer 10 of 9 write DTACK 11 close 12 data -------0",
+    b"transfer 10 of 9 write DTACK 11 close 12 data --FFFFFF",
+    b"transfer 10 of 9 write DTACK 11 close 12 data ----FF-F",
+    b"transfer 10 of 9 write DTACK 11 close 12 data 7fffffff",
+    b"transfer 10 of 9 write DTACK 11 close 12 data 7FFFFFFx",
+    b"transfer 10 of 9 write DTACK 11 close 12 data 7FFFFFF",
+    b"transfer 10 of 9 write DTACK 11 close 12 data 07FFFFFFF",
+    b"transfer 10 of 9 write DTACK 11 close 12 data 7FFFFFFF ",
+    b"transfer 10 of 9 write DTACK 11 close 12 data 7FFFFFFG",
+];
+
+#[test]
+fn bad_writes(rt: HostRuntime) -> Result<(), Fail> {
+    for line in BAD_WRITES {
+        let fault = fault_behind(rt.alloc(), b"vmecheck listing 2\nstart 1\n", line)?;
         assert!(rt; fault == Some(ListFault::BadRow { row: 2 }));
     }
     Ok(())
@@ -386,8 +549,10 @@ fn bad_lines(rt: HostRuntime) -> Result<(), Fail> {
 /// Each front of a listing has a fault in its text, or is the listing.
 #[test]
 fn fronts(rt: HostRuntime) {
-    for end in 0..=WORKED.len() {
-        let fault = fault_of(rt.alloc(), &WORKED[..end]);
-        assert!(rt; fault != Some(ListFault::Memory) && fault.is_none() == (end == WORKED.len()));
+    for text in [WORKED, WORKED_WRITES] {
+        for end in 0..=text.len() {
+            let fault = fault_of(rt.alloc(), &text[..end]);
+            assert!(rt; fault != Some(ListFault::Memory) && fault.is_none() == (end == text.len()));
+        }
     }
 }

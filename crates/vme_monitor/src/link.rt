@@ -5,14 +5,14 @@ ghost use Rattle.std.specs.List.{sum_by};
 ghost use Rattle.std.specs.Option.{option_map, option_to_list};
 ghost use Rattle.vme_monitor.specs.Meeting.{hop_marks, row_marks};
 ghost use Rattle.vme_monitor.specs.Outcome.{unmoved};
-ghost use Rattle.vme_monitor.specs.Run.{break_at, cycle_kind as cycle_kind_of, extended, kinds_of, mark_at, outcome_at, tenure_kind as tenure_kind_of, when as when_shown};
-ghost use Rattle.vme_monitor.specs.declared.mark.Kind.TheVariants.{Answer, Transfer};
+ghost use Rattle.vme_monitor.specs.Run.{answered_kind as answered_kind_of, break_at, cycle_kind as cycle_kind_of, extended, kinds_of, mark_at, outcome_at, tenure_kind as tenure_kind_of, when as when_shown};
+ghost use Rattle.vme_monitor.specs.declared.mark.Kind.TheVariants.{Transfer};
 ghost use Rattle.vme_monitor.specs.Walk.{bridge_of, hop_of, later_break as later_break_of, later_hop, later_mark, later_outcome, outcome_of};
 
 use crate::machine::Places;
-use crate::mark::{Asked, Fault, Kind, Kinds, Mark, Next, Taken};
+use crate::mark::{Answered, Asked, Fault, Kind, Kinds, Mark, Next, Taken};
 use std::alloc::{AllocError, Global};
-use vme_trace::{Break, Line};
+use vme_trace::Break;
 
 /// What runs show until they meet others, and which row of the next layer they go on in.
 #[derive(Debug, Drop)]
@@ -268,11 +268,14 @@ fn transfer_kind(shown: Option<bool>) -> Option<Kind>
     }
 }
 
-fn answer_kind(shown: Option<Line>) -> Option<Kind>
-    ensures { result ≡ option_map Answer shown }
+fn answered_kind(shown: Option<Answered>) -> Option<Kind>
+    ensures { result ≡ option_map answered_kind_of shown }
 {
     match shown {
-        Some(line) => Some(Kind::Answer { line }),
+        Some(answered) => Some(Kind::Answer {
+            line: answered.line,
+            lanes: answered.lanes,
+        }),
         None => None,
     }
 }
@@ -289,7 +292,7 @@ fn show_all(marks: &mut Vec<Mark>, instant: u32, kinds: Kinds) -> Result<(), All
     show(marks, instant, cycle_kind(kinds.cycle))?;
     show(marks, instant, when(kinds.cycle_end, Kind::CycleEnd))?;
     show(marks, instant, transfer_kind(kinds.transfer))?;
-    show(marks, instant, answer_kind(kinds.answer))?;
+    show(marks, instant, answered_kind(kinds.answer))?;
     show(marks, instant, when(kinds.close, Kind::Close))
 }
 

@@ -45,3 +45,10 @@ module _ (v : Levels) where
 
     pub not_unknown : is_known_on v l ≡ true → is_undriven v n ≡ false
     not_unknown k = rw (← there, k) (and_false (is_selected v l))
+
+  -- where each line below a place is known, and one more is
+  pub known_more : (k b l : ℕ) → l ≡ 159 + b → is_known_on v l ≡ true → (k ≡ b → any (is_undriven v) 0 (159 + b) ≡ false) → k + 1 ≡ b + 1 → any (is_undriven v) 0 (159 + (b + 1)) ≡ false
+  known_more k b l there known so e =
+      let next : 159 + (b + 1) ≡ 159 + b + 1 = omega arith in
+      let same : k ≡ b = omega arith in
+      rw next (undriven_more (159 + b) (so same) (not_unknown (159 + b) l there known))

@@ -186,10 +186,28 @@ fn may_write(before: &Lines, after: &Lines) -> bool
     !has_strobes_high(before) || after.level(Line::WRITE).is_low()
 }
 
+/// Whether all data lines are known: then no transfer lacks one. They are counted, so that the work is that of a few
+/// vectors.
+#[inline(always)]
+fn has_known_data(lines: &Lines) -> bool
+    ensures { result ≡ true → least (is_undriven lines.now) 0 line_count ≡ None }
+{
+    let mut known = 0u8;
+    for bit in 0..32u8 {
+        if lines.level(Line::data(bit)).is_known() {
+            known += 1;
+        }
+    }
+    known == 32
+}
+
 /// The least line that is moved and of which nothing is known.
 fn least_undriven(lines: &Lines) -> Option<Line>
     ensures { result ≡ least (is_undriven lines.now) 0 line_count }
 {
+    if has_known_data(lines) {
+        return None;
+    }
     for number in 159..LINE_COUNT {
         if let Some(line) = Line::from_number(number) {
             if !lines.level(line).is_known() && is_selected(lines, line) {

@@ -104,6 +104,7 @@ impl Holding {
     }
 
     /// The data line of a write that isn't known as a strobe falls.
+    #[inline(always)]
     fn undriven(self, before: &Lines, after: &Lines, seen: &Sight) -> Option<Fault>
         ensures { result ≡ fault_on_line U4 (undriven_fault self before.now after.now seen.now) }
     {
@@ -123,6 +124,7 @@ impl Holding {
     }
 
     /// The data line of a write that changes while it is held.
+    #[inline(always)]
     fn shifted(self, before: &Lines, after: &Lines, seen: &Sight) -> Option<Fault>
         ensures { result ≡ fault_on_line S3 (shifted_fault self before.now after.now seen.now) }
     {
@@ -141,9 +143,10 @@ impl Holding {
         }
     }
 
-    /// The first rule that the step breaks.
-    #[inline(always)]
-    fn fault(self, before: &Lines, after: &Lines, seen: &Sight) -> Option<Fault>
+    /// The first rule that the step breaks, whatever it shows.
+    #[cold]
+    #[inline(never)]
+    fn any_fault(self, before: &Lines, after: &Lines, seen: &Sight) -> Option<Fault>
         ensures { result ≡ fault_in self before.now after.now seen.now }
     {
         match seen.unknown {
@@ -155,6 +158,17 @@ impl Holding {
                     None => self.shifted(before, after, seen),
                 },
             },
+        }
+    }
+
+    /// The same; most steps show nothing unknown, undriven or shifted.
+    #[inline(always)]
+    fn fault(self, before: &Lines, after: &Lines, seen: &Sight) -> Option<Fault>
+        ensures { result ≡ fault_in self before.now after.now seen.now }
+    {
+        match (seen.unknown, seen.undriven, seen.shifted) {
+            (None, None, None) => self.broken(before, after, seen),
+            _ => self.any_fault(before, after, seen),
         }
     }
 }

@@ -8,6 +8,7 @@ use Rattle.vme_trace.specs.Blocks.{joined_steps}
 use Rattle.vme_trace.specs.Verdict.{rules_in_force, verdict_by}
 use Rattle.vme_trace.specs.declared.block.Block.{Block}
 use Rattle.vme_trace.specs.declared.verdict.Verdict.{Verdict}
+use Rattle.vme_listing.specs.Listed.{Listed}
 use Rattle.vme_listing.specs.Recorded.{listing_of}
 use Rattle.vme_listing.specs.declared.row.Row.{Row}
 use Rattle.vme_summary.specs.Joins.{AreSound, BlocksJoin, first_block, first_block_number, first_time, is_later, joined_trace, last_block, last_block_number, last_time, left_by}
@@ -79,8 +80,8 @@ IsVerdictOf s v =
     (blocks : List Block) → SpanStandsFor s blocks → recorded (verdict_by rules_in_force) blocks ≡ Some v
 
 -- this is the listing of the recording that a span's blocks make
-abbrev pub IsListingOf : Span → List Row → Type 0
-IsListingOf s rows = (blocks : List Block) → SpanStandsFor s blocks → recorded listing_of blocks ≡ Some rows
+abbrev pub IsListingOf : Span → Listed → Type 0
+IsListingOf s listing = (blocks : List Block) → SpanStandsFor s blocks → recorded listing_of blocks ≡ Some listing
 
 -- a block is judged: it is accepted, it has at most 65,536 steps, and the span stands for it alone
 pub record IsJudged (b : Block) (s : Span) : Type 0 where

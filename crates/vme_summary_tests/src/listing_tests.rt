@@ -48,7 +48,7 @@ pub(crate) fn assert_rows(
     };
     write_listing(listing, &mut page).ok().ok_or("not written")?;
     let text = page.bytes.as_slice();
-    assert!(rt; text.strip_prefix(b"vmecheck listing 1\n") == Some(rows.as_bytes()));
+    assert!(rt; text.strip_prefix(b"vmecheck listing 2\n") == Some(rows.as_bytes()));
     let again = read(alloc, text).ok().ok_or("not read")?;
     assert!(rt; again.rows() == listing.rows());
     Ok(())

@@ -110,15 +110,15 @@ pub(crate) const CYCLES: [Worked; 9] = [
     ),
     (
         GRANTED,
-        "AM1=0 A05=0;AS=0;DS0=0 DS1=0;DTACK=0;DS0=1 DS1=1;DTACK=1;WRITE=0;DS0=0 DS1=0;DTACK=0;AS=1 DS0=1 DS1=1;DTACK=1",
+        "AM1=0 A05=0;AS=0;DS0=0 DS1=0;DTACK=0;DS0=1 DS1=1;DTACK=1;WRITE=0 D07=0;DS0=0 DS1=0;DTACK=0 D00=0;AS=1 DS0=1 DS1=1;DTACK=1",
         Conforming,
-        "start 1\ntenure 5 level 3 slot 2 end -\ncycle 9 S 3D FFFFDE end 17\ntransfer 10 of 9 read DTACK 11 close 12\ntransfer 15 of 9 write DTACK 16 close 17\nverdict conforming\n",
+        "start 1\ntenure 5 level 3 slot 2 end -\ncycle 9 S 3D FFFFDE end 17\ntransfer 10 of 9 read DTACK 11 close 12\ntransfer 15 of 9 write DTACK 16 close 17 data ----FF7F\nverdict conforming\n",
     ),
     (
         GRANTED,
         "AM1=0 WRITE=0 A05=0;AS=0;DS0=0 DS1=0;DTACK=0;DS0=1 DS1=1;DTACK=1;WRITE=1;DS0=0 DS1=0;DTACK=0;AS=1 DS0=1 DS1=1;DTACK=1",
         Broken(16, Rule::C1, "DTACK"),
-        "start 1\ntenure 5 level 3 slot 2 end -\ncycle 9 S 3D FFFFDE end -\ntransfer 10 of 9 write DTACK 11 close 12\ntransfer 15 read pending\nverdict broken C1 16 DTACK\n",
+        "start 1\ntenure 5 level 3 slot 2 end -\ncycle 9 S 3D FFFFDE end -\ntransfer 10 of 9 write DTACK 11 close 12 data ----FFFF\ntransfer 15 read pending\nverdict broken C1 16 DTACK\n",
     ),
     (
         GRANTED,

@@ -1,3 +1,4 @@
+pub mod AnswerData
 pub mod Changing
 pub mod CutBlocks
 pub mod IdleLines

@@ -8,6 +8,7 @@ pub mod Followed
 pub mod Instants
 pub mod Judged
 pub mod Levels
+pub mod Lanes
 pub mod LineNumbers
 pub mod Names
 pub mod Rules

@@ -21,7 +21,7 @@ pub use block::{Block, Malformed};
 pub use capture::{Capture, CutFault};
 pub use class::Class;
 pub use cycle::{LineSet, am_class, am_code, needed};
-pub use data::is_selected;
+pub use data::{Lanes, Moved, is_selected, moved_data};
 pub use follower::Follower;
 pub use level::Level;
 pub use line::{LINE_COUNT, Line};

@@ -6,7 +6,7 @@ use Rattle.vcd_read.specs.Header.{◌>>=◌}
 use Rattle.vme_bind.specs.Binding.{BoundLines}
 use Rattle.vme_bind.specs.declared.fault.BindFault.{BindFault}
 use Rattle.vme_trace.specs.Trace.{Trace}
-use Rattle.vme_listing.specs.declared.row.Row.{Row}
+use Rattle.vme_listing.specs.Listed.{Listed}
 use Rattle.vme_cert.specs.declared.compare.Answer.{Answer as Confirmation}
 use Rattle.vme_cert.specs.declared.compare.Answer.TheVariants.{Yes, No}
 use Rattle.vme_answer.specs.Answers.{Answer, Gives, binding_read, dump_read, recorded_by}
@@ -24,20 +24,20 @@ use Rattle.vme_answer.proofs.EndLemmas.{not_both, read_is, refusal_status-small,
 use Rattle.vme_stream.proofs.InputLemmas.{in_time}
 use Rattle.vme_trace.specs.Streams.{Reading, Writing}
 
-pub binding_lacks : (binding : Result BoundLines Refusal) (dump : Result Contents Refusal) (listing : Result (List Row) Refusal) (r : Refusal)
+pub binding_lacks : (binding : Result BoundLines Refusal) (dump : Result Contents Refusal) (listing : Result Listed Refusal) (r : Refusal)
     → Gives (λ (b : BoundLines). b) (Err r) binding → GivesConfirmation (Err r) (compared binding dump listing)
 binding_lacks binding dump listing Memory is = tt
 binding_lacks binding dump listing r is = ap (λ (w : Result BoundLines Refusal). compared w dump listing) is
 
-abbrev with_listing : Result (List Row) Refusal → Result Trace BindFault → Result (List Row × Trace) Refusal
+abbrev with_listing : Result Listed Refusal → Result Trace BindFault → Result (Listed × Trace) Refusal
 with_listing listing recorded = compared_with recorded listing
 
-compared_is : (bound : BoundLines) (dump : Result Contents Refusal) (listing : Result (List Row) Refusal)
+compared_is : (bound : BoundLines) (dump : Result Contents Refusal) (listing : Result Listed Refusal)
     → compared (Ok bound) dump listing ≡ (recorded_by bound dump >>= with_listing listing)
 compared_is bound (Ok contents) listing = refl
 compared_is bound (Err r) listing = refl
 
-pub dump_recorded : (bound : BoundLines) (dump : Result Contents Refusal) (listing : Result (List Row) Refusal) (recorded : Result Trace BindFault)
+pub dump_recorded : (bound : BoundLines) (dump : Result Contents Refusal) (listing : Result Listed Refusal) (recorded : Result Trace BindFault)
     (found : Result Confirmation Refusal) → recorded_by bound dump ≡ Ok recorded → GivesConfirmation found (compared_with recorded listing)
     → GivesConfirmation found (compared (Ok bound) dump listing)
 dump_recorded bound dump listing recorded found is given =
@@ -45,7 +45,7 @@ dump_recorded bound dump listing recorded found is given =
     compared_is bound dump listing ∙ ap (λ (w : Result (Result Trace BindFault) Refusal). w >>= with_listing listing) is in
     subst (GivesConfirmation found) (sym same) given
 
-pub dump_lacks : (bound : BoundLines) (dump : Result Contents Refusal) (listing : Result (List Row) Refusal) (r : Refusal)
+pub dump_lacks : (bound : BoundLines) (dump : Result Contents Refusal) (listing : Result Listed Refusal) (r : Refusal)
     → Gives (λ (recorded : Result Trace BindFault). recorded) (Err r) (recorded_by bound dump) → GivesConfirmation (Err r) (compared (Ok bound) dump listing)
 dump_lacks bound dump listing Memory is = tt
 dump_lacks bound dump listing r is = compared_is bound dump listing ∙ ap (λ (w : Result (Result Trace BindFault) Refusal). w >>= with_listing listing) is
@@ -83,7 +83,7 @@ Confirms-unwritten binding dump listing out err status confirms =
 
 -- ---- the exact answer
 
-is_found : (found : Result Confirmation Refusal) (said : Result (List Row × Trace) Refusal) → (found ≡ Err Memory → ⊥) → GivesConfirmation found said
+is_found : (found : Result Confirmation Refusal) (said : Result (Listed × Trace) Refusal) → (found ≡ Err Memory → ⊥) → GivesConfirmation found said
     → IsFound found said
 is_found (Ok answer) said memory given = given
 is_found (Err Memory) said memory given = absurd (memory refl)
@@ -95,12 +95,12 @@ refused_alike (Err q) r is =
     let same : r ≡ q = cc is in
     ap (λ (w : Refusal). Err w) (sym same)
 
-is_listing : (text : Result (List ℕ) Refusal) (given : Result (List Row) Refusal) → (given ≡ Err Memory → ⊥) → GivesRows text given → IsListing text given
+is_listing : (text : Result (List ℕ) Refusal) (given : Result Listed Refusal) → (given ≡ Err Memory → ⊥) → GivesRows text given → IsListing text given
 is_listing text (Ok rows) memory is = is
 is_listing text (Err Memory) memory is = absurd (memory refl)
 is_listing text (Err r) memory is = is
 
-is_confirmation : (binding : Result BoundLines Refusal) (dump : Result Contents Refusal) (text : Result (List ℕ) Refusal) (given : Result (List Row) Refusal)
+is_confirmation : (binding : Result BoundLines Refusal) (dump : Result Contents Refusal) (text : Result (List ℕ) Refusal) (given : Result Listed Refusal)
     (found : Result Confirmation Refusal) → (found ≡ Err Memory → ⊥) → GivesRows text given → GivesConfirmation found (compared binding dump given)
     → IsConfirmation binding dump text found
 is_confirmation (Err r) dump text given found memory rows is = refused_alike found r (is_found found (Err r) memory is)
@@ -108,7 +108,7 @@ is_confirmation (Ok bound) (Err r) text given found memory rows is = refused_ali
 is_confirmation (Ok bound) (Ok contents) text given found memory rows is =
     let said : IsFound found (compared (Ok bound) (Ok contents) given) = is_found found (compared (Ok bound) (Ok contents) given) memory is in
     let none : (given ≡ Err Memory → ⊥) =
-    λ lacks. memory (refused_alike found Memory (subst (λ (g : Result (List Row) Refusal). IsFound found (compared (Ok bound) (Ok contents) g)) lacks said)) in
+    λ lacks. memory (refused_alike found Memory (subst (λ (g : Result Listed Refusal). IsFound found (compared (Ok bound) (Ok contents) g)) lacks said)) in
     (given, none, is_listing text given none rows, said)
 
 was_told : (answer : Answer) (out err : Writing × Writing) (status : ℕ) → Ends answer out err status → out.1.failures ≡ out.0.failures → Tells answer out err status

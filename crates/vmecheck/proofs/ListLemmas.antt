@@ -10,6 +10,8 @@ use Rattle.vme_trace.specs.Trace.{Trace}
 use Rattle.vme_trace.specs.Verdict.{all_rules, rules_in_force, least_break, is_unreadable, judge, verdict_by, verdict_on}
 use Rattle.vme_trace.specs.declared.verdict.Break.{Break}
 use Rattle.vme_trace.specs.declared.verdict.Verdict.TheVariants as verdict
+use Rattle.vme_listing.specs.Listed.{Listed}
+use Rattle.vme_listing.specs.RowText.{text_of}
 use Rattle.vme_listing.specs.Recorded.{listing_by, listing_of, listing_of_spans, listed_end, outcome_of, rows_before}
 use Rattle.vme_listing.specs.declared.row.Outcome.TheVariants as outcome
 use Rattle.vme_listing.specs.declared.row.Row.{Row}
@@ -26,7 +28,7 @@ use Rattle.vme_stream.specs.Inputs.{TellsWhole}
 use Rattle.vme_trace.specs.Streams.{Reading, Writing}
 use Rattle.vme_stream.proofs.OutputLemmas.{front_is}
 use Rattle.vmecheck.specs.Judged.{in_blocks, limited_in_blocks}
-use Rattle.vmecheck.specs.Listings.{GivesListing, Lists, listing_answer_by, listing_answer_of, listing_status, outcome_status, recording_of, row_status}
+use Rattle.vmecheck.specs.Listings.{GivesListing, Lists, listing_answer_by, listing_answer_of, listing_status, outcome_status, recording_of, row_status, rows_status}
 
 -- ---- the status
 
@@ -59,7 +61,7 @@ abbrev pub status_of_last : Option Row → ℕ
 status_of_last row = option_map_or row_status row 2
 
 status_over : (t : Trace) (span : Option Span)
-    → listing_status (listing_of_spans all_rules t (option_to_list span)) ≡ verdict_status (judge rules_in_force t (option_to_list span))
+    → rows_status (listing_of_spans all_rules t (option_to_list span)) ≡ verdict_status (judge rules_in_force t (option_to_list span))
 status_over t None = refl
 status_over t (Some span) =
     let found : Option Break = least_break t span all_rules in
@@ -99,6 +101,14 @@ pub front_taken : (old new : Option (List ℕ)) (text : List ℕ) → AppendsFro
 front_taken old new text took =
     let (front, rest, split, appended) = took in
     (length front, subst (λ (bytes : List ℕ). Appends old new bytes) (front_is text front rest split) appended)
+
+-- what was written of a listing was written of what is equal to it
+pub whole_written : (old new : Option (List ℕ)) (listing same : Listed) → listing ≡ same → Appends old new (text_of listing) → Appends old new (text_of same)
+whole_written old new listing same is took = subst (λ (l : Listed). Appends old new (text_of l)) is took
+
+pub front_written : (old new : Option (List ℕ)) (listing same : Listed) → listing ≡ same → AppendsFront old new (text_of listing)
+    → (n : ℕ) × Appends old new (take n (text_of same))
+front_written old new listing same is took = front_taken old new (text_of same) (subst (λ (l : Listed). AppendsFront old new (text_of l)) is took)
 
 -- ---- how it ends
 

@@ -7,12 +7,12 @@ use Rattle.vme_bind.specs.Capture.{capture_of}
 use Rattle.vme_bind.specs.declared.fault.BindFault.{BindFault}
 use Rattle.vme_trace.specs.Streams.{Reading, Writing}
 use Rattle.vme_trace.specs.Trace.{Trace}
+use Rattle.vme_listing.specs.Listed.{Listed}
 use Rattle.vme_listing.specs.Places.{is_well_placed}
 use Rattle.vme_listing.specs.Reading.{IsFirstFault, IsNoListing}
-use Rattle.vme_listing.specs.Recorded.{listing_of}
+use Rattle.vme_listing.specs.Recorded.{recorded_rows, rows_in}
 use Rattle.vme_listing.specs.RowText.{text_of}
 use Rattle.vme_listing.specs.declared.fault.ListFault.{ListFault}
-use Rattle.vme_listing.specs.declared.row.Row.{Row}
 use Rattle.vme_cert.specs.Agreement.{Settles}
 use Rattle.vme_cert.specs.declared.compare.Answer.{Answer as Confirmation}
 use Rattle.vme_cert.specs.declared.compare.Answer.TheVariants.{Yes, No}
@@ -30,43 +30,43 @@ abbrev pub listing_text : Option (List ℕ) → Result (List ℕ) Refusal
 listing_text input = whole Listing input
 
 -- of the bytes of an input, or of why they can't be had, this is the listing, or the first reason that there is none
-abbrev pub IsListing : Result (List ℕ) Refusal → Result (List Row) Refusal → Type 0
+abbrev pub IsListing : Result (List ℕ) Refusal → Result Listed Refusal → Type 0
 IsListing (Err refusal) given = given ≡ Err refusal
-IsListing (Ok text) (Ok rows) = (is_well_placed rows ≡ true) × (text_of rows ≡ text)
+IsListing (Ok text) (Ok listing) = (is_well_placed listing ≡ true) × (text_of listing ≡ text)
 IsListing (Ok text) (Err refusal) =
     (fault : ListFault) × (refusal ≡ listing_refusal fault) × IsFirstFault text fault × IsNoListing text fault
 
 -- the same, unless there was no memory
-abbrev pub GivesRows : Result (List ℕ) Refusal → Result (List Row) Refusal → Type 0
+abbrev pub GivesRows : Result (List ℕ) Refusal → Result Listed Refusal → Type 0
 GivesRows text (Err Memory) = Unit {0}
 GivesRows text given = IsListing text given
 
 -- A listing, and the recording that a binding makes of a dump, or the first reason that one is missing: a fault of the listing
 -- comes before why the binding makes no recording. In what order the program looks isn't told by this.
-abbrev pub compared : Result BoundLines Refusal → Result Contents Refusal → Result (List Row) Refusal
-    → Result (List Row × Trace) Refusal
+abbrev pub compared : Result BoundLines Refusal → Result Contents Refusal → Result Listed Refusal
+    → Result (Listed × Trace) Refusal
 compared binding dump listing = do
   bound ← binding
   contents ← dump
-  rows ← listing
+  given ← listing
   t ← or_bad_binding (capture_of bound contents)
-  Ok (rows, t)
+  Ok (given, t)
 
 -- the same, where a dump was read and this is the recording that the binding makes of it, or why it makes none
-abbrev pub compared_with : Result Trace BindFault → Result (List Row) Refusal → Result (List Row × Trace) Refusal
+abbrev pub compared_with : Result Trace BindFault → Result Listed Refusal → Result (Listed × Trace) Refusal
 compared_with recorded listing = do
-  rows ← listing
+  given ← listing
   t ← or_bad_binding recorded
-  Ok (rows, t)
+  Ok (given, t)
 
--- what is found says whether the rows are the listing of the recording, and which is the first that differs; or why there is
+-- what is found says whether the listing is that of the recording in its version, and which row is the first that differs; or why there is
 -- no answer
-abbrev pub IsFound : Result Confirmation Refusal → Result (List Row × Trace) Refusal → Type 0
-IsFound (Ok found) said = (rows : List Row) × (t : Trace) × (said ≡ Ok (rows, t)) × Settles rows (listing_of t) found
+abbrev pub IsFound : Result Confirmation Refusal → Result (Listed × Trace) Refusal → Type 0
+IsFound (Ok found) said = (given : Listed) × (t : Trace) × (said ≡ Ok (given, t)) × Settles given.rows (rows_in given.version (recorded_rows t)) found
 IsFound (Err refusal) said = said ≡ Err refusal
 
 -- the same, unless there was no memory
-abbrev pub GivesConfirmation : Result Confirmation Refusal → Result (List Row × Trace) Refusal → Type 0
+abbrev pub GivesConfirmation : Result Confirmation Refusal → Result (Listed × Trace) Refusal → Type 0
 GivesConfirmation (Err Memory) said = Unit {0}
 GivesConfirmation found said = IsFound found said
 
@@ -77,7 +77,7 @@ abbrev pub IsConfirmation : Result BoundLines Refusal → Result Contents Refusa
 IsConfirmation (Err refusal) dump text found = found ≡ Err refusal
 IsConfirmation (Ok bound) (Err refusal) text found = found ≡ Err refusal
 IsConfirmation (Ok bound) (Ok contents) text found =
-    (given : Result (List Row) Refusal) × (given ≢ Err Memory)
+    (given : Result Listed Refusal) × (given ≢ Err Memory)
     × IsListing text given
     × IsFound found (compared (Ok bound) (Ok contents) given)
 
@@ -103,7 +103,7 @@ confirmation_answer_by (Err refusal) = refusal_answer refusal
 abbrev pub Confirms : Reading × Reading → Reading × Reading → Reading × Reading
     → Writing × Writing → Writing × Writing → ℕ → Type 0
 Confirms binding dump listing out err status =
-    (binding_bytes dump_bytes listing_bytes : Option (List ℕ)) × (given : Result (List Row) Refusal)
+    (binding_bytes dump_bytes listing_bytes : Option (List ℕ)) × (given : Result Listed Refusal)
     × (found : Result Confirmation Refusal)
     × IsReading binding.0 binding.1 binding_bytes
     × IsReading dump.0 dump.1 dump_bytes

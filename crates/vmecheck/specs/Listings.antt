@@ -6,6 +6,7 @@ use Rattle.vcd_read.specs.Header.{◌>>=◌}
 use Rattle.vme_trace.specs.Streams.{Reading, Writing}
 use Rattle.vme_trace.specs.Trace.{Trace}
 use Rattle.vme_trace.specs.Verdict.{verdict_by, rules_in_force}
+use Rattle.vme_listing.specs.Listed.{Listed}
 use Rattle.vme_listing.specs.Recorded.{listing_of}
 use Rattle.vme_listing.specs.RowText.{text_of}
 use Rattle.vme_answer.specs.Answers.{Answer, Gives, capture_read, refusal_answer}
@@ -25,10 +26,10 @@ recording_of binding dump block = do
   t ← capture_read binding dump
   in_blocks block t
 
--- The rows are the listing of the recording that is to be read there, or what is found is why there is none, unless there was
+-- The listing is that of the recording that is to be read there, or what is found is why there is none, unless there was
 -- no memory.
-abbrev pub GivesListing : Result (List Row) Refusal → Result Trace Refusal → Type 0
-GivesListing (Ok rows) recording = (t : Trace) × (recording ≡ Ok t) × (rows ≡ listing_of t)
+abbrev pub GivesListing : Result Listed Refusal → Result Trace Refusal → Type 0
+GivesListing (Ok listing) recording = (t : Trace) × (recording ≡ Ok t) × (listing ≡ listing_of t)
 GivesListing (Err Memory) recording = Unit {0}
 GivesListing (Err refusal) recording = recording ≡ Err refusal
 
@@ -48,12 +49,15 @@ row_status (Tenure start level slot end) = 2
 row_status (AddressedCycle start class modifier address end) = 2
 row_status (FreeCycle start modifier end) = 2
 row_status (InterruptCycle start level end) = 2
-row_status (Transfer start cycle direction line answer close) = 2
+row_status (Transfer start cycle direction line answer close lanes) = 2
 row_status (PendingTransfer start direction) = 2
 row_status (Verdict outcome) = outcome_status outcome
 
-abbrev pub listing_status : List Row → ℕ
-listing_status rows = option_map_or row_status (last_or None rows) 2
+abbrev pub rows_status : List Row → ℕ
+rows_status rows = option_map_or row_status (last_or None rows) 2
+
+abbrev pub listing_status : Listed → ℕ
+listing_status listing = rows_status listing.rows
 
 -- ---- the answer
 

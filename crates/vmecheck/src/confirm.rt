@@ -1,7 +1,7 @@
 //! Whether a listing is that of a recording.
 
 ghost use Rattle.std.specs.Prelude.{◌≡◌, ◌≢◌, ◌↔◌, ℕ, suc, List, Option, Ok, Result};
-ghost use Rattle.vme_listing.specs.declared.row.Row.{Row};
+ghost use Rattle.vme_listing.specs.Listed.{Listed};
 ghost use Rattle.vme_answer.specs.Answers.{binding_read, dump_read};
 ghost use Rattle.vmecheck.specs.Confirmations.{Confirms, GivesConfirmation, GivesRows, TellsConfirmation, compared, compared_with, confirmation_answer_by, confirmation_status, confirmation_text, listing_text};
 ghost use Rattle.vme_answer.specs.Ends.{Ends};
@@ -17,7 +17,7 @@ use vme_listing::{Listing, read_listing};
 use vme_stream::{Message, complain, read_all, write_message};
 use vme_trace::{Capture, Sink, Source};
 
-/// Whether a listing is that of the recording that a binding makes of a dump: writes the answer to `out`, or to `err` why there
+/// Whether a listing is that of the recording that a binding makes of a dump, in its version: writes the answer to `out`, or to `err` why there
 /// is none. The answer is the exit status: 0 confirmed, 1 not, 3 where an input is refused, 4 for want of memory, 5 where the
 /// answer can't be written.
 ///
@@ -92,7 +92,7 @@ fn comparison<B: Source, D: Source, L: Source>(
     dump: &mut D,
     listing: &mut L,
 ) -> Result<Answer, Refusal>
-    ensures { (binding_bytes dump_bytes listing_bytes : Option (List ℕ)) × (given : Result (List Row) Refusal)
+    ensures { (binding_bytes dump_bytes listing_bytes : Option (List ℕ)) × (given : Result Listed Refusal)
         × IsReading (B.reading binding.old) (B.reading binding.new) binding_bytes
         × IsReading (D.reading dump.old) (D.reading dump.new) dump_bytes
         × IsReading (L.reading listing.old) (L.reading listing.new) listing_bytes
@@ -111,7 +111,7 @@ fn comparison_bound<D: Source, L: Source>(
     dump: &mut D,
     listing: &mut L,
 ) -> Result<Answer, Refusal>
-    ensures { (dump_bytes listing_bytes : Option (List ℕ)) × (given : Result (List Row) Refusal)
+    ensures { (dump_bytes listing_bytes : Option (List ℕ)) × (given : Result Listed Refusal)
         × IsReading (D.reading dump.old) (D.reading dump.new) dump_bytes
         × IsReading (L.reading listing.old) (L.reading listing.new) listing_bytes
         × GivesRows (listing_text listing_bytes) given
@@ -129,7 +129,7 @@ fn comparison_recorded<L: Source>(
     recorded: Result<Capture, BindFault>,
     listing: &mut L,
 ) -> Result<Answer, Refusal>
-    ensures { (listing_bytes : Option (List ℕ)) × (given : Result (List Row) Refusal)
+    ensures { (listing_bytes : Option (List ℕ)) × (given : Result Listed Refusal)
         × IsReading (L.reading listing.old) (L.reading listing.new) listing_bytes
         × GivesRows (listing_text listing_bytes) given
         × GivesConfirmation result (compared_with recorded given) }

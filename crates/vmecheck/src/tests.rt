@@ -31,7 +31,7 @@ const UNBOUND: &str = "$enddefinitions $end\n";
 
 /// The listing of the dump of this head and body by the built-in binding.
 pub(crate) const LISTING: &str =
-    "vmecheck listing 1\nstart 1\ntenure 1 open end -\ncycle 2 S 3D FFFFFE end 5\n\
+    "vmecheck listing 2\nstart 1\ntenure 1 open end -\ncycle 2 S 3D FFFFFE end 5\n\
 transfer 3 of 2 read DTACK 4 close 5\nverdict conforming\n";
 
 /// A sink that holds what it took, up to a count of bytes at which writes fail.
@@ -229,16 +229,16 @@ fn expect_listing<R: Abort + AllocGlobal + Threads + Sync>(
 fn listings(rt: HostRuntime) -> Result<(), Fail> {
     for (body, text, status) in [
         (BODY, LISTING, 0),
-        ("", "vmecheck listing 1\nverdict never-idle\n", 2),
+        ("", "vmecheck listing 2\nverdict never-idle\n", 2),
         (
             "#0 1p 1q 1r 1s 1t 1u\n#10 0p\n#20 0s\n#40 1p 1q\n#50 1s\n",
-            "vmecheck listing 1\nstart 1\ntenure 1 open end -\ncycle 2 S 3D FFFFFE end -\n\
+            "vmecheck listing 2\nstart 1\ntenure 1 open end -\ncycle 2 S 3D FFFFFE end -\n\
 verdict broken H4 3 DTACK\n",
             1,
         ),
         (
             "#0 1p 1q 1r 1s 1t 1u\n#10 xp\n#20 0q\n#30 0s\n#40 1p 1q\n#50 1s\n",
-            "vmecheck listing 1\nstart 1\ntenure 1 open end -\nverdict unreadable U1 2 AS\n",
+            "vmecheck listing 2\nstart 1\ntenure 1 open end -\nverdict unreadable U1 2 AS\n",
             2,
         ),
     ] {
@@ -345,7 +345,7 @@ fn listing_faults(rt: HostRuntime) -> Result<(), Fail> {
     let dump = dump_of(rt.alloc(), HEAD, BODY)?;
     for (old, new, text) in [
         (LISTING, "", "vmecheck: listing header\n"),
-        ("listing 1", "listing 2", "vmecheck: listing header\n"),
+        ("listing 2", "listing 3", "vmecheck: listing header\n"),
         (
             "verdict conforming\n",
             "",

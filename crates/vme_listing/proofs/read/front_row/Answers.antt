@@ -7,7 +7,7 @@ use Rattle.vme_listing.proofs.read.front_row.Goals as goal
 
 pub returns-in_err-row-clause-found : goal.returns-in_err-row-clause-found
 returns-in_err-row-clause-found c row more is e =
-    let front = front_line c.args.text.now c.in_ok-end.end row more c.in_ok-end.ensures is e.0 in
+    let front = front_line c.args.version c.args.text.now c.in_ok-end.end row more c.in_ok-end.ensures is e.0 in
     let none = c.in_err-row.ensures.found row is front.0 in
     absurd (cc)
 
@@ -15,7 +15,7 @@ pub returns-then-not-is_empty-clause-found : goal.returns-then-not-is_empty-clau
 returns-then-not-is_empty-clause-found c row more is e =
     let text = c.args.text.now in
     let end = c.in_ok-end.end in
-    let front = front_line text end row more c.in_ok-end.ensures is e.0 in
+    let front = front_line c.args.version text end row more c.in_ok-end.ensures is e.0 in
     let same = c.in_ok-row.ensures.found row is front.0 in
     let behind = take_rest text (end + 1) ∙ front.1 in
     let last : more ≡ [] = e.1 (cc) in
@@ -26,6 +26,6 @@ pub returns-clause-found : goal.returns-clause-found
 returns-clause-found c row more is e =
     let text = c.args.text.now in
     let end = c.in_ok-end.end in
-    let front = front_line text end row more c.in_ok-end.ensures is e.0 in
+    let front = front_line c.args.version text end row more c.in_ok-end.ensures is e.0 in
     let same = c.in_ok-row.ensures.found row is front.0 in
     ((cc), take_rest text (end + 1) ∙ front.1)

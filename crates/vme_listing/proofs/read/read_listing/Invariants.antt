@@ -7,8 +7,8 @@ use Rattle.vme_listing.proofs.read.read_listing.Given as goal
 
 abbrev pub invariant-loop-rest : goal.invariant-loop-rest
 invariant-loop-rest l = record {
-  read : IsRead l.text l.rows.items l.rest;
-  begin : AllBegin l.text l.rows.items l.rest;
+  read : IsRead l.text l.version l.rows.items l.rest;
+  begin : AllBegin l.text l.version l.rows.items l.rest;
   closed : IsClosed l.rows.items l.rest;
 }
 

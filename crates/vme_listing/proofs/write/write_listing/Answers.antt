@@ -13,7 +13,7 @@ loop-row-preserved g c =
     let rest = flat_map line_of (drop (i + 1) rows) in
     let more : flat_map line_of (drop i rows) ≡ line_of c.row-item.result ++ rest = lines_more line_of rows i c.row-item.result c.loop-row-test.true c.row-item.is in
     let (gone, left, went) =
-    line_more (g.W.Sink.writing c.args.sink.now).taken (g.W.Sink.writing c.loop-row.sink).taken (g.W.Sink.writing c.make_room.new.sink).taken (text_of rows) done c.loop-row.piece c.make_room.new.held (line_of c.row-item.result) rest
+    line_more (g.W.Sink.writing c.args.sink.now).taken (g.W.Sink.writing c.loop-row.sink).taken (g.W.Sink.writing c.make_room.new.sink).taken (text_of c.args.listing.now) done c.loop-row.piece c.make_room.new.held (line_of c.row-item.result) rest
     (split ∙ ap (λ l. done ++ (c.loop-row.piece ++ l)) more) appended c.in_ok-make_room.ensures.moves in
     (gone, left ∙ ap (λ l. gone ++ (l ++ rest)) (sym c.push_line.ensures), went, c.in_ok-make_room.ensures.failures ∙ same)
 
@@ -23,7 +23,7 @@ returns-in_err-make_room-clause-front g c =
     let rows = c.rows-rows.result.now in
     on_any_err c.from_residual.result
     (front_of (g.W.Sink.writing c.args.sink.now).taken (g.W.Sink.writing c.loop-row.sink).taken (g.W.Sink.writing c.make_room.new.sink).taken (text_of c.args.listing.now) done c.loop-row.piece (flat_map line_of (drop c.loop-row.row-index rows))
-    (ap text_of (sym c.rows-rows.ensures) ∙ split) appended c.in_err-make_room.ensures.front)
+    split appended c.in_err-make_room.ensures.front)
 
 pub returns-clause-whole : goal.returns-clause-whole
 returns-clause-whole g c =
@@ -31,7 +31,7 @@ returns-clause-whole g c =
     let rows = c.rows-rows.result.now in
     on_ok c.put.result
     (whole_of (g.W.Sink.writing c.args.sink.now).taken (g.W.Sink.writing c.loop-row.sink).taken (g.W.Sink.writing c.put.new.sink).taken (text_of c.args.listing.now) done c.loop-row.piece c.as_bytes.result.now (flat_map line_of (drop c.loop-row.row-index rows))
-    (ap text_of (sym c.rows-rows.ensures) ∙ split) (lines_none line_of rows c.loop-row.row-index (omega arith)) c.as_bytes.ensures appended)
+    split (lines_none line_of rows c.loop-row.row-index (omega arith)) c.as_bytes.ensures appended)
     c.put.ensures.whole
 
 pub returns-clause-front : goal.returns-clause-front
@@ -43,5 +43,5 @@ returns-clause-front g c =
     on_err c.put.result
     (λ (h : AppendsFront mid new c.as_bytes.result.now).
     front_of (g.W.Sink.writing c.args.sink.now).taken mid new (text_of c.args.listing.now) done c.loop-row.piece (flat_map line_of (drop c.loop-row.row-index rows))
-    (ap text_of (sym c.rows-rows.ensures) ∙ split) appended (subst (λ l. AppendsFront mid new l) c.as_bytes.ensures h))
+    split appended (subst (λ l. AppendsFront mid new l) c.as_bytes.ensures h))
     c.put.ensures.front

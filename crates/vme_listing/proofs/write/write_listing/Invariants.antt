@@ -7,6 +7,6 @@ use Rattle.vme_listing.proofs.write.write_listing.Given as goal
 
 abbrev pub invariant-loop-row : goal.invariant-loop-row
 invariant-loop-row g l =
-    (done : List ℕ) × (text_of l.rows ≡ done ++ (l.piece ++ flat_map line_of (drop l.row-index l.rows)))
+    (done : List ℕ) × (text_of l.fn.listing ≡ done ++ (l.piece ++ flat_map line_of (drop l.row-index l.rows)))
     × Appends (g.W.Sink.writing l.initial.sink).taken (g.W.Sink.writing l.sink).taken done
     × ((g.W.Sink.writing l.sink).failures ≡ (g.W.Sink.writing l.initial.sink).failures)

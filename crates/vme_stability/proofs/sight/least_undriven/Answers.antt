@@ -34,3 +34,6 @@ loop-number-preserved c =
 
 pub returns : goal.returns
 returns c = sym (undriven_none c.args.lines.now c.loop-number.number (omega arith) c.loop-number.invariant)
+
+pub returns-then-has_known_data : goal.returns-then-has_known_data
+returns-then-has_known_data c = sym (c.has_known_data.ensures c.if-has_known_data.true)

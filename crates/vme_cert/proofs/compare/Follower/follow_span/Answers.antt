@@ -39,6 +39,7 @@ loop-instant-init c = record {
   here = c.opening-bus.ensures.instant;
   trace = c.opening-bus.ensures.trace;
   given = c.follow.ensures.given;
+  version = c.follow.ensures.version;
   rows = λ h. follows-none c.follow.new.self c.args.index.now.span.start c.args.capture.now c.args.index.now.span _ _ (ap (λ (s : Span). s.start) c.span.view_is) (c.follow.ensures.rows [] h);
 }
 
@@ -49,6 +50,7 @@ loop-instant-preserved c =
       here = c.advance.ensures.instant ∙ ap (λ n. n + 1) so_far.here;
       trace = ap (λ b. b.now) c.advance.ensures.trace ∙ so_far.trace;
       given = c.follow_instant.ensures.given ∙ so_far.given;
+      version = c.follow_instant.ensures.version ∙ so_far.version;
       rows = λ h. follows-next c.follow_instant.new.self c.args.index.now.span.start c.args.capture.now _ c.args.index.now.span _ c.loop-instant._instant _ so_far.trace so_far.here (c.follow_instant.ensures.rows _ (so_far.rows h));
     }
 

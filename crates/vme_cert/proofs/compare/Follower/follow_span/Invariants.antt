@@ -10,5 +10,6 @@ invariant-loop-instant l =
       here : l.bus.instant ≡ l._instant;
       trace : l.bus.capture.now ≡ l.fn.capture;
       given : l.self.given.now ≡ l.fn.self.given.now;
+      version : l.self.version ≡ l.fn.self.version;
       rows : Follows [] l.fn.self → Follows (Start l.fn.index.span.start ∷ rows_before l.fn.capture l.fn.index.span l.end l._instant) l.self;
     }

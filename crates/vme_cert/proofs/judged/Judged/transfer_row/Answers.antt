@@ -1,5 +1,6 @@
 use Rattle.std.proofs.Common.{rules, ◌≡◌, [], ◌∷◌, sym, ◌∙◌, ap}
-use Rattle.vme_trace.specs.Transfers.{is_write}
+use Rattle.vme_trace.specs.Transfers.{answers, is_write}
+use Rattle.vme_trace.proofs.Ranges.{least-found}
 use Rattle.vme_listing.specs.Recorded.{direction_of, answer_line}
 use Rattle.vme_listing.specs.declared.row.Direction.{Direction}
 use Rattle.vme_listing.specs.declared.row.Row.TheVariants.{PendingTransfer}
@@ -32,5 +33,18 @@ returns c =
     let direction : c.if-low.direction ≡ direction_of (trace self) (span self) c.args.end (instant self) = search rules in
     let falls = c.any.ensures ∙ any-one _ c.in-Some.answer in
     let line : c.if-any.line ≡ answer_line (trace self) (span self) c.args.end c.in-Some.answer = search rules in
-    rw (direction, line, c.first.ensures.least)
+    rw (direction, line, c.first.ensures.least, c.write_data.ensures)
     (row-answered _ _ _ _ starts c.in-Some.answer c.in-Some-cycle_of.cycle (sym c.answer_of.ensures.answer ∙ c.in-Some.is) (sym c.cycle_of.ensures.cycle ∙ c.in-Some-cycle_of.is))
+
+pub write_data-requires-clause-starts : goal.write_data-requires-clause-starts
+write_data-requires-clause-starts c = sym c.transfer_starts.ensures ∙ c.if-not-transfer_starts.false
+
+pub write_data-requires-clause-answer : goal.write_data-requires-clause-answer
+write_data-requires-clause-answer c =
+    let self = c.args.self.now in
+    (least-found (answers (trace self) (span self) (instant self)) (instant self) c.args.end c.in-Some.answer (sym c.answer_of.ensures.answer ∙ c.in-Some.is)).holds
+
+pub write_data-requires-clause-from : goal.write_data-requires-clause-from
+write_data-requires-clause-from c =
+    let self = c.args.self.now in
+    (least-found (answers (trace self) (span self) (instant self)) (instant self) c.args.end c.in-Some.answer (sym c.answer_of.ensures.answer ∙ c.in-Some.is)).first

@@ -5,8 +5,8 @@ use Rattle.vme_listing.proofs.words.Words.of.Given as goal
 
 abbrev pub invariant-loop-place : goal.invariant-loop-place
 invariant-loop-place l =
-    (length l.words ≡ 9) × (l.place ≤ 9) × ((k : ℕ) → k < l.place → word_at (map (λ word. word.now) l.words) k ≡ word_at (words l.line) k)
+    (length l.words ≡ 11) × (l.place ≤ 11) × ((k : ℕ) → k < l.place → word_at (map (λ word. word.now) l.words) k ≡ word_at (words l.line) k)
     × ((k : ℕ) → word_at (words l.rest) k ≡ word_at (words l.line) (l.place + k))
 
 abbrev pub decreases-loop-place : goal.decreases-loop-place
-decreases-loop-place l = 9 - l.place
+decreases-loop-place l = 11 - l.place

@@ -1,0 +1,79 @@
+-- Where the data of an answer are taken.
+use Rattle.std.proofs.Common.{◌≡◌, ℕ, zero, suc, ◌+◌, ◌-◌, ◌<◌, ◌≤◌, Bool, true, false, ◌&&◌, ◌||◌, not, refl, sym, ◌∙◌, ap, arith, inl, inr, ◌⊎◌}
+use Rattle.std.specs.Prelude.{nat_le, cond}
+use Rattle.std.proofs.lemmas.Bool.Decides.{nat_tests}
+use Rattle.vme_trace.specs.LineNumbers.{DS0, DS1}
+use Rattle.vme_trace.specs.Levels.{is_low, is_high}
+use Rattle.vme_trace.specs.Lanes.{lanes_at}
+use Rattle.vme_trace.specs.Trace.{Trace, levels_at}
+use Rattle.vme_trace.specs.Signals.{level, low, high}
+use Rattle.vme_trace.specs.Judged.{Span, is_judged}
+use Rattle.vme_trace.specs.Transfers.{strobes_high, transfer_starts, lasts, answers, data_at}
+use Rattle.vme_trace.specs.declared.level.Level.{Level}
+use Rattle.vme_trace.specs.declared.level.Level.TheVariants.{Low, High, Unknown}
+use Rattle.vme_trace.proofs.Ranges.{any-fails}
+
+first_of_two : (a b : Bool) → (a && b) ≡ true → a ≡ true
+first_of_two true b h = refl
+first_of_two false b h = absurd (cc)
+
+second_of_two : (a b : Bool) → (a && b) ≡ true → b ≡ true
+second_of_two true b h = h
+second_of_two false b h = absurd (cc)
+
+not_true : (b : Bool) → not b ≡ true → b ≡ false
+not_true true h = absurd (cc)
+not_true false h = refl
+
+low_is_not_high : (x y : Level) → (is_low x || is_low y) ≡ true → (is_high x && is_high y) ≡ false
+low_is_not_high Low y h = refl
+low_is_not_high Unknown y h = refl
+low_is_not_high High Low h = refl
+low_is_not_high High Unknown h = refl
+low_is_not_high High High h = absurd (cc)
+
+no_start : (a b c : Bool) → b ≡ false → (a && b && c) ≡ false
+no_start true true c h = absurd (cc)
+no_start true false c h = refl
+no_start false b c h = refl
+
+same_or_later : (i k : ℕ) → i ≤ k → (k ≡ i) ⊎ (i < k)
+same_or_later i k h = grind arith
+
+before_next : (i r : ℕ) → i < r → i ≤ r - 1
+before_next i r h = omega arith
+
+not_zero : (i r k : ℕ) → i < r → k ≡ r - 1 → i < k → k < r
+not_zero i r k h e f = omega arith
+
+module _ (t : Trace) (span : Span) where
+  -- a strobe is low where a transfer starts
+  open_at_start : (i : ℕ) → transfer_starts t span i ≡ true → strobes_high t i ≡ false
+  unfolding transfer_starts low high
+  open_at_start i starts = low_is_not_high (level t DS0 i) (level t DS1 i) (second_of_two _ _ starts)
+
+  open_since : (i r k : ℕ) → answers t span i r ≡ true → i < k → k < r → strobes_high t k ≡ false
+  unfolding answers lasts
+  open_since i r k found after before =
+      any-fails (strobes_high t) (i + 1) r k (not_true _ (second_of_two _ _ (first_of_two _ _ (first_of_two _ _ found)))) (omega arith) before
+
+  -- no other transfer starts before the answer of one
+  pub starts_apart : (i r : ℕ) → transfer_starts t span i ≡ true → answers t span i r ≡ true → i < r → transfer_starts t span r ≡ false
+  unfolding transfer_starts
+  starts_apart i r starts found after = no_start _ _ _ open_before
+    where
+      open_before : strobes_high t (r - 1) ≡ false
+      open_before =
+          elim (same_or_later i (r - 1) (before_next i r after)) [
+            | inl same ↦ ap (strobes_high t) same ∙ open_at_start i starts
+            | inr later ↦ open_since i r (r - 1) found later (omega arith)
+          ]
+
+  -- the data of an answer are those that the lines say before it, and there where the transfer starts there
+  pub data-later : (i r : ℕ) → transfer_starts t span i ≡ true → answers t span i r ≡ true → i < r → data_at t span r ≡ lanes_at (levels_at t (r - 1))
+  unfolding data_at
+  data-later i r starts found after = rw (starts_apart i r starts found after) refl
+
+  pub data-there : (r : ℕ) → transfer_starts t span r ≡ true → data_at t span r ≡ lanes_at (levels_at t r)
+  unfolding data_at
+  data-there r starts = rw starts refl
