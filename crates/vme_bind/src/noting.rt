@@ -53,6 +53,7 @@ impl<'t> Noting<'t> {
 
     /// Errors are want of memory, and a note more than are kept: a binding may give many lines to one net, so that a short
     /// text had notes that fill the memory.
+    #[inline(always)]
     fn push(&mut self, note: Note) -> Result<(), AllocError>
         ensures { OnOk result (self.new ≡ record self.old { items = self.old.items ++ note ∷ [] }) }
     {
@@ -64,6 +65,7 @@ impl<'t> Noting<'t> {
     }
 
     /// Notes the levels that the digits of a value give to the lines of its net, where so many bits are the net's.
+    #[inline(always)]
     fn note_each(&mut self, taps: &[Tap], size: u32, digits: &[u8]) -> Result<(), AllocError>
         requires some { 0 < length digits.now }
         requires fits { length digits.now ≤ size }
@@ -92,6 +94,7 @@ impl Taker for Noting<'_> {
 
     ghost with_instant = { noted_instant };
 
+    #[inline(always)]
     fn change(
         &mut self,
         alloc: Global,
@@ -104,6 +107,7 @@ impl Taker for Noting<'_> {
         self.note_each(taps.of(net), size, digits)
     }
 
+    #[inline(always)]
     fn end_instant(&mut self, alloc: Global, time: u64) -> Result<(), AllocError> {
         let _ = alloc;
         self.push(Note::Ended(time))

@@ -227,6 +227,7 @@ impl Recorder {
     }
 
     /// Ends an instant, which is a step if some line has another level than before.
+    #[inline(always)]
     pub fn end_instant(&mut self, alloc: Global, time: u64) -> Result<Option<Step>, AllocError>
         ensures slots { self.new.now.slots ≡ self.old.now.slots }
         ensures shown { OnOk result (self.new ≡ record { shown = self.old.now; now = self.old.now }) }
@@ -243,6 +244,7 @@ impl Recorder {
     }
 
     /// Ends an instant at which no line but this one may have another level than before.
+    #[inline(always)]
     fn end_with_line(&mut self, alloc: Global, time: u64, line: Line) -> Option<Step>
         requires exists { IsLine self.old.now.slots line }
         requires alone { (l : ℕ) → l ≢ line → differs self.old.shown self.old.now l ≡ false }
@@ -320,6 +322,7 @@ impl Recorder {
     }
 
     /// Makes the step of a note, if it is the end of an instant at which some line changes.
+    #[inline(always)]
     pub fn make(
         &mut self,
         alloc: Global,

@@ -10,6 +10,7 @@ pub mod Chains
 pub mod Finding
 pub mod FirstBreaks
 pub mod Kept
+pub mod KnownData
 pub mod Losing
 pub mod Noted
 pub mod Quiet

@@ -6,7 +6,7 @@ pub use Rattle.vme_trace.specs.LineNumbers.{grant, has_line, input_of, is_slot_g
 pub use Rattle.vme_trace.specs.Levels.{Levels}
 pub use Rattle.vme_trace.specs.Trace.{Trace, changed, levels_at, last_instant, time_at}
 pub use Rattle.vme_trace.specs.WellFormed.{are_changes, capture_limit}
-pub use Rattle.vme_trace.specs.Signals.{near, level, low, high, falls, rises}
+pub use Rattle.vme_trace.specs.Signals.{near, level, known, low, high, falls, rises}
 pub use Rattle.vme_trace.specs.Judged.{is_idle_at, loses_control_at, judged_span, span_end}
 pub use Rattle.vme_trace.specs.Transfers.{strobe_rises, strobe_falls, strobes_high, answer_falls, transfer_starts, lasts, is_answered, answers, in_transfer, is_answer, is_write, answers_write, data_at}
 pub use Rattle.vme_trace.specs.Cycle.{class_of, needs_of}

@@ -2,7 +2,7 @@
 #![tactic(auto, unfolding(vme_trace::specs::Signals::low, vme_trace::specs::Signals::high, vme_trace::specs::Signals::falls, vme_trace::specs::Signals::rises, vme_trace::specs::Judged::is_idle_at, vme_trace::specs::Judged::judged_span))]
 
 ghost use Rattle.std.specs.Prelude.{◌≡◌, ◌+◌, ◌-◌, ◌≤◌};
-ghost use Rattle.vme_cert.specs.Words.{true, IfSome, IsTrue, Bool, any, near, level, low, high, falls, rises, has_line, changed, levels_at, last_instant, time_at, are_changes, capture_limit, is_idle_at, loses_control_at, judged_span, span_end};
+ghost use Rattle.vme_cert.specs.Words.{true, IfSome, IsTrue, Bool, any, near, level, known, low, high, falls, rises, has_line, changed, levels_at, last_instant, time_at, are_changes, capture_limit, is_idle_at, loses_control_at, judged_span, span_end};
 
 use std::marker::Model;
 use vme_trace::{Capture, Change, Level, Line, Lines};
@@ -154,6 +154,14 @@ impl<'a> Bus<'a> {
         ensures { result ≡ high self.now.capture.now line self.now.instant }
     {
         self.levels.level(line).is_high()
+    }
+
+    /// Whether its level is known.
+    pub(crate) fn knows(&self, line: Line) -> bool
+        requires { IsTrue (has_line self.now.capture.now.opening.slots line) }
+        ensures { result ≡ known self.now.capture.now line self.now.instant }
+    {
+        self.levels.level(line).is_known()
     }
 
     /// Whether the line falls.

@@ -4,6 +4,7 @@ ghost use Rattle.std.specs.Prelude.{◌≡◌, ◌<◌, ◌≤◌, ◌||◌, dro
 ghost use Rattle.vme_cert.specs.Words.{true, false, List, IfOk, IfSome, any, least, line_count, last_instant, breaks, all_rules, break_at, least_break, listed_end};
 ghost use Rattle.vme_trace.specs.Judged.{is_judged};
 ghost use Rattle.vme_trace.specs.Rules.{ends_span};
+ghost use Rattle.vme_trace.specs.declared.rule.Rule.TheVariants.{U4};
 ghost use Rattle.vme_cert.specs.ChangedLines.{first_changed};
 ghost use Rattle.vme_cert.specs.Watching.{speaks_of};
 ghost use Rattle.vme_cert.specs.Events.{IsIndex};
@@ -101,6 +102,30 @@ impl Judged<'_> {
         None
     }
 
+    /// Whether all data lines are known: then no write lacks one. They are counted, so that the work is that of a few vectors.
+    fn knows_data(&self) -> bool
+        ensures { result ≡ true → least (breaks (trace self.now) (span self.now) U4 (instant self.now)) 0 line_count ≡ None }
+    {
+        let mut known = 0u8;
+        for bit in 0..32u8 {
+            if self.bus.knows(Line::data(bit)) {
+                known += 1;
+            }
+        }
+        known == 32
+    }
+
+    /// The least data line that a write lacks.
+    fn lacked_data(&self) -> Option<Line>
+        ensures { result ≡ least (breaks (trace self.now) (span self.now) U4 (instant self.now)) 0 line_count }
+    {
+        if self.knows_data() {
+            None
+        } else {
+            self.start_break(U4)
+        }
+    }
+
     /// The first changed line on which a rule is broken.
     #[inline(always)]
     fn edge_break(&self, rule: Rule, changes: &[Change]) -> Option<Line>
@@ -124,7 +149,7 @@ impl Judged<'_> {
             U1 => self.start_break(U1),
             U2 => self.start_break(U2),
             U3 => self.start_break(U3),
-            U4 => self.start_break(U4),
+            U4 => self.lacked_data(),
             H1 => self.start_break(H1),
             _ => self.edge_break(rule, changes),
         }

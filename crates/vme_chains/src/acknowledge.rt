@@ -89,6 +89,7 @@ impl Small for Acknowledgement {
 
 impl Acknowledgement {
     /// What is left after a step.
+    #[inline(always)]
     fn after(self, before: &Lines, after: &Lines) -> Acknowledgement
         ensures { result ≡ memory_after self before.now after.now }
     {
@@ -240,6 +241,7 @@ fn acknowledges(transfer: Pending, before: &Lines, after: &Lines) -> bool
 }
 
 /// The first rule that is broken, on its first line.
+#[inline(always)]
 fn fault_of(memory: Acknowledgement, before: &Lines, after: &Lines, seen: &Passing) -> Option<Fault>
     ensures { result ≡ fault_among memory before.now after.now seen.now.unasked seen.now.first }
 {

@@ -246,7 +246,6 @@ fn answer(rt: &impl Abort, instant: u32) -> Mark {
         instant,
         kind: Kind::Answer {
             line: line_of(rt, DTACK),
-            lanes: None,
         },
     }
 }
@@ -255,9 +254,11 @@ fn answer(rt: &impl Abort, instant: u32) -> Mark {
 fn answer_with(rt: &impl Abort, instant: u32, lanes: Lanes) -> Mark {
     Mark {
         instant,
-        kind: Kind::Answer {
+        kind: Kind::WriteAnswer {
             line: line_of(rt, DTACK),
-            lanes: Some(lanes),
+            moved: lanes.moved,
+            unknown: lanes.unknown,
+            value: lanes.value,
         },
     }
 }
@@ -335,7 +336,7 @@ fn answers_of(rt: &impl Abort, alloc: Global, rows: &[Row<'_>]) -> Result<Vec<Ma
     let (whole, _) = summary_of(rt, alloc, &opening, steps_of(rt, alloc, rows)?)?;
     let mut answers = Vec::new(alloc);
     for mark in Dtb::marks(alloc, &whole, Dtb::start(&opening))? {
-        if let Kind::Answer { .. } = mark.kind {
+        if let Kind::Answer { .. } | Kind::WriteAnswer { .. } = mark.kind {
             answers.push(mark)?;
         }
     }

@@ -65,7 +65,7 @@ fn kind_number(kind: Kind) -> u8
         Kind::Cycle { .. } => 4,
         Kind::CycleEnd => 5,
         Kind::Transfer { .. } => 6,
-        Kind::Answer { .. } => 7,
+        Kind::Answer { .. } | Kind::WriteAnswer { .. } => 7,
         Kind::Close => 8,
     }
 }

@@ -5,14 +5,14 @@ ghost use Rattle.std.specs.List.{sum_by};
 ghost use Rattle.std.specs.Option.{option_map, option_to_list};
 ghost use Rattle.vme_monitor.specs.Meeting.{hop_marks, row_marks};
 ghost use Rattle.vme_monitor.specs.Outcome.{unmoved};
-ghost use Rattle.vme_monitor.specs.Run.{answered_kind as answered_kind_of, break_at, cycle_kind as cycle_kind_of, extended, kinds_of, mark_at, outcome_at, tenure_kind as tenure_kind_of, when as when_shown};
+ghost use Rattle.vme_monitor.specs.Run.{answer_kind as answer_kind_of, answered_kind as answered_kind_of, break_at, cycle_kind as cycle_kind_of, extended, kinds_of, mark_at, outcome_at, tenure_kind as tenure_kind_of, when as when_shown};
 ghost use Rattle.vme_monitor.specs.declared.mark.Kind.TheVariants.{Transfer};
 ghost use Rattle.vme_monitor.specs.Walk.{bridge_of, hop_of, later_break as later_break_of, later_hop, later_mark, later_outcome, outcome_of};
 
 use crate::machine::Places;
 use crate::mark::{Answered, Asked, Fault, Kind, Kinds, Mark, Next, Taken};
 use std::alloc::{AllocError, Global};
-use vme_trace::Break;
+use vme_trace::{Break, Lanes, Line};
 
 /// What runs show until they meet others, and which row of the next layer they go on in.
 #[derive(Debug, Drop)]
@@ -268,14 +268,25 @@ fn transfer_kind(shown: Option<bool>) -> Option<Kind>
     }
 }
 
+fn answer_kind(line: Line, lanes: Option<Lanes>) -> Kind
+    ensures { result ≡ answer_kind_of line lanes }
+{
+    match lanes {
+        None => Kind::Answer { line },
+        Some(lanes) => Kind::WriteAnswer {
+            line,
+            moved: lanes.moved,
+            unknown: lanes.unknown,
+            value: lanes.value,
+        },
+    }
+}
+
 fn answered_kind(shown: Option<Answered>) -> Option<Kind>
     ensures { result ≡ option_map answered_kind_of shown }
 {
     match shown {
-        Some(answered) => Some(Kind::Answer {
-            line: answered.line,
-            lanes: answered.lanes,
-        }),
+        Some(answered) => Some(answer_kind(answered.line, answered.lanes)),
         None => None,
     }
 }

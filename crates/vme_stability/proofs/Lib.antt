@@ -14,3 +14,4 @@ pub mod PassedNeeds
 pub mod HeldFaults
 pub mod PassedData
 pub mod UndrivenLines
+pub mod Passing

@@ -19,6 +19,7 @@ use Rattle.vme_monitor.specs.declared.mark.Kinds.{Kinds}
 use Rattle.vme_monitor.specs.declared.mark.Next.{Next}
 use Rattle.vme_stability.specs.HoldingPlaces.{has_risen, passed, was_answered, writes_of}
 use Rattle.vme_stability.specs.declared.holding.Holding.{Holding}
+use Rattle.vme_stability.specs.declared.holding.Progress.{Progress}
 use Rattle.vme_stability.specs.declared.holding.Progress.TheVariants.{Fresh}
 use Rattle.vme_stability.specs.declared.sight.Sight.{Sight}
 
@@ -140,12 +141,16 @@ keeps_data m v w = keeps_direction m v w && not (was_answered m.transfer) && not
 abbrev pub writes_now : Holding → Levels → Levels → Bool
 writes_now m v w = if strobes_high_in v then strobe_low_in w && is_low (level_at w WRITE) else writes_of m.transfer (is_low (level_at v WRITE))
 
+-- what has come of the transfer after a step
+abbrev pub passed_in : Holding → Levels → Levels → Progress
+passed_in m v w =
+    passed (not (strobes_high_in w) && (was_answered m.transfer || answer_between v w)) (not (strobes_high_in w) && (has_risen m.transfer || strobe_rises_between v w))
+    (writes_of m.transfer (is_low (level_at v WRITE)))
+
 abbrev pub stepped : Holding → Levels → Levels → Holding
 stepped m v w =
     record {
-      transfer =
-          passed (not (strobes_high_in w) && (was_answered m.transfer || answer_between v w)) (not (strobes_high_in w) && (has_risen m.transfer || strobe_rises_between v w))
-          (writes_of m.transfer (is_low (level_at v WRITE)));
+      transfer = passed_in m v w;
       cycle_answered = is_low (level_at w AS) && (m.cycle_answered || answers_in m v w);
     }
 

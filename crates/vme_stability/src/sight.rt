@@ -14,7 +14,7 @@ use vme_monitor::tracking::{answer_between, has_strobes_high};
 use vme_trace::{Change, LINE_COUNT, Line, LineSet, Lines, Rule, is_selected, needed};
 
 /// What one step shows.
-#[derive(Drop)]
+#[derive(Clone, Copy, Debug)]
 pub struct Sight {
     /// A line is unknown that is asked for at this step.
     pub unknown: Option<Fault>,
@@ -77,18 +77,21 @@ pub(crate) fn fault_on(rule: Rule, line: Option<Line>) -> Option<Fault>
     }
 }
 
-/// Whether the lines that cycles need are all known: then no cycle lacks one.
+/// Whether the lines that cycles need are all known: then no cycle lacks one. They are counted, so that the work is that of a
+/// few vectors.
+#[inline(always)]
 fn has_known_needs(lines: &Lines) -> bool
     ensures { result ≡ true → unknown_need lines.now ≡ None }
 {
-    for number in 5..45 {
+    let mut known = 0u8;
+    for number in 5..45u8 {
         if let Some(line) = Line::from_number(number) {
-            if !lines.level(line).is_known() {
-                return false;
+            if lines.level(line).is_known() {
+                known += 1;
             }
         }
     }
-    true
+    known == 40
 }
 
 /// The least line of which nothing is known, among those that a cycle needs whose address strobe falls at these levels.
@@ -148,9 +151,11 @@ fn first_needed(needed: &LineSet, changes: &[Change]) -> Option<Line>
     None
 }
 
-/// Whether another line than AS*, the strobes and the answers is among the changes: no cycle needs those.
+/// Whether another line than AS*, the strobes and the answers is among the changes: no cycle needs those, and no transfer moves
+/// them.
 fn touches_others(changes: &[Change]) -> bool
-    ensures { result ≡ false → (needs : Needs) → first_needed_of needs changes.now ≡ None }
+    ensures needed { result ≡ false → (needs : Needs) → first_needed_of needs changes.now ≡ None }
+    ensures moved { result ≡ false → (v w : Levels) → first_among (is_shifted v w) changes.now ≡ None }
 {
     for change in changes {
         if change.line.number() > Line::BERR.number() {
@@ -160,12 +165,13 @@ fn touches_others(changes: &[Change]) -> bool
     false
 }
 
-/// The first changed line that a cycle needs whose address strobe was low before.
+/// The first changed line that a cycle needs whose address strobe was low before, if `others` change.
 #[inline(always)]
-fn moved_line(before: &Lines, changes: &[Change]) -> Option<Line>
+fn moved_line(others: bool, before: &Lines, changes: &[Change]) -> Option<Line>
+    requires { others ≡ false → (needs : Needs) → first_needed_of needs changes.now ≡ None }
     ensures { result ≡ address_moved before.now changes.now }
 {
-    if before.level(Line::AS).is_low() && touches_others(changes) {
+    if others && before.level(Line::AS).is_low() {
         first_needed(&needed(before), changes)
     } else {
         None
@@ -219,6 +225,7 @@ fn least_undriven(lines: &Lines) -> Option<Line>
 }
 
 /// The same, where a strobe falls that may be a write's.
+#[inline(always)]
 fn undriven_line(before: &Lines, after: &Lines) -> Option<Line>
     ensures { result ≡ undriven_line_of before.now after.now }
 {
@@ -263,12 +270,13 @@ fn first_shifted(before: &Lines, after: &Lines, changes: &[Change]) -> Option<Li
     None
 }
 
-/// The same, where WRITE* was low.
+/// The same, where WRITE* was low, if `others` change than AS*, the strobes and the answers.
 #[inline(always)]
-fn shifted_line(before: &Lines, after: &Lines, changes: &[Change]) -> Option<Line>
+fn shifted_line(others: bool, before: &Lines, after: &Lines, changes: &[Change]) -> Option<Line>
+    requires { others ≡ false → (v w : Levels) → first_among (is_shifted v w) changes.now ≡ None }
     ensures { result ≡ shifted_line_of before.now after.now changes.now }
 {
-    if before.level(Line::WRITE).is_low() && touches_data(changes) {
+    if others && before.level(Line::WRITE).is_low() && touches_data(changes) {
         first_shifted(before, after, changes)
     } else {
         None
@@ -291,10 +299,11 @@ impl Sight {
         ensures { result ≡ stability_sight before.now after.now changes.now }
     {
         let unknown = fault_of_unknown(before, after);
-        let moved = moved_line(before, changes);
+        let others = touches_others(changes);
+        let moved = moved_line(others, before, changes);
         let turned = !before.level(Line::WRITE).is_same(after.level(Line::WRITE));
         let undriven = undriven_line(before, after);
-        let shifted = shifted_line(before, after, changes);
+        let shifted = shifted_line(others, before, after, changes);
         if unknown.is_some()
             || moved.is_some()
             || turned

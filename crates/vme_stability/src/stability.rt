@@ -3,7 +3,7 @@
 ghost use Rattle.std.specs.Prelude.{◌≡◌, ◌&&◌};
 ghost use Rattle.vme_monitor.specs.Whole.{FindsLeast, ShowsAll};
 ghost use Rattle.vme_trace.specs.declared.rule.Rule.TheVariants.{S3, U4};
-ghost use Rattle.vme_stability.specs.StabilitySpec.{answers_in, fault_in, fault_on as fault_on_line, held_fault, keeps_data as keeps_data_in, shifted_fault, stability_rules, stability_shown, stepped, undriven_fault, writes_now};
+ghost use Rattle.vme_stability.specs.StabilitySpec.{answers_in, fault_in, fault_on as fault_on_line, held_fault, keeps_data as keeps_data_in, shifted_fault, stability_rules, passed_in, stability_shown, stepped, undriven_fault, writes_now};
 
 use crate::holding::{Holding, Progress};
 use crate::sight::{Sight, fault_on, has_strobe_low, rises, strobe_rises};
@@ -51,18 +51,34 @@ impl Holding {
         !has_strobes_high(before) && !self.transfer.has_risen() && !strobe_rises(before, after)
     }
 
+    /// What has come of the transfer after a step: mostly no more than before.
+    #[inline(always)]
+    #[tactic(auto, using(crate::proofs::Passing::passed_same))]
+    fn passed(self, before: &Lines, after: &Lines) -> Progress
+        ensures { result ≡ passed_in self before.now after.now }
+    {
+        if has_strobes_high(after) {
+            return Progress::Fresh;
+        }
+        let answers = answer_between(before, after);
+        let rises = strobe_rises(before, after);
+        if !answers && !rises {
+            return self.transfer;
+        }
+        Progress::of(
+            self.transfer.was_answered() || answers,
+            self.transfer.has_risen() || rises,
+            self.transfer.writes(before.level(Line::WRITE).is_low()),
+        )
+    }
+
     /// What is remembered after a step.
     #[inline(always)]
     fn after_step(self, before: &Lines, after: &Lines) -> Holding
         ensures { result ≡ stepped self before.now after.now }
     {
-        let open = !has_strobes_high(after);
         Holding {
-            transfer: Progress::of(
-                open && (self.transfer.was_answered() || answer_between(before, after)),
-                open && (self.transfer.has_risen() || strobe_rises(before, after)),
-                self.transfer.writes(before.level(Line::WRITE).is_low()),
-            ),
+            transfer: self.passed(before, after),
             cycle_answered: after.level(Line::AS).is_low()
                 && (self.cycle_answered || self.is_answer(before, after)),
         }
@@ -143,19 +159,20 @@ impl Holding {
         }
     }
 
-    /// The first rule that the step breaks, whatever it shows.
+    /// The first rule that the step breaks, whatever it shows. It takes what is shown by value: so that stays in registers wherever
+    /// this isn't called.
     #[cold]
     #[inline(never)]
-    fn any_fault(self, before: &Lines, after: &Lines, seen: &Sight) -> Option<Fault>
-        ensures { result ≡ fault_in self before.now after.now seen.now }
+    fn any_fault(self, before: &Lines, after: &Lines, seen: Sight) -> Option<Fault>
+        ensures { result ≡ fault_in self before.now after.now seen }
     {
         match seen.unknown {
             Some(fault) => Some(fault),
-            None => match self.undriven(before, after, seen) {
+            None => match self.undriven(before, after, &seen) {
                 Some(fault) => Some(fault),
-                None => match self.broken(before, after, seen) {
+                None => match self.broken(before, after, &seen) {
                     Some(fault) => Some(fault),
-                    None => self.shifted(before, after, seen),
+                    None => self.shifted(before, after, &seen),
                 },
             },
         }
@@ -168,7 +185,7 @@ impl Holding {
     {
         match (seen.unknown, seen.undriven, seen.shifted) {
             (None, None, None) => self.broken(before, after, seen),
-            _ => self.any_fault(before, after, seen),
+            _ => self.any_fault(before, after, *seen),
         }
     }
 }

@@ -28,10 +28,10 @@ pub enum Moved {
 pub struct Lanes {
     /// Which bytes are moved.
     pub moved: Moved,
-    /// The digits that are moved and known, a high line being 1; any other digit is 0.
-    pub value: u32,
     /// Bit k is 1 where the digit at place k is moved, and one of its lines is unknown.
     pub unknown: u8,
+    /// The digits that are moved and known, a high line being 1; any other digit is 0.
+    pub value: u32,
 }
 
 impl Moved {
