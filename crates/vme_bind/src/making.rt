@@ -79,6 +79,7 @@ impl<F: Follower> Taker for Making<F> {
 
     ghost with_instant = { made_instant };
 
+    #[inline(always)]
     fn change(
         &mut self,
         alloc: Global,
@@ -90,6 +91,7 @@ impl<F: Follower> Taker for Making<F> {
         self.recorder.set_by_digits(self.taps.of(net), size, digits)
     }
 
+    #[inline(always)]
     fn end_instant(&mut self, alloc: Global, time: u64) -> Result<(), AllocError> {
         match self.recorder.end_instant(alloc, time)? {
             Some(step) => self.follower.step(alloc, step),

@@ -1,6 +1,6 @@
 //! The levels of the lines as a dump goes on, and the step at which they change.
 
-ghost use Rattle.std.specs.Prelude.{◌≡◌, ◌≢◌, ◌≤◌, ◌<◌, ℕ, false, IfOk, OnOk, map, length, ◌++◌, All, IfSome};
+ghost use Rattle.std.specs.Prelude.{◌≡◌, ◌≢◌, ◌≤◌, ◌<◌, ℕ, false, IfOk, OnOk, OnErr, map, length, [], ◌∷◌, ◌++◌, All, IfSome};
 ghost use Rattle.std.specs.List.Sorted.{IsNonDecreasing};
 ghost use Rattle.vme_trace.specs.LineNumbers.{line_count};
 ghost use Rattle.vme_trace.specs.Levels.{set_level};
@@ -99,6 +99,19 @@ fn show(
     Ok(changes)
 }
 
+/// Adds a line to those that were touched, mostly without a call.
+#[inline(always)]
+fn touch(touched: &mut Vec<Line>, line: Line) -> Result<(), AllocError>
+    ensures items { OnOk result (touched.new.items ≡ touched.old.items ++ line ∷ []) }
+    ensures stays { OnErr result (touched.new.items ≡ touched.old.items) }
+{
+    if touched.len() == touched.capacity() {
+        touched.reserve(1)?;
+    }
+    touched.push_reserved(line);
+    Ok(())
+}
+
 /// The place of the last end of an instant.
 fn last_end(notes: &[Note]) -> Option<usize>
     ensures { IfSome result (IsEnd notes.now) }
@@ -157,7 +170,7 @@ impl Recorder {
         ensures ok { OnOk result (self.new ≡ record self.old { now = set_level self.old.now line level }) }
     {
         if !self.shown.level(line).is_same(level) {
-            self.touched.push(line)?;
+            touch(&mut self.touched, line)?;
         }
         self.now.set(line, level);
         Ok(())

@@ -1,6 +1,6 @@
 //! Interrupt acknowledge: a slot passes it on only while it is asked, within a cycle and a transfer, and before the answer.
 
-ghost use Rattle.std.specs.Prelude.{◌≡◌, ◌<◌, IsTrue};
+ghost use Rattle.std.specs.Prelude.{◌≡◌, ◌&&◌, ◌<◌, IsTrue};
 ghost use Rattle.vme_trace.specs.LineNumbers.{has_line, input_of as input_line, is_slot_iack};
 ghost use Rattle.vme_monitor.specs.Edges.{falls_between};
 ghost use Rattle.vme_monitor.specs.Whole.{FindsLeast, ShowsAll};
@@ -145,11 +145,22 @@ fn input_of(output: Line) -> Line
     }
 }
 
+/// Whether a line falls that the backplane has. Few lines are asked for it, so it is called: that keeps the search
+/// among the changes short.
+#[cold]
+#[inline(never)]
+fn is_there_and_falls(before: &Lines, after: &Lines, line: Line) -> bool
+    ensures { result
+        ≡ (has_line before.now.slots line && has_line after.now.slots line && falls_between before.now after.now line) }
+{
+    before.has(line) && after.has(line) && falls(before, after, line)
+}
+
 /// Whether a line is an acknowledge output that falls.
 fn passes_on(before: &Lines, after: &Lines, line: Line) -> bool
     ensures { result ≡ passes before.now after.now line }
 {
-    is_output(line) && before.has(line) && after.has(line) && falls(before, after, line)
+    is_output(line) && is_there_and_falls(before, after, line)
 }
 
 /// Whether it falls while the slot's input isn't low.
@@ -230,6 +241,7 @@ fn is_addressed(before: &Lines, after: &Lines) -> bool
 }
 
 /// Whether a transfer is answered by DTACK*.
+#[inline(always)]
 fn acknowledges(transfer: Pending, before: &Lines, after: &Lines) -> bool
     ensures { result ≡ is_acknowledged transfer before.now after.now }
 {

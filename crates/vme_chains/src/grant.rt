@@ -117,6 +117,7 @@ impl Arbitrated {
     }
 
     /// What a step breaks, after these requests since the last grant, and with or without a grant since the bus became busy.
+    #[inline(always)]
     fn fault(
         &self,
         before: &Lines,

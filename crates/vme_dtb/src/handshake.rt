@@ -165,6 +165,7 @@ impl Memory {
 }
 
 /// The first rule that an answer in a cycle breaks.
+#[inline(always)]
 fn cycle_fault(cycle: Cycle, write: bool, answer: Option<Line>) -> Option<Fault>
     ensures { result ≡ fault_of_cycle cycle write answer }
 {
@@ -182,7 +183,7 @@ impl Memory {
     #[cold]
     #[inline(never)]
     #[tactic(auto, using(crate::proofs::UsualNexts::closed_twice))]
-    fn at_any(self, before: &Lines, after: &Lines) -> Next<Memory>
+    fn at_edges(self, before: &Lines, after: &Lines) -> Next<Memory>
         ensures { result ≡ dtb_next self before.now after.now (edges_between before.now after.now) }
     {
         let seen = Edges::between(before, after);
@@ -206,6 +207,23 @@ impl Memory {
                 answer: answered(entered, before, after, &seen),
                 ..seen.shown
             },
+        }
+    }
+
+    /// The same, taken apart and put together again: so what follows from the usual edges stays in registers.
+    #[inline(always)]
+    fn at_any(self, before: &Lines, after: &Lines) -> Next<Memory>
+        ensures { result ≡ dtb_next self before.now after.now (edges_between before.now after.now) }
+    {
+        let Next {
+            memory,
+            fault,
+            kinds,
+        } = self.at_edges(before, after);
+        Next {
+            memory,
+            fault,
+            kinds,
         }
     }
 

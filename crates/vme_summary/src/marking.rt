@@ -90,10 +90,10 @@ impl Marking {
             → opening.now ≡ t.opening → HasMarked self t.opening t.steps → is_well_placed listing ≡ true) }
     {
         match self.summary {
-            Some(summary) => summary.listing(alloc, opening),
+            Some(summary) => summary.into_listing(alloc, opening),
             None => {
                 let (summary, _) = Summary::of_steps(alloc, opening, &[])?;
-                summary.listing(alloc, opening)
+                summary.into_listing(alloc, opening)
             }
         }
     }

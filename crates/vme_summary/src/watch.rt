@@ -1,11 +1,13 @@
 //! What judges a recording as it is made.
 
-ghost use Rattle.std.specs.Prelude.{◌≡◌, ◌<◌, ◌≤◌, ◌↔◌, [], length, true, IfOk, IsTrue, OnOk, Err, None};
+ghost use Rattle.std.specs.Prelude.{◌≡◌, ◌+◌, ◌<◌, ◌≤◌, ◌↔◌, List, [], ◌∷◌, ◌++◌, length, true, IfOk, IsTrue, OnErr, OnOk, Err, None};
 ghost use Rattle.vme_trace.specs.Blocks.{block_count};
 ghost use Rattle.vme_trace.specs.Followed.{with_steps};
+ghost use Rattle.vme_trace.specs.Levels.{Levels};
 ghost use Rattle.vme_trace.specs.Trace.{levels_after};
 ghost use Rattle.vme_trace.specs.Verdict.{rules_in_force, verdict_by};
 ghost use Rattle.vme_trace.specs.WellFormed.{capture_limit, malformed_step};
+ghost use Rattle.vme_trace.specs.declared.step.Step.{Step};
 ghost use Rattle.vme_listing.specs.Places.{is_well_placed};
 ghost use Rattle.vme_listing.specs.Recorded.{listing_of};
 
@@ -63,6 +65,41 @@ impl<J: Advance> Model for Watch<J> {
     ghost view = { λ w. record { opening = w.opening; steps = w.taken.items } };
 
     ghost invariant = { λ w. KeepsUp (J.is_past w.judging) w.count w.opening w.taken.items w.waiting.items };
+}
+
+/// Adds a step to those that wait, mostly without a call.
+#[inline(always)]
+fn wait(waiting: &mut Vec<Step>, step: Step) -> Result<(), AllocError>
+    ensures items { OnOk result (waiting.new.items ≡ waiting.old.items ++ step ∷ []) }
+    ensures stays { OnErr result (waiting.new.items ≡ waiting.old.items) }
+{
+    if waiting.len() == waiting.capacity() {
+        waiting.reserve(1)?;
+    }
+    waiting.push_reserved(step);
+    Ok(())
+}
+
+/// Judges the steps that wait, at most 268,435,456 with those before them: then none waits. Few steps come to this.
+#[cold]
+#[inline(never)]
+fn judge_waiting<J: Advance>(
+    judging: &mut J,
+    alloc: Global,
+    waiting: &mut Vec<Step>,
+) -> Result<(), AllocError>
+    requires { (o : Levels) × (x : List Step) × J.is_past judging.old o x
+        × (length x + length waiting.old.items ≤ 268435456) }
+    ensures past { OnOk result ((o : Levels) (x : List Step)
+        → J.is_past judging.old o x → J.is_past judging.new o (x ++ waiting.old.items)) }
+    ensures none { OnOk result (waiting.new.items ≡ []) }
+    ensures stays { OnErr result ((o : Levels) (x : List Step)
+        → J.is_past judging.old o x → J.is_past judging.new o x) }
+    ensures kept { OnErr result (waiting.new.items ≡ waiting.old.items) }
+{
+    go_on(judging, alloc, waiting)?;
+    waiting.clear();
+    Ok(())
 }
 
 impl<J: Advance> Watch<J> {
@@ -190,6 +227,7 @@ impl<J: Advance> Follower for Watch<J> {
     }
 
     // Past the most that a recording has, steps are dropped.
+    #[inline(always)]
     fn step(&mut self, alloc: Global, step: Step) -> Result<(), AllocError> {
         let taken = self.taken.and(&step);
         if self.count >= MOST_STEPS {
@@ -197,12 +235,11 @@ impl<J: Advance> Follower for Watch<J> {
             self.taken = taken;
             return Ok(());
         }
-        self.waiting.push(step)?;
+        wait(&mut self.waiting, step)?;
         self.count += 1;
         self.taken = taken;
         if self.waiting.len() >= AT_ONCE {
-            go_on(&mut self.judging, alloc, &self.waiting)?;
-            self.waiting.clear();
+            judge_waiting(&mut self.judging, alloc, &mut self.waiting)?;
         }
         Ok(())
     }
