@@ -7,11 +7,9 @@ Run K of seed S is the same on every machine. Each run takes a binding and a dum
 of them (or the listing) a few times, and runs `check`, `list` and `confirm` on it. It is checked that
 
 - no run ends by a signal, takes more than 10 seconds of a processor or needs more than 1 GB of memory;
-- the status and the two streams are of docs/FORMATS.md: one line, in the right stream, and nothing on standard output
-  where the input is refused;
-- the verdict is the same in blocks of 1, 7 and 16,384 steps, and where the program takes its built-in binding;
-- what `list` writes ends in that verdict and is confirmed, and a listing with a changed row is refused, or not confirmed,
-  at that row.
+- the status and the two streams are those that the model gives (model.py): of `check` in blocks of 1, 7 and 16,384 steps, and
+  where the program takes its built-in binding; of `list`; and of `confirm` on that listing, on it with a row dropped, doubled or
+  changed, and on it in an older version.
 
 It prints each run that fails, with the command, and keeps its files in FOLDER; its status is then 1.
 """
@@ -29,27 +27,12 @@ import subprocess
 import sys
 import tempfile
 
+import model
+
 HERE = pathlib.Path(__file__).resolve().parent
 EXAMPLES = HERE.parent.parent / "examples"
 MEMORY = 1 << 30
 SECONDS = 10
-
-LINE = (rb"(?:AS|DS[01]|DTACK|BERR|IACK|AM[0-5]|LWORD|WRITE|A(?:0[1-9]|[12][0-9]|3[01])|BBSY|BR[0-3]|BG[0-3]\.\d{1,2}|IA\.\d{1,2}|"
-        rb"D(?:[0-2][0-9]|3[01]))")
-BROKEN = rb"(?:H[1-8]|S[1-3]|C[12]|G[1-5]|B[1-4]|I[1-5])"
-VERDICTS = [
-    (0, re.compile(rb"conforming\n")),
-    (1, re.compile(rb"broken " + BROKEN + rb" at instant \d+ time \d+ line " + LINE + rb"\n")),
-    (2, re.compile(rb"unreadable U[1-4] at instant \d+ time \d+ line " + LINE + rb"\n")),
-    (2, re.compile(rb"never idle\n")),
-]
-DUMP_KIND = (rb"BadToken|UnfinishedSection|BadVar|ScopeUnderflow|NoEndDefinitions|UndeclaredCode|TooWide|SizeConflict|"
-             rb"TimeBackwards|NumberTooLarge")
-BINDING_KIND = rb"BadLine|SlotsFirst|UnknownName|NamedTwice|NoSuchPath|AmbiguousPath|WrongWidth|Unbound " + LINE
-REFUSED = re.compile(rb"vmecheck: (?:dump line \d+: (?:" + DUMP_KIND + rb")|binding line \d+: (?:" + BINDING_KIND + rb")|too many blocks)\n")
-LISTING_REFUSED = re.compile(rb"vmecheck: listing (?:header|row (\d+): (?:BadRow|Unsorted))\n")
-NOT_CONFIRMED = re.compile(rb"not confirmed at row (\d+)\n")
-TOO_MANY = b"vmecheck: too many blocks\n"
 
 NUMBERS = [b"0", b"1", b"00", b"007", b"65535", b"65536", b"65537", b"999999999", b"1000000000", b"2147483648", b"4294967295",
            b"4294967296", b"9223372036854775808", b"9999999999999999999", b"10000000000000000000", b"18446744073709551615",
@@ -187,6 +170,29 @@ def insert_token(rng, text):
     return replaced(text, at, at, rng.choice([b"", b" ", b"\n"]) + rng.choice(TOKENS) + rng.choice([b"", b" ", b"\n"]))
 
 
+def places_of_change(text):
+    """The codes of the variables of one bit, that of the system reset several times, and the ends of the times."""
+    codes = [code for code, name in re.findall(rb"\$var \w+ 1 (\S+) (\S+)", text) for _ in range(8 if name == b"SYSRESET" else 1)]
+    return codes, [m.end() for m in re.finditer(rb"(?m)^#\d+", text)]
+
+
+def insert_change(rng, text):
+    codes, times = places_of_change(text)
+    if not codes or not times:
+        return text
+    at = rng.choice(times)
+    return replaced(text, at, at, b"\n" + rng.choice([b"0", b"1", b"x", b"z"]) + rng.choice(codes))
+
+
+def insert_pulse(rng, text):
+    """A variable is low from one time to another."""
+    codes, times = places_of_change(text)
+    if not codes or len(times) < 2:
+        return text
+    code, (start, end) = rng.choice(codes), sorted(rng.sample(times, 2))
+    return text[:start] + b"\n0" + code + text[start:end] + b"\n1" + code + text[end:]
+
+
 MUTATIONS = [flip_bytes, flip_bytes, drop_bytes, double_bytes, swap_bytes, change_token, change_token, change_token, swap_tokens,
              change_line, change_line, cut, change_number, change_number, insert_strange, insert_long_token, insert_scopes, insert_token]
 
@@ -197,16 +203,25 @@ def mutated(rng, text):
     return text
 
 
+def rerecorded(rng, dump):
+    """Another recording of the same lines."""
+    for _ in range(rng.randint(1, 4)):
+        dump = rng.choice([insert_change, insert_pulse])(rng, dump)
+    return dump
+
+
 # ---- what is run
 
 @functools.cache
 def seeds():
     """The pairs of a binding and a dump that are mutated."""
-    bench = (EXAMPLES / "backplane.bind").read_bytes()
+    bench, reset = (EXAMPLES / "backplane.bind").read_bytes(), (EXAMPLES / "reset.bind").read_bytes()
     texts = HERE / "texts"
+    resets = sorted(EXAMPLES.glob("reset_*.vcd"))
     pairs = [(bench, dump.read_bytes()) for dump in sorted(EXAMPLES.glob("*.vcd")) if dump.name != "read_cycle.vcd"]
     builtin = (texts / "builtin.bind").read_bytes()
     for _ in range(8):
+        pairs += [(reset, dump.read_bytes()) for dump in resets]
         pairs.append((builtin, (EXAMPLES / "read_cycle.vcd").read_bytes()))
         pairs.append(((texts / "vectors.bind").read_bytes(), (texts / "vectors.vcd").read_bytes()))
     return builtin, pairs
@@ -238,92 +253,47 @@ class Case:
             raise Failed(f"{' '.join(words)}: ended by signal {-running.returncode}, {err[-200:]!r}")
         return running.returncode, out, err
 
-
-def check_verdict(answer, words):
-    """Whether what `check` wrote is of the table."""
-    status, out, err = answer
-    if status == 3 and out == b"" and REFUSED.fullmatch(err):
-        return
-    if err == b"" and any(status == wanted and form.fullmatch(out) for wanted, form in VERDICTS):
-        return
-    raise Failed(f"{words}: status {status}, {out[:200]!r}, {err[:200]!r}")
+    def expect(self, answer, *words, stdin=None):
+        """Runs the program on these words: whether it answers so."""
+        got = self.run(*words, stdin=stdin)
+        if got != answer:
+            said = [(status, out[-200:], err[-200:]) for status, out, err in (got, answer)]
+            raise Failed(f"{' '.join(words)}: {said[0]}, and the model: {said[1]}")
 
 
-def verdict_row(out):
-    """The last row of a listing with this verdict."""
-    words = out.split()
-    if out == b"never idle\n":
-        return b"verdict never-idle\n"
-    if len(words) == 1:
-        return b"verdict " + out
-    return b"verdict %s %s %s %s\n" % (words[0], words[1], words[4], words[8])
+def in_version(version, listing):
+    """The listing with the header of a version and, in version 1, without the data of writes."""
+    rows = re.sub(rb"(?m) data [-0-9A-FX]{8}$", b"", listing) if version == 1 else listing
+    return re.sub(rb"^vmecheck listing [0-9]", b"vmecheck listing %d" % version, rows)
 
 
-def check_listing(case, rng, verdict):
-    """Whether the listing ends in the verdict and is confirmed, and a changed row is named."""
-    status, out, err = case.run("list", "--block", str(rng.choice([1, 7, 16384])), "binding", "dump")
-    if err == TOO_MANY and status == 3:
-        return
-    if verdict[0] == 3:
-        if (status, out, err) != verdict:
-            raise Failed(f"list: status {status}, {out[:200]!r}, {err[:200]!r}, and check: {verdict[2][:200]!r}")
-        return
-    if status != verdict[0] or err or not out.startswith(b"vmecheck listing 2\n") or not out.endswith(b"\n" + verdict_row(verdict[1])):
-        raise Failed(f"list: status {status}, {out[:200]!r}, {err[:200]!r}, and check: {verdict[1]!r}")
-    case.write("listing", out)
-    answer = case.run("confirm", "binding", "dump", "listing")
-    if answer != (0, b"confirmed\n", b""):
-        raise Failed(f"confirm: {answer} on what list wrote")
-    check_changed(case, rng, out)
-
-
-def check_changed(case, rng, listing):
-    """Whether a listing with one row dropped, doubled or changed is refused or not confirmed at that row."""
+def with_changed_row(rng, listing):
+    """The listing with one row dropped, doubled or changed."""
     rows = lines_of(listing)
     row = rng.randrange(1, len(rows))
     kind = rng.randrange(4)
-    changed = list(rows)
     if kind == 0:
-        del changed[row]
+        del rows[row]
     elif kind == 1:
-        changed.insert(row, rows[row])
+        rows.insert(row, rows[row])
     elif kind == 2:
-        changed[row] = change_number(rng, rows[row])
+        rows[row] = change_number(rng, rows[row])
     else:
-        changed[row] = flip_bytes(rng, rows[row])
-    if changed == rows:
-        return
-    text = b"".join(changed)
-    case.write("listing", text)
-    status, out, err = case.run("confirm", "binding", "dump", "listing")
-    # a verdict that isn't last is told at its own row, and a row that isn't sorted at the row behind it
-    first = next(i for i, (a, b) in enumerate(zip(lines_of(text) + [None], rows + [None])) if a != b)
-    named = NOT_CONFIRMED.fullmatch(out) if status == 1 and err == b"" else LISTING_REFUSED.fullmatch(err) if status == 3 and out == b"" else None
-    at = int(named.group(1) or 0) if named else None
-    if named is None or not (first if status == 1 else row) <= at <= first + (status == 3):
-        raise Failed(f"confirm: status {status}, {out[:200]!r}, {err[:200]!r}, where row {first} was changed")
+        rows[row] = flip_bytes(rng, rows[row])
+    return b"".join(rows)
 
 
-def in_version_1(listing):
-    """The same listing in the version that doesn't tell the data of writes."""
-    return re.sub(rb"(?m) data [-0-9A-FX]{8}$", b"", listing).replace(b"vmecheck listing 2\n", b"vmecheck listing 1\n", 1)
-
-
-def check_stray_listing(case, rng):
-    """Whether any text in the place of a listing is refused, or not confirmed, but the same listing in an older version."""
-    status, out, err = case.run("list", "binding", "dump")
+def check_listings(case, rng, inputs, change):
+    """Whether the listing is the model's, and is confirmed, and a changed one and an older one are answered as they should be."""
+    block = rng.choice([1, 7, 16384])
+    case.expect(inputs.list(block), "list", "--block", str(block), "binding", "dump")
+    status, listing, _ = inputs.list()
     if status == 3:
         return
-    text = mutated(rng, out)
-    case.write("listing", text)
-    answer = case.run("confirm", "binding", "dump", "listing")
-    if text in (out, in_version_1(out)):
-        right = answer == (0, b"confirmed\n", b"")
-    else:
-        right = (answer[0] == 1 and NOT_CONFIRMED.fullmatch(answer[1]) and answer[2] == b"") or (
-            answer[0] == 3 and answer[1] == b"" and LISTING_REFUSED.fullmatch(answer[2]))
-    if not right:
-        raise Failed(f"confirm: {answer} on a listing that was changed")
+    older = in_version(rng.choice([1, 2]), listing)
+    for text in (listing, change(rng, listing), older, change(rng, older)):
+        case.write("listing", text)
+        case.expect(inputs.confirm(text), "confirm", "binding", "dump", "listing")
 
 
 def one_run(case, seed, number):
@@ -332,27 +302,23 @@ def one_run(case, seed, number):
     builtin, pairs = seeds()
     binding, dump = rng.choice(pairs)
     what = rng.random()
-    if what < 0.65:
+    if what < 0.3:
+        dump = rerecorded(rng, dump)
+    elif what < 0.65:
         dump = mutated(rng, dump)
     elif what < 0.9:
         binding = mutated(rng, binding)
     case.write("binding", binding)
     case.write("dump", dump)
+    inputs = model.Inputs(binding, dump)
     if what >= 0.9:
-        check_stray_listing(case, rng)
+        check_listings(case, rng, inputs, mutated)
         return
-    answers = {}
-    for block, workers in (("16384", "1"), ("7", "4"), ("1", "2")):
-        words = ("check", "--block", block, "--workers", workers, "binding", "dump")
-        answers[block] = case.run(*words)
-        check_verdict(answers[block], " ".join(words))
-    verdict = answers["16384"]
-    for block in ("7", "1"):
-        if answers[block] != verdict and answers[block] != (3, b"", TOO_MANY):
-            raise Failed(f"check: {verdict} in blocks of 16384, {answers[block]} in blocks of {block}")
-    if binding == builtin and case.run(stdin="dump") != verdict:
-        raise Failed(f"check: {verdict} with the binding as a file, and another answer with the built-in one")
-    check_listing(case, rng, verdict)
+    for block, workers in ((16384, "1"), (7, "4"), (1, "2")):
+        case.expect(inputs.check(block), "check", "--block", str(block), "--workers", workers, "binding", "dump")
+    if binding == builtin:
+        case.expect(inputs.check(), stdin="dump")
+    check_listings(case, rng, inputs, with_changed_row)
 
 
 # ---- many runs

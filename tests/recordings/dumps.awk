@@ -1,7 +1,7 @@
 # Reads crates/vme_eval/specs/Steps.antt and then the modules of recordings beside it, and writes into the folder `into`,
 # for each recording: NAME.vcd, a dump of it; NAME.verdict, the status and the line of `check`; NAME.listing, the text of
-# `list`; and for each row K of the listing NAME.K.changed, where that row says something else, and, where a tenure, a cycle
-# or a transfer stands there, NAME.K.left_out, without it. Prints the names with their bindings.
+# `list`; and for each row K of the listing NAME.K.changed, where that row says something else, and, where a listing may do
+# without it, NAME.K.left_out. Prints the names with their bindings.
 
 # The name of a line, as in (grant 3 0).
 function line_name(text) {
@@ -63,7 +63,7 @@ function lines_of(slots, names, n, k) {
   for (n = 0; n < 4; n++) for (k = 0; k <= slots; k++) names = names " BG" n "." k
   for (k = 1; k <= slots; k++) names = names " IA." k
   for (n = 0; n < 32; n++) names = names sprintf(" D%02d", n)
-  return names
+  return names " SYSRESET"
 }
 
 # The bus gets idle, with one line low, if any: all lines high but A24 to A31.
@@ -102,7 +102,8 @@ function said(verdict, part) {
 
 # The row with something else in it.
 function changed(row, digit) {
-  if (row ~ /^start/) return row "0"
+  if (row ~ /^start/) return "start " substr(row, 7) - 1
+  if (row ~ /^reset/) return "reset " substr(row, 7) + 1
   if (row == "verdict never-idle") return "start 0\nverdict conforming"
   if (row == "verdict conforming") return "verdict broken H4 9 DTACK"
   if (row ~ /^verdict/) return "verdict conforming"
@@ -121,7 +122,7 @@ function changed(row, digit) {
 
 # Writes the listing, with another row in place of row K, or none.
 function listing(file, k, other, i) {
-  print "vmecheck listing 2" >file
+  print "vmecheck listing 3" >file
   for (i = 1; i <= count; i++) {
     if (i != k) print row[i] >file
     else if (other != "") print other >file
@@ -143,7 +144,8 @@ function write(name, trace, verdict, base, names, i, lines) {
   listing(base ".listing", 0, "")
   for (i = 1; i <= count; i++) {
     listing(base "." i ".changed", i, changed(row[i]))
-    if (i > 1 && i < count) listing(base "." i ".left_out", i, "")
+    # behind a reset stands a start or the verdict, and no start elsewhere
+    if (i > 1 && i < count && (row[i] !~ /^(start|reset)/ || i == count - 1)) listing(base "." i ".left_out", i, "")
   }
   print name, binding
 }

@@ -7,7 +7,7 @@ use Rattle.vme_bind.specs.declared.fault.BindKind.{BindKind}
 use Rattle.vme_bind.specs.declared.fault.BindKind.TheVariants.{Memory, SlotsFirst, Unbound}
 use Rattle.vme_bind.specs.Answers.{at_line, FailsAs, Fails, Gives}
 use Rattle.vme_bind.specs.Text.{Saying, all_said, end_line}
-use Rattle.vme_bind.specs.Binding.{BoundLines, slots_behind, bound, bound_all, all_bound, finished, least_unbound, unless_unbound, no_assignments, with_data, binding_from, binding_of}
+use Rattle.vme_bind.specs.Binding.{BoundLines, slots_behind, bound, bound_all, all_bound, finished, least_unbound, unless_unbound, no_assignments, with_left_out, binding_from, binding_of}
 
 fails_then : {X Y : Type 0} (line : ℕ) (kind : BindKind) (r : Result X BindFault) (next : X → Result Y BindFault) → FailsAs line kind r → FailsAs line kind (r >>= next)
 fails_then line Memory r next h = h
@@ -50,10 +50,10 @@ pub some_slots : (text : List ℕ) (s : Saying) (ss : List Saying) (slots : ℕ)
     → binding_of text ≡ (bound_all (no_assignments slots) ss >>= finished (end_line text))
 some_slots text s ss slots e h = says_slots text s ss e ∙ rw h refl
 
-pub is_whole : (line : ℕ) (r : Result BoundLines BindFault) (b whole : BoundLines) → r ≡ Ok b → whole ≡ with_data line b → None ≡ least_unbound whole → (r >>= finished line) ≡ Ok whole
+pub is_whole : (line : ℕ) (r : Result BoundLines BindFault) (b whole : BoundLines) → r ≡ Ok b → whole ≡ with_left_out line b → None ≡ least_unbound whole → (r >>= finished line) ≡ Ok whole
 is_whole line r b whole e w h = ap (λ (r : Result BoundLines BindFault). r >>= finished line) e ∙ ap (all_bound line) (sym w) ∙ ap (unless_unbound line whole) (sym h)
 
-pub lacks : (line last : ℕ) (r : Result BoundLines BindFault) (b whole : BoundLines) (l : ℕ) → r ≡ Ok b → whole ≡ with_data line b → Some l ≡ least_unbound whole → last ≡ line
+pub lacks : (line last : ℕ) (r : Result BoundLines BindFault) (b whole : BoundLines) (l : ℕ) → r ≡ Ok b → whole ≡ with_left_out line b → Some l ≡ least_unbound whole → last ≡ line
     → (r >>= finished line) ≡ Err (record { line = last; kind = Unbound l })
 lacks line last r b whole l e w h k =
     ap (λ (r : Result BoundLines BindFault). r >>= finished line) e ∙ ap (all_bound line) (sym w) ∙ ap (unless_unbound line whole) (sym h)

@@ -11,7 +11,7 @@ use Rattle.vme_bind.specs.declared.fault.BindKind.TheVariants.{BadLine, SlotsFir
 use Rattle.vme_bind.specs.declared.group.Group.{Group}
 use Rattle.vme_bind.specs.Answers.{at_line}
 use Rattle.vme_bind.specs.Text.{Saying, all_said, end_line}
-use Rattle.vme_bind.specs.Groups.{data_group, holds, share, group_named}
+use Rattle.vme_bind.specs.Groups.{data_group, reset_group, holds, share, group_named}
 use Rattle.vme_bind.specs.Sources.{source_of}
 
 -- how many slots the backplane has, and what its lines are bound to, in the order of the text
@@ -91,13 +91,17 @@ unless_unbound line b (Some l) = Err (record { line = line; kind = Unbound l })
 abbrev pub all_bound : ℕ → BoundLines → Result BoundLines BindFault
 all_bound line b = unless_unbound line b (least_unbound b)
 
--- the data lines are high for good where the text, which ends at this line, names none of them
-abbrev pub with_data : ℕ → BoundLines → BoundLines
-with_data line b = if is_taken b.assignments data_group then b else with_assignment b line data_group (codes "1")
+-- the lines of a group, bound to high for good where the text, which ends at this line, names none of them
+abbrev pub with_high : ℕ → Group → BoundLines → BoundLines
+with_high line group b = if is_taken b.assignments group then b else with_assignment b line group (codes "1")
+
+-- what a text may leave out: the data lines, and the system reset
+abbrev pub with_left_out : ℕ → BoundLines → BoundLines
+with_left_out line b = with_high line reset_group (with_high line data_group b)
 
 -- and each other line has to be bound
 abbrev pub finished : ℕ → BoundLines → Result BoundLines BindFault
-finished line b = all_bound line (with_data line b)
+finished line b = all_bound line (with_left_out line b)
 
 abbrev pub no_assignments : ℕ → BoundLines
 no_assignments slots = record { slots = slots; assignments = [] }

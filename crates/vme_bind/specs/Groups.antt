@@ -1,6 +1,6 @@
 -- The lines that a name stands for.
 use Rattle.std.specs.Prelude.{ℕ, ◌+◌, Bool, ◌&&◌, nat_le, nat_lt, if◌then◌else◌, List, codes, bytes_eq, Option, Some, None, option_and_then}
-use Rattle.vme_trace.specs.LineNumbers.{AM, A, BR, D, grant, iack, has_line}
+use Rattle.vme_trace.specs.LineNumbers.{AM, A, BR, D, grant, iack, SYSRESET, has_line}
 use Rattle.vme_trace.specs.Names.{line_named}
 use Rattle.vme_bind.specs.declared.group.Group.{Group}
 
@@ -11,6 +11,10 @@ down_from first count = record { first = first; count = count }
 -- the data lines
 abbrev pub data_group : Group
 data_group = down_from (D 31) 32
+
+-- the system reset
+abbrev pub reset_group : Group
+reset_group = down_from SYSRESET 1
 
 -- the group holds the line
 abbrev pub holds : Group → ℕ → Bool

@@ -6,7 +6,6 @@ ghost use Rattle.vme_trace.specs.declared.level.Level.TheVariants.{Unknown};
 ghost use Rattle.vme_bind.specs.declared.fault.BindKind.TheVariants.{BadLine, SlotsFirst};
 ghost use Rattle.vme_bind.specs.Answers.{Gives, at_line};
 ghost use Rattle.vme_bind.specs.Binding.{binding_of};
-ghost use Rattle.vme_bind.specs.Groups.{data_group};
 ghost use Rattle.vme_bind.specs.Sources.{source_of};
 
 use crate::assignment::Assignment;
@@ -42,7 +41,7 @@ impl Model for Binding {
 
 impl Binding {
     ghost use Rattle.vme_bind.specs.Reading.{saying, left, last_line};
-    ghost use Rattle.vme_bind.specs.Binding.{slot_count, slots_behind, name_and_source, is_taken, is_bound, bound, bound_all, least_unbound, no_assignments, with_data};
+    ghost use Rattle.vme_bind.specs.Binding.{slot_count, slots_behind, name_and_source, is_taken, is_bound, bound, bound_all, least_unbound, no_assignments, with_high, with_left_out};
 
     /// The number of slots that a word is: 1 to 21, without a leading zero.
     fn slot_count(word: &[u8]) -> Option<u8>
@@ -189,26 +188,34 @@ impl Binding {
         Ok(())
     }
 
-    /// The data lines, bound to high for good by this line of the text.
-    fn high_data(line: u64) -> Assignment
-        ensures { result ≡ record { line = line; group = data_group; source = source_of (codes "1") } }
+    /// The lines of a group, bound to high for good by this line of the text.
+    fn high(line: u64, group: Group) -> Assignment
+        ensures { result ≡ record { line = line; group = group; source = source_of (codes "1") } }
     {
         let source = Source::Constant(Level::High);
         Assignment {
             line,
-            group: Group::data(),
+            group,
             source,
         }
     }
 
-    /// Binds the data lines to high for good, where the text, which ends at this line, names none of them.
-    fn bind_data(&mut self, line: u64) -> Result<(), AllocError>
-        ensures { OnOk result (self.new ≡ with_data line self.old) }
+    /// Binds the lines of a group to high for good, where the text, which ends at this line, names none of them.
+    fn bind_high(&mut self, line: u64, group: &Group) -> Result<(), AllocError>
+        ensures { OnOk result (self.new ≡ with_high line group.now self.old) }
     {
-        if !self.is_taken(Group::data()) {
-            self.assignments.push(Binding::high_data(line))?;
+        if !self.is_taken(*group) {
+            self.assignments.push(Binding::high(line, *group))?;
         }
         Ok(())
+    }
+
+    /// Binds what a text, which ends at this line, may leave out: the data lines and the system reset.
+    fn bind_left_out(&mut self, line: u64) -> Result<(), AllocError>
+        ensures { OnOk result (self.new ≡ with_left_out line self.old) }
+    {
+        self.bind_high(line, &Group::data())?;
+        self.bind_high(line, &Group::reset())
     }
 
     /// The least line that isn't bound.
@@ -228,7 +235,7 @@ impl Binding {
 }
 
 /// Reads the text of a binding: a line `slots N`, and behind it lines `NAME = SOURCE` that bind each line of the
-/// backplane once. The data lines may all be left out, and are then high for good.
+/// backplane once. The data lines may all be left out, and so may SYSRESET*: what is left out is high for good.
 ///
 /// The text is read from the top, and an error names the first fault met and its line. A line that isn't bound is
 /// met at the end of the text. Where memory runs out, that is the fault, at line 0.
@@ -251,7 +258,7 @@ pub fn read_binding(alloc: Global, text: &[u8]) -> Result<Binding, BindFault>
     };
     let mut binding = Binding::new(alloc, lines);
     binding.bind_all(alloc, &mut statements)?;
-    binding.bind_data(statements.line())?;
+    binding.bind_left_out(statements.line())?;
     match binding.least_unbound() {
         Some(unbound) => Err(BindFault {
             line: statements.line(),

@@ -15,7 +15,7 @@ pub(crate) struct Group {
 }
 
 impl Group {
-    ghost use Rattle.vme_bind.specs.Groups.{data_group, holds, share, group_named, single};
+    ghost use Rattle.vme_bind.specs.Groups.{data_group, reset_group, holds, share, group_named, single};
 
     /// The data lines, D31 to D00.
     pub fn data() -> Group
@@ -24,6 +24,16 @@ impl Group {
         Group {
             first: Line::data(31),
             count: 32,
+        }
+    }
+
+    /// The system reset alone.
+    pub fn reset() -> Group
+        ensures { result ≡ reset_group }
+    {
+        Group {
+            first: Line::SYSRESET,
+            count: 1,
         }
     }
 

@@ -193,6 +193,44 @@ fn data_lines_are_all_bound_or_none(rt: HostRuntime) -> Result<(), Fail> {
     Ok(())
 }
 
+/// The level that SYSRESET opens with, where the binding has this line more.
+fn reset_with(alloc: Global, more: &str) -> Result<Level, Fail> {
+    let binding = format!(in alloc; "{BUS_LINES}{more}")?;
+    let dump = bus_dump(alloc, AS, READ)?;
+    let capture = captured(alloc, binding.as_str(), dump.as_str())?;
+    Ok(capture.opening().level(Line::SYSRESET))
+}
+
+#[test]
+fn a_system_reset_that_is_left_out_is_high(rt: HostRuntime) -> Result<(), Fail> {
+    for (more, level) in [
+        ("", Level::High),
+        ("D = 0\n", Level::High),
+        ("SYSRESET = 0\n", Level::Low),
+        ("SYSRESET = 1\n", Level::High),
+        ("SYSRESET = x\n", Level::Unknown),
+    ] {
+        assert!(rt; reset_with(rt.alloc(), more)? == level, "{more}");
+    }
+    Ok(())
+}
+
+#[test]
+fn a_system_reset_is_bound_by_its_name(rt: HostRuntime) -> Result<(), Fail> {
+    let binding = format!(in rt.alloc(); "{BUS_LINES}SYSRESET = bus.RESET\n")?;
+    let declared = "$var wire 1 p AS $end $var wire 1 e RESET $end";
+    let changes = "#1 1p 1e #2 0e #3 ze #4 xe #5 1e";
+    let dump = bus_dump(rt.alloc(), declared, changes)?;
+    let wanted = "#1 AS=1 SYSRESET=1\n#2 SYSRESET=0\n#3 SYSRESET=1\n#4 SYSRESET=x\n#5 SYSRESET=1\n";
+    records_as(&rt, rt.alloc(), binding.as_str(), dump.as_str(), wanted)?;
+    let lacking = bus_dump(rt.alloc(), AS, READ)?;
+    let kind = BindKind::NoSuchPath;
+    assert!(rt; lacks(rt.alloc(), binding.as_str(), lacking.as_str(), 24, kind)?);
+    let twice = format!(in rt.alloc(); "{binding}SYSRESET = 1\n")?;
+    assert!(rt; fails_with(rt.alloc(), twice.as_str(), 25, BindKind::NamedTwice));
+    Ok(())
+}
+
 #[test]
 fn an_alias_changes_nothing(rt: HostRuntime) -> Result<(), Fail> {
     let declared = "$var wire 1 p AS $end $var wire 1 p AS2 $end $var wire 1 p AS $end";

@@ -32,7 +32,7 @@ const READ: [&str; 14] = [
 ];
 
 /// Its listing.
-const READ_ROWS: &str = "vmecheck listing 2
+const READ_ROWS: &str = "vmecheck listing 3
 start 1
 tenure 5 level 3 slot 2 end 14
 cycle 9 S 39 FFFFDE end 12

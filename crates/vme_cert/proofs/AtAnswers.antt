@@ -1,14 +1,14 @@
 -- What is asked of an instant that may be an answer, by the transfer there; and what is kept of a cycle.
-use Rattle.std.proofs.Common.{◌≡◌, ℕ, ◌+◌, ◌<◌, Bool, true, false, ◌&&◌, ◌||◌, List, length, sym, ◌∙◌, ap, arith}
-use Rattle.std.specs.Prelude.{Option, None, Some, map, option_map, nat_le, ◌==◌, slice_get}
+use Rattle.std.proofs.Common.{◌≡◌, ℕ, ◌+◌, ◌<◌, ◌≤◌, Bool, true, false, ◌&&◌, ◌||◌, List, length, sym, ◌∙◌, ap, arith}
+use Rattle.std.specs.Prelude.{Option, None, Some, map, option_map, nat_le, nat_lt, ◌==◌, slice_get}
 use Rattle.std.specs.Option.{option_map_or}
 use Rattle.std.proofs.lemmas.Bool.Decides.{nat_tests}
 use Rattle.std.proofs.lemmas.Option.{slice_get-map}
 use Rattle.vme_trace.specs.Instants.{any, those}
-use Rattle.vme_trace.specs.LineNumbers.{WRITE}
+use Rattle.vme_trace.specs.LineNumbers.{AS, WRITE}
 use Rattle.vme_trace.specs.Trace.{Trace}
-use Rattle.vme_trace.specs.Judged.{Span}
-use Rattle.vme_trace.specs.Signals.{low}
+use Rattle.vme_trace.specs.Judged.{Span, is_judged}
+use Rattle.vme_trace.specs.Signals.{low, falls}
 use Rattle.vme_trace.specs.Transfers.{answer_falls, answers, is_answer, is_write, answers_write, in_transfer}
 use Rattle.vme_trace.specs.Cycle.{Needs}
 use Rattle.vme_trace.specs.Cycles.{cycle_starts}
@@ -19,7 +19,7 @@ use Rattle.vme_cert.specs.Judging.{IsTransferFrom}
 use Rattle.vme_cert.proofs.AtTransfers.{answers-here}
 use Rattle.vme_cert.proofs.Searching.{any-start}
 use Rattle.vme_cert.proofs.Those.{those-next}
-use Rattle.vme_cert.proofs.Truth.{eq_holds, first_fails, second_fails}
+use Rattle.vme_cert.proofs.Truth.{and_true, eq_holds, first_fails, lt_of, second_fails}
 
 only_here : (a c : Bool) (n : ℕ) → a ≡ false → (a || (nat_le n n && c)) ≡ c
 only_here a c n h = grind (arith, nat_tests)
@@ -65,10 +65,16 @@ write-elsewhere o answer at b e h = eq_or_not answer at b h ∙ ap (λ x. option
 pub write-never : (o : Option ℕ) (at : ℕ) (b : Bool) → o ≡ None → false ≡ (option_map_or (λ r. r == at) o false && b)
 write-never o at b e = ap (λ x. option_map_or (λ r. r == at) x false && b) (sym e)
 
+-- a cycle starts after the span does
+pub cycle-after : (t : Trace) (span : Span) (i : ℕ) → cycle_starts t span i ≡ true → span.start ≤ i
+unfolding cycle_starts
+cycle-after t span i h =
+    let judged = and_true (nat_lt span.start i) (nat_lt i span.end) (and_true (is_judged span i) (falls t AS i) h).0 in
+    omega (arith, lt_of span.start i judged.0)
+
 -- the class and the needs of a cycle stand at the place of its start
-pub cycle-there : (t : Trace) (span : Span) (cycles : List (Class × Needs)) (n k i : ℕ) → cycles ≡ map (cycle_at t) (those (cycle_starts t span) 0 n) → k ≡ length (those (cycle_starts t span) 0 i) → i < n → cycle_starts t span i ≡ true → slice_get cycles k ≡ Some (cycle_at t i)
-cycle-there t span cycles n k i is place within starts =
-    let p = cycle_starts t span in
+pub cycle-there : (t : Trace) (p : ℕ → Bool) (cycles : List (Class × Needs)) (n k i : ℕ) → cycles ≡ map (cycle_at t) (those p 0 n) → k ≡ length (those p 0 i) → i < n → p i ≡ true → slice_get cycles k ≡ Some (cycle_at t i)
+cycle-there t p cycles n k i is place within starts =
     let first = least-is p i n i (omega arith) within starts (any-start p i i (omega arith)) in
     ap (λ xs. slice_get xs k) is
     ∙ (slice_get-map (cycle_at t) (those p 0 n) k ∙ ap (λ o. option_map (cycle_at t) o) (ap (slice_get (those p 0 n)) place ∙ (those-next p i n (omega arith) ∙ first)))

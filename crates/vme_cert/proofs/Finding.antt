@@ -1,6 +1,6 @@
 -- What the greatest of a range is.
 use Rattle.std.proofs.Common.{◌≡◌, ℕ, zero, suc, ◌+◌, ◌<◌, ◌≤◌, Bool, true, false, ◌&&◌, ◌||◌, refl, sym, ◌∙◌, ap, arith, inl, inr, ◌⊎◌, cond}
-use Rattle.std.specs.Prelude.{Option, None, Some, nat_le}
+use Rattle.std.specs.Prelude.{Option, None, Some, nat_le, unwrap_or}
 use Rattle.vme_trace.specs.Instants.{any, greatest}
 use Rattle.vme_trace.proofs.Ranges.{any-fails, fails-any, clash}
 use Rattle.vme_cert.proofs.Truth.{and_true, le_holds, le_of}
@@ -81,3 +81,11 @@ greatest-is p f n i from before holds last = by_greatest (greatest p f n) refl
         same found (inl less) = absurd (clash (p i) holds (any-fails p (k + 1) n i found.last (omega arith) before))
         same found (inr (inl more)) = absurd (clash (p k) found.holds (any-fails p (i + 1) n k last (omega arith) found.before))
         same found (inr (inr is)) = is
+
+-- the greatest of a range, or else its first, is no earlier
+pub greatest-or : (p : ℕ → Bool) (f n : ℕ) → f ≤ unwrap_or (greatest p f n) f
+greatest-or p f n = by_greatest (greatest p f n) refl
+  where
+    by_greatest : (o : Option ℕ) → greatest p f n ≡ o → f ≤ unwrap_or o f
+    by_greatest None e = omega arith
+    by_greatest (Some i) e = (greatest-found p f n i e).from

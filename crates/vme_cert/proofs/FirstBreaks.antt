@@ -1,7 +1,6 @@
 -- The first of some rules that is broken, and the first instant at which one is.
 use Rattle.std.proofs.Common.{◌≡◌, ℕ, ◌+◌, ◌≤◌, true, false, List, [], ◌∷◌, refl, sym, ◌∙◌, ap, arith, add-one}
 use Rattle.std.specs.Prelude.{Option, None, Some, is_some, IfSome}
-use Rattle.vme_listing.specs.Recorded.{listed_end}
 use Rattle.vme_trace.specs.Instants.{least}
 use Rattle.vme_trace.specs.LineNumbers.{line_count}
 use Rattle.vme_trace.specs.Trace.{Trace, time_at}
@@ -11,6 +10,7 @@ use Rattle.vme_trace.specs.Verdict.{rule_break, break_at, break_before}
 use Rattle.vme_trace.specs.declared.rule.Rule.{Rule}
 use Rattle.vme_trace.specs.declared.verdict.Break.{Break}
 use Rattle.vme_trace.proofs.SpanEnds.{break_before-stays}
+use Rattle.vme_cert.specs.Spans.{end_in}
 
 module _ (t : Trace) (span : Span) where
   pub break_at-here : (r : Rule) (rs : List Rule) (j l : ℕ) → least (breaks t span r j) 0 line_count ≡ Some l → break_at t span (r ∷ rs) j ≡ Some (record { instant = j; time = time_at t j; rule = r; line = l })
@@ -20,10 +20,6 @@ module _ (t : Trace) (span : Span) where
   pub break_at-next : (r : Rule) (rs : List Rule) (j : ℕ) → least (breaks t span r j) 0 line_count ≡ None → break_at t span (r ∷ rs) j ≡ break_at t span rs j
   unfolding break_at rule_break
   break_at-next r rs j e = rw e refl
-
-  pub before-start : (rules : List Rule) → break_before t span rules 0 ≡ None
-  unfolding break_before
-  before-start rules = refl
 
   step : (rules : List Rule) (j : ℕ) (o : Option Break) → break_before t span rules j ≡ None → break_at t span rules j ≡ o → break_before t span rules (j + 1) ≡ o
   unfolding break_before
@@ -54,7 +50,7 @@ module _ (t : Trace) (span : Span) where
 pub same-break : (t u : Trace) (span other : Span) (rules : List Rule) (i j : ℕ) (o : Option Break) → u ≡ t → other ≡ span → i ≡ j → o ≡ break_at u other rules i → o ≡ break_at t span rules j
 same-break t u span other rules i j o e f g h = h ∙ (ap (λ (v : Trace). break_at v other rules i) e ∙ (ap (λ (s : Span). break_at t s rules i) f ∙ ap (break_at t span rules) g))
 
--- rows are listed up to the instant of a break
-pub listed-at : (t : Trace) (o : Option Break) (j : ℕ) → IfSome o (λ b. b.instant ≡ j) → is_some o ≡ true → listed_end t o ≤ j
-listed-at t None j at some = absurd (cc)
-listed-at t (Some b) j at some = omega arith
+-- the rows of a span end at the instant of its break
+pub ends-at : (span : Span) (o : Option Break) (j : ℕ) → IfSome o (λ b. b.instant ≡ j) → is_some o ≡ true → end_in span o ≤ j
+ends-at span None j at some = absurd (cc)
+ends-at span (Some b) j at some = omega arith

@@ -13,8 +13,11 @@ pub mod Kept
 pub mod KnownData
 pub mod Losing
 pub mod Noted
+pub mod Outside
 pub mod Quiet
 pub mod Searching
+pub mod Since
+pub mod Stretches
 pub mod Those
 pub mod TransferRows
 pub mod Truth

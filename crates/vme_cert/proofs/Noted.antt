@@ -1,7 +1,7 @@
 -- Lists of which those at the front have an instant more.
-use Rattle.std.proofs.Common.{◌≡◌, ℕ, zero, suc, ◌+◌, ◌<◌, ◌≤◌, Bool, true, List, [], ◌∷◌, ◌++◌, map, length, set, replicate, refl, sym, ◌∙◌, ap, subst, arith, inl, inr, ◌⊎◌}
+use Rattle.std.proofs.Common.{◌≡◌, ℕ, zero, suc, ◌+◌, ◌<◌, ◌≤◌, Bool, true, List, [], ◌∷◌, ◌++◌, map, length, set, take, drop, refl, sym, ◌∙◌, ap, arith, inl, inr, ◌⊎◌}
 use Rattle.std.specs.Prelude.{Some, slice_get}
-use Rattle.std.proofs.lemmas.List.{map-append}
+use Rattle.std.proofs.lemmas.List.{append-nil, drop_all, map-append, take_all}
 use Rattle.vme_trace.specs.Instants.{those}
 use Rattle.vme_trace.specs.Trace.{Trace, levels_at, last_instant}
 use Rattle.vme_trace.specs.Levels.{Levels}
@@ -11,8 +11,8 @@ use Rattle.vme_trace.specs.Cycle.{Needs, class_of, needs_of}
 use Rattle.vme_trace.specs.Cycles.{cycle_starts}
 use Rattle.vme_trace.specs.declared.class.Class.{Class}
 use Rattle.vme_cert.specs.declared.index.Index.{Index}
-use Rattle.vme_cert.specs.Events.{happens_nth, is_acknowledged, cycle_at, IsIndex, IsNoted}
-use Rattle.vme_cert.proofs.Those.{those-nothing, those-here}
+use Rattle.vme_cert.specs.Events.{happens_nth, is_acknowledged, cycle_at, since, IsIndex, IsNoted}
+use Rattle.vme_cert.proofs.Those.{those-here}
 
 set-length : (xs : List (List ℕ)) (k : ℕ) (y : List ℕ) → length (set xs k y) ≡ length xs
 set-length [] k y = refl
@@ -57,11 +57,13 @@ noted-next p n k lists list so_far below is =
     here : (i : ℕ) → i ≡ k → slice_get (set lists k list) i ≡ Some (those (p i) 0 (n + 1))
     here i e = let count = so_far.count in ap (slice_get (set lists k list)) e ∙ (set-here lists k list (omega (arith, count)) ∙ (ap (λ xs. Some xs) is ∙ ap (λ m. Some (those (p m) 0 (n + 1))) (sym e)))
 
--- empty lists have those before the opening
-pub none-noted : (p : ℕ → Bool) (m i : ℕ) → i < m → slice_get (replicate m []) i ≡ Some (those p 0 0)
-none-noted p zero i h = absurd (omega arith)
-none-noted p (suc m) zero h = ap (λ xs. Some xs) (sym (those-nothing p 0))
-none-noted p (suc m) (suc i) h = none-noted p m i (omega arith)
+-- a slice of all lists, one of which was changed, makes up the vector
+pub written-back : (xs items : List (List ℕ)) (k len : ℕ) (y : List ℕ) → xs ≡ items → length xs ≡ len → take len (set xs k y ++ drop (length (set xs k y)) items) ≡ set items k y
+written-back xs items k len y e h =
+    let count : length (set xs k y) ≡ length xs = set-length xs k y in
+    let same = ap (λ zs. length zs) e in
+    ap (λ zs. take len (set xs k y ++ zs)) (drop_all (length (set xs k y)) items (omega (arith, count, same)))
+    ∙ (ap (take len) (append-nil (set xs k y)) ∙ (take_all len (set xs k y) (omega (arith, count, h)) ∙ ap (λ zs. set zs k y) e))
 
 -- what is kept of a cycle that starts
 pub cycle-is : (t : Trace) (n : ℕ) (v : Levels) (a : Class) (b : Needs) → v ≡ levels_at t n → a ≡ class_of v → b ≡ needs_of v → (a, b) ≡ cycle_at t n
@@ -71,6 +73,10 @@ pub cycles-more : (t : Trace) (p : ℕ → Bool) (n : ℕ) (xs : List (Class × 
 cycles-more t p n xs x e h holds =
     ap (λ ys. ys ++ x ∷ []) e ∙ (ap (λ y. map (cycle_at t) (those p 0 n) ++ y ∷ []) h ∙ (sym (map-append (cycle_at t) (those p 0 n) (n ∷ [])) ∙ ap (map (cycle_at t)) (sym (those-here p n holds))))
 
+-- what is noted of an event of the span
+abbrev pub noted_of : Trace → Span → ℕ → ℕ → Bool
+noted_of t span k = since span.start (happens_nth t span k)
+
 -- an index of which all but the cycles is as before
 pub record IsWithCycles (t : Trace) (old mid : Index) (n : ℕ) : Type 0 where
   pub span : mid.span ≡ old.span
@@ -78,9 +84,9 @@ pub record IsWithCycles (t : Trace) (old mid : Index) (n : ℕ) : Type 0 where
   pub answered : mid.answered ≡ old.answered
   pub answers : mid.answers ≡ old.answers
   pub acknowledges : mid.acknowledges ≡ old.acknowledges
-  pub cycles : mid.cycles.items ≡ map (cycle_at t) (those (cycle_starts t old.span) 0 (n + 1))
+  pub cycles : mid.cycles.items ≡ map (cycle_at t) (those (since old.span.start (cycle_starts t old.span)) 0 (n + 1))
 
-pub noted-index : (t : Trace) (old mid new : Index) (n k : ℕ) → IsIndex t old → old.noted ≡ n → n ≤ last_instant t → 16 ≤ k → IsWithCycles t old mid n → AreNoted (happens_nth t mid.span) mid.noted k new.lists.items → new.span ≡ mid.span → new.cycles ≡ mid.cycles → new.answers ≡ mid.answers → new.acknowledges ≡ mid.acknowledges → new.noted ≡ n + 1 → new.answered ≡ mid.answered → IsNoted t old new
+pub noted-index : (t : Trace) (old mid new : Index) (n k : ℕ) → IsIndex t old → old.noted ≡ n → n ≤ last_instant t → 16 ≤ k → IsWithCycles t old mid n → AreNoted (noted_of t mid.span) mid.noted k new.lists.items → new.span ≡ mid.span → new.cycles ≡ mid.cycles → new.answers ≡ mid.answers → new.acknowledges ≡ mid.acknowledges → new.noted ≡ n + 1 → new.answered ≡ mid.answered → IsNoted t old new
 noted-index t old mid new n k index at within all with_cycles lists same_span same_cycles same_answers same_acknowledges noted same_answered =
     let span : new.span ≡ old.span = same_span ∙ with_cycles.span in
     let answered : new.answered ≡ old.answered = same_answered ∙ with_cycles.answered in
@@ -90,12 +96,12 @@ noted-index t old mid new n k index at within all with_cycles lists same_span sa
     let so_far = index.answered in
     record {
       is = record {
-        started = subst (λ (s : Span). s.start ≤ last_instant t) (sym span) index.started;
+        started = omega (arith, index.started, answered, ap (λ (s : Span). s.start) span);
         noted = omega arith;
         answered = omega arith;
         count = lists.count;
-        lists = λ i h. lists.done i (omega arith) h ∙ (ap (λ (s : Span). Some (those (happens_nth t s i) 0 (mid.noted + 1))) (sym same_span) ∙ ap (λ m. Some (those (happens_nth t new.span i) 0 m)) upto);
-        cycles = ap (λ v. v.items) same_cycles ∙ (with_cycles.cycles ∙ (ap (λ (s : Span). map (cycle_at t) (those (cycle_starts t s) 0 (n + 1))) (sym span) ∙ ap (λ m. map (cycle_at t) (those (cycle_starts t new.span) 0 m)) next));
+        lists = λ i h. lists.done i (omega arith) h ∙ (ap (λ (s : Span). Some (those (noted_of t s i) 0 (mid.noted + 1))) (sym same_span) ∙ ap (λ m. Some (those (noted_of t new.span i) 0 m)) upto);
+        cycles = ap (λ v. v.items) same_cycles ∙ (with_cycles.cycles ∙ (ap (λ (s : Span). map (cycle_at t) (those (since s.start (cycle_starts t s)) 0 (n + 1))) (sym span) ∙ ap (λ m. map (cycle_at t) (those (since new.span.start (cycle_starts t new.span)) 0 m)) next));
         answers = same_answers ∙ (with_cycles.answers ∙ (index.answers ∙ (ap (λ (s : Span). those (is_answer t s) 0 old.answered) (sym span) ∙ ap (λ m. those (is_answer t new.span) 0 m) (sym answered))));
         acknowledges = same_acknowledges ∙ (with_cycles.acknowledges ∙ (index.acknowledges ∙ (ap (λ (s : Span). those (is_acknowledged t s) 0 old.answered) (sym span) ∙ ap (λ m. those (is_acknowledged t new.span) 0 m) (sym answered))));
       };

@@ -18,6 +18,6 @@ module _ (t : Trace) (span : Span) (end i : ℕ) (starts : transfer_starts t spa
   unfolding transfer_rows
   row-outside r e none = rw (starts, e, none) refl
 
-  pub row-answered : (r k : ℕ) → least (answers t span i) i end ≡ Some r → cycle_of t span r ≡ Some k → Transfer i k (direction_of t span end i) (answer_line t span end r) r (least (strobes_high t) (i + 1) end) (data_of t span end i r) ∷ [] ≡ transfer_rows t span end i
+  pub row-answered : (r k : ℕ) → least (answers t span i) i end ≡ Some r → cycle_of t span r ≡ Some k → Transfer (direction_of t span end i) (answer_line t span end r) i k r (least (strobes_high t) (i + 1) end) (data_of t span end i r) ∷ [] ≡ transfer_rows t span end i
   unfolding transfer_rows
   row-answered r k e f = rw (starts, e, f) refl

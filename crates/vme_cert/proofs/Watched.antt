@@ -98,7 +98,7 @@ answer_line l = by_test (nat_le 3 l && nat_lt l 5) refl
     by_test true h = grind (arith, nat_tests)
     by_test false h = grind (arith, nat_tests)
 
-all_lines : (l : ℕ) → l < line_count → (nat_le 0 l && nat_lt l 191) ≡ true
+all_lines : (l : ℕ) → l < line_count → (nat_le 0 l && nat_lt l 192) ≡ true
 all_lines l below = grind (arith, nat_tests)
 
 -- the parts of a rule in another order
@@ -123,8 +123,10 @@ net true true k x = refl
 net true false k x = sym (off k)
 net false p k x = refl
 
-lost : (s a c d : Bool) → s ≡ true → (a && (c && d)) ≡ (s && d && (a && c))
-lost s a c d h = rw (h, sym (grouped a c d)) (turn (a && c) d)
+lost : (s a c d r : Bool) → s ≡ true → (a && (c && d && r)) ≡ (s && d && (a && c && r))
+lost s true true d r h = rw h refl
+lost s true false d r h = rw (h, off d) refl
+lost s false c d r h = rw (h, off d) refl
 
 needs : (s a b d : Bool) → (s ≡ false → b ≡ false) → (a && b && d) ≡ (s && d && (a && b))
 needs true a b d h = turn (a && b) d
@@ -168,7 +170,7 @@ module _ (t : Trace) (span : Span) (j l : ℕ) (below : l < line_count) where
 
   broken-is : (r : Rule) → is_broken t span r j l ≡ (speaks_of r l && shows t r l j && asks t span r j l)
   unfolding is_broken known
-  broken-is U1 = lost _ _ _ _ (all_lines l below)
+  broken-is U1 = lost _ _ _ _ _ (all_lines l below)
   broken-is U2 = needs _ _ _ _ (not_needed (levels_at t j) l)
   broken-is U3 = shown_last _ _ _ (only 13 l) _
   broken-is U4 = moved_twice _ _ _ _ _ (not_selected (levels_at t j) l)

@@ -1,5 +1,6 @@
 -- What happens at the instants of a recording, and the index of the instants at which it does.
-use Rattle.std.specs.Prelude.{◌≡◌, ℕ, ◌+◌, ◌<◌, ◌≤◌, Bool, false, ◌&&◌, List, [], ◌∷◌, map, length, slice_get, slice_index_or, Some}
+use Rattle.std.specs.Prelude.{◌≡◌, ℕ, ◌+◌, ◌<◌, ◌≤◌, Bool, false, ◌&&◌, List, [], ◌∷◌, map, length, Some}
+use Rattle.std.specs.Prelude.{nat_le, slice_get, slice_index_or}
 use Rattle.vme_trace.specs.Instants.{those}
 use Rattle.vme_trace.specs.LineNumbers.{AS, DTACK, BERR, WRITE, BBSY, BR}
 use Rattle.vme_trace.specs.Trace.{Trace, levels_at, last_instant}
@@ -53,14 +54,21 @@ module _ (t : Trace) (span : Span) where
 abbrev pub cycle_at : Trace → ℕ → Class × Needs
 cycle_at t i = (class_of (levels_at t i), needs_of (levels_at t i))
 
--- each list has the instants, so far, at which its event happens, and the cycles and answers go with them
+-- it happens, and no earlier than from an instant on
+abbrev pub since : ℕ → (ℕ → Bool) → ℕ → Bool
+since first p i = nat_le first i && p i
+
+-- each list has the instants, from the start of the span on and so far, at which its event happens, and the cycles and
+-- answers go with them
 pub record IsIndex (t : Trace) (index : Index) : Type 0 where
-  pub started : index.span.start ≤ last_instant t
+  pub started : index.span.start ≤ index.answered
   pub noted : index.noted ≤ last_instant t + 1
   pub answered : index.answered ≤ index.noted
   pub count : length index.lists.items ≡ 16
-  pub lists : (k : ℕ) → k < 16 → slice_get index.lists.items k ≡ Some (those (happens_nth t index.span k) 0 index.noted)
-  pub cycles : index.cycles.items ≡ map (cycle_at t) (those (cycle_starts t index.span) 0 index.noted)
+  pub lists : (k : ℕ) → k < 16
+      → slice_get index.lists.items k ≡ Some (those (since index.span.start (happens_nth t index.span k)) 0 index.noted)
+  pub cycles :
+      index.cycles.items ≡ map (cycle_at t) (those (since index.span.start (cycle_starts t index.span)) 0 index.noted)
   pub answers : index.answers ≡ those (is_answer t index.span) 0 index.answered
   pub acknowledges : index.acknowledges ≡ those (is_acknowledged t index.span) 0 index.answered
 
@@ -68,8 +76,8 @@ pub record IsIndex (t : Trace) (index : Index) : Type 0 where
 pub record IsNew (t : Trace) (span : Span) (index : Index) : Type 0 where
   pub is : IsIndex t index
   pub span_is : index.span ≡ span
-  pub noted : index.noted ≡ 0
-  pub answered : index.answered ≡ 0
+  pub noted : index.noted ≡ span.start
+  pub answered : index.answered ≡ span.start
 
 -- one with an instant more, and one with an answer more
 pub record IsNoted (t : Trace) (old new : Index) : Type 0 where

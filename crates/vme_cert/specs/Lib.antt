@@ -3,6 +3,7 @@ pub mod ChangedLines
 pub mod Events
 pub mod Following
 pub mod Judging
+pub mod Spans
 pub mod Tests
 pub mod Watching
 pub mod Words

@@ -5,6 +5,7 @@ use Rattle.vme_trace.specs.LineNumbers.{AS, DS0, DS1, DTACK, BERR, BBSY, BR, gra
 use Rattle.vme_trace.specs.Tenures.{is_granting, grant_falls, tenure_slot, last_before}
 use Rattle.vme_trace.specs.Trace.{Trace, levels_at, last_instant}
 use Rattle.vme_trace.specs.Judged.{Span}
+use Rattle.vme_trace.specs.Levels.{is_reset}
 use Rattle.vme_trace.specs.Cycle.{is_needed}
 use Rattle.vme_trace.specs.Data.{is_selected}
 use Rattle.vme_trace.specs.Cycles.{cycle_starts, class_at, cycle_runs, in_cycle, answers_of}
@@ -16,7 +17,7 @@ use Rattle.vme_trace.specs.declared.rule.Rule.TheVariants.{U1, U2, U3, U4, H1, H
 
 -- the first of the lines of which a rule speaks, and the one after the last
 abbrev pub lines_of : Rule → ℕ × ℕ
-lines_of U1 = (0, 191)
+lines_of U1 = (0, 192)
 lines_of U2 = (5, 45)
 lines_of U3 = (13, 14)
 lines_of U4 = (159, 191)
@@ -86,7 +87,9 @@ module _ (t : Trace) (span : Span) where
 
   -- what else a rule asks at an instant, on such a line
   abbrev pub asks : Rule → ℕ → ℕ → Bool
-  asks U1 j l = (j == span.end) && nat_le j (last_instant t) && is_control (levels_at t j).slots l
+  asks U1 j l =
+      (j == span.end) && nat_le j (last_instant t) && is_control (levels_at t j).slots l
+      && not (is_reset (levels_at t j))
   asks U2 j l = cycle_starts t span j && is_needed (levels_at t j) l
   asks U3 j l = transfer_starts t span j
   asks U4 j l = is_selected (levels_at t j) l && strobe_falls t j && is_open_write j

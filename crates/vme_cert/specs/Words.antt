@@ -7,11 +7,12 @@ pub use Rattle.vme_trace.specs.Levels.{Levels}
 pub use Rattle.vme_trace.specs.Trace.{Trace, changed, levels_at, last_instant, time_at}
 pub use Rattle.vme_trace.specs.WellFormed.{are_changes, capture_limit}
 pub use Rattle.vme_trace.specs.Signals.{near, level, known, low, high, falls, rises}
-pub use Rattle.vme_trace.specs.Judged.{is_idle_at, loses_control_at, judged_span, span_end}
+pub use Rattle.vme_trace.specs.Judged.{is_idle_at, stops_at, span_end}
 pub use Rattle.vme_trace.specs.Transfers.{strobe_rises, strobe_falls, strobes_high, answer_falls, transfer_starts, lasts, is_answered, answers, in_transfer, is_answer, is_write, answers_write, data_at}
 pub use Rattle.vme_trace.specs.Cycle.{class_of, needs_of}
 pub use Rattle.vme_trace.specs.Cycles.{cycle_starts, class_at, cycle_of, in_cycle, answers_of}
 pub use Rattle.vme_trace.specs.Tenures.{grant_falls, taken_grant, tenure_level, tenure_slot, last_before}
 pub use Rattle.vme_trace.specs.Rules.{spoils_pair, turns, is_broken, breaks}
-pub use Rattle.vme_trace.specs.Verdict.{all_rules, break_at, break_before, least_break}
-pub use Rattle.vme_listing.specs.Recorded.{address_to, cycle_row, tenure_rows, cycle_rows, transfer_rows, rows_before, listed_end, outcome_of, recorded_rows, row_in, rows_in}
+pub use Rattle.vme_trace.specs.Verdict.{all_rules, break_at, least_break}
+pub use Rattle.vme_listing.specs.Recorded.{address_to, cycle_row, tenure_rows, cycle_rows, transfer_rows, rows_before}
+pub use Rattle.vme_listing.specs.Recorded.{outcome_of, recorded_rows, row_in, rows_in}

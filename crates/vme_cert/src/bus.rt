@@ -1,8 +1,10 @@
-//! A recording at one of its instants, as a walk goes from each to the next; and the stretch of it that is judged.
-#![tactic(auto, unfolding(vme_trace::specs::Signals::low, vme_trace::specs::Signals::high, vme_trace::specs::Signals::falls, vme_trace::specs::Signals::rises, vme_trace::specs::Judged::is_idle_at, vme_trace::specs::Judged::judged_span))]
+//! A recording at one of its instants, as a walk goes from each to the next; and the stretches of it that are judged.
+#![tactic(auto, unfolding(vme_trace::specs::Signals::low, vme_trace::specs::Signals::high, vme_trace::specs::Signals::falls, vme_trace::specs::Signals::rises, vme_trace::specs::Judged::is_idle_at))]
 
 ghost use Rattle.std.specs.Prelude.{◌≡◌, ◌+◌, ◌-◌, ◌≤◌};
-ghost use Rattle.vme_cert.specs.Words.{true, IfSome, IsTrue, Bool, any, near, level, known, low, high, falls, rises, has_line, changed, levels_at, last_instant, time_at, are_changes, capture_limit, is_idle_at, loses_control_at, judged_span, span_end};
+ghost use Rattle.vme_cert.specs.Words.{true, IfSome, IsTrue, least, near, known, low, high, falls, rises, has_line};
+ghost use Rattle.vme_cert.specs.Words.{changed, levels_at, last_instant, time_at, are_changes, capture_limit};
+ghost use Rattle.vme_cert.specs.Words.{is_idle_at, span_end};
 
 use std::marker::Model;
 use vme_trace::{Capture, Change, Level, Line, Lines};
@@ -196,37 +198,38 @@ impl<'a> Bus<'a> {
         self.was_high(line) || self.high(line)
     }
 
-    /// Goes on from an idle instant to the next at which a control line is unknown, or past the last.
-    fn span_end(&mut self) -> u32
-        requires within { self.old.instant ≤ last_instant self.old.capture.now }
-        requires idle { is_idle_at self.old.capture.now self.old.instant ≡ true }
-        ensures end { result ≡ span_end self.old.capture.now self.old.instant }
-        ensures within { result ≤ last_instant self.old.capture.now + 1 }
+    /// Goes on to the next idle instant, this one included, if there is one.
+    pub(crate) fn next_idle(&mut self) -> Option<u32>
+        ensures trace { self.new.capture ≡ self.old.capture }
+        ensures idle { result
+            ≡ least (is_idle_at self.old.capture.now) self.old.instant (last_instant self.old.capture.now + 1) }
+        ensures at { IfSome result (λ instant. self.new.instant ≡ instant) }
     {
-        let last = self.last_instant();
-        for instant in self.instant + 1..last + 1 {
+        for instant in self.instant..self.last_instant() + 1 {
+            if self.levels.is_idle() {
+                return Some(instant);
+            }
             self.advance();
-            if self.levels.lost_among(self.step().0).is_some() {
-                return instant;
-            }
-        }
-        last + 1
-    }
-
-    /// The stretch of a recording from the least idle instant on.
-    pub(crate) fn judged_span(capture: &Capture) -> Option<Span>
-        ensures span { result ≡ judged_span capture.now }
-        ensures ends { IfSome result (λ span. span.end ≤ last_instant capture.now + 1) }
-        ensures started { IfSome result (λ span. span.start ≤ last_instant capture.now) }
-    {
-        let mut bus = Bus::opening(capture);
-        for start in 0..bus.last_instant() + 1 {
-            if bus.levels.is_idle() {
-                let end = bus.span_end();
-                return Some(Span { start, end });
-            }
-            bus.advance();
         }
         None
+    }
+
+    /// Goes on from an idle instant to the next at which the bus is reset or a control line is unknown, or past the
+    /// last.
+    pub(crate) fn next_stop(&mut self) -> u32
+        requires within { self.old.instant ≤ last_instant self.old.capture.now }
+        requires idle { is_idle_at self.old.capture.now self.old.instant ≡ true }
+        ensures trace { self.new.capture ≡ self.old.capture }
+        ensures end { result ≡ span_end self.old.capture.now self.old.instant }
+        ensures at { self.new.instant ≡ result }
+    {
+        for _instant in self.instant..self.last_instant() {
+            self.advance();
+            if self.levels.is_reset() || self.levels.lost_among(self.step().0).is_some() {
+                return self.instant;
+            }
+        }
+        self.advance();
+        self.instant
     }
 }

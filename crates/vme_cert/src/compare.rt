@@ -1,11 +1,13 @@
 //! Whether the rows of a listing are those of a recording.
 
 ghost use Rattle.std.specs.Prelude.{◌≡◌, ◌<◌, ◌≤◌, ◌∷◌, ◌++◌, true, false, Some, slice_get};
-ghost use Rattle.vme_cert.specs.Words.{[], List, length, IfOk, option_to_list, tenure_rows, cycle_rows, transfer_rows, rows_before, listed_end, outcome_of, recorded_rows, rows_in};
+ghost use Rattle.vme_cert.specs.Words.{List, length, IfOk, option_to_list, tenure_rows, cycle_rows, transfer_rows};
+ghost use Rattle.vme_cert.specs.Words.{rows_before, outcome_of, recorded_rows, rows_in};
 ghost use Rattle.vme_listing.specs.declared.row.Row.{Row};
 ghost use Rattle.vme_listing.specs.declared.row.Row.TheVariants.{Start, Verdict};
 ghost use Rattle.vme_cert.specs.Events.{IsIndex};
 ghost use Rattle.vme_cert.specs.Agreement.{Settles};
+ghost use Rattle.vme_cert.specs.Spans.{reset_at};
 
 use crate::bus::Bus;
 use crate::index::Index;
@@ -35,17 +37,32 @@ fn is_same(given: &Row, row: &Row) -> bool
     *given == *row
 }
 
-/// The first instant that isn't listed, that of the break or the one past the last, and what the last row says.
-fn ending(bus: &Bus, found: Option<Break>) -> (u32, Outcome)
-    ensures end { result.0 ≡ listed_end bus.now.capture.now found }
-    ensures outcome { result.1 ≡ outcome_of found }
+/// The verdict on a break.
+fn verdict_on(found: Break) -> Row
+    ensures { result ≡ Verdict (outcome_of (Some found)) }
 {
-    match found {
-        None => (bus.last_instant() + 1, Outcome::Conforming),
-        Some(b) if b.rule.is_unreadable() => {
-            (b.instant, Outcome::Unreadable(b.rule, b.instant, b.line))
-        }
-        Some(b) => (b.instant, Outcome::Broken(b.rule, b.instant, b.line)),
+    let Break {
+        instant,
+        time: _,
+        rule,
+        line,
+    } = found;
+    if rule.is_unreadable() {
+        Row::Verdict(Outcome::Unreadable(rule, instant, line))
+    } else {
+        Row::Verdict(Outcome::Broken(rule, instant, line))
+    }
+}
+
+/// The row of a reset, if the recording is at one.
+fn reset_row(bus: &Bus) -> Option<Row>
+    ensures { option_to_list result ≡ reset_at bus.now.capture.now bus.now.instant }
+{
+    let instant = bus.instant;
+    if bus.levels.is_reset() && instant <= bus.last_instant() {
+        Some(Row::Reset { instant })
+    } else {
+        None
     }
 }
 
@@ -120,24 +137,26 @@ impl Follower<'_> {
         self.follow(judged.transfer_row(end));
     }
 
-    /// Follows the rows of the judged stretch of a recording, where this is the least break.
-    fn follow_span(&mut self, capture: &Capture, index: &Index, found: Option<Break>)
-        requires index { IsIndex capture.now index.now }
-        requires noted { listed_end capture.now found ≤ index.now.noted }
-        requires answered { listed_end capture.now found ≤ index.now.answered }
+    /// Follows the rows of a judged stretch up to an end, from the recording at its start on.
+    fn follow_span(&mut self, start: &Bus, index: &Index, end: u32)
+        requires at { start.now.instant ≡ index.now.span.start }
+        requires index { IsIndex start.now.capture.now index.now }
+        requires from { index.now.span.start ≤ end }
+        requires noted { end ≤ index.now.noted }
+        requires answered { end ≤ index.now.answered }
         ensures given { self.new.given.now ≡ self.old.given.now }
         ensures version { self.new.version ≡ self.old.version }
-        ensures rows { Follows [] self.old → Follows (Start index.now.span.start ∷ rows_before capture.now index.now.span (listed_end capture.now found) (listed_end capture.now found) ++ Verdict (outcome_of found) ∷ []) self.new }
+        ensures rows { (right : List Row) → Follows right self.old
+            → Follows (right ++ Start index.now.span.start
+            ∷ rows_before start.now.capture.now index.now.span end end) self.new }
     {
-        let (mut bus, span) = (Bus::opening(capture), index.span);
-        let (end, outcome) = ending(&bus, found);
-        let instant = span.start;
+        let instant = start.instant;
+        let mut bus = start.later(instant);
         self.follow(Some(Row::Start { instant }));
-        for _instant in 0..end {
+        for _instant in instant..end {
             self.follow_instant(&Judged { bus: &bus, index }, end);
             bus.advance();
         }
-        self.follow(Some(Row::Verdict(outcome)));
     }
 }
 
@@ -152,11 +171,25 @@ pub fn confirm(alloc: Global, capture: &Capture, listing: &Listing) -> Result<An
         agree: 0,
         differs: false,
     };
-    let Some(span) = Bus::judged_span(capture) else {
-        follower.follow(Some(Row::Verdict(Outcome::NeverIdle)));
-        return Ok(follower.answer());
-    };
-    let (index, found) = least_break(alloc, capture, span)?;
-    follower.follow_span(capture, &index, found);
+    let mut bus = Bus::opening(capture);
+    let mut outcome = Outcome::NeverIdle;
+    while let Some(start) = bus.next_idle() {
+        let first = bus.later(start);
+        let end = bus.next_stop();
+        let (index, found) = least_break(alloc, &first, end)?;
+        match found {
+            Some(found) => {
+                follower.follow_span(&first, &index, found.instant);
+                follower.follow(Some(verdict_on(found)));
+                return Ok(follower.answer());
+            }
+            None => {
+                follower.follow_span(&first, &index, end);
+                follower.follow(reset_row(&bus));
+                outcome = Outcome::Conforming;
+            }
+        }
+    }
+    follower.follow(Some(Row::Verdict(outcome)));
     Ok(follower.answer())
 }

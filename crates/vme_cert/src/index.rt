@@ -1,11 +1,12 @@
-//! What happens in a recording, and when: sorted lists of instants, made in one walk.
+//! What happens in a stretch of a recording, and when: sorted lists of instants, made in one walk.
 #![tactic(auto, unfolding(vme_trace::specs::Cycles::cycle_starts, vme_trace::specs::Transfers::transfer_starts, vme_trace::specs::Tenures::grant_falls))]
 
 ghost use Rattle.std.specs.Prelude.{◌≡◌, ◌+◌, ◌<◌, ◌≤◌};
 ghost use Rattle.vme_cert.specs.Words.{ℕ, Bool, [], IfOk, IfSome, length, Trace, low, any, least, greatest, those, last_instant, cycle_starts, transfer_starts, strobe_rises, strobe_falls, strobes_high, answer_falls, grant_falls, is_answer};
 ghost use Rattle.vme_trace.specs.LineNumbers.{BR};
 ghost use Rattle.vme_trace.specs.Judged.{Span as Stretch};
-ghost use Rattle.vme_cert.specs.Events.{number_of, happenings, happens, IsIndex, IsNew, IsNoted, IsAnswerNoted};
+ghost use Rattle.vme_cert.specs.Spans.{between};
+ghost use Rattle.vme_cert.specs.Events.{number_of, happenings, happens, since, IsIndex, IsNew, IsNoted, IsAnswerNoted};
 
 use crate::bus::{Bus, Span};
 use crate::search::any;
@@ -259,7 +260,8 @@ impl Bus<'_> {
     }
 }
 
-/// The instants of each event, the class and the needs of each cycle, and which instants are answers, and by DTACK*.
+/// The instants of each event from the start of a stretch on, the class and the needs of each cycle, and which instants
+/// are answers, and by DTACK*.
 #[derive(Drop)]
 pub(crate) struct Index {
     pub(crate) span: Span,
@@ -273,29 +275,30 @@ pub(crate) struct Index {
 }
 
 impl Index {
-    /// The index of no instants. The only error is want of memory, here and below.
-    pub(crate) fn new(alloc: Global, span: Span) -> Result<Index, AllocError>
-        ensures { (t : Trace) → span.start ≤ last_instant t → IfOk result (IsNew t span) }
+    /// The index of no instants, for a stretch. The only error is want of memory, here and below.
+    pub(crate) fn new(alloc: Global, start: u32, end: u32) -> Result<Index, AllocError>
+        ensures { (t : Trace) → start ≤ last_instant t → IfOk result (IsNew t (between start end)) }
     {
         let mut lists = Vec::new(alloc);
         for _number in 0..16u32 {
             lists.push(Instants::new(alloc))?;
         }
         Ok(Index {
-            span,
+            span: Span { start, end },
             lists,
             cycles: Vec::new(alloc),
             answers: Instants::new(alloc),
             acknowledges: Instants::new(alloc),
-            noted: 0,
-            answered: 0,
+            noted: start,
+            answered: start,
         })
     }
 
     /// The instants of an event.
     pub(crate) fn list(&self, event: Event) -> &Instants
         requires { length self.now.lists.items ≡ 16 }
-        ensures { (t : Trace) → IsIndex t self.now → result.now ≡ those (happens t self.now.span event) 0 self.now.noted }
+        ensures { (t : Trace) → IsIndex t self.now
+            → result.now ≡ those (since self.now.span.start (happens t self.now.span event)) 0 self.now.noted }
     {
         &self.lists.as_slice()[event.number()]
     }

@@ -16,6 +16,7 @@ pub(crate) struct Judged<'a> {
     pub(crate) bus: &'a Bus<'a>,
     pub(crate) index: &'a Index,
     ghost within: { bus.now.instant < index.now.noted },
+    ghost from: { index.now.span.start ≤ bus.now.instant },
     ghost reached: { bus.now.instant ≤ index.now.answered },
     ghost indexed: { IsIndex bus.now.capture.now index.now },
 }
@@ -26,7 +27,8 @@ impl Judged<'_> {
     /// The first instant of the range at which it happens.
     #[inline(always)]
     pub(crate) fn first(&self, event: Event, first: u32, end: u32) -> Option<u32>
-        requires { end ≤ noted self.now }
+        requires started { (span self.now).start ≤ first }
+        requires noted { end ≤ noted self.now }
         ensures least { result ≡ least (happens (trace self.now) (span self.now) event) first end }
         ensures from { IfSome result (λ found. first ≤ found) }
         ensures before { IfSome result (λ found. found < end) }
@@ -36,7 +38,8 @@ impl Judged<'_> {
 
     /// Whether it happens at an instant of the range.
     pub(crate) fn any(&self, event: Event, first: u32, end: u32) -> bool
-        requires { end ≤ noted self.now }
+        requires started { (span self.now).start ≤ first }
+        requires noted { end ≤ noted self.now }
         ensures { result ≡ any (happens (trace self.now) (span self.now) event) first end }
     {
         self.first(event, first, end).is_some()
@@ -57,7 +60,8 @@ impl Judged<'_> {
     /// Whether an instant is one of the transfer that starts at another.
     #[inline(always)]
     fn lasts(&self, start: u32, at: u32) -> bool
-        requires { at ≤ noted self.now }
+        requires started { (span self.now).start ≤ start }
+        requires noted { at ≤ noted self.now }
         ensures { result ≡ lasts (trace self.now) (span self.now) start at }
     {
         let span = self.index.span;
@@ -70,6 +74,7 @@ impl Judged<'_> {
         requires after { (span self.now).start < start }
         requires within { end ≤ noted self.now }
         ensures answer { result ≡ least (answers (trace self.now) (span self.now) start) start end }
+        ensures from { IfSome result (λ answer. start ≤ answer) }
         ensures before { IfSome result (λ answer. answer < end) }
     {
         let answer = self.first(AnswerFall, start, end)?;

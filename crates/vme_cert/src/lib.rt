@@ -1,5 +1,5 @@
-//! Checks that a listing is that of a recording, by the definitions alone: one walk keeps the levels at an instant and notes
-//! what happens there, and all else is searched for in what was noted.
+//! Checks that a listing is that of a recording, by the definitions alone: a walk over each stretch that is judged
+//! keeps the levels at an instant and notes what happens there, and all else is searched for in what was noted.
 //!
 //! # What is claimed
 //!
@@ -17,15 +17,16 @@
 //! # In which order to read
 //!
 //! 1. The definitions named above, and `specs/Agreement.antt`.
-//! 2. `bus.rt`: the levels at an instant and at the one before, and where judging starts and ends.
-//! 3. `index.rt`: lists of the instants at which something happens (`specs/Events.antt` says what). The first time in a range
-//!    (`first`, the definitions' `least`) and the last (`last`, their `greatest`) are looked for from where the last search
-//!    ended, and then by halves.
+//! 2. `bus.rt`: the levels at an instant and at the one before, and where what is judged starts and stops.
+//! 3. `index.rt`: lists of the instants, from the start of a stretch on, at which something happens
+//!    (`specs/Events.antt` says what). The first time in a range (`first`, the definitions' `least`) and the last
+//!    (`last`, their `greatest`) are looked for from where the last search ended, and then by halves.
 //! 4. `judged.rt`: transfers and cycles, by those searches.
 //! 5. `rules.rt`: tenures, and each rule beside its definition, in the order of docs/PROTOCOL.md.
-//! 6. `verdict.rt`: the least break. One fact spares most of the work (`proofs/Watched.antt`): apart from U1, U2, U3, U4
-//!    and H1 a rule is broken only on a line that changes at the instant.
-//! 7. `rows.rt` and `compare.rt`: the rows, compared as they are found.
+//! 6. `verdict.rt`: the least break of a stretch. One fact spares most of the work (`proofs/Watched.antt`): apart from
+//!    U1, U2, U3, U4 and H1 a rule is broken only on a line that changes at the instant.
+//! 7. `rows.rt` and `compare.rt`: the rows, compared as they are found, stretch by stretch up to the first that has a
+//!    break (`proofs/Stretches.antt` says that these are the rows of the listing).
 #![tactic(auto)]
 
 mod bus;

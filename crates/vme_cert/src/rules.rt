@@ -33,7 +33,7 @@ pub(crate) fn lines_of(rule: Rule) -> (u8, u8)
     ensures { result ≡ lines_of rule }
 {
     match rule {
-        U1 => (0, 191),
+        U1 => (0, 192),
         H7 | B3 => (0, 1),
         H2 | H3 => (1, 3),
         H1 | H4 | H5 | H6 | H8 | C1 | C2 | I4 | I5 => (3, 5),
@@ -201,7 +201,7 @@ impl Judged<'_> {
         let net = line.number().saturating_sub(50);
         let (level, place) = (net / 22, net % 22);
         match rule {
-            U1 => at == span.end && bus.levels.is_control(line),
+            U1 => at == span.end && bus.levels.is_control(line) && !bus.levels.is_reset(),
             U2 => bus.cycle_starts(span) && needed(&bus.levels).has(line),
             U3 | H1 => bus.transfer_starts(span),
             U4 => is_selected(&bus.levels, line) && bus.strobe_falls() && self.is_open_write(),

@@ -1,15 +1,17 @@
 //! The least break of the rules.
 
-ghost use Rattle.std.specs.Prelude.{◌≡◌, ◌<◌, ◌≤◌, ◌||◌, drop, None};
-ghost use Rattle.vme_cert.specs.Words.{true, false, List, IfOk, IfSome, any, least, line_count, last_instant, breaks, all_rules, break_at, least_break, listed_end};
+ghost use Rattle.std.specs.Prelude.{◌≡◌, ◌+◌, ◌<◌, ◌≤◌, ◌||◌, drop, None};
+ghost use Rattle.vme_cert.specs.Words.{true, false, IfOk, IfSome, least, line_count, last_instant, breaks, all_rules};
+ghost use Rattle.vme_cert.specs.Words.{break_at, least_break};
 ghost use Rattle.vme_trace.specs.Judged.{is_judged};
 ghost use Rattle.vme_trace.specs.Rules.{ends_span};
 ghost use Rattle.vme_trace.specs.declared.rule.Rule.TheVariants.{U4};
 ghost use Rattle.vme_cert.specs.ChangedLines.{first_changed};
 ghost use Rattle.vme_cert.specs.Watching.{speaks_of};
 ghost use Rattle.vme_cert.specs.Events.{IsIndex};
+ghost use Rattle.vme_cert.specs.Spans.{between, end_in};
 
-use crate::bus::{Bus, Span};
+use crate::bus::Bus;
 use crate::index::Index;
 use crate::judged::Judged;
 use crate::rules::{lines_of, nth_line};
@@ -18,7 +20,7 @@ use vme_trace::Rule::{
     B1, B2, B3, B4, C1, C2, G1, G2, G3, G4, G5, H1, H2, H3, H4, H5, H6, H7, H8, I1, I2, I3, I4, I5,
     S1, S2, S3, U1, U2, U3, U4,
 };
-use vme_trace::{Break, Capture, Change, Line, Rule};
+use vme_trace::{Break, Change, Line, Rule};
 
 /// The rules, in the order in which breaks at one instant are named.
 const RULES: [Rule; 31] = [
@@ -257,22 +259,27 @@ impl Judged<'_> {
     }
 }
 
-/// The least break of a recording, and what happens up to there. The only error is want of memory.
+/// The least break of a judged stretch, from the recording at its start on to its end, and what happens up to there.
+/// The only error is want of memory.
 pub(crate) fn least_break(
     alloc: Global,
-    capture: &Capture,
-    span: Span,
+    start: &Bus,
+    end: u32,
 ) -> Result<(Index, Option<Break>), AllocError>
-    requires { span.start ≤ last_instant capture.now }
-    ensures found { IfOk result (λ done. done.1 ≡ least_break capture.now span all_rules) }
-    ensures span { IfOk result (λ done. done.0.span ≡ span) }
-    ensures index { IfOk result (λ done. IsIndex capture.now done.0) }
-    ensures noted { IfOk result (λ done. listed_end capture.now done.1 ≤ done.0.noted) }
-    ensures answered { IfOk result (λ done. listed_end capture.now done.1 ≤ done.0.answered) }
+    requires order { start.now.instant < end }
+    requires within { end ≤ last_instant start.now.capture.now + 1 }
+    ensures found { IfOk result (λ done. done.1
+        ≡ least_break start.now.capture.now (between start.now.instant end) all_rules) }
+    ensures span { IfOk result (λ done. done.0.span ≡ between start.now.instant end) }
+    ensures index { IfOk result (λ done. IsIndex start.now.capture.now done.0) }
+    ensures noted { IfOk result (λ done. end_in done.0.span done.1 ≤ done.0.noted) }
+    ensures answered { IfOk result (λ done. end_in done.0.span done.1 ≤ done.0.answered) }
 {
-    let mut bus = Bus::opening(capture);
-    let mut index = Index::new(alloc, span)?;
-    for _instant in 0..bus.last_instant() + 1 {
+    let instant = start.instant;
+    let last = end.min(start.last_instant());
+    let mut bus = start.later(instant);
+    let mut index = Index::new(alloc, instant, end)?;
+    for _instant in instant..last + 1 {
         index.note(&bus)?;
         let judged = Judged {
             bus: &bus,

@@ -43,6 +43,13 @@ const PASSED_ON: Start = Start {
     steps: "quiet;BR3=0;BG3.0=0;BG3.1=0;BG3.2=0",
 };
 
+/// The bus gets quiet.
+const QUIET: Start = Start {
+    slots: 3,
+    opening: "",
+    steps: "quiet",
+};
+
 /// A read by modifier 39.
 const READ: &str = "AM1=0 AM2=0 A05=0;AS=0;DS0=0 DS1=0;DTACK=0;AS=1 DS0=1 DS1=1;DTACK=1;BBSY=1";
 
@@ -182,6 +189,78 @@ const DATA: [(&'static str, &'static str); 7] = [
     ),
 ];
 
+/// The bus is quiet, but for a reset that lasts.
+const HELD_IN_RESET: Start = Start {
+    slots: 3,
+    opening: "quiet SYSRESET=0",
+    steps: "BR3=0;BG3.0=0;BG3.1=0;BBSY=0 BR3=1;BG3.0=1;BG3.1=1",
+};
+
+/// Recordings with resets, and the rows of their listings.
+const RESETS: [(Start, &'static str, &'static str); 10] = [
+    // a reset in a read, after which the bus is free, or busy
+    (
+        GRANTED,
+        "AM1=0 AM2=0 A05=0;AS=0;DS0=0 DS1=0;SYSRESET=0;AS=1 DS0=1 DS1=1 BBSY=1;SYSRESET=1",
+        "start 1\ntenure 5 level 3 slot 2 end -\ncycle 9 S 39 FFFFDE end -\ntransfer 10 read pending\nreset 11\n\
+         start 13\nverdict conforming\n",
+    ),
+    (
+        GRANTED,
+        "AM1=0 AM2=0 A05=0;AS=0;DS0=0 DS1=0;SYSRESET=0;AS=1 DS0=1 DS1=1;SYSRESET=1",
+        "start 1\ntenure 5 level 3 slot 2 end -\ncycle 9 S 39 FFFFDE end -\ntransfer 10 read pending\nreset 11\n\
+         start 13\ntenure 13 open end -\nverdict conforming\n",
+    ),
+    // the read isn't answered after it
+    (
+        GRANTED,
+        "AM1=0 AM2=0 A05=0;AS=0;DS0=0 DS1=0;SYSRESET=0;AS=1 DS0=1 DS1=1 BBSY=1;SYSRESET=1;DTACK=0",
+        "start 1\ntenure 5 level 3 slot 2 end -\ncycle 9 S 39 FFFFDE end -\ntransfer 10 read pending\nreset 11\n\
+         start 13\nverdict broken H4 14 DTACK\n",
+    ),
+    // a line may be unknown there, but not the reset itself
+    (
+        GRANTED,
+        "AM1=0 AM2=0 A05=0;AS=0;DS0=0 DS1=0;AS=x SYSRESET=0;AS=1 DS0=1 DS1=1 BBSY=1;SYSRESET=1",
+        "start 1\ntenure 5 level 3 slot 2 end -\ncycle 9 S 39 FFFFDE end -\ntransfer 10 read pending\nreset 11\n\
+         start 13\nverdict conforming\n",
+    ),
+    (
+        GRANTED,
+        "AM1=0 AM2=0 A05=0;AS=0;DS0=0 DS1=0;SYSRESET=x",
+        "start 1\ntenure 5 level 3 slot 2 end -\ncycle 9 S 39 FFFFDE end -\ntransfer 10 read pending\n\
+         verdict unreadable U1 11 SYSRESET\n",
+    ),
+    // a request from before a reset isn't granted after it
+    (
+        QUIET,
+        "BR3=0;BR3=1 SYSRESET=0;SYSRESET=1;BG3.0=0",
+        "start 1\nreset 3\nstart 4\nverdict broken G5 5 BG3.0\n",
+    ),
+    (
+        QUIET,
+        "BR3=0;BR3=1;BG3.0=0",
+        "start 1\nverdict conforming\n",
+    ),
+    (HELD_IN_RESET, READ, "verdict never-idle\n"),
+    // three stretches, the last of which is broken, and one after it
+    (
+        GRANTED_FROM_IDLE,
+        "AM1=0 AM2=0 A05=0;AS=0;DS0=0 DS1=0;DTACK=0;AS=1 DS0=1 DS1=1;DTACK=1;BBSY=1;SYSRESET=0;IACK=x SYSRESET=1;\
+         IACK=1;BR3=0;BG3.0=0;BG3.1=0;BBSY=0 BR3=1;BBSY=x SYSRESET=0;BBSY=1 BG3.0=1;BG3.1=1;SYSRESET=1;DTACK=0;\
+         DTACK=1 SYSRESET=0;SYSRESET=1",
+        "start 0\ntenure 4 level 3 slot 2 end 13\ncycle 8 S 39 FFFFDE end 11\n\
+         transfer 9 of 8 read DTACK 10 close 11\nreset 14\nstart 16\ntenure 20 level 3 slot 2 end -\nreset 21\n\
+         start 24\nverdict broken H4 25 DTACK\n",
+    ),
+    // one that a reset ends at the last instant
+    (
+        GRANTED_FROM_IDLE,
+        "SYSRESET=0;BBSY=1 SYSRESET=1;SYSRESET=0",
+        "start 0\ntenure 4 level 3 slot 2 end -\nreset 7\nstart 8\nreset 9\nverdict conforming\n",
+    ),
+];
+
 /// The change that a word says, as BR3=0.
 fn change_of(word: &str) -> Option<Change> {
     let (name, level) = word.split_once('=')?;
@@ -252,7 +331,7 @@ fn capture_of(alloc: Global, start: Start, text: &str) -> Result<Capture, Fail> 
 }
 
 fn rows_of(alloc: Global, text: &str) -> Result<Vec<Row>, Fail> {
-    let mut bytes = Vec::from_slice(alloc, b"vmecheck listing 2\n")?;
+    let mut bytes = Vec::from_slice(alloc, b"vmecheck listing 3\n")?;
     bytes.extend_from_slice(text.as_bytes())?;
     let listing = read_listing(alloc, bytes.as_slice());
     Ok(listing.ok().ok_or("no listing")?.into_rows())
@@ -270,7 +349,7 @@ fn answer(
     let mut rows = Vec::from_slice(alloc, front)?;
     rows.extend_from_slice(more)?;
     rows.extend_from_slice(back)?;
-    let listing = Listing::new(Version::Two, rows);
+    let listing = Listing::new(Version::Three, rows);
     match confirm(alloc, capture, &listing) {
         Ok(answer) => Ok(answer),
         Err(_) => Ok(confirm(alloc, capture, &listing)?),
@@ -289,6 +368,9 @@ fn other_end(end: Option<u32>) -> Option<u32> {
 fn changed(row: Row) -> Row {
     match row {
         Row::Start { instant } => Row::Start {
+            instant: instant ^ 1,
+        },
+        Row::Reset { instant } => Row::Reset {
             instant: instant ^ 1,
         },
         Row::OpenTenure { start, end } => Row::OpenTenure {
@@ -437,11 +519,35 @@ fn data_lines(rt: HostRuntime) -> Result<(), Fail> {
     Ok(())
 }
 
+#[test]
+fn resets(rt: HostRuntime) -> Result<(), Fail> {
+    for (start, steps, text) in RESETS {
+        assert_listed(&rt, rt.alloc(), start, steps, text)?;
+    }
+    Ok(())
+}
+
+/// A listing of an older version, whose rows are those up to a listed reset, isn't that of the recording.
+#[test]
+fn older_listings_lack_resets(rt: HostRuntime) -> Result<(), Fail> {
+    let alloc = rt.alloc();
+    let (start, steps, _) = RESETS[0];
+    let capture = capture_of(alloc, start, steps)?;
+    let text =
+        "vmecheck listing 2\nstart 1\ntenure 5 level 3 slot 2 end -\ncycle 9 S 39 FFFFDE end -\n\
+         transfer 10 read pending\nverdict conforming\n";
+    let listing = read_listing(alloc, text.as_bytes())
+        .ok()
+        .ok_or("no listing")?;
+    assert_eq!(rt; confirm(alloc, &capture, &listing)?, Answer::No { row: 5 });
+    Ok(())
+}
+
 /// A read and then a write of both bytes, in which every data line is high.
 const READ_AND_WRITE: &'static str =
     "AM1=0 A05=0;AS=0;DS0=0 DS1=0;DTACK=0;DS0=1 DS1=1;DTACK=1;WRITE=0;DS0=0 DS1=0;DTACK=0;AS=1 DS0=1 DS1=1;DTACK=1";
 
-/// The data of a write count in a listing of version 2, and one of version 1 has none.
+/// The data of a write count in a listing of version 2 or 3, and one of version 1 has none.
 #[test]
 fn data_count_by_the_version(rt: HostRuntime) -> Result<(), Fail> {
     let alloc = rt.alloc();
@@ -454,6 +560,12 @@ fn data_count_by_the_version(rt: HostRuntime) -> Result<(), Fail> {
         (
             "vmecheck listing 2\nstart 1\ntenure 5 level 3 slot 2 end -\ncycle 9 S 3D FFFFDE end 17\ntransfer 10 of 9 read DTACK 11 close 12\ntransfer 15 of 9 write DTACK 16 close 17 data ----FFFE\nverdict conforming\n",
             Answer::No { row: 5 },
+        ),
+        (
+            "vmecheck listing 3\nstart 1\ntenure 5 level 3 slot 2 end -\ncycle 9 S 3D FFFFDE end 17\n\
+             transfer 10 of 9 read DTACK 11 close 12\ntransfer 15 of 9 write DTACK 16 close 17 data ----FFFF\n\
+             verdict conforming\n",
+            Answer::Yes,
         ),
         (
             "vmecheck listing 1\nstart 1\ntenure 5 level 3 slot 2 end -\ncycle 9 S 3D FFFFDE end 17\ntransfer 10 of 9 read DTACK 11 close 12\ntransfer 15 of 9 write DTACK 16 close 17\nverdict conforming\n",

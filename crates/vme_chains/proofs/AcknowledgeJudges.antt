@@ -20,7 +20,7 @@ use Rattle.vme_monitor.specs.Whole.{FindsLeast, ShowsAll}
 use Rattle.vme_monitor.specs.declared.mark.Next.{Next}
 use Rattle.vme_monitor.proofs.OwnRules.{own_event, own_marks}
 use Rattle.vme_monitor.proofs.SpanFacts.{IsSpan}
-use Rattle.vme_monitor.proofs.Spans.{levels_step, changes_fit, memory_early}
+use Rattle.vme_monitor.proofs.Alongside.{levels_step, changes_fit, memory_early}
 use Rattle.vme_chains.specs.AcknowledgeSpec.{acknowledge_begin, acknowledge_ends, acknowledge_next, acknowledge_opens, acknowledge_rules, acknowledge_shown, acknowledge_sight, fault_among, fault_on, changes_memory, first_changed, memory_after, passes_on, passes_unasked, is_strobed, is_addressed}
 use Rattle.vme_chains.specs.declared.acknowledge.Acknowledgement.{Acknowledgement}
 use Rattle.vme_chains.specs.declared.acknowledge.Passing.{Passing}
@@ -129,10 +129,10 @@ module _ (t : Trace) (span : Span) (ok : malformed_step t ≡ None) (few : t.ope
   pub acknowledge_inside : (n : ℕ) → span.start ≤ n → suc n < span.end → n < length t.steps → option_map (break_at (suc n) (time_at t (suc n))) (next_at step t (memory_at n) n).fault ≡ rules_break_at t span acknowledge_rules (suc n)
   acknowledge_inside n from before within = fault_is n from before within (memory_at n) (holds_at n from (omega arith) (omega arith))
 
-pub acknowledge_event : FindsLeast (run_of (noticed (noted acknowledge_sight) (spanned acknowledge_begin acknowledge_opens (λ l. None) acknowledge_next))) (start_in acknowledge_begin) acknowledge_rules
+pub acknowledge_event : FindsLeast (run_of (noticed (noted acknowledge_sight) (spanned acknowledge_begin acknowledge_opens nothing (λ l. None) acknowledge_next))) (start_in acknowledge_begin) acknowledge_rules
 acknowledge_event = own_event acknowledge_begin acknowledge_opens acknowledge_sight acknowledge_next acknowledge_rules refl (λ t span ok few facts n from before within unbroken. acknowledge_inside t span ok few facts n from before within)
 
-pub acknowledge_marks : ShowsAll (run_of (noticed (noted acknowledge_sight) (spanned acknowledge_begin acknowledge_opens acknowledge_ends acknowledge_next))) (start_in acknowledge_begin) acknowledge_shown
+pub acknowledge_marks : ShowsAll (run_of (noticed (noted acknowledge_sight) (spanned acknowledge_begin acknowledge_opens nothing acknowledge_ends acknowledge_next))) (start_in acknowledge_begin) nothing acknowledge_shown
 acknowledge_marks =
     own_marks acknowledge_begin acknowledge_opens acknowledge_sight acknowledge_next acknowledge_ends acknowledge_shown
     (λ t span ok few facts. record {

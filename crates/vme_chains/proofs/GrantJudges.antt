@@ -19,7 +19,7 @@ use Rattle.vme_monitor.specs.Spanned.{noted, spanned, start_in}
 use Rattle.vme_monitor.specs.Whole.{FindsLeast, ShowsAll}
 use Rattle.vme_monitor.specs.declared.mark.Taken.{Taken}
 use Rattle.vme_monitor.proofs.OwnRules.{own_event, own_marks}
-use Rattle.vme_monitor.proofs.Spans.{levels_step, changes_fit, memory_early}
+use Rattle.vme_monitor.proofs.Alongside.{levels_step, changes_fit, memory_early}
 use Rattle.vme_chains.specs.GrantLevels.{falls_between, rises_between, is_low_in, grant_begins, requested_in, taken_between, touches_arbitration, is_cycle_unowned, is_ungranted}
 use Rattle.vme_chains.specs.GrantMemory.{is_in, union}
 use Rattle.vme_chains.specs.GrantSpec.{grant_rules, nets_fault, seen_between, grant_begin, grant_opens, grant_ends, grant_sight, grant_next}
@@ -201,10 +201,10 @@ module _ (t : Trace) (span : Span) (few : t.opening.slots ≤ 21) where
           → record nothing { opened = x } ≡ record nothing { opened = same && y; tenure = cond (judged && falls) o None; tenure_end = judged && rises }
       alike same judged x y falls rises o a b c = rw (a, b, c) refl
 
-pub grant_event : FindsLeast (run_of (noticed (noted grant_sight) (spanned grant_begin grant_opens (λ l. None) grant_next))) (start_in grant_begin) grant_rules
+pub grant_event : FindsLeast (run_of (noticed (noted grant_sight) (spanned grant_begin grant_opens nothing (λ l. None) grant_next))) (start_in grant_begin) grant_rules
 grant_event = own_event grant_begin grant_opens grant_sight grant_next grant_rules refl (λ t span ok few facts n from before within unbroken. grant_inside t span few ok n from before within)
 
-pub grant_marks : ShowsAll (run_of (noticed (noted grant_sight) (spanned grant_begin grant_opens grant_ends grant_next))) (start_in grant_begin) tenures_shown
+pub grant_marks : ShowsAll (run_of (noticed (noted grant_sight) (spanned grant_begin grant_opens nothing grant_ends grant_next))) (start_in grant_begin) nothing tenures_shown
 grant_marks =
     own_marks grant_begin grant_opens grant_sight grant_next grant_ends tenures_shown
     (λ t span ok few facts. record {

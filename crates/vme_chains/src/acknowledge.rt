@@ -3,6 +3,7 @@
 ghost use Rattle.std.specs.Prelude.{◌≡◌, ◌&&◌, ◌<◌, IsTrue};
 ghost use Rattle.vme_trace.specs.LineNumbers.{has_line, input_of as input_line, is_slot_iack};
 ghost use Rattle.vme_monitor.specs.Edges.{falls_between};
+ghost use Rattle.vme_monitor.specs.Run.{nothing};
 ghost use Rattle.vme_monitor.specs.Whole.{FindsLeast, ShowsAll};
 ghost use Rattle.vme_chains.specs.AcknowledgeSpec.{acknowledge_rules, acknowledge_shown, changes_memory as changes_memory_of, changes_strobes as changes_strobes_of, fault_among, first_changed, is_acknowledged, is_addressed as addressed_near, is_strobed as strobed_near, low_near, memory_after, passes_on as passes, passes_unasked, pending_nth, pending_place};
 
@@ -285,6 +286,7 @@ fn fault_of(memory: Acknowledgement, before: &Lines, after: &Lines, seen: &Passi
 pub struct AcknowledgeRules;
 
 impl Rules for AcknowledgeRules {
+    ghost use Rattle.vme_monitor.specs.Run.{nothing};
     ghost use Rattle.vme_chains.specs.AcknowledgeSpec.{acknowledge_begin, acknowledge_ends, acknowledge_next, acknowledge_opens, acknowledge_sight};
 
     type Memory = Acknowledgement;
@@ -294,6 +296,8 @@ impl Rules for AcknowledgeRules {
     ghost begin = { acknowledge_begin };
 
     ghost opens = { acknowledge_opens };
+
+    ghost resets = { nothing };
 
     ghost ends = { acknowledge_ends };
 
@@ -309,6 +313,10 @@ impl Rules for AcknowledgeRules {
     }
 
     fn shown_at_start(_lines: &Lines) -> Kinds {
+        NOTHING
+    }
+
+    fn shown_at_reset() -> Kinds {
         NOTHING
     }
 
@@ -348,5 +356,5 @@ pub type Iack = Within<AcknowledgeRules>;
 /// Over a whole capture, the event is the least break of I1, I2 and I3, and there are no marks.
 pub fn acknowledge_over_captures()
     ensures event { FindsLeast ⟦<Iack as Monitor>⟧.run ⟦<Iack as Monitor>⟧.begin acknowledge_rules }
-    ensures marks { ShowsAll ⟦<Iack as Monitor>⟧.run ⟦<Iack as Monitor>⟧.begin acknowledge_shown }
+    ensures marks { ShowsAll ⟦<Iack as Monitor>⟧.run ⟦<Iack as Monitor>⟧.begin nothing acknowledge_shown }
 {}

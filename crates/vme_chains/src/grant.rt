@@ -3,6 +3,7 @@
 ghost use Rattle.std.specs.Prelude.{◌≡◌, ◌+◌, ◌≤◌, option_map};
 ghost use Rattle.vme_trace.specs.LineNumbers.{grant};
 ghost use Rattle.vme_trace.specs.Rules.{is_option_equal};
+ghost use Rattle.vme_monitor.specs.Run.{nothing};
 ghost use Rattle.vme_monitor.specs.Whole.{FindsLeast, ShowsAll};
 ghost use Rattle.vme_chains.specs.GrantMarks.{tenures_shown};
 ghost use Rattle.vme_chains.specs.GrantSpec.{grant_rules, seen_between as seen_between_of, fault_on as fault_on_of, line_if as line_if_of, nets_fault as nets_fault_of, slot_of, step_fault as step_fault_of, unrequested as unrequested_of};
@@ -148,6 +149,7 @@ impl Arbitrated {
 pub struct GrantRules;
 
 impl Rules for GrantRules {
+    ghost use Rattle.vme_monitor.specs.Run.{nothing};
     ghost use Rattle.vme_chains.specs.GrantSpec.{grant_begin, grant_ends, grant_next, grant_opens, grant_sight};
 
     type Memory = Arbitration;
@@ -157,6 +159,8 @@ impl Rules for GrantRules {
     ghost begin = { grant_begin };
 
     ghost opens = { grant_opens };
+
+    ghost resets = { nothing };
 
     ghost ends = { grant_ends };
 
@@ -176,6 +180,10 @@ impl Rules for GrantRules {
             opened: is_low(lines, Line::BBSY),
             ..NOTHING
         }
+    }
+
+    fn shown_at_reset() -> Kinds {
+        NOTHING
     }
 
     fn fault_at_end(_lost: Line) -> Option<Fault> {
@@ -222,5 +230,5 @@ pub type Grant = Within<GrantRules>;
 /// at the start, each start with its level and slot, and each end.
 pub fn grants_over_captures()
     ensures event { FindsLeast ⟦<Grant as Monitor>⟧.run ⟦<Grant as Monitor>⟧.begin grant_rules }
-    ensures marks { ShowsAll ⟦<Grant as Monitor>⟧.run ⟦<Grant as Monitor>⟧.begin tenures_shown }
+    ensures marks { ShowsAll ⟦<Grant as Monitor>⟧.run ⟦<Grant as Monitor>⟧.begin nothing tenures_shown }
 {}

@@ -39,6 +39,8 @@ const IA_1: u8 = 138;
 
 const IA_2: u8 = 139;
 
+const SYSRESET: u8 = 191;
+
 const HIGH: Level = Level::High;
 
 const LOW: Level = Level::Low;
@@ -127,7 +129,7 @@ fn assert_event(
     }
 }
 
-/// Every line of three slots high, but address lines 24 to 31.
+/// Every line of three slots high, but address lines 24 to 31 and the data lines.
 fn all_high(rt: &impl Abort, alloc: Global) -> Result<Vec<(u8, Level)>, Fail> {
     let lines = Lines::new(3).expect(rt, "three slots");
     let mut changes = Vec::new(alloc);
@@ -136,6 +138,7 @@ fn all_high(rt: &impl Abort, alloc: Global) -> Result<Vec<(u8, Level)>, Fail> {
             changes.push((number, HIGH))?;
         }
     }
+    changes.push((SYSRESET, HIGH))?;
     Ok(changes)
 }
 
@@ -212,7 +215,7 @@ fn judges_interrupt_acknowledges(rt: HostRuntime) -> Result<(), Fail> {
 
 #[test]
 fn counts_its_memories(rt: HostRuntime) {
-    assert_eq!(rt; Iack::COUNT, 10);
+    assert_eq!(rt; Iack::COUNT, 11);
     for k in 0..Iack::COUNT {
         assert_eq!(rt; Iack::place(Iack::nth(k)), k);
     }

@@ -36,6 +36,8 @@ const BR3: u8 = 49;
 /// BG3.0; the nets of its chain follow.
 const GRANT: u8 = 116;
 
+const SYSRESET: u8 = 191;
+
 const HIGH: Level = Level::High;
 
 const LOW: Level = Level::Low;
@@ -163,7 +165,7 @@ fn assert_judged(
     assert_found(rt, alloc, &parts, &opening, want, shown)
 }
 
-/// Every line of three slots high, but address lines 24 to 31.
+/// Every line of three slots high, but address lines 24 to 31 and the data lines.
 fn all_high(rt: &impl Abort, alloc: Global) -> Result<Vec<(u8, Level)>, Fail> {
     let lines = Lines::new(3).expect(rt, "three slots");
     let mut changes = Vec::new(alloc);
@@ -172,6 +174,7 @@ fn all_high(rt: &impl Abort, alloc: Global) -> Result<Vec<(u8, Level)>, Fail> {
             changes.push((number, Level::High))?;
         }
     }
+    changes.push((SYSRESET, HIGH))?;
     Ok(changes)
 }
 
@@ -284,9 +287,48 @@ fn a_grant_goes_past_the_last_slot(rt: HostRuntime) -> Result<(), Fail> {
     assert_judged(&rt, rt.alloc(), &withdrawn, None, &[])
 }
 
+/// A request before a reset asks for no grant after it.
+#[test]
+fn a_reset_forgets_a_request(rt: HostRuntime) -> Result<(), Fail> {
+    let highs = all_high(&rt, rt.alloc())?;
+    let reset: [Row<'_>; 5] = [
+        highs.as_slice(),
+        &[(BR3, LOW)],
+        &[(BR3, HIGH), (SYSRESET, LOW)],
+        &[(SYSRESET, HIGH)],
+        &[(GRANT, LOW)],
+    ];
+    let kept: [Row<'_>; 4] = [
+        highs.as_slice(),
+        &[(BR3, LOW)],
+        &[(BR3, HIGH)],
+        &[(GRANT, LOW)],
+    ];
+    assert_judged(&rt, rt.alloc(), &reset, Some((5, 40, Rule::G5, GRANT)), &[])?;
+    assert_judged(&rt, rt.alloc(), &kept, None, &[])
+}
+
+/// A tenure that a reset ends has no end of its own, and is open where the bus is busy as judging starts again.
+#[test]
+fn a_tenure_is_open_after_a_reset(rt: HostRuntime) -> Result<(), Fail> {
+    let highs = all_high(&rt, rt.alloc())?;
+    let rows: [Row<'_>; 8] = [
+        highs.as_slice(),
+        &[(BR3, LOW)],
+        &[(GRANT, LOW)],
+        &[(BBSY, LOW), (BR3, HIGH)],
+        &[(SYSRESET, LOW)],
+        &[(GRANT, HIGH)],
+        &[(SYSRESET, HIGH)],
+        &[(BBSY, HIGH)],
+    ];
+    let shown = [(4, tenure(3, 1)), (7, Kind::Open), (8, Kind::TenureEnd)];
+    assert_judged(&rt, rt.alloc(), &rows, None, &shown)
+}
+
 #[test]
 fn memories_are_few(rt: HostRuntime) -> Result<(), Fail> {
-    assert_eq!(rt; Grant::COUNT, 34);
+    assert_eq!(rt; Grant::COUNT, 35);
     for k in 0..Grant::COUNT {
         assert_eq!(rt; Grant::place(Grant::nth(k)), k);
     }

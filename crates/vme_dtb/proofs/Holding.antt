@@ -14,7 +14,7 @@ use Rattle.vme_monitor.specs.Tracking.{entered, is_unanswered, is_writing}
 use Rattle.vme_monitor.specs.declared.mark.Next.{Next}
 use Rattle.vme_monitor.specs.declared.tracking.Pending.{Pending}
 use Rattle.vme_monitor.proofs.SpanFacts.{IsSpan}
-use Rattle.vme_monitor.proofs.Spans.{memory_early}
+use Rattle.vme_monitor.proofs.Alongside.{memory_early}
 use Rattle.vme_monitor.proofs.TrackedTransfers.{says_start, tracked_is}
 use Rattle.vme_dtb.specs.CycleState.{after_answer, cycle_entered}
 use Rattle.vme_dtb.specs.Edge.{edges_between}

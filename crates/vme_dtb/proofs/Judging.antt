@@ -222,12 +222,12 @@ module _ (t : Trace) (span : Span) where
   unfolding cycle_starts transfer_starts answered answer_line is_answer closes
   shown_start = rw (unjudged, in_none (λ i. answers t span i span.start), in_none (λ i. nat_lt i span.start), and_false (strobes_high t span.start)) refl
 
-pub dtb_event : FindsLeast (run_of (noticed (noted dtb_sight) (spanned dtb_begin dtb_opens (λ l. None) dtb_step))) (start_in dtb_begin) handshake_rules
+pub dtb_event : FindsLeast (run_of (noticed (noted dtb_sight) (spanned dtb_begin dtb_opens nothing (λ l. None) dtb_step))) (start_in dtb_begin) handshake_rules
 dtb_event =
     own_event dtb_begin dtb_opens dtb_sight dtb_step handshake_rules refl
     (λ t span ok few facts n from before within unbroken. dtb_inside t span facts n from before (memory_at t span facts n) (holds_at t span facts n from (omega (arith, before))))
 
-pub dtb_marks : ShowsAll (run_of (noticed (noted dtb_sight) (spanned dtb_begin dtb_opens dtb_ends dtb_step))) (start_in dtb_begin) handshake_shown
+pub dtb_marks : ShowsAll (run_of (noticed (noted dtb_sight) (spanned dtb_begin dtb_opens nothing dtb_ends dtb_step))) (start_in dtb_begin) nothing handshake_shown
 dtb_marks =
     own_marks dtb_begin dtb_opens dtb_sight dtb_step dtb_ends handshake_shown
     (λ t span ok few facts. record {

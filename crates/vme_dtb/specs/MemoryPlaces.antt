@@ -120,5 +120,5 @@ memory_found m =
     (ap (λ k. k == 1) (third_part p c a b ha hb) ∙ bit_found m.dtack_freed)
     (ap (λ k. k == 1) (fourth_part p c a b hb) ∙ bit_found m.berr_freed)
 
-pub memories_few : 144 ≤ 510
+pub memories_few : 144 ≤ 509
 memories_few = omega arith

@@ -8,6 +8,7 @@ ghost use Rattle.std.specs.Prelude.{◌≡◌, None, Some, true, if◌then◌els
 ghost use Rattle.vme_trace.specs.Lanes.{lanes_at};
 ghost use Rattle.vme_trace.specs.LineNumbers.{DTACK};
 ghost use Rattle.vme_monitor.specs.Tracking.{is_unanswered, is_within, is_writing};
+ghost use Rattle.vme_monitor.specs.Run.{nothing};
 ghost use Rattle.vme_monitor.specs.Whole.{FindsLeast, ShowsAll};
 ghost use Rattle.vme_dtb.specs.Machine.{answer_in, answered_in, broken as broken_on, cycle_fault as fault_of_cycle, data_in, dropped as dropped_line, dtb_next, freed as is_freed, handshake_fault as fault_of_handshake, is_doubled, is_replied, is_unserved};
 ghost use Rattle.vme_dtb.specs.Edge.{edges_between, falls_between, is_addressed, rises_between};
@@ -351,6 +352,7 @@ impl Memory {
 }
 
 impl Rules for HandshakeRules {
+    ghost use Rattle.vme_monitor.specs.Run.{nothing};
     ghost use Rattle.vme_dtb.specs.Machine.{dtb_begin, dtb_ends, dtb_opens, dtb_sight, dtb_step};
 
     type Memory = Memory;
@@ -360,6 +362,8 @@ impl Rules for HandshakeRules {
     ghost begin = { dtb_begin };
 
     ghost opens = { dtb_opens };
+
+    ghost resets = { nothing };
 
     ghost ends = { dtb_ends };
 
@@ -377,6 +381,10 @@ impl Rules for HandshakeRules {
     }
 
     fn shown_at_start(_lines: &Lines) -> Kinds {
+        NOTHING
+    }
+
+    fn shown_at_reset() -> Kinds {
         NOTHING
     }
 
@@ -416,5 +424,5 @@ pub type Dtb = Within<HandshakeRules>;
 /// cycles, and the starts, answers and closes of transfers.
 pub fn handshake_over_captures()
     ensures event { FindsLeast ⟦<Dtb as Monitor>⟧.run ⟦<Dtb as Monitor>⟧.begin handshake_rules }
-    ensures marks { ShowsAll ⟦<Dtb as Monitor>⟧.run ⟦<Dtb as Monitor>⟧.begin handshake_shown }
+    ensures marks { ShowsAll ⟦<Dtb as Monitor>⟧.run ⟦<Dtb as Monitor>⟧.begin nothing handshake_shown }
 {}

@@ -68,6 +68,8 @@ const D06: u8 = 165;
 
 const D07: u8 = 166;
 
+const SYSRESET: u8 = 191;
+
 const HIGH: Level = Level::High;
 
 const LOW: Level = Level::Low;
@@ -97,7 +99,7 @@ fn step_of(rt: &impl Abort, alloc: Global, place: usize, row: Row<'_>) -> Result
     })
 }
 
-/// Every line of three slots high, but address lines 24 to 31.
+/// Every line of three slots high, but address lines 24 to 31 and the data lines.
 fn all_high(rt: &impl Abort, alloc: Global) -> Result<Vec<(u8, Level)>, Fail> {
     let lines = Lines::new(3).expect(rt, "three slots");
     let mut changes = Vec::new(alloc);
@@ -106,6 +108,7 @@ fn all_high(rt: &impl Abort, alloc: Global) -> Result<Vec<(u8, Level)>, Fail> {
             changes.push((number, HIGH))?;
         }
     }
+    changes.push((SYSRESET, HIGH))?;
     Ok(changes)
 }
 
@@ -330,6 +333,29 @@ fn two_monitors_show_their_marks_in_order(rt: HostRuntime) -> Result<(), Fail> {
     assert_shown(&rt, rt.alloc(), &read, &want)
 }
 
+/// A read in which the bus is reset, and then runs again: an answer there is none of the transfer before.
+#[test]
+fn a_reset_ends_a_transfer(rt: HostRuntime) -> Result<(), Fail> {
+    let reset: [Row<'_>; 7] = [
+        &[(AM1, LOW), (AM2, LOW), (A05, LOW)],
+        &[(AS, LOW)],
+        STROBES_LOW,
+        &[(SYSRESET, LOW)],
+        &[(AS, HIGH), (DS0, HIGH), (DS1, HIGH), (BBSY, HIGH)],
+        &[(SYSRESET, HIGH)],
+        &[(DTACK, LOW)],
+    ];
+    let want = [
+        mark(1, Kind::Start),
+        cycle(9, 0xFFFFDE),
+        mark(10, Kind::Transfer { write: false }),
+        mark(11, Kind::Reset),
+        mark(13, Kind::Start),
+    ];
+    assert_shown(&rt, rt.alloc(), &reset[..6], &want)?;
+    assert_judged(&rt, rt.alloc(), &reset, Some((14, Rule::H4, DTACK)))
+}
+
 /// The marks of the answers over a recording.
 fn answers_of(rt: &impl Abort, alloc: Global, rows: &[Row<'_>]) -> Result<Vec<Mark>, Fail> {
     let opening = Lines::new(3).expect(rt, "three slots");
@@ -496,7 +522,7 @@ fn an_interrupt_acknowledge_is_a_read(rt: HostRuntime) -> Result<(), Fail> {
 
 #[test]
 fn each_memory_stands_at_its_place(rt: HostRuntime) -> Result<(), Fail> {
-    assert_eq!(rt; Dtb::COUNT, 146);
+    assert_eq!(rt; Dtb::COUNT, 147);
     for k in 0..Dtb::COUNT {
         let memory = Dtb::nth(k);
         let place = Dtb::place(memory);

@@ -8,6 +8,8 @@ use Rattle.vme_trace.specs.declared.rule.Rule.TheVariants.{U1, U2, U3, U4, H1, H
 use Rattle.vme_eval.specs.Examples.{Conforms, IsShown, named_rule, says_unreadable}
 use Rattle.vme_eval.specs.Dumps.{strobe_lost_at_once, answer_low_before_judging, address_lost_between_cycles}
 use Rattle.vme_eval.proofs.DumpsAgree.{strobe_lost_at_once_agrees, answer_low_before_judging_agrees, address_lost_between_cycles_agrees}
+use Rattle.vme_eval.specs.Resets.{strobe_lost_with_the_reset}
+use Rattle.vme_eval.proofs.ResetsAgree.{strobe_lost_with_the_reset_agrees}
 use Rattle.vme_eval.specs.Transfers.{read_cycle, bus_error, starts_before_the_answer_rose, answer_rises_as_the_next_transfer_starts, strobes_rise_early, strobes_rise_with_answer, strobe_falls_after_the_answer, strobe_falls_with_the_answer, second_strobe_falls_before_the_answer, stray_answer, answered_at_its_first_instant, answered_again_by_the_same_line, answer_withdrawn_early, answer_rises_with_the_strobes, cycle_ends_unanswered, cycle_ends_with_the_answer, transfer_as_the_cycle_ends, answer_without_a_cycle}
 use Rattle.vme_eval.proofs.TransfersAgree.{read_cycle_agrees, bus_error_agrees, starts_before_the_answer_rose_agrees, answer_rises_as_the_next_transfer_starts_agrees, strobes_rise_early_agrees, strobes_rise_with_answer_agrees, strobe_falls_after_the_answer_agrees, strobe_falls_with_the_answer_agrees, second_strobe_falls_before_the_answer_agrees, stray_answer_agrees, answered_at_its_first_instant_agrees, answered_again_by_the_same_line_agrees, answer_withdrawn_early_agrees, answer_rises_with_the_strobes_agrees, cycle_ends_unanswered_agrees, cycle_ends_with_the_answer_agrees, transfer_as_the_cycle_ends_agrees, answer_without_a_cycle_agrees}
 use Rattle.vme_eval.specs.Cycles.{read_modify_write, write_then_read, block_read, block_turns, free_cycle_reads_writes_and_reads}
@@ -30,12 +32,14 @@ alone : (t : Trace) → Conforms t → All Conforms (t ∷ [])
 alone t conforms = before t [] conforms (All-nil Conforms)
 
 U1_is_shown : IsShown U1
-unfolding strobe_lost_at_once address_lost_between_cycles answer_low_before_judging
+unfolding strobe_lost_at_once address_lost_between_cycles answer_low_before_judging strobe_lost_with_the_reset
 U1_is_shown = record {
   rule = ap named_rule strobe_lost_at_once_agrees.verdict;
   unreadable = ap says_unreadable strobe_lost_at_once_agrees.verdict;
   some = omega arith;
-  spared = before address_lost_between_cycles.trace (answer_low_before_judging.trace ∷ []) address_lost_between_cycles_agrees.verdict (alone answer_low_before_judging.trace answer_low_before_judging_agrees.verdict);
+  spared =
+      before address_lost_between_cycles.trace (answer_low_before_judging.trace ∷ strobe_lost_with_the_reset.trace ∷ []) address_lost_between_cycles_agrees.verdict
+      (before answer_low_before_judging.trace (strobe_lost_with_the_reset.trace ∷ []) answer_low_before_judging_agrees.verdict (alone strobe_lost_with_the_reset.trace strobe_lost_with_the_reset_agrees.verdict));
 }
 
 U2_is_shown : IsShown U2

@@ -8,6 +8,7 @@ use Rattle.vme_trace.specs.declared.rule.Rule.TheVariants.{U1, U2, U3, U4, H1, H
 use Rattle.vme_trace.specs.declared.verdict.Verdict.{Verdict}
 use Rattle.vme_trace.specs.declared.verdict.Verdict.TheVariants.{Conforming, Broken, Unreadable, NeverIdle}
 use Rattle.vme_eval.specs.Dumps.{strobe_lost_at_once, answer_low_before_judging, address_lost_between_cycles}
+use Rattle.vme_eval.specs.Resets.{strobe_lost_with_the_reset}
 use Rattle.vme_eval.specs.Transfers.{read_cycle, bus_error, starts_before_the_answer_rose, answer_rises_as_the_next_transfer_starts, strobes_rise_early, strobes_rise_with_answer, strobe_falls_after_the_answer, strobe_falls_with_the_answer, second_strobe_falls_before_the_answer, stray_answer, answered_at_its_first_instant, answered_again_by_the_same_line, answer_withdrawn_early, answer_rises_with_the_strobes, cycle_ends_unanswered, cycle_ends_with_the_answer, transfer_as_the_cycle_ends, answer_without_a_cycle}
 use Rattle.vme_eval.specs.Cycles.{read_modify_write, write_then_read, block_read, block_turns, free_cycle_reads_writes_and_reads}
 use Rattle.vme_eval.specs.HeldLines.{address_changes_early, address_changes_with_answer, unneeded_line_changes, address_changes_as_the_cycle_ends, address_changes_after_an_answer_at_the_start, address_lost_as_the_cycle_starts, address_known_as_the_cycle_starts, direction_unknown, direction_known_as_the_transfer_starts, direction_settles_as_the_transfer_starts, direction_changes, direction_changes_as_a_strobe_rises}
@@ -52,7 +53,8 @@ example I5 = acknowledged_twice.trace
 
 -- the recordings nearest to breaking the rule that conform
 abbrev pub nearest : Rule → List Trace
-nearest U1 = address_lost_between_cycles.trace ∷ answer_low_before_judging.trace ∷ []
+nearest U1 =
+    address_lost_between_cycles.trace ∷ answer_low_before_judging.trace ∷ strobe_lost_with_the_reset.trace ∷ []
 nearest U2 = address_known_as_the_cycle_starts.trace ∷ read_cycle.trace ∷ []
 nearest U3 = direction_known_as_the_transfer_starts.trace ∷ []
 nearest U4 = unmoved_data_unknown.trace ∷ data_of_a_read.trace ∷ []

@@ -5,6 +5,7 @@ pub mod Examples
 pub mod Grants
 pub mod HeldLines
 pub mod Recording
+pub mod Resets
 pub mod SameInstant
 pub mod Steps
 pub mod Tables

@@ -1,6 +1,7 @@
 -- How the worked recordings are written.
 use Rattle.std.specs.Prelude.{ℕ, zero, suc, ◌+◌, ◌==◌, List, [], ◌∷◌, ◌++◌, map, replicate, if◌then◌else◌}
-use Rattle.vme_trace.specs.LineNumbers.{AS, DS0, DS1, DTACK, BERR, IACK, AM, A, BBSY, BR, D, grant, iack, line_count}
+use Rattle.vme_trace.specs.LineNumbers.{AS, DS0, DS1, DTACK, BERR, IACK, AM, A, BBSY, BR, D, SYSRESET, grant, iack}
+use Rattle.vme_trace.specs.LineNumbers.{line_count}
 use Rattle.vme_trace.specs.Levels.{Levels}
 use Rattle.vme_trace.specs.Trace.{Trace, changed}
 use Rattle.vme_trace.specs.declared.level.Level.{Level}
@@ -41,7 +42,7 @@ unknown_lines = record { slots = 3; levels = replicate line_count Unknown }
 abbrev pub idle_changes : List Change
 idle_changes =
     high_from 0 37 ++ high_from BBSY 5 ++ high_from (grant 0 0) 4 ++ high_from (grant 1 0) 4 ++ high_from (grant 2 0) 4
-    ++ high_from (grant 3 0) 4 ++ high_from (iack 1) 3 ++ high_from (D 0) 32
+    ++ high_from (grant 3 0) 4 ++ high_from (iack 1) 3 ++ high_from (D 0) 32 ++ (high SYSRESET ∷ [])
 
 -- the same, with one line low
 abbrev pub idle_changes_but : ℕ → List Change
@@ -86,7 +87,7 @@ dump_lines = record {
   slots = 1;
   levels =
       replicate 6 Unknown ++ (High ∷ Low ∷ High ∷ High ∷ High ∷ High ∷ []) ++ replicate 33 High
-      ++ (Low ∷ []) ++ replicate 145 High;
+      ++ (Low ∷ []) ++ replicate 146 High;
 }
 
 -- that opening, and these steps

@@ -19,7 +19,7 @@ lines_of_code c = record {
   levels =
       replicate 6 High
       ++ (bit c ∷ bit (c / 2) ∷ bit (c / 4) ∷ bit (c / 8) ∷ bit (c / 16) ∷ bit (c / 32) ∷ [])
-      ++ replicate 147 High;
+      ++ replicate 180 High;
 }
 
 -- what a cycle is that starts with these lines, and the highest address line that it asks
@@ -54,10 +54,10 @@ nets =
     50 ∷ 51 ∷ 52 ∷ 53 ∷ 72 ∷ 73 ∷ 74 ∷ 75 ∷ 94 ∷ 95 ∷ 96 ∷ 97 ∷ 116 ∷ 117 ∷ 118 ∷ 119
     ∷ 138 ∷ 139 ∷ 140 ∷ []
 
--- the address strobe, the strobes, the answers and the nets
+-- the address strobe, the strobes, the answers, the nets and the system reset
 abbrev pub high_lines : List ℕ
-high_lines = 0 ∷ 1 ∷ 2 ∷ 3 ∷ 4 ∷ nets
+high_lines = 0 ∷ 1 ∷ 2 ∷ 3 ∷ 4 ∷ nets ++ 191 ∷ []
 
 -- these, and those of the interrupt acknowledge, of the busy bus and of its requests
 abbrev pub control_lines : List ℕ
-control_lines = 0 ∷ 1 ∷ 2 ∷ 3 ∷ 4 ∷ 5 ∷ 45 ∷ 46 ∷ 47 ∷ 48 ∷ 49 ∷ nets
+control_lines = 0 ∷ 1 ∷ 2 ∷ 3 ∷ 4 ∷ 5 ∷ 45 ∷ 46 ∷ 47 ∷ 48 ∷ 49 ∷ nets ++ 191 ∷ []

@@ -13,7 +13,7 @@ ghost use Rattle.vme_trace.specs.WellFormed.{malformed_step};
 ghost use Rattle.vme_trace.specs.declared.level.Level.TheVariants.{Low, Unknown};
 ghost use Rattle.vme_trace.specs.declared.rule.Rule.{Rule};
 ghost use Rattle.vme_eval.specs.Examples.{IsShown};
-ghost use Rattle.vme_eval.specs.Recording.{Agrees};
+ghost use Rattle.vme_eval.specs.Recording.{Agrees, judged};
 ghost use Rattle.vme_eval.specs.Steps.{at, dumped_at};
 ghost use Rattle.vme_eval.specs.Tables.{asks_up_to, codes_that, control_lines, high_lines, is_block_transfer, is_single_transfer, lost_lines, not_idle_with};
 ghost use Rattle.vme_eval.specs.Dumps.{dumped_read, dumped_nothing, dumped_stray_answer, dumped_unknown_strobe, dumped_gap, strobe_lost_at_once, answer_low_before_judging, address_lost_between_cycles, earlier_break_of_a_later_rule};
@@ -24,6 +24,12 @@ ghost use Rattle.vme_eval.specs.Grants.{slot_grants_ungranted, slot_grants_with_
 ghost use Rattle.vme_eval.specs.Tenures.{tenure_on_level_0, tenure_on_level_1, tenure_on_level_2, taken_by_the_last_slot, open_tenure_ends, tenure_after_an_open_one, two_tenures, grant_read_at_the_instant_before, slot_read_as_the_bus_is_taken, another_levels_grant_taken, higher_levels_grant_taken, grant_chain_with_a_gap, bus_taken_ungranted, taken_by_a_slots_grant_alone, grant_taken_twice, grant_of_the_same_instant_taken_twice, taken_again_by_a_slots_grant, third_tenure_without_a_grant, cycle_without_the_bus, cycle_starts_as_the_bus_is_taken, cycle_starts_as_the_bus_is_let_go, everything_starts_at_one_instant, grant_past_last_slot, past_the_last_slot_as_the_grant_ends};
 ghost use Rattle.vme_eval.specs.Acknowledges.{acknowledge_cycle, acknowledge_of_level_3, acknowledge_skips_slot, acknowledge_outside_an_acknowledge_cycle, acknowledge_with_its_input, acknowledge_as_its_input_rises, acknowledge_before_strobe, acknowledge_before_the_cycle, acknowledge_by_the_second_strobe, acknowledge_as_the_strobe_rises, acknowledge_as_the_second_strobe_rises, acknowledge_as_the_second_strobe_falls, acknowledge_near_a_strobe_and_near_the_cycle, acknowledge_after_answer, acknowledge_after_an_answer_at_the_start, acknowledge_after_the_answer_of_a_data_cycle, acknowledge_with_the_answer, acknowledge_after_a_bus_error, acknowledge_as_the_next_cycle_starts, acknowledge_write, acknowledge_turns_to_a_read, acknowledge_is_a_read_from_its_start, acknowledged_twice};
 ghost use Rattle.vme_eval.specs.WriteData.{data_unknown, unmoved_data_unknown, data_change_with_the_answer, data_change, unmoved_data_change, data_of_a_read, second_byte_unknown, second_byte_unknown_with_the_answer, second_byte_unknown_after_the_answer, upper_byte_alone, second_byte_settles, data_lost, data_change_after_the_answer, long_word, long_word_unknown, long_word_changes, no_long_word_at_an_odd_word, lanes_unknown, answered_as_it_starts};
+ghost use Rattle.vme_eval.specs.Resets.{reset_in_a_read, busy_after_the_reset, answer_after_the_reset};
+ghost use Rattle.vme_eval.specs.Resets.{strobe_lost_with_the_reset, reset_line_lost, reset_forgets_a_request};
+ghost use Rattle.vme_eval.specs.Resets.{request_without_a_reset, reset_for_good, reset_before_judging};
+ghost use Rattle.vme_eval.specs.Resets.{reset_at_the_end, two_resets, stray_answer_with_the_reset};
+ghost use Rattle.vme_eval.specs.Resets.{stray_answers_around_the_reset, strobe_unknown_after_the_reset};
+ghost use Rattle.vme_eval.specs.Resets.{strobe_lost_after_the_reset, reset_after_a_lost_strobe};
 ghost use Rattle.vme_eval.specs.SameInstant.{modifier_and_direction_unknown, direction_unknown_as_the_answer_is_low, data_unknown_as_the_answer_is_low, answered_again_as_the_answer_is_withdrawn, address_and_direction_change, direction_and_data_change, direction_changes_with_a_second_answer, block_turns_as_a_slot_grants, slot_grants_as_another_ends_its_grant, slot_ends_its_grant_as_a_level_is_granted, two_levels_granted_while_busy, unasked_level_granted_while_busy, past_the_last_slot_with_an_acknowledge, acknowledge_of_nothing, acknowledge_after_answer_and_strobe, acknowledge_with_a_second_write, second_acknowledge_is_a_write};
 
 /// Each rule is broken in its example, and the recordings nearest to that conform.
@@ -233,6 +239,33 @@ pub fn acknowledges()
     ensures acknowledge_turns_to_a_read { Agrees acknowledge_turns_to_a_read }
     ensures acknowledge_is_a_read_from_its_start { Agrees acknowledge_is_a_read_from_its_start }
     ensures acknowledged_twice { Agrees acknowledged_twice }
+{}
+
+/// Resets, which end what is judged and name no break, and the starts after them.
+pub fn resets()
+    ensures reset_in_a_read { Agrees reset_in_a_read }
+    ensures busy_after_the_reset { Agrees busy_after_the_reset }
+    ensures answer_after_the_reset { Agrees answer_after_the_reset }
+    ensures strobe_lost_with_the_reset { Agrees strobe_lost_with_the_reset }
+    ensures reset_line_lost { Agrees reset_line_lost }
+    ensures reset_forgets_a_request { Agrees reset_forgets_a_request }
+    ensures request_without_a_reset { Agrees request_without_a_reset }
+    ensures reset_for_good { Agrees reset_for_good }
+    ensures reset_before_judging { Agrees reset_before_judging }
+    ensures reset_at_the_end { Agrees reset_at_the_end }
+    ensures two_resets { Agrees two_resets }
+    ensures stray_answer_with_the_reset { Agrees stray_answer_with_the_reset }
+    ensures stray_answers_around_the_reset { Agrees stray_answers_around_the_reset }
+    ensures strobe_unknown_after_the_reset { Agrees strobe_unknown_after_the_reset }
+    ensures strobe_lost_after_the_reset { Agrees strobe_lost_after_the_reset }
+    ensures reset_after_a_lost_strobe { Agrees reset_after_a_lost_strobe }
+{}
+
+/// What is judged: up to each reset and from the next idle instant on, and nothing more once a line was lost. The last
+/// no verdict and no listing shows, since the loss is the least break.
+pub fn judged_stretches()
+    ensures after_resets { judged two_resets.trace ≡ (1, 2) ∷ (3, 4) ∷ (5, 6) ∷ [] }
+    ensures after_a_loss { judged reset_after_a_lost_strobe.trace ≡ (1, 2) ∷ [] }
 {}
 
 /// Recordings that break two rules at one instant: the one that stands first is named.

@@ -1,5 +1,5 @@
 -- Which rows of a listing are counted, and which are open where it ends.
-use Rattle.std.specs.Prelude.{ℕ, Bool, true, false, ◌&&◌, ◌==◌, not, Option, None, Some, is_some}
+use Rattle.std.specs.Prelude.{ℕ, Bool, true, false, ◌&&◌, ◌==◌, not, Option, None, Some, is_some, if◌then◌else◌}
 use Rattle.vme_listing.specs.declared.row.AnswerLine.{AnswerLine}
 use Rattle.vme_listing.specs.declared.row.AnswerLine.TheVariants.{Dtack, Berr}
 use Rattle.vme_listing.specs.declared.row.Direction.{Direction}
@@ -51,16 +51,20 @@ is_interrupt_cycle (row.InterruptCycle start level end) = true
 is_interrupt_cycle r = false
 
 abbrev pub is_transfer_in : Direction → Row → Bool
-is_transfer_in direction (row.Transfer start cycle own line answer close lanes) = same_direction own direction
+is_transfer_in direction (row.Transfer own line start cycle answer close lanes) = same_direction own direction
 is_transfer_in direction r = false
 
 abbrev pub is_answered_by : AnswerLine → Row → Bool
-is_answered_by line (row.Transfer start cycle direction own answer close lanes) = same_answer own line
+is_answered_by line (row.Transfer direction own start cycle answer close lanes) = same_answer own line
 is_answered_by line r = false
 
 abbrev pub is_pending : Row → Bool
 is_pending (row.PendingTransfer start direction) = true
 is_pending r = false
+
+abbrev pub is_reset : Row → Bool
+is_reset (row.Reset instant) = true
+is_reset r = false
 
 -- a row is of a kind
 abbrev pub is_of : Kind → Row → Bool
@@ -75,6 +79,7 @@ is_of kind.Writes r = is_transfer_in Write r
 is_of kind.Done r = is_answered_by Dtack r
 is_of kind.Errors r = is_answered_by Berr r
 is_of kind.Pending r = is_pending r
+is_of kind.Resets r = is_reset r
 
 -- ---- what is open
 
@@ -93,7 +98,7 @@ is_cycle_open (row.InterruptCycle start level end) = has_no_end end
 is_cycle_open r = false
 
 abbrev pub is_transfer_open : Row → Bool
-is_transfer_open (row.Transfer start cycle direction line answer close lanes) = has_no_end close
+is_transfer_open (row.Transfer direction line start cycle answer close lanes) = has_no_end close
 is_transfer_open (row.PendingTransfer start direction) = true
 is_transfer_open r = false
 
@@ -102,3 +107,7 @@ abbrev pub is_open : Part → Row → Bool
 is_open part.Tenure r = is_tenure_open r
 is_open part.Cycle r = is_cycle_open r
 is_open part.Transfer r = is_transfer_open r
+
+-- the row, if it isn't a reset's, behind which nothing of before is open
+abbrev pub unless_reset : Row → Option Row
+unless_reset r = if is_reset r then None else Some r

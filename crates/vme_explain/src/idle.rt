@@ -34,11 +34,14 @@ pub(crate) fn control_line(lines: &Lines, number: u8) -> Option<Line> {
     }
 }
 
-/// Whether a line shows what an idle bus asks of it: AS, the strobes, the answers and the nets are High, and the other
-/// control lines are known.
+/// Whether a control line is High while the bus is idle: AS, the strobes, the answers, the nets and SYSRESET are.
+pub(crate) fn rests_high(line: Line) -> bool {
+    line <= Line::BERR || line.is_net() || line == Line::SYSRESET
+}
+
+/// Whether a line shows what an idle bus asks of it: those that rest High are so, and the other control lines are known.
 fn is_fit(line: Line, level: Level) -> bool {
-    let number = line.number();
-    if number <= 4 || line.is_net() {
+    if rests_high(line) {
         level == Level::High
     } else {
         level != Level::Unknown

@@ -1,7 +1,9 @@
 //! What the rows of a listing say together.
 
-ghost use Rattle.std.specs.Prelude.{◌≡◌, count_by, find, reverse};
-ghost use Rattle.vme_explain.specs.Rows.{is_answered_by, is_cycle_of, is_of, is_open, is_tenure_of, is_transfer_in};
+ghost use Rattle.std.specs.Prelude.{◌≡◌, ◌||◌, count_by, find, reverse};
+ghost use Rattle.std.specs.Option.{option_and_then};
+ghost use Rattle.vme_explain.specs.Rows.{is_answered_by, is_cycle_of, is_of, is_open, is_reset, is_tenure_of};
+ghost use Rattle.vme_explain.specs.Rows.{is_transfer_in, unless_reset};
 
 use vme_listing::{AnswerLine, Direction, Row};
 use vme_trace::Class;
@@ -36,6 +38,8 @@ pub enum Kind {
     Errors,
     /// A transfer without an answer.
     Pending,
+    /// A reset of the bus that ended what was judged.
+    Resets,
 }
 
 /// What can be open where a listing ends.
@@ -65,7 +69,14 @@ fn is_of(kind: Kind, row: &Row) -> bool
         Kind::Done => is_answered_by(row, AnswerLine::Dtack),
         Kind::Errors => is_answered_by(row, AnswerLine::Berr),
         Kind::Pending => matches!(row, Row::PendingTransfer { .. }),
+        Kind::Resets => is_reset(row),
     }
+}
+
+fn is_reset(row: &Row) -> bool
+    ensures { result ≡ is_reset row.now }
+{
+    matches!(row, Row::Reset { .. })
 }
 
 fn is_tenure_of(row: &Row, level: u8, slot: u8) -> bool
@@ -131,9 +142,36 @@ fn is_open(part: Part, row: &Row) -> bool
     }
 }
 
-/// The last row of a listing that is such a part and is open where the listing ends.
-pub fn open_row(part: Part, rows: &[Row]) -> Option<Row>
-    ensures { result ≡ find (is_open part) (reverse rows.now) }
+/// The last row of a listing that is such a part and is open where the listing ends, or is a reset.
+fn open_or_reset(part: Part, rows: &[Row]) -> Option<Row>
+    ensures { result ≡ find (λ row. is_open part row || is_reset row) (reverse rows.now) }
 {
-    rows.iter().rev().copied().find(|row| is_open(part, row))
+    rows.iter()
+        .rev()
+        .copied()
+        .find(|row| is_open(part, row) || is_reset(row))
+}
+
+/// The row, but for a reset.
+fn unless_reset(row: Row) -> Option<Row>
+    ensures { result ≡ unless_reset row }
+{
+    if is_reset(&row) { None } else { Some(row) }
+}
+
+/// The last row of a listing that is such a part and is open where the listing ends: what was open as the bus was reset
+/// isn't.
+pub fn open_row(part: Part, rows: &[Row]) -> Option<Row>
+    ensures { result ≡ option_and_then unless_reset
+        (find (λ row. is_open part row || is_reset row) (reverse rows.now)) }
+{
+    unless_reset(open_or_reset(part, rows)?)
+}
+
+/// The instant of the last reset of a listing.
+pub(crate) fn last_reset(rows: &[Row]) -> Option<u32> {
+    match rows.iter().rev().copied().find(is_reset)? {
+        Row::Reset { instant } => Some(instant),
+        _ => None,
+    }
 }

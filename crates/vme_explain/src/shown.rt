@@ -58,13 +58,19 @@ fn is_granted(levels: &[Lines], level: u8) -> bool {
     levels.iter().any(|lines| lines.has(input) && lines.level(input) == Level::Low)
 }
 
+/// Whether the bus is reset at one of some instants.
+fn is_reset(levels: &[Lines]) -> bool {
+    levels.iter().any(|lines| lines.is_reset())
+}
+
 /// The level of a net of a grant chain.
 fn level_of(line: Line) -> Option<u8> {
     let net = line.number().checked_sub(Line::grant(0, 0).number())?;
     if net < 88 { Some(net / 22) } else { None }
 }
 
-/// The lines of which a rule speaks, the line of the break first, and then the others of the handshake.
+/// The lines of which a rule speaks, the line of the break first, then the others of the handshake, and SYSRESET where it
+/// is low.
 pub(crate) fn lines_shown(
     alloc: Global,
     rule: Rule,
@@ -116,5 +122,8 @@ pub(crate) fn lines_shown(
         Line::IACK,
         Line::BBSY,
     ])?;
+    if is_reset(levels) {
+        shown.add(Line::SYSRESET)?;
+    }
     Ok(shown.lines)
 }

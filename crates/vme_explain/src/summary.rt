@@ -1,9 +1,10 @@
 //! What is told of a recording without a break.
 
 use crate::excerpt::levels_from;
-use crate::idle::{control_line, fit_lines, is_fit_in, moved_lines};
+use crate::idle::{control_line, fit_lines, is_fit_in, moved_lines, rests_high};
 use crate::page::{Subject, push_instant, push_open};
-use crate::rows::{Kind, Part, count_of, open_row};
+use crate::rows::{Kind, Part, count_of, last_reset, open_row};
+use crate::sources::bound_to;
 use std::alloc::{AllocError, Global};
 use vme_listing::Row;
 use vme_text::Text;
@@ -16,12 +17,12 @@ pub(crate) fn push_summary(
     subject: &Subject<'_>,
 ) -> Result<(), AllocError> {
     let start = first_instant(subject.rows);
-    let end = subject.capture.steps().len() as u32;
     text.push(b"\njudged: from instant ")?;
     push_instant(text, alloc, subject.capture, start)?;
     text.push(b" to instant ")?;
-    push_instant(text, alloc, subject.capture, end)?;
+    push_instant(text, alloc, subject.capture, last_instant(subject))?;
     text.push(b"\n")?;
+    push_resets(text, alloc, subject)?;
     push_tenures(text, alloc, subject)?;
     push_counts(
         text,
@@ -58,6 +59,31 @@ fn first_instant(rows: &[Row]) -> u32 {
         Some(Row::Start { instant }) => *instant,
         _ => 0,
     }
+}
+
+/// The instant up to which was judged: that of the last reset, where the bus was idle at none behind it.
+fn last_instant(subject: &Subject<'_>) -> u32 {
+    let mut last = subject.capture.steps().len() as u32;
+    for row in subject.rows {
+        match row {
+            Row::Reset { instant } => last = *instant,
+            Row::Start { .. } => last = subject.capture.steps().len() as u32,
+            _ => {}
+        }
+    }
+    last
+}
+
+/// Appends how many resets ended what was judged, and the last, where there is one.
+fn push_resets(text: &mut Text, alloc: Global, subject: &Subject<'_>) -> Result<(), AllocError> {
+    let Some(instant) = last_reset(subject.rows) else {
+        return Ok(());
+    };
+    text.push(b"resets: ")?;
+    text.push_decimal(alloc, count_of(Kind::Resets, subject.rows) as u64)?;
+    text.push(b", the last at instant ")?;
+    push_instant(text, alloc, subject.capture, instant)?;
+    text.push(b"\n")
 }
 
 fn push_counts(
@@ -108,14 +134,19 @@ fn push_pending(text: &mut Text, alloc: Global, subject: &Subject<'_>) -> Result
     push_open(text, alloc, subject)
 }
 
-/// Appends the control lines that never moved where something was judged.
+/// Whether the binding says what the level of a line is: it may leave out SYSRESET, which then never moves.
+fn is_bound(subject: &Subject<'_>, line: Line) -> bool {
+    bound_to(subject.binding, line, subject.capture.opening().slots()).is_some()
+}
+
+/// Appends the control lines that are bound and never moved where something was judged.
 fn push_unmoved(text: &mut Text, subject: &Subject<'_>, start: u32) -> Result<(), AllocError> {
     let moved = moved_lines(subject.capture, start);
     text.push(b"control lines that never moved:")?;
     let mut is_any = false;
     for number in 0..LINE_COUNT {
         if let Some(line) = control_line(subject.capture.opening(), number) {
-            if !moved.has(line) {
+            if !moved.has(line) && (line != Line::SYSRESET || is_bound(subject, line)) {
                 is_any = true;
                 text.push(b" ")?;
                 text.push(line.name().as_bytes())?;
@@ -130,8 +161,7 @@ fn push_unmoved(text: &mut Text, subject: &Subject<'_>, start: u32) -> Result<()
 
 /// What an idle bus asks of a line.
 fn wanted(line: Line) -> &'static str {
-    let number = line.number();
-    if number <= 4 || line.is_net() {
+    if rests_high(line) {
         ": not High"
     } else {
         ": not known"
@@ -145,7 +175,8 @@ pub(crate) fn push_never_idle(
     subject: &Subject<'_>,
 ) -> Result<(), AllocError> {
     text.push(
-        b"\nJudging starts where every control line is known, and AS, the strobes, the answers and all nets are High.\n",
+        b"\nJudging starts where every control line is known, and AS, the strobes, the answers, all nets and SYSRESET are \
+High.\n",
     )?;
     let end = subject.capture.steps().len();
     let fit = fit_lines(subject.capture);

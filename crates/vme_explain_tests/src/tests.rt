@@ -39,6 +39,23 @@ fn rows_are_counted(rt: HostRuntime) -> Result<(), Fail> {
 }
 
 #[test]
+fn what_was_open_at_a_reset_is_over(rt: HostRuntime) -> Result<(), Fail> {
+    let rows = [
+        ROWS[0],
+        ROWS[1],
+        Row::Reset { instant: 11 },
+        ROWS[0],
+        ROWS[3],
+    ];
+    assert!(rt; open_row(Part::Tenure, &rows).is_none());
+    assert!(rt; open_row(Part::Transfer, &rows) == Some(ROWS[3]));
+    assert!(rt; open_row(Part::Transfer, &rows[..3]).is_none());
+    assert_eq!(rt; count_of(Kind::Resets, &rows), 1);
+    assert_eq!(rt; count_of(Kind::Resets, &ROWS), 0);
+    Ok(())
+}
+
+#[test]
 fn open_rows_are_found(rt: HostRuntime) -> Result<(), Fail> {
     assert!(rt; open_row(Part::Tenure, &ROWS) == Some(ROWS[1]));
     assert!(rt; open_row(Part::Cycle, &ROWS).is_none());

@@ -96,7 +96,7 @@ fn stem_meaning(stem: &[u8], fit: Fit) -> Option<(Named, Fit)> {
 
 /// A line with a name of its own.
 fn single(stem: &[u8]) -> Option<Named> {
-    let names: [(&[u8], Line); 9] = [
+    let names: [(&[u8], Line); 10] = [
         (b"as", Line::AS),
         (b"ds0", Line::DS0),
         (b"ds1", Line::DS1),
@@ -106,6 +106,7 @@ fn single(stem: &[u8]) -> Option<Named> {
         (b"lword", Line::LWORD),
         (b"write", Line::WRITE),
         (b"bbsy", Line::BBSY),
+        (b"sysreset", Line::SYSRESET),
     ];
     for (name, line) in names {
         if stem.eq_ignore_ascii_case(name) {
@@ -139,8 +140,11 @@ fn grouped(stem: &[u8]) -> Option<Named> {
     data(rest)
 }
 
-/// Other names of the address lines, of the data lines and of the acknowledge chain.
+/// Other names of the address lines, of the data lines, of the acknowledge chain and of the system reset.
 fn synonym(stem: &[u8]) -> Option<Named> {
+    if stem.eq_ignore_ascii_case(b"sysrst") {
+        return Some(Named::Line(Line::SYSRESET));
+    }
     if let Some(rest) = behind(stem, b"address").or_else(|| behind(stem, b"addr")) {
         return address(rest);
     }

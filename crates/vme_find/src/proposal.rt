@@ -8,7 +8,7 @@ use vme_text::Text;
 use vme_trace::{LINE_COUNT, Line};
 
 /// What to know of a line that wasn't found, by the beginning of its name.
-const HINTS: [(&[u8], &str); 14] = [
+const HINTS: [(&[u8], &str); 15] = [
     (
         b"AM",
         "AM is then 3F, a block transfer of the standard space; bind the code that the masters use, bit by bit",
@@ -48,6 +48,10 @@ const HINTS: [(&[u8], &str); 14] = [
     ),
     (b"IA", "right where no interrupt is acknowledged"),
     (b"LWORD", "it is only asked to be known and held"),
+    (
+        b"SYSRESET",
+        "right where the bus isn't reset; a reset in the middle of a cycle is told as a break else",
+    ),
     (b"WRITE", "each transfer then counts as a read"),
     (
         b"D",
@@ -57,6 +61,10 @@ const HINTS: [(&[u8], &str); 14] = [
 
 /// What is said where no data line was found.
 const NO_DATA: &str = "# D wasn't found and is left out: the data of writes aren't judged\n";
+
+/// What is said where the system reset wasn't found.
+const NO_RESET: &str =
+    "# SYSRESET wasn't found and is left out: a reset in the middle of a cycle is told as a break\n";
 
 /// What is said of a name of which no line was found.
 const NOT_FOUND: &str = " wasn't found: 1 is what it shows when nobody drives it";
@@ -166,6 +174,7 @@ impl<'a> Proposal<'a> {
         self.write_group(b"AM", Line::address_modifier(5).number(), 6)?;
         self.write_group(b"A", Line::address(31).number(), 31)?;
         self.write_data()?;
+        self.write_reset()?;
         self.write_group(b"BR", Line::bus_request(3).number(), 4)?;
         self.write_chains(slots)
     }
@@ -177,6 +186,15 @@ impl<'a> Proposal<'a> {
             return self.text.push(NO_DATA.as_bytes());
         }
         self.write_group(b"D", first, 32)
+    }
+
+    /// Writes the system reset, or why it is left out.
+    fn write_reset(&mut self) -> Result<(), AllocError> {
+        let reset = Line::SYSRESET;
+        if self.found.tap(reset).is_none() {
+            return self.text.push(NO_RESET.as_bytes());
+        }
+        self.write_group(reset.name().as_bytes(), reset.number(), 1)
     }
 
     /// Writes the nets of the daisy chains.

@@ -143,3 +143,16 @@ fn a_time_stands_for_units(rt: HostRuntime) -> Result<(), Fail> {
     }
     Ok(())
 }
+
+#[test]
+fn the_system_reset_is_found_or_left_out(rt: HostRuntime) -> Result<(), Fail> {
+    let alloc = rt.alloc();
+    let named =
+        "$var wire 1 p AS $end\n$var wire 1 r SYSRESET_n $end\n$enddefinitions $end\n#0 1p 1r\n";
+    assert!(rt; binding_has(alloc, named, "\nSYSRESET = SYSRESET_n\n"));
+    let synonym =
+        "$var wire 1 p AS $end\n$var wire 1 r sysrst $end\n$enddefinitions $end\n#0 1p 1r\n";
+    assert!(rt; binding_has(alloc, synonym, "\nSYSRESET = sysrst\n"));
+    assert!(rt; binding_has(alloc, DUMP, "\n# SYSRESET wasn't found and is left out: "));
+    Ok(())
+}

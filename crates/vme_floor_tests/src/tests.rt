@@ -10,7 +10,10 @@ mod recordings;
 mod short;
 
 use gates::{Holds, Listens, Waits};
-use recordings::{READ_ROWS, broken_recording, broken_rows, read_recording, shuffled, wrong_twice};
+use recordings::{
+    READ_ROWS, RESET_ROWS, broken_recording, broken_rows, read_recording, reset_recording,
+    shuffled, wrong_twice,
+};
 use std::alloc::Global;
 use std::process::Abort;
 use std::sync::Wait;
@@ -113,7 +116,7 @@ fn assert_rows(rt: &impl Abort, alloc: Global, span: &Span, rows: &str) -> Resul
         None => text_of(alloc, span).ok_or("not written")?,
     };
     assert!(rt;
-        page.bytes.as_slice().strip_prefix(b"vmecheck listing 2\n") == Some(rows.as_bytes())
+        page.bytes.as_slice().strip_prefix(b"vmecheck listing 3\n") == Some(rows.as_bytes())
     );
     Ok(())
 }
@@ -153,6 +156,21 @@ fn workers_change_nothing(rt: HostRuntime) -> Result<(), Fail> {
         assert_rows(&rt, alloc, &report.span, READ_ROWS)?;
     }
     Ok(())
+}
+
+/// Blocks of one step, delivered from the last to the first.
+#[test]
+fn a_reset_in_any_order(rt: HostRuntime) -> Result<(), Fail> {
+    let alloc = rt.alloc();
+    let blocks = reset_recording(alloc)?.cut(alloc, 1)?;
+    let deliveries = picked(
+        alloc,
+        blocks.as_slice(),
+        &[12, 11, 10, 9, 8, 7, 6, 5, 4, 3, 2, 1, 0],
+    )?;
+    let report = report_of(&rt, alloc, deliveries.as_slice(), 13, 3)?;
+    assert!(rt; report.verdict == Verdict::Conforming);
+    assert_rows(&rt, alloc, &report.span, RESET_ROWS)
 }
 
 /// The blocks of the read by fives, and then the second again with another last step.

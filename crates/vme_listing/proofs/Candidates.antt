@@ -21,17 +21,17 @@ use Rattle.vme_listing.specs.declared.row.Direction.TheVariants.{Read, Write}
 use Rattle.vme_listing.specs.declared.row.Outcome.{Outcome}
 use Rattle.vme_listing.specs.declared.row.Outcome.TheVariants.{Conforming, NeverIdle, Broken, Unreadable}
 use Rattle.vme_listing.specs.declared.row.Version.{Version}
-use Rattle.vme_listing.specs.declared.row.Version.TheVariants.{One, Two}
 use Rattle.vme_listing.specs.declared.row.Row.{Row}
-use Rattle.vme_listing.specs.declared.row.Row.TheVariants.{Start, OpenTenure, Tenure, AddressedCycle, FreeCycle, InterruptCycle, Transfer, PendingTransfer, Verdict}
-use Rattle.vme_listing.specs.Places.{is_number, is_edge, has_class, is_address, is_outcome, is_lanes, has_data, is_row}
+use Rattle.vme_listing.specs.declared.row.Row.TheVariants.{Start, Reset, OpenTenure, Tenure, AddressedCycle, FreeCycle, InterruptCycle, Transfer, PendingTransfer, Verdict}
+use Rattle.vme_listing.specs.Listed.{tells_data, tells_resets}
+use Rattle.vme_listing.specs.Places.{is_number, is_edge, has_class, is_address, is_outcome, is_lanes, is_write, has_data, is_row}
 use Rattle.vme_listing.specs.RowText.{edge_text, hexadecimal, address_digits, direction_text, answer_text, lanes_text, row_text}
 use Rattle.vme_listing.specs.Words.{words, number_of, small_of, edge_of, direction_of, answer_of, tenure_of, cycle_of, lanes_of, transfer_of, outcome_of, row_of}
 use Rattle.vme_listing.proofs.Addresses.{HasDigits, address-digits}
 use Rattle.vme_listing.proofs.Cuts.{is_plain, are_plain, decimal-glyphs, glyphs-plain, hexadecimal-glyphs}
 use Rattle.vme_listing.proofs.LaneTexts.{lanes_read, lanes-plain}
 use Rattle.vme_listing.proofs.Numerals.{number_of-decimal, number_of-hexadecimal, edge_of-text, edge_text-plain}
-use Rattle.vme_listing.proofs.RowWords.{by_words, start_text, open_tenure_text, tenure_text, addressed_cycle_text, free_cycle_text, interrupt_cycle_text, transfer_text, data_transfer_text, pending_text, broken_text, unreadable_text}
+use Rattle.vme_listing.proofs.RowWords.{by_words, start_text, reset_text, open_tenure_text, tenure_text, addressed_cycle_text, free_cycle_text, interrupt_cycle_text, transfer_text, data_transfer_text, pending_text, broken_text, unreadable_text}
 
 abbrev IsRead : Row → Type 0
 IsRead row = row_of (words (row_text row)) ≡ Some row
@@ -59,6 +59,12 @@ unfolding row_of
 start_read instant h =
     let plain = number_plain instant (below_32 instant h) in
     by_words (Start instant) (codes "start") (decimal instant ∷ []) (start_text instant) (and_from _ _ plain refl) (ap (λ n. Some (Start n)) (number_read instant h))
+
+reset_read : (instant : ℕ) → is_number instant ≡ true → IsRead (Reset instant)
+unfolding row_of
+reset_read instant h =
+    let plain = number_plain instant (below_32 instant h) in
+    by_words (Reset instant) (codes "reset") (decimal instant ∷ []) (reset_text instant) (and_from _ _ plain refl) (ap (λ n. Some (Reset n)) (number_read instant h))
 
 open_tenure_read : (start : ℕ) (end : Option ℕ) → is_number start ≡ true → is_edge end ≡ true → IsRead (OpenTenure start end)
 unfolding row_of tenure_of
@@ -150,22 +156,22 @@ transfer_plain start cycle direction line answer close more h c a e plain =
 
 transfer_words : (start cycle : ℕ) (direction : Direction) (line : AnswerLine) (answer : ℕ) (close : Option ℕ) (read lanes : Option Lanes)
     → is_number start ≡ true → is_number cycle ≡ true → is_number answer ≡ true → is_edge close ≡ true → read ≡ lanes
-    → Some (Transfer (number_of 10 (decimal start)) (number_of 10 (decimal cycle)) (direction_of (direction_text direction)) (answer_of (answer_text line)) (number_of 10 (decimal answer)) (edge_of (edge_text close)) read)
-    ≡ Some (Transfer start cycle direction line answer close lanes)
+    → Some (Transfer (direction_of (direction_text direction)) (answer_of (answer_text line)) (number_of 10 (decimal start)) (number_of 10 (decimal cycle)) (number_of 10 (decimal answer)) (edge_of (edge_text close)) read)
+    ≡ Some (Transfer direction line start cycle answer close lanes)
 transfer_words start cycle direction line answer close read lanes h c a e same =
-    ap (λ n. Some (Transfer n (number_of 10 (decimal cycle)) (direction_of (direction_text direction)) (answer_of (answer_text line)) (number_of 10 (decimal answer)) (edge_of (edge_text close)) read)) (number_read start h)
-    ∙ ap (λ n. Some (Transfer start n (direction_of (direction_text direction)) (answer_of (answer_text line)) (number_of 10 (decimal answer)) (edge_of (edge_text close)) read)) (number_read cycle c)
-    ∙ ap (λ d. Some (Transfer start cycle d (answer_of (answer_text line)) (number_of 10 (decimal answer)) (edge_of (edge_text close)) read)) (direction_read direction)
-    ∙ ap (λ l. Some (Transfer start cycle direction l (number_of 10 (decimal answer)) (edge_of (edge_text close)) read)) (answer_read line)
-    ∙ ap (λ n. Some (Transfer start cycle direction line n (edge_of (edge_text close)) read)) (number_read answer a)
-    ∙ ap (λ x. Some (Transfer start cycle direction line answer x read)) (edge_of-text close e)
-    ∙ ap (λ x. Some (Transfer start cycle direction line answer close x)) same
+    ap (λ n. Some (Transfer (direction_of (direction_text direction)) (answer_of (answer_text line)) n (number_of 10 (decimal cycle)) (number_of 10 (decimal answer)) (edge_of (edge_text close)) read)) (number_read start h)
+    ∙ ap (λ n. Some (Transfer (direction_of (direction_text direction)) (answer_of (answer_text line)) start n (number_of 10 (decimal answer)) (edge_of (edge_text close)) read)) (number_read cycle c)
+    ∙ ap (λ d. Some (Transfer d (answer_of (answer_text line)) start cycle (number_of 10 (decimal answer)) (edge_of (edge_text close)) read)) (direction_read direction)
+    ∙ ap (λ l. Some (Transfer direction l start cycle (number_of 10 (decimal answer)) (edge_of (edge_text close)) read)) (answer_read line)
+    ∙ ap (λ n. Some (Transfer direction line start cycle n (edge_of (edge_text close)) read)) (number_read answer a)
+    ∙ ap (λ x. Some (Transfer direction line start cycle answer x read)) (edge_of-text close e)
+    ∙ ap (λ x. Some (Transfer direction line start cycle answer close x)) same
 
 transfer_read : (start cycle : ℕ) (direction : Direction) (line : AnswerLine) (answer : ℕ) (close : Option ℕ) → is_number start ≡ true → is_number cycle ≡ true → is_number answer ≡ true → is_edge close ≡ true
-    → IsRead (Transfer start cycle direction line answer close None)
+    → IsRead (Transfer direction line start cycle answer close None)
 unfolding row_of transfer_of lanes_of
 transfer_read start cycle direction line answer close h c a e =
-    by_words (Transfer start cycle direction line answer close None) (codes "transfer")
+    by_words (Transfer direction line start cycle answer close None) (codes "transfer")
     (decimal start ∷ codes "of" ∷ decimal cycle ∷ direction_text direction ∷ answer_text line ∷ decimal answer ∷ codes "close" ∷ edge_text close ∷ [])
     (transfer_text start cycle direction line answer close)
     (transfer_plain start cycle direction line answer close [] h c a e refl)
@@ -173,23 +179,21 @@ transfer_read start cycle direction line answer close h c a e =
 
 data_transfer_read : (start cycle : ℕ) (direction : Direction) (line : AnswerLine) (answer : ℕ) (close : Option ℕ) (lanes : Lanes)
     → is_number start ≡ true → is_number cycle ≡ true → is_number answer ≡ true → is_edge close ≡ true → is_lanes lanes ≡ true
-    → IsRead (Transfer start cycle direction line answer close (Some lanes))
+    → IsRead (Transfer direction line start cycle answer close (Some lanes))
 unfolding row_of transfer_of
 data_transfer_read start cycle direction line answer close lanes h c a e is =
-    by_words (Transfer start cycle direction line answer close (Some lanes)) (codes "transfer")
+    by_words (Transfer direction line start cycle answer close (Some lanes)) (codes "transfer")
     (decimal start ∷ codes "of" ∷ decimal cycle ∷ direction_text direction ∷ answer_text line ∷ decimal answer ∷ codes "close" ∷ edge_text close ∷ codes "data" ∷ lanes_text lanes ∷ [])
     (data_transfer_text start cycle direction line answer close lanes)
     (transfer_plain start cycle direction line answer close (codes "data" ∷ lanes_text lanes ∷ []) h c a e (and_from _ _ (lanes-plain lanes) refl))
     (transfer_words start cycle direction line answer close (lanes_of (codes "data") (lanes_text lanes)) (Some lanes) h c a e (lanes_read lanes is))
 
 has_lanes : (version : Version) (direction : Direction) (lanes : Lanes) → has_data version direction (Some lanes) ≡ true → is_lanes lanes ≡ true
-has_lanes One direction lanes h = absurd (cc)
-has_lanes Two Read lanes h = absurd (cc)
-has_lanes Two Write lanes h = h
+has_lanes version direction lanes h = (and_parts (tells_data version && is_write direction) (is_lanes lanes) h).1
 
 any_transfer_read : (version : Version) (start cycle : ℕ) (direction : Direction) (line : AnswerLine) (answer : ℕ) (close : Option ℕ) (lanes : Option Lanes)
     → is_number start ≡ true → is_number cycle ≡ true → is_number answer ≡ true → is_edge close ≡ true → has_data version direction lanes ≡ true
-    → IsRead (Transfer start cycle direction line answer close lanes)
+    → IsRead (Transfer direction line start cycle answer close lanes)
 any_transfer_read version start cycle direction line answer close None h c a e is = transfer_read start cycle direction line answer close h c a e
 any_transfer_read version start cycle direction line answer close (Some lanes) h c a e is =
     data_transfer_read start cycle direction line answer close lanes h c a e (has_lanes version direction lanes is)
@@ -284,6 +288,7 @@ verdict_read (Unreadable rule instant line) h =
 pub row_read : (version : Version) (row : Row) → is_row version row ≡ true → row_of (words (row_text row)) ≡ Some row
 unfolding is_row
 row_read version (Start instant) h = start_read instant h
+row_read version (Reset instant) h = reset_read instant (and_parts (tells_resets version) (is_number instant) h).1
 row_read version (OpenTenure start end) h = let p = and_parts (is_number start) (is_edge end) h in open_tenure_read start end p.0 p.1
 row_read version (Tenure start level slot end) h =
     let e = and_parts (is_number start && nat_lt level 4 && nat_le 1 slot && nat_le slot 21) (is_edge end) h in
@@ -305,7 +310,7 @@ row_read version (InterruptCycle start level end) h =
     let e = and_parts (is_number start && nat_lt level 8) (is_edge end) h in
     let p = and_parts (is_number start) (nat_lt level 8) e.0 in
     interrupt_cycle_read start level end p.0 (ltb-true level 8 p.1) e.1
-row_read version (Transfer start cycle direction line answer close lanes) h =
+row_read version (Transfer direction line start cycle answer close lanes) h =
     let d = and_parts (is_number start && is_number cycle && is_number answer && is_edge close) (has_data version direction lanes) h in
     let e = and_parts (is_number start && is_number cycle && is_number answer) (is_edge close) d.0 in
     let a = and_parts (is_number start && is_number cycle) (is_number answer) e.0 in

@@ -1,42 +1,80 @@
 -- The least break of some rules: what it names, and that no rule is broken at an instant before it.
-use Rattle.std.proofs.Common.{◌≡◌, ℕ, zero, suc, ◌+◌, ◌<◌, false, List, [], ◌∷◌, ◌++◌, refl, sym, ap, subst, arith, ◌⊎◌, inl, inr}
-use Rattle.std.specs.Prelude.{Option, None, Some, option_map}
+use Rattle.std.proofs.Common.{◌≡◌, ℕ, zero, suc, ◌+◌, ◌<◌, ◌≤◌, Bool, true, false, List, [], ◌∷◌, ◌++◌, refl, sym, ap, subst, arith, ◌⊎◌, inl, inr}
+use Rattle.std.specs.Prelude.{Option, None, Some, option_map, ◌==◌, ◌&&◌, ◌||◌, nat_le}
 use Rattle.std.specs.Option.{option_or}
+use Rattle.std.proofs.lemmas.Bool.{and_parts}
+use Rattle.std.proofs.lemmas.Bool.Decides.{nat_tests}
 use Rattle.vme_trace.specs.Instants.{least}
-use Rattle.vme_trace.specs.LineNumbers.{line_count}
-use Rattle.vme_trace.specs.Trace.{Trace, time_at, last_instant}
-use Rattle.vme_trace.specs.Judged.{Span}
-use Rattle.vme_trace.specs.Rules.{breaks}
+use Rattle.vme_trace.specs.LineNumbers.{has_line, line_count}
+use Rattle.vme_trace.specs.Levels.{is_lost}
+use Rattle.vme_trace.specs.Trace.{Trace, levels_at, time_at, last_instant}
+use Rattle.vme_trace.specs.Judged.{Span, is_judged}
+use Rattle.vme_trace.specs.Rules.{breaks, is_broken, ends_span}
 use Rattle.vme_trace.specs.Verdict.{break_at, break_before, least_break, rule_break}
 use Rattle.vme_trace.specs.declared.rule.Rule.{Rule}
+use Rattle.vme_trace.specs.declared.rule.Rule.TheVariants.{U1}
 use Rattle.vme_trace.specs.declared.verdict.Break.{Break}
 use Rattle.vme_trace.proofs.Ranges.{any-fails, least-found, least-none-any}
 
+-- a rule that speaks of the end of a span is U1
+only_u1 : (r : Rule) → ends_span r ≡ true → r ≡ U1
+only_u1 U1 h = refl
+only_u1 r h = absurd (cc)
+
+-- what is broken is broken within the span, or at its end
+abbrev pub IsWithin : Span → ℕ → Type 0
+IsWithin span j = (span.start < j) × (j ≤ span.end)
+
+judged_there : (span : Span) (j : ℕ) → span.start < span.end → is_judged span j ≡ true → IsWithin span j
+judged_there span j whole h = (grind (arith, nat_tests), grind (arith, nat_tests))
+
+at_end : (span : Span) (j : ℕ) (a b : Bool) → span.start < span.end → ((j == span.end) && a && b) ≡ true → IsWithin span j
+at_end span j a b whole h = let here : (j == span.end) ≡ true = (and_parts (j == span.end) a (and_parts ((j == span.end) && a) b h).0).0 in (grind (arith, nat_tests), grind (arith, nat_tests))
+
+breaks-within : (t : Trace) (span : Span) (r : Rule) (j l : ℕ) → span.start < span.end → breaks t span r j l ≡ true → IsWithin span j
+unfolding breaks is_broken
+breaks-within t span r j l whole h =
+    let parts = and_parts ((ends_span r || is_judged span j) && has_line t.opening.slots l) (is_broken t span r j l) h in
+    elim (one_of (ends_span r) (is_judged span j) (and_parts (ends_span r || is_judged span j) (has_line t.opening.slots l) parts.0).0) [
+      | inl ends ↦ at_end span j (nat_le j (last_instant t)) (is_lost (levels_at t j) l) whole (subst (λ (q : Rule). is_broken t span q j l ≡ true) (only_u1 r ends) parts.1)
+      | inr judged ↦ judged_there span j whole judged
+    ]
+  where
+    one_of : (a b : Bool) → (a || b) ≡ true → (a ≡ true) ⊎ (b ≡ true)
+    one_of true b e = inl refl
+    one_of false b e = inr e
+
 -- a break at this instant, on one of the lines
-record IsAt (b : Break) (j : ℕ) : Type 0 where
+record IsAt (span : Span) (b : Break) (j : ℕ) : Type 0 where
   instant : b.instant ≡ j
   line : b.line < line_count
+  within : span.start < span.end → IsWithin span b.instant
 
-either : (o p : Option Break) (b : Break) → option_or o p ≡ Some b → (o ≡ Some b) ⊎ ((o ≡ None) × (p ≡ Some b))
+pub either : (o p : Option Break) (b : Break) → option_or o p ≡ Some b → (o ≡ Some b) ⊎ ((o ≡ None) × (p ≡ Some b))
 either None p b e = inr (refl, e)
 either (Some a) p b e = inl e
 
-neither : (o p : Option Break) → option_or o p ≡ None → (o ≡ None) × (p ≡ None)
+pub neither : (o p : Option Break) → option_or o p ≡ None → (o ≡ None) × (p ≡ None)
 neither None p e = (refl, e)
 neither (Some a) p e = absurd (cc)
 
 module _ (t : Trace) (span : Span) where
-  rule_break-at : (r : Rule) (j : ℕ) (b : Break) → rule_break t span j r ≡ Some b → IsAt b j
+  rule_break-at : (r : Rule) (j : ℕ) (b : Break) → rule_break t span j r ≡ Some b → IsAt span b j
   unfolding rule_break
-  rule_break-at r j b e = named (least (breaks t span r j) 0 line_count) (λ l f. (least-found (breaks t span r j) 0 line_count l f).below) e
+  rule_break-at r j b e = named (least (breaks t span r j) 0 line_count) refl e
     where
-      named : (o : Option ℕ) → ((l : ℕ) → o ≡ Some l → l < line_count) → option_map (λ l. record { instant = j; time = time_at t j; rule = r; line = l }) o ≡ Some b → IsAt b j
+      named : (o : Option ℕ) → least (breaks t span r j) 0 line_count ≡ o → option_map (λ l. record { instant = j; time = time_at t j; rule = r; line = l }) o ≡ Some b → IsAt span b j
       named None h f = absurd (cc)
       named (Some l) h f =
+          let is = least-found (breaks t span r j) 0 line_count l h in
           let same : record { instant = j; time = time_at t j; rule = r; line = l } ≡ b = cc in
-          record { instant = sym (ap (λ (x : Break). x.instant) same); line = subst (λ (x : Break). x.line < line_count) same (h l refl) }
+          record {
+            instant = sym (ap (λ (x : Break). x.instant) same);
+            line = subst (λ (x : Break). x.line < line_count) same is.below;
+            within = λ whole. subst (λ (x : Break). IsWithin span x.instant) same (breaks-within t span r j l whole is.holds);
+          }
 
-  break_at-at : (rules : List Rule) (j : ℕ) (b : Break) → break_at t span rules j ≡ Some b → IsAt b j
+  break_at-at : (rules : List Rule) (j : ℕ) (b : Break) → break_at t span rules j ≡ Some b → IsAt span b j
   unfolding break_at
   break_at-at [] j b e = absurd (cc)
   break_at-at (r ∷ rs) j b e =
@@ -68,6 +106,7 @@ module _ (t : Trace) (span : Span) where
   record IsFirst (rules : List Rule) (n : ℕ) (b : Break) : Type 0 where
     below : b.instant < n
     line : b.line < line_count
+    within : span.start < span.end → IsWithin span b.instant
     none : (i : ℕ) → i < b.instant → break_at t span rules i ≡ None
 
   before-found : (rules : List Rule) (n : ℕ) (b : Break) → break_before t span rules n ≡ Some b → IsFirst rules n b
@@ -77,16 +116,21 @@ module _ (t : Trace) (span : Span) where
       elim (either (break_before t span rules n) (break_at t span rules n) b e) [
         | inl early ↦
             let first = before-found rules n b early in
-            record { below = omega arith; line = first.line; none = first.none }
+            record { below = omega arith; line = first.line; within = first.within; none = first.none }
         | inr late ↦
             let here = break_at-at rules n b late.1 in
-            record { below = omega arith; line = here.line; none = λ i before. before-none rules n i late.0 (omega arith) }
+            record { below = omega arith; line = here.line; within = here.within; none = λ i before. before-none rules n i late.0 (omega arith) }
       ]
 
   -- the least break, if there is one, is at an instant of the recording and on one of the lines
   pub least_break-within : (rules : List Rule) (b : Break) → least_break t span rules ≡ Some b → (b.instant < last_instant t + 1) × (b.line < line_count)
   unfolding least_break
   least_break-within rules b e = let first = before-found rules (last_instant t + 1) b e in (first.below, first.line)
+
+  -- it is at an instant after the start of the span, and not after its end
+  pub least_break-judged : (rules : List Rule) (b : Break) → span.start < span.end → least_break t span rules ≡ Some b → IsWithin span b.instant
+  unfolding least_break
+  least_break-judged rules b whole e = (before-found rules (last_instant t + 1) b e).within whole
 
   unbroken_at : (front back : List Rule) (r : Rule) (j l : ℕ) → break_at t span (front ++ r ∷ back) j ≡ None → l < line_count → breaks t span r j l ≡ false
   unfolding rule_break

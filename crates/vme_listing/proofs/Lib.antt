@@ -14,4 +14,4 @@ pub mod FoundBreaks
 pub mod RowForms
 pub mod RecordedRows
 pub mod WellPlaced
-pub mod WithoutData
+pub mod InVersions

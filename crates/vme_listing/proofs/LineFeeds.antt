@@ -18,6 +18,7 @@ use Rattle.vme_trace.specs.declared.rule.Rule.TheVariants.{U1, U2, U3, U4, H1, H
 use Rattle.vme_trace.specs.declared.data.Lanes.{Lanes}
 use Rattle.vme_listing.proofs.Cuts.{are_glyphs, decimal-glyphs, hexadecimal-glyphs}
 use Rattle.vme_listing.proofs.LaneTexts.{lanes-inside}
+use Rattle.vme_listing.specs.Listed.{tells_resets}
 use Rattle.vme_listing.specs.Places.{is_number, is_edge, has_class, is_address, is_outcome, has_data, is_row}
 use Rattle.vme_listing.specs.RowText.{edge_text, hexadecimal, address_digits, class_text, direction_text, answer_text, data_text, break_text, row_text, line_of}
 use Rattle.vme_listing.specs.declared.row.AnswerLine.{AnswerLine}
@@ -28,7 +29,7 @@ use Rattle.vme_listing.specs.declared.row.Outcome.{Outcome}
 use Rattle.vme_listing.specs.declared.row.Outcome.TheVariants.{Conforming, NeverIdle, Broken, Unreadable}
 use Rattle.vme_listing.specs.declared.row.Version.{Version}
 use Rattle.vme_listing.specs.declared.row.Row.{Row}
-use Rattle.vme_listing.specs.declared.row.Row.TheVariants.{Start, OpenTenure, Tenure, AddressedCycle, FreeCycle, InterruptCycle, Transfer, PendingTransfer, Verdict}
+use Rattle.vme_listing.specs.declared.row.Row.TheVariants.{Start, Reset, OpenTenure, Tenure, AddressedCycle, FreeCycle, InterruptCycle, Transfer, PendingTransfer, Verdict}
 
 abbrev stays : ℕ → Bool
 stays b = not (b == 10)
@@ -160,6 +161,7 @@ outcome-inside (Unreadable rule instant line) h = let p = three _ (is_number ins
 row-inside : (version : Version) (row : Row) → is_row version row ≡ true → is_inside (row_text row) ≡ true
 unfolding is_row row_text
 row-inside version (Start instant) h = number-inside instant h
+row-inside version (Reset instant) h = number-inside instant (two (tells_resets version) (is_number instant) h).1
 row-inside version (OpenTenure start end) h =
     let p = two (is_number start) (is_edge end) h in
     let s = number-inside start p.0 in
@@ -192,7 +194,7 @@ row-inside version (InterruptCycle start level end) h =
     let l = decimal-inside level (omega (arith, ltb-true level 8 p.1)) in
     let e = edge-inside end p.2 in
     simp (list_all-append, s, l, e)
-row-inside version (Transfer start cycle direction line answer close lanes) h =
+row-inside version (Transfer direction line start cycle answer close lanes) h =
     let p = five (is_number start) (is_number cycle) (is_number answer) (is_edge close) (has_data version direction lanes) h in
     let s = number-inside start p.0 in
     let i = number-inside cycle p.1 in

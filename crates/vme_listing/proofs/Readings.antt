@@ -5,14 +5,14 @@ use Rattle.std.specs.List.{slice_get}
 use Rattle.std.proofs.lemmas.Bool.{and_from, and_parts, false_from_ne_true, false≢true, iff_false}
 use Rattle.std.proofs.lemmas.Grind.{flat_map-append}
 use Rattle.std.proofs.lemmas.List.{append_assoc, append-nil}
-use Rattle.vme_listing.specs.Places.{is_row, is_start, is_verdict, is_never_idle, may_follow, ascends, follows, ends_listing, is_rest, is_well_placed}
+use Rattle.vme_listing.specs.Places.{is_row, is_verdict, is_never_idle, may_follow, ascends, follows, ends_listing, is_rest, is_well_placed}
 use Rattle.vme_listing.specs.Reading.{last_of, are_placed, IsFront, IsRead, IsUnfinished, IsRowFault, IsFirstFault, HasNoListing, IsNoListing, IsOnlyListing}
 use Rattle.vme_listing.specs.RowText.{header, line_of, text_of}
 use Rattle.vme_listing.specs.declared.fault.ListFault.{ListFault}
 use Rattle.vme_listing.specs.declared.fault.ListFault.TheVariants.{BadHeader, BadRow, Unsorted, Memory}
 use Rattle.vme_listing.specs.declared.row.Row.{Row}
 use Rattle.vme_listing.specs.declared.row.Version.{Version}
-use Rattle.vme_listing.specs.declared.row.Version.TheVariants.{One, Two}
+use Rattle.vme_listing.specs.declared.row.Version.TheVariants.{One, Two, Three}
 use Rattle.vme_listing.specs.Listed.{Listed}
 
 -- the last row, by its place
@@ -33,13 +33,13 @@ three false b c h = absurd (cc)
 from_three : (a b c : Bool) → a ≡ true → b ≡ true → c ≡ true → (a && b && c) ≡ true
 from_three a b c p q r = rw (p, q, r) refl
 
-pub follows_parts : (version : Version) (before : Option Row) (row : Row) → follows version before row ≡ true → (is_row version row ≡ true) × (may_follow before row ≡ true) × (ascends before row ≡ true)
+pub follows_parts : (version : Version) (before : Option Row) (row : Row) → follows version before row ≡ true → (is_row version row ≡ true) × (may_follow before row ≡ true) × (ascends version before row ≡ true)
 unfolding follows
-follows_parts version before row h = three (is_row version row) (may_follow before row) (ascends before row) h
+follows_parts version before row h = three (is_row version row) (may_follow before row) (ascends version before row) h
 
-pub follows_from : (version : Version) (before : Option Row) (row : Row) → is_row version row ≡ true → may_follow before row ≡ true → ascends before row ≡ true → follows version before row ≡ true
+pub follows_from : (version : Version) (before : Option Row) (row : Row) → is_row version row ≡ true → may_follow before row ≡ true → ascends version before row ≡ true → follows version before row ≡ true
 unfolding follows
-follows_from version before row p q r = from_three (is_row version row) (may_follow before row) (ascends before row) p q r
+follows_from version before row p q r = from_three (is_row version row) (may_follow before row) (ascends version before row) p q r
 
 placed_more : (version : Version) (before : Option Row) (rows : List Row) (row : Row) → are_placed version before rows ≡ true → follows version (last_of before rows) row ≡ true → are_placed version before (rows ++ row ∷ []) ≡ true
 placed_more version before [] row p f = and_from _ _ f refl
@@ -91,8 +91,13 @@ AllBegin text version rows rest = (all : Listed) → is_well_placed all ≡ true
 one_header : (v w : Version) (a b : List ℕ) → header v ++ a ≡ header w ++ b → (v ≡ w) × (a ≡ b)
 one_header One One a b e = (refl, ap (drop 19) e)
 one_header Two Two a b e = (refl, ap (drop 19) e)
+one_header Three Three a b e = (refl, ap (drop 19) e)
 one_header One Two a b e = absurd (omega (arith, ap (λ l. get_or l 17 0) e))
+one_header One Three a b e = absurd (omega (arith, ap (λ l. get_or l 17 0) e))
 one_header Two One a b e = absurd (omega (arith, ap (λ l. get_or l 17 0) e))
+one_header Two Three a b e = absurd (omega (arith, ap (λ l. get_or l 17 0) e))
+one_header Three One a b e = absurd (omega (arith, ap (λ l. get_or l 17 0) e))
+one_header Three Two a b e = absurd (omega (arith, ap (λ l. get_or l 17 0) e))
 
 pub begin_none : (text : List ℕ) (version : Version) (rest : List ℕ) → text ≡ header version ++ rest → AllBegin text version [] rest
 begin_none text version rest e all w t =
@@ -106,7 +111,7 @@ behind_verdict version row [] placed verdict = refl
 behind_verdict version row (next ∷ later) placed verdict =
     let parts = and_parts (follows version (Some row) next) (is_rest version (Some next) later) placed in
     let may = (follows_parts version (Some row) next parts.0).1 in
-    absurd (false≢true (ap not (sym verdict) ∙ (three (not (is_verdict row)) (not (is_start next)) (not (is_never_idle next)) may).0))
+    absurd (false≢true (ap not (sym verdict) ∙ (three (not (is_verdict row)) (not (is_never_idle next)) _ may).0))
 
 -- of what follows in such a listing, the first row follows and its line is at the front of the rest
 next_other : (version : Version) (rows : List Row) (rest : List ℕ) → IsUnfinished rows → (others : List Row) → is_rest version (last_of None rows) others ≡ true → flat_map line_of others ≡ rest

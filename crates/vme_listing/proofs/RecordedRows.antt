@@ -20,7 +20,7 @@ use Rattle.vme_trace.specs.declared.data.Lanes.{Lanes}
 use Rattle.vme_listing.specs.Places.{is_lanes, has_data, is_row}
 use Rattle.vme_listing.specs.Recorded.{answered_row, cycle_row, cycle_rows, data_of, direction_of, tenure_row, tenure_rows, transfer_row, transfer_rows}
 use Rattle.vme_listing.specs.declared.row.Direction.TheVariants.{Read, Write}
-use Rattle.vme_listing.specs.declared.row.Version.TheVariants.{Two}
+use Rattle.vme_listing.specs.declared.row.Version.TheVariants.{Three}
 use Rattle.vme_listing.specs.declared.row.Row.{Row}
 use Rattle.vme_listing.specs.declared.row.Row.TheVariants.{OpenTenure, PendingTransfer}
 use Rattle.vme_listing.proofs.RecordedLanes.{lanes_form}
@@ -100,21 +100,21 @@ code_known t span i starts unbroken free unknown =
     negated true h = refl
     negated false h = absurd (cc)
 
-data_by : (write : Bool) (lanes : Lanes) → is_lanes lanes ≡ true → has_data Two (cond write Write Read) (cond write (Some lanes) None) ≡ true
+data_by : (write : Bool) (lanes : Lanes) → is_lanes lanes ≡ true → has_data Three (cond write Write Read) (cond write (Some lanes) None) ≡ true
 data_by true lanes h = h
 data_by false lanes h = refl
 
 -- the data of a transfer is what the row of its direction has
-data_form : (t : Trace) (span : Span) (end i r : ℕ) → has_data Two (direction_of t span end i) (data_of t span end i r) ≡ true
+data_form : (t : Trace) (span : Span) (end i r : ℕ) → has_data Three (direction_of t span end i) (data_of t span end i r) ≡ true
 unfolding data_at
 data_form t span end i r = data_by (is_write t span i) (data_at t span r) (lanes_form (levels_at t (if transfer_starts t span r then r else r - 1)))
 
 module _ (t : Trace) (span : Span) (end : ℕ) (few : end ≤ 2 ^ 32) (i : ℕ) (listed : i < end) where
-  pub tenure_one : t.opening.slots ≤ 21 → breaks t span B4 i BBSY ≡ false → AtMostOne i 0 (tenure_rows t span end i)
+  pub tenure_one : t.opening.slots ≤ 21 → breaks t span B4 i BBSY ≡ false → AtMostOne i 2 (tenure_rows t span end i)
   unfolding tenure_rows is_row
   tenure_one slots unbroken = by_tests ((i == span.start) && low t BBSY i) (tenure_starts t span i) refl
     where
-      taken : (level slot : Option ℕ) → tenure_level t i ≡ level → tenure_slot t i ≡ slot → is_option_equal slot (t.opening.slots + 1) ≡ false → AtMostOne i 0 (tenure_row i level slot (least (rises t BBSY) (i + 1) end))
+      taken : (level slot : Option ℕ) → tenure_level t i ≡ level → tenure_slot t i ≡ slot → is_option_equal slot (t.opening.slots + 1) ≡ false → AtMostOne i 2 (tenure_row i level slot (least (rises t BBSY) (i + 1) end))
       taken None slot l s unequal_past = tt
       taken (Some level) None l s unequal_past = tt
       taken (Some level) (Some slot) l s unequal_past =
@@ -122,27 +122,27 @@ module _ (t : Trace) (span : Span) (end : ℕ) (few : end ≤ 2 ^ 32) (i : ℕ) 
           let other = unequal slot (t.opening.slots + 1) unequal_past in
           tenure_form i level slot (least (rises t BBSY) (i + 1) end) (number i end listed few) (level_within t i level l) within.0 (omega (arith, within.1, other)) (edge (rises t BBSY) (i + 1) end few)
 
-      by_tests : (opened starts : Bool) → tenure_starts t span i ≡ starts → AtMostOne i 0 (cond opened (OpenTenure i (least (rises t BBSY) (i + 1) end) ∷ []) (cond starts (tenure_row i (tenure_level t i) (tenure_slot t i) (least (rises t BBSY) (i + 1) end)) []))
-      by_tests true starts e = record { allowed = both _ _ (number i end listed few) (edge (rises t BBSY) (i + 1) end few); place = refl }
+      by_tests : (opened starts : Bool) → tenure_starts t span i ≡ starts → AtMostOne i 2 (cond opened (OpenTenure i (least (rises t BBSY) (i + 1) end) ∷ []) (cond starts (tenure_row i (tenure_level t i) (tenure_slot t i) (least (rises t BBSY) (i + 1) end)) []))
+      by_tests true starts e = record { allowed = both _ _ (number i end listed few) (edge (rises t BBSY) (i + 1) end few); place = refl; no_start = refl; no_reset = refl }
       by_tests false true e = taken (tenure_level t i) (tenure_slot t i) refl refl (slot_exists t span i e unbroken)
       by_tests false false e = tt
 
-  pub cycle_one : ((l : ℕ) → l < line_count → breaks t span U2 i l ≡ false) → AtMostOne i 1 (cycle_rows t span end i)
+  pub cycle_one : ((l : ℕ) → l < line_count → breaks t span U2 i l ≡ false) → AtMostOne i 3 (cycle_rows t span end i)
   unfolding cycle_rows
   cycle_one unbroken = by_test (cycle_starts t span i) refl
     where
-      by_test : (starts : Bool) → cycle_starts t span i ≡ starts → AtMostOne i 1 (cond starts (cycle_row i (levels_at t i) (least (rises t AS) (i + 1) end) (class_of (levels_at t i)) ∷ []) [])
+      by_test : (starts : Bool) → cycle_starts t span i ≡ starts → AtMostOne i 3 (cond starts (cycle_row i (levels_at t i) (least (rises t AS) (i + 1) end) (class_of (levels_at t i)) ∷ []) [])
       by_test true e = cycle_form i (levels_at t i) (least (rises t AS) (i + 1) end) (number i end listed few) (edge (rises t AS) (i + 1) end few) (code_known t span i e unbroken)
       by_test false e = tt
 
-  pub transfer_one : AtMostOne i 2 (transfer_rows t span end i)
+  pub transfer_one : AtMostOne i 4 (transfer_rows t span end i)
   unfolding transfer_rows is_row cycle_of
   transfer_one = by_test (transfer_starts t span i)
     where
-      pending : IsMiddle i 2 (PendingTransfer i (direction_of t span end i))
-      pending = record { allowed = number i end listed few; place = refl }
+      pending : IsMiddle i 4 (PendingTransfer i (direction_of t span end i))
+      pending = record { allowed = number i end listed few; place = refl; no_start = refl; no_reset = refl }
 
-      answered : (r : ℕ) → r < end → (cycle : Option ℕ) → cycle_of t span r ≡ cycle → IsMiddle i 2 (answered_row t span end i r cycle)
+      answered : (r : ℕ) → r < end → (cycle : Option ℕ) → cycle_of t span r ≡ cycle → IsMiddle i 4 (answered_row t span end i r cycle)
       answered r below None e = pending
       answered r below (Some cycle) e =
           let first = greatest-below (cycle_starts t span) (span.start + 1) (r + 1) cycle e in
@@ -152,12 +152,14 @@ module _ (t : Trace) (span : Span) (end : ℕ) (few : end ≤ 2 ^ 32) (i : ℕ) 
                 (both _ _ (both _ _ (both _ _ (number i end listed few) (number cycle end (omega (arith, first)) few)) (number r end below few)) (edge (strobes_high t) (i + 1) end few))
                 (data_form t span end i r);
             place = refl;
+            no_start = refl;
+            no_reset = refl;
           }
 
-      by_answer : (o : Option ℕ) → ((r : ℕ) → o ≡ Some r → r < end) → IsMiddle i 2 (transfer_row t span end i o)
+      by_answer : (o : Option ℕ) → ((r : ℕ) → o ≡ Some r → r < end) → IsMiddle i 4 (transfer_row t span end i o)
       by_answer None h = pending
       by_answer (Some r) h = answered r (h r refl) (cycle_of t span r) refl
 
-      by_test : (starts : Bool) → AtMostOne i 2 (cond starts (transfer_row t span end i (least (answers t span i) i end) ∷ []) [])
+      by_test : (starts : Bool) → AtMostOne i 4 (cond starts (transfer_row t span end i (least (answers t span i) i end) ∷ []) [])
       by_test true = by_answer (least (answers t span i) i end) (λ r e. (least-found (answers t span i) i end r e).below)
       by_test false = tt

@@ -11,16 +11,18 @@ use Rattle.vme_trace.specs.Cycle.{class_of, has_known_modifier, highest_address,
 use Rattle.vme_trace.specs.declared.class.Class.{Class}
 use Rattle.vme_trace.specs.declared.class.Class.TheVariants as class
 use Rattle.vme_trace.proofs.Ranges.{least-found}
-use Rattle.vme_listing.specs.Places.{is_address, is_edge, is_number, is_row, place_of}
+use Rattle.vme_listing.specs.Places.{is_address, is_edge, is_number, is_row, is_start, is_reset, place_of}
 use Rattle.vme_listing.specs.Recorded.{address_to, cycle_row}
-use Rattle.vme_listing.specs.declared.row.Version.TheVariants.{Two}
+use Rattle.vme_listing.specs.declared.row.Version.TheVariants.{Three}
 use Rattle.vme_listing.specs.declared.row.Row.{Row}
 use Rattle.vme_listing.specs.declared.row.Row.TheVariants.{Tenure}
 
--- a row of version 2 that may stand between the first and the last, of this instant and kind
+-- a row of a tenure, a cycle or a transfer, of this instant and kind
 pub record IsMiddle (i kind : ℕ) (row : Row) : Type 0 where
-  pub allowed : is_row Two row ≡ true
-  pub place : place_of row ≡ Some (i, kind)
+  pub allowed : is_row Three row ≡ true
+  pub place : place_of Three row ≡ Some (i, kind)
+  pub no_start : is_start row ≡ false
+  pub no_reset : is_reset row ≡ false
 
 -- tests that hold hold together
 pub both : (a b : Bool) → a ≡ true → b ≡ true → (a && b) ≡ true
@@ -106,20 +108,20 @@ unfolding class_of
 class_says v = by_tests (is_low (level_at v IACK)) (has_known_modifier v) (is_block (modifier_of v)) (highest_address (modifier_of v) == 0)
 
 -- the row of a cycle, whose code is known if its class is free
-pub cycle_form : (i : ℕ) (v : Levels) (e : Option ℕ) → is_number i ≡ true → is_edge e ≡ true → (class_of v ≡ class.F → has_known_modifier v ≡ false → ⊥) → IsMiddle i 1 (cycle_row i v e (class_of v))
+pub cycle_form : (i : ℕ) (v : Levels) (e : Option ℕ) → is_number i ≡ true → is_edge e ≡ true → (class_of v ≡ class.F → has_known_modifier v ≡ false → ⊥) → IsMiddle i 3 (cycle_row i v e (class_of v))
 unfolding is_row
 cycle_form i v e n ed known = by_class (class_of v) refl (class_says v)
   where
-    by_class : (c : Class) → class_of v ≡ c → Says c (has_known_modifier v) (is_block (modifier_of v)) (highest_address (modifier_of v) == 0) → IsMiddle i 1 (cycle_row i v e c)
-    by_class class.S is f = record { allowed = both _ _ (both _ _ (both _ _ n (ap not f.0)) (address_form v (modifier_of v) f.1)) ed; place = refl }
-    by_class class.K is f = record { allowed = both _ _ (both _ _ (both _ _ n f) (address_form v (modifier_of v) (block_space (modifier_of v) f))) ed; place = refl }
+    by_class : (c : Class) → class_of v ≡ c → Says c (has_known_modifier v) (is_block (modifier_of v)) (highest_address (modifier_of v) == 0) → IsMiddle i 3 (cycle_row i v e c)
+    by_class class.S is f = record { allowed = both _ _ (both _ _ (both _ _ n (ap not f.0)) (address_form v (modifier_of v) f.1)) ed; place = refl; no_start = refl; no_reset = refl }
+    by_class class.K is f = record { allowed = both _ _ (both _ _ (both _ _ n f) (address_form v (modifier_of v) (block_space (modifier_of v) f))) ed; place = refl; no_start = refl; no_reset = refl }
     by_class class.I is f =
         let level : address_to v 3 < 16 = bounded v 3 in
-        record { allowed = both _ _ (both _ _ n (is_less (address_to v 3 / 2) 8 (omega arith))) ed; place = refl }
+        record { allowed = both _ _ (both _ _ n (is_less (address_to v 3 / 2) 8 (omega arith))) ed; place = refl; no_start = refl; no_reset = refl }
     by_class class.F is (inl unknown) = absurd (known is unknown)
-    by_class class.F is (inr free) = record { allowed = both _ _ (both _ _ (both _ _ n (is_less (modifier_of v) 64 (modifier_within v))) free) ed; place = refl }
+    by_class class.F is (inr free) = record { allowed = both _ _ (both _ _ (both _ _ n (is_less (modifier_of v) 64 (modifier_within v))) free) ed; place = refl; no_start = refl; no_reset = refl }
 
-pub tenure_form : (i level slot : ℕ) (e : Option ℕ) → is_number i ≡ true → level < 4 → 1 ≤ slot → slot ≤ 21 → is_edge e ≡ true → IsMiddle i 0 (Tenure i level slot e)
+pub tenure_form : (i level slot : ℕ) (e : Option ℕ) → is_number i ≡ true → level < 4 → 1 ≤ slot → slot ≤ 21 → is_edge e ≡ true → IsMiddle i 2 (Tenure i level slot e)
 unfolding is_row
 tenure_form i level slot e n below first last ed =
-    record { allowed = both _ _ (both _ _ (both _ _ (both _ _ n (is_less level 4 below)) (is_at_most 1 slot first)) (is_at_most slot 21 last)) ed; place = refl }
+    record { allowed = both _ _ (both _ _ (both _ _ (both _ _ n (is_less level 4 below)) (is_at_most 1 slot first)) (is_at_most slot 21 last)) ed; place = refl; no_start = refl; no_reset = refl }

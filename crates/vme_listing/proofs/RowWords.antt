@@ -10,7 +10,7 @@ use Rattle.vme_listing.specs.declared.row.AnswerLine.{AnswerLine}
 use Rattle.vme_listing.specs.declared.row.Direction.{Direction}
 use Rattle.vme_listing.specs.declared.row.Outcome.TheVariants.{Broken, Unreadable}
 use Rattle.vme_listing.specs.declared.row.Row.{Row}
-use Rattle.vme_listing.specs.declared.row.Row.TheVariants.{Start, OpenTenure, Tenure, AddressedCycle, FreeCycle, InterruptCycle, Transfer, PendingTransfer, Verdict}
+use Rattle.vme_listing.specs.declared.row.Row.TheVariants.{Start, Reset, OpenTenure, Tenure, AddressedCycle, FreeCycle, InterruptCycle, Transfer, PendingTransfer, Verdict}
 use Rattle.vme_listing.specs.RowText.{edge_text, hexadecimal, address_digits, class_text, direction_text, answer_text, lanes_text, row_text}
 use Rattle.vme_listing.specs.Words.{words, word_at, tenure_of, cycle_of, transfer_of, outcome_of, row_of}
 use Rattle.vme_listing.proofs.Cuts.{are_plain, joined, words_joined}
@@ -30,6 +30,10 @@ by_words row first more text plain read = ap (λ t. row_of (words t)) text ∙ a
 pub start_text : (instant : ℕ) → row_text (Start instant) ≡ joined (codes "start") (decimal instant ∷ [])
 unfolding row_text
 start_text instant = refl
+
+pub reset_text : (instant : ℕ) → row_text (Reset instant) ≡ joined (codes "reset") (decimal instant ∷ [])
+unfolding row_text
+reset_text instant = refl
 
 pub open_tenure_text : (start : ℕ) (end : Option ℕ) → row_text (OpenTenure start end) ≡ joined (codes "tenure") (decimal start ∷ codes "open" ∷ codes "end" ∷ edge_text end ∷ [])
 unfolding row_text
@@ -57,13 +61,13 @@ unfolding row_text
 interrupt_cycle_text start level end = simp append_assoc
 
 pub transfer_text : (start cycle : ℕ) (direction : Direction) (line : AnswerLine) (answer : ℕ) (close : Option ℕ)
-    → row_text (Transfer start cycle direction line answer close None)
+    → row_text (Transfer direction line start cycle answer close None)
     ≡ joined (codes "transfer") (decimal start ∷ codes "of" ∷ decimal cycle ∷ direction_text direction ∷ answer_text line ∷ decimal answer ∷ codes "close" ∷ edge_text close ∷ [])
 unfolding row_text
 transfer_text start cycle direction line answer close = rw append-nil (simp append_assoc)
 
 pub data_transfer_text : (start cycle : ℕ) (direction : Direction) (line : AnswerLine) (answer : ℕ) (close : Option ℕ) (lanes : Lanes)
-    → row_text (Transfer start cycle direction line answer close (Some lanes))
+    → row_text (Transfer direction line start cycle answer close (Some lanes))
     ≡ joined (codes "transfer")
     (decimal start ∷ codes "of" ∷ decimal cycle ∷ direction_text direction ∷ answer_text line ∷ decimal answer ∷ codes "close" ∷ edge_text close ∷ codes "data" ∷ lanes_text lanes ∷ [])
 unfolding row_text

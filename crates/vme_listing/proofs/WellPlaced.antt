@@ -1,31 +1,34 @@
 -- The listing of a recording is well placed.
-use Rattle.std.proofs.Common.{◌≡◌, ℕ, zero, suc, ◌+◌, ◌^◌, ◌<◌, ◌≤◌, ◌==◌, Bool, true, false, ◌&&◌, ◌||◌, not, List, [], ◌∷◌, ◌++◌, length, refl, sym, ◌∙◌, ap, subst, arith, append_assoc, ◌⊎◌, inl, inr}
-use Rattle.std.specs.Prelude.{Option, None, Some, nat_lt, option_map}
-use Rattle.std.specs.Option.{option_to_list}
+use Rattle.std.proofs.Common.{◌≡◌, ℕ, zero, suc, ◌+◌, ◌^◌, ◌<◌, ◌≤◌, ◌==◌, Bool, true, false, ◌&&◌, ◌||◌, not, cond, min, List, [], ◌∷◌, ◌++◌, length, refl, sym, ◌∙◌, ap, subst, arith, append_assoc, ◌⊎◌, inl, inr}
+use Rattle.std.specs.Prelude.{Option, None, Some, flat_map, nat_lt}
+use Rattle.std.proofs.Math.Nat.{min-le_right, min-eq_left}
 use Rattle.std.proofs.lemmas.Bool.Decides.{nat_tests}
-use Rattle.vme_trace.specs.Instants.{least}
 use Rattle.vme_trace.specs.LineNumbers.{BBSY, line_count}
 use Rattle.vme_trace.specs.Trace.{Trace, last_instant}
-use Rattle.vme_trace.specs.Judged.{Span, is_idle_at, judged_span, judged_spans, span_from}
+use Rattle.vme_trace.specs.Judged.{Span, IsSpanOf, is_judged, is_reset_at, judged_spans}
+use Rattle.vme_trace.specs.Transfers.{transfer_starts}
+use Rattle.vme_trace.specs.Cycles.{cycle_starts}
+use Rattle.vme_trace.specs.Tenures.{tenure_starts}
 use Rattle.vme_trace.specs.Rules.{breaks}
-use Rattle.vme_trace.specs.Verdict.{all_rules, is_unreadable, least_break}
+use Rattle.vme_trace.specs.Verdict.{all_rules, is_unreadable, least_break, least_of}
 use Rattle.vme_trace.specs.declared.rule.Rule.{Rule}
 use Rattle.vme_trace.specs.declared.rule.Rule.TheVariants.{U1, U2, U3, U4, H1, H2, H3, H4, H5, H6, H7, H8, S1, S2, S3, C1, C2, G1, G2, G3, G4, G5, B1, B2, B3, B4, I1, I2, I3, I4, I5}
 use Rattle.vme_trace.specs.declared.verdict.Break.{Break}
-use Rattle.vme_trace.proofs.Ranges.{least-found}
-use Rattle.vme_listing.specs.Places.{follows, is_later, is_never_idle, is_outcome, is_rest, is_row, is_start, is_verdict, is_well_placed, never_idles, place_of}
-use Rattle.vme_listing.specs.Recorded.{cycle_rows, listed_end, listing_by, recorded_rows, listing_of_span, listing_of_spans, outcome_of, rows_before, tenure_rows, transfer_rows}
-use Rattle.vme_listing.specs.declared.row.Version.TheVariants.{Two}
+use Rattle.vme_trace.proofs.JudgedSpans.{AreInOrder, spans_in_order, starts_before_end}
+use Rattle.vme_listing.specs.Places.{follows, is_later, is_never_idle, is_outcome, is_reset, is_rest, is_row, is_start, is_verdict, is_well_placed, never_idles, place_of}
+use Rattle.vme_listing.specs.Recorded.{cycle_rows, listed_end, listing_before, listing_by, recorded_rows, listing_of_spans, outcome_of, reset_rows, rows_before, rows_of_span, tenure_rows, transfer_rows}
+use Rattle.vme_listing.specs.declared.row.Version.TheVariants.{Three}
 use Rattle.vme_listing.specs.declared.row.Row.{Row}
-use Rattle.vme_listing.specs.declared.row.Row.TheVariants.{Start, OpenTenure, Tenure, AddressedCycle, FreeCycle, InterruptCycle, Transfer, PendingTransfer, Verdict}
-use Rattle.vme_listing.proofs.FoundBreaks.{least_break-within, unbroken_always, unbroken_before}
+use Rattle.vme_listing.specs.declared.row.Row.TheVariants.{Start, Reset, OpenTenure, Tenure, AddressedCycle, FreeCycle, InterruptCycle, Transfer, PendingTransfer, Verdict}
+use Rattle.vme_listing.proofs.FoundBreaks.{either, neither, least_break-judged, least_break-within, unbroken_always, unbroken_before}
 use Rattle.vme_listing.proofs.RecordedRows.{AtMostOne, cycle_one, tenure_one, transfer_one}
 use Rattle.vme_listing.proofs.RowForms.{IsMiddle, both, is_less, number}
 
--- the row isn't the verdict, and a row of this instant and kind may come after it
+-- the row is of a start, a tenure, a cycle or a transfer, and a row of this instant and kind may come after it
 record Precedes (row : Row) (i kind : ℕ) : Type 0 where
   unfinished : is_verdict row ≡ false
-  earlier : is_later (place_of row) (Some (i, kind)) ≡ true
+  goes_on : is_reset row ≡ false
+  earlier : is_later (place_of Three row) (Some (i, kind)) ≡ true
 
 later_than : (o : Option (ℕ × ℕ)) (i j m n : ℕ) → (i < j) ⊎ ((i ≡ j) × (m ≤ n)) → is_later o (Some (i, m)) ≡ true → is_later o (Some (j, n)) ≡ true
 later_than None i j m n h e = refl
@@ -35,34 +38,52 @@ later_than (Some p) i j m n h e = on p.0 p.1 i j m n h e
     on a b i j m n (inl h) e = grind (arith, nat_tests)
     on a b i j m n (inr h) e = let same = h.0 in let most = h.1 in grind (arith, nat_tests)
 
--- what has a place is no start and no verdict
+-- one of a later instant may too, or of this one and a later kind
+later : (row : Row) (i j m n : ℕ) → (i < j) ⊎ ((i ≡ j) × (m ≤ n)) → Precedes row i m → Precedes row j n
+later row i j m n h p = record { unfinished = p.unfinished; goes_on = p.goes_on; earlier = later_than (place_of Three row) i j m n h p.earlier }
+
+after_start : (start : ℕ) → Precedes (Start start) start 2
+after_start start = record { unfinished = refl; goes_on = refl; earlier = higher start }
+  where
+    higher : (i : ℕ) → (nat_lt i i || ((i == i) && nat_lt 1 2)) ≡ true
+    higher i = grind (arith, nat_tests)
+
+-- what has a place is no verdict
 record IsInside (row : Row) : Type 0 where
-  no_start : is_start row ≡ false
   no_verdict : is_verdict row ≡ false
   no_idle : is_never_idle row ≡ false
 
-inside : (row : Row) (p : ℕ × ℕ) → place_of row ≡ Some p → IsInside row
-inside (Start instant) p e = absurd (cc)
-inside (OpenTenure start end) p e = record { no_start = refl; no_verdict = refl; no_idle = refl }
-inside (Tenure start level slot end) p e = record { no_start = refl; no_verdict = refl; no_idle = refl }
-inside (AddressedCycle start class modifier address end) p e = record { no_start = refl; no_verdict = refl; no_idle = refl }
-inside (FreeCycle start modifier end) p e = record { no_start = refl; no_verdict = refl; no_idle = refl }
-inside (InterruptCycle start level end) p e = record { no_start = refl; no_verdict = refl; no_idle = refl }
-inside (Transfer start cycle direction line answer close lanes) p e = record { no_start = refl; no_verdict = refl; no_idle = refl }
-inside (PendingTransfer start direction) p e = record { no_start = refl; no_verdict = refl; no_idle = refl }
+inside : (row : Row) (p : ℕ × ℕ) → place_of Three row ≡ Some p → IsInside row
+inside (Start instant) p e = record { no_verdict = refl; no_idle = refl }
+inside (Reset instant) p e = record { no_verdict = refl; no_idle = refl }
+inside (OpenTenure start end) p e = record { no_verdict = refl; no_idle = refl }
+inside (Tenure start level slot end) p e = record { no_verdict = refl; no_idle = refl }
+inside (AddressedCycle start class modifier address end) p e = record { no_verdict = refl; no_idle = refl }
+inside (FreeCycle start modifier end) p e = record { no_verdict = refl; no_idle = refl }
+inside (InterruptCycle start level end) p e = record { no_verdict = refl; no_idle = refl }
+inside (Transfer direction line start cycle answer close lanes) p e = record { no_verdict = refl; no_idle = refl }
+inside (PendingTransfer start direction) p e = record { no_verdict = refl; no_idle = refl }
 inside (Verdict outcome) p e = absurd (cc)
 
--- a row of this instant and kind may stand behind one that precedes it
-follows_on : (before row : Row) (i kind : ℕ) → Precedes before i kind → IsMiddle i kind row → follows Two (Some before) row ≡ true
+-- what may stand behind a row that is no verdict, by whether that is a reset
+placed_behind : (ended reset idle starts ends : Bool) → ended ≡ false → idle ≡ false → cond reset (starts || ends) (not starts) ≡ true → (not ended && not idle && cond reset (starts || ends) (not starts)) ≡ true
+placed_behind ended reset idle starts ends e f g = rw (e, f, g) refl
+
+-- a row of this instant and kind, other than a start, may stand behind one that precedes it
+follows_on : (before row : Row) (i kind : ℕ) → Precedes before i kind → is_row Three row ≡ true → place_of Three row ≡ Some (i, kind) → is_start row ≡ false → follows Three (Some before) row ≡ true
 unfolding follows
-follows_on before row i kind p m =
-    let is = inside row (i, kind) m.place in
-    both _ _ (both _ _ m.allowed (both _ _ (both _ _ (ap not p.unfinished) (ap not is.no_start)) (ap not is.no_idle))) (ap (is_later (place_of before)) m.place ∙ p.earlier)
+follows_on before row i kind p allowed place no_start =
+    let is = inside row (i, kind) place in
+    both _ _ (both _ _ allowed
+    (placed_behind (is_verdict before) (is_reset before) (is_never_idle row) (is_start row) (is_verdict row) p.unfinished is.no_idle
+    (rw (p.goes_on, no_start) refl)))
+    (ap (is_later (place_of Three before)) place ∙ p.earlier)
 
 next_kind : (row : Row) (i kind : ℕ) → IsMiddle i kind row → Precedes row i (kind + 1)
 next_kind row i kind m =
     record {
       unfinished = (inside row (i, kind) m.place).no_verdict;
+      goes_on = m.no_reset;
       earlier = ap (λ o. is_later o (Some (i, kind + 1))) m.place ∙ higher i kind;
     }
   where
@@ -70,101 +91,307 @@ next_kind row i kind m =
     higher i kind = grind (arith, nat_tests)
 
 -- at most one row of this instant and kind, and rows that may stand behind it
-group : (before : Row) (i kind : ℕ) (rows more : List Row) → AtMostOne i kind rows → Precedes before i kind → ((row : Row) → Precedes row i (kind + 1) → is_rest Two (Some row) more ≡ true) → is_rest Two (Some before) (rows ++ more) ≡ true
+group : (before : Row) (i kind : ℕ) (rows more : List Row) → AtMostOne i kind rows → Precedes before i kind → ((row : Row) → Precedes row i (kind + 1) → is_rest Three (Some row) more ≡ true) → is_rest Three (Some before) (rows ++ more) ≡ true
 unfolding is_rest
-group before i kind [] more one p rest = rest before (record { unfinished = p.unfinished; earlier = later_than (place_of before) i i kind (kind + 1) (inr (refl, omega arith)) p.earlier })
-group before i kind (row ∷ []) more one p rest = both _ _ (follows_on before row i kind p one) (rest row (next_kind row i kind one))
+group before i kind [] more one p rest = rest before (later before i i kind (kind + 1) (inr (refl, omega arith)) p)
+group before i kind (row ∷ []) more one p rest = both _ _ (follows_on before row i kind p one.allowed one.place one.no_start) (rest row (next_kind row i kind one))
 group before i kind (row ∷ next ∷ rows) more one p rest = absurd one
 
-module _ (t : Trace) (slots : t.opening.slots ≤ 21) (few : length t.steps < 2 ^ 32) (span : Span) where
-  module _ (end : ℕ) (within : end ≤ 2 ^ 32) (needed : (i l : ℕ) → i < end → l < line_count → breaks t span U2 i l ≡ false) (taken : (i l : ℕ) → i < end → l < line_count → breaks t span B4 i l ≡ false) where
-    -- the rows that begin before an instant, and rows that may stand behind them
-    placed_before : (n : ℕ) → n ≤ end → (before : Row) → Precedes before 0 0 → (more : List Row) → ((row : Row) → Precedes row n 0 → is_rest Two (Some row) more ≡ true) → is_rest Two (Some before) (rows_before t span end n ++ more) ≡ true
+-- the verdict may stand behind a row that isn't one
+last_is : (row : Row) (found : Option Break) → is_outcome (outcome_of found) ≡ true → is_verdict row ≡ false → is_rest Three (Some row) (Verdict (outcome_of found) ∷ []) ≡ true
+unfolding is_rest follows is_row
+last_is row found is e =
+    both _ _ (both _ _ (both _ _ is (placed_behind (is_verdict row) (is_reset row) (never_idles (outcome_of found)) false true e (named found) (of_any (is_reset row)))) (unplaced (place_of Three row))) refl
+  where
+    of_any : (reset : Bool) → cond reset true true ≡ true
+    of_any true = refl
+    of_any false = refl
+
+    unplaced : (o : Option (ℕ × ℕ)) → is_later o None ≡ true
+    unplaced None = refl
+    unplaced (Some p) = refl
+
+    by_rule : (b : Break) (r : Bool) → is_unreadable b.rule ≡ r → never_idles (outcome_of (Some b)) ≡ false
+    by_rule b true h = rw h refl
+    by_rule b false h = rw h refl
+
+    named : (found : Option Break) → never_idles (outcome_of found) ≡ false
+    named None = refl
+    named (Some b) = by_rule b (is_unreadable b.rule) refl
+
+abbrev till_needed : List Rule
+till_needed = U1 ∷ []
+
+abbrev from_needed : List Rule
+from_needed = U3 ∷ U4 ∷ H1 ∷ H2 ∷ H3 ∷ H4 ∷ H5 ∷ H6 ∷ H7 ∷ H8 ∷ S1 ∷ S2 ∷ S3 ∷ C1 ∷ C2 ∷ G1 ∷ G2 ∷ G3 ∷ G4 ∷ G5 ∷ B1 ∷ B2 ∷ B3 ∷ B4 ∷ I1 ∷ I2 ∷ I3 ∷ I4 ∷ I5 ∷ []
+
+abbrev till_taken : List Rule
+till_taken = U1 ∷ U2 ∷ U3 ∷ U4 ∷ H1 ∷ H2 ∷ H3 ∷ H4 ∷ H5 ∷ H6 ∷ H7 ∷ H8 ∷ S1 ∷ S2 ∷ S3 ∷ C1 ∷ C2 ∷ G1 ∷ G2 ∷ G3 ∷ G4 ∷ G5 ∷ B1 ∷ B2 ∷ B3 ∷ []
+
+abbrev from_taken : List Rule
+from_taken = I1 ∷ I2 ∷ I3 ∷ I4 ∷ I5 ∷ []
+
+last_or_before : (i s : ℕ) → s < suc i → (s ≡ i) ⊎ (s < i)
+last_or_before i s h = grind arith
+
+module _ (t : Trace) (slots : t.opening.slots ≤ 21) (few : length t.steps < 2 ^ 32) where
+  module _ (span : Span) (end : ℕ) (within : end ≤ 2 ^ 32) where
+    -- nothing begins before the start, and no cycle and no transfer at it
+    early : (i : ℕ) → i ≤ span.start → is_judged span i ≡ false
+    early i h = grind (arith, nat_tests)
+
+    early_tenures : (i : ℕ) → i < span.start → tenure_rows t span end i ≡ []
+    unfolding tenure_rows tenure_starts
+    early_tenures i h = rw (unlike i span.start h, early i (omega arith)) refl
+      where
+        unlike : (i s : ℕ) → i < s → (i == s) ≡ false
+        unlike i s h = grind (arith, nat_tests)
+
+    early_cycles : (i : ℕ) → i ≤ span.start → cycle_rows t span end i ≡ []
+    unfolding cycle_rows cycle_starts
+    early_cycles i h = rw (early i h) refl
+
+    early_transfers : (i : ℕ) → i ≤ span.start → transfer_rows t span end i ≡ []
+    unfolding transfer_rows transfer_starts
+    early_transfers i h = rw (early i h) refl
+
+    none_before : (i : ℕ) → i ≤ span.start → rows_before t span end i ≡ []
     unfolding rows_before
-    placed_before zero below before p more rest = rest before p
-    placed_before (suc i) below before p more rest =
-        let tenures = tenure_rows t span end i in
-        let cycles = cycle_rows t span end i in
-        let transfers = transfer_rows t span end i in
-        let split : rows_before t span end (suc i) ++ more ≡ rows_before t span end i ++ (tenures ++ (cycles ++ (transfers ++ more))) = simp append_assoc in
-        subst (λ rows. is_rest Two (Some before) rows ≡ true) (sym split)
-        (placed_before i (omega arith) before p (tenures ++ (cycles ++ (transfers ++ more)))
-        (λ a pa. group a i 0 tenures (cycles ++ (transfers ++ more)) (tenure_one t span end within i (omega arith) slots (taken i BBSY (omega arith) (omega arith))) pa
-        (λ b pb. group b i 1 cycles (transfers ++ more) (cycle_one t span end within i (omega arith) (λ l there. needed i l (omega arith) there)) pb
-        (λ c pc. group c i 2 transfers more (transfer_one t span end within i (omega arith)) pc
-        (λ d pd. rest d (record { unfinished = pd.unfinished; earlier = later_than (place_of d) i (suc i) 3 0 (inl (omega arith)) pd.earlier }))))))
+    none_before zero h = refl
+    none_before (suc i) h = rw (none_before i (omega arith), early_tenures i (omega arith), early_cycles i (omega arith), early_transfers i (omega arith)) refl
 
-  -- the verdict may stand behind a row that isn't one
-  last_is : (row : Row) (found : Option Break) → is_outcome (outcome_of found) ≡ true → is_verdict row ≡ false → is_rest Two (Some row) (Verdict (outcome_of found) ∷ []) ≡ true
-  unfolding is_rest follows is_row
-  last_is row found is e = both _ _ (both _ _ (both _ _ is (both _ _ (both _ _ (ap not e) refl) (ap not (named found)))) (unplaced (place_of row))) refl
-    where
-      unplaced : (o : Option (ℕ × ℕ)) → is_later o None ≡ true
-      unplaced None = refl
-      unplaced (Some p) = refl
+    module _ (needed : (i l : ℕ) → i < end → l < line_count → breaks t span U2 i l ≡ false) (taken : (i l : ℕ) → i < end → l < line_count → breaks t span B4 i l ≡ false) where
+      abbrev rows_at : ℕ → List Row → List Row
+      rows_at i more = tenure_rows t span end i ++ (cycle_rows t span end i ++ (transfer_rows t span end i ++ more))
 
-      by_rule : (b : Break) (r : Bool) → is_unreadable b.rule ≡ r → never_idles (outcome_of (Some b)) ≡ false
-      by_rule b true h = rw h refl
-      by_rule b false h = rw h refl
+      -- the rows that begin at an instant, and rows that may stand behind them
+      placed_at : (i : ℕ) → i < end → (before : Row) → Precedes before i 2 → (more : List Row) → ((row : Row) → Precedes row (suc i) 0 → is_rest Three (Some row) more ≡ true) → is_rest Three (Some before) (rows_at i more) ≡ true
+      placed_at i below before p more rest =
+          let cycles = cycle_rows t span end i in
+          let transfers = transfer_rows t span end i in
+          group before i 2 (tenure_rows t span end i) (cycles ++ (transfers ++ more)) (tenure_one t span end within i below slots (taken i BBSY below (omega arith))) p
+          (λ b pb. group b i 3 cycles (transfers ++ more) (cycle_one t span end within i below (λ l there. needed i l below there)) pb
+          (λ c pc. group c i 4 transfers more (transfer_one t span end within i below) pc
+          (λ d pd. rest d (later d i (suc i) 5 0 (inl (omega arith)) pd))))
 
-      named : (found : Option Break) → never_idles (outcome_of found) ≡ false
-      named None = refl
-      named (Some b) = by_rule b (is_unreadable b.rule) refl
+      -- the rows that begin before an instant, behind the start of the span, and rows that may stand behind them
+      placed_before : (n : ℕ) → span.start < n → n ≤ end → (more : List Row) → ((row : Row) → Precedes row n 0 → is_rest Three (Some row) more ≡ true)
+          → is_rest Three (Some (Start span.start)) (rows_before t span end n ++ more) ≡ true
+      unfolding rows_before
+      placed_before zero after below more rest = absurd (omega arith)
+      placed_before (suc i) after below more rest =
+          let tenures = tenure_rows t span end i in
+          let cycles = cycle_rows t span end i in
+          let transfers = transfer_rows t span end i in
+          let split : rows_before t span end (suc i) ++ more ≡ rows_before t span end i ++ rows_at i more = simp append_assoc in
+          subst (λ rows. is_rest Three (Some (Start span.start)) rows ≡ true) (sym split)
+          (elim (last_or_before i span.start after) [
+            | inl same ↦
+                subst (λ rows. is_rest Three (Some (Start span.start)) (rows ++ rows_at i more) ≡ true) (sym (none_before i (omega arith)))
+                (placed_at i (omega arith) (Start span.start) (later (Start span.start) span.start i 2 2 (inr (same, omega arith)) (after_start span.start)) more rest)
+            | inr before ↦
+                placed_before i before (omega arith) (rows_at i more)
+                (λ a pa. placed_at i (omega arith) a (later a i i 0 2 (inr (refl, omega arith)) pa) more rest)
+          ])
 
-  outcome_form : (found : Option Break) → least_break t span all_rules ≡ found → is_outcome (outcome_of found) ≡ true
-  outcome_form None e = refl
-  outcome_form (Some b) e =
-      let within = least_break-within t span all_rules b e in
-      by_rule (is_unreadable b.rule) refl (number b.instant (last_instant t + 1) within.0 (omega arith)) (is_less b.line line_count within.1)
+  -- what the least break names, of spans that follow one another
+  record IsNamed (first : ℕ) (b : Break) : Type 0 where
+    after : first < b.instant
+    below : b.instant < last_instant t + 1
+    line : b.line < line_count
+
+  by_first : (span : Span) (spans : List Span) (b : Break) → IsSpanOf t span → least_break t span all_rules ≡ Some b → IsNamed span.start b
+  by_first span spans b is e =
+      let there = least_break-within t span all_rules b e in
+      record { after = (least_break-judged t span all_rules b (starts_before_end t span is) e).0; below = there.0; line = there.1 }
+
+  named : (span : Span) (spans : List Span) (b : Break) → AreInOrder t (span ∷ spans) → least_of all_rules t (span ∷ spans) ≡ Some b → IsNamed span.start b
+  named span [] b order e = by_first span [] b order e
+  named span (next ∷ spans) b order e =
+      elim (either (least_break t span all_rules) (least_of all_rules t (next ∷ spans)) b e) [
+        | inl here ↦ by_first span (next ∷ spans) b order.0 here
+        | inr later ↦
+            let is = named next spans b order.3 later.1 in
+            record { after = omega (arith, starts_before_end t span order.0, order.2, is.after); below = is.below; line = is.line }
+      ]
+
+  outcome_form : (span : Span) (spans : List Span) → AreInOrder t (span ∷ spans) → (found : Option Break) → least_of all_rules t (span ∷ spans) ≡ found → is_outcome (outcome_of found) ≡ true
+  outcome_form span spans order None e = refl
+  outcome_form span spans order (Some b) e =
+      let is = named span spans b order e in
+      by_rule (is_unreadable b.rule) refl (number b.instant (last_instant t + 1) is.below (omega arith)) (is_less b.line line_count is.line)
     where
       by_rule : (r : Bool) → is_unreadable b.rule ≡ r → nat_lt b.instant (2 ^ 32) ≡ true → nat_lt b.line line_count ≡ true → is_outcome (outcome_of (Some b)) ≡ true
       by_rule true h n l = rw (h, h, n, l) refl
       by_rule false h n l = rw (h, h, n, l) refl
 
-  abbrev till_needed : List Rule
-  till_needed = U1 ∷ []
+  -- listed is the start of the first span, and no more than there is
+  record IsLimit (span : Span) (limit : ℕ) : Type 0 where
+    after : span.start < limit
+    most : limit ≤ last_instant t + 1
 
-  abbrev from_needed : List Rule
-  from_needed = U3 ∷ U4 ∷ H1 ∷ H2 ∷ H3 ∷ H4 ∷ H5 ∷ H6 ∷ H7 ∷ H8 ∷ S1 ∷ S2 ∷ S3 ∷ C1 ∷ C2 ∷ G1 ∷ G2 ∷ G3 ∷ G4 ∷ G5 ∷ B1 ∷ B2 ∷ B3 ∷ B4 ∷ I1 ∷ I2 ∷ I3 ∷ I4 ∷ I5 ∷ []
+  limit_form : (span : Span) (spans : List Span) → AreInOrder t (span ∷ spans) → (found : Option Break) → least_of all_rules t (span ∷ spans) ≡ found → IsLimit span (listed_end t found)
+  limit_form span spans order None e = record { after = omega (arith, (first spans order).within); most = omega arith }
+    where
+      first : (spans : List Span) → AreInOrder t (span ∷ spans) → IsSpanOf t span
+      first [] order = order
+      first (next ∷ spans) order = order.0
+  limit_form span spans order (Some b) e = let is = named span spans b order e in record { after = is.after; most = omega (arith, is.below) }
 
-  abbrev till_taken : List Rule
-  till_taken = U1 ∷ U2 ∷ U3 ∷ U4 ∷ H1 ∷ H2 ∷ H3 ∷ H4 ∷ H5 ∷ H6 ∷ H7 ∷ H8 ∷ S1 ∷ S2 ∷ S3 ∷ C1 ∷ C2 ∷ G1 ∷ G2 ∷ G3 ∷ G4 ∷ G5 ∷ B1 ∷ B2 ∷ B3 ∷ []
+  -- at each listed instant a cycle has what it needs, and a tenure is one of a slot
+  abbrev IsUnbroken : ℕ → Span → Type 0
+  IsUnbroken limit span = (i l : ℕ) → span.start < limit → i < limit → l < line_count → (breaks t span U2 i l ≡ false) × (breaks t span B4 i l ≡ false)
 
-  abbrev from_taken : List Rule
-  from_taken = I1 ∷ I2 ∷ I3 ∷ I4 ∷ I5 ∷ []
+  abbrev AreUnbroken : ℕ → List Span → Type 0
+  AreUnbroken limit [] = Unit {0}
+  AreUnbroken limit (span ∷ spans) = IsUnbroken limit span × AreUnbroken limit spans
 
-  -- the rows before the break, or all, behind the start, and the verdict
-  all_placed : (found : Option Break) → least_break t span all_rules ≡ found → (before : Row) → Precedes before 0 0 → is_rest Two (Some before) (rows_before t span (listed_end t found) (listed_end t found) ++ Verdict (outcome_of found) ∷ []) ≡ true
-  all_placed None e before p =
-      let end = last_instant t + 1 in
-      placed_before end (omega arith) (λ i l below there. unbroken_always t span till_needed from_needed U2 i l e below there) (λ i l below there. unbroken_always t span till_taken from_taken B4 i l e below there)
-      end (omega arith) before p (Verdict (outcome_of None) ∷ []) (λ row q. last_is row None (outcome_form None e) q.unfinished)
-  all_placed (Some b) e before p =
-      let within = (least_break-within t span all_rules b e).0 in
-      placed_before b.instant (omega arith) (λ i l below there. unbroken_before t span till_needed from_needed U2 b i l e below there) (λ i l below there. unbroken_before t span till_taken from_taken B4 b i l e below there)
-      b.instant (omega arith) before p (Verdict (outcome_of (Some b)) ∷ []) (λ row q. last_is row (Some b) (outcome_form (Some b) e) q.unfinished)
+  past_limit : (limit : ℕ) (span : Span) (spans : List Span) → AreInOrder t (span ∷ spans) → limit ≤ span.start → AreUnbroken limit (span ∷ spans)
+  past_limit limit span [] order h = (λ i l first. absurd (omega arith), tt)
+  past_limit limit span (next ∷ spans) order h =
+      (λ i l first. absurd (omega arith), past_limit limit next spans order.3 (omega (arith, starts_before_end t span order.0, order.2)))
 
-  span_placed : span.start < last_instant t + 1 → is_rest Two None (listing_of_span all_rules t span) ≡ true
+  held_always : (span : Span) → least_break t span all_rules ≡ None → (limit : ℕ) → limit ≤ last_instant t + 1 → IsUnbroken limit span
+  held_always span e limit most i l first below there =
+      (unbroken_always t span till_needed from_needed U2 i l e (omega arith) there, unbroken_always t span till_taken from_taken B4 i l e (omega arith) there)
+
+  held_before : (span : Span) (b : Break) → least_break t span all_rules ≡ Some b → IsUnbroken b.instant span
+  held_before span b e i l first below there =
+      (unbroken_before t span till_needed from_needed U2 b i l e below there, unbroken_before t span till_taken from_taken B4 b i l e below there)
+
+  unbroken : (span : Span) (spans : List Span) → AreInOrder t (span ∷ spans) → (found : Option Break) → least_of all_rules t (span ∷ spans) ≡ found → AreUnbroken (listed_end t found) (span ∷ spans)
+  unbroken span [] order None e = (held_always span e (last_instant t + 1) (omega arith), tt)
+  unbroken span [] order (Some b) e = (held_before span b e, tt)
+  unbroken span (next ∷ spans) order None e =
+      let none = neither (least_break t span all_rules) (least_of all_rules t (next ∷ spans)) e in
+      (held_always span none.0 (last_instant t + 1) (omega arith), unbroken next spans order.3 None none.1)
+  unbroken span (next ∷ spans) order (Some b) e =
+      elim (either (least_break t span all_rules) (least_of all_rules t (next ∷ spans)) b e) [
+        | inl here ↦
+            let judged = least_break-judged t span all_rules b (starts_before_end t span order.0) here in
+            (held_before span b here, past_limit b.instant next spans order.3 (omega (arith, judged.1, order.2)))
+        | inr later ↦
+            let is = named next spans b order.3 later.1 in
+            (held_always span later.0 b.instant (omega (arith, is.below)), unbroken next spans order.3 (Some b) later.1)
+      ]
+
+  module _ (limit : ℕ) (most : limit ≤ last_instant t + 1) where
+    -- no row is of a span that starts at the limit or later
+    none_of : (span : Span) → limit ≤ span.start → rows_of_span t limit span ≡ []
+    unfolding rows_of_span
+    none_of span h = rw (not_less span.start limit h) refl
+      where
+        not_less : (m n : ℕ) → n ≤ m → nat_lt m n ≡ false
+        not_less m n h = grind (arith, nat_tests)
+
+    unlisted : (span : Span) (spans : List Span) → AreInOrder t (span ∷ spans) → limit ≤ span.start → flat_map (rows_of_span t limit) (span ∷ spans) ≡ []
+    unlisted span [] order h = rw (none_of span h) refl
+    unlisted span (next ∷ spans) order h = rw (none_of span h) (unlisted next spans order.3 (omega (arith, starts_before_end t span order.0, order.2)))
+
+    -- the rows of a span whose start is listed, behind that start
+    abbrev rows_behind : Span → List Row
+    rows_behind span = rows_before t span (min span.end limit) (min span.end limit) ++ reset_rows t limit span
+
+    all_of : (span : Span) → span.start < limit → rows_of_span t limit span ≡ Start span.start ∷ rows_behind span
+    unfolding rows_of_span
+    all_of span h = rw (is_less span.start limit h) refl
+
+    -- a reset may stand behind what precedes it, and the start of a later span behind the reset
+    reset_follows : (row : Row) (i : ℕ) → i < limit → Precedes row i 0 → follows Three (Some row) (Reset i) ≡ true
+    unfolding is_row
+    reset_follows row i below p = follows_on row (Reset i) i 0 p (number i limit below (omega arith)) refl refl
+
+    start_follows : (i start : ℕ) → i < start → start < limit → follows Three (Some (Reset i)) (Start start) ≡ true
+    unfolding follows is_row
+    start_follows i start after below = both _ _ (both _ _ (number start limit below (omega arith)) refl) (higher i start after)
+      where
+        higher : (i j : ℕ) → i < j → (nat_lt i j || ((i == j) && nat_lt 0 1)) ≡ true
+        higher i j h = grind (arith, nat_tests)
+
+    module _ (found : Option Break) (is : is_outcome (outcome_of found) ≡ true) where
+      abbrev verdict : List Row
+      verdict = Verdict (outcome_of found) ∷ []
+
+      -- the rows of spans that follow one another, and the verdict
+      abbrev rows_of : List Span → List Row
+      rows_of spans = flat_map (rows_of_span t limit) spans ++ verdict
+
+      rows_split : (span : Span) (spans : List Span) → span.start < limit → rows_of (span ∷ spans) ≡ Start span.start ∷ rows_behind span ++ rows_of spans
+      rows_split span spans h =
+          ap (λ rows. (rows ++ flat_map (rows_of_span t limit) spans) ++ verdict) (all_of span h)
+          ∙ ap (λ rows. Start span.start ∷ rows) (append_assoc (rows_behind span) (flat_map (rows_of_span t limit) spans) verdict)
+
+      -- where the reset of a span isn't listed, no later span is
+      only_verdict : (span : Span) (spans : List Span) → AreInOrder t (span ∷ spans) → (is_reset_at t span.end && nat_lt span.end limit) ≡ false → rows_of spans ≡ verdict
+      only_verdict span [] order e = refl
+      only_verdict span (next ∷ spans) order e =
+          ap (λ rows. rows ++ verdict) (unlisted next spans order.3 (omega (arith, order.2, past (is_reset_at t span.end) span.end order.1 e)))
+        where
+          past : (b : Bool) (n : ℕ) → b ≡ true → (b && nat_lt n limit) ≡ false → limit ≤ n
+          past b n h e = grind (arith, nat_tests)
+
+      -- behind the start of a span stand its rows, and what may stand behind its reset, where that is listed
+      span_placed : (span : Span) (spans : List Span) → AreInOrder t (span ∷ spans) → IsUnbroken limit span → span.start < span.end → span.start < limit
+          → ((is_reset_at t span.end && nat_lt span.end limit) ≡ true → is_rest Three (Some (Reset span.end)) (rows_of spans) ≡ true)
+          → is_rest Three (Some (Start span.start)) (rows_behind span ++ rows_of spans) ≡ true
+      unfolding is_rest
+      span_placed span spans order held whole listed after =
+          let end = min span.end limit in
+          subst (λ rows. is_rest Three (Some (Start span.start)) rows ≡ true) (sym (append_assoc (rows_before t span end end) (reset_rows t limit span) (rows_of spans)))
+          (placed_before span end (omega (arith, min-le_right span.end limit))
+          (λ i l below there. (held i l listed (omega (arith, min-le_right span.end limit)) there).0)
+          (λ i l below there. (held i l listed (omega (arith, min-le_right span.end limit)) there).1)
+          end (lesser span.start span.end limit whole listed) (omega arith) (reset_rows t limit span ++ rows_of spans)
+          (λ row p. by_reset row p (is_reset_at t span.end && nat_lt span.end limit) refl))
+        where
+          lesser : (s a b : ℕ) → s < a → s < b → s < min a b
+          lesser s a b h k = grind (arith, nat_tests)
+
+          below_limit : (b : Bool) (n : ℕ) → (b && nat_lt n limit) ≡ true → n < limit
+          below_limit b n e = grind (arith, nat_tests)
+
+          by_reset : (row : Row) → Precedes row (min span.end limit) 0 → (b : Bool) → (is_reset_at t span.end && nat_lt span.end limit) ≡ b
+              → is_rest Three (Some row) (cond b (Reset span.end ∷ []) [] ++ rows_of spans) ≡ true
+          by_reset row p true e =
+              let below = below_limit (is_reset_at t span.end) span.end e in
+              both _ _ (reset_follows row span.end below (subst (λ i. Precedes row i 0) (min-eq_left (omega arith)) p)) (after e)
+          by_reset row p false e = subst (λ rows. is_rest Three (Some row) rows ≡ true) (sym (only_verdict span spans order e)) (last_is row found is p.unfinished)
+
+      -- behind the start of a span stand its rows, those of the spans after it, and the verdict
+      behind_start : (span : Span) (spans : List Span) → AreInOrder t (span ∷ spans) → AreUnbroken limit (span ∷ spans) → span.start < limit → is_rest Three (Some (Start span.start)) (rows_behind span ++ rows_of spans) ≡ true
+      unfolding is_rest
+      behind_start span [] order held listed =
+          span_placed span [] order held.0 (starts_before_end t span order) listed (λ reset. last_is (Reset span.end) found is refl)
+      behind_start span (next ∷ spans) order held listed =
+          span_placed span (next ∷ spans) order held.0 (starts_before_end t span order.0) listed
+          (λ reset.
+          elim (by_limit next.start) [
+            | inl below ↦
+                subst (λ rows. is_rest Three (Some (Reset span.end)) rows ≡ true) (sym (rows_split next spans below))
+                (both _ _ (start_follows span.end next.start order.2 below) (behind_start next spans order.3 held.1 below))
+            | inr past ↦
+                subst (λ rows. is_rest Three (Some (Reset span.end)) rows ≡ true) (sym (ap (λ rows. rows ++ verdict) (unlisted next spans order.3 past)))
+                (last_is (Reset span.end) found is refl)
+          ])
+        where
+          by_limit : (n : ℕ) → (n < limit) ⊎ (limit ≤ n)
+          by_limit n = grind arith
+
+  all_placed : (span : Span) (spans : List Span) → AreInOrder t (span ∷ spans) → (found : Option Break) → least_of all_rules t (span ∷ spans) ≡ found → is_rest Three None (listing_before t (span ∷ spans) found) ≡ true
   unfolding is_rest follows is_row
-  span_placed first =
-      both _ _ (both _ _ (both _ _ (number span.start (last_instant t + 1) first (omega arith)) refl) refl)
-      (all_placed (least_break t span all_rules) refl (Start span.start) (record { unfinished = refl; earlier = refl }))
-
-starts_within : (t : Trace) (span : Span) (spans : List Span) → judged_spans t ≡ span ∷ spans → span.start < last_instant t + 1
-unfolding judged_spans judged_span
-starts_within t span spans e = by_start (least (is_idle_at t) 0 (last_instant t + 1)) (λ s f. (least-found (is_idle_at t) 0 (last_instant t + 1) s f).below) e
-  where
-    by_start : (o : Option ℕ) → ((s : ℕ) → o ≡ Some s → s < last_instant t + 1) → option_to_list (option_map (span_from t) o) ≡ span ∷ spans → span.start < last_instant t + 1
-    by_start None h f = absurd (cc)
-    by_start (Some s) h f =
-        let same : span_from t s ≡ span = cc in
-        subst (λ (x : Span). x.start < last_instant t + 1) same (h s refl)
+  all_placed span spans order found e =
+      let limit = listed_end t found in
+      let form = limit_form span spans order found e in
+      let is = outcome_form span spans order found e in
+      subst (λ rows. is_rest Three None rows ≡ true) (sym (rows_split limit form.most found is span spans form.after))
+      (both _ _ (both _ _ (both _ _ (number span.start limit form.after (omega (arith, form.most))) refl) refl)
+      (behind_start limit form.most found is span spans order (unbroken span spans order found e) form.after))
 
 -- the listing of a recording whose slots and instants can be written is well placed
-pub listing_placed : (t : Trace) → t.opening.slots ≤ 21 → length t.steps < 2 ^ 32 → is_well_placed (record { version = Two; rows = recorded_rows t }) ≡ true
+pub listing_placed : (t : Trace) → t.opening.slots ≤ 21 → length t.steps < 2 ^ 32 → is_well_placed (record { version = Three; rows = recorded_rows t }) ≡ true
 unfolding listing_by is_rest follows is_row
-listing_placed t slots few = by_spans (judged_spans t) refl
+listing_placed t slots few = by_spans (judged_spans t) (spans_in_order t)
   where
-    by_spans : (spans : List Span) → judged_spans t ≡ spans → is_rest Two None (listing_of_spans all_rules t spans) ≡ true
-    by_spans [] e = refl
-    by_spans (span ∷ spans) e = span_placed t slots few span (starts_within t span spans e)
+    by_spans : (spans : List Span) → AreInOrder t spans → is_rest Three None (listing_of_spans all_rules t spans) ≡ true
+    by_spans [] order = refl
+    by_spans (span ∷ spans) order = all_placed t slots few span spans order (least_of all_rules t (span ∷ spans)) refl

@@ -1,8 +1,20 @@
 -- A listing as a value: its version, and its rows in their order.
-use Rattle.std.specs.Prelude.{List}
+use Rattle.std.specs.Prelude.{Bool, true, false, List}
 use Rattle.vme_listing.specs.declared.row.Row.{Row}
 use Rattle.vme_listing.specs.declared.row.Version.{Version}
-use Rattle.vme_listing.specs.declared.row.Version.TheVariants.{Two}
+use Rattle.vme_listing.specs.declared.row.Version.TheVariants.{One, Two, Three}
+
+-- the rows of answered writes have their data
+abbrev pub tells_data : Version → Bool
+tells_data One = false
+tells_data Two = true
+tells_data Three = true
+
+-- resets have rows
+abbrev pub tells_resets : Version → Bool
+tells_resets One = false
+tells_resets Two = false
+tells_resets Three = true
 
 pub record Listed : Type 0 where
   pub version : Version
@@ -10,4 +22,4 @@ pub record Listed : Type 0 where
 
 -- rows as a listing of the newest version
 abbrev pub in_newest_version : List Row → Listed
-in_newest_version rows = record { version = Two; rows = rows }
+in_newest_version rows = record { version = Three; rows = rows }

@@ -1,7 +1,8 @@
 -- Which listings are well placed: each row is one that its table allows and stands where it may, and the rows
--- between the first and the last ascend by their first instant and then by their kind.
+-- before the last ascend by their first instant and then by their kind.
 use Rattle.std.specs.Prelude.{ℕ, Bool, true, false, not, ◌+◌, ◌^◌, ◌%◌, ◌==◌, ◌&&◌, ◌||◌, List, [], ◌∷◌}
-use Rattle.std.specs.Prelude.{Option, None, Some, nat_lt, nat_le}
+use Rattle.std.specs.Prelude.{Option, None, Some, nat_lt, nat_le, if◌then◌else◌}
+use Rattle.std.specs.List.{list_all}
 use Rattle.vme_trace.specs.Cycle.{highest_address, is_block}
 use Rattle.vme_trace.specs.LineNumbers.{line_count}
 use Rattle.vme_trace.specs.Verdict.{is_unreadable}
@@ -9,15 +10,15 @@ use Rattle.vme_trace.specs.declared.class.Class.{Class}
 use Rattle.vme_trace.specs.declared.class.Class.TheVariants as class
 use Rattle.vme_trace.specs.declared.data.Lanes.{Lanes}
 use Rattle.vme_listing.specs.LaneDigits.{is_moved_in, digit_in, flag_in}
-use Rattle.vme_listing.specs.Listed.{Listed}
+use Rattle.vme_listing.specs.Listed.{Listed, tells_data, tells_resets}
 use Rattle.vme_listing.specs.declared.row.Direction.{Direction}
 use Rattle.vme_listing.specs.declared.row.Direction.TheVariants.{Read, Write}
 use Rattle.vme_listing.specs.declared.row.Version.{Version}
-use Rattle.vme_listing.specs.declared.row.Version.TheVariants.{One, Two}
 use Rattle.vme_listing.specs.declared.row.Outcome.{Outcome}
 use Rattle.vme_listing.specs.declared.row.Outcome.TheVariants.{Conforming, NeverIdle, Broken, Unreadable}
 use Rattle.vme_listing.specs.declared.row.Row.{Row}
-use Rattle.vme_listing.specs.declared.row.Row.TheVariants.{Start, OpenTenure, Tenure, AddressedCycle, FreeCycle, InterruptCycle, Transfer, PendingTransfer, Verdict}
+use Rattle.vme_listing.specs.declared.row.Row.TheVariants.{Start, Reset, OpenTenure, Tenure, AddressedCycle}
+use Rattle.vme_listing.specs.declared.row.Row.TheVariants.{FreeCycle, InterruptCycle, Transfer, PendingTransfer, Verdict}
 
 -- a number is at most 4,294,967,295
 abbrev pub is_number : ℕ → Bool
@@ -60,18 +61,19 @@ are_digits_from a place =
 unfoldable pub is_lanes : Lanes → Bool
 is_lanes a = nat_lt a.value (2 ^ 32) && nat_lt a.unknown 256 && are_digits_from a 0 && are_digits_from a 4
 
--- the row of an answered write has data in version 2, and no other row has
+abbrev pub is_write : Direction → Bool
+is_write Read = false
+is_write Write = true
+
+-- the row of an answered write has data where the version tells them, and no other row has
 abbrev pub has_data : Version → Direction → Option Lanes → Bool
-has_data One direction None = true
-has_data One direction (Some a) = false
-has_data Two Read None = true
-has_data Two Read (Some a) = false
-has_data Two Write None = false
-has_data Two Write (Some a) = is_lanes a
+has_data version direction None = not (tells_data version && is_write direction)
+has_data version direction (Some a) = tells_data version && is_write direction && is_lanes a
 
 -- the row is one that its form allows
 unfoldable pub is_row : Version → Row → Bool
 is_row version (Start instant) = is_number instant
+is_row version (Reset instant) = tells_resets version && is_number instant
 is_row version (OpenTenure start end) = is_number start && is_edge end
 is_row version (Tenure start level slot end) =
     is_number start && nat_lt level 4 && nat_le 1 slot && nat_le slot 21 && is_edge end
@@ -80,30 +82,44 @@ is_row version (AddressedCycle start class modifier address end) =
 is_row version (FreeCycle start modifier end) =
     is_number start && nat_lt modifier 64 && (highest_address modifier == 0) && is_edge end
 is_row version (InterruptCycle start level end) = is_number start && nat_lt level 8 && is_edge end
-is_row version (Transfer start cycle direction line answer close lanes) =
+is_row version (Transfer direction line start cycle answer close lanes) =
     is_number start && is_number cycle && is_number answer && is_edge close && has_data version direction lanes
 is_row version (PendingTransfer start direction) = is_number start
 is_row version (Verdict outcome) = is_outcome outcome
 
 abbrev pub is_start : Row → Bool
 is_start (Start instant) = true
+is_start (Reset instant) = false
 is_start (OpenTenure start end) = false
 is_start (Tenure start level slot end) = false
 is_start (AddressedCycle start class modifier address end) = false
 is_start (FreeCycle start modifier end) = false
 is_start (InterruptCycle start level end) = false
-is_start (Transfer start cycle direction line answer close lanes) = false
+is_start (Transfer direction line start cycle answer close lanes) = false
 is_start (PendingTransfer start direction) = false
 is_start (Verdict outcome) = false
 
+abbrev pub is_reset : Row → Bool
+is_reset (Start instant) = false
+is_reset (Reset instant) = true
+is_reset (OpenTenure start end) = false
+is_reset (Tenure start level slot end) = false
+is_reset (AddressedCycle start class modifier address end) = false
+is_reset (FreeCycle start modifier end) = false
+is_reset (InterruptCycle start level end) = false
+is_reset (Transfer direction line start cycle answer close lanes) = false
+is_reset (PendingTransfer start direction) = false
+is_reset (Verdict outcome) = false
+
 abbrev pub is_verdict : Row → Bool
 is_verdict (Start instant) = false
+is_verdict (Reset instant) = false
 is_verdict (OpenTenure start end) = false
 is_verdict (Tenure start level slot end) = false
 is_verdict (AddressedCycle start class modifier address end) = false
 is_verdict (FreeCycle start modifier end) = false
 is_verdict (InterruptCycle start level end) = false
-is_verdict (Transfer start cycle direction line answer close lanes) = false
+is_verdict (Transfer direction line start cycle answer close lanes) = false
 is_verdict (PendingTransfer start direction) = false
 is_verdict (Verdict outcome) = true
 
@@ -115,46 +131,52 @@ never_idles (Unreadable rule instant line) = false
 
 abbrev pub is_never_idle : Row → Bool
 is_never_idle (Start instant) = false
+is_never_idle (Reset instant) = false
 is_never_idle (OpenTenure start end) = false
 is_never_idle (Tenure start level slot end) = false
 is_never_idle (AddressedCycle start class modifier address end) = false
 is_never_idle (FreeCycle start modifier end) = false
 is_never_idle (InterruptCycle start level end) = false
-is_never_idle (Transfer start cycle direction line answer close lanes) = false
+is_never_idle (Transfer direction line start cycle answer close lanes) = false
 is_never_idle (PendingTransfer start direction) = false
 is_never_idle (Verdict outcome) = never_idles outcome
 
--- a row of a tenure, a cycle or a transfer: its first instant, and the order of its kind
-abbrev pub place_of : Row → Option (ℕ × ℕ)
-place_of (Start instant) = None
-place_of (OpenTenure start end) = Some (start, 0)
-place_of (Tenure start level slot end) = Some (start, 0)
-place_of (AddressedCycle start class modifier address end) = Some (start, 1)
-place_of (FreeCycle start modifier end) = Some (start, 1)
-place_of (InterruptCycle start level end) = Some (start, 1)
-place_of (Transfer start cycle direction line answer close lanes) = Some (start, 2)
-place_of (PendingTransfer start direction) = Some (start, 2)
-place_of (Verdict outcome) = None
+-- the first instant of a row, and the order of its kind: the verdict has none, and a start has them only where the
+-- version tells resets
+abbrev pub place_of : Version → Row → Option (ℕ × ℕ)
+place_of version (Start instant) = if tells_resets version then Some (instant, 1) else None
+place_of version (Reset instant) = Some (instant, 0)
+place_of version (OpenTenure start end) = Some (start, 2)
+place_of version (Tenure start level slot end) = Some (start, 2)
+place_of version (AddressedCycle start class modifier address end) = Some (start, 3)
+place_of version (FreeCycle start modifier end) = Some (start, 3)
+place_of version (InterruptCycle start level end) = Some (start, 3)
+place_of version (Transfer direction line start cycle answer close lanes) = Some (start, 4)
+place_of version (PendingTransfer start direction) = Some (start, 4)
+place_of version (Verdict outcome) = None
 
--- by its form a row may stand behind the one before it, or as the first: a listing is the one row that the bus is
--- never idle, or a start, then tenures, cycles and transfers, and then another verdict
+-- by its form a row may stand behind the one before it, or as the first. A listing is the one row that the bus is never
+-- idle; or it is a start, then tenures, cycles and transfers, and then another verdict. A reset may stand before that
+-- verdict, or before another start and what may follow a start
 abbrev pub may_follow : Option Row → Row → Bool
 may_follow None row = is_start row || is_never_idle row
-may_follow (Some before) row = not (is_verdict before) && not (is_start row) && not (is_never_idle row)
+may_follow (Some before) row =
+    not (is_verdict before) && not (is_never_idle row)
+    && (if is_reset before then is_start row || is_verdict row else not (is_start row))
 
 abbrev pub is_later : Option (ℕ × ℕ) → Option (ℕ × ℕ) → Bool
 is_later None after = true
 is_later (Some before) None = true
 is_later (Some before) (Some after) = nat_lt before.0 after.0 || ((before.0 == after.0) && nat_lt before.1 after.1)
 
--- of two tenures, cycles or transfers the second has the later instant, or at one instant the later kind
-abbrev pub ascends : Option Row → Row → Bool
-ascends None row = true
-ascends (Some before) row = is_later (place_of before) (place_of row)
+-- of two rows that have a place the second has the later instant, or at one instant the later kind
+abbrev pub ascends : Version → Option Row → Row → Bool
+ascends version None row = true
+ascends version (Some before) row = is_later (place_of version before) (place_of version row)
 
 -- the row may stand behind the one before it
 unfoldable pub follows : Version → Option Row → Row → Bool
-follows version before row = is_row version row && may_follow before row && ascends before row
+follows version before row = is_row version row && may_follow before row && ascends version before row
 
 abbrev pub ends_listing : Option Row → Bool
 ends_listing None = false
@@ -164,6 +186,10 @@ ends_listing (Some row) = is_verdict row
 unfoldable pub is_rest : Version → Option Row → List Row → Bool
 is_rest version before [] = ends_listing before
 is_rest version before (row ∷ rows) = follows version before row && is_rest version (Some row) rows
+
+-- a listing of the version can have these rows: it tells resets, or none of them is one
+abbrev pub can_tell : Version → List Row → Bool
+can_tell version rows = tells_resets version || list_all (λ row. not (is_reset row)) rows
 
 abbrev pub is_well_placed : Listed → Bool
 is_well_placed l = is_rest l.version None l.rows

@@ -42,7 +42,7 @@ IsNoRow version before rest =
 abbrev pub IsUnsorted : Version → Option Row → List ℕ → Type 0
 IsUnsorted version before rest =
     (row : Row) × (more : List ℕ) × (is_row version row ≡ true) × (may_follow before row ≡ true)
-    × (ascends before row ≡ false) × IsFront rest row more
+    × (ascends version before row ≡ false) × IsFront rest row more
 
 -- this is the fault of the row that should follow these, at the front of the rest
 abbrev pub IsRowFault : Version → List Row → List ℕ → ListFault → Type 0

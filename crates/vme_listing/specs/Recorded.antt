@@ -1,17 +1,18 @@
--- The listing of a recording: its judged tenures, cycles and transfers before the least break, and the verdict.
-use Rattle.std.specs.Prelude.{ℕ, zero, suc, ◌+◌, ◌/◌, ◌^◌, ◌==◌, ◌&&◌, List, [], ◌∷◌, ◌++◌, map}
-use Rattle.std.specs.Prelude.{Option, None, Some, if◌then◌else◌}
+-- The listing of a recording: the starts and resets of what is judged, its tenures, cycles and transfers, before the
+-- least break, and the verdict.
+use Rattle.std.specs.Prelude.{ℕ, zero, suc, ◌+◌, ◌/◌, ◌^◌, ◌==◌, ◌&&◌, List, [], ◌∷◌, ◌++◌, map, flat_map}
+use Rattle.std.specs.Prelude.{min, nat_lt, Option, None, Some, if◌then◌else◌}
 use Rattle.vme_trace.specs.Instants.{least}
 use Rattle.vme_trace.specs.LineNumbers.{AS, DTACK, BBSY, A}
 use Rattle.vme_trace.specs.Levels.{Levels, level_at, is_high}
 use Rattle.vme_trace.specs.Cycle.{modifier_of, highest_address, class_of}
 use Rattle.vme_trace.specs.Trace.{Trace, levels_at, last_instant}
 use Rattle.vme_trace.specs.Signals.{low, falls, rises}
-use Rattle.vme_trace.specs.Judged.{Span, judged_spans}
+use Rattle.vme_trace.specs.Judged.{Span, is_reset_at, judged_spans}
 use Rattle.vme_trace.specs.Transfers.{strobes_high, transfer_starts, answers, is_write, data_at}
 use Rattle.vme_trace.specs.Cycles.{cycle_starts, cycle_of}
 use Rattle.vme_trace.specs.Tenures.{tenure_starts, tenure_level, tenure_slot}
-use Rattle.vme_trace.specs.Verdict.{all_rules, least_break, is_unreadable}
+use Rattle.vme_trace.specs.Verdict.{all_rules, least_of, is_unreadable}
 use Rattle.vme_trace.specs.declared.class.Class.{Class}
 use Rattle.vme_trace.specs.declared.class.Class.TheVariants as class
 use Rattle.vme_trace.specs.declared.data.Lanes.{Lanes}
@@ -23,11 +24,11 @@ use Rattle.vme_listing.specs.declared.row.Direction.{Direction}
 use Rattle.vme_listing.specs.declared.row.Direction.TheVariants.{Read, Write}
 use Rattle.vme_listing.specs.declared.row.Outcome.{Outcome}
 use Rattle.vme_listing.specs.declared.row.Outcome.TheVariants.{Conforming, NeverIdle, Broken, Unreadable}
-use Rattle.vme_listing.specs.Listed.{Listed, in_newest_version}
+use Rattle.vme_listing.specs.Listed.{Listed, in_newest_version, tells_data}
 use Rattle.vme_listing.specs.declared.row.Version.{Version}
-use Rattle.vme_listing.specs.declared.row.Version.TheVariants.{One, Two}
 use Rattle.vme_listing.specs.declared.row.Row.{Row}
-use Rattle.vme_listing.specs.declared.row.Row.TheVariants.{Start, OpenTenure, Tenure, AddressedCycle, FreeCycle, InterruptCycle, Transfer, PendingTransfer, Verdict}
+use Rattle.vme_listing.specs.declared.row.Row.TheVariants.{Start, Reset, OpenTenure, Tenure, AddressedCycle}
+use Rattle.vme_listing.specs.declared.row.Row.TheVariants.{FreeCycle, InterruptCycle, Transfer, PendingTransfer, Verdict}
 
 -- the address on lines 1 to n, a high line being 1 and any other 0
 abbrev pub address_to : Levels → ℕ → ℕ
@@ -79,7 +80,7 @@ module _ (t : Trace) (span : Span) (end : ℕ) where
   abbrev pub answered_row : ℕ → ℕ → Option ℕ → Row
   answered_row i r None = PendingTransfer i (direction_of i)
   answered_row i r (Some cycle) =
-      Transfer i cycle (direction_of i) (answer_line r) r (least (strobes_high t) (i + 1) end) (data_of i r)
+      Transfer (direction_of i) (answer_line r) i cycle r (least (strobes_high t) (i + 1) end) (data_of i r)
 
   abbrev pub transfer_row : ℕ → Option ℕ → Row
   transfer_row i None = PendingTransfer i (direction_of i)
@@ -93,6 +94,21 @@ module _ (t : Trace) (span : Span) (end : ℕ) where
   rows_before zero = []
   rows_before (suc i) = rows_before i ++ tenure_rows i ++ cycle_rows i ++ transfer_rows i
 
+-- limit: the first instant of the recording that isn't listed
+module _ (t : Trace) (limit : ℕ) (span : Span) where
+  -- the first instant of the span that isn't listed, or its end
+  abbrev pub limit_in : ℕ
+  limit_in = min span.end limit
+
+  -- the reset that ends the span, where it is listed
+  abbrev pub reset_rows : List Row
+  reset_rows = if is_reset_at t span.end && nat_lt span.end limit then Reset span.end ∷ [] else []
+
+  -- of a span whose start is listed, that start, what begins in the span, and its reset
+  unfoldable pub rows_of_span : List Row
+  rows_of_span =
+      if nat_lt span.start limit then Start span.start ∷ rows_before t span limit_in limit_in ++ reset_rows else []
+
 -- listed are the instants before the break, or all
 abbrev pub listed_end : Trace → Option Break → ℕ
 listed_end t None = last_instant t + 1
@@ -102,14 +118,14 @@ abbrev pub outcome_of : Option Break → Outcome
 outcome_of None = Conforming
 outcome_of (Some b) = if is_unreadable b.rule then Unreadable b.rule b.instant b.line else Broken b.rule b.instant b.line
 
-abbrev pub listing_of_span : List Rule → Trace → Span → List Row
-listing_of_span rules t span =
-    let found = least_break t span rules in
-    Start span.start ∷ rows_before t span (listed_end t found) (listed_end t found) ++ Verdict (outcome_of found) ∷ []
+-- the rows of spans that follow one another, where this is their least break
+abbrev pub listing_before : Trace → List Span → Option Break → List Row
+listing_before t spans found =
+    flat_map (rows_of_span t (listed_end t found)) spans ++ Verdict (outcome_of found) ∷ []
 
 abbrev pub listing_of_spans : List Rule → Trace → List Span → List Row
 listing_of_spans rules t [] = Verdict NeverIdle ∷ []
-listing_of_spans rules t (span ∷ spans) = listing_of_span rules t span
+listing_of_spans rules t (span ∷ spans) = listing_before t (span ∷ spans) (least_of rules t (span ∷ spans))
 
 -- the listing of a recording by some rules
 unfoldable pub listing_by : List Rule → Trace → List Row
@@ -126,22 +142,21 @@ listing_of t = in_newest_version (recorded_rows t)
 -- the row without its data
 abbrev pub without_data : Row → Row
 without_data (Start instant) = Start instant
+without_data (Reset instant) = Reset instant
 without_data (OpenTenure start end) = OpenTenure start end
 without_data (Tenure start level slot end) = Tenure start level slot end
 without_data (AddressedCycle start class modifier address end) = AddressedCycle start class modifier address end
 without_data (FreeCycle start modifier end) = FreeCycle start modifier end
 without_data (InterruptCycle start level end) = InterruptCycle start level end
-without_data (Transfer start cycle direction line answer close lanes) =
-    Transfer start cycle direction line answer close None
+without_data (Transfer direction line start cycle answer close lanes) =
+    Transfer direction line start cycle answer close None
 without_data (PendingTransfer start direction) = PendingTransfer start direction
 without_data (Verdict outcome) = Verdict outcome
 
--- the row of a listing of version 2 as one of this version
+-- the row of a listing of the newest version as one of this version
 abbrev pub row_in : Version → Row → Row
-row_in One row = without_data row
-row_in Two row = row
+row_in version row = if tells_data version then row else without_data row
 
 -- the rows
 unfoldable pub rows_in : Version → List Row → List Row
-rows_in One rows = map without_data rows
-rows_in Two rows = rows
+rows_in version rows = if tells_data version then rows else map without_data rows

@@ -18,9 +18,10 @@ use Rattle.vme_listing.specs.declared.row.Direction.TheVariants.{Read, Write}
 use Rattle.vme_listing.specs.declared.row.Outcome.{Outcome}
 use Rattle.vme_listing.specs.declared.row.Outcome.TheVariants.{Conforming, NeverIdle, Broken, Unreadable}
 use Rattle.vme_listing.specs.declared.row.Version.{Version}
-use Rattle.vme_listing.specs.declared.row.Version.TheVariants.{One, Two}
+use Rattle.vme_listing.specs.declared.row.Version.TheVariants.{One, Two, Three}
 use Rattle.vme_listing.specs.declared.row.Row.{Row}
-use Rattle.vme_listing.specs.declared.row.Row.TheVariants.{Start, OpenTenure, Tenure, AddressedCycle, FreeCycle, InterruptCycle, Transfer, PendingTransfer, Verdict}
+use Rattle.vme_listing.specs.declared.row.Row.TheVariants.{Start, Reset, OpenTenure, Tenure, AddressedCycle}
+use Rattle.vme_listing.specs.declared.row.Row.TheVariants.{FreeCycle, InterruptCycle, Transfer, PendingTransfer, Verdict}
 
 -- an end or a close: its instant, or a hyphen where it isn't at a listed instant
 abbrev pub edge_text : Option ℕ → List ℕ
@@ -81,6 +82,7 @@ verdict_text (Unreadable rule instant line) = codes "verdict unreadable " ++ bre
 -- the line of a row, without its line feed
 unfoldable pub row_text : Row → List ℕ
 row_text (Start instant) = codes "start " ++ decimal instant
+row_text (Reset instant) = codes "reset " ++ decimal instant
 row_text (OpenTenure start end) = codes "tenure " ++ decimal start ++ codes " open end " ++ edge_text end
 row_text (Tenure start level slot end) =
     codes "tenure " ++ decimal start ++ codes " level " ++ decimal level ++ codes " slot " ++ decimal slot ++ codes " end " ++ edge_text end
@@ -91,7 +93,7 @@ row_text (FreeCycle start modifier end) =
     codes "cycle " ++ decimal start ++ codes " F " ++ hexadecimal 2 modifier ++ codes " end " ++ edge_text end
 row_text (InterruptCycle start level end) =
     codes "cycle " ++ decimal start ++ codes " I " ++ decimal level ++ codes " end " ++ edge_text end
-row_text (Transfer start cycle direction line answer close lanes) =
+row_text (Transfer direction line start cycle answer close lanes) =
     codes "transfer " ++ decimal start ++ codes " of " ++ decimal cycle ++ codes " " ++ direction_text direction ++ codes " "
     ++ answer_text line ++ codes " " ++ decimal answer ++ codes " close " ++ edge_text close ++ data_text lanes
 row_text (PendingTransfer start direction) =
@@ -104,6 +106,7 @@ line_feed = 10
 abbrev pub header : Version → List ℕ
 header One = codes "vmecheck listing 1" ++ line_feed ∷ []
 header Two = codes "vmecheck listing 2" ++ line_feed ∷ []
+header Three = codes "vmecheck listing 3" ++ line_feed ∷ []
 
 -- the line of a row
 abbrev pub line_of : Row → List ℕ

@@ -17,7 +17,8 @@ use Rattle.vme_listing.specs.declared.row.Direction.TheVariants.{Read, Write}
 use Rattle.vme_listing.specs.declared.row.Outcome.{Outcome}
 use Rattle.vme_listing.specs.declared.row.Outcome.TheVariants.{Conforming, NeverIdle, Broken, Unreadable}
 use Rattle.vme_listing.specs.declared.row.Row.{Row}
-use Rattle.vme_listing.specs.declared.row.Row.TheVariants.{Start, OpenTenure, Tenure, AddressedCycle, FreeCycle, InterruptCycle, Transfer, PendingTransfer, Verdict}
+use Rattle.vme_listing.specs.declared.row.Row.TheVariants.{Start, Reset, OpenTenure, Tenure, AddressedCycle}
+use Rattle.vme_listing.specs.declared.row.Row.TheVariants.{FreeCycle, InterruptCycle, Transfer, PendingTransfer, Verdict}
 
 -- the words of a line, between its spaces
 unfoldable pub words : List ℕ → List (List ℕ)
@@ -103,8 +104,8 @@ unfoldable pub transfer_of : List (List ℕ) → Row
 transfer_of ws =
     if bytes_eq (word_at ws 2) (codes "of")
     then
-    Transfer (number_of 10 (word_at ws 1)) (number_of 10 (word_at ws 3)) (direction_of (word_at ws 4))
-    (answer_of (word_at ws 5)) (number_of 10 (word_at ws 6)) (edge_of (word_at ws 8))
+    Transfer (direction_of (word_at ws 4)) (answer_of (word_at ws 5)) (number_of 10 (word_at ws 1))
+    (number_of 10 (word_at ws 3)) (number_of 10 (word_at ws 6)) (edge_of (word_at ws 8))
     (lanes_of (word_at ws 9) (word_at ws 10))
     else PendingTransfer (number_of 10 (word_at ws 1)) (direction_of (word_at ws 2))
 
@@ -127,6 +128,7 @@ verdict_of (Some outcome) = Some (Verdict outcome)
 unfoldable pub row_of : List (List ℕ) → Option Row
 row_of ws =
     if bytes_eq (word_at ws 0) (codes "start") then Some (Start (number_of 10 (word_at ws 1)))
+    else if bytes_eq (word_at ws 0) (codes "reset") then Some (Reset (number_of 10 (word_at ws 1)))
     else if bytes_eq (word_at ws 0) (codes "tenure") then Some (tenure_of ws)
     else if bytes_eq (word_at ws 0) (codes "cycle") then Some (cycle_of ws)
     else if bytes_eq (word_at ws 0) (codes "transfer") then Some (transfer_of ws)

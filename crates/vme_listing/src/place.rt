@@ -4,8 +4,8 @@
 ghost use Rattle.std.specs.Prelude.{◌≡◌, ◌==◌};
 ghost use Rattle.vme_trace.specs.Cycle.{highest_address, is_block};
 ghost use Rattle.vme_listing.specs.Places.{has_class, is_address, is_outcome, is_digit, are_digits_from, is_lanes};
-ghost use Rattle.vme_listing.specs.Places.{has_data, is_row, is_start, is_verdict, is_never_idle, place_of, may_follow};
-ghost use Rattle.vme_listing.specs.Places.{ascends};
+ghost use Rattle.vme_listing.specs.Places.{has_data, is_row, is_start, is_reset, is_verdict, is_never_idle, place_of};
+ghost use Rattle.vme_listing.specs.Places.{may_follow, ascends};
 
 use crate::row::{Direction, Outcome, Row, Version};
 use crate::text::address_digits;
@@ -113,10 +113,10 @@ fn is_lanes(lanes: Lanes) -> bool
 fn has_data(version: Version, direction: Direction, lanes: Option<Lanes>) -> bool
     ensures { result ≡ has_data version direction lanes }
 {
-    match (version, direction, lanes) {
-        (Version::Two, Direction::Write, Some(lanes)) => is_lanes(lanes),
-        (Version::One, _, None) | (Version::Two, Direction::Read, None) => true,
-        _ => false,
+    let is_told = version.tells_data() && direction == Direction::Write;
+    match lanes {
+        Some(lanes) => is_told && is_lanes(lanes),
+        None => !is_told,
     }
 }
 
@@ -127,6 +127,7 @@ fn is_allowed(version: Version, row: Row) -> bool
 {
     match row {
         Row::Start { .. } | Row::OpenTenure { .. } | Row::PendingTransfer { .. } => true,
+        Row::Reset { .. } => version.tells_resets(),
         Row::Tenure { level, slot, .. } => level < 4 && 1 <= slot && slot <= 21,
         Row::AddressedCycle {
             class,
@@ -159,6 +160,12 @@ impl Row {
         matches!(self, Row::Start { .. })
     }
 
+    fn is_reset(&self) -> bool
+        ensures { result ≡ is_reset self.now }
+    {
+        matches!(self, Row::Reset { .. })
+    }
+
     /// Whether the row is a verdict.
     pub(crate) fn is_verdict(&self) -> bool
         ensures { result ≡ is_verdict self.now }
@@ -172,17 +179,20 @@ impl Row {
         matches!(self, Row::Verdict(Outcome::NeverIdle))
     }
 
-    /// The first instant and the order of the kind of a tenure, a cycle or a transfer.
-    fn place(&self) -> Option<(u32, u8)>
-        ensures { result ≡ place_of self.now }
+    /// The first instant and the order of the kind of a row before the verdict; of a start only where the version tells
+    /// resets.
+    fn place(&self, version: Version) -> Option<(u32, u8)>
+        ensures { result ≡ place_of version self.now }
     {
         match *self {
-            Row::Start { .. } | Row::Verdict(_) => None,
-            Row::OpenTenure { start, .. } | Row::Tenure { start, .. } => Some((start, 0)),
+            Row::Reset { instant } => Some((instant, 0)),
+            Row::Start { instant } => version.tells_resets().then_some((instant, 1)),
+            Row::OpenTenure { start, .. } | Row::Tenure { start, .. } => Some((start, 2)),
             Row::AddressedCycle { start, .. }
             | Row::FreeCycle { start, .. }
-            | Row::InterruptCycle { start, .. } => Some((start, 1)),
-            Row::Transfer { start, .. } | Row::PendingTransfer { start, .. } => Some((start, 2)),
+            | Row::InterruptCycle { start, .. } => Some((start, 3)),
+            Row::Transfer { start, .. } | Row::PendingTransfer { start, .. } => Some((start, 4)),
+            Row::Verdict(_) => None,
         }
     }
 
@@ -192,18 +202,20 @@ impl Row {
     {
         match before {
             None => self.is_start() || self.is_never_idle(),
-            Some(row) => !row.is_verdict() && !self.is_start() && !self.is_never_idle(),
+            Some(row) if row.is_verdict() || self.is_never_idle() => false,
+            Some(row) if row.is_reset() => self.is_start() || self.is_verdict(),
+            Some(_) => !self.is_start(),
         }
     }
 
     /// Whether the row doesn't stand before the one before by its instant and its kind.
-    pub(crate) fn ascends(&self, before: Option<Row>) -> bool
-        ensures { result ≡ ascends before self.now }
+    pub(crate) fn ascends(&self, version: Version, before: Option<Row>) -> bool
+        ensures { result ≡ ascends version before self.now }
     {
         let Some(row) = before else {
             return true;
         };
-        match (row.place(), self.place()) {
+        match (row.place(version), self.place(version)) {
             (Some((first, earlier)), Some((second, later))) => {
                 first < second || (first == second && earlier < later)
             }

@@ -11,7 +11,7 @@ ghost use Rattle.vme_listing.specs.declared.row.Version.{Version};
 use crate::fault::ListFault;
 use crate::listing::Listing;
 use crate::row::{Row, Version};
-use crate::text::{HEADER_ONE, HEADER_TWO, Text};
+use crate::text::Text;
 use crate::words::read_row;
 use memchr::memchr;
 use std::alloc::Global;
@@ -21,11 +21,14 @@ fn front_header(text: &[u8]) -> Option<(Version, &[u8])>
     ensures named { IfSome result (λ front. text.now ≡ header front.0 ++ front.1.now) }
     ensures none { result ≡ None → (version : Version) (rest : List ℕ) → text.now ≢ header version ++ rest }
 {
-    if let Some(rest) = text.strip_prefix(HEADER_ONE) {
+    if let Some(rest) = text.strip_prefix(Version::One.header()) {
         return Some((Version::One, rest));
     }
-    let rest = text.strip_prefix(HEADER_TWO)?;
-    Some((Version::Two, rest))
+    if let Some(rest) = text.strip_prefix(Version::Two.header()) {
+        return Some((Version::Two, rest));
+    }
+    let rest = text.strip_prefix(Version::Three.header())?;
+    Some((Version::Three, rest))
 }
 
 /// The row of the version whose line is at the front of the text, and what follows the line. Nothing may follow a
@@ -82,13 +85,13 @@ fn next_row<'a>(
     if !row.may_follow(last_row(rows)) {
         return Err(ListFault::BadRow { row: number });
     }
-    if !row.ascends(last_row(rows)) {
+    if !row.ascends(version, last_row(rows)) {
         return Err(ListFault::Unsorted { row: number });
     }
     Ok((row, more))
 }
 
-/// Reads the text of a listing, of version 1 or 2 as its header says. The text is read from the top, and the first
+/// Reads the text of a listing, of the version that its header says. The text is read from the top, and the first
 /// fault is named: the header, a row that isn't written so, may not stand there or is missing, a row out of order, or
 /// want of memory.
 pub fn read_listing(alloc: Global, text: &[u8]) -> Result<Listing, ListFault>

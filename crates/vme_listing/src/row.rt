@@ -9,6 +9,32 @@ pub enum Version {
     One,
     /// The row of each answered write has its data.
     Two,
+    /// Each reset that ends what is judged has a row, too, and the starts have their places among the other rows.
+    Three,
+}
+
+impl Version {
+    ghost use Rattle.vme_listing.specs.Listed.{tells_data, tells_resets};
+
+    /// Whether the rows of answered writes have their data.
+    pub fn tells_data(self) -> bool
+        ensures { result ≡ tells_data self }
+    {
+        match self {
+            Version::One => false,
+            Version::Two | Version::Three => true,
+        }
+    }
+
+    /// Whether resets have rows.
+    pub fn tells_resets(self) -> bool
+        ensures { result ≡ tells_resets self }
+    {
+        match self {
+            Version::One | Version::Two => false,
+            Version::Three => true,
+        }
+    }
 }
 
 /// The direction of a transfer.
@@ -46,9 +72,14 @@ pub enum Outcome {
 /// which i - 1 others stand. An end or a close is None where it is at no listed instant.
 #[derive(Clone, Copy, Debug, PartialEq, Eq)]
 pub enum Row {
-    /// The idle instant from which on the recording is judged.
+    /// An idle instant from which on the recording is judged.
     Start {
         /// That instant.
+        instant: u32,
+    },
+    /// A reset, which ends what is judged.
+    Reset {
+        /// Where SYSRESET* is low.
         instant: u32,
     },
     /// A tenure of the bus that is open at the start.
@@ -102,19 +133,19 @@ pub enum Row {
     },
     /// A transfer that is answered.
     Transfer {
-        /// Where the first strobe falls.
-        start: u32,
-        /// The start of the cycle to which it belongs.
-        cycle: u32,
         /// Its direction.
         direction: Direction,
         /// The line that answers it.
         line: AnswerLine,
+        /// Where the first strobe falls.
+        start: u32,
+        /// The start of the cycle to which it belongs.
+        cycle: u32,
         /// Where that line falls.
         answer: u32,
         /// Where both strobes are high again.
         close: Option<u32>,
-        /// The data of a write, in a listing of version 2.
+        /// The data of a write, where the version tells them.
         lanes: Option<Lanes>,
     },
     /// A transfer that isn't answered at a listed instant.
@@ -131,13 +162,14 @@ pub enum Row {
 impl Row {
     ghost use Rattle.vme_listing.specs.Recorded.{row_in, without_data};
 
-    /// The row in a listing of a version: in version 1 without its data.
+    /// The row in a listing of a version: without its data, where the version doesn't tell them.
     pub fn in_version(self, version: Version) -> Row
         ensures { result ≡ row_in version self }
     {
-        match version {
-            Version::One => self.without_data(),
-            Version::Two => self,
+        if version.tells_data() {
+            self
+        } else {
+            self.without_data()
         }
     }
 

@@ -6,23 +6,32 @@ ghost use Rattle.std.specs.Fmt.{digit_glyph};
 ghost use Rattle.vme_listing.specs.RowText.{edge_text, hexadecimal, address_digits, class_text, direction_text};
 ghost use Rattle.vme_listing.specs.RowText.{answer_text, digit_text, lanes_text, data_text, break_text, row_text};
 ghost use Rattle.vme_listing.specs.RowText.{header, line_of};
-ghost use Rattle.vme_listing.specs.declared.row.Row.TheVariants.{OpenTenure, Tenure, AddressedCycle, FreeCycle, InterruptCycle, Transfer, PendingTransfer, Verdict};
+ghost use Rattle.vme_listing.specs.declared.row.Row.TheVariants.{OpenTenure, Tenure, AddressedCycle, FreeCycle};
+ghost use Rattle.vme_listing.specs.declared.row.Row.TheVariants.{InterruptCycle, Transfer, PendingTransfer, Verdict};
 
 use crate::row::{AnswerLine, Direction, Outcome, Row, Version};
 use std::marker::Model;
 use vme_trace::{Class, Lanes, Line, Rule};
-
-/// The first line of a listing of version 1.
-pub(crate) const HEADER_ONE: &[u8] = b"vmecheck listing 1\n";
-
-/// The first line of a listing of version 2.
-pub(crate) const HEADER_TWO: &[u8] = b"vmecheck listing 2\n";
 
 /// How many bytes a line of a listing has at most.
 pub(crate) const LONGEST_LINE: usize = 96;
 
 /// How many bytes are held together at most.
 pub(crate) const MOST: usize = 4096;
+
+impl Version {
+    /// The first line of a listing.
+    pub(crate) fn header(self) -> &'static [u8]
+        ensures text { result.now ≡ header self }
+        ensures length { length result.now ≡ 19 }
+    {
+        match self {
+            Version::One => b"vmecheck listing 1\n",
+            Version::Two => b"vmecheck listing 2\n",
+            Version::Three => b"vmecheck listing 3\n",
+        }
+    }
+}
 
 /// Text of a listing: at most 4,096 bytes of ASCII.
 #[derive(Drop)]
@@ -94,10 +103,7 @@ impl Text {
         requires { length self.old + 19 ≤ MOST }
         ensures { self.new ≡ self.old ++ header version }
     {
-        match version {
-            Version::One => self.extend(HEADER_ONE),
-            Version::Two => self.extend(HEADER_TWO),
-        }
+        self.extend(version.header());
     }
 
     fn push_decimal(&mut self, number: u32)
@@ -295,7 +301,7 @@ impl Text {
         lanes: Option<Lanes>,
     )
         requires { length self.old + 95 ≤ MOST }
-        ensures text { self.new ≡ self.old ++ row_text (Transfer start cycle direction line answer close lanes) }
+        ensures text { self.new ≡ self.old ++ row_text (Transfer direction line start cycle answer close lanes) }
         ensures length { length self.new ≤ length self.old + 95 }
     {
         self.extend(b"transfer ");
@@ -353,6 +359,10 @@ impl Text {
         match *row {
             Row::Start { instant } => {
                 self.extend(b"start ");
+                self.push_decimal(instant);
+            }
+            Row::Reset { instant } => {
+                self.extend(b"reset ");
                 self.push_decimal(instant);
             }
             Row::OpenTenure { start, end } => self.push_open_tenure(start, end),

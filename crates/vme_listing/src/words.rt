@@ -304,6 +304,10 @@ fn candidate(words: &Words) -> Option<Row>
         Some(Row::Start {
             instant: number(10, words.at(1)),
         })
+    } else if kind == b"reset".as_slice() {
+        Some(Row::Reset {
+            instant: number(10, words.at(1)),
+        })
     } else if kind == b"tenure".as_slice() {
         Some(tenure(words))
     } else if kind == b"cycle".as_slice() {

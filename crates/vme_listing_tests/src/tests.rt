@@ -274,6 +274,51 @@ fn writes(rt: HostRuntime) -> Result<(), Fail> {
     Ok(())
 }
 
+/// A transfer that a reset cuts off, and what is judged after it.
+#[test]
+fn resets(rt: HostRuntime) -> Result<(), Fail> {
+    let alloc = rt.alloc();
+    let rows = [
+        START,
+        cycle(9, 0x39, 0xFFFFDE, None),
+        Row::PendingTransfer {
+            start: 10,
+            direction: Direction::Read,
+        },
+        Row::Reset { instant: 11 },
+        Row::Start { instant: 13 },
+        CONFORMING,
+    ];
+    let listing = Listing::new(Version::Three, Vec::from_slice(alloc, &rows)?);
+    assert!(rt;
+        is_written(
+            alloc,
+            &listing,
+            b"vmecheck listing 3\nstart 1\ncycle 9 S 39 FFFFDE end -\ntransfer 10 read pending\nreset 11\nstart 13\nverdict conforming\n"
+        )?
+    );
+    Ok(())
+}
+
+/// The rows of a listing of version 3 in each version: without data in version 1 alone.
+#[test]
+fn versions(rt: HostRuntime) {
+    let word = Lanes {
+        moved: Moved::Word,
+        value: 0xFFFF,
+        unknown: 0,
+    };
+    let row = write_of(10, word);
+    assert!(rt; row.in_version(Version::Three) == row && row.in_version(Version::Two) == row);
+    assert!(rt; row.in_version(Version::One) != row);
+    let reset = Row::Reset { instant: 11 };
+    for version in [Version::One, Version::Two, Version::Three] {
+        assert!(rt; reset.in_version(version) == reset);
+        assert!(rt; version.tells_data() == (version != Version::One));
+        assert!(rt; version.tells_resets() == (version == Version::Three));
+    }
+}
+
 /// The digits of the data of a write: those that aren't moved, one of which a line is unknown, and the others.
 #[test]
 fn digits_of_data(rt: HostRuntime) {
@@ -351,6 +396,10 @@ const WORKED: &[u8] =
 const WORKED_WRITES: &[u8] =
     b"vmecheck listing 2\nstart 1\ncycle 9 S 39 FFFFDE end -\ntransfer 10 of 9 read DTACK 11 close 12\ntransfer 13 of 9 write BERR 14 close 15 data ----FFFF\ntransfer 16 of 9 write DTACK 17 close 18 data 7FFFFFFF\ntransfer 19 of 9 write DTACK 20 close 21 data ------X0\ntransfer 22 of 9 write DTACK 23 close 24 data ----1B--\ntransfer 25 of 9 write DTACK 26 close - data --------\ntransfer 28 write pending\nverdict conforming\n";
 
+/// A listing of version 3: a reset cuts a read off, and the bus is idle again two steps later.
+const WORKED_RESET: &[u8] =
+    b"vmecheck listing 3\nstart 1\ntenure 5 level 3 slot 2 end -\ncycle 9 S 39 FFFFDE end -\ntransfer 10 read pending\nreset 11\nstart 13\nverdict conforming\n";
+
 /// What a text reads as. Where memory is short once, it is read again.
 fn read(alloc: Global, text: &[u8]) -> Result<Listing, ListFault> {
     match read_listing(alloc, text) {
@@ -370,7 +419,8 @@ fn read_back(rt: HostRuntime) -> Result<(), Fail> {
     let alloc = rt.alloc();
     let idle = b"vmecheck listing 1\nverdict never-idle\n".as_slice();
     let second = b"vmecheck listing 2\nverdict never-idle\n".as_slice();
-    for text in [WORKED, WORKED_WRITES, idle, second] {
+    let third = b"vmecheck listing 3\nverdict never-idle\n".as_slice();
+    for text in [WORKED, WORKED_WRITES, WORKED_RESET, idle, second, third] {
         let listing = read(alloc, text).ok().ok_or("no listing")?;
         assert!(rt; is_written(alloc, &listing, text)?);
     }
@@ -405,16 +455,151 @@ fn read_data(rt: HostRuntime) -> Result<(), Fail> {
     Ok(())
 }
 
+/// Rows behind the header of version 3 that may stand there.
+const GOOD_RESETS: [&[u8]; 9] = [
+    b"start 1\nverdict conforming\n",
+    b"start 1\nreset 2\nverdict conforming\n",
+    b"start 1\nreset 2\nstart 3\nreset 4\nstart 5\nverdict conforming\n",
+    b"start 1\nreset 2\nstart 2\nverdict conforming\n",
+    b"start 5\ntenure 5 open end -\ncycle 6 F 1F end -\nverdict conforming\n",
+    b"start 5\ntenure 6 level 3 slot 2 end -\ncycle 6 F 1F end -\ntransfer 6 read pending\nreset 7\nverdict conforming\n",
+    b"start 1\nreset 11\nstart 13\ntenure 13 open end -\nverdict broken H4 14 DTACK\n",
+    b"start 1\ntransfer 10 of 9 write DTACK 11 close - data ----FFFF\nverdict conforming\n",
+    b"start 0\nverdict unreadable U1 11 SYSRESET\n",
+];
+
+/// Rows behind the header of version 3 of which one may not stand there, and the fault.
+const BAD_RESETS: [(&[u8], ListFault); 21] = [
+    // A reset that nothing goes before, or with neither a start nor a verdict behind it.
+    (b"reset 1\n", ListFault::BadRow { row: 1 }),
+    (
+        b"start 1\nreset 2\nreset 3\nverdict conforming\n",
+        ListFault::BadRow { row: 3 },
+    ),
+    (
+        b"start 1\nreset 2\ntenure 3 level 3 slot 2 end -\nverdict conforming\n",
+        ListFault::BadRow { row: 3 },
+    ),
+    (
+        b"start 1\nreset 2\ntransfer 3 read pending\nverdict conforming\n",
+        ListFault::BadRow { row: 3 },
+    ),
+    (
+        b"start 1\nreset 2\nverdict never-idle\n",
+        ListFault::BadRow { row: 3 },
+    ),
+    (b"start 1\nreset 2\n", ListFault::BadRow { row: 3 }),
+    // A later start that stands behind no reset.
+    (
+        b"start 1\nstart 2\nverdict conforming\n",
+        ListFault::BadRow { row: 2 },
+    ),
+    (
+        b"start 1\ntenure 5 level 3 slot 2 end -\ncycle 9 S 39 FFFFDE end -\ntransfer 10 read pending\nstart 13\nreset 11\nverdict conforming\n",
+        ListFault::BadRow { row: 5 },
+    ),
+    (
+        b"start 1\nreset 2\nstart 3\ntransfer 4 read pending\nstart 5\nverdict conforming\n",
+        ListFault::BadRow { row: 5 },
+    ),
+    // Starts and resets out of order.
+    (
+        b"start 5\ntenure 4 level 3 slot 2 end -\nverdict conforming\n",
+        ListFault::Unsorted { row: 2 },
+    ),
+    (
+        b"start 5\nreset 5\nverdict conforming\n",
+        ListFault::Unsorted { row: 2 },
+    ),
+    (
+        b"start 5\nreset 4\nverdict conforming\n",
+        ListFault::Unsorted { row: 2 },
+    ),
+    (
+        b"start 1\ncycle 9 F 1F end -\nreset 9\nverdict conforming\n",
+        ListFault::Unsorted { row: 3 },
+    ),
+    (
+        b"start 1\nreset 11\nstart 10\nverdict conforming\n",
+        ListFault::Unsorted { row: 3 },
+    ),
+    (
+        b"start 1\nreset 11\nstart 13\ncycle 12 F 1F end -\nverdict conforming\n",
+        ListFault::Unsorted { row: 4 },
+    ),
+    // At one row both.
+    (
+        b"start 5\nstart 3\nverdict conforming\n",
+        ListFault::BadRow { row: 2 },
+    ),
+    (
+        b"start 5\nreset 7\nreset 6\nverdict conforming\n",
+        ListFault::BadRow { row: 3 },
+    ),
+    // Lines that are no row.
+    (b"start 1\nreset 02\n", ListFault::BadRow { row: 2 }),
+    (b"start 1\nreset\n", ListFault::BadRow { row: 2 }),
+    (b"start 1\nreset 2 \n", ListFault::BadRow { row: 2 }),
+    (
+        b"start 1\ntransfer 10 of 9 write DTACK 11 close -\nverdict conforming\n",
+        ListFault::BadRow { row: 2 },
+    ),
+];
+
+/// A header and rows.
+fn text_of(alloc: Global, header: &[u8], rows: &[u8]) -> Result<Vec<u8>, Fail> {
+    let mut text = Vec::from_slice(alloc, header)?;
+    text.extend_from_slice(rows)?;
+    Ok(text)
+}
+
+/// Rows of version 3, and where they stand.
+#[test]
+fn placed_resets(rt: HostRuntime) -> Result<(), Fail> {
+    for rows in GOOD_RESETS {
+        let text = text_of(rt.alloc(), b"vmecheck listing 3\n", rows)?;
+        let listing = read(rt.alloc(), text.as_slice()).ok().ok_or("no listing")?;
+        assert!(rt; listing.version() == Version::Three);
+        assert!(rt; is_written(rt.alloc(), &listing, text.as_slice())?);
+    }
+    for (rows, fault) in BAD_RESETS {
+        let text = text_of(rt.alloc(), b"vmecheck listing 3\n", rows)?;
+        assert!(rt; fault_of(rt.alloc(), text.as_slice()) == Some(fault));
+    }
+    Ok(())
+}
+
+/// Versions 1 and 2 have no resets and compare nothing with a start, and any version may name SYSRESET*.
+#[test]
+fn older_versions(rt: HostRuntime) -> Result<(), Fail> {
+    for header in [b"vmecheck listing 1\n", b"vmecheck listing 2\n"] {
+        let reset = text_of(
+            rt.alloc(),
+            header,
+            b"start 1\nreset 2\nverdict conforming\n",
+        )?;
+        assert!(rt; fault_of(rt.alloc(), reset.as_slice()) == Some(ListFault::BadRow { row: 2 }));
+        let early = text_of(
+            rt.alloc(),
+            header,
+            b"start 5\ntenure 4 level 3 slot 2 end -\nverdict unreadable U1 11 SYSRESET\n",
+        )?;
+        assert!(rt; fault_of(rt.alloc(), early.as_slice()).is_none());
+    }
+    Ok(())
+}
+
 /// Texts with a fault: its kind and its row.
 #[test]
 fn faults(rt: HostRuntime) {
-    let texts: [(&[u8], ListFault); 15] = [
+    let texts: [(&[u8], ListFault); 16] = [
         (b"", ListFault::BadHeader),
         (b"vmecheck listing 1", ListFault::BadHeader),
         (
-            b"vmecheck listing 3\nverdict never-idle\n",
+            b"vmecheck listing 4\nverdict never-idle\n",
             ListFault::BadHeader,
         ),
+        (b"vmecheck listing 3\n", ListFault::BadRow { row: 1 }),
         (b"vmecheck listing 2\n", ListFault::BadRow { row: 1 }),
         (b"vmecheck listing 1\n", ListFault::BadRow { row: 1 }),
         (
@@ -514,7 +699,7 @@ fn bad_lines(rt: HostRuntime) -> Result<(), Fail> {
     Ok(())
 }
 
-/// Lines that are no row behind `start 1` in version 2.
+/// Lines that are no row behind `start 1` in a version that tells data.
 const BAD_WRITES: [&[u8]; 19] = [
     b"transfer 10 of 9 write DTACK 11 close 12",
     b"transfer 10 of 9 write DTACK 11 close 12 data",
@@ -540,8 +725,13 @@ const BAD_WRITES: [&[u8]; 19] = [
 #[test]
 fn bad_writes(rt: HostRuntime) -> Result<(), Fail> {
     for line in BAD_WRITES {
-        let fault = fault_behind(rt.alloc(), b"vmecheck listing 2\nstart 1\n", line)?;
-        assert!(rt; fault == Some(ListFault::BadRow { row: 2 }));
+        for front in [
+            b"vmecheck listing 2\nstart 1\n",
+            b"vmecheck listing 3\nstart 1\n",
+        ] {
+            let fault = fault_behind(rt.alloc(), front, line)?;
+            assert!(rt; fault == Some(ListFault::BadRow { row: 2 }));
+        }
     }
     Ok(())
 }
@@ -549,7 +739,7 @@ fn bad_writes(rt: HostRuntime) -> Result<(), Fail> {
 /// Each front of a listing has a fault in its text, or is the listing.
 #[test]
 fn fronts(rt: HostRuntime) {
-    for text in [WORKED, WORKED_WRITES] {
+    for text in [WORKED, WORKED_WRITES, WORKED_RESET] {
         for end in 0..=text.len() {
             let fault = fault_of(rt.alloc(), &text[..end]);
             assert!(rt; fault != Some(ListFault::Memory) && fault.is_none() == (end == text.len()));

@@ -1,6 +1,6 @@
 //! Two monitors at once.
 
-ghost use Rattle.std.specs.Prelude.{◌≡◌, ◌≤◌, ◌∷◌, [], ℕ, IfOk, List, drop, false, length, slice_get, take};
+ghost use Rattle.std.specs.Prelude.{◌≡◌, ◌≤◌, ◌∷◌, ◌++◌, [], ℕ, IfOk, List, drop, false, length, slice_get, take};
 ghost use Rattle.vme_trace.specs.declared.rule.Rule.{Rule};
 ghost use Rattle.vme_trace.specs.Trace.{Trace};
 ghost use Rattle.vme_trace.specs.Judged.{Span};
@@ -58,15 +58,16 @@ fn kind_number(kind: Kind) -> u8
     ensures { result ≡ kind_place kind }
 {
     match kind {
-        Kind::Start => 0,
-        Kind::Open => 1,
-        Kind::Tenure { .. } => 2,
-        Kind::TenureEnd => 3,
-        Kind::Cycle { .. } => 4,
-        Kind::CycleEnd => 5,
-        Kind::Transfer { .. } => 6,
-        Kind::Answer { .. } | Kind::WriteAnswer { .. } => 7,
-        Kind::Close => 8,
+        Kind::Reset => 0,
+        Kind::Start => 1,
+        Kind::Open => 2,
+        Kind::Tenure { .. } => 3,
+        Kind::TenureEnd => 4,
+        Kind::Cycle { .. } => 5,
+        Kind::CycleEnd => 6,
+        Kind::Transfer { .. } => 7,
+        Kind::Answer { .. } | Kind::WriteAnswer { .. } => 8,
+        Kind::Close => 9,
     }
 }
 
@@ -154,6 +155,19 @@ fn count_before(marks: &[Mark], mark: Mark) -> usize
     marks.len()
 }
 
+/// How many marks one doesn't come before.
+fn count_until(marks: &[Mark], mark: Mark) -> usize
+    ensures placed { take result marks.now ++ mark ∷ drop result marks.now ≡ merged marks.now (mark ∷ []) }
+    ensures there { result ≤ length marks.now }
+{
+    for count in 0..marks.len() {
+        if mark_lt(&mark, &marks[count]) {
+            return count;
+        }
+    }
+    marks.len()
+}
+
 /// One mark put among others, in its place.
 fn put_among(alone: &[Mark], marks: Vec<Mark>) -> Result<Vec<Mark>, AllocError>
     requires { length alone.now ≡ 1 }
@@ -165,7 +179,18 @@ fn put_among(alone: &[Mark], marks: Vec<Mark>) -> Result<Vec<Mark>, AllocError>
     Ok(all)
 }
 
-/// The same of marks that are given away: where one of the two shows nothing, they are those of the other, and where the first
+/// One mark put behind those of others that it doesn't come before.
+fn put_behind(marks: Vec<Mark>, alone: &[Mark]) -> Result<Vec<Mark>, AllocError>
+    requires { length alone.now ≡ 1 }
+    ensures { IfOk result (λ v. v.items ≡ merged marks.items alone.now) }
+{
+    let mut all = marks;
+    let count = count_until(all.as_slice(), alone[0]);
+    all.insert(count, alone[0])?;
+    Ok(all)
+}
+
+/// The same of marks that are given away: where one of the two shows nothing, they are those of the other, and where one
 /// shows one mark alone, as the start of judging, it is put among the others.
 pub fn marks_together(
     alloc: Global,
@@ -180,6 +205,8 @@ pub fn marks_together(
         Ok(first)
     } else if first.len() == 1 {
         put_among(first.as_slice(), second)
+    } else if second.len() == 1 {
+        put_behind(first, second.as_slice())
     } else {
         merge_marks(alloc, first.as_slice(), second.as_slice())
     }
@@ -291,5 +318,9 @@ impl<M: Monitor, N: Monitor> Monitor for Both<M, N> {
 /// Over a whole capture, the event of both monitors is the least break of the rules of both, and their marks are what both show.
 pub fn both_over_captures<M: Monitor, N: Monitor>()
     ensures event { (rs qs all : List Rule) → AreJoined rs qs all → FindsLeast M.run M.begin rs → FindsLeast N.run N.begin qs → FindsLeast ⟦<Both<M, N> as Monitor>⟧.run ⟦<Both<M, N> as Monitor>⟧.begin all }
-    ensures marks { (f g : Trace → Span → ℕ → Kinds) → ((t : Trace) (span : Span) (j : ℕ) → AreApart (f t span j) (g t span j)) → ShowsAll M.run M.begin f → ShowsAll N.run N.begin g → ShowsAll ⟦<Both<M, N> as Monitor>⟧.run ⟦<Both<M, N> as Monitor>⟧.begin (λ t span j. together (f t span j) (g t span j)) }
+    ensures marks { (a b : Kinds) (f g : Trace → Span → ℕ → Kinds) → AreApart a b
+        → ((t : Trace) (span : Span) (j : ℕ) → AreApart (f t span j) (g t span j))
+        → ShowsAll M.run M.begin a f → ShowsAll N.run N.begin b g
+        → ShowsAll ⟦<Both<M, N> as Monitor>⟧.run ⟦<Both<M, N> as Monitor>⟧.begin (together a b)
+        (λ t span j. together (f t span j) (g t span j)) }
 {}

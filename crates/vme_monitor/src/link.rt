@@ -296,6 +296,7 @@ fn answered_kind(shown: Option<Answered>) -> Option<Kind>
 fn show_all(marks: &mut Vec<Mark>, instant: u32, kinds: Kinds) -> Result<(), AllocError>
     ensures { OnOk result (marks.new.items ≡ marks.old.items ++ map (mark_at instant) (kinds_of kinds)) }
 {
+    show(marks, instant, when(kinds.reset, Kind::Reset))?;
     show(marks, instant, when(kinds.start, Kind::Start))?;
     show(marks, instant, when(kinds.opened, Kind::Open))?;
     show(marks, instant, tenure_kind(kinds.tenure))?;

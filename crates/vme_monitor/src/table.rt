@@ -104,6 +104,46 @@ impl<M: Machine> Unfinished<M> {
         })
     }
 
+    /// One step more in which all rows notice something, which may make some more alert.
+    fn extend_all(
+        &mut self,
+        alloc: Global,
+        view: &View,
+        step: &Step,
+        instant: u32,
+        seen: &M::Seen,
+    ) -> Result<(), AllocError>
+        requires view { view.now ≡ seen_in view.now.before step.now.changes }
+        requires seen { M.sight view.now.before view.now.after step.now.changes ≡ Some seen.now }
+        ensures runs { OnOk result
+            ((o : Levels) (x : List Step) → view.now.before ≡ levels_after o x → instant ≡ length x + 1
+            → GiveRuns (run_of (noticed M.sight M.next)) M.Memory.place_of M.alertness_of
+            self.old.layers.items self.old.rows.items self.old.most o x
+            → GiveRuns (run_of (noticed M.sight M.next)) M.Memory.place_of M.alertness_of
+            self.new.layers.items self.new.rows.items self.new.most o (x ++ step.now ∷ [])) }
+        ensures apart { OnOk result
+            ((o : Levels) (x : List Step) → view.now.before ≡ levels_after o x → instant ≡ length x + 1
+            → GiveRuns (run_of (noticed M.sight M.next)) M.Memory.place_of M.alertness_of
+            self.old.layers.items self.old.rows.items self.old.most o x
+            → KeepApart (run_of (noticed M.sight M.next)) M.Memory.COUNT M.Memory.place_of M.Memory.nth_of
+            (hops self.old.layers.items) (map outcome_of self.old.rows.items) o x
+            → KeepApart (run_of (noticed M.sight M.next)) M.Memory.COUNT M.Memory.place_of M.Memory.nth_of
+            (hops self.new.layers.items) (map outcome_of self.new.rows.items) o (x ++ step.now ∷ [])) }
+    {
+        let rows = self.rows.as_mut_slice();
+        advance::<M>(rows, &view.before, &view.after, seen, step, instant)?;
+        let most = most_alert::<M>(self.rows.as_slice());
+        self.most = settle::<M>(
+            alloc,
+            &mut self.layers,
+            &mut self.rows,
+            self.seats.as_mut_slice(),
+            instant,
+            most,
+        )?;
+        Ok(())
+    }
+
     /// One step more, at its instant after the opening.
     #[inline(always)]
     pub fn extend(
@@ -132,7 +172,11 @@ impl<M: Machine> Unfinished<M> {
         let Some(seen) = M::notice(view, step.changes.as_slice()) else {
             return Ok(());
         };
-        if self.most < M::faintness(&seen) {
+        let faintness = M::faintness(&seen);
+        if faintness == 0 {
+            return self.extend_all(alloc, view, step, instant, &seen);
+        }
+        if self.most < faintness {
             return Ok(());
         }
         let rows = self.rows.as_mut_slice();
@@ -383,11 +427,29 @@ impl<P: Places> Table<P> {
         }
     }
 
+    /// How many marks there are to collect, where this memory enters, or the greatest number.
+    fn count_marks(&self, memory: P) -> usize {
+        let mut count = 0usize;
+        let mut k = memory.place();
+        for layer in &self.layers {
+            if k >= layer.len() {
+                return count;
+            }
+            let link = &layer[k];
+            count = count.saturating_add(link.marks.len());
+            k = link.next;
+        }
+        if k < self.rows.len() {
+            count = count.saturating_add(self.rows[k].marks.len());
+        }
+        count
+    }
+
     /// The marks, where this memory enters.
     pub fn marks(&self, alloc: Global, memory: P) -> Result<Vec<Mark>, AllocError>
         ensures { IfOk result (λ v. v.items ≡ (outcome self.now.layers.items self.now.rows.items memory (P.place_of memory)).marks) }
     {
-        let mut all = Vec::new(alloc);
+        let mut all = Vec::with_capacity(alloc, self.count_marks(memory))?;
         let mut k = memory.place();
         for layer in &self.layers {
             if k >= layer.len() {

@@ -42,6 +42,28 @@ const LOST_STROBE: Recording = Recording {
     steps: "AS=1 DS0=1 DS1=1 DTACK=1 BERR=1 IACK=1;AS=x;DS0=0;DTACK=0;AS=1 DS0=1;DTACK=1",
 };
 
+/// The bus is reset in a cycle, as a strobe gets lost, and idle again at the sixth step. There judging starts again, until
+/// it isn't known whether the bus is reset.
+const RESET: Recording = Recording {
+    slots: 1,
+    opening: DUMPED,
+    steps: "AS=1 DS0=1 DS1=1 DTACK=1 BERR=1 IACK=1;AS=0;AS=x SYSRESET=0;DS0=x;SYSRESET=1;AS=1 DS0=1;AS=0;SYSRESET=x",
+};
+
+/// The bus is reset after a control line was lost.
+const LATE_RESET: Recording = Recording {
+    slots: 1,
+    opening: DUMPED,
+    steps: "AS=1 DS0=1 DS1=1 DTACK=1 BERR=1 IACK=1;AS=x;SYSRESET=0;AS=1;SYSRESET=1;AS=0",
+};
+
+/// The bus is reset from the first step on.
+const NEVER_IDLE: Recording = Recording {
+    slots: 1,
+    opening: DUMPED,
+    steps: "AS=1 DS0=1 DS1=1 DTACK=1 BERR=1 IACK=1 SYSRESET=0;AS=0;AS=1",
+};
+
 /// A request, a grant of level 3 to slot 2, and a cycle in which an answer comes before a strobe.
 const EARLY_ANSWER: Recording = Recording {
     slots: 3,
@@ -157,20 +179,21 @@ fn whole<M: Monitor>(
     Ok(all)
 }
 
-/// What is found in a recording, whatever the size of the blocks: the first break, and that judging starts with its first step.
+/// What is found in a recording, whatever the size of the blocks: the first break, and where judging starts and is ended
+/// by resets.
 fn assert_judged<M: Monitor>(
     rt: &impl Abort,
     alloc: Global,
     recording: Recording,
     event: Option<Break>,
-    starts: &[Mark],
+    marks: &[Mark],
 ) -> Result<(), Fail> {
     let capture = capture_of(alloc, recording)?;
     for size in [1, 2, 3, 9, 65536] {
         let all = whole::<M>(rt, alloc, &capture, size)?;
         let start = M::start(capture.opening());
         assert!(rt; M::event(&all, start) == event);
-        assert!(rt; M::marks(alloc, &all, start)?.as_slice() == starts);
+        assert!(rt; M::marks(alloc, &all, start)?.as_slice() == marks);
     }
     Ok(())
 }
@@ -191,12 +214,26 @@ const START: Mark = Mark {
     kind: Kind::Start,
 };
 
+fn mark_at(instant: u32, kind: Kind) -> Mark {
+    Mark { instant, kind }
+}
+
 #[test]
 fn judges_whatever_the_cut(rt: HostRuntime) -> Result<(), Fail> {
     let lost = break_of(2, Rule::U1, Line::AS);
     assert_judged::<Known>(&rt, rt.alloc(), READ, None, &[START])?;
     assert_judged::<Known>(&rt, rt.alloc(), NOTHING, None, &[])?;
     assert_judged::<Known>(&rt, rt.alloc(), LOST_STROBE, lost, &[START])
+}
+
+#[test]
+fn judges_again_after_a_reset(rt: HostRuntime) -> Result<(), Fail> {
+    let unknown = break_of(8, Rule::U1, Line::SYSRESET);
+    let marks = [START, mark_at(3, Kind::Reset), mark_at(6, Kind::Start)];
+    assert_judged::<Known>(&rt, rt.alloc(), RESET, unknown, &marks)?;
+    let lost = break_of(2, Rule::U1, Line::AS);
+    assert_judged::<Known>(&rt, rt.alloc(), LATE_RESET, lost, &[START])?;
+    assert_judged::<Known>(&rt, rt.alloc(), NEVER_IDLE, None, &[])
 }
 
 #[test]
@@ -209,7 +246,9 @@ fn two_show_what_each_shows(rt: HostRuntime) -> Result<(), Fail> {
 fn in_silence_breaks_alone_are_found(rt: HostRuntime) -> Result<(), Fail> {
     let lost = break_of(2, Rule::U1, Line::AS);
     assert_judged::<BreaksOf<KnownRules>>(&rt, rt.alloc(), READ, None, &[])?;
-    assert_judged::<BreaksOf<KnownRules>>(&rt, rt.alloc(), LOST_STROBE, lost, &[])
+    assert_judged::<BreaksOf<KnownRules>>(&rt, rt.alloc(), LOST_STROBE, lost, &[])?;
+    let unknown = break_of(8, Rule::U1, Line::SYSRESET);
+    assert_judged::<BreaksOf<KnownRules>>(&rt, rt.alloc(), RESET, unknown, &[])
 }
 
 /// Whether judging starts in a recording.
@@ -223,6 +262,8 @@ fn is_started(rt: &impl Abort, alloc: Global, recording: Recording) -> Result<bo
 fn tells_whether_judging_started(rt: HostRuntime) -> Result<(), Fail> {
     assert!(rt; !is_started(&rt, rt.alloc(), NOTHING)?);
     assert!(rt; is_started(&rt, rt.alloc(), LOST_STROBE)?);
+    assert!(rt; is_started(&rt, rt.alloc(), RESET)?);
+    assert!(rt; !is_started(&rt, rt.alloc(), NEVER_IDLE)?);
     Ok(())
 }
 
@@ -261,6 +302,6 @@ fn assert_unit<M: Finite>(rt: &impl Abort, alloc: Global) -> Result<(), Fail> {
 
 #[test]
 fn a_summary_of_nothing_changes_nothing(rt: HostRuntime) -> Result<(), Fail> {
-    assert_eq!(rt; Known::COUNT, 3);
+    assert_eq!(rt; Known::COUNT, 4);
     assert_unit::<Known>(&rt, rt.alloc())
 }

@@ -64,7 +64,7 @@ const H2: Guide = Guide {
     sentence: "a strobe rises inside a transfer, after its start, that has no answer so far",
     line: "the strobe that rises",
     section: "chapter 2, Data Transfer Bus",
-    causes: "the master lets its strobes go by a clock or a timer of its own, and not by the answer; a glitch on a strobe; a reset in the middle of a transfer",
+    causes: "the master lets its strobes go by a clock or a timer of its own, and not by the answer; a glitch on a strobe; a reset in the middle of a transfer, where SYSRESET is not bound",
 };
 
 const H3: Guide = Guide {
@@ -104,7 +104,7 @@ const H7: Guide = Guide {
     sentence: "AS rises while a transfer that started before is open and has no answer so far",
     line: "AS",
     section: "chapter 2, Data Transfer Bus",
-    causes: "the master ends its cycle by a clock or a timer of its own, and not by the answer; a reset in the middle of a cycle",
+    causes: "the master ends its cycle by a clock or a timer of its own, and not by the answer; a reset in the middle of a cycle, where SYSRESET is not bound",
 };
 
 const H8: Guide = Guide {
@@ -168,7 +168,7 @@ const G2: Guide = Guide {
     sentence: "a slot's grant output rises and its input isn't High near",
     line: "the net",
     section: "chapter 3, Data Transfer Bus Arbitration",
-    causes: "a board lets its grant output go when its own request changes; a board that takes a grant that it has passed on; a reset in the middle of a grant",
+    causes: "a board lets its grant output go when its own request changes; a board that takes a grant that it has passed on; a reset in the middle of a grant, where SYSRESET is not bound",
 };
 
 const G3: Guide = Guide {

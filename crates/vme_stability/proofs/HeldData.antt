@@ -266,7 +266,7 @@ module _ (t : Trace) (span : Span) (reads : ReadsStrobes t span) (n : ℕ) (from
       ∙ rw (slots_at t n, slots_at t (suc n)) refl
 
   bound : (l : ℕ) → is_shifted old new l ≡ true → l < line_count
-  bound l h = selected_to old l (and_true _ _ (and_true (has_line old.slots l && has_line new.slots l) _ h).1).0
+  bound l h = let within : l < 191 = selected_to old l (and_true _ _ (and_true (has_line old.slots l && has_line new.slots l) _ h).1).0 in omega arith
 
   none_where : (cs : List Change) → (keeps_data m old new && is_low (level_at old WRITE)) ≡ false → least (breaks t span S3 (suc n)) 0 line_count ≡ None
   none_where cs h = least-none (breaks t span S3 (suc n)) 0 line_count (fails-any (breaks t span S3 (suc n)) 0 line_count (λ l a b. breaks_is l ∙ not_held (is_judged span (suc n)) (has_line t.opening.slots l) (is_selected old l) (not (same_level (level_at old l) (level_at new l))) (in_transfer t span is_held (suc n)) (data_is ∙ h)))

@@ -21,7 +21,7 @@ use Rattle.vme_monitor.specs.Whole.{FindsLeast, ShowsAll}
 use Rattle.vme_monitor.specs.declared.mark.Next.{Next}
 use Rattle.vme_monitor.proofs.OwnRules.{own_event, own_marks}
 use Rattle.vme_monitor.proofs.SpanFacts.{IsSpan}
-use Rattle.vme_monitor.proofs.Spans.{changes_fit, levels_step, memory_early}
+use Rattle.vme_monitor.proofs.Alongside.{changes_fit, levels_step, memory_early}
 use Rattle.vme_stability.specs.StabilitySpec.{fault_on, is_noticed, shifted_fault, undriven_fault, keeps_direction, direction_turned, moved_fault, sight_of, stability_begin, stability_ends, stability_next, stability_opens, stability_rules, stability_shown, stability_sight, turned_fault, unknown_address, unknown_direction}
 use Rattle.vme_stability.specs.declared.holding.Holding.{Holding}
 use Rattle.vme_stability.specs.declared.sight.Sight.{Sight}
@@ -151,10 +151,10 @@ module _ (t : Trace) (span : Span) (ok : malformed_step t ≡ None) (facts : IsS
       let holds = holds_at n from (omega arith) (omega arith) in
       rw (next_is n from before within (memory_at n) holds) (fault_is n from before within (memory_at n) holds unbroken)
 
-pub stability_event : FindsLeast (run_of (noticed (noted stability_sight) (spanned stability_begin stability_opens (λ l. None) stability_next))) (start_in stability_begin) stability_rules
+pub stability_event : FindsLeast (run_of (noticed (noted stability_sight) (spanned stability_begin stability_opens nothing (λ l. None) stability_next))) (start_in stability_begin) stability_rules
 stability_event = own_event stability_begin stability_opens stability_sight stability_next stability_rules refl (λ t span ok few facts n from before within unbroken. judges_inside t span ok facts n from before within unbroken)
 
-pub stability_marks : ShowsAll (run_of (noticed (noted stability_sight) (spanned stability_begin stability_opens stability_ends stability_next))) (start_in stability_begin) stability_shown
+pub stability_marks : ShowsAll (run_of (noticed (noted stability_sight) (spanned stability_begin stability_opens nothing stability_ends stability_next))) (start_in stability_begin) nothing stability_shown
 stability_marks =
     own_marks stability_begin stability_opens stability_sight stability_next stability_ends stability_shown
     (λ t span ok few facts. record {

@@ -1,13 +1,13 @@
 -- The search for a data line that is moved and of which nothing is known.
-use Rattle.std.proofs.Common.{◌≡◌, ℕ, ◌+◌, ◌<◌, ◌≤◌, Bool, true, false, ◌&&◌, not, refl, ◌∙◌, arith}
+use Rattle.std.proofs.Common.{◌≡◌, ℕ, ◌+◌, ◌<◌, ◌≤◌, Bool, true, false, ◌&&◌, not, refl, ◌∙◌, arith, inl, inr, ◌⊎◌}
 use Rattle.std.specs.Prelude.{None, Some, nat_le}
 use Rattle.vme_trace.specs.Instants.{any, least}
 use Rattle.vme_trace.specs.LineNumbers.{line_count}
 use Rattle.vme_trace.specs.Data.{is_selected}
 use Rattle.vme_trace.specs.Levels.{Levels, is_known_on}
-use Rattle.vme_trace.proofs.Ranges.{any-step, fails-any, least-is, least-none}
+use Rattle.vme_trace.proofs.Ranges.{any-fails, any-step, fails-any, least-is, least-none}
 use Rattle.vme_stability.specs.StabilitySpec.{is_undriven}
-use Rattle.vme_stability.proofs.HeldData.{selected_from}
+use Rattle.vme_stability.proofs.HeldData.{selected_from, selected_to}
 
 first_false : (a b : Bool) → (a ≡ true → ⊥) → (a && b) ≡ false
 first_false true b h = absurd (h refl)
@@ -27,11 +27,26 @@ module _ (v : Levels) where
   pub undriven_first : any (is_undriven v) 0 159 ≡ false
   undriven_first = fails-any (is_undriven v) 0 159 (λ l a b. outside l b)
 
-  pub undriven_none : (n : ℕ) → n ≡ line_count → any (is_undriven v) 0 n ≡ false → least (is_undriven v) 0 line_count ≡ None
-  undriven_none n e h = least-none (is_undriven v) 0 line_count (rw (← e) h)
+  beyond : (l : ℕ) → 191 ≤ l → is_undriven v l ≡ false
+  beyond l h = first_false (is_selected v l) (not (is_known_on v l)) (λ e. apart l h (selected_to v l e))
+    where
+      apart : (l : ℕ) → 191 ≤ l → l < 191 → ⊥
+      apart l h k = omega arith
 
-  pub undriven_here : (n : ℕ) → n < line_count → any (is_undriven v) 0 n ≡ false → is_undriven v n ≡ true → least (is_undriven v) 0 line_count ≡ Some n
-  undriven_here n below h e = least-is (is_undriven v) 0 line_count n (omega arith) below e h
+  -- past the last data line
+  pub undriven_none : (n : ℕ) → 191 ≤ n → any (is_undriven v) 0 n ≡ false → least (is_undriven v) 0 line_count ≡ None
+  undriven_none n past h =
+      least-none (is_undriven v) 0 line_count (fails-any (is_undriven v) 0 line_count (λ l a b. by_place l (below_or_not l n)))
+    where
+      below_or_not : (l n : ℕ) → (l < n) ⊎ (n ≤ l)
+      below_or_not l n = grind arith
+
+      by_place : (l : ℕ) → (l < n) ⊎ (n ≤ l) → is_undriven v l ≡ false
+      by_place l (inl below) = any-fails (is_undriven v) 0 n l h (omega arith) below
+      by_place l (inr from) = beyond l (omega arith)
+
+  pub undriven_here : (n : ℕ) → n < 191 → any (is_undriven v) 0 n ≡ false → is_undriven v n ≡ true → least (is_undriven v) 0 line_count ≡ Some n
+  undriven_here n below h e = least-is (is_undriven v) 0 line_count n (omega arith) (omega arith) e h
 
   pub undriven_more : (n : ℕ) → any (is_undriven v) 0 n ≡ false → is_undriven v n ≡ false → any (is_undriven v) 0 (n + 1) ≡ false
   undriven_more n h e = any-step (is_undriven v) 0 n ∙ rw (h, e) (and_false (nat_le 0 n))

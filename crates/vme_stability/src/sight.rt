@@ -11,7 +11,7 @@ ghost use Rattle.vme_stability.specs.StabilitySpec.{address_moved, changes_holdi
 
 use vme_monitor::mark::Fault;
 use vme_monitor::tracking::{answer_between, has_strobes_high};
-use vme_trace::{Change, LINE_COUNT, Line, LineSet, Lines, Rule, is_selected, needed};
+use vme_trace::{Change, Line, LineSet, Lines, Rule, is_selected, needed};
 
 /// What one step shows.
 #[derive(Clone, Copy, Debug)]
@@ -214,7 +214,7 @@ fn least_undriven(lines: &Lines) -> Option<Line>
     if has_known_data(lines) {
         return None;
     }
-    for number in 159..LINE_COUNT {
+    for number in 159..191 {
         if let Some(line) = Line::from_number(number) {
             if !lines.level(line).is_known() && is_selected(lines, line) {
                 return Some(line);

@@ -1,6 +1,7 @@
 //! The rules of stability.
 
 ghost use Rattle.std.specs.Prelude.{◌≡◌, ◌&&◌};
+ghost use Rattle.vme_monitor.specs.Run.{nothing};
 ghost use Rattle.vme_monitor.specs.Whole.{FindsLeast, ShowsAll};
 ghost use Rattle.vme_trace.specs.declared.rule.Rule.TheVariants.{S3, U4};
 ghost use Rattle.vme_stability.specs.StabilitySpec.{answers_in, fault_in, fault_on as fault_on_line, held_fault, keeps_data as keeps_data_in, shifted_fault, stability_rules, passed_in, stability_shown, stepped, undriven_fault, writes_now};
@@ -20,6 +21,7 @@ impl Holding {
     ghost use Rattle.vme_stability.specs.StabilitySpec.{awaits_answer, keeps_address, keeps_direction};
 
     /// Whether the answer of a transfer comes.
+    #[inline(always)]
     fn is_answer(self, before: &Lines, after: &Lines) -> bool
         ensures { result ≡ answers_in self before.now after.now }
     {
@@ -85,6 +87,7 @@ impl Holding {
     }
 
     /// The first rule that is broken by a change of what is held.
+    #[inline(always)]
     fn broken(self, before: &Lines, after: &Lines, seen: &Sight) -> Option<Fault>
         ensures { result ≡ held_fault self before.now after.now seen.now }
     {
@@ -191,6 +194,7 @@ impl Holding {
 }
 
 impl Rules for StabilityRules {
+    ghost use Rattle.vme_monitor.specs.Run.{nothing};
     ghost use Rattle.vme_stability.specs.StabilitySpec.{stability_begin, stability_ends, stability_next, stability_opens, stability_sight};
 
     type Memory = Holding;
@@ -200,6 +204,8 @@ impl Rules for StabilityRules {
     ghost begin = { stability_begin };
 
     ghost opens = { stability_opens };
+
+    ghost resets = { nothing };
 
     ghost ends = { stability_ends };
 
@@ -215,6 +221,10 @@ impl Rules for StabilityRules {
     }
 
     fn shown_at_start(_lines: &Lines) -> Kinds {
+        NOTHING
+    }
+
+    fn shown_at_reset() -> Kinds {
         NOTHING
     }
 
@@ -246,5 +256,5 @@ pub type Stability = Within<StabilityRules>;
 /// Over a whole capture, the event is the least break of U2, U3, U4, S1, S2 and S3, and there are no marks.
 pub fn stability_over_captures()
     ensures event { FindsLeast ⟦<Stability as Monitor>⟧.run ⟦<Stability as Monitor>⟧.begin stability_rules }
-    ensures marks { ShowsAll ⟦<Stability as Monitor>⟧.run ⟦<Stability as Monitor>⟧.begin stability_shown }
+    ensures marks { ShowsAll ⟦<Stability as Monitor>⟧.run ⟦<Stability as Monitor>⟧.begin nothing stability_shown }
 {}

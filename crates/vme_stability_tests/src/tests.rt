@@ -57,6 +57,8 @@ const D08: u8 = 167;
 
 const D16: u8 = 175;
 
+const SYSRESET: u8 = 191;
+
 const HIGH: Level = Level::High;
 
 const LOW: Level = Level::Low;
@@ -154,8 +156,8 @@ fn assert_found(rt: &impl Abort, summary: &Summary, opening: &Lines, want: Found
     }
 }
 
-/// Every line of three slots high, but address lines 24 to 31.
-fn all_high(rt: &impl Abort, alloc: Global) -> Result<Vec<(u8, Level)>, Fail> {
+/// Every line of three slots high, but address lines 24 to 31, the data lines and the system reset.
+fn bus_high(rt: &impl Abort, alloc: Global) -> Result<Vec<(u8, Level)>, Fail> {
     let lines = Lines::new(3).expect(rt, "three slots");
     let mut changes = Vec::new(alloc);
     for number in 0..159u8 {
@@ -163,6 +165,13 @@ fn all_high(rt: &impl Abort, alloc: Global) -> Result<Vec<(u8, Level)>, Fail> {
             changes.push((number, HIGH))?;
         }
     }
+    Ok(changes)
+}
+
+/// The same with the system reset.
+fn all_high(rt: &impl Abort, alloc: Global) -> Result<Vec<(u8, Level)>, Fail> {
+    let mut changes = bus_high(rt, alloc)?;
+    changes.push((SYSRESET, HIGH))?;
     Ok(changes)
 }
 
@@ -245,6 +254,24 @@ fn a_short_address_is_held(rt: HostRuntime) -> Result<(), Fail> {
     assert_judged(&rt, alloc, &rows, None)
 }
 
+/// What a cycle holds may change once the bus is reset.
+#[test]
+fn a_reset_ends_what_is_held(rt: HostRuntime) -> Result<(), Fail> {
+    let alloc = rt.alloc();
+    let idle = all_high(&rt, alloc)?;
+    let mut rows: [Row<'_>; 6] = [
+        idle.as_slice(),
+        &[(AM1, LOW), (AM2, LOW), (A05, LOW)],
+        &[(AS, LOW)],
+        &[(SYSRESET, LOW)],
+        &[(AS, HIGH), (A05, HIGH)],
+        &[(SYSRESET, HIGH)],
+    ];
+    assert_judged(&rt, alloc, &rows, None)?;
+    rows[3] = &[(A05, HIGH)];
+    assert_judged(&rt, alloc, &rows[..4], Some((4, 30, Rule::S1, A05)))
+}
+
 #[test]
 fn the_direction_is_known_and_held(rt: HostRuntime) -> Result<(), Fail> {
     let alloc = rt.alloc();
@@ -262,10 +289,11 @@ fn the_direction_is_known_and_held(rt: HostRuntime) -> Result<(), Fail> {
 
 /// The same with the data lines of two bytes high.
 fn all_high_with_data(rt: &impl Abort, alloc: Global) -> Result<Vec<(u8, Level)>, Fail> {
-    let mut changes = all_high(rt, alloc)?;
+    let mut changes = bus_high(rt, alloc)?;
     for number in D00..D16 {
         changes.push((number, HIGH))?;
     }
+    changes.push((SYSRESET, HIGH))?;
     Ok(changes)
 }
 
@@ -318,7 +346,7 @@ fn data_of_a_write_are_held(rt: HostRuntime) -> Result<(), Fail> {
 
 #[test]
 fn memories_have_places(rt: HostRuntime) {
-    assert_eq!(rt; Stability::COUNT, 12);
+    assert_eq!(rt; Stability::COUNT, 13);
     for k in 0..Stability::COUNT {
         assert_eq!(rt; Stability::place(Stability::nth(k)), k);
     }

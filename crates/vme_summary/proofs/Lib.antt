@@ -15,6 +15,9 @@ pub mod MarkedAddresses
 pub mod ListedEnd
 pub mod MarkedKinds
 pub mod MarkedRowsFound
+pub mod MarkedCuts
+pub mod MarkedResets
+pub mod MarkedSpans
 pub mod MarkedListing
 pub mod Listed
 pub mod Marked

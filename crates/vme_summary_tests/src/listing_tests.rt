@@ -1,4 +1,4 @@
-use crate::tests::{CHAINS, CYCLES, DUMPS, HELD, Worked, capture_of, followed};
+use crate::tests::{CHAINS, CYCLES, DUMPS, HELD, RESETS, Worked, capture_of, followed};
 use std::alloc::Global;
 use std::process::Abort;
 use std::test::Fail;
@@ -48,7 +48,7 @@ pub(crate) fn assert_rows(
     };
     write_listing(listing, &mut page).ok().ok_or("not written")?;
     let text = page.bytes.as_slice();
-    assert!(rt; text.strip_prefix(b"vmecheck listing 2\n") == Some(rows.as_bytes()));
+    assert!(rt; text.strip_prefix(b"vmecheck listing 3\n") == Some(rows.as_bytes()));
     let again = read(alloc, text).ok().ok_or("not read")?;
     assert!(rt; again.rows() == listing.rows());
     Ok(())
@@ -99,4 +99,9 @@ fn held_lines(rt: HostRuntime) -> Result<(), Fail> {
 #[test]
 fn chains(rt: HostRuntime) -> Result<(), Fail> {
     assert_listings(&rt, rt.alloc(), &CHAINS)
+}
+
+#[test]
+fn resets(rt: HostRuntime) -> Result<(), Fail> {
+    assert_listings(&rt, rt.alloc(), &RESETS)
 }

@@ -3,7 +3,7 @@
 ghost use Rattle.std.specs.Prelude.{◌≡◌};
 
 use crate::listing_tests::assert_rows;
-use crate::tests::{CYCLES, DUMPS, GRANTED, READ, Worked, capture_of, verdict_of};
+use crate::tests::{CYCLES, DUMPS, GRANTED, READ, RESETS, Worked, capture_of, verdict_of};
 use std::alloc::Global;
 use std::process::Abort;
 use std::test::Fail;
@@ -99,6 +99,11 @@ fn parts_of_dumps(rt: HostRuntime) -> Result<(), Fail> {
 #[test]
 fn parts_of_a_read(rt: HostRuntime) -> Result<(), Fail> {
     assert_parts(&rt, rt.alloc(), &CYCLES[..1])
+}
+
+#[test]
+fn parts_of_a_read_with_resets(rt: HostRuntime) -> Result<(), Fail> {
+    assert_parts(&rt, rt.alloc(), &RESETS[..3])
 }
 
 #[test]

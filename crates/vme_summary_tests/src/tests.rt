@@ -12,7 +12,8 @@ use vme_trace::{
 };
 
 /// How a recording starts: its slots, the levels of its opening, and its first steps. A step is the lines that change, with their
-/// new levels, and they stand ten units apart. `high` is every line high, and `quiet` every line but A24 to A31.
+/// new levels, and they stand ten units apart. `high` is every line high, `quiet` every line but A24 to A31, and `others` every line
+/// but SYSRESET.
 #[derive(Clone, Copy)]
 pub(crate) struct Start {
     slots: u8,
@@ -60,6 +61,13 @@ const PASSED_ON: Start = Start {
     slots: 3,
     opening: "",
     steps: "quiet;BR3=0;BG3.0=0;BG3.1=0;BG3.2=0",
+};
+
+/// All lines are unknown.
+const UNKNOWN: Start = Start {
+    slots: 3,
+    opening: "",
+    steps: "",
 };
 
 /// A read by modifier 39.
@@ -244,6 +252,103 @@ pub(crate) const CHAINS: [Worked; 9] = [
     ),
 ];
 
+/// A read that a reset leaves without an answer, and then a whole one.
+pub(crate) const READ_AGAIN: Worked = (
+    GRANTED,
+    "AM1=0 AM2=0 A05=0;AS=0;DS0=0 DS1=0;SYSRESET=0;DTACK=0;AS=1 DS0=1 DS1=1;DTACK=1 BBSY=1;SYSRESET=1;BR3=0;BG3.0=0;BG3.1=0;BBSY=0 BR3=1;BG3.0=1;BG3.1=1;AS=0;DS0=0 DS1=0;DTACK=0;AS=1 DS0=1 DS1=1;DTACK=1;BBSY=1",
+    Conforming,
+    "start 1\ntenure 5 level 3 slot 2 end -\ncycle 9 S 39 FFFFDE end -\ntransfer 10 read pending\nreset 11\nstart 15\ntenure 19 level 3 slot 2 end 27\ncycle 22 S 39 FFFFDE end 25\ntransfer 23 of 22 read DTACK 24 close 25\nverdict conforming\n",
+);
+
+/// Resets of the bus.
+pub(crate) const RESETS: [Worked; 15] = [
+    (
+        GRANTED,
+        "AM1=0 AM2=0 A05=0;AS=0;DS0=0 DS1=0;SYSRESET=0;AS=1 DS0=1 DS1=1 BBSY=1;SYSRESET=1",
+        Conforming,
+        "start 1\ntenure 5 level 3 slot 2 end -\ncycle 9 S 39 FFFFDE end -\ntransfer 10 read pending\nreset 11\nstart 13\nverdict conforming\n",
+    ),
+    READ_AGAIN,
+    (
+        GRANTED_FROM_IDLE,
+        "AM1=0 AM2=0 A05=0;AS=0;DS0=0 DS1=0;SYSRESET=0;AS=1 DS0=1 DS1=1;SYSRESET=1;AS=0;DS0=0 DS1=0;DTACK=0;AS=1 DS0=1 DS1=1;DTACK=1;BBSY=1",
+        Conforming,
+        "start 0\ntenure 4 level 3 slot 2 end -\ncycle 8 S 39 FFFFDE end -\ntransfer 9 read pending\nreset 10\nstart 12\ntenure 12 open end 18\ncycle 13 S 39 FFFFDE end 16\ntransfer 14 of 13 read DTACK 15 close 16\nverdict conforming\n",
+    ),
+    (
+        GRANTED,
+        "AM1=0 AM2=0 A05=0;AS=0;DS0=0 DS1=0;SYSRESET=0;AS=1 DS0=1 DS1=1;SYSRESET=1",
+        Conforming,
+        "start 1\ntenure 5 level 3 slot 2 end -\ncycle 9 S 39 FFFFDE end -\ntransfer 10 read pending\nreset 11\nstart 13\ntenure 13 open end -\nverdict conforming\n",
+    ),
+    (
+        GRANTED,
+        "AM1=0 AM2=0 A05=0;AS=0;DS0=0 DS1=0;SYSRESET=0;AS=1 DS0=1 DS1=1 BBSY=1;SYSRESET=1;DTACK=0",
+        Broken(14, Rule::H4, "DTACK"),
+        "start 1\ntenure 5 level 3 slot 2 end -\ncycle 9 S 39 FFFFDE end -\ntransfer 10 read pending\nreset 11\nstart 13\nverdict broken H4 14 DTACK\n",
+    ),
+    (
+        GRANTED,
+        "AM1=0 AM2=0 A05=0;AS=0;DS0=0 DS1=0;AS=x SYSRESET=0;AS=1 DS0=1 DS1=1 BBSY=1;SYSRESET=1",
+        Conforming,
+        "start 1\ntenure 5 level 3 slot 2 end -\ncycle 9 S 39 FFFFDE end -\ntransfer 10 read pending\nreset 11\nstart 13\nverdict conforming\n",
+    ),
+    (
+        GRANTED,
+        "AM1=0 AM2=0 A05=0;AS=0;DS0=0 DS1=0;SYSRESET=x",
+        Unreadable(11, Rule::U1, "SYSRESET"),
+        "start 1\ntenure 5 level 3 slot 2 end -\ncycle 9 S 39 FFFFDE end -\ntransfer 10 read pending\nverdict unreadable U1 11 SYSRESET\n",
+    ),
+    (
+        UNKNOWN,
+        "quiet;BR3=0;BR3=1 SYSRESET=0;SYSRESET=1;BG3.0=0",
+        Broken(5, Rule::G5, "BG3.0"),
+        "start 1\nreset 3\nstart 4\nverdict broken G5 5 BG3.0\n",
+    ),
+    (
+        UNKNOWN,
+        "quiet;BR3=0;BR3=1;BG3.0=0",
+        Conforming,
+        "start 1\nverdict conforming\n",
+    ),
+    (
+        UNKNOWN,
+        "others SYSRESET=0;BR3=0;BR3=1",
+        NeverIdle,
+        "verdict never-idle\n",
+    ),
+    (
+        UNKNOWN,
+        "quiet;AS=0 SYSRESET=0;SYSRESET=1;SYSRESET=0;AS=1 SYSRESET=1;SYSRESET=0",
+        Conforming,
+        "start 1\nreset 2\nstart 5\nreset 6\nverdict conforming\n",
+    ),
+    (
+        UNKNOWN,
+        "quiet;AS=x SYSRESET=0;SYSRESET=1;AS=1;AS=x;AS=1 SYSRESET=0;SYSRESET=1",
+        Unreadable(5, Rule::U1, "AS"),
+        "start 1\nreset 2\nstart 4\nverdict unreadable U1 5 AS\n",
+    ),
+    (
+        UNKNOWN,
+        "quiet;DTACK=0;DTACK=1 SYSRESET=0;SYSRESET=1",
+        Broken(2, Rule::H4, "DTACK"),
+        "start 1\nverdict broken H4 2 DTACK\n",
+    ),
+    (
+        GRANTED,
+        "AM1=0 AM2=0 A05=0;AS=0;DS0=0 DS1=0;DTACK=0;AS=1 DS0=1 DS1=1;DTACK=1;BBSY=1;SYSRESET=0",
+        Conforming,
+        "start 1\ntenure 5 level 3 slot 2 end 14\ncycle 9 S 39 FFFFDE end 12\ntransfer 10 of 9 read DTACK 11 close 12\nreset 15\nverdict conforming\n",
+    ),
+    (
+        GRANTED,
+        "BBSY=1;SYSRESET=0;SYSRESET=1;BBSY=0",
+        Broken(11, Rule::B1, "BBSY"),
+        "start 1\ntenure 5 level 3 slot 2 end 8\nreset 9\nstart 10\nverdict broken B1 11 BBSY\n",
+    ),
+];
+
 /// The break of a recording whose steps stand ten units apart.
 fn break_of(instant: u32, rule: Rule, name: &str) -> Option<Break> {
     Some(Break {
@@ -307,6 +412,8 @@ fn changes_of(alloc: Global, lines: &Lines, text: &str) -> Result<Vec<Change>, &
             push_high(&mut changes, lines, LINE_COUNT, LINE_COUNT)?;
         } else if word == "quiet" {
             push_high(&mut changes, lines, 37, 44)?;
+        } else if word == "others" {
+            push_high(&mut changes, lines, LINE_COUNT - 1, LINE_COUNT - 1)?;
         } else {
             let change = change_of(word).ok_or("no change")?;
             changes.push(change).ok().ok_or("no memory")?;
@@ -426,7 +533,8 @@ fn verdicts(rt: HostRuntime) -> Result<(), Fail> {
     assert_verdicts(&rt, rt.alloc(), &DUMPS)?;
     assert_verdicts(&rt, rt.alloc(), &CYCLES)?;
     assert_verdicts(&rt, rt.alloc(), &HELD)?;
-    assert_verdicts(&rt, rt.alloc(), &CHAINS)
+    assert_verdicts(&rt, rt.alloc(), &CHAINS)?;
+    assert_verdicts(&rt, rt.alloc(), &RESETS)
 }
 
 #[test]
@@ -533,32 +641,44 @@ fn paired(rt: &impl Abort, alloc: Global, spans: Vec<Span>) -> Result<Vec<Span>,
 
 fn by_halves(rt: &impl Abort, alloc: Global, spans: Vec<Span>) -> Result<Span, Fail> {
     let mut spans = spans;
-    for _ in 0..4 {
+    for _ in 0..5 {
         spans = paired(rt, alloc, spans)?;
     }
     Ok(spans.pop().ok_or("no spans")?)
 }
 
-/// The span is that of the whole read, which conforms.
-fn assert_whole(rt: &impl Abort, alloc: Global, all: &Span) -> Result<(), Fail> {
-    assert_eq!(rt; (all.last(), all.steps()), (13, 14));
-    assert!(rt; all.first() == 0);
+/// The span is that of a whole recording, which conforms, in blocks of one step.
+fn assert_whole(
+    rt: &impl Abort,
+    alloc: Global,
+    all: &Span,
+    last: u32,
+    rows: &str,
+) -> Result<(), Fail> {
+    assert!(rt; all.first() == 0 && last <= 1000);
+    assert_eq!(rt; (all.last(), all.steps()), (last, last + 1));
     assert_eq!(rt; all.verdict(), Verdict::Conforming);
     let listing = match all.listing(alloc) {
         Ok(listing) => listing,
         Err(_) => all.listing(alloc)?,
     };
-    assert_rows(rt, alloc, &listing, READ_ROWS)
+    assert_rows(rt, alloc, &listing, rows)
 }
 
-/// A read that is cut into single steps conforms, however they are joined.
-fn assert_bracketed(rt: &impl Abort, alloc: Global) -> Result<(), Fail> {
-    let left = from_left(rt, alloc, read_spans(rt, alloc, 1)?)?;
-    assert_whole(rt, alloc, &left)?;
-    let right = from_right(rt, alloc, read_spans(rt, alloc, 1)?)?;
-    assert_whole(rt, alloc, &right)?;
-    let halves = by_halves(rt, alloc, read_spans(rt, alloc, 1)?)?;
-    assert_whole(rt, alloc, &halves)
+/// A recording that conforms and is cut into single steps conforms, however they are joined.
+fn assert_bracketed(
+    rt: &impl Abort,
+    alloc: Global,
+    recording: &Worked,
+    last: u32,
+) -> Result<(), Fail> {
+    let (start, text, _, rows) = recording;
+    let left = from_left(rt, alloc, spans_of(rt, alloc, *start, text, 1)?)?;
+    assert_whole(rt, alloc, &left, last, rows)?;
+    let right = from_right(rt, alloc, spans_of(rt, alloc, *start, text, 1)?)?;
+    assert_whole(rt, alloc, &right, last, rows)?;
+    let halves = by_halves(rt, alloc, spans_of(rt, alloc, *start, text, 1)?)?;
+    assert_whole(rt, alloc, &halves, last, rows)
 }
 
 /// The block again, with DS0* alone in its last step.
@@ -597,7 +717,8 @@ fn assert_torn_by_lines(rt: &impl Abort, alloc: Global) -> Result<(), Fail> {
 
 /// Spans that follow one another are joined in any brackets, and others are torn.
 fn assert_joins(rt: &impl Abort, alloc: Global) -> Result<(), Fail> {
-    assert_bracketed(rt, alloc)?;
+    assert_bracketed(rt, alloc, &CYCLES[0], 13)?;
+    assert_bracketed(rt, alloc, &READ_AGAIN, 26)?;
     assert_torn_by_numbers(rt, alloc)?;
     assert_torn_by_lines(rt, alloc)
 }

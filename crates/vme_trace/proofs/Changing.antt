@@ -1,17 +1,17 @@
--- What changes leave as it was, and the control lines that they lose.
+-- Where control is lost, and what changes leave as it was.
 use Rattle.std.proofs.Common.{◌≡◌, ℕ, ◌+◌, ◌<◌, ◌≤◌, Bool, true, false, ◌||◌, ◌&&◌, not, List, [], ◌∷◌, refl, sym, ◌∙◌, ap, arith, ◌≢◌, cond}
 use Rattle.std.specs.Prelude.{None, Some, ◌==◌, nat_le, slice_set}
 use Rattle.std.proofs.lemmas.Bool.Decides.{nat_tests}
 use Rattle.std.proofs.lemmas.List.{get_or-set_other}
 use Rattle.std.proofs.lemmas.Option.{unwrap_or-slice_get}
 use Rattle.vme_trace.specs.Instants.{any, least}
-use Rattle.vme_trace.specs.LineNumbers.{line_count, has_line, is_control, is_net}
-use Rattle.vme_trace.specs.Levels.{Levels, level_at, set_level, is_idle, is_idle_on, is_lost, is_high, is_known, loses_control}
+use Rattle.vme_trace.specs.LineNumbers.{line_count, SYSRESET, has_line, is_control}
+use Rattle.vme_trace.specs.Levels.{Levels, level_at, set_level, rests_high, is_idle, is_idle_on, is_reset, is_lost, is_low, is_high, is_known, loses_control}
 use Rattle.vme_trace.specs.Trace.{changed}
 use Rattle.vme_trace.specs.WellFormed.{are_changes}
 use Rattle.vme_trace.specs.Changes.{is_changed, touches_control, lost_among}
 use Rattle.vme_trace.specs.declared.level.Level.{Level}
-use Rattle.vme_trace.specs.declared.level.Level.TheVariants.{Unknown}
+use Rattle.vme_trace.specs.declared.level.Level.TheVariants.{Low, High, Unknown}
 use Rattle.vme_trace.specs.declared.step.Change.{Change}
 use Rattle.vme_trace.proofs.Ranges.{any-fails, fails-any, any-alike, least-is, least-none, clash}
 
@@ -31,6 +31,48 @@ differs m l h e = absurd (same m l h e)
 
 kept_set : (v : Levels) (m l : ℕ) (x : Level) → (m == l) ≡ false → level_at (set_level v m x) l ≡ level_at v l
 kept_set v m l x h = unwrap_or-slice_get (slice_set v.levels m x) l Unknown ∙ (get_or-set_other v.levels m l x Unknown (differs m l h) ∙ sym (unwrap_or-slice_get v.levels l Unknown))
+
+true_of_not : (b : Bool) → not b ≡ false → b ≡ true
+true_of_not true h = refl
+true_of_not false h = absurd (cc)
+
+false_of_not : (b : Bool) → not b ≡ true → b ≡ false
+false_of_not true h = absurd (cc)
+false_of_not false h = refl
+
+each_idle : (v : Levels) (l : ℕ) → is_idle v ≡ true → l < line_count → is_idle_on v l ≡ true
+unfolding is_idle
+each_idle v l idle below = true_of_not _ (any-fails (λ k. not (is_idle_on v k)) 0 line_count l (false_of_not _ idle) (omega arith) below)
+
+idle_known : (control strict reset : Bool) (x : Level) → cond (not control) true (cond strict (is_high x) (is_known x)) ≡ true → (control && not (is_known x) && not reset) ≡ false
+idle_known false strict reset x h = refl
+idle_known true strict reset Low h = refl
+idle_known true strict reset High h = refl
+idle_known true true reset Unknown h = absurd (cc)
+idle_known true false reset Unknown h = absurd (cc)
+
+-- an idle bus has lost nothing
+pub idle-holds : (v : Levels) → is_idle v ≡ true → loses_control v ≡ false
+unfolding loses_control
+idle-holds v idle = fails-any (is_lost v) 0 line_count (λ l a b. idle_known (is_control v.slots l) (rests_high l) (is_reset v) (level_at v l) (each_idle v l idle b))
+
+high_not_low : (x : Level) → is_high x ≡ true → is_low x ≡ false
+high_not_low Low h = absurd (cc)
+high_not_low High h = refl
+high_not_low Unknown h = refl
+
+-- and it isn't reset
+pub idle-runs : (v : Levels) → is_idle v ≡ true → is_reset v ≡ false
+idle-runs v idle = high_not_low (level_at v SYSRESET) (each_idle v SYSRESET idle (omega arith))
+
+kept_unless : (a b : Bool) → b ≡ true → (a && not b) ≡ false
+kept_unless true b h = rw h refl
+kept_unless false b h = refl
+
+-- nor has a bus that is reset
+pub reset-holds : (v : Levels) → is_reset v ≡ true → loses_control v ≡ false
+unfolding loses_control
+reset-holds v reset = fails-any (is_lost v) 0 line_count (λ l a b. kept_unless _ (is_reset v) reset)
 
 pub slots-kept : (v : Levels) (cs : List Change) → (changed v cs).slots ≡ v.slots
 unfolding changed
@@ -61,7 +103,7 @@ untouched slots (c ∷ cs) l h k =
 idle_on-kept : (v : Levels) (cs : List Change) (l : ℕ) → touches_control v.slots cs ≡ false → is_idle_on (changed v cs) l ≡ is_idle_on v l
 idle_on-kept v cs l h = rw (slots-kept v cs) (by_control (is_control v.slots l) refl)
   where
-    by_control : (b : Bool) → is_control v.slots l ≡ b → cond (not b) true (cond (nat_le l 4 || is_net l) (is_high (level_at (changed v cs) l)) (is_known (level_at (changed v cs) l))) ≡ cond (not b) true (cond (nat_le l 4 || is_net l) (is_high (level_at v l)) (is_known (level_at v l)))
+    by_control : (b : Bool) → is_control v.slots l ≡ b → cond (not b) true (cond (rests_high l) (is_high (level_at (changed v cs) l)) (is_known (level_at (changed v cs) l))) ≡ cond (not b) true (cond (rests_high l) (is_high (level_at v l)) (is_known (level_at v l)))
     by_control false e = refl
     by_control true e = rw (level-kept v cs l (untouched v.slots cs l h e)) refl
 
@@ -70,8 +112,17 @@ pub idle-kept : (v : Levels) (cs : List Change) → touches_control v.slots cs �
 unfolding is_idle
 idle-kept v cs h = ap not (any-alike (λ l. not (is_idle_on (changed v cs) l)) (λ l. not (is_idle_on v l)) 0 line_count (λ l a b. ap not (idle_on-kept v cs l h)))
 
-lost-kept : (v : Levels) (cs : List Change) (l : ℕ) → is_lost v l ≡ false → is_changed cs l ≡ false → is_lost (changed v cs) l ≡ false
-lost-kept v cs l h k = rw (slots-kept v cs, level-kept v cs l k) h
+-- and reset or not
+pub reset-kept : (v : Levels) (cs : List Change) → touches_control v.slots cs ≡ false → is_reset (changed v cs) ≡ is_reset v
+reset-kept v cs h = ap is_low (level-kept v cs SYSRESET (untouched v.slots cs SYSRESET h refl))
+
+still_false : (a b c : Bool) → (a && not b) ≡ false → b ≡ false → (a && not c) ≡ false
+still_false true true c h k = absurd (cc)
+still_false true false c h k = absurd (cc)
+still_false false b c h k = refl
+
+lost-kept : (v : Levels) (cs : List Change) (l : ℕ) → is_reset v ≡ false → is_lost v l ≡ false → is_changed cs l ≡ false → is_lost (changed v cs) l ≡ false
+lost-kept v cs l r h k = rw (slots-kept v cs, level-kept v cs l k) (still_false (is_control v.slots l && not (is_known (level_at v l))) (is_reset v) (is_reset (changed v cs)) h r)
 
 -- no change stands before the least that may
 below_changes : (v : Levels) (lowest l : ℕ) (cs : List Change) → are_changes v lowest cs ≡ true → l < lowest → is_changed cs l ≡ false
@@ -136,11 +187,11 @@ none_lost v l few h = by_test (is_lost v l) refl
 
     by_test : (b : Bool) → is_lost v l ≡ b → b ≡ false
     by_test false e = refl
-    by_test true e = absurd (clash (is_lost v l) e (any-fails (is_lost v) 0 line_count l h (omega arith) (exists_below v.slots l few (control_exists (has_line v.slots l) _ (control_exists (is_control v.slots l) _ e)))))
+    by_test true e = absurd (clash (is_lost v l) e (any-fails (is_lost v) 0 line_count l h (omega arith) (exists_below v.slots l few (control_exists (has_line v.slots l) _ (control_exists (is_control v.slots l) _ (control_exists _ _ e))))))
 
--- so the first changed line that is lost is the least lost line
-pub lost-least : (v : Levels) (cs : List Change) → v.slots ≤ 21 → are_changes v 0 cs ≡ true → loses_control v ≡ false → lost_among (changed v cs) cs ≡ least (is_lost (changed v cs)) 0 line_count
-lost-least v cs few h held = first_lost v (changed v cs) few 0 cs h (λ l k. lost-kept v cs l (none_lost v l few held) k)
+-- so the first changed line that is lost is the least lost line, where the bus wasn't reset before
+pub lost-least : (v : Levels) (cs : List Change) → v.slots ≤ 21 → are_changes v 0 cs ≡ true → loses_control v ≡ false → is_reset v ≡ false → lost_among (changed v cs) cs ≡ least (is_lost (changed v cs)) 0 line_count
+lost-least v cs few h held unreset = first_lost v (changed v cs) few 0 cs h (λ l k. lost-kept v cs l unreset (none_lost v l few held) k)
 
 -- and where no control line is among the changes, none is lost
 pub lost-untouched : (now : Levels) (cs : List Change) → touches_control now.slots cs ≡ false → lost_among now cs ≡ None

@@ -2,6 +2,7 @@ pub mod AnswerData
 pub mod Changing
 pub mod CutBlocks
 pub mod IdleLines
+pub mod JudgedSpans
 pub mod NameLaws
 pub mod OpenTransfers
 pub mod Ranges

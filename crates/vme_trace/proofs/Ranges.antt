@@ -1,8 +1,8 @@
 -- Laws of the searches over a range.
-use Rattle.std.proofs.Common.{◌≡◌, ℕ, zero, suc, ◌+◌, ◌<◌, ◌≤◌, Bool, true, false, ◌&&◌, ◌||◌, not, refl, sym, ◌∙◌, ap, arith, add-one, inl, inr, ◌⊎◌, cond, subst}
+use Rattle.std.proofs.Common.{◌≡◌, ℕ, zero, suc, ◌+◌, ◌<◌, ◌≤◌, Bool, true, false, ◌&&◌, ◌||◌, not, refl, sym, ◌∙◌, ap, arith, add-one, inl, inr, ◌⊎◌, cond, subst, [], ◌∷◌, ◌++◌, append_assoc, append-nil}
 use Rattle.std.specs.Prelude.{Option, None, Some, nat_le}
 use Rattle.std.proofs.lemmas.Bool.Decides.{nat_tests}
-use Rattle.vme_trace.specs.Instants.{any, every, least}
+use Rattle.vme_trace.specs.Instants.{any, every, least, those}
 
 -- one more at the end
 pub any-step : (p : ℕ → Bool) (f n : ℕ) → any p f (n + 1) ≡ (any p f n || (nat_le f n && p n))
@@ -204,6 +204,54 @@ every-alike p q f n alike = ap not (any-alike (λ k. not (p k)) (λ k. not (q k)
 
 pub every-holds : (p : ℕ → Bool) (f n : ℕ) → ((i : ℕ) → f ≤ i → i < n → p i ≡ true) → every p f n ≡ true
 every-holds p f n h = ap not (fails-any (λ k. not (p k)) f n (λ i a b. ap not (h i a b)))
+
+-- none of a range where none holds
+pub those-none : (p : ℕ → Bool) (f n : ℕ) → any p f n ≡ false → those p f n ≡ []
+unfolding those any
+those-none p f zero none = refl
+those-none p f (suc n) none = let both = or_none (any p f n) (nat_le f n && p n) none in rw (those-none p f n both.0, both.1) refl
+
+and_off : (a b : Bool) → b ≡ false → (a && b) ≡ false
+and_off true b h = h
+and_off false b h = refl
+
+-- one more of them, or no more
+pub those-more : (p : ℕ → Bool) (f n : ℕ) → f ≤ n → p n ≡ true → those p f (suc n) ≡ those p f n ++ n ∷ []
+unfolding those
+those-more p f n from h = rw (here p f n from h) refl
+
+pub those-same : (p : ℕ → Bool) (f n : ℕ) → p n ≡ false → those p f (suc n) ≡ those p f n
+unfolding those
+those-same p f n h = rw (and_off (nat_le f n) (p n) h) (append-nil (those p f n))
+
+-- of a range in two parts
+pub those-split : (p : ℕ → Bool) (f m n : ℕ) → f ≤ m → m ≤ n → those p f n ≡ those p f m ++ those p m n
+those-split p f m zero a b =
+    let e : m ≡ 0 = omega arith in
+    subst (λ k. those p f 0 ≡ those p f k ++ those p k 0) (sym e) (sym (ap (λ xs. those p f 0 ++ xs) (those-none p 0 0 (any-empty p 0)) ∙ append-nil (those p f 0)))
+those-split p f m (suc n) a b =
+    elim (same_or_below m n b) [
+      | inl e ↦ subst (λ k. those p f (suc n) ≡ those p f k ++ those p k (suc n)) (sym e) (sym (ap (λ xs. those p f (suc n) ++ xs) (those-none p (suc n) (suc n) (fails-any p (suc n) (suc n) (λ i x y. absurd (omega arith)))) ∙ append-nil (those p f (suc n))))
+      | inr c ↦ by_last (p n) refl c (those-split p f m n a c)
+    ]
+  where
+    same_or_below : (m n : ℕ) → m ≤ suc n → (m ≡ suc n) ⊎ (m ≤ n)
+    same_or_below m n h = grind arith
+
+    by_last : (last : Bool) → p n ≡ last → m ≤ n → those p f n ≡ those p f m ++ those p m n → those p f (suc n) ≡ those p f m ++ those p m (suc n)
+    by_last true e c earlier =
+        those-more p f n (omega arith) e
+        ∙ (ap (λ xs. xs ++ n ∷ []) earlier ∙ (append_assoc (those p f m) (those p m n) (n ∷ []) ∙ ap (λ xs. those p f m ++ xs) (sym (those-more p m n c e))))
+    by_last false e c earlier = those-same p f n e ∙ (earlier ∙ ap (λ xs. those p f m ++ xs) (sym (those-same p m n e)))
+
+-- the first, and those after it
+pub those-next : (p : ℕ → Bool) (f n i : ℕ) → f ≤ i → i < n → p i ≡ true → any p f i ≡ false → those p f n ≡ i ∷ those p (i + 1) n
+those-next p f n i from below h first =
+    those-split p f (i + 1) n (omega arith) (omega arith)
+    ∙ ap (λ xs. xs ++ those p (i + 1) n) (ap (those p f) (sym add-one_is) ∙ (those-more p f i from h ∙ ap (λ xs. xs ++ i ∷ []) (those-none p f i first)))
+  where
+    add-one_is : suc i ≡ i + 1
+    add-one_is = omega arith
 
 -- for the goals of a loop that searches a range
 pub ruleset searches = (any-step, any-holds, any-fails, any-empty, every-empty, every-fails, least-is, least-none, nat_tests)

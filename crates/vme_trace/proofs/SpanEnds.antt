@@ -1,5 +1,5 @@
 -- Where a span ends, what can be read within it, and what breaks there.
-use Rattle.std.proofs.Common.{lit<, lit≤, ◌≡◌, ℕ, zero, suc, ◌+◌, ◌<◌, ◌≤◌, Bool, true, false, ◌&&◌, not, List, refl, sym, ◌∙◌, ap, arith, inl, inr, ◌⊎◌}
+use Rattle.std.proofs.Common.{lit<, lit≤, ◌≡◌, ℕ, zero, suc, ◌+◌, ◌<◌, ◌≤◌, Bool, true, false, ◌&&◌, ◌||◌, not, List, refl, sym, ◌∙◌, ap, arith, inl, inr, ◌⊎◌}
 use Rattle.std.specs.Prelude.{Option, None, Some, slice_get, ◌==◌, nat_le, unwrap_or}
 use Rattle.std.proofs.lemmas.Bool.Decides.{nat_tests}
 use Rattle.vme_trace.specs.Instants.{any, least}
@@ -7,7 +7,7 @@ use Rattle.vme_trace.specs.LineNumbers.{line_count, has_line}
 use Rattle.vme_trace.specs.Levels.{Levels, is_idle, is_idle_on, is_lost, loses_control}
 use Rattle.vme_trace.specs.Trace.{Trace, levels_at, after, last_instant}
 use Rattle.vme_trace.specs.Signals.{high, known}
-use Rattle.vme_trace.specs.Judged.{Span, span_from, span_end, is_idle_at, loses_control_at}
+use Rattle.vme_trace.specs.Judged.{Span, span_from, span_end, is_idle_at, is_reset_at, loses_control_at, stops_at}
 use Rattle.vme_trace.specs.Rules.{breaks, is_broken}
 use Rattle.vme_trace.specs.Verdict.{break_before}
 use Rattle.vme_trace.specs.declared.step.Step.{Step}
@@ -21,27 +21,27 @@ use Rattle.vme_trace.proofs.Changing.{slots-kept}
 suc-is : (n : ℕ) → suc n ≡ n + 1
 suc-is n = omega arith
 
--- the end of a span is past the instants at which nothing was lost
-pub end-past : (t : Trace) (s n : ℕ) → any (loses_control_at t) (s + 1) (n + 1) ≡ false → n ≤ last_instant t → n < span_end t s
+-- the end of a span is past the instants at which it went on
+pub end-past : (t : Trace) (s n : ℕ) → any (stops_at t) (s + 1) (n + 1) ≡ false → n ≤ last_instant t → n < span_end t s
 unfolding span_end
-end-past t s n held within = past (least (loses_control_at t) (s + 1) (last_instant t + 1)) refl
+end-past t s n held within = past (least (stops_at t) (s + 1) (last_instant t + 1)) refl
   where
     below_or_not : (n w : ℕ) → (n < w) ⊎ (w ≤ n)
     below_or_not n w = grind arith
 
-    past : (o : Option ℕ) → least (loses_control_at t) (s + 1) (last_instant t + 1) ≡ o → n < unwrap_or o (last_instant t + 1)
+    past : (o : Option ℕ) → least (stops_at t) (s + 1) (last_instant t + 1) ≡ o → n < unwrap_or o (last_instant t + 1)
     past None e = omega arith
-    past (Some w) e = let found = least-found (loses_control_at t) (s + 1) (last_instant t + 1) w e in
+    past (Some w) e = let found = least-found (stops_at t) (s + 1) (last_instant t + 1) w e in
         elim (below_or_not n w) [
           | inl below ↦ below
-          | inr above ↦ absurd (clash (loses_control_at t w) found.holds (any-fails (loses_control_at t) (s + 1) (n + 1) w held found.first (omega arith)))
+          | inr above ↦ absurd (clash (stops_at t w) found.holds (any-fails (stops_at t) (s + 1) (n + 1) w held found.first (omega arith)))
         ]
 
--- and is the first at which something is
-pub end-is : (t : Trace) (s n : ℕ) → any (loses_control_at t) (s + 1) (n + 1) ≡ false → s ≤ n → n < last_instant t → loses_control_at t (suc n) ≡ true → span_end t s ≡ suc n
+-- and is the first at which it doesn't
+pub end-is : (t : Trace) (s n : ℕ) → any (stops_at t) (s + 1) (n + 1) ≡ false → s ≤ n → n < last_instant t → stops_at t (suc n) ≡ true → span_end t s ≡ suc n
 unfolding span_end
-end-is t s n held from within lost =
-    rw (least-is (loses_control_at t) (s + 1) (last_instant t + 1) (suc n) (omega arith) (omega arith) lost (ap (any (loses_control_at t) (s + 1)) (suc-is n) ∙ held)) refl
+end-is t s n held from within stops =
+    rw (least-is (stops_at t) (s + 1) (last_instant t + 1) (suc n) (omega arith) (omega arith) stops (ap (any (stops_at t) (s + 1)) (suc-is n) ∙ held)) refl
 
 slots-after : (v : Levels) (step : Option Step) → (after v step).slots ≡ v.slots
 slots-after v None = refl
@@ -56,9 +56,9 @@ slots_at t (suc n) = slots-after (levels_at t n) (slice_get t.steps n) ∙ slots
 ends_in_false : (a b c d : Bool) → d ≡ false → (a && (b && c && d)) ≡ false
 ends_in_false a b c d h = grind (arith, nat_tests)
 
-all_but_last : (a b c d e f : Bool) → a ≡ d → b ≡ true → c ≡ true → (a && (b && c && (d && e && f))) ≡ (d && e && f)
-all_but_last a b c true e f h k m = rw (h, k, m) refl
-all_but_last a b c false e f h k m = rw h refl
+all_but_last : (a b c d e f g : Bool) → a ≡ d → b ≡ true → c ≡ true → (a && (b && c && (d && e && f && g))) ≡ (d && e && f && g)
+all_but_last a b c true e f g h k m = rw (h, k, m) refl
+all_but_last a b c false e f g h k m = rw h refl
 
 module _ (t : Trace) (s n : ℕ) where
   -- at a judged instant U1 isn't broken
@@ -66,11 +66,11 @@ module _ (t : Trace) (s n : ℕ) where
   unfolding breaks is_broken loses_control_at loses_control
   u1-held held l below = ends_in_false (has_line t.opening.slots l) (suc n == span_end t s) (nat_le (suc n) (last_instant t)) (is_lost (levels_at t (suc n)) l) (any-fails (is_lost (levels_at t (suc n))) 0 line_count l held (omega arith) below)
 
-  -- at the end of the span it is, on each lost line
+  -- at the end of the span it is, on each lost line; where the bus is reset, no line is lost
   pub u1-lost : span_end t s ≡ suc n → n < last_instant t → (l : ℕ) → breaks t (span_from t s) U1 (suc n) l ≡ is_lost (levels_at t (suc n)) l
   unfolding breaks is_broken
   u1-lost ends within l =
-      all_but_last (has_line t.opening.slots l) (suc n == span_end t s) (nat_le (suc n) (last_instant t)) (has_line (levels_at t (suc n)).slots l) _ _
+      all_but_last (has_line t.opening.slots l) (suc n == span_end t s) (nat_le (suc n) (last_instant t)) (has_line (levels_at t (suc n)).slots l) _ _ _
       (ap (λ slots. has_line slots l) (sym (slots_at t (suc n)))) (equal_test (suc n) (span_end t s) (sym ends)) (le_test n (last_instant t) within)
     where
       equal_test : (a b : ℕ) → a ≡ b → (a == b) ≡ true
@@ -87,26 +87,42 @@ false_of_not : (b : Bool) → not b ≡ true → b ≡ false
 false_of_not true h = absurd (cc)
 false_of_not false h = refl
 
+or_false : (a b : Bool) → (a || b) ≡ false → (a ≡ false) × (b ≡ false)
+or_false true b h = absurd (cc)
+or_false false b h = (refl, h)
+
+goes_on : (t : Trace) (s j : ℕ) → s < j → j < span_end t s → stops_at t j ≡ false
+unfolding span_end
+goes_on t s j after before = by_end (least (stops_at t) (s + 1) (last_instant t + 1)) refl before
+  where
+    by_end : (o : Option ℕ) → least (stops_at t) (s + 1) (last_instant t + 1) ≡ o → j < unwrap_or o (last_instant t + 1) → stops_at t j ≡ false
+    by_end None e b = any-fails (stops_at t) (s + 1) (last_instant t + 1) j (least-none-any (stops_at t) (s + 1) (last_instant t + 1) e) (omega arith) b
+    by_end (Some w) e b = let found = least-found (stops_at t) (s + 1) (last_instant t + 1) w e in any-fails (stops_at t) (s + 1) w j found.least (omega arith) b
+
 -- within a span nothing is lost
 pub not_lost : (t : Trace) (s j : ℕ) → s < j → j < span_end t s → loses_control_at t j ≡ false
-unfolding span_end
-not_lost t s j after before = by_end (least (loses_control_at t) (s + 1) (last_instant t + 1)) refl before
-  where
-    by_end : (o : Option ℕ) → least (loses_control_at t) (s + 1) (last_instant t + 1) ≡ o → j < unwrap_or o (last_instant t + 1) → loses_control_at t j ≡ false
-    by_end None e b = any-fails (loses_control_at t) (s + 1) (last_instant t + 1) j (least-none-any (loses_control_at t) (s + 1) (last_instant t + 1) e) (omega arith) b
-    by_end (Some w) e b = let found = least-found (loses_control_at t) (s + 1) (last_instant t + 1) w e in any-fails (loses_control_at t) (s + 1) w j found.least (omega arith) b
+not_lost t s j after before = (or_false (is_reset_at t j) (loses_control_at t j) (goes_on t s j after before)).1
+
+-- and the bus isn't reset
+pub not_reset : (t : Trace) (s j : ℕ) → s < j → j < span_end t s → is_reset_at t j ≡ false
+not_reset t s j after before = (or_false (is_reset_at t j) (loses_control_at t j) (goes_on t s j after before)).0
 
 -- after an idle instant the strobes can be read
 pub reads_strobes : (t : Trace) (s : ℕ) → is_idle_at t s ≡ true → ReadsStrobes t (span_from t s)
-unfolding is_idle_at is_idle high known loses_control_at loses_control
+unfolding is_idle_at is_idle high known is_reset_at loses_control_at loses_control
 reads_strobes t s idle = record {
   opens = both (idle_line 1 (lit< tt)) (idle_line 2 (lit< tt));
-  first = λ j a b. true_of_not _ (any-fails (is_lost (levels_at t j)) 0 line_count 1 (not_lost t s j a b) (lit≤ tt) (lit< tt));
-  second = λ j a b. true_of_not _ (any-fails (is_lost (levels_at t j)) 0 line_count 2 (not_lost t s j a b) (lit≤ tt) (lit< tt));
+  first = λ j a b. known_unless _ _ (any-fails (is_lost (levels_at t j)) 0 line_count 1 (not_lost t s j a b) (lit≤ tt) (lit< tt)) (not_reset t s j a b);
+  second = λ j a b. known_unless _ _ (any-fails (is_lost (levels_at t j)) 0 line_count 2 (not_lost t s j a b) (lit≤ tt) (lit< tt)) (not_reset t s j a b);
 }
   where
     idle_line : (l : ℕ) → l < line_count → is_idle_on (levels_at t s) l ≡ true
     idle_line l below = true_of_not _ (any-fails (λ k. not (is_idle_on (levels_at t s) k)) 0 line_count l (false_of_not _ idle) (omega arith) below)
+
+    known_unless : (a b : Bool) → (not a && not b) ≡ false → b ≡ false → a ≡ true
+    known_unless true b h k = refl
+    known_unless false true h k = absurd (cc)
+    known_unless false false h k = absurd (cc)
 
     both : {a b : Bool} → a ≡ true → b ≡ true → (a && b) ≡ true
     both h k = rw (h, k) refl

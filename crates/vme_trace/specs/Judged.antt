@@ -1,8 +1,7 @@
 -- The instants of a recording that are judged.
-use Rattle.std.specs.Prelude.{ℕ, Bool, ◌+◌, ◌&&◌, Option, unwrap_or, option_map, nat_lt, List}
-use Rattle.std.specs.Option.{option_to_list}
-use Rattle.vme_trace.specs.Instants.{least}
-use Rattle.vme_trace.specs.Levels.{is_idle, loses_control}
+use Rattle.std.specs.Prelude.{◌≡◌, ◌≤◌, ℕ, Bool, true, ◌+◌, ◌&&◌, ◌||◌, not, unwrap_or, map, nat_lt, List}
+use Rattle.vme_trace.specs.Instants.{any, none, least, greatest, those}
+use Rattle.vme_trace.specs.Levels.{is_idle, is_reset, loses_control}
 use Rattle.vme_trace.specs.Trace.{Trace, levels_at, last_instant}
 
 -- a stretch of instants that is judged as one: those after its start and before its end
@@ -16,20 +15,45 @@ is_judged span i = nat_lt span.start i && nat_lt i span.end
 unfoldable pub is_idle_at : Trace → ℕ → Bool
 is_idle_at t i = is_idle (levels_at t i)
 
+unfoldable pub is_reset_at : Trace → ℕ → Bool
+is_reset_at t i = is_reset (levels_at t i)
+
 unfoldable pub loses_control_at : Trace → ℕ → Bool
 loses_control_at t i = loses_control (levels_at t i)
 
--- the next instant after s at which a control line is unknown, or past the last
+-- the bus is reset, or a control line is unknown: here a stretch that is judged ends
+abbrev pub stops_at : Trace → ℕ → Bool
+stops_at t i = is_reset_at t i || loses_control_at t i
+
+-- the next instant after s at which the bus is reset or a control line is unknown, or past the last
 unfoldable pub span_end : Trace → ℕ → ℕ
-span_end t s = unwrap_or (least (loses_control_at t) (s + 1) (last_instant t + 1)) (last_instant t + 1)
+span_end t s = unwrap_or (least (stops_at t) (s + 1) (last_instant t + 1)) (last_instant t + 1)
 
 abbrev pub span_from : Trace → ℕ → Span
 span_from t s = record { start = s; end = span_end t s }
 
--- the stretch from the least idle instant on
-unfoldable pub judged_span : Trace → Option Span
-judged_span t = option_map (span_from t) (least (is_idle_at t) 0 (last_instant t + 1))
+-- the last reset before an instant, or the opening where there is none
+abbrev pub last_reset : Trace → ℕ → ℕ
+last_reset t i = unwrap_or (greatest (is_reset_at t) 0 i) 0
+
+-- the bus was idle before an instant, and since the last reset
+unfoldable pub was_idle : Trace → ℕ → Bool
+was_idle t i = any (is_idle_at t) (last_reset t i) i
+
+-- an unknown control line ends the stretch that is judged, and no other comes after it
+unfoldable pub is_cut_off : Trace → ℕ → Bool
+is_cut_off t i = loses_control_at t i && was_idle t i
+
+-- a stretch that is judged starts at the first idle instant of all, or since a reset, unless one was cut off before
+unfoldable pub span_starts : Trace → ℕ → Bool
+span_starts t i = is_idle_at t i && not (was_idle t i) && none (is_cut_off t) 0 i
 
 -- every stretch that is judged, in order
 unfoldable pub judged_spans : Trace → List Span
-judged_spans t = option_to_list (judged_span t)
+judged_spans t = map (span_from t) (those (span_starts t) 0 (last_instant t + 1))
+
+-- this is one of them
+pub record IsSpanOf (t : Trace) (span : Span) : Type 0 where
+  pub within : span.start ≤ last_instant t
+  pub starts : span_starts t span.start ≡ true
+  pub ends : span.end ≡ span_end t span.start

@@ -1,7 +1,7 @@
 -- The levels that the lines of a backplane show at one instant, and what they say by themselves.
-use Rattle.std.specs.Prelude.{ℕ, Bool, true, false, not, ◌+◌, ◌&&◌, ◌||◌, List, slice_set, slice_get, unwrap_or, nat_le, if◌then◌else◌}
+use Rattle.std.specs.Prelude.{ℕ, Bool, true, false, not, ◌+◌, ◌==◌, ◌&&◌, ◌||◌, List, slice_set, slice_get, unwrap_or, nat_le, if◌then◌else◌}
 use Rattle.vme_trace.specs.Instants.{any, every}
-use Rattle.vme_trace.specs.LineNumbers.{line_count, AS, BERR, IACK, BBSY, BR, grant, iack, is_net, is_control}
+use Rattle.vme_trace.specs.LineNumbers.{line_count, AS, BERR, IACK, BBSY, BR, grant, iack, SYSRESET, is_net, is_control}
 use Rattle.vme_trace.specs.declared.level.Level.{Level}
 use Rattle.vme_trace.specs.declared.level.Level.TheVariants.{Low, High, Unknown}
 
@@ -39,10 +39,13 @@ is_high_on v l = is_high (level_at v l)
 abbrev pub is_known_on : Levels → ℕ → Bool
 is_known_on v l = is_known (level_at v l)
 
--- the line shows what an idle bus shows on it: a control line is known, and the address strobe, a data
--- strobe, an answer or a net is high
+-- a line that is high while the bus is idle: the address strobe, a data strobe, an answer, a net, or the system reset
+abbrev pub rests_high : ℕ → Bool
+rests_high l = nat_le l BERR || is_net l || (l == SYSRESET)
+
+-- the line shows what an idle bus shows on it: a control line is known, and high if it rests high
 abbrev pub is_idle_on : Levels → ℕ → Bool
-is_idle_on v l = if not (is_control v.slots l) then true else if nat_le l BERR || is_net l then is_high_on v l else is_known_on v l
+is_idle_on v l = if not (is_control v.slots l) then true else if rests_high l then is_high_on v l else is_known_on v l
 
 -- each line shows what an idle bus shows on it
 unfoldable pub is_idle : Levels → Bool
@@ -59,11 +62,16 @@ idle_by_ranges v =
     && every (is_high_on v) (grant 2 0) (grant 2 v.slots + 1)
     && every (is_high_on v) (grant 3 0) (grant 3 v.slots + 1)
     && every (is_high_on v) (iack 1) (iack v.slots + 1)
+    && every (is_high_on v) SYSRESET (SYSRESET + 1)
 
--- a control line of which nothing is known
+-- the bus is reset
+abbrev pub is_reset : Levels → Bool
+is_reset v = is_low (level_at v SYSRESET)
+
+-- a control line of which nothing is known, on a bus that isn't reset
 abbrev pub is_lost : Levels → ℕ → Bool
-is_lost v l = is_control v.slots l && not (is_known_on v l)
+is_lost v l = is_control v.slots l && not (is_known_on v l) && not (is_reset v)
 
--- some control line is unknown
+-- some control line is unknown, and the bus isn't reset
 unfoldable pub loses_control : Levels → Bool
 loses_control v = any (is_lost v) 0 line_count

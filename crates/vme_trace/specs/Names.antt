@@ -1,7 +1,7 @@
 -- The names of the lines and of the rules: their bytes in ASCII. A line's name has no asterisk.
 use Rattle.std.specs.Prelude.{ℕ, Bool, ◌+◌, ◌-◌, ◌/◌, ◌%◌, ◌==◌, List, [], ◌∷◌, ◌++◌, Option, codes, decimal, bytes_eq, find, nat_lt, if◌then◌else◌}
 use Rattle.vme_trace.specs.Instants.{least}
-use Rattle.vme_trace.specs.LineNumbers.{line_count, AS, DS0, DS1, DTACK, BERR, IACK, AM, LWORD, WRITE, A, BBSY, BR, grant, iack, D, grant_level, grant_place}
+use Rattle.vme_trace.specs.LineNumbers.{line_count, AS, DS0, DS1, DTACK, BERR, IACK, AM, LWORD, WRITE, A, BBSY, BR, grant, iack, D, SYSRESET, grant_level, grant_place}
 use Rattle.vme_trace.specs.Verdict.{all_rules}
 use Rattle.vme_trace.specs.declared.rule.Rule.{Rule}
 use Rattle.vme_trace.specs.declared.rule.Rule.TheVariants.{U1, U2, U3, U4, H1, H2, H3, H4, H5, H6, H7, H8, S1, S2, S3, C1, C2, G1, G2, G3, G4, G5, B1, B2, B3, B4, I1, I2, I3, I4, I5}
@@ -27,7 +27,8 @@ line_name l =
     else if nat_lt l (grant 0 0) then codes "BR" ++ decimal (l - BR 0)
     else if nat_lt l (iack 1) then codes "BG" ++ decimal (grant_level l) ++ codes "." ++ decimal (grant_place l)
     else if nat_lt l (D 0) then codes "IA." ++ decimal (l - iack 0)
-    else codes "D" ++ two_digits (l - D 0)
+    else if nat_lt l SYSRESET then codes "D" ++ two_digits (l - D 0)
+    else codes "SYSRESET"
 
 abbrev pub is_line_name : List ℕ → ℕ → Bool
 is_line_name name l = bytes_eq (line_name l) name

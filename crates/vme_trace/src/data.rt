@@ -56,7 +56,7 @@ pub fn is_selected(lines: &Lines, line: Line) -> bool
     ensures { result ≡ is_selected_at lines.now line }
 {
     let number = line.number();
-    if number < 159 {
+    if number < 159 || 190 < number {
         return false;
     }
     let odd = lines.level(Line::DS0).is_low();

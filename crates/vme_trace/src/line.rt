@@ -26,7 +26,7 @@ impl Model for Line {
 }
 
 /// How many lines there are, over all backplanes.
-pub const LINE_COUNT: u8 = 191;
+pub const LINE_COUNT: u8 = 192;
 
 /// The bused lines of which a backplane has one each.
 impl Line {
@@ -56,10 +56,13 @@ impl Line {
 
     /// BBSY*, bus busy.
     pub const BBSY: Line = Line { number: 45 };
+
+    /// SYSRESET*, the system reset.
+    pub const SYSRESET: Line = Line { number: 191 };
 }
 
 impl Line {
-    /// The line of a number, if there is one: the numbers are 0 to 190.
+    /// The line of a number, if there is one: the numbers are 0 to 191.
     pub fn from_number(number: u8) -> Option<Line>
         ensures { SomeIff result (number < line_count) number }
     {
@@ -78,7 +81,7 @@ impl Line {
         Line { number }
     }
 
-    /// The number of the line, below 191.
+    /// The number of the line, below 192.
     pub fn number(self) -> u8
         ensures number { result ≡ self }
         ensures exists { result < line_count }
@@ -148,7 +151,7 @@ impl Line {
     }
 
     /// The name of the line, without the asterisk: AS, DS0, DS1, DTACK, BERR, IACK, AM0 to AM5, LWORD,
-    /// WRITE, A01 to A31, BBSY, BR0 to BR3, BG0.0 to BG3.21 (level, place), IA.1 to IA.21 (slot), D00 to D31.
+    /// WRITE, A01 to A31, BBSY, BR0 to BR3, BG0.0 to BG3.21 (level, place), IA.1 to IA.21 (slot), D00 to D31, SYSRESET.
     pub fn name(self) -> Name
         ensures { result ≡ line_name self }
     {
@@ -168,7 +171,8 @@ impl Line {
             46..=49 => Name::of(b"BR").with_decimal(number - 46),
             50..=137 => grant_name((number - 50) / 22, (number - 50) % 22),
             138..=158 => Name::of(b"IA.").with_decimal(number - 137),
-            _ => Name::of(b"D").with_two_digits(number - 159),
+            159..=190 => Name::of(b"D").with_two_digits(number - 159),
+            _ => Name::of(b"SYSRESET"),
         }
     }
 

@@ -10,7 +10,7 @@ use std::marker::Model;
 #[derive(Clone, Copy, Debug, PartialEq, Eq)]
 pub struct Lines {
     slots: u8,
-    levels: [Level; 191],
+    levels: [Level; 192],
 }
 
 impl Model for Lines {
@@ -28,7 +28,7 @@ impl Model for Lines {
 
 impl Lines {
     ghost use Rattle.vme_trace.specs.Instants.{every};
-    ghost use Rattle.vme_trace.specs.Levels.{level_at, set_level, is_high_on, is_known_on, is_idle, idle_by_ranges, is_lost};
+    ghost use Rattle.vme_trace.specs.Levels.{level_at, set_level, is_high_on, is_known_on, is_idle, idle_by_ranges, is_reset, is_lost};
     ghost use Rattle.vme_trace.specs.Changes.{lost_among, touches_control};
     ghost use Rattle.vme_trace.specs.Trace.{changed};
     ghost use Rattle.vme_trace.specs.LineNumbers.{line_count, has_line, is_control, grant};
@@ -40,7 +40,7 @@ impl Lines {
         if 1 <= slots && slots <= 21 {
             Some(Lines {
                 slots,
-                levels: [Level::Unknown; 191],
+                levels: [Level::Unknown; 192],
             })
         } else {
             None
@@ -110,18 +110,26 @@ impl Lines {
     }
 
     /// Whether the line is a control line, which has to be known wherever something is judged: AS*, the
-    /// strobes, the answers, IACK*, BBSY*, the bus requests and the nets of the daisy chains that exist.
+    /// strobes, the answers, IACK*, BBSY*, the bus requests, the nets of the daisy chains that exist, and SYSRESET*.
     pub fn is_control(&self, line: Line) -> bool
         ensures { result ≡ is_control self.now.slots line }
     {
         let number = line.number();
-        self.has(line) && (number <= 5 || (45 <= number && number < 159))
+        self.has(line) && (number <= 5 || (45 <= number && number < 159) || number == 191)
+    }
+
+    /// Whether the bus is reset: SYSRESET* is low.
+    #[inline(always)]
+    pub fn is_reset(&self) -> bool
+        ensures { result ≡ is_reset self.now }
+    {
+        self.level(Line::SYSRESET).is_low()
     }
 
     fn is_lost(&self, line: Line) -> bool
         ensures { result ≡ is_lost self.now line }
     {
-        self.is_control(line) && !self.at(line.number()).is_known()
+        self.is_control(line) && !self.at(line.number()).is_known() && !self.is_reset()
     }
 
     /// Whether a control line is among the changes.
@@ -136,7 +144,7 @@ impl Lines {
         false
     }
 
-    /// The first changed line that is a control line of which nothing is known any more.
+    /// The first changed line that is a control line of which nothing is known any more, on a bus that isn't reset.
     pub fn lost_among(&self, changes: &[Change]) -> Option<Line>
         ensures { result ≡ lost_among self.now changes.now }
     {
@@ -184,8 +192,8 @@ impl Lines {
         self.are_high(Line::grant(level, 0), Line::grant(level, self.slots))
     }
 
-    /// Whether the bus is idle: each control line is known, and AS*, the strobes, the answers and the nets
-    /// of the daisy chains are high. The work is that of the lines up to the first that isn't so.
+    /// Whether the bus is idle: each control line is known, and AS*, the strobes, the answers, the nets of
+    /// the daisy chains and SYSRESET* are high. The work is that of the lines up to the first that isn't so.
     pub fn is_idle(&self) -> bool
         ensures { result ≡ is_idle self.now }
     {
@@ -206,5 +214,6 @@ impl Lines {
             && self.is_ungranted(2)
             && self.is_ungranted(3)
             && self.are_high(Line::iack(1), Line::iack(self.slots))
+            && self.are_high(Line::SYSRESET, Line::SYSRESET)
     }
 }

@@ -139,16 +139,36 @@ fn line_names(rt: HostRuntime) {
         (168, "D09"),
         (169, "D10"),
         (190, "D31"),
+        (191, "SYSRESET"),
     ] {
         assert!(rt; is_named(number, name.as_bytes()), "{name}");
     }
     for name in [
-        "", "A", "A00", "A1", "A001", "A32", "AM6", "BR4", "BG4.0", "BG0.22", "BG0.01", "IA.0",
-        "IA.22", "D", "D0", "D32", "SYSRESET", "as", "AS ", "AS*",
+        "",
+        "A",
+        "A00",
+        "A1",
+        "A001",
+        "A32",
+        "AM6",
+        "BR4",
+        "BG4.0",
+        "BG0.22",
+        "BG0.01",
+        "IA.0",
+        "IA.22",
+        "D",
+        "D0",
+        "D32",
+        "SYSRES",
+        "SYSRESET*",
+        "as",
+        "AS ",
+        "AS*",
     ] {
         assert!(rt; Line::from_name(name.as_bytes()).is_none(), "{name}");
     }
-    for number in [191, 255] {
+    for number in [192, 255] {
         assert!(rt; Line::from_number(number).is_none());
     }
 }
@@ -166,6 +186,7 @@ fn lines_by_place(rt: HostRuntime) {
         (Line::iack(21), 158),
         (Line::data(0), 159),
         (Line::data(31), 190),
+        (Line::SYSRESET, 191),
     ] {
         assert!(rt; line.number() == number);
     }
@@ -210,6 +231,8 @@ fn backplanes(rt: HostRuntime) -> Result<(), Fail> {
         (Line::grant(0, 4), false, false),
         (Line::iack(3), true, true),
         (Line::iack(4), false, false),
+        (Line::data(31), true, false),
+        (Line::SYSRESET, true, true),
     ] {
         assert!(rt; lines.has(line) == exists && lines.is_control(line) == control);
     }
@@ -227,6 +250,30 @@ fn changing_lines(rt: HostRuntime) -> Result<(), Fail> {
     assert!(rt; lines.touches_control(&changes) && lines.lost_among(&changes).is_none());
     lines.set(Line::AS, Level::Unknown);
     assert!(rt; lines.lost_among(&changes) == Some(Line::AS));
+    Ok(())
+}
+
+#[test]
+fn buses_that_are_reset(rt: HostRuntime) -> Result<(), Fail> {
+    let mut lines = high_lines(2)?;
+    let changes = [
+        low(Line::DTACK),
+        Change {
+            line: Line::BBSY,
+            level: Level::Unknown,
+        },
+    ];
+    lines.apply(&changes);
+    assert!(rt; !lines.is_reset() && lines.lost_among(&changes) == Some(Line::BBSY));
+    lines.set(Line::SYSRESET, Level::Low);
+    assert!(rt; lines.is_reset() && lines.lost_among(&changes).is_none());
+    let unknown = [Change {
+        line: Line::SYSRESET,
+        level: Level::Unknown,
+    }];
+    lines.apply(&unknown);
+    assert!(rt; !lines.is_reset() && lines.touches_control(&unknown));
+    assert!(rt; lines.lost_among(&unknown) == Some(Line::SYSRESET));
     Ok(())
 }
 
@@ -251,6 +298,7 @@ fn idle_buses(rt: HostRuntime) -> Result<(), Fail> {
         (Line::bus_request(3), true, false),
         (Line::grant(3, 2), false, false),
         (Line::iack(1), false, false),
+        (Line::SYSRESET, false, false),
     ] {
         assert!(rt; is_idle_with(line, Level::High)?);
         assert!(rt; is_idle_with(line, Level::Low)? == low_is_idle);

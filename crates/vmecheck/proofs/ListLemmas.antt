@@ -1,21 +1,21 @@
 -- How a listing ends, and what the steps of listing give.
 use Rattle.std.proofs.Common.{◌≡◌, ◌≤◌, ◌↔◌, ℕ, suc, Bool, true, false, List, [], ◌∷◌, ◌++◌, ◌-◌, length, take, refl, ap, subst, ◌∙◌, arith}
 use Rattle.std.specs.Io.KnownBytes.{Appends}
-use Rattle.std.specs.Prelude.{Option, Some, None, Result, Ok, Err, slice_get, if◌then◌else◌}
+use Rattle.std.specs.Prelude.{Option, Some, None, Result, Ok, Err, flat_map, slice_get, if◌then◌else◌}
 use Rattle.std.specs.List.{last_or}
-use Rattle.std.specs.Option.{option_map_or, option_to_list}
+use Rattle.std.specs.Option.{option_map_or}
 use Rattle.vcd_read.specs.Header.{◌>>=◌}
-use Rattle.vme_trace.specs.Judged.{Span, judged_span, judged_spans}
+use Rattle.vme_trace.specs.Judged.{Span, judged_spans}
 use Rattle.vme_trace.specs.Trace.{Trace}
-use Rattle.vme_trace.specs.Verdict.{all_rules, rules_in_force, least_break, is_unreadable, judge, verdict_by, verdict_on}
+use Rattle.vme_trace.specs.Verdict.{all_rules, rules_in_force, least_of, is_unreadable, judge, verdict_by, verdict_on}
 use Rattle.vme_trace.specs.declared.verdict.Break.{Break}
 use Rattle.vme_trace.specs.declared.verdict.Verdict.TheVariants as verdict
 use Rattle.vme_listing.specs.Listed.{Listed}
 use Rattle.vme_listing.specs.RowText.{text_of}
-use Rattle.vme_listing.specs.Recorded.{listing_by, listing_of, listing_of_spans, listed_end, outcome_of, rows_before}
+use Rattle.vme_listing.specs.Recorded.{listing_by, listing_of, listing_of_spans, listed_end, outcome_of, rows_of_span}
 use Rattle.vme_listing.specs.declared.row.Outcome.TheVariants as outcome
 use Rattle.vme_listing.specs.declared.row.Row.{Row}
-use Rattle.vme_listing.specs.declared.row.Row.TheVariants.{Start, Verdict}
+use Rattle.vme_listing.specs.declared.row.Row.TheVariants.{Verdict}
 use Rattle.vme_answer.specs.declared.refusal.Refusal.{Refusal}
 use Rattle.vme_answer.specs.declared.refusal.Refusal.TheVariants.{Memory}
 use Rattle.vme_answer.specs.Answers.{Answer, Gives, capture_read, recording_read}
@@ -60,18 +60,18 @@ status_on (Some b) = status_by b (is_unreadable b.rule)
 abbrev pub status_of_last : Option Row → ℕ
 status_of_last row = option_map_or row_status row 2
 
-status_over : (t : Trace) (span : Option Span)
-    → rows_status (listing_of_spans all_rules t (option_to_list span)) ≡ verdict_status (judge rules_in_force t (option_to_list span))
-status_over t None = refl
-status_over t (Some span) =
-    let found : Option Break = least_break t span all_rules in
-    ap status_of_last (last_is (Some (Start span.start)) (rows_before t span (listed_end t found) (listed_end t found)) (Verdict (outcome_of found)))
+status_over : (t : Trace) (spans : List Span)
+    → rows_status (listing_of_spans all_rules t spans) ≡ verdict_status (judge rules_in_force t spans)
+status_over t [] = refl
+status_over t (span ∷ spans) =
+    let found : Option Break = least_of all_rules t (span ∷ spans) in
+    ap status_of_last (last_is None (flat_map (rows_of_span t (listed_end t found)) (span ∷ spans)) (Verdict (outcome_of found)))
     ∙ status_on found
 
 -- a listing ends with the status of the verdict
 pub listing_status-is : (t : Trace) → listing_status (listing_of t) ≡ verdict_status (verdict_by rules_in_force t)
-unfolding listing_by verdict_by judged_spans
-listing_status-is t = status_over t (judged_span t)
+unfolding listing_by verdict_by
+listing_status-is t = status_over t (judged_spans t)
 
 -- ---- what is given
 

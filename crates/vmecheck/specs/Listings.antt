@@ -18,7 +18,8 @@ use Rattle.vmecheck.specs.Judged.{in_blocks}
 use Rattle.vme_listing.specs.declared.row.Outcome.{Outcome}
 use Rattle.vme_listing.specs.declared.row.Outcome.TheVariants.{Conforming, NeverIdle, Broken, Unreadable}
 use Rattle.vme_listing.specs.declared.row.Row.{Row}
-use Rattle.vme_listing.specs.declared.row.Row.TheVariants.{Start, OpenTenure, Tenure, AddressedCycle, FreeCycle, InterruptCycle, Transfer, PendingTransfer, Verdict}
+use Rattle.vme_listing.specs.declared.row.Row.TheVariants.{Start, Reset, OpenTenure, Tenure, AddressedCycle}
+use Rattle.vme_listing.specs.declared.row.Row.TheVariants.{FreeCycle, InterruptCycle, Transfer, PendingTransfer, Verdict}
 
 -- the recording that a binding makes of a dump, if it is cut into at most 4,096 blocks of so many steps, or the first reason that there is none
 unfoldable pub recording_of : Option (List ℕ) → Option (List ℕ) → ℕ → Result Trace Refusal
@@ -44,12 +45,13 @@ outcome_status (Unreadable rule instant line) = 2
 -- a row that is no verdict says no more than that nothing was judged
 abbrev pub row_status : Row → ℕ
 row_status (Start instant) = 2
+row_status (Reset instant) = 2
 row_status (OpenTenure start end) = 2
 row_status (Tenure start level slot end) = 2
 row_status (AddressedCycle start class modifier address end) = 2
 row_status (FreeCycle start modifier end) = 2
 row_status (InterruptCycle start level end) = 2
-row_status (Transfer start cycle direction line answer close lanes) = 2
+row_status (Transfer direction line start cycle answer close lanes) = 2
 row_status (PendingTransfer start direction) = 2
 row_status (Verdict outcome) = outcome_status outcome
 

@@ -57,7 +57,7 @@ fn listing_by_workers<R: AllocGlobal + Threads + Sync>(
 fn text_of(verdict: &Verdict) -> &'static str {
     match verdict {
         Verdict::Conforming => LISTING,
-        _ => "vmecheck listing 2\nverdict never-idle\n",
+        _ => "vmecheck listing 3\nverdict never-idle\n",
     }
 }
 

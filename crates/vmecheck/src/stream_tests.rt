@@ -37,7 +37,7 @@ $enddefinitions $end
 ";
 
 /// Its listing.
-const LISTING: &str = "vmecheck listing 2
+const LISTING: &str = "vmecheck listing 3
 start 1
 tenure 1 open end -
 cycle 2 S 3D FFFFFE end 5
@@ -46,7 +46,7 @@ verdict conforming
 ";
 
 /// The listing without the strobe.
-const BROKEN: &str = "vmecheck listing 2
+const BROKEN: &str = "vmecheck listing 3
 start 1
 tenure 1 open end -
 cycle 2 S 3D FFFFFE end -

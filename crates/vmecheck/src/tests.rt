@@ -31,7 +31,7 @@ const UNBOUND: &str = "$enddefinitions $end\n";
 
 /// The listing of the dump of this head and body by the built-in binding.
 pub(crate) const LISTING: &str =
-    "vmecheck listing 2\nstart 1\ntenure 1 open end -\ncycle 2 S 3D FFFFFE end 5\n\
+    "vmecheck listing 3\nstart 1\ntenure 1 open end -\ncycle 2 S 3D FFFFFE end 5\n\
 transfer 3 of 2 read DTACK 4 close 5\nverdict conforming\n";
 
 /// A sink that holds what it took, up to a count of bytes at which writes fail.
@@ -229,16 +229,16 @@ fn expect_listing<R: Abort + AllocGlobal + Threads + Sync>(
 fn listings(rt: HostRuntime) -> Result<(), Fail> {
     for (body, text, status) in [
         (BODY, LISTING, 0),
-        ("", "vmecheck listing 2\nverdict never-idle\n", 2),
+        ("", "vmecheck listing 3\nverdict never-idle\n", 2),
         (
             "#0 1p 1q 1r 1s 1t 1u\n#10 0p\n#20 0s\n#40 1p 1q\n#50 1s\n",
-            "vmecheck listing 2\nstart 1\ntenure 1 open end -\ncycle 2 S 3D FFFFFE end -\n\
+            "vmecheck listing 3\nstart 1\ntenure 1 open end -\ncycle 2 S 3D FFFFFE end -\n\
 verdict broken H4 3 DTACK\n",
             1,
         ),
         (
             "#0 1p 1q 1r 1s 1t 1u\n#10 xp\n#20 0q\n#30 0s\n#40 1p 1q\n#50 1s\n",
-            "vmecheck listing 2\nstart 1\ntenure 1 open end -\nverdict unreadable U1 2 AS\n",
+            "vmecheck listing 3\nstart 1\ntenure 1 open end -\nverdict unreadable U1 2 AS\n",
             2,
         ),
     ] {
@@ -246,6 +246,63 @@ verdict broken H4 3 DTACK\n",
         expect_listing(&rt, dump.as_str(), 1, text, status);
         expect_listing(&rt, dump.as_str(), BLOCK, text, status);
         expect_confirmation(&rt, dump.as_str(), text, "confirmed\n", 0);
+    }
+    Ok(())
+}
+
+/// A read that a reset ends, after which the bus is idle again; the system reset is bound by a line more.
+const RESET_BODY: &str = "#0 1p 1q 1r 1s 1t 1u 1v\n#10 0p\n#20 0q\n#25 0v\n#30 1p 1q\n#40 1v\n";
+
+const RESET_LISTING: &str =
+    "vmecheck listing 3\nstart 1\ntenure 1 open end -\ncycle 2 S 3D FFFFFE end -\n\
+transfer 3 read pending\nreset 4\nstart 6\ntenure 6 open end -\nverdict conforming\n";
+
+#[test]
+fn a_reset_ends_what_is_judged(rt: HostRuntime) -> Result<(), Fail> {
+    let head = HEAD.replace(
+        rt.alloc(),
+        "$upscope",
+        "$var wire 1 v SYSRESET $end\n$upscope",
+    )?;
+    let dump = dump_of(rt.alloc(), head.as_str(), RESET_BODY)?;
+    let text = str::from_utf8(BUILT_IN).ok().ok_or("no text")?;
+    let binding = dump_of(rt.alloc(), text, "SYSRESET = bus.SYSRESET\n")?;
+    let mut out = Page::new(rt.alloc(), 1000);
+    let mut err = Page::new(rt.alloc(), 1000);
+    let status = list(
+        &rt,
+        rt.alloc(),
+        &mut Bytes::new(binding.as_bytes()),
+        &mut Bytes::new(dump.as_bytes()),
+        1,
+        1,
+        &mut out,
+        &mut err,
+    );
+    assert!(rt; out.bytes.as_slice() == RESET_LISTING.as_bytes());
+    assert!(rt; err.bytes.is_empty());
+    assert_eq!(rt; status, 0);
+    let mut listing = Bytes::new(RESET_LISTING.as_bytes());
+    let (out, _, status) = confirm_text(
+        rt.alloc(),
+        binding.as_bytes(),
+        dump.as_bytes(),
+        &mut listing,
+        1000,
+    );
+    assert!(rt; out.bytes.as_slice() == b"confirmed\n".as_slice());
+    assert_eq!(rt; status, 0);
+    let unbound = "broken H2 at instant 4 time 30 line DS0\n";
+    expect_verdict(&rt, dump.as_str(), unbound, 1);
+    Ok(())
+}
+
+#[test]
+fn older_listings_are_confirmed(rt: HostRuntime) -> Result<(), Fail> {
+    let dump = dump_of(rt.alloc(), HEAD, BODY)?;
+    for version in ["listing 1", "listing 2"] {
+        let listing = LISTING.replace(rt.alloc(), "listing 3", version)?;
+        expect_confirmation(&rt, dump.as_str(), listing.as_str(), "confirmed\n", 0);
     }
     Ok(())
 }
@@ -345,7 +402,7 @@ fn listing_faults(rt: HostRuntime) -> Result<(), Fail> {
     let dump = dump_of(rt.alloc(), HEAD, BODY)?;
     for (old, new, text) in [
         (LISTING, "", "vmecheck: listing header\n"),
-        ("listing 2", "listing 3", "vmecheck: listing header\n"),
+        ("listing 3", "listing 4", "vmecheck: listing header\n"),
         (
             "verdict conforming\n",
             "",

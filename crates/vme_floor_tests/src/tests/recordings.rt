@@ -98,6 +98,23 @@ pub(super) fn read_recording(alloc: Global) -> Result<Capture, &'static str> {
     recording_of(alloc, &[GRANTED, ADDRESSED, READ, "BBSY=1"])
 }
 
+/// A read that a reset leaves without an answer: 13 steps.
+pub(super) fn reset_recording(alloc: Global) -> Result<Capture, &'static str> {
+    recording_of(
+        alloc,
+        &[
+            GRANTED,
+            ADDRESSED,
+            "AS=0;DS0=0 DS1=0;SYSRESET=0",
+            "AS=1 DS0=1 DS1=1 BBSY=1;SYSRESET=1",
+        ],
+    )
+}
+
+/// What its listing says.
+pub(super) const RESET_ROWS: &str =
+    "start 1\ntenure 5 level 3 slot 2 end -\ncycle 9 S 39 FFFFDE end -\ntransfer 10 read pending\nreset 11\nstart 13\nverdict conforming\n";
+
 /// The second block of the read cut by fives, with a fall of DS0 alone as its last step.
 pub(super) fn other_second(alloc: Global) -> Result<Block, Fail> {
     let other = recording_of(alloc, &[GRANTED, ADDRESSED, "AS=0;DS0=0"])?;

@@ -1,7 +1,7 @@
 use Rattle.std.proofs.Common.{ℕ, ap, sym, ◌∙◌}
 use Rattle.vme_bind.specs.Text.{end_line}
 use Rattle.vme_bind.specs.Reading.{left, saying}
-use Rattle.vme_bind.specs.Binding.{bound_all, finished, no_assignments, with_data}
+use Rattle.vme_bind.specs.Binding.{bound_all, finished, no_assignments, with_left_out}
 use Rattle.vme_bind.proofs.BindingLemmas.{says_nothing, no_slots, some_slots, is_whole, lacks, fails_first, gives_err}
 use Rattle.vme_bind.proofs.binding.read_binding.Goals as goal
 
@@ -30,8 +30,8 @@ returns-in-Some-least_unbound c =
     let whole = some_slots text (saying c.in-Some.first) (left c.next.new.self) slots (sym c.new-statements.ensures.left ∙ c.in-Some.ensures.left) c.in-Some-lines_of.ensures.slots in
     let h = rw c.new-binding.ensures at c.in_ok-bind_all.ensures.bound in
     let end = c.in_ok-bind_all.ensures.end ∙ c.in-Some.ensures.last ∙ c.new-statements.ensures.last in
-    let left_out = c.in_ok-bind_data.ensures ∙ ap (λ (n : ℕ). with_data n c.bind_all.new.self) (c.line-2.ensures ∙ end) in
-    whole ∙ lacks (end_line text) c.line-in-Some-least_unbound.result (bound_all (no_assignments slots) (left c.next.new.self)) c.bind_all.new.self c.bind_data.new.self c.in-Some-least_unbound.unbound h left_out
+    let left_out = c.in_ok-bind_left_out.ensures ∙ ap (λ (n : ℕ). with_left_out n c.bind_all.new.self) (c.line-2.ensures ∙ end) in
+    whole ∙ lacks (end_line text) c.line-in-Some-least_unbound.result (bound_all (no_assignments slots) (left c.next.new.self)) c.bind_all.new.self c.bind_left_out.new.self c.in-Some-least_unbound.unbound h left_out
     c.in-Some-least_unbound.ensures (c.line-in-Some-least_unbound.ensures ∙ end)
 
 pub returns-in-None : goal.returns-in-None
@@ -41,5 +41,5 @@ returns-in-None c =
     let whole = some_slots text (saying c.in-Some.first) (left c.next.new.self) slots (sym c.new-statements.ensures.left ∙ c.in-Some.ensures.left) c.in-Some-lines_of.ensures.slots in
     let h = rw c.new-binding.ensures at c.in_ok-bind_all.ensures.bound in
     let end = c.in_ok-bind_all.ensures.end ∙ c.in-Some.ensures.last ∙ c.new-statements.ensures.last in
-    let left_out = c.in_ok-bind_data.ensures ∙ ap (λ (n : ℕ). with_data n c.bind_all.new.self) (c.line-2.ensures ∙ end) in
-    whole ∙ is_whole (end_line text) (bound_all (no_assignments slots) (left c.next.new.self)) c.bind_all.new.self c.bind_data.new.self h left_out c.in-None.ensures
+    let left_out = c.in_ok-bind_left_out.ensures ∙ ap (λ (n : ℕ). with_left_out n c.bind_all.new.self) (c.line-2.ensures ∙ end) in
+    whole ∙ is_whole (end_line text) (bound_all (no_assignments slots) (left c.next.new.self)) c.bind_all.new.self c.bind_left_out.new.self h left_out c.in-None.ensures

@@ -1,5 +1,5 @@
 use Rattle.vme_listing.proofs.WellPlaced.{listing_placed}
-use Rattle.vme_listing.proofs.WithoutData.{rows_placed}
+use Rattle.vme_listing.proofs.InVersions.{rows_placed}
 use Rattle.vme_listing.proofs.listing.listings_are_well_placed.Goals as goal
 
 pub returns-clause-recorded : goal.returns-clause-recorded

@@ -20,13 +20,13 @@ pub returns-then-not-ascends-clause-found : goal.returns-then-not-ascends-clause
 returns-then-not-ascends-clause-found c row more f e =
     let parts = follows_parts c.args.version (last_of None c.args.rows.now) row f in
     let same = c.in-Some.ensures.found row more parts.0 e in
-    let no : ascends (last_of None c.args.rows.now) c.in-Some.row ≡ false = ap (λ l. ascends l c.in-Some.row) (sym c.last_row-2.ensures) ∙ sym c.if-not-ascends.ensures in
-    true≢false (sym parts.2 ∙ ap (λ r. ascends (last_of None c.args.rows.now) r) (sym same.0) ∙ no)
+    let no : ascends c.args.version (last_of None c.args.rows.now) c.in-Some.row ≡ false = ap (λ l. ascends c.args.version l c.in-Some.row) (sym c.last_row-2.ensures) ∙ sym c.if-not-ascends.ensures in
+    true≢false (sym parts.2 ∙ ap (λ r. ascends c.args.version (last_of None c.args.rows.now) r) (sym same.0) ∙ no)
 
 pub returns-clause-placed : goal.returns-clause-placed
 returns-clause-placed c =
     let yes : may_follow (last_of None c.args.rows.now) c.in-Some.row ≡ true = ap (λ l. may_follow l c.in-Some.row) (sym c.last_row.ensures) ∙ sym c.if-not-may_follow.ensures in
-    let later : ascends (last_of None c.args.rows.now) c.in-Some.row ≡ true = ap (λ l. ascends l c.in-Some.row) (sym c.last_row-2.ensures) ∙ sym c.if-not-ascends.ensures in
+    let later : ascends c.args.version (last_of None c.args.rows.now) c.in-Some.row ≡ true = ap (λ l. ascends c.args.version l c.in-Some.row) (sym c.last_row-2.ensures) ∙ sym c.if-not-ascends.ensures in
     (follows_from c.args.version (last_of None c.args.rows.now) c.in-Some.row c.in-Some.ensures.named.0 yes later, c.in-Some.ensures.named.1)
 
 pub returns-clause-found : goal.returns-clause-found

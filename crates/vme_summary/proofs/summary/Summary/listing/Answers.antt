@@ -1,5 +1,5 @@
 -- The listing is made of what the summary finds and of its marks.
-use Rattle.std.proofs.Common.{◌≡◌, ◌<◌, ◌^◌, true, List, sym, ◌∙◌, ap, subst, arith}
+use Rattle.std.proofs.Common.{◌≡◌, ◌<◌, ◌^◌, true, sym, ◌∙◌, ap, subst, arith}
 use Rattle.std.proofs.lemmas.Result.{IfOk-weaker}
 use Rattle.vme_listing.specs.Places.{is_well_placed}
 use Rattle.vme_listing.specs.Listed.{Listed, in_newest_version}

@@ -1,0 +1,69 @@
+-- Computed from the definitions.
+use Rattle.std.proofs.Common.{refl}
+use Rattle.vme_eval.specs.Recording.{Agrees}
+use Rattle.vme_eval.specs.Resets.{reset_in_a_read, busy_after_the_reset, answer_after_the_reset, strobe_lost_with_the_reset, reset_line_lost, reset_forgets_a_request, request_without_a_reset, reset_for_good, reset_before_judging, reset_at_the_end, two_resets, stray_answer_with_the_reset, stray_answers_around_the_reset, strobe_unknown_after_the_reset, strobe_lost_after_the_reset, reset_after_a_lost_strobe}
+use Rattle.vme_eval.proofs.Everything.{everything, rows}
+
+pub reset_in_a_read_agrees : Agrees reset_in_a_read
+unfolding everything rows reset_in_a_read
+reset_in_a_read_agrees = record { well_formed = refl; verdict = refl; rows = refl }
+
+pub busy_after_the_reset_agrees : Agrees busy_after_the_reset
+unfolding everything rows busy_after_the_reset
+busy_after_the_reset_agrees = record { well_formed = refl; verdict = refl; rows = refl }
+
+pub answer_after_the_reset_agrees : Agrees answer_after_the_reset
+unfolding everything rows answer_after_the_reset
+answer_after_the_reset_agrees = record { well_formed = refl; verdict = refl; rows = refl }
+
+pub strobe_lost_with_the_reset_agrees : Agrees strobe_lost_with_the_reset
+unfolding everything rows strobe_lost_with_the_reset
+strobe_lost_with_the_reset_agrees = record { well_formed = refl; verdict = refl; rows = refl }
+
+pub reset_line_lost_agrees : Agrees reset_line_lost
+unfolding everything rows reset_line_lost
+reset_line_lost_agrees = record { well_formed = refl; verdict = refl; rows = refl }
+
+pub reset_forgets_a_request_agrees : Agrees reset_forgets_a_request
+unfolding everything rows reset_forgets_a_request
+reset_forgets_a_request_agrees = record { well_formed = refl; verdict = refl; rows = refl }
+
+pub request_without_a_reset_agrees : Agrees request_without_a_reset
+unfolding everything rows request_without_a_reset
+request_without_a_reset_agrees = record { well_formed = refl; verdict = refl; rows = refl }
+
+pub reset_for_good_agrees : Agrees reset_for_good
+unfolding everything rows reset_for_good
+reset_for_good_agrees = record { well_formed = refl; verdict = refl; rows = refl }
+
+pub reset_before_judging_agrees : Agrees reset_before_judging
+unfolding everything rows reset_before_judging
+reset_before_judging_agrees = record { well_formed = refl; verdict = refl; rows = refl }
+
+pub reset_at_the_end_agrees : Agrees reset_at_the_end
+unfolding everything rows reset_at_the_end
+reset_at_the_end_agrees = record { well_formed = refl; verdict = refl; rows = refl }
+
+pub two_resets_agrees : Agrees two_resets
+unfolding everything rows two_resets
+two_resets_agrees = record { well_formed = refl; verdict = refl; rows = refl }
+
+pub stray_answer_with_the_reset_agrees : Agrees stray_answer_with_the_reset
+unfolding everything rows stray_answer_with_the_reset
+stray_answer_with_the_reset_agrees = record { well_formed = refl; verdict = refl; rows = refl }
+
+pub stray_answers_around_the_reset_agrees : Agrees stray_answers_around_the_reset
+unfolding everything rows stray_answers_around_the_reset
+stray_answers_around_the_reset_agrees = record { well_formed = refl; verdict = refl; rows = refl }
+
+pub strobe_unknown_after_the_reset_agrees : Agrees strobe_unknown_after_the_reset
+unfolding everything rows strobe_unknown_after_the_reset
+strobe_unknown_after_the_reset_agrees = record { well_formed = refl; verdict = refl; rows = refl }
+
+pub strobe_lost_after_the_reset_agrees : Agrees strobe_lost_after_the_reset
+unfolding everything rows strobe_lost_after_the_reset
+strobe_lost_after_the_reset_agrees = record { well_formed = refl; verdict = refl; rows = refl }
+
+pub reset_after_a_lost_strobe_agrees : Agrees reset_after_a_lost_strobe
+unfolding everything rows reset_after_a_lost_strobe
+reset_after_a_lost_strobe_agrees = record { well_formed = refl; verdict = refl; rows = refl }
