@@ -30,28 +30,35 @@ unfinished (Comment line) bracket = Some line
 module _ {A : Type 0} (with_change : A → ℕ → List Bit → A) (with_instant : A → ℕ → A) where
   -- what reading gives from here on: these tokens, and more behind them
   abbrev pub ahead : List Net → Taking A → Option ℕ → BodyPlace → List Token → List Token → Result (State A) VcdFault
-  ahead nets waves bracket place tokens more = steps with_change with_instant nets (state_at waves bracket) (body_from place (tokens ++ more))
+  ahead nets waves bracket place tokens more = steps with_change with_instant nets (state_at waves bracket)
+      (body_from place (tokens ++ more))
 
   -- the same where nothing is left of the body
   abbrev pub finished : List Net → Taking A → Option ℕ → BodyPlace → Result A VcdFault
   finished nets waves bracket place = ahead nets waves bracket place [] [] >>= at_end with_instant
 
   -- what reading the rest of a piece gives, from a place in the grammar on
-  abbrev pub remaining_in : BodyPlace → List Net → Reader → Taking A → Option Start → List Token → Result (State A) VcdFault
+  abbrev pub remaining_in : BodyPlace → List Net → Reader → Taking A → Option Start → List Token
+      → Result (State A) VcdFault
   remaining_in place nets reader waves bracket more =
-      steps with_change with_instant nets (state_of reader.text waves bracket) (body_from place (left_at reader.text reader.at ++ more))
+      steps with_change with_instant nets (state_of reader.text waves bracket)
+      (body_from place (left_at reader.text reader.at ++ more))
 
   -- the same with a token before it
-  abbrev pub from_token : ℕ → List ℕ → List Net → Reader → Taking A → Option Start → List Token → Result (State A) VcdFault
+  abbrev pub from_token : ℕ → List ℕ → List Net → Reader → Taking A → Option Start → List Token
+      → Result (State A) VcdFault
   from_token at bytes nets reader waves bracket more =
-      steps with_change with_instant nets (state_of reader.text waves bracket) (body_from ready (token_at reader.text at bytes ∷ (left_at reader.text reader.at ++ more)))
+      steps with_change with_instant nets (state_of reader.text waves bracket)
+      (body_from ready (token_at reader.text at bytes ∷ (left_at reader.text reader.at ++ more)))
 
 -- what reading gives stays as it was, whatever follows, or is this fault
-abbrev pub Leaves : {A X : Type 0} → (List Token → Result (State A) VcdFault) → (List Token → Result (State A) VcdFault) → Result X VcdFault → Type 0
+abbrev pub Leaves : {A X : Type 0} → (List Token → Result (State A) VcdFault)
+    → (List Token → Result (State A) VcdFault) → Result X VcdFault → Type 0
 Leaves before after (Ok _) = (more : List Token) → before more ≡ after more
 Leaves before after (Err fault) = (more : List Token) → Fails fault (before more)
 
 -- the same, where what was read to is returned
-abbrev pub Leads : {A X : Type 0} → (X → List Token → Result (State A) VcdFault) → Result X VcdFault → (List Token → Result (State A) VcdFault) → Type 0
+abbrev pub Leads : {A X : Type 0} → (X → List Token → Result (State A) VcdFault) → Result X VcdFault
+    → (List Token → Result (State A) VcdFault) → Type 0
 Leads view (Ok x) before = (more : List Token) → before more ≡ view x more
 Leads view (Err fault) before = (more : List Token) → Fails fault (before more)

@@ -1,8 +1,10 @@
 -- The body: times, changes and brackets, and their first fault.
-use Rattle.std.specs.Prelude.{ℕ, nat_lt, Bool, true, false, ◌&&◌, ◌||◌, not, ◌==◌, if◌then◌else◌, List, [], ◌∷◌, length, Option, Some, None, Result, Ok, Err, codes, bytes_eq}
+use Rattle.std.specs.Prelude.{ℕ, nat_lt, Bool, true, false, ◌&&◌, ◌||◌, not, ◌==◌, if◌then◌else◌, List, [], ◌∷◌, length}
+use Rattle.std.specs.Prelude.{Option, Some, None, Result, Ok, Err, codes, bytes_eq}
 use Rattle.std.specs.List.{list_all}
 use Rattle.vcd_read.specs.declared.fault.FaultKind.{FaultKind}
-use Rattle.vcd_read.specs.declared.fault.FaultKind.TheVariants.{BadToken, UnfinishedSection, UndeclaredCode, TooWide, TimeBackwards}
+use Rattle.vcd_read.specs.declared.fault.FaultKind.TheVariants.{BadToken, UnfinishedSection, UndeclaredCode, TooWide}
+use Rattle.vcd_read.specs.declared.fault.FaultKind.TheVariants.{TimeBackwards}
 use Rattle.vcd_read.specs.declared.fault.VcdFault.{VcdFault}
 use Rattle.vcd_read.specs.Tokens.{Token}
 use Rattle.vcd_read.specs.Numbers.{is_empty, is_bit, time_of}
@@ -36,7 +38,8 @@ pub data Shape : Type 0 where
 
 abbrev pub opens_bracket : List ℕ → Bool
 opens_bracket word =
-    bytes_eq word (codes "$dumpvars") || bytes_eq word (codes "$dumpall") || bytes_eq word (codes "$dumpon") || bytes_eq word (codes "$dumpoff")
+    bytes_eq word (codes "$dumpvars") || bytes_eq word (codes "$dumpall") || bytes_eq word (codes "$dumpon")
+    || bytes_eq word (codes "$dumpoff")
 
 abbrev pub keyword_shape : List ℕ → Shape
 keyword_shape word =
@@ -84,7 +87,11 @@ body_from (code_of_vector line digits) (t ∷ ts) = change line digits t.bytes �
 body_from (code_of_foreign line) [] = wrong line UnfinishedSection ∷ []
 body_from (code_of_foreign line) (t ∷ ts) = skipped line t.bytes ∷ body_from ready ts
 body_from (in_comment line) [] = wrong line UnfinishedSection ∷ []
-body_from (in_comment line) (t ∷ ts) = elim (is_end t.bytes) [ true ↦ body_from ready ts | false ↦ body_from (in_comment line) ts ]
+body_from (in_comment line) (t ∷ ts) = elim (is_end t.bytes) [
+  | true ↦ body_from ready ts
+  | false ↦ body_from
+      (in_comment line) ts
+]
 
 -- ---- the first fault
 
@@ -110,11 +117,15 @@ fitting nets digits None = Err UndeclaredCode
 fitting nets digits (Some net) = if nat_lt (size_of nets net) digits then Err TooWide else Ok net
 
 abbrev pub stand_after : List Net → Standing → BodyItem → Result Standing VcdFault
-stand_after nets s (time_item line digits) = at_line line (time_of digits >>= λ n. time_after s.now n >>= λ now. Ok (record s { now = now }))
-stand_after nets s (change line digits code) = at_line line (fitting nets (length digits) (net_of nets code) >>= λ net. Ok s)
+stand_after nets s (time_item line digits) = at_line line
+    (time_of digits >>= λ n. time_after s.now n >>= λ now. Ok (record s { now = now }))
+stand_after nets s (change line digits code) = at_line line
+    (fitting nets (length digits) (net_of nets code) >>= λ net. Ok s)
 stand_after nets s (skipped line code) = at_line line (fitting nets 0 (net_of nets code) >>= λ net. Ok s)
-stand_after nets s (bracket_open line) = at_line line (opened_at line s.bracket >>= λ bracket. Ok (record s { bracket = bracket }))
-stand_after nets s (bracket_end line) = at_line line (closed s.bracket >>= λ bracket. Ok (record s { bracket = bracket }))
+stand_after nets s (bracket_open line) = at_line line
+    (opened_at line s.bracket >>= λ bracket. Ok (record s { bracket = bracket }))
+stand_after nets s (bracket_end line) = at_line line
+    (closed s.bracket >>= λ bracket. Ok (record s { bracket = bracket }))
 stand_after nets s (wrong line kind) = Err (record { line = line; kind = kind })
 
 unfoldable pub stand_after_all : List Net → Standing → List BodyItem → Result Standing VcdFault

@@ -14,4 +14,8 @@ collected_change c net bits = record c { current = slice_set c.current net (Some
 
 abbrev pub collected_instant : Collected → ℕ → Collected
 collected_instant c time =
-    record { done = c.done ++ record { time = time; values = values_from 0 c.current } ∷ []; current = replicate (length c.current) None }
+    record {
+      done = c.done ++ record { time = time; values = values_from 0 c.current }
+          ∷ [];
+      current = replicate (length c.current) None;
+    }

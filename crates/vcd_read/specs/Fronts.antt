@@ -24,9 +24,13 @@ IsMetAtTheEnd NoEndDefinitions = Unit {0}
 IsMetAtTheEnd UnfinishedSection = Unit {0}
 IsMetAtTheEnd kind = ⊥
 
-module _ {V X : Type 0} (with_variable : V → Variable → V) (declared : Declared V) (front : List ℕ) (head : X → Headed) (taken : X → V) where
+module _ {V X : Type 0} (with_variable : V → Variable → V) (declared : Declared V) (front : List ℕ) (head : X → Headed)
+    (taken : X → V) where
   -- what is found of the definitions is what each text has that begins so, unless they don't end in that front
   abbrev pub BeginsAs : Result (Option X) VcdFault → Type 0
-  BeginsAs (Ok (Some x)) = (text : List ℕ) (more : List Token) → header_of with_variable text declared (tokens front ++ more) ≡ Ok (defined (going_on (head x) more) (taken x))
-  BeginsAs (Ok None) = (fault : VcdFault) × (header_of with_variable front declared (tokens front) ≡ Err fault) × IsMetAtTheEnd fault.kind
-  BeginsAs (Err fault) = (text : List ℕ) (more : List Token) → Fails fault (header_of with_variable text declared (tokens front ++ more))
+  BeginsAs (Ok (Some x)) = (text : List ℕ) (more : List Token)
+      → header_of with_variable text declared (tokens front ++ more) ≡ Ok (defined (going_on (head x) more) (taken x))
+  BeginsAs (Ok None) = (fault : VcdFault) × (header_of with_variable front declared (tokens front) ≡ Err fault)
+      × IsMetAtTheEnd fault.kind
+  BeginsAs (Err fault) = (text : List ℕ) (more : List Token)
+      → Fails fault (header_of with_variable text declared (tokens front ++ more))

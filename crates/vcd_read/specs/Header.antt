@@ -1,9 +1,12 @@
 -- The header: sections, and what they declare.
-use Rattle.std.specs.Prelude.{ℕ, zero, suc, ◌+◌, ◌-◌, nat_le, max, min, Bool, true, false, ◌&&◌, not, ◌==◌, if◌then◌else◌, List, [], ◌∷◌, ◌++◌, length, take, drop, get_or, Option, Some, None, option_map, option_and_then, Result, Ok, Err, codes, bytes_eq, position, reverse}
+use Rattle.std.specs.Prelude.{ℕ, zero, suc, ◌+◌, ◌-◌, nat_le, max, min, Bool, true, false, ◌&&◌, not, ◌==◌}
+use Rattle.std.specs.Prelude.{if◌then◌else◌, List, [], ◌∷◌, ◌++◌, length, take, drop, get_or, Option, Some, None}
+use Rattle.std.specs.Prelude.{option_map, option_and_then, Result, Ok, Err, codes, bytes_eq, position, reverse}
 use Rattle.std.specs.List.{list_all, concat, before_first, after_first, before_last, after_last, list_any}
 use Rattle.vcd_read.specs.declared.dump.Variable.{Variable}
 use Rattle.vcd_read.specs.declared.fault.FaultKind.{FaultKind}
-use Rattle.vcd_read.specs.declared.fault.FaultKind.TheVariants.{BadToken, UnfinishedSection, BadVar, ScopeUnderflow, SizeConflict}
+use Rattle.vcd_read.specs.declared.fault.FaultKind.TheVariants.{BadToken, UnfinishedSection, BadVar, ScopeUnderflow}
+use Rattle.vcd_read.specs.declared.fault.FaultKind.TheVariants.{SizeConflict}
 use Rattle.vcd_read.specs.declared.fault.VcdFault.{VcdFault}
 use Rattle.vcd_read.specs.Tokens.{Token}
 use Rattle.vcd_read.specs.Numbers.{is_empty, is_number, number, number_below}
@@ -131,7 +134,8 @@ index_number text = if is_number text && nat_le (length text) 9 then Some (numbe
 abbrev pub index_between : List ℕ → Option (ℕ × ℕ)
 index_between text =
     if list_any (λ b. b == 58) text then
-    option_and_then (λ (m : ℕ). option_map (λ (l : ℕ). (m, l)) (index_number (after_first (λ b. b == 58) text))) (index_number (before_first (λ b. b == 58) text))
+    option_and_then (λ (m : ℕ). option_map (λ (l : ℕ). (m, l)) (index_number (after_first (λ b. b == 58) text)))
+    (index_number (before_first (λ b. b == 58) text))
     else option_map (λ (n : ℕ). (n, n)) (index_number text)
 
 -- how many indices there are from one to the other
@@ -153,20 +157,29 @@ bracketed text =
     then Some (before_last (λ b. b == 91) inner, after_last (λ b. b == 91) inner) else None
 
 abbrev pub index_of : ℕ → List ℕ → Option (ℕ × ℕ)
-index_of size text = option_and_then (λ (index : ℕ × ℕ). if index_count index == size then Some index else None) (index_between text)
+index_of size text = option_and_then (λ (index : ℕ × ℕ). if index_count index == size then Some index else None)
+    (index_between text)
 
 abbrev pub reference_parts : ℕ → List ℕ → Option (List ℕ × List ℕ) → Reference
 reference_parts size text None = without_index text
 reference_parts size text (Some parts) =
     if is_empty parts.0 then without_index text
-    else (elim (index_of size parts.1) [ None ↦ without_index text | Some index ↦ record { name = parts.0; index = Some index } ])
+    else (elim (index_of size parts.1) [
+      | None ↦ without_index text
+      | Some index ↦ record { name = parts.0; index = Some index }
+    ])
 
 abbrev pub reference_of : ℕ → List ℕ → Reference
 reference_of size text = reference_parts size text (bracketed text)
 
 -- a variable in the open scopes
 abbrev pub variable_in : List (List ℕ) → ℕ → ℕ → Reference → Variable
-variable_in scopes net size reference = record { path = path_of scopes reference.name; index = reference.index; size = size; net = net }
+variable_in scopes net size reference = record {
+  path = path_of scopes reference.name;
+  index = reference.index;
+  size = size;
+  net = net;
+}
 
 -- a net, and the nets with it
 pub record Joined : Type 0 where
@@ -176,7 +189,8 @@ pub record Joined : Type 0 where
 -- the net of a code, which may have been declared before, and then with the same size
 abbrev pub net_for : List Net → List ℕ → ℕ → Option ℕ → Result Joined FaultKind
 net_for nets code size None = Ok (record { net = length nets; nets = nets ++ record { code = code; size = size } ∷ [] })
-net_for nets code size (Some net) = if size_of nets net == size then Ok (record { net = net; nets = nets }) else Err SizeConflict
+net_for nets code size (Some net) = if size_of nets net == size then Ok
+    (record { net = net; nets = nets }) else Err SizeConflict
 
 -- what the section of a variable says: its size, its code, and its reference without the spaces
 pub record VarWords : Type 0 where
@@ -204,7 +218,11 @@ module _ {V : Type 0} (with_variable : V → Variable → V) where
   declare_var d words = do
     var ← var_words words
     joined ← net_for d.nets var.code var.size (net_of d.nets var.code)
-    Ok (record d { nets = joined.nets; variables = with_variable d.variables (variable_in d.scopes joined.net var.size (reference_of var.size var.reference)) })
+    Ok (record d {
+      nets = joined.nets;
+      variables = with_variable d.variables
+          (variable_in d.scopes joined.net var.size (reference_of var.size var.reference));
+    })
 
   abbrev pub declare_section : Declared V → Section → Result (Declared V) FaultKind
   declare_section d section =

@@ -1,5 +1,6 @@
 -- The dump that a text is.
-use Rattle.std.specs.Prelude.{◌≡◌, ℕ, ◌&&◌, ◌==◌, if◌then◌else◌, List, [], ◌∷◌, length, map, Option, Some, None, option_map, unwrap_or, Result, Ok, Err, filter_map, nat_eq}
+use Rattle.std.specs.Prelude.{◌≡◌, ℕ, ◌&&◌, ◌==◌, if◌then◌else◌, List, [], ◌∷◌, length, map, Option, Some, None}
+use Rattle.std.specs.Prelude.{option_map, unwrap_or, Result, Ok, Err, filter_map, nat_eq}
 use Rattle.std.specs.List.{range_with_len, dedup}
 use Rattle.vcd_read.specs.declared.dump.Bit.{Bit}
 use Rattle.vcd_read.specs.declared.dump.Value.{Value}
@@ -10,8 +11,10 @@ use Rattle.vcd_read.specs.declared.fault.VcdFault.{VcdFault}
 use Rattle.vcd_read.specs.Contents.{Contents}
 use Rattle.vcd_read.specs.Tokens.{Token, tokens, line_after}
 use Rattle.vcd_read.specs.Numbers.{number, extended}
-use Rattle.vcd_read.specs.Header.{◌>>=◌, Net, net_of, size_of, between, header_from, declare_all, nothing_declared, appended}
-use Rattle.vcd_read.specs.Body.{BodyItem, time_item, change, ready, body_from, first_standing, stand_after_all, at_the_end}
+use Rattle.vcd_read.specs.Header.{◌>>=◌, Net, net_of, size_of, between, header_from, declare_all, nothing_declared}
+use Rattle.vcd_read.specs.Header.{appended}
+use Rattle.vcd_read.specs.Body.{BodyItem, time_item, change, ready, body_from, first_standing, stand_after_all}
+use Rattle.vcd_read.specs.Body.{at_the_end}
 
 -- ---- the instants
 

@@ -1,5 +1,6 @@
 -- Reading the header section by section.
-use Rattle.std.specs.Prelude.{◌≡◌, ℕ, Bool, true, false, if◌then◌else◌, List, [], ◌∷◌, option_map, Option, Some, None, Result, Ok, Err, codes, bytes_eq}
+use Rattle.std.specs.Prelude.{◌≡◌, ℕ, Bool, true, false, if◌then◌else◌, List, [], ◌∷◌, option_map, Option, Some, None}
+use Rattle.std.specs.Prelude.{Result, Ok, Err, codes, bytes_eq}
 use Rattle.std.specs.List.{concat}
 use Rattle.vcd_read.specs.declared.dump.Variable.{Variable}
 use Rattle.vcd_read.specs.declared.fault.FaultKind.TheVariants.{UnfinishedSection}
@@ -8,7 +9,8 @@ use Rattle.vcd_read.specs.declared.header.Opening.{Opening}
 use Rattle.vcd_read.specs.declared.header.Opening.TheVariants.{Var, Scope, Upscope, EndDefinitions, Skipped, Nothing}
 use Rattle.vcd_read.specs.declared.header.VarSection.{VarSection}
 use Rattle.vcd_read.specs.Tokens.{Token}
-use Rattle.vcd_read.specs.Header.{◌>>=◌, VarWords, Header, header_from, between, is_end, opens_section, Net, Declared, declare_all}
+use Rattle.vcd_read.specs.Header.{◌>>=◌, VarWords, Header, header_from, between, is_end, opens_section, Net, Declared}
+use Rattle.vcd_read.specs.Header.{declare_all}
 use Rattle.vcd_read.specs.Scopes.{texts}
 use Rattle.vcd_read.specs.Meaning.{body_of, Fails}
 
@@ -24,11 +26,19 @@ after_word word ended = record { words = word ∷ ended.words; rest = ended.rest
 
 unfoldable pub ended_in : List Token → Option Ended
 ended_in [] = None
-ended_in (t ∷ ts) = elim (is_end t.bytes) [ true ↦ Some (record { words = []; rest = ts }) | false ↦ option_map (after_word t.bytes) (ended_in ts) ]
+ended_in (t ∷ ts) = elim (is_end t.bytes) [
+  | true ↦ Some (record { words = []; rest = ts })
+  | false ↦ option_map
+      (after_word t.bytes) (ended_in ts)
+]
 
 -- a section without an end is a fault at its line
 abbrev pub section_from : ℕ → List Token → Result Ended VcdFault
-section_from line ts = elim (ended_in ts) [ None ↦ Err (record { line = line; kind = UnfinishedSection }) | Some ended ↦ Ok ended ]
+section_from line ts = elim (ended_in ts) [
+  | None ↦ Err
+      (record { line = line; kind = UnfinishedSection })
+  | Some ended ↦ Ok ended
+]
 
 -- the tokens behind a section
 abbrev pub behind_section : ℕ → List Token → Result (List Token) VcdFault
@@ -79,13 +89,16 @@ headed d body = defined (record { nets = d.nets; body = body }) d.variables
 module _ {V : Type 0} (with_variable : V → Variable → V) where
   -- the header of a text, where this much is declared and these items and tokens are left
   abbrev pub rest_of_header : List ℕ → Declared V → Header → Result (Defined V) VcdFault
-  rest_of_header text d header = declare_all with_variable d header.items >>= λ declared. body_of text header.body >>= λ body. Ok (headed declared body)
+  rest_of_header text d header = declare_all with_variable d header.items >>= λ declared. body_of text header.body
+      >>= λ body. Ok (headed declared body)
 
   abbrev pub header_of : List ℕ → Declared V → List Token → Result (Defined V) VcdFault
   header_of text d ts = rest_of_header text d (header_from between ts)
 
--- whether the definitions go on behind a section: reading the header gives then what it gave before, and otherwise it gives this
-abbrev pub Continues : {V : Type 0} → Result (Defined V) VcdFault → Result (Defined V) VcdFault → Defined V → Result Bool VcdFault → Type 0
+-- whether the definitions go on behind a section: reading the header gives then what it gave before, and otherwise it
+-- gives this
+abbrev pub Continues : {V : Type 0} → Result (Defined V) VcdFault → Result (Defined V) VcdFault → Defined V
+    → Result Bool VcdFault → Type 0
 Continues before after end (Ok true) = before ≡ after
 Continues before after end (Ok false) = before ≡ Ok end
 Continues before after end (Err fault) = Fails fault before

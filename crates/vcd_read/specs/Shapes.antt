@@ -1,6 +1,7 @@
 -- What the code found a token to be, as a shape of the grammar.
 use Rattle.vcd_read.specs.declared.shape.Shape.{Shape as FoundShape}
-use Rattle.vcd_read.specs.declared.shape.Shape.TheVariants.{Time, Scalar, Vector, Foreign, Comment, Opens, Ends, Unknown}
+use Rattle.vcd_read.specs.declared.shape.Shape.TheVariants.{Time, Scalar, Vector, Foreign, Comment, Opens, Ends}
+use Rattle.vcd_read.specs.declared.shape.Shape.TheVariants.{Unknown}
 use Rattle.vcd_read.specs.Body.{Shape, time_shape, scalar, vector, foreign, comment, open_shape, end_shape, none}
 
 abbrev pub found_shape : FoundShape → Shape

@@ -1,5 +1,6 @@
 -- What comes of the items of a body, for whatever takes its changes: a fold, whose parts the taker says.
-use Rattle.std.specs.Prelude.{ℕ, Bool, true, false, ◌&&◌, not, ◌==◌, if◌then◌else◌, List, [], ◌∷◌, Option, None, option_map, unwrap_or, Result, Ok}
+use Rattle.std.specs.Prelude.{ℕ, Bool, true, false, ◌&&◌, not, ◌==◌, if◌then◌else◌, List, [], ◌∷◌, Option, None}
+use Rattle.std.specs.Prelude.{option_map, unwrap_or, Result, Ok}
 use Rattle.vcd_read.specs.declared.dump.Bit.{Bit}
 use Rattle.vcd_read.specs.declared.fault.VcdFault.{VcdFault}
 use Rattle.vcd_read.specs.declared.waves.Clock.{Clock}
@@ -35,13 +36,17 @@ state_of text waves bracket = state_at waves (option_map (line_of text) bracket)
 
 -- before any item
 abbrev pub at_first : {A : Type 0} → A → State A
-at_first a = record { standing = record { now = 0; bracket = None }; progress = record { taken = a; time = 0; begun = false } }
+at_first a = record {
+  standing = record { now = 0; bracket = None };
+  progress = record { taken = a; time = 0; begun = false };
+}
 
 -- the end of an instant
 module _ {A : Type 0} (with_instant : A → ℕ → A) where
   abbrev pub advanced : Taking A → ℕ → Taking A
   advanced p t =
-      if p.begun && not (t == p.time) then record { taken = with_instant p.taken p.time; time = t; begun = true } else record p { time = t; begun = true }
+      if p.begun && not (t == p.time) then record { taken = with_instant p.taken p.time; time = t; begun = true }
+      else record p { time = t; begun = true }
 
   abbrev pub ended : Taking A → A
   ended p = if p.begun then with_instant p.taken p.time else p.taken
@@ -62,7 +67,8 @@ module _ {A : Type 0} (with_change : A → ℕ → List Bit → A) (with_instant
   progress_after p item = p
 
   abbrev pub step : State A → BodyItem → Result (State A) VcdFault
-  step s item = stand_after nets s.standing item >>= λ next. Ok (record { standing = next; progress = progress_after s.progress item })
+  step s item = stand_after nets s.standing item
+      >>= λ next. Ok (record { standing = next; progress = progress_after s.progress item })
 
   unfoldable pub steps : State A → List BodyItem → Result (State A) VcdFault
   steps s [] = Ok s

@@ -1,12 +1,14 @@
 //! The body: times, changes and brackets.
 
-ghost use Rattle.std.specs.Prelude.{◌≡◌, ℕ, List, [], ◌<◌, ◌≤◌, length, slice_index, option_map, Ok, OnOk, IfOk, true, false};
+ghost use Rattle.std.specs.Prelude.{◌≡◌, ℕ, List, [], ◌<◌, ◌≤◌, length, slice_index, option_map, Ok, OnOk, IfOk, true};
+ghost use Rattle.std.specs.Prelude.{false};
 ghost use Rattle.std.specs.Option.{ForSome};
 ghost use Rattle.vcd_read.specs.Tokens.{is_space};
 ghost use Rattle.vcd_read.specs.Numbers.{time_of};
 ghost use Rattle.vcd_read.specs.Reading.{IsStart, left_at, line_of};
 ghost use Rattle.vcd_read.specs.declared.piece.Piece.{Piece};
-ghost use Rattle.vcd_read.specs.Body.{time_item, change, skipped, bracket_open, bracket_end, ready, code_of_vector, code_of_foreign, in_comment};
+ghost use Rattle.vcd_read.specs.Body.{time_item, change, skipped, bracket_open, bracket_end, ready, code_of_vector};
+ghost use Rattle.vcd_read.specs.Body.{code_of_foreign, in_comment};
 ghost use Rattle.vcd_read.specs.Taking.{taking, state_of, step};
 ghost use Rattle.vcd_read.specs.Bodies.{Leads, Leaves, ahead, place_of, remaining_in, from_token};
 ghost use Rattle.vcd_read.specs.Meaning.{Gives};

@@ -1,6 +1,7 @@
 //! The nets of codes, found in constant or logarithmic time whatever the codes are.
 
-ghost use Rattle.std.specs.Prelude.{◌≡◌, ◌<◌, ◌≤◌, ◌^◌, ℕ, List, Some, None, IfSome, OnOk, OnErr, bytes_eq, nat_eq, slice_index_or};
+ghost use Rattle.std.specs.Prelude.{◌≡◌, ◌<◌, ◌≤◌, ◌^◌, ℕ, List, Some, None, IfSome, OnOk, OnErr, bytes_eq, nat_eq};
+ghost use Rattle.std.specs.Prelude.{slice_index_or};
 ghost use Rattle.std.specs.Map.{update};
 ghost use Rattle.vcd_read.specs.CodeNumbers.{digit, short_number};
 
@@ -51,7 +52,8 @@ impl CodeIndex {
 
     /// Gives a code a net. Where memory runs out, each code has the net that it had.
     pub fn insert(&mut self, alloc: Global, code: &[u8], net: u32) -> Result<(), AllocError>
-        ensures ok { OnOk result ((other : List ℕ) → net_at self.new other ≡ update bytes_eq (net_at self.old) code.now (Some net) other) }
+        ensures ok { OnOk result ((other : List ℕ)
+            → net_at self.new other ≡ update bytes_eq (net_at self.old) code.now (Some net) other) }
         ensures err { OnErr result ((other : List ℕ) → net_at self.new other ≡ net_at self.old other) }
     {
         match short_number(code) {
@@ -67,7 +69,8 @@ impl CodeIndex {
 /// Sets the net at a place of a table, which grows as far as that.
 fn set_net(nets: &mut Vec<Option<u32>>, number: usize, net: u32) -> Result<(), AllocError>
     requires { number < 2 ^ 32 }
-    ensures ok { OnOk result ((k : ℕ) → slice_index_or nets.new.items k None ≡ update nat_eq (λ j. slice_index_or nets.old.items j None) number (Some net) k) }
+    ensures ok { OnOk result ((k : ℕ) → slice_index_or nets.new.items k None
+        ≡ update nat_eq (λ j. slice_index_or nets.old.items j None) number (Some net) k) }
     ensures err { OnErr result (nets.new.items ≡ nets.old.items) }
 {
     if number >= nets.len() {

@@ -41,7 +41,8 @@ pub trait Declarations: Drop {
 
     /// Closes the innermost scope, if one is open.
     fn close(&mut self) -> bool
-        ensures scopes { MatchBool result ((name : List ℕ) × (Self.scopes self.old ≡ name ∷ Self.scopes self.new)) (Self.scopes self.old ≡ []) }
+        ensures scopes { MatchBool result ((name : List ℕ) × (Self.scopes self.old ≡ name ∷ Self.scopes self.new))
+            (Self.scopes self.old ≡ []) }
         ensures taken { Self.taken self.new ≡ Self.taken self.old };
 
     /// Takes a variable in the open scopes.
@@ -49,5 +50,6 @@ pub trait Declarations: Drop {
         requires { 0 < length variable.name.now }
         ensures scopes { OnOk result (Self.scopes self.new ≡ Self.scopes self.old) }
         ensures taken { OnOk result (Self.taken self.new ≡ Self.with_variable (Self.taken self.old)
-            (variable_in (Self.scopes self.old) variable.entry.net variable.entry.size (record { name = variable.entry.name.now; index = variable.entry.index }))) };
+            (variable_in (Self.scopes self.old) variable.entry.net variable.entry.size
+            (record { name = variable.entry.name.now; index = variable.entry.index }))) };
 }

@@ -65,7 +65,8 @@ impl<'a> Head<'a> {
 
     /// Gives the changes of the body to a taker, and ends the last instant. The first fault met is named.
     pub fn read_body<T: Taker>(&self, alloc: Global, taker: T) -> Result<T, VcdFault>
-        ensures { Gives (λ t. T.taken t) result (taken_from T.with_change T.with_instant self.now.nets (T.taken taker) self.now.body) }
+        ensures { Gives (λ t. T.taken t) result (taken_from T.with_change T.with_instant self.now.nets
+            (T.taken taker) self.now.body) }
     {
         let reader = Reader {
             text: self.reader.text,

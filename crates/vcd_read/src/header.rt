@@ -1,13 +1,16 @@
 //! The header: sections, and what they declare.
 
-ghost use Rattle.std.specs.Prelude.{MatchOption, Some, Err, drop, ◌≡◌, ◌≤◌, ◌<◌, ◌∷◌, ℕ, [], length, map, IfOk, OnOk, Ok, true};
+ghost use Rattle.std.specs.Prelude.{MatchOption, Some, Err, drop, ◌≡◌, ◌≤◌, ◌<◌, ◌∷◌, ℕ, [], length, map, IfOk, OnOk};
+ghost use Rattle.std.specs.Prelude.{Ok, true};
 ghost use Rattle.std.specs.List.{All, concat};
 ghost use Rattle.vcd_read.specs.Reading.{line_at, left_at, token_at};
-ghost use Rattle.vcd_read.specs.Header.{is_code, is_end, opens_section, var_words, reference_of, net_of, net_for, variable_in, at_line, declare_var, nothing_declared, header_from, between};
+ghost use Rattle.vcd_read.specs.Header.{is_code, is_end, opens_section, var_words, reference_of, net_of, net_for};
+ghost use Rattle.vcd_read.specs.Header.{variable_in, at_line, declare_var, nothing_declared, header_from, between};
 ghost use Rattle.vcd_read.specs.Scopes.{texts};
 ghost use Rattle.vcd_read.specs.Meaning.{Gives};
 ghost use Rattle.vcd_read.specs.declared.fault.FaultKind.TheVariants.{SizeConflict};
-ghost use Rattle.vcd_read.specs.Sections.{opening_of, var_of, Answers, section_from, behind_section, declared_in, Continues, headed, header_of};
+ghost use Rattle.vcd_read.specs.Sections.{opening_of, var_of, Answers, section_from, behind_section, declared_in};
+ghost use Rattle.vcd_read.specs.Sections.{Continues, headed, header_of};
 
 use crate::codes::Codes;
 use crate::declarations::{Declaration, Declarations};
@@ -112,7 +115,8 @@ fn words_of<'a>(
     requires { first ≤ length reader.old.text.bytes.now }
     ensures text { reader.new.text ≡ reader.old.text }
     ensures moves { OnOk result (reader.old.at ≤ reader.new.at) }
-    ensures words { Gives (λ words. record { words = texts words.items; rest = left_at reader.old.text reader.new.at }) result
+    ensures words { Gives
+        (λ words. record { words = texts words.items; rest = left_at reader.old.text reader.new.at }) result
         (section_from (line_at reader.old.text first) (left_at reader.old.text reader.old.at)) }
     ensures each { IfOk result (λ words. All (λ word. 0 < length word.now) words.items) }
 {
@@ -168,7 +172,8 @@ fn net_for(
 ) -> Result<Option<u32>, AllocError>
     ensures { IfOk result (λ net. MatchOption net
         (net_for codes.old code.now size (net_of codes.old code.now) ≡ Err SizeConflict)
-        (λ n. net_for codes.old code.now size (net_of codes.old code.now) ≡ Ok (record { net = n; nets = codes.new }))) }
+        (λ n. net_for codes.old code.now size (net_of codes.old code.now)
+        ≡ Ok (record { net = n; nets = codes.new }))) }
 {
     match codes.net(code) {
         Some(net) if codes.size(net) == size => Ok(Some(net)),
@@ -187,7 +192,8 @@ fn declare_on<D: Declarations>(
     requires { 0 < length (concat (texts var.reference.now)) }
     ensures scopes { OnOk result (D.scopes declarations.new ≡ D.scopes declarations.old) }
     ensures taken { OnOk result (D.taken declarations.new ≡ D.with_variable (D.taken declarations.old)
-        (variable_in (D.scopes declarations.old) net var.entry.size (reference_of var.entry.size (concat (texts var.entry.reference.now))))) }
+        (variable_in (D.scopes declarations.old) net var.entry.size
+        (reference_of var.entry.size (concat (texts var.entry.reference.now))))) }
 {
     let text = joined(alloc, var.reference)?;
     let Reference { name, index } = reference_of(&text, var.size);
@@ -205,7 +211,8 @@ fn declare_on<D: Declarations>(
 impl<D: Declarations> Definitions<D> {
     fn new(alloc: Global, declarations: D) -> Result<Definitions<D>, AllocError>
         requires { D.scopes declarations ≡ [] }
-        ensures { IfOk result (λ d. declared_in (D.scopes d.declarations) d.codes (D.taken d.declarations) ≡ nothing_declared (D.taken declarations)) }
+        ensures { IfOk result (λ d. declared_in (D.scopes d.declarations) d.codes (D.taken d.declarations)
+            ≡ nothing_declared (D.taken declarations)) }
     {
         Ok(Definitions {
             codes: Codes::new(alloc)?,
@@ -223,9 +230,11 @@ impl<D: Declarations> Definitions<D> {
     ) -> Result<(), VcdFault>
         requires first { first ≤ length reader.now.text.bytes.now }
         requires each { All (λ word. 0 < length word.now) words.now }
-        ensures { Gives (λ _. declared_in (D.scopes self.new.declarations) self.new.codes (D.taken self.new.declarations)) result
+        ensures { Gives (λ _. declared_in (D.scopes self.new.declarations) self.new.codes
+            (D.taken self.new.declarations)) result
             (at_line (line_at reader.now.text first) (declare_var D.with_variable
-            (declared_in (D.scopes self.old.declarations) self.old.codes (D.taken self.old.declarations)) (texts words.now))) }
+            (declared_in (D.scopes self.old.declarations) self.old.codes (D.taken self.old.declarations))
+            (texts words.now))) }
     {
         let var = match var_section(words) {
             Ok(var) => var,
@@ -251,9 +260,11 @@ impl<D: Declarations> Definitions<D> {
         ensures rest { let text = reader.old.text.bytes.now in
             let piece = reader.old.text in
             let new = declared_in (D.scopes self.new.declarations) self.new.codes (D.taken self.new.declarations) in
-            Continues (header_of D.with_variable text (declared_in (D.scopes self.old.declarations) self.old.codes (D.taken self.old.declarations))
+            Continues (header_of D.with_variable text
+            (declared_in (D.scopes self.old.declarations) self.old.codes (D.taken self.old.declarations))
             (token_at piece first.entry.at first.entry.bytes.now ∷ left_at piece reader.old.at))
-            (header_of D.with_variable text new (left_at piece reader.new.at)) (headed new (left_at piece reader.new.at)) result }
+            (header_of D.with_variable text new (left_at piece reader.new.at))
+            (headed new (left_at piece reader.new.at)) result }
     {
         match opening_of(first.bytes) {
             Opening::Nothing => return Err(reader.fault(
@@ -295,8 +306,10 @@ pub(crate) fn read_header<D: Declarations>(
     requires scopes { D.scopes declarations ≡ [] }
     ensures text { reader.new.text ≡ reader.old.text }
     ensures header { let text = reader.old.text in
-        Gives (λ d. headed (declared_in (D.scopes d.declarations) d.codes (D.taken d.declarations)) (left_at text reader.new.at)) result
-        (header_of D.with_variable text.bytes.now (nothing_declared (D.taken declarations)) (left_at text reader.old.at)) }
+        Gives (λ d. headed (declared_in (D.scopes d.declarations) d.codes (D.taken d.declarations))
+        (left_at text reader.new.at)) result
+        (header_of D.with_variable text.bytes.now (nothing_declared (D.taken declarations))
+        (left_at text reader.old.at)) }
 {
     let mut definitions = Definitions::new(alloc, declarations)?;
     while let Some(token) = reader.next() {

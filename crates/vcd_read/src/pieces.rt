@@ -48,8 +48,8 @@ pub struct Pieces<T: Taker> {
     pub(crate) line: u64,
 }
 
-/// Reads the definitions of a text by a front of it that ends behind a space, and gives its scopes and variables to what
-/// takes them. None are read where they don't end in it; a fault is that of every text that begins so.
+/// Reads the definitions of a text by a front of it that ends behind a space, and gives its scopes and variables to
+/// what takes them. None are read where they don't end in it; a fault is that of every text that begins so.
 pub fn read_front<D: Declarations>(
     alloc: Global,
     front: &[u8],
@@ -91,8 +91,8 @@ impl<'a> Front<'a> {
 }
 
 impl<T: Taker> Pieces<T> {
-    /// Reads the next piece of the body, which ends behind a space, or where the text does. The first fault met is that of
-    /// every text that goes on so. Where lines could no longer be counted, memory is said to run out.
+    /// Reads the next piece of the body, which ends behind a space, or where the text does. The first fault met is that
+    /// of every text that goes on so. Where lines could no longer be counted, memory is said to run out.
     pub fn read(self, alloc: Global, piece: &[u8]) -> Result<Pieces<T>, VcdFault>
         ensures nets { IfOk result (λ pieces. (reached T.taken pieces).nets ≡ (reached T.taken self).nets) }
         ensures line { IfOk result (λ pieces. (reached T.taken pieces).line

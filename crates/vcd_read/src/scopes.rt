@@ -53,7 +53,8 @@ impl Scopes {
 
     /// Closes the innermost scope, if one is open.
     pub fn close(&mut self) -> bool
-        ensures { MatchBool result ((name : List ℕ) × (self.old ≡ name ∷ self.new)) ((self.old ≡ []) × (self.new ≡ [])) }
+        ensures { MatchBool result ((name : List ℕ) × (self.old ≡ name ∷ self.new))
+            ((self.old ≡ []) × (self.new ≡ [])) }
     {
         match self.starts.pop() {
             Some(start) => {

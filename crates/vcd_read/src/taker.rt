@@ -30,7 +30,8 @@ pub trait Taker: Drop {
     ) -> Result<(), AllocError>
         requires some { 0 < length digits.now }
         requires fits { length digits.now ≤ size }
-        ensures { OnOk result (Self.taken self.new ≡ Self.with_change (Self.taken self.old) net (extended size digits.now)) };
+        ensures { OnOk result (Self.taken self.new
+            ≡ Self.with_change (Self.taken self.old) net (extended size digits.now)) };
 
     /// Ends the instant at hand, which is at this time.
     fn end_instant(&mut self, alloc: Global, time: u64) -> Result<(), AllocError>

@@ -1,6 +1,7 @@
 //! The tokens of a text, from the left.
 
-ghost use Rattle.std.specs.Prelude.{◌≡◌, ℕ, true, false, ◌+◌, ◌∷◌, ◌++◌, List, [], ◌<◌, ◌≤◌, length, slice_index, take, Ok, IfSome, IfNone, MatchOption};
+ghost use Rattle.std.specs.Prelude.{◌≡◌, ℕ, true, false, ◌+◌, ◌∷◌, ◌++◌, List, [], ◌<◌, ◌≤◌, length, slice_index, take};
+ghost use Rattle.std.specs.Prelude.{Ok, IfSome, IfNone, MatchOption};
 ghost use Rattle.vcd_read.specs.Tokens.{is_space, tokens_from};
 ghost use Rattle.vcd_read.specs.Numbers.{time_of};
 ghost use Rattle.vcd_read.specs.Body.{shape_of, scalar};

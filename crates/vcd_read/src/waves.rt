@@ -40,7 +40,8 @@ impl<T: Taker> Waves<T> {
 
     /// Goes on to a time, or stays at it.
     pub fn advance(&mut self, alloc: Global, time: u64) -> Result<(), AllocError>
-        ensures { OnOk result (taking (T.taken self.new.taker) self.new.clock ≡ advanced T.with_instant (taking (T.taken self.old.taker) self.old.clock) time) }
+        ensures { OnOk result (taking (T.taken self.new.taker) self.new.clock
+            ≡ advanced T.with_instant (taking (T.taken self.old.taker) self.old.clock) time) }
     {
         if self.clock.begun && time != self.clock.time {
             self.taker.end_instant(alloc, self.clock.time)?;
@@ -61,7 +62,8 @@ impl<T: Taker> Waves<T> {
     ) -> Result<(), AllocError>
         requires some { 0 < length digits.now }
         requires fits { length digits.now ≤ size }
-        ensures { OnOk result (taking (T.taken self.new.taker) self.new.clock ≡ changed T.with_change (taking (T.taken self.old.taker) self.old.clock) net (extended size digits.now)) }
+        ensures { OnOk result (taking (T.taken self.new.taker) self.new.clock
+            ≡ changed T.with_change (taking (T.taken self.old.taker) self.old.clock) net (extended size digits.now)) }
     {
         self.taker.change(alloc, net, size, digits)?;
         self.clock.begun = true;

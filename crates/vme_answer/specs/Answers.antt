@@ -1,5 +1,6 @@
 -- What the program answers, by what its inputs say.
-use Rattle.std.specs.Prelude.{◌≡◌, ℕ, [], List, length, nat_le, nat_lt, if◌then◌else◌, Option, None, Some, Result, Ok, Err}
+use Rattle.std.specs.Prelude.{◌≡◌, ℕ, [], List, length, nat_le, nat_lt, if◌then◌else◌, Option, None, Some, Result, Ok}
+use Rattle.std.specs.Prelude.{Err}
 use Rattle.vcd_read.specs.Contents.{Contents}
 use Rattle.vcd_read.specs.Header.{◌>>=◌}
 use Rattle.vcd_read.specs.Meaning.{dump_of}
@@ -14,7 +15,8 @@ use Rattle.vme_trace.specs.declared.verdict.Verdict.{Verdict}
 use Rattle.vme_answer.specs.declared.refusal.Input.{Input}
 use Rattle.vme_answer.specs.declared.refusal.Input.TheVariants.{Binding, Dump}
 use Rattle.vme_answer.specs.declared.refusal.Refusal.{Refusal}
-use Rattle.vme_answer.specs.declared.refusal.Refusal.TheVariants.{CannotRead, TooLong, BadBinding, BadDump, TooManyBlocks, Memory}
+use Rattle.vme_answer.specs.declared.refusal.Refusal.TheVariants.{CannotRead, TooLong, BadBinding, BadDump}
+use Rattle.vme_answer.specs.declared.refusal.Refusal.TheVariants.{TooManyBlocks, Memory}
 use Rattle.vme_stream.specs.Inputs.{longest_input}
 use Rattle.vme_answer.specs.Texts.{line_of, verdict_text, verdict_status, refusal_text, refusal_status}
 
@@ -63,8 +65,8 @@ recorded_by bound dump = do
   contents ← dump
   Ok (capture_of bound contents)
 
--- the recording that a binding makes of a dump, however long it is, or the first reason that there is none: the binding is
--- read first
+-- the recording that a binding makes of a dump, however long it is, or the first reason that there is none: the binding
+-- is read first
 unfoldable pub recording_read : Option (List ℕ) → Option (List ℕ) → Result Trace Refusal
 recording_read binding dump = do
   bound ← binding_read binding
@@ -78,7 +80,8 @@ capture_read binding dump = do
 
 -- the verdict on a recording that is cut into blocks of so many steps
 abbrev pub verdict_in_blocks : ℕ → Trace → Result Verdict Refusal
-verdict_in_blocks block t = if nat_lt 4096 (block_count block t) then Err TooManyBlocks else Ok (verdict_by rules_in_force t)
+verdict_in_blocks block t = if nat_lt 4096 (block_count block t) then Err TooManyBlocks else Ok
+    (verdict_by rules_in_force t)
 
 -- the verdict on the recording that a binding makes of a dump, or the first reason that there is none
 unfoldable pub judgement_of : Option (List ℕ) → Option (List ℕ) → ℕ → Result Verdict Refusal

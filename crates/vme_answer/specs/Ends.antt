@@ -23,8 +23,8 @@ pub record FailsToTell (answer : Answer) (out err : Writing × Writing) (status 
 abbrev pub Ends : Answer → Writing × Writing → Writing × Writing → ℕ → Type 0
 Ends answer out err status = Tells answer out err status ⊎ FailsToTell answer out err status
 
--- Each input is read, or can't be; something is found that may be found of what they say; and its answer is told, unless a
--- write of it fails.
+-- Each input is read, or can't be; something is found that may be found of what they say; and its answer is told,
+-- unless a write of it fails.
 abbrev pub Does : {A : Type 0} → (A → Answer) → (Option (List ℕ) → Option (List ℕ) → A → Type 0)
     → Reading × Reading → Reading × Reading → Writing × Writing → Writing × Writing → ℕ → Type 0
 Does {A} answer MayFind binding dump out err status =

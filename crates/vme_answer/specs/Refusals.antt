@@ -15,7 +15,8 @@ use Rattle.vme_stream.specs.declared.input.InFault.{InFault}
 use Rattle.vme_stream.specs.declared.input.InFault.TheVariants as read
 use Rattle.vme_answer.specs.declared.refusal.Input.{Input}
 use Rattle.vme_answer.specs.declared.refusal.Refusal.{Refusal}
-use Rattle.vme_answer.specs.declared.refusal.Refusal.TheVariants.{CannotRead, TooLong, BadBinding, BadDump, BadListing, TooManyBlocks, Memory}
+use Rattle.vme_answer.specs.declared.refusal.Refusal.TheVariants.{CannotRead, TooLong, BadBinding, BadDump, BadListing}
+use Rattle.vme_answer.specs.declared.refusal.Refusal.TheVariants.{TooManyBlocks, Memory}
 
 -- an input can't be had
 abbrev pub refused : Input → InFault → Refusal

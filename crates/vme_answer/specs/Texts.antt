@@ -13,7 +13,8 @@ use Rattle.vme_listing.specs.declared.fault.ListFault.TheVariants as list
 use Rattle.vme_answer.specs.declared.refusal.Input.{Input}
 use Rattle.vme_answer.specs.declared.refusal.Input.TheVariants.{Binding, Dump, Listing}
 use Rattle.vme_answer.specs.declared.refusal.Refusal.{Refusal}
-use Rattle.vme_answer.specs.declared.refusal.Refusal.TheVariants.{CannotOpen, CannotRead, TooLong, BadBinding, BadDump, BadListing, TooManyBlocks, Memory}
+use Rattle.vme_answer.specs.declared.refusal.Refusal.TheVariants.{CannotOpen, CannotRead, TooLong, BadBinding, BadDump}
+use Rattle.vme_answer.specs.declared.refusal.Refusal.TheVariants.{BadListing, TooManyBlocks, Memory}
 
 -- a line of text
 abbrev pub line_of : List ℕ → List ℕ
@@ -28,7 +29,8 @@ cannot_write_text = codes "vmecheck: cannot write"
 -- what is broken, when, and on which line
 abbrev pub break_text : List ℕ → Break → List ℕ
 break_text head b =
-    head ++ rule_name b.rule ++ codes " at instant " ++ decimal b.instant ++ codes " time " ++ decimal b.time ++ codes " line " ++ line_name b.line
+    head ++ rule_name b.rule ++ codes " at instant " ++ decimal b.instant ++ codes " time " ++ decimal b.time
+    ++ codes " line " ++ line_name b.line
 
 abbrev pub verdict_text : Verdict → List ℕ
 verdict_text Conforming = codes "conforming"

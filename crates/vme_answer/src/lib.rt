@@ -1,8 +1,9 @@
-//! What a command answers: the recording that its inputs make, or why there is none; the verdict; and the line and the exit status that
-//! tell it.
+//! What a command answers: the recording that its inputs make, or why there is none; the verdict; and the line and the
+//! exit status that tell it.
 //!
-//! [`capture_from`] reads a binding and a dump and makes their recording, [`Refusal`] is the first reason that there is none, and
-//! [`tell_verdict`] writes the verdict's line. `specs/Answers` says what is answered, and `specs/Ends` how a command ends: start there.
+//! [`capture_from`] reads a binding and a dump and makes their recording, [`Refusal`] is the first reason that there is
+//! none, and [`tell_verdict`] writes the verdict's line. `specs/Answers` says what is answered, and `specs/Ends` how a
+//! command ends: start there.
 #![tactic(auto)]
 
 mod recording;

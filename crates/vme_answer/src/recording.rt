@@ -4,7 +4,8 @@ ghost use Rattle.std.specs.Prelude.{◌≡◌, ℕ, List, Option};
 ghost use Rattle.vme_stream.specs.Inputs.{IsReading};
 ghost use Rattle.vcd_read.specs.Meaning.{dump_of};
 ghost use Rattle.vme_bind.specs.Binding.{binding_of};
-ghost use Rattle.vme_answer.specs.Answers.{Gives, or_bad_binding, or_bad_dump, binding_read, dump_read, capture_by, capture_read, recorded_by};
+ghost use Rattle.vme_answer.specs.Answers.{Gives, or_bad_binding, or_bad_dump, binding_read, dump_read, capture_by};
+ghost use Rattle.vme_answer.specs.Answers.{capture_read, recorded_by};
 
 use crate::refusal::{Input, Refusal};
 use std::alloc::Global;
@@ -46,8 +47,8 @@ fn capture_of_dump<D: Source>(
     }
 }
 
-/// The recording that a binding makes of a dump that is to be read, or why it makes none of it. Why there is no dump, or no
-/// memory, is a refusal.
+/// The recording that a binding makes of a dump that is to be read, or why it makes none of it. Why there is no dump,
+/// or no memory, is a refusal.
 pub fn recorded_from<D: Source>(
     alloc: Global,
     bound: &Binding,
@@ -91,8 +92,8 @@ fn recorded_in(
     }
 }
 
-/// The binding that a text is which is to be read, or why there is none: the text can't be read, is too long or isn't a binding,
-/// or there is no memory. What of the input is read then isn't said.
+/// The binding that a text is which is to be read, or why there is none: the text can't be read, is too long or isn't a
+/// binding, or there is no memory. What of the input is read then isn't said.
 pub fn binding_from<R: Source>(alloc: Global, source: &mut R) -> Result<Binding, Refusal>
     ensures { (bytes : Option (List ℕ))
         × IsReading (R.reading source.old) (R.reading source.new) bytes

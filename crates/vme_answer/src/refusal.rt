@@ -1,7 +1,8 @@
 //! Why a recording isn't judged, or a listing compared with it.
 
 ghost use Rattle.std.specs.Prelude.{◌≡◌};
-ghost use Rattle.vme_answer.specs.Refusals.{refused, dump_refusal, binding_refusal, capture_refusal, judging_refusal, listing_refusal};
+ghost use Rattle.vme_answer.specs.Refusals.{refused, dump_refusal, binding_refusal, capture_refusal, judging_refusal};
+ghost use Rattle.vme_answer.specs.Refusals.{listing_refusal};
 ghost use Rattle.vme_answer.specs.Texts.{refusal_status};
 
 use thiserror::Error;

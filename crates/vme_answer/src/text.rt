@@ -1,7 +1,8 @@
 //! The lines that the program writes.
 
 ghost use Rattle.std.specs.Prelude.{◌≡◌, ◌+◌, ◌≤◌, ◌∷◌, ◌++◌, [], length};
-ghost use Rattle.vme_answer.specs.Texts.{break_text, verdict_text, verdict_status, dump_fault_text, binding_fault_text, listing_fault_text, cannot_write_text, input_name, line_of, refusal_text};
+ghost use Rattle.vme_answer.specs.Texts.{break_text, verdict_text, verdict_status, dump_fault_text, binding_fault_text};
+ghost use Rattle.vme_answer.specs.Texts.{listing_fault_text, cannot_write_text, input_name, line_of, refusal_text};
 
 use crate::refusal::{Input, Refusal};
 use vcd_read::FaultKind;

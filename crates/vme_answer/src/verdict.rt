@@ -23,7 +23,8 @@ pub fn verdict_on(alloc: Global, capture: &Capture, block: u32) -> Result<Verdic
     }
 }
 
-/// Writes a verdict to `out`, or to `err` that it can't be written. The answer is the exit status: that of the verdict, or 5.
+/// Writes a verdict to `out`, or to `err` that it can't be written. The answer is the exit status: that of the verdict,
+/// or 5.
 pub fn tell_verdict<O: Sink, E: Sink>(verdict: &Verdict, out: &mut O, err: &mut E) -> u8
     ensures { Ends (answer_by (Ok verdict.now))
         (O.writing out.old, O.writing out.new) (E.writing err.old, E.writing err.new) result }

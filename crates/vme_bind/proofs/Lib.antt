@@ -9,6 +9,7 @@ pub mod StepsLemmas
 pub mod TapsLemmas
 pub mod EndLemmas
 pub mod OpeningLemmas
+pub mod PartLemmas
 pub mod MakingLemmas
 pub mod NotesLemmas
 pub mod TextCaptureLemmas

@@ -1,5 +1,6 @@
 -- The binding that a text says.
-use Rattle.std.specs.Prelude.{ℕ, ◌+◌, ◌-◌, ◌*◌, Bool, not, ◌&&◌, nat_le, if◌then◌else◌, List, [], ◌∷◌, ◌++◌, codes, bytes_eq, Option, Some, None, Result, Ok, Err}
+use Rattle.std.specs.Prelude.{ℕ, ◌+◌, ◌-◌, ◌*◌, Bool, not, ◌&&◌, nat_le, if◌then◌else◌, List, [], ◌∷◌, ◌++◌, codes}
+use Rattle.std.specs.Prelude.{bytes_eq, Option, Some, None, Result, Ok, Err}
 use Rattle.std.specs.List.{list_any}
 use Rattle.vme_trace.specs.Instants.{least}
 use Rattle.vme_trace.specs.LineNumbers.{line_count, has_line}
@@ -28,7 +29,8 @@ is_digit b = nat_le 48 b && nat_le b 57
 -- one digit or two, the first not 0: 1 to 21
 abbrev pub slot_count : List ℕ → Option ℕ
 slot_count (d ∷ []) = if is_digit d && nat_le 49 d then Some (d - 48) else None
-slot_count (t ∷ d ∷ []) = if is_digit t && nat_le 49 t && is_digit d && nat_le ((t - 48) * 10 + (d - 48)) 21 then Some ((t - 48) * 10 + (d - 48)) else None
+slot_count (t ∷ d ∷ []) = if is_digit t && nat_le 49 t && is_digit d
+    && nat_le ((t - 48) * 10 + (d - 48)) 21 then Some ((t - 48) * 10 + (d - 48)) else None
 slot_count word = None
 
 abbrev pub counted : Option ℕ → Result ℕ BindKind

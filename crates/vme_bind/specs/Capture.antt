@@ -1,5 +1,6 @@
 -- The recording that a binding makes of a dump.
-use Rattle.std.specs.Prelude.{ℕ, ◌+◌, Bool, not, ◌==◌, nat_lt, if◌then◌else◌, List, [], ◌∷◌, length, map, get_or, slice_get, Option, Some, None, is_some, option_and_then, Result, Ok, Err}
+use Rattle.std.specs.Prelude.{ℕ, ◌+◌, Bool, not, ◌==◌, nat_lt, if◌then◌else◌, List, [], ◌∷◌, length, map, get_or}
+use Rattle.std.specs.Prelude.{slice_get, Option, Some, None, is_some, option_and_then, Result, Ok, Err}
 use Rattle.std.specs.List.{range_with_len}
 use Rattle.std.specs.Option.{option_or, option_map_or}
 use Rattle.vme_trace.specs.Instants.{any, greatest, those}
@@ -62,7 +63,8 @@ module _ (slots : ℕ) (wires : List Wire) (instants : List Instant) where
   abbrev pub level_by : ℕ → ℕ → Option LineSource → Level
   level_by n l None = Unknown
   level_by n l (Some (Always level)) = level
-  level_by n l (Some (AtBit bit)) = option_map_or (level_in l bit.place) (option_and_then (bits_at bit.net) (last_change bit.net n)) Unknown
+  level_by n l (Some (AtBit bit)) = option_map_or (level_in l bit.place)
+      (option_and_then (bits_at bit.net) (last_change bit.net n)) Unknown
 
   -- the level of a line after the first n instants: that of the last change of its bit, up to then
   unfoldable pub level_after : ℕ → ℕ → Level
@@ -81,7 +83,11 @@ module _ (slots : ℕ) (wires : List Wire) (instants : List Instant) where
 
   -- the step at instant n: the lines that change there, in their order
   unfoldable pub step_at : ℕ → Step
-  step_at n = record { time = time_of (slice_get instants n); changes = map (change_at n) (those (changes_at n) 0 line_count) }
+  step_at n = record {
+    time = time_of (slice_get instants n);
+    changes = map (change_at n)
+        (those (changes_at n) 0 line_count);
+  }
 
   -- the levels of all lines after the first n instants
   unfoldable pub levels_after : ℕ → Levels
@@ -93,7 +99,8 @@ module _ (slots : ℕ) (wires : List Wire) (instants : List Instant) where
 
 -- the recording that a binding makes of a dump, however long it is, or else the first fault
 unfoldable pub recording_of : BoundLines → Contents → Result Trace BindFault
-recording_of b dump = wires_in dump.variables b.assignments >>= λ wires. Ok (recording b.slots wires dump.instants (length dump.instants))
+recording_of b dump = wires_in dump.variables b.assignments
+    >>= λ wires. Ok (recording b.slots wires dump.instants (length dump.instants))
 
 -- a recording has so many steps at most
 abbrev pub limited : Trace → Result Trace BindFault
@@ -101,4 +108,5 @@ limited t = if nat_lt capture_limit (length t.steps) then Err (record { line = 0
 
 -- the recording that a binding makes of a dump, or else the first fault
 unfoldable pub capture_of : BoundLines → Contents → Result Trace BindFault
-capture_of b dump = wires_in dump.variables b.assignments >>= λ wires. limited (recording b.slots wires dump.instants (length dump.instants))
+capture_of b dump = wires_in dump.variables b.assignments
+    >>= λ wires. limited (recording b.slots wires dump.instants (length dump.instants))

@@ -1,5 +1,6 @@
 -- The lines that a name stands for.
-use Rattle.std.specs.Prelude.{ℕ, ◌+◌, Bool, ◌&&◌, nat_le, nat_lt, if◌then◌else◌, List, codes, bytes_eq, Option, Some, None, option_and_then}
+use Rattle.std.specs.Prelude.{ℕ, ◌+◌, Bool, ◌&&◌, nat_le, nat_lt, if◌then◌else◌, List, codes, bytes_eq, Option, Some}
+use Rattle.std.specs.Prelude.{None, option_and_then}
 use Rattle.vme_trace.specs.LineNumbers.{AM, A, BR, D, grant, iack, SYSRESET, has_line}
 use Rattle.vme_trace.specs.Names.{line_named}
 use Rattle.vme_bind.specs.declared.group.Group.{Group}

@@ -19,7 +19,12 @@ pub record Made : Type 0 where
 
 -- a net gets these bits
 abbrev pub made_change : Made → ℕ → List Bit → Made
-made_change m net bits = record m { progress = record m.progress { now = changed m.progress.now (map (tapped bits) (taps_of m.taps net)) } }
+made_change m net bits = record m {
+  progress = record m.progress {
+    now = changed m.progress.now
+        (map (tapped bits) (taps_of m.taps net));
+  };
+}
 
 -- an instant ends
 abbrev pub made_instant : Made → ℕ → Made

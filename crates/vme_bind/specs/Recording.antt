@@ -1,5 +1,6 @@
 -- How the levels of the lines change from one instant to the next.
-use Rattle.std.specs.Prelude.{◌≡◌, ℕ, ◌<◌, Bool, true, not, if◌then◌else◌, List, [], ◌∷◌, length, map, All, Contains, IsTrue, Option, Some, None}
+use Rattle.std.specs.Prelude.{◌≡◌, ℕ, ◌<◌, Bool, true, not, if◌then◌else◌, List, [], ◌∷◌, length, map, All, Contains}
+use Rattle.std.specs.Prelude.{IsTrue, Option, Some, None}
 use Rattle.vme_trace.specs.Instants.{any, those}
 use Rattle.vme_trace.specs.Levels.{Levels, level_at, same_level}
 use Rattle.vme_trace.specs.LineNumbers.{line_count, has_line}
@@ -63,4 +64,5 @@ changes_between shown now = map (change_to now) (those (differs shown now) 0 lin
 -- the step from some levels to others, if they differ
 abbrev pub step_between : ℕ → Levels → Levels → List Step
 step_between time shown now =
-    if any (differs shown now) 0 line_count then record { time = time; changes = changes_between shown now } ∷ [] else []
+    if any (differs shown now) 0 line_count then record { time = time; changes = changes_between shown now }
+    ∷ [] else []

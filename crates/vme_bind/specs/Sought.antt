@@ -1,5 +1,6 @@
 -- What is found of the variables that a binding names, as they are declared one after the other.
-use Rattle.std.specs.Prelude.{◌≡◌, ℕ, ◌+◌, Bool, ◌&&◌, ◌==◌, if◌then◌else◌, List, [], ◌∷◌, length, map, min, take, drop, bytes_eq, Option, Some, None, Result, Ok, Err}
+use Rattle.std.specs.Prelude.{◌≡◌, ℕ, ◌+◌, Bool, ◌&&◌, ◌==◌, if◌then◌else◌, List, [], ◌∷◌, length, map, min, take, drop}
+use Rattle.std.specs.Prelude.{bytes_eq, Option, Some, None, Result, Ok, Err}
 use Rattle.vcd_read.specs.declared.dump.Variable.{Variable}
 use Rattle.vcd_read.specs.Header.{◌>>=◌}
 use Rattle.vcd_read.specs.Scopes.{path_in}
@@ -86,17 +87,22 @@ path_sought (Named named) = named.path
 -- with how many of the open scopes, from the outermost, a path begins
 unfoldable pub scopes_begun : List ℕ → List (List ℕ) → ℕ
 scopes_begun path [] = 0
-scopes_begun path (name ∷ scopes) = if begins_with (path_in (name ∷ scopes)) path then length scopes + 1 else scopes_begun path scopes
+scopes_begun path (name ∷ scopes) = if begins_with (path_in (name ∷ scopes)) path then length scopes
+    + 1 else scopes_begun path scopes
 
 abbrev pub IsBegun : List (List ℕ) → Sought → Type 0
 IsBegun scopes s = s.begun ≡ scopes_begun (path_sought s.assignment.now.source) scopes
 
 -- how many, where a scope opens behind so many others: this part of the path is its own, from this place on
 abbrev pub begun_behind : ℕ → ℕ → List ℕ → List ℕ → ℕ → ℕ
-begun_behind depth start part path begun = if begun == depth && begins_with part (drop start path) then depth + 1 else begun
+begun_behind depth start part path begun = if begun == depth
+    && begins_with part (drop start path) then depth + 1 else begun
 
 abbrev pub opened : ℕ → ℕ → List ℕ → Sought → Sought
-opened depth start part s = record s { begun = begun_behind depth start part (path_sought s.assignment.now.source) s.begun }
+opened depth start part s = record s {
+  begun = begun_behind depth start part
+      (path_sought s.assignment.now.source) s.begun;
+}
 
 -- the innermost scope closes, and so many are left
 abbrev pub closed : ℕ → Sought → Sought

@@ -8,7 +8,11 @@ use Rattle.vme_bind.specs.declared.source.Source.TheVariants.{Constant, Variable
 -- a path, and the indices of the bits that are selected, if not all are
 abbrev pub path_and_selection : List ℕ → Option (List ℕ × List ℕ) → List ℕ × Option (ℕ × ℕ)
 path_and_selection word None = (word, None)
-path_and_selection word (Some parts) = elim (index_between parts.1) [ None ↦ (word, None) | Some selection ↦ (parts.0, Some selection) ]
+path_and_selection word (Some parts) = elim (index_between parts.1) [
+  | None ↦ (word, None)
+  | Some selection ↦
+      (parts.0, Some selection)
+]
 
 abbrev pub variables_in : List ℕ × Option (ℕ × ℕ) → Source
 variables_in parts = Variable (record { path = parts.0; selection = parts.1 })

@@ -1,5 +1,6 @@
 -- A binding text as its statements: the words of each line that says something.
-use Rattle.std.specs.Prelude.{ℕ, ◌+◌, ◌-◌, Bool, ◌||◌, not, ◌==◌, if◌then◌else◌, List, [], ◌∷◌, ◌++◌, length, take, get_or, filter, count_by}
+use Rattle.std.specs.Prelude.{ℕ, ◌+◌, ◌-◌, Bool, ◌||◌, not, ◌==◌, if◌then◌else◌, List, [], ◌∷◌, ◌++◌, length, take}
+use Rattle.std.specs.Prelude.{get_or, filter, count_by}
 use Rattle.std.specs.List.{slice_split}
 use Rattle.vcd_read.specs.Numbers.{is_empty}
 
@@ -27,7 +28,8 @@ pub record Saying : Type 0 where
 -- what the words of a line say: nothing where there are none, or the first begins with #
 abbrev pub said : ℕ → List (List ℕ) → List Saying
 said line [] = []
-said line (first ∷ others) = if get_or first 0 0 == 35 then [] else record { line = line; first = first; others = others } ∷ []
+said line (first ∷ others) = if get_or first 0 0 == 35 then []
+    else record { line = line; first = first; others = others } ∷ []
 
 -- what the parts between line feeds say, the first of which is this line
 unfoldable pub said_from : ℕ → List (List ℕ) → List Saying

@@ -28,7 +28,8 @@ or_dump (Err fault) = Err (Dump fault)
 
 -- the recording that wires make of the body behind some definitions
 abbrev pub body_recording : ℕ → List Wire → Headed → Result Trace CaptureFault
-body_recording slots wires h = or_dump (instants_from h.nets h.body) >>= λ instants. Ok (recording slots wires instants (length instants))
+body_recording slots wires h = or_dump (instants_from h.nets h.body)
+    >>= λ instants. Ok (recording slots wires instants (length instants))
 
 -- what a binding makes of what reading a dump gave: a fault of the dump comes first
 abbrev pub capture_read : BoundLines → Result Contents VcdFault → Result Trace CaptureFault
@@ -42,7 +43,8 @@ recording_read b (Err fault) = Err (Dump fault)
 
 -- the recording that it makes of the body behind some definitions
 abbrev pub recording_behind : BoundLines → Defined (List Variable) → Result Trace CaptureFault
-recording_behind b d = recording_read b (instants_from d.head.nets d.head.body >>= λ instants. Ok (record { variables = d.variables; instants = instants }))
+recording_behind b d = recording_read b (instants_from d.head.nets d.head.body
+    >>= λ instants. Ok (record { variables = d.variables; instants = instants }))
 
 -- the recording that a binding makes of the dump that a text is, however long it is, or else the first fault
 unfoldable pub recording_of_text : BoundLines → List ℕ → Result Trace CaptureFault

@@ -39,15 +39,22 @@ text_reached text = record { fault = text.fault; body = reached (λ made. made) 
 
 -- what comes of these tokens, and more behind them, where the recording is made so far
 abbrev pub outcome_ahead : TextReached → List Token → List Token → Result Trace CaptureFault
-outcome_ahead t tokens more = outcome t.fault (rest_of made_change made_instant t.body tokens more >>= at_end made_instant)
+outcome_ahead t tokens more = outcome t.fault (rest_of made_change made_instant t.body tokens more
+    >>= at_end made_instant)
 
 -- what was read to leaves what comes of the text, whatever follows, or this fault does
-abbrev pub LeadsTo : {X : Type 0} → (X → List Token → Result Trace CaptureFault) → Result X CaptureFault → (List Token → Result Trace CaptureFault) → Type 0
+abbrev pub LeadsTo : {X : Type 0} → (X → List Token → Result Trace CaptureFault) → Result X CaptureFault
+    → (List Token → Result Trace CaptureFault) → Type 0
 LeadsTo view (Ok x) before = (more : List Token) → before more ≡ view x more
 LeadsTo view (Err fault) before = (more : List Token) → FailsBy fault (before more)
 
--- what is begun of a text by its front is what comes of each text that goes on so, unless its definitions don't end in it
-abbrev pub BeginsText : {X Y : Type 0} → (X → List Token → Result Trace CaptureFault) → BoundLines → List ℕ → Result (Result X Y) CaptureFault → Type 0
-BeginsText view b front (Ok (Ok begun)) = (whole : List ℕ) (more : List Token) → tokens whole ≡ tokens front ++ more → recording_of_text b whole ≡ view begun more
-BeginsText view b front (Ok (Err back)) = (fault : VcdFault) × (recording_of_text b front ≡ Err (Dump fault)) × IsMetAtTheEnd fault.kind
-BeginsText view b front (Err fault) = (whole : List ℕ) (more : List Token) → tokens whole ≡ tokens front ++ more → FailsBy fault (recording_of_text b whole)
+-- what is begun of a text by its front is what comes of each text that goes on so, unless its definitions don't end in
+-- it
+abbrev pub BeginsText : {X Y : Type 0} → (X → List Token → Result Trace CaptureFault) → BoundLines → List ℕ
+    → Result (Result X Y) CaptureFault → Type 0
+BeginsText view b front (Ok (Ok begun)) = (whole : List ℕ) (more : List Token) → tokens whole ≡ tokens front ++ more
+    → recording_of_text b whole ≡ view begun more
+BeginsText view b front (Ok (Err back)) = (fault : VcdFault) × (recording_of_text b front ≡ Err (Dump fault))
+    × IsMetAtTheEnd fault.kind
+BeginsText view b front (Err fault) = (whole : List ℕ) (more : List Token) → tokens whole ≡ tokens front ++ more
+    → FailsBy fault (recording_of_text b whole)

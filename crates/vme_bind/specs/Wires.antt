@@ -1,5 +1,6 @@
 -- The bits of a dump that the lines of a backplane are bound to.
-use Rattle.std.specs.Prelude.{ℕ, ◌+◌, ◌-◌, Bool, ◌&&◌, ◌||◌, ◌==◌, nat_le, max, min, if◌then◌else◌, List, [], ◌∷◌, bytes_eq, Option, Some, None, option_and_then, Result, Ok, Err}
+use Rattle.std.specs.Prelude.{ℕ, ◌+◌, ◌-◌, Bool, ◌&&◌, ◌||◌, ◌==◌, nat_le, max, min, if◌then◌else◌, List, [], ◌∷◌}
+use Rattle.std.specs.Prelude.{bytes_eq, Option, Some, None, option_and_then, Result, Ok, Err}
 use Rattle.std.specs.List.{filter_map, list_all}
 use Rattle.vme_trace.specs.LineNumbers.{has_line}
 use Rattle.vcd_read.specs.declared.dump.Variable.{Variable}
@@ -38,7 +39,8 @@ bit_range net first count = record { net = net; first = first; count = count }
 
 abbrev pub selected : ℕ → ℕ × ℕ → ℕ × ℕ → Option BitRange
 selected net selection index =
-    if selects index selection then Some (bit_range net (distance index.0 selection.0) (distance selection.0 selection.1 + 1)) else None
+    if selects index selection then Some (bit_range net (distance index.0 selection.0)
+    (distance selection.0 selection.1 + 1)) else None
 
 -- the bits of a net that a selection means, for a variable of this size and index: all, where there is none
 abbrev pub bits_meant : Option (ℕ × ℕ) → ℕ → ℕ → Option (ℕ × ℕ) → Option BitRange
@@ -96,7 +98,8 @@ source_on place (Bits bits) = Bit (record { net = bits.net; place = bits.first +
 
 abbrev pub wire_source : List Wire → ℕ → Option LineSource
 wire_source [] l = None
-wire_source (w ∷ wires) l = if holds w.group l then Some (source_on (w.group.first - l) w.source) else wire_source wires l
+wire_source (w ∷ wires) l = if holds w.group l then Some
+    (source_on (w.group.first - l) w.source) else wire_source wires l
 
 -- nothing, where the backplane lacks the line
 abbrev pub line_source : ℕ → List Wire → ℕ → Option LineSource

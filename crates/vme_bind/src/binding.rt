@@ -15,7 +15,7 @@ use crate::source::Source;
 use crate::statements::{Statement, Statements};
 use std::alloc::{AllocError, Global};
 use std::marker::Model;
-use vme_trace::{LINE_COUNT, Level, Line, Lines};
+use vme_trace::{LINE_COUNT, Level, Line, Lines, MOST_SLOTS};
 
 /// What each line of a backplane is bound to.
 #[derive(Drop)]
@@ -41,7 +41,8 @@ impl Model for Binding {
 
 impl Binding {
     ghost use Rattle.vme_bind.specs.Reading.{saying, left, last_line};
-    ghost use Rattle.vme_bind.specs.Binding.{slot_count, slots_behind, name_and_source, is_taken, is_bound, bound, bound_all, least_unbound, no_assignments, with_high, with_left_out};
+    ghost use Rattle.vme_bind.specs.Binding.{slot_count, slots_behind, name_and_source, is_taken, is_bound, bound};
+    ghost use Rattle.vme_bind.specs.Binding.{bound_all, least_unbound, no_assignments, with_high, with_left_out};
 
     /// The number of slots that a word is: 1 to 21, without a leading zero.
     fn slot_count(word: &[u8]) -> Option<u8>
@@ -51,7 +52,11 @@ impl Binding {
             [digit @ b'1'..=b'9'] => Some(*digit - b'0'),
             [ten @ b'1'..=b'9', digit @ b'0'..=b'9'] => {
                 let count = (*ten - b'0') * 10 + (*digit - b'0');
-                if count <= 21 { Some(count) } else { None }
+                if count <= MOST_SLOTS {
+                    Some(count)
+                } else {
+                    None
+                }
             }
             _ => None,
         }
@@ -80,7 +85,8 @@ impl Binding {
     fn name_and_source<'a>(statement: Statement<'a>) -> Option<(&'a [u8], &'a [u8])>
         ensures { MatchOption result
             (name_and_source (saying statement.entry).first (saying statement.entry).others ≡ Err BadLine)
-            (λ parts. name_and_source (saying statement.entry).first (saying statement.entry).others ≡ Ok (parts.0.now, parts.1.now)) }
+            (λ parts. name_and_source (saying statement.entry).first (saying statement.entry).others
+            ≡ Ok (parts.0.now, parts.1.now)) }
     {
         let Statement {
             first,
@@ -167,7 +173,8 @@ impl Binding {
 
     /// Binds what a statement says.
     fn bind(&mut self, alloc: Global, statement: Statement<'_>) -> Result<(), BindFault>
-        ensures { Gives (λ _. self.new) result (at_line statement.entry.line (bound self.old (saying statement.entry))) }
+        ensures { Gives (λ _. self.new) result (at_line statement.entry.line
+            (bound self.old (saying statement.entry))) }
     {
         let assignment = self.assignment(alloc, statement)?;
         self.assignments.push(assignment)?;

@@ -43,7 +43,8 @@ fn record_all(
     instants: &[DumpInstant],
 ) -> Result<(Lines, Vec<Step>), AllocError>
     requires { lines.now.levels ≡ replicate line_count Unknown }
-    ensures { IfOk result (λ made. recording lines.now.slots wires.now instants.now (length instants.now) ≡ record { opening = made.0; steps = made.1.items }) }
+    ensures { IfOk result (λ made. recording lines.now.slots wires.now instants.now (length instants.now)
+        ≡ record { opening = made.0; steps = made.1.items }) }
 {
     let taps = Taps::of_wires(alloc, lines, wires)?;
     let opening = opening_of(lines, wires);

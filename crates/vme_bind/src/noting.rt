@@ -14,7 +14,7 @@ use vcd_read::Taker;
 use vme_trace::Change;
 
 /// How many notes are kept of one piece.
-const MOST_NOTES: usize = 262_144;
+const MOST_NOTES: usize = 524_288;
 
 /// The lines of the nets, and the notes of what they got so far. Changes of other nets cost no note.
 #[derive(Drop)]
@@ -51,8 +51,8 @@ impl<'t> Noting<'t> {
         notes
     }
 
-    /// Errors are want of memory, and a note more than are kept: a binding may give many lines to one net, so that a short
-    /// text had notes that fill the memory.
+    /// Errors are want of memory, and a note more than are kept: a binding may give many lines to one net, so that a
+    /// short text had notes that fill the memory.
     #[inline(always)]
     fn push(&mut self, note: Note) -> Result<(), AllocError>
         ensures { OnOk result (self.new ≡ record self.old { items = self.old.items ++ note ∷ [] }) }

@@ -1,6 +1,7 @@
 //! The levels of the lines as a dump goes on, and the step at which they change.
 
-ghost use Rattle.std.specs.Prelude.{◌≡◌, ◌≢◌, ◌≤◌, ◌<◌, ℕ, false, IfOk, OnOk, OnErr, map, length, [], ◌∷◌, ◌++◌, All, IfSome};
+ghost use Rattle.std.specs.Prelude.{◌≡◌, ◌≢◌, ◌≤◌, ◌<◌, ℕ, false, IfOk, OnOk, OnErr, map, length, [], ◌∷◌, ◌++◌, All};
+ghost use Rattle.std.specs.Prelude.{IfSome};
 ghost use Rattle.std.specs.List.Sorted.{IsNonDecreasing};
 ghost use Rattle.vme_trace.specs.LineNumbers.{line_count};
 ghost use Rattle.vme_trace.specs.Levels.{set_level};
@@ -8,8 +9,10 @@ ghost use Rattle.vme_trace.specs.Trace.{changed};
 ghost use Rattle.vcd_read.specs.Numbers.{extended};
 ghost use Rattle.vme_bind.specs.Capture.{level_of, level_in};
 ghost use Rattle.vme_bind.specs.Taps.{taps_of};
-ghost use Rattle.vme_bind.specs.Notes.{AreOfOne, IsEnd, IsOfLine, end_noted, level_noted, levels_noted, step_noted, steps_noted, with_note, with_notes};
-ghost use Rattle.vme_bind.specs.Recording.{IsLine, differs, AreTouched, AreLines, tapped, valued, changes_between, step_between, step_in};
+ghost use Rattle.vme_bind.specs.Notes.{AreOfOne, IsEnd, IsOfLine, end_noted, level_noted, levels_noted, step_noted};
+ghost use Rattle.vme_bind.specs.Notes.{steps_noted, with_note, with_notes};
+ghost use Rattle.vme_bind.specs.Recording.{IsLine, differs, AreTouched, AreLines, tapped, valued, changes_between};
+ghost use Rattle.vme_bind.specs.Recording.{step_between, step_in};
 
 use crate::note::Note;
 use crate::taps::{Tap, Taps};
@@ -179,7 +182,10 @@ impl Recorder {
     /// Gives the lines of a net the levels that these bits are.
     fn set_lines(&mut self, taps: &[Tap], bits: &[Bit]) -> Result<(), AllocError>
         requires { AreLines self.old.now.slots taps.now }
-        ensures { OnOk result (self.new ≡ record self.old { now = changed self.old.now (map (tapped bits.now) taps.now) }) }
+        ensures { OnOk result (self.new ≡ record self.old {
+          now = changed self.old.now
+              (map (tapped bits.now) taps.now);
+        }) }
     {
         for tap in taps {
             self.set_line(tap.line, level_in(*tap, bits))?;
@@ -187,8 +193,8 @@ impl Recorder {
         Ok(())
     }
 
-    /// Gives the lines of a net the levels that the digits of its value are, where so many bits are the net's. Most nets
-    /// have one line or none.
+    /// Gives the lines of a net the levels that the digits of its value are, where so many bits are the net's. Most
+    /// nets have one line or none.
     #[inline(always)]
     pub fn set_by_digits(
         &mut self,
@@ -200,7 +206,10 @@ impl Recorder {
         requires fits { length digits.now ≤ size }
         requires lines { AreLines self.old.now.slots taps.now }
         ensures slots { self.new.now.slots ≡ self.old.now.slots }
-        ensures ok { OnOk result (self.new ≡ record self.old { now = changed self.old.now (map (tapped (extended size digits.now)) taps.now) }) }
+        ensures ok { OnOk result (self.new ≡ record self.old {
+          now = changed self.old.now
+              (map (tapped (extended size digits.now)) taps.now);
+        }) }
     {
         match taps {
             [] => Ok(()),
@@ -220,7 +229,10 @@ impl Recorder {
         requires fits { length digits.now ≤ size }
         requires lines { AreLines self.old.now.slots taps.now }
         ensures slots { self.new.now.slots ≡ self.old.now.slots }
-        ensures ok { OnOk result (self.new ≡ record self.old { now = changed self.old.now (map (tapped (extended size digits.now)) taps.now) }) }
+        ensures ok { OnOk result (self.new ≡ record self.old {
+          now = changed self.old.now
+              (map (tapped (extended size digits.now)) taps.now);
+        }) }
     {
         for tap in taps {
             self.set_line(tap.line, level_by_digits(*tap, size, digits))?;
@@ -308,8 +320,12 @@ impl Recorder {
         values: &[Value],
     ) -> Result<Option<Step>, AllocError>
         requires { (net : ℕ) → AreLines self.old.now.slots (taps_of taps.now net) }
-        ensures shown { OnOk result (self.new ≡ record { shown = valued taps.now values.now self.old.now; now = valued taps.now values.now self.old.now }) }
-        ensures step { IfOk result (λ step. step_in step ≡ step_between time self.old.shown (valued taps.now values.now self.old.now)) }
+        ensures shown { OnOk result (self.new ≡ record {
+          shown = valued taps.now values.now self.old.now;
+          now = valued taps.now values.now self.old.now;
+        }) }
+        ensures step { IfOk result (λ step. step_in step
+            ≡ step_between time self.old.shown (valued taps.now values.now self.old.now)) }
     {
         self.set_values(taps, values)?;
         self.end_instant(alloc, time)
@@ -358,6 +374,23 @@ impl Recorder {
         }
     }
 
+    /// Makes the step of the end of an instant, if there is one, behind others.
+    pub fn make_end(
+        &mut self,
+        alloc: Global,
+        time: Option<u64>,
+        steps: &mut Vec<Step>,
+    ) -> Result<(), AllocError>
+        ensures slots { self.new.now.slots ≡ self.old.now.slots }
+        ensures levels { OnOk result (self.new ≡ with_notes self.old (end_noted time)) }
+        ensures steps { OnOk result (steps.new.items ≡ steps.old.items ++ steps_noted self.old (end_noted time)) }
+    {
+        match time {
+            Some(time) => self.make(alloc, Note::Ended(time), steps),
+            None => Ok(()),
+        }
+    }
+
     /// Makes the steps of some notes, behind others.
     pub fn replay(
         &mut self,
@@ -366,6 +399,7 @@ impl Recorder {
         steps: &mut Vec<Step>,
     ) -> Result<(), AllocError>
         requires { All (IsOfLine self.old.now.slots) notes.now }
+        ensures slots { self.new.now.slots ≡ self.old.now.slots }
         ensures levels { OnOk result (self.new ≡ with_notes self.old notes.now) }
         ensures steps { OnOk result (steps.new.items ≡ steps.old.items ++ steps_noted self.old notes.now) }
     {

@@ -46,7 +46,8 @@ fn see_all(sought: &mut [Sought<'_>], scopes: &Scopes, variable: Declaration<'_>
     requires begun { All (IsBegun scopes.now) sought.old }
     requires name { 0 < length variable.name.now }
     ensures begun { All (IsBegun scopes.now) sought.new }
-    ensures seen { map seen_in sought.new ≡ map (with_candidate (variable_in scopes.now variable.entry.net variable.entry.size
+    ensures seen { map seen_in sought.new ≡ map (with_candidate
+        (variable_in scopes.now variable.entry.net variable.entry.size
         (record { name = variable.entry.name.now; index = variable.entry.index }))) (map seen_in sought.old) }
 {
     for s in sought.iter_mut() {

@@ -70,7 +70,8 @@ pub(crate) fn rest_of(text: &[u8], start: usize) -> &[u8]
 }
 
 impl<'b> Sought<'b> {
-    ghost use Rattle.vme_bind.specs.Sought.{closed, opened, seen_in, unseen, scopes_begun, path_sought, with_candidate, wire_of};
+    ghost use Rattle.vme_bind.specs.Sought.{closed, opened, seen_in, unseen, scopes_begun, path_sought, with_candidate};
+    ghost use Rattle.vme_bind.specs.Sought.{wire_of};
 
     /// Nothing is found yet, and no scope is open.
     pub fn new(assignment: &'b Assignment) -> Sought<'b>

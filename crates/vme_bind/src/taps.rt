@@ -91,7 +91,8 @@ impl Taps {
     }
 
     fn add(&mut self, alloc: Global, net: u32, tap: Tap) -> Result<(), AllocError>
-        ensures { OnOk result ((k : ℕ) → taps_of self.new k ≡ (if k == net then taps_of self.old net ++ tap ∷ [] else taps_of self.old k)) }
+        ensures { OnOk result ((k : ℕ) → taps_of self.new k
+            ≡ (if k == net then taps_of self.old net ++ tap ∷ [] else taps_of self.old k)) }
     {
         let place = net as usize;
         self.grow(alloc, place)?;
@@ -100,7 +101,8 @@ impl Taps {
 
     /// The lines of each net, in their order.
     pub fn of_wires(alloc: Global, lines: &Lines, wires: &[Wire]) -> Result<Taps, AllocError>
-        ensures { IfOk result (λ taps. (net : ℕ) → taps_of taps net ≡ taps_below lines.now.slots wires.now net line_count) }
+        ensures { IfOk result (λ taps. (net : ℕ)
+            → taps_of taps net ≡ taps_below lines.now.slots wires.now net line_count) }
     {
         let mut taps = Taps {
             nets: Vec::new(alloc),

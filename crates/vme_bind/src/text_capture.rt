@@ -14,7 +14,8 @@ ghost use Rattle.vme_bind.specs.declared.wires.Wire.{Wire};
 ghost use Rattle.vme_bind.specs.Made.{IsBegun};
 ghost use Rattle.vcd_read.specs.declared.dump.Variable.{Variable};
 ghost use Rattle.vcd_read.specs.Sections.{defined};
-ghost use Rattle.vme_bind.specs.TextCapture.{FailsBy, GivesBy, body_recording, capture_of_text, recording_behind, recording_of_text};
+ghost use Rattle.vme_bind.specs.TextCapture.{FailsBy, GivesBy, body_recording, capture_of_text, recording_behind};
+ghost use Rattle.vme_bind.specs.TextCapture.{recording_of_text};
 
 use crate::binding::Binding;
 use crate::capture::{captured, opening_of};
@@ -53,7 +54,8 @@ fn record_body<F: Follower>(
     made: Making<F>,
     head: &Head<'_>,
 ) -> Result<F, CaptureFault>
-    ensures { (slots : ℕ) (wires : List Wire) → IsBegun slots wires made → GivesBy (λ f. F.recorded f) result (body_recording slots wires head.now) }
+    ensures { (slots : ℕ) (wires : List Wire) → IsBegun slots wires made
+        → GivesBy (λ f. F.recorded f) result (body_recording slots wires head.now) }
 {
     match head.read_body(alloc, made) {
         Ok(end) => Ok(end.into_follower()),
@@ -89,7 +91,8 @@ pub(crate) fn want_of_memory() -> BindFault
 
 /// A fault of the body behind some definitions, which comes first, or else this fault of a binding.
 fn first_fault(alloc: Global, head: &Head<'_>, fault: BindFault) -> CaptureFault
-    ensures { (b : BoundLines) (variables : List Variable) → Fails fault (wires_in variables b.assignments) → FailsBy result (recording_behind b (defined head.now variables)) }
+    ensures { (b : BoundLines) (variables : List Variable) → Fails fault (wires_in variables b.assignments)
+        → FailsBy result (recording_behind b (defined head.now variables)) }
 {
     match head.read_body(alloc, Passing) {
         Ok(_) => CaptureFault::Binding(fault),
@@ -147,7 +150,8 @@ impl Binding {
         search: &Search<'_>,
         follower: F,
     ) -> Result<F, CaptureFault>
-        ensures { (variables : List Variable) → map seen_in search.now.sought.items ≡ fold with_variable (map unseen self.now.assignments) variables
+        ensures { (variables : List Variable) → map seen_in search.now.sought.items
+            ≡ fold with_variable (map unseen self.now.assignments) variables
             → GivesBy (λ f. F.recorded f) result (recording_behind self.now (defined head.now variables)) }
     {
         match search.wires(alloc) {

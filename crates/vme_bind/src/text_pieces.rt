@@ -51,8 +51,8 @@ fn begin_wires<F: Follower>(
 }
 
 impl Binding {
-    /// Begins to make the recording of a dump, by a front of its text that ends behind a space. Where the definitions don't
-    /// end in it, the follower is handed back.
+    /// Begins to make the recording of a dump, by a front of its text that ends behind a space. Where the definitions
+    /// don't end in it, the follower is handed back.
     pub fn begin_text<F: Follower>(
         &self,
         alloc: Global,
@@ -118,7 +118,8 @@ impl<F: Follower> TextPieces<F> {
         }
     }
 
-    /// What took the recording of the text, of which nothing is left. A fault of the dump comes before one of the binding.
+    /// What took the recording of the text, of which nothing is left. A fault of the dump comes before one of the
+    /// binding.
     pub fn finish(self, alloc: Global) -> Result<F, CaptureFault>
         ensures { GivesBy (λ f. F.recorded f) result (outcome_ahead (text_reached self) [] []) }
     {

@@ -1,9 +1,9 @@
 //! The recording of a dump whose pieces are read apart from one another, and joined in order.
 
-ghost use Rattle.std.specs.Prelude.{◌≡◌, ◌++◌, ◌↔◌, ℕ, List, [], All, IfOk, IfSome, IsTrue};
+ghost use Rattle.std.specs.Prelude.{◌≡◌, ◌≢◌, ◌<◌, ◌++◌, ◌↔◌, ℕ, List, [], All, IfOk, IfSome, IsTrue, length};
 ghost use Rattle.std.specs.Option.{ForSome};
 ghost use Rattle.vme_trace.specs.Followed.{with_steps};
-ghost use Rattle.vme_trace.specs.Trace.{Trace};
+ghost use Rattle.vme_trace.specs.Trace.{Trace, levels_after};
 ghost use Rattle.vcd_read.specs.Apart.{FitsBehind};
 ghost use Rattle.vcd_read.specs.Reading.{line_behind};
 ghost use Rattle.vcd_read.specs.Tokens.{Token, tokens_from};
@@ -24,6 +24,9 @@ use std::alloc::{AllocError, Global};
 use std::marker::Model;
 use vcd_read::{Apart, Pieces};
 use vme_trace::{Follower, Lines, Step};
+
+/// Of how many notes steps are made at once.
+const AT_ONCE: usize = 16_384;
 
 /// The recording of a dump, as far as some pieces of its text go, without what takes it: only its levels are known.
 #[derive(Drop)]
@@ -77,18 +80,21 @@ pub struct Part {
     /// The time of the instant that the piece ends by the time that it begins with, if it ends one.
     ended: Option<u64>,
     notes: Vec<Note>,
+    /// Of how many notes the steps were made.
+    made: usize,
 }
 
 impl Model for Part {
-    ghost use Rattle.std.specs.Prelude.{All, ◌++◌};
-    ghost use Rattle.vme_bind.specs.Notes.{IsOfLine, end_noted};
+    ghost use Rattle.std.specs.Prelude.{All, ◌++◌, ◌≤◌, drop, length};
+    ghost use Rattle.vme_bind.specs.Notes.{AreOfOne, IsOfLine, end_noted};
     ghost use Rattle.vme_bind.specs.TextWaves.{ToMake};
 
     ghost Value = { ToMake };
 
-    ghost view = { λ p. record { progress = p.recorder; notes = end_noted p.ended ++ p.notes.items } };
+    ghost view = { λ p. record { progress = p.recorder; notes = end_noted p.ended ++ drop p.made p.notes.items } };
 
-    ghost invariant = { λ p. All (IsOfLine p.recorder.now.slots) p.notes.items };
+    ghost invariant = { λ p. AreOfOne p.recorder × All (IsOfLine p.recorder.now.slots) p.notes.items
+        × (p.made ≤ length p.notes.items) };
 }
 
 impl<F: Follower> TextPieces<F> {
@@ -139,8 +145,8 @@ impl TextWave {
     }
 
     /// Reads a piece that begins on this line and ends behind a space, or where the text does, apart from what
-    /// stands before it. None is given of a piece that begins with no time, has a fault, ends within an item or tells more
-    /// than 262,144 things of the lines, nor where memory runs out.
+    /// stands before it. None is given of a piece that begins with no time, has a fault, ends within an item or tells
+    /// more than 524,288 things of the lines, nor where memory runs out.
     pub fn read_apart(&self, alloc: Global, piece: &[u8], line: u64) -> Option<Noted>
         ensures line { IfSome result (λ noted. noted.first_line ≡ line) }
         ensures noted { IfSome result (IsNoted self.now.body.nets self.now.taps piece.now) }
@@ -195,6 +201,7 @@ impl TextWave {
             recorder: opening,
             ended,
             notes,
+            made: 0,
         };
         Ok((wave, part))
     }
@@ -208,20 +215,37 @@ impl Part {
         self.recorder.shown()
     }
 
-    /// Its steps. The only error is want of memory.
-    pub fn steps(self, alloc: Global) -> Result<Vec<Step>, AllocError>
-        ensures { IfOk result (λ steps. steps.items ≡ steps_noted self.progress self.notes) }
+    /// Whether all its steps are made.
+    pub fn is_made(&self) -> bool
+        ensures { IsTrue result ↔ (self.now.notes ≡ []) }
+    {
+        self.ended.is_none() && self.made >= self.notes.len()
+    }
+
+    /// Makes its next steps, at most 16,385, in place of those that stand there, and gives what is left of it. The only
+    /// error is want of memory.
+    pub fn next_steps(self, alloc: Global, steps: &mut Vec<Step>) -> Result<Part, AllocError>
+        ensures steps { IfOk result (λ left. steps_noted self.progress self.notes
+            ≡ steps.new.items ++ steps_noted left.progress left.notes) }
+        ensures levels { IfOk result (λ left.
+            left.progress.shown ≡ levels_after self.progress.shown steps.new.items) }
+        ensures fewer { IfOk result (λ left. self.notes ≢ [] → length left.notes < length self.notes) }
     {
         let Part {
             mut recorder,
             ended,
             notes,
+            made,
         } = self;
-        let mut steps = Vec::new(alloc);
-        if let Some(time) = ended {
-            recorder.make(alloc, Note::Ended(time), &mut steps)?;
-        }
-        recorder.replay(alloc, &notes, &mut steps)?;
-        Ok(steps)
+        steps.clear();
+        recorder.make_end(alloc, ended, steps)?;
+        let end = notes.len().min(made.saturating_add(AT_ONCE));
+        recorder.replay(alloc, &notes[made..end], steps)?;
+        Ok(Part {
+            recorder,
+            ended: None,
+            notes,
+            made: end,
+        })
     }
 }

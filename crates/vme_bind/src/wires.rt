@@ -3,7 +3,8 @@
 ghost use Rattle.std.specs.Prelude.{◌≡◌};
 ghost use Rattle.std.specs.List.{filter_map};
 ghost use Rattle.vme_bind.specs.Answers.{Gives, at_line};
-ghost use Rattle.vme_bind.specs.Wires.{same_bits, selected, selects, bits_meant, candidate, only, as_wide_as, source_by, wire_by, wire_in, wires_in, source_on, wire_source};
+ghost use Rattle.vme_bind.specs.Wires.{same_bits, selected, selects, bits_meant, candidate, only, as_wide_as};
+ghost use Rattle.vme_bind.specs.Wires.{source_by, wire_by, wire_in, wires_in, source_on, wire_source};
 
 use crate::assignment::Assignment;
 use crate::fault::{BindFault, BindKind};
@@ -148,7 +149,8 @@ impl BitRange {
 impl Wire {
     /// The wire of an assignment to these bits, which are to be as many as its lines.
     pub fn of_bits(assignment: &Assignment, bits: BitRange) -> Result<Wire, BindFault>
-        ensures { Gives (λ wire. wire) result (wire_by assignment.now (source_by assignment.now.group.count (Ok bits))) }
+        ensures { Gives (λ wire. wire) result (wire_by assignment.now
+            (source_by assignment.now.group.count (Ok bits))) }
     {
         let group = assignment.group;
         if bits.count != group.count as usize {

@@ -32,7 +32,8 @@ impl<'a> Words<'a> {
 
     /// The next word, if there is one.
     pub fn next(&mut self) -> Option<&'a [u8]>
-        ensures { MatchOption result (words self.old.rest.now ≡ []) (λ word. words self.old.rest.now ≡ word.now ∷ words self.new.rest.now) }
+        ensures { MatchOption result (words self.old.rest.now ≡ [])
+            (λ word. words self.old.rest.now ≡ word.now ∷ words self.new.rest.now) }
     {
         while !self.rest.is_empty() {
             let (word, rest) = cut_at_blank(self.rest);

@@ -1,10 +1,11 @@
 ghost use Rattle.std.specs.Prelude.{◌≡◌};
 
 use std::alloc::{AllocError, Global};
+use std::mem;
 use std::process::Abort;
 use std::test::Fail;
 use vcd_read::{FaultKind, VcdFault, read_vcd};
-use vme_bind::{BindFault, BindKind, Binding, CaptureFault, TextWave, read_binding};
+use vme_bind::{BindFault, BindKind, Binding, CaptureFault, Part, TextWave, read_binding};
 use vme_trace::{Capture, Follower, Level, Line, Lines, Step};
 
 /// A binding of six lines to variables, and of the others to levels.
@@ -621,6 +622,22 @@ fn sent<T: Send>(value: T) -> T
     value
 }
 
+/// The steps of a part are given on, and how many times some of them were made at once is told, up to nine.
+fn made(alloc: Global, part: Part, kept: &mut Kept) -> Result<usize, AllocError> {
+    let mut part = part;
+    let mut steps = Vec::new(alloc);
+    for count in 0..9 {
+        if part.is_made() {
+            return Ok(count);
+        }
+        part = part.next_steps(alloc, &mut steps)?;
+        for step in mem::replace(&mut steps, Vec::new(alloc)) {
+            kept.step(alloc, step)?;
+        }
+    }
+    Ok(9)
+}
+
 /// Reads a piece apart and joins it at once. None is given where it doesn't fit.
 fn joined(
     alloc: Global,
@@ -637,9 +654,7 @@ fn joined(
         return Ok(None);
     }
     let (wave, part) = wave.join(alloc, piece, noted)?;
-    for step in sent(part).steps(alloc)? {
-        kept.step(alloc, step)?;
-    }
+    made(alloc, sent(part), kept)?;
     Ok(Some(wave))
 }
 
@@ -671,6 +686,46 @@ fn a_wave_of_pieces_records_what_their_text_does(rt: HostRuntime) -> Result<(), 
     let found = in_a_wave(rt.alloc(), front.as_str(), &lines)?;
     let found = found.ok_or("a piece doesn't fit")?;
     assert!(rt; found.as_slice() == READ_STEPS.as_bytes());
+    Ok(())
+}
+
+/// AS falls and rises by turns, 9,000 times in all: that is noted with 17,999 notes, and the end of the instant before.
+#[test]
+fn the_steps_of_a_long_part_are_made_some_at_once(rt: HostRuntime) -> Result<(), Fail> {
+    let alloc = rt.alloc();
+    let front = bus_dump(alloc, AS, "#0 1p 1q 1r 1s 1t 1u\n")?;
+    let binding = read_binding(alloc, BUS_LINES.as_bytes())?;
+    let kept = Kept {
+        opening: Lines::new(1).ok_or("no slots")?,
+        steps: Vec::new(alloc),
+    };
+    let text = binding.begin_text(alloc, front.as_bytes(), kept)?;
+    let (wave, mut kept) = text.ok().ok_or("no definitions")?.into_wave();
+    let mut piece = Vec::new(alloc);
+    for time in 1..9001 {
+        let level = time % 2 == 0;
+        piece.extend_from_slice(format!(in alloc;
+            "#{time} {level}p\n",
+            level = u8::from(level)
+        )?.as_bytes())?;
+    }
+    let line = wave.line();
+    let noted = wave
+        .read_apart(alloc, piece.as_slice(), line)
+        .ok_or("not noted")?;
+    assert!(rt; wave.may_join(&noted));
+    let (wave, part) = wave.join(alloc, piece.as_slice(), noted)?;
+    assert_eq!(rt; made(alloc, part, &mut kept)?, 2);
+    assert_eq!(rt; kept.steps.len(), 9000);
+    let kept = wave.with_follower(kept).finish(alloc)?;
+    assert_eq!(rt; kept.steps.len(), 9001);
+    for (place, step) in kept.steps.iter().enumerate() {
+        assert_eq!(rt; step.time, place as u64);
+        assert_eq!(rt;
+            step.changes.as_slice().len(),
+            if place == 0 { 6 } else { 1 }
+        );
+    }
     Ok(())
 }
 

@@ -1,6 +1,7 @@
 //! Judged blocks joined as they arrive.
 
-ghost use Rattle.std.specs.Prelude.{◌≡◌, ◌<◌, ◌↔◌, ◌⊎◌, length, replicate, slice_set, IfOk, IfErr, OnOk, OnErr, Err, None, Some};
+ghost use Rattle.std.specs.Prelude.{◌≡◌, ◌<◌, ◌↔◌, ◌⊎◌, length, replicate, slice_set, IfOk, IfErr, OnOk, OnErr, Err};
+ghost use Rattle.std.specs.Prelude.{None, Some};
 ghost use Rattle.vme_book.specs.Inserted.{IsVerdictSoFar, MakesWhole, RefusesBlock, RefusesClose, stored};
 
 use crate::joined::Joined;

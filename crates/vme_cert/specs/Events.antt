@@ -37,8 +37,10 @@ module _ (t : Trace) (span : Span) where
   -- whether each event happens at an instant, in the order of their numbers
   abbrev pub happenings : ℕ → List Bool
   happenings i =
-      cycle_starts t span i ∷ rises t AS i ∷ transfer_starts t span i ∷ strobe_rises t i ∷ strobes_high t i ∷ low t WRITE i ∷ answer_falls t i ∷ falls t DTACK i
-      ∷ falls t BERR i ∷ falls t BBSY i ∷ rises t BBSY i ∷ grant_falls t i ∷ low t (BR 0) i ∷ low t (BR 1) i ∷ low t (BR 2) i ∷ low t (BR 3) i ∷ []
+      cycle_starts t span i ∷ rises t AS i ∷ transfer_starts t span i ∷ strobe_rises t i ∷ strobes_high t i
+      ∷ low t WRITE i ∷ answer_falls t i ∷ falls t DTACK i
+      ∷ falls t BERR i ∷ falls t BBSY i ∷ rises t BBSY i ∷ grant_falls t i ∷ low t (BR 0) i ∷ low t (BR 1) i
+      ∷ low t (BR 2) i ∷ low t (BR 3) i ∷ []
 
   abbrev pub happens_nth : ℕ → ℕ → Bool
   happens_nth k i = slice_index_or (happenings i) k false

@@ -23,7 +23,8 @@ noted judged = judged.index.now.noted
 
 -- these changes lead to the levels of the instant
 abbrev pub AreMade : Judged → List Change → Type 0
-AreMade judged cs = levels_at (trace judged) (instant judged) ≡ changed (levels_at (trace judged) (instant judged - 1)) cs
+AreMade judged cs = levels_at (trace judged) (instant judged)
+    ≡ changed (levels_at (trace judged) (instant judged - 1)) cs
 
 -- each of them changes a line, in their order
 abbrev pub AreSound : Judged → List Change → Type 0

@@ -1,7 +1,8 @@
 -- Where a rule may be broken: the lines of which it speaks, and what such a line shows there.
 use Rattle.std.specs.Prelude.{ℕ, Bool, true, false, not, ◌+◌, ◌-◌, ◌&&◌, ◌||◌, ◌==◌, nat_le, nat_lt, if◌then◌else◌}
 use Rattle.vme_trace.specs.Instants.{any, none}
-use Rattle.vme_trace.specs.LineNumbers.{AS, DS0, DS1, DTACK, BERR, BBSY, BR, grant, grant_level, grant_place, input_of, is_control}
+use Rattle.vme_trace.specs.LineNumbers.{AS, DS0, DS1, DTACK, BERR, IACK, WRITE, A, BBSY, BR, D, SYSRESET, grant}
+use Rattle.vme_trace.specs.LineNumbers.{grant_level, grant_place, iack, input_of, is_control, line_count}
 use Rattle.vme_trace.specs.Tenures.{is_granting, grant_falls, tenure_slot, last_before}
 use Rattle.vme_trace.specs.Trace.{Trace, levels_at, last_instant}
 use Rattle.vme_trace.specs.Judged.{Span}
@@ -9,37 +10,41 @@ use Rattle.vme_trace.specs.Levels.{is_reset}
 use Rattle.vme_trace.specs.Cycle.{is_needed}
 use Rattle.vme_trace.specs.Data.{is_selected}
 use Rattle.vme_trace.specs.Cycles.{cycle_starts, class_at, cycle_runs, in_cycle, answers_of}
-use Rattle.vme_trace.specs.Transfers.{strobe_rises, strobe_falls, transfer_starts, is_answered, answers, is_write, in_transfer, is_answer, answers_write}
-use Rattle.vme_trace.specs.Rules.{is_single, is_block_class, is_interrupt, is_later, is_option_equal, spoils_pair, turns, breaks}
+use Rattle.vme_trace.specs.Transfers.{strobe_rises, strobe_falls, transfer_starts, is_answered, answers, is_write}
+use Rattle.vme_trace.specs.Transfers.{in_transfer, is_answer, answers_write}
+use Rattle.vme_trace.specs.Rules.{is_single, is_block_class, is_interrupt, is_later, is_option_equal, spoils_pair}
+use Rattle.vme_trace.specs.Rules.{turns, breaks}
 use Rattle.vme_trace.specs.Signals.{near, low, high, known, falls, rises, has_edge}
 use Rattle.vme_trace.specs.declared.rule.Rule.{Rule}
-use Rattle.vme_trace.specs.declared.rule.Rule.TheVariants.{U1, U2, U3, U4, H1, H2, H3, H4, H5, H6, H7, H8, S1, S2, S3, C1, C2, G1, G2, G3, G4, G5, B1, B2, B3, B4, I1, I2, I3, I4, I5}
+use Rattle.vme_trace.specs.declared.rule.Rule.TheVariants.{U1, U2, U3, U4, H1, H2, H3, H4, H5, H6, H7, H8, S1, S2, S3}
+use Rattle.vme_trace.specs.declared.rule.Rule.TheVariants.{C1, C2, G1, G2, G3, G4, G5, B1, B2, B3, B4, I1, I2, I3, I4}
+use Rattle.vme_trace.specs.declared.rule.Rule.TheVariants.{I5}
 
 -- the first of the lines of which a rule speaks, and the one after the last
 abbrev pub lines_of : Rule → ℕ × ℕ
-lines_of U1 = (0, 192)
-lines_of U2 = (5, 45)
-lines_of U3 = (13, 14)
-lines_of U4 = (159, 191)
-lines_of H2 = (1, 3)
-lines_of H3 = (1, 3)
-lines_of H7 = (0, 1)
-lines_of S1 = (5, 45)
-lines_of S2 = (13, 14)
-lines_of S3 = (159, 191)
-lines_of G1 = (50, 138)
-lines_of G2 = (50, 138)
-lines_of G3 = (50, 138)
-lines_of G4 = (50, 138)
-lines_of G5 = (50, 138)
-lines_of B1 = (45, 46)
-lines_of B2 = (45, 46)
-lines_of B3 = (0, 1)
-lines_of B4 = (45, 46)
-lines_of I1 = (138, 159)
-lines_of I2 = (138, 159)
-lines_of I3 = (138, 159)
-lines_of r = (3, 5)
+lines_of U1 = (AS, line_count)
+lines_of U2 = (IACK, BBSY)
+lines_of U3 = (WRITE, A 1)
+lines_of U4 = (D 0, SYSRESET)
+lines_of H2 = (DS0, DTACK)
+lines_of H3 = (DS0, DTACK)
+lines_of H7 = (AS, DS0)
+lines_of S1 = (IACK, BBSY)
+lines_of S2 = (WRITE, A 1)
+lines_of S3 = (D 0, SYSRESET)
+lines_of G1 = (grant 0 0, iack 1)
+lines_of G2 = (grant 0 0, iack 1)
+lines_of G3 = (grant 0 0, iack 1)
+lines_of G4 = (grant 0 0, iack 1)
+lines_of G5 = (grant 0 0, iack 1)
+lines_of B1 = (BBSY, BR 0)
+lines_of B2 = (BBSY, BR 0)
+lines_of B3 = (AS, DS0)
+lines_of B4 = (BBSY, BR 0)
+lines_of I1 = (iack 1, D 0)
+lines_of I2 = (iack 1, D 0)
+lines_of I3 = (iack 1, D 0)
+lines_of r = (DTACK, IACK)
 
 abbrev pub speaks_of : Rule → ℕ → Bool
 speaks_of r l = nat_le (lines_of r).0 l && nat_lt l (lines_of r).1
@@ -72,7 +77,8 @@ module _ (t : Trace) (span : Span) where
   -- a cycle that started before j runs through it, isn't answered by then and needs the line
   abbrev pub is_held : ℕ → ℕ → Bool
   is_held j l =
-      any (λ i. cycle_starts t span i && cycle_runs t span i j && none (is_answer t span) i (j + 1) && is_needed (levels_at t i) l) (span.start + 1) j
+      any (λ i. cycle_starts t span i && cycle_runs t span i j && none (is_answer t span) i (j + 1)
+      && is_needed (levels_at t i) l) (span.start + 1) j
 
   -- j is in a write that isn't answered before
   abbrev pub is_open_write : ℕ → Bool
@@ -82,7 +88,8 @@ module _ (t : Trace) (span : Span) where
   abbrev pub is_held_write : ℕ → Bool
   is_held_write j =
       in_transfer t span
-      (λ i. nat_lt i j && is_write t span i && not (is_answered t span i (j + 1)) && none (strobe_rises t) (i + 1) (j + 1))
+      (λ i. nat_lt i j && is_write t span i && not (is_answered t span i (j + 1))
+      && none (strobe_rises t) (i + 1) (j + 1))
       j
 
   -- what else a rule asks at an instant, on such a line
@@ -97,7 +104,8 @@ module _ (t : Trace) (span : Span) where
   asks H2 j l = in_transfer t span (λ i. nat_lt i j && not (is_answered t span i (j + 1))) j
   asks H3 j l = in_transfer t span (λ i. nat_lt i j && is_answered t span i j) j
   asks H4 j l = not (in_transfer t span (λ i. true) j)
-  asks H5 j l = in_transfer t span (λ i. is_answered t span i j || (answers t span i j && falls t DTACK j && falls t BERR j)) j
+  asks H5 j l = in_transfer t span (λ i. is_answered t span i j
+      || (answers t span i j && falls t DTACK j && falls t BERR j)) j
   asks H6 j l = none (strobe_rises t) (last_before t span (falls t l) j) (j + 1)
   asks H7 j l = in_transfer t span (λ i. nat_lt i j && not (is_answered t span i (j + 1))) j
   asks H8 j l = is_answer t span j && not (near (low t AS) j)
@@ -117,7 +125,8 @@ module _ (t : Trace) (span : Span) where
   asks B4 j l = is_option_equal (tenure_slot t j) (t.opening.slots + 1)
   asks I1 j l = not (near (low t (input_of l)) j)
   asks I2 j l = not (near (low t AS) j && (near (low t DS0) j || near (low t DS1) j))
-  asks I3 j l = low t AS (j - 1) && low t AS j && in_cycle t span (λ i. any (λ r. is_answer t span r && falls t DTACK r) i j) (j - 1)
+  asks I3 j l = low t AS (j - 1) && low t AS j && in_cycle t span
+      (λ i. any (λ r. is_answer t span r && falls t DTACK r) i j) (j - 1)
   asks I4 j l = answers_write t span j && spoils I4 j
   asks I5 j l = is_answer t span j && spoils I5 j
 
@@ -144,13 +153,13 @@ starts_any t span j = starts t span U1 j || starts t span U2 j || starts t span 
 -- one of the rules that ask for an edge and may speak of a line does this
 abbrev pub is_any : (Rule → Bool) → ℕ → Bool
 is_any p l =
-    if nat_lt l 1 then p H7 || p B3
-    else if nat_lt l 3 then p H2 || p H3
-    else if nat_lt l 5 then p H4 || p H5 || p H6 || p H8 || p C1 || p C2 || p I4 || p I5
-    else if nat_lt l 45 then p S1 || p S2
-    else if nat_lt l 50 then p B1 || p B2 || p B4
-    else if nat_lt l 138 then p G1 || p G2 || p G3 || p G4 || p G5
-    else if nat_lt l 159 then p I1 || p I2 || p I3
+    if nat_lt l DS0 then p H7 || p B3
+    else if nat_lt l DTACK then p H2 || p H3
+    else if nat_lt l IACK then p H4 || p H5 || p H6 || p H8 || p C1 || p C2 || p I4 || p I5
+    else if nat_lt l BBSY then p S1 || p S2
+    else if nat_lt l (grant 0 0) then p B1 || p B2 || p B4
+    else if nat_lt l (iack 1) then p G1 || p G2 || p G3 || p G4 || p G5
+    else if nat_lt l (D 0) then p I1 || p I2 || p I3
     else p S3
 
 -- one of those rules is broken on it

@@ -115,7 +115,8 @@ impl<'a> Bus<'a> {
     /// The changes at the instant, and its time; the opening has none.
     pub(crate) fn step(&self) -> (&[Change], u64)
         requires { self.now.instant ≤ last_instant self.now.capture.now }
-        ensures made { levels_at self.now.capture.now self.now.instant ≡ changed (levels_at self.now.capture.now (self.now.instant - 1)) result.0.now }
+        ensures made { levels_at self.now.capture.now self.now.instant
+            ≡ changed (levels_at self.now.capture.now (self.now.instant - 1)) result.0.now }
         ensures sound { are_changes (levels_at self.now.capture.now (self.now.instant - 1)) 0 result.0.now ≡ true }
         ensures time { result.1 ≡ time_at self.now.capture.now self.now.instant }
     {

@@ -114,7 +114,8 @@ impl Follower<'_> {
 
     /// What the rows so far say.
     fn answer(&self) -> Answer
-        ensures { (right : List Row) → Follows right self.now → Settles self.now.given.now (rows_in self.now.version right) result }
+        ensures { (right : List Row) → Follows right self.now
+            → Settles self.now.given.now (rows_in self.now.version right) result }
     {
         if self.differs || self.agree < self.given.len() {
             return Answer::No {
@@ -130,7 +131,10 @@ impl Follower<'_> {
         requires listed { instant judged.now < end }
         ensures given { self.new.given.now ≡ self.old.given.now }
         ensures version { self.new.version ≡ self.old.version }
-        ensures rows { (right : List Row) → Follows right self.old → Follows (right ++ tenure_rows (trace judged.now) (span judged.now) end (instant judged.now) ++ cycle_rows (trace judged.now) (span judged.now) end (instant judged.now) ++ transfer_rows (trace judged.now) (span judged.now) end (instant judged.now)) self.new }
+        ensures rows { (right : List Row) → Follows right self.old
+            → Follows (right ++ tenure_rows (trace judged.now) (span judged.now) end (instant judged.now)
+            ++ cycle_rows (trace judged.now) (span judged.now) end (instant judged.now)
+            ++ transfer_rows (trace judged.now) (span judged.now) end (instant judged.now)) self.new }
     {
         self.follow(judged.tenure_row(end));
         self.follow(judged.cycle_row(end));
@@ -160,10 +164,11 @@ impl Follower<'_> {
     }
 }
 
-/// Whether a listing is the one of a capture in its version, by the definitions alone. If not, the first row that differs. The only
-/// error is want of memory.
+/// Whether a listing is the one of a capture in its version, by the definitions alone. If not, the first row that
+/// differs. The only error is want of memory.
 pub fn confirm(alloc: Global, capture: &Capture, listing: &Listing) -> Result<Answer, AllocError>
-    ensures { IfOk result (λ answer. Settles listing.now.rows (rows_in listing.now.version (recorded_rows capture.now)) answer) }
+    ensures { IfOk result (λ answer. Settles listing.now.rows
+        (rows_in listing.now.version (recorded_rows capture.now)) answer) }
 {
     let mut follower = Follower {
         given: listing.rows(),

@@ -2,7 +2,9 @@
 #![tactic(auto, unfolding(vme_trace::specs::Cycles::cycle_starts, vme_trace::specs::Transfers::transfer_starts, vme_trace::specs::Tenures::grant_falls))]
 
 ghost use Rattle.std.specs.Prelude.{◌≡◌, ◌+◌, ◌<◌, ◌≤◌};
-ghost use Rattle.vme_cert.specs.Words.{ℕ, Bool, [], IfOk, IfSome, length, Trace, low, any, least, greatest, those, last_instant, cycle_starts, transfer_starts, strobe_rises, strobe_falls, strobes_high, answer_falls, grant_falls, is_answer};
+ghost use Rattle.vme_cert.specs.Words.{ℕ, Bool, [], IfOk, IfSome, length, Trace, low, any, least, greatest, those};
+ghost use Rattle.vme_cert.specs.Words.{last_instant, cycle_starts, transfer_starts, strobe_rises, strobe_falls};
+ghost use Rattle.vme_cert.specs.Words.{strobes_high, answer_falls, grant_falls, is_answer};
 ghost use Rattle.vme_trace.specs.LineNumbers.{BR};
 ghost use Rattle.vme_trace.specs.Judged.{Span as Stretch};
 ghost use Rattle.vme_cert.specs.Spans.{between};
@@ -15,8 +17,8 @@ use std::cell::Cell;
 use std::marker::Model;
 use vme_trace::{Class, Line, LineSet, am_class, needed};
 
-/// The instants, from the opening on and before an end, at which something happens, in order. What is asked of them holds of
-/// whatever happens at these and no others before that end.
+/// The instants, from the opening on and before an end, at which something happens, in order. What is asked of them
+/// holds of whatever happens at these and no others before that end.
 #[derive(Drop)]
 pub(crate) struct Instants {
     instants: Vec<u32>,
@@ -56,7 +58,8 @@ impl Instants {
 
     /// Notes whether it happens at the next instant. The only error is want of memory.
     fn note(&mut self, instant: u32, happens: bool) -> Result<(), AllocError>
-        ensures { (p : ℕ → Bool) → self.old ≡ those p 0 instant → happens ≡ p instant → IfOk result (λ done. self.new ≡ those p 0 (instant + 1)) }
+        ensures { (p : ℕ → Bool) → self.old ≡ those p 0 instant → happens ≡ p instant
+            → IfOk result (λ done. self.new ≡ those p 0 (instant + 1)) }
     {
         if happens {
             self.instants.push(instant)?;
@@ -64,7 +67,8 @@ impl Instants {
         Ok(())
     }
 
-    /// How many come before an instant: all, or else from the place of the last search on by steps that double, and then by halves.
+    /// How many come before an instant: all, or else from the place of the last search on by steps that double, and
+    /// then by halves.
     pub(crate) fn count_before(&self, end: u32) -> usize
         ensures place { (p : ℕ → Bool) (n : ℕ) → self.now ≡ those p 0 n → end ≤ n → result ≡ length (those p 0 end) }
         ensures within { result ≤ length self.now }

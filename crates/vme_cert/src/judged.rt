@@ -2,7 +2,9 @@
 #![tactic(auto, unfolding(vme_trace::specs::Transfers::lasts, vme_trace::specs::Cycles::cycle_of))]
 
 ghost use Rattle.std.specs.Prelude.{◌≡◌, ◌+◌, ◌<◌, ◌≤◌};
-ghost use Rattle.vme_cert.specs.Words.{true, IfSome, any, none, least, greatest, cycle_starts, cycle_of, class_at, needs_of, levels_at, answers_of, spoils_pair, turns, lasts, answers, is_answer, answers_write, transfer_starts, data_at, last_instant};
+ghost use Rattle.vme_cert.specs.Words.{true, IfSome, any, none, least, greatest, cycle_starts, cycle_of, class_at};
+ghost use Rattle.vme_cert.specs.Words.{needs_of, levels_at, answers_of, spoils_pair, turns, lasts, answers, is_answer};
+ghost use Rattle.vme_cert.specs.Words.{answers_write, transfer_starts, data_at, last_instant};
 ghost use Rattle.vme_cert.specs.Events.{happens, IsIndex};
 
 use crate::bus::Bus;
@@ -49,7 +51,8 @@ impl Judged<'_> {
     #[inline(always)]
     pub(crate) fn last(&self, event: Event, end: u32) -> Option<u32>
         requires { end ≤ noted self.now }
-        ensures greatest { result ≡ greatest (happens (trace self.now) (span self.now) event) ((span self.now).start + 1) end }
+        ensures greatest { result ≡ greatest (happens (trace self.now) (span self.now) event)
+            ((span self.now).start + 1) end }
         ensures from { IfSome result (λ found. (span self.now).start < found) }
         ensures before { IfSome result (λ found. found < end) }
     {
@@ -85,8 +88,8 @@ impl Judged<'_> {
         }
     }
 
-    /// The data that the answer takes of the transfer that starts at the instant: what the lines say before it, or as the
-    /// transfer starts.
+    /// The data that the answer takes of the transfer that starts at the instant: what the lines say before it, or as
+    /// the transfer starts.
     pub(crate) fn data(&self, answer: u32) -> Lanes
         requires starts { transfer_starts (trace self.now) (span self.now) (instant self.now) ≡ true }
         requires answer { answers (trace self.now) (span self.now) (instant self.now) answer ≡ true }
@@ -159,7 +162,8 @@ impl Judged<'_> {
 
     /// Whether the instant, an answer, comes after others of a cycle, and they aren't at most a read and then a write.
     pub(crate) fn spoils_pair(&self, start: u32) -> bool
-        ensures { result ≡ spoils_pair (trace self.now) (span self.now) (answers_of (trace self.now) (span self.now) start (instant self.now)) (instant self.now) }
+        ensures { result ≡ spoils_pair (trace self.now) (span self.now)
+            (answers_of (trace self.now) (span self.now) start (instant self.now)) (instant self.now) }
     {
         let at = self.bus.instant;
         match self.index.answers.first(start, at) {
@@ -174,7 +178,8 @@ impl Judged<'_> {
 
     /// Whether it comes after others of a cycle, and its direction isn't that of the first.
     pub(crate) fn turns(&self, start: u32) -> bool
-        ensures { result ≡ turns (trace self.now) (span self.now) (answers_of (trace self.now) (span self.now) start (instant self.now)) (instant self.now) }
+        ensures { result ≡ turns (trace self.now) (span self.now)
+            (answers_of (trace self.now) (span self.now) start (instant self.now)) (instant self.now) }
     {
         let at = self.bus.instant;
         match self.index.answers.first(start, at) {

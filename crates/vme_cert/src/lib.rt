@@ -3,16 +3,16 @@
 //!
 //! # What is claimed
 //!
-//! [`confirm`] says yes exactly where the rows, the verdict's included, are those of the recording (`listing_of`), and else
-//! names the first row that differs: its contract is `Settles`, in `specs/Agreement.antt`. No monitor and no summary has a
-//! part in it or in its proof.
+//! [`confirm`] says yes exactly where the rows, the verdict's included, are those of the recording (`listing_of`), and
+//! else names the first row that differs: its contract is `Settles`, in `specs/Agreement.antt`. No monitor and no
+//! summary has a part in it or in its proof.
 //!
 //! # What has to be trusted
 //!
 //! The prover and its library; and that the definitions say what the bus does: `specs/` of vme_trace (the levels of an
-//! instant, what is judged, transfers, cycles, tenures, the rules, the verdict) and `specs/Recorded.antt` of vme_listing
-//! (the rows). docs/PROTOCOL.md says the same in words. Nothing in this crate is to be trusted: each function is proved
-//! against those definitions, and its own `specs/` and `proofs/` only lead there.
+//! instant, what is judged, transfers, cycles, tenures, the rules, the verdict) and `specs/Recorded.antt` of
+//! vme_listing (the rows). docs/PROTOCOL.md says the same in words. Nothing in this crate is to be trusted: each
+//! function is proved against those definitions, and its own `specs/` and `proofs/` only lead there.
 //!
 //! # In which order to read
 //!

@@ -2,14 +2,17 @@
 #![tactic(auto, unfolding(vme_trace::specs::Signals::low, vme_listing::specs::Recorded::tenure_rows, vme_listing::specs::Recorded::cycle_rows, vme_listing::specs::Recorded::transfer_rows, vme_trace::specs::Transfers::transfer_starts, vme_trace::specs::Tenures::tenure_starts))]
 
 ghost use Rattle.std.specs.Prelude.{◌≡◌, ◌+◌, ◌^◌, ◌<◌, ◌≤◌, true, Some, None, if◌then◌else◌};
-ghost use Rattle.vme_cert.specs.Words.{option_to_list, class_of, needs_of, address_to, cycle_row, tenure_rows, cycle_rows, transfer_rows, transfer_starts, answers, is_write, data_at, last_instant};
+ghost use Rattle.vme_cert.specs.Words.{option_to_list, class_of, needs_of, address_to, cycle_row, tenure_rows};
+ghost use Rattle.vme_cert.specs.Words.{cycle_rows, transfer_rows, transfer_starts, answers, is_write, data_at};
+ghost use Rattle.vme_cert.specs.Words.{last_instant};
 
 use crate::index::Event::{AcknowledgeFall, AddressRise, BusyRise, StrobesHigh};
 use crate::judged::Judged;
 use vme_listing::{AnswerLine, Direction, Row};
 use vme_trace::{Class, Lanes, Line, Lines, am_class, am_code, needed};
 
-/// The address on the address lines that a cycle needs which starts at these levels, a high line being 1 and any other 0.
+/// The address on the address lines that a cycle needs which starts at these levels, a high line being 1 and any other
+/// 0.
 fn address_on(lines: &Lines) -> u32
     ensures { result ≡ address_to lines.now (needs_of lines.now).highest }
 {

@@ -2,9 +2,13 @@
 #![tactic(auto, unfolding(vme_trace::specs::Signals::low, vme_trace::specs::Signals::high, vme_trace::specs::Signals::known, vme_trace::specs::Signals::has_edge, vme_trace::specs::Cycles::in_cycle, vme_trace::specs::Tenures::is_granting, vme_trace::specs::Tenures::taken_grant, vme_trace::specs::Tenures::tenure_level, vme_trace::specs::Tenures::tenure_slot, vme_trace::specs::Tenures::last_before))]
 
 ghost use Rattle.std.specs.Prelude.{◌≡◌, ◌+◌, ◌-◌, ◌<◌, ◌≤◌, ◌==◌, ◌&&◌, ◌||◌};
-ghost use Rattle.vme_cert.specs.Words.{not, true, IfSome, IsTrue, any, none, grant, has_line, line_count, is_slot_grant, is_slot_iack, input_of as input_net, in_transfer, is_answered, in_cycle, low, taken_grant, tenure_level, tenure_slot, last_before, levels_at, last_instant, nat_lt};
+ghost use Rattle.vme_cert.specs.Words.{not, true, IfSome, IsTrue, any, none, grant, has_line, line_count};
+ghost use Rattle.vme_cert.specs.Words.{is_slot_grant, is_slot_iack, input_of as input_net, in_transfer, is_answered};
+ghost use Rattle.vme_cert.specs.Words.{in_cycle, low, taken_grant, tenure_level, tenure_slot, last_before, levels_at};
+ghost use Rattle.vme_cert.specs.Words.{last_instant, nat_lt};
 ghost use Rattle.vme_cert.specs.Events.{happens, is_acknowledged};
-ghost use Rattle.vme_cert.specs.Watching.{lines_of, speaks_of, shows, spoils, is_held, is_open_write, is_held_write, asks};
+ghost use Rattle.vme_cert.specs.Watching.{lines_of, speaks_of, shows, spoils, is_held, is_open_write, is_held_write};
+ghost use Rattle.vme_cert.specs.Watching.{asks};
 
 use crate::bus::Bus;
 use crate::index::Event::{
@@ -17,7 +21,7 @@ use vme_trace::Rule::{
     B1, B2, B3, B4, C1, C2, G1, G2, G3, G4, G5, H1, H2, H3, H4, H5, H6, H7, H8, I1, I2, I3, I4, I5,
     S1, S2, S3, U1, U2, U3, U4,
 };
-use vme_trace::{Class, Line, Lines, Rule, is_selected, needed};
+use vme_trace::{Class, LINE_COUNT, Line, Lines, Rule, is_selected, needed};
 
 /// The line of a number.
 pub(crate) fn nth_line(number: u32) -> Line
@@ -33,16 +37,16 @@ pub(crate) fn lines_of(rule: Rule) -> (u8, u8)
     ensures { result ≡ lines_of rule }
 {
     match rule {
-        U1 => (0, 192),
-        H7 | B3 => (0, 1),
-        H2 | H3 => (1, 3),
-        H1 | H4 | H5 | H6 | H8 | C1 | C2 | I4 | I5 => (3, 5),
-        U2 | S1 => (5, 45),
-        U3 | S2 => (13, 14),
-        B1 | B2 | B4 => (45, 46),
-        G1 | G2 | G3 | G4 | G5 => (50, 138),
-        I1 | I2 | I3 => (138, 159),
-        U4 | S3 => (159, 191),
+        U1 => (Line::AS.number(), LINE_COUNT),
+        H7 | B3 => (Line::AS.number(), Line::DS0.number()),
+        H2 | H3 => (Line::DS0.number(), Line::DTACK.number()),
+        H1 | H4 | H5 | H6 | H8 | C1 | C2 | I4 | I5 => (Line::DTACK.number(), Line::IACK.number()),
+        U2 | S1 => (Line::IACK.number(), Line::BBSY.number()),
+        U3 | S2 => (Line::WRITE.number(), Line::address(1).number()),
+        B1 | B2 | B4 => (Line::BBSY.number(), Line::bus_request(0).number()),
+        G1 | G2 | G3 | G4 | G5 => (Line::grant(0, 0).number(), Line::iack(1).number()),
+        I1 | I2 | I3 => (Line::iack(1).number(), Line::data(0).number()),
+        U4 | S3 => (Line::data(0).number(), Line::SYSRESET.number()),
     }
 }
 
@@ -58,7 +62,8 @@ fn input_of(line: Line) -> Line
 }
 
 impl Bus<'_> {
-    /// The levels as the arbiter grants, or else those of the instant before: whose grant a tenure takes that starts here.
+    /// The levels as the arbiter grants, or else those of the instant before: whose grant a tenure takes that starts
+    /// here.
     fn granted(&self) -> &Lines
         ensures { result.now ≡ levels_at self.now.capture.now (taken_grant self.now.capture.now self.now.instant) }
     {
@@ -101,10 +106,13 @@ impl Bus<'_> {
 impl Judged<'_> {
     ghost use Rattle.vme_cert.specs.Judging.{trace, span, instant, noted};
 
-    /// Whether something hasn't happened since the last time, before the instant, that something else did, or so much later.
+    /// Whether something hasn't happened since the last time, before the instant, that something else did, or so much
+    /// later.
     fn is_silent_since(&self, last: Event, later: u32, event: Event) -> bool
         requires { later ≤ 1 }
-        ensures { result ≡ none (happens (trace self.now) (span self.now) event) (last_before (trace self.now) (span self.now) (happens (trace self.now) (span self.now) last) (instant self.now) + later) (instant self.now + 1) }
+        ensures { result ≡ none (happens (trace self.now) (span self.now) event)
+            (last_before (trace self.now) (span self.now) (happens (trace self.now) (span self.now) last)
+            (instant self.now) + later) (instant self.now + 1) }
     {
         let (at, span) = (self.bus.instant, self.index.span);
         let first = self.last(last, at).unwrap_or(span.start) + later;
@@ -198,8 +206,7 @@ impl Judged<'_> {
         ensures { result ≡ asks (trace self.now) (span self.now) rule (instant self.now) line }
     {
         let (bus, span, at) = (self.bus, self.index.span, self.bus.instant);
-        let net = line.number().saturating_sub(50);
-        let (level, place) = (net / 22, net % 22);
+        let (level, place) = line.grant_place().unwrap_or((0, 0));
         match rule {
             U1 => at == span.end && bus.levels.is_control(line) && !bus.levels.is_reset(),
             U2 => bus.cycle_starts(span) && needed(&bus.levels).has(line),

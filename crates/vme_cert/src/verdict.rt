@@ -2,6 +2,7 @@
 
 ghost use Rattle.std.specs.Prelude.{◌≡◌, ◌+◌, ◌<◌, ◌≤◌, ◌||◌, drop, None};
 ghost use Rattle.vme_cert.specs.Words.{true, false, IfOk, IfSome, least, line_count, last_instant, breaks, all_rules};
+ghost use Rattle.vme_cert.specs.Words.{rule_count};
 ghost use Rattle.vme_cert.specs.Words.{break_at, least_break};
 ghost use Rattle.vme_trace.specs.Judged.{is_judged};
 ghost use Rattle.vme_trace.specs.Rules.{ends_span};
@@ -20,13 +21,7 @@ use vme_trace::Rule::{
     B1, B2, B3, B4, C1, C2, G1, G2, G3, G4, G5, H1, H2, H3, H4, H5, H6, H7, H8, I1, I2, I3, I4, I5,
     S1, S2, S3, U1, U2, U3, U4,
 };
-use vme_trace::{Break, Change, Line, Rule};
-
-/// The rules, in the order in which breaks at one instant are named.
-const RULES: [Rule; 31] = [
-    U1, U2, U3, U4, H1, H2, H3, H4, H5, H6, H7, H8, S1, S2, S3, C1, C2, G1, G2, G3, G4, G5, B1, B2,
-    B3, B4, I1, I2, I3, I4, I5,
-];
+use vme_trace::{Break, Change, Line, RULE_COUNT, Rule};
 
 /// Whether a rule speaks of a line.
 #[inline(always)]
@@ -104,9 +99,11 @@ impl Judged<'_> {
         None
     }
 
-    /// Whether all data lines are known: then no write lacks one. They are counted, so that the work is that of a few vectors.
+    /// Whether all data lines are known: then no write lacks one. They are counted, so that the work is that of a few
+    /// vectors.
     fn knows_data(&self) -> bool
-        ensures { result ≡ true → least (breaks (trace self.now) (span self.now) U4 (instant self.now)) 0 line_count ≡ None }
+        ensures { result ≡ true → least (breaks (trace self.now) (span self.now) U4 (instant self.now)) 0 line_count
+            ≡ None }
     {
         let mut known = 0u8;
         for bit in 0..32u8 {
@@ -163,13 +160,13 @@ impl Judged<'_> {
         ensures { result ≡ breaks_edge self.now line }
     {
         let number = line.number();
-        if number < 1 {
+        if number < Line::DS0.number() {
             return self.breaks(H7, line) || self.breaks(B3, line);
         }
-        if number < 3 {
+        if number < Line::DTACK.number() {
             return self.breaks(H2, line) || self.breaks(H3, line);
         }
-        if number < 5 {
+        if number < Line::IACK.number() {
             return self.breaks(H4, line)
                 || self.breaks(H5, line)
                 || self.breaks(H6, line)
@@ -179,20 +176,20 @@ impl Judged<'_> {
                 || self.breaks(I4, line)
                 || self.breaks(I5, line);
         }
-        if number < 45 {
+        if number < Line::BBSY.number() {
             return self.breaks(S1, line) || self.breaks(S2, line);
         }
-        if number < 50 {
+        if number < Line::grant(0, 0).number() {
             return self.breaks(B1, line) || self.breaks(B2, line) || self.breaks(B4, line);
         }
-        if number < 138 {
+        if number < Line::iack(1).number() {
             return self.breaks(G1, line)
                 || self.breaks(G2, line)
                 || self.breaks(G3, line)
                 || self.breaks(G4, line)
                 || self.breaks(G5, line);
         }
-        if number < 159 {
+        if number < Line::data(0).number() {
             return self.breaks(I1, line) || self.breaks(I2, line) || self.breaks(I3, line);
         }
         may_hold && self.breaks(S3, line)
@@ -204,7 +201,7 @@ impl Judged<'_> {
     {
         let mut may_hold = true;
         for change in changes {
-            if may_hold && 159 <= change.line.number() {
+            if may_hold && change.line.is_data() {
                 may_hold = self.is_held_write();
             }
             if self.is_edge_broken(change.line, may_hold) {
@@ -214,8 +211,8 @@ impl Judged<'_> {
         None
     }
 
-    /// Whether anything is at the instant of which a rule speaks that asks for no edge. A transfer starts where a strobe
-    /// falls.
+    /// Whether anything is at the instant of which a rule speaks that asks for no edge. A transfer starts where a
+    /// strobe falls.
     #[inline(always)]
     fn starts_any(&self) -> bool
         ensures { result ≡ starts_any (trace self.now) (span self.now) (instant self.now) }
@@ -228,11 +225,11 @@ impl Judged<'_> {
     fn suspects(&self, changes: &[Change]) -> usize
         requires made { AreMade self.now changes.now }
         requires sound { AreSound self.now changes.now }
-        ensures within { result ≤ 31 }
+        ensures within { result ≤ rule_count }
         ensures kept { break_at (trace self.now) (span self.now) (drop result all_rules) (instant self.now) ≡ None }
     {
         if self.changed_break(changes).is_some() {
-            return 31;
+            return RULE_COUNT;
         }
         if self.starts_any() { 5 } else { 0 }
     }
@@ -245,7 +242,7 @@ impl Judged<'_> {
         let (changes, time) = self.bus.step();
         let instant = self.bus.instant;
         for place in 0..self.suspects(changes) {
-            let rule = RULES[place];
+            let rule = Rule::ALL[place];
             if let Some(line) = self.rule_break(rule, changes) {
                 return Some(Break {
                     instant,

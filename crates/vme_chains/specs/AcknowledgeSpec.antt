@@ -1,5 +1,6 @@
 -- How slots pass an acknowledge on, as the levels on both sides of a step and the changes between them show it.
-use Rattle.std.specs.Prelude.{◌≡◌, refl, ℕ, ◌+◌, ◌-◌, ◌==◌, ◌<◌, Bool, true, false, not, ◌&&◌, ◌||◌, nat_lt, List, [], ◌∷◌, Option, None, Some, if◌then◌else◌}
+use Rattle.std.specs.Prelude.{◌≡◌, refl, ℕ, ◌+◌, ◌-◌, ◌==◌, ◌<◌, Bool, true, false, not, ◌&&◌, ◌||◌, nat_lt, List, []}
+use Rattle.std.specs.Prelude.{◌∷◌, Option, None, Some, if◌then◌else◌}
 use Rattle.std.proofs.Common.{lit<}
 use Rattle.std.specs.Option.{is_some}
 use Rattle.vme_trace.specs.LineNumbers.{AS, DS0, DS1, DTACK, is_slot_iack, input_of, has_line}
@@ -38,7 +39,11 @@ acknowledgement_place m = if m.acknowledged then 4 + pending_place m.transfer el
 
 abbrev pub acknowledgement_nth : ℕ → Acknowledgement
 acknowledgement_nth k =
-    if nat_lt k 4 then record { transfer = pending_nth k; acknowledged = false } else record { transfer = pending_nth (k - 4); acknowledged = true }
+    if nat_lt k 4 then record { transfer = pending_nth k; acknowledged = false } else record {
+      transfer = pending_nth
+          (k - 4);
+      acknowledged = true;
+    }
 
 -- the line is low on one side of the step
 abbrev pub low_near : Levels → Levels → ℕ → Bool
@@ -90,7 +95,8 @@ fault_on r l = record { rule = r; line = l }
 -- what is broken by the first slot that passes an acknowledge on
 abbrev pub fault_of_first : Acknowledgement → Levels → Levels → Option ℕ → Option Fault
 fault_of_first m v w None = None
-fault_of_first m v w (Some l) = if not (is_strobed v w) then Some (fault_on I2 l) else if is_addressed v w && m.acknowledged then Some (fault_on I3 l) else None
+fault_of_first m v w (Some l) = if not (is_strobed v w) then Some (fault_on I2 l) else if is_addressed v w
+    && m.acknowledged then Some (fault_on I3 l) else None
 
 abbrev pub fault_among : Acknowledgement → Levels → Levels → Option ℕ → Option ℕ → Option Fault
 fault_among m v w (Some l) first = Some (fault_on I1 l)
@@ -107,10 +113,19 @@ acknowledge_ends l = None
 
 abbrev pub acknowledge_sight : Levels → Levels → List Change → Option Passing
 acknowledge_sight v w cs =
-    if is_some (first_changed (passes_on v w) cs) || changes_memory v w then Some (record { first = first_changed (passes_on v w) cs; unasked = first_changed (passes_unasked v w) cs }) else None
+    if is_some (first_changed (passes_on v w) cs)
+    || changes_memory v w then Some (record {
+      first = first_changed (passes_on v w) cs;
+      unasked = first_changed
+          (passes_unasked v w) cs;
+    }) else None
 
 abbrev pub acknowledge_next : Acknowledgement → Levels → Levels → Passing → Next Acknowledgement
-acknowledge_next m v w seen = record { memory = memory_after m v w; fault = fault_among m v w seen.unasked seen.first; kinds = nothing }
+acknowledge_next m v w seen = record {
+  memory = memory_after m v w;
+  fault = fault_among m v w seen.unasked seen.first;
+  kinds = nothing;
+}
 
 -- an acknowledge isn't shown
 abbrev pub acknowledge_shown : Trace → Span → ℕ → Kinds
@@ -132,7 +147,8 @@ acknowledgement_placed m = placed_at m.transfer m.acknowledged
 pub acknowledgement_found : (m : Acknowledgement) → acknowledgement_nth (acknowledgement_place m) ≡ m
 acknowledgement_found m = found_at m.transfer m.acknowledged
   where
-    found_at : (p : Pending) (b : Bool) → acknowledgement_nth (if b then 4 + pending_place p else pending_place p) ≡ record { transfer = p; acknowledged = b }
+    found_at : (p : Pending) (b : Bool) → acknowledgement_nth (if b then 4 + pending_place p else pending_place p)
+        ≡ record { transfer = p; acknowledged = b }
     found_at Closed true = refl
     found_at Reading true = refl
     found_at Writing true = refl

@@ -1,5 +1,6 @@
 -- What the levels on both sides of a step show of grants, of requests and of the busy line.
-use Rattle.std.specs.Prelude.{ℕ, ◌+◌, ◌-◌, ◌==◌, Bool, false, not, ◌&&◌, ◌||◌, List, [], ◌∷◌, Option, None, Some, option_map, option_and_then, nat_le, nat_lt, if◌then◌else◌}
+use Rattle.std.specs.Prelude.{ℕ, ◌+◌, ◌-◌, ◌==◌, Bool, false, not, ◌&&◌, ◌||◌, List, [], ◌∷◌, Option, None, Some}
+use Rattle.std.specs.Prelude.{option_map, option_and_then, nat_le, nat_lt, if◌then◌else◌}
 use Rattle.std.specs.Option.{is_some}
 use Rattle.vme_trace.specs.Instants.{any, every, least, greatest}
 use Rattle.vme_trace.specs.LineNumbers.{AS, BBSY, BR, grant, iack, is_grant, is_slot_grant, is_arbiter_grant, has_line}
@@ -37,7 +38,13 @@ high_near v w l = is_high_in v l || is_high_in w l
 
 -- the levels that are requested
 abbrev pub requested_in : Levels → LevelSet
-requested_in v = record { zero = is_low_in v (BR 0); one = is_low_in v (BR 1); two = is_low_in v (BR 2); three = is_low_in v (BR 3) }
+requested_in v = record {
+  zero = is_low_in v (BR 0);
+  one = is_low_in v (BR 1);
+  two = is_low_in v
+      (BR 2);
+  three = is_low_in v (BR 3);
+}
 
 -- the arbiter begins to grant some level
 abbrev pub grant_begins : Levels → Levels → Bool
@@ -56,7 +63,8 @@ abbrev pub reaches : Levels → ℕ → ℕ → Bool
 reaches v n k = every (λ net. is_low_in v (grant n net)) 0 (k + 1)
 
 abbrev pub reached_slot : Levels → Option ℕ
-reached_slot v = option_map (λ k. 1 + k) (option_and_then (λ n. greatest (reaches v n) 0 (v.slots + 1)) (granted_level v))
+reached_slot v = option_map (λ k. 1 + k) (option_and_then (λ n. greatest (reaches v n) 0 (v.slots + 1))
+    (granted_level v))
 
 -- a grant by its level and slot
 abbrev pub taken_at : Option ℕ → Option ℕ → Option Taken
@@ -67,7 +75,8 @@ taken_at (Some n) (Some s) = Some (record { level = n; slot = s })
 abbrev pub taken_in : Levels → Option Taken
 taken_in v = taken_at (granted_level v) (reached_slot v)
 
--- the grant that a tenure takes which starts with the step: one that is there after it, or else one that was there before it
+-- the grant that a tenure takes which starts with the step: one that is there after it, or else one that was there
+-- before it
 abbrev pub taken_between : Levels → Levels → Option Taken
 taken_between v w = if is_some (granted_level w) then taken_in w else taken_in v
 

@@ -19,11 +19,15 @@ module _ (t : Trace) (span : Span) where
   abbrev pub is_tenure_open : ℕ → Bool
   is_tenure_open j = (j == span.start) && low t BBSY j
 
-  -- the grant that the tenure takes which starts at j, if one does; where the bus becomes busy with no grant, B1 is broken there, and
-  -- no tenure is shown
+  -- the grant that the tenure takes which starts at j, if one does; where the bus becomes busy with no grant, B1 is
+  -- broken there, and no tenure is shown
   abbrev pub tenure_at : ℕ → Option Taken
   tenure_at j = if tenure_starts t span j then taken_at (tenure_level t j) (tenure_slot t j) else None
 
 -- tenures at an instant: one that is open at the start, one that starts, by its level and slot, and an end
 abbrev pub tenures_shown : Trace → Span → ℕ → Kinds
-tenures_shown t span j = record nothing { opened = is_tenure_open t span j; tenure = tenure_at t span j; tenure_end = tenure_ends t span j }
+tenures_shown t span j = record nothing {
+  opened = is_tenure_open t span j;
+  tenure = tenure_at t span j;
+  tenure_end = tenure_ends t span j;
+}

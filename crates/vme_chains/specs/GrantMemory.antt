@@ -6,7 +6,8 @@ use Rattle.vme_chains.specs.declared.grant_memory.Arbitration.{Arbitration}
 
 -- a level, 0 to 3, is in the set
 abbrev pub is_in : LevelSet → ℕ → Bool
-is_in s n = if n == 0 then s.zero else if n == 1 then s.one else if n == 2 then s.two else if n == 3 then s.three else false
+is_in s n = if n == 0 then s.zero else if n == 1 then s.one else if n == 2 then s.two else if n == 3 then s.three
+    else false
 
 -- the levels of either set
 abbrev pub union : LevelSet → LevelSet → LevelSet
@@ -37,7 +38,8 @@ bit_small false = omega arith
 
 -- there are 32
 pub arbitration_placed : (m : Arbitration) → arbitration_place m < 32
-arbitration_placed m = below _ _ _ _ _ (bit_small m.granted) (bit_small m.requests.zero) (bit_small m.requests.one) (bit_small m.requests.two) (bit_small m.requests.three)
+arbitration_placed m = below _ _ _ _ _ (bit_small m.granted) (bit_small m.requests.zero) (bit_small m.requests.one)
+    (bit_small m.requests.two) (bit_small m.requests.three)
   where
     below : (g a b c d : ℕ) → g ≤ 1 → a ≤ 1 → b ≤ 1 → c ≤ 1 → d ≤ 1 → g + 2 * (a + 2 * (b + 2 * (c + 2 * d))) < 32
     below g a b c d hg ha hb hc hd = omega arith
@@ -74,4 +76,9 @@ set_found s =
 
 -- and each is found again
 pub arbitration_found : (m : Arbitration) → arbitration_nth (arbitration_place m) ≡ m
-arbitration_found m = rw (half_is m.granted (set_place m.requests), odd_is m.granted (set_place m.requests), set_found m.requests) refl
+arbitration_found m = rw (
+  half_is m.granted (set_place m.requests),
+  odd_is m.granted
+      (set_place m.requests),
+  set_found m.requests,
+) refl

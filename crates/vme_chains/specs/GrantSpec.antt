@@ -1,5 +1,6 @@
 -- The rules of grants and tenures, as a machine judges them.
-use Rattle.std.specs.Prelude.{ℕ, ◌+◌, Bool, false, not, ◌&&◌, ◌||◌, List, [], ◌∷◌, Option, None, Some, option_map, if◌then◌else◌}
+use Rattle.std.specs.Prelude.{ℕ, ◌+◌, Bool, false, not, ◌&&◌, ◌||◌, List, [], ◌∷◌, Option, None, Some, option_map}
+use Rattle.std.specs.Prelude.{if◌then◌else◌}
 use Rattle.std.specs.Option.{option_or}
 use Rattle.vme_trace.specs.Instants.{least}
 use Rattle.vme_trace.specs.LineNumbers.{AS, BBSY, grant}
@@ -13,7 +14,9 @@ use Rattle.vme_monitor.specs.declared.mark.Fault.{Fault}
 use Rattle.vme_monitor.specs.declared.mark.Kinds.{Kinds}
 use Rattle.vme_monitor.specs.declared.mark.Next.{Next}
 use Rattle.vme_monitor.specs.declared.mark.Taken.{Taken}
-use Rattle.vme_chains.specs.GrantLevels.{falls_between, rises_between, is_low_in, first_changed, is_net_broken, grant_begins, requested_in, taken_between, is_ungranted, touches_arbitration, is_cycle_unowned}
+use Rattle.vme_chains.specs.GrantLevels.{falls_between, rises_between, is_low_in, first_changed, is_net_broken}
+use Rattle.vme_chains.specs.GrantLevels.{grant_begins, requested_in, taken_between, is_ungranted, touches_arbitration}
+use Rattle.vme_chains.specs.GrantLevels.{is_cycle_unowned}
 use Rattle.vme_chains.specs.GrantMemory.{is_in, union}
 use Rattle.vme_chains.specs.declared.grant.Arbitrated.{Arbitrated}
 use Rattle.vme_chains.specs.declared.grant_memory.Arbitration.{Arbitration}
@@ -34,7 +37,8 @@ abbrev pub nets_fault : Levels → Levels → List Change → Option Fault
 nets_fault v w cs =
     option_or (fault_on G1 (first_changed (is_net_broken G1 v w) cs))
     (option_or (fault_on G2 (first_changed (is_net_broken G2 v w) cs))
-    (option_or (fault_on G3 (first_changed (is_net_broken G3 v w) cs)) (fault_on G4 (first_changed (is_net_broken G4 v w) cs))))
+    (option_or (fault_on G3 (first_changed (is_net_broken G3 v w) cs))
+    (fault_on G4 (first_changed (is_net_broken G4 v w) cs))))
 
 -- the first level that is granted without being requested
 abbrev pub unrequested : Levels → Levels → LevelSet → Option ℕ
@@ -63,7 +67,8 @@ step_fault v w requests granted seen =
     (option_or (fault_on G5 (if seen.grants then option_map (λ n. grant n 0) (unrequested v w requests) else None))
     (option_or (fault_on B1 (line_if seen.ungranted BBSY))
     (option_or (fault_on B2 (line_if (seen.takes && not granted) BBSY))
-    (option_or (fault_on B3 (line_if seen.unowned AS)) (fault_on B4 (line_if (is_option_equal (slot_of seen.tenure) (w.slots + 1)) BBSY))))))
+    (option_or (fault_on B3 (line_if seen.unowned AS))
+    (fault_on B4 (line_if (is_option_equal (slot_of seen.tenure) (w.slots + 1)) BBSY))))))
 
 abbrev pub grant_begin : Levels → Arbitration
 grant_begin v = record { requests = requested_in v; granted = false }

@@ -1,11 +1,17 @@
-//! Interrupt acknowledge: a slot passes it on only while it is asked, within a cycle and a transfer, and before the answer.
+//! Interrupt acknowledge: a slot passes it on only while it is asked, within a cycle and a transfer, and before the
+//! answer.
 
 ghost use Rattle.std.specs.Prelude.{◌≡◌, ◌&&◌, ◌<◌, IsTrue};
 ghost use Rattle.vme_trace.specs.LineNumbers.{has_line, input_of as input_line, is_slot_iack};
 ghost use Rattle.vme_monitor.specs.Edges.{falls_between};
 ghost use Rattle.vme_monitor.specs.Run.{nothing};
 ghost use Rattle.vme_monitor.specs.Whole.{FindsLeast, ShowsAll};
-ghost use Rattle.vme_chains.specs.AcknowledgeSpec.{acknowledge_rules, acknowledge_shown, changes_memory as changes_memory_of, changes_strobes as changes_strobes_of, fault_among, first_changed, is_acknowledged, is_addressed as addressed_near, is_strobed as strobed_near, low_near, memory_after, passes_on as passes, passes_unasked, pending_nth, pending_place};
+ghost use Rattle.vme_chains.specs.AcknowledgeSpec.{acknowledge_rules, acknowledge_shown};
+ghost use Rattle.vme_chains.specs.AcknowledgeSpec.{changes_memory as changes_memory_of};
+ghost use Rattle.vme_chains.specs.AcknowledgeSpec.{changes_strobes as changes_strobes_of, fault_among, first_changed};
+ghost use Rattle.vme_chains.specs.AcknowledgeSpec.{is_acknowledged, is_addressed as addressed_near};
+ghost use Rattle.vme_chains.specs.AcknowledgeSpec.{is_strobed as strobed_near, low_near, memory_after};
+ghost use Rattle.vme_chains.specs.AcknowledgeSpec.{passes_on as passes, passes_unasked, pending_nth, pending_place};
 
 use vme_monitor::machine::{Places, Small};
 use vme_monitor::mark::{Fault, Kinds, NOTHING, Next};
@@ -48,7 +54,8 @@ fn nth_transfer(k: usize) -> Pending
 }
 
 impl Places for Acknowledgement {
-    ghost use Rattle.vme_chains.specs.AcknowledgeSpec.{acknowledgement_found, acknowledgement_nth, acknowledgement_place, acknowledgement_placed};
+    ghost use Rattle.vme_chains.specs.AcknowledgeSpec.{acknowledgement_found, acknowledgement_nth};
+    ghost use Rattle.vme_chains.specs.AcknowledgeSpec.{acknowledgement_place, acknowledgement_placed};
 
     ghost COUNT = { 8 };
 
@@ -130,7 +137,7 @@ fn is_low_near(before: &Lines, after: &Lines, line: Line) -> bool
 fn is_output(line: Line) -> bool
     ensures { result ≡ is_slot_iack line }
 {
-    line.is_net() && line.number() >= Line::iack(1).number()
+    line.is_acknowledge()
 }
 
 /// The acknowledge input of the slot that has an acknowledge output.
@@ -138,11 +145,9 @@ fn input_of(output: Line) -> Line
     requires { IsTrue (is_slot_iack output) }
     ensures { result ≡ input_line output }
 {
-    let number = output.number();
-    if number == Line::iack(1).number() {
-        Line::IACK
-    } else {
-        Line::iack(number - 138)
+    match output.number() - Line::iack(1).number() {
+        0 => Line::IACK,
+        slot => Line::iack(slot),
     }
 }
 
@@ -287,7 +292,8 @@ pub struct AcknowledgeRules;
 
 impl Rules for AcknowledgeRules {
     ghost use Rattle.vme_monitor.specs.Run.{nothing};
-    ghost use Rattle.vme_chains.specs.AcknowledgeSpec.{acknowledge_begin, acknowledge_ends, acknowledge_next, acknowledge_opens, acknowledge_sight};
+    ghost use Rattle.vme_chains.specs.AcknowledgeSpec.{acknowledge_begin, acknowledge_ends, acknowledge_next};
+    ghost use Rattle.vme_chains.specs.AcknowledgeSpec.{acknowledge_opens, acknowledge_sight};
 
     type Memory = Acknowledgement;
 
@@ -349,8 +355,8 @@ impl Rules for AcknowledgeRules {
     }
 }
 
-/// The monitor of the rules on interrupt acknowledge: IACKOUT* of a slot falls while its input isn't low (I1), while AS* isn't
-/// low or neither data strobe is (I2), or after DTACK* answered in the cycle (I3).
+/// The monitor of the rules on interrupt acknowledge: IACKOUT* of a slot falls while its input isn't low (I1), while
+/// AS* isn't low or neither data strobe is (I2), or after DTACK* answered in the cycle (I3).
 pub type Iack = Within<AcknowledgeRules>;
 
 /// Over a whole capture, the event is the least break of I1, I2 and I3, and there are no marks.

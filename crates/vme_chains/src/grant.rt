@@ -6,7 +6,9 @@ ghost use Rattle.vme_trace.specs.Rules.{is_option_equal};
 ghost use Rattle.vme_monitor.specs.Run.{nothing};
 ghost use Rattle.vme_monitor.specs.Whole.{FindsLeast, ShowsAll};
 ghost use Rattle.vme_chains.specs.GrantMarks.{tenures_shown};
-ghost use Rattle.vme_chains.specs.GrantSpec.{grant_rules, seen_between as seen_between_of, fault_on as fault_on_of, line_if as line_if_of, nets_fault as nets_fault_of, slot_of, step_fault as step_fault_of, unrequested as unrequested_of};
+ghost use Rattle.vme_chains.specs.GrantSpec.{grant_rules, seen_between as seen_between_of, fault_on as fault_on_of};
+ghost use Rattle.vme_chains.specs.GrantSpec.{line_if as line_if_of, nets_fault as nets_fault_of, slot_of};
+ghost use Rattle.vme_chains.specs.GrantSpec.{step_fault as step_fault_of, unrequested as unrequested_of};
 
 use crate::grant_levels::{
     falls, first_broken, grant_begins, is_cycle_unowned, is_low, is_ungranted, requested, rises,
@@ -117,7 +119,8 @@ impl Arbitrated {
         }
     }
 
-    /// What a step breaks, after these requests since the last grant, and with or without a grant since the bus became busy.
+    /// What a step breaks, after these requests since the last grant, and with or without a grant since the bus became
+    /// busy.
     #[inline(always)]
     fn fault(
         &self,
@@ -143,9 +146,10 @@ impl Arbitrated {
     }
 }
 
-/// The rules of grants and tenures. A slot grants on only while it is granted, and for as long (G1, G2). The arbiter grants one level
-/// at a time, while the bus isn't busy, after a request since the grant before (G3 to G5). The bus becomes busy by a grant, each
-/// grant makes it so once, and a grant doesn't go past the last slot (B1, B2, B4). A cycle starts only while the bus is busy (B3).
+/// The rules of grants and tenures. A slot grants on only while it is granted, and for as long (G1, G2). The arbiter
+/// grants one level at a time, while the bus isn't busy, after a request since the grant before (G3 to G5). The bus
+/// becomes busy by a grant, each grant makes it so once, and a grant doesn't go past the last slot (B1, B2, B4). A
+/// cycle starts only while the bus is busy (B3).
 pub struct GrantRules;
 
 impl Rules for GrantRules {
@@ -226,8 +230,8 @@ impl Rules for GrantRules {
 /// The monitor of grants and tenures.
 pub type Grant = Within<GrantRules>;
 
-/// Over a whole capture, the event is the least break of the rules G1 to G5 and B1 to B4, and the marks are the tenures: an open one
-/// at the start, each start with its level and slot, and each end.
+/// Over a whole capture, the event is the least break of the rules G1 to G5 and B1 to B4, and the marks are the
+/// tenures: an open one at the start, each start with its level and slot, and each end.
 pub fn grants_over_captures()
     ensures event { FindsLeast ⟦<Grant as Monitor>⟧.run ⟦<Grant as Monitor>⟧.begin grant_rules }
     ensures marks { ShowsAll ⟦<Grant as Monitor>⟧.run ⟦<Grant as Monitor>⟧.begin nothing tenures_shown }

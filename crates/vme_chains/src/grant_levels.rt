@@ -3,7 +3,15 @@
 ghost use Rattle.std.specs.Prelude.{◌≡◌, ℕ, Bool, ◌+◌, ◌-◌, ◌≤◌, ◌<◌, IfSome, None, true, false, if◌then◌else◌};
 ghost use Rattle.vme_trace.specs.Instants.{greatest};
 ghost use Rattle.vme_trace.specs.LineNumbers.{grant, is_grant as is_grant_line, is_slot_grant};
-ghost use Rattle.vme_chains.specs.GrantLevels.{falls_between, first_changed, grant_begins as grant_begins_of, granted_level as granted_level_of, high_near, is_arbitration as is_arbitration_line, is_cycle_unowned as is_cycle_unowned_of, is_high_in, is_low_in, is_net_broken as is_net_broken_of, is_other_granted as is_other_granted_of, is_ungranted as is_ungranted_of, low_near, reaches, requested_in, rises_between, shown as shown_of, taken_between as taken_between_of, taken_in as taken_in_of, touches_arbitration as touches_arbitration_of};
+ghost use Rattle.vme_chains.specs.GrantLevels.{falls_between, first_changed, grant_begins as grant_begins_of};
+ghost use Rattle.vme_chains.specs.GrantLevels.{granted_level as granted_level_of, high_near};
+ghost use Rattle.vme_chains.specs.GrantLevels.{is_arbitration as is_arbitration_line};
+ghost use Rattle.vme_chains.specs.GrantLevels.{is_cycle_unowned as is_cycle_unowned_of, is_high_in, is_low_in};
+ghost use Rattle.vme_chains.specs.GrantLevels.{is_net_broken as is_net_broken_of};
+ghost use Rattle.vme_chains.specs.GrantLevels.{is_other_granted as is_other_granted_of};
+ghost use Rattle.vme_chains.specs.GrantLevels.{is_ungranted as is_ungranted_of, low_near, reaches, requested_in};
+ghost use Rattle.vme_chains.specs.GrantLevels.{rises_between, shown as shown_of, taken_between as taken_between_of};
+ghost use Rattle.vme_chains.specs.GrantLevels.{taken_in as taken_in_of, touches_arbitration as touches_arbitration_of};
 
 use crate::grant_memory::LevelSet;
 use vme_monitor::mark::Taken;
@@ -161,24 +169,12 @@ pub(crate) fn is_ungranted(before: &Lines, after: &Lines) -> bool
 fn grant_input(line: Line) -> Option<Line>
     ensures { result ≡ (if is_slot_grant line then Some (line - 1) else None) }
 {
-    let number = line.number();
-    if number < 50 || 138 <= number {
-        return None;
-    }
-    let level = (number - 50) / 22;
-    let place = (number - 50) % 22;
+    let (level, place) = line.grant_place()?;
     if place == 0 {
         None
     } else {
         Some(Line::grant(level, place - 1))
     }
-}
-
-fn is_grant(line: Line) -> bool
-    ensures { result ≡ is_grant_line line }
-{
-    let number = line.number();
-    50 <= number && number < 138
 }
 
 /// Whether the change of a line breaks a rule on the nets of grants, one of G1 to G4.
@@ -195,13 +191,15 @@ fn is_net_broken(rule: Rule, before: &Lines, after: &Lines, line: Line) -> bool
             None => false,
         },
         Rule::G3 => {
-            is_grant(line)
+            line.is_grant()
                 && grant_input(line).is_none()
                 && falls(before, after, line)
                 && is_other_granted(after, line)
         }
         Rule::G4 => {
-            is_grant(line) && falls(before, after, line) && !is_high_near(before, after, Line::BBSY)
+            line.is_grant()
+                && falls(before, after, line)
+                && !is_high_near(before, after, Line::BBSY)
         }
         _ => false,
     }
@@ -226,10 +224,11 @@ pub(crate) fn first_broken(
 
 /// Whether a net of a grant is among the changes: the change of another line breaks no rule on those nets.
 pub(crate) fn touches_nets(changes: &[Change]) -> bool
-    ensures { result ≡ false → (p : ℕ → Bool) → ((l : ℕ) → is_grant_line l ≡ false → p l ≡ false) → first_changed p changes.now ≡ None }
+    ensures { result ≡ false → (p : ℕ → Bool) → ((l : ℕ) → is_grant_line l ≡ false → p l ≡ false)
+        → first_changed p changes.now ≡ None }
 {
     for change in changes {
-        if is_grant(change.line) {
+        if change.line.is_grant() {
             return true;
         }
     }
@@ -241,7 +240,7 @@ fn is_arbitration(line: Line) -> bool
     ensures { result ≡ is_arbitration_line line }
 {
     let number = line.number();
-    45 <= number && number < 138
+    Line::BBSY.number() <= number && number < Line::iack(1).number()
 }
 
 /// Whether such a line is among the changes.

@@ -1,7 +1,8 @@
 //! What is remembered of requests and grants.
 
 ghost use Rattle.std.specs.Prelude.{◌≡◌};
-ghost use Rattle.vme_chains.specs.GrantMemory.{arbitration_nth, arbitration_place, bit_of, is_in, is_odd as is_odd_number, set_nth, set_place, union as union_of};
+ghost use Rattle.vme_chains.specs.GrantMemory.{arbitration_nth, arbitration_place, bit_of, is_in};
+ghost use Rattle.vme_chains.specs.GrantMemory.{is_odd as is_odd_number, set_nth, set_place, union as union_of};
 
 use vme_monitor::machine::{Places, Small};
 

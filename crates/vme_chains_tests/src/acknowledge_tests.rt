@@ -142,8 +142,8 @@ fn all_high(rt: &impl Abort, alloc: Global) -> Result<Vec<(u8, Level)>, Fail> {
     Ok(changes)
 }
 
-/// The first rows of an interrupt acknowledge that conforms, and then others: the same is found in one block and in blocks of
-/// one step each.
+/// The first rows of an interrupt acknowledge that conforms, and then others: the same is found in one block and in
+/// blocks of one step each.
 fn assert_judged(
     rt: &impl Abort,
     alloc: Global,

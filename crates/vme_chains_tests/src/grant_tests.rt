@@ -335,8 +335,8 @@ fn memories_are_few(rt: HostRuntime) -> Result<(), Fail> {
     Ok(())
 }
 
-/// How many marks the rows show, each row from each of the memories that those before it leave, once: by summaries of one
-/// step.
+/// How many marks the rows show, each row from each of the memories that those before it leave, once: by summaries of
+/// one step.
 fn shown_apart(rt: &impl Abort, alloc: Global, rows: &[Row<'_>]) -> Result<usize, Fail> {
     let mut lines = Lines::new(3).expect(rt, "three slots");
     let mut places = vec![in alloc; true; Grant::COUNT]?;

@@ -4,7 +4,8 @@ use Rattle.vme_trace.specs.declared.class.Class.{Class}
 use Rattle.vme_trace.specs.declared.class.Class.TheVariants as class
 use Rattle.vme_monitor.specs.declared.mark.Asked.{Asked}
 use Rattle.vme_dtb.specs.declared.cycle.Cycle.{Cycle}
-use Rattle.vme_dtb.specs.declared.cycle.Cycle.TheVariants.{Free, Single, SingleRead, SingleDone, Block, BlockReading, BlockWriting, Interrupt, InterruptDone}
+use Rattle.vme_dtb.specs.declared.cycle.Cycle.TheVariants.{Free, Single, SingleRead, SingleDone, Block, BlockReading}
+use Rattle.vme_dtb.specs.declared.cycle.Cycle.TheVariants.{BlockWriting, Interrupt, InterruptDone}
 
 -- a cycle of the class, without an answer
 abbrev pub unanswered_of : Class → Cycle

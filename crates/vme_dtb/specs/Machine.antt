@@ -1,5 +1,6 @@
 -- What the machine of the handshake does with a step.
-use Rattle.std.specs.Prelude.{ℕ, Bool, true, false, not, ◌&&◌, ◌||◌, List, Option, None, Some, option_map, is_some, if◌then◌else◌}
+use Rattle.std.specs.Prelude.{ℕ, Bool, true, false, not, ◌&&◌, ◌||◌, List, Option, None, Some, option_map, is_some}
+use Rattle.std.specs.Prelude.{if◌then◌else◌}
 use Rattle.std.specs.Option.{option_or}
 use Rattle.vme_trace.specs.LineNumbers.{AS, DTACK, BERR}
 use Rattle.vme_trace.specs.Levels.{Levels, level_at, is_low}
@@ -16,7 +17,8 @@ use Rattle.vme_monitor.specs.declared.mark.Kinds.{Kinds}
 use Rattle.vme_monitor.specs.declared.mark.Next.{Next}
 use Rattle.vme_monitor.specs.declared.tracking.Pending.{Pending}
 use Rattle.vme_monitor.specs.declared.tracking.Pending.TheVariants.{Closed, Answered}
-use Rattle.vme_dtb.specs.CycleState.{after_answer, cycle_entered, is_acknowledge, is_acknowledged, is_pair_spoiled, is_turned}
+use Rattle.vme_dtb.specs.CycleState.{after_answer, cycle_entered, is_acknowledge, is_acknowledged, is_pair_spoiled}
+use Rattle.vme_dtb.specs.CycleState.{is_turned}
 use Rattle.vme_dtb.specs.Edge.{edges_between, first_of, is_still, starts_transfer}
 use Rattle.vme_dtb.specs.declared.cycle.Cycle.{Cycle}
 use Rattle.vme_dtb.specs.declared.cycle.Cycle.TheVariants.{Free}
@@ -59,7 +61,8 @@ is_doubled e s = is_replied e || (is_unanswered e && s.both_fall)
 
 -- the first answer line that rises while no strobe has risen since it fell
 abbrev pub dropped : Memory → Edges → Option ℕ
-dropped m s = first_of (s.dtack_rises && not (freed m.dtack_freed s)) DTACK (s.berr_rises && not (freed m.berr_freed s)) BERR
+dropped m s = first_of (s.dtack_rises && not (freed m.dtack_freed s)) DTACK
+    (s.berr_rises && not (freed m.berr_freed s)) BERR
 
 abbrev pub handshake_fault : Memory → Pending → Edges → Option Fault
 handshake_fault m e s =

@@ -4,7 +4,8 @@ use Rattle.std.specs.Prelude.{◌==◌, if◌then◌else◌}
 use Rattle.vme_monitor.specs.declared.tracking.Pending.{Pending}
 use Rattle.vme_monitor.specs.declared.tracking.Pending.TheVariants.{Closed, Reading, Writing, Answered}
 use Rattle.vme_dtb.specs.declared.cycle.Cycle.{Cycle}
-use Rattle.vme_dtb.specs.declared.cycle.Cycle.TheVariants.{Free, Single, SingleRead, SingleDone, Block, BlockReading, BlockWriting, Interrupt, InterruptDone}
+use Rattle.vme_dtb.specs.declared.cycle.Cycle.TheVariants.{Free, Single, SingleRead, SingleDone, Block, BlockReading}
+use Rattle.vme_dtb.specs.declared.cycle.Cycle.TheVariants.{BlockWriting, Interrupt, InterruptDone}
 use Rattle.vme_dtb.specs.declared.memory.Memory.{Memory}
 
 abbrev pub pending_place : Pending → ℕ
@@ -30,7 +31,8 @@ cycle_place InterruptDone = 8
 abbrev pub cycle_nth : ℕ → Cycle
 cycle_nth k =
     if k == 0 then Free else if k == 1 then Single else if k == 2 then SingleRead else if k == 3 then SingleDone
-    else if k == 4 then Block else if k == 5 then BlockReading else if k == 6 then BlockWriting else if k == 7 then Interrupt else InterruptDone
+    else if k == 4 then Block else if k == 5 then BlockReading else if k == 6 then BlockWriting
+    else if k == 7 then Interrupt else InterruptDone
 
 abbrev pub bit : Bool → ℕ
 bit true = 1
@@ -40,7 +42,13 @@ abbrev pub memory_place : Memory → ℕ
 memory_place m = 36 * pending_place m.pending + 4 * cycle_place m.cycle + 2 * bit m.dtack_freed + bit m.berr_freed
 
 abbrev pub memory_nth : ℕ → Memory
-memory_nth k = record { pending = pending_nth (k / 36); cycle = cycle_nth ((k / 4) % 9); dtack_freed = ((k / 2) % 2 == 1); berr_freed = (k % 2 == 1) }
+memory_nth k = record {
+  pending = pending_nth (k / 36);
+  cycle = cycle_nth ((k / 4) % 9);
+  dtack_freed =
+      ((k / 2) % 2 == 1);
+  berr_freed = (k % 2 == 1);
+}
 
 pending_below : (p : Pending) → pending_place p < 4
 pending_below Closed = omega arith
@@ -67,7 +75,8 @@ all_below : (p c a b : ℕ) → p < 4 → c < 9 → a < 2 → b < 2 → 36 * p +
 all_below p c a b hp hc ha hb = omega arith
 
 pub memory_placed : (m : Memory) → memory_place m < 144
-memory_placed m = all_below (pending_place m.pending) (cycle_place m.cycle) (bit m.dtack_freed) (bit m.berr_freed) (pending_below m.pending) (cycle_below m.cycle) (bit_below m.dtack_freed) (bit_below m.berr_freed)
+memory_placed m = all_below (pending_place m.pending) (cycle_place m.cycle) (bit m.dtack_freed) (bit m.berr_freed)
+    (pending_below m.pending) (cycle_below m.cycle) (bit_below m.dtack_freed) (bit_below m.berr_freed)
 
 pending_found : (p : Pending) → pending_nth (pending_place p) ≡ p
 pending_found Closed = refl
@@ -102,7 +111,8 @@ third_part p c a b ha hb = omega arith
 fourth_part : (p c a b : ℕ) → b < 2 → (36 * p + 4 * c + 2 * a + b) % 2 ≡ b
 fourth_part p c a b hb = omega arith
 
-same_memory : (m : Memory) (p : Pending) (c : Cycle) (a b : Bool) → p ≡ m.pending → c ≡ m.cycle → a ≡ m.dtack_freed → b ≡ m.berr_freed → record { pending = p; cycle = c; dtack_freed = a; berr_freed = b } ≡ m
+same_memory : (m : Memory) (p : Pending) (c : Cycle) (a b : Bool) → p ≡ m.pending → c ≡ m.cycle → a ≡ m.dtack_freed
+    → b ≡ m.berr_freed → record { pending = p; cycle = c; dtack_freed = a; berr_freed = b } ≡ m
 same_memory m p c a b hp hc ha hb = rw (hp, hc, ha, hb) refl
 
 pub memory_found : (m : Memory) → memory_nth (memory_place m) ≡ m

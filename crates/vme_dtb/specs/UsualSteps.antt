@@ -16,14 +16,16 @@ module _ (v w : Levels) where
 
   -- AS* falls, and the strobes and the answer lines stay as they are
   abbrev pub is_start_alone : Bool
-  is_start_alone = falls_between v w AS && stays_on v w DS0 && stays_on v w DS1 && stays_on v w DTACK && stays_on v w BERR
+  is_start_alone = falls_between v w AS && stays_on v w DS0 && stays_on v w DS1 && stays_on v w DTACK
+      && stays_on v w BERR
 
   -- the answer lines stay as they are, AS* was low, and where a transfer starts both answer lines are high
   abbrev pub is_strobes_alone : Bool
-  is_strobes_alone = is_low (level_at v AS) && stays_on v w DTACK && stays_on v w BERR && (not (starts_transfer v w) || (is_high (level_at v DTACK) && is_high (level_at v BERR)))
+  is_strobes_alone = is_low (level_at v AS) && stays_on v w DTACK && stays_on v w BERR
+      && (not (starts_transfer v w) || (is_high (level_at v DTACK) && is_high (level_at v BERR)))
 
--- the memory after a step to the levels w in which no answer line falls, or where p has its answer: in the cycle c, the transfer
--- being p unless it closes, and a strobe rises or none does
+-- the memory after a step to the levels w in which no answer line falls, or where p has its answer: in the cycle c, the
+-- transfer being p unless it closes, and a strobe rises or none does
 abbrev pub memory_left : Memory → Levels → Pending → Cycle → Bool → Memory
 memory_left m w p c rises =
     record {

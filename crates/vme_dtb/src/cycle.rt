@@ -1,7 +1,8 @@
 //! What the cycle that started last still admits.
 
 ghost use Rattle.std.specs.Prelude.{◌≡◌, ◌<◌};
-ghost use Rattle.vme_dtb.specs.CycleState.{after_answer, cycle_entered, is_acknowledge, is_acknowledged, is_pair_spoiled, is_turned, unanswered_of};
+ghost use Rattle.vme_dtb.specs.CycleState.{after_answer, cycle_entered, is_acknowledge, is_acknowledged};
+ghost use Rattle.vme_dtb.specs.CycleState.{is_pair_spoiled, is_turned, unanswered_of};
 ghost use Rattle.vme_dtb.specs.MemoryPlaces.{cycle_nth, cycle_place};
 
 use vme_monitor::mark::Asked;

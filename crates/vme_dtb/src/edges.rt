@@ -4,7 +4,9 @@ ghost use Rattle.std.specs.Prelude.{◌≡◌, ◌<◌, ◌&&◌, Some, None, if
 ghost use Rattle.vme_trace.specs.LineNumbers.{grant, AS, DS0, DS1, DTACK, BERR, WRITE};
 ghost use Rattle.vme_trace.specs.Levels.{is_low, level_at};
 ghost use Rattle.vme_monitor.specs.Tracking.{strobe_low_in};
-ghost use Rattle.vme_dtb.specs.Edge.{address_of, asked_of, closes_between, edges_between, falls_between, first_of, is_addressed, is_still, is_unready, rises_between, shown_between, starts_transfer, stays_on, strobe_falls_between, strobe_rises_between};
+ghost use Rattle.vme_dtb.specs.Edge.{address_of, asked_of, closes_between, edges_between, falls_between, first_of};
+ghost use Rattle.vme_dtb.specs.Edge.{is_addressed, is_still, is_unready, rises_between, shown_between, starts_transfer};
+ghost use Rattle.vme_dtb.specs.Edge.{stays_on, strobe_falls_between, strobe_rises_between};
 ghost use Rattle.vme_dtb.specs.UsualSteps.{is_answer_alone, is_start_alone, is_strobes_alone};
 
 use vme_monitor::mark::{Asked, Kinds, NOTHING};
@@ -192,7 +194,8 @@ pub(crate) fn is_transfer_start(before: &Lines, after: &Lines) -> bool
 
 /// Whether the transfer that starts is a write, if one starts.
 pub(crate) fn transfer_started(before: &Lines, after: &Lines) -> Option<bool>
-    ensures { result ≡ (if starts_transfer before.now after.now then Some (is_low (level_at after.now WRITE)) else None) }
+    ensures { result ≡ (if starts_transfer before.now after.now then Some
+        (is_low (level_at after.now WRITE)) else None) }
 {
     if is_transfer_start(before, after) {
         Some(after.level(Line::WRITE).is_low())

@@ -1,8 +1,9 @@
-//! The handshake of data transfers, and the answers that cycles admit (ANSI/IEEE Std 1014-1987, chapter 2, the data transfer bus).
+//! The handshake of data transfers, and the answers that cycles admit (ANSI/IEEE Std 1014-1987, chapter 2, the data
+//! transfer bus).
 //!
-//! A strobe stays low until an answer comes, a new transfer starts with both answer lines high, and an answer line stays low until
-//! a strobe has risen. A single cycle has a transfer, or a read and then a write; a block transfer keeps its direction; an
-//! interrupt acknowledge is one read.
+//! A strobe stays low until an answer comes, a new transfer starts with both answer lines high, and an answer line
+//! stays low until a strobe has risen. A single cycle has a transfer, or a read and then a write; a block transfer
+//! keeps its direction; an interrupt acknowledge is one read.
 
 ghost use Rattle.std.specs.Prelude.{◌≡◌, None, Some, true, if◌then◌else◌};
 ghost use Rattle.vme_trace.specs.Lanes.{lanes_at};
@@ -10,7 +11,9 @@ ghost use Rattle.vme_trace.specs.LineNumbers.{DTACK};
 ghost use Rattle.vme_monitor.specs.Tracking.{is_unanswered, is_within, is_writing};
 ghost use Rattle.vme_monitor.specs.Run.{nothing};
 ghost use Rattle.vme_monitor.specs.Whole.{FindsLeast, ShowsAll};
-ghost use Rattle.vme_dtb.specs.Machine.{answer_in, answered_in, broken as broken_on, cycle_fault as fault_of_cycle, data_in, dropped as dropped_line, dtb_next, freed as is_freed, handshake_fault as fault_of_handshake, is_doubled, is_replied, is_unserved};
+ghost use Rattle.vme_dtb.specs.Machine.{answer_in, answered_in, broken as broken_on, cycle_fault as fault_of_cycle};
+ghost use Rattle.vme_dtb.specs.Machine.{data_in, dropped as dropped_line, dtb_next, freed as is_freed};
+ghost use Rattle.vme_dtb.specs.Machine.{handshake_fault as fault_of_handshake, is_doubled, is_replied, is_unserved};
 ghost use Rattle.vme_dtb.specs.Edge.{edges_between, falls_between, is_addressed, rises_between};
 ghost use Rattle.vme_dtb.specs.UsualSteps.{is_answer_alone, is_hasty, is_start_alone, is_strobes_alone, memory_left};
 ghost use Rattle.vme_dtb.specs.Shown.{handshake_rules, handshake_shown};
@@ -417,11 +420,12 @@ impl Rules for HandshakeRules {
 
 /// The monitor of the handshake and of the answers that cycles admit.
 ///
-/// Over a whole capture its event is the least break of the rules H1 to H8, C1, C2, I4 and I5; [`handshake_over_captures`] says so.
+/// Over a whole capture its event is the least break of the rules H1 to H8, C1, C2, I4 and I5;
+/// [`handshake_over_captures`] says so.
 pub type Dtb = Within<HandshakeRules>;
 
-/// Over a whole capture, the event is the least break of H1 to H8, C1, C2, I4 and I5, and the marks are the starts and ends of
-/// cycles, and the starts, answers and closes of transfers.
+/// Over a whole capture, the event is the least break of H1 to H8, C1, C2, I4 and I5, and the marks are the starts and
+/// ends of cycles, and the starts, answers and closes of transfers.
 pub fn handshake_over_captures()
     ensures event { FindsLeast ⟦<Dtb as Monitor>⟧.run ⟦<Dtb as Monitor>⟧.begin handshake_rules }
     ensures marks { ShowsAll ⟦<Dtb as Monitor>⟧.run ⟦<Dtb as Monitor>⟧.begin nothing handshake_shown }

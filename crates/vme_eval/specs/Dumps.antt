@@ -4,7 +4,8 @@ use Rattle.vme_trace.specs.LineNumbers.{AS, DS0, DS1, DTACK, BERR, IACK, A}
 use Rattle.vme_trace.specs.declared.rule.Rule.TheVariants.{U1, H4, S1}
 use Rattle.vme_trace.specs.declared.verdict.Verdict.TheVariants.{Conforming, Broken, Unreadable, NeverIdle}
 use Rattle.vme_eval.specs.Recording.{Recording}
-use Rattle.vme_eval.specs.Steps.{low, high, unknown, at, asking, first_six_high, dumped, dumped_at, from_idle, from_idle_but, once_granted}
+use Rattle.vme_eval.specs.Steps.{low, high, unknown, at, asking, first_six_high, dumped, dumped_at, from_idle}
+use Rattle.vme_eval.specs.Steps.{from_idle_but, once_granted}
 
 -- one slot, the bus busy from the opening on: a read
 unfoldable pub dumped_read : Recording

@@ -4,18 +4,46 @@ use Rattle.std.specs.Prelude.{◌≡◌, ◌≤◌, Bool, true, false, List, [],
 use Rattle.vme_trace.specs.Trace.{Trace}
 use Rattle.vme_trace.specs.Verdict.{verdict, is_unreadable}
 use Rattle.vme_trace.specs.declared.rule.Rule.{Rule}
-use Rattle.vme_trace.specs.declared.rule.Rule.TheVariants.{U1, U2, U3, U4, H1, H2, H3, H4, H5, H6, H7, H8, S1, S2, S3, C1, C2, G1, G2, G3, G4, G5, B1, B2, B3, B4, I1, I2, I3, I4, I5}
+use Rattle.vme_trace.specs.declared.rule.Rule.TheVariants.{U1, U2, U3, U4, H1, H2, H3, H4, H5, H6, H7, H8, S1, S2, S3}
+use Rattle.vme_trace.specs.declared.rule.Rule.TheVariants.{C1, C2, G1, G2, G3, G4, G5, B1, B2, B3, B4, I1, I2, I3, I4}
+use Rattle.vme_trace.specs.declared.rule.Rule.TheVariants.{I5}
 use Rattle.vme_trace.specs.declared.verdict.Verdict.{Verdict}
 use Rattle.vme_trace.specs.declared.verdict.Verdict.TheVariants.{Conforming, Broken, Unreadable, NeverIdle}
 use Rattle.vme_eval.specs.Dumps.{strobe_lost_at_once, answer_low_before_judging, address_lost_between_cycles}
 use Rattle.vme_eval.specs.Resets.{strobe_lost_with_the_reset}
-use Rattle.vme_eval.specs.Transfers.{read_cycle, bus_error, starts_before_the_answer_rose, answer_rises_as_the_next_transfer_starts, strobes_rise_early, strobes_rise_with_answer, strobe_falls_after_the_answer, strobe_falls_with_the_answer, second_strobe_falls_before_the_answer, stray_answer, answered_at_its_first_instant, answered_again_by_the_same_line, answer_withdrawn_early, answer_rises_with_the_strobes, cycle_ends_unanswered, cycle_ends_with_the_answer, transfer_as_the_cycle_ends, answer_without_a_cycle}
-use Rattle.vme_eval.specs.Cycles.{read_modify_write, write_then_read, block_read, block_turns, free_cycle_reads_writes_and_reads}
-use Rattle.vme_eval.specs.HeldLines.{address_changes_early, address_changes_with_answer, unneeded_line_changes, address_changes_as_the_cycle_ends, address_changes_after_an_answer_at_the_start, address_lost_as_the_cycle_starts, address_known_as_the_cycle_starts, direction_unknown, direction_known_as_the_transfer_starts, direction_settles_as_the_transfer_starts, direction_changes, direction_changes_as_a_strobe_rises}
-use Rattle.vme_eval.specs.WriteData.{data_unknown, data_change, unmoved_data_unknown, data_of_a_read, data_change_with_the_answer, second_byte_settles, unmoved_data_change}
-use Rattle.vme_eval.specs.Grants.{slot_grants_ungranted, slot_grants_with_its_input, slot_grants_as_its_input_rises, slot_ends_its_grant_early, slot_ends_its_grant_as_its_input_falls, second_level_granted, another_level_granted_as_the_first_ends, grant_while_busy, grant_falls_as_the_bus_is_let_go, grant_unasked, request_with_the_grant, request_low_at_the_start, request_of_the_grant_before_serves_again, grant_withdrawn}
-use Rattle.vme_eval.specs.Tenures.{taken_by_the_last_slot, grant_read_at_the_instant_before, slot_read_as_the_bus_is_taken, another_levels_grant_taken, bus_taken_ungranted, grant_taken_twice, cycle_without_the_bus, cycle_starts_as_the_bus_is_taken, cycle_starts_as_the_bus_is_let_go, grant_past_last_slot}
-use Rattle.vme_eval.specs.Acknowledges.{acknowledge_skips_slot, acknowledge_with_its_input, acknowledge_as_its_input_rises, acknowledge_before_strobe, acknowledge_by_the_second_strobe, acknowledge_as_the_strobe_rises, acknowledge_near_a_strobe_and_near_the_cycle, acknowledge_after_answer, acknowledge_with_the_answer, acknowledge_after_a_bus_error, acknowledge_as_the_next_cycle_starts, acknowledge_write, acknowledge_is_a_read_from_its_start, acknowledged_twice}
+use Rattle.vme_eval.specs.Transfers.{read_cycle, bus_error, starts_before_the_answer_rose}
+use Rattle.vme_eval.specs.Transfers.{answer_rises_as_the_next_transfer_starts, strobes_rise_early}
+use Rattle.vme_eval.specs.Transfers.{strobes_rise_with_answer, strobe_falls_after_the_answer}
+use Rattle.vme_eval.specs.Transfers.{strobe_falls_with_the_answer, second_strobe_falls_before_the_answer, stray_answer}
+use Rattle.vme_eval.specs.Transfers.{answered_at_its_first_instant, answered_again_by_the_same_line}
+use Rattle.vme_eval.specs.Transfers.{answer_withdrawn_early, answer_rises_with_the_strobes, cycle_ends_unanswered}
+use Rattle.vme_eval.specs.Transfers.{cycle_ends_with_the_answer, transfer_as_the_cycle_ends, answer_without_a_cycle}
+use Rattle.vme_eval.specs.Cycles.{read_modify_write, write_then_read, block_read, block_turns}
+use Rattle.vme_eval.specs.Cycles.{free_cycle_reads_writes_and_reads}
+use Rattle.vme_eval.specs.HeldLines.{address_changes_early, address_changes_with_answer, unneeded_line_changes}
+use Rattle.vme_eval.specs.HeldLines.{address_changes_as_the_cycle_ends, address_changes_after_an_answer_at_the_start}
+use Rattle.vme_eval.specs.HeldLines.{address_lost_as_the_cycle_starts, address_known_as_the_cycle_starts}
+use Rattle.vme_eval.specs.HeldLines.{direction_unknown, direction_known_as_the_transfer_starts}
+use Rattle.vme_eval.specs.HeldLines.{direction_settles_as_the_transfer_starts, direction_changes}
+use Rattle.vme_eval.specs.HeldLines.{direction_changes_as_a_strobe_rises}
+use Rattle.vme_eval.specs.WriteData.{data_unknown, data_change, unmoved_data_unknown, data_of_a_read}
+use Rattle.vme_eval.specs.WriteData.{data_change_with_the_answer, second_byte_settles, unmoved_data_change}
+use Rattle.vme_eval.specs.Grants.{slot_grants_ungranted, slot_grants_with_its_input, slot_grants_as_its_input_rises}
+use Rattle.vme_eval.specs.Grants.{slot_ends_its_grant_early, slot_ends_its_grant_as_its_input_falls}
+use Rattle.vme_eval.specs.Grants.{second_level_granted, another_level_granted_as_the_first_ends, grant_while_busy}
+use Rattle.vme_eval.specs.Grants.{grant_falls_as_the_bus_is_let_go, grant_unasked, request_with_the_grant}
+use Rattle.vme_eval.specs.Grants.{request_low_at_the_start, request_of_the_grant_before_serves_again, grant_withdrawn}
+use Rattle.vme_eval.specs.Tenures.{taken_by_the_last_slot, grant_read_at_the_instant_before}
+use Rattle.vme_eval.specs.Tenures.{slot_read_as_the_bus_is_taken, another_levels_grant_taken, bus_taken_ungranted}
+use Rattle.vme_eval.specs.Tenures.{grant_taken_twice, cycle_without_the_bus, cycle_starts_as_the_bus_is_taken}
+use Rattle.vme_eval.specs.Tenures.{cycle_starts_as_the_bus_is_let_go, grant_past_last_slot}
+use Rattle.vme_eval.specs.Acknowledges.{acknowledge_skips_slot, acknowledge_with_its_input}
+use Rattle.vme_eval.specs.Acknowledges.{acknowledge_as_its_input_rises, acknowledge_before_strobe}
+use Rattle.vme_eval.specs.Acknowledges.{acknowledge_by_the_second_strobe, acknowledge_as_the_strobe_rises}
+use Rattle.vme_eval.specs.Acknowledges.{acknowledge_near_a_strobe_and_near_the_cycle, acknowledge_after_answer}
+use Rattle.vme_eval.specs.Acknowledges.{acknowledge_with_the_answer, acknowledge_after_a_bus_error}
+use Rattle.vme_eval.specs.Acknowledges.{acknowledge_as_the_next_cycle_starts, acknowledge_write}
+use Rattle.vme_eval.specs.Acknowledges.{acknowledge_is_a_read_from_its_start, acknowledged_twice}
 
 -- a recording that breaks the rule
 abbrev pub example : Rule → Trace

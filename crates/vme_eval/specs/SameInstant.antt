@@ -1,7 +1,8 @@
 -- Recordings that break two rules at one instant, of which the one that stands first is named.
 use Rattle.std.specs.Prelude.{[], ◌∷◌, codes}
 use Rattle.vme_trace.specs.LineNumbers.{AS, DS0, DS1, DTACK, BERR, WRITE, AM, A, BR, BBSY, D, grant, iack}
-use Rattle.vme_trace.specs.declared.rule.Rule.TheVariants.{U2, U3, U4, H5, S1, S2, C2, G1, G2, G3, G4, B4, I1, I2, I3, I4}
+use Rattle.vme_trace.specs.declared.rule.Rule.TheVariants.{U2, U3, U4, H5, S1, S2, C2, G1, G2, G3, G4, B4, I1, I2, I3}
+use Rattle.vme_trace.specs.declared.rule.Rule.TheVariants.{I4}
 use Rattle.vme_trace.specs.declared.verdict.Verdict.TheVariants.{Broken, Unreadable}
 use Rattle.vme_eval.specs.Recording.{Recording}
 use Rattle.vme_eval.specs.Steps.{low, high, unknown, asking, acknowledging, from_idle, once_granted, passed_on}

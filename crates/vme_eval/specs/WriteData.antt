@@ -226,9 +226,11 @@ no_long_word_at_an_odd_word = record {
 unfoldable pub lanes_unknown : Recording
 lanes_unknown = record {
   trace =
-      once_granted ((low (AM 2) ∷ low WRITE ∷ low (A 5) ∷ unknown (D 16) ∷ []) ∷ (low AS ∷ []) ∷ (low DS0 ∷ low DS1 ∷ [])
+      once_granted ((low (AM 2) ∷ low WRITE ∷ low (A 5) ∷ unknown (D 16) ∷ []) ∷ (low AS ∷ [])
+      ∷ (low DS0 ∷ low DS1 ∷ [])
       ∷ (low DTACK ∷ []) ∷ (high DS0 ∷ high DS1 ∷ []) ∷ (high DTACK ∷ []) ∷ (low DS0 ∷ low DS1 ∷ [])
-      ∷ (low LWORD ∷ low (A 1) ∷ []) ∷ (low DTACK ∷ []) ∷ (high AS ∷ high DS0 ∷ high DS1 ∷ []) ∷ (high DTACK ∷ []) ∷ []);
+      ∷ (low LWORD ∷ low (A 1) ∷ []) ∷ (low DTACK ∷ []) ∷ (high AS ∷ high DS0 ∷ high DS1 ∷ []) ∷ (high DTACK ∷ [])
+      ∷ []);
   verdict = Conforming;
   rows =
       codes "start 1" ∷ codes "tenure 5 level 3 slot 2 end -" ∷ codes "cycle 9 K 3B FFFFDE end 17"
@@ -241,7 +243,8 @@ unfoldable pub answered_as_it_starts : Recording
 answered_as_it_starts = record {
   trace =
       once_granted ((low (AM 1) ∷ low (AM 2) ∷ low WRITE ∷ low (A 5) ∷ []) ∷ (low AS ∷ [])
-      ∷ (low DS0 ∷ low DS1 ∷ low DTACK ∷ low (D 0) ∷ []) ∷ (high AS ∷ high DS0 ∷ high DS1 ∷ []) ∷ (high DTACK ∷ []) ∷ []);
+      ∷ (low DS0 ∷ low DS1 ∷ low DTACK ∷ low (D 0) ∷ []) ∷ (high AS ∷ high DS0 ∷ high DS1 ∷ []) ∷ (high DTACK ∷ [])
+      ∷ []);
   verdict = Conforming;
   rows =
       codes "start 1" ∷ codes "tenure 5 level 3 slot 2 end -" ∷ codes "cycle 9 S 39 FFFFDE end 11"

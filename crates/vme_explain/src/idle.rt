@@ -39,7 +39,8 @@ pub(crate) fn rests_high(line: Line) -> bool {
     line <= Line::BERR || line.is_net() || line == Line::SYSRESET
 }
 
-/// Whether a line shows what an idle bus asks of it: those that rest High are so, and the other control lines are known.
+/// Whether a line shows what an idle bus asks of it: those that rest High are so, and the other control lines are
+/// known.
 fn is_fit(line: Line, level: Level) -> bool {
     if rests_high(line) {
         level == Level::High

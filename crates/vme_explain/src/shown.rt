@@ -1,7 +1,7 @@
 //! Which lines an excerpt shows.
 
 use std::alloc::{AllocError, Global};
-use vme_trace::{Level, Line, Lines, Rule};
+use vme_trace::{Level, Line, Lines, MOST_SLOTS, Rule};
 
 /// Lines, none of them twice.
 #[derive(Drop)]
@@ -28,7 +28,7 @@ impl Shown {
     fn add_level(&mut self, level: u8, slots: u8) -> Result<(), AllocError> {
         let level = level.min(3);
         self.add(Line::bus_request(level))?;
-        for place in 0..slots.min(21) + 1 {
+        for place in 0..slots.min(MOST_SLOTS) + 1 {
             self.add(Line::grant(level, place))?;
         }
         Ok(())
@@ -45,7 +45,7 @@ impl Shown {
     }
 
     fn add_acknowledges(&mut self, slots: u8) -> Result<(), AllocError> {
-        for slot in 1..slots.min(21) + 1 {
+        for slot in 1..slots.min(MOST_SLOTS) + 1 {
             self.add(Line::iack(slot))?;
         }
         Ok(())
@@ -65,12 +65,12 @@ fn is_reset(levels: &[Lines]) -> bool {
 
 /// The level of a net of a grant chain.
 fn level_of(line: Line) -> Option<u8> {
-    let net = line.number().checked_sub(Line::grant(0, 0).number())?;
-    if net < 88 { Some(net / 22) } else { None }
+    let (level, _place) = line.grant_place()?;
+    Some(level)
 }
 
-/// The lines of which a rule speaks, the line of the break first, then the others of the handshake, and SYSRESET where it
-/// is low.
+/// The lines of which a rule speaks, the line of the break first, then the others of the handshake, and SYSRESET where
+/// it is low.
 pub(crate) fn lines_shown(
     alloc: Global,
     rule: Rule,

@@ -4,7 +4,7 @@ use std::alloc::{AllocError, Global};
 use vcd_read::Variable;
 use vme_find::bit_number;
 use vme_text::Text;
-use vme_trace::Line;
+use vme_trace::{Line, MOST_SLOTS};
 
 /// What a line is bound to.
 #[derive(Clone, Copy)]
@@ -56,7 +56,7 @@ fn place_in(name: &[u8], line: Line, slots: u8) -> Option<u32> {
 
 /// The number of the first line of a group, and how many lines it has.
 fn group(name: &[u8], slots: u8) -> Option<(u8, u8)> {
-    let slots = slots.clamp(1, 21);
+    let slots = slots.clamp(1, MOST_SLOTS);
     match name {
         b"AM" => Some((Line::address_modifier(5).number(), 6)),
         b"A" => Some((Line::address(31).number(), 31)),

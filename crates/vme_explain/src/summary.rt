@@ -8,7 +8,7 @@ use crate::sources::bound_to;
 use std::alloc::{AllocError, Global};
 use vme_listing::Row;
 use vme_text::Text;
-use vme_trace::{LINE_COUNT, Line, Lines};
+use vme_trace::{LINE_COUNT, Line, Lines, MOST_SLOTS};
 
 /// What was judged of a conforming recording, and what was pending at its end.
 pub(crate) fn push_summary(
@@ -107,7 +107,7 @@ fn push_tenures(text: &mut Text, alloc: Global, subject: &Subject<'_>) -> Result
     text.push_decimal(alloc, count_of(Kind::OpenTenures, subject.rows) as u64)?;
     text.push(b" open before judging starts")?;
     for level in 0..4 {
-        for slot in 1..22 {
+        for slot in 1..MOST_SLOTS + 1 {
             let count = count_of(Kind::Tenures { level, slot }, subject.rows) as u64;
             if count > 0 {
                 text.push(b", ")?;
@@ -175,8 +175,8 @@ pub(crate) fn push_never_idle(
     subject: &Subject<'_>,
 ) -> Result<(), AllocError> {
     text.push(
-        b"\nJudging starts where every control line is known, and AS, the strobes, the answers, all nets and SYSRESET are \
-High.\n",
+        b"\nJudging starts where every control line is known, and AS, the strobes, the answers, all nets and SYSRESET \
+are High.\n",
     )?;
     let end = subject.capture.steps().len();
     let fit = fit_lines(subject.capture);

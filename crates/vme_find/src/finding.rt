@@ -3,7 +3,7 @@
 use crate::names::{Fit, Named, meaning, scope_and_name};
 use std::alloc::{AllocError, Global};
 use vcd_read::Variable;
-use vme_trace::{LINE_COUNT, Line};
+use vme_trace::{LINE_COUNT, Line, MOST_SLOTS};
 
 /// How many bits of a variable are looked at.
 const MOST_BITS: u32 = 64;
@@ -60,7 +60,7 @@ impl<'a> Found<'a> {
     /// How many slots the daisy chains show: the greatest place of a net of one, 1 to 21.
     pub(crate) fn slots(&self) -> u8 {
         let mut slots = 1;
-        for place in 1..22 {
+        for place in 1..MOST_SLOTS + 1 {
             let grants = (0..4).any(|level| self.tap(Line::grant(level, place)).is_some());
             if grants || self.tap(Line::iack(place)).is_some() {
                 slots = place;

@@ -1,7 +1,7 @@
 //! What the name of a variable means on a backplane.
 
 use vcd_read::Variable;
-use vme_trace::Line;
+use vme_trace::{CHAIN_NETS, Line, MOST_SLOTS};
 
 /// Marks of a signal that is asserted when it is Low, at the end of its name.
 const MARKS: [&[u8]; 5] = [b"_n", b"_l", b"_b", b"*", b"#"];
@@ -48,8 +48,8 @@ pub(crate) fn scope_and_name(path: &[u8]) -> (&[u8], &[u8]) {
     }
 }
 
-/// What the name of a variable stands for, and how well it fits. An escaped name, which Icarus writes with the backslash
-/// before it, is as without.
+/// What the name of a variable stands for, and how well it fits. An escaped name, which Icarus writes with the
+/// backslash before it, is as without.
 pub(crate) fn meaning(variable: &Variable) -> Option<(Named, Fit)> {
     let (_, written) = scope_and_name(variable.path.as_bytes());
     let name = behind(written, b"\\").unwrap_or(written);
@@ -224,7 +224,7 @@ fn grant(rest: &[u8]) -> Option<Named> {
         return Some(Named::Line(Line::grant(level, 0)));
     }
     let net = number(behind(place, b"_")?)?;
-    if net <= 21 {
+    if net < CHAIN_NETS {
         Some(Named::Line(Line::grant(level, net)))
     } else {
         None
@@ -236,7 +236,7 @@ fn acknowledge(rest: &[u8]) -> Option<Named> {
         return Some(Named::Acknowledges);
     }
     let slot = number(behind(rest, b"_").unwrap_or(rest))?;
-    if 1 <= slot && slot <= 21 {
+    if 1 <= slot && slot <= MOST_SLOTS {
         Some(Named::Line(Line::iack(slot)))
     } else {
         None
@@ -274,8 +274,8 @@ fn address_shift(variable: &Variable) -> u32 {
 }
 
 impl Named {
-    /// The line that a bit of a variable of this name is, by its place from the left. A `d` of one bit without an index is
-    /// no data line, but what goes into a flip-flop.
+    /// The line that a bit of a variable of this name is, by its place from the left. A `d` of one bit without an index
+    /// is no data line, but what goes into a flip-flop.
     pub(crate) fn line_at(&self, variable: &Variable, place: u32) -> Option<Line> {
         if let Named::Line(line) = self {
             return if variable.size == 1 {
@@ -306,9 +306,13 @@ impl Named {
             Named::Addresses if 1 <= bit && bit <= 31 => Some(Line::address(bit)),
             Named::Data if bit < 32 => Some(Line::data(bit)),
             Named::Requests if bit < 4 => Some(Line::bus_request(bit)),
-            Named::Grants(level) if *level < 4 && bit <= 21 => Some(Line::grant(*level, bit)),
+            Named::Grants(level) if *level < 4 && bit < CHAIN_NETS => Some(Line::grant(
+                *level, bit,
+            )),
             Named::Acknowledges | Named::AcknowledgeChain if bit == 0 => Some(Line::IACK),
-            Named::Acknowledges | Named::AcknowledgeChain if bit <= 21 => Some(Line::iack(bit)),
+            Named::Acknowledges | Named::AcknowledgeChain if bit <= MOST_SLOTS => Some(Line::iack(
+                bit,
+            )),
             _ => None,
         }
     }

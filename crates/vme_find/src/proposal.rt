@@ -5,7 +5,7 @@ use crate::names::bit_number;
 use std::alloc::{AllocError, Global};
 use vcd_read::Variable;
 use vme_text::Text;
-use vme_trace::{LINE_COUNT, Line};
+use vme_trace::{LINE_COUNT, Line, MOST_SLOTS};
 
 /// What to know of a line that wasn't found, by the beginning of its name.
 const HINTS: [(&[u8], &str); 15] = [
@@ -71,7 +71,8 @@ const NOT_FOUND: &str = " wasn't found: 1 is what it shows when nobody drives it
 
 /// What is said of a group of which some lines weren't found, or can't be named.
 const NOT_WHOLE: &str =
-    " wasn't found whole, or its bits have no index: the lines that are missing are 1, what they show when nobody drives them";
+    " wasn't found whole, or its bits have no index: the lines that are missing are 1, what they show when nobody \
+     drives them";
 
 /// What is said behind a path of which the dump has different variables.
 const AMBIGUOUS: &str =
@@ -199,7 +200,7 @@ impl<'a> Proposal<'a> {
 
     /// Writes the nets of the daisy chains.
     fn write_chains(&mut self, slots: u8) -> Result<(), AllocError> {
-        let slots = slots.clamp(1, 21);
+        let slots = slots.clamp(1, MOST_SLOTS);
         let names: [&[u8]; 4] = [b"BG0", b"BG1", b"BG2", b"BG3"];
         for level in 0..4 {
             let name = names[usize::from(level)];

@@ -1,9 +1,11 @@
 -- From the work of all to the answers and the contents.
-use Rattle.std.specs.Prelude.{◌≡◌, ◌≢◌, ◌⊎◌, ℕ, Bool, true, false, ◌<◌, ◌≤◌, List, length, slice_get, Option, Some, None}
+use Rattle.std.specs.Prelude.{◌≡◌, ◌≢◌, ◌⊎◌, ℕ, Bool, true, false, ◌<◌, ◌≤◌, List, length, slice_get, Option, Some}
+use Rattle.std.specs.Prelude.{None}
 use Rattle.vme_trace.specs.declared.block.Block.{Block}
 use Rattle.vme_core.specs.Counting.{occurrences, HasPair}
 use Rattle.vme_core.specs.declared.view.View.{View}
-use Rattle.vme_board.specs.Contents.{AreNumbered, HasBlock, HasOnlyList, HasUntaken, LacksTakes, unlisted_count, untaken_count}
+use Rattle.vme_board.specs.Contents.{AreNumbered, HasBlock, HasOnlyList, HasUntaken, LacksTakes, unlisted_count}
+use Rattle.vme_board.specs.Contents.{untaken_count}
 use Rattle.vme_board.specs.Views.{SameBlocks}
 use Rattle.vme_board.specs.declared.board.Closed.{Closed}
 use Rattle.vme_floor.specs.Answering.{FiledAs, IsFiledNumber}
@@ -86,7 +88,8 @@ AreBelow deliveries answers a limit =
     (d : ℕ) (b : Block) → slice_get answers d ≡ Some a → slice_get deliveries d ≡ Some b → b.number < limit
 
 -- at each number whether one of the first deliveries was filed under it
-pub record AreFiled (deliveries : List Block) (answers : List Answer) (total seen : ℕ) (table : List Bool) : Type 0 where
+pub record AreFiled (deliveries : List Block) (answers : List Answer) (total seen : ℕ)
+    (table : List Bool) : Type 0 where
   pub long : length table ≡ total
   pub yes : (n : ℕ) → slice_get table n ≡ Some true → IsFiledNumber deliveries answers n
   pub no :

@@ -58,7 +58,8 @@ impl Collection {
         ensures board { IsOf bench.new board.now }
         ensures rest { TakesOnly (view_of bench.old) (view_of bench.new) }
         ensures collected { OnOk result (IsCollected (total_of board.now) (view_of bench.new) self.new) }
-        ensures gone { OnOk result (HasSeen (view_of bench.old) number stage.Filed → IsGone (view_of bench.new) number) }
+        ensures gone { OnOk result (HasSeen (view_of bench.old) number stage.Filed
+            → IsGone (view_of bench.new) number) }
     {
         match bench.look(board, number) {
             Stage::Free | Stage::Claimed => return Ok(false),

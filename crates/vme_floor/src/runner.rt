@@ -25,9 +25,9 @@ const MOST_WORKERS: u32 = 64;
 /// Judges the recording of which these are the numbered blocks, in whatever order, and each as often as may be.
 ///
 /// The workers share the deliveries: each draws one, passes the gate, and delivers a copy of the block to a board,
-/// which files one block a number. The calling thread is worker 0, each other worker has a thread of its own. After each
-/// of its deliveries worker 0 takes the number just filed, and the next numbers as far as they are filed, off the board
-/// into a book, which joins them; once all have ended, what is left on the board is put into it too.
+/// which files one block a number. The calling thread is worker 0, each other worker has a thread of its own. After
+/// each of its deliveries worker 0 takes the number just filed, and the next numbers as far as they are filed, off the
+/// board into a book, which joins them; once all have ended, what is left on the board is put into it too.
 ///
 /// What is filed decides, and nothing else: not the order of the deliveries, not who delivered what, not how many
 /// workers there were. The verdict is that of the recording by the definitions, and the listing of the span is the

@@ -2,10 +2,10 @@
 use Rattle.std.proofs.Common.{◌≡◌, ℕ, ◌+◌, ◌*◌, ◌/◌, ◌%◌, ◌^◌, ◌<◌, ◌≤◌, Bool, true, false, not, ◌&&◌, ◌||◌, cond, refl, ap, ◌∙◌, arith}
 use Rattle.std.proofs.Math.Nat.{add-mul-div_left, div-eq_of_lt}
 use Rattle.std.proofs.lemmas.Bool.{agree_below, agree_below_at}
-use Rattle.vme_trace.specs.Data.{is_odd_byte, is_even_byte, is_data, is_selected}
+use Rattle.vme_trace.specs.Data.{is_odd_byte, is_even_byte, is_selected}
 use Rattle.vme_trace.specs.Lanes.{has_digit, moved_at, is_digit_moved, is_digit_known, weight_at, digit_at, flag_at, lanes_at}
 use Rattle.vme_trace.specs.Levels.{Levels, level_at, is_high, is_low}
-use Rattle.vme_trace.specs.LineNumbers.{A, D, DS0, DS1, LWORD}
+use Rattle.vme_trace.specs.LineNumbers.{A, D, DS0, DS1, LWORD, is_data}
 use Rattle.vme_trace.specs.declared.data.Moved.{Moved}
 use Rattle.vme_trace.specs.declared.data.Moved.TheVariants.{Nothing, OddByte, EvenByte, Word, LongWord}
 use Rattle.vme_trace.specs.declared.level.Level.{Level}

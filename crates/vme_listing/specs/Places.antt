@@ -18,7 +18,8 @@ use Rattle.vme_listing.specs.declared.row.Outcome.{Outcome}
 use Rattle.vme_listing.specs.declared.row.Outcome.TheVariants.{Conforming, NeverIdle, Broken, Unreadable}
 use Rattle.vme_listing.specs.declared.row.Row.{Row}
 use Rattle.vme_listing.specs.declared.row.Row.TheVariants.{Start, Reset, OpenTenure, Tenure, AddressedCycle}
-use Rattle.vme_listing.specs.declared.row.Row.TheVariants.{FreeCycle, InterruptCycle, Transfer, PendingTransfer, Verdict}
+use Rattle.vme_listing.specs.declared.row.Row.TheVariants.{FreeCycle, InterruptCycle, Transfer, PendingTransfer}
+use Rattle.vme_listing.specs.declared.row.Row.TheVariants.{Verdict}
 
 -- a number is at most 4,294,967,295
 abbrev pub is_number : ℕ → Bool
@@ -37,7 +38,8 @@ has_class modifier class.F = false
 
 -- the code makes address lines meaningful, and the address is one of these: bit 0 is 0
 abbrev pub is_address : ℕ → ℕ → Bool
-is_address modifier address = not (highest_address modifier == 0) && nat_lt address (2 ^ (highest_address modifier + 1)) && (address % 2 == 0)
+is_address modifier address = not (highest_address modifier == 0)
+    && nat_lt address (2 ^ (highest_address modifier + 1)) && (address % 2 == 0)
 
 abbrev pub is_outcome : Outcome → Bool
 is_outcome Conforming = true

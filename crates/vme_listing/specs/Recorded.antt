@@ -28,7 +28,8 @@ use Rattle.vme_listing.specs.Listed.{Listed, in_newest_version, tells_data}
 use Rattle.vme_listing.specs.declared.row.Version.{Version}
 use Rattle.vme_listing.specs.declared.row.Row.{Row}
 use Rattle.vme_listing.specs.declared.row.Row.TheVariants.{Start, Reset, OpenTenure, Tenure, AddressedCycle}
-use Rattle.vme_listing.specs.declared.row.Row.TheVariants.{FreeCycle, InterruptCycle, Transfer, PendingTransfer, Verdict}
+use Rattle.vme_listing.specs.declared.row.Row.TheVariants.{FreeCycle, InterruptCycle, Transfer, PendingTransfer}
+use Rattle.vme_listing.specs.declared.row.Row.TheVariants.{Verdict}
 
 -- the address on lines 1 to n, a high line being 1 and any other 0
 abbrev pub address_to : Levels → ℕ → ℕ
@@ -60,11 +61,13 @@ module _ (t : Trace) (span : Span) (end : ℕ) where
   unfoldable pub tenure_rows : ℕ → List Row
   tenure_rows i =
       if (i == span.start) && low t BBSY i then OpenTenure i (least (rises t BBSY) (i + 1) end) ∷ []
-      else if tenure_starts t span i then tenure_row i (tenure_level t i) (tenure_slot t i) (least (rises t BBSY) (i + 1) end)
+      else if tenure_starts t span i then tenure_row i (tenure_level t i) (tenure_slot t i)
+      (least (rises t BBSY) (i + 1) end)
       else []
 
   unfoldable pub cycle_rows : ℕ → List Row
-  cycle_rows i = if cycle_starts t span i then cycle_row i (levels_at t i) (least (rises t AS) (i + 1) end) (class_of (levels_at t i)) ∷ [] else []
+  cycle_rows i = if cycle_starts t span i then cycle_row i (levels_at t i) (least (rises t AS) (i + 1) end)
+      (class_of (levels_at t i)) ∷ [] else []
 
   abbrev pub direction_of : ℕ → Direction
   direction_of i = if is_write t span i then Write else Read
@@ -116,7 +119,8 @@ listed_end t (Some b) = b.instant
 
 abbrev pub outcome_of : Option Break → Outcome
 outcome_of None = Conforming
-outcome_of (Some b) = if is_unreadable b.rule then Unreadable b.rule b.instant b.line else Broken b.rule b.instant b.line
+outcome_of (Some b) = if is_unreadable b.rule then Unreadable b.rule b.instant b.line
+    else Broken b.rule b.instant b.line
 
 -- the rows of spans that follow one another, where this is their least break
 abbrev pub listing_before : Trace → List Span → Option Break → List Row

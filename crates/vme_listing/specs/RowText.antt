@@ -21,7 +21,8 @@ use Rattle.vme_listing.specs.declared.row.Version.{Version}
 use Rattle.vme_listing.specs.declared.row.Version.TheVariants.{One, Two, Three}
 use Rattle.vme_listing.specs.declared.row.Row.{Row}
 use Rattle.vme_listing.specs.declared.row.Row.TheVariants.{Start, Reset, OpenTenure, Tenure, AddressedCycle}
-use Rattle.vme_listing.specs.declared.row.Row.TheVariants.{FreeCycle, InterruptCycle, Transfer, PendingTransfer, Verdict}
+use Rattle.vme_listing.specs.declared.row.Row.TheVariants.{FreeCycle, InterruptCycle, Transfer, PendingTransfer}
+use Rattle.vme_listing.specs.declared.row.Row.TheVariants.{Verdict}
 
 -- an end or a close: its instant, or a hyphen where it isn't at a listed instant
 abbrev pub edge_text : Option ℕ → List ℕ
@@ -85,7 +86,8 @@ row_text (Start instant) = codes "start " ++ decimal instant
 row_text (Reset instant) = codes "reset " ++ decimal instant
 row_text (OpenTenure start end) = codes "tenure " ++ decimal start ++ codes " open end " ++ edge_text end
 row_text (Tenure start level slot end) =
-    codes "tenure " ++ decimal start ++ codes " level " ++ decimal level ++ codes " slot " ++ decimal slot ++ codes " end " ++ edge_text end
+    codes "tenure " ++ decimal start ++ codes " level " ++ decimal level ++ codes " slot " ++ decimal slot
+    ++ codes " end " ++ edge_text end
 row_text (AddressedCycle start class modifier address end) =
     codes "cycle " ++ decimal start ++ codes " " ++ class_text class ++ codes " " ++ hexadecimal 2 modifier ++ codes " "
     ++ hexadecimal (address_digits modifier) address ++ codes " end " ++ edge_text end
@@ -94,7 +96,8 @@ row_text (FreeCycle start modifier end) =
 row_text (InterruptCycle start level end) =
     codes "cycle " ++ decimal start ++ codes " I " ++ decimal level ++ codes " end " ++ edge_text end
 row_text (Transfer direction line start cycle answer close lanes) =
-    codes "transfer " ++ decimal start ++ codes " of " ++ decimal cycle ++ codes " " ++ direction_text direction ++ codes " "
+    codes "transfer " ++ decimal start ++ codes " of " ++ decimal cycle ++ codes " " ++ direction_text direction
+    ++ codes " "
     ++ answer_text line ++ codes " " ++ decimal answer ++ codes " close " ++ edge_text close ++ data_text lanes
 row_text (PendingTransfer start direction) =
     codes "transfer " ++ decimal start ++ codes " " ++ direction_text direction ++ codes " pending"

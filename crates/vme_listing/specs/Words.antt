@@ -18,7 +18,8 @@ use Rattle.vme_listing.specs.declared.row.Outcome.{Outcome}
 use Rattle.vme_listing.specs.declared.row.Outcome.TheVariants.{Conforming, NeverIdle, Broken, Unreadable}
 use Rattle.vme_listing.specs.declared.row.Row.{Row}
 use Rattle.vme_listing.specs.declared.row.Row.TheVariants.{Start, Reset, OpenTenure, Tenure, AddressedCycle}
-use Rattle.vme_listing.specs.declared.row.Row.TheVariants.{FreeCycle, InterruptCycle, Transfer, PendingTransfer, Verdict}
+use Rattle.vme_listing.specs.declared.row.Row.TheVariants.{FreeCycle, InterruptCycle, Transfer, PendingTransfer}
+use Rattle.vme_listing.specs.declared.row.Row.TheVariants.{Verdict}
 
 -- the words of a line, between its spaces
 unfoldable pub words : List ℕ → List (List ℕ)
@@ -30,7 +31,8 @@ word_at ws place = slice_index_or ws place []
 
 -- 0 to 9 and A to F; any other byte counts as 0
 abbrev pub digit_of : ℕ → ℕ
-digit_of byte = if nat_le 48 byte && nat_le byte 57 then byte - 48 else if nat_le 65 byte && nat_le byte 70 then byte - 55 else 0
+digit_of byte = if nat_le 48 byte && nat_le byte 57 then byte - 48 else if nat_le 65 byte
+    && nat_le byte 70 then byte - 55 else 0
 
 -- digits after a number, in a base, by 32 bits
 abbrev pub number_after : ℕ → ℕ → List ℕ → ℕ
@@ -92,13 +94,17 @@ lanes_of kind word =
 unfoldable pub tenure_of : List (List ℕ) → Row
 tenure_of ws =
     if bytes_eq (word_at ws 2) (codes "open") then OpenTenure (number_of 10 (word_at ws 1)) (edge_of (word_at ws 4))
-    else Tenure (number_of 10 (word_at ws 1)) (small_of 10 (word_at ws 3)) (small_of 10 (word_at ws 5)) (edge_of (word_at ws 7))
+    else Tenure (number_of 10 (word_at ws 1)) (small_of 10 (word_at ws 3)) (small_of 10 (word_at ws 5))
+    (edge_of (word_at ws 7))
 
 unfoldable pub cycle_of : List (List ℕ) → Row
 cycle_of ws =
-    if bytes_eq (word_at ws 2) (codes "F") then FreeCycle (number_of 10 (word_at ws 1)) (small_of 16 (word_at ws 3)) (edge_of (word_at ws 5))
-    else if bytes_eq (word_at ws 2) (codes "I") then InterruptCycle (number_of 10 (word_at ws 1)) (small_of 10 (word_at ws 3)) (edge_of (word_at ws 5))
-    else AddressedCycle (number_of 10 (word_at ws 1)) (class_of (word_at ws 2)) (small_of 16 (word_at ws 3)) (number_of 16 (word_at ws 4)) (edge_of (word_at ws 6))
+    if bytes_eq (word_at ws 2) (codes "F") then FreeCycle (number_of 10 (word_at ws 1)) (small_of 16 (word_at ws 3))
+    (edge_of (word_at ws 5))
+    else if bytes_eq (word_at ws 2) (codes "I") then InterruptCycle (number_of 10 (word_at ws 1))
+    (small_of 10 (word_at ws 3)) (edge_of (word_at ws 5))
+    else AddressedCycle (number_of 10 (word_at ws 1)) (class_of (word_at ws 2)) (small_of 16 (word_at ws 3))
+    (number_of 16 (word_at ws 4)) (edge_of (word_at ws 6))
 
 unfoldable pub transfer_of : List (List ℕ) → Row
 transfer_of ws =
@@ -113,7 +119,8 @@ transfer_of ws =
 abbrev pub break_of : List ℕ → Option Rule → ℕ → Option ℕ → Option Outcome
 break_of kind None instant line = None
 break_of kind (Some rule) instant None = None
-break_of kind (Some rule) instant (Some line) = if bytes_eq kind (codes "broken") then Some (Broken rule instant line) else Some (Unreadable rule instant line)
+break_of kind (Some rule) instant (Some line) = if bytes_eq kind (codes "broken") then Some
+    (Broken rule instant line) else Some (Unreadable rule instant line)
 
 unfoldable pub outcome_of : List (List ℕ) → Option Outcome
 outcome_of ws =

@@ -9,7 +9,7 @@ ghost use Rattle.vme_listing.specs.Places.{may_follow, ascends};
 
 use crate::row::{Direction, Outcome, Row, Version};
 use crate::text::address_digits;
-use vme_trace::{Class, Lanes};
+use vme_trace::{Class, Lanes, MOST_SLOTS};
 
 /// Whether a code of the address modifier is one of block transfers.
 fn is_block(modifier: u8) -> bool
@@ -128,7 +128,7 @@ fn is_allowed(version: Version, row: Row) -> bool
     match row {
         Row::Start { .. } | Row::OpenTenure { .. } | Row::PendingTransfer { .. } => true,
         Row::Reset { .. } => version.tells_resets(),
-        Row::Tenure { level, slot, .. } => level < 4 && 1 <= slot && slot <= 21,
+        Row::Tenure { level, slot, .. } => level < 4 && 1 <= slot && slot <= MOST_SLOTS,
         Row::AddressedCycle {
             class,
             modifier,

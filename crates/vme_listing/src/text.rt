@@ -440,8 +440,8 @@ fn lane_digit(is_moved: bool, digit: u32, flag: u8) -> u8
     }
 }
 
-/// The data of a write as a listing tells them, a character for four lines each, D31 to D28 first: `-` where they aren't moved, `X`
-/// where one of them is unknown, else a hexadecimal digit.
+/// The data of a write as a listing tells them, a character for four lines each, D31 to D28 first: `-` where they
+/// aren't moved, `X` where one of them is unknown, else a hexadecimal digit.
 #[tactic(auto, unfolding(crate::specs::RowText::lanes_text))]
 pub fn data_digits(lanes: Lanes) -> [u8; 8]
     ensures { result ≡ lanes_text lanes }

@@ -57,8 +57,8 @@ module _ {P : Type 0} (run : P → Levels → List Step → Outcome P) (count : 
   abbrev pub shown_apart : Levels → List Step → ℕ
   shown_apart o x = shown_after o [] x
 
--- the rows of a table of steps are in different memories that the steps leave, and the table has no more marks than the steps show, each
--- step from each of the memories that those before it leave, once
+-- the rows of a table of steps are in different memories that the steps leave, and the table has no more marks than the
+-- steps show, each step from each of the memories that those before it leave, once
 pub record KeepApart {P : Type 0} (run : P → Levels → List Step → Outcome P) (count : ℕ) (place : P → ℕ) (nth : ℕ → P)
     (layers : List (List Hop)) (rows : List (Outcome P)) (o : Levels) (x : List Step) : Type 0 where
   pub apart : HaveNotMet place (memories_in rows)

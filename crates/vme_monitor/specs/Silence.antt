@@ -10,13 +10,15 @@ use Rattle.vme_monitor.specs.Run.{noticed, nothing, outcome_at, quiet, run_of}
 use Rattle.vme_monitor.specs.declared.mark.Next.{Next}
 
 -- a summary finds the memory that some steps after an opening leave, and their first break; of marks it says nothing
-pub record FindsFor {P : Type 0} (run : P → Levels → List Step → Outcome P) (says : P → Outcome P) (count : ℕ) (o : Levels) (x : List Step) : Type 0 where
+pub record FindsFor {P : Type 0} (run : P → Levels → List Step → Outcome P) (says : P → Outcome P) (count : ℕ)
+    (o : Levels) (x : List Step) : Type 0 where
   pub leaving : (p : P) → (says p).leaving ≡ (run p o x).leaving
   pub event : (p : P) → (says p).event ≡ (run p o x).event
   pub counted : count ≡ length x
 
 -- what stands for steps finds these
-pub stands_finds : {P : Type 0} {run : P → Levels → List Step → Outcome P} {says : P → Outcome P} {count : ℕ} {o : Levels} {x : List Step} → StandsFor run says count o x → FindsFor run says count o x
+pub stands_finds : {P : Type 0} {run : P → Levels → List Step → Outcome P} {says : P
+    → Outcome P} {count : ℕ} {o : Levels} {x : List Step} → StandsFor run says count o x → FindsFor run says count o x
 stands_finds stands =
     record {
       leaving = λ p. ap (λ (r : Outcome _). r.leaving) (stands.outcomes p);
@@ -39,29 +41,37 @@ unmarked a = record { leaving = a.leaving; event = a.event; marks = [] }
 -- what is too faint for a memory leaves it as it is, in silence too
 pub silence_unmoved : {P S : Type 0} (next : P → Levels → Levels → S → Next P) (alertness : P → ℕ) (faintness : S → ℕ)
     → ((p : P) (before after : Levels) (seen : S) → alertness p < faintness seen → next p before after seen ≡ quiet p)
-    → (p : P) (before after : Levels) (seen : S) → alertness p < faintness seen → in_silence next p before after seen ≡ quiet p
-silence_unmoved next alertness faintness unmoved p before after seen faint = ap silenced (unmoved p before after seen faint)
+    → (p : P) (before after : Levels) (seen : S) → alertness p < faintness seen
+    → in_silence next p before after seen ≡ quiet p
+silence_unmoved next alertness faintness unmoved p before after seen faint = ap silenced
+    (unmoved p before after seen faint)
 
-module _ {P S : Type 0} (sight : Levels → Levels → List Change → Option S) (next : P → Levels → Levels → S → Next P) where
-  silent_step : (p : P) (before after : Levels) (cs : List Change) → noticed sight (in_silence next) p before after cs ≡ silenced (noticed sight next p before after cs)
+module _ {P S : Type 0} (sight : Levels → Levels → List Change → Option S)
+    (next : P → Levels → Levels → S → Next P) where
+  silent_step : (p : P) (before after : Levels) (cs : List Change)
+      → noticed sight (in_silence next) p before after cs ≡ silenced (noticed sight next p before after cs)
   silent_step p before after cs = by_sight (sight before after cs)
     where
-      by_sight : (seen : Option S) → option_map_or (in_silence next p before after) seen (quiet p) ≡ silenced (option_map_or (next p before after) seen (quiet p))
+      by_sight : (seen : Option S) → option_map_or (in_silence next p before after) seen (quiet p)
+          ≡ silenced (option_map_or (next p before after) seen (quiet p))
       by_sight None = refl
       by_sight (Some s) = refl
 
   -- a run in silence is the run, without its marks
-  pub silent_run : (x : List Step) (p : P) (o : Levels) → run_of (noticed sight (in_silence next)) p o x ≡ unmarked (run_of (noticed sight next) p o x)
+  pub silent_run : (x : List Step) (p : P) (o : Levels)
+      → run_of (noticed sight (in_silence next)) p o x ≡ unmarked (run_of (noticed sight next) p o x)
   silent_run [] p o = refl
   silent_run (s ∷ x) p o =
       let after = changed o s.changes in
       let first = noticed sight next p o after s.changes in
-      ap (λ (n : Next P). followed 1 (outcome_at 1 s.time n) (run_of (noticed sight (in_silence next)) n.memory after x)) (silent_step p o after s.changes)
+      ap (λ (n : Next P). followed 1 (outcome_at 1 s.time n)
+      (run_of (noticed sight (in_silence next)) n.memory after x)) (silent_step p o after s.changes)
       ∙ ap (followed 1 (outcome_at 1 s.time (silenced first))) (silent_run x first.memory after)
 
   -- a summary of steps in silence finds what the steps do
   pub silent_finds : (says : P → Outcome P) (count : ℕ) (o : Levels) (x : List Step)
-      → StandsFor (run_of (noticed sight (in_silence next))) says count o x → FindsFor (run_of (noticed sight next)) says count o x
+      → StandsFor (run_of (noticed sight (in_silence next))) says count o x
+      → FindsFor (run_of (noticed sight next)) says count o x
   silent_finds says count o x stands =
       record {
         leaving = λ p. ap (λ (r : Outcome P). r.leaving) (stands.outcomes p ∙ silent_run x p o);

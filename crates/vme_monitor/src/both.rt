@@ -8,7 +8,9 @@ ghost use Rattle.vme_monitor.specs.Joined.{AreApart, AreJoined, together};
 ghost use Rattle.vme_monitor.specs.declared.mark.Kinds.{Kinds};
 ghost use Rattle.vme_monitor.specs.Whole.{FindsLeast, ShowsAll};
 ghost use Rattle.std.specs.Option.{option_map_or};
-ghost use Rattle.vme_monitor.specs.BothSpec.{by_instant, fault_lt as fault_before, front, rest, kind_number as kind_place, least as least_of, mark_lt as mark_before, merged, rule_number as rule_place, sooner as sooner_than};
+ghost use Rattle.vme_monitor.specs.BothSpec.{by_instant, fault_lt as fault_before, front, rest};
+ghost use Rattle.vme_monitor.specs.BothSpec.{kind_number as kind_place, least as least_of, mark_lt as mark_before};
+ghost use Rattle.vme_monitor.specs.BothSpec.{merged, rule_number as rule_place, sooner as sooner_than};
 
 use crate::mark::{Kind, Mark};
 use crate::monitor::Monitor;
@@ -190,8 +192,8 @@ fn put_behind(marks: Vec<Mark>, alone: &[Mark]) -> Result<Vec<Mark>, AllocError>
     Ok(all)
 }
 
-/// The same of marks that are given away: where one of the two shows nothing, they are those of the other, and where one
-/// shows one mark alone, as the start of judging, it is put among the others.
+/// The same of marks that are given away: where one of the two shows nothing, they are those of the other, and where
+/// one shows one mark alone, as the start of judging, it is put among the others.
 pub fn marks_together(
     alloc: Global,
     first: Vec<Mark>,
@@ -245,13 +247,18 @@ impl<M: Monitor, N: Monitor> Monitor for Both<M, N> {
 
     ghost marks_shown = { λ o x. M.marks_shown o x + N.marks_shown o x };
 
-    ghost nothing = { λ p o. both_nothing p.0 p.1 (M.run p.0 o []) (N.run p.1 o []) (M.nothing p.0 o) (N.nothing p.1 o) };
+    ghost nothing = { λ p o. both_nothing p.0 p.1 (M.run p.0 o []) (N.run p.1 o []) (M.nothing p.0 o)
+        (N.nothing p.1 o) };
 
-    ghost joined = { λ p o x y. both_runs M.run N.run p.0 p.1 o x y (M.joined p.0 o x y) (N.joined p.1 o x y) M.within N.within };
+    ghost joined = { λ p o x y. both_runs M.run N.run p.0 p.1 o x y (M.joined p.0 o x y)
+        (N.joined p.1 o x y) M.within N.within };
 
-    ghost within = { λ p o x. both_within (length x) (M.run p.0 o x) (N.run p.1 o x) (M.within p.0 o x) (N.within p.1 o x) };
+    ghost within = { λ p o x. both_within (length x) (M.run p.0 o x) (N.run p.1 o x) (M.within p.0 o x)
+        (N.within p.1 o x) };
 
-    ghost inside = { λ s p. both_within (M.count s.first) (M.outcome s.first p.0) (N.outcome s.second p.1) (M.inside s.first p.0) (within_same (M.count s.first) (N.count s.second) (N.outcome s.second p.1) s.same (N.inside s.second p.1)) };
+    ghost inside = { λ s p. both_within (M.count s.first) (M.outcome s.first p.0) (N.outcome s.second p.1)
+        (M.inside s.first p.0) (within_same (M.count s.first) (N.count s.second) (N.outcome s.second p.1) s.same
+        (N.inside s.second p.1)) };
 
     fn start(opening: &Lines) -> (M::Memory, N::Memory) {
         (M::start(opening), N::start(opening))
@@ -315,9 +322,11 @@ impl<M: Monitor, N: Monitor> Monitor for Both<M, N> {
     }
 }
 
-/// Over a whole capture, the event of both monitors is the least break of the rules of both, and their marks are what both show.
+/// Over a whole capture, the event of both monitors is the least break of the rules of both, and their marks are what
+/// both show.
 pub fn both_over_captures<M: Monitor, N: Monitor>()
-    ensures event { (rs qs all : List Rule) → AreJoined rs qs all → FindsLeast M.run M.begin rs → FindsLeast N.run N.begin qs → FindsLeast ⟦<Both<M, N> as Monitor>⟧.run ⟦<Both<M, N> as Monitor>⟧.begin all }
+    ensures event { (rs qs all : List Rule) → AreJoined rs qs all → FindsLeast M.run M.begin rs
+        → FindsLeast N.run N.begin qs → FindsLeast ⟦<Both<M, N> as Monitor>⟧.run ⟦<Both<M, N> as Monitor>⟧.begin all }
     ensures marks { (a b : Kinds) (f g : Trace → Span → ℕ → Kinds) → AreApart a b
         → ((t : Trace) (span : Span) (j : ℕ) → AreApart (f t span j) (g t span j))
         → ShowsAll M.run M.begin a f → ShowsAll N.run N.begin b g

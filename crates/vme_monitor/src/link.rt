@@ -5,9 +5,12 @@ ghost use Rattle.std.specs.List.{sum_by};
 ghost use Rattle.std.specs.Option.{option_map, option_to_list};
 ghost use Rattle.vme_monitor.specs.Meeting.{hop_marks, row_marks};
 ghost use Rattle.vme_monitor.specs.Outcome.{unmoved};
-ghost use Rattle.vme_monitor.specs.Run.{answer_kind as answer_kind_of, answered_kind as answered_kind_of, break_at, cycle_kind as cycle_kind_of, extended, kinds_of, mark_at, outcome_at, tenure_kind as tenure_kind_of, when as when_shown};
+ghost use Rattle.vme_monitor.specs.Run.{answer_kind as answer_kind_of, answered_kind as answered_kind_of, break_at};
+ghost use Rattle.vme_monitor.specs.Run.{cycle_kind as cycle_kind_of, extended, kinds_of, mark_at, outcome_at};
+ghost use Rattle.vme_monitor.specs.Run.{tenure_kind as tenure_kind_of, when as when_shown};
 ghost use Rattle.vme_monitor.specs.declared.mark.Kind.TheVariants.{Transfer};
-ghost use Rattle.vme_monitor.specs.Walk.{bridge_of, hop_of, later_break as later_break_of, later_hop, later_mark, later_outcome, outcome_of};
+ghost use Rattle.vme_monitor.specs.Walk.{bridge_of, hop_of, later_break as later_break_of, later_hop, later_mark};
+ghost use Rattle.vme_monitor.specs.Walk.{later_outcome, outcome_of};
 
 use crate::machine::Places;
 use crate::mark::{Answered, Asked, Fault, Kind, Kinds, Mark, Next, Taken};
@@ -106,7 +109,8 @@ pub fn later_rows<P: Copy>(
 
 /// A link from each row to the place of its memory.
 pub fn bridges<P: Places>(alloc: Global, rows: &[Row<P>], by: u32) -> Result<Vec<Link>, AllocError>
-    ensures { IfOk result (λ v. map hop_of v.items ≡ map (bridge_of P.place_of) (map (later_outcome by) (map outcome_of rows.now))) }
+    ensures { IfOk result (λ v. map hop_of v.items
+        ≡ map (bridge_of P.place_of) (map (later_outcome by) (map outcome_of rows.now))) }
 {
     let mut all = Vec::new(alloc);
     for row in rows {

@@ -1,6 +1,7 @@
 //! A table with one outcome for each entering memory. Runs that meet share what follows.
 
-ghost use Rattle.std.specs.Prelude.{◌≡◌, ℕ, ◌+◌, ◌-◌, ◌^◌, ◌≤◌, List, [], ◌∷◌, ◌++◌, All, length, map, min, IfOk, OnOk, IsTrue, None, vec_len, vec_capacity};
+ghost use Rattle.std.specs.Prelude.{◌≡◌, ℕ, ◌+◌, ◌-◌, ◌^◌, ◌≤◌, List, [], ◌∷◌, ◌++◌, All, length, map, min, IfOk, OnOk};
+ghost use Rattle.std.specs.Prelude.{IsTrue, None, vec_len, vec_capacity};
 ghost use Rattle.std.specs.Option.{is_some};
 ghost use Rattle.vme_trace.specs.Trace.{levels_after};
 ghost use Rattle.vme_trace.specs.WellFormed.{malformed_step};
@@ -24,19 +25,21 @@ use crate::view::View;
 use std::alloc::{AllocError, Global};
 use vme_trace::{Break, Lines, Step};
 
-/// What steps say to a monitor, whatever memory enters: runs that have met go on as one row, and each layer of links says
-/// which row of the next one a run goes on in.
+/// What steps say to a monitor, whatever memory enters: runs that have met go on as one row, and each layer of links
+/// says which row of the next one a run goes on in.
 #[derive(Debug, Drop)]
 pub struct Table<P: Places> {
     steps: u32,
     layers: Vec<Vec<Link>>,
     rows: Vec<Row<P>>,
     ghost full: { (p : P) → IsTrue (is_some (reach (hops layers.items) (map outcome_of rows.items) (P.place_of p))) },
-    ghost inside: { (p : P) → IsWithin steps (outcome layers.items rows.items p (P.place_of p)) } by { inside-prop steps (λ (p : P). outcome layers.items rows.items p (P.place_of p)) },
+    ghost inside: { (p : P) → IsWithin steps (outcome layers.items rows.items p
+        (P.place_of p)) } by { inside-prop steps (λ (p : P). outcome layers.items rows.items p (P.place_of p)) },
 }
 
 /// Rows whose runs have met go on as one, in a layer of their own.
-/// The answer is how alert the rows are at most, by what they were before: it is asked again only where that may be less.
+/// The answer is how alert the rows are at most, by what they were before: it is asked again only where that may be
+/// less.
 fn settle<M: Machine>(
     alloc: Global,
     layers: &mut Vec<Vec<Link>>,
@@ -280,7 +283,8 @@ fn delay_layers(layers: &mut [Vec<Link>], by: u32)
 impl<P: Places> Table<P> {
     /// The table of no steps.
     pub fn unit(alloc: Global) -> Result<Table<P>, AllocError>
-        ensures outcomes { IfOk result (λ t. (p : P) → outcome t.layers.items t.rows.items p (P.place_of p) ≡ unmoved p) }
+        ensures outcomes { IfOk result (λ t. (p : P)
+            → outcome t.layers.items t.rows.items p (P.place_of p) ≡ unmoved p) }
         ensures counted { IfOk result (λ t. t.steps ≡ 0) }
         ensures marks { IfOk result (λ t. marks_of (hops t.layers.items) (map outcome_of t.rows.items) ≡ 0) }
     {
@@ -300,7 +304,11 @@ impl<P: Places> Table<P> {
         second: &Table<P>,
     ) -> Result<Table<P>, AllocError>
         requires { first.now.steps + second.now.steps ≤ 268435456 }
-        ensures outcomes { IfOk result (λ t. (p : P) → let a = outcome first.now.layers.items first.now.rows.items p (P.place_of p) in outcome t.layers.items t.rows.items p (P.place_of p) ≡ followed first.now.steps a (outcome second.now.layers.items second.now.rows.items a.leaving (P.place_of a.leaving))) }
+        ensures outcomes { IfOk result (λ t. (p : P)
+            → let a = outcome first.now.layers.items first.now.rows.items p
+            (P.place_of p) in outcome t.layers.items t.rows.items p (P.place_of p)
+            ≡ followed first.now.steps a (outcome second.now.layers.items second.now.rows.items a.leaving
+            (P.place_of a.leaving))) }
         ensures counted { IfOk result (λ t. t.steps ≡ first.now.steps + second.now.steps) }
         ensures marks { IfOk result
             (λ t. marks_of (hops t.layers.items) (map outcome_of t.rows.items)
@@ -320,8 +328,8 @@ impl<P: Places> Table<P> {
         })
     }
 
-    /// Takes all the memory that it needs to take over another table: room for links in place of the rows comes back. It
-    /// says what it said, after an error too.
+    /// Takes all the memory that it needs to take over another table: room for links in place of the rows comes back.
+    /// It says what it said, after an error too.
     pub fn make_room(&mut self, alloc: Global, second: &Table<P>) -> Result<Vec<Link>, AllocError>
         ensures steps { self.new.steps ≡ self.old.steps }
         ensures layers { self.new.layers.items ≡ self.old.layers.items }
@@ -333,12 +341,14 @@ impl<P: Places> Table<P> {
         Vec::with_capacity(alloc, self.rows.len())
     }
 
-    /// The table of the steps of two, one after the other, where both are given away: their links and rows are taken over,
-    /// not copied, in room that was made. Takes no memory.
+    /// The table of the steps of two, one after the other, where both are given away: their links and rows are taken
+    /// over, not copied, in room that was made. Takes no memory.
     pub fn append_in(self, room: Vec<Link>, second: Table<P>) -> Table<P>
         requires few { self.steps + second.steps ≤ 268435456 }
         requires room { HasRoomFor room self.layers self.rows second.layers }
-        ensures outcomes { (p : P) → let a = outcome self.layers.items self.rows.items p (P.place_of p) in outcome result.layers.items result.rows.items p (P.place_of p) ≡ followed self.steps a (outcome second.layers.items second.rows.items a.leaving (P.place_of a.leaving)) }
+        ensures outcomes { (p : P) → let a = outcome self.layers.items self.rows.items p
+            (P.place_of p) in outcome result.layers.items result.rows.items p (P.place_of p)
+            ≡ followed self.steps a (outcome second.layers.items second.rows.items a.leaving (P.place_of a.leaving)) }
         ensures counted { result.steps ≡ self.steps + second.steps }
         ensures marks { marks_of (hops result.layers.items) (map outcome_of result.rows.items)
             ≡ marks_of (hops self.layers.items) (map outcome_of self.rows.items)
@@ -447,7 +457,8 @@ impl<P: Places> Table<P> {
 
     /// The marks, where this memory enters.
     pub fn marks(&self, alloc: Global, memory: P) -> Result<Vec<Mark>, AllocError>
-        ensures { IfOk result (λ v. v.items ≡ (outcome self.now.layers.items self.now.rows.items memory (P.place_of memory)).marks) }
+        ensures { IfOk result (λ v. v.items ≡ (outcome self.now.layers.items self.now.rows.items memory
+            (P.place_of memory)).marks) }
     {
         let mut all = Vec::with_capacity(alloc, self.count_marks(memory))?;
         let mut k = memory.place();

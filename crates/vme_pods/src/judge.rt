@@ -31,9 +31,9 @@ pub struct Plan {
     pub seed: Option<u64>,
 }
 
-/// The verdict on a recording that is cut into blocks, which workers deliver in the order that the plan says. Whatever the
-/// order, the repetition and the number of workers, the answer is the same one, unless memory is short, a thread can't be
-/// started, or a block is stray.
+/// The verdict on a recording that is cut into blocks, which workers deliver in the order that the plan says. Whatever
+/// the order, the repetition and the number of workers, the answer is the same one, unless memory is short, a thread
+/// can't be started, or a block is stray.
 pub fn verdict_by_pods<R: Threads + Wait + Sync>(
     rt: &R,
     alloc: Global,

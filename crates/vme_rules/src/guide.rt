@@ -13,7 +13,8 @@ pub struct Guide {
     pub sentence: &'static str,
     /// The line that a break names.
     pub line: &'static str,
-    /// The chapter of ANSI/IEEE Std 1014-1987 from which it comes, and `profile` where it is this project's own reading.
+    /// The chapter of ANSI/IEEE Std 1014-1987 from which it comes, and `profile` where it is this project's own
+    /// reading.
     pub section: &'static str,
     /// What is usually wrong on a board that breaks it.
     pub causes: &'static str,
@@ -24,7 +25,8 @@ const U1: Guide = Guide {
     sentence: "a control line is Unknown, at the end of judging",
     line: "that control line",
     section: "profile",
-    causes: "two boards drive the line against each other; a net of a daisy chain that its board lets go once the bus was idle; a driver that becomes unknown where a state that isn't reset is used; $dumpoff",
+    causes: "two boards drive the line against each other; a net of a daisy chain that its board lets go once the bus \
+             was idle; a driver that becomes unknown where a state that isn't reset is used; $dumpoff",
 };
 
 const U2: Guide = Guide {
@@ -32,7 +34,8 @@ const U2: Guide = Guide {
     sentence: "AS falls and a needed line of this cycle is Unknown",
     line: "the needed line",
     section: "chapter 2, Data Transfer Bus; profile",
-    causes: "the master drives AS before its address, AM, LWORD or IACK; two masters drive the address at once; a needed line that is bound to x",
+    causes: "the master drives AS before its address, AM, LWORD or IACK; two masters drive the address at once; a \
+             needed line that is bound to x",
 };
 
 const U3: Guide = Guide {
@@ -48,7 +51,8 @@ const U4: Guide = Guide {
     sentence: "a strobe falls in a write, no later than its answer, and a data line that the write moves is Unknown",
     line: "the data line",
     section: "chapter 2, Data Transfer Bus; profile",
-    causes: "the master's data register isn't set before its strobes; two boards drive the data lines at once; a data line that is bound to x",
+    causes: "the master's data register isn't set before its strobes; two boards drive the data lines at once; a data \
+             line that is bound to x",
 };
 
 const H1: Guide = Guide {
@@ -56,7 +60,8 @@ const H1: Guide = Guide {
     sentence: "a transfer starts, and DTACK, or BERR, isn't High near",
     line: "the answer line that isn't High",
     section: "chapter 2, Data Transfer Bus",
-    causes: "the master doesn't wait until the answer of its last transfer is gone; a slave or the bus timer that lets its answer go late, or never",
+    causes: "the master doesn't wait until the answer of its last transfer is gone; a slave or the bus timer that lets \
+             its answer go late, or never",
 };
 
 const H2: Guide = Guide {
@@ -64,7 +69,8 @@ const H2: Guide = Guide {
     sentence: "a strobe rises inside a transfer, after its start, that has no answer so far",
     line: "the strobe that rises",
     section: "chapter 2, Data Transfer Bus",
-    causes: "the master lets its strobes go by a clock or a timer of its own, and not by the answer; a glitch on a strobe; a reset in the middle of a transfer, where SYSRESET is not bound",
+    causes: "the master lets its strobes go by a clock or a timer of its own, and not by the answer; a glitch on a \
+             strobe; a reset in the middle of a transfer, where SYSRESET is not bound",
 };
 
 const H3: Guide = Guide {
@@ -72,7 +78,8 @@ const H3: Guide = Guide {
     sentence: "a strobe falls inside a transfer, after its start and after its answer",
     line: "the strobe that falls",
     section: "chapter 2, Data Transfer Bus",
-    causes: "the master drives its two strobes too far apart; the second half of an access is strobed before the first one is over; a glitch on a strobe",
+    causes: "the master drives its two strobes too far apart; the second half of an access is strobed before the first \
+             one is over; a glitch on a strobe",
 };
 
 const H4: Guide = Guide {
@@ -80,7 +87,8 @@ const H4: Guide = Guide {
     sentence: "an answer line falls outside any transfer",
     line: "the answer line that falls",
     section: "chapter 2, Data Transfer Bus",
-    causes: "a slave that is too slow answers once the master has gone; the bus timer and a slow slave answer one after the other; a slave that decodes the address without the strobes",
+    causes: "a slave that is too slow answers once the master has gone; the bus timer and a slow slave answer one \
+             after the other; a slave that decodes the address without the strobes",
 };
 
 const H5: Guide = Guide {
@@ -88,15 +96,18 @@ const H5: Guide = Guide {
     sentence: "an answer line falls in a transfer after its answer, or both answer lines fall at the answer",
     line: "the answer line that falls",
     section: "chapter 2, Data Transfer Bus; profile",
-    causes: "two slaves decode the same address; the bus timer runs out while a slow slave answers; a glitch on an answer line",
+    causes: "two slaves decode the same address; the bus timer runs out while a slow slave answers; a glitch on an \
+             answer line",
 };
 
 const H6: Guide = Guide {
     rule: Rule::H6,
-    sentence: "an answer line rises, and no strobe rose at any instant from that line's last fall on, both instants included",
+    sentence: "an answer line rises, and no strobe rose at any instant from that line's last fall on, both instants \
+               included",
     line: "the answer line that rises",
     section: "chapter 2, Data Transfer Bus",
-    causes: "the slave lets its answer go by a clock or a timer of its own, and not by the strobes; two slaves answer and the first lets go",
+    causes: "the slave lets its answer go by a clock or a timer of its own, and not by the strobes; two slaves answer \
+             and the first lets go",
 };
 
 const H7: Guide = Guide {
@@ -104,7 +115,8 @@ const H7: Guide = Guide {
     sentence: "AS rises while a transfer that started before is open and has no answer so far",
     line: "AS",
     section: "chapter 2, Data Transfer Bus",
-    causes: "the master ends its cycle by a clock or a timer of its own, and not by the answer; a reset in the middle of a cycle, where SYSRESET is not bound",
+    causes: "the master ends its cycle by a clock or a timer of its own, and not by the answer; a reset in the middle \
+             of a cycle, where SYSRESET is not bound",
 };
 
 const H8: Guide = Guide {
@@ -112,15 +124,18 @@ const H8: Guide = Guide {
     sentence: "a transfer is answered and AS isn't Low near",
     line: "the answer line that falls",
     section: "chapter 2, Data Transfer Bus",
-    causes: "a slave that decodes the address without AS; a master that drives its strobes without AS, or AS long after them",
+    causes: "a slave that decodes the address without AS; a master that drives its strobes without AS, or AS long \
+             after them",
 };
 
 const S1: Guide = Guide {
     rule: Rule::S1,
-    sentence: "a needed line has an edge after its cycle's start, before the cycle's end and before any transfer's answer since the start",
+    sentence: "a needed line has an edge after its cycle's start, before the cycle's end and before any transfer's \
+               answer since the start",
     line: "the needed line",
     section: "chapter 2, Data Transfer Bus",
-    causes: "the master lets the next address through, or turns its drivers off, by its own clock and not by the answer; an address latch that is open while AS is Low; two masters drive at once",
+    causes: "the master lets the next address through, or turns its drivers off, by its own clock and not by the \
+             answer; an address latch that is open while AS is Low; two masters drive at once",
 };
 
 const S2: Guide = Guide {
@@ -128,15 +143,18 @@ const S2: Guide = Guide {
     sentence: "WRITE has an edge after a transfer's start, before a strobe rises in it",
     line: "WRITE",
     section: "chapter 2, Data Transfer Bus",
-    causes: "the master turns WRITE for its next access before the strobes are High; WRITE is let go together with the address, at the answer",
+    causes: "the master turns WRITE for its next access before the strobes are High; WRITE is let go together with the \
+             address, at the answer",
 };
 
 const S3: Guide = Guide {
     rule: Rule::S3,
-    sentence: "a data line that a write moves has an edge after its start, before its answer and before a strobe rises in it",
+    sentence: "a data line that a write moves has an edge after its start, before its answer and before a strobe rises \
+               in it",
     line: "the data line with the edge",
     section: "chapter 2, Data Transfer Bus",
-    causes: "the master drives its data after the strobe; the master lets its next data through before the answer; a slave that drives the data lines in a write",
+    causes: "the master drives its data after the strobe; the master lets its next data through before the answer; a \
+             slave that drives the data lines in a write",
 };
 
 const C1: Guide = Guide {
@@ -144,7 +162,8 @@ const C1: Guide = Guide {
     sentence: "a single cycle has a second answer and the two aren't a read, then a write; or a later answer",
     line: "the answer line that falls",
     section: "chapter 2, Data Transfer Bus",
-    causes: "a block transfer with the address modifier code of a single one; AS stays Low between two cycles; a read-modify-write that writes first",
+    causes: "a block transfer with the address modifier code of a single one; AS stays Low between two cycles; a \
+             read-modify-write that writes first",
 };
 
 const C2: Guide = Guide {
@@ -152,7 +171,8 @@ const C2: Guide = Guide {
     sentence: "the direction of an answered transfer of a block cycle differs from the cycle's first",
     line: "the answer line that falls",
     section: "chapter 2, Data Transfer Bus",
-    causes: "a read-modify-write with the address modifier code of a block transfer; AS stays Low between a block of reads and one of writes",
+    causes: "a read-modify-write with the address modifier code of a block transfer; AS stays Low between a block of \
+             reads and one of writes",
 };
 
 const G1: Guide = Guide {
@@ -160,7 +180,8 @@ const G1: Guide = Guide {
     sentence: "a slot's grant output falls and its input isn't Low near",
     line: "the net",
     section: "chapter 3, Data Transfer Bus Arbitration",
-    causes: "a board drives its grant output without looking at its input; the grants of two levels, or of two slots, are exchanged in the binding or on the backplane; a glitch",
+    causes: "a board drives its grant output without looking at its input; the grants of two levels, or of two slots, \
+             are exchanged in the binding or on the backplane; a glitch",
 };
 
 const G2: Guide = Guide {
@@ -168,7 +189,8 @@ const G2: Guide = Guide {
     sentence: "a slot's grant output rises and its input isn't High near",
     line: "the net",
     section: "chapter 3, Data Transfer Bus Arbitration",
-    causes: "a board lets its grant output go when its own request changes; a board that takes a grant that it has passed on; a reset in the middle of a grant, where SYSRESET is not bound",
+    causes: "a board lets its grant output go when its own request changes; a board that takes a grant that it has \
+             passed on; a reset in the middle of a grant, where SYSRESET is not bound",
 };
 
 const G3: Guide = Guide {
@@ -176,7 +198,8 @@ const G3: Guide = Guide {
     sentence: "two of BG0.0 to BG3.0 are Low, and one of these falls",
     line: "the net that falls",
     section: "chapter 3, Data Transfer Bus Arbitration",
-    causes: "an arbiter that grants a second level before it has taken the first grant back; two boards that are both the system controller",
+    causes: "an arbiter that grants a second level before it has taken the first grant back; two boards that are both \
+             the system controller",
 };
 
 const G4: Guide = Guide {
@@ -184,15 +207,18 @@ const G4: Guide = Guide {
     sentence: "a grant net falls and BBSY isn't High near",
     line: "the net",
     section: "chapter 3, Data Transfer Bus Arbitration",
-    causes: "an arbiter that grants while the bus is busy; a board that passes a grant on after another has taken it; BBSY is driven late",
+    causes: "an arbiter that grants while the bus is busy; a board that passes a grant on after another has taken it; \
+             BBSY is driven late",
 };
 
 const G5: Guide = Guide {
     rule: Rule::G5,
-    sentence: "BGn.0 falls, and BRn is Low at no instant from the last fall of any BGx.0 before (or the start) on, both included",
+    sentence: "BGn.0 falls, and BRn is Low at no instant from the last fall of any BGx.0 before (or the start) on, \
+               both included",
     line: "the net that falls",
     section: "chapter 3, Data Transfer Bus Arbitration",
-    causes: "an arbiter that grants without a request, or on the wrong level; a request line that wasn't recorded and is bound to 1",
+    causes: "an arbiter that grants without a request, or on the wrong level; a request line that wasn't recorded and \
+             is bound to 1",
 };
 
 const B1: Guide = Guide {
@@ -200,7 +226,8 @@ const B1: Guide = Guide {
     sentence: "BBSY falls and no BGn.0 is Low near",
     line: "BBSY",
     section: "chapter 3, Data Transfer Bus Arbitration",
-    causes: "a master that takes the bus without a grant, or after the arbiter took the grant back; a grant chain that wasn't recorded and is bound to 1",
+    causes: "a master that takes the bus without a grant, or after the arbiter took the grant back; a grant chain that \
+             wasn't recorded and is bound to 1",
 };
 
 const B2: Guide = Guide {
@@ -208,7 +235,8 @@ const B2: Guide = Guide {
     sentence: "BBSY falls, and no BGn.0 fell after the previous fall of BBSY (or the start)",
     line: "BBSY",
     section: "chapter 3, Data Transfer Bus Arbitration",
-    causes: "a master that takes the bus again by a grant that was used; two requesters take one grant; a glitch on BBSY",
+    causes: "a master that takes the bus again by a grant that was used; two requesters take one grant; a glitch on \
+             BBSY",
 };
 
 const B3: Guide = Guide {
@@ -216,7 +244,8 @@ const B3: Guide = Guide {
     sentence: "AS falls and BBSY isn't Low near",
     line: "AS",
     section: "chapter 2, Data Transfer Bus",
-    causes: "a master that drives AS before it has the bus, or after it has let BBSY go; BBSY wasn't recorded and is bound to 1",
+    causes: "a master that drives AS before it has the bus, or after it has let BBSY go; BBSY wasn't recorded and is \
+             bound to 1",
 };
 
 const B4: Guide = Guide {
@@ -224,7 +253,8 @@ const B4: Guide = Guide {
     sentence: "BBSY falls and the grant came past the last slot",
     line: "BBSY",
     section: "chapter 3, Data Transfer Bus Arbitration",
-    causes: "the requester passes the grant on and takes the bus all the same; the binding has fewer slots than the backplane",
+    causes: "the requester passes the grant on and takes the bus all the same; the binding has fewer slots than the \
+             backplane",
 };
 
 const I1: Guide = Guide {
@@ -232,7 +262,8 @@ const I1: Guide = Guide {
     sentence: "IA.k falls and the slot's input isn't Low near",
     line: "the net",
     section: "chapter 4, Priority Interrupt",
-    causes: "a board drives its acknowledge output without looking at its input; IACK isn't brought to slot 1's input; slots are exchanged in the binding",
+    causes: "a board drives its acknowledge output without looking at its input; IACK isn't brought to slot 1's input; \
+             slots are exchanged in the binding",
 };
 
 const I2: Guide = Guide {
@@ -240,7 +271,8 @@ const I2: Guide = Guide {
     sentence: "IA.k falls, and AS isn't Low near or neither strobe is Low near",
     line: "the net",
     section: "chapter 4, Priority Interrupt",
-    causes: "a board passes its acknowledge input on at once, without waiting for AS and a strobe; a glitch on IACK between two cycles",
+    causes: "a board passes its acknowledge input on at once, without waiting for AS and a strobe; a glitch on IACK \
+             between two cycles",
 };
 
 const I3: Guide = Guide {
@@ -248,7 +280,8 @@ const I3: Guide = Guide {
     sentence: "IA.k falls while AS stays Low, after a transfer of this cycle was answered by DTACK",
     line: "the net",
     section: "chapter 4, Priority Interrupt",
-    causes: "an interrupter that answers and passes the acknowledge on as well; its request and its acknowledge input are compared in a race; another board answers for it",
+    causes: "an interrupter that answers and passes the acknowledge on as well; its request and its acknowledge input \
+             are compared in a race; another board answers for it",
 };
 
 const I4: Guide = Guide {
@@ -264,43 +297,9 @@ const I5: Guide = Guide {
     sentence: "an interrupt acknowledge has a second answer",
     line: "the answer line that falls",
     section: "chapter 4, Priority Interrupt; profile",
-    causes: "the interrupt handler reads its vector in two transfers of one cycle; AS stays Low between two acknowledge cycles",
+    causes: "the interrupt handler reads its vector in two transfers of one cycle; AS stays Low between two \
+             acknowledge cycles",
 };
-
-/// All rules, in the order in which breaks at one instant are named.
-pub(crate) const ALL: [Rule; 31] = [
-    Rule::U1,
-    Rule::U2,
-    Rule::U3,
-    Rule::U4,
-    Rule::H1,
-    Rule::H2,
-    Rule::H3,
-    Rule::H4,
-    Rule::H5,
-    Rule::H6,
-    Rule::H7,
-    Rule::H8,
-    Rule::S1,
-    Rule::S2,
-    Rule::S3,
-    Rule::C1,
-    Rule::C2,
-    Rule::G1,
-    Rule::G2,
-    Rule::G3,
-    Rule::G4,
-    Rule::G5,
-    Rule::B1,
-    Rule::B2,
-    Rule::B3,
-    Rule::B4,
-    Rule::I1,
-    Rule::I2,
-    Rule::I3,
-    Rule::I4,
-    Rule::I5,
-];
 
 impl Guide {
     /// What this rule asks.

@@ -1,6 +1,6 @@
 //! The guides as text.
 
-use crate::guide::{ALL, Guide};
+use crate::guide::Guide;
 use std::alloc::{AllocError, Global};
 use vme_text::Text;
 use vme_trace::Rule;
@@ -28,7 +28,7 @@ pub fn rules_text(alloc: Global, only: Option<Rule>) -> Result<Text, AllocError>
     match only {
         Some(rule) => push_rule(&mut text, rule)?,
         None => {
-            for rule in ALL {
+            for rule in Rule::ALL {
                 push_rule(&mut text, rule)?;
             }
         }

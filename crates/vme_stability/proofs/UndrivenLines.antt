@@ -51,6 +51,9 @@ module _ (v : Levels) where
   pub undriven_more : (n : ℕ) → any (is_undriven v) 0 n ≡ false → is_undriven v n ≡ false → any (is_undriven v) 0 (n + 1) ≡ false
   undriven_more n h e = any-step (is_undriven v) 0 n ∙ rw (h, e) (and_false (nat_le 0 n))
 
+  pub next_line : (b : ℕ) → any (is_undriven v) 0 (159 + b + 1) ≡ false → any (is_undriven v) 0 (159 + (b + 1)) ≡ false
+  next_line b h = let next : 159 + (b + 1) ≡ 159 + b + 1 = omega arith in rw next h
+
   module _ (n l : ℕ) (there : l ≡ n) where
     pub undriven_there : is_selected v l ≡ true → is_known_on v l ≡ false → is_undriven v n ≡ true
     undriven_there h k = rw (← there, h, k) refl

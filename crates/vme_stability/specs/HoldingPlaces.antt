@@ -45,7 +45,8 @@ progress_place Answered = 3
 progress_place Over = 4
 
 abbrev pub progress_nth : ℕ → Progress
-progress_nth k = if k == 0 then Fresh else if k == 1 then RisenInRead else if k == 2 then RisenInWrite else if k == 3 then Answered else Over
+progress_nth k = if k == 0 then Fresh else if k == 1 then RisenInRead else if k == 2 then RisenInWrite
+    else if k == 3 then Answered else Over
 
 abbrev pub holding_place : Holding → ℕ
 holding_place m = progress_place m.transfer + (if m.cycle_answered then 5 else 0)
@@ -68,7 +69,8 @@ placed_at Over false = lit< tt
 pub holding_placed : (m : Holding) → holding_place m < 10
 holding_placed m = placed_at m.transfer m.cycle_answered
 
-found_at : (a : Progress) (b : Bool) → holding_nth (progress_place a + (if b then 5 else 0)) ≡ record { transfer = a; cycle_answered = b }
+found_at : (a : Progress) (b : Bool) → holding_nth (progress_place a + (if b then 5 else 0))
+    ≡ record { transfer = a; cycle_answered = b }
 found_at Fresh true = refl
 found_at Fresh false = refl
 found_at RisenInRead true = refl

@@ -86,7 +86,8 @@ first_needed needs cs = first_among (is_within needs) cs
 
 -- a transfer moved the line before the step, and the line has another level after it
 abbrev pub is_shifted : Levels → Levels → ℕ → Bool
-is_shifted v w l = has_line v.slots l && has_line w.slots l && (is_selected v l && not (same_level (level_at v l) (level_at w l)))
+is_shifted v w l = has_line v.slots l && has_line w.slots l
+    && (is_selected v l && not (same_level (level_at v l) (level_at w l)))
 
 -- the first changed one, if the transfer was a write by what WRITE* showed
 abbrev pub shifted_line : Levels → Levels → List Change → Option ℕ
@@ -104,11 +105,18 @@ abbrev pub changes_holding : Levels → Levels → Bool
 changes_holding v w = answer_between v w || strobe_rises_between v w || rises_between v w AS
 
 abbrev pub sight_of : Levels → Levels → List Change → Sight
-sight_of v w cs = record { unknown = faults_unknown v w; undriven = undriven_line v w; moved = address_moved v cs; turned = direction_turned v w; shifted = shifted_line v w cs }
+sight_of v w cs = record {
+  unknown = faults_unknown v w;
+  undriven = undriven_line v w;
+  moved = address_moved v cs;
+  turned = direction_turned v w;
+  shifted = shifted_line v w cs;
+}
 
 -- nothing that counts has changed where none of these holds
 abbrev pub is_noticed : Levels → Levels → List Change → Bool
-is_noticed v w cs = is_some (faults_unknown v w) || is_some (address_moved v cs) || direction_turned v w || changes_holding v w || is_some (undriven_line v w) || is_some (shifted_line v w cs)
+is_noticed v w cs = is_some (faults_unknown v w) || is_some (address_moved v cs) || direction_turned v w
+    || changes_holding v w || is_some (undriven_line v w) || is_some (shifted_line v w cs)
 
 abbrev pub stability_sight : Levels → Levels → List Change → Option Sight
 stability_sight v w cs = if is_noticed v w cs then Some (sight_of v w cs) else None
@@ -139,12 +147,14 @@ keeps_data m v w = keeps_direction m v w && not (was_answered m.transfer) && not
 
 -- the transfer in which the instant after the step is, is a write that had no answer before
 abbrev pub writes_now : Holding → Levels → Levels → Bool
-writes_now m v w = if strobes_high_in v then strobe_low_in w && is_low (level_at w WRITE) else writes_of m.transfer (is_low (level_at v WRITE))
+writes_now m v w = if strobes_high_in v then strobe_low_in w
+    && is_low (level_at w WRITE) else writes_of m.transfer (is_low (level_at v WRITE))
 
 -- what has come of the transfer after a step
 abbrev pub passed_in : Holding → Levels → Levels → Progress
 passed_in m v w =
-    passed (not (strobes_high_in w) && (was_answered m.transfer || answer_between v w)) (not (strobes_high_in w) && (has_risen m.transfer || strobe_rises_between v w))
+    passed (not (strobes_high_in w) && (was_answered m.transfer || answer_between v w))
+    (not (strobes_high_in w) && (has_risen m.transfer || strobe_rises_between v w))
     (writes_of m.transfer (is_low (level_at v WRITE)))
 
 abbrev pub stepped : Holding → Levels → Levels → Holding
@@ -179,7 +189,8 @@ shifted_fault m v w seen = kept (keeps_data m v w) seen.shifted
 abbrev pub fault_in : Holding → Levels → Levels → Sight → Option Fault
 fault_in m v w seen =
     option_or seen.unknown
-    (option_or (fault_on U4 (undriven_fault m v w seen)) (option_or (held_fault m v w seen) (fault_on S3 (shifted_fault m v w seen))))
+    (option_or (fault_on U4 (undriven_fault m v w seen))
+    (option_or (held_fault m v w seen) (fault_on S3 (shifted_fault m v w seen))))
 
 abbrev pub stability_begin : Levels → Holding
 stability_begin v = record { transfer = Fresh; cycle_answered = false }

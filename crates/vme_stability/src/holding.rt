@@ -1,7 +1,8 @@
 //! What is being held.
 
 ghost use Rattle.std.specs.Prelude.{◌≡◌};
-ghost use Rattle.vme_stability.specs.HoldingPlaces.{has_risen as risen_of, passed, progress_nth, progress_place, was_answered as answered_of, writes_of};
+ghost use Rattle.vme_stability.specs.HoldingPlaces.{has_risen as risen_of, passed, progress_nth, progress_place};
+ghost use Rattle.vme_stability.specs.HoldingPlaces.{was_answered as answered_of, writes_of};
 
 use vme_monitor::machine::{Places, Small};
 

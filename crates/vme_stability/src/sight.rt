@@ -7,7 +7,14 @@ ghost use Rattle.vme_trace.specs.Levels.{Levels};
 ghost use Rattle.vme_trace.specs.LineNumbers.{has_line, line_count};
 ghost use Rattle.vme_monitor.specs.Edges.{falls_between};
 ghost use Rattle.vme_monitor.specs.Tracking.{strobe_low_in};
-ghost use Rattle.vme_stability.specs.StabilitySpec.{address_moved, changes_holding as changes_holding_of, direction_turned, fault_on as fault_on_line, faults_unknown, first_among, first_needed as first_needed_of, is_shifted, is_undriven, may_write as may_write_of, rises_between, shifted_line as shifted_line_of, starts_between, strobe_falls_between, strobe_rises_between, undriven_line as undriven_line_of, unknown_direction as unknown_direction_of, unknown_need};
+ghost use Rattle.vme_stability.specs.StabilitySpec.{address_moved, changes_holding as changes_holding_of};
+ghost use Rattle.vme_stability.specs.StabilitySpec.{direction_turned, fault_on as fault_on_line, faults_unknown};
+ghost use Rattle.vme_stability.specs.StabilitySpec.{first_among, first_needed as first_needed_of, is_shifted};
+ghost use Rattle.vme_stability.specs.StabilitySpec.{is_undriven, may_write as may_write_of, rises_between};
+ghost use Rattle.vme_stability.specs.StabilitySpec.{shifted_line as shifted_line_of, starts_between};
+ghost use Rattle.vme_stability.specs.StabilitySpec.{strobe_falls_between, strobe_rises_between};
+ghost use Rattle.vme_stability.specs.StabilitySpec.{undriven_line as undriven_line_of};
+ghost use Rattle.vme_stability.specs.StabilitySpec.{unknown_direction as unknown_direction_of, unknown_need};
 
 use vme_monitor::mark::Fault;
 use vme_monitor::tracking::{answer_between, has_strobes_high};
@@ -18,7 +25,8 @@ use vme_trace::{Change, Line, LineSet, Lines, Rule, is_selected, needed};
 pub struct Sight {
     /// A line is unknown that is asked for at this step.
     pub unknown: Option<Fault>,
-    /// A data strobe falls, and this is the least line of which nothing is known that the transfer moves, which may be a write.
+    /// A data strobe falls, and this is the least line of which nothing is known that the transfer moves, which may be
+    /// a write.
     pub undriven: Option<Line>,
     /// The first changed line that a cycle needs whose address strobe was low before.
     pub moved: Option<Line>,
@@ -77,8 +85,8 @@ pub(crate) fn fault_on(rule: Rule, line: Option<Line>) -> Option<Fault>
     }
 }
 
-/// Whether the lines that cycles need are all known: then no cycle lacks one. They are counted, so that the work is that of a
-/// few vectors.
+/// Whether the lines that cycles need are all known: then no cycle lacks one. They are counted, so that the work is
+/// that of a few vectors.
 #[inline(always)]
 fn has_known_needs(lines: &Lines) -> bool
     ensures { result ≡ true → unknown_need lines.now ≡ None }
@@ -151,8 +159,8 @@ fn first_needed(needed: &LineSet, changes: &[Change]) -> Option<Line>
     None
 }
 
-/// Whether another line than AS*, the strobes and the answers is among the changes: no cycle needs those, and no transfer moves
-/// them.
+/// Whether another line than AS*, the strobes and the answers is among the changes: no cycle needs those, and no
+/// transfer moves them.
 fn touches_others(changes: &[Change]) -> bool
     ensures needed { result ≡ false → (needs : Needs) → first_needed_of needs changes.now ≡ None }
     ensures moved { result ≡ false → (v w : Levels) → first_among (is_shifted v w) changes.now ≡ None }
@@ -214,11 +222,10 @@ fn least_undriven(lines: &Lines) -> Option<Line>
     if has_known_data(lines) {
         return None;
     }
-    for number in 159..191 {
-        if let Some(line) = Line::from_number(number) {
-            if !lines.level(line).is_known() && is_selected(lines, line) {
-                return Some(line);
-            }
+    for bit in 0..32 {
+        let line = Line::data(bit);
+        if !lines.level(line).is_known() && is_selected(lines, line) {
+            return Some(line);
         }
     }
     None
@@ -241,7 +248,7 @@ fn touches_data(changes: &[Change]) -> bool
     ensures { result ≡ false → (v w : Levels) → first_among (is_shifted v w) changes.now ≡ None }
 {
     for change in changes {
-        if change.line.number() >= 159 {
+        if change.line.is_data() {
             return true;
         }
     }

@@ -4,7 +4,9 @@ ghost use Rattle.std.specs.Prelude.{◌≡◌, ◌&&◌};
 ghost use Rattle.vme_monitor.specs.Run.{nothing};
 ghost use Rattle.vme_monitor.specs.Whole.{FindsLeast, ShowsAll};
 ghost use Rattle.vme_trace.specs.declared.rule.Rule.TheVariants.{S3, U4};
-ghost use Rattle.vme_stability.specs.StabilitySpec.{answers_in, fault_in, fault_on as fault_on_line, held_fault, keeps_data as keeps_data_in, shifted_fault, stability_rules, passed_in, stability_shown, stepped, undriven_fault, writes_now};
+ghost use Rattle.vme_stability.specs.StabilitySpec.{answers_in, fault_in, fault_on as fault_on_line, held_fault};
+ghost use Rattle.vme_stability.specs.StabilitySpec.{keeps_data as keeps_data_in, shifted_fault, stability_rules};
+ghost use Rattle.vme_stability.specs.StabilitySpec.{passed_in, stability_shown, stepped, undriven_fault, writes_now};
 
 use crate::holding::{Holding, Progress};
 use crate::sight::{Sight, fault_on, has_strobe_low, rises, strobe_rises};
@@ -162,8 +164,8 @@ impl Holding {
         }
     }
 
-    /// The first rule that the step breaks, whatever it shows. It takes what is shown by value: so that stays in registers wherever
-    /// this isn't called.
+    /// The first rule that the step breaks, whatever it shows. It takes what is shown by value: so that stays in
+    /// registers wherever this isn't called.
     #[cold]
     #[inline(never)]
     fn any_fault(self, before: &Lines, after: &Lines, seen: Sight) -> Option<Fault>
@@ -195,7 +197,8 @@ impl Holding {
 
 impl Rules for StabilityRules {
     ghost use Rattle.vme_monitor.specs.Run.{nothing};
-    ghost use Rattle.vme_stability.specs.StabilitySpec.{stability_begin, stability_ends, stability_next, stability_opens, stability_sight};
+    ghost use Rattle.vme_stability.specs.StabilitySpec.{stability_begin, stability_ends, stability_next};
+    ghost use Rattle.vme_stability.specs.StabilitySpec.{stability_opens, stability_sight};
 
     type Memory = Holding;
 
@@ -247,10 +250,10 @@ impl Rules for StabilityRules {
     }
 }
 
-/// The monitor of the rules U2 (a line that a cycle needs is unknown as AS* falls), U3 (WRITE* is unknown as a transfer starts), U4
-/// (a data line that a write moves is unknown as a data strobe falls), S1 (a line that a cycle needs changes before the first answer
-/// of the cycle), S2 (WRITE* changes in a transfer before a data strobe rises) and S3 (a data line that a write moves changes before
-/// the answer and before a data strobe rises).
+/// The monitor of the rules U2 (a line that a cycle needs is unknown as AS* falls), U3 (WRITE* is unknown as a transfer
+/// starts), U4 (a data line that a write moves is unknown as a data strobe falls), S1 (a line that a cycle needs
+/// changes before the first answer of the cycle), S2 (WRITE* changes in a transfer before a data strobe rises) and S3
+/// (a data line that a write moves changes before the answer and before a data strobe rises).
 pub type Stability = Within<StabilityRules>;
 
 /// Over a whole capture, the event is the least break of U2, U3, U4, S1, S2 and S3, and there are no marks.

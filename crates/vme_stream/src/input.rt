@@ -1,6 +1,7 @@
 //! Reading a source to its end.
 
-ghost use Rattle.std.specs.Prelude.{◌≡◌, ◌≢◌, ℕ, ◌+◌, ◌≤◌, ◌<◌, List, length, take, drop, Some, None, Err, IfOk, IfErr, OnOk, vec_len};
+ghost use Rattle.std.specs.Prelude.{◌≡◌, ◌≢◌, ℕ, ◌+◌, ◌≤◌, ◌<◌, List, length, take, drop, Some, None, Err, IfOk, IfErr};
+ghost use Rattle.std.specs.Prelude.{OnOk, vec_len};
 ghost use Rattle.std.specs.Io.KnownBytes.{Consumes, IsAtEnd};
 ghost use Rattle.vme_stream.specs.declared.input.InFault.TheVariants.{Memory};
 ghost use Rattle.vme_stream.specs.Inputs.{IsInTime, IsReading, longest_input, most_reads};
@@ -44,8 +45,8 @@ const CHUNK: usize = 131_072;
 
 /// Reads a source to its end. At most 16,777,216 reads are made.
 ///
-/// The answer is Read exactly where a read failed, or so many gave bytes; else it is TooLong where there are more than 268,435,456
-/// bytes, and the bytes where there aren't, unless there is no memory.
+/// The answer is Read exactly where a read failed, or so many gave bytes; else it is TooLong where there are more than
+/// 268,435,456 bytes, and the bytes where there aren't, unless there is no memory.
 pub fn read_all<R: Source>(alloc: Global, source: &mut R) -> Result<Vec<u8>, InFault>
     ensures bytes { IfOk result (λ v. IsReading (R.reading source.old) (R.reading source.new) (Some v.items)) }
     ensures short { IfOk result (λ v. vec_len v ≤ longest_input) }

@@ -1,6 +1,7 @@
 //! Reading a source to its end, by what takes its bytes as they come.
 
-ghost use Rattle.std.specs.Prelude.{◌≡◌, ℕ, ◌+◌, ◌*◌, ◌-◌, ◌≤◌, ◌<◌, List, length, take, drop, Some, None, Ok, Err, IfOk, vec_len};
+ghost use Rattle.std.specs.Prelude.{◌≡◌, ℕ, ◌+◌, ◌*◌, ◌-◌, ◌≤◌, ◌<◌, List, length, take, drop, Some, None, Ok, Err};
+ghost use Rattle.std.specs.Prelude.{IfOk, vec_len};
 ghost use Rattle.vme_stream.specs.Inputs.{IsInTime, IsReading, longest_input, most_reads};
 ghost use Rattle.vme_stream.specs.Intakes.{Passes};
 
@@ -17,12 +18,12 @@ pub trait Intake: Drop + Sized {
     ghost ahead: { Self → List ℕ → Self.Outcome };
 }
 
-/// Reads a source to its end, and has its bytes taken, `piece` of them at once, or more where none of so many can be taken:
-/// `taker` takes some of the first of those that it is given, and says how many. The others come again, with more behind
-/// them. The answer is what all of them came to, and the last bytes, which were left.
+/// Reads a source to its end, and has its bytes taken, `piece` of them at once, or more where none of so many can be
+/// taken: `taker` takes some of the first of those that it is given, and says how many. The others come again, with
+/// more behind them. The answer is what all of them came to, and the last bytes, which were left.
 ///
-/// The answer is Read exactly where a read failed, or 16,777,216 gave bytes; else it is TooLong where there are more than
-/// 268,435,456 bytes, unless there is no memory.
+/// The answer is Read exactly where a read failed, or 16,777,216 gave bytes; else it is TooLong where there are more
+/// than 268,435,456 bytes, unless there is no memory.
 pub fn read_by<R: Source, T: Intake, M: Fn(T, &[u8]) -> Result<(T, usize), AllocError>>(
     alloc: Global,
     source: &mut R,
@@ -70,8 +71,8 @@ pub fn read_by<R: Source, T: Intake, M: Fn(T, &[u8]) -> Result<(T, usize), Alloc
     Err(InFault::Read)
 }
 
-/// Makes room behind the first `filled` bytes: where there is none, some are taken, or if none can be there is as much room
-/// again. Says how many were taken: those behind them stand at the front then.
+/// Makes room behind the first `filled` bytes: where there is none, some are taken, or if none can be there is as much
+/// room again. Says how many were taken: those behind them stand at the front then.
 fn make_room<T: Intake, M: Fn(T, &[u8]) -> Result<(T, usize), AllocError>>(
     intake: T,
     bytes: &mut Vec<u8>,

@@ -8,4 +8,5 @@ pub record HasRoom (room : Room) (first second : Summary) : Type 0 where
   pub handshake : HasRoomFor room.handshake first.handshake.layers first.handshake.rows second.handshake.layers
   pub stability : HasRoomFor room.stability first.stability.layers first.stability.rows second.stability.layers
   pub grant : HasRoomFor room.grant first.grant.layers first.grant.rows second.grant.layers
-  pub acknowledge : HasRoomFor room.acknowledge first.acknowledge.layers first.acknowledge.rows second.acknowledge.layers
+  pub acknowledge : HasRoomFor room.acknowledge first.acknowledge.layers first.acknowledge.rows
+      second.acknowledge.layers

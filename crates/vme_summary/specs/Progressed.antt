@@ -27,7 +27,8 @@ use Rattle.vme_summary.specs.declared.found.Seen.{Seen}
 
 -- a monitor that began at an opening is, after some steps, in this memory, and has found this break first
 pub record HasSeen {P : Type 0}
-    (run : P → Levels → List Step → Outcome P) (begin : Levels → P) (seen : Seen P) (o : Levels) (x : List Step) : Type 0 where
+    (run : P → Levels → List Step → Outcome P) (begin : Levels → P) (seen : Seen P) (o : Levels)
+    (x : List Step) : Type 0 where
   pub memory : seen.memory ≡ (run (begin o) o x).leaving
   pub event : seen.event ≡ (run (begin o) o x).event
 
@@ -78,7 +79,8 @@ pub record IsMarkedOf (j : Judgement) (o : Levels) (y : List Step) : Type 0 wher
   pub stands : SummaryStandsFor j.summary o y
   pub left : j.left ≡ levels_after o y
 
--- judging has come past these blocks: they have this extent, and this is found of all their steps after the first opening
+-- judging has come past these blocks: they have this extent, and this is found of all their steps after the first
+-- opening
 pub record HasCome (p : Progress) (blocks : List Block) : Type 0 where
   pub extent : IsExtent p.extent blocks
   pub steps : p.steps ≡ length (joined_steps blocks)
@@ -88,6 +90,7 @@ pub record HasCome (p : Progress) (blocks : List Block) : Type 0 where
 abbrev pub judged_steps : Progress → ℕ
 judged_steps p = p.steps
 
--- past whatever blocks judging has come, and for whatever blocks a span stands, further judging has come past the blocks of both
+-- past whatever blocks judging has come, and for whatever blocks a span stands, further judging has come past the
+-- blocks of both
 abbrev pub ComesPastBoth : Progress → Span → Progress → Type 0
 ComesPastBoth p s q = (x y : List Block) → HasCome p x → SpanStandsFor s y → HasCome q (x ++ y)

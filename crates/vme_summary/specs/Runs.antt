@@ -10,11 +10,13 @@ use Rattle.vme_monitor.specs.declared.known.Nil.{Nil}
 use Rattle.vme_monitor.specs.declared.spanned.Phase.{Phase}
 use Rattle.vme_dtb.specs.Machine.{dtb_begin, dtb_ends, dtb_opens, dtb_sight, dtb_step}
 use Rattle.vme_dtb.specs.declared.memory.Memory.{Memory}
-use Rattle.vme_stability.specs.StabilitySpec.{stability_begin, stability_ends, stability_next, stability_opens, stability_sight}
+use Rattle.vme_stability.specs.StabilitySpec.{stability_begin, stability_ends, stability_next, stability_opens}
+use Rattle.vme_stability.specs.StabilitySpec.{stability_sight}
 use Rattle.vme_stability.specs.declared.holding.Holding.{Holding}
 use Rattle.vme_chains.specs.GrantSpec.{grant_begin, grant_ends, grant_next, grant_opens, grant_sight}
 use Rattle.vme_chains.specs.declared.grant_memory.Arbitration.{Arbitration}
-use Rattle.vme_chains.specs.AcknowledgeSpec.{acknowledge_begin, acknowledge_ends, acknowledge_next, acknowledge_opens, acknowledge_sight}
+use Rattle.vme_chains.specs.AcknowledgeSpec.{acknowledge_begin, acknowledge_ends, acknowledge_next, acknowledge_opens}
+use Rattle.vme_chains.specs.AcknowledgeSpec.{acknowledge_sight}
 use Rattle.vme_chains.specs.declared.acknowledge.Acknowledgement.{Acknowledgement}
 
 unfoldable pub known_run : Phase Nil → Levels → List Step → Outcome (Phase Nil)

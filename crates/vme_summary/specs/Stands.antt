@@ -10,7 +10,8 @@ use Rattle.vme_trace.specs.declared.block.Block.{Block}
 use Rattle.vme_trace.specs.declared.verdict.Verdict.{Verdict}
 use Rattle.vme_listing.specs.Listed.{Listed}
 use Rattle.vme_listing.specs.Recorded.{listing_of}
-use Rattle.vme_summary.specs.Joins.{AreSound, BlocksJoin, first_block, first_block_number, first_time, is_later, joined_trace, last_block, last_block_number, last_time, left_by}
+use Rattle.vme_summary.specs.Joins.{AreSound, BlocksJoin, first_block, first_block_number, first_time, is_later}
+use Rattle.vme_summary.specs.Joins.{joined_trace, last_block, last_block_number, last_time, left_by}
 use Rattle.vme_summary.specs.Summaries.{SummaryStandsFor, summary_steps}
 use Rattle.vme_summary.specs.declared.extent.Extent.{Extent}
 use Rattle.vme_summary.specs.declared.span.Span.{Span}

@@ -6,11 +6,13 @@ use Rattle.vme_trace.specs.declared.step.Step.{Step}
 use Rattle.vme_summary.specs.declared.judgement.Judgement.{Judgement}
 
 -- so many steps as a recording may have were judged, but for those that wait; what judges is past steps as this says
-pub record KeepsUp (IsPast : Levels → List Step → Type 0) (count : ℕ) (opening : Levels) (taken waiting : List Step) : Type 0 where
+pub record KeepsUp (IsPast : Levels → List Step → Type 0) (count : ℕ) (opening : Levels)
+    (taken waiting : List Step) : Type 0 where
   pub counted : count ≡ min (length taken) (capture_limit + 1)
   pub kept : length taken ≤ capture_limit → (done : List Step) × IsPast opening done × (done ++ waiting ≡ taken)
 
 -- a part was judged by itself, if a recording may have so many steps; what judges says so of this judgement
-pub record IsPart (IsMadeOf : Judgement → Levels → List Step → Type 0) (judgement : Judgement) (count : ℕ) (opening : Levels) (taken : List Step) : Type 0 where
+pub record IsPart (IsMadeOf : Judgement → Levels → List Step → Type 0) (judgement : Judgement) (count : ℕ)
+    (opening : Levels) (taken : List Step) : Type 0 where
   pub counted : count ≡ min (length taken) (capture_limit + 1)
   pub made : length taken ≤ capture_limit → IsMadeOf judgement opening taken

@@ -13,8 +13,8 @@ use vme_trace::{Lines, Step};
 /// How many steps a recording has at most.
 pub(crate) const MOST_STEPS: u32 = 268435456;
 
-/// What judges a recording from its opening on, some steps at once: they are judged whatever stood before them, and then
-/// it goes past them from where it has come to.
+/// What judges a recording from its opening on, some steps at once: they are judged whatever stood before them, and
+/// then it goes past them from where it has come to.
 pub trait Advance: Drop {
     /// It has come past these steps after that opening.
     ghost is_past: { Self → Levels → List Step → Type 0 };
@@ -35,8 +35,8 @@ pub trait Advance: Drop {
         requires { length steps.now ≤ 268435456 }
         ensures { IfOk result (λ judgement. is_made_of judgement opening.now steps.now) };
 
-    /// Past the steps that follow, which were judged by themselves: there are at most 268,435,456 in all. Without memory
-    /// it stays where it is.
+    /// Past the steps that follow, which were judged by themselves: there are at most 268,435,456 in all. Without
+    /// memory it stays where it is.
     fn pass(&mut self, alloc: Global, judgement: Judgement) -> Result<(), AllocError>
         requires { (o : Levels) × (x : List Step) × (y : List Step) × is_past self.old o x
             × is_made_of judgement (levels_after o x) y × (length x + length y ≤ 268435456) }
@@ -55,7 +55,8 @@ pub(crate) fn go_on<J: Advance>(
     requires { (o : Levels) × (x : List Step) × J.is_past judging.old o x × (length x + length steps.now ≤ 268435456) }
     ensures past { OnOk result ((o : Levels) (x : List Step)
         → J.is_past judging.old o x → J.is_past judging.new o (x ++ steps.now)) }
-    ensures stays { OnErr result ((o : Levels) (x : List Step) → J.is_past judging.old o x → J.is_past judging.new o x) }
+    ensures stays { OnErr result ((o : Levels) (x : List Step) → J.is_past judging.old o x
+        → J.is_past judging.new o x) }
 {
     let judgement = J::judge(alloc, judging.left(), steps)?;
     judging.pass(alloc, judgement)

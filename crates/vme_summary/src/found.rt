@@ -40,8 +40,11 @@ impl<P: Places> Seen<P> {
     /// What it has come to after the steps of a table more, before which so many were.
     pub(crate) fn after(&self, table: &Table<P>, steps: u32) -> Seen<P>
         requires { steps + table.now.steps < 2 ^ 32 }
-        ensures memory { result.memory ≡ (outcome table.now.layers.items table.now.rows.items self.now.memory (P.place_of self.now.memory)).leaving }
-        ensures event { result.event ≡ earlier self.now.event (option_map (shifted_break steps) (outcome table.now.layers.items table.now.rows.items self.now.memory (P.place_of self.now.memory)).event) }
+        ensures memory { result.memory ≡ (outcome table.now.layers.items table.now.rows.items self.now.memory
+            (P.place_of self.now.memory)).leaving }
+        ensures event { result.event ≡ earlier self.now.event
+            (option_map (shifted_break steps) (outcome table.now.layers.items table.now.rows.items self.now.memory
+            (P.place_of self.now.memory)).event) }
     {
         let event = match self.event {
             Some(found) => Some(found),

@@ -5,12 +5,12 @@
 //! However the blocks of a recording were joined, [`Span::verdict`] is the verdict of the recording, and
 //! [`Span::listing`] its listing, which is well placed.
 //!
-//! A recording that is judged in order needs no span: what judges goes on past some steps at once (`advance`), without marks
-//! for a verdict (`judging`) and with them for a listing (`marking`). [`Judge`] and [`Lister`] take the steps as they are
-//! made; [`verdict_by_blocks`] and [`listing_by_blocks`] take a capture, and copy none of its blocks.
+//! A recording that is judged in order needs no span: what judges goes on past some steps at once (`advance`), without
+//! marks for a verdict (`judging`) and with them for a listing (`marking`). [`Judge`] and [`Lister`] take the steps as
+//! they are made; [`verdict_by_blocks`] and [`listing_by_blocks`] take a capture, and copy none of its blocks.
 //!
-//! What judges takes steps that were judged apart, too: a [`JudgedPart`] is made of steps that follow some lines, on any
-//! thread, and the parts of a recording are passed in order to what judges it.
+//! What judges takes steps that were judged apart, too: a [`JudgedPart`] is made of steps that follow some lines, on
+//! any thread, and the parts of a recording are passed in order to what judges it.
 //!
 //! A [`Progress`] goes on past further blocks from where judging has come to, without a join and without memory.
 //!

@@ -59,7 +59,8 @@ impl Advance for Marking {
 impl Marking {
     /// Appends the summary of the steps that follow. Without memory it stands for what it stood for.
     fn append(&mut self, alloc: Global, next: Summary) -> Result<(), AllocError>
-        requires { (o : Levels) × (x : List Step) × StandsSoFar self.old.summary o x × (length x + summary_steps next ≤ 268435456) }
+        requires { (o : Levels) × (x : List Step) × StandsSoFar self.old.summary o x
+            × (length x + summary_steps next ≤ 268435456) }
         ensures left { self.new.left ≡ self.old.left }
         ensures both { OnOk result ((o : Levels) (x y : List Step) → StandsSoFar self.old.summary o x
             → SummaryStandsFor next (levels_after o x) y → StandsSoFar self.new.summary o (x ++ y)) }
@@ -82,7 +83,8 @@ impl Marking {
         }
     }
 
-    /// The listing, by the rules in force, of a recording all of whose steps were judged, which begins with these lines.
+    /// The listing, by the rules in force, of a recording all of whose steps were judged, which begins with these
+    /// lines.
     pub(crate) fn listing(self, alloc: Global, opening: &Lines) -> Result<Listing, AllocError>
         ensures listing { IfOk result (λ listing. (t : Trace) → malformed_step t ≡ None → t.opening.slots ≤ 21
             → opening.now ≡ t.opening → HasMarked self t.opening t.steps → listing ≡ listing_of t) }

@@ -12,7 +12,8 @@ ghost use Rattle.vme_summary.specs.AllShown.{all_marks};
 ghost use Rattle.vme_summary.specs.HasRoom.{HasRoom};
 ghost use Rattle.vme_summary.specs.Leading.{IsLed};
 ghost use Rattle.vme_summary.specs.Progressed.{FoundAfter, HasFound, HasFoundAll};
-ghost use Rattle.vme_summary.specs.Summaries.{first_break as first_break_of, StandAlike, StandsForAll, SummaryFindsFor, SummaryStandsFor, SummaryStandsForBoth, summary_steps};
+ghost use Rattle.vme_summary.specs.Summaries.{first_break as first_break_of, StandAlike, StandsForAll, SummaryFindsFor};
+ghost use Rattle.vme_summary.specs.Summaries.{SummaryStandsFor, SummaryStandsForBoth, summary_steps};
 
 use crate::found::{Found, Seen};
 use crate::summary::{Room, Summary};

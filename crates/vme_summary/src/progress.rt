@@ -33,14 +33,15 @@ impl Progress {
         }
     }
 
-    /// Past the blocks of a further span, if they join those before: the span's first number is the next, it opens with the
-    /// lines that those before leave, slots included, and its first step is later than the last one before it. They have at
-    /// most 268,435,456 steps together.
+    /// Past the blocks of a further span, if they join those before: the span's first number is the next, it opens with
+    /// the lines that those before leave, slots included, and its first step is later than the last one before it. They
+    /// have at most 268,435,456 steps together.
     pub fn after(&self, next: &Span) -> Option<Progress>
         requires { judged_steps self.now + step_count next.now ≤ 268435456 }
         ensures steps { IfSome result (λ p. judged_steps p ≡ judged_steps self.now + step_count next.now) }
         ensures come { IfSome result (ComesPastBoth self.now next.now) }
-        ensures torn { (x y : List Block) → HasCome self.now x → SpanStandsFor next.now y → ((result ≡ None) ↔ ¬ BlocksJoin (x ++ y)) }
+        ensures torn { (x y : List Block) → HasCome self.now x → SpanStandsFor next.now y
+            → ((result ≡ None) ↔ ¬ BlocksJoin (x ++ y)) }
     {
         if !self.extent.meets(&next.extent) {
             return None;
@@ -52,10 +53,11 @@ impl Progress {
         })
     }
 
-    /// The verdict, by the rules in force, of the recording that the blocks make: the first of them has to be the recording's
-    /// first.
+    /// The verdict, by the rules in force, of the recording that the blocks make: the first of them has to be the
+    /// recording's first.
     pub fn verdict(&self) -> Verdict
-        ensures { (blocks : List Block) → HasCome self.now blocks → recorded (verdict_by rules_in_force) blocks ≡ Some result }
+        ensures { (blocks : List Block) → HasCome self.now blocks
+            → recorded (verdict_by rules_in_force) blocks ≡ Some result }
     {
         prove!(self.extent.opening.slots() <= 21);
         self.found.verdict()

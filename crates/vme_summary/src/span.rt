@@ -5,7 +5,8 @@ ghost use Rattle.vme_trace.specs.Blocks.{joined_steps};
 ghost use Rattle.vme_trace.specs.declared.block.Block.{Block};
 ghost use Rattle.vme_listing.specs.Places.{is_well_placed};
 ghost use Rattle.vme_summary.specs.Joins.{MakeSoundRecording, first_block_number, last_block_number};
-ghost use Rattle.vme_summary.specs.Stands.{IsListingOf, IsVerdictOf, SaysTorn, SpanStandsFor, StandsForBlocks, StandsForBoth, first_number, step_count};
+ghost use Rattle.vme_summary.specs.Stands.{IsListingOf, IsVerdictOf, SaysTorn, SpanStandsFor, StandsForBlocks};
+ghost use Rattle.vme_summary.specs.Stands.{StandsForBoth, first_number, step_count};
 
 use crate::extent::Extent;
 use crate::summary::Summary;
@@ -67,8 +68,8 @@ impl Span {
     }
 
     /// The listing, by the rules in force, of the recording that the blocks make. The first of them has to be the
-    /// recording's first. The listing is well placed, so that `read_listing` accepts its text. It takes time proportional
-    /// to the count of marks.
+    /// recording's first. The listing is well placed, so that `read_listing` accepts its text. It takes time
+    /// proportional to the count of marks.
     pub fn listing(&self, alloc: Global) -> Result<Listing, AllocError>
         requires { first_number self.now ≡ 0 }
         ensures listing { IfOk result (IsListingOf self.now) }

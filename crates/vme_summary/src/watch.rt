@@ -1,6 +1,7 @@
 //! What judges a recording as it is made.
 
-ghost use Rattle.std.specs.Prelude.{◌≡◌, ◌+◌, ◌<◌, ◌≤◌, ◌↔◌, List, [], ◌∷◌, ◌++◌, length, true, IfOk, IsTrue, OnErr, OnOk, Err, None};
+ghost use Rattle.std.specs.Prelude.{◌≡◌, ◌+◌, ◌<◌, ◌≤◌, ◌↔◌, List, [], ◌∷◌, ◌++◌, length, true, IfOk, IsTrue, OnErr};
+ghost use Rattle.std.specs.Prelude.{OnOk, Err, None};
 ghost use Rattle.vme_trace.specs.Blocks.{block_count};
 ghost use Rattle.vme_trace.specs.Followed.{with_steps};
 ghost use Rattle.vme_trace.specs.Levels.{Levels};
@@ -120,7 +121,8 @@ impl<J: Advance> Watch<J> {
     /// this isn't known, and the answer is no. The only error is want of memory.
     pub fn leaves(&mut self, alloc: Global, lines: &Lines) -> Result<bool, AllocError>
         ensures same { self.new ≡ self.old }
-        ensures leaves { IfOk result (λ leaves. IsTrue leaves → levels_after self.old.opening self.old.steps ≡ lines.now) }
+        ensures leaves { IfOk result (λ leaves. IsTrue leaves
+            → levels_after self.old.opening self.old.steps ≡ lines.now) }
     {
         if self.count > MOST_STEPS {
             return Ok(false);
@@ -174,8 +176,8 @@ impl<J: Advance> Watch<J> {
 }
 
 impl Watch<Judging> {
-    /// The verdict, by the rules in force, on the recording whose steps came, if it has at most 268,435,456 of them, and
-    /// they fill at most 4,096 blocks of `size` steps.
+    /// The verdict, by the rules in force, on the recording whose steps came, if it has at most 268,435,456 of them,
+    /// and they fill at most 4,096 blocks of `size` steps.
     pub fn verdict(self, alloc: Global, size: u32) -> Result<Verdict, NoVerdict>
         requires { (1 ≤ size) × (size ≤ 65536) }
         ensures too_many_steps { (result ≡ Err NoVerdict.TooManySteps) ↔ (capture_limit < length self.steps) }

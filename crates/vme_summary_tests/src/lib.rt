@@ -1,4 +1,5 @@
-//! Tests of vme_summary: worked recordings judged in blocks of every size, their listings, spans that move between threads, and parts that are judged by themselves.
+//! Tests of vme_summary: worked recordings judged in blocks of every size, their listings, spans that move between
+//! threads, and parts that are judged by themselves.
 #![tactic(auto)]
 
 #[cfg(test)]

@@ -1,6 +1,7 @@
 -- What the lines say of a cycle as the address strobe falls: the class of the cycle, and the lines
 -- that it needs.
-use Rattle.std.specs.Prelude.{ℕ, Bool, true, false, not, ◌==◌, ◌+◌, ◌*◌, ◌&&◌, ◌||◌, List, [], ◌∷◌, nat_le, if◌then◌else◌}
+use Rattle.std.specs.Prelude.{ℕ, Bool, true, false, not, ◌==◌, ◌+◌, ◌*◌, ◌&&◌, ◌||◌, List, [], ◌∷◌, nat_le}
+use Rattle.std.specs.Prelude.{if◌then◌else◌}
 use Rattle.std.specs.List.{list_any}
 use Rattle.vme_trace.specs.Instants.{every}
 use Rattle.vme_trace.specs.LineNumbers.{AM, A, IACK, LWORD}
@@ -13,7 +14,8 @@ abbrev pub modifier_bit : Levels → ℕ → ℕ
 modifier_bit v n = if is_high_on v (AM n) then 1 else 0
 
 unfoldable pub modifier_of : Levels → ℕ
-modifier_of v = modifier_bit v 0 + 2 * modifier_bit v 1 + 4 * modifier_bit v 2 + 8 * modifier_bit v 3 + 16 * modifier_bit v 4 + 32 * modifier_bit v 5
+modifier_of v = modifier_bit v 0 + 2 * modifier_bit v 1 + 4 * modifier_bit v 2 + 8 * modifier_bit v 3
+    + 16 * modifier_bit v 4 + 32 * modifier_bit v 5
 
 abbrev pub is_among : List ℕ → ℕ → Bool
 is_among codes code = list_any (λ c. c == code) codes

@@ -32,7 +32,8 @@ module _ (v : Levels) where
   -- each line of a digit is known
   abbrev pub is_digit_known : ℕ → Bool
   is_digit_known k =
-      is_known (level_at v (D (4 * k))) && is_known (level_at v (D (4 * k + 1))) && is_known (level_at v (D (4 * k + 2))) && is_known (level_at v (D (4 * k + 3)))
+      is_known (level_at v (D (4 * k))) && is_known (level_at v (D (4 * k + 1)))
+      && is_known (level_at v (D (4 * k + 2))) && is_known (level_at v (D (4 * k + 3)))
 
   -- a data line counts so much where it is high
   abbrev pub weight_at : ℕ → ℕ → ℕ
@@ -55,7 +56,9 @@ module _ (v : Levels) where
       record {
         moved = moved_at;
         value =
-            digit_at 0 + 16 * digit_at 1 + 256 * digit_at 2 + 4096 * digit_at 3 + 65536 * digit_at 4 + 1048576 * digit_at 5
+            digit_at 0 + 16 * digit_at 1 + 256 * digit_at 2 + 4096 * digit_at 3 + 65536 * digit_at 4
+            + 1048576 * digit_at 5
             + 16777216 * digit_at 6 + 268435456 * digit_at 7;
-        unknown = flag_at 0 + 2 * flag_at 1 + 4 * flag_at 2 + 8 * flag_at 3 + 16 * flag_at 4 + 32 * flag_at 5 + 64 * flag_at 6 + 128 * flag_at 7;
+        unknown = flag_at 0 + 2 * flag_at 1 + 4 * flag_at 2 + 8 * flag_at 3 + 16 * flag_at 4 + 32 * flag_at 5
+            + 64 * flag_at 6 + 128 * flag_at 7;
       }

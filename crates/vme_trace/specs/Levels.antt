@@ -1,5 +1,6 @@
 -- The levels that the lines of a backplane show at one instant, and what they say by themselves.
-use Rattle.std.specs.Prelude.{ℕ, Bool, true, false, not, ◌+◌, ◌==◌, ◌&&◌, ◌||◌, List, slice_set, slice_get, unwrap_or, nat_le, if◌then◌else◌}
+use Rattle.std.specs.Prelude.{ℕ, Bool, true, false, not, ◌+◌, ◌==◌, ◌&&◌, ◌||◌, List, slice_set, slice_get, unwrap_or}
+use Rattle.std.specs.Prelude.{nat_le, if◌then◌else◌}
 use Rattle.vme_trace.specs.Instants.{any, every}
 use Rattle.vme_trace.specs.LineNumbers.{line_count, AS, BERR, IACK, BBSY, BR, grant, iack, SYSRESET, is_net, is_control}
 use Rattle.vme_trace.specs.declared.level.Level.{Level}

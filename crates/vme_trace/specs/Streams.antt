@@ -1,8 +1,8 @@
 -- What sources and sinks tell of themselves, and what a read and a write do to their counts.
 use Rattle.std.specs.Prelude.{◌≡◌, ◌<◌, ℕ, suc, List, Option, Result, MatchResult}
 
--- what a source tells: the bytes that reads give from here on, where they are told; how many reads gave bytes; and how many
--- failed
+-- what a source tells: the bytes that reads give from here on, where they are told; how many reads gave bytes; and how
+-- many failed
 pub record Reading : Type 0 where
   pub left : Option (List ℕ)
   pub reads : ℕ

@@ -1,5 +1,6 @@
 -- The verdict on a recording: its least break, by instant, then rule, then line.
-use Rattle.std.specs.Prelude.{ℕ, zero, suc, Bool, true, false, ◌+◌, List, [], ◌∷◌, Option, None, Some, option_map, if◌then◌else◌}
+use Rattle.std.specs.Prelude.{ℕ, zero, suc, Bool, true, false, ◌+◌, List, [], ◌∷◌, length, Option, None, Some}
+use Rattle.std.specs.Prelude.{option_map, if◌then◌else◌}
 use Rattle.std.specs.Option.{option_or}
 use Rattle.vme_trace.specs.Instants.{least}
 use Rattle.vme_trace.specs.LineNumbers.{line_count}
@@ -7,14 +8,21 @@ use Rattle.vme_trace.specs.Trace.{Trace, time_at, last_instant}
 use Rattle.vme_trace.specs.Judged.{Span, judged_spans}
 use Rattle.vme_trace.specs.Rules.{breaks}
 use Rattle.vme_trace.specs.declared.rule.Rule.{Rule}
-use Rattle.vme_trace.specs.declared.rule.Rule.TheVariants.{U1, U2, U3, U4, H1, H2, H3, H4, H5, H6, H7, H8, S1, S2, S3, C1, C2, G1, G2, G3, G4, G5, B1, B2, B3, B4, I1, I2, I3, I4, I5}
+use Rattle.vme_trace.specs.declared.rule.Rule.TheVariants.{U1, U2, U3, U4, H1, H2, H3, H4, H5, H6, H7, H8, S1, S2, S3}
+use Rattle.vme_trace.specs.declared.rule.Rule.TheVariants.{C1, C2, G1, G2, G3, G4, G5, B1, B2, B3, B4, I1, I2, I3, I4}
+use Rattle.vme_trace.specs.declared.rule.Rule.TheVariants.{I5}
 use Rattle.vme_trace.specs.declared.verdict.Break.{Break}
 use Rattle.vme_trace.specs.declared.verdict.Verdict.{Verdict}
 use Rattle.vme_trace.specs.declared.verdict.Verdict.TheVariants.{Conforming, Broken, Unreadable, NeverIdle}
 
 -- every rule, in the order in which breaks at one instant are named
 abbrev pub all_rules : List Rule
-all_rules = U1 ∷ U2 ∷ U3 ∷ U4 ∷ H1 ∷ H2 ∷ H3 ∷ H4 ∷ H5 ∷ H6 ∷ H7 ∷ H8 ∷ S1 ∷ S2 ∷ S3 ∷ C1 ∷ C2 ∷ G1 ∷ G2 ∷ G3 ∷ G4 ∷ G5 ∷ B1 ∷ B2 ∷ B3 ∷ B4 ∷ I1 ∷ I2 ∷ I3 ∷ I4 ∷ I5 ∷ []
+all_rules = U1 ∷ U2 ∷ U3 ∷ U4 ∷ H1 ∷ H2 ∷ H3 ∷ H4 ∷ H5 ∷ H6 ∷ H7 ∷ H8 ∷ S1 ∷ S2 ∷ S3 ∷ C1 ∷ C2 ∷ G1 ∷ G2 ∷ G3 ∷ G4 ∷ G5
+    ∷ B1 ∷ B2 ∷ B3 ∷ B4 ∷ I1 ∷ I2 ∷ I3 ∷ I4 ∷ I5 ∷ []
+
+-- how many rules there are
+abbrev pub rule_count : ℕ
+rule_count = length all_rules
 
 -- the rules that are in force
 abbrev pub rules_in_force : List Rule
@@ -23,7 +31,8 @@ rules_in_force = all_rules
 module _ (t : Trace) (span : Span) where
   -- the least line on which a rule is broken at an instant
   unfoldable pub rule_break : ℕ → Rule → Option Break
-  rule_break j r = option_map (λ l. record { instant = j; time = time_at t j; rule = r; line = l }) (least (breaks t span r j) 0 line_count)
+  rule_break j r = option_map (λ l. record { instant = j; time = time_at t j; rule = r; line = l })
+      (least (breaks t span r j) 0 line_count)
 
   -- the first of some rules that is broken at an instant
   unfoldable pub break_at : List Rule → ℕ → Option Break

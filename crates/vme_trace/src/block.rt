@@ -54,7 +54,8 @@ impl Block {
     /// Whether the steps follow the opening: the times ascend, and each step changes the level of some lines
     /// that exist, named in their order. If not, the first step for which that fails.
     pub fn check(&self) -> Result<(), Malformed>
-        ensures { MatchResult result (λ _. malformed_step (trace_of self.now) ≡ None) (λ e. malformed_step (trace_of self.now) ≡ Some e.step) }
+        ensures { MatchResult result (λ _. malformed_step (trace_of self.now) ≡ None)
+            (λ e. malformed_step (trace_of self.now) ≡ Some e.step) }
     {
         check_steps(&self.opening, self.steps.as_slice())
     }
@@ -74,7 +75,8 @@ impl Block {
         lines: &mut Lines,
         steps: &[Step],
     ) -> Result<Block, AllocError>
-        ensures block { IfOk result (λ block. block ≡ record { number = number; opening = lines.old; steps = steps.now }) }
+        ensures block { IfOk result (λ block. block
+            ≡ record { number = number; opening = lines.old; steps = steps.now }) }
         ensures lines { OnOk result (lines.new ≡ levels_after lines.old steps.now) }
     {
         let opening = *lines;
@@ -92,7 +94,8 @@ impl Block {
 }
 
 pub(crate) fn check_steps(opening: &Lines, steps: &[Step]) -> Result<(), Malformed>
-    ensures { MatchResult result (λ _. malformed_step (record { opening = opening.now; steps = steps.now }) ≡ None) (λ e. malformed_step (record { opening = opening.now; steps = steps.now }) ≡ Some e.step) }
+    ensures { MatchResult result (λ _. malformed_step (record { opening = opening.now; steps = steps.now }) ≡ None)
+        (λ e. malformed_step (record { opening = opening.now; steps = steps.now }) ≡ Some e.step) }
 {
     let mut lines = *opening;
     let mut time = 0;

@@ -47,8 +47,10 @@ impl Capture {
     /// A capture of the steps, or the steps again with the first one that no capture has there: one that
     /// doesn't follow those before it, or the first past 268,435,456.
     pub fn new(opening: Lines, steps: Vec<Step>) -> Result<Capture, (Vec<Step>, Malformed)>
-        ensures ok { MatchResult result (λ capture. capture ≡ record { opening = opening; steps = steps.items }) (λ e. e.0 ≡ steps) }
-        ensures err { MatchResult result (λ capture. IsCapture capture) (λ e. uncaptured_step (record { opening = opening; steps = steps.items }) ≡ Some e.1.step) }
+        ensures ok { MatchResult result (λ capture. capture ≡ record { opening = opening; steps = steps.items })
+            (λ e. e.0 ≡ steps) }
+        ensures err { MatchResult result (λ capture. IsCapture capture)
+            (λ e. uncaptured_step (record { opening = opening; steps = steps.items }) ≡ Some e.1.step) }
     {
         let checked = check_steps(&opening, steps.as_slice());
         match checked {
@@ -67,7 +69,8 @@ impl Capture {
     /// 268,435,456 steps there is no capture, and the steps are dropped.
     pub fn from_well_formed(opening: Lines, steps: Vec<Step>) -> Option<Capture>
         requires { malformed_step (record { opening = opening; steps = steps.items }) ≡ None }
-        ensures { SomeIff result (length steps.items ≤ capture_limit) (record { opening = opening; steps = steps.items }) }
+        ensures { SomeIff result (length steps.items ≤ capture_limit)
+            (record { opening = opening; steps = steps.items }) }
     {
         if steps.len() > LIMIT {
             return None;
@@ -98,7 +101,8 @@ impl Capture {
     /// capture without steps gives one empty block. There may be 4,096 blocks at most.
     pub fn cut(&self, alloc: Global, size: u32) -> Result<Vec<Block>, CutFault>
         ensures bad_size { (result ≡ Err CutFault.BadSize) ↔ ((size ≡ 0) ⊎ (65536 < size)) }
-        ensures too_many { (result ≡ Err CutFault.TooManyBlocks) ↔ ((0 < size) × (size ≤ 65536) × (4096 < block_count size self.now)) }
+        ensures too_many { (result ≡ Err CutFault.TooManyBlocks) ↔
+            ((0 < size) × (size ≤ 65536) × (4096 < block_count size self.now)) }
         ensures blocks { IfOk result (λ blocks. blocks.items ≡ blocks_of size self.now) }
         ensures joined { IfOk result (λ blocks. joined_steps blocks.items ≡ self.now.steps) }
     {

@@ -1,5 +1,6 @@
 ghost use Rattle.std.specs.Prelude.{◌≡◌, ℕ, ◌<◌, ◌≤◌};
-ghost use Rattle.vme_trace.specs.Cycle.{modifier_bit, modifier_of, highest_address, class_of, needs_of, has_known_modifier};
+ghost use Rattle.vme_trace.specs.Cycle.{modifier_bit, modifier_of, highest_address, class_of, needs_of};
+ghost use Rattle.vme_trace.specs.Cycle.{has_known_modifier};
 
 use crate::class::Class;
 use crate::line::Line;

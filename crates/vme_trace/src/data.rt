@@ -2,7 +2,8 @@
 
 ghost use Rattle.std.specs.Prelude.{◌≡◌, ◌≤◌, ◌<◌, ◌*◌};
 ghost use Rattle.vme_trace.specs.Data.{is_selected as is_selected_at};
-ghost use Rattle.vme_trace.specs.Lanes.{digit_at, flag_at, has_digit, is_digit_known, is_digit_moved, lanes_at, moved_at, weight_at};
+ghost use Rattle.vme_trace.specs.Lanes.{digit_at, flag_at, has_digit, is_digit_known, is_digit_moved, lanes_at};
+ghost use Rattle.vme_trace.specs.Lanes.{moved_at, weight_at};
 
 use crate::level::Level;
 use crate::line::Line;
@@ -23,7 +24,8 @@ pub enum Moved {
     LongWord,
 }
 
-/// The data of a transfer, in hexadecimal digits of four lines each: the digit at place k, 0 to 7, is that of D4k to D4k+3.
+/// The data of a transfer, in hexadecimal digits of four lines each: the digit at place k, 0 to 7, is that of D4k to
+/// D4k+3.
 #[derive(Clone, Copy, Debug, PartialEq, Eq)]
 pub struct Lanes {
     /// Which bytes are moved.
@@ -49,20 +51,20 @@ impl Moved {
     }
 }
 
-/// Whether a transfer at these levels moves the line: with LWORD* high, D00 to D07 where DS0* is low and D08 to D15 where DS1* is
-/// low; with LWORD*, A01 and both strobes low, D00 to D31.
+/// Whether a transfer at these levels moves the line: with LWORD* high, D00 to D07 where DS0* is low and D08 to D15
+/// where DS1* is low; with LWORD*, A01 and both strobes low, D00 to D31.
 #[tactic(auto, unfolding(crate::specs::Data::is_selected))]
 pub fn is_selected(lines: &Lines, line: Line) -> bool
     ensures { result ≡ is_selected_at lines.now line }
 {
-    let number = line.number();
-    if number < 159 || 190 < number {
+    if !line.is_data() {
         return false;
     }
+    let place = line.number() - Line::data(0).number();
     let odd = lines.level(Line::DS0).is_low();
     let even = lines.level(Line::DS1).is_low();
     match lines.level(Line::LWORD) {
-        Level::High => (odd && number < 167) || (even && 167 <= number && number < 175),
+        Level::High => (odd && place < 8) || (even && 8 <= place && place < 16),
         Level::Low => odd && even && lines.level(Line::address(1)).is_low(),
         Level::Unknown => false,
     }

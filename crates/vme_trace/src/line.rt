@@ -1,5 +1,6 @@
-ghost use Rattle.std.specs.Prelude.{◌≡◌, ℕ, ◌+◌, ◌*◌, ◌<◌, ◌≤◌, SomeIff, IfSome, Some, nat_lt};
-ghost use Rattle.vme_trace.specs.LineNumbers.{AM, A, BR, D, grant, iack, is_net, line_count};
+ghost use Rattle.std.specs.Prelude.{◌≡◌, ℕ, ◌+◌, ◌*◌, ◌<◌, ◌≤◌, SomeIff, IfSome, Some, None, nat_lt, if◌then◌else◌};
+ghost use Rattle.vme_trace.specs.LineNumbers.{AM, A, BR, D, grant, grant_level, grant_place, iack, is_data, is_grant};
+ghost use Rattle.vme_trace.specs.LineNumbers.{is_net, is_slot_iack, line_count};
 ghost use Rattle.vme_trace.specs.Names.{line_name, line_named};
 
 use crate::name::Name;
@@ -27,6 +28,21 @@ impl Model for Line {
 
 /// How many lines there are, over all backplanes.
 pub const LINE_COUNT: u8 = 192;
+
+/// How many slots a backplane has at most.
+pub const MOST_SLOTS: u8 = 21;
+
+/// How many nets the daisy chain of a grant level has at most: one before each slot, and one behind the last.
+pub const CHAIN_NETS: u8 = MOST_SLOTS + 1;
+
+/// The number of the first grant net: those of a level follow one another, and the levels too.
+const FIRST_GRANT: u8 = 50;
+
+/// The number of the first acknowledge output.
+const FIRST_ACKNOWLEDGE: u8 = FIRST_GRANT + 4 * CHAIN_NETS;
+
+/// The number of the first data line.
+const FIRST_DATA: u8 = FIRST_ACKNOWLEDGE + MOST_SLOTS;
 
 /// The bused lines of which a backplane has one each.
 impl Line {
@@ -58,7 +74,9 @@ impl Line {
     pub const BBSY: Line = Line { number: 45 };
 
     /// SYSRESET*, the system reset.
-    pub const SYSRESET: Line = Line { number: 191 };
+    pub const SYSRESET: Line = Line {
+        number: LINE_COUNT - 1,
+    };
 }
 
 impl Line {
@@ -122,7 +140,7 @@ impl Line {
         ensures { result ≡ grant level place }
     {
         Line {
-            number: 50 + 22 * level + place,
+            number: FIRST_GRANT + CHAIN_NETS * level + place,
         }
     }
 
@@ -132,7 +150,9 @@ impl Line {
         requires last { slot ≤ 21 }
         ensures { result ≡ iack slot }
     {
-        Line { number: 137 + slot }
+        Line {
+            number: FIRST_ACKNOWLEDGE - 1 + slot,
+        }
     }
 
     /// D00 to D31, a bit of the data, by its place: 0 to 31.
@@ -140,14 +160,50 @@ impl Line {
         requires { bit < 32 }
         ensures { result ≡ D bit }
     {
-        Line { number: 159 + bit }
+        Line {
+            number: FIRST_DATA + bit,
+        }
     }
 
     /// Whether it is a net of a daisy chain: a bus grant or an acknowledge output. All others are bused.
     pub fn is_net(self) -> bool
         ensures { result ≡ is_net self }
     {
-        50 <= self.number && self.number < 159
+        FIRST_GRANT <= self.number && self.number < FIRST_DATA
+    }
+
+    /// Whether it is a net of a bus grant's daisy chain.
+    pub fn is_grant(self) -> bool
+        ensures { result ≡ is_grant self }
+    {
+        FIRST_GRANT <= self.number && self.number < FIRST_ACKNOWLEDGE
+    }
+
+    /// The level of a grant net, 0 to 3, and its place in its daisy chain, 0 to 21; none of another line.
+    pub fn grant_place(self) -> Option<(u8, u8)>
+        ensures place { result ≡ (if is_grant self then Some (grant_level self, grant_place self) else None) }
+        ensures level { IfSome result (λ net. net.0 < 4) }
+        ensures least { IfSome result (λ net. net.1 ≤ 21) }
+    {
+        if !self.is_grant() {
+            return None;
+        }
+        let net = self.number - FIRST_GRANT;
+        Some((net / CHAIN_NETS, net % CHAIN_NETS))
+    }
+
+    /// Whether it is the acknowledge output of a slot.
+    pub fn is_acknowledge(self) -> bool
+        ensures { result ≡ is_slot_iack self }
+    {
+        FIRST_ACKNOWLEDGE <= self.number && self.number < FIRST_DATA
+    }
+
+    /// Whether it is a data line.
+    pub fn is_data(self) -> bool
+        ensures { result ≡ is_data self }
+    {
+        FIRST_DATA <= self.number && self.number < FIRST_DATA + 32
     }
 
     /// The name of the line, without the asterisk: AS, DS0, DS1, DTACK, BERR, IACK, AM0 to AM5, LWORD,
@@ -169,10 +225,23 @@ impl Line {
             14..=44 => Name::of(b"A").with_two_digits(number - 13),
             45 => Name::of(b"BBSY"),
             46..=49 => Name::of(b"BR").with_decimal(number - 46),
-            50..=137 => grant_name((number - 50) / 22, (number - 50) % 22),
-            138..=158 => Name::of(b"IA.").with_decimal(number - 137),
-            159..=190 => Name::of(b"D").with_two_digits(number - 159),
-            _ => Name::of(b"SYSRESET"),
+            _ => self.net_name(),
+        }
+    }
+
+    /// The name of a line behind the bus requests: of a net, a data line or SYSRESET.
+    fn net_name(self) -> Name
+        requires { grant 0 0 ≤ self }
+        ensures { result ≡ line_name self }
+    {
+        if let Some((level, place)) = self.grant_place() {
+            grant_name(level, place)
+        } else if self.is_acknowledge() {
+            Name::of(b"IA.").with_decimal(self.number - FIRST_ACKNOWLEDGE + 1)
+        } else if self.is_data() {
+            Name::of(b"D").with_two_digits(self.number - FIRST_DATA)
+        } else {
+            Name::of(b"SYSRESET")
         }
     }
 
@@ -193,6 +262,7 @@ impl Line {
     }
 }
 
+/// The name of a net of a bus grant's daisy chain.
 fn grant_name(level: u8, place: u8) -> Name
     requires level { level < 4 }
     requires place { place < 22 }

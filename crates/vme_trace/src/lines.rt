@@ -2,15 +2,18 @@ ghost use Rattle.std.specs.Prelude.{◌≡◌, ℕ, ◌+◌, ◌*◌, ◌<◌, �
 ghost use Rattle.vme_trace.specs.declared.level.Level.TheVariants.{Unknown};
 
 use crate::level::Level;
-use crate::line::Line;
+use crate::line::{LINE_COUNT, Line, MOST_SLOTS};
 use crate::step::Change;
 use std::marker::Model;
+
+/// Each line has a level.
+const LEVEL_COUNT: usize = LINE_COUNT as usize;
 
 /// The level of every line of a backplane of some slots.
 #[derive(Clone, Copy, Debug, PartialEq, Eq)]
 pub struct Lines {
     slots: u8,
-    levels: [Level; 192],
+    levels: [Level; LEVEL_COUNT],
 }
 
 impl Model for Lines {
@@ -28,19 +31,21 @@ impl Model for Lines {
 
 impl Lines {
     ghost use Rattle.vme_trace.specs.Instants.{every};
-    ghost use Rattle.vme_trace.specs.Levels.{level_at, set_level, is_high_on, is_known_on, is_idle, idle_by_ranges, is_reset, is_lost};
+    ghost use Rattle.vme_trace.specs.Levels.{level_at, set_level, is_high_on, is_known_on, is_idle, idle_by_ranges};
+    ghost use Rattle.vme_trace.specs.Levels.{is_reset, is_lost};
     ghost use Rattle.vme_trace.specs.Changes.{lost_among, touches_control};
     ghost use Rattle.vme_trace.specs.Trace.{changed};
     ghost use Rattle.vme_trace.specs.LineNumbers.{line_count, has_line, is_control, grant};
 
     /// A backplane of that many slots, 1 to 21, with all lines unknown.
     pub fn new(slots: u8) -> Option<Lines>
-        ensures { SomeIff result ((1 ≤ slots) × (slots ≤ 21)) (record { slots = slots; levels = replicate line_count Unknown }) }
+        ensures { SomeIff result ((1 ≤ slots) × (slots ≤ 21))
+            (record { slots = slots; levels = replicate line_count Unknown }) }
     {
-        if 1 <= slots && slots <= 21 {
+        if 1 <= slots && slots <= MOST_SLOTS {
             Some(Lines {
                 slots,
-                levels: [Level::Unknown; 192],
+                levels: [Level::Unknown; LEVEL_COUNT],
             })
         } else {
             None
@@ -60,13 +65,12 @@ impl Lines {
     pub fn has(&self, line: Line) -> bool
         ensures { result ≡ has_line self.now.slots line }
     {
-        let number = line.number();
-        if number < 50 {
-            true
-        } else if number < 138 {
-            (number - 50) % 22 <= self.slots
+        if let Some((_, place)) = line.grant_place() {
+            place <= self.slots
+        } else if line.is_acknowledge() {
+            line.number() <= Line::iack(self.slots).number()
         } else {
-            159 <= number || number <= 137 + self.slots
+            true
         }
     }
 
@@ -115,7 +119,8 @@ impl Lines {
         ensures { result ≡ is_control self.now.slots line }
     {
         let number = line.number();
-        self.has(line) && (number <= 5 || (45 <= number && number < 159) || number == 191)
+        self.has(line)
+            && (number <= Line::IACK.number() || (Line::BBSY.number() <= number && !line.is_data()))
     }
 
     /// Whether the bus is reset: SYSRESET* is low.

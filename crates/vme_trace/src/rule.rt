@@ -72,45 +72,48 @@ pub enum Rule {
     I5,
 }
 
-/// All rules, in their order.
-const ALL: [Rule; 31] = [
-    Rule::U1,
-    Rule::U2,
-    Rule::U3,
-    Rule::U4,
-    Rule::H1,
-    Rule::H2,
-    Rule::H3,
-    Rule::H4,
-    Rule::H5,
-    Rule::H6,
-    Rule::H7,
-    Rule::H8,
-    Rule::S1,
-    Rule::S2,
-    Rule::S3,
-    Rule::C1,
-    Rule::C2,
-    Rule::G1,
-    Rule::G2,
-    Rule::G3,
-    Rule::G4,
-    Rule::G5,
-    Rule::B1,
-    Rule::B2,
-    Rule::B3,
-    Rule::B4,
-    Rule::I1,
-    Rule::I2,
-    Rule::I3,
-    Rule::I4,
-    Rule::I5,
-];
+/// How many rules there are.
+pub const RULE_COUNT: usize = 31;
 
 impl Rule {
     ghost use Rattle.vme_trace.specs.Names.{rule_name, rule_named};
     ghost use Rattle.vme_trace.specs.Verdict.{is_unreadable};
     ghost use Rattle.vme_trace.specs.declared.rule.Rule.{Rule};
+
+    /// All rules, in the order in which breaks at one instant are named.
+    pub const ALL: [Rule; RULE_COUNT] = [
+        Rule::U1,
+        Rule::U2,
+        Rule::U3,
+        Rule::U4,
+        Rule::H1,
+        Rule::H2,
+        Rule::H3,
+        Rule::H4,
+        Rule::H5,
+        Rule::H6,
+        Rule::H7,
+        Rule::H8,
+        Rule::S1,
+        Rule::S2,
+        Rule::S3,
+        Rule::C1,
+        Rule::C2,
+        Rule::G1,
+        Rule::G2,
+        Rule::G3,
+        Rule::G4,
+        Rule::G5,
+        Rule::B1,
+        Rule::B2,
+        Rule::B3,
+        Rule::B4,
+        Rule::I1,
+        Rule::I2,
+        Rule::I3,
+        Rule::I4,
+        Rule::I5,
+    ];
 
     /// Whether a break of the rule says that a recording can't be read on, and not that it is wrong.
     pub fn is_unreadable(self) -> bool
@@ -165,7 +168,7 @@ impl Rule {
         ensures named { IfSome result (λ rule. rule_name rule ≡ name.now) }
         ensures found { (rule : Rule) → rule_name rule ≡ name.now → result ≡ Some rule }
     {
-        first_named(&ALL, name)
+        first_named(&Rule::ALL, name)
     }
 }
 

@@ -14,8 +14,8 @@ pub trait Source {
     /// The bytes that reads give from here on, and how many reads gave bytes and failed.
     ghost reading: { Self → Reading };
 
-    /// Reads some of the next bytes into the front of `buffer`, and says how many: none only at the end, or where `buffer` is
-    /// empty. A read that fails gives no byte, and the next read goes on where it stood.
+    /// Reads some of the next bytes into the front of `buffer`, and says how many: none only at the end, or where
+    /// `buffer` is empty. A read that fails gives no byte, and the next read goes on where it stood.
     fn read(&mut self, buffer: &mut [u8]) -> Result<usize, Failed>
         ensures bound { ReadsAtMost result buffer.new }
         ensures bytes { ReadConsumes (reading self.old).left (reading self.new).left result buffer.new }
@@ -28,7 +28,8 @@ pub trait Sink {
     /// The bytes that were taken so far, and how many writes failed.
     ghost writing: { Self → Writing };
 
-    /// Takes the first of some bytes, and says how many: at least one, where there are any. A write that fails takes none.
+    /// Takes the first of some bytes, and says how many: at least one, where there are any. A write that fails takes
+    /// none.
     fn write(&mut self, bytes: &[u8]) -> Result<usize, Failed>
         ensures bound { WritesAtMost result bytes.now }
         ensures some { 0 < length bytes.now → IfOk result (λ n. 0 < n) }

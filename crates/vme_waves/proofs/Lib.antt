@@ -2,3 +2,4 @@ pub mod CutLemmas
 pub mod JoinLemmas
 pub mod PassLemmas
 pub mod ReadLemmas
+pub mod RunLemmas

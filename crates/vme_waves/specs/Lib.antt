@@ -1,3 +1,4 @@
 pub mod Cuts
+pub mod Runs
 pub mod Waves
 pub mod Passed

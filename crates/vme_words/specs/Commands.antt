@@ -26,7 +26,8 @@ recording_app name =
 -- `confirm BINDING DUMP LISTING`
 abbrev pub confirm_app : App
 confirm_app =
-    with_rule (with_rule (with_rule (new_app (codes "confirm")) (file_rule (codes "BINDING"))) (file_rule (codes "DUMP"))) (file_rule (codes "LISTING"))
+    with_rule (with_rule (with_rule (new_app (codes "confirm")) (file_rule (codes "BINDING")))
+    (file_rule (codes "DUMP"))) (file_rule (codes "LISTING"))
 
 -- `--NAME WORD`, which need not be there
 abbrev pub word_rule : Text → Rule
@@ -51,7 +52,8 @@ bind_app = with_rule (with_rule (new_app (codes "bind")) slots_rule) (file_rule 
 -- `explain [--gtkw FILE] BINDING DUMP`
 abbrev pub explain_app : App
 explain_app =
-    with_rule (with_rule (with_rule (new_app (codes "explain")) (word_rule (codes "gtkw"))) (file_rule (codes "BINDING"))) (file_rule (codes "DUMP"))
+    with_rule (with_rule (with_rule (new_app (codes "explain")) (word_rule (codes "gtkw")))
+    (file_rule (codes "BINDING"))) (file_rule (codes "DUMP"))
 
 -- the program, with the subcommands that judge recordings by a binding and nothing more
 abbrev pub recordings_app : App

@@ -1,10 +1,12 @@
 -- The order that the matches of the words are.
-use Rattle.std.specs.Prelude.{◌≡◌, ℕ, pos, true, List, [], ◌∷◌, ◌++◌, map, codes, Option, None, Some, is_some, option_map, string_bytes}
+use Rattle.std.specs.Prelude.{◌≡◌, ℕ, pos, true, List, [], ◌∷◌, ◌++◌, map, codes, Option, None, Some, is_some}
+use Rattle.std.specs.Prelude.{option_map, string_bytes}
 use Rattle.std.specs.Str.Parse.{digits_value, without_leading_plus}
 use Rattle.clap.specs.Words.{IsSignedIn, Row, Text, first_of, one_of, without_minus}
 use Rattle.vme_words.specs.declared.order.Order.{Order}
 use Rattle.vme_words.specs.declared.order.Task.{Task}
-use Rattle.vme_words.specs.declared.order.Task.TheVariants.{Check, List as Listing, Confirm, Rules, Variables, Bind, Explain}
+use Rattle.vme_words.specs.declared.order.Task.TheVariants.{Check, List as Listing, Confirm, Rules, Variables, Bind}
+use Rattle.vme_words.specs.declared.order.Task.TheVariants.{Explain}
 
 -- the number that a text says, which may begin with a plus sign
 abbrev pub number_of : Text → ℕ
@@ -43,7 +45,8 @@ pub record SaysOrder (order : Order) (rows : List Row) : Type 0 where
 pub record SaysConfirmation (order : Order) (rows : List Row) : Type 0 where
   pub block : order.block ≡ 16384
   pub workers : order.workers ≡ 4
-  pub names : map (λ name. Some (string_bytes name)) order.names.items ≡ names_in rows ++ first_of (codes "LISTING") rows ∷ []
+  pub names : map (λ name. Some (string_bytes name)) order.names.items ≡ names_in rows
+      ++ first_of (codes "LISTING") rows ∷ []
 
 -- an order of these words, whose numbers are those that the others have by default
 pub record SaysWords (order : Order) (words : List (Option Text)) : Type 0 where
@@ -68,7 +71,8 @@ pub record IsOrder (order : Order) (met : Option (Text × List Row)) : Type 0 wh
 
 -- ---- which matches have what an order needs
 
--- the option has a text that says a number from 1 to the greatest, and is read without a minus sign, as clap reads such numbers
+-- the option has a text that says a number from 1 to the greatest, and is read without a minus sign, as clap reads such
+-- numbers
 pub record HasNumber (name : Text) (greatest : ℕ) (rows : List Row) : Type 0 where
   pub text : Text
   pub read : one_of name rows ≡ Some (without_minus text)

@@ -3,12 +3,15 @@
 ghost use Rattle.std.specs.Prelude.{◌≡◌, IfOk, Some, codes, false};
 ghost use Rattle.clap.specs.Words.{app_of, rule_of};
 ghost use Rattle.clap.specs.declared.builder.command.Command.TheViews.{out-Command};
-ghost use Rattle.vme_words.specs.Commands.{bind_app, confirm_app, explain_app, file_rule, number_rule, recording_app, recordings_app, rules_app, slots_rule, telling_app, variables_app, vmecheck_app, word_rule};
+ghost use Rattle.vme_words.specs.Commands.{bind_app, confirm_app, explain_app, file_rule, number_rule, recording_app};
+ghost use Rattle.vme_words.specs.Commands.{recordings_app, rules_app, slots_rule, telling_app, variables_app};
+ghost use Rattle.vme_words.specs.Commands.{vmecheck_app, word_rule};
 
 use clap::{Arg, Command, value_parser};
 use std::alloc::{AllocError, Global};
 
-/// The version of the program, and the commit that it was built from: `release` puts that in the place of these forty letters.
+/// The version of the program, and the commit that it was built from: `release` puts that in the place of these forty
+/// letters.
 pub const VERSION: &str = "0.1.0, commit (built from a working tree, not a release)";
 
 /// The program, with a subcommand for each task.

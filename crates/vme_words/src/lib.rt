@@ -1,8 +1,8 @@
 //! What the words of the command line ask for.
 //!
-//! [`words::order`] reads the words by `clap`'s rules of one command with a subcommand for each task (`command`): its contract says
-//! that an [`Order`] is what those rules give the words, that it comes exactly where they find no fault, and which kind of fault
-//! wrong words have. Start reading there.
+//! [`words::order`] reads the words by `clap`'s rules of one command with a subcommand for each task (`command`): its
+//! contract says that an [`Order`] is what those rules give the words, that it comes exactly where they find no fault,
+//! and which kind of fault wrong words have. Start reading there.
 #![tactic(auto)]
 
 mod command;

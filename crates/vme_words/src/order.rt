@@ -30,9 +30,9 @@ pub struct Order {
     pub block: u32,
     /// How many workers read and judge a dump, 1 to 64.
     pub workers: u32,
-    /// The words behind the task, by it: the binding and the dump, and for a confirmation the listing, or for an explanation
-    /// the waveform viewer's file, if one is wanted; the dump, and for a binding the number of slots, if it is told; or a rule,
-    /// if one is named.
+    /// The words behind the task, by it: the binding and the dump, and for a confirmation the listing, or for an
+    /// explanation the waveform viewer's file, if one is wanted; the dump, and for a binding the number of slots, if it
+    /// is told; or a rule, if one is named.
     pub names: Vec<String>,
     ghost block_in_range: { (1 ≤ block) × (block ≤ 65536) },
     ghost workers_in_range: { (1 ≤ workers) × (workers ≤ 64) },

@@ -1,10 +1,12 @@
 //! How the words of the command line are read.
 
-ghost use Rattle.std.specs.Prelude.{◌≡◌, ◌≤◌, ◌∷◌, ◌++◌, [], codes, IfErr, IfOk, IfSome, Some, is_some, map, string_bytes, true};
+ghost use Rattle.std.specs.Prelude.{◌≡◌, ◌≤◌, ◌∷◌, ◌++◌, [], codes, IfErr, IfOk, IfSome, Some, is_some, map};
+ghost use Rattle.std.specs.Prelude.{string_bytes, true};
 ghost use Rattle.clap.specs.Words.{fault_of, first_of, found_of, kind_of, rows_of, subcommand_of, subcommand_rows_of};
 ghost use Rattle.vme_words.specs.Commands.{vmecheck_app};
 ghost use Rattle.vme_words.specs.OrderFaults.{HasUsageKind, IsFaultOf, IsOfWords};
-ghost use Rattle.vme_words.specs.Orders.{HasConfirmation, HasName, HasNames, HasNumber, HasOrder, HasRecording, IsOrder, SaysOrder, SaysWords, if_given, names_in, number_in};
+ghost use Rattle.vme_words.specs.Orders.{HasConfirmation, HasName, HasNames, HasNumber, HasOrder, HasRecording};
+ghost use Rattle.vme_words.specs.Orders.{IsOrder, SaysOrder, SaysWords, if_given, names_in, number_in};
 
 use crate::command::{
     bind_command, check_command, confirm_command, explain_command, list_command, rules_command,
@@ -54,7 +56,8 @@ fn order_in(alloc: Global, matches: &ArgMatches<'_>) -> Result<Option<Order>, Al
 /// The order that the matches of `check` are, if they are one.
 #[tactic(auto, using(crate::proofs::OrderLemmas::is_check))]
 fn check_order(alloc: Global, found: &ArgMatches<'_>) -> Result<Option<Order>, AllocError>
-    ensures said { IfOk result (λ o. IfSome o (λ order. IsOrder order (Some (codes "check", rows_of (found_of found.now))))) }
+    ensures said { IfOk result (λ o. IfSome o (λ order. IsOrder order
+        (Some (codes "check", rows_of (found_of found.now))))) }
     ensures found { HasRecording (rows_of (found_of found.now)) → IfOk result (λ o. is_some o ≡ true) }
 {
     recording_order(alloc, Task::Check, found)
@@ -63,7 +66,8 @@ fn check_order(alloc: Global, found: &ArgMatches<'_>) -> Result<Option<Order>, A
 /// The order that the matches of `list` are, if they are one.
 #[tactic(auto, using(crate::proofs::OrderLemmas::is_list))]
 fn list_order(alloc: Global, found: &ArgMatches<'_>) -> Result<Option<Order>, AllocError>
-    ensures said { IfOk result (λ o. IfSome o (λ order. IsOrder order (Some (codes "list", rows_of (found_of found.now))))) }
+    ensures said { IfOk result (λ o. IfSome o (λ order. IsOrder order
+        (Some (codes "list", rows_of (found_of found.now))))) }
     ensures found { HasRecording (rows_of (found_of found.now)) → IfOk result (λ o. is_some o ≡ true) }
 {
     recording_order(alloc, Task::List, found)
@@ -97,7 +101,8 @@ fn recording_order(
 /// The order that the matches of `confirm` are, if they are one.
 #[tactic(auto, using(crate::proofs::OrderLemmas::is_confirmation))]
 fn confirm_order(alloc: Global, found: &ArgMatches<'_>) -> Result<Option<Order>, AllocError>
-    ensures said { IfOk result (λ o. IfSome o (λ order. IsOrder order (Some (codes "confirm", rows_of (found_of found.now))))) }
+    ensures said { IfOk result (λ o. IfSome o (λ order. IsOrder order
+        (Some (codes "confirm", rows_of (found_of found.now))))) }
     ensures found { HasConfirmation (rows_of (found_of found.now)) → IfOk result (λ o. is_some o ≡ true) }
 {
     match all_names_in(alloc, found)? {
@@ -114,7 +119,8 @@ fn confirm_order(alloc: Global, found: &ArgMatches<'_>) -> Result<Option<Order>,
 /// The order that the matches of `rules` are.
 #[tactic(auto, using(crate::proofs::OrderLemmas::is_rules))]
 fn rules_order(alloc: Global, found: &ArgMatches<'_>) -> Result<Option<Order>, AllocError>
-    ensures said { IfOk result (λ o. IfSome o (λ order. IsOrder order (Some (codes "rules", rows_of (found_of found.now))))) }
+    ensures said { IfOk result (λ o. IfSome o (λ order. IsOrder order
+        (Some (codes "rules", rows_of (found_of found.now))))) }
     ensures found { IfOk result (λ o. is_some o ≡ true) }
 {
     let names = with_given(alloc, Vec::new(alloc), found, "RULE")?;
@@ -124,7 +130,8 @@ fn rules_order(alloc: Global, found: &ArgMatches<'_>) -> Result<Option<Order>, A
 /// The order that the matches of `variables` are, if they are one.
 #[tactic(auto, using(crate::proofs::OrderLemmas::is_variables))]
 fn variables_order(alloc: Global, found: &ArgMatches<'_>) -> Result<Option<Order>, AllocError>
-    ensures said { IfOk result (λ o. IfSome o (λ order. IsOrder order (Some (codes "variables", rows_of (found_of found.now))))) }
+    ensures said { IfOk result (λ o. IfSome o (λ order. IsOrder order
+        (Some (codes "variables", rows_of (found_of found.now))))) }
     ensures found { HasName (codes "DUMP") (rows_of (found_of found.now)) → IfOk result (λ o. is_some o ≡ true) }
 {
     match dump_in(alloc, found)? {
@@ -136,7 +143,8 @@ fn variables_order(alloc: Global, found: &ArgMatches<'_>) -> Result<Option<Order
 /// The order that the matches of `bind` are, if they are one.
 #[tactic(auto, using(crate::proofs::OrderLemmas::is_bind))]
 fn bind_order(alloc: Global, found: &ArgMatches<'_>) -> Result<Option<Order>, AllocError>
-    ensures said { IfOk result (λ o. IfSome o (λ order. IsOrder order (Some (codes "bind", rows_of (found_of found.now))))) }
+    ensures said { IfOk result (λ o. IfSome o (λ order. IsOrder order
+        (Some (codes "bind", rows_of (found_of found.now))))) }
     ensures found { HasName (codes "DUMP") (rows_of (found_of found.now)) → IfOk result (λ o. is_some o ≡ true) }
 {
     match dump_in(alloc, found)? {
@@ -151,7 +159,8 @@ fn bind_order(alloc: Global, found: &ArgMatches<'_>) -> Result<Option<Order>, Al
 /// The order that the matches of `explain` are, if they are one.
 #[tactic(auto, using(crate::proofs::OrderLemmas::is_explain))]
 fn explain_order(alloc: Global, found: &ArgMatches<'_>) -> Result<Option<Order>, AllocError>
-    ensures said { IfOk result (λ o. IfSome o (λ order. IsOrder order (Some (codes "explain", rows_of (found_of found.now))))) }
+    ensures said { IfOk result (λ o. IfSome o (λ order. IsOrder order
+        (Some (codes "explain", rows_of (found_of found.now))))) }
     ensures found { HasNames (rows_of (found_of found.now)) → IfOk result (λ o. is_some o ≡ true) }
 {
     match names_in(alloc, found)? {
@@ -183,7 +192,8 @@ fn with_given(
     found: &ArgMatches<'_>,
     id: &str,
 ) -> Result<Vec<String>, AllocError>
-    ensures { IfOk result (λ all. map (λ n. Some (string_bytes n)) all.items ≡ map (λ n. Some (string_bytes n)) names.items ++ if_given (first_of id.now (rows_of (found_of found.now)))) }
+    ensures { IfOk result (λ all. map (λ n. Some (string_bytes n)) all.items
+        ≡ map (λ n. Some (string_bytes n)) names.items ++ if_given (first_of id.now (rows_of (found_of found.now)))) }
 {
     match found.get_str(id) {
         Some(name) => with_name(alloc, names, name),
@@ -193,7 +203,8 @@ fn with_given(
 
 /// The dump, if it has a name.
 fn dump_in(alloc: Global, found: &ArgMatches<'_>) -> Result<Option<Vec<String>>, AllocError>
-    ensures said { IfOk result (λ o. IfSome o (λ names. map (λ name. Some (string_bytes name)) names.items ≡ first_of (codes "DUMP") (rows_of (found_of found.now)) ∷ [])) }
+    ensures said { IfOk result (λ o. IfSome o (λ names. map (λ name. Some (string_bytes name)) names.items
+        ≡ first_of (codes "DUMP") (rows_of (found_of found.now)) ∷ [])) }
     ensures found { HasName (codes "DUMP") (rows_of (found_of found.now)) → IfOk result (λ o. is_some o ≡ true) }
 {
     match found.get_str("DUMP") {
@@ -205,7 +216,8 @@ fn dump_in(alloc: Global, found: &ArgMatches<'_>) -> Result<Option<Vec<String>>,
 /// The binding, the dump and the listing, if each has a name.
 fn all_names_in(alloc: Global, found: &ArgMatches<'_>) -> Result<Option<Vec<String>>, AllocError>
     ensures found { HasConfirmation (rows_of (found_of found.now)) → IfOk result (λ o. is_some o ≡ true) }
-    ensures said { IfOk result (λ o. IfSome o (λ names. map (λ name. Some (string_bytes name)) names.items ≡ names_in (rows_of (found_of found.now)) ++ first_of (codes "LISTING") (rows_of (found_of found.now)) ∷ [])) }
+    ensures said { IfOk result (λ o. IfSome o (λ names. map (λ name. Some (string_bytes name)) names.items
+        ≡ names_in (rows_of (found_of found.now)) ++ first_of (codes "LISTING") (rows_of (found_of found.now)) ∷ [])) }
 {
     let Some(listing) = found.get_str("LISTING") else {
         return Ok(None);
@@ -218,7 +230,8 @@ fn all_names_in(alloc: Global, found: &ArgMatches<'_>) -> Result<Option<Vec<Stri
 
 /// The names, with one more.
 fn with_name(alloc: Global, mut names: Vec<String>, name: &str) -> Result<Vec<String>, AllocError>
-    ensures { IfOk result (λ all. map (λ n. Some (string_bytes n)) all.items ≡ map (λ n. Some (string_bytes n)) names.items ++ Some name.now ∷ []) }
+    ensures { IfOk result (λ all. map (λ n. Some (string_bytes n)) all.items
+        ≡ map (λ n. Some (string_bytes n)) names.items ++ Some name.now ∷ []) }
 {
     names.push(String::from_str(alloc, name)?)?;
     Ok(names)
@@ -226,7 +239,8 @@ fn with_name(alloc: Global, mut names: Vec<String>, name: &str) -> Result<Vec<St
 
 /// The binding and the dump, if both have names.
 fn names_in(alloc: Global, found: &ArgMatches<'_>) -> Result<Option<Vec<String>>, AllocError>
-    ensures said { IfOk result (λ o. IfSome o (λ names. map (λ name. Some (string_bytes name)) names.items ≡ names_in (rows_of (found_of found.now)))) }
+    ensures said { IfOk result (λ o. IfSome o (λ names. map (λ name. Some (string_bytes name)) names.items
+        ≡ names_in (rows_of (found_of found.now)))) }
     ensures found { HasNames (rows_of (found_of found.now)) → IfOk result (λ o. is_some o ≡ true) }
 {
     let (Some(binding), Some(dump)) = (found.get_str("BINDING"), found.get_str("DUMP")) else {

@@ -41,8 +41,8 @@ abbrev pub GivesRows : Result (List ℕ) Refusal → Result Listed Refusal → T
 GivesRows text (Err Memory) = Unit {0}
 GivesRows text given = IsListing text given
 
--- A listing, and the recording that a binding makes of a dump, or the first reason that one is missing: a fault of the listing
--- comes before why the binding makes no recording. In what order the program looks isn't told by this.
+-- A listing, and the recording that a binding makes of a dump, or the first reason that one is missing: a fault of the
+-- listing comes before why the binding makes no recording. In what order the program looks isn't told by this.
 abbrev pub compared : Result BoundLines Refusal → Result Contents Refusal → Result Listed Refusal
     → Result (Listed × Trace) Refusal
 compared binding dump listing = do
@@ -59,10 +59,11 @@ compared_with recorded listing = do
   t ← or_bad_binding recorded
   Ok (given, t)
 
--- what is found says whether the listing is that of the recording in its version, and which row is the first that differs; or why there is
--- no answer
+-- what is found says whether the listing is that of the recording in its version, and which row is the first that
+-- differs; or why there is no answer
 abbrev pub IsFound : Result Confirmation Refusal → Result (Listed × Trace) Refusal → Type 0
-IsFound (Ok found) said = (given : Listed) × (t : Trace) × (said ≡ Ok (given, t)) × Settles given.rows (rows_in given.version (recorded_rows t)) found
+IsFound (Ok found) said = (given : Listed) × (t : Trace) × (said ≡ Ok (given, t))
+    × Settles given.rows (rows_in given.version (recorded_rows t)) found
 IsFound (Err refusal) said = said ≡ Err refusal
 
 -- the same, unless there was no memory
@@ -70,8 +71,8 @@ abbrev pub GivesConfirmation : Result Confirmation Refusal → Result (Listed ×
 GivesConfirmation (Err Memory) said = Unit {0}
 GivesConfirmation found said = IsFound found said
 
--- This is the answer to a binding, a dump and the text of a listing, or the first reason that there is none: where there are
--- a binding and a dump, the text is read as a listing, or has a first fault.
+-- This is the answer to a binding, a dump and the text of a listing, or the first reason that there is none: where
+-- there are a binding and a dump, the text is read as a listing, or has a first fault.
 abbrev pub IsConfirmation : Result BoundLines Refusal → Result Contents Refusal → Result (List ℕ) Refusal
     → Result Confirmation Refusal → Type 0
 IsConfirmation (Err refusal) dump text found = found ≡ Err refusal
@@ -98,8 +99,8 @@ confirmation_answer_by (Err refusal) = refusal_answer refusal
 
 -- ---- how it ends
 
--- The binding, the dump and the listing are read, or can't be; the listing is compared with that of the recording, unless there
--- was no memory; and the answer is told, unless a write of it fails.
+-- The binding, the dump and the listing are read, or can't be; the listing is compared with that of the recording,
+-- unless there was no memory; and the answer is told, unless a write of it fails.
 abbrev pub Confirms : Reading × Reading → Reading × Reading → Reading × Reading
     → Writing × Writing → Writing × Writing → ℕ → Type 0
 Confirms binding dump listing out err status =

@@ -19,16 +19,18 @@ use Rattle.vme_listing.specs.declared.row.Outcome.{Outcome}
 use Rattle.vme_listing.specs.declared.row.Outcome.TheVariants.{Conforming, NeverIdle, Broken, Unreadable}
 use Rattle.vme_listing.specs.declared.row.Row.{Row}
 use Rattle.vme_listing.specs.declared.row.Row.TheVariants.{Start, Reset, OpenTenure, Tenure, AddressedCycle}
-use Rattle.vme_listing.specs.declared.row.Row.TheVariants.{FreeCycle, InterruptCycle, Transfer, PendingTransfer, Verdict}
+use Rattle.vme_listing.specs.declared.row.Row.TheVariants.{FreeCycle, InterruptCycle, Transfer, PendingTransfer}
+use Rattle.vme_listing.specs.declared.row.Row.TheVariants.{Verdict}
 
--- the recording that a binding makes of a dump, if it is cut into at most 4,096 blocks of so many steps, or the first reason that there is none
+-- the recording that a binding makes of a dump, if it is cut into at most 4,096 blocks of so many steps, or the first
+-- reason that there is none
 unfoldable pub recording_of : Option (List ℕ) → Option (List ℕ) → ℕ → Result Trace Refusal
 recording_of binding dump block = do
   t ← capture_read binding dump
   in_blocks block t
 
--- The listing is that of the recording that is to be read there, or what is found is why there is none, unless there was
--- no memory.
+-- The listing is that of the recording that is to be read there, or what is found is why there is none, unless there
+-- was no memory.
 abbrev pub GivesListing : Result Listed Refusal → Result Trace Refusal → Type 0
 GivesListing (Ok listing) recording = (t : Trace) × (recording ≡ Ok t) × (listing ≡ listing_of t)
 GivesListing (Err Memory) recording = Unit {0}

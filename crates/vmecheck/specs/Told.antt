@@ -30,7 +30,8 @@ IsTextOf read (Err refusal) = read ≡ Err refusal
 -- the dump that was read. Else this is why there is no dump, unless there was no memory; a fault of the binding comes
 -- only where even the binding that finds nothing makes no recording.
 abbrev pub IsBindingFor : Result Contents Refusal → Result (List ℕ) Refusal → Type 0
-IsBindingFor read (Ok text) = (bound : BoundLines) × (t : Trace) × (binding_of text ≡ Ok bound) × (capture_by bound read ≡ Ok t)
+IsBindingFor read (Ok text) = (bound : BoundLines) × (t : Trace) × (binding_of text ≡ Ok bound)
+    × (capture_by bound read ≡ Ok t)
 IsBindingFor read (Err Memory) = Unit {0}
 IsBindingFor read (Err (BadBinding fault)) = Unit {0}
 IsBindingFor read (Err refusal) = read ≡ Err refusal

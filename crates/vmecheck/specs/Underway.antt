@@ -11,7 +11,8 @@ use Rattle.vmecheck.specs.declared.underway.Stage.{Stage}
 use Rattle.vmecheck.specs.declared.underway.Stage.TheVariants.{Definitions, Body, Failed}
 
 -- the recording that a binding makes of a dump that is read so far and goes on with these bytes, or why there is none
-abbrev pub ahead_of : {F : Type 0} {follows : Ghosts F} → BoundLines → Stage F follows → List ℕ → Result Trace CaptureFault
+abbrev pub ahead_of : {F : Type 0} {follows : Ghosts F} → BoundLines → Stage F follows → List ℕ
+    → Result Trace CaptureFault
 ahead_of b (Definitions follower) rest = recording_of_text b rest
 ahead_of b (Body text) rest = outcome_ahead (text_reached text) (tokens_from (text_reached text).body.line rest) []
 ahead_of b (Failed told) rest = Err told.fault

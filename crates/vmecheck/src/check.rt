@@ -17,12 +17,12 @@ use vme_summary::Judge;
 use vme_trace::{Sink, Source, Verdict};
 
 /// Judges the recording that a binding makes of a dump, and writes its verdict to `out`, or why there is none to `err`.
-/// The answer is the exit status: 0 conforming, 1 broken, 2 unreadable or never idle, 3 where an input is refused, 4 for
-/// want of memory, 5 where the verdict can't be written.
+/// The answer is the exit status: 0 conforming, 1 broken, 2 unreadable or never idle, 3 where an input is refused, 4
+/// for want of memory, 5 where the verdict can't be written.
 ///
-/// The binding is read, and then the dump, piece by piece. Neither the dump nor the recording is kept: the steps are judged as
-/// they are made. A recording that fills more than 4,096 blocks of `block` steps is refused, and the verdict is otherwise the
-/// same for each size. A failure of `err` is ignored.
+/// The binding is read, and then the dump, piece by piece. Neither the dump nor the recording is kept: the steps are
+/// judged as they are made. A recording that fills more than 4,096 blocks of `block` steps is refused, and the verdict
+/// is otherwise the same for each size. A failure of `err` is ignored.
 pub fn check<R: Threads + Sync, B: Source, D: Source, O: Sink, E: Sink>(
     rt: &R,
     alloc: Global,

@@ -3,7 +3,9 @@
 ghost use Rattle.std.specs.Prelude.{◌≡◌, ◌≢◌, ◌↔◌, ℕ, suc, List, Option, Ok, Result};
 ghost use Rattle.vme_listing.specs.Listed.{Listed};
 ghost use Rattle.vme_answer.specs.Answers.{binding_read, dump_read};
-ghost use Rattle.vmecheck.specs.Confirmations.{Confirms, GivesConfirmation, GivesRows, TellsConfirmation, compared, compared_with, confirmation_answer_by, confirmation_status, confirmation_text, listing_text};
+ghost use Rattle.vmecheck.specs.Confirmations.{Confirms, GivesConfirmation, GivesRows, TellsConfirmation, compared};
+ghost use Rattle.vmecheck.specs.Confirmations.{compared_with, confirmation_answer_by, confirmation_status};
+ghost use Rattle.vmecheck.specs.Confirmations.{confirmation_text, listing_text};
 ghost use Rattle.vme_answer.specs.Ends.{Ends};
 ghost use Rattle.vme_answer.specs.Texts.{line_of};
 ghost use Rattle.vme_stream.specs.Inputs.{IsReading, TellsWhole};
@@ -17,13 +19,13 @@ use vme_listing::{Listing, read_listing};
 use vme_stream::{Message, complain, read_all, write_message};
 use vme_trace::{Capture, Sink, Source};
 
-/// Whether a listing is that of the recording that a binding makes of a dump, in its version: writes the answer to `out`, or to `err` why there
-/// is none. The answer is the exit status: 0 confirmed, 1 not, 3 where an input is refused, 4 for want of memory, 5 where the
-/// answer can't be written.
+/// Whether a listing is that of the recording that a binding makes of a dump, in its version: writes the answer to
+/// `out`, or to `err` why there is none. The answer is the exit status: 0 confirmed, 1 not, 3 where an input is
+/// refused, 4 for want of memory, 5 where the answer can't be written.
 ///
-/// The binding is read, then the dump, of which the recording is made, and then the listing: a binding that can't be used on
-/// the dump is told after the faults of these. The listing is compared by the definitions alone, by no monitor. A failure of
-/// `err` is ignored.
+/// The binding is read, then the dump, of which the recording is made, and then the listing: a binding that can't be
+/// used on the dump is told after the faults of these. The listing is compared by the definitions alone, by no monitor.
+/// A failure of `err` is ignored.
 pub fn confirm_with<B: Source, D: Source, L: Source, O: Sink, E: Sink>(
     alloc: Global,
     binding: &mut B,

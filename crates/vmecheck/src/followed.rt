@@ -16,8 +16,8 @@ use vme_summary::advance::Advance;
 use vme_summary::watch::Watch;
 use vme_trace::Source;
 
-/// What judged the recording that a binding makes of a dump, or the first reason that there is none. The binding is read,
-/// and then the dump, piece by piece: of its text nothing is kept.
+/// What judged the recording that a binding makes of a dump, or the first reason that there is none. The binding is
+/// read, and then the dump, piece by piece: of its text nothing is kept.
 pub(crate) fn followed<R: Threads + Sync, B: Source, D: Source, J: Advance + Send>(
     alloc: Global,
     workers: &Workers<'_, R>,

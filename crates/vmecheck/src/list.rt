@@ -7,7 +7,8 @@ ghost use Rattle.vme_trace.specs.WellFormed.{malformed_step};
 ghost use Rattle.vme_answer.specs.Ends.{Ends, Tells};
 ghost use Rattle.vme_stream.specs.Inputs.{IsReading, TellsWhole};
 ghost use Rattle.vmecheck.specs.Judged.{limited_in_blocks};
-ghost use Rattle.vmecheck.specs.Listings.{GivesListing, Lists, listing_answer_by, listing_answer_of, recording_of, listing_status, outcome_status, row_status};
+ghost use Rattle.vmecheck.specs.Listings.{GivesListing, Lists, listing_answer_by, listing_answer_of, recording_of};
+ghost use Rattle.vmecheck.specs.Listings.{listing_status, outcome_status, row_status};
 
 use crate::followed::followed;
 use crate::workers::Workers;
@@ -19,13 +20,14 @@ use vme_stream::complain;
 use vme_summary::Lister;
 use vme_trace::{Sink, Source};
 
-/// Writes to `out` the listing of the recording that a binding makes of a dump, or to `err` why there is none. The answer is
-/// the exit status: that of the listing's verdict, 0 conforming, 1 broken, 2 unreadable or never idle; 3 where an input is
-/// refused, 4 for want of memory, 5 where the listing can't be written.
+/// Writes to `out` the listing of the recording that a binding makes of a dump, or to `err` why there is none. The
+/// answer is the exit status: that of the listing's verdict, 0 conforming, 1 broken, 2 unreadable or never idle; 3
+/// where an input is refused, 4 for want of memory, 5 where the listing can't be written.
 ///
-/// The binding is read, and then the dump, piece by piece. Neither the dump nor the recording is kept: the steps are judged as
-/// they are made, and their marks are kept. A recording that fills more than 4,096 blocks of `block` steps is refused, and the
-/// listing is otherwise the same for each size. It is written in pieces of up to 4,096 bytes. A failure of `err` is ignored.
+/// The binding is read, and then the dump, piece by piece. Neither the dump nor the recording is kept: the steps are
+/// judged as they are made, and their marks are kept. A recording that fills more than 4,096 blocks of `block` steps is
+/// refused, and the listing is otherwise the same for each size. It is written in pieces of up to 4,096 bytes. A
+/// failure of `err` is ignored.
 pub fn list<R: Threads + Sync, B: Source, D: Source, O: Sink, E: Sink>(
     rt: &R,
     alloc: Global,

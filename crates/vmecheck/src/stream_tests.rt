@@ -253,8 +253,8 @@ fn torn_listings(rt: HostRuntime) {
     }
 }
 
-/// Dumps that are long, and too long to be read in pieces of this size or at all: 17,000,000 bytes, the most that there may
-/// be, one more, and as many as 64 bits can count.
+/// Dumps that are long, and too long to be read in pieces of this size or at all: 17,000,000 bytes, the most that there
+/// may be, one more, and as many as 64 bits can count.
 #[test]
 fn long_dumps(rt: HostRuntime) {
     for (left, piece, wanted) in [

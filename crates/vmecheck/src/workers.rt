@@ -46,10 +46,10 @@ impl<'r, R: Threads + Sync> Workers<'r, R> {
         self.piece
     }
 
-    /// Whether so many bytes of a body are too few to share: several workers get two pieces each.
+    /// Whether so many bytes of a body are too few to share: several workers get four pieces each.
     pub fn want_more(&self, len: usize) -> bool {
         let count = self.count as usize;
-        count > 1 && len < self.piece.saturating_mul(2).saturating_mul(count)
+        count > 1 && len < self.piece.saturating_mul(4).saturating_mul(count)
     }
 
     /// Takes the next piece of a dump, which ends behind a space, or where the dump does.

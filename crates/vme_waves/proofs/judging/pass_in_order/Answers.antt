@@ -8,7 +8,7 @@ pub loop-part-preserved : goal.loop-part-preserved
 loop-part-preserved g c =
     let inv = c.loop-part.invariant in
     let before : Trace = c.loop-part.watch in
-    let after : Trace = c.pass.new.self in
+    let after : Trace = c.in_ok-watch.watch in
     let judged : List Judged = into_iter_items c.loop-part.part-iterator in
     let rest : List Judged = into_iter_items c.next.new.self in
     let part : Trace = c.in_ok-part.field-0 in
@@ -21,6 +21,6 @@ loop-part-preserved g c =
       next = tt;
       finite = tt;
       counted = omega (arith, counted, less, long);
-      can = rest-follows before after judged rest part at inv.can c.in_ok-pass.ensures;
-      passed = λ end done. inv.passed end (part-passed before after judged rest part at inv.can end c.in_ok-pass.ensures done);
+      can = rest-follows before after judged rest part at inv.can c.in_ok-watch.ensures;
+      passed = λ end done. inv.passed end (part-passed before after judged rest part at inv.can end c.in_ok-watch.ensures done);
     }

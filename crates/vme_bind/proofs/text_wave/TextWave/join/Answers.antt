@@ -1,8 +1,8 @@
-use Rattle.std.proofs.Common.{◌≡◌, ◌++◌, sym, ap, subst, ◌∙◌, rules}
+use Rattle.std.proofs.Common.{◌≡◌, ◌++◌, sym, ap, subst, ◌∙◌, arith, rules}
 use Rattle.std.specs.Prelude.{All}
 use Rattle.vcd_read.specs.Apart.{ReadApart, apart_with, read_apart}
 use Rattle.vcd_read.specs.Reached.{Reached, reached}
-use Rattle.vme_bind.specs.Notes.{IsOfLine, end_noted, with_notes}
+use Rattle.vme_bind.specs.Notes.{AreOfOne, IsOfLine, end_noted, with_notes}
 use Rattle.vme_bind.specs.Recording.{AreLines, Progress}
 use Rattle.vme_bind.specs.Taps.{taps_of}
 use Rattle.vme_bind.proofs.WaveLemmas.{passed-all, passed-slots, wave-joined, wave-lines, wave_of}
@@ -39,8 +39,12 @@ invariant_of-part c =
     let a : ReadApart (Unit {0}) = read_apart (λ p. tt {0}) c.noted.inside.apart in
     let view : c.args.self ≡ wave_of inside.fault inside.taps inside.recorder r = search rules in
     let seen : c.args.noted ≡ apart_with items a = search rules in
-    subst (λ (p : Progress). All (IsOfLine p.now.slots) items) (sym c.in_ok-opening.ensures.same)
-    (wave-lines c.args.piece.now c.args.self c.args.noted inside.fault inside.taps inside.recorder r items a view seen c.requires.noted c.self.invariant.1)
+    let opening = c.in_ok-opening.ensures in (
+      subst AreOfOne (sym opening.same) opening.one,
+      subst (λ (p : Progress). All (IsOfLine p.now.slots) items) (sym opening.same)
+          (wave-lines c.args.piece.now c.args.self c.args.noted inside.fault inside.taps inside.recorder r items a view seen c.requires.noted c.self.invariant.1),
+      omega arith,
+    )
 
 pub returns : goal.returns
 returns c =

@@ -1,17 +1,19 @@
-use Rattle.std.proofs.Common.{rules, ◌≡◌, ℕ, ◌+◌, ◌-◌, ◌/◌, ◌%◌, ◌<◌, ◌≤◌, ◌&&◌, ◌||◌, true, false, not, Bool, refl, sym, ◌∙◌, ap, arith, add-zero, inl, inr}
-use Rattle.std.specs.Prelude.{Option, ◌==◌, is_some, unwrap_or, nat_lt}
+use Rattle.std.proofs.Common.{rules, ◌≡◌, ℕ, ◌+◌, ◌<◌, ◌≤◌, ◌&&◌, ◌||◌, true, false, not, Bool, refl, sym, subst, ◌∙◌, ap, arith, add-zero, inl, inr}
+use Rattle.std.specs.Prelude.{Option, Some, None, ◌==◌, is_some, unwrap_or, nat_lt, if◌then◌else◌}
 use Rattle.std.proofs.lemmas.Bool.Decides.{nat_tests}
 use Rattle.vme_trace.specs.Instants.{any, none, greatest}
 use Rattle.vme_trace.specs.Cycle.{Needs, needs_of, is_within, is_needed}
 use Rattle.vme_trace.specs.Judged.{Span}
 use Rattle.vme_trace.specs.Levels.{Levels}
-use Rattle.vme_trace.specs.LineNumbers.{DTACK, BERR, BR, grant_place}
+use Rattle.vme_trace.specs.LineNumbers.{DTACK, BERR, BR, grant_level, grant_place, is_grant}
+use Rattle.vme_trace.specs.declared.rule.Rule.{Rule}
 use Rattle.vme_trace.specs.Tenures.{last_before, grant_falls}
 use Rattle.vme_trace.specs.Signals.{low, falls}
 use Rattle.vme_trace.proofs.SpanEnds.{slots_at}
 use Rattle.vme_cert.specs.Events.{happens}
 use Rattle.vme_trace.specs.Transfers.{transfer_starts, strobe_rises}
 use Rattle.vme_cert.specs.Judging.{trace, span, instant}
+use Rattle.vme_cert.specs.Watching.{speaks_of}
 use Rattle.vme_cert.proofs.Asked.{unanswered-is, after-answer, answered-twice, granted-near}
 use Rattle.vme_cert.proofs.Barriers.{since-barrier}
 use Rattle.vme_cert.proofs.judged.Judged.asks.Goals as goal
@@ -104,17 +106,26 @@ first_of a b h = rw h refl
 is_zero : (n : ℕ) → n ≡ 0 → (n == 0) ≡ true
 is_zero n h = rw h refl
 
+net_of : (l : ℕ) (net : Option (ℕ × ℕ)) → net ≡ (if is_grant l then Some (grant_level l, grant_place l) else None) → is_grant l ≡ true
+    → unwrap_or net (0, 0) ≡ (grant_level l, grant_place l)
+net_of l net is h = rw (is, h) refl
+
 pub returns-then-place-eq0-2 : goal.returns-then-place-eq0-2
 returns-then-place-eq0-2 c =
     let self = c.args.self.now in
     let t = trace self in
     let j = instant self in
     let since = last_before t (span self) (grant_falls t) j in
-    let net : c.saturating_sub-net.result ≡ c.args.line - 50 = omega arith in
-    let request = c.request.ensures t (span self) ∙ ap (λ (n : ℕ). low t (BR (n / 22))) net in
+    let line = c.args.line in
+    let spoken : is_grant line ≡ true = subst (λ (r : Rule). speaks_of r line ≡ true) c.in-G5.is c.requires.speaks in
+    let net : c.unwrap_or-level.result ≡ (grant_level line, grant_place line) =
+    c.unwrap_or-level.ensures ∙ net_of line c.grant_place.result c.grant_place.ensures.place spoken in
+    let request = c.request.ensures t (span self) ∙ ap (λ (n : ℕ × ℕ). low t (BR n.0)) net in
+    let first = is_zero (grant_place line) (sym (ap (λ (n : ℕ × ℕ). n.1) net) ∙ c.if-place-eq0-2.true) in
     rw c.in-G5.is
     (c.is_silent_since-then-place-eq0-2.ensures
-    ∙ (ap (λ n. none (happens t (span self) c.request.result) n (j + 1)) (add-zero since) ∙ (ap (λ (p : ℕ → Bool). none p since (j + 1)) request ∙ first_of _ _ (is_zero (grant_place c.args.line) (sym (ap (λ (n : ℕ). n % 22) net) ∙ c.if-place-eq0-2.true)))))
+    ∙ (ap (λ n. none (happens t (span self) c.request.result) n (j + 1)) (add-zero since)
+    ∙ (ap (λ (p : ℕ → Bool). none p since (j + 1)) request ∙ first_of _ _ first)))
 
 pub returns-in-B1 : goal.returns-in-B1
 returns-in-B1 c = rw c.in-B1.is (turned _ _ c.is_none-in-B1.ensures ∙ ap not (ap is_some c.tenure_level.ensures.level ∙ granted-near (trace c.args.self.now) (instant c.args.self.now)))

@@ -1,0 +1,15 @@
+-- The steps of a part of a recording, some at once.
+use Rattle.std.specs.Prelude.{◌≡◌, List, [], ◌∷◌, ◌++◌}
+use Rattle.vme_trace.specs.Levels.{Levels}
+use Rattle.vme_trace.specs.Trace.{Trace, levels_after}
+use Rattle.vme_trace.specs.declared.step.Step.{Step}
+
+-- the steps of some runs, one run after the other
+abbrev pub steps_in : List Trace → List Step
+steps_in [] = []
+steps_in (run ∷ runs) = run.steps ++ steps_in runs
+
+-- each run opens with the levels that these and the runs before it lead to
+abbrev pub Follow : Levels → List Trace → Type 0
+Follow levels [] = Unit {0}
+Follow levels (run ∷ runs) = (run.opening ≡ levels) × Follow (levels_after levels run.steps) runs
