@@ -7,10 +7,11 @@ pub mod AtTransfers
 pub mod Barriers
 pub mod ChangedLines
 pub mod Chains
+pub mod Deciding
 pub mod Finding
 pub mod FirstBreaks
 pub mod Kept
-pub mod KnownData
+pub mod KnownLines
 pub mod Losing
 pub mod Noted
 pub mod Outside

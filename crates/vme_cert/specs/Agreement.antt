@@ -1,5 +1,10 @@
 -- How far given rows agree with the right ones.
-use Rattle.std.specs.Prelude.{◌≡◌, ℕ, ◌-◌, ◌≤◌, List, length, take, slice_get}
+use Rattle.std.specs.Prelude.{◌≡◌, ℕ, ◌-◌, ◌≤◌, true, List, take, slice_get}
+use Rattle.vme_trace.specs.Trace.{Trace}
+use Rattle.vme_listing.specs.Listed.{Listed}
+use Rattle.vme_listing.specs.Places.{is_well_placed}
+use Rattle.vme_listing.specs.Recorded.{recorded_rows, rows_in}
+use Rattle.vme_listing.specs.RowText.{text_of}
 use Rattle.vme_listing.specs.declared.row.Row.{Row}
 use Rattle.vme_cert.specs.declared.compare.Answer.{Answer}
 use Rattle.vme_cert.specs.declared.compare.Answer.TheVariants.{Yes, No}
@@ -10,12 +15,13 @@ pub record DiffersAt (given right : List Row) (row : ℕ) : Type 0 where
   pub before : take (row - 1) given ≡ take (row - 1) right
   pub here : slice_get given (row - 1) ≡ slice_get right (row - 1) → ⊥
 
--- and the right ones have it
-pub record DiffersWithin (given right : List Row) (row : ℕ) : Type 0 where
-  pub differs : DiffersAt given right row
-  pub within : row ≤ length right
-
 -- the given rows are the right ones, or this is the first that differs
 abbrev pub Settles : List Row → List Row → Answer → Type 0
 Settles given right Yes = given ≡ right
 Settles given right (No row) = DiffersAt given right row
+
+-- the text is that of a listing, and this is the answer to its rows, where the right ones are those of a recording
+abbrev pub SettlesText : List ℕ → Trace → Answer → Type 0
+SettlesText text t answer =
+    (given : Listed) × (is_well_placed given ≡ true) × (text_of given ≡ text)
+    × Settles given.rows (rows_in given.version (recorded_rows t)) answer

@@ -74,13 +74,9 @@ impl<'a> Bus<'a> {
         ensures trace { self.new.capture ≡ self.old.capture }
         ensures instant { self.new.instant ≡ self.old.instant + 1 }
     {
-        let steps = self.capture.steps();
-        let number = self.instant as usize;
-        if 0 < number {
-            self.before.apply(steps[number - 1].changes.as_slice());
-        }
-        if number < steps.len() {
-            self.levels.apply(steps[number].changes.as_slice());
+        self.before = self.levels;
+        if let Some(step) = self.capture.steps().get(self.instant as usize) {
+            self.levels.apply(step.changes.as_slice());
         }
         self.instant += 1;
     }

@@ -6,7 +6,6 @@ ghost use Rattle.vme_cert.specs.Words.{rule_count};
 ghost use Rattle.vme_cert.specs.Words.{break_at, least_break};
 ghost use Rattle.vme_trace.specs.Judged.{is_judged};
 ghost use Rattle.vme_trace.specs.Rules.{ends_span};
-ghost use Rattle.vme_trace.specs.declared.rule.Rule.TheVariants.{U4};
 ghost use Rattle.vme_cert.specs.ChangedLines.{first_changed};
 ghost use Rattle.vme_cert.specs.Watching.{speaks_of};
 ghost use Rattle.vme_cert.specs.Events.{IsIndex};
@@ -79,6 +78,23 @@ impl Judged<'_> {
         }
     }
 
+    /// Whether a rule asks for an unknown line, and all lines are known of which it speaks: then it isn't broken.
+    #[inline(always)]
+    fn lacks_nothing(&self, rule: Rule) -> bool
+        requires { asks_for_edge rule ≡ false }
+        ensures { result ≡ true → least (breaks (trace self.now) (span self.now) rule (instant self.now)) 0 line_count
+            ≡ None }
+    {
+        let (first, end) = lines_of(rule);
+        match rule {
+            H1 => false,
+            _ => self
+                .bus
+                .levels
+                .are_known(nth_line(u32::from(first)), nth_line(u32::from(end - 1))),
+        }
+    }
+
     /// The least line on which a rule is broken that speaks of the end of judging, the start of a cycle or a transfer,
     /// or the fall of a strobe.
     #[inline(always)]
@@ -86,7 +102,7 @@ impl Judged<'_> {
         requires { asks_for_edge rule ≡ false }
         ensures { result ≡ least (breaks (trace self.now) (span self.now) rule (instant self.now)) 0 line_count }
     {
-        if !self.starts(rule) {
+        if !self.starts(rule) || self.lacks_nothing(rule) {
             return None;
         }
         let (first, end) = lines_of(rule);
@@ -97,32 +113,6 @@ impl Judged<'_> {
             }
         }
         None
-    }
-
-    /// Whether all data lines are known: then no write lacks one. They are counted, so that the work is that of a few
-    /// vectors.
-    fn knows_data(&self) -> bool
-        ensures { result ≡ true → least (breaks (trace self.now) (span self.now) U4 (instant self.now)) 0 line_count
-            ≡ None }
-    {
-        let mut known = 0u8;
-        for bit in 0..32u8 {
-            if self.bus.knows(Line::data(bit)) {
-                known += 1;
-            }
-        }
-        known == 32
-    }
-
-    /// The least data line that a write lacks.
-    fn lacked_data(&self) -> Option<Line>
-        ensures { result ≡ least (breaks (trace self.now) (span self.now) U4 (instant self.now)) 0 line_count }
-    {
-        if self.knows_data() {
-            None
-        } else {
-            self.start_break(U4)
-        }
     }
 
     /// The first changed line on which a rule is broken.
@@ -145,11 +135,7 @@ impl Judged<'_> {
         ensures { result ≡ least (breaks (trace self.now) (span self.now) rule (instant self.now)) 0 line_count }
     {
         match rule {
-            U1 => self.start_break(U1),
-            U2 => self.start_break(U2),
-            U3 => self.start_break(U3),
-            U4 => self.lacked_data(),
-            H1 => self.start_break(H1),
+            U1 | U2 | U3 | U4 | H1 => self.start_break(rule),
             _ => self.edge_break(rule, changes),
         }
     }

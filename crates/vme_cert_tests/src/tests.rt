@@ -2,8 +2,8 @@ use smallvec::SmallVec;
 use std::alloc::Global;
 use std::process::Abort;
 use std::test::Fail;
-use vme_cert::{Answer, confirm};
-use vme_listing::{Direction, Listing, Outcome, Row, Version, read_listing};
+use vme_cert::{Answer, confirm, confirm_text};
+use vme_listing::{Direction, ListFault, Listing, Outcome, Row, Version, read_listing};
 use vme_trace::{Capture, Change, Changes, LINE_COUNT, Level, Line, Lines, Step};
 
 /// How a recording starts: its slots, the levels of its opening, and its first steps. A step is the lines that change, with their
@@ -330,11 +330,24 @@ fn capture_of(alloc: Global, start: Start, text: &str) -> Result<Capture, Fail> 
     Ok(Capture::new(opening, steps).ok().ok_or("malformed")?)
 }
 
-fn rows_of(alloc: Global, text: &str) -> Result<Vec<Row>, Fail> {
-    let mut bytes = Vec::from_slice(alloc, b"vmecheck listing 3\n")?;
-    bytes.extend_from_slice(text.as_bytes())?;
-    let listing = read_listing(alloc, bytes.as_slice());
+/// The text of a listing of version 3 with these lines.
+fn listing_text(alloc: Global, lines: &str) -> Result<Vec<u8>, Fail> {
+    let mut text = Vec::from_slice(alloc, b"vmecheck listing 3\n")?;
+    text.extend_from_slice(lines.as_bytes())?;
+    Ok(text)
+}
+
+fn rows_of(alloc: Global, text: &[u8]) -> Result<Vec<Row>, Fail> {
+    let listing = read_listing(alloc, text);
     Ok(listing.ok().ok_or("no listing")?.into_rows())
+}
+
+/// What is said of a text. Where memory is short once, it is compared again.
+fn text_answer(alloc: Global, capture: &Capture, text: &[u8]) -> Result<Answer, ListFault> {
+    match confirm_text(alloc, capture, text) {
+        Err(ListFault::Memory) => confirm_text(alloc, capture, text),
+        answer => answer,
+    }
 }
 
 /// What is said of some rows: those at the front, some more, and those at the back. Where memory is short once, they are
@@ -493,12 +506,24 @@ fn assert_listed(
     text: &str,
 ) -> Result<(), Fail> {
     let capture = capture_of(alloc, start, steps)?;
-    let rows = rows_of(alloc, text)?;
+    let whole = listing_text(alloc, text)?;
+    let rows = rows_of(alloc, whole.as_slice())?;
     let rows = rows.as_slice();
     assert_eq!(rt;
         answer(alloc, &capture, rows, &[], &[])?,
         Answer::Yes,
         "{text}"
+    );
+    assert_eq!(rt;
+        text_answer(alloc, &capture, whole.as_slice()),
+        Ok(Answer::Yes),
+        "{text}"
+    );
+    let last = whole.len().saturating_sub(1);
+    assert_eq!(rt;
+        text_answer(alloc, &capture, &whole.as_slice()[..last]),
+        Err(ListFault::BadRow { row: rows.len() }),
+        "{text} without its last line feed"
     );
     assert_each_row_counts(rt, alloc, &capture, rows)
 }
@@ -540,6 +565,47 @@ fn older_listings_lack_resets(rt: HostRuntime) -> Result<(), Fail> {
         .ok()
         .ok_or("no listing")?;
     assert_eq!(rt; confirm(alloc, &capture, &listing)?, Answer::No { row: 5 });
+    assert_eq!(rt;
+        text_answer(alloc, &capture, text.as_bytes()),
+        Ok(Answer::No { row: 5 })
+    );
+    Ok(())
+}
+
+/// A text that is no listing's has its first fault, whether the rows before are the recording's or not.
+#[test]
+fn texts_that_are_no_listings(rt: HostRuntime) -> Result<(), Fail> {
+    let (start, steps, _) = RESETS[0];
+    let capture = capture_of(rt.alloc(), start, steps)?;
+    for (text, fault) in [
+        (
+            "vmecheck listing 4\nstart 1\nverdict conforming\n",
+            ListFault::BadHeader,
+        ),
+        // only version 3 tells resets
+        (
+            "vmecheck listing 2\nstart 1\ntenure 5 level 3 slot 2 end -\ncycle 9 S 39 FFFFDE end -\n\
+             transfer 10 read pending\nreset 11\nstart 13\nverdict conforming\n",
+            ListFault::BadRow { row: 5 },
+        ),
+        // something follows the verdict
+        (
+            "vmecheck listing 3\nstart 1\ntenure 5 level 3 slot 2 end -\ncycle 9 S 39 FFFFDE end -\n\
+             transfer 10 read pending\nreset 11\nstart 13\nverdict conforming\nstart 14\n",
+            ListFault::BadRow { row: 7 },
+        ),
+        (
+            "vmecheck listing 3\nstart 2\ntenure 5 level 3 slot 2 end -\ntenure 4 level 3 slot 2 end -\n\
+             verdict conforming\n",
+            ListFault::Unsorted { row: 3 },
+        ),
+    ] {
+        assert_eq!(rt;
+            text_answer(rt.alloc(), &capture, text.as_bytes()),
+            Err(fault),
+            "{text}"
+        );
+    }
     Ok(())
 }
 
@@ -576,6 +642,7 @@ fn data_count_by_the_version(rt: HostRuntime) -> Result<(), Fail> {
             .ok()
             .ok_or("no listing")?;
         assert_eq!(rt; confirm(alloc, &capture, &listing)?, wanted);
+        assert_eq!(rt; text_answer(alloc, &capture, text.as_bytes()), Ok(wanted));
     }
     Ok(())
 }

@@ -1,6 +1,7 @@
 -- The three rules at a judged instant, by the levels on both sides of the step and what the memory says of the cycle.
 use Rattle.std.proofs.Common.{◌≡◌, ℕ, suc, ◌<◌, ◌≤◌, Bool, true, false, ◌&&◌, not, refl, ◌∙◌, ap, arith, cond}
 use Rattle.std.specs.Prelude.{None}
+use Rattle.vme_trace.specs.Edges.{falls_between, low_near}
 use Rattle.vme_trace.specs.Instants.{any, least}
 use Rattle.vme_trace.specs.LineNumbers.{line_count, AS, is_slot_iack, input_of, has_line}
 use Rattle.vme_trace.specs.Levels.{Levels, level_at, is_low}
@@ -13,8 +14,7 @@ use Rattle.vme_trace.specs.declared.rule.Rule.TheVariants.{I1, I2, I3}
 use Rattle.vme_trace.proofs.Ranges.{least-alike}
 use Rattle.vme_trace.proofs.OpenTransfers.{is_judged-holds, suc-sub-one}
 use Rattle.vme_trace.proofs.SpanEnds.{slots_at}
-use Rattle.vme_monitor.specs.Edges.{falls_between}
-use Rattle.vme_chains.specs.AcknowledgeSpec.{low_near, passes_on, passes_unasked, is_strobed, is_addressed}
+use Rattle.vme_chains.specs.AcknowledgeSpec.{passes_on, passes_unasked, is_strobed, is_addressed}
 use Rattle.vme_chains.specs.declared.acknowledge.Acknowledgement.{Acknowledgement}
 use Rattle.vme_chains.proofs.AcknowledgeChanges.{least-when}
 use Rattle.vme_chains.proofs.AcknowledgeMemory.{acknowledges, Holds, in_cycle_is}

@@ -2,6 +2,7 @@
 use Rattle.std.proofs.Common.{◌≡◌, ℕ, zero, suc, ◌+◌, ◌<◌, ◌≤◌, Bool, true, false, ◌||◌, ◌&&◌, not, refl, sym, ◌∙◌, ap, arith, cond, add-one, lit<}
 use Rattle.std.specs.Prelude.{Option, Some, nat_le}
 use Rattle.std.proofs.lemmas.Bool.Decides.{nat_tests}
+use Rattle.vme_trace.specs.Edges.{answer_between, falls_between, strobe_low_in, strobes_high_in}
 use Rattle.vme_trace.specs.Instants.{any, greatest}
 use Rattle.vme_trace.specs.LineNumbers.{line_count, AS, DTACK, BERR, WRITE}
 use Rattle.vme_trace.specs.Levels.{Levels, level_at, is_low, is_high, is_known, is_idle, is_idle_on}
@@ -14,9 +15,8 @@ use Rattle.vme_trace.specs.declared.level.Level.{Level}
 use Rattle.vme_trace.specs.declared.level.Level.TheVariants.{Low, High, Unknown}
 use Rattle.vme_trace.proofs.Ranges.{any-fails, clash, fails-any}
 use Rattle.vme_trace.proofs.OpenTransfers.{is_judged-holds, suc-sub-one}
-use Rattle.vme_monitor.specs.Edges.{falls_between}
 use Rattle.vme_monitor.specs.Tracked.{Says}
-use Rattle.vme_monitor.specs.Tracking.{answer_between, answered_by, entered, is_unanswered, strobe_low_in, strobes_high_in}
+use Rattle.vme_monitor.specs.Tracking.{answered_by, entered, is_unanswered}
 use Rattle.vme_monitor.specs.declared.tracking.Pending.{Pending}
 use Rattle.vme_monitor.specs.declared.tracking.Pending.TheVariants.{Closed, Reading, Writing, Answered}
 use Rattle.vme_monitor.proofs.SpanFacts.{IsSpan}

@@ -3,6 +3,7 @@ use Rattle.std.specs.Prelude.{◌≡◌, refl, ℕ, ◌+◌, ◌-◌, ◌==◌, 
 use Rattle.std.specs.Prelude.{◌∷◌, Option, None, Some, if◌then◌else◌}
 use Rattle.std.proofs.Common.{lit<}
 use Rattle.std.specs.Option.{is_some}
+use Rattle.vme_trace.specs.Edges.{answer_between, falls_between, low_near, strobe_low_in, strobes_high_in}
 use Rattle.vme_trace.specs.LineNumbers.{AS, DS0, DS1, DTACK, is_slot_iack, input_of, has_line}
 use Rattle.vme_trace.specs.Levels.{Levels, level_at, is_low, is_high}
 use Rattle.vme_trace.specs.Trace.{Trace}
@@ -11,8 +12,7 @@ use Rattle.vme_trace.specs.declared.step.Change.{Change}
 use Rattle.vme_trace.specs.declared.rule.Rule.{Rule}
 use Rattle.vme_trace.specs.declared.rule.Rule.TheVariants.{I1, I2, I3}
 use Rattle.vme_monitor.specs.Run.{nothing}
-use Rattle.vme_monitor.specs.Edges.{falls_between}
-use Rattle.vme_monitor.specs.Tracking.{strobes_high_in, strobe_low_in, answer_between, entered, tracked, is_unanswered}
+use Rattle.vme_monitor.specs.Tracking.{entered, tracked, is_unanswered}
 use Rattle.vme_monitor.specs.declared.mark.Fault.{Fault}
 use Rattle.vme_monitor.specs.declared.mark.Kinds.{Kinds}
 use Rattle.vme_monitor.specs.declared.mark.Next.{Next}
@@ -44,10 +44,6 @@ acknowledgement_nth k =
           (k - 4);
       acknowledged = true;
     }
-
--- the line is low on one side of the step
-abbrev pub low_near : Levels → Levels → ℕ → Bool
-low_near v w l = is_low (level_at v l) || is_low (level_at w l)
 
 -- the line is the acknowledge output of a slot, and falls
 abbrev pub passes_on : Levels → Levels → ℕ → Bool

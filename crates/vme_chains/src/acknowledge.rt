@@ -2,22 +2,23 @@
 //! answer.
 
 ghost use Rattle.std.specs.Prelude.{◌≡◌, ◌&&◌, ◌<◌, IsTrue};
+ghost use Rattle.vme_trace.specs.Edges.{falls_between};
 ghost use Rattle.vme_trace.specs.LineNumbers.{has_line, input_of as input_line, is_slot_iack};
-ghost use Rattle.vme_monitor.specs.Edges.{falls_between};
 ghost use Rattle.vme_monitor.specs.Run.{nothing};
 ghost use Rattle.vme_monitor.specs.Whole.{FindsLeast, ShowsAll};
 ghost use Rattle.vme_chains.specs.AcknowledgeSpec.{acknowledge_rules, acknowledge_shown};
 ghost use Rattle.vme_chains.specs.AcknowledgeSpec.{changes_memory as changes_memory_of};
 ghost use Rattle.vme_chains.specs.AcknowledgeSpec.{changes_strobes as changes_strobes_of, fault_among, first_changed};
 ghost use Rattle.vme_chains.specs.AcknowledgeSpec.{is_acknowledged, is_addressed as addressed_near};
-ghost use Rattle.vme_chains.specs.AcknowledgeSpec.{is_strobed as strobed_near, low_near, memory_after};
+ghost use Rattle.vme_chains.specs.AcknowledgeSpec.{is_strobed as strobed_near, memory_after};
 ghost use Rattle.vme_chains.specs.AcknowledgeSpec.{passes_on as passes, passes_unasked, pending_nth, pending_place};
 
 use vme_monitor::machine::{Places, Small};
 use vme_monitor::mark::{Fault, Kinds, NOTHING, Next};
 use vme_monitor::monitor::Monitor;
 use vme_monitor::spanned::{Rules, Within};
-use vme_monitor::tracking::{Pending, answer_between, has_strobes_high};
+use vme_monitor::tracking::Pending;
+use vme_trace::edges::{answer_falls, falls, has_strobe_low, has_strobes_high, is_low_near};
 use vme_trace::{Change, Line, Lines, Rule};
 
 /// What the transfer is doing, and whether AS* is low and a transfer of the cycle was answered by DTACK*.
@@ -118,22 +119,6 @@ pub struct Passing {
     pub unasked: Option<Line>,
 }
 
-fn falls(before: &Lines, after: &Lines, line: Line) -> bool
-    requires before { IsTrue (has_line before.now.slots line) }
-    requires after { IsTrue (has_line after.now.slots line) }
-    ensures { result ≡ falls_between before.now after.now line }
-{
-    before.level(line).is_high() && after.level(line).is_low()
-}
-
-fn is_low_near(before: &Lines, after: &Lines, line: Line) -> bool
-    requires before { IsTrue (has_line before.now.slots line) }
-    requires after { IsTrue (has_line after.now.slots line) }
-    ensures { result ≡ low_near before.now after.now line }
-{
-    before.level(line).is_low() || after.level(line).is_low()
-}
-
 fn is_output(line: Line) -> bool
     ensures { result ≡ is_slot_iack line }
 {
@@ -218,7 +203,7 @@ fn changes_strobes(before: &Lines, after: &Lines) -> bool
     ensures { result ≡ changes_strobes_of before.now after.now }
 {
     if has_strobes_high(before) {
-        after.level(Line::DS0).is_low() || after.level(Line::DS1).is_low()
+        has_strobe_low(after)
     } else {
         has_strobes_high(after)
     }
@@ -229,7 +214,7 @@ fn changes_memory(before: &Lines, after: &Lines) -> bool
     ensures { result ≡ changes_memory_of before.now after.now }
 {
     changes_strobes(before, after)
-        || answer_between(before, after)
+        || answer_falls(before, after)
         || (before.level(Line::AS).is_low() && after.level(Line::AS).is_high())
 }
 

@@ -1,6 +1,7 @@
 -- The rules of the answers that a cycle admits, each by what the memory and the step show.
 use Rattle.std.proofs.Common.{◌≡◌, ℕ, suc, ◌<◌, ◌≤◌, Bool, true, false, ◌&&◌, refl, sym, ◌∙◌, ap, Option, Some, None, cond}
 use Rattle.std.specs.Prelude.{option_map, is_some}
+use Rattle.vme_trace.specs.Edges.{falls_between}
 use Rattle.vme_trace.specs.LineNumbers.{AS, DTACK, BERR, is_answer_line, has_line}
 use Rattle.vme_trace.specs.Trace.{Trace, time_at}
 use Rattle.vme_trace.specs.Signals.{falls}
@@ -18,7 +19,7 @@ use Rattle.vme_monitor.specs.declared.tracking.Pending.{Pending}
 use Rattle.vme_monitor.specs.declared.tracking.Pending.TheVariants.{Closed, Reading, Writing, Answered}
 use Rattle.vme_monitor.proofs.TrackedTransfers.{answers_write_is}
 use Rattle.vme_dtb.specs.CycleState.{cycle_entered, is_acknowledge, is_acknowledged, is_pair_spoiled, is_turned}
-use Rattle.vme_dtb.specs.Edge.{asked_of, edges_between, falls_between}
+use Rattle.vme_dtb.specs.Edge.{asked_of, edges_between}
 use Rattle.vme_dtb.specs.Machine.{answer_in, broken}
 use Rattle.vme_dtb.specs.declared.cycle.Cycle.{Cycle}
 use Rattle.vme_dtb.specs.declared.edges.Edges.{Edges}

@@ -1,6 +1,7 @@
 -- The rules of the handshake, each by what the memory and the step show.
 use Rattle.std.proofs.Common.{◌≡◌, ℕ, suc, ◌+◌, ◌<◌, ◌≤◌, Bool, true, false, ◌&&◌, ◌||◌, not, refl, sym, ◌∙◌, ap, Option, Some, None, cond}
 use Rattle.std.specs.Prelude.{option_map, is_some, nat_lt, ◌==◌}
+use Rattle.vme_trace.specs.Edges.{falls_between, rises_between}
 use Rattle.vme_trace.specs.Instants.{none}
 use Rattle.vme_trace.specs.LineNumbers.{AS, DTACK, BERR, is_answer_line, is_strobe, has_line}
 use Rattle.vme_trace.specs.Trace.{Trace, time_at}
@@ -16,7 +17,7 @@ use Rattle.vme_monitor.specs.Run.{break_at}
 use Rattle.vme_monitor.specs.Tracking.{entered, is_unanswered, is_within}
 use Rattle.vme_monitor.specs.declared.tracking.Pending.{Pending}
 use Rattle.vme_monitor.proofs.TrackedTransfers.{in_transfer_is, is_answer_is}
-use Rattle.vme_dtb.specs.Edge.{edges_between, falls_between, rises_between}
+use Rattle.vme_dtb.specs.Edge.{edges_between}
 use Rattle.vme_dtb.specs.Machine.{answer_in, broken, dropped, freed, is_doubled, is_replied, is_unserved}
 use Rattle.vme_dtb.specs.declared.edges.Edges.{Edges}
 use Rattle.vme_dtb.specs.declared.memory.Memory.{Memory}

@@ -2,6 +2,7 @@
 use Rattle.std.proofs.Common.{◌≡◌, ℕ, suc, ◌+◌, ◌<◌, ◌≤◌, Bool, true, false, ◌&&◌, not, refl, sym, ◌∙◌, ap, arith, Option, Some, None, cond}
 use Rattle.std.specs.Prelude.{option_map, is_some, slice_get, nat_lt}
 use Rattle.std.specs.Option.{option_or}
+use Rattle.vme_trace.specs.Edges.{falls_between, rises_between, starts_between, strobes_high_in}
 use Rattle.vme_trace.specs.Instants.{least}
 use Rattle.vme_trace.specs.LineNumbers.{line_count, AS, WRITE, is_answer_line}
 use Rattle.vme_trace.specs.Lanes.{lanes_at}
@@ -20,7 +21,7 @@ use Rattle.vme_monitor.specs.Along.{changes_of, next_at}
 use Rattle.vme_monitor.specs.Run.{break_at, noticed, nothing, run_of}
 use Rattle.vme_monitor.specs.Spanned.{noted, spanned, start_in}
 use Rattle.vme_monitor.specs.Tracked.{Says}
-use Rattle.vme_monitor.specs.Tracking.{entered, is_unanswered, is_within, is_writing, strobes_high_in}
+use Rattle.vme_monitor.specs.Tracking.{entered, is_unanswered, is_within, is_writing}
 use Rattle.vme_monitor.specs.Whole.{FindsLeast, ShowsAll}
 use Rattle.vme_monitor.specs.declared.mark.Answered.{Answered as Answer}
 use Rattle.vme_monitor.specs.declared.mark.Asked.{Asked}
@@ -31,7 +32,7 @@ use Rattle.vme_monitor.specs.declared.tracking.Pending.TheVariants.{Closed, Read
 use Rattle.vme_monitor.proofs.LeastLines.{least_answer}
 use Rattle.vme_monitor.proofs.OwnRules.{own_event, own_marks}
 use Rattle.vme_monitor.proofs.SpanFacts.{IsSpan}
-use Rattle.vme_dtb.specs.Edge.{asked_of, edges_between, falls_between, rises_between, starts_transfer}
+use Rattle.vme_dtb.specs.Edge.{asked_of, edges_between}
 use Rattle.vme_dtb.specs.Machine.{answer_in, answered_in, broken, dropped, dtb_begin, dtb_ends, dtb_next, dtb_opens, dtb_sight, dtb_step, fault_in, is_doubled, is_replied, is_unserved}
 use Rattle.vme_dtb.specs.declared.cycle.Cycle.{Cycle}
 use Rattle.vme_dtb.specs.CycleState.{cycle_entered, is_acknowledge, is_acknowledged, is_pair_spoiled, is_turned}
@@ -158,9 +159,9 @@ module _ (t : Trace) (span : Span) (facts : IsSpan t span) (n : ℕ) (from : spa
       same_answer : (a b : Bool) (o q : Option ℕ) → a ≡ b → o ≡ q → cond a o None ≡ cond b q None
       same_answer a b o q e f = rw (e, f) refl
 
-  data_is : data_at t span (suc n) ≡ lanes_at (cond (starts_transfer (old t n) (new t n)) (new t n) (old t n))
+  data_is : data_at t span (suc n) ≡ lanes_at (cond (starts_between (old t n) (new t n)) (new t n) (old t n))
   unfolding data_at
-  data_is = rw (starts_is t n span from before, suc-sub-one n) (by_start (starts_transfer (old t n) (new t n)))
+  data_is = rw (starts_is t n span from before, suc-sub-one n) (by_start (starts_between (old t n) (new t n)))
     where
       by_start : (b : Bool) → lanes_at (levels_at t (cond b (suc n) n)) ≡ lanes_at (cond b (new t n) (old t n))
       by_start true = refl
@@ -169,9 +170,9 @@ module _ (t : Trace) (span : Span) (facts : IsSpan t span) (n : ℕ) (from : spa
   answered_is : answered t span (suc n) ≡ answered_in within (old t n) (new t n) seen
   unfolding answered
   answered_is =
-      same_told (answers_write t span (suc n)) (is_writing within && is_some seen.answer_fall) (data_at t span (suc n)) (lanes_at (cond (starts_transfer (old t n) (new t n)) (new t n) (old t n))) (answer_line t span (suc n)) (answer_in within seen)
+      same_told (answers_write t span (suc n)) (is_writing within && is_some seen.answer_fall) (data_at t span (suc n)) (lanes_at (cond (starts_between (old t n) (new t n)) (new t n) (old t n))) (answer_line t span (suc n)) (answer_in within seen)
       (write_is t span facts.reads n from before m holds) data_is answer_line_is
-      ∙ told_by_write within seen.answer_fall (lanes_at (cond (starts_transfer (old t n) (new t n)) (new t n) (old t n)))
+      ∙ told_by_write within seen.answer_fall (lanes_at (cond (starts_between (old t n) (new t n)) (new t n) (old t n)))
     where
       same_told : (a b : Bool) (d e : Lanes) (o q : Option ℕ) → a ≡ b → d ≡ e → o ≡ q → told (cond a (Some d) None) o ≡ told (cond b (Some e) None) q
       same_told a b d e o q x y z = rw (x, y, z) refl
@@ -189,7 +190,7 @@ module _ (t : Trace) (span : Span) (facts : IsSpan t span) (n : ℕ) (from : spa
   cycle_end_is : (is_judged span (suc n) && rises t AS (suc n)) ≡ rises_between (old t n) (new t n) AS
   cycle_end_is = rw (judged t n span from before, rises_is t n AS) refl
 
-  transfer_is : cond (transfer_starts t span (suc n)) (Some (is_write t span (suc n))) None ≡ cond (starts_transfer (old t n) (new t n)) (Some (is_low (level_at (new t n) WRITE))) None
+  transfer_is : cond (transfer_starts t span (suc n)) (Some (is_write t span (suc n))) None ≡ cond (starts_between (old t n) (new t n)) (Some (is_low (level_at (new t n) WRITE))) None
   unfolding is_write low
   transfer_is = ap (λ b. cond b (Some (is_low (level_at (new t n) WRITE))) None) (starts_is t n span from before)
 

@@ -2,6 +2,7 @@
 use Rattle.std.proofs.Common.{◌≡◌, ℕ, suc, ◌<◌, ◌≤◌, Bool, true, false, ◌&&◌, ◌||◌, not, refl, ◌∙◌, ap, arith, Option, Some, None, cond, lit<}
 use Rattle.std.specs.Prelude.{option_map, is_some, ◌==◌}
 use Rattle.std.proofs.lemmas.Bool.Decides.{nat_tests}
+use Rattle.vme_trace.specs.Edges.{falls_between, rises_between, starts_between}
 use Rattle.vme_trace.specs.Instants.{least}
 use Rattle.vme_trace.specs.LineNumbers.{line_count, AS, DS0, DS1, DTACK, BERR, is_answer_line, is_strobe, has_line}
 use Rattle.vme_trace.specs.Levels.{Levels, level_at, is_low}
@@ -16,7 +17,7 @@ use Rattle.vme_trace.proofs.Ranges.{any-empty, fails-any, least-is, least-none}
 use Rattle.vme_trace.proofs.OpenTransfers.{is_judged-holds, suc-sub-one}
 use Rattle.vme_monitor.specs.Run.{break_at}
 use Rattle.vme_monitor.proofs.LeastLines.{least_answer, least_strobe}
-use Rattle.vme_dtb.specs.Edge.{falls_between, first_of, is_unready, rises_between, starts_transfer}
+use Rattle.vme_dtb.specs.Edge.{first_of, is_unready}
 use Rattle.vme_dtb.specs.Machine.{broken}
 
 applied : (j h a e c : Bool) → j ≡ true → h ≡ true → a ≡ true → (j && h && (a && e && c)) ≡ (e && c)
@@ -116,7 +117,7 @@ module _ (t : Trace) (n : ℕ) where
     pub judged : is_judged span (suc n) ≡ true
     judged = is_judged-holds span (suc n) (omega arith) before
 
-    pub starts_is : transfer_starts t span (suc n) ≡ starts_transfer old new
+    pub starts_is : transfer_starts t span (suc n) ≡ starts_between old new
     unfolding transfer_starts high low
     starts_is = rw (judged, suc-sub-one n) refl
 

@@ -2,6 +2,8 @@
 use Rattle.std.proofs.Common.{◌≡◌, ℕ, Bool, true, false, ◌&&◌, ◌||◌, not, refl, sym, ◌∙◌, ap, arith, List, Option, Some, None, cond}
 use Rattle.std.specs.Prelude.{is_some, option_map}
 use Rattle.std.specs.Option.{option_or, option_map_or}
+use Rattle.vme_trace.specs.Edges.{answer_between, falls_between, rises_between, starts_between, strobe_low_in}
+use Rattle.vme_trace.specs.Edges.{strobes_high_in}
 use Rattle.vme_trace.specs.LineNumbers.{AS, DS0, DS1, DTACK, BERR, WRITE}
 use Rattle.vme_trace.specs.Levels.{Levels, level_at, is_low, is_high, same_level}
 use Rattle.vme_trace.specs.Trace.{Trace}
@@ -14,14 +16,14 @@ use Rattle.vme_trace.specs.declared.rule.Rule.TheVariants.{H1, H2, H3, H4, H5, H
 use Rattle.vme_trace.specs.declared.step.Change.{Change}
 use Rattle.vme_monitor.specs.Run.{noticed, nothing, quiet}
 use Rattle.vme_monitor.specs.Tracked.{Says}
-use Rattle.vme_monitor.specs.Tracking.{answer_between, answered_by, entered, is_unanswered, is_within, is_writing, strobe_low_in, strobes_high_in, tracked}
+use Rattle.vme_monitor.specs.Tracking.{answered_by, entered, is_unanswered, is_within, is_writing, tracked}
 use Rattle.vme_monitor.specs.declared.mark.Answered.{Answered as Answer}
 use Rattle.vme_monitor.specs.declared.mark.Asked.{Asked}
 use Rattle.vme_monitor.specs.declared.mark.Fault.{Fault}
 use Rattle.vme_monitor.specs.declared.tracking.Pending.{Pending}
 use Rattle.vme_monitor.specs.declared.tracking.Pending.TheVariants.{Closed, Reading, Writing, Answered}
 use Rattle.vme_dtb.specs.CycleState.{after_answer, is_acknowledge, is_acknowledged, is_pair_spoiled, is_turned}
-use Rattle.vme_dtb.specs.Edge.{asked_of, edges_between, falls_between, first_of, is_still, is_unready, rises_between, starts_transfer}
+use Rattle.vme_dtb.specs.Edge.{asked_of, edges_between, first_of, is_still, is_unready}
 use Rattle.vme_dtb.specs.Machine.{answer_in, answered_in, broken, cycle_fault, data_in, dtb_next, dtb_sight, dtb_step, handshake_fault, is_doubled, is_replied, is_unserved, memory_after}
 use Rattle.vme_dtb.specs.declared.cycle.Cycle.{Cycle}
 use Rattle.vme_dtb.specs.declared.edges.Edges.{Edges}
@@ -146,7 +148,7 @@ module _ (v w : Levels) (still : is_still v w ≡ true) where
   low_kept : strobe_low_in w ≡ strobe_low_in v
   low_kept = ap (λ x. is_low x || is_low (level_at w DS1)) each.1 ∙ ap (λ x. is_low (level_at v DS0) || is_low x) each.2
 
-  no_start : starts_transfer v w ≡ false
+  no_start : starts_between v w ≡ false
   no_start = ap (λ b. strobes_high_in v && b) low_kept ∙ never_starts (level_at v DS0) (level_at v DS1)
 
   no_close : (strobes_high_in w && not (strobes_high_in v)) ≡ false
@@ -157,7 +159,7 @@ module _ (v w : Levels) (still : is_still v w ≡ true) where
 
   edges_still : edges_between v w ≡ silent unaddressed_in
   edges_still =
-      same_silent (falls_between v w AS) (rises_between v w AS) (starts_transfer v w) (strobes_high_in w && not (strobes_high_in v)) (rises_between v w DS0) (rises_between v w DS1) (falls_between v w DS0) (falls_between v w DS1) (falls_between v w DTACK)
+      same_silent (falls_between v w AS) (rises_between v w AS) (starts_between v w) (strobes_high_in w && not (strobes_high_in v)) (rises_between v w DS0) (rises_between v w DS1) (falls_between v w DS0) (falls_between v w DS1) (falls_between v w DTACK)
       (falls_between v w BERR) (rises_between v w DTACK) (rises_between v w BERR) unaddressed_in (asked_of w) (is_low (level_at w WRITE)) (first_of (is_unready v w DTACK) DTACK (is_unready v w BERR) BERR) (no_fall AS each.0) (no_rise AS each.0) no_start no_close
       (no_rise DS0 each.1) (no_rise DS1 each.2) (no_fall DS0 each.1) (no_fall DS1 each.2) (no_fall DTACK each.3) (no_fall BERR each.4) (no_rise DTACK each.3) (no_rise BERR each.4)
 
@@ -171,7 +173,7 @@ module _ (v w : Levels) (still : is_still v w ≡ true) where
       neither a b e f = rw (e, f) refl
 
   tracked_still : (p : Pending) → tracked p v w ≡ cond (strobes_high_in v) Closed p
-  tracked_still p = same_tracked (strobes_high_in w) (answer_between v w) (starts_transfer v w) (strobes_high_in v) p (cond (is_low (level_at w WRITE)) Writing Reading) high_kept no_answer no_start
+  tracked_still p = same_tracked (strobes_high_in w) (answer_between v w) (starts_between v w) (strobes_high_in v) p (cond (is_low (level_at w WRITE)) Writing Reading) high_kept no_answer no_start
 
 module _ (t : Trace) (span : Span) (n : ℕ) (m : Memory) (holds : Holds t span n m) where
   pending_kept : (p : Pending) → Says t span n p → cond (strobes_high_in (old t n)) Closed p ≡ p

@@ -1,13 +1,13 @@
 -- The edges of the usual kinds of steps.
 use Rattle.std.proofs.Common.{◌≡◌, ℕ, Bool, true, false, ◌&&◌, ◌||◌, not, refl, ◌∙◌, ap, Option, Some, None, cond}
+use Rattle.vme_trace.specs.Edges.{falls_between, rises_between, starts_between, strobes_high_in}
 use Rattle.vme_trace.specs.LineNumbers.{AS, DS0, DS1, DTACK, BERR, WRITE}
 use Rattle.vme_trace.specs.Levels.{Levels, level_at, is_low, is_high}
 use Rattle.vme_trace.specs.declared.level.Level.{Level}
 use Rattle.vme_trace.specs.declared.level.Level.TheVariants.{Low, High, Unknown}
 use Rattle.vme_monitor.specs.Run.{nothing}
-use Rattle.vme_monitor.specs.Tracking.{strobes_high_in}
 use Rattle.vme_monitor.specs.declared.mark.Asked.{Asked}
-use Rattle.vme_dtb.specs.Edge.{asked_of, edges_between, falls_between, closes_between, first_of, is_addressed, is_unready, rises_between, starts_transfer, stays_on}
+use Rattle.vme_dtb.specs.Edge.{asked_of, edges_between, closes_between, first_of, is_addressed, is_unready, stays_on}
 use Rattle.vme_dtb.specs.UsualSteps.{is_answer_alone, is_start_alone, is_strobes_alone}
 use Rattle.vme_dtb.specs.declared.edges.Edges.{Edges}
 use Rattle.vme_dtb.proofs.StillSteps.{all_five, and_not, built, never_falls, never_rises, never_starts, same_is}
@@ -92,7 +92,7 @@ module _ (v w : Levels) where
   no_rise : (l : ℕ) → stays_on v w l ≡ true → rises_between v w l ≡ false
   no_rise l h = ap (λ x. is_low (level_at v l) && is_high x) (same_is (level_at v l) (level_at w l) h) ∙ never_rises (level_at v l)
 
-  pub no_start : stays_on v w DS0 ≡ true → stays_on v w DS1 ≡ true → starts_transfer v w ≡ false
+  pub no_start : stays_on v w DS0 ≡ true → stays_on v w DS1 ≡ true → starts_between v w ≡ false
   no_start h k =
       ap (λ x. strobes_high_in v && (is_low x || is_low (level_at w DS1))) (same_is (level_at v DS0) (level_at w DS0) h)
       ∙ ap (λ x. strobes_high_in v && (is_low (level_at v DS0) || is_low x)) (same_is (level_at v DS1) (level_at w DS1) k)
@@ -128,11 +128,11 @@ module _ (v w : Levels) where
 
   abbrev pub strobes_here : Edges
   strobes_here =
-      strobes_edges (first_of (rises_between v w DS0) DS0 (rises_between v w DS1) DS1) (first_of (falls_between v w DS0) DS0 (falls_between v w DS1) DS1) (cond (starts_transfer v w) (Some (is_low (level_at w WRITE))) None) (closes_between v w) (rises_between v w AS)
+      strobes_edges (first_of (rises_between v w DS0) DS0 (rises_between v w DS1) DS1) (first_of (falls_between v w DS0) DS0 (falls_between v w DS1) DS1) (cond (starts_between v w) (Some (is_low (level_at w WRITE))) None) (closes_between v w) (rises_between v w AS)
 
   pub strobes_are : is_strobes_alone v w ≡ true → strobes_here ≡ edges_between v w
   strobes_are alone =
-      let all = all_four (is_low (level_at v AS)) (stays_on v w DTACK) (stays_on v w BERR) (not (starts_transfer v w) || (is_high (level_at v DTACK) && is_high (level_at v BERR))) alone in
+      let all = all_four (is_low (level_at v AS)) (stays_on v w DTACK) (stays_on v w BERR) (not (starts_between v w) || (is_high (level_at v DTACK) && is_high (level_at v BERR))) alone in
       let low = from_low (level_at v AS) (level_at w AS) all.0 in
-      strobes_built _ (rises_between v w AS) (starts_transfer v w) (closes_between v w) (rises_between v w DS0) (rises_between v w DS1) (falls_between v w DS0) (falls_between v w DS1) _ _ _ _ _ (asked_of w) (is_low (level_at w WRITE)) unready_in low.0
-      (readied (starts_transfer v w) (is_high (level_at v DTACK)) (is_high (level_at v BERR)) (is_high (level_at w DTACK)) (is_high (level_at w BERR)) DTACK BERR all.3) (no_fall DTACK all.1) (no_fall BERR all.2) (no_rise DTACK all.1) (no_rise BERR all.2) low.1
+      strobes_built _ (rises_between v w AS) (starts_between v w) (closes_between v w) (rises_between v w DS0) (rises_between v w DS1) (falls_between v w DS0) (falls_between v w DS1) _ _ _ _ _ (asked_of w) (is_low (level_at w WRITE)) unready_in low.0
+      (readied (starts_between v w) (is_high (level_at v DTACK)) (is_high (level_at v BERR)) (is_high (level_at w DTACK)) (is_high (level_at w BERR)) DTACK BERR all.3) (no_fall DTACK all.1) (no_fall BERR all.2) (no_rise DTACK all.1) (no_rise BERR all.2) low.1

@@ -2,6 +2,8 @@
 use Rattle.std.proofs.Common.{◌≡◌, ℕ, Bool, true, false, ◌&&◌, ◌||◌, not, refl, sym, ◌∙◌, ap, Option, Some, None, cond}
 use Rattle.std.specs.Prelude.{is_some, option_map}
 use Rattle.std.specs.Option.{option_or}
+use Rattle.vme_trace.specs.Edges.{falls_between, rises_between, starts_between, strobe_falls_between}
+use Rattle.vme_trace.specs.Edges.{strobe_rises_between, strobes_high_in}
 use Rattle.vme_trace.specs.LineNumbers.{AS, DS0, DS1, DTACK, BERR, WRITE}
 use Rattle.vme_trace.specs.Lanes.{lanes_at}
 use Rattle.vme_trace.specs.Levels.{Levels, level_at, is_low, is_high}
@@ -9,7 +11,7 @@ use Rattle.vme_trace.specs.declared.data.Lanes.{Lanes}
 use Rattle.vme_trace.specs.declared.rule.Rule.{Rule}
 use Rattle.vme_trace.specs.declared.rule.Rule.TheVariants.{H2, H3, H4, H5, H7, H8}
 use Rattle.vme_monitor.specs.Run.{nothing, quiet}
-use Rattle.vme_monitor.specs.Tracking.{answered_by, entered, is_unanswered, is_within, is_writing, strobes_high_in, tracked}
+use Rattle.vme_monitor.specs.Tracking.{answered_by, entered, is_unanswered, is_within, is_writing, tracked}
 use Rattle.vme_monitor.specs.declared.mark.Answered.{Answered as Answer}
 use Rattle.vme_monitor.specs.declared.mark.Fault.{Fault}
 use Rattle.vme_monitor.specs.declared.mark.Kinds.{Kinds}
@@ -18,7 +20,7 @@ use Rattle.vme_monitor.specs.declared.tracking.Pending.{Pending}
 use Rattle.vme_monitor.specs.declared.tracking.Pending.TheVariants.{Closed, Reading, Writing, Answered}
 use Rattle.vme_dtb.specs.CycleState.{after_answer, unanswered_of}
 use Rattle.vme_dtb.specs.Machine.{broken, cycle_fault, data_in, dtb_next, handshake_fault, is_doubled, is_replied, is_unserved}
-use Rattle.vme_dtb.specs.Edge.{asked_of, closes_between, edges_between, falls_between, first_of, is_addressed, rises_between, starts_transfer, stays_on, strobe_falls_between, strobe_rises_between}
+use Rattle.vme_dtb.specs.Edge.{asked_of, closes_between, edges_between, first_of, is_addressed, stays_on}
 use Rattle.vme_dtb.specs.UsualSteps.{is_answer_alone, is_hasty, is_start_alone, is_strobes_alone, memory_left}
 use Rattle.vme_dtb.specs.declared.cycle.Cycle.{Cycle}
 use Rattle.vme_dtb.specs.declared.memory.Memory.{Memory}
@@ -120,7 +122,7 @@ module _ (m : Memory) (v w : Levels) where
       has_answer Closed h = absurd (cc)
       has_answer Answered h = absurd (cc)
 
-  within_is : starts_transfer v w ≡ false → within ≡ m.pending
+  within_is : starts_between v w ≡ false → within ≡ m.pending
   within_is s = ap (λ (b : Bool). cond b (cond (is_low (level_at w WRITE)) Writing Reading) m.pending) s
 
   abbrev told_with : Option Lanes → ℕ → Answer
@@ -136,8 +138,8 @@ module _ (m : Memory) (v w : Levels) where
   abbrev pub plain_answer : ℕ → Answer
   plain_answer = told_with (cond (is_writing m.pending) (Some (lanes_at v)) None)
 
-  plain_data : starts_transfer v w ≡ false → data_in within v w ≡ cond (is_writing m.pending) (Some (lanes_at v)) None
-  plain_data s = by_start (starts_transfer v w) within m.pending s (within_is s)
+  plain_data : starts_between v w ≡ false → data_in within v w ≡ cond (is_writing m.pending) (Some (lanes_at v)) None
+  plain_data s = by_start (starts_between v w) within m.pending s (within_is s)
     where
       by_start : (b : Bool) (e p : Pending) → b ≡ false → e ≡ p → cond (is_writing e) (Some (lanes_at (cond b w v))) None ≡ cond (is_writing p) (Some (lanes_at v)) None
       by_start b e p x y = rw (x, y) refl
@@ -155,9 +157,9 @@ module _ (m : Memory) (v w : Levels) where
       ∙ ap (dtb_next m v w) (start_is v w alone)
 
   pub strobes_next : is_strobes_alone v w ≡ true → is_hasty m.pending (strobe_rises_between v w) (rises_between v w AS) (strobe_falls_between v w) ≡ false
-      → record { memory = memory_left m w within m.cycle (strobe_rises_between v w); fault = None; kinds = record nothing { cycle_end = rises_between v w AS; transfer = cond (starts_transfer v w) (Some (is_low (level_at w WRITE))) None; close = closes_between v w } } ≡ dtb_next m v w (edges_between v w)
+      → record { memory = memory_left m w within m.cycle (strobe_rises_between v w); fault = None; kinds = record nothing { cycle_end = rises_between v w AS; transfer = cond (starts_between v w) (Some (is_low (level_at w WRITE))) None; close = closes_between v w } } ≡ dtb_next m v w (edges_between v w)
   strobes_next alone calm =
-      let all = all_four (is_low (level_at v AS)) (stays_on v w DTACK) (stays_on v w BERR) (not (starts_transfer v w) || (is_high (level_at v DTACK) && is_high (level_at v BERR))) alone in
+      let all = all_four (is_low (level_at v AS)) (stays_on v w DTACK) (stays_on v w BERR) (not (starts_between v w) || (is_high (level_at v DTACK) && is_high (level_at v BERR))) alone in
       let s = strobes_here v w in
       ap (λ (b : Bool). by_rise (memory_left m w within m.cycle b)) (sym (any_of (rises_between v w DS0) (rises_between v w DS1) DS0 DS1))
       ∙ sym
@@ -168,7 +170,7 @@ module _ (m : Memory) (v w : Levels) where
       ∙ ap (dtb_next m v w) (strobes_are v w alone)
     where
       by_rise : Memory → Next Memory
-      by_rise left = record { memory = left; fault = None; kinds = record nothing { cycle_end = rises_between v w AS; transfer = cond (starts_transfer v w) (Some (is_low (level_at w WRITE))) None; close = closes_between v w } }
+      by_rise left = record { memory = left; fault = None; kinds = record nothing { cycle_end = rises_between v w AS; transfer = cond (starts_between v w) (Some (is_low (level_at w WRITE))) None; close = closes_between v w } }
 
   pub answer_next : is_answer_alone v w ≡ true → falls_between v w DTACK ≡ true → is_addressed v w ≡ true → is_unanswered m.pending ≡ true
       → record { memory = memory_left m w Answered (after_answer m.cycle (is_writing m.pending)) false; fault = cycle_fault m.cycle (is_writing m.pending) (Some DTACK); kinds = record nothing { answer = Some (plain_answer DTACK) } } ≡ dtb_next m v w (edges_between v w)

@@ -1,10 +1,10 @@
 -- What one step shows of the handshake, from the levels on both sides of it.
 use Rattle.std.specs.Prelude.{ℕ, zero, suc, ◌+◌, ◌^◌, Bool, not, ◌&&◌, ◌||◌, Option, None, Some, nat_le, if◌then◌else◌}
+use Rattle.vme_trace.specs.Edges.{falls_between, rises_between, starts_between, strobes_high_in}
 use Rattle.vme_trace.specs.LineNumbers.{AS, DS0, DS1, DTACK, BERR, WRITE, A}
 use Rattle.vme_trace.specs.Levels.{Levels, level_at, is_low, is_high, is_high_on, same_level}
 use Rattle.vme_trace.specs.Cycle.{class_of, modifier_of}
 use Rattle.vme_monitor.specs.Run.{nothing}
-use Rattle.vme_monitor.specs.Tracking.{strobes_high_in, strobe_low_in}
 use Rattle.vme_monitor.specs.declared.mark.Asked.{Asked}
 use Rattle.vme_monitor.specs.declared.mark.Kinds.{Kinds}
 use Rattle.vme_dtb.specs.declared.edges.Edges.{Edges}
@@ -27,12 +27,6 @@ abbrev pub first_of : Bool → ℕ → Bool → ℕ → Option ℕ
 first_of a x b y = if a then Some x else if b then Some y else None
 
 module _ (v w : Levels) where
-  abbrev pub falls_between : ℕ → Bool
-  falls_between l = is_high (level_at v l) && is_low (level_at w l)
-
-  abbrev pub rises_between : ℕ → Bool
-  rises_between l = is_low (level_at v l) && is_high (level_at w l)
-
   abbrev pub stays_on : ℕ → Bool
   stays_on l = same_level (level_at v l) (level_at w l)
 
@@ -40,20 +34,9 @@ module _ (v w : Levels) where
   abbrev pub is_still : Bool
   is_still = stays_on AS && stays_on DS0 && stays_on DS1 && stays_on DTACK && stays_on BERR
 
-  abbrev pub starts_transfer : Bool
-  starts_transfer = strobes_high_in v && strobe_low_in w
-
   -- both strobes are high, and weren't
   abbrev pub closes_between : Bool
   closes_between = strobes_high_in w && not (strobes_high_in v)
-
-  -- a strobe rises
-  abbrev pub strobe_rises_between : Bool
-  strobe_rises_between = rises_between DS0 || rises_between DS1
-
-  -- a strobe falls
-  abbrev pub strobe_falls_between : Bool
-  strobe_falls_between = falls_between DS0 || falls_between DS1
 
   -- AS* is low on either side
   abbrev pub is_addressed : Bool
@@ -67,9 +50,9 @@ module _ (v w : Levels) where
   abbrev pub shown_between : Kinds
   shown_between =
       record nothing {
-        cycle = (if falls_between AS then Some (asked_of w) else None);
-        cycle_end = rises_between AS;
-        transfer = (if starts_transfer then Some (is_low (level_at w WRITE)) else None);
+        cycle = (if falls_between v w AS then Some (asked_of w) else None);
+        cycle_end = rises_between v w AS;
+        transfer = (if starts_between v w then Some (is_low (level_at w WRITE)) else None);
         close = closes_between;
       }
 
@@ -77,12 +60,12 @@ module _ (v w : Levels) where
   edges_between =
       record {
         shown = shown_between;
-        unready = (if starts_transfer then first_of (is_unready DTACK) DTACK (is_unready BERR) BERR else None);
-        strobe_rise = first_of (rises_between DS0) DS0 (rises_between DS1) DS1;
-        strobe_fall = first_of (falls_between DS0) DS0 (falls_between DS1) DS1;
-        answer_fall = first_of (falls_between DTACK) DTACK (falls_between BERR) BERR;
-        both_fall = (falls_between DTACK && falls_between BERR);
-        dtack_rises = rises_between DTACK;
-        berr_rises = rises_between BERR;
+        unready = (if starts_between v w then first_of (is_unready DTACK) DTACK (is_unready BERR) BERR else None);
+        strobe_rise = first_of (rises_between v w DS0) DS0 (rises_between v w DS1) DS1;
+        strobe_fall = first_of (falls_between v w DS0) DS0 (falls_between v w DS1) DS1;
+        answer_fall = first_of (falls_between v w DTACK) DTACK (falls_between v w BERR) BERR;
+        both_fall = (falls_between v w DTACK && falls_between v w BERR);
+        dtack_rises = rises_between v w DTACK;
+        berr_rises = rises_between v w BERR;
         unaddressed = not is_addressed;
       }

@@ -2,6 +2,7 @@
 use Rattle.std.specs.Prelude.{ℕ, Bool, true, false, not, ◌&&◌, ◌||◌, List, Option, None, Some, option_map, is_some}
 use Rattle.std.specs.Prelude.{if◌then◌else◌}
 use Rattle.std.specs.Option.{option_or}
+use Rattle.vme_trace.specs.Edges.{starts_between}
 use Rattle.vme_trace.specs.LineNumbers.{AS, DTACK, BERR}
 use Rattle.vme_trace.specs.Levels.{Levels, level_at, is_low}
 use Rattle.vme_trace.specs.Lanes.{lanes_at}
@@ -19,7 +20,7 @@ use Rattle.vme_monitor.specs.declared.tracking.Pending.{Pending}
 use Rattle.vme_monitor.specs.declared.tracking.Pending.TheVariants.{Closed, Answered}
 use Rattle.vme_dtb.specs.CycleState.{after_answer, cycle_entered, is_acknowledge, is_acknowledged, is_pair_spoiled}
 use Rattle.vme_dtb.specs.CycleState.{is_turned}
-use Rattle.vme_dtb.specs.Edge.{edges_between, first_of, is_still, starts_transfer}
+use Rattle.vme_dtb.specs.Edge.{edges_between, first_of, is_still}
 use Rattle.vme_dtb.specs.declared.cycle.Cycle.{Cycle}
 use Rattle.vme_dtb.specs.declared.cycle.Cycle.TheVariants.{Free}
 use Rattle.vme_dtb.specs.declared.edges.Edges.{Edges}
@@ -41,7 +42,7 @@ answer_in e s = if is_unanswered e then s.answer_fall else None
 -- the data that an answer takes, if the transfer is a write: what the lines say before the step, or after it where the
 -- transfer starts there
 abbrev pub data_in : Pending → Levels → Levels → Option Lanes
-data_in e v w = if is_writing e then Some (lanes_at (if starts_transfer v w then w else v)) else None
+data_in e v w = if is_writing e then Some (lanes_at (if starts_between v w then w else v)) else None
 
 -- the answer of the transfer in which the step ends, if any
 abbrev pub answered_in : Pending → Levels → Levels → Edges → Option Answer

@@ -1,11 +1,11 @@
 -- The usual kinds of steps, and what they leave.
 use Rattle.std.specs.Prelude.{Bool, false, not, ◌&&◌, ◌||◌, if◌then◌else◌}
+use Rattle.vme_trace.specs.Edges.{falls_between, starts_between, strobes_high_in}
 use Rattle.vme_trace.specs.LineNumbers.{AS, DS0, DS1, DTACK, BERR}
 use Rattle.vme_trace.specs.Levels.{Levels, level_at, is_low, is_high}
-use Rattle.vme_monitor.specs.Tracking.{strobes_high_in}
 use Rattle.vme_monitor.specs.declared.tracking.Pending.{Pending}
 use Rattle.vme_monitor.specs.declared.tracking.Pending.TheVariants.{Closed, Reading, Writing, Answered}
-use Rattle.vme_dtb.specs.Edge.{falls_between, starts_transfer, stays_on}
+use Rattle.vme_dtb.specs.Edge.{stays_on}
 use Rattle.vme_dtb.specs.declared.cycle.Cycle.{Cycle}
 use Rattle.vme_dtb.specs.declared.memory.Memory.{Memory}
 
@@ -22,7 +22,7 @@ module _ (v w : Levels) where
   -- the answer lines stay as they are, AS* was low, and where a transfer starts both answer lines are high
   abbrev pub is_strobes_alone : Bool
   is_strobes_alone = is_low (level_at v AS) && stays_on v w DTACK && stays_on v w BERR
-      && (not (starts_transfer v w) || (is_high (level_at v DTACK) && is_high (level_at v BERR)))
+      && (not (starts_between v w) || (is_high (level_at v DTACK) && is_high (level_at v BERR)))
 
 -- the memory after a step to the levels w in which no answer line falls, or where p has its answer: in the cycle c, the
 -- transfer being p unless it closes, and a strobe rises or none does

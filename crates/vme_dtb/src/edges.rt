@@ -1,16 +1,16 @@
 //! What one step shows of the handshake.
 
 ghost use Rattle.std.specs.Prelude.{◌≡◌, ◌<◌, ◌&&◌, Some, None, if◌then◌else◌};
+ghost use Rattle.vme_trace.specs.Edges.{starts_between};
 ghost use Rattle.vme_trace.specs.LineNumbers.{grant, AS, DS0, DS1, DTACK, BERR, WRITE};
 ghost use Rattle.vme_trace.specs.Levels.{is_low, level_at};
-ghost use Rattle.vme_monitor.specs.Tracking.{strobe_low_in};
-ghost use Rattle.vme_dtb.specs.Edge.{address_of, asked_of, closes_between, edges_between, falls_between, first_of};
-ghost use Rattle.vme_dtb.specs.Edge.{is_addressed, is_still, is_unready, rises_between, shown_between, starts_transfer};
-ghost use Rattle.vme_dtb.specs.Edge.{stays_on, strobe_falls_between, strobe_rises_between};
+ghost use Rattle.vme_dtb.specs.Edge.{address_of, asked_of, closes_between, edges_between, first_of};
+ghost use Rattle.vme_dtb.specs.Edge.{is_addressed, is_still, is_unready, shown_between};
+ghost use Rattle.vme_dtb.specs.Edge.{stays_on};
 ghost use Rattle.vme_dtb.specs.UsualSteps.{is_answer_alone, is_start_alone, is_strobes_alone};
 
 use vme_monitor::mark::{Asked, Kinds, NOTHING};
-use vme_monitor::tracking::has_strobes_high;
+use vme_trace::edges::{falls, has_strobes_high, rises, starts_transfer};
 use vme_trace::{Line, Lines, am_class, am_code};
 
 /// What a step shows of the handshake, whatever was before it.
@@ -34,36 +34,6 @@ pub struct Edges {
     pub berr_rises: bool,
     /// Whether AS* is low neither before nor after the step.
     pub unaddressed: bool,
-}
-
-/// Whether a bused line falls.
-pub(crate) fn falls(before: &Lines, after: &Lines, line: Line) -> bool
-    requires { line < grant 0 0 }
-    ensures { result ≡ falls_between before.now after.now line }
-{
-    before.level(line).is_high() && after.level(line).is_low()
-}
-
-/// Whether a bused line rises.
-pub(crate) fn rises(before: &Lines, after: &Lines, line: Line) -> bool
-    requires { line < grant 0 0 }
-    ensures { result ≡ rises_between before.now after.now line }
-{
-    before.level(line).is_low() && after.level(line).is_high()
-}
-
-/// Whether a strobe rises.
-pub(crate) fn strobe_rises(before: &Lines, after: &Lines) -> bool
-    ensures { result ≡ strobe_rises_between before.now after.now }
-{
-    rises(before, after, Line::DS0) || rises(before, after, Line::DS1)
-}
-
-/// Whether a strobe falls.
-pub(crate) fn strobe_falls(before: &Lines, after: &Lines) -> bool
-    ensures { result ≡ strobe_falls_between before.now after.now }
-{
-    falls(before, after, Line::DS0) || falls(before, after, Line::DS1)
 }
 
 /// Whether a bused line keeps its level.
@@ -122,7 +92,7 @@ pub(crate) fn is_strobes_alone(before: &Lines, after: &Lines) -> bool
 {
     before.level(Line::AS).is_low()
         && do_answers_stay(before, after)
-        && (!is_transfer_start(before, after)
+        && (!starts_transfer(before, after)
             || (before.level(Line::DTACK).is_high() && before.level(Line::BERR).is_high()))
 }
 
@@ -185,19 +155,12 @@ pub(crate) fn asked(lines: &Lines) -> Asked
     }
 }
 
-/// Whether a transfer starts: both strobes were high, and one is low.
-pub(crate) fn is_transfer_start(before: &Lines, after: &Lines) -> bool
-    ensures { result ≡ starts_transfer before.now after.now }
-{
-    has_strobes_high(before) && (after.level(Line::DS0).is_low() || after.level(Line::DS1).is_low())
-}
-
 /// Whether the transfer that starts is a write, if one starts.
 pub(crate) fn transfer_started(before: &Lines, after: &Lines) -> Option<bool>
-    ensures { result ≡ (if starts_transfer before.now after.now then Some
+    ensures { result ≡ (if starts_between before.now after.now then Some
         (is_low (level_at after.now WRITE)) else None) }
 {
-    if is_transfer_start(before, after) {
+    if starts_transfer(before, after) {
         Some(after.level(Line::WRITE).is_low())
     } else {
         None
@@ -242,7 +205,7 @@ impl Edges {
     pub(crate) fn between(before: &Lines, after: &Lines) -> Edges
         ensures { result ≡ edges_between before.now after.now }
     {
-        let unready = if is_transfer_start(before, after) {
+        let unready = if starts_transfer(before, after) {
             first_answer(
                 is_unready(before, after, Line::DTACK),
                 is_unready(before, after, Line::BERR),

@@ -6,6 +6,7 @@
 //! keeps its direction; an interrupt acknowledge is one read.
 
 ghost use Rattle.std.specs.Prelude.{◌≡◌, None, Some, true, if◌then◌else◌};
+ghost use Rattle.vme_trace.specs.Edges.{falls_between, rises_between};
 ghost use Rattle.vme_trace.specs.Lanes.{lanes_at};
 ghost use Rattle.vme_trace.specs.LineNumbers.{DTACK};
 ghost use Rattle.vme_monitor.specs.Tracking.{is_unanswered, is_within, is_writing};
@@ -14,21 +15,23 @@ ghost use Rattle.vme_monitor.specs.Whole.{FindsLeast, ShowsAll};
 ghost use Rattle.vme_dtb.specs.Machine.{answer_in, answered_in, broken as broken_on, cycle_fault as fault_of_cycle};
 ghost use Rattle.vme_dtb.specs.Machine.{data_in, dropped as dropped_line, dtb_next, freed as is_freed};
 ghost use Rattle.vme_dtb.specs.Machine.{handshake_fault as fault_of_handshake, is_doubled, is_replied, is_unserved};
-ghost use Rattle.vme_dtb.specs.Edge.{edges_between, falls_between, is_addressed, rises_between};
+ghost use Rattle.vme_dtb.specs.Edge.{edges_between, is_addressed};
 ghost use Rattle.vme_dtb.specs.UsualSteps.{is_answer_alone, is_hasty, is_start_alone, is_strobes_alone, memory_left};
 ghost use Rattle.vme_dtb.specs.Shown.{handshake_rules, handshake_shown};
 
 use crate::cycle::Cycle;
 use crate::edges::{
-    Edges, asked, closes, falls, first_answer, is_addressed, is_answer_alone, is_handshake_still,
-    is_start_alone, is_strobes_alone, is_transfer_start, rises, strobe_falls, strobe_rises,
-    transfer_started,
+    Edges, asked, closes, first_answer, is_addressed, is_answer_alone, is_handshake_still,
+    is_start_alone, is_strobes_alone, transfer_started,
 };
 use crate::memory::Memory;
 use vme_monitor::mark::{Answered, Fault, Kinds, NOTHING, Next, quiet};
 use vme_monitor::monitor::Monitor;
 use vme_monitor::spanned::{Rules, Within};
-use vme_monitor::tracking::{Pending, has_strobes_high};
+use vme_monitor::tracking::Pending;
+use vme_trace::edges::{
+    falls, has_strobes_high, rises, starts_transfer, strobe_falls, strobe_rises,
+};
 use vme_trace::{Change, Lanes, Line, Lines, Rule, moved_data};
 
 /// The rules of the handshake, H1 to H8, and of the answers that a cycle admits, C1, C2, I4 and I5.
@@ -99,7 +102,7 @@ fn taken(write: bool, lines: &Lines) -> Option<Lanes>
 fn data_of(entered: Pending, before: &Lines, after: &Lines) -> Option<Lanes>
     ensures { result ≡ data_in entered before.now after.now }
 {
-    if is_transfer_start(before, after) {
+    if starts_transfer(before, after) {
         taken(is_writing(entered), after)
     } else {
         taken(is_writing(entered), before)

@@ -1,7 +1,7 @@
 -- Computed from the definitions.
 use Rattle.std.proofs.Common.{refl}
 use Rattle.vme_eval.specs.Recording.{Agrees}
-use Rattle.vme_eval.specs.Resets.{reset_in_a_read, busy_after_the_reset, answer_after_the_reset, strobe_lost_with_the_reset, reset_line_lost, reset_forgets_a_request, request_without_a_reset, reset_for_good, reset_before_judging, reset_at_the_end, two_resets, stray_answer_with_the_reset, stray_answers_around_the_reset, strobe_unknown_after_the_reset, strobe_lost_after_the_reset, reset_after_a_lost_strobe}
+use Rattle.vme_eval.specs.Resets.{reset_in_a_read, busy_after_the_reset, answer_after_the_reset, strobe_lost_with_the_reset, reset_line_lost, reset_forgets_a_request, request_without_a_reset, reset_for_good, reset_before_judging, reset_at_the_end, two_resets, stray_answer_with_the_reset, stray_answers_around_the_reset, strobe_unknown_after_the_reset, strobe_lost_after_the_reset, reset_after_a_lost_strobe, address_changes_after_the_reset, address_changes_after_a_lost_strobe, direction_changes_after_the_reset, direction_changes_after_lost_strobes, data_changes_after_the_reset, read_after_the_reset_of_a_write, answer_withdrawn_in_the_reset, answer_withdrawn_early_after_the_reset, answer_in_the_reset, block_write_after_the_reset_of_a_block_read, bus_granted_again_after_the_reset, grant_taken_twice_after_the_reset, grant_before_the_reset_taken, bus_taken_as_judging_starts_again, open_tenure_ends_in_the_reset}
 use Rattle.vme_eval.proofs.Everything.{everything, rows}
 
 pub reset_in_a_read_agrees : Agrees reset_in_a_read
@@ -67,3 +67,63 @@ strobe_lost_after_the_reset_agrees = record { well_formed = refl; verdict = refl
 pub reset_after_a_lost_strobe_agrees : Agrees reset_after_a_lost_strobe
 unfolding everything rows reset_after_a_lost_strobe
 reset_after_a_lost_strobe_agrees = record { well_formed = refl; verdict = refl; rows = refl }
+
+pub address_changes_after_the_reset_agrees : Agrees address_changes_after_the_reset
+unfolding everything rows address_changes_after_the_reset
+address_changes_after_the_reset_agrees = record { well_formed = refl; verdict = refl; rows = refl }
+
+pub address_changes_after_a_lost_strobe_agrees : Agrees address_changes_after_a_lost_strobe
+unfolding everything rows address_changes_after_a_lost_strobe
+address_changes_after_a_lost_strobe_agrees = record { well_formed = refl; verdict = refl; rows = refl }
+
+pub direction_changes_after_the_reset_agrees : Agrees direction_changes_after_the_reset
+unfolding everything rows direction_changes_after_the_reset
+direction_changes_after_the_reset_agrees = record { well_formed = refl; verdict = refl; rows = refl }
+
+pub direction_changes_after_lost_strobes_agrees : Agrees direction_changes_after_lost_strobes
+unfolding everything rows direction_changes_after_lost_strobes
+direction_changes_after_lost_strobes_agrees = record { well_formed = refl; verdict = refl; rows = refl }
+
+pub data_changes_after_the_reset_agrees : Agrees data_changes_after_the_reset
+unfolding everything rows data_changes_after_the_reset
+data_changes_after_the_reset_agrees = record { well_formed = refl; verdict = refl; rows = refl }
+
+pub read_after_the_reset_of_a_write_agrees : Agrees read_after_the_reset_of_a_write
+unfolding everything rows read_after_the_reset_of_a_write
+read_after_the_reset_of_a_write_agrees = record { well_formed = refl; verdict = refl; rows = refl }
+
+pub answer_withdrawn_in_the_reset_agrees : Agrees answer_withdrawn_in_the_reset
+unfolding everything rows answer_withdrawn_in_the_reset
+answer_withdrawn_in_the_reset_agrees = record { well_formed = refl; verdict = refl; rows = refl }
+
+pub answer_withdrawn_early_after_the_reset_agrees : Agrees answer_withdrawn_early_after_the_reset
+unfolding everything rows answer_withdrawn_early_after_the_reset
+answer_withdrawn_early_after_the_reset_agrees = record { well_formed = refl; verdict = refl; rows = refl }
+
+pub answer_in_the_reset_agrees : Agrees answer_in_the_reset
+unfolding everything rows answer_in_the_reset
+answer_in_the_reset_agrees = record { well_formed = refl; verdict = refl; rows = refl }
+
+pub block_write_after_the_reset_of_a_block_read_agrees : Agrees block_write_after_the_reset_of_a_block_read
+unfolding everything rows block_write_after_the_reset_of_a_block_read
+block_write_after_the_reset_of_a_block_read_agrees = record { well_formed = refl; verdict = refl; rows = refl }
+
+pub bus_granted_again_after_the_reset_agrees : Agrees bus_granted_again_after_the_reset
+unfolding everything rows bus_granted_again_after_the_reset
+bus_granted_again_after_the_reset_agrees = record { well_formed = refl; verdict = refl; rows = refl }
+
+pub grant_taken_twice_after_the_reset_agrees : Agrees grant_taken_twice_after_the_reset
+unfolding everything rows grant_taken_twice_after_the_reset
+grant_taken_twice_after_the_reset_agrees = record { well_formed = refl; verdict = refl; rows = refl }
+
+pub grant_before_the_reset_taken_agrees : Agrees grant_before_the_reset_taken
+unfolding everything rows grant_before_the_reset_taken
+grant_before_the_reset_taken_agrees = record { well_formed = refl; verdict = refl; rows = refl }
+
+pub bus_taken_as_judging_starts_again_agrees : Agrees bus_taken_as_judging_starts_again
+unfolding everything rows bus_taken_as_judging_starts_again
+bus_taken_as_judging_starts_again_agrees = record { well_formed = refl; verdict = refl; rows = refl }
+
+pub open_tenure_ends_in_the_reset_agrees : Agrees open_tenure_ends_in_the_reset
+unfolding everything rows open_tenure_ends_in_the_reset
+open_tenure_ends_in_the_reset_agrees = record { well_formed = refl; verdict = refl; rows = refl }

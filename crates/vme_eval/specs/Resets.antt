@@ -1,7 +1,7 @@
 -- Resets of the bus, which end what is judged, and the starts after them.
 use Rattle.std.specs.Prelude.{[], ◌∷◌, codes}
-use Rattle.vme_trace.specs.LineNumbers.{AS, DS0, DS1, DTACK, BERR, BBSY, BR, SYSRESET, grant}
-use Rattle.vme_trace.specs.declared.rule.Rule.TheVariants.{U1, H4, G5}
+use Rattle.vme_trace.specs.LineNumbers.{AS, DS0, DS1, DTACK, BERR, WRITE, AM, A, BBSY, BR, D, SYSRESET, grant}
+use Rattle.vme_trace.specs.declared.rule.Rule.TheVariants.{U1, H4, H6, G5, B1, B2}
 use Rattle.vme_trace.specs.declared.verdict.Verdict.TheVariants.{Conforming, Broken, Unreadable, NeverIdle}
 use Rattle.vme_eval.specs.Recording.{Recording}
 use Rattle.vme_eval.specs.Steps.{low, high, unknown, asking, from_idle, from_idle_but, once_granted}
@@ -166,4 +166,200 @@ reset_after_a_lost_strobe = record {
       from_idle ((unknown AS ∷ []) ∷ (high AS ∷ low SYSRESET ∷ []) ∷ (high SYSRESET ∷ []) ∷ (low DTACK ∷ []) ∷ []);
   verdict = Unreadable (record { instant = 2; time = 10; rule = U1; line = AS });
   rows = codes "start 1" ∷ codes "verdict unreadable U1 2 AS" ∷ [];
+}
+
+-- the cycle of the read that the reset ended needs its address and its modifier no more
+unfoldable pub address_changes_after_the_reset : Recording
+address_changes_after_the_reset = record {
+  trace =
+      once_granted (asking ∷ (low AS ∷ []) ∷ (low DS0 ∷ low DS1 ∷ []) ∷ (low SYSRESET ∷ [])
+      ∷ (high AS ∷ high DS0 ∷ high DS1 ∷ high BBSY ∷ []) ∷ (high SYSRESET ∷ []) ∷ (high (A 5) ∷ [])
+      ∷ (high (AM 2) ∷ []) ∷ []);
+  verdict = Conforming;
+  rows =
+      codes "start 1" ∷ codes "tenure 5 level 3 slot 2 end -" ∷ codes "cycle 9 S 39 FFFFDE end -"
+      ∷ codes "transfer 10 read pending" ∷ codes "reset 11" ∷ codes "start 13" ∷ codes "verdict conforming" ∷ [];
+}
+
+-- the same, where the address strobe becomes unknown in the reset, and high from there, so that it never rises
+unfoldable pub address_changes_after_a_lost_strobe : Recording
+address_changes_after_a_lost_strobe = record {
+  trace =
+      once_granted (asking ∷ (low AS ∷ []) ∷ (low DS0 ∷ low DS1 ∷ []) ∷ (low SYSRESET ∷ []) ∷ (unknown AS ∷ [])
+      ∷ (high AS ∷ high DS0 ∷ high DS1 ∷ high BBSY ∷ []) ∷ (high SYSRESET ∷ []) ∷ (high (A 5) ∷ [])
+      ∷ (high (AM 2) ∷ []) ∷ []);
+  verdict = Conforming;
+  rows =
+      codes "start 1" ∷ codes "tenure 5 level 3 slot 2 end -" ∷ codes "cycle 9 S 39 FFFFDE end -"
+      ∷ codes "transfer 10 read pending" ∷ codes "reset 11" ∷ codes "start 14" ∷ codes "verdict conforming" ∷ [];
+}
+
+-- the read that the reset ended holds its direction no more
+unfoldable pub direction_changes_after_the_reset : Recording
+direction_changes_after_the_reset = record {
+  trace =
+      once_granted (asking ∷ (low AS ∷ []) ∷ (low DS0 ∷ low DS1 ∷ []) ∷ (low SYSRESET ∷ [])
+      ∷ (high AS ∷ high DS0 ∷ high DS1 ∷ high BBSY ∷ []) ∷ (high SYSRESET ∷ []) ∷ (low WRITE ∷ []) ∷ []);
+  verdict = Conforming;
+  rows =
+      codes "start 1" ∷ codes "tenure 5 level 3 slot 2 end -" ∷ codes "cycle 9 S 39 FFFFDE end -"
+      ∷ codes "transfer 10 read pending" ∷ codes "reset 11" ∷ codes "start 13" ∷ codes "verdict conforming" ∷ [];
+}
+
+-- the same, where the data strobes become unknown in the reset, and high from there, so that none ever rises
+unfoldable pub direction_changes_after_lost_strobes : Recording
+direction_changes_after_lost_strobes = record {
+  trace =
+      once_granted (asking ∷ (low AS ∷ []) ∷ (low DS0 ∷ low DS1 ∷ []) ∷ (low SYSRESET ∷ [])
+      ∷ (unknown DS0 ∷ unknown DS1 ∷ []) ∷ (high AS ∷ high DS0 ∷ high DS1 ∷ high BBSY ∷ []) ∷ (high SYSRESET ∷ [])
+      ∷ (low WRITE ∷ []) ∷ []);
+  verdict = Conforming;
+  rows =
+      codes "start 1" ∷ codes "tenure 5 level 3 slot 2 end -" ∷ codes "cycle 9 S 39 FFFFDE end -"
+      ∷ codes "transfer 10 read pending" ∷ codes "reset 11" ∷ codes "start 14" ∷ codes "verdict conforming" ∷ [];
+}
+
+-- the write that the reset ended holds its data no more
+unfoldable pub data_changes_after_the_reset : Recording
+data_changes_after_the_reset = record {
+  trace =
+      once_granted (asking ∷ (low AS ∷ low WRITE ∷ []) ∷ (low DS0 ∷ low DS1 ∷ []) ∷ (low SYSRESET ∷ [])
+      ∷ (high AS ∷ high DS0 ∷ high DS1 ∷ high BBSY ∷ []) ∷ (high SYSRESET ∷ []) ∷ (low (D 3) ∷ []) ∷ []);
+  verdict = Conforming;
+  rows =
+      codes "start 1" ∷ codes "tenure 5 level 3 slot 2 end -" ∷ codes "cycle 9 S 39 FFFFDE end -"
+      ∷ codes "transfer 10 write pending" ∷ codes "reset 11" ∷ codes "start 13" ∷ codes "verdict conforming" ∷ [];
+}
+
+-- the strobes of the write never rise, and a data line that it moved is unknown as a read starts, and changes in it
+unfoldable pub read_after_the_reset_of_a_write : Recording
+read_after_the_reset_of_a_write = record {
+  trace =
+      once_granted (asking ∷ (low AS ∷ low WRITE ∷ []) ∷ (low DS0 ∷ low DS1 ∷ []) ∷ (low SYSRESET ∷ [])
+      ∷ (high AS ∷ unknown DS0 ∷ unknown DS1 ∷ []) ∷ (high DS0 ∷ high DS1 ∷ high WRITE ∷ unknown (D 0) ∷ [])
+      ∷ (high SYSRESET ∷ []) ∷ (low AS ∷ low DS0 ∷ low DS1 ∷ []) ∷ (low (D 0) ∷ []) ∷ (low DTACK ∷ [])
+      ∷ (high AS ∷ high DS0 ∷ high DS1 ∷ []) ∷ (high DTACK ∷ []) ∷ []);
+  verdict = Conforming;
+  rows =
+      codes "start 1" ∷ codes "tenure 5 level 3 slot 2 end -" ∷ codes "cycle 9 S 39 FFFFDE end -"
+      ∷ codes "transfer 10 write pending" ∷ codes "reset 11" ∷ codes "start 14" ∷ codes "tenure 14 open end -"
+      ∷ codes "cycle 15 S 39 FFFFDE end 18" ∷ codes "transfer 15 of 15 read DTACK 17 close 18"
+      ∷ codes "verdict conforming" ∷ [];
+}
+
+-- the answer of a read is withdrawn in the reset before a strobe rises, and the next cycle is a read too. No recording
+-- tells whether H6 looks for the fall of an answer before a start: each is high there, so one that rises fell after it
+unfoldable pub answer_withdrawn_in_the_reset : Recording
+answer_withdrawn_in_the_reset = record {
+  trace =
+      once_granted (asking ∷ (low AS ∷ []) ∷ (low DS0 ∷ low DS1 ∷ []) ∷ (low DTACK ∷ []) ∷ (low SYSRESET ∷ [])
+      ∷ (high DTACK ∷ []) ∷ (high AS ∷ high DS0 ∷ high DS1 ∷ []) ∷ (high SYSRESET ∷ [])
+      ∷ (low AS ∷ low DS0 ∷ low DS1 ∷ []) ∷ (low DTACK ∷ []) ∷ (high AS ∷ high DS0 ∷ high DS1 ∷ [])
+      ∷ (high DTACK ∷ []) ∷ []);
+  verdict = Conforming;
+  rows =
+      codes "start 1" ∷ codes "tenure 5 level 3 slot 2 end -" ∷ codes "cycle 9 S 39 FFFFDE end -"
+      ∷ codes "transfer 10 of 9 read DTACK 11 close -" ∷ codes "reset 12" ∷ codes "start 15"
+      ∷ codes "tenure 15 open end -" ∷ codes "cycle 16 S 39 FFFFDE end 18"
+      ∷ codes "transfer 16 of 16 read DTACK 17 close 18" ∷ codes "verdict conforming" ∷ [];
+}
+
+-- the answer after the reset is withdrawn before a strobe rises: the one that rose in the reset counts no more
+unfoldable pub answer_withdrawn_early_after_the_reset : Recording
+answer_withdrawn_early_after_the_reset = record {
+  trace =
+      once_granted (asking ∷ (low AS ∷ []) ∷ (low DS0 ∷ low DS1 ∷ []) ∷ (low DTACK ∷ []) ∷ (low SYSRESET ∷ [])
+      ∷ (high DTACK ∷ []) ∷ (high AS ∷ high DS0 ∷ high DS1 ∷ []) ∷ (high SYSRESET ∷ [])
+      ∷ (low AS ∷ low DS0 ∷ low DS1 ∷ []) ∷ (low DTACK ∷ []) ∷ (high DTACK ∷ []) ∷ []);
+  verdict = Broken (record { instant = 18; time = 170; rule = H6; line = DTACK });
+  rows =
+      codes "start 1" ∷ codes "tenure 5 level 3 slot 2 end -" ∷ codes "cycle 9 S 39 FFFFDE end -"
+      ∷ codes "transfer 10 of 9 read DTACK 11 close -" ∷ codes "reset 12" ∷ codes "start 15"
+      ∷ codes "tenure 15 open end -" ∷ codes "cycle 16 S 39 FFFFDE end -"
+      ∷ codes "transfer 16 of 16 read DTACK 17 close -" ∷ codes "verdict broken H6 18 DTACK" ∷ [];
+}
+
+-- the read that the reset ended is answered while the bus is reset
+unfoldable pub answer_in_the_reset : Recording
+answer_in_the_reset = record {
+  trace =
+      once_granted (asking ∷ (low AS ∷ []) ∷ (low DS0 ∷ low DS1 ∷ []) ∷ (low SYSRESET ∷ []) ∷ (low DTACK ∷ [])
+      ∷ (high AS ∷ high DS0 ∷ high DS1 ∷ high DTACK ∷ high BBSY ∷ []) ∷ (high SYSRESET ∷ []) ∷ []);
+  verdict = Conforming;
+  rows =
+      codes "start 1" ∷ codes "tenure 5 level 3 slot 2 end -" ∷ codes "cycle 9 S 39 FFFFDE end -"
+      ∷ codes "transfer 10 read pending" ∷ codes "reset 11" ∷ codes "start 14" ∷ codes "verdict conforming" ∷ [];
+}
+
+-- a block of reads that the reset ended, and a block of writes after it
+unfoldable pub block_write_after_the_reset_of_a_block_read : Recording
+block_write_after_the_reset_of_a_block_read = record {
+  trace =
+      once_granted ((low (AM 2) ∷ low (A 5) ∷ []) ∷ (low AS ∷ []) ∷ (low DS0 ∷ low DS1 ∷ []) ∷ (low DTACK ∷ [])
+      ∷ (low SYSRESET ∷ []) ∷ (high AS ∷ high DS0 ∷ high DS1 ∷ high DTACK ∷ []) ∷ (high SYSRESET ∷ [])
+      ∷ (low AS ∷ low DS0 ∷ low DS1 ∷ low WRITE ∷ []) ∷ (low DTACK ∷ []) ∷ (high AS ∷ high DS0 ∷ high DS1 ∷ [])
+      ∷ (high DTACK ∷ []) ∷ []);
+  verdict = Conforming;
+  rows =
+      codes "start 1" ∷ codes "tenure 5 level 3 slot 2 end -" ∷ codes "cycle 9 K 3B FFFFDE end -"
+      ∷ codes "transfer 10 of 9 read DTACK 11 close -" ∷ codes "reset 12" ∷ codes "start 14"
+      ∷ codes "tenure 14 open end -" ∷ codes "cycle 15 K 3B FFFFDE end 17"
+      ∷ codes "transfer 15 of 15 write DTACK 16 close 17 data ----FFFF" ∷ codes "verdict conforming" ∷ [];
+}
+
+-- a grant is taken, the bus is reset, and another grant is taken
+unfoldable pub bus_granted_again_after_the_reset : Recording
+bus_granted_again_after_the_reset = record {
+  trace =
+      from_idle ((low (BR 3) ∷ []) ∷ (low (grant 3 0) ∷ []) ∷ (low BBSY ∷ high (BR 3) ∷ []) ∷ (low SYSRESET ∷ [])
+      ∷ (high BBSY ∷ high (grant 3 0) ∷ []) ∷ (high SYSRESET ∷ []) ∷ (low (BR 3) ∷ []) ∷ (low (grant 3 0) ∷ [])
+      ∷ (low BBSY ∷ high (BR 3) ∷ []) ∷ (high (grant 3 0) ∷ []) ∷ []);
+  verdict = Conforming;
+  rows =
+      codes "start 1" ∷ codes "tenure 4 level 3 slot 1 end -" ∷ codes "reset 5" ∷ codes "start 7"
+      ∷ codes "tenure 10 level 3 slot 1 end -" ∷ codes "verdict conforming" ∷ [];
+}
+
+-- the grant after the reset is taken twice
+unfoldable pub grant_taken_twice_after_the_reset : Recording
+grant_taken_twice_after_the_reset = record {
+  trace =
+      from_idle ((low (BR 3) ∷ []) ∷ (low (grant 3 0) ∷ []) ∷ (low BBSY ∷ high (BR 3) ∷ []) ∷ (low SYSRESET ∷ [])
+      ∷ (high BBSY ∷ high (grant 3 0) ∷ []) ∷ (high SYSRESET ∷ []) ∷ (low (BR 3) ∷ []) ∷ (low (grant 3 0) ∷ [])
+      ∷ (low BBSY ∷ high (BR 3) ∷ []) ∷ (high BBSY ∷ []) ∷ (low BBSY ∷ []) ∷ []);
+  verdict = Broken (record { instant = 12; time = 110; rule = B2; line = BBSY });
+  rows =
+      codes "start 1" ∷ codes "tenure 4 level 3 slot 1 end -" ∷ codes "reset 5" ∷ codes "start 7"
+      ∷ codes "tenure 10 level 3 slot 1 end 11" ∷ codes "verdict broken B2 12 BBSY" ∷ [];
+}
+
+-- a grant that came before the reset is taken after it, which breaks B1. So it is wherever no grant fell after a start,
+-- since each is high there. So no recording tells whether B2 counts a grant before it
+unfoldable pub grant_before_the_reset_taken : Recording
+grant_before_the_reset_taken = record {
+  trace =
+      from_idle ((low (BR 3) ∷ []) ∷ (low (grant 3 0) ∷ []) ∷ (low SYSRESET ∷ [])
+      ∷ (high (BR 3) ∷ high (grant 3 0) ∷ []) ∷ (high SYSRESET ∷ []) ∷ (low BBSY ∷ []) ∷ []);
+  verdict = Broken (record { instant = 7; time = 60; rule = B1; line = BBSY });
+  rows = codes "start 1" ∷ codes "reset 4" ∷ codes "start 6" ∷ codes "verdict broken B1 7 BBSY" ∷ [];
+}
+
+-- the bus is taken as judging starts again: the tenure is open there, and takes no grant
+unfoldable pub bus_taken_as_judging_starts_again : Recording
+bus_taken_as_judging_starts_again = record {
+  trace = from_idle ((low SYSRESET ∷ []) ∷ (low BBSY ∷ high SYSRESET ∷ []) ∷ []);
+  verdict = Conforming;
+  rows =
+      codes "start 1" ∷ codes "reset 2" ∷ codes "start 3" ∷ codes "tenure 3 open end -"
+      ∷ codes "verdict conforming" ∷ [];
+}
+
+-- a tenure that was open at the start ends while the bus is reset
+unfoldable pub open_tenure_ends_in_the_reset : Recording
+open_tenure_ends_in_the_reset = record {
+  trace = from_idle_but BBSY ((low SYSRESET ∷ []) ∷ (high BBSY ∷ []) ∷ (high SYSRESET ∷ []) ∷ []);
+  verdict = Conforming;
+  rows =
+      codes "start 1" ∷ codes "tenure 1 open end -" ∷ codes "reset 2" ∷ codes "start 4"
+      ∷ codes "verdict conforming" ∷ [];
 }

@@ -222,11 +222,12 @@ no_long_word_at_an_odd_word = record {
       ∷ codes "transfer 10 of 9 write DTACK 11 close 12 data --------" ∷ codes "verdict conforming" ∷ [];
 }
 
--- the second transfer of a block becomes one of a long word before its answer, and a line of the upper half is unknown
+-- the second transfer of a block becomes one of a long word before its answer, and two lines of the upper half are
+-- unknown, the first of one digit and the last of another
 unfoldable pub lanes_unknown : Recording
 lanes_unknown = record {
   trace =
-      once_granted ((low (AM 2) ∷ low WRITE ∷ low (A 5) ∷ unknown (D 16) ∷ []) ∷ (low AS ∷ [])
+      once_granted ((low (AM 2) ∷ low WRITE ∷ low (A 5) ∷ unknown (D 16) ∷ unknown (D 23) ∷ []) ∷ (low AS ∷ [])
       ∷ (low DS0 ∷ low DS1 ∷ [])
       ∷ (low DTACK ∷ []) ∷ (high DS0 ∷ high DS1 ∷ []) ∷ (high DTACK ∷ []) ∷ (low DS0 ∷ low DS1 ∷ [])
       ∷ (low LWORD ∷ low (A 1) ∷ []) ∷ (low DTACK ∷ []) ∷ (high AS ∷ high DS0 ∷ high DS1 ∷ []) ∷ (high DTACK ∷ [])
@@ -235,7 +236,7 @@ lanes_unknown = record {
   rows =
       codes "start 1" ∷ codes "tenure 5 level 3 slot 2 end -" ∷ codes "cycle 9 K 3B FFFFDE end 17"
       ∷ codes "transfer 10 of 9 write DTACK 11 close 12 data ----FFFF"
-      ∷ codes "transfer 14 of 9 write DTACK 16 close 17 data FFFXFFFF" ∷ codes "verdict conforming" ∷ [];
+      ∷ codes "transfer 14 of 9 write DTACK 16 close 17 data FFXXFFFF" ∷ codes "verdict conforming" ∷ [];
 }
 
 -- a write is answered as it starts

@@ -90,6 +90,14 @@ ghost use Rattle.vme_eval.specs.Resets.{request_without_a_reset, reset_for_good,
 ghost use Rattle.vme_eval.specs.Resets.{reset_at_the_end, two_resets, stray_answer_with_the_reset};
 ghost use Rattle.vme_eval.specs.Resets.{stray_answers_around_the_reset, strobe_unknown_after_the_reset};
 ghost use Rattle.vme_eval.specs.Resets.{strobe_lost_after_the_reset, reset_after_a_lost_strobe};
+ghost use Rattle.vme_eval.specs.Resets.{address_changes_after_the_reset, address_changes_after_a_lost_strobe};
+ghost use Rattle.vme_eval.specs.Resets.{direction_changes_after_the_reset, direction_changes_after_lost_strobes};
+ghost use Rattle.vme_eval.specs.Resets.{data_changes_after_the_reset, read_after_the_reset_of_a_write};
+ghost use Rattle.vme_eval.specs.Resets.{answer_withdrawn_in_the_reset, answer_withdrawn_early_after_the_reset};
+ghost use Rattle.vme_eval.specs.Resets.{answer_in_the_reset, block_write_after_the_reset_of_a_block_read};
+ghost use Rattle.vme_eval.specs.Resets.{bus_granted_again_after_the_reset, grant_taken_twice_after_the_reset};
+ghost use Rattle.vme_eval.specs.Resets.{grant_before_the_reset_taken, bus_taken_as_judging_starts_again};
+ghost use Rattle.vme_eval.specs.Resets.{open_tenure_ends_in_the_reset};
 ghost use Rattle.vme_eval.specs.SameInstant.{modifier_and_direction_unknown, direction_unknown_as_the_answer_is_low};
 ghost use Rattle.vme_eval.specs.SameInstant.{data_unknown_as_the_answer_is_low};
 ghost use Rattle.vme_eval.specs.SameInstant.{answered_again_as_the_answer_is_withdrawn, address_and_direction_change};
@@ -327,6 +335,21 @@ pub fn resets()
     ensures strobe_unknown_after_the_reset { Agrees strobe_unknown_after_the_reset }
     ensures strobe_lost_after_the_reset { Agrees strobe_lost_after_the_reset }
     ensures reset_after_a_lost_strobe { Agrees reset_after_a_lost_strobe }
+    ensures address_changes_after_the_reset { Agrees address_changes_after_the_reset }
+    ensures address_changes_after_a_lost_strobe { Agrees address_changes_after_a_lost_strobe }
+    ensures direction_changes_after_the_reset { Agrees direction_changes_after_the_reset }
+    ensures direction_changes_after_lost_strobes { Agrees direction_changes_after_lost_strobes }
+    ensures data_changes_after_the_reset { Agrees data_changes_after_the_reset }
+    ensures read_after_the_reset_of_a_write { Agrees read_after_the_reset_of_a_write }
+    ensures answer_withdrawn_in_the_reset { Agrees answer_withdrawn_in_the_reset }
+    ensures answer_withdrawn_early_after_the_reset { Agrees answer_withdrawn_early_after_the_reset }
+    ensures answer_in_the_reset { Agrees answer_in_the_reset }
+    ensures block_write_after_the_reset_of_a_block_read { Agrees block_write_after_the_reset_of_a_block_read }
+    ensures bus_granted_again_after_the_reset { Agrees bus_granted_again_after_the_reset }
+    ensures grant_taken_twice_after_the_reset { Agrees grant_taken_twice_after_the_reset }
+    ensures grant_before_the_reset_taken { Agrees grant_before_the_reset_taken }
+    ensures bus_taken_as_judging_starts_again { Agrees bus_taken_as_judging_starts_again }
+    ensures open_tenure_ends_in_the_reset { Agrees open_tenure_ends_in_the_reset }
 {}
 
 /// What is judged: up to each reset and from the next idle instant on, and nothing more once a line was lost. The last

@@ -11,7 +11,7 @@ use Rattle.vme_trace.specs.declared.class.Class.{Class}
 use Rattle.vme_trace.specs.declared.class.Class.TheVariants as class
 use Rattle.vme_trace.specs.declared.data.Lanes.{Lanes}
 use Rattle.vme_trace.specs.declared.rule.Rule.{Rule}
-use Rattle.vme_trace.specs.declared.rule.Rule.TheVariants.{U1, U2, U3, U4, H1, H2, H3, H4, H5, H6, H7, H8, S1, S2, S3, C1, C2, G1, G2, G3, G4, G5, B1, B2, B3, B4, I1, I2, I3, I4, I5}
+use Rattle.vme_trace.proofs.EveryRule.{every-rule}
 use Rattle.vme_trace.proofs.NameLaws.{line_named-is, rule_named-is}
 use Rattle.vme_trace.proofs.Ranges.{any-fails}
 use Rattle.vme_listing.specs.declared.row.AnswerLine.{AnswerLine}
@@ -211,37 +211,7 @@ pending_read start Write h =
     (ap (λ n. Some (PendingTransfer n Write)) (number_read start h))
 
 rule_plain : (rule : Rule) → is_plain (rule_name rule) ≡ true
-rule_plain U1 = refl
-rule_plain U2 = refl
-rule_plain U3 = refl
-rule_plain U4 = refl
-rule_plain H1 = refl
-rule_plain H2 = refl
-rule_plain H3 = refl
-rule_plain H4 = refl
-rule_plain H5 = refl
-rule_plain H6 = refl
-rule_plain H7 = refl
-rule_plain H8 = refl
-rule_plain S1 = refl
-rule_plain S2 = refl
-rule_plain S3 = refl
-rule_plain C1 = refl
-rule_plain C2 = refl
-rule_plain G1 = refl
-rule_plain G2 = refl
-rule_plain G3 = refl
-rule_plain G4 = refl
-rule_plain G5 = refl
-rule_plain B1 = refl
-rule_plain B2 = refl
-rule_plain B3 = refl
-rule_plain B4 = refl
-rule_plain I1 = refl
-rule_plain I2 = refl
-rule_plain I3 = refl
-rule_plain I4 = refl
-rule_plain I5 = refl
+rule_plain rule = every-rule (λ r. is_plain (rule_name r)) refl rule
 
 lines_plain : every (λ l. is_plain (line_name l)) 0 line_count ≡ true
 unfolding any digits

@@ -15,3 +15,4 @@ pub mod RowForms
 pub mod RecordedRows
 pub mod WellPlaced
 pub mod InVersions
+pub mod Taken

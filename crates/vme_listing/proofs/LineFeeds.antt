@@ -14,8 +14,8 @@ use Rattle.vme_trace.specs.Names.{line_name, rule_name}
 use Rattle.vme_trace.specs.declared.class.Class.{Class}
 use Rattle.vme_trace.specs.declared.class.Class.TheVariants as class
 use Rattle.vme_trace.specs.declared.rule.Rule.{Rule}
-use Rattle.vme_trace.specs.declared.rule.Rule.TheVariants.{U1, U2, U3, U4, H1, H2, H3, H4, H5, H6, H7, H8, S1, S2, S3, C1, C2, G1, G2, G3, G4, G5, B1, B2, B3, B4, I1, I2, I3, I4, I5}
 use Rattle.vme_trace.specs.declared.data.Lanes.{Lanes}
+use Rattle.vme_trace.proofs.EveryRule.{every-rule}
 use Rattle.vme_listing.proofs.Cuts.{are_glyphs, decimal-glyphs, hexadecimal-glyphs}
 use Rattle.vme_listing.proofs.LaneTexts.{lanes-inside}
 use Rattle.vme_listing.specs.Listed.{tells_resets}
@@ -31,11 +31,11 @@ use Rattle.vme_listing.specs.declared.row.Version.{Version}
 use Rattle.vme_listing.specs.declared.row.Row.{Row}
 use Rattle.vme_listing.specs.declared.row.Row.TheVariants.{Start, Reset, OpenTenure, Tenure, AddressedCycle, FreeCycle, InterruptCycle, Transfer, PendingTransfer, Verdict}
 
-abbrev stays : ℕ → Bool
+abbrev pub stays : ℕ → Bool
 stays b = not (b == 10)
 
 -- no byte is a line feed
-abbrev is_inside : List ℕ → Bool
+abbrev pub is_inside : List ℕ → Bool
 is_inside text = list_all stays text
 
 glyphs-inside : (word : List ℕ) → are_glyphs word ≡ true → is_inside word ≡ true
@@ -76,40 +76,7 @@ data-inside None = refl
 data-inside (Some a) = lanes-inside a
 
 rule-inside : (rule : Rule) → is_inside (rule_name rule) ≡ true
-rule-inside rule =
-    elim rule as (λ r. is_inside (rule_name r) ≡ true) [
-      | U1 ↦ refl
-      | U2 ↦ refl
-      | U3 ↦ refl
-      | U4 ↦ refl
-      | H1 ↦ refl
-      | H2 ↦ refl
-      | H3 ↦ refl
-      | H4 ↦ refl
-      | H5 ↦ refl
-      | H6 ↦ refl
-      | H7 ↦ refl
-      | H8 ↦ refl
-      | S1 ↦ refl
-      | S2 ↦ refl
-      | S3 ↦ refl
-      | C1 ↦ refl
-      | C2 ↦ refl
-      | G1 ↦ refl
-      | G2 ↦ refl
-      | G3 ↦ refl
-      | G4 ↦ refl
-      | G5 ↦ refl
-      | B1 ↦ refl
-      | B2 ↦ refl
-      | B3 ↦ refl
-      | B4 ↦ refl
-      | I1 ↦ refl
-      | I2 ↦ refl
-      | I3 ↦ refl
-      | I4 ↦ refl
-      | I5 ↦ refl
-    ]
+rule-inside rule = every-rule (λ r. is_inside (rule_name r)) refl rule
 
 all_lines : agree_below (λ l. is_inside (line_name l)) (λ l. true) line_count ≡ true
 unfolding digits
@@ -158,7 +125,7 @@ outcome-inside NeverIdle h = refl
 outcome-inside (Broken rule instant line) h = let p = three _ (is_number instant) (nat_lt line line_count) h in break-inside rule instant line p.1 p.2
 outcome-inside (Unreadable rule instant line) h = let p = three _ (is_number instant) (nat_lt line line_count) h in break-inside rule instant line p.1 p.2
 
-row-inside : (version : Version) (row : Row) → is_row version row ≡ true → is_inside (row_text row) ≡ true
+pub row-inside : (version : Version) (row : Row) → is_row version row ≡ true → is_inside (row_text row) ≡ true
 unfolding is_row row_text
 row-inside version (Start instant) h = number-inside instant h
 row-inside version (Reset instant) h = number-inside instant (two (tells_resets version) (is_number instant) h).1

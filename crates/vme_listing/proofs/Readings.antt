@@ -88,7 +88,7 @@ abbrev pub AllBegin : List ℕ → Version → List Row → List ℕ → Type 0
 AllBegin text version rows rest = (all : Listed) → is_well_placed all ≡ true → text_of all ≡ text → Begins text version rows rest all
 
 -- headers differ by their version
-one_header : (v w : Version) (a b : List ℕ) → header v ++ a ≡ header w ++ b → (v ≡ w) × (a ≡ b)
+pub one_header : (v w : Version) (a b : List ℕ) → header v ++ a ≡ header w ++ b → (v ≡ w) × (a ≡ b)
 one_header One One a b e = (refl, ap (drop 19) e)
 one_header Two Two a b e = (refl, ap (drop 19) e)
 one_header Three Three a b e = (refl, ap (drop 19) e)

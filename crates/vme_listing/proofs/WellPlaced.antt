@@ -1,6 +1,6 @@
 -- The listing of a recording is well placed.
 use Rattle.std.proofs.Common.{◌≡◌, ℕ, zero, suc, ◌+◌, ◌^◌, ◌<◌, ◌≤◌, ◌==◌, Bool, true, false, ◌&&◌, ◌||◌, not, cond, min, List, [], ◌∷◌, ◌++◌, length, refl, sym, ◌∙◌, ap, subst, arith, append_assoc, ◌⊎◌, inl, inr}
-use Rattle.std.specs.Prelude.{Option, None, Some, flat_map, nat_lt}
+use Rattle.std.specs.Prelude.{Option, None, Some, drop, flat_map, nat_lt, take}
 use Rattle.std.proofs.Math.Nat.{min-le_right, min-eq_left}
 use Rattle.std.proofs.lemmas.Bool.Decides.{nat_tests}
 use Rattle.vme_trace.specs.LineNumbers.{BBSY, line_count}
@@ -10,9 +10,10 @@ use Rattle.vme_trace.specs.Transfers.{transfer_starts}
 use Rattle.vme_trace.specs.Cycles.{cycle_starts}
 use Rattle.vme_trace.specs.Tenures.{tenure_starts}
 use Rattle.vme_trace.specs.Rules.{breaks}
+use Rattle.vme_trace.specs.Names.{rule_number}
 use Rattle.vme_trace.specs.Verdict.{all_rules, is_unreadable, least_break, least_of}
 use Rattle.vme_trace.specs.declared.rule.Rule.{Rule}
-use Rattle.vme_trace.specs.declared.rule.Rule.TheVariants.{U1, U2, U3, U4, H1, H2, H3, H4, H5, H6, H7, H8, S1, S2, S3, C1, C2, G1, G2, G3, G4, G5, B1, B2, B3, B4, I1, I2, I3, I4, I5}
+use Rattle.vme_trace.specs.declared.rule.Rule.TheVariants.{U2, B4}
 use Rattle.vme_trace.specs.declared.verdict.Break.{Break}
 use Rattle.vme_trace.proofs.JudgedSpans.{AreInOrder, spans_in_order, starts_before_end}
 use Rattle.vme_listing.specs.Places.{follows, is_later, is_never_idle, is_outcome, is_reset, is_rest, is_row, is_start, is_verdict, is_well_placed, never_idles, place_of}
@@ -119,17 +120,12 @@ last_is row found is e =
     named None = refl
     named (Some b) = by_rule b (is_unreadable b.rule) refl
 
-abbrev till_needed : List Rule
-till_needed = U1 ∷ []
+-- the rules before and behind one
+abbrev till : Rule → List Rule
+till r = take (rule_number r) all_rules
 
-abbrev from_needed : List Rule
-from_needed = U3 ∷ U4 ∷ H1 ∷ H2 ∷ H3 ∷ H4 ∷ H5 ∷ H6 ∷ H7 ∷ H8 ∷ S1 ∷ S2 ∷ S3 ∷ C1 ∷ C2 ∷ G1 ∷ G2 ∷ G3 ∷ G4 ∷ G5 ∷ B1 ∷ B2 ∷ B3 ∷ B4 ∷ I1 ∷ I2 ∷ I3 ∷ I4 ∷ I5 ∷ []
-
-abbrev till_taken : List Rule
-till_taken = U1 ∷ U2 ∷ U3 ∷ U4 ∷ H1 ∷ H2 ∷ H3 ∷ H4 ∷ H5 ∷ H6 ∷ H7 ∷ H8 ∷ S1 ∷ S2 ∷ S3 ∷ C1 ∷ C2 ∷ G1 ∷ G2 ∷ G3 ∷ G4 ∷ G5 ∷ B1 ∷ B2 ∷ B3 ∷ []
-
-abbrev from_taken : List Rule
-from_taken = I1 ∷ I2 ∷ I3 ∷ I4 ∷ I5 ∷ []
+abbrev behind : Rule → List Rule
+behind r = drop (rule_number r + 1) all_rules
 
 last_or_before : (i s : ℕ) → s < suc i → (s ≡ i) ⊎ (s < i)
 last_or_before i s h = grind arith
@@ -253,11 +249,11 @@ module _ (t : Trace) (slots : t.opening.slots ≤ 21) (few : length t.steps < 2 
 
   held_always : (span : Span) → least_break t span all_rules ≡ None → (limit : ℕ) → limit ≤ last_instant t + 1 → IsUnbroken limit span
   held_always span e limit most i l first below there =
-      (unbroken_always t span till_needed from_needed U2 i l e (omega arith) there, unbroken_always t span till_taken from_taken B4 i l e (omega arith) there)
+      (unbroken_always t span (till U2) (behind U2) U2 i l e (omega arith) there, unbroken_always t span (till B4) (behind B4) B4 i l e (omega arith) there)
 
   held_before : (span : Span) (b : Break) → least_break t span all_rules ≡ Some b → IsUnbroken b.instant span
   held_before span b e i l first below there =
-      (unbroken_before t span till_needed from_needed U2 b i l e below there, unbroken_before t span till_taken from_taken B4 b i l e below there)
+      (unbroken_before t span (till U2) (behind U2) U2 b i l e below there, unbroken_before t span (till B4) (behind B4) B4 b i l e below there)
 
   unbroken : (span : Span) (spans : List Span) → AreInOrder t (span ∷ spans) → (found : Option Break) → least_of all_rules t (span ∷ spans) ≡ found → AreUnbroken (listed_end t found) (span ∷ spans)
   unbroken span [] order None e = (held_always span e (last_instant t + 1) (omega arith), tt)

@@ -4,6 +4,7 @@
 
 pub mod fault;
 pub mod listing;
+pub mod listing_text;
 mod place;
 pub mod read;
 pub mod row;
@@ -13,6 +14,7 @@ pub mod write;
 
 pub use fault::ListFault;
 pub use listing::{Listing, listings_are_well_placed};
+pub use listing_text::ListingText;
 pub use read::read_listing;
 pub use row::{AnswerLine, Direction, Outcome, Row, Version};
 pub use text::data_digits;

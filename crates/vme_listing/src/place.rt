@@ -2,21 +2,12 @@
 #![tactic(auto)]
 
 ghost use Rattle.std.specs.Prelude.{◌≡◌, ◌==◌};
-ghost use Rattle.vme_trace.specs.Cycle.{highest_address, is_block};
 ghost use Rattle.vme_listing.specs.Places.{has_class, is_address, is_outcome, is_digit, are_digits_from, is_lanes};
 ghost use Rattle.vme_listing.specs.Places.{has_data, is_row, is_start, is_reset, is_verdict, is_never_idle, place_of};
 ghost use Rattle.vme_listing.specs.Places.{may_follow, ascends};
 
 use crate::row::{Direction, Outcome, Row, Version};
-use crate::text::address_digits;
-use vme_trace::{Class, Lanes, MOST_SLOTS};
-
-/// Whether a code of the address modifier is one of block transfers.
-fn is_block(modifier: u8) -> bool
-    ensures { result ≡ is_block modifier }
-{
-    matches!(modifier, 0x0B | 0x0F | 0x3B | 0x3F)
-}
+use vme_trace::{Class, Lanes, MOST_SLOTS, Space, is_block};
 
 /// Whether cycles of the class have an address, and this code of the address modifier.
 fn has_class(modifier: u8, class: Class) -> bool
@@ -29,24 +20,15 @@ fn has_class(modifier: u8, class: Class) -> bool
     }
 }
 
-/// Whether the code makes no address lines meaningful.
-#[tactic(auto, unfolding(vme_trace::specs::Cycle::highest_address))]
-fn is_free(modifier: u8) -> bool
-    ensures { result ≡ (highest_address modifier == 0) }
-{
-    address_digits(modifier) == 0
-}
-
 /// Whether the address is one of the space of the code: its bit 0 is 0, and it has no more digits than the space.
-#[tactic(auto, unfolding(vme_trace::specs::Cycle::highest_address))]
 fn is_address(modifier: u8, address: u32) -> bool
     ensures { result ≡ is_address modifier address }
 {
-    let fits = match address_digits(modifier) {
-        8 => true,
-        6 => address < 0x100_0000,
-        4 => address < 0x1_0000,
-        _ => false,
+    let fits = match Space::of(modifier) {
+        Some(Space::Extended) => true,
+        Some(Space::Standard) => address < 0x100_0000,
+        Some(Space::Short) => address < 0x1_0000,
+        None => false,
     };
     fits && address % 2 == 0
 }
@@ -135,7 +117,7 @@ fn is_allowed(version: Version, row: Row) -> bool
             address,
             ..
         } => has_class(modifier, class) && is_address(modifier, address),
-        Row::FreeCycle { modifier, .. } => modifier < 64 && is_free(modifier),
+        Row::FreeCycle { modifier, .. } => modifier < 64 && Space::of(modifier).is_none(),
         Row::InterruptCycle { level, .. } => level < 8,
         Row::Transfer {
             direction,

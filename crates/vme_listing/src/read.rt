@@ -17,7 +17,7 @@ use memchr::memchr;
 use std::alloc::Global;
 
 /// The version of which the header is at the front of the text, and what follows the header.
-fn front_header(text: &[u8]) -> Option<(Version, &[u8])>
+pub(crate) fn front_header(text: &[u8]) -> Option<(Version, &[u8])>
     ensures named { IfSome result (λ front. text.now ≡ header front.0 ++ front.1.now) }
     ensures none { result ≡ None → (version : Version) (rest : List ℕ) → text.now ≢ header version ++ rest }
 {

@@ -11,7 +11,7 @@ ghost use Rattle.vme_listing.specs.declared.row.Row.TheVariants.{InterruptCycle,
 
 use crate::row::{AnswerLine, Direction, Outcome, Row, Version};
 use std::marker::Model;
-use vme_trace::{Class, Lanes, Line, Rule};
+use vme_trace::{Class, Lanes, Line, Rule, Space};
 
 /// How many bytes a line of a listing has at most.
 pub(crate) const LONGEST_LINE: usize = 96;
@@ -413,16 +413,15 @@ impl Text {
 
 /// How many digits the address of a cycle has, by the address modifier code: 8 in the extended space, 6 in the
 /// standard, 4 in the short, and none where the code is of no space.
-#[tactic(auto, unfolding(vme_trace::specs::Cycle::highest_address))]
 pub(crate) fn address_digits(modifier: u8) -> usize
     ensures digits { result ≡ address_digits modifier }
     ensures most { result ≤ 8 }
 {
-    match modifier {
-        0x09 | 0x0A | 0x0B | 0x0D | 0x0E | 0x0F => 8,
-        0x39 | 0x3A | 0x3B | 0x3D | 0x3E | 0x3F => 6,
-        0x29 | 0x2D => 4,
-        _ => 0,
+    match Space::of(modifier) {
+        Some(Space::Extended) => 8,
+        Some(Space::Standard) => 6,
+        Some(Space::Short) => 4,
+        None => 0,
     }
 }
 

@@ -8,53 +8,15 @@ ghost use Rattle.vme_monitor.specs.Joined.{AreApart, AreJoined, together};
 ghost use Rattle.vme_monitor.specs.declared.mark.Kinds.{Kinds};
 ghost use Rattle.vme_monitor.specs.Whole.{FindsLeast, ShowsAll};
 ghost use Rattle.std.specs.Option.{option_map_or};
-ghost use Rattle.vme_monitor.specs.BothSpec.{by_instant, fault_lt as fault_before, front, rest};
+ghost use Rattle.vme_monitor.specs.BothSpec.{fault_lt as fault_before, front, rest};
 ghost use Rattle.vme_monitor.specs.BothSpec.{kind_number as kind_place, least as least_of, mark_lt as mark_before};
-ghost use Rattle.vme_monitor.specs.BothSpec.{merged, rule_number as rule_place, sooner as sooner_than};
+ghost use Rattle.vme_monitor.specs.BothSpec.{merged, sooner as sooner_than};
 
 use crate::mark::{Kind, Mark};
 use crate::monitor::Monitor;
 use std::alloc::{AllocError, Global};
 use std::marker::PhantomData;
-use vme_trace::{Break, Lines, Rule, Step};
-
-fn rule_number(rule: Rule) -> u8
-    ensures { result ≡ rule_place rule }
-{
-    match rule {
-        Rule::U1 => 0,
-        Rule::U2 => 1,
-        Rule::U3 => 2,
-        Rule::U4 => 3,
-        Rule::H1 => 4,
-        Rule::H2 => 5,
-        Rule::H3 => 6,
-        Rule::H4 => 7,
-        Rule::H5 => 8,
-        Rule::H6 => 9,
-        Rule::H7 => 10,
-        Rule::H8 => 11,
-        Rule::S1 => 12,
-        Rule::S2 => 13,
-        Rule::S3 => 14,
-        Rule::C1 => 15,
-        Rule::C2 => 16,
-        Rule::G1 => 17,
-        Rule::G2 => 18,
-        Rule::G3 => 19,
-        Rule::G4 => 20,
-        Rule::G5 => 21,
-        Rule::B1 => 22,
-        Rule::B2 => 23,
-        Rule::B3 => 24,
-        Rule::B4 => 25,
-        Rule::I1 => 26,
-        Rule::I2 => 27,
-        Rule::I3 => 28,
-        Rule::I4 => 29,
-        Rule::I5 => 30,
-    }
-}
+use vme_trace::{Break, Lines, Step};
 
 fn kind_number(kind: Kind) -> u8
     ensures { result ≡ kind_place kind }
@@ -76,8 +38,8 @@ fn kind_number(kind: Kind) -> u8
 fn fault_lt(f: &Break, g: &Break) -> bool
     ensures { result ≡ fault_before f.now g.now }
 {
-    let a = rule_number(f.rule);
-    let b = rule_number(g.rule);
+    let a = f.rule.number();
+    let b = g.rule.number();
     a < b || (a == b && f.line.number() < g.line.number())
 }
 

@@ -2,6 +2,7 @@
 use Rattle.std.proofs.Common.{◌≡◌, ℕ, suc, ◌<◌, ◌≤◌, Bool, true, false, ◌&&◌, not, refl, ◌∙◌, ap, arith, cond, lit<, lit≤}
 use Rattle.std.specs.Prelude.{None, Some, ◌==◌}
 use Rattle.std.proofs.lemmas.Bool.Decides.{nat_tests}
+use Rattle.vme_trace.specs.Edges.{falls_between, starts_between}
 use Rattle.vme_trace.specs.Instants.{least}
 use Rattle.vme_trace.specs.LineNumbers.{line_count, AS, WRITE, has_line}
 use Rattle.vme_trace.specs.Cycle.{is_needed, is_within, needs_of}
@@ -15,8 +16,7 @@ use Rattle.vme_trace.specs.Rules.{breaks, is_broken}
 use Rattle.vme_trace.specs.declared.rule.Rule.TheVariants.{U2, U3}
 use Rattle.vme_trace.proofs.OpenTransfers.{ReadsStrobes}
 use Rattle.vme_trace.proofs.Ranges.{fails-any, least-alike, least-is, least-none}
-use Rattle.vme_monitor.specs.Edges.{falls_between}
-use Rattle.vme_stability.specs.StabilitySpec.{lacks, starts_between, unknown_address, unknown_direction}
+use Rattle.vme_stability.specs.StabilitySpec.{lacks, unknown_address, unknown_direction}
 use Rattle.vme_stability.proofs.Holds.{judged, cycle_starts_is, transfer_starts_is}
 use Rattle.vme_stability.proofs.Needed.{bused_line, needed_below}
 

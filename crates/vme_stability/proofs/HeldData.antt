@@ -2,6 +2,8 @@
 use Rattle.std.proofs.Common.{◌≡◌, ℕ, suc, ◌+◌, ◌-◌, ◌<◌, ◌≤◌, Bool, true, false, ◌||◌, ◌&&◌, not, refl, sym, ◌∙◌, ap, arith, cond, inl, inr, ◌⊎◌}
 use Rattle.std.specs.Prelude.{Option, None, Some, List, nat_le, nat_lt}
 use Rattle.std.proofs.lemmas.Bool.Decides.{nat_tests}
+use Rattle.vme_trace.specs.Edges.{answer_between, strobe_falls_between, strobe_low_in, strobe_rises_between}
+use Rattle.vme_trace.specs.Edges.{strobes_high_in}
 use Rattle.vme_trace.specs.Instants.{least, none}
 use Rattle.vme_trace.specs.LineNumbers.{line_count, DS0, DS1, DTACK, BERR, LWORD, WRITE, A, has_line}
 use Rattle.vme_trace.specs.Levels.{Levels, level_at, is_low, is_high, is_known_on, same_level}
@@ -20,12 +22,12 @@ use Rattle.vme_trace.proofs.Changing.{level-kept}
 use Rattle.vme_trace.proofs.OpenTransfers.{ReadsStrobes, suc-sub-one, in_transfer-is, in_transfer-levels}
 use Rattle.vme_trace.proofs.Ranges.{any-fails, any-step, clash, fails-any, least-alike, least-none}
 use Rattle.vme_trace.proofs.SpanEnds.{slots_at}
-use Rattle.vme_monitor.specs.Tracking.{answer_between, entered, is_writing, strobe_low_in, strobes_high_in}
+use Rattle.vme_monitor.specs.Tracking.{entered, is_writing}
 use Rattle.vme_monitor.specs.declared.tracking.Pending.{Pending}
 use Rattle.vme_monitor.specs.declared.tracking.Pending.TheVariants.{Closed, Reading, Writing, Answered}
 use Rattle.vme_monitor.proofs.TrackedTransfers.{IsIn, Enters, entered_is}
 use Rattle.vme_stability.specs.HoldingPlaces.{has_risen, writes_of}
-use Rattle.vme_stability.specs.StabilitySpec.{is_shifted, is_undriven, keeps_data, kept, may_write, shifted_fault, sight_of, stability_rules, strobe_falls_between, strobe_rises_between, undriven_fault, writes_now}
+use Rattle.vme_stability.specs.StabilitySpec.{is_shifted, is_undriven, keeps_data, kept, may_write, shifted_fault, sight_of, stability_rules, undriven_fault, writes_now}
 use Rattle.vme_stability.specs.declared.holding.Holding.{Holding}
 use Rattle.vme_stability.proofs.AskedLines.{least_and}
 use Rattle.vme_stability.proofs.Edges.{and_true, first_least, same_itself}

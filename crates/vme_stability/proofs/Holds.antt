@@ -1,5 +1,7 @@
 -- What the memory says of a judged instant, in the words of transfers and cycles; it keeps saying so, whatever rule is broken.
 use Rattle.std.proofs.Common.{◌≡◌, ℕ, suc, ◌+◌, ◌<◌, ◌≤◌, Bool, true, false, ◌||◌, ◌&&◌, not, refl, sym, ◌∙◌, ap, arith, cond}
+use Rattle.vme_trace.specs.Edges.{answer_between, falls_between, rises_between, starts_between, strobe_low_in}
+use Rattle.vme_trace.specs.Edges.{strobe_rises_between, strobes_high_in}
 use Rattle.vme_trace.specs.Instants.{any, none}
 use Rattle.std.proofs.Common.{inl, inr, ◌⊎◌}
 use Rattle.std.specs.Prelude.{None}
@@ -15,13 +17,12 @@ use Rattle.vme_trace.specs.declared.level.Level.{Level}
 use Rattle.vme_trace.specs.declared.level.Level.TheVariants.{Low, High, Unknown}
 use Rattle.vme_trace.proofs.OpenTransfers.{suc-sub-one, is_judged-holds, ReadsStrobes}
 use Rattle.vme_trace.proofs.Ranges.{any-step, clash, fails-any}
-use Rattle.vme_monitor.specs.Edges.{falls_between}
 use Rattle.vme_monitor.specs.Tracked.{Says}
-use Rattle.vme_monitor.specs.Tracking.{answer_between, answered_by, is_unanswered, is_writing, strobe_low_in, strobes_high_in, tracked}
+use Rattle.vme_monitor.specs.Tracking.{answered_by, is_unanswered, is_writing, tracked}
 use Rattle.vme_monitor.specs.declared.tracking.Pending.{Pending}
 use Rattle.vme_monitor.specs.declared.tracking.Pending.TheVariants.{Closed, Reading, Writing, Answered}
 use Rattle.vme_monitor.proofs.TrackedTransfers.{says_start, tracked_is, is_answer_is}
-use Rattle.vme_stability.specs.StabilitySpec.{answers_in, awaits_answer, holds_direction as holds_direction_of, keeps_address, keeps_direction, rises_between, starts_between, stability_begin, stability_rules, stepped, strobe_rises_between}
+use Rattle.vme_stability.specs.StabilitySpec.{answers_in, awaits_answer, holds_direction as holds_direction_of, keeps_address, keeps_direction, stability_begin, stability_rules, stepped}
 use Rattle.vme_stability.specs.declared.holding.Holding.{Holding}
 use Rattle.vme_stability.specs.HoldingPlaces.{has_risen, was_answered, writes_of}
 use Rattle.vme_stability.proofs.Progressing.{directed_by, fresh_here, fresh_more, is_answered_state, is_closed, risen_passed, was_passed}

@@ -1,10 +1,11 @@
 -- The search for a needed line of which nothing is known.
 use Rattle.std.proofs.Common.{◌≡◌, ℕ, ◌+◌, ◌<◌, ◌≤◌, Bool, true, false, ◌&&◌, not, refl, ◌∙◌, arith, inl, inr, ◌⊎◌}
 use Rattle.std.specs.Prelude.{None, Some, nat_le}
-use Rattle.vme_trace.specs.Instants.{any}
+use Rattle.vme_trace.specs.Instants.{any, every}
 use Rattle.vme_trace.specs.LineNumbers.{line_count}
 use Rattle.vme_trace.specs.Cycle.{Needs, is_needed, is_within, needs_of}
 use Rattle.vme_trace.specs.Levels.{Levels, is_known_on}
+use Rattle.vme_trace.proofs.Counting.{least-outside}
 use Rattle.vme_trace.proofs.Ranges.{any-fails, any-step, fails-any, least-is, least-none}
 use Rattle.vme_stability.specs.StabilitySpec.{lacks, unknown_need}
 use Rattle.vme_stability.proofs.Needed.{needed_above, needed_below}
@@ -16,6 +17,11 @@ first_false false b h = refl
 and_false : (a : Bool) → (a && false) ≡ false
 and_false true = refl
 and_false false = refl
+
+pub unknown_one : (a k : Bool) → (a && not k) ≡ true → (a ≡ true) × (k ≡ false)
+unknown_one true true h = absurd (cc)
+unknown_one true false h = (refl, refl)
+unknown_one false k h = absurd (cc)
 
 module _ (v : Levels) where
   outside : (l : ℕ) → (5 ≤ l → l < 45 → ⊥) → lacks v l ≡ false
@@ -36,6 +42,13 @@ module _ (v : Levels) where
       by_place : (l : ℕ) → (l < n) ⊎ (n ≤ l) → lacks v l ≡ false
       by_place l (inl below) = any-fails (lacks v) 0 n l h (omega arith) below
       by_place l (inr above) = outside l (λ x y. omega arith)
+
+  -- where each line that a cycle may need is known, none is lacked
+  pub lacks_known : every (is_known_on v) 5 45 ≡ true → unknown_need v ≡ None
+  unfolding is_needed
+  lacks_known h =
+      least-outside (is_known_on v) (lacks v) 5 45 line_count h
+      (λ l below e. let of = unknown_one (is_within (needs_of v) l) (is_known_on v l) e in (needed_above v l of.0, needed_below v l of.0, of.1))
 
   pub lacks_here : (n : ℕ) → n < 45 → any (lacks v) 0 n ≡ false → lacks v n ≡ true → unknown_need v ≡ Some n
   lacks_here n below h e = least-is (lacks v) 0 line_count n (omega arith) (omega arith) e h

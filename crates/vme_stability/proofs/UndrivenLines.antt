@@ -1,13 +1,15 @@
 -- The search for a data line that is moved and of which nothing is known.
 use Rattle.std.proofs.Common.{◌≡◌, ℕ, ◌+◌, ◌<◌, ◌≤◌, Bool, true, false, ◌&&◌, not, refl, ◌∙◌, arith, inl, inr, ◌⊎◌}
 use Rattle.std.specs.Prelude.{None, Some, nat_le}
-use Rattle.vme_trace.specs.Instants.{any, least}
+use Rattle.vme_trace.specs.Instants.{any, every, least}
 use Rattle.vme_trace.specs.LineNumbers.{line_count}
 use Rattle.vme_trace.specs.Data.{is_selected}
 use Rattle.vme_trace.specs.Levels.{Levels, is_known_on}
+use Rattle.vme_trace.proofs.Counting.{least-outside}
 use Rattle.vme_trace.proofs.Ranges.{any-fails, any-step, fails-any, least-is, least-none}
 use Rattle.vme_stability.specs.StabilitySpec.{is_undriven}
 use Rattle.vme_stability.proofs.HeldData.{selected_from, selected_to}
+use Rattle.vme_stability.proofs.LackedLines.{unknown_one}
 
 first_false : (a b : Bool) → (a ≡ true → ⊥) → (a && b) ≡ false
 first_false true b h = absurd (h refl)
@@ -45,6 +47,12 @@ module _ (v : Levels) where
       by_place l (inl below) = any-fails (is_undriven v) 0 n l h (omega arith) below
       by_place l (inr from) = beyond l (omega arith)
 
+  -- where each data line is known, none is undriven
+  pub undriven_known : every (is_known_on v) 159 191 ≡ true → least (is_undriven v) 0 line_count ≡ None
+  undriven_known h =
+      least-outside (is_known_on v) (is_undriven v) 159 191 line_count h
+      (λ l below e. let of = unknown_one (is_selected v l) (is_known_on v l) e in (selected_from v l of.0, selected_to v l of.0, of.1))
+
   pub undriven_here : (n : ℕ) → n < 191 → any (is_undriven v) 0 n ≡ false → is_undriven v n ≡ true → least (is_undriven v) 0 line_count ≡ Some n
   undriven_here n below h e = least-is (is_undriven v) 0 line_count n (omega arith) (omega arith) e h
 
@@ -63,10 +71,3 @@ module _ (v : Levels) where
 
     pub not_unknown : is_known_on v l ≡ true → is_undriven v n ≡ false
     not_unknown k = rw (← there, k) (and_false (is_selected v l))
-
-  -- where each line below a place is known, and one more is
-  pub known_more : (k b l : ℕ) → l ≡ 159 + b → is_known_on v l ≡ true → (k ≡ b → any (is_undriven v) 0 (159 + b) ≡ false) → k + 1 ≡ b + 1 → any (is_undriven v) 0 (159 + (b + 1)) ≡ false
-  known_more k b l there known so e =
-      let next : 159 + (b + 1) ≡ 159 + b + 1 = omega arith in
-      let same : k ≡ b = omega arith in
-      rw next (undriven_more (159 + b) (so same) (not_unknown (159 + b) l there known))

@@ -2,6 +2,7 @@
 use Rattle.std.proofs.Common.{◌≡◌, ℕ, suc, ◌<◌, ◌≤◌, Bool, true, false, ◌||◌, ◌&&◌, not, List, refl, sym, ◌∙◌, arith, cond, lit<}
 use Rattle.std.specs.Prelude.{Option, None, Some}
 use Rattle.std.specs.Option.{is_some, option_or}
+use Rattle.vme_trace.specs.Edges.{answer_between, rises_between, strobe_low_in, strobe_rises_between, strobes_high_in}
 use Rattle.vme_trace.specs.LineNumbers.{AS, DS0, DS1, WRITE}
 use Rattle.vme_trace.specs.Levels.{Levels, level_at, is_low, is_high, is_known}
 use Rattle.vme_trace.specs.Trace.{Trace, levels_at}
@@ -12,11 +13,10 @@ use Rattle.vme_trace.specs.declared.rule.Rule.TheVariants.{S1, S2}
 use Rattle.vme_trace.specs.declared.step.Change.{Change}
 use Rattle.vme_trace.proofs.Ranges.{clash}
 use Rattle.vme_monitor.specs.Run.{quiet}
-use Rattle.vme_monitor.specs.Tracking.{answer_between, strobe_low_in, strobes_high_in}
 use Rattle.vme_monitor.specs.declared.tracking.Pending.{Pending}
 use Rattle.vme_monitor.specs.declared.tracking.Pending.TheVariants.{Closed, Reading, Writing, Answered}
 use Rattle.vme_monitor.proofs.SpanFacts.{IsSpan}
-use Rattle.vme_stability.specs.StabilitySpec.{address_moved, changes_holding, direction_turned, fault_on, faults_unknown, held_fault, is_noticed, keeps_address, keeps_direction, rises_between, sight_of, shifted_line, stability_next, stepped, strobe_rises_between, undriven_line}
+use Rattle.vme_stability.specs.StabilitySpec.{address_moved, changes_holding, direction_turned, fault_on, faults_unknown, held_fault, is_noticed, keeps_address, keeps_direction, sight_of, shifted_line, stability_next, stepped, undriven_line}
 use Rattle.vme_stability.specs.declared.holding.Holding.{Holding}
 use Rattle.vme_stability.specs.HoldingPlaces.{has_risen, was_answered}
 use Rattle.vme_stability.proofs.Edges.{or_false}

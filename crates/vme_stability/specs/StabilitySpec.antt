@@ -1,9 +1,11 @@
 -- What a step shows of the lines that are asked for and held, from the levels on both sides of it and its changes.
 use Rattle.std.specs.Prelude.{ℕ, Bool, false, not, ◌&&◌, ◌||◌, List, [], ◌∷◌, Option, None, Some, if◌then◌else◌}
 use Rattle.std.specs.Option.{option_or, is_some}
+use Rattle.vme_trace.specs.Edges.{answer_between, falls_between, rises_between, starts_between, strobe_falls_between}
+use Rattle.vme_trace.specs.Edges.{strobe_low_in, strobe_rises_between, strobes_high_in}
 use Rattle.vme_trace.specs.Instants.{least}
-use Rattle.vme_trace.specs.LineNumbers.{line_count, AS, DS0, DS1, WRITE, has_line}
-use Rattle.vme_trace.specs.Levels.{Levels, level_at, is_low, is_high, is_known_on, same_level}
+use Rattle.vme_trace.specs.LineNumbers.{line_count, AS, WRITE, has_line}
+use Rattle.vme_trace.specs.Levels.{Levels, level_at, is_low, is_known_on, same_level}
 use Rattle.vme_trace.specs.Data.{is_selected}
 use Rattle.vme_trace.specs.Cycle.{Needs, is_needed, is_within, needs_of}
 use Rattle.vme_trace.specs.Judged.{Span}
@@ -12,8 +14,6 @@ use Rattle.vme_trace.specs.declared.step.Change.{Change}
 use Rattle.vme_trace.specs.declared.rule.Rule.{Rule}
 use Rattle.vme_trace.specs.declared.rule.Rule.TheVariants.{U2, U3, U4, S1, S2, S3}
 use Rattle.vme_monitor.specs.Run.{nothing}
-use Rattle.vme_monitor.specs.Edges.{falls_between}
-use Rattle.vme_monitor.specs.Tracking.{strobes_high_in, strobe_low_in, answer_between}
 use Rattle.vme_monitor.specs.declared.mark.Fault.{Fault}
 use Rattle.vme_monitor.specs.declared.mark.Kinds.{Kinds}
 use Rattle.vme_monitor.specs.declared.mark.Next.{Next}
@@ -25,19 +25,6 @@ use Rattle.vme_stability.specs.declared.sight.Sight.{Sight}
 
 abbrev pub stability_rules : List Rule
 stability_rules = U2 ∷ U3 ∷ U4 ∷ S1 ∷ S2 ∷ S3 ∷ []
-
-abbrev pub rises_between : Levels → Levels → ℕ → Bool
-rises_between v w l = is_low (level_at v l) && is_high (level_at w l)
-
-abbrev pub strobe_rises_between : Levels → Levels → Bool
-strobe_rises_between v w = rises_between v w DS0 || rises_between v w DS1
-
-abbrev pub strobe_falls_between : Levels → Levels → Bool
-strobe_falls_between v w = falls_between v w DS0 || falls_between v w DS1
-
--- a transfer starts
-abbrev pub starts_between : Levels → Levels → Bool
-starts_between v w = strobes_high_in v && strobe_low_in w
 
 abbrev pub fault_at : Rule → ℕ → Fault
 fault_at r l = record { rule = r; line = l }

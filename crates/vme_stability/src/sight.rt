@@ -1,23 +1,22 @@
 //! What a step shows of the lines that are asked for and held, whatever is remembered.
 
-ghost use Rattle.std.specs.Prelude.{◌≡◌, IsTrue, None, false, true};
+ghost use Rattle.std.specs.Prelude.{◌≡◌, None, false, true};
 ghost use Rattle.vme_trace.specs.Cycle.{Needs};
 ghost use Rattle.vme_trace.specs.Instants.{least};
 ghost use Rattle.vme_trace.specs.Levels.{Levels};
-ghost use Rattle.vme_trace.specs.LineNumbers.{has_line, line_count};
-ghost use Rattle.vme_monitor.specs.Edges.{falls_between};
-ghost use Rattle.vme_monitor.specs.Tracking.{strobe_low_in};
+ghost use Rattle.vme_trace.specs.LineNumbers.{line_count};
 ghost use Rattle.vme_stability.specs.StabilitySpec.{address_moved, changes_holding as changes_holding_of};
-ghost use Rattle.vme_stability.specs.StabilitySpec.{direction_turned, fault_on as fault_on_line, faults_unknown};
+ghost use Rattle.vme_stability.specs.StabilitySpec.{fault_on as fault_on_line, faults_unknown};
 ghost use Rattle.vme_stability.specs.StabilitySpec.{first_among, first_needed as first_needed_of, is_shifted};
-ghost use Rattle.vme_stability.specs.StabilitySpec.{is_undriven, may_write as may_write_of, rises_between};
-ghost use Rattle.vme_stability.specs.StabilitySpec.{shifted_line as shifted_line_of, starts_between};
-ghost use Rattle.vme_stability.specs.StabilitySpec.{strobe_falls_between, strobe_rises_between};
+ghost use Rattle.vme_stability.specs.StabilitySpec.{is_undriven, may_write as may_write_of};
+ghost use Rattle.vme_stability.specs.StabilitySpec.{shifted_line as shifted_line_of};
 ghost use Rattle.vme_stability.specs.StabilitySpec.{undriven_line as undriven_line_of};
 ghost use Rattle.vme_stability.specs.StabilitySpec.{unknown_direction as unknown_direction_of, unknown_need};
 
 use vme_monitor::mark::Fault;
-use vme_monitor::tracking::{answer_between, has_strobes_high};
+use vme_trace::edges::{
+    answer_falls, falls, has_strobes_high, rises, starts_transfer, strobe_falls, strobe_rises,
+};
 use vme_trace::{Change, Line, LineSet, Lines, Rule, is_selected, needed};
 
 /// What one step shows.
@@ -36,45 +35,6 @@ pub struct Sight {
     pub shifted: Option<Line>,
 }
 
-/// Whether a line that the backplane has falls.
-fn falls(line: Line, before: &Lines, after: &Lines) -> bool
-    requires before { IsTrue (has_line before.now.slots line) }
-    requires after { IsTrue (has_line after.now.slots line) }
-    ensures { result ≡ falls_between before.now after.now line }
-{
-    after.level(line).is_low() && before.level(line).is_high()
-}
-
-/// Whether a line that the backplane has rises.
-pub(crate) fn rises(line: Line, before: &Lines, after: &Lines) -> bool
-    requires before { IsTrue (has_line before.now.slots line) }
-    requires after { IsTrue (has_line after.now.slots line) }
-    ensures { result ≡ rises_between before.now after.now line }
-{
-    before.level(line).is_low() && after.level(line).is_high()
-}
-
-/// Whether a data strobe rises.
-pub(crate) fn strobe_rises(before: &Lines, after: &Lines) -> bool
-    ensures { result ≡ strobe_rises_between before.now after.now }
-{
-    rises(Line::DS0, before, after) || rises(Line::DS1, before, after)
-}
-
-/// Whether a data strobe is low.
-pub(crate) fn has_strobe_low(lines: &Lines) -> bool
-    ensures { result ≡ strobe_low_in lines.now }
-{
-    lines.level(Line::DS0).is_low() || lines.level(Line::DS1).is_low()
-}
-
-/// Whether a transfer starts: both data strobes were high, and one is low.
-fn starts_transfer(before: &Lines, after: &Lines) -> bool
-    ensures { result ≡ starts_between before.now after.now }
-{
-    has_strobe_low(after) && has_strobes_high(before)
-}
-
 /// A rule that is broken on a line, if there is one.
 pub(crate) fn fault_on(rule: Rule, line: Option<Line>) -> Option<Fault>
     ensures { result ≡ fault_on_line rule line }
@@ -85,28 +45,11 @@ pub(crate) fn fault_on(rule: Rule, line: Option<Line>) -> Option<Fault>
     }
 }
 
-/// Whether the lines that cycles need are all known: then no cycle lacks one. They are counted, so that the work is
-/// that of a few vectors.
-#[inline(always)]
-fn has_known_needs(lines: &Lines) -> bool
-    ensures { result ≡ true → unknown_need lines.now ≡ None }
-{
-    let mut known = 0u8;
-    for number in 5..45u8 {
-        if let Some(line) = Line::from_number(number) {
-            if lines.level(line).is_known() {
-                known += 1;
-            }
-        }
-    }
-    known == 40
-}
-
 /// The least line of which nothing is known, among those that a cycle needs whose address strobe falls at these levels.
 fn unknown_needed(lines: &Lines) -> Option<Line>
     ensures { result ≡ unknown_need lines.now }
 {
-    if has_known_needs(lines) {
+    if lines.are_known(Line::IACK, Line::address(31)) {
         return None;
     }
     let needed = needed(lines);
@@ -136,7 +79,7 @@ fn unknown_direction(before: &Lines, after: &Lines) -> Option<Line>
 fn fault_of_unknown(before: &Lines, after: &Lines) -> Option<Fault>
     ensures { result ≡ faults_unknown before.now after.now }
 {
-    if falls(Line::AS, before, after) {
+    if falls(before, after, Line::AS) {
         if let Some(line) = unknown_needed(after) {
             return Some(Fault {
                 rule: Rule::U2,
@@ -186,13 +129,6 @@ fn moved_line(others: bool, before: &Lines, changes: &[Change]) -> Option<Line>
     }
 }
 
-/// Whether a data strobe falls.
-fn strobe_falls(before: &Lines, after: &Lines) -> bool
-    ensures { result ≡ strobe_falls_between before.now after.now }
-{
-    falls(Line::DS0, before, after) || falls(Line::DS1, before, after)
-}
-
 /// Whether the transfer after a step may be a write: it was open, or WRITE* is low as it starts.
 fn may_write(before: &Lines, after: &Lines) -> bool
     ensures { result ≡ may_write_of before.now after.now }
@@ -200,26 +136,11 @@ fn may_write(before: &Lines, after: &Lines) -> bool
     !has_strobes_high(before) || after.level(Line::WRITE).is_low()
 }
 
-/// Whether all data lines are known: then no transfer lacks one. They are counted, so that the work is that of a few
-/// vectors.
-#[inline(always)]
-fn has_known_data(lines: &Lines) -> bool
-    ensures { result ≡ true → least (is_undriven lines.now) 0 line_count ≡ None }
-{
-    let mut known = 0u8;
-    for bit in 0..32u8 {
-        if lines.level(Line::data(bit)).is_known() {
-            known += 1;
-        }
-    }
-    known == 32
-}
-
 /// The least line that is moved and of which nothing is known.
 fn least_undriven(lines: &Lines) -> Option<Line>
     ensures { result ≡ least (is_undriven lines.now) 0 line_count }
 {
-    if has_known_data(lines) {
+    if lines.are_known(Line::data(0), Line::data(31)) {
         return None;
     }
     for bit in 0..32 {
@@ -294,7 +215,7 @@ fn shifted_line(others: bool, before: &Lines, after: &Lines, changes: &[Change])
 fn changes_holding(before: &Lines, after: &Lines) -> bool
     ensures { result ≡ changes_holding_of before.now after.now }
 {
-    answer_between(before, after) || strobe_rises(before, after) || rises(Line::AS, before, after)
+    answer_falls(before, after) || strobe_rises(before, after) || rises(before, after, Line::AS)
 }
 
 impl Sight {

@@ -9,11 +9,11 @@ ghost use Rattle.vme_stability.specs.StabilitySpec.{keeps_data as keeps_data_in,
 ghost use Rattle.vme_stability.specs.StabilitySpec.{passed_in, stability_shown, stepped, undriven_fault, writes_now};
 
 use crate::holding::{Holding, Progress};
-use crate::sight::{Sight, fault_on, has_strobe_low, rises, strobe_rises};
+use crate::sight::{Sight, fault_on};
 use vme_monitor::mark::{Fault, Kinds, NOTHING, Next};
 use vme_monitor::monitor::Monitor;
 use vme_monitor::spanned::{Rules, Within};
-use vme_monitor::tracking::{answer_between, has_strobes_high};
+use vme_trace::edges::{answer_falls, has_strobe_low, has_strobes_high, rises, strobe_rises};
 use vme_trace::{Change, Line, Lines, Rule};
 
 /// The rules that lines are known as they are asked for, and then held.
@@ -28,7 +28,7 @@ impl Holding {
         ensures { result ≡ answers_in self before.now after.now }
     {
         !self.transfer.was_answered()
-            && answer_between(before, after)
+            && answer_falls(before, after)
             && (!has_strobes_high(before) || has_strobe_low(after))
     }
 
@@ -44,7 +44,7 @@ impl Holding {
         ensures { result ≡ keeps_address self before.now after.now }
     {
         self.awaits_answer(before)
-            && !rises(Line::AS, before, after)
+            && !rises(before, after, Line::AS)
             && !self.is_answer(before, after)
     }
 
@@ -64,7 +64,7 @@ impl Holding {
         if has_strobes_high(after) {
             return Progress::Fresh;
         }
-        let answers = answer_between(before, after);
+        let answers = answer_falls(before, after);
         let rises = strobe_rises(before, after);
         if !answers && !rises {
             return self.transfer;
@@ -110,7 +110,7 @@ impl Holding {
     {
         self.keeps_direction(before, after)
             && !self.transfer.was_answered()
-            && !answer_between(before, after)
+            && !answer_falls(before, after)
     }
 
     /// Whether the transfer after a step is a write that had no answer before.

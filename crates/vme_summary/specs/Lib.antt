@@ -4,7 +4,6 @@ pub mod Runs
 pub mod Summaries
 pub mod HasRoom
 pub mod Stands
-pub mod Joint
 pub mod AllShown
 pub mod Leading
 pub mod MarkedRows

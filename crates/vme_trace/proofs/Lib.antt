@@ -1,6 +1,8 @@
 pub mod AnswerData
 pub mod Changing
+pub mod Counting
 pub mod CutBlocks
+pub mod EveryRule
 pub mod IdleLines
 pub mod JudgedSpans
 pub mod NameLaws

@@ -1,17 +1,18 @@
 -- Lines and rules differ in their names.
 use Rattle.std.proofs.Common.{◌≡◌, ℕ, ◌<◌, ◌≤◌, Bool, true, false, not, List, [], ◌∷◌, map, refl, sym, ◌∙◌, ap, arith, inl, inr, ◌⊎◌, get_or, cond}
-use Rattle.std.specs.Prelude.{Option, None, Some, IfSome, bytes_eq, decimal, find, nat_lt}
+use Rattle.std.specs.Prelude.{Option, None, Some, IfSome, ◌==◌, bytes_eq, decimal, find, nat_lt}
 use Rattle.std.specs.Fmt.{digits}
 use Rattle.std.specs.List.{range_with_len}
+use Rattle.std.proofs.lemmas.Bool.{eqb-true}
 use Rattle.std.proofs.lemmas.Bool.Decides.{nat_tests}
 use Rattle.std.proofs.lemmas.List.FromFn.{get_or-map-range_with_len}
 use Rattle.std.proofs.lemmas.Slice.Eq.{bytes_eq-Decides}
 use Rattle.vme_trace.specs.Instants.{any, none, every}
 use Rattle.vme_trace.specs.LineNumbers.{line_count}
-use Rattle.vme_trace.specs.Names.{two_digits, line_name, line_named, is_line_name, rule_name, rule_named, is_rule_name}
+use Rattle.vme_trace.specs.Names.{two_digits, line_name, line_named, is_line_name, rule_name, rule_named, rule_number, is_rule_name}
 use Rattle.vme_trace.specs.Verdict.{all_rules}
 use Rattle.vme_trace.specs.declared.rule.Rule.{Rule}
-use Rattle.vme_trace.specs.declared.rule.Rule.TheVariants.{U1, U2, U3, U4, H1, H2, H3, H4, H5, H6, H7, H8, S1, S2, S3, C1, C2, G1, G2, G3, G4, G5, B1, B2, B3, B4, I1, I2, I3, I4, I5}
+use Rattle.vme_trace.proofs.EveryRule.{every-rule, same-rule}
 use Rattle.vme_trace.proofs.Ranges.{any-fails, least-is, least-none, least-found, fails-any, clash}
 
 numbers : map (λ n. cond (nat_lt n 10) (two_digits n) (decimal n)) (range_with_len 0 100) ≡ map two_digits (range_with_len 0 100)
@@ -89,39 +90,17 @@ pub line_named-found : (n : ℕ) (name : List ℕ) → line_named name ≡ Some 
 unfolding line_named
 line_named-found n name e = let found = least-found (is_line_name name) 0 line_count n e in (found.below, same_text _ _ found.holds)
 
+abbrev is_found : Rule → Option Rule → Bool
+is_found r None = false
+is_found r (Some q) = rule_number q == rule_number r
+
 own : (r : Rule) → rule_named (rule_name r) ≡ Some r
 unfolding rule_named
-own U1 = refl
-own U2 = refl
-own U3 = refl
-own U4 = refl
-own H1 = refl
-own H2 = refl
-own H3 = refl
-own H4 = refl
-own H5 = refl
-own H6 = refl
-own H7 = refl
-own H8 = refl
-own S1 = refl
-own S2 = refl
-own S3 = refl
-own C1 = refl
-own C2 = refl
-own G1 = refl
-own G2 = refl
-own G3 = refl
-own G4 = refl
-own G5 = refl
-own B1 = refl
-own B2 = refl
-own B3 = refl
-own B4 = refl
-own I1 = refl
-own I2 = refl
-own I3 = refl
-own I4 = refl
-own I5 = refl
+own r = by_found (rule_named (rule_name r)) refl (every-rule (λ q. is_found q (rule_named (rule_name q))) refl r)
+  where
+    by_found : (o : Option Rule) → rule_named (rule_name r) ≡ o → is_found r o ≡ true → rule_named (rule_name r) ≡ Some r
+    by_found None e h = absurd (cc)
+    by_found (Some q) e h = e ∙ ap Some (same-rule q r (eqb-true (rule_number q) (rule_number r) h))
 
 pub rule_named-is : (r : Rule) (name : List ℕ) → rule_name r ≡ name → rule_named name ≡ Some r
 rule_named-is r name e = ap rule_named (sym e) ∙ own r

@@ -1,13 +1,15 @@
 -- What the lines say of a cycle as the address strobe falls: the class of the cycle, and the lines
 -- that it needs.
 use Rattle.std.specs.Prelude.{ℕ, Bool, true, false, not, ◌==◌, ◌+◌, ◌*◌, ◌&&◌, ◌||◌, List, [], ◌∷◌, nat_le}
-use Rattle.std.specs.Prelude.{if◌then◌else◌}
+use Rattle.std.specs.Prelude.{Option, None, Some, if◌then◌else◌}
 use Rattle.std.specs.List.{list_any}
 use Rattle.vme_trace.specs.Instants.{every}
 use Rattle.vme_trace.specs.LineNumbers.{AM, A, IACK, LWORD}
 use Rattle.vme_trace.specs.Levels.{Levels, level_at, is_low, is_high_on, is_known_on}
 use Rattle.vme_trace.specs.declared.class.Class.{Class}
 use Rattle.vme_trace.specs.declared.class.Class.TheVariants as class
+use Rattle.vme_trace.specs.declared.cycle.Space.{Space}
+use Rattle.vme_trace.specs.declared.cycle.Space.TheVariants.{Short, Standard, Extended}
 
 -- the weight of bit n of the address modifier code, a high line being 1
 abbrev pub modifier_bit : Levels → ℕ → ℕ
@@ -31,6 +33,13 @@ is_short code = is_among (0x29 ∷ 0x2D ∷ []) code
 
 abbrev pub is_block : ℕ → Bool
 is_block code = is_among (0x0B ∷ 0x0F ∷ 0x3B ∷ 0x3F ∷ []) code
+
+-- the highest address line that is meaningful in a space, or 0 where an address is of none
+abbrev pub highest_in : Option Space → ℕ
+highest_in None = 0
+highest_in (Some Short) = 15
+highest_in (Some Standard) = 23
+highest_in (Some Extended) = 31
 
 -- the number of the highest address line that a code makes meaningful, or 0 where it makes none so
 unfoldable pub highest_address : ℕ → ℕ

@@ -4,6 +4,7 @@ pub mod Changes
 pub mod Cycle
 pub mod Cycles
 pub mod Data
+pub mod Edges
 pub mod Followed
 pub mod Instants
 pub mod Judged

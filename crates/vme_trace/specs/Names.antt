@@ -1,6 +1,7 @@
 -- The names of the lines and of the rules: their bytes in ASCII. A line's name has no asterisk.
 use Rattle.std.specs.Prelude.{ℕ, Bool, ◌+◌, ◌-◌, ◌/◌, ◌%◌, ◌==◌, List, [], ◌∷◌, ◌++◌, Option, codes, decimal, bytes_eq}
 use Rattle.std.specs.Prelude.{find, nat_lt, if◌then◌else◌}
+use Rattle.std.specs.List.{position_or_len}
 use Rattle.vme_trace.specs.Instants.{least}
 use Rattle.vme_trace.specs.LineNumbers.{line_count, AS, DS0, DS1, DTACK, BERR, IACK, AM, LWORD, WRITE, A, BBSY, BR}
 use Rattle.vme_trace.specs.LineNumbers.{grant, iack, D, SYSRESET, grant_level, grant_place}
@@ -76,6 +77,10 @@ rule_name I5 = codes "I5"
 
 abbrev pub is_rule_name : List ℕ → Rule → Bool
 is_rule_name name r = bytes_eq (rule_name r) name
+
+-- the place of a rule among all
+abbrev pub rule_number : Rule → ℕ
+rule_number r = position_or_len (is_rule_name (rule_name r)) all_rules
 
 -- the rule that has a name
 unfoldable pub rule_named : List ℕ → Option Rule

@@ -1,6 +1,6 @@
-ghost use Rattle.std.specs.Prelude.{◌≡◌, ℕ, ◌<◌, ◌≤◌};
+ghost use Rattle.std.specs.Prelude.{◌≡◌, ◌<◌, ◌≤◌};
 ghost use Rattle.vme_trace.specs.Cycle.{modifier_bit, modifier_of, highest_address, class_of, needs_of};
-ghost use Rattle.vme_trace.specs.Cycle.{has_known_modifier};
+ghost use Rattle.vme_trace.specs.Cycle.{has_known_modifier, is_block};
 
 use crate::class::Class;
 use crate::line::Line;
@@ -85,18 +85,52 @@ fn is_modifier_known(lines: &Lines) -> bool
     true
 }
 
+/// A space of addresses, by how many address lines are meaningful.
+#[derive(Clone, Copy, Debug, PartialEq, Eq)]
+pub enum Space {
+    /// Short, of 16 bits: A01 to A15.
+    Short,
+    /// Standard, of 24 bits: A01 to A23.
+    Standard,
+    /// Extended, of 32 bits: A01 to A31.
+    Extended,
+}
+
+impl Space {
+    ghost use Rattle.vme_trace.specs.Cycle.{highest_in};
+
+    /// The space of an address modifier code, if it is a code of one.
+    #[tactic(auto, unfolding(crate::specs::Cycle::highest_address))]
+    pub fn of(modifier: u8) -> Option<Space>
+        ensures { highest_address modifier ≡ highest_in result }
+    {
+        match modifier {
+            0x09 | 0x0A | 0x0B | 0x0D | 0x0E | 0x0F => Some(Space::Extended),
+            0x39 | 0x3A | 0x3B | 0x3D | 0x3E | 0x3F => Some(Space::Standard),
+            0x29 | 0x2D => Some(Space::Short),
+            _ => None,
+        }
+    }
+}
+
 /// The highest address line that a code makes meaningful, 31, 23 or 15, or 0 where it makes none so.
-#[tactic(auto, unfolding(crate::specs::Cycle::highest_address))]
 fn highest_address(code: u8) -> u8
     ensures highest { result ≡ highest_address code }
     ensures last { result ≤ 31 }
 {
-    match code {
-        0x09 | 0x0A | 0x0B | 0x0D | 0x0E | 0x0F => 31,
-        0x39 | 0x3A | 0x3B | 0x3D | 0x3E | 0x3F => 23,
-        0x29 | 0x2D => 15,
-        _ => 0,
+    match Space::of(code) {
+        Some(Space::Extended) => 31,
+        Some(Space::Standard) => 23,
+        Some(Space::Short) => 15,
+        None => 0,
     }
+}
+
+/// Whether an address modifier code is one of block transfers.
+pub fn is_block(modifier: u8) -> bool
+    ensures { result ≡ is_block modifier }
+{
+    matches!(modifier, 0x0B | 0x0F | 0x3B | 0x3F)
 }
 
 /// The class of a cycle whose address strobe falls at these levels: an interrupt acknowledge, a block
@@ -112,10 +146,12 @@ pub fn am_class(lines: &Lines) -> Class
         return Class::F;
     }
     let code = am_code(lines);
-    match code {
-        0x0B | 0x0F | 0x3B | 0x3F => Class::K,
-        _ if highest_address(code) == 0 => Class::F,
-        _ => Class::S,
+    if is_block(code) {
+        Class::K
+    } else if highest_address(code) == 0 {
+        Class::F
+    } else {
+        Class::S
     }
 }
 

@@ -1,4 +1,4 @@
-ghost use Rattle.std.specs.Prelude.{◌≡◌, ℕ, ◌+◌, ◌*◌, ◌<◌, ◌≤◌, SomeIff, IsTrue, replicate};
+ghost use Rattle.std.specs.Prelude.{◌≡◌, ◌+◌, ◌*◌, ◌<◌, ◌≤◌, SomeIff, IsTrue, replicate};
 ghost use Rattle.vme_trace.specs.declared.level.Level.TheVariants.{Unknown};
 
 use crate::level::Level;
@@ -17,7 +17,7 @@ pub struct Lines {
 }
 
 impl Model for Lines {
-    ghost use Rattle.std.specs.Prelude.{ℕ, ◌≤◌};
+    ghost use Rattle.std.specs.Prelude.{◌≤◌};
     ghost use Rattle.vme_trace.specs.Levels.{Levels};
 
     ghost Value = { Levels };
@@ -175,18 +175,20 @@ impl Lines {
         true
     }
 
-    /// Whether the lines of some numbers, first and last included, are all known.
-    #[tactic(auto, using(crate::proofs::Ranges::searches))]
-    fn are_known(&self, first: Line, last: Line) -> bool
+    /// Whether the lines of some numbers, first and last included, are all known. They are counted, so that the work is
+    /// that of a few vectors.
+    #[inline(always)]
+    pub fn are_known(&self, first: Line, last: Line) -> bool
         requires { first ≤ last }
         ensures { result ≡ every (is_known_on self.now) first (last + 1) }
     {
+        let mut known = 0u8;
         for number in first.number()..last.number() + 1 {
-            if !self.at(number).is_known() {
-                return false;
+            if self.at(number).is_known() {
+                known += 1;
             }
         }
-        true
+        known == last.number() - first.number() + 1
     }
 
     /// Whether no net of a bus grant level is low or unknown.

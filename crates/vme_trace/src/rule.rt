@@ -76,8 +76,9 @@ pub enum Rule {
 pub const RULE_COUNT: usize = 31;
 
 impl Rule {
-    ghost use Rattle.vme_trace.specs.Names.{rule_name, rule_named};
-    ghost use Rattle.vme_trace.specs.Verdict.{is_unreadable};
+    ghost use Rattle.std.specs.Prelude.{slice_get};
+    ghost use Rattle.vme_trace.specs.Names.{rule_name, rule_named, rule_number};
+    ghost use Rattle.vme_trace.specs.Verdict.{all_rules, is_unreadable};
     ghost use Rattle.vme_trace.specs.declared.rule.Rule.{Rule};
 
     /// All rules, in the order in which breaks at one instant are named.
@@ -114,6 +115,14 @@ impl Rule {
         Rule::I4,
         Rule::I5,
     ];
+
+    /// The place of the rule among all, from 0.
+    pub fn number(self) -> u8
+        ensures number { result ≡ rule_number self }
+        ensures there { slice_get all_rules result ≡ Some self }
+    {
+        self as u8
+    }
 
     /// Whether a break of the rule says that a recording can't be read on, and not that it is wrong.
     pub fn is_unreadable(self) -> bool

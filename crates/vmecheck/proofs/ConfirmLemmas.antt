@@ -7,13 +7,16 @@ use Rattle.vme_bind.specs.Binding.{BoundLines}
 use Rattle.vme_bind.specs.declared.fault.BindFault.{BindFault}
 use Rattle.vme_trace.specs.Trace.{Trace}
 use Rattle.vme_listing.specs.Listed.{Listed}
+use Rattle.vme_listing.specs.Reading.{IsFirstFault, IsNoListing}
+use Rattle.vme_listing.specs.declared.fault.ListFault.{ListFault}
+use Rattle.vme_listing.specs.declared.fault.ListFault.TheVariants as list
 use Rattle.vme_cert.specs.declared.compare.Answer.{Answer as Confirmation}
 use Rattle.vme_cert.specs.declared.compare.Answer.TheVariants.{Yes, No}
 use Rattle.vme_answer.specs.Answers.{Answer, Gives, binding_read, dump_read, recorded_by}
 use Rattle.vmecheck.specs.Confirmations.{Confirms, GivesConfirmation, GivesRows, IsConfirmation, IsFound, IsListing, compared, compared_with, confirmation_answer_by, confirmation_status, listing_text, TellsConfirmation}
 use Rattle.vme_answer.specs.Ends.{Tells, Ends}
 use Rattle.vme_stream.specs.Inputs.{IsInTime, IsReading, TellsWhole, longest_input}
-use Rattle.vme_answer.specs.Refusals.{refused}
+use Rattle.vme_answer.specs.Refusals.{listing_refusal, refused}
 use Rattle.vme_stream.specs.declared.input.InFault.{InFault}
 use Rattle.vme_stream.specs.declared.input.InFault.TheVariants as read
 use Rattle.vme_answer.specs.declared.refusal.Input.TheVariants.{Listing}
@@ -53,6 +56,13 @@ dump_lacks bound dump listing r is = compared_is bound dump listing ∙ ap (λ (
 pub listing_lacks : (recorded : Result Trace BindFault) (r : Refusal) → GivesConfirmation (Err r) (compared_with recorded (Err r))
 listing_lacks recorded Memory = tt
 listing_lacks recorded r = refl
+
+-- a text that is no listing's has its first fault
+pub listing_fault : (text : List ℕ) (fault : ListFault) → IsFirstFault text fault → IsNoListing text fault → GivesRows (Ok text) (Err (listing_refusal fault))
+listing_fault text list.BadHeader first none = (list.BadHeader, refl, first, none)
+listing_fault text (list.BadRow row) first none = (list.BadRow row, refl, first, none)
+listing_fault text (list.Unsorted row) first none = (list.Unsorted row, refl, first, none)
+listing_fault text list.Memory first none = tt
 
 pub listing_refused : {A : Type 0} (old new : Reading) (result : Result A InFault) (fault : InFault) → result ≡ Err fault
     → (result ≡ Err read.Read → IsReading old new None)

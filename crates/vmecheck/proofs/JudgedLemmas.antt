@@ -7,7 +7,6 @@ use Rattle.vme_trace.specs.Blocks.{block_count}
 use Rattle.vme_trace.specs.Trace.{Trace}
 use Rattle.vme_trace.specs.Verdict.{rules_in_force, verdict_by}
 use Rattle.vme_trace.specs.WellFormed.{capture_limit}
-use Rattle.vme_trace.specs.declared.verdict.Verdict.{Verdict}
 use Rattle.vme_summary.specs.declared.watch.NoVerdict.{NoVerdict}
 use Rattle.vme_summary.specs.declared.watch.NoVerdict.TheVariants.{TooManySteps, TooManyBlocks, Memory}
 use Rattle.vme_answer.specs.Answers.{Gives, judgement_of, or_bad_binding, recording_read, verdict_in_blocks}

@@ -18,7 +18,7 @@ use Rattle.vme_listing.specs.declared.row.Row.{Row}
 use Rattle.vme_listing.specs.declared.row.Row.TheVariants.{Verdict}
 use Rattle.vme_answer.specs.declared.refusal.Refusal.{Refusal}
 use Rattle.vme_answer.specs.declared.refusal.Refusal.TheVariants.{Memory}
-use Rattle.vme_answer.specs.Answers.{Answer, Gives, capture_read, recording_read}
+use Rattle.vme_answer.specs.Answers.{Gives, capture_read, recording_read}
 use Rattle.vme_answer.specs.Ends.{Tells}
 use Rattle.vme_answer.specs.Texts.{verdict_status}
 use Rattle.vme_answer.proofs.AnswerLemmas.{capture_read-recorded}

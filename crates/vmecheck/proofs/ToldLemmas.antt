@@ -1,6 +1,5 @@
 -- What a command writes of a dump that is refused.
-use Rattle.std.proofs.Common.{◌≡◌, ℕ, List}
-use Rattle.std.specs.Prelude.{Result, Ok, Err}
+use Rattle.std.specs.Prelude.{Result, Err}
 use Rattle.vcd_read.specs.Contents.{Contents}
 use Rattle.vme_answer.specs.Answers.{Gives}
 use Rattle.vmecheck.specs.Told.{IsBindingFor, IsTextOf}

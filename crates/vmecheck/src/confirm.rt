@@ -1,6 +1,6 @@
 //! Whether a listing is that of a recording.
 
-ghost use Rattle.std.specs.Prelude.{◌≡◌, ◌≢◌, ◌↔◌, ℕ, suc, List, Option, Ok, Result};
+ghost use Rattle.std.specs.Prelude.{◌≡◌, ◌≢◌, ◌↔◌, ℕ, suc, List, Option, Ok, Err, Result};
 ghost use Rattle.vme_listing.specs.Listed.{Listed};
 ghost use Rattle.vme_answer.specs.Answers.{binding_read, dump_read};
 ghost use Rattle.vmecheck.specs.Confirmations.{Confirms, GivesConfirmation, GivesRows, TellsConfirmation, compared};
@@ -14,8 +14,8 @@ ghost use Rattle.vme_answer.specs.declared.refusal.Refusal.{Refusal};
 use std::alloc::Global;
 use vme_answer::{Input, Refusal, binding_from, cannot_write_line, recorded_from, refusal_line};
 use vme_bind::{BindFault, Binding};
-use vme_cert::{Answer, confirm};
-use vme_listing::{Listing, read_listing};
+use vme_cert::{Answer, confirm_text};
+use vme_listing::read_listing;
 use vme_stream::{Message, complain, read_all, write_message};
 use vme_trace::{Capture, Sink, Source};
 
@@ -136,51 +136,47 @@ fn comparison_recorded<L: Source>(
         × GivesRows (listing_text listing_bytes) given
         × GivesConfirmation result (compared_with recorded given) }
 {
-    match listing_from(alloc, listing) {
-        Ok(rows) => comparison_listed(alloc, recorded, &rows),
-        Err(refusal) => Err(refusal),
-    }
-}
-
-fn comparison_listed(
-    alloc: Global,
-    recorded: Result<Capture, BindFault>,
-    listing: &Listing,
-) -> Result<Answer, Refusal>
-    ensures { GivesConfirmation result (compared_with recorded (Ok listing.now)) }
-{
-    match recorded {
-        Ok(capture) => compare(alloc, &capture, listing),
-        Err(fault) => Err(Refusal::BadBinding(fault)),
-    }
-}
-
-fn compare(alloc: Global, capture: &Capture, listing: &Listing) -> Result<Answer, Refusal>
-    ensures { GivesConfirmation result (Ok (listing.now, capture.now)) }
-{
-    match confirm(alloc, capture, listing) {
-        Ok(found) => Ok(found),
-        Err(_) => Err(Refusal::Memory),
-    }
-}
-
-fn listing_from<R: Source>(alloc: Global, source: &mut R) -> Result<Listing, Refusal>
-    ensures { (bytes : Option (List ℕ))
-        × IsReading (R.reading source.old) (R.reading source.new) bytes
-        × GivesRows (listing_text bytes) result }
-{
-    match read_all(alloc, source) {
-        Ok(text) => listing_in(alloc, text.as_slice()),
+    match read_all(alloc, listing) {
+        Ok(text) => comparison_read(alloc, recorded, text.as_slice()),
         Err(fault) => Err(Refusal::of_input(Input::Listing, fault)),
     }
 }
 
-fn listing_in(alloc: Global, text: &[u8]) -> Result<Listing, Refusal>
-    ensures { GivesRows (Ok text.now) result }
+/// Compares the text of a listing with that of a recording, or names the text's first fault, or else why there is no
+/// recording.
+fn comparison_read(
+    alloc: Global,
+    recorded: Result<Capture, BindFault>,
+    text: &[u8],
+) -> Result<Answer, Refusal>
+    ensures { (given : Result Listed Refusal) × GivesRows (Ok text.now) given
+        × GivesConfirmation result (compared_with recorded given) }
+{
+    match recorded {
+        Ok(capture) => compare(alloc, &capture, text),
+        Err(fault) => Err(missing_recording(alloc, fault, text)),
+    }
+}
+
+fn compare(alloc: Global, capture: &Capture, text: &[u8]) -> Result<Answer, Refusal>
+    ensures { (given : Result Listed Refusal) × GivesRows (Ok text.now) given
+        × GivesConfirmation result (compared_with (Ok capture.now) given) }
+{
+    match confirm_text(alloc, capture, text) {
+        Ok(found) => Ok(found),
+        Err(fault) => Err(Refusal::of_listing(fault)),
+    }
+}
+
+/// Why nothing is compared where the binding makes no recording: the first fault of the listing's text, or else that of
+/// the binding.
+fn missing_recording(alloc: Global, fault: BindFault, text: &[u8]) -> Refusal
+    ensures { (given : Result Listed Refusal) × GivesRows (Ok text.now) given
+        × GivesConfirmation (Err result) (compared_with (Err fault) given) }
 {
     match read_listing(alloc, text) {
-        Ok(listing) => Ok(listing),
-        Err(fault) => Err(Refusal::of_listing(fault)),
+        Ok(_listing) => Refusal::BadBinding(fault),
+        Err(fault) => Refusal::of_listing(fault),
     }
 }
 

@@ -1,8 +1,9 @@
 -- A line that was looked at is undriven where it is moved and not known.
-use Rattle.std.proofs.Common.{◌∙◌, ap, sym, arith, Some}
-use Rattle.vme_trace.specs.Levels.{is_known}
+use Rattle.std.proofs.Common.{ℕ, ◌+◌, ◌∙◌, ap, sym, arith, Some}
+use Rattle.vme_trace.specs.Instants.{every}
+use Rattle.vme_trace.specs.Levels.{is_known, is_known_on}
 use Rattle.vme_trace.specs.LineNumbers.{D}
-use Rattle.vme_stability.proofs.UndrivenLines.{next_line, not_moved, not_unknown, undriven_first, undriven_here, undriven_more, undriven_none, undriven_there}
+use Rattle.vme_stability.proofs.UndrivenLines.{next_line, not_moved, not_unknown, undriven_first, undriven_here, undriven_known, undriven_more, undriven_none, undriven_there}
 use Rattle.vme_stability.proofs.sight.least_undriven.Goals as goal
 use Rattle.vme_stability.proofs.sight.least_undriven.Goals.{else-not-is_known-via-then-not-is_known+else-is_selected, else-not-is_known-via-else-not-is_known}
 
@@ -29,5 +30,10 @@ loop-bit-preserved c = next_line c.args.lines.now c.loop-bit.bit (undriven_more 
 pub returns : goal.returns
 returns c = sym (undriven_none c.args.lines.now (D c.loop-bit.bit) (omega arith) c.loop-bit.invariant)
 
-pub returns-then-has_known_data : goal.returns-then-has_known_data
-returns-then-has_known_data c = sym (c.has_known_data.ensures c.if-has_known_data.true)
+pub returns-then-are_known : goal.returns-then-are_known
+returns-then-are_known c =
+    let lines = c.args.lines.now in
+    sym
+    (undriven_known lines
+    (ap (λ (n : ℕ). every (is_known_on lines) n 191) (sym c.data.ensures)
+    ∙ (ap (λ (n : ℕ). every (is_known_on lines) c.data.result (n + 1)) (sym c.data-2.ensures) ∙ (sym c.are_known.ensures ∙ c.if-are_known.true))))

@@ -1,7 +1,8 @@
 -- A line that was looked at is lacked where it is needed and not known.
-use Rattle.std.proofs.Common.{◌∙◌, ap, sym, arith, Some}
-use Rattle.vme_trace.specs.Levels.{is_known}
-use Rattle.vme_stability.proofs.LackedLines.{lacks_first, lacks_here, lacks_more, lacks_none, lacks_there, not_lacked, not_needed}
+use Rattle.std.proofs.Common.{ℕ, ◌+◌, ◌∙◌, ap, sym, arith, Some}
+use Rattle.vme_trace.specs.Instants.{every}
+use Rattle.vme_trace.specs.Levels.{is_known, is_known_on}
+use Rattle.vme_stability.proofs.LackedLines.{lacks_first, lacks_here, lacks_known, lacks_more, lacks_none, lacks_there, not_lacked, not_needed}
 use Rattle.vme_stability.proofs.sight.unknown_needed.Goals as goal
 use Rattle.vme_stability.proofs.sight.unknown_needed.Goals.{in-Some+else-not-is_known, else-not-is_known-via-then-not-is_known+else-has, else-not-is_known-via-else-not-is_known, in_default}
 
@@ -35,5 +36,7 @@ loop-number-preserved c =
 pub returns : goal.returns
 returns c = sym (lacks_none c.args.lines.now c.loop-number.number c.loop-number-test.false c.loop-number.invariant)
 
-pub returns-then-has_known_needs : goal.returns-then-has_known_needs
-returns-then-has_known_needs c = sym (c.has_known_needs.ensures c.if-has_known_needs.true)
+pub returns-then-are_known : goal.returns-then-are_known
+returns-then-are_known c =
+    let lines = c.args.lines.now in
+    sym (lacks_known lines (ap (λ (n : ℕ). every (is_known_on lines) 5 (n + 1)) (sym c.address.ensures) ∙ (sym c.are_known.ensures ∙ c.if-are_known.true)))

@@ -1,5 +1,5 @@
 use Rattle.std.proofs.Common.{◌≡◌, false, arith}
-use Rattle.vme_dtb.specs.Edge.{rises_between, strobe_falls_between, strobe_rises_between}
+use Rattle.vme_trace.specs.Edges.{rises_between, strobe_falls_between, strobe_rises_between}
 use Rattle.vme_trace.specs.LineNumbers.{AS}
 use Rattle.vme_dtb.specs.UsualSteps.{is_hasty}
 use Rattle.vme_dtb.proofs.UsualNexts.{strobes_next}

@@ -1,0 +1,88 @@
+-- Where as many of a range hold as were looked at, all of them do.
+use Rattle.std.proofs.Common.{◌≡◌, ℕ, ◌+◌, ◌-◌, ◌<◌, ◌≤◌, Bool, true, false, ◌&&◌, ◌||◌, not, refl, sym, ◌∙◌, ap, arith}
+use Rattle.std.specs.Prelude.{◌==◌, None, nat_le}
+use Rattle.std.proofs.lemmas.Bool.Decides.{nat_tests}
+use Rattle.vme_trace.specs.Instants.{any, every, least}
+use Rattle.vme_trace.proofs.Ranges.{any-fails, any-step, clash, every-empty, fails-any, least-none}
+
+-- so many are counted of a range up to a place
+abbrev pub AreCounted : (ℕ → Bool) → ℕ → ℕ → ℕ → Type 0
+AreCounted p first number count = (count + first ≤ number) × ((count + first == number) ≡ every p first number)
+
+from : (f n : ℕ) → f ≤ n → nat_le f n ≡ true
+from f n h = grind (arith, nat_tests)
+
+none-more : (a b : Bool) → not (a || (true && not b)) ≡ (not a && b)
+none-more true b = refl
+none-more false true = refl
+none-more false false = refl
+
+module _ (p : ℕ → Bool) (first number count : ℕ) where
+  every-step : first ≤ number → every p first (number + 1) ≡ (every p first number && p number)
+  every-step h =
+      ap not (any-step (λ k. not (p k)) first number) ∙ rw (from first number h) (none-more (any (λ k. not (p k)) first number) (p number))
+
+  pub none-counted : number ≡ first → AreCounted p first number 0
+  none-counted e = (omega arith, rw e (same first ∙ sym (every-empty p first)))
+    where
+      same : (n : ℕ) → (0 + n == n) ≡ true
+      same n = grind (arith, nat_tests)
+
+  pub one-counted : (next : ℕ) → next ≡ count + 1 → AreCounted p first number count → p number ≡ true → AreCounted p first (number + 1) next
+  one-counted next e is h =
+      let le = is.0 in
+      (omega (arith, e, le), rw (e, every-step (omega (arith, le)), h) (both (every p first number) (further count first number ∙ is.1)))
+    where
+      further : (c f n : ℕ) → (c + 1 + f == n + 1) ≡ (c + f == n)
+      further c f n = by_test (c + f == n) refl
+        where
+          by_test : (b : Bool) → (c + f == n) ≡ b → (c + 1 + f == n + 1) ≡ b
+          by_test true e = grind (arith, nat_tests)
+          by_test false e = grind (arith, nat_tests)
+
+      both : (b : Bool) → (count + 1 + first == number + 1) ≡ b → (count + 1 + first == number + 1) ≡ (b && true)
+      both true e = e
+      both false e = e
+
+  pub one-passed : (next : ℕ) → next ≡ count → AreCounted p first number count → p number ≡ false → AreCounted p first (number + 1) next
+  one-passed next e is h =
+      let le = is.0 in
+      (omega (arith, e, le), rw (e, every-step (omega (arith, le)), h) (fewer count first number le ∙ sym (off (every p first number))))
+    where
+      fewer : (c f n : ℕ) → c + f ≤ n → (c + f == n + 1) ≡ false
+      fewer c f n h = grind (arith, nat_tests)
+
+      off : (b : Bool) → (b && false) ≡ false
+      off true = refl
+      off false = refl
+
+  -- at the end of the range
+  pub all-counted : (last : ℕ) → first ≤ last → number ≡ last + 1 → AreCounted p first number count → (count == last - first + 1) ≡ every p first (last + 1)
+  all-counted last order e is = same count first last order ∙ (ap (λ n. count + first == n) (sym e) ∙ is.1 ∙ ap (every p first) e)
+    where
+      same : (c f l : ℕ) → f ≤ l → (c == l - f + 1) ≡ (c + f == l + 1)
+      same c f l h = by_test (c + f == l + 1) refl
+        where
+          by_test : (b : Bool) → (c + f == l + 1) ≡ b → (c == l - f + 1) ≡ b
+          by_test true e = grind (arith, nat_tests)
+          by_test false e = grind (arith, nat_tests)
+
+at : (p : ℕ → Bool) (f n i : ℕ) → every p f n ≡ true → f ≤ i → i < n → p i ≡ true
+at p f n i h a b = unfailed (p i) (any-fails (λ k. not (p k)) f n i (unmet (any (λ k. not (p k)) f n) h) a b)
+  where
+    unmet : (b : Bool) → not b ≡ true → b ≡ false
+    unmet true h = absurd (cc)
+    unmet false h = refl
+
+    unfailed : (b : Bool) → not b ≡ false → b ≡ true
+    unfailed true h = refl
+    unfailed false h = absurd (cc)
+
+-- where all of a range hold, nothing is found that is there alone, and only where they don't
+pub least-outside : (p q : ℕ → Bool) (first end n : ℕ) → every p first end ≡ true
+    → ((i : ℕ) → i < n → q i ≡ true → (first ≤ i) × (i < end) × (p i ≡ false)) → least q 0 n ≡ None
+least-outside p q first end n all there = least-none q 0 n (fails-any q 0 n (λ i a b. by_test i b (q i) refl))
+  where
+    by_test : (i : ℕ) → i < n → (b : Bool) → q i ≡ b → q i ≡ false
+    by_test i below true e = let w = there i below e in absurd (clash (p i) (at p first end i all w.0 w.1) w.2)
+    by_test i below false e = e
