@@ -58,8 +58,8 @@ impl<'a> ListingText<'a> {
         self.rest.is_empty()
     }
 
-    /// Takes the line of a row, if the row is one of the version and its line is at the front. If not, all is left as it
-    /// was.
+    /// Takes the line of a row, if the row is one of the version and its line is at the front. If not, all is left as
+    /// it was.
     pub fn take(&mut self, row: &Row) -> bool
         ensures version { self.new.version ≡ self.old.version }
         ensures taken { result ≡ true → IsTaken self.old row.now self.new.rest }

@@ -225,13 +225,15 @@ fn when(shown: bool, kind: Kind) -> Option<Kind>
     if shown { Some(kind) } else { None }
 }
 
+/// Adds a mark, if a kind is shown. Room grows fourfold: many marks then mostly move into memory of their own, which
+/// the system gets back when they are dropped.
 #[inline(always)]
 fn show(marks: &mut Vec<Mark>, instant: u32, kind: Option<Kind>) -> Result<(), AllocError>
     ensures { OnOk result (marks.new.items ≡ marks.old.items ++ map (mark_at instant) (option_to_list kind)) }
 {
     if let Some(kind) = kind {
         if marks.len() == marks.capacity() {
-            marks.reserve(1)?;
+            marks.reserve(marks.len().saturating_mul(3).max(1))?;
         }
         marks.push_reserved(Mark { instant, kind });
     }
