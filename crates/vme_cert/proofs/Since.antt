@@ -1,10 +1,10 @@
 -- What happens, but no earlier than from an instant on.
-use Rattle.std.proofs.Common.{◌≡◌, ℕ, zero, suc, ◌<◌, ◌≤◌, Bool, true, false, ◌&&◌, [], replicate, cond, refl, sym, ap, arith}
-use Rattle.std.specs.Prelude.{Some, nat_le, slice_get}
-use Rattle.vme_trace.specs.Instants.{least, greatest, those}
+use Rattle.std.proofs.Common.{◌≡◌, ℕ, zero, suc, ◌<◌, ◌≤◌, Bool, true, false, ◌&&◌, [], cond, refl, sym, ◌∙◌, ap, arith}
+use Rattle.std.specs.Prelude.{Some, is_some, nat_le}
+use Rattle.vme_trace.specs.Instants.{any, least, greatest, those}
 use Rattle.vme_trace.proofs.Ranges.{fails-any, least-alike}
 use Rattle.vme_cert.specs.Events.{since}
-use Rattle.vme_cert.proofs.Those.{those-none}
+use Rattle.vme_cert.proofs.Those.{any-first, those-none}
 use Rattle.vme_cert.proofs.Truth.{first_fails, le_fails, le_holds, le_of}
 
 pub since-is : (f : ℕ) (p : ℕ → Bool) (i : ℕ) → f ≤ i → since f p i ≡ p i
@@ -12,12 +12,6 @@ since-is f p i h = rw (le_holds f i h) refl
 
 pub since-nothing : (f : ℕ) (p : ℕ → Bool) → [] ≡ those (since f p) 0 f
 since-nothing f p = sym (those-none (since f p) 0 f (fails-any (since f p) 0 f (λ i a b. first_fails _ _ (le_fails f i b))))
-
--- as many empty lists have none so far
-pub none-since : (f : ℕ) (p : ℕ → Bool) (m i : ℕ) → i < m → slice_get (replicate m []) i ≡ Some (those (since f p) 0 f)
-none-since f p zero i h = absurd (omega arith)
-none-since f p (suc m) zero h = ap (λ xs. Some xs) (since-nothing f p)
-none-since f p (suc m) (suc i) h = none-since f p m i (omega arith)
 
 -- in a range that starts there or later it makes no difference
 pub least-since : (f : ℕ) (p : ℕ → Bool) (first end : ℕ) → f ≤ first → least (since f p) first end ≡ least p first end
@@ -34,3 +28,6 @@ greatest-alike p q f (suc n) h = by_test (nat_le f n) refl (greatest-alike p q f
 
 pub greatest-since : (f : ℕ) (p : ℕ → Bool) (first end : ℕ) → f ≤ first → greatest (since f p) first end ≡ greatest p first end
 greatest-since f p first end h = greatest-alike (since f p) p first end (λ i a b. since-is f p i (omega arith))
+
+pub any-since : (f : ℕ) (p : ℕ → Bool) (first end : ℕ) → f ≤ first → any (since f p) first end ≡ any p first end
+any-since f p first end h = sym (any-first (since f p) first end) ∙ (ap is_some (least-since f p first end h) ∙ any-first p first end)

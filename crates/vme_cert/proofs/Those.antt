@@ -294,6 +294,24 @@ any-first p f n = by_least (least p f n) refl
     by_least None e = rw e (sym (least-none-any p f n e))
     by_least (Some i) e = let found = least-found p f n i e in rw e (sym (any-holds p f n i found.first found.below found.holds))
 
+-- and where there is a last
+pub any-last : (p : ℕ → Bool) (f n : ℕ) → is_some (greatest p f n) ≡ any p f n
+unfolding any greatest
+any-last p f zero = refl
+any-last p f (suc n) = by_test (nat_le f n && p n) (any-last p f n)
+  where
+    or_true : (b : Bool) → true ≡ (b || true)
+    or_true true = refl
+    or_true false = refl
+
+    or_false : (b : Bool) → b ≡ (b || false)
+    or_false true = refl
+    or_false false = refl
+
+    by_test : (b : Bool) → is_some (greatest p f n) ≡ any p f n → is_some (cond b (Some n) (greatest p f n)) ≡ (any p f n || b)
+    by_test true e = or_true (any p f n)
+    by_test false e = e ∙ or_false (any p f n)
+
 -- the first and the last of a range are in it
 pub least-from : (p : ℕ → Bool) (f n : ℕ) (o : Option ℕ) → o ≡ least p f n → IfSome o (λ i. f ≤ i)
 least-from p f n None e = tt

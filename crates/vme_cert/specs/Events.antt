@@ -1,6 +1,5 @@
 -- What happens at the instants of a recording, and the index of the instants at which it does.
-use Rattle.std.specs.Prelude.{◌≡◌, ℕ, ◌+◌, ◌<◌, ◌≤◌, Bool, false, ◌&&◌, List, [], ◌∷◌, map, length, Some}
-use Rattle.std.specs.Prelude.{nat_le, slice_get, slice_index_or}
+use Rattle.std.specs.Prelude.{◌≡◌, ℕ, ◌+◌, ◌≤◌, Bool, ◌&&◌, List, [], map, nat_le}
 use Rattle.vme_trace.specs.Instants.{those}
 use Rattle.vme_trace.specs.LineNumbers.{AS, DTACK, BERR, WRITE, BBSY, BR}
 use Rattle.vme_trace.specs.Trace.{Trace, levels_at, last_instant}
@@ -13,40 +12,54 @@ use Rattle.vme_trace.specs.Tenures.{grant_falls}
 use Rattle.vme_trace.specs.declared.class.Class.{Class}
 use Rattle.vme_cert.specs.declared.index.Event.{Event}
 use Rattle.vme_cert.specs.declared.index.Event.TheVariants as event
+use Rattle.vme_cert.specs.declared.index.EventLists.{EventLists}
 use Rattle.vme_cert.specs.declared.index.Index.{Index}
 
-abbrev pub number_of : Event → ℕ
-number_of event.CycleStart = 0
-number_of event.AddressRise = 1
-number_of event.TransferStart = 2
-number_of event.StrobeRise = 3
-number_of event.StrobesHigh = 4
-number_of event.WriteLow = 5
-number_of event.AnswerFall = 6
-number_of event.AcknowledgeFall = 7
-number_of event.ErrorFall = 8
-number_of event.BusyFall = 9
-number_of event.BusyRise = 10
-number_of event.GrantFall = 11
-number_of event.Request0 = 12
-number_of event.Request1 = 13
-number_of event.Request2 = 14
-number_of event.Request3 = 15
+abbrev pub list_of : EventLists → Event → List ℕ
+list_of lists event.CycleStart = lists.cycle_starts
+list_of lists event.AddressRise = lists.address_rises
+list_of lists event.TransferStart = lists.transfer_starts
+list_of lists event.StrobeRise = lists.strobe_rises
+list_of lists event.StrobesHigh = lists.strobes_high
+list_of lists event.WriteLow = lists.write_low
+list_of lists event.AnswerFall = lists.answer_falls
+list_of lists event.AcknowledgeFall = lists.acknowledge_falls
+list_of lists event.ErrorFall = lists.error_falls
+list_of lists event.BusyFall = lists.busy_falls
+list_of lists event.BusyRise = lists.busy_rises
+list_of lists event.GrantFall = lists.grant_falls
+list_of lists event.Request0 = lists.requests_0
+list_of lists event.Request1 = lists.requests_1
+list_of lists event.Request2 = lists.requests_2
+list_of lists event.Request3 = lists.requests_3
+
+-- it happens, and no earlier than from an instant on
+abbrev pub since : ℕ → (ℕ → Bool) → ℕ → Bool
+since first p i = nat_le first i && p i
 
 module _ (t : Trace) (span : Span) where
-  -- whether each event happens at an instant, in the order of their numbers
-  abbrev pub happenings : ℕ → List Bool
-  happenings i =
-      cycle_starts t span i ∷ rises t AS i ∷ transfer_starts t span i ∷ strobe_rises t i ∷ strobes_high t i
-      ∷ low t WRITE i ∷ answer_falls t i ∷ falls t DTACK i
-      ∷ falls t BERR i ∷ falls t BBSY i ∷ rises t BBSY i ∷ grant_falls t i ∷ low t (BR 0) i ∷ low t (BR 1) i
-      ∷ low t (BR 2) i ∷ low t (BR 3) i ∷ []
-
-  abbrev pub happens_nth : ℕ → ℕ → Bool
-  happens_nth k i = slice_index_or (happenings i) k false
-
+  -- when an event happens
   abbrev pub happens : Event → ℕ → Bool
-  happens event = happens_nth (number_of event)
+  happens event.CycleStart i = cycle_starts t span i
+  happens event.AddressRise i = rises t AS i
+  happens event.TransferStart i = transfer_starts t span i
+  happens event.StrobeRise i = strobe_rises t i
+  happens event.StrobesHigh i = strobes_high t i
+  happens event.WriteLow i = low t WRITE i
+  happens event.AnswerFall i = answer_falls t i
+  happens event.AcknowledgeFall i = falls t DTACK i
+  happens event.ErrorFall i = falls t BERR i
+  happens event.BusyFall i = falls t BBSY i
+  happens event.BusyRise i = rises t BBSY i
+  happens event.GrantFall i = grant_falls t i
+  happens event.Request0 i = low t (BR 0) i
+  happens event.Request1 i = low t (BR 1) i
+  happens event.Request2 i = low t (BR 2) i
+  happens event.Request3 i = low t (BR 3) i
+
+  -- and what is noted of it
+  abbrev pub noted_of : Event → ℕ → Bool
+  noted_of event = since span.start (happens event)
 
   -- an answer by DTACK*
   abbrev pub is_acknowledged : ℕ → Bool
@@ -56,9 +69,15 @@ module _ (t : Trace) (span : Span) where
 abbrev pub cycle_at : Trace → ℕ → Class × Needs
 cycle_at t i = (class_of (levels_at t i), needs_of (levels_at t i))
 
--- it happens, and no earlier than from an instant on
-abbrev pub since : ℕ → (ℕ → Bool) → ℕ → Bool
-since first p i = nat_le first i && p i
+-- of no event there is an instant
+abbrev pub AreEmpty : EventLists → Type 0
+AreEmpty lists = (event : Event) → list_of lists event ≡ []
+
+-- each list has the instants before n at which its event happens, and the other one those before n + 1
+abbrev pub AreNoted : Trace → Span → ℕ → EventLists → EventLists → Type 0
+AreNoted t span n old new =
+    (event : Event) → list_of old event ≡ those (noted_of t span event) 0 n
+    → list_of new event ≡ those (noted_of t span event) 0 (n + 1)
 
 -- each list has the instants, from the start of the span on and so far, at which its event happens, and the cycles and
 -- answers go with them
@@ -66,9 +85,7 @@ pub record IsIndex (t : Trace) (index : Index) : Type 0 where
   pub started : index.span.start ≤ index.answered
   pub noted : index.noted ≤ last_instant t + 1
   pub answered : index.answered ≤ index.noted
-  pub count : length index.lists.items ≡ 16
-  pub lists : (k : ℕ) → k < 16
-      → slice_get index.lists.items k ≡ Some (those (since index.span.start (happens_nth t index.span k)) 0 index.noted)
+  pub lists : (event : Event) → list_of index.lists event ≡ those (noted_of t index.span event) 0 index.noted
   pub cycles :
       index.cycles.items ≡ map (cycle_at t) (those (since index.span.start (cycle_starts t index.span)) 0 index.noted)
   pub answers : index.answers ≡ those (is_answer t index.span) 0 index.answered

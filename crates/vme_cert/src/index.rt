@@ -8,7 +8,8 @@ ghost use Rattle.vme_cert.specs.Words.{strobes_high, answer_falls, grant_falls, 
 ghost use Rattle.vme_trace.specs.LineNumbers.{BR};
 ghost use Rattle.vme_trace.specs.Judged.{Span as Stretch};
 ghost use Rattle.vme_cert.specs.Spans.{between};
-ghost use Rattle.vme_cert.specs.Events.{number_of, happenings, happens, since, IsIndex, IsNew, IsNoted, IsAnswerNoted};
+ghost use Rattle.vme_cert.specs.Events.{happens, list_of, noted_of, AreEmpty, AreNoted, IsIndex, IsNew, IsNoted};
+ghost use Rattle.vme_cert.specs.Events.{IsAnswerNoted};
 
 use crate::bus::{Bus, Span};
 use crate::search::any;
@@ -67,8 +68,8 @@ impl Instants {
         Ok(())
     }
 
-    /// How many come before an instant: all, or else from the place of the last search on by steps that double, and
-    /// then by halves.
+    /// How many come before an instant: all, or all but one, or else from the place of the last search on by steps that
+    /// double, and then by halves.
     pub(crate) fn count_before(&self, end: u32) -> usize
         ensures place { (p : ℕ → Bool) (n : ℕ) → self.now ≡ those p 0 n → end ≤ n → result ≡ length (those p 0 end) }
         ensures within { result ≤ length self.now }
@@ -81,6 +82,13 @@ impl Instants {
             if instants[last] < end {
                 self.place.set(high);
                 return high;
+            }
+            if last == 0 {
+                return 0;
+            }
+            if instants[last - 1] < end {
+                self.place.set(last);
+                return last;
             }
         }
         let mut near = self.place.get().min(high.saturating_sub(1));
@@ -138,7 +146,7 @@ impl Instants {
     pub(crate) fn any(&self, first: u32, end: u32) -> bool
         ensures { (p : ℕ → Bool) (n : ℕ) → self.now ≡ those p 0 n → end ≤ n → result ≡ any p first end }
     {
-        self.first(first, end).is_some()
+        self.last(first, end).is_some()
     }
 }
 
@@ -164,14 +172,6 @@ pub(crate) enum Event {
 }
 
 impl Event {
-    /// Its place among the events.
-    pub(crate) fn number(self) -> usize
-        ensures number { result ≡ number_of self }
-        ensures below { result < 16 }
-    {
-        self as usize
-    }
-
     /// That a level, 0 to 3, is requested.
     pub(crate) fn request(level: u8) -> Event
         requires { level < 4 }
@@ -237,30 +237,109 @@ impl Bus<'_> {
     {
         any(0, 4, |level| self.falls(Line::grant(level as u8, 0)))
     }
+}
 
-    /// Which events happen, in their order.
-    #[inline(always)]
-    fn happened(&self, span: Span) -> [bool; 16]
-        ensures { result ≡ happenings self.now.capture.now span self.now.instant }
+/// The instants of each event from the start of a stretch on.
+#[derive(Drop)]
+pub(crate) struct EventLists {
+    cycle_starts: Instants,
+    address_rises: Instants,
+    transfer_starts: Instants,
+    strobe_rises: Instants,
+    strobes_high: Instants,
+    write_low: Instants,
+    answer_falls: Instants,
+    acknowledge_falls: Instants,
+    error_falls: Instants,
+    busy_falls: Instants,
+    busy_rises: Instants,
+    grant_falls: Instants,
+    requests_0: Instants,
+    requests_1: Instants,
+    requests_2: Instants,
+    requests_3: Instants,
+}
+
+impl EventLists {
+    /// None so far.
+    fn new(alloc: Global) -> EventLists
+        ensures { AreEmpty result }
     {
-        [
-            self.cycle_starts(span),
-            self.rises(Line::AS),
-            self.transfer_starts(span),
-            self.strobe_rises(),
-            self.strobes_high(),
-            self.low(Line::WRITE),
-            self.answer_falls(),
-            self.falls(Line::DTACK),
-            self.falls(Line::BERR),
-            self.falls(Line::BBSY),
-            self.rises(Line::BBSY),
-            self.grant_falls(),
-            self.low(Line::bus_request(0)),
-            self.low(Line::bus_request(1)),
-            self.low(Line::bus_request(2)),
-            self.low(Line::bus_request(3)),
-        ]
+        EventLists {
+            cycle_starts: Instants::new(alloc),
+            address_rises: Instants::new(alloc),
+            transfer_starts: Instants::new(alloc),
+            strobe_rises: Instants::new(alloc),
+            strobes_high: Instants::new(alloc),
+            write_low: Instants::new(alloc),
+            answer_falls: Instants::new(alloc),
+            acknowledge_falls: Instants::new(alloc),
+            error_falls: Instants::new(alloc),
+            busy_falls: Instants::new(alloc),
+            busy_rises: Instants::new(alloc),
+            grant_falls: Instants::new(alloc),
+            requests_0: Instants::new(alloc),
+            requests_1: Instants::new(alloc),
+            requests_2: Instants::new(alloc),
+            requests_3: Instants::new(alloc),
+        }
+    }
+
+    /// Those of one event.
+    #[inline(always)]
+    fn get(&self, event: Event) -> &Instants
+        ensures { result.now ≡ list_of self.now event }
+    {
+        match event {
+            Event::CycleStart => &self.cycle_starts,
+            Event::AddressRise => &self.address_rises,
+            Event::TransferStart => &self.transfer_starts,
+            Event::StrobeRise => &self.strobe_rises,
+            Event::StrobesHigh => &self.strobes_high,
+            Event::WriteLow => &self.write_low,
+            Event::AnswerFall => &self.answer_falls,
+            Event::AcknowledgeFall => &self.acknowledge_falls,
+            Event::ErrorFall => &self.error_falls,
+            Event::BusyFall => &self.busy_falls,
+            Event::BusyRise => &self.busy_rises,
+            Event::GrantFall => &self.grant_falls,
+            Event::Request0 => &self.requests_0,
+            Event::Request1 => &self.requests_1,
+            Event::Request2 => &self.requests_2,
+            Event::Request3 => &self.requests_3,
+        }
+    }
+
+    /// Notes what happens at the next instant. The only error is want of memory.
+    #[inline(always)]
+    fn note(&mut self, bus: &Bus, span: Span) -> Result<(), AllocError>
+        requires { span.start ≤ bus.now.instant }
+        ensures { IfOk result (λ _. AreNoted bus.now.capture.now span bus.now.instant self.old self.new) }
+    {
+        let instant = bus.instant;
+        self.cycle_starts.note(instant, bus.cycle_starts(span))?;
+        self.address_rises.note(instant, bus.rises(Line::AS))?;
+        self.transfer_starts
+            .note(instant, bus.transfer_starts(span))?;
+        self.strobe_rises.note(instant, bus.strobe_rises())?;
+        self.strobes_high.note(instant, bus.strobes_high())?;
+        self.write_low.note(instant, bus.low(Line::WRITE))?;
+        self.answer_falls.note(instant, bus.answer_falls())?;
+        self.acknowledge_falls
+            .note(instant, bus.falls(Line::DTACK))?;
+        self.error_falls.note(instant, bus.falls(Line::BERR))?;
+        self.busy_falls.note(instant, bus.falls(Line::BBSY))?;
+        self.busy_rises.note(instant, bus.rises(Line::BBSY))?;
+        self.grant_falls.note(instant, bus.grant_falls())?;
+        self.requests_0
+            .note(instant, bus.low(Line::bus_request(0)))?;
+        self.requests_1
+            .note(instant, bus.low(Line::bus_request(1)))?;
+        self.requests_2
+            .note(instant, bus.low(Line::bus_request(2)))?;
+        self.requests_3
+            .note(instant, bus.low(Line::bus_request(3)))?;
+        Ok(())
     }
 }
 
@@ -269,7 +348,7 @@ impl Bus<'_> {
 #[derive(Drop)]
 pub(crate) struct Index {
     pub(crate) span: Span,
-    pub(crate) lists: Vec<Instants>,
+    pub(crate) lists: EventLists,
     pub(crate) cycles: Vec<(Class, LineSet)>,
     pub(crate) answers: Instants,
     pub(crate) acknowledges: Instants,
@@ -279,54 +358,46 @@ pub(crate) struct Index {
 }
 
 impl Index {
-    /// The index of no instants, for a stretch. The only error is want of memory, here and below.
-    pub(crate) fn new(alloc: Global, start: u32, end: u32) -> Result<Index, AllocError>
-        ensures { (t : Trace) → start ≤ last_instant t → IfOk result (IsNew t (between start end)) }
+    /// The index of no instants, for a stretch.
+    pub(crate) fn new(alloc: Global, start: u32, end: u32) -> Index
+        ensures { (t : Trace) → start ≤ last_instant t → IsNew t (between start end) result }
     {
-        let mut lists = Vec::new(alloc);
-        for _number in 0..16u32 {
-            lists.push(Instants::new(alloc))?;
-        }
-        Ok(Index {
+        Index {
             span: Span { start, end },
-            lists,
+            lists: EventLists::new(alloc),
             cycles: Vec::new(alloc),
             answers: Instants::new(alloc),
             acknowledges: Instants::new(alloc),
             noted: start,
             answered: start,
-        })
+        }
     }
 
     /// The instants of an event.
     pub(crate) fn list(&self, event: Event) -> &Instants
-        requires { length self.now.lists.items ≡ 16 }
         ensures { (t : Trace) → IsIndex t self.now
-            → result.now ≡ those (since self.now.span.start (happens t self.now.span event)) 0 self.now.noted }
+            → result.now ≡ those (noted_of t self.now.span event) 0 self.now.noted }
     {
-        &self.lists.as_slice()[event.number()]
+        self.lists.get(event)
     }
 
-    /// Notes what happens at the next instant.
+    /// Notes what happens at the next instant. The only error is want of memory.
     pub(crate) fn note(&mut self, bus: &Bus) -> Result<(), AllocError>
         requires next { self.old.noted ≡ bus.now.instant }
         requires within { bus.now.instant ≤ last_instant bus.now.capture.now }
         requires index { IsIndex bus.now.capture.now self.old }
         ensures { IfOk result (λ _. IsNoted bus.now.capture.now self.old self.new) }
     {
-        let happened = bus.happened(self.span);
-        if happened[0] {
+        if bus.cycle_starts(self.span) {
             self.cycles
                 .push((am_class(&bus.levels), needed(&bus.levels)))?;
         }
-        for number in 0..16 {
-            self.lists.as_mut_slice()[number].note(bus.instant, happened[number])?;
-        }
+        self.lists.note(bus, self.span)?;
         self.noted = bus.instant + 1;
         Ok(())
     }
 
-    /// Notes whether the next instant is an answer.
+    /// Notes whether the next instant is an answer. The only error is want of memory.
     pub(crate) fn note_answer(&mut self, bus: &Bus, is_one: bool) -> Result<(), AllocError>
         requires next { self.old.answered ≡ bus.now.instant }
         requires within { bus.now.instant < self.old.noted }

@@ -44,7 +44,7 @@ impl Judged<'_> {
         requires noted { end ≤ noted self.now }
         ensures { result ≡ any (happens (trace self.now) (span self.now) event) first end }
     {
-        self.first(event, first, end).is_some()
+        self.index.list(event).any(first, end)
     }
 
     /// The last instant of the span before an end at which it happens.

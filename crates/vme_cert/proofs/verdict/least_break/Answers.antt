@@ -40,7 +40,7 @@ pub loop-instant-init : goal.loop-instant-init
 loop-instant-init c =
     let t = c.args.start.now.capture.now in
     let span = between c.args.start.now.instant c.args.end in
-    let new = c.in_ok-index.ensures t (omega (arith, c.requires.order, c.requires.within)) in
+    let new = c.new-index.ensures t (omega (arith, c.requires.order, c.requires.within)) in
     record {
       same = c.later-bus.ensures.trace;
       at = c.later-bus.ensures.instant;

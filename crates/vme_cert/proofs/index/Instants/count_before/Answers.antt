@@ -10,6 +10,20 @@ returns-then-instants-last-clause-place c p n is h =
     let past = count-past p c.as_slice-instants.result.now c.args.end n (length c.as_slice-instants.result.now - 1) whole h (omega arith) c.if-instants-last.true in
     omega (arith, past, place-within p c.args.end n h, ap (λ xs. length xs) whole)
 
+pub returns-then-last-eq0-clause-place : goal.returns-then-last-eq0-clause-place
+returns-then-last-eq0-clause-place c p n is h =
+    let whole = c.as_slice-instants.ensures.value ∙ (c.self.view_is ∙ is) in
+    let up_to = count-up-to p c.as_slice-instants.result.now c.args.end n (length c.as_slice-instants.result.now - 1) whole h (omega (arith, c.if-instants-last.false)) in
+    omega (arith, up_to)
+
+pub returns-then-instants-last-2-clause-place : goal.returns-then-instants-last-2-clause-place
+returns-then-instants-last-2-clause-place c p n is h =
+    let last = length c.as_slice-instants.result.now - 1 in
+    let whole = c.as_slice-instants.ensures.value ∙ (c.self.view_is ∙ is) in
+    let past = count-past p c.as_slice-instants.result.now c.args.end n (last - 1) whole h (omega arith) c.if-instants-last-2.true in
+    let up_to = count-up-to p c.as_slice-instants.result.now c.args.end n last whole h (omega (arith, c.if-instants-last.false)) in
+    omega (arith, past, up_to)
+
 pub loop-low-init : goal.loop-low-init
 loop-low-init c =
     record {

@@ -1,8 +1,12 @@
--- It happens where there is a first time.
-use Rattle.std.proofs.Common.{◌∙◌, ap}
-use Rattle.std.specs.Prelude.{is_some}
-use Rattle.vme_cert.proofs.Those.{any-first}
+-- What happens from the start of the span on is all that there is of the range.
+use Rattle.std.proofs.Common.{◌∙◌}
+use Rattle.vme_cert.specs.Events.{happens, since}
+use Rattle.vme_cert.proofs.Since.{any-since}
 use Rattle.vme_cert.proofs.judged.Judged.any.Goals as goal
 
 pub returns : goal.returns
-returns c = c.is_some.ensures ∙ (ap is_some c.first.ensures.least ∙ any-first _ _ _)
+returns c =
+    let span = c.args.self.now.index.now.span in
+    let p = happens c.args.self.now.bus.now.capture.now span c.args.event in
+    c.any.ensures (since span.start p) _ (c.list.ensures _ c.args.self.now.indexed) c.requires.noted
+    ∙ any-since span.start p c.args.first c.args.end c.requires.started
