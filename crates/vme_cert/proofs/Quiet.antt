@@ -5,7 +5,7 @@ use Rattle.std.proofs.lemmas.Bool.Decides.{nat_tests}
 use Rattle.vme_trace.specs.Instants.{least}
 use Rattle.vme_trace.specs.Judged.{Span, is_judged}
 use Rattle.vme_trace.specs.Levels.{Levels, level_at, same_level}
-use Rattle.vme_trace.specs.LineNumbers.{DS0, DS1, DTACK, IACK, BBSY, D, grant, iack, line_count, has_line}
+use Rattle.vme_trace.specs.LineNumbers.{DS0, DS1, line_count, has_line}
 use Rattle.vme_trace.specs.Rules.{breaks}
 use Rattle.vme_trace.specs.Signals.{low, high, falls}
 use Rattle.vme_trace.specs.Trace.{Trace, levels_at, changed}
@@ -35,22 +35,6 @@ over f e l k order s = grind (arith, nat_tests)
 
 under : (f e l k : ℕ) → e ≤ k → (nat_le f l && nat_lt l e) ≡ true → nat_lt l k ≡ true
 under f e l k order s = grind (arith, nat_tests)
-
--- no rule is broken where none of all is
-pub none-any : (p : Rule → Bool) (l : ℕ) → ((r : Rule) → p r ≡ false) → is_any p l ≡ false
-none-any p l h =
-    rw (h H7, h B3, h H2, h H3, h H4, h H5, h H6, h H8, h C1, h C2, h I4, h I5, h S1, h S2, h B1, h B2, h B4, h G1, h G2, h G3, h G4, h G5, h I1, h I2, h I3, h S3)
-    (by_tests (nat_lt l DS0) (nat_lt l DTACK) (nat_lt l IACK) (nat_lt l BBSY) (nat_lt l (grant 0 0)) (nat_lt l (iack 1)) (nat_lt l (D 0)))
-  where
-    by_tests : (a b c d e f g : Bool) → cond a false (cond b false (cond c false (cond d false (cond e false (cond f false (cond g false false)))))) ≡ false
-    by_tests true b c d e f g = refl
-    by_tests false true c d e f g = refl
-    by_tests false false true d e f g = refl
-    by_tests false false false true e f g = refl
-    by_tests false false false false true f g = refl
-    by_tests false false false false false true g = refl
-    by_tests false false false false false false true = refl
-    by_tests false false false false false false false = refl
 
 module _ (p : Rule → Bool) (l : ℕ) (kept : is_any p l ≡ false) where
   on_address : (f e : ℕ) → e ≤ 1 → (nat_le f l && nat_lt l e) ≡ true → (p H7 || p B3) ≡ false

@@ -9,14 +9,14 @@ ghost use Rattle.vme_cert.specs.Words.{last_instant};
 use crate::index::Event::{AcknowledgeFall, AddressRise, BusyRise, StrobesHigh};
 use crate::judged::Judged;
 use vme_listing::{AnswerLine, Direction, Row};
-use vme_trace::{Class, Lanes, Line, Lines, am_class, am_code, needed};
+use vme_trace::{Class, Lanes, Line, LineSet, Lines, am_code};
 
 /// The address on the address lines that a cycle needs which starts at these levels, a high line being 1 and any other
 /// 0.
-fn address_on(lines: &Lines) -> u32
+fn address_on(lines: &Lines, needs: LineSet) -> u32
+    requires { needs ≡ needs_of lines.now }
     ensures { result ≡ address_to lines.now (needs_of lines.now).highest }
 {
-    let needs = needed(lines);
     let mut address: u32 = 0;
     for bit in 0..31 {
         let line = Line::address(bit + 1);
@@ -30,13 +30,15 @@ fn address_on(lines: &Lines) -> u32
     address
 }
 
-/// The row of a cycle that starts at these levels.
-fn cycle_row(start: u32, lines: &Lines, end: Option<u32>) -> Row
+/// The row of a cycle of a class and with its needs, which starts at these levels.
+fn cycle_row(start: u32, lines: &Lines, cycle: (Class, LineSet), end: Option<u32>) -> Row
+    requires class { cycle.0 ≡ class_of lines.now }
+    requires needs { cycle.1 ≡ needs_of lines.now }
     ensures { result ≡ cycle_row start lines.now end (class_of lines.now) }
 {
     let modifier = am_code(lines);
-    let address = address_on(lines);
-    match am_class(lines) {
+    let address = address_on(lines, cycle.1);
+    match cycle.0 {
         Class::I => {
             let level = (address / 2) as u8;
             Row::InterruptCycle { start, level, end }
@@ -92,7 +94,7 @@ impl Judged<'_> {
         }
         let start = self.bus.instant;
         let end = self.first(AddressRise, start + 1, end);
-        Some(cycle_row(start, &self.bus.levels, end))
+        Some(cycle_row(start, &self.bus.levels, self.cycle(start), end))
     }
 
     /// The data that the answer takes of the transfer that starts at the instant, if it is a write.

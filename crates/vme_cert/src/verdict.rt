@@ -1,8 +1,9 @@
 //! The least break of the rules.
 
 ghost use Rattle.std.specs.Prelude.{◌≡◌, ◌+◌, ◌<◌, ◌≤◌, ◌||◌, drop, None};
-ghost use Rattle.vme_cert.specs.Words.{true, false, IfOk, IfSome, IsTrue, least, line_count, has_line, last_instant};
-ghost use Rattle.vme_cert.specs.Words.{breaks, all_rules, rule_count, break_at, least_break};
+ghost use Rattle.vme_cert.specs.Words.{true, false, IfOk, IfSome, least, line_count, last_instant, breaks, all_rules};
+ghost use Rattle.vme_cert.specs.Words.{rule_count};
+ghost use Rattle.vme_cert.specs.Words.{break_at, least_break};
 ghost use Rattle.vme_trace.specs.Judged.{is_judged};
 ghost use Rattle.vme_trace.specs.Rules.{ends_span};
 ghost use Rattle.vme_cert.specs.ChangedLines.{first_changed};
@@ -46,21 +47,6 @@ impl Judged<'_> {
         }
     }
 
-    /// Whether a rule is broken at the instant on a line that the backplane has, where it counts.
-    #[inline(always)]
-    fn breaks_there(&self, rule: Rule, line: Line) -> bool
-        requires { IsTrue (has_line (trace self.now).opening.slots line) }
-        ensures { result ≡ breaks (trace self.now) (span self.now) rule (instant self.now) line }
-    {
-        if !speaks_of(rule, line) {
-            return false;
-        }
-        if !self.is_shown(rule, line) {
-            return false;
-        }
-        self.counts(rule) && self.asks(rule, line)
-    }
-
     /// Whether a rule is broken at the instant on a line, where it counts.
     #[inline(always)]
     fn breaks(&self, rule: Rule, line: Line) -> bool
@@ -72,7 +58,10 @@ impl Judged<'_> {
         if !self.bus.levels.has(line) {
             return false;
         }
-        self.breaks_there(rule, line)
+        if !self.is_shown(rule, line) {
+            return false;
+        }
+        self.counts(rule) && self.asks(rule, line)
     }
 
     /// Whether what a rule speaks of that asks for no edge is at the instant.
@@ -151,63 +140,45 @@ impl Judged<'_> {
         }
     }
 
-    /// Whether a rule that asks for an edge is broken on a line of the backplane, where perhaps a write holds
-    /// its data.
-    fn is_edge_broken_there(&self, line: Line, may_hold: bool) -> bool
-        requires line { IsTrue (has_line (trace self.now).opening.slots line) }
-        requires held { may_hold ≡ false → is_held_write (trace self.now) (span self.now) (instant self.now) ≡ false }
-        ensures { result ≡ breaks_edge self.now line }
-    {
-        let number = line.number();
-        if number < Line::DS0.number() {
-            return self.breaks_there(H7, line) || self.breaks_there(B3, line);
-        }
-        if number < Line::DTACK.number() {
-            return self.breaks_there(H2, line) || self.breaks_there(H3, line);
-        }
-        if number < Line::IACK.number() {
-            return self.breaks_there(H4, line)
-                || self.breaks_there(H5, line)
-                || self.breaks_there(H6, line)
-                || self.breaks_there(H8, line)
-                || self.breaks_there(C1, line)
-                || self.breaks_there(C2, line)
-                || self.breaks_there(I4, line)
-                || self.breaks_there(I5, line);
-        }
-        if number < Line::BBSY.number() {
-            return self.breaks_there(S1, line) || self.breaks_there(S2, line);
-        }
-        if number < Line::grant(0, 0).number() {
-            return self.breaks_there(B1, line)
-                || self.breaks_there(B2, line)
-                || self.breaks_there(B4, line);
-        }
-        if number < Line::iack(1).number() {
-            return self.breaks_there(G1, line)
-                || self.breaks_there(G2, line)
-                || self.breaks_there(G3, line)
-                || self.breaks_there(G4, line)
-                || self.breaks_there(G5, line);
-        }
-        if number < Line::data(0).number() {
-            return self.breaks_there(I1, line)
-                || self.breaks_there(I2, line)
-                || self.breaks_there(I3, line);
-        }
-        may_hold && self.breaks_there(S3, line)
-    }
-
-    /// The same on any line.
+    /// Whether a rule that asks for an edge is broken on a line, where perhaps a write holds its data.
     fn is_edge_broken(&self, line: Line, may_hold: bool) -> bool
         requires { may_hold ≡ false → is_held_write (trace self.now) (span self.now) (instant self.now) ≡ false }
         ensures { result ≡ breaks_edge self.now line }
     {
-        let _number = line.number();
-        if !self.bus.levels.has(line) {
-            return false;
+        let number = line.number();
+        if number < Line::DS0.number() {
+            return self.breaks(H7, line) || self.breaks(B3, line);
         }
-        self.is_edge_broken_there(line, may_hold)
+        if number < Line::DTACK.number() {
+            return self.breaks(H2, line) || self.breaks(H3, line);
+        }
+        if number < Line::IACK.number() {
+            return self.breaks(H4, line)
+                || self.breaks(H5, line)
+                || self.breaks(H6, line)
+                || self.breaks(H8, line)
+                || self.breaks(C1, line)
+                || self.breaks(C2, line)
+                || self.breaks(I4, line)
+                || self.breaks(I5, line);
+        }
+        if number < Line::BBSY.number() {
+            return self.breaks(S1, line) || self.breaks(S2, line);
+        }
+        if number < Line::grant(0, 0).number() {
+            return self.breaks(B1, line) || self.breaks(B2, line) || self.breaks(B4, line);
+        }
+        if number < Line::iack(1).number() {
+            return self.breaks(G1, line)
+                || self.breaks(G2, line)
+                || self.breaks(G3, line)
+                || self.breaks(G4, line)
+                || self.breaks(G5, line);
+        }
+        if number < Line::data(0).number() {
+            return self.breaks(I1, line) || self.breaks(I2, line) || self.breaks(I3, line);
+        }
+        may_hold && self.breaks(S3, line)
     }
 
     /// The first changed line on which one is. Whether a write holds its data is asked once, if it doesn't.

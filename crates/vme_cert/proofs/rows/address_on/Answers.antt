@@ -24,7 +24,7 @@ loop-bit-preserved c =
     let few : n < 31 = omega arith in
     let same = weight-is n few in
     let shown = ap (λ l. is_high (level_at c.args.lines.now l)) (sym c.address-line.ensures) ∙ ap is_high (sym c.level.ensures) ∙ sym c.is_high.ensures in
-    let needed = address_line c.needed-needs.result n few (ap (is_within c.needed-needs.result) (sym c.address-line.ensures) ∙ sym c.has.ensures ∙ c.if-not-has.false) in
+    let needed = address_line c.args.needs n few (ap (is_within c.args.needs) (sym c.address-line.ensures) ∙ sym c.has.ensures ∙ c.if-not-has.false) in
     elim c.if-is_high.branch [
       | then-is_high w ↦ record {
         so_far = w.address-is ∙ ap (λ a. a + 2 * 2 ^ n % 4294967296) c.loop-bit.invariant.so_far ∙ ap (λ k. address_to c.args.lines.now n + k) same ∙ sym (with_high c.args.lines.now n (shown ∙ w.if-is_high.true));
@@ -42,13 +42,13 @@ at_end n m k e h g = omega arith
 pub returns-then-not-has : goal.returns-then-not-has
 returns-then-not-has c =
     let n = c.loop-bit.bit in
-    let past = no_address_line c.needed-needs.result n (omega arith) (ap (is_within c.needed-needs.result) (sym c.address-line.ensures) ∙ sym c.has.ensures ∙ c.if-not-has.true) in
-    let e = ap (λ (needs : Needs). needs.highest) c.needed-needs.ensures in
+    let past = no_address_line c.args.needs n (omega arith) (ap (is_within c.args.needs) (sym c.address-line.ensures) ∙ sym c.has.ensures ∙ c.if-not-has.true) in
+    let e = ap (λ (needs : Needs). needs.highest) c.requires in
     c.loop-bit.invariant.so_far ∙ ap (address_to c.args.lines.now) (at_end n _ _ e c.loop-bit.invariant.within (omega (arith, past, e)))
 
 pub returns : goal.returns
 returns c =
     let n = c.loop-bit.bit in
     let most = needs_31 c.args.lines.now in
-    let e = ap (λ (needs : Needs). needs.highest) c.needed-needs.ensures in
+    let e = ap (λ (needs : Needs). needs.highest) c.requires in
     c.loop-bit.invariant.so_far ∙ ap (address_to c.args.lines.now) (at_end n _ _ e c.loop-bit.invariant.within (omega (arith, most, e)))
