@@ -12,6 +12,7 @@ pub mod OpeningLemmas
 pub mod PartLemmas
 pub mod MakingLemmas
 pub mod NotesLemmas
+pub mod EffectLemmas
 pub mod TextCaptureLemmas
 pub mod TextPieceLemmas
 pub mod WaveLemmas

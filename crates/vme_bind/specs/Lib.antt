@@ -11,6 +11,7 @@ pub mod Capture
 pub mod Recording
 pub mod Made
 pub mod Notes
+pub mod Effects
 pub mod TextCapture
 pub mod TextPieces
 pub mod TextWaves

@@ -4,12 +4,14 @@
 mod assignment;
 mod binding;
 mod capture;
+mod effect;
 mod fault;
 mod group;
 mod kept;
 mod making;
 mod note;
 mod noting;
+mod pushing;
 mod recorder;
 mod search;
 mod selection;

@@ -6,6 +6,7 @@ ghost use Rattle.vme_bind.specs.Recording.{tapped};
 ghost use Rattle.vme_bind.specs.Notes.{changes_noted, noted_change, noted_instant};
 
 use crate::note::Note;
+use crate::pushing::push;
 use crate::recorder::level_by_digits;
 use crate::taps::{Tap, Taps};
 use std::alloc::{AllocError, Global};
@@ -60,8 +61,7 @@ impl<'t> Noting<'t> {
         if self.notes.len() >= MOST_NOTES {
             return Err(AllocError);
         }
-        self.notes.push(note)?;
-        Ok(())
+        push(&mut self.notes, note)
     }
 
     /// Notes the levels that the digits of a value give to the lines of its net, where so many bits are the net's.

@@ -9,12 +9,14 @@ ghost use Rattle.vme_trace.specs.Trace.{changed};
 ghost use Rattle.vcd_read.specs.Numbers.{extended};
 ghost use Rattle.vme_bind.specs.Capture.{level_of, level_in};
 ghost use Rattle.vme_bind.specs.Taps.{taps_of};
-ghost use Rattle.vme_bind.specs.Notes.{AreOfOne, IsEnd, IsOfLine, end_noted, level_noted, levels_noted, step_noted};
-ghost use Rattle.vme_bind.specs.Notes.{steps_noted, with_note, with_notes};
+ghost use Rattle.vme_bind.specs.Effects.{IsEffect};
+ghost use Rattle.vme_bind.specs.Notes.{AreOfOne, IsOfLine, end_noted, step_noted, steps_noted, with_note, with_notes};
 ghost use Rattle.vme_bind.specs.Recording.{IsLine, differs, AreTouched, AreLines, tapped, valued, changes_between};
 ghost use Rattle.vme_bind.specs.Recording.{step_between, step_in};
 
+use crate::effect::Effect;
 use crate::note::Note;
+use crate::pushing::push;
 use crate::taps::{Tap, Taps};
 use smallvec::SmallVec;
 use std::alloc::{AllocError, Global};
@@ -102,56 +104,6 @@ fn show(
     Ok(changes)
 }
 
-/// Adds a line to those that were touched, mostly without a call.
-#[inline(always)]
-fn touch(touched: &mut Vec<Line>, line: Line) -> Result<(), AllocError>
-    ensures items { OnOk result (touched.new.items ≡ touched.old.items ++ line ∷ []) }
-    ensures stays { OnErr result (touched.new.items ≡ touched.old.items) }
-{
-    if touched.len() == touched.capacity() {
-        touched.reserve(1)?;
-    }
-    touched.push_reserved(line);
-    Ok(())
-}
-
-/// The place of the last end of an instant.
-fn last_end(notes: &[Note]) -> Option<usize>
-    ensures { IfSome result (IsEnd notes.now) }
-{
-    let mut place = notes.len();
-    while 0 < place {
-        place -= 1;
-        if let Note::Ended(_) = notes[place] {
-            return Some(place);
-        }
-    }
-    None
-}
-
-/// Gives a line the level of a note, if it is of one.
-fn set_noted(levels: &mut Lines, note: Note)
-    requires { IsOfLine levels.old.slots note }
-    ensures { levels.new ≡ level_noted levels.old note }
-{
-    match note {
-        Note::Changed(change) => levels.set(change.line, change.level),
-        Note::Ended(_) => {}
-    }
-}
-
-/// The levels behind some notes.
-fn levels_behind(now: &Lines, notes: &[Note]) -> Lines
-    requires { All (IsOfLine now.now.slots) notes.now }
-    ensures { result ≡ levels_noted now.now notes.now }
-{
-    let mut levels = *now;
-    for note in notes {
-        set_noted(&mut levels, *note);
-    }
-    levels
-}
-
 impl Recorder {
     /// No step yet.
     pub fn new(alloc: Global, opening: Lines) -> Recorder
@@ -173,7 +125,7 @@ impl Recorder {
         ensures ok { OnOk result (self.new ≡ record self.old { now = set_level self.old.now line level }) }
     {
         if !self.shown.level(line).is_same(level) {
-            touch(&mut self.touched, line)?;
+            push(&mut self.touched, line)?;
         }
         self.now.set(line, level);
         Ok(())
@@ -367,7 +319,7 @@ impl Recorder {
             Note::Changed(change) => self.set_line(change.line, change.level),
             Note::Ended(time) => {
                 if let Some(step) = self.end_instant(alloc, time)? {
-                    steps.push(step)?;
+                    push(steps, step)?;
                 }
                 Ok(())
             }
@@ -409,14 +361,16 @@ impl Recorder {
         Ok(())
     }
 
-    /// Goes on over some notes, whose steps aren't made. The levels up to the last end of an instant are shown at once.
-    pub fn pass(&mut self, notes: &[Note]) -> Result<(), AllocError>
-        requires { All (IsOfLine self.old.now.slots) notes.now }
+    /// Goes on over some notes, whose steps aren't made. The levels up to an end of an instant are shown at once, if what
+    /// the notes before it do is known in short.
+    pub fn pass(&mut self, notes: &[Note], effect: &Effect) -> Result<(), AllocError>
+        requires lines { All (IsOfLine self.old.now.slots) notes.now }
+        requires effect { IsEffect notes.now effect.now }
         ensures { OnOk result (self.new ≡ with_notes self.old notes.now) }
     {
-        match last_end(notes) {
+        match effect.end_in(notes) {
             Some(place) => {
-                self.end_behind(&notes[..place]);
+                self.end_behind(&effect.changes);
                 self.pass_each(&notes[place + 1..])
             }
             None => self.pass_each(notes),
@@ -429,19 +383,25 @@ impl Recorder {
         ensures levels { self.new ≡ with_notes self.old (end_noted time) }
     {
         if time.is_some() {
-            self.end_behind(&[]);
+            self.end();
         }
     }
 
-    /// Goes on over some notes, and the end of an instant behind them.
-    fn end_behind(&mut self, notes: &[Note])
-        requires { All (IsOfLine self.old.now.slots) notes.now }
-        ensures { self.new ≡ record
-            { shown = levels_noted self.old.now notes.now; now = levels_noted self.old.now notes.now } }
+    /// Goes on over the end of an instant.
+    fn end(&mut self)
+        ensures { self.new ≡ record { shown = self.old.now; now = self.old.now } }
     {
-        let levels = levels_behind(&self.now, notes);
-        self.shown = levels;
-        self.now = levels;
+        self.shown = self.now;
+        self.touched.clear();
+    }
+
+    /// Goes on over some changes, and the end of an instant behind them.
+    fn end_behind(&mut self, changes: &[Change])
+        ensures all { length self.old.now.levels ≡ line_count }
+        ensures shown { self.new ≡ record { shown = changed self.old.now changes.now; now = changed self.old.now changes.now } }
+    {
+        self.now.apply(changes);
+        self.shown = self.now;
         self.touched.clear();
     }
 
@@ -464,7 +424,7 @@ impl Recorder {
         match note {
             Note::Changed(change) => self.set_line(change.line, change.level),
             Note::Ended(_) => {
-                self.end_behind(&[]);
+                self.end();
                 Ok(())
             }
         }

@@ -13,6 +13,7 @@ ghost use Rattle.vme_bind.specs.Taps.{taps_of};
 ghost use Rattle.vme_bind.specs.TextPieces.{outcome_ahead, text_reached};
 ghost use Rattle.vme_bind.specs.TextWaves.{IsJoined, IsNoted, with_recording};
 
+use crate::effect::Effect;
 use crate::fault::BindFault;
 use crate::making::{Making, Passing};
 use crate::note::Note;
@@ -61,16 +62,20 @@ impl Model for TextWave {
 pub struct Noted {
     apart: Apart<Passing>,
     notes: Vec<Note>,
+    effect: Effect,
 }
 
 impl Model for Noted {
     ghost use Rattle.std.specs.Prelude.{List};
     ghost use Rattle.vcd_read.specs.Apart.{ReadApart, apart_with, read_apart};
+    ghost use Rattle.vme_bind.specs.Effects.{IsEffect};
     ghost use Rattle.vme_bind.specs.declared.note.Note.{Note};
 
     ghost Value = { ReadApart (List Note) };
 
     ghost view = { λ n. apart_with n.notes.items (read_apart (λ p. tt {0}) n.apart) };
+
+    ghost invariant = { λ n. IsEffect n.notes.items n.effect };
 }
 
 /// What the steps of a piece are made of.
@@ -155,7 +160,14 @@ impl TextWave {
         let apart = self.pieces.apart(alloc, piece, line, noting)?;
         let (apart, noting) = apart.with_taker(Passing);
         let notes = noting.into_notes();
-        Some(Noted { apart, notes })
+        let Ok(effect) = Effect::of(alloc, &notes) else {
+            return None;
+        };
+        Some(Noted {
+            apart,
+            notes,
+            effect,
+        })
     }
 
     /// Whether a piece that was read apart may be joined: what is read so far ends on the line that it begins on,
@@ -185,11 +197,15 @@ impl TextWave {
             taps,
             mut recorder,
         } = self;
-        let Noted { apart, notes } = noted;
+        let Noted {
+            apart,
+            notes,
+            effect,
+        } = noted;
         let opening = recorder.copy(alloc)?;
         let ended = pieces.ended_by(&apart);
         recorder.pass_end(ended);
-        recorder.pass(&notes)?;
+        recorder.pass(&notes, &effect)?;
         let (pieces, _) = pieces.join(apart);
         let wave = TextWave {
             pieces,

@@ -3,7 +3,7 @@ use Rattle.vme_trace.specs.Levels.{Levels, level_at, set_level, same_level}
 use Rattle.vme_bind.specs.Recording.{IsLine}
 use Rattle.vme_bind.proofs.RecorderLemmas.{touched-same, touched-more}
 use Rattle.vme_bind.proofs.recorder.Recorder.set_line.Goals as goal
-use Rattle.vme_bind.proofs.recorder.Recorder.set_line.Goals.{then-not-is_same+in_ok-touch, else-not-is_same}
+use Rattle.vme_bind.proofs.recorder.Recorder.set_line.Goals.{then-not-is_same+in_ok-push, else-not-is_same}
 
 pub invariant_of-self-2 : goal.invariant_of-self-2
 invariant_of-self-2 c =
@@ -14,9 +14,9 @@ invariant_of-self-2 c =
     let slots : c.args.self.now.now.slots ≡ inside.shown.slots = ap (λ (v : Levels). v.slots) (sym now) ∙ c.self.invariant.slots in
     let here : IsLine inside.shown.slots line = subst (λ s. IsLine s line) slots c.requires in
     elim c.if-not-is_same.branch [
-      | then-not-is_same+in_ok-touch w ↦
+      | then-not-is_same+in_ok-push w ↦
           let set : c.set.new.self ≡ set_level inside.now line level = rw w.self-inside-is at c.set.ensures in
-          rw (w.self-inside-is, set, w.in_ok-touch.ensures.items) (touched-more inside.shown inside.now inside.touched.items line level c.self.invariant here)
+          rw (w.self-inside-is, set, w.in_ok-push.ensures.items) (touched-more inside.shown inside.now inside.touched.items line level c.self.invariant here)
       | else-not-is_same w ↦
           let set : c.set.new.self ≡ set_level inside.now line level = rw w.self-inside-is at c.set.ensures in
           let same : same_level (level_at inside.shown line) level ≡ true = rw (← c.level.ensures) (sym w.if-not-is_same.ensures) in

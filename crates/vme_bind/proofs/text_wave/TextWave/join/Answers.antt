@@ -1,15 +1,17 @@
 use Rattle.std.proofs.Common.{◌≡◌, ◌++◌, sym, ap, subst, ◌∙◌, arith, rules}
-use Rattle.std.specs.Prelude.{All}
+use Rattle.std.specs.Prelude.{All, List}
 use Rattle.vcd_read.specs.Apart.{ReadApart, apart_with, read_apart}
 use Rattle.vcd_read.specs.Reached.{Reached, reached}
+use Rattle.vme_bind.specs.declared.note.Note.{Note}
+use Rattle.vme_bind.specs.Effects.{IsEffect}
 use Rattle.vme_bind.specs.Notes.{AreOfOne, IsOfLine, end_noted, with_notes}
 use Rattle.vme_bind.specs.Recording.{AreLines, Progress}
 use Rattle.vme_bind.specs.Taps.{taps_of}
 use Rattle.vme_bind.proofs.WaveLemmas.{passed-all, passed-slots, wave-joined, wave-lines, wave_of}
 use Rattle.vme_bind.proofs.text_wave.TextWave.join.Goals as goal
 
-pub pass-requires : goal.pass-requires
-pass-requires c =
+pub pass-requires-clause-lines : goal.pass-requires-clause-lines
+pass-requires-clause-lines c =
     let inside = c.self.inside in
     let items = c.noted.inside.notes.items in
     let r : Reached (Unit {0}) = reached (λ p. tt {0}) inside.pieces in
@@ -19,6 +21,9 @@ pass-requires c =
     let lines : All (IsOfLine inside.recorder.now.slots) items =
     wave-lines c.args.piece.now c.args.self c.args.noted inside.fault inside.taps inside.recorder r items a view seen c.requires.noted c.self.invariant.1 in
     subst (All (IsOfLine c.pass_end.new.self.now.slots)) (sym c.deref.ensures.value) (subst (λ s. All (IsOfLine s) items) (sym c.pass_end.ensures.slots) lines)
+
+pub pass-requires-clause-effect : goal.pass-requires-clause-effect
+pass-requires-clause-effect c = subst (λ (notes : List Note). IsEffect notes c.noted.inside.effect) (sym c.deref.ensures.value) c.noted.invariant
 
 pub invariant_of-wave : goal.invariant_of-wave
 invariant_of-wave c =

@@ -1,5 +1,5 @@
 use Rattle.std.proofs.Common.{◌≤◌, length}
-use Rattle.vme_bind.proofs.recorder.last_end.Given as goal
+use Rattle.vme_bind.proofs.effect.last_end.Given as goal
 
 abbrev pub invariant-loop-place : goal.invariant-loop-place
 invariant-loop-place l = l.place ≤ length l.notes
