@@ -1,11 +1,14 @@
 -- What notes do to any levels, in short.
 use Rattle.std.proofs.Common.{◌≡◌, ℕ, ◌+◌, ◌<◌, Bool, true, cond, ◌&&◌, List, [], ◌∷◌, ◌++◌, length, map, get_or, take, inl, inr, Option, Some, None, refl, sym, ap, ◌∙◌, arith}
-use Rattle.std.specs.Prelude.{nat_lt, unwrap_or, slice_set, replicate, is_some}
+use Rattle.std.specs.Prelude.{nat_lt, unwrap_or, slice_set, replicate, is_some, OnOk, OnErr, is_ok}
+use Rattle.std.proofs.Common.{Result, Ok, Err, subst}
+use Rattle.std.proofs.lemmas.Bool.{false≢true}
+use Rattle.std.specs.declared.alloc.AllocError.{AllocError}
 use Rattle.std.proofs.lemmas.Bool.{cases_eq}
 use Rattle.std.proofs.lemmas.Bool.Decides.{nat_tests}
-use Rattle.std.proofs.lemmas.List.{get_or-replicate, get_or-set_same, get_or-set_other, take_more}
+use Rattle.std.proofs.lemmas.List.{get_or-replicate, get_or-set_same, get_or-set_other, length-set, take_more}
 use Rattle.vme_trace.specs.Instants.{those}
-use Rattle.vme_trace.specs.Levels.{Levels, level_at, set_level}
+use Rattle.vme_trace.specs.Levels.{level_at}
 use Rattle.vme_trace.specs.LineNumbers.{line_count}
 use Rattle.vme_trace.specs.Trace.{changed}
 use Rattle.vme_trace.specs.declared.level.Level.{Level}
@@ -15,52 +18,39 @@ use Rattle.vme_trace.proofs.Changing.{slots-kept}
 use Rattle.vme_bind.specs.declared.note.Note.{Note}
 use Rattle.vme_bind.specs.declared.note.Note.TheVariants.{Changed, Ended}
 use Rattle.vme_bind.specs.Effects.{AreLast, DoTheSame}
-use Rattle.vme_bind.specs.Notes.{level_noted, levels_noted}
+use Rattle.vme_bind.specs.Notes.{last_noted, levels_noted}
 use Rattle.vme_bind.proofs.CaptureLemmas.{changed-those, length-changed}
-use Rattle.vme_bind.proofs.NotesLemmas.{levels_noted-length, levels_noted-slots}
-use Rattle.vme_bind.proofs.RecorderLemmas.{same_levels, set_other, set_same, those-yes, those-no}
-
-levels_noted-append : (v : Levels) (xs ys : List Note) → levels_noted v (xs ++ ys) ≡ levels_noted (levels_noted v xs) ys
-levels_noted-append v [] ys = refl
-levels_noted-append v (x ∷ xs) ys = levels_noted-append (level_noted v x) xs ys
-
--- the levels behind one note more
-noted-more : (v : Levels) (notes : List Note) (i : ℕ) (note : Note) → i < length notes → note ≡ get_or notes i note
-    → levels_noted v (take (i + 1) notes) ≡ level_noted (levels_noted v (take i notes)) note
-noted-more v notes i note lt e =
-    ap (levels_noted v) (take_more notes i note lt ∙ ap (λ (x : Note). take i notes ++ x ∷ []) (sym e))
-    ∙ levels_noted-append v (take i notes) (note ∷ [])
+use Rattle.vme_bind.proofs.NotesLemmas.{another, itself, last_behind-append, levels-last, levels_noted-length, levels_noted-slots}
+use Rattle.vme_bind.proofs.RecorderLemmas.{same_levels, those-yes, those-no}
 
 -- ---- the last level of each line
 
-abbrev none_yet : List (Option Level)
+abbrev pub none_yet : List (Option Level)
 none_yet = replicate line_count None
 
-last-none : (l : ℕ) → l < line_count → get_or none_yet l None ≡ None
-last-none l lt = get_or-replicate line_count l None None lt
+pub last-first : AreLast none_yet []
+last-first = record { all = refl; is = λ l lt. get_or-replicate line_count l None None lt }
 
-pub last-first : (notes : List Note) → AreLast none_yet (take 0 notes)
-last-first notes v all l lt = sym (ap (λ (x : Option Level). unwrap_or x (level_at v l)) (last-none l lt))
+pub last-change : (last : List (Option Level)) (notes : List Note) (c : Change) → c.line < line_count → AreLast last notes
+    → AreLast (slice_set last c.line (Some c.level)) (notes ++ Changed c ∷ [])
+last-change last notes c exists h = record {
+  all = length-set last c.line (Some c.level) ∙ h.all;
+  is = λ l lt. elim (cases_eq l c.line) [
+    | inl same ↦
+        ap (λ (k : ℕ). get_or (slice_set last c.line (Some c.level)) k None) same ∙ get_or-set_same last c.line (Some c.level) None (omega (arith, exists, h.all))
+        ∙ ap (λ (b : Bool). cond b (Some c.level) (last_noted notes l)) (sym (itself c.line l same)) ∙ sym (last_behind-append None notes (Changed c ∷ []) l)
+    | inr ne ↦
+        get_or-set_other last c.line l (Some c.level) None ne ∙ h.is l lt
+        ∙ ap (λ (b : Bool). cond b (Some c.level) (last_noted notes l)) (sym (another c.line l ne)) ∙ sym (last_behind-append None notes (Changed c ∷ []) l)
+  ];
+}
 
-pub last-change : (last : List (Option Level)) (notes : List Note) (i : ℕ) (change : Change) → i < length notes → Changed change ≡ get_or notes i (Changed change)
-    → length last ≡ line_count → AreLast last (take i notes) → AreLast (slice_set last change.line (Some change.level)) (take (i + 1) notes)
-last-change last notes i c lt e full h v all l below =
-    let before = levels_noted v (take i notes) in
-    let room = levels_noted-length v (take i notes) ∙ all in
-    ap (λ (w : Levels). level_at w l) (noted-more v notes i (Changed c) lt e)
-    ∙ elim (cases_eq l c.line) [
-      | inl same ↦
-          ap (level_at (set_level before c.line c.level)) same ∙ set_same before c.line c.level (omega (arith, same, below, room))
-          ∙ ap (λ (x : Option Level). unwrap_or x (level_at v l)) (sym (ap (λ (k : ℕ). get_or (slice_set last c.line (Some c.level)) k None) same
-          ∙ get_or-set_same last c.line (Some c.level) None (omega (arith, same, below, full))))
-      | inr ne ↦
-          set_other before c.line l c.level ne ∙ h v all l below
-          ∙ ap (λ (x : Option Level). unwrap_or x (level_at v l)) (sym (get_or-set_other last c.line l (Some c.level) None ne))
-    ]
+pub last-end : (last : List (Option Level)) (notes : List Note) (time : ℕ) → AreLast last notes → AreLast last (notes ++ Ended time ∷ [])
+last-end last notes time h = record { all = h.all; is = λ l lt. h.is l lt ∙ sym (last_behind-append None notes (Ended time ∷ []) l) }
 
-pub last-end : (last : List (Option Level)) (notes : List Note) (i time : ℕ) → i < length notes → Ended time ≡ get_or notes i (Ended time)
-    → AreLast last (take i notes) → AreLast last (take (i + 1) notes)
-last-end last notes i time lt e h v all l below = ap (λ (w : Levels). level_at w l) (noted-more v notes i (Ended time) lt e) ∙ h v all l below
+-- one note more
+pub taken-more : (notes : List Note) (i : ℕ) (note : Note) → i < length notes → note ≡ get_or notes i note → take (i + 1) notes ≡ take i notes ++ note ∷ []
+taken-more notes i note lt e = take_more notes i note lt ∙ ap (λ (x : Note). take i notes ++ x ∷ []) (sym e)
 
 -- ---- one change for each line that has one
 
@@ -97,7 +87,8 @@ changes-do last notes h v all =
     (length-changed v (changes_to last line_count) ∙ all) (levels_noted-length v notes ∙ all)
     (λ l lt. changed-those (is_given last) (given last) v line_count (omega (arith, all)) l
     ∙ ap (λ (b : Bool). cond (b && is_given last l) (given last l) (level_at v l)) (is_below l line_count lt)
-    ∙ by_given (get_or last l None) (level_at v l) ∙ sym (h v all l lt))
+    ∙ by_given (get_or last l None) (level_at v l) ∙ ap (λ (x : Option Level). unwrap_or x (level_at v l)) (h.is l lt)
+    ∙ sym (levels-last v notes l (omega (arith, all, lt))))
   where
     by_given : (x : Option Level) (y : Level) → cond (true && is_some x) (unwrap_or x Unknown) y ≡ unwrap_or x y
     by_given None y = refl
@@ -106,3 +97,13 @@ changes-do last notes h v all =
 pub none-left : (x : Option Level) → ((level : Level) → x ≡ Some level → ⊥) → x ≡ None
 none-left None h = refl
 none-left (Some level) h = absurd (h level refl)
+
+-- where a note is added, or none
+pub either-way : (r : Result (Unit {0}) AllocError) (P : List Note → Type 0) (before after more : List Note) → OnOk r (after ≡ more) → OnErr r (after ≡ before) → P before → P more → P after
+either-way (Ok u) P before after more ok err b m = subst P (sym ok) m
+either-way (Err e) P before after more ok err b m = subst P (sym err) b
+
+-- where one is
+pub when-added : (r : Result (Unit {0}) AllocError) (after more : List Note) → true ≡ is_ok r → OnOk r (after ≡ more) → after ≡ more
+when-added (Ok u) after more e ok = ok
+when-added (Err x) after more e ok = absurd (false≢true (sym e))

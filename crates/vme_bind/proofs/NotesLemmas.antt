@@ -1,15 +1,18 @@
 -- What comes of notes, note by note.
-use Rattle.std.proofs.Common.{◌≡◌, ℕ, ◌+◌, ◌<◌, ◌≤◌, Bool, true, false, cond, ◌&&◌, List, [], ◌∷◌, ◌++◌, length, map, get_or, drop, take, refl, sym, ap, ◌∙◌, append_assoc, arith}
-use Rattle.std.specs.Prelude.{nat_lt}
-use Rattle.std.proofs.Math.ListN.{drop_of_length-le}
+use Rattle.std.proofs.Common.{◌≡◌, ◌≢◌, ℕ, ◌+◌, ◌<◌, ◌≤◌, Bool, Option, Some, None, inl, inr, true, false, cond, ◌&&◌, List, [], ◌∷◌, ◌++◌, length, map, get_or, drop, take, refl, sym, ap, ◌∙◌, append_assoc, arith}
+use Rattle.std.specs.Prelude.{◌==◌, if◌then◌else◌, nat_lt, unwrap_or}
+use Rattle.std.proofs.Math.ListN.{drop_of_length-le, set}
+use Rattle.std.proofs.lemmas.Bool.{cases_eq, cases_lt, false≢true}
 use Rattle.std.proofs.lemmas.Bool.Decides.{nat_tests}
-use Rattle.std.proofs.lemmas.List.{append-nil, length-set, take-append-drop, take_more}
+use Rattle.std.proofs.lemmas.Option.{unwrap_or-slice_get}
+use Rattle.std.proofs.lemmas.List.{append-nil, length-set, set-get_or, set_past, take-append-drop, take_more}
 use Rattle.vme_trace.specs.Followed.{with_steps}
 use Rattle.vme_trace.specs.Instants.{any}
-use Rattle.vme_trace.specs.Levels.{Levels, level_at}
+use Rattle.vme_trace.specs.Levels.{Levels, level_at, set_level}
 use Rattle.vme_trace.specs.LineNumbers.{line_count}
 use Rattle.vme_trace.specs.Trace.{Trace, changed, levels_after}
 use Rattle.vme_trace.specs.declared.level.Level.{Level}
+use Rattle.vme_trace.specs.declared.level.Level.TheVariants.{Unknown}
 use Rattle.vme_trace.specs.declared.step.Change.{Change}
 use Rattle.vme_trace.specs.declared.step.Step.{Step}
 use Rattle.vme_trace.proofs.Changing.{slots-kept}
@@ -23,9 +26,9 @@ use Rattle.vme_bind.specs.Capture.{level_in}
 use Rattle.vme_bind.specs.Taps.{taps_of}
 use Rattle.vme_bind.specs.Recording.{Progress, changes_between, differs, step_between, tapped}
 use Rattle.vme_bind.specs.Made.{Made, made_change, made_instant}
-use Rattle.vme_bind.specs.Notes.{AreOfOne, Notes, IsEnd, changes_noted, level_noted, levels_noted, made_by, noted_change, noted_instant, step_noted, steps_noted, with_note, with_notes}
+use Rattle.vme_bind.specs.Notes.{AreOfOne, Notes, IsEnd, is_level, last_behind, last_noted, level_noted, note_change, note_changes, levels_noted, made_by, noted_change, noted_instant, step_noted, steps_noted, with_note, with_notes}
 use Rattle.vme_bind.proofs.CaptureLemmas.{changed-those, length-changed}
-use Rattle.vme_bind.proofs.RecorderLemmas.{alike, same_levels}
+use Rattle.vme_bind.proofs.RecorderLemmas.{alike, same-is, same_levels, set_other, set_same}
 use Rattle.vme_bind.proofs.WiresLemmas.{from_place}
 
 -- ---- notes behind others
@@ -40,14 +43,105 @@ steps_noted-append p (x ∷ xs) ys =
     ap (λ (ss : List Step). step_noted p x ++ ss) (steps_noted-append (with_note p x) xs ys)
     ∙ sym (append_assoc (step_noted p x) (steps_noted (with_note p x) xs) (steps_noted (with_notes (with_note p x) xs) ys))
 
-with_notes-changes : (p : Progress) (cs : List Change) → with_notes p (changes_noted cs) ≡ record p { now = changed p.now cs }
-unfolding changed
-with_notes-changes p [] = refl
-with_notes-changes p (c ∷ cs) = with_notes-changes (with_note p (Changed c)) cs
+-- ---- the levels behind notes
 
-steps_noted-changes : (p : Progress) (cs : List Change) → steps_noted p (changes_noted cs) ≡ []
-steps_noted-changes p [] = refl
-steps_noted-changes p (c ∷ cs) = steps_noted-changes (with_note p (Changed c)) cs
+pub level_noted-slots : (v : Levels) (note : Note) → (level_noted v note).slots ≡ v.slots
+level_noted-slots v (Changed c) = refl
+level_noted-slots v (Ended time) = refl
+
+pub levels_noted-slots : (v : Levels) (notes : List Note) → (levels_noted v notes).slots ≡ v.slots
+levels_noted-slots v [] = refl
+levels_noted-slots v (Changed c ∷ notes) = levels_noted-slots (level_noted v (Changed c)) notes
+levels_noted-slots v (Ended time ∷ notes) = levels_noted-slots v notes
+
+pub levels_noted-length : (v : Levels) (notes : List Note) → length (levels_noted v notes).levels ≡ length v.levels
+levels_noted-length v [] = refl
+levels_noted-length v (Changed c ∷ notes) = levels_noted-length (level_noted v (Changed c)) notes ∙ length-set v.levels c.line c.level
+levels_noted-length v (Ended time ∷ notes) = levels_noted-length v notes
+
+pub with_notes-now : (p : Progress) (notes : List Note) → (with_notes p notes).now ≡ levels_noted p.now notes
+with_notes-now p [] = refl
+with_notes-now p (Changed c ∷ notes) = with_notes-now (with_note p (Changed c)) notes
+with_notes-now p (Ended time ∷ notes) = with_notes-now (with_note p (Ended time)) notes
+
+-- ---- the last level of a line
+
+pub last_behind-append : (last : Option Level) (xs ys : List Note) (l : ℕ) → last_behind last (xs ++ ys) l ≡ last_behind (last_behind last xs l) ys l
+last_behind-append last [] ys l = refl
+last_behind-append last (Changed c ∷ xs) ys l = last_behind-append (if c.line == l then Some c.level else last) xs ys l
+last_behind-append last (Ended time ∷ xs) ys l = last_behind-append last xs ys l
+
+-- the line that gets a level, and any other
+pub itself : (m l : ℕ) → l ≡ m → (m == l) ≡ true
+itself m l e = grind (arith, nat_tests)
+
+pub another : (m l : ℕ) → l ≢ m → (m == l) ≡ false
+another m l ne = grind (arith, nat_tests)
+
+levels-behind : (last : Option Level) (level : Level) (v : Levels) (notes : List Note) (l : ℕ) → l < length v.levels → level_at v l ≡ unwrap_or last level
+    → level_at (levels_noted v notes) l ≡ unwrap_or (last_behind last notes l) level
+levels-behind last level v [] l lt h = h
+levels-behind last level v (Changed c ∷ notes) l lt h =
+    levels-behind (if c.line == l then Some c.level else last) level (set_level v c.line c.level) notes l (omega (arith, lt, length-set v.levels c.line c.level))
+    (elim (cases_eq l c.line) [
+      | inl same ↦
+          ap (level_at (set_level v c.line c.level)) same ∙ set_same v c.line c.level (omega (arith, same, lt))
+          ∙ ap (λ (b : Bool). unwrap_or (cond b (Some c.level) last) level) (sym (itself c.line l same))
+      | inr ne ↦ set_other v c.line l c.level ne ∙ h ∙ ap (λ (b : Bool). unwrap_or (cond b (Some c.level) last) level) (sym (another c.line l ne))
+    ])
+levels-behind last level v (Ended time ∷ notes) l lt h = levels-behind last level v notes l lt h
+
+-- the levels behind some notes are those that the notes give last
+pub levels-last : (v : Levels) (notes : List Note) (l : ℕ) → l < length v.levels → level_at (levels_noted v notes) l ≡ unwrap_or (last_noted notes l) (level_at v l)
+levels-last v notes l lt = levels-behind None (level_at v l) v notes l lt refl
+
+set-itself : (v : Levels) (l : ℕ) → set_level v l (level_at v l) ≡ v
+set-itself v l = ap (λ (xs : List Level). record { slots = v.slots; levels = xs }) (ap (set v.levels l) (unwrap_or-slice_get v.levels l Unknown) ∙ set-get_or v.levels l Unknown)
+
+-- a level that a line has already changes nothing
+noted-already : (v : Levels) (notes : List Note) (l : ℕ) (level : Level) → is_level (last_noted notes l) level ≡ true → set_level (levels_noted v notes) l level ≡ levels_noted v notes
+noted-already v notes l level e = elim (cases_lt l (length v.levels)) [
+  | inl lt ↦ by_last (last_noted notes l) (levels-last v notes l lt) e
+  | inr le ↦ ap (λ (xs : List Level). record { slots = (levels_noted v notes).slots; levels = xs }) (set_past (levels_noted v notes).levels l level (omega (arith, le, levels_noted-length v notes)))
+]
+  where
+    by_last : (last : Option Level) → level_at (levels_noted v notes) l ≡ unwrap_or last (level_at v l) → is_level last level ≡ true
+        → set_level (levels_noted v notes) l level ≡ levels_noted v notes
+    by_last None at e = absurd (false≢true e)
+    by_last (Some last) at e = ap (set_level (levels_noted v notes) l) (sym (at ∙ same-is last level e)) ∙ set-itself (levels_noted v notes) l
+
+-- ---- what is noted of some changes
+
+abbrev with_now : Progress → Levels → Progress
+with_now p v = record { shown = p.shown; now = v }
+
+with-change : (p : Progress) (notes : List Note) (c : Change) → with_notes p (note_change notes c) ≡ with_now (with_notes p notes) (set_level (with_notes p notes).now c.line c.level)
+with-change p notes c = by_last (is_level (last_noted notes c.line) c.level) refl
+  where
+    by_last : (b : Bool) → is_level (last_noted notes c.line) c.level ≡ b
+        → with_notes p (cond b notes (notes ++ Changed c ∷ [])) ≡ with_now (with_notes p notes) (set_level (with_notes p notes).now c.line c.level)
+    by_last true e =
+        ap (with_now (with_notes p notes)) (with_notes-now p notes ∙ sym (noted-already p.now notes c.line c.level e)
+        ∙ ap (λ (v : Levels). set_level v c.line c.level) (sym (with_notes-now p notes)))
+    by_last false e = with_notes-append p notes (Changed c ∷ [])
+
+with-changes : (p : Progress) (notes : List Note) (cs : List Change) → with_notes p (note_changes notes cs) ≡ with_now (with_notes p notes) (changed (with_notes p notes).now cs)
+unfolding changed
+with-changes p notes [] = refl
+with-changes p notes (c ∷ cs) =
+    with-changes p (note_change notes c) cs
+    ∙ ap (λ (q : Progress). with_now q (changed q.now cs)) (with-change p notes c)
+
+steps-change : (p : Progress) (notes : List Note) (c : Change) → steps_noted p (note_change notes c) ≡ steps_noted p notes
+steps-change p notes c = by_last (is_level (last_noted notes c.line) c.level)
+  where
+    by_last : (b : Bool) → steps_noted p (cond b notes (notes ++ Changed c ∷ [])) ≡ steps_noted p notes
+    by_last true = refl
+    by_last false = steps_noted-append p notes (Changed c ∷ []) ∙ append-nil (steps_noted p notes)
+
+steps-changes : (p : Progress) (notes : List Note) (cs : List Change) → steps_noted p (note_changes notes cs) ≡ steps_noted p notes
+steps-changes p notes [] = refl
+steps-changes p notes (c ∷ cs) = steps-changes p (note_change notes c) cs ∙ steps-change p notes c
 
 -- ---- what is made by notes is what is made
 
@@ -58,11 +152,8 @@ pub made-change : (m : Made) (n : Notes) (net : ℕ) (bits : List Bit) → made_
 made-change m n net bits =
     let cs : List Change = map (tapped bits) (taps_of n.taps net) in
     let p : Progress = with_notes m.progress n.items in
-    let steps : List Step = steps_noted m.progress n.items in
-    ap (λ (q : Progress). made_as n.taps m.recorded q (steps_noted m.progress (n.items ++ changes_noted cs)))
-    (with_notes-append m.progress n.items (changes_noted cs) ∙ with_notes-changes p cs)
-    ∙ ap (made_as n.taps m.recorded (record p { now = changed p.now cs }))
-    (steps_noted-append m.progress n.items (changes_noted cs) ∙ ap (λ (ss : List Step). steps ++ ss) (steps_noted-changes p cs) ∙ append-nil steps)
+    ap (λ (q : Progress). made_as n.taps m.recorded q (steps_noted m.progress (note_changes n.items cs))) (with-changes m.progress n.items cs)
+    ∙ ap (made_as n.taps m.recorded (record p { now = changed p.now cs })) (steps-changes m.progress n.items cs)
 
 pub made-instant : (m : Made) (n : Notes) (time : ℕ) → made_by m (noted_instant n time) ≡ made_instant (made_by m n) time
 made-instant m n time =
@@ -76,19 +167,16 @@ made-instant m n time =
 
 -- ---- one tap after another
 
-noted-last : (f : Tap → Change) (xs : List Tap) (x : Tap) → changes_noted (map f (xs ++ x ∷ [])) ≡ changes_noted (map f xs) ++ Changed (f x) ∷ []
-noted-last f [] x = refl
-noted-last f (y ∷ xs) x = ap (λ (ns : List Note). Changed (f y) ∷ ns) (noted-last f xs x)
+note_changes-last : (notes : List Note) (f : Tap → Change) (xs : List Tap) (x : Tap) → note_changes notes (map f (xs ++ x ∷ [])) ≡ note_change (note_changes notes (map f xs)) (f x)
+note_changes-last notes f [] x = refl
+note_changes-last notes f (y ∷ xs) x = note_changes-last (note_change notes (f y)) f xs x
 
 pub noted-more : (taps : List Tap) (bits : List Bit) (i : ℕ) (tap : Tap) (before : List Note) (level : Level) → i < length taps → tap ≡ get_or taps i tap → level ≡ level_in tap.line tap.place bits
-    → (before ++ changes_noted (map (tapped bits) (take i taps))) ++ Changed (record { line = tap.line; level = level }) ∷ [] ≡ before ++ changes_noted (map (tapped bits) (take (i + 1) taps))
+    → note_change (note_changes before (map (tapped bits) (take i taps))) (record { line = tap.line; level = level }) ≡ note_changes before (map (tapped bits) (take (i + 1) taps))
 noted-more taps bits i tap before level lt e is =
-    let so_far : List Note = changes_noted (map (tapped bits) (take i taps)) in
-    append_assoc before so_far (Changed (record { line = tap.line; level = level }) ∷ [])
-    ∙ ap (λ (ns : List Note). before ++ ns)
-    (ap (λ (x : Level). so_far ++ Changed (record { line = tap.line; level = x }) ∷ []) is
-    ∙ sym (noted-last (tapped bits) (take i taps) tap)
-    ∙ ap (λ (ts : List Tap). changes_noted (map (tapped bits) ts)) (ap (λ (t : Tap). take i taps ++ t ∷ []) e ∙ sym (take_more taps i tap lt)))
+    ap (λ (x : Level). note_change (note_changes before (map (tapped bits) (take i taps))) (record { line = tap.line; level = x })) is
+    ∙ sym (note_changes-last before (tapped bits) (take i taps) tap)
+    ∙ ap (λ (ts : List Tap). note_changes before (map (tapped bits) ts)) (ap (λ (t : Tap). take i taps ++ t ∷ []) e ∙ sym (take_more taps i tap lt))
 
 -- ---- one note after another
 
@@ -115,27 +203,6 @@ steps_noted-last p before notes i le = sym (append-nil before) ∙ ap (λ (ns : 
 
 pub levels_noted-last : (v : Levels) (notes : List Note) (i : ℕ) → length notes ≤ i → v ≡ levels_noted v (drop i notes)
 levels_noted-last v notes i le = ap (levels_noted v) (sym (drop_of_length-le notes le))
-
--- ---- the levels behind notes
-
-pub level_noted-slots : (v : Levels) (note : Note) → (level_noted v note).slots ≡ v.slots
-level_noted-slots v (Changed c) = refl
-level_noted-slots v (Ended time) = refl
-
-pub levels_noted-slots : (v : Levels) (notes : List Note) → (levels_noted v notes).slots ≡ v.slots
-levels_noted-slots v [] = refl
-levels_noted-slots v (Changed c ∷ notes) = levels_noted-slots (level_noted v (Changed c)) notes
-levels_noted-slots v (Ended time ∷ notes) = levels_noted-slots v notes
-
-pub levels_noted-length : (v : Levels) (notes : List Note) → length (levels_noted v notes).levels ≡ length v.levels
-levels_noted-length v [] = refl
-levels_noted-length v (Changed c ∷ notes) = levels_noted-length (level_noted v (Changed c)) notes ∙ length-set v.levels c.line c.level
-levels_noted-length v (Ended time ∷ notes) = levels_noted-length v notes
-
-pub with_notes-now : (p : Progress) (notes : List Note) → (with_notes p notes).now ≡ levels_noted p.now notes
-with_notes-now p [] = refl
-with_notes-now p (Changed c ∷ notes) = with_notes-now (with_note p (Changed c)) notes
-with_notes-now p (Ended time ∷ notes) = with_notes-now (with_note p (Ended time)) notes
 
 abbrev pub all_of : Levels → Progress
 all_of v = record { shown = v; now = v }

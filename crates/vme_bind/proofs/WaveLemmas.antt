@@ -1,8 +1,8 @@
 -- What comes of a dump whose pieces are read apart from one another, and joined in order.
-use Rattle.std.proofs.Common.{◌≡◌, ℕ, List, [], ◌∷◌, ◌++◌, map, Option, Some, None, Result, refl, sym, ap, ◌∙◌, subst, append_assoc}
+use Rattle.std.proofs.Common.{◌≡◌, ℕ, Bool, true, false, cond, List, [], ◌∷◌, ◌++◌, map, Option, Some, None, Result, refl, sym, ap, ◌∙◌, subst, append_assoc}
 use Rattle.std.specs.Prelude.{All}
 use Rattle.std.proofs.lemmas.List.{append-nil}
-use Rattle.std.proofs.lemmas.List.Elements.{All-append, All-cons, All-map, All-nil}
+use Rattle.std.proofs.lemmas.List.Elements.{All-append, All-cons, All-head, All-nil, All-tail}
 use Rattle.vme_trace.specs.Followed.{with_steps}
 use Rattle.vme_trace.specs.Levels.{Levels}
 use Rattle.vme_trace.specs.Trace.{Trace}
@@ -18,8 +18,8 @@ use Rattle.vcd_read.specs.declared.dump.Bit.{Bit}
 use Rattle.vcd_read.specs.declared.fault.VcdFault.{VcdFault}
 use Rattle.vcd_read.proofs.ApartLemmas.{joined-leads, kept-apart}
 use Rattle.vme_bind.specs.Made.{Made, made_change, made_instant}
-use Rattle.vme_bind.specs.Notes.{AreOfOne, IsOfLine, Notes, changes_noted, end_noted, made_by, noted_change, noted_instant, step_noted, steps_noted, with_note, with_notes}
-use Rattle.vme_bind.specs.Recording.{AreLines, Progress, tapped}
+use Rattle.vme_bind.specs.Notes.{AreOfOne, IsOfLine, Notes, end_noted, is_level, last_noted, made_by, note_change, note_changes, noted_change, noted_instant, step_noted, steps_noted, with_note, with_notes}
+use Rattle.vme_bind.specs.Recording.{AreLines, IsLine, Progress, tapped}
 use Rattle.vme_bind.specs.Taps.{taps_of}
 use Rattle.vme_bind.specs.TextPieces.{outcome, outcome_ahead}
 use Rattle.vme_bind.specs.TextWaves.{IsJoined, IsNoted, ToMake, WaveReached, noted_apart, with_recording}
@@ -43,9 +43,19 @@ noted-read nets taps bytes a is =
     kept-apart noted_change noted_instant nets (λ (n : Notes). n.taps ≡ taps) (λ n net bits h. h) (λ n time h. h) bytes (no_notes taps) a is refl in
     subst (λ (t : Taps). IsReadApart noted_change noted_instant nets bytes (no_notes taps) (noted_apart t (apart_with a.progress.taken.items a))) same is
 
-changes-lines : (slots : ℕ) (taps : List Tap) (bits : List Bit) → AreLines slots taps → All (IsOfLine slots) (changes_noted (map (tapped bits) taps))
-changes-lines slots taps bits h =
-    All-map (IsOfLine slots) (λ (c : Change). Changed c) (map (tapped bits) taps) (All-map (λ (c : Change). IsOfLine slots (Changed c)) (tapped bits) taps h)
+note-line : (slots : ℕ) (notes : List Note) (c : Change) → All (IsOfLine slots) notes → IsLine slots c.line → All (IsOfLine slots) (note_change notes c)
+note-line slots notes c h line = by_last (is_level (last_noted notes c.line) c.level)
+  where
+    by_last : (b : Bool) → All (IsOfLine slots) (cond b notes (notes ++ Changed c ∷ []))
+    by_last true = h
+    by_last false = All-append (IsOfLine slots) notes (Changed c ∷ []) h (All-cons (IsOfLine slots) (Changed c) [] line (All-nil (IsOfLine slots)))
+
+changes-lines : (slots : ℕ) (notes : List Note) (taps : List Tap) (bits : List Bit) → All (IsOfLine slots) notes → AreLines slots taps
+    → All (IsOfLine slots) (note_changes notes (map (tapped bits) taps))
+changes-lines slots notes [] bits h lines = h
+changes-lines slots notes (tap ∷ taps) bits h lines =
+    changes-lines slots (note_change notes (tapped bits tap)) taps bits
+    (note-line slots notes (tapped bits tap) h (All-head (λ (t : Tap). IsLine slots t.line) tap taps lines)) (All-tail (λ (t : Tap). IsLine slots t.line) tap taps lines)
 
 -- notes with these taps, of lines of the backplane
 record AreNoted (slots : ℕ) (taps : Taps) (n : Notes) : Type 0 where
@@ -56,9 +66,7 @@ module _ (slots : ℕ) (taps : Taps) (are : (net : ℕ) → AreLines slots (taps
   change-noted : (n : Notes) (net : ℕ) (bits : List Bit) → AreNoted slots taps n → AreNoted slots taps (noted_change n net bits)
   change-noted n net bits h = record {
     same = h.same;
-    lines =
-        All-append (IsOfLine slots) n.items (changes_noted (map (tapped bits) (taps_of n.taps net))) h.lines
-        (changes-lines slots (taps_of n.taps net) bits (subst (λ (t : Taps). AreLines slots (taps_of t net)) (sym h.same) (are net)));
+    lines = changes-lines slots n.items (taps_of n.taps net) bits h.lines (subst (λ (t : Taps). AreLines slots (taps_of t net)) (sym h.same) (are net));
   }
 
   instant-noted : (n : Notes) (time : ℕ) → AreNoted slots taps n → AreNoted slots taps (noted_instant n time)

@@ -1,20 +1,19 @@
 -- What some notes do to any levels, in short.
-use Rattle.std.specs.Prelude.{◌≡◌, ℕ, ◌<◌, List, Option, None, get_or, length, take, unwrap_or}
+use Rattle.std.specs.Prelude.{◌≡◌, ℕ, ◌<◌, List, Option, None, get_or, length, take}
 use Rattle.std.specs.Option.{ForSome}
-use Rattle.vme_trace.specs.Levels.{Levels, level_at}
+use Rattle.vme_trace.specs.Levels.{Levels}
 use Rattle.vme_trace.specs.LineNumbers.{line_count}
 use Rattle.vme_trace.specs.Trace.{changed}
 use Rattle.vme_trace.specs.declared.level.Level.{Level}
 use Rattle.vme_trace.specs.declared.step.Change.{Change}
 use Rattle.vme_bind.specs.declared.effect.Effect.{Effect}
 use Rattle.vme_bind.specs.declared.note.Note.{Note}
-use Rattle.vme_bind.specs.Notes.{IsEnd, levels_noted}
+use Rattle.vme_bind.specs.Notes.{IsEnd, last_noted, levels_noted}
 
--- behind the notes each line has the level that is given for it, or else the one before
-abbrev pub AreLast : List (Option Level) → List Note → Type 0
-AreLast last notes =
-    (v : Levels) → length v.levels ≡ line_count → (l : ℕ) → l < line_count
-    → level_at (levels_noted v notes) l ≡ unwrap_or (get_or last l None) (level_at v l)
+-- the last level that the notes give each line
+pub record AreLast (last : List (Option Level)) (notes : List Note) : Type 0 where
+  pub all : length last ≡ line_count
+  pub is : (l : ℕ) → l < line_count → get_or last l None ≡ last_noted notes l
 
 -- the changes lead from any levels to those that the notes lead to
 abbrev pub DoTheSame : List Change → List Note → Type 0

@@ -1,8 +1,10 @@
 -- What is noted of a dump as it is read, and what comes of it.
-use Rattle.std.specs.Prelude.{◌≡◌, ℕ, ◌<◌, List, [], ◌∷◌, ◌++◌, get_or, length, map, Option, None, Some}
+use Rattle.std.specs.Prelude.{◌≡◌, ℕ, ◌<◌, ◌==◌, Bool, false, if◌then◌else◌, List, [], ◌∷◌, ◌++◌, get_or, length, map}
+use Rattle.std.specs.Prelude.{Option, None, Some}
 use Rattle.vme_trace.specs.Followed.{with_steps}
-use Rattle.vme_trace.specs.Levels.{Levels, set_level}
+use Rattle.vme_trace.specs.Levels.{Levels, same_level, set_level}
 use Rattle.vme_trace.specs.LineNumbers.{line_count}
+use Rattle.vme_trace.specs.declared.level.Level.{Level}
 use Rattle.vme_trace.specs.declared.step.Change.{Change}
 use Rattle.vme_trace.specs.declared.step.Step.{Step}
 use Rattle.vcd_read.specs.declared.dump.Bit.{Bit}
@@ -18,12 +20,33 @@ pub record Notes : Type 0 where
   pub taps : Taps
   pub items : List Note
 
-abbrev pub changes_noted : List Change → List Note
-changes_noted changes = map (λ (c : Change). Changed c) changes
+-- the level that a line has behind some notes, if it had this one before or none that is known
+abbrev pub last_behind : Option Level → List Note → ℕ → Option Level
+last_behind last [] l = last
+last_behind last (Changed change ∷ notes) l = last_behind (if change.line == l then Some change.level else last) notes l
+last_behind last (Ended time ∷ notes) l = last_behind last notes l
+
+-- the last level that some notes give a line
+abbrev pub last_noted : List Note → ℕ → Option Level
+last_noted notes l = last_behind None notes l
+
+abbrev pub is_level : Option Level → Level → Bool
+is_level None level = false
+is_level (Some last) level = same_level last level
+
+-- a line gets a level, which is noted unless the notes say so already
+abbrev pub note_change : List Note → Change → List Note
+note_change notes change =
+    if is_level (last_noted notes change.line) change.level then notes else notes ++ Changed change ∷ []
+
+-- some lines get levels, one after the other
+abbrev pub note_changes : List Note → List Change → List Note
+note_changes notes [] = notes
+note_changes notes (change ∷ changes) = note_changes (note_change notes change) changes
 
 -- a net gets these bits
 abbrev pub noted_change : Notes → ℕ → List Bit → Notes
-noted_change n net bits = record n { items = n.items ++ changes_noted (map (tapped bits) (taps_of n.taps net)) }
+noted_change n net bits = record n { items = note_changes n.items (map (tapped bits) (taps_of n.taps net)) }
 
 -- an instant ends
 abbrev pub noted_instant : Notes → ℕ → Notes

@@ -34,8 +34,7 @@ fn last_end(notes: &[Note]) -> Option<usize>
 
 /// The last level that some notes give each line.
 fn last_levels(notes: &[Note]) -> [Option<Level>; LINE_COUNT as usize]
-    ensures last { AreLast result notes.now }
-    ensures all { length result ≡ line_count }
+    ensures { AreLast result notes.now }
 {
     let mut levels = [None; LINE_COUNT as usize];
     for note in notes {

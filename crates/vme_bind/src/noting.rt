@@ -1,9 +1,9 @@
 //! What a dump says of the lines of a backplane, as notes.
 
-ghost use Rattle.std.specs.Prelude.{◌≡◌, ◌≤◌, ◌<◌, ◌++◌, ◌∷◌, [], OnOk, map, length};
+ghost use Rattle.std.specs.Prelude.{◌≡◌, ◌≤◌, ◌<◌, ◌++◌, ◌∷◌, [], OnErr, OnOk, map, length};
 ghost use Rattle.vcd_read.specs.Numbers.{extended};
 ghost use Rattle.vme_bind.specs.Recording.{tapped};
-ghost use Rattle.vme_bind.specs.Notes.{changes_noted, noted_change, noted_instant};
+ghost use Rattle.vme_bind.specs.Notes.{note_change, note_changes, noted_change, noted_instant};
 
 use crate::note::Note;
 use crate::pushing::push;
@@ -12,24 +12,43 @@ use crate::taps::{Tap, Taps};
 use std::alloc::{AllocError, Global};
 use std::marker::Model;
 use vcd_read::Taker;
-use vme_trace::Change;
+use vme_trace::{Change, LINE_COUNT, Level};
 
 /// How many notes are kept of one piece.
 const MOST_NOTES: usize = 524_288;
 
-/// The lines of the nets, and the notes of what they got so far. Changes of other nets cost no note.
+/// The lines of the nets, and the notes of what they got so far. Changes of other nets cost no note, and neither does a
+/// level that a line got before: a value of a vector tells all its lines, of which few change.
 #[derive(Drop)]
 pub(crate) struct Noting<'t> {
     taps: &'t Taps,
     notes: Vec<Note>,
+    /// The last level that was noted of each line.
+    last: [Option<Level>; LINE_COUNT as usize],
 }
 
 impl<'t> Model for Noting<'t> {
+    ghost use Rattle.vme_bind.specs.Effects.{AreLast};
     ghost use Rattle.vme_bind.specs.Notes.{Notes};
 
     ghost Value = { Notes };
 
     ghost view = { λ n. record { taps = n.taps.now; items = n.notes.items } };
+
+    ghost invariant = { λ n. AreLast n.last n.notes.items };
+}
+
+/// Adds a note. Errors are want of memory, and a note more than are kept: a binding may give many lines to one net, so
+/// that a short text had notes that fill the memory. Either leaves the notes as they were.
+#[inline(always)]
+fn add(notes: &mut Vec<Note>, note: Note) -> Result<(), AllocError>
+    ensures items { OnOk result (notes.new.items ≡ notes.old.items ++ note ∷ []) }
+    ensures stays { OnErr result (notes.new.items ≡ notes.old.items) }
+{
+    if notes.len() >= MOST_NOTES {
+        return Err(AllocError);
+    }
+    push(notes, note)
 }
 
 impl<'t> Noting<'t> {
@@ -40,6 +59,7 @@ impl<'t> Noting<'t> {
         Noting {
             taps,
             notes: Vec::new(alloc),
+            last: [None; LINE_COUNT as usize],
         }
     }
 
@@ -47,21 +67,39 @@ impl<'t> Noting<'t> {
     pub fn into_notes(self) -> Vec<Note>
         ensures { result.items ≡ self.entry.items }
     {
-        let Noting { taps, notes } = self;
-        let _ = taps;
+        let Noting {
+            taps: _,
+            notes,
+            last: _,
+        } = self;
         notes
     }
 
-    /// Errors are want of memory, and a note more than are kept: a binding may give many lines to one net, so that a
-    /// short text had notes that fill the memory.
+    /// Notes that a line got a level, unless it was noted last. Errors are those of `add`.
     #[inline(always)]
-    fn push(&mut self, note: Note) -> Result<(), AllocError>
-        ensures { OnOk result (self.new ≡ record self.old { items = self.old.items ++ note ∷ [] }) }
+    fn note_change(&mut self, change: Change) -> Result<(), AllocError>
+        ensures { OnOk result (self.new ≡ record self.old { items = note_change self.old.items change }) }
     {
-        if self.notes.len() >= MOST_NOTES {
-            return Err(AllocError);
+        let Change { line, level } = change;
+        let number = line.number() as usize;
+        if let Some(last) = self.last[number] {
+            if last.is_same(level) {
+                return Ok(());
+            }
         }
-        push(&mut self.notes, note)
+        let added = add(&mut self.notes, Note::Changed(change));
+        if added.is_ok() {
+            self.last[number] = Some(level);
+        }
+        added
+    }
+
+    /// Notes that the instant at hand ended. Errors are those of `add`.
+    #[inline(always)]
+    fn note_end(&mut self, time: u64) -> Result<(), AllocError>
+        ensures { OnOk result (self.new ≡ noted_instant self.old time) }
+    {
+        add(&mut self.notes, Note::Ended(time))
     }
 
     /// Notes the levels that the digits of a value give to the lines of its net, where so many bits are the net's.
@@ -70,14 +108,14 @@ impl<'t> Noting<'t> {
         requires some { 0 < length digits.now }
         requires fits { length digits.now ≤ size }
         ensures { OnOk result (self.new ≡ record self.old
-            { items = self.old.items ++ changes_noted (map (tapped (extended size digits.now)) taps.now) }) }
+            { items = note_changes self.old.items (map (tapped (extended size digits.now)) taps.now) }) }
     {
         for tap in taps {
             let level = level_by_digits(*tap, size, digits);
-            self.push(Note::Changed(Change {
+            self.note_change(Change {
                 line: tap.line,
                 level,
-            }))?;
+            })?;
         }
         Ok(())
     }
@@ -110,6 +148,6 @@ impl Taker for Noting<'_> {
     #[inline(always)]
     fn end_instant(&mut self, alloc: Global, time: u64) -> Result<(), AllocError> {
         let _ = alloc;
-        self.push(Note::Ended(time))
+        self.note_end(time)
     }
 }

@@ -34,4 +34,4 @@ returns c =
     let n : c.loop-number.number ≡ line_count = omega (arith, c.loop-number-test.false, c.loop-number.auto.number-end) in
     subst (λ (changes : List Change). DoTheSame changes c.args.notes.now)
     (sym (c.loop-number.invariant ∙ ap (changes_to c.last_levels-levels.result) n))
-    (changes-do c.last_levels-levels.result c.args.notes.now c.last_levels-levels.ensures.last)
+    (changes-do c.last_levels-levels.result c.args.notes.now c.last_levels-levels.ensures)
