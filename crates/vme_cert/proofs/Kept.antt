@@ -1,5 +1,5 @@
 -- What the changes at an instant do, and what stays where a line shows what it did before.
-use Rattle.std.proofs.Common.{◌≡◌, ℕ, zero, suc, ◌+◌, ◌-◌, ◌<◌, ◌≤◌, Bool, true, false, ◌&&◌, not, List, [], refl, sym, ◌∙◌, ap, subst, arith, length, get_or, inl, inr, ◌⊎◌, add-one}
+use Rattle.std.proofs.Common.{◌≡◌, ℕ, zero, suc, ◌-◌, ◌<◌, Bool, true, false, ◌&&◌, not, List, [], refl, sym, ◌∙◌, ap, subst, arith, length, get_or, inl, inr, ◌⊎◌}
 use Rattle.std.specs.Prelude.{None, Some, slice_get}
 use Rattle.std.proofs.lemmas.Option.{slice_get_past, slice_get_read, slice_get_within}
 use Rattle.vme_trace.specs.LineNumbers.{has_line}
@@ -8,7 +8,6 @@ use Rattle.vme_trace.specs.Levels.{Levels, is_low, is_high, same_level}
 use Rattle.vme_trace.specs.Trace.{Trace, levels_at, changed, time_at}
 use Rattle.vme_trace.specs.Signals.{level, low, high, falls, rises, has_edge}
 use Rattle.vme_trace.specs.declared.step.Step.{Step}
-use Rattle.vme_trace.specs.declared.step.Change.{Change}
 use Rattle.vme_trace.specs.declared.level.Level.{Level}
 use Rattle.vme_trace.specs.declared.level.Level.TheVariants.{Low, High, Unknown}
 use Rattle.vme_trace.proofs.Ranges.{any-fails, least-none-any}
@@ -18,15 +17,7 @@ use Rattle.vme_trace.proofs.SpanEnds.{slots_at}
 pub step_at : (t : Trace) (steps : List Step) (i : ℕ) (step : Step) → steps ≡ t.steps → i < length t.steps → step ≡ get_or steps i step → slice_get t.steps i ≡ Some step
 step_at t steps i step e below is = ap (λ xs. slice_get xs i) (sym e) ∙ slice_get_read steps (length steps) i step refl (subst (λ xs. i < length xs) (sym e) below) is
 
--- its changes make the next levels, and past the last they stay
-pub next : (t : Trace) (v : Levels) (i : ℕ) (step : Step) (cs : List Change) → v ≡ levels_at t i → cs ≡ step.changes → slice_get t.steps i ≡ Some step → changed v cs ≡ levels_at t (i + 1)
-unfolding levels_at
-next t v i step cs e k found = rw (add-one, e, k, found) refl
-
-pub past : (t : Trace) (i : ℕ) → length t.steps ≤ i → levels_at t i ≡ levels_at t (i + 1)
-unfolding levels_at
-past t i h = rw (add-one, slice_get_past t.steps i h) refl
-
+-- its changes make the levels of its instant, and past the last they stay
 pub made : (t : Trace) (i : ℕ) (step : Step) → 0 < i → slice_get t.steps (i - 1) ≡ Some step → levels_at t i ≡ changed (levels_at t (i - 1)) step.changes
 unfolding levels_at
 made t zero step h found = absurd (omega arith)
@@ -98,6 +89,11 @@ sound-step t i step well above found =
 pub timed : (t : Trace) (i : ℕ) (step : Step) → 0 < i → slice_get t.steps (i - 1) ≡ Some step → step.time ≡ time_at t i
 timed t zero step above found = absurd (omega arith)
 timed t (suc n) step above found = let e : suc n - 1 ≡ n = omega arith in rw (rw e at found) refl
+
+pub none_timed : (t : Trace) (i : ℕ) → (i ≡ 0) ⊎ (length t.steps < i) → 0 ≡ time_at t i
+none_timed t zero h = refl
+none_timed t (suc n) (inl e) = absurd (omega arith)
+none_timed t (suc n) (inr h) = rw (slice_get_past t.steps n (omega arith)) refl
 
 pub same_lines : (t : Trace) (v : Levels) (i l : ℕ) → v ≡ levels_at t i → has_line v.slots l ≡ has_line t.opening.slots l
 same_lines t v i l e = ap (λ (w : Levels). has_line w.slots l) e ∙ ap (λ slots. has_line slots l) (slots_at t i)

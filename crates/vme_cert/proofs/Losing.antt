@@ -1,5 +1,5 @@
 -- Where what is judged stops: where the bus is reset, or one of the changes loses a control line. Where the bus is idle it goes on.
-use Rattle.std.proofs.Common.{◌≡◌, ℕ, ◌+◌, ◌-◌, ◌≤◌, Bool, true, false, ◌||◌, List, refl, sym, ◌∙◌, ap, arith}
+use Rattle.std.proofs.Common.{◌≡◌, ℕ, ◌-◌, ◌≤◌, Bool, true, false, ◌||◌, List, refl, sym, ◌∙◌, ap}
 use Rattle.std.specs.Prelude.{is_some}
 use Rattle.vme_trace.specs.LineNumbers.{line_count}
 use Rattle.vme_trace.specs.Levels.{Levels, is_idle, is_reset, is_lost, loses_control}
@@ -25,13 +25,13 @@ module _ (t : Trace) (now : Levels) (j : ℕ) (here : now ≡ levels_at t j) whe
   unfolding is_reset_at
   reset-is = ap is_reset here
 
-  reset_here : is_reset now ≡ true → stops_at t j ≡ true
-  reset_here h = ap (λ b. b || loses_control_at t j) (sym reset-is ∙ h)
+  pub stops-reset : is_reset now ≡ true → stops_at t j ≡ true
+  stops-reset h = ap (λ b. b || loses_control_at t j) (sym reset-is ∙ h)
 
   -- where it isn't reset, a control line among the changes tells
-  lost_here : (cs : List Change) → t.opening.slots ≤ 21 → levels_at t j ≡ changed (levels_at t (j - 1)) cs → are_changes (levels_at t (j - 1)) 0 cs ≡ true → stops_at t (j - 1) ≡ false → is_reset now ≡ false → stops_at t j ≡ is_some (lost_among now cs)
+  pub stops-lost : (cs : List Change) → t.opening.slots ≤ 21 → levels_at t j ≡ changed (levels_at t (j - 1)) cs → are_changes (levels_at t (j - 1)) 0 cs ≡ true → stops_at t (j - 1) ≡ false → is_reset now ≡ false → stops_at t j ≡ is_some (lost_among now cs)
   unfolding loses_control_at loses_control is_reset_at
-  lost_here cs few made sound before h =
+  stops-lost cs few made sound before h =
       let v = levels_at t (j - 1) in
       let slots : v.slots ≤ 21 = rw (slots_at t (j - 1)) few in
       let held = neither (is_reset_at t (j - 1)) (loses_control_at t (j - 1)) before in
@@ -39,19 +39,6 @@ module _ (t : Trace) (now : Levels) (j : ℕ) (here : now ≡ levels_at t j) whe
       (ap (λ (w : Levels). is_some (lost_among w cs)) (here ∙ made)
       ∙ (ap is_some (lost-least v cs slots sound held.1 held.0)
       ∙ (any-first (is_lost (changed v cs)) 0 line_count ∙ (ap (λ (w : Levels). loses_control w) (sym made) ∙ sym (ap (λ b. b || loses_control_at t j) (sym reset-is ∙ h))))))
-
--- the same for a walk that has come to an instant
-module _ (t u : Trace) (now : Levels) (j k : ℕ) (same : u ≡ t) (at : k ≡ j) (here : now ≡ levels_at u k) where
-  moved : stops_at t j ≡ stops_at u k
-  moved = sym (ap (λ (v : Trace). stops_at v k) same ∙ ap (stops_at t) at)
-
-  pub stops-reset : is_reset now ≡ true → stops_at t j ≡ true
-  stops-reset h = moved ∙ reset_here u now k here h
-
-  pub stops-lost : (i : ℕ) (cs : List Change) → i + 1 ≡ j → u.opening.slots ≤ 21 → levels_at u k ≡ changed (levels_at u (k - 1)) cs → are_changes (levels_at u (k - 1)) 0 cs ≡ true → stops_at t i ≡ false → is_reset now ≡ false → stops_at t j ≡ is_some (lost_among now cs)
-  stops-lost i cs next few made sound before h =
-      let back : k - 1 ≡ i = omega arith in
-      moved ∙ lost_here u now k here cs few made sound (ap (λ (v : Trace). stops_at v (k - 1)) same ∙ (ap (stops_at t) back ∙ before)) h
 
 -- whether the bus is idle, by the levels there
 pub idle-here : (t u : Trace) (v : Levels) (i start : ℕ) (b : Bool) → u ≡ t → i ≡ start → v ≡ levels_at u i → b ≡ is_idle v → is_idle_at t start ≡ b

@@ -1,8 +1,9 @@
 -- Outside of a span nothing is answered, nothing begins, and no rule is broken but at its end.
-use Rattle.std.proofs.Common.{◌≡◌, ℕ, zero, suc, ◌+◌, ◌<◌, ◌≤◌, false, List, [], ◌∷◌, refl, sym, ◌∙◌, arith, inl, inr, ◌⊎◌}
+use Rattle.std.proofs.Common.{◌≡◌, ℕ, zero, suc, ◌+◌, ◌<◌, ◌≤◌, Bool, true, false, ◌||◌, List, [], ◌∷◌, refl, sym, ◌∙◌, arith, inl, inr, ◌⊎◌}
 use Rattle.std.specs.Prelude.{None, ◌==◌}
 use Rattle.std.proofs.lemmas.Bool.Decides.{nat_tests}
-use Rattle.vme_trace.specs.Instants.{those}
+use Rattle.std.proofs.lemmas.List.{append-nil}
+use Rattle.vme_trace.specs.Instants.{any, those}
 use Rattle.vme_trace.specs.LineNumbers.{line_count}
 use Rattle.vme_trace.specs.Trace.{Trace}
 use Rattle.vme_trace.specs.Judged.{Span, is_judged}
@@ -13,11 +14,11 @@ use Rattle.vme_trace.specs.Rules.{breaks, ends_span}
 use Rattle.vme_trace.specs.Verdict.{break_at, break_before}
 use Rattle.vme_trace.specs.declared.rule.Rule.{Rule}
 use Rattle.vme_trace.specs.declared.rule.Rule.TheVariants.{U1}
-use Rattle.vme_trace.proofs.Ranges.{fails-any, least-none}
+use Rattle.vme_trace.proofs.Ranges.{any-fails, fails-any, least-none}
 use Rattle.vme_listing.specs.Recorded.{rows_before, tenure_rows, cycle_rows, transfer_rows}
-use Rattle.vme_cert.specs.Events.{is_acknowledged}
+use Rattle.vme_cert.specs.Events.{is_acknowledged, row_starts}
 use Rattle.vme_cert.proofs.FirstBreaks.{break_at-next, break_at-empty}
-use Rattle.vme_cert.proofs.Searching.{any-start}
+use Rattle.vme_cert.proofs.Searching.{any-start, any-end}
 use Rattle.vme_cert.proofs.Those.{those-none}
 use Rattle.vme_cert.proofs.Truth.{first_fails}
 use Rattle.vme_cert.proofs.Watched.{breaks-unstarted}
@@ -32,8 +33,15 @@ other : (i j : ℕ) → (i < j) ⊎ (j < i) → (i == j) ≡ false
 other i j (inl h) = grind (arith, nat_tests)
 other i j (inr h) = grind (arith, nat_tests)
 
-last_or_before : (j n : ℕ) → j ≤ n + 1 → (j ≤ n) ⊎ (j ≡ n + 1)
-last_or_before j n h = grind arith
+last_or_earlier : (m n : ℕ) → m ≤ suc n → (m ≡ suc n) ⊎ (m ≤ n)
+last_or_earlier m n h = grind arith
+
+none_of : (a b c d : Bool) → (a || b || c || d) ≡ false → (a ≡ false) × (b ≡ false) × (c ≡ false) × (d ≡ false)
+none_of true b c d h = absurd (cc)
+none_of false true c d h = absurd (cc)
+none_of false false true d h = absurd (cc)
+none_of false false false true h = absurd (cc)
+none_of false false false false h = (refl, refl, refl, refl)
 
 module _ (t : Trace) (span : Span) where
   unanswered : (r : ℕ) → r ≤ span.start → is_answer t span r ≡ false
@@ -82,29 +90,33 @@ module _ (t : Trace) (span : Span) where
             (break_at-outside n (past_end span n (omega (arith, before, ended m n before past))) (other n span.end (inr (omega (arith, before, ended m n before past)))) rules)
       ]
     where
-      last_or_earlier : (m n : ℕ) → m ≤ suc n → (m ≡ suc n) ⊎ (m ≤ n)
-      last_or_earlier m n h = grind arith
-
       ended : (m n : ℕ) → m ≤ n → (suc n ≤ m) ⊎ (span.end < m) → span.end < m
       ended m n h (inl here) = absurd (omega arith)
       ended m n h (inr past) = past
 
-  -- nothing begins before the start
-  module _ (end i : ℕ) (before : i < span.start) where
-    tenures : tenure_rows t span end i ≡ []
-    unfolding tenure_rows tenure_starts
-    tenures = rw (other i span.start (inl before), before_start span i (omega arith)) refl
+  -- no row starts before the span does
+  starts-outside : (i : ℕ) → i < span.start → row_starts t span i ≡ false
+  unfolding tenure_starts cycle_starts transfer_starts
+  starts-outside i h = rw (other i span.start (inl h), before_start span i (omega arith)) refl
 
-    cycles : cycle_rows t span end i ≡ []
-    unfolding cycle_rows cycle_starts
-    cycles = rw (before_start span i (omega arith)) refl
+  -- where none starts there is none
+  rows-none : (end i : ℕ) → row_starts t span i ≡ false → rows_before t span end (suc i) ≡ rows_before t span end i
+  unfolding rows_before tenure_rows cycle_rows transfer_rows
+  rows-none end i none =
+      let are = none_of (i == span.start) (tenure_starts t span i) (cycle_starts t span i) (transfer_starts t span i) none in
+      let rows = append-nil (rows_before t span end i) in
+      rw (are.0, are.1, are.2, are.3) (rw (rows, rows, rows) refl)
 
-    transfers : transfer_rows t span end i ≡ []
-    unfolding transfer_rows transfer_starts
-    transfers = rw (before_start span i (omega arith)) refl
+  pub rows-between : (end m n : ℕ) → m ≤ n → any (row_starts t span) m n ≡ false → rows_before t span end n ≡ rows_before t span end m
+  rows-between end m zero order none = let e : m ≡ 0 = omega arith in rw e refl
+  rows-between end m (suc n) order none =
+      elim (last_or_earlier m n order) [
+        | inl e ↦ rw e refl
+        | inr before ↦
+            rows-none end n (any-fails (row_starts t span) m (suc n) n none before (omega arith))
+            ∙ rows-between end m n before (any-end (row_starts t span) m (suc n) n (omega arith) none)
+      ]
 
-  pub rows-outside : (end n : ℕ) → n ≤ span.start → [] ≡ rows_before t span end n
+  pub rows-outside : (end : ℕ) → rows_before t span end span.start ≡ []
   unfolding rows_before
-  rows-outside end zero h = refl
-  rows-outside end (suc n) h =
-      rw (sym (rows-outside end n (omega arith)), tenures end n (omega arith), cycles end n (omega arith), transfers end n (omega arith)) refl
+  rows-outside end = rows-between end 0 span.start (omega arith) (fails-any (row_starts t span) 0 span.start (λ i a b. starts-outside i b))

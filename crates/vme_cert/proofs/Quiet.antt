@@ -3,13 +3,11 @@ use Rattle.std.proofs.Common.{◌≡◌, ℕ, ◌+◌, ◌-◌, ◌<◌, ◌≤�
 use Rattle.std.specs.Prelude.{Option, None, Some, nat_le, nat_lt}
 use Rattle.std.proofs.lemmas.Bool.Decides.{nat_tests}
 use Rattle.vme_trace.specs.Instants.{least}
-use Rattle.vme_trace.specs.Judged.{Span, is_judged}
+use Rattle.vme_trace.specs.Judged.{Span}
 use Rattle.vme_trace.specs.Levels.{Levels, level_at, same_level}
-use Rattle.vme_trace.specs.LineNumbers.{DS0, DS1, line_count, has_line}
+use Rattle.vme_trace.specs.LineNumbers.{line_count, has_line}
 use Rattle.vme_trace.specs.Rules.{breaks}
-use Rattle.vme_trace.specs.Signals.{low, high, falls}
 use Rattle.vme_trace.specs.Trace.{Trace, levels_at, changed}
-use Rattle.vme_trace.specs.Transfers.{strobe_falls, transfer_starts}
 use Rattle.vme_trace.specs.Verdict.{all_rules, break_at}
 use Rattle.vme_trace.specs.WellFormed.{are_changes}
 use Rattle.vme_trace.specs.declared.rule.Rule.{Rule}
@@ -17,10 +15,10 @@ use Rattle.vme_trace.specs.declared.rule.Rule.TheVariants.{U1, U2, U3, U4, H1, H
 use Rattle.vme_trace.specs.declared.step.Change.{Change}
 use Rattle.vme_trace.proofs.SpanEnds.{slots_at}
 use Rattle.vme_cert.specs.ChangedLines.{first_changed}
-use Rattle.vme_cert.specs.Watching.{speaks_of, asks_for_edge, starts, starts_any, is_held_write, is_any, is_edge_broken}
+use Rattle.vme_cert.specs.Watching.{speaks_of, asks_for_edge, is_held_write, is_any, is_edge_broken}
 use Rattle.vme_cert.proofs.ChangedLines.{edge-least, line_below, parts}
 use Rattle.vme_cert.proofs.FirstBreaks.{break_at-next, break_at-empty}
-use Rattle.vme_cert.proofs.Watched.{breaks-unspoken, breaks-unheld, least-unstarted}
+use Rattle.vme_cert.proofs.Watched.{breaks-unspoken, breaks-unheld}
 
 one : (a b : Bool) → (a || b) ≡ false → a ≡ false
 one true b h = absurd (cc)
@@ -145,26 +143,7 @@ module _ (t : Trace) (span : Span) (j : ℕ) where
       (λ r e. sym (edge-least t span j r cs e few made sound)
       ∙ none-changed (breaks t span r j) (is_edge_broken t span j) (levels_at t (j - 1)) (rw (slots_at t (j - 1)) few) (λ l below h. edge-kept t span j l below h r e) 0 cs sound none)
 
--- no transfer starts where no strobe falls
-still-strobes : (judged a b c d : Bool) → ((a && c) || (b && d)) ≡ false → (judged && (a && b) && (c || d)) ≡ false
-still-strobes true true true true d h = absurd (cc)
-still-strobes true true true false d h = h
-still-strobes true true false c d h = refl
-still-strobes true false b c d h = refl
-still-strobes false a b c d h = refl
-
-module _ (t : Trace) (span : Span) (j : ℕ) where
-  unstarted : strobe_falls t j ≡ false → transfer_starts t span j ≡ false
-  unfolding transfer_starts falls
-  unstarted h = still-strobes (is_judged span j) (high t DS0 (j - 1)) (high t DS1 (j - 1)) (low t DS0 j) (low t DS1 j) h
-
-  -- where nothing starts, the rules that ask for no edge are kept too
-  pub all-kept : break_at t span (drop 5 all_rules) j ≡ None → starts_any t span j ≡ false → break_at t span all_rules j ≡ None
-  all-kept edges none =
-      let ends = one (starts t span U1 j) (starts t span U2 j) (one _ (starts t span U4 j) none) in
-      let cycle = more (starts t span U1 j) (starts t span U2 j) (one _ (starts t span U4 j) none) in
-      let falling = more (starts t span U1 j || starts t span U2 j) (starts t span U4 j) none in
-      kept_next U1 _ refl ends (kept_next U2 _ refl cycle (kept_next U3 _ refl (unstarted falling) (kept_next U4 _ refl falling (kept_next H1 _ refl (unstarted falling) edges))))
-    where
-      kept_next : (r : Rule) (rs : List Rule) → asks_for_edge r ≡ false → starts t span r j ≡ false → break_at t span rs j ≡ None → break_at t span (r ∷ rs) j ≡ None
-      kept_next r rs e h rest = break_at-next t span r rs j (sym (least-unstarted t span j r e h)) ∙ rest
+  -- where the rules that ask for no edge are kept too, all are
+  pub all-kept : break_at t span (drop 5 all_rules) j ≡ None → least (breaks t span U1 j) 0 line_count ≡ None → least (breaks t span U2 j) 0 line_count ≡ None → least (breaks t span U3 j) 0 line_count ≡ None → least (breaks t span U4 j) 0 line_count ≡ None → least (breaks t span H1 j) 0 line_count ≡ None → break_at t span all_rules j ≡ None
+  all-kept edges a b c d e =
+      break_at-next t span U1 _ j a ∙ (break_at-next t span U2 _ j b ∙ (break_at-next t span U3 _ j c ∙ (break_at-next t span U4 _ j d ∙ (break_at-next t span H1 _ j e ∙ edges))))

@@ -1,5 +1,5 @@
 -- What happens at the instants of a recording, and the index of the instants at which it does.
-use Rattle.std.specs.Prelude.{◌≡◌, ℕ, ◌+◌, ◌≤◌, Bool, ◌&&◌, List, [], map, nat_le}
+use Rattle.std.specs.Prelude.{◌≡◌, ℕ, ◌+◌, ◌≤◌, Bool, ◌==◌, ◌&&◌, ◌||◌, List, [], map, nat_le}
 use Rattle.vme_trace.specs.Instants.{those}
 use Rattle.vme_trace.specs.LineNumbers.{AS, DTACK, BERR, WRITE, BBSY, BR}
 use Rattle.vme_trace.specs.Trace.{Trace, levels_at, last_instant}
@@ -8,7 +8,7 @@ use Rattle.vme_trace.specs.Signals.{low, falls, rises}
 use Rattle.vme_trace.specs.Transfers.{strobes_high, strobe_rises, answer_falls, transfer_starts, is_answer}
 use Rattle.vme_trace.specs.Cycle.{Needs, class_of, needs_of}
 use Rattle.vme_trace.specs.Cycles.{cycle_starts}
-use Rattle.vme_trace.specs.Tenures.{grant_falls}
+use Rattle.vme_trace.specs.Tenures.{grant_falls, tenure_starts}
 use Rattle.vme_trace.specs.declared.class.Class.{Class}
 use Rattle.vme_cert.specs.declared.index.Event.{Event}
 use Rattle.vme_cert.specs.declared.index.Event.TheVariants as event
@@ -16,6 +16,7 @@ use Rattle.vme_cert.specs.declared.index.EventLists.{EventLists}
 use Rattle.vme_cert.specs.declared.index.Index.{Index}
 
 abbrev pub list_of : EventLists → Event → List ℕ
+list_of lists event.RowStart = lists.row_starts
 list_of lists event.CycleStart = lists.cycle_starts
 list_of lists event.AddressRise = lists.address_rises
 list_of lists event.TransferStart = lists.transfer_starts
@@ -38,8 +39,13 @@ abbrev pub since : ℕ → (ℕ → Bool) → ℕ → Bool
 since first p i = nat_le first i && p i
 
 module _ (t : Trace) (span : Span) where
+  -- rows may start: those of the span, a tenure, a cycle or a transfer
+  abbrev pub row_starts : ℕ → Bool
+  row_starts i = (i == span.start) || tenure_starts t span i || cycle_starts t span i || transfer_starts t span i
+
   -- when an event happens
   abbrev pub happens : Event → ℕ → Bool
+  happens event.RowStart i = row_starts i
   happens event.CycleStart i = cycle_starts t span i
   happens event.AddressRise i = rises t AS i
   happens event.TransferStart i = transfer_starts t span i

@@ -146,10 +146,6 @@ starts t span U2 j = cycle_starts t span j
 starts t span U4 j = strobe_falls t j
 starts t span r j = transfer_starts t span j
 
--- any of it is: a transfer starts where a strobe falls
-abbrev pub starts_any : Trace → Span → ℕ → Bool
-starts_any t span j = starts t span U1 j || starts t span U2 j || starts t span U4 j
-
 -- one of the rules that ask for an edge and may speak of a line does this
 abbrev pub is_any : (Rule → Bool) → ℕ → Bool
 is_any p l =

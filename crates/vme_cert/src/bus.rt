@@ -37,6 +37,34 @@ impl Span {
     }
 }
 
+/// The changes at an instant, and its time; the opening has none, and nothing happens past the last instant.
+#[inline(always)]
+fn step_at(capture: &Capture, instant: u32) -> (&[Change], u64)
+    ensures made { levels_at capture.now instant ≡ changed (levels_at capture.now (instant - 1)) result.0.now }
+    ensures sound { are_changes (levels_at capture.now (instant - 1)) 0 result.0.now ≡ true }
+    ensures time { result.1 ≡ time_at capture.now instant }
+{
+    if instant == 0 {
+        return (&[], 0);
+    }
+    match capture.steps().get(instant as usize - 1) {
+        Some(step) => (step.changes.as_slice(), step.time),
+        None => (&[], 0),
+    }
+}
+
+/// The levels of one instant go on to those of another.
+#[inline(always)]
+fn pass(capture: &Capture, levels: &mut Lines, from: u32, to: u32)
+    requires order { from ≤ to }
+    requires from { levels.old ≡ levels_at capture.now from }
+    ensures { levels.new ≡ levels_at capture.now to }
+{
+    for passed in from..to {
+        levels.apply(step_at(capture, passed + 1).0);
+    }
+}
+
 /// A recording at an instant: the levels there and at the instant before.
 #[derive(Drop)]
 pub(crate) struct Bus<'a> {
@@ -68,36 +96,54 @@ impl<'a> Bus<'a> {
         }
     }
 
+    /// The same once more.
+    pub(crate) fn copy(&self) -> Bus<'a>
+        ensures trace { result.capture.now ≡ self.now.capture.now }
+        ensures instant { result.instant ≡ self.now.instant }
+    {
+        Bus {
+            capture: self.capture,
+            instant: self.instant,
+            before: self.before,
+            levels: self.levels,
+        }
+    }
+
     /// Goes on to the next instant; past the last one the levels stay.
     pub(crate) fn advance(&mut self)
         requires { self.old.instant ≤ last_instant self.old.capture.now }
         ensures trace { self.new.capture ≡ self.old.capture }
         ensures instant { self.new.instant ≡ self.old.instant + 1 }
     {
-        self.before = self.levels;
-        if let Some(step) = self.capture.steps().get(self.instant as usize) {
-            self.levels.apply(step.changes.as_slice());
-        }
         self.instant += 1;
+        self.before = self.levels;
+        self.levels.apply(step_at(self.capture, self.instant).0);
     }
 
-    /// The recording at this instant or a later one.
-    pub(crate) fn later(&self, instant: u32) -> Bus<'a>
-        requires from { self.now.instant ≤ instant }
-        requires within { instant ≤ last_instant self.now.capture.now + 1 }
-        ensures trace { result.capture.now ≡ self.now.capture.now }
-        ensures instant { result.instant ≡ instant }
+    /// The levels at this instant or a later one.
+    pub(crate) fn levels_at(&self, instant: u32) -> Lines
+        requires { self.now.instant ≤ instant }
+        ensures { result ≡ levels_at self.now.capture.now instant }
     {
-        let mut bus = Bus {
-            capture: self.capture,
-            instant: self.instant,
-            before: self.before,
-            levels: self.levels,
-        };
-        for _instant in self.instant..instant {
-            bus.advance();
+        let mut levels = self.levels;
+        pass(self.capture, &mut levels, self.instant, instant);
+        levels
+    }
+
+    /// Goes on to this instant or a later one.
+    pub(crate) fn go_to(&mut self, instant: u32)
+        requires from { self.old.instant ≤ instant }
+        requires within { instant ≤ last_instant self.old.capture.now + 1 }
+        ensures trace { self.new.capture ≡ self.old.capture }
+        ensures instant { self.new.instant ≡ instant }
+    {
+        if self.instant == instant {
+            return;
         }
-        bus
+        pass(self.capture, &mut self.levels, self.instant, instant - 1);
+        self.before = self.levels;
+        self.levels.apply(step_at(self.capture, instant).0);
+        self.instant = instant;
     }
 
     /// The last instant.
@@ -110,17 +156,12 @@ impl<'a> Bus<'a> {
 
     /// The changes at the instant, and its time; the opening has none.
     pub(crate) fn step(&self) -> (&[Change], u64)
-        requires { self.now.instant ≤ last_instant self.now.capture.now }
         ensures made { levels_at self.now.capture.now self.now.instant
             ≡ changed (levels_at self.now.capture.now (self.now.instant - 1)) result.0.now }
         ensures sound { are_changes (levels_at self.now.capture.now (self.now.instant - 1)) 0 result.0.now ≡ true }
         ensures time { result.1 ≡ time_at self.now.capture.now self.now.instant }
     {
-        if self.instant == 0 {
-            return (&[], 0);
-        }
-        let step = &self.capture.steps()[self.instant as usize - 1];
-        (step.changes.as_slice(), step.time)
+        step_at(self.capture, self.instant)
     }
 
     /// Whether the line was low at the instant before.
@@ -211,22 +252,21 @@ impl<'a> Bus<'a> {
         None
     }
 
-    /// Goes on from an idle instant to the next at which the bus is reset or a control line is unknown, or past the
-    /// last.
-    pub(crate) fn next_stop(&mut self) -> u32
-        requires within { self.old.instant ≤ last_instant self.old.capture.now }
-        requires idle { is_idle_at self.old.capture.now self.old.instant ≡ true }
-        ensures trace { self.new.capture ≡ self.old.capture }
-        ensures end { result ≡ span_end self.old.capture.now self.old.instant }
-        ensures at { self.new.instant ≡ result }
+    /// The next instant after an idle one at which the bus is reset or a control line is unknown, or past the last.
+    pub(crate) fn next_stop(&self) -> u32
+        requires within { self.now.instant ≤ last_instant self.now.capture.now }
+        requires idle { is_idle_at self.now.capture.now self.now.instant ≡ true }
+        ensures { result ≡ span_end self.now.capture.now self.now.instant }
     {
-        for _instant in self.instant..self.last_instant() {
-            self.advance();
-            if self.levels.is_reset() || self.levels.lost_among(self.step().0).is_some() {
-                return self.instant;
+        let past = self.last_instant() + 1;
+        let mut levels = self.levels;
+        for instant in self.instant + 1..past {
+            let (changes, _time) = step_at(self.capture, instant);
+            levels.apply(changes);
+            if levels.is_reset() || levels.lost_among(changes).is_some() {
+                return instant;
             }
         }
-        self.advance();
-        self.instant
+        past
     }
 }

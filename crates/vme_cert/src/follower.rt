@@ -81,15 +81,12 @@ impl<'a> Follower<'a> {
         }
     }
 
-    /// Follows the next right row, if there is one.
-    fn follow(&mut self, row: Option<Row>)
+    /// Follows the next right row.
+    fn follow(&mut self, row: Row)
         ensures version { self.new.version ≡ self.old.version }
         ensures rows { (given : Given) (right : List Row) → Follows given right self.old
-            → Follows given (right ++ option_to_list row) self.new }
+            → Follows given (right ++ row ∷ []) self.new }
     {
-        let Some(row) = row else {
-            return;
-        };
         if self.differs {
             return;
         }
@@ -97,6 +94,18 @@ impl<'a> Follower<'a> {
             self.agree += 1;
         } else {
             self.differs = true;
+        }
+    }
+
+    /// Follows the next right row, if there is one.
+    #[inline(always)]
+    fn follow_any(&mut self, row: Option<Row>)
+        ensures version { self.new.version ≡ self.old.version }
+        ensures rows { (given : Given) (right : List Row) → Follows given right self.old
+            → Follows given (right ++ option_to_list row) self.new }
+    {
+        if let Some(row) = row {
+            self.follow(row);
         }
     }
 
@@ -123,30 +132,33 @@ impl<'a> Follower<'a> {
             ++ cycle_rows (trace judged.now) (span judged.now) end (instant judged.now)
             ++ transfer_rows (trace judged.now) (span judged.now) end (instant judged.now)) self.new }
     {
-        self.follow(judged.tenure_row(end));
-        self.follow(judged.cycle_row(end));
-        self.follow(judged.transfer_row(end));
+        self.follow_any(judged.tenure_row(end));
+        self.follow_any(judged.cycle_row(end));
+        self.follow_any(judged.transfer_row(end));
     }
 
-    /// Follows the rows of a judged stretch up to an end, from the recording at its start on.
-    fn follow_span(&mut self, start: &Bus, index: &Index, end: u32)
-        requires at { start.now.instant ≡ index.now.span.start }
-        requires index { IsIndex start.now.capture.now index.now }
+    /// Follows the rows of a judged stretch up to an end, from the recording at its start on, which goes on to the end.
+    fn follow_span(&mut self, bus: &mut Bus, index: &Index, end: u32)
+        requires at { bus.old.instant ≡ index.now.span.start }
+        requires index { IsIndex bus.old.capture.now index.now }
         requires from { index.now.span.start ≤ end }
         requires noted { end ≤ index.now.noted }
         requires answered { end ≤ index.now.answered }
+        ensures trace { bus.new.capture.now ≡ bus.old.capture.now }
+        ensures instant { bus.new.instant ≡ end }
         ensures version { self.new.version ≡ self.old.version }
         ensures rows { (given : Given) (right : List Row) → Follows given right self.old
             → Follows given (right ++ Start index.now.span.start
-            ∷ rows_before start.now.capture.now index.now.span end end) self.new }
+            ∷ rows_before bus.old.capture.now index.now.span end end) self.new }
     {
-        let instant = start.instant;
-        let mut bus = start.later(instant);
-        self.follow(Some(Row::Start { instant }));
-        for _instant in instant..end {
-            self.follow_instant(&Judged { bus: &bus, index }, end);
-            bus.advance();
+        let mut first = bus.instant;
+        self.follow(Row::Start { instant: first });
+        while let Some(start) = index.next_row(first, end) {
+            bus.go_to(start);
+            self.follow_instant(&Judged { bus, index }, end);
+            first = start + 1;
         }
+        bus.go_to(end);
     }
 
     /// Follows the rows of a recording, the verdict's included, as they are found by the definitions alone. The only
@@ -162,24 +174,23 @@ impl<'a> Follower<'a> {
     {
         let mut bus = Bus::opening(capture);
         let mut outcome = Outcome::NeverIdle;
-        while let Some(start) = bus.next_idle() {
-            let first = bus.later(start);
+        while let Some(_start) = bus.next_idle() {
             let end = bus.next_stop();
-            let (index, found) = least_break(alloc, &first, end)?;
+            let (index, found) = least_break(alloc, &bus, end)?;
             match found {
                 Some(found) => {
-                    self.follow_span(&first, &index, found.instant);
-                    self.follow(Some(verdict_on(found)));
+                    self.follow_span(&mut bus, &index, found.instant);
+                    self.follow(verdict_on(found));
                     return Ok(());
                 }
                 None => {
-                    self.follow_span(&first, &index, end);
-                    self.follow(reset_row(&bus));
+                    self.follow_span(&mut bus, &index, end);
+                    self.follow_any(reset_row(&bus));
                     outcome = Outcome::Conforming;
                 }
             }
         }
-        self.follow(Some(Row::Verdict(outcome)));
+        self.follow(Row::Verdict(outcome));
         Ok(())
     }
 }

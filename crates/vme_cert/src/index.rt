@@ -1,15 +1,16 @@
 //! What happens in a stretch of a recording, and when: sorted lists of instants, made in one walk.
-#![tactic(auto, unfolding(vme_trace::specs::Cycles::cycle_starts, vme_trace::specs::Transfers::transfer_starts, vme_trace::specs::Tenures::grant_falls))]
+#![tactic(auto, unfolding(vme_trace::specs::Cycles::cycle_starts, vme_trace::specs::Transfers::transfer_starts, vme_trace::specs::Tenures::grant_falls, vme_trace::specs::Tenures::tenure_starts))]
 
 ghost use Rattle.std.specs.Prelude.{◌≡◌, ◌+◌, ◌<◌, ◌≤◌};
 ghost use Rattle.vme_cert.specs.Words.{ℕ, Bool, [], IfOk, IfSome, length, Trace, low, any, least, greatest, those};
 ghost use Rattle.vme_cert.specs.Words.{last_instant, cycle_starts, transfer_starts, strobe_rises, strobe_falls};
 ghost use Rattle.vme_cert.specs.Words.{strobes_high, answer_falls, grant_falls, is_answer};
+ghost use Rattle.vme_trace.specs.Tenures.{tenure_starts};
 ghost use Rattle.vme_trace.specs.LineNumbers.{BR};
 ghost use Rattle.vme_trace.specs.Judged.{Span as Stretch};
 ghost use Rattle.vme_cert.specs.Spans.{between};
 ghost use Rattle.vme_cert.specs.Events.{happens, list_of, noted_of, AreEmpty, AreNoted, IsIndex, IsNew, IsNoted};
-ghost use Rattle.vme_cert.specs.Events.{IsAnswerNoted};
+ghost use Rattle.vme_cert.specs.Events.{IsAnswerNoted, row_starts};
 
 use crate::bus::{Bus, Span};
 use crate::search::any;
@@ -153,6 +154,7 @@ impl Instants {
 /// What may happen at an instant: `happens`, in `specs/Events.antt`, says when it does.
 #[derive(Clone, Copy, Debug, PartialEq, Eq)]
 pub(crate) enum Event {
+    RowStart,
     CycleStart,
     AddressRise,
     TransferStart,
@@ -203,6 +205,23 @@ impl Bus<'_> {
             && (self.low(Line::DS0) || self.low(Line::DS1))
     }
 
+    /// Whether a tenure starts.
+    pub(crate) fn tenure_starts(&self, span: Span) -> bool
+        ensures { result ≡ tenure_starts self.now.capture.now span self.now.instant }
+    {
+        span.contains(self.instant) && self.falls(Line::BBSY)
+    }
+
+    /// Whether rows may start: those of the stretch, a tenure, a cycle or a transfer.
+    fn row_starts(&self, span: Span) -> bool
+        ensures { result ≡ row_starts self.now.capture.now span self.now.instant }
+    {
+        self.instant == span.start
+            || self.tenure_starts(span)
+            || self.cycle_starts(span)
+            || self.transfer_starts(span)
+    }
+
     /// Whether a strobe rises.
     fn strobe_rises(&self) -> bool
         ensures { result ≡ strobe_rises self.now.capture.now self.now.instant }
@@ -242,6 +261,7 @@ impl Bus<'_> {
 /// The instants of each event from the start of a stretch on.
 #[derive(Drop)]
 pub(crate) struct EventLists {
+    row_starts: Instants,
     cycle_starts: Instants,
     address_rises: Instants,
     transfer_starts: Instants,
@@ -266,6 +286,7 @@ impl EventLists {
         ensures { AreEmpty result }
     {
         EventLists {
+            row_starts: Instants::new(alloc),
             cycle_starts: Instants::new(alloc),
             address_rises: Instants::new(alloc),
             transfer_starts: Instants::new(alloc),
@@ -291,6 +312,7 @@ impl EventLists {
         ensures { result.now ≡ list_of self.now event }
     {
         match event {
+            Event::RowStart => &self.row_starts,
             Event::CycleStart => &self.cycle_starts,
             Event::AddressRise => &self.address_rises,
             Event::TransferStart => &self.transfer_starts,
@@ -317,6 +339,7 @@ impl EventLists {
         ensures { IfOk result (λ _. AreNoted bus.now.capture.now span bus.now.instant self.old self.new) }
     {
         let instant = bus.instant;
+        self.row_starts.note(instant, bus.row_starts(span))?;
         self.cycle_starts.note(instant, bus.cycle_starts(span))?;
         self.address_rises.note(instant, bus.rises(Line::AS))?;
         self.transfer_starts
@@ -379,6 +402,16 @@ impl Index {
             → result.now ≡ those (noted_of t self.now.span event) 0 self.now.noted }
     {
         self.lists.get(event)
+    }
+
+    /// The next instant of a range at which rows may start.
+    pub(crate) fn next_row(&self, first: u32, end: u32) -> Option<u32>
+        requires started { self.now.span.start ≤ first }
+        requires noted { end ≤ self.now.noted }
+        ensures least { (t : Trace) → IsIndex t self.now → result ≡ least (row_starts t self.now.span) first end }
+        ensures before { IfSome result (λ found. found < end) }
+    {
+        self.list(Event::RowStart).first(first, end)
     }
 
     /// Notes what happens at the next instant. The only error is want of memory.

@@ -26,8 +26,9 @@
 //! 5. `rules.rt`: tenures, and each rule beside its definition, in the order of docs/PROTOCOL.md.
 //! 6. `verdict.rt`: the least break of a stretch. One fact spares most of the work (`proofs/Watched.antt`): apart from
 //!    U1, U2, U3, U4 and H1 a rule is broken only on a line that changes at the instant.
-//! 7. `rows.rt` and `follower.rt`: the rows, compared as they are found, stretch by stretch up to the first that has
-//!    a break (`proofs/Stretches.antt` says that these are the rows of the listing).
+//! 7. `rows.rt` and `follower.rt`: the rows, at each instant at which some may start, compared as they are found,
+//!    stretch by stretch up to the first that has a break (`proofs/Stretches.antt` says that these are the rows of the
+//!    listing).
 //! 8. `given.rt` and `compare.rt`: what they are compared with, rows or a text (`specs/Giving.antt`). Of a text the
 //!    line of each right row is taken; it is read only where one of them isn't there, since it may be no listing's.
 #![tactic(auto)]

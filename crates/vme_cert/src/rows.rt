@@ -72,7 +72,7 @@ impl Judged<'_> {
             let end = self.first(BusyRise, start + 1, end);
             return Some(Row::OpenTenure { start, end });
         }
-        if !span.contains(start) || !bus.falls(Line::BBSY) {
+        if !bus.tenure_starts(span) {
             return None;
         }
         Some(Row::Tenure {
@@ -129,7 +129,8 @@ impl Judged<'_> {
         } else {
             Direction::Read
         };
-        let Some(answer) = self.answer_of(start, end) else {
+        let close = self.first(StrobesHigh, start + 1, end);
+        let Some(answer) = self.answer_by(start, close, end) else {
             return Some(Row::PendingTransfer { start, direction });
         };
         let Some(cycle) = self.cycle_of(answer) else {
@@ -146,7 +147,7 @@ impl Judged<'_> {
             direction,
             line,
             answer,
-            close: self.first(StrobesHigh, start + 1, end),
+            close,
             lanes: self.write_data(answer),
         })
     }

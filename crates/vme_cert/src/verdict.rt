@@ -1,8 +1,7 @@
 //! The least break of the rules.
 
-ghost use Rattle.std.specs.Prelude.{◌≡◌, ◌+◌, ◌<◌, ◌≤◌, ◌||◌, drop, None};
+ghost use Rattle.std.specs.Prelude.{◌≡◌, ◌+◌, ◌<◌, ◌≤◌, ◌||◌, None};
 ghost use Rattle.vme_cert.specs.Words.{true, false, IfOk, IfSome, least, line_count, last_instant, breaks, all_rules};
-ghost use Rattle.vme_cert.specs.Words.{rule_count};
 ghost use Rattle.vme_cert.specs.Words.{break_at, least_break};
 ghost use Rattle.vme_trace.specs.Judged.{is_judged};
 ghost use Rattle.vme_trace.specs.Rules.{ends_span};
@@ -35,7 +34,7 @@ fn speaks_of(rule: Rule, line: Line) -> bool
 
 impl Judged<'_> {
     ghost use Rattle.vme_cert.specs.Judging.{trace, span, instant, AreMade, AreSound, breaks_edge};
-    ghost use Rattle.vme_cert.specs.Watching.{asks_for_edge, starts, starts_any, is_held_write};
+    ghost use Rattle.vme_cert.specs.Watching.{asks_for_edge, starts, is_held_write};
 
     /// Whether a rule counts at the instant: it is judged, or the rule is the one that ends judging.
     fn counts(&self, rule: Rule) -> bool
@@ -197,38 +196,24 @@ impl Judged<'_> {
         None
     }
 
-    /// Whether anything is at the instant of which a rule speaks that asks for no edge. A transfer starts where a
-    /// strobe falls.
-    #[inline(always)]
-    fn starts_any(&self) -> bool
-        ensures { result ≡ starts_any (trace self.now) (span self.now) (instant self.now) }
-    {
-        self.starts(U1) || self.starts(U2) || self.starts(U4)
-    }
-
-    /// How many of the rules, from the first on, may be broken: those that ask for no edge, where no other one is, or
-    /// none.
-    fn suspects(&self, changes: &[Change]) -> usize
-        requires made { AreMade self.now changes.now }
-        requires sound { AreSound self.now changes.now }
-        ensures within { result ≤ rule_count }
-        ensures kept { break_at (trace self.now) (span self.now) (drop result all_rules) (instant self.now) ≡ None }
-    {
-        if self.changed_break(changes).is_some() {
-            return RULE_COUNT;
-        }
-        if self.starts_any() { 5 } else { 0 }
-    }
-
-    /// The first of the rules that is broken at the instant.
+    /// The first of the rules that is broken at the instant. They are asked in order only where one is.
     fn break_at(&self) -> Option<Break>
         ensures break_at { result ≡ break_at (trace self.now) (span self.now) all_rules (instant self.now) }
         ensures there { IfSome result (λ found. found.instant ≡ instant self.now) }
     {
         let (changes, time) = self.bus.step();
+        if self.changed_break(changes).is_none()
+            && self.start_break(U1).is_none()
+            && self.start_break(U2).is_none()
+            && self.start_break(U3).is_none()
+            && self.start_break(U4).is_none()
+            && self.start_break(H1).is_none()
+        {
+            return None;
+        }
         let instant = self.bus.instant;
         let rules: &[Rule] = &Rule::ALL;
-        for place in 0..self.suspects(changes) {
+        for place in 0..RULE_COUNT {
             let rule = rules[place];
             if let Some(line) = self.rule_break(rule, changes) {
                 return Some(Break {
@@ -261,7 +246,7 @@ pub(crate) fn least_break(
 {
     let instant = start.instant;
     let last = end.min(start.last_instant());
-    let mut bus = start.later(instant);
+    let mut bus = start.copy();
     let mut index = Index::new(alloc, instant, end);
     for _instant in instant..last + 1 {
         index.note(&bus)?;

@@ -42,8 +42,8 @@ loop-instant-init c =
     let span = between c.args.start.now.instant c.args.end in
     let new = c.new-index.ensures t (omega (arith, c.requires.order, c.requires.within)) in
     record {
-      same = c.later-bus.ensures.trace;
-      at = c.later-bus.ensures.instant;
+      same = c.copy-bus.ensures.trace;
+      at = c.copy-bus.ensures.instant;
       span = new.span_is;
       index = new.is;
       noted = new.noted;

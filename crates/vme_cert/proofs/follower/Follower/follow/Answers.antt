@@ -12,20 +12,18 @@ returns-then-self-clause-rows c = λ given right so_far. record { agree = λ e. 
 
 pub returns-then-take-clause-rows : goal.returns-then-take-clause-rows
 returns-then-take-clause-rows c = λ given right so_far.
-    rw c.in-Some.is
     record {
-      agree = λ e. agrees-more _ given right 0 _ c.in-Some.row _ (so_far.agree e) (subst (λ (r : Row). IsNext c.args.self.now.given r c.take.new.self) c.in_version.ensures (c.take.ensures.next c.if-take.true));
-      count = λ e. omega (arith, length-append right (c.in-Some.row ∷ []), so_far.count e);
+      agree = λ e. agrees-more _ given right 0 _ c.args.row _ (so_far.agree e) (subst (λ (r : Row). IsNext c.args.self.now.given r c.take.new.self) c.in_version.ensures (c.take.ensures.next c.if-take.true));
+      count = λ e. omega (arith, length-append right (c.args.row ∷ []), so_far.count e);
       differ = λ e. absurd (cc);
     }
 
 pub returns-else-take-clause-rows : goal.returns-else-take-clause-rows
 returns-else-take-clause-rows c = λ given right so_far.
-    rw c.in-Some.is
     record {
       agree = λ e. absurd (cc);
       count = λ e. absurd (cc);
       differ = λ e.
-          subst (λ (g : Given). DepartsWithin given (rows_in c.args.self.now.version (right ++ c.in-Some.row ∷ [])) c.args.self.now.agree g) (sym (c.take.ensures.left c.if-take.false))
-          (departs-here _ given right _ _ c.in-Some.row (so_far.agree c.if-self.false) (so_far.count c.if-self.false) (subst (λ (r : Row). HasNext c.args.self.now.given r → ⊥) c.in_version.ensures (c.take.ensures.other c.if-take.false)));
+          subst (λ (g : Given). DepartsWithin given (rows_in c.args.self.now.version (right ++ c.args.row ∷ [])) c.args.self.now.agree g) (sym (c.take.ensures.left c.if-take.false))
+          (departs-here _ given right _ _ c.args.row (so_far.agree c.if-self.false) (so_far.count c.if-self.false) (subst (λ (r : Row). HasNext c.args.self.now.given r → ⊥) c.in_version.ensures (c.take.ensures.other c.if-take.false)));
     }

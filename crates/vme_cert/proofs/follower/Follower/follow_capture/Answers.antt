@@ -7,7 +7,7 @@ use Rattle.vme_trace.specs.Trace.{Trace, last_instant}
 use Rattle.vme_trace.specs.Judged.{Span, IsSpanOf, is_idle_at, judged_spans, span_end}
 use Rattle.vme_trace.specs.Verdict.{all_rules, least_break}
 use Rattle.vme_trace.specs.declared.verdict.Break.{Break}
-use Rattle.vme_trace.proofs.JudgedSpans.{spans_after, starts_before_end}
+use Rattle.vme_trace.proofs.JudgedSpans.{ends_within, spans_after, starts_before_end}
 use Rattle.vme_trace.proofs.Ranges.{least-found, least-none-any}
 use Rattle.vme_listing.proofs.FoundBreaks.{least_break-judged}
 use Rattle.vme_listing.specs.Recorded.{recorded_rows, outcome_of}
@@ -111,18 +111,24 @@ next_stop-end-requires-clause-idle c =
     ap (λ (v : Trace). is_idle_at v c.next_idle.new.self.instant) (ap (λ b. b.now) c.next_idle.ensures.trace ∙ so_far.same) ∙ (ap (is_idle_at t) c.in-Some.ensures.at ∙ first.holds)
 
 -- the stretch that is at hand
-stretch : (c : After-next_stop-end) → Found c.args.capture.now c.loop-start.bus.instant c.loop-start.invariant.rest.1 (between c.in-Some.start c.next_stop-end.result)
+stretch : (c : After-next_stop-end) → Found c.args.capture.now c.loop-start.bus.instant c.loop-start.invariant.rest.1 (between c.in-Some._start c.next_stop-end.result)
 stretch c =
     let t = c.args.capture.now in
     let so_far = c.loop-start.invariant in
     let same = ap (λ b. b.now) c.next_idle.ensures.trace ∙ so_far.same in
-    found t c.loop-start.bus.instant so_far.rest.1 c.in-Some.start c.next_stop-end.result so_far.rest.3 (same_idle t _ _ _ so_far.same c.in-Some.ensures.idle)
-    (same_end t _ _ _ _ same c.in-Some.ensures.at c.next_stop-end.ensures.end)
+    found t c.loop-start.bus.instant so_far.rest.1 c.in-Some._start c.next_stop-end.result so_far.rest.3 (same_idle t _ _ _ so_far.same c.in-Some.ensures.idle)
+    (same_end t _ _ _ _ same c.in-Some.ensures.at c.next_stop-end.ensures)
 
 pub least_break-requires-clause-order : goal.least_break-requires-clause-order
 least_break-requires-clause-order c =
     let here = stretch (goal.at.least_break-requires-clause-order c).After-next_stop-end in
-    omega (arith, starts_before_end c.args.capture.now _ here.is, c.later-first.ensures.instant)
+    omega (arith, starts_before_end c.args.capture.now _ here.is, c.in-Some.ensures.at)
+
+pub least_break-requires-clause-within : goal.least_break-requires-clause-within
+least_break-requires-clause-within c =
+    let t = c.args.capture.now in
+    let here = stretch (goal.at.least_break-requires-clause-within c).After-next_stop-end in
+    omega (arith, ends_within t _ here.is, same_last t c.next_idle.new.self.capture.now (ap (λ b. b.now) c.next_idle.ensures.trace ∙ c.loop-start.invariant.same))
 
 -- it is that of the index, and has its break
 its_span : (start end first : ℕ) (other : Span) → first ≡ start → other ≡ between first end → other ≡ between start end
@@ -134,29 +140,29 @@ its_break t u start end first o same at is = same_break t u (between start end) 
 pub follow_span-requires-clause-from : goal.follow_span-requires-clause-from
 follow_span-requires-clause-from c =
     let t = c.args.capture.now in
-    let start = c.in-Some.start in
+    let start = c.in-Some._start in
     let end = c.next_stop-end.result in
     let here = stretch (goal.at.follow_span-requires-clause-from c).After-next_stop-end in
-    let same = c.later-first.ensures.trace ∙ (ap (λ b. b.now) c.next_idle.ensures.trace ∙ c.loop-start.invariant.same) in
-    let of = its_span start end c.later-first.result.instant c.in_ok-index.index.span c.later-first.ensures.instant c.in_ok-index.ensures.span in
-    let is = its_break t c.later-first.result.capture.now start end c.later-first.result.instant c.in_ok-index.found same c.later-first.ensures.instant c.in_ok-index.ensures.found in
+    let same = ap (λ b. b.now) c.next_idle.ensures.trace ∙ c.loop-start.invariant.same in
+    let of = its_span start end c.next_idle.new.self.instant c.in_ok-index.index.span c.in-Some.ensures.at c.in_ok-index.ensures.span in
+    let is = its_break t c.next_idle.new.self.capture.now start end c.next_idle.new.self.instant c.in_ok-index.found same c.in-Some.ensures.at c.in_ok-index.ensures.found in
     let there = least_break-judged t (between start end) all_rules c.in-Some-found.found (starts_before_end t (between start end) here.is) (is ∙ c.in-Some-found.is) in
     omega (arith, there.0, ap (λ (s : Span). s.start) of)
 
 pub returns-in-Some-found-clause-rows : goal.returns-in-Some-found-clause-rows
 returns-in-Some-found-clause-rows c =
     let t = c.args.capture.now in
-    let u = c.later-first.result.capture.now in
-    let start = c.in-Some.start in
+    let u = c.next_idle.new.self.capture.now in
+    let start = c.in-Some._start in
     let end = c.next_stop-end.result in
     let span = between start end in
     let b = c.in-Some-found.found in
     let so_far = c.loop-start.invariant in
     let done = so_far.rest.0 in
     let here = stretch (goal.at.returns-in-Some-found-clause-rows c).After-next_stop-end in
-    let same = c.later-first.ensures.trace ∙ (ap (λ b. b.now) c.next_idle.ensures.trace ∙ so_far.same) in
-    let of = its_span start end c.later-first.result.instant c.in_ok-index.index.span c.later-first.ensures.instant c.in_ok-index.ensures.span in
-    let is = its_break t u start end c.later-first.result.instant c.in_ok-index.found same c.later-first.ensures.instant c.in_ok-index.ensures.found in
+    let same = ap (λ b. b.now) c.next_idle.ensures.trace ∙ so_far.same in
+    let of = its_span start end c.next_idle.new.self.instant c.in_ok-index.index.span c.in-Some.ensures.at c.in_ok-index.ensures.span in
+    let is = its_break t u start end c.next_idle.new.self.instant c.in_ok-index.found same c.in-Some.ensures.at c.in_ok-index.ensures.found in
     let all : done ++ rows_to u c.in_ok-index.index.span b.instant ++ c.verdict_on.result ∷ [] ≡ recorded_rows t =
     ap (λ (rows : List Row). done ++ rows ++ c.verdict_on.result ∷ []) (same_rows t u span c.in_ok-index.index.span b.instant same of)
     ∙ (ap (λ (row : Row). done ++ rows_to t span b.instant ++ row ∷ []) c.verdict_on.ensures
@@ -166,39 +172,38 @@ returns-in-Some-found-clause-rows c =
 pub follow_span-requires-in-None-clause-from : goal.follow_span-requires-in-None-clause-from
 follow_span-requires-in-None-clause-from c =
     let here = stretch (goal.at.follow_span-requires-in-None-clause-from c).After-next_stop-end in
-    omega (arith, starts_before_end c.args.capture.now (between c.in-Some.start c.next_stop-end.result) here.is, c.later-first.ensures.instant, ap (λ (s : Span). s.start) c.in_ok-index.ensures.span)
+    omega (arith, starts_before_end c.args.capture.now (between c.in-Some._start c.next_stop-end.result) here.is, c.in-Some.ensures.at, ap (λ (s : Span). s.start) c.in_ok-index.ensures.span)
 
 pub loop-start-smaller : goal.loop-start-smaller
 loop-start-smaller c =
     let here = stretch (goal.at.loop-start-smaller c).After-next_stop-end in
-    omega (arith, here.from, here.is.within, starts_before_end c.args.capture.now (between c.in-Some.start c.next_stop-end.result) here.is, c.next_stop-end.ensures.at)
+    omega (arith, here.from, here.is.within, starts_before_end c.args.capture.now (between c.in-Some._start c.next_stop-end.result) here.is, c.follow_span-in-None.ensures.instant)
 
 pub loop-start-preserved : goal.loop-start-preserved
 loop-start-preserved c =
     let t = c.args.capture.now in
-    let u = c.later-first.result.capture.now in
-    let start = c.in-Some.start in
+    let u = c.next_idle.new.self.capture.now in
+    let start = c.in-Some._start in
     let end = c.next_stop-end.result in
     let span = between start end in
     let so_far = c.loop-start.invariant in
     let done = so_far.rest.0 in
     let here = stretch (goal.at.loop-start-preserved c).After-next_stop-end in
     let idle = ap (λ b. b.now) c.next_idle.ensures.trace ∙ so_far.same in
-    let stopped = ap (λ b. b.now) c.next_stop-end.ensures.trace ∙ idle in
-    let same = c.later-first.ensures.trace ∙ idle in
-    let of = its_span start end c.later-first.result.instant c.in_ok-index.index.span c.later-first.ensures.instant c.in_ok-index.ensures.span in
-    let none = its_break t u start end c.later-first.result.instant c.in_ok-index.found same c.later-first.ensures.instant c.in_ok-index.ensures.found ∙ c.in-None.is in
+    let ended = c.follow_span-in-None.ensures.trace ∙ idle in
+    let of = its_span start end c.next_idle.new.self.instant c.in_ok-index.index.span c.in-Some.ensures.at c.in_ok-index.ensures.span in
+    let none = its_break t u start end c.next_idle.new.self.instant c.in_ok-index.found idle c.in-Some.ensures.at c.in_ok-index.ensures.found ∙ c.in-None.is in
     let reset : option_to_list c.reset_row.result ≡ reset_at t end =
-    c.reset_row.ensures ∙ (ap (λ (v : Trace). reset_at v c.next_stop-end.new.self.instant) stopped ∙ ap (reset_at t) c.next_stop-end.ensures.at) in
+    c.reset_row.ensures ∙ (ap (λ (v : Trace). reset_at v c.follow_span-in-None.new.bus.instant) ended ∙ ap (reset_at t) c.follow_span-in-None.ensures.instant) in
     record {
-      same = stopped;
-      version = c.follow-in-None.ensures.version ∙ (c.follow_span-in-None.ensures.version ∙ so_far.version);
+      same = ended;
+      version = c.follow_any.ensures.version ∙ (c.follow_span-in-None.ensures.version ∙ so_far.version);
       rest = (
         done ++ rows_to u c.in_ok-index.index.span end ++ option_to_list c.reset_row.result,
         spans_after t (end + 1),
-        λ given none. c.follow-in-None.ensures.rows given _ (c.follow_span-in-None.ensures.rows given done (so_far.rest.2 given none)),
-        subst (λ n. Follow t n (spans_after t (end + 1))) (sym c.next_stop-end.ensures.at) (follow-later t span here.is (λ within. unbroken-resets t span here.is none within)),
-        ap (λ (rows : List Row). done ++ rows ++ option_to_list c.reset_row.result ++ rows_from t Conforming (spans_after t (end + 1))) (same_rows t u span c.in_ok-index.index.span end same of)
+        λ given none. c.follow_any.ensures.rows given _ (c.follow_span-in-None.ensures.rows given done (so_far.rest.2 given none)),
+        subst (λ n. Follow t n (spans_after t (end + 1))) (sym c.follow_span-in-None.ensures.instant) (follow-later t span here.is (λ within. unbroken-resets t span here.is none within)),
+        ap (λ (rows : List Row). done ++ rows ++ option_to_list c.reset_row.result ++ rows_from t Conforming (spans_after t (end + 1))) (same_rows t u span c.in_ok-index.index.span end idle of)
             ∙ (ap (λ (rows : List Row). done ++ rows_to t span end ++ rows ++ rows_from t Conforming (spans_after t (end + 1))) reset
             ∙ unbroken t done c.loop-start.outcome so_far.rest.1 so_far.rest.4 span (spans_after t (end + 1)) here.first none),
       );

@@ -1,4 +1,4 @@
-use Rattle.std.proofs.Common.{◌≡◌, List, ◌∷◌, ◌++◌}
+use Rattle.std.proofs.Common.{◌≡◌, ◌-◌, ◌≤◌, List, ◌∷◌, ◌++◌}
 use Rattle.vme_listing.specs.Recorded.{rows_before}
 use Rattle.vme_listing.specs.declared.row.Row.{Row}
 use Rattle.vme_listing.specs.declared.row.Row.TheVariants.{Start}
@@ -6,13 +6,18 @@ use Rattle.vme_cert.specs.Following.{Follows}
 use Rattle.vme_cert.specs.declared.given.Given.{Given}
 use Rattle.vme_cert.proofs.follower.Follower.follow_span.Given as goal
 
--- the start, and the rows so far
-abbrev pub invariant-loop-instant : goal.invariant-loop-instant
-invariant-loop-instant l =
+-- the start, and the rows before the first instant that is left
+abbrev pub invariant-loop-start : goal.invariant-loop-start
+invariant-loop-start l =
     record {
-      here : l.bus.instant ≡ l._instant;
-      trace : l.bus.capture.now ≡ l.start.capture.now;
+      here : l.bus.instant ≤ l.first;
+      trace : l.bus.capture.now ≡ l.fn.bus.capture.now;
+      from : l.fn.index.span.start ≤ l.first;
+      until : l.first ≤ l.fn.end;
       version : l.self.version ≡ l.fn.self.version;
       rows : (given : Given) (right : List Row) → Follows given right l.fn.self
-          → Follows given (right ++ Start l.fn.index.span.start ∷ rows_before l.start.capture.now l.fn.index.span l.fn.end l._instant) l.self;
+          → Follows given (right ++ Start l.fn.index.span.start ∷ rows_before l.fn.bus.capture.now l.fn.index.span l.fn.end l.first) l.self;
     }
+
+abbrev pub decreases-loop-start : goal.decreases-loop-start
+decreases-loop-start l = l.fn.end - l.first

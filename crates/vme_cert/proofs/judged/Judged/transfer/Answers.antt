@@ -1,7 +1,16 @@
 -- The last transfer to start, if it lasts.
-use Rattle.std.proofs.Common.{sym, ◌∙◌, arith}
-use Rattle.vme_cert.proofs.AtTransfers.{in_transfer-last, in_transfer-over, in_transfer-unstarted}
+use Rattle.std.proofs.Common.{◌≡◌, ◌+◌, ◌-◌, sym, ◌∙◌, ap, arith}
+use Rattle.vme_cert.proofs.AtTransfers.{lasts_parts, in_transfer-last, in_transfer-over, in_transfer-unstarted}
+use Rattle.vme_trace.specs.Instants.{any}
+use Rattle.vme_trace.specs.Transfers.{strobes_high}
+use Rattle.vme_cert.specs.Judging.{trace, span}
 use Rattle.vme_cert.proofs.judged.Judged.transfer.Goals as goal
+
+pub answer_of-requires-clause-open : goal.answer_of-requires-clause-open
+answer_of-requires-clause-open c =
+    let self = c.args.self.now in
+    let back : c.args.at + 1 - 1 ≡ c.args.at = omega arith in
+    ap (any (strobes_high (trace self)) (c.in_ok-start.start + 1)) back ∙ (lasts_parts (trace self) (span self) c.in_ok-start.start c.args.at (sym c.lasts.ensures ∙ c.if-not-lasts.false)).still
 
 pub returns : goal.returns
 returns c = record {
