@@ -1,6 +1,6 @@
 -- The transfer at an instant is the last one to start, if it lasts.
-use Rattle.std.proofs.Common.{◌≡◌, ℕ, ◌+◌, ◌-◌, ◌<◌, ◌≤◌, Bool, true, false, ◌&&◌, not, refl, sym, ◌∙◌, ap, arith, inl, inr, ◌⊎◌}
-use Rattle.std.specs.Prelude.{Option, None, Some, IfSome, is_some, nat_le, nat_lt, ◌==◌}
+use Rattle.std.proofs.Common.{◌≡◌, ℕ, ◌+◌, ◌<◌, ◌≤◌, Bool, true, false, ◌&&◌, not, refl, sym, ◌∙◌, ap, arith, inl, inr, ◌⊎◌}
+use Rattle.std.specs.Prelude.{Option, None, Some, is_some, nat_le, nat_lt, ◌==◌}
 use Rattle.std.specs.Option.{option_map_or}
 use Rattle.vme_trace.specs.Instants.{any, least, greatest}
 use Rattle.vme_trace.specs.Trace.{Trace}
@@ -37,26 +37,6 @@ firsts q i n = by_least (least q i n) refl
         least-is (λ k. q k && not (any q i k)) i n r found.first found.below (both _ _ found.holds (rw found.least refl))
         (fails-any (λ k. q k && not (any q i k)) i r (λ k a b. first_false _ _ (any-fails q i r k found.least a b))) ∙ sym e
 
-on : (a : Bool) → (a && true) ≡ a
-on true = refl
-on false = refl
-
-pub least-before : (p : ℕ → Bool) (f n : ℕ) (o : Option ℕ) → o ≡ least p f n → IfSome o (λ i. i < n)
-least-before p f n None e = tt
-least-before p f n (Some i) e = (least-found p f n i (sym e)).below
-
--- past an instant from which on none holds, none has to be looked for
-least-shorter : (p : ℕ → Bool) (f m n : ℕ) → m ≤ n → ((k : ℕ) → m ≤ k → k < n → p k ≡ false) → least p f m ≡ least p f n
-least-shorter p f m n order later = by_least (least p f n) refl
-  where
-    by_order : (r : ℕ) → IsLeast p f n r → (r < m) ⊎ (m ≤ r) → least p f m ≡ Some r
-    by_order r found (inl below) = least-is p f m r found.first below found.holds found.least
-    by_order r found (inr from) = absurd (clash (p r) found.holds (later r from found.below))
-
-    by_least : (o : Option ℕ) → least p f n ≡ o → least p f m ≡ least p f n
-    by_least None e = least-none p f m (none-shorter p f m n order (least-none-any p f n e)) ∙ sym e
-    by_least (Some r) e = by_order r (least-found p f n r e) (below_or_from r m) ∙ sym e
-
 module _ (t : Trace) (span : Span) where
   -- what it is to last
   pub record Lasts (i j : ℕ) : Type 0 where
@@ -65,7 +45,7 @@ module _ (t : Trace) (span : Span) where
     pub before : j < span.end
     pub still : any (strobes_high t) (i + 1) j ≡ false
 
-  pub lasts_parts : (i j : ℕ) → lasts t span i j ≡ true → Lasts i j
+  lasts_parts : (i j : ℕ) → lasts t span i j ≡ true → Lasts i j
   unfolding lasts
   lasts_parts i j h =
       let outer = and_true (nat_le i j && is_judged span j) (not (any (strobes_high t) (i + 1) j)) h in
@@ -88,27 +68,6 @@ module _ (t : Trace) (span : Span) where
   lasts_earlier i r j after from within h =
       let parts = lasts_parts i j h in
       lasts_holds i r (record { order = from; after = omega arith; before = omega (arith, parts.before); still = none-shorter (strobes_high t) (i + 1) r j within parts.still })
-
-  -- where the strobes stay it lasts while it is judged
-  pub lasts-judged : (i r e : ℕ) → i ≤ r → r < e → any (strobes_high t) (i + 1) (e - 1) ≡ false → lasts t span i r ≡ is_judged span r
-  unfolding lasts
-  lasts-judged i r e from before still = rw (le_holds i r from, none-shorter (strobes_high t) (i + 1) r (e - 1) (omega arith) still) (on (is_judged span r))
-
-  -- none answers past the instant at which both strobes are high again
-  answers-closed : (i k e : ℕ) → any (strobes_high t) (i + 1) e ≡ true → e ≤ k → answers t span i k ≡ false
-  unfolding answers
-  answers-closed i k e closed from = by_lasts (bool_cases (lasts t span i k))
-    where
-      by_lasts : (lasts t span i k ≡ true) ⊎ (lasts t span i k ≡ false) → (lasts t span i k && answer_falls t k && not (is_answered t span i k)) ≡ false
-      by_lasts (inl h) = absurd (clash (any (strobes_high t) (i + 1) e) closed (none-shorter (strobes_high t) (i + 1) e k from (lasts_parts i k h).still))
-      by_lasts (inr h) = rw h refl
-
-  -- so they needn't be looked for there
-  pub answers-by : (i c e : ℕ) → least (strobes_high t) (i + 1) e ≡ Some c → least (answers t span i) i (c + 1) ≡ least (answers t span i) i e
-  answers-by i c e closes =
-      let found = least-found (strobes_high t) (i + 1) e c closes in
-      least-shorter (answers t span i) i (c + 1) e (omega (arith, found.below))
-      (λ k from below. answers-closed i k (c + 1) (any-holds (strobes_high t) (i + 1) (c + 1) c found.first (omega arith) found.holds) from)
 
   no_transfer : (p : ℕ → Bool) (j : ℕ) → ((i : ℕ) → span.start < i → i ≤ j → transfer_starts t span i ≡ true → lasts t span i j ≡ false) → in_transfer t span p j ≡ false
   unfolding in_transfer
@@ -171,6 +130,16 @@ module _ (t : Trace) (span : Span) where
       firsts (λ k. lasts t span i k && answer_falls t k) i e
       ∙ least-none (λ k. lasts t span i k && answer_falls t k) i e
       (fails-any (λ k. lasts t span i k && answer_falls t k) i e (λ k a b. and_false (lasts t span i k) (answer_falls t k) (λ lasting. any-fails (answer_falls t) i e k (least-none-any _ _ _ none) a b)))
+
+  -- while it lasts its answer is the first fall of an answer line
+  pub answer-open : (i j : ℕ) → span.start < i → lasts t span i j ≡ true → least (answer_falls t) i (j + 1) ≡ least (answers t span i) i (j + 1)
+  answer-open i j after last = by_least (least (answer_falls t) i (j + 1)) refl
+    where
+      by_least : (o : Option ℕ) → least (answer_falls t) i (j + 1) ≡ o → least (answer_falls t) i (j + 1) ≡ least (answers t span i) i (j + 1)
+      by_least None e = e ∙ sym (answer-never i (j + 1) e)
+      by_least (Some r) e =
+          let found = least-found (answer_falls t) i (j + 1) r e in
+          e ∙ sym (answer-first i (j + 1) r after e (lasts_earlier i r j after found.first (omega (arith, found.below)) last))
 
   unanswered : (i j : ℕ) → is_answered t span i j ≡ true → answers t span i j ≡ false
   unfolding answers

@@ -39,7 +39,7 @@ impl Span {
 
 /// The changes at an instant, and its time; the opening has none, and nothing happens past the last instant.
 #[inline(always)]
-fn step_at(capture: &Capture, instant: u32) -> (&[Change], u64)
+pub(crate) fn step_at(capture: &Capture, instant: u32) -> (&[Change], u64)
     ensures made { levels_at capture.now instant ≡ changed (levels_at capture.now (instant - 1)) result.0.now }
     ensures sound { are_changes (levels_at capture.now (instant - 1)) 0 result.0.now ≡ true }
     ensures time { result.1 ≡ time_at capture.now instant }
@@ -152,16 +152,6 @@ impl<'a> Bus<'a> {
         ensures limited { result ≤ capture_limit }
     {
         self.capture.steps().len() as u32
-    }
-
-    /// The changes at the instant, and its time; the opening has none.
-    pub(crate) fn step(&self) -> (&[Change], u64)
-        ensures made { levels_at self.now.capture.now self.now.instant
-            ≡ changed (levels_at self.now.capture.now (self.now.instant - 1)) result.0.now }
-        ensures sound { are_changes (levels_at self.now.capture.now (self.now.instant - 1)) 0 result.0.now ≡ true }
-        ensures time { result.1 ≡ time_at self.now.capture.now self.now.instant }
-    {
-        step_at(self.capture, self.instant)
     }
 
     /// Whether the line was low at the instant before.

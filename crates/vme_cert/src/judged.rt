@@ -1,10 +1,10 @@
 //! A recording at an instant and what happened up to there: transfers and cycles, by their starts.
 #![tactic(auto, unfolding(vme_trace::specs::Transfers::lasts, vme_trace::specs::Cycles::cycle_of))]
 
-ghost use Rattle.std.specs.Prelude.{◌≡◌, ◌+◌, ◌-◌, ◌<◌, ◌≤◌, false};
+ghost use Rattle.std.specs.Prelude.{◌≡◌, ◌+◌, ◌<◌, ◌≤◌};
 ghost use Rattle.vme_cert.specs.Words.{true, IfSome, any, none, least, greatest, cycle_starts, cycle_of, class_at};
 ghost use Rattle.vme_cert.specs.Words.{needs_of, levels_at, answers_of, spoils_pair, turns, lasts, answers, is_answer};
-ghost use Rattle.vme_cert.specs.Words.{strobes_high, answers_write, transfer_starts, data_at, last_instant};
+ghost use Rattle.vme_cert.specs.Words.{answers_write, transfer_starts, data_at, last_instant};
 ghost use Rattle.vme_cert.specs.Events.{happens, IsIndex};
 
 use crate::bus::Bus;
@@ -71,38 +71,21 @@ impl Judged<'_> {
         start <= at && span.contains(at) && !self.any(StrobesHigh, start + 1, at)
     }
 
-    /// The answer before an end of a transfer that starts at an instant and stays open up to there.
+    /// The answer of the transfer that starts at an instant, if it is before an end.
     #[inline(always)]
-    fn answer_of(&self, start: u32, end: u32) -> Option<u32>
+    pub(crate) fn answer_of(&self, start: u32, end: u32) -> Option<u32>
         requires after { (span self.now).start < start }
         requires within { end ≤ noted self.now }
-        requires open { any (strobes_high (trace self.now)) (start + 1) (end - 1) ≡ false }
         ensures answer { result ≡ least (answers (trace self.now) (span self.now) start) start end }
+        ensures from { IfSome result (λ answer. start ≤ answer) }
         ensures before { IfSome result (λ answer. answer < end) }
     {
         let answer = self.first(AnswerFall, start, end)?;
-        if self.index.span.contains(answer) {
+        if self.lasts(start, answer) {
             Some(answer)
         } else {
             None
         }
-    }
-
-    /// The answer before an end of a transfer that starts at an instant, by the first instant at which both strobes are
-    /// high again.
-    #[inline(always)]
-    pub(crate) fn answer_by(&self, start: u32, close: Option<u32>, end: u32) -> Option<u32>
-        requires after { (span self.now).start < start }
-        requires within { end ≤ noted self.now }
-        requires close { close ≡ least (strobes_high (trace self.now)) (start + 1) end }
-        ensures answer { result ≡ least (answers (trace self.now) (span self.now) start) start end }
-        ensures before { IfSome result (λ answer. answer < end) }
-    {
-        let end = match close {
-            Some(close) => close + 1,
-            None => end,
-        };
-        self.answer_of(start, end)
     }
 
     /// The data that the answer takes of the transfer that starts at the instant: what the lines say before it, or as
@@ -121,7 +104,8 @@ impl Judged<'_> {
         }
     }
 
-    /// The transfer to which an instant belongs, the last one to start, if it lasts: its start, and its answer by then.
+    /// The transfer to which an instant belongs, the last one to start, if it lasts: its start, and its answer by then,
+    /// which is the first fall of an answer line.
     pub(crate) fn transfer(&self, at: u32) -> Option<(u32, Option<u32>)>
         requires { at < noted self.now }
         ensures { IsTransfer (trace self.now) (span self.now) at result }
@@ -130,7 +114,7 @@ impl Judged<'_> {
         if !self.lasts(start, at) {
             return None;
         }
-        Some((start, self.answer_of(start, at + 1)))
+        Some((start, self.first(AnswerFall, start, at + 1)))
     }
 
     /// Whether an instant is the answer of a transfer.

@@ -129,8 +129,7 @@ impl Judged<'_> {
         } else {
             Direction::Read
         };
-        let close = self.first(StrobesHigh, start + 1, end);
-        let Some(answer) = self.answer_by(start, close, end) else {
+        let Some(answer) = self.answer_of(start, end) else {
             return Some(Row::PendingTransfer { start, direction });
         };
         let Some(cycle) = self.cycle_of(answer) else {
@@ -147,7 +146,7 @@ impl Judged<'_> {
             direction,
             line,
             answer,
-            close,
+            close: self.first(StrobesHigh, start + 1, end),
             lanes: self.write_data(answer),
         })
     }

@@ -10,7 +10,7 @@ ghost use Rattle.vme_cert.specs.Watching.{speaks_of};
 ghost use Rattle.vme_cert.specs.Events.{IsIndex};
 ghost use Rattle.vme_cert.specs.Spans.{between, end_in};
 
-use crate::bus::Bus;
+use crate::bus::{Bus, step_at};
 use crate::index::Index;
 use crate::judged::Judged;
 use crate::rules::{lines_of, nth_line};
@@ -201,7 +201,8 @@ impl Judged<'_> {
         ensures break_at { result ≡ break_at (trace self.now) (span self.now) all_rules (instant self.now) }
         ensures there { IfSome result (λ found. found.instant ≡ instant self.now) }
     {
-        let (changes, time) = self.bus.step();
+        let instant = self.bus.instant;
+        let (changes, time) = step_at(self.bus.capture, instant);
         if self.changed_break(changes).is_none()
             && self.start_break(U1).is_none()
             && self.start_break(U2).is_none()
@@ -211,7 +212,6 @@ impl Judged<'_> {
         {
             return None;
         }
-        let instant = self.bus.instant;
         let rules: &[Rule] = &Rule::ALL;
         for place in 0..RULE_COUNT {
             let rule = rules[place];

@@ -13,7 +13,7 @@ pub returns-in-Some-clause-break_at : goal.returns-in-Some-clause-break_at
 returns-in-Some-clause-break_at c =
     let self = c.args.self.now in
     let within : c.loop-place.place < 31 = omega arith in
-    rw c.step-time.ensures.time
+    rw c.step_at-time.ensures.time
     (sym
     (sym c.loop-place.invariant
     ∙ (ap (λ (rs : List Rule). break_at (trace self) (span self) rs (instant self)) (drop-cons all_rules c.loop-place.place U1 within)
@@ -45,7 +45,7 @@ kept (Some x) false e h = absurd (cc)
 pub returns-then-is_none-6-clause-break_at : goal.returns-then-is_none-6-clause-break_at
 returns-then-is_none-6-clause-break_at c =
     let self = c.args.self.now in
-    let edges = edges-kept (trace self) (span self) (instant self) c.step-time.result.0.now self.bus.now.few c.step-time.ensures.made c.step-time.ensures.sound
+    let edges = edges-kept (trace self) (span self) (instant self) c.step_at-time.result.0.now self.bus.now.few c.step_at-time.ensures.made c.step_at-time.ensures.sound
     (sym c.changed_break.ensures ∙ kept c.changed_break.result _ c.is_none.ensures c.if-is_none.true) in
     sym
     (all-kept (trace self) (span self) (instant self) edges

@@ -1,16 +1,8 @@
 -- The last transfer to start, if it lasts.
-use Rattle.std.proofs.Common.{◌≡◌, ◌+◌, ◌-◌, sym, ◌∙◌, ap, arith}
-use Rattle.vme_cert.proofs.AtTransfers.{lasts_parts, in_transfer-last, in_transfer-over, in_transfer-unstarted}
-use Rattle.vme_trace.specs.Instants.{any}
-use Rattle.vme_trace.specs.Transfers.{strobes_high}
+use Rattle.std.proofs.Common.{sym, ◌∙◌, arith}
+use Rattle.vme_cert.proofs.AtTransfers.{answer-open, in_transfer-last, in_transfer-over, in_transfer-unstarted}
 use Rattle.vme_cert.specs.Judging.{trace, span}
 use Rattle.vme_cert.proofs.judged.Judged.transfer.Goals as goal
-
-pub answer_of-requires-clause-open : goal.answer_of-requires-clause-open
-answer_of-requires-clause-open c =
-    let self = c.args.self.now in
-    let back : c.args.at + 1 - 1 ≡ c.args.at = omega arith in
-    ap (any (strobes_high (trace self)) (c.in_ok-start.start + 1)) back ∙ (lasts_parts (trace self) (span self) c.in_ok-start.start c.args.at (sym c.lasts.ensures ∙ c.if-not-lasts.false)).still
 
 pub returns : goal.returns
 returns c = record {
@@ -18,7 +10,7 @@ returns c = record {
   after = c.in_ok-start.ensures.from;
   order = omega (arith, c.in_ok-start.ensures.before);
   last = sym c.lasts.ensures ∙ c.if-not-lasts.false;
-  answer_is = c.answer_of.ensures.answer;
+  answer_is = c.first.ensures.least ∙ answer-open (trace c.args.self.now) (span c.args.self.now) c.in_ok-start.start c.args.at c.in_ok-start.ensures.from (sym c.lasts.ensures ∙ c.if-not-lasts.false);
 }
 
 pub returns-then-not-lasts : goal.returns-then-not-lasts
