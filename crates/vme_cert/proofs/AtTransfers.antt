@@ -95,6 +95,10 @@ module _ (t : Trace) (span : Span) where
       still_over k b starts found (inr below) (inr h) = h
       still_over k b starts found (inr below) (inl h) = absurd (clash (lasts t span i j) (lasts_later k i j below (omega (arith, found.before)) h) over)
 
+  -- what is found last starts
+  pub greatest-starts : (i j : ℕ) → greatest (transfer_starts t span) (span.start + 1) (j + 1) ≡ Some i → transfer_starts t span i ≡ true
+  greatest-starts i j e = (greatest-found (transfer_starts t span) (span.start + 1) (j + 1) i e).holds
+
   -- else it is the one
   pub in_transfer-last : (p : ℕ → Bool) (i j : ℕ) → greatest (transfer_starts t span) (span.start + 1) (j + 1) ≡ Some i → lasts t span i j ≡ true → in_transfer t span p j ≡ p i
   in_transfer-last p i j e last =

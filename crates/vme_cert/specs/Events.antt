@@ -22,7 +22,7 @@ list_of lists event.AddressRise = lists.address_rises
 list_of lists event.TransferStart = lists.transfer_starts
 list_of lists event.StrobeRise = lists.strobe_rises
 list_of lists event.StrobesHigh = lists.strobes_high
-list_of lists event.WriteLow = lists.write_low
+list_of lists event.WriteStart = lists.write_starts
 list_of lists event.AnswerFall = lists.answer_falls
 list_of lists event.AcknowledgeFall = lists.acknowledge_falls
 list_of lists event.ErrorFall = lists.error_falls
@@ -51,7 +51,7 @@ module _ (t : Trace) (span : Span) where
   happens event.TransferStart i = transfer_starts t span i
   happens event.StrobeRise i = strobe_rises t i
   happens event.StrobesHigh i = strobes_high t i
-  happens event.WriteLow i = low t WRITE i
+  happens event.WriteStart i = transfer_starts t span i && low t WRITE i
   happens event.AnswerFall i = answer_falls t i
   happens event.AcknowledgeFall i = falls t DTACK i
   happens event.ErrorFall i = falls t BERR i

@@ -5,7 +5,7 @@ use Rattle.vme_trace.specs.Trace.{Trace, levels_at, changed}
 use Rattle.vme_trace.specs.WellFormed.{are_changes}
 use Rattle.vme_trace.specs.declared.step.Change.{Change}
 use Rattle.vme_trace.specs.Judged.{Span}
-use Rattle.vme_trace.specs.Transfers.{lasts, answers, in_transfer}
+use Rattle.vme_trace.specs.Transfers.{lasts, answers, in_transfer, transfer_starts}
 use Rattle.vme_cert.specs.declared.judged.Judged.{Judged}
 use Rattle.vme_cert.specs.Watching.{is_edge_broken}
 
@@ -37,6 +37,7 @@ breaks_edge judged = is_edge_broken (trace judged) (span judged) (instant judged
 -- what is asked of the transfer at an instant is asked of the one that starts here, and this is its answer by then
 pub record IsTransferFrom (t : Trace) (span : Span) (at start : ℕ) (answer : Option ℕ) : Type 0 where
   pub is : (p : ℕ → Bool) → in_transfer t span p at ≡ p start
+  pub starts : transfer_starts t span start ≡ true
   pub after : span.start < start
   pub order : start ≤ at
   pub last : lasts t span start at ≡ true

@@ -160,7 +160,7 @@ pub(crate) enum Event {
     TransferStart,
     StrobeRise,
     StrobesHigh,
-    WriteLow,
+    WriteStart,
     AnswerFall,
     AcknowledgeFall,
     ErrorFall,
@@ -267,7 +267,7 @@ pub(crate) struct EventLists {
     transfer_starts: Instants,
     strobe_rises: Instants,
     strobes_high: Instants,
-    write_low: Instants,
+    write_starts: Instants,
     answer_falls: Instants,
     acknowledge_falls: Instants,
     error_falls: Instants,
@@ -292,7 +292,7 @@ impl EventLists {
             transfer_starts: Instants::new(alloc),
             strobe_rises: Instants::new(alloc),
             strobes_high: Instants::new(alloc),
-            write_low: Instants::new(alloc),
+            write_starts: Instants::new(alloc),
             answer_falls: Instants::new(alloc),
             acknowledge_falls: Instants::new(alloc),
             error_falls: Instants::new(alloc),
@@ -318,7 +318,7 @@ impl EventLists {
             Event::TransferStart => &self.transfer_starts,
             Event::StrobeRise => &self.strobe_rises,
             Event::StrobesHigh => &self.strobes_high,
-            Event::WriteLow => &self.write_low,
+            Event::WriteStart => &self.write_starts,
             Event::AnswerFall => &self.answer_falls,
             Event::AcknowledgeFall => &self.acknowledge_falls,
             Event::ErrorFall => &self.error_falls,
@@ -346,7 +346,8 @@ impl EventLists {
             .note(instant, bus.transfer_starts(span))?;
         self.strobe_rises.note(instant, bus.strobe_rises())?;
         self.strobes_high.note(instant, bus.strobes_high())?;
-        self.write_low.note(instant, bus.low(Line::WRITE))?;
+        let write = bus.transfer_starts(span) && bus.low(Line::WRITE);
+        self.write_starts.note(instant, write)?;
         self.answer_falls.note(instant, bus.answer_falls())?;
         self.acknowledge_falls
             .note(instant, bus.falls(Line::DTACK))?;

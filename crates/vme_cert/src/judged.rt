@@ -4,11 +4,12 @@
 ghost use Rattle.std.specs.Prelude.{◌≡◌, ◌+◌, ◌<◌, ◌≤◌};
 ghost use Rattle.vme_cert.specs.Words.{true, IfSome, any, none, least, greatest, cycle_starts, cycle_of, class_at};
 ghost use Rattle.vme_cert.specs.Words.{needs_of, levels_at, answers_of, spoils_pair, turns, lasts, answers, is_answer};
-ghost use Rattle.vme_cert.specs.Words.{answers_write, transfer_starts, data_at, last_instant};
+ghost use Rattle.vme_cert.specs.Words.{answers_write, transfer_starts, data_at, last_instant, low};
+ghost use Rattle.vme_trace.specs.LineNumbers.{WRITE};
 ghost use Rattle.vme_cert.specs.Events.{happens, IsIndex};
 
 use crate::bus::Bus;
-use crate::index::Event::{self, AnswerFall, CycleStart, StrobesHigh, TransferStart, WriteLow};
+use crate::index::Event::{self, AnswerFall, CycleStart, StrobesHigh, TransferStart, WriteStart};
 use crate::index::Index;
 use vme_trace::{Class, Lanes, LineSet, moved_data};
 
@@ -117,6 +118,16 @@ impl Judged<'_> {
         Some((start, self.first(AnswerFall, start, at + 1)))
     }
 
+    /// Whether the transfer that starts at an instant is a write.
+    pub(crate) fn is_write(&self, start: u32) -> bool
+        requires starts { transfer_starts (trace self.now) (span self.now) start ≡ true }
+        requires from { (span self.now).start ≤ start }
+        requires noted { start < noted self.now }
+        ensures { result ≡ low (trace self.now) WRITE start }
+    {
+        self.any(WriteStart, start, start + 1)
+    }
+
     /// Whether an instant is the answer of a transfer.
     pub(crate) fn is_answer(&self, at: u32) -> bool
         requires { at < noted self.now }
@@ -135,7 +146,7 @@ impl Judged<'_> {
         ensures { result ≡ answers_write (trace self.now) (span self.now) at }
     {
         match self.transfer(at) {
-            Some((start, Some(answer))) => answer == at && self.any(WriteLow, start, start + 1),
+            Some((start, Some(answer))) => answer == at && self.is_write(start),
             Some((_start, None)) => false,
             None => false,
         }

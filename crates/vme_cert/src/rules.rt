@@ -13,7 +13,7 @@ ghost use Rattle.vme_cert.specs.Watching.{asks};
 use crate::bus::Bus;
 use crate::index::Event::{
     self, AcknowledgeFall, AddressRise, BusyFall, CycleStart, ErrorFall, GrantFall, StrobeRise,
-    TransferStart, WriteLow,
+    TransferStart,
 };
 use crate::judged::Judged;
 use crate::search::{any, least};
@@ -140,9 +140,7 @@ impl Judged<'_> {
     {
         let at = self.bus.instant;
         match self.transfer(at) {
-            Some((start, answer)) => {
-                answer.unwrap_or(at) >= at && self.any(WriteLow, start, start + 1)
-            }
+            Some((start, answer)) => answer.unwrap_or(at) >= at && self.is_write(start),
             None => false,
         }
     }
@@ -156,7 +154,7 @@ impl Judged<'_> {
             Some((start, answer)) => {
                 start < at
                     && answer.is_none()
-                    && self.any(WriteLow, start, start + 1)
+                    && self.is_write(start)
                     && !self.any(StrobeRise, start + 1, at + 1)
             }
             None => false,

@@ -1,15 +1,12 @@
 -- The transfer there tells.
 use Rattle.std.proofs.Common.{sym, ◌∙◌}
-use Rattle.vme_trace.specs.LineNumbers.{WRITE}
-use Rattle.vme_trace.specs.Signals.{low}
-use Rattle.vme_cert.proofs.AtAnswers.{any-one, answers_write-here, answers_write-never, write-asked, write-elsewhere, write-never}
+use Rattle.vme_cert.proofs.AtAnswers.{answers_write-here, answers_write-never, write-asked, write-elsewhere, write-never}
 use Rattle.vme_cert.proofs.judged.Judged.answers_write.Goals as goal
 
 pub returns-then-answer-at : goal.returns-then-answer-at
 returns-then-answer-at c =
-    c.any.ensures
-    ∙ (any-one (low c.args.self.now.bus.now.capture.now WRITE) c.in-Some-default-Some.start
-    ∙ (write-asked c.in-Some-default-Some.field-0-1 c.in-Some-default-Some.answer c.args.at _ c.in-Some-default-Some.field-0-1-is c.if-answer-at.true ∙ sym (answers_write-here _ _ c.args.at _ _ c.in-Some-default-Some.ensures)))
+    c.is_write.ensures
+    ∙ (write-asked c.in-Some-default-Some.field-0-1 c.in-Some-default-Some.answer c.args.at _ c.in-Some-default-Some.field-0-1-is c.if-answer-at.true ∙ sym (answers_write-here _ _ c.args.at _ _ c.in-Some-default-Some.ensures))
 
 pub returns-else-answer-at : goal.returns-else-answer-at
 returns-else-answer-at c =

@@ -7,7 +7,6 @@ use Rattle.vme_trace.specs.Instants.{none}
 use Rattle.vme_trace.specs.Signals.{low}
 use Rattle.vme_trace.specs.Transfers.{strobe_rises}
 use Rattle.vme_cert.specs.Judging.{trace, instant}
-use Rattle.vme_cert.proofs.AtAnswers.{any-one}
 use Rattle.vme_cert.proofs.Asked.{held-write}
 use Rattle.vme_cert.proofs.judged.Judged.is_held_write.Goals as goal
 use Rattle.vme_cert.proofs.judged.Judged.is_held_write.Goals.{then-start-at, else-start-at, then-is_none, else-is_none}
@@ -38,8 +37,8 @@ all_four v a s w x e h = rw (sym e ∙ h) refl
 not_all : (v a s w x : Bool) → v ≡ (a && w && not s) → v ≡ false → v ≡ (a && w && not s && x)
 not_all v a s w x e h = rw (sym e ∙ h) h
 
-pub returns-then-any : goal.returns-then-any
-returns-then-any c =
+pub returns-then-is_write : goal.returns-then-is_write
+returns-then-is_write c =
     let self = c.args.self.now in
     let start = c.in-Some.start in
     let before = nat_lt start (instant self) in
@@ -52,13 +51,13 @@ returns-then-any c =
     ] in
     let written : c.if-is_none.value ≡ (before && write && not answered) =
     elim c.if-is_none.branch [
-      | then-is_none w ↦ w.value-is ∙ (w.any.ensures ∙ (any-one (low (trace self) WRITE) start ∙ and_write _ _ _ _ waiting w.if-is_none.true))
+      | then-is_none w ↦ w.value-is ∙ (w.is_write.ensures ∙ and_write _ _ _ _ waiting w.if-is_none.true)
       | else-is_none w ↦ w.value-is ∙ and_none _ _ _ write waiting w.if-is_none.false
     ] in
-    ap not c.any-then-any.ensures ∙ (all_four _ before answered write _ written c.if-any.true ∙ sym (held-write _ _ _ start c.in-Some.answer c.in-Some.ensures))
+    ap not c.any.ensures ∙ (all_four _ before answered write _ written c.if-is_write.true ∙ sym (held-write _ _ _ start c.in-Some.answer c.in-Some.ensures))
 
-pub returns-else-any : goal.returns-else-any
-returns-else-any c =
+pub returns-else-is_write : goal.returns-else-is_write
+returns-else-is_write c =
     let self = c.args.self.now in
     let start = c.in-Some.start in
     let before = nat_lt start (instant self) in
@@ -72,7 +71,7 @@ returns-else-any c =
     ] in
     let written : c.if-is_none.value ≡ (before && write && not answered) =
     elim c.if-is_none.branch [
-      | then-is_none w ↦ w.value-is ∙ (w.any.ensures ∙ (any-one (low (trace self) WRITE) start ∙ and_write _ _ _ _ waiting w.if-is_none.true))
+      | then-is_none w ↦ w.value-is ∙ (w.is_write.ensures ∙ and_write _ _ _ _ waiting w.if-is_none.true)
       | else-is_none w ↦ w.value-is ∙ and_none _ _ _ write waiting w.if-is_none.false
     ] in
-    not_all _ before answered write still written c.if-any.false ∙ sym (held-write _ _ _ start c.in-Some.answer c.in-Some.ensures)
+    not_all _ before answered write still written c.if-is_write.false ∙ sym (held-write _ _ _ start c.in-Some.answer c.in-Some.ensures)

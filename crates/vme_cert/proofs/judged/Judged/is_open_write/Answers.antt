@@ -5,7 +5,6 @@ use Rattle.std.proofs.lemmas.Bool.Decides.{nat_tests}
 use Rattle.vme_trace.specs.LineNumbers.{WRITE}
 use Rattle.vme_trace.specs.Signals.{low}
 use Rattle.vme_cert.specs.Judging.{trace, instant}
-use Rattle.vme_cert.proofs.AtAnswers.{any-one}
 use Rattle.vme_cert.proofs.Asked.{open-write}
 use Rattle.vme_cert.proofs.judged.Judged.is_open_write.Goals as goal
 
@@ -22,10 +21,9 @@ returns-then-unwrap_or-at c =
     let t = trace c.args.self.now in
     let j = instant c.args.self.now in
     let start = c.in-Some.start in
-    c.any.ensures
-    ∙ (any-one (low t WRITE) start
+    c.is_write.ensures
     ∙ (not_earlier (low t WRITE start) c.unwrap_or.result j c.if-unwrap_or-at.true
-    ∙ (ap (λ (n : ℕ). low t WRITE start && not (nat_lt n j)) c.unwrap_or.ensures ∙ sym (open-write _ _ _ start c.in-Some.answer c.in-Some.ensures))))
+    ∙ (ap (λ (n : ℕ). low t WRITE start && not (nat_lt n j)) c.unwrap_or.ensures ∙ sym (open-write _ _ _ start c.in-Some.answer c.in-Some.ensures)))
 
 pub returns-else-unwrap_or-at : goal.returns-else-unwrap_or-at
 returns-else-unwrap_or-at c =

@@ -1,12 +1,13 @@
 -- The last transfer to start, if it lasts.
 use Rattle.std.proofs.Common.{sym, ◌∙◌, arith}
-use Rattle.vme_cert.proofs.AtTransfers.{answer-open, in_transfer-last, in_transfer-over, in_transfer-unstarted}
+use Rattle.vme_cert.proofs.AtTransfers.{answer-open, greatest-starts, in_transfer-last, in_transfer-over, in_transfer-unstarted}
 use Rattle.vme_cert.specs.Judging.{trace, span}
 use Rattle.vme_cert.proofs.judged.Judged.transfer.Goals as goal
 
 pub returns : goal.returns
 returns c = record {
   is = λ p. in_transfer-last _ _ p _ _ (sym c.in_ok-start.ensures.greatest) (sym c.lasts.ensures ∙ c.if-not-lasts.false);
+  starts = greatest-starts _ _ _ _ (sym c.in_ok-start.ensures.greatest);
   after = c.in_ok-start.ensures.from;
   order = omega (arith, c.in_ok-start.ensures.before);
   last = sym c.lasts.ensures ∙ c.if-not-lasts.false;
