@@ -3,7 +3,7 @@ pub mod NumberLemmas
 pub mod BodyLemmas
 pub mod CodesLemmas
 pub mod CodeIndexLemmas
-pub mod BitsLemmas
+pub mod Fill
 pub mod WavesLemmas
 pub mod InstantsLaw
 pub mod ReadLemmas

@@ -29,7 +29,7 @@ pub(crate) fn extended(alloc: Global, size: u32, digits: &[u8]) -> Result<Bits, 
 }
 
 /// One bit of the value of this size that digits are, by its place from the left: x where the value has no such bit.
-#[tactic(auto, using(crate::proofs::BitsLemmas::bit_fill, crate::proofs::BitsLemmas::bit_digit, crate::proofs::BitsLemmas::bit_past))]
+#[tactic(auto, using(crate::proofs::Fill::bit_fill, crate::proofs::Fill::bit_digit, crate::proofs::Fill::bit_past))]
 pub fn bit_at(size: u32, digits: &[u8], place: usize) -> Bit
     requires some { 0 < length digits.now }
     requires fits { length digits.now ≤ size }

@@ -289,7 +289,8 @@ fn join_piece(alloc: Global, so_far: Joined, kept: Kept<'_>) -> Result<Joined, V
     })
 }
 
-/// What a dump says whose definitions end in a front, and whose body is cut here, and how many pieces of it were joined.
+/// What a dump says whose definitions end in a front, and whose body is cut here, and how many pieces of it were
+/// joined.
 fn shown_by_joining(
     alloc: Global,
     front: &[u8],

@@ -28,7 +28,7 @@ use Rattle.vme_bind.specs.Wires.{line_source}
 use Rattle.vme_bind.specs.Taps.{taps_of, is_on, place_in, is_tap, tap_at, taps_below}
 use Rattle.vme_bind.specs.Capture.{level_in, last_bits, values_of, bits_at, last_change, level_by, level_after, levels_after}
 use Rattle.vme_bind.specs.Recording.{tapped, valued}
-use Rattle.vme_bind.proofs.RecorderLemmas.{zero_le, those-yes, those-no, set_same, set_other, same_levels}
+use Rattle.vme_bind.proofs.RecorderLemmas.{map-more, same_levels, set_other, set_same, those-no, those-yes, zero_le}
 
 -- ---- changes to those of a range
 
@@ -41,10 +41,6 @@ pub length-changed : (v : Levels) (cs : List Change) → length (changed v cs).l
 unfolding changed
 length-changed v [] = refl
 length-changed v (c ∷ cs) = length-changed (set_level v c.line c.level) cs ∙ length-set v.levels c.line c.level
-
-map-more : {X : Type 0} (f : ℕ → X) (xs : List ℕ) (x : ℕ) → map f (xs ++ x ∷ []) ≡ map f xs ++ f x ∷ []
-map-more f [] x = refl
-map-more {X = X} f (y ∷ xs) x = ap (λ (ys : List X). f y ∷ ys) (map-more f xs x)
 
 abbrev to_level : (ℕ → Level) → ℕ → Change
 to_level g l = record { line = l; level = g l }
@@ -63,7 +59,7 @@ lt_next l n ne = grind (arith, nat_tests)
 lt_itself : (l n : ℕ) → l ≡ n → nat_lt l (n + 1) ≡ true
 lt_itself l n e = grind (arith, nat_tests)
 
-is_below : (l n : ℕ) → l < n → nat_lt l n ≡ true
+pub is_below : (l n : ℕ) → l < n → nat_lt l n ≡ true
 is_below l n lt = grind (arith, nat_tests)
 
 both_true : (a b : Bool) → a ≡ true → b ≡ true → (a && b) ≡ true

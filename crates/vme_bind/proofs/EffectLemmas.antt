@@ -1,11 +1,10 @@
 -- What notes do to any levels, in short.
 use Rattle.std.proofs.Common.{◌≡◌, ℕ, ◌+◌, ◌<◌, Bool, true, cond, ◌&&◌, List, [], ◌∷◌, ◌++◌, length, map, get_or, take, inl, inr, Option, Some, None, refl, sym, ap, ◌∙◌, arith}
-use Rattle.std.specs.Prelude.{nat_lt, unwrap_or, slice_set, replicate, is_some, OnOk, OnErr, is_ok}
+use Rattle.std.specs.Prelude.{unwrap_or, slice_set, replicate, is_some, OnOk, OnErr, is_ok}
 use Rattle.std.proofs.Common.{Result, Ok, Err, subst}
 use Rattle.std.proofs.lemmas.Bool.{false≢true}
 use Rattle.std.specs.declared.alloc.AllocError.{AllocError}
 use Rattle.std.proofs.lemmas.Bool.{cases_eq}
-use Rattle.std.proofs.lemmas.Bool.Decides.{nat_tests}
 use Rattle.std.proofs.lemmas.List.{get_or-replicate, get_or-set_same, get_or-set_other, length-set, take_more}
 use Rattle.vme_trace.specs.Instants.{those}
 use Rattle.vme_trace.specs.Levels.{level_at}
@@ -19,9 +18,9 @@ use Rattle.vme_bind.specs.declared.note.Note.{Note}
 use Rattle.vme_bind.specs.declared.note.Note.TheVariants.{Changed, Ended}
 use Rattle.vme_bind.specs.Effects.{AreLast, DoTheSame}
 use Rattle.vme_bind.specs.Notes.{last_noted, levels_noted}
-use Rattle.vme_bind.proofs.CaptureLemmas.{changed-those, length-changed}
+use Rattle.vme_bind.proofs.CaptureLemmas.{changed-those, is_below, length-changed}
 use Rattle.vme_bind.proofs.NotesLemmas.{another, itself, last_behind-append, levels-last, levels_noted-length, levels_noted-slots}
-use Rattle.vme_bind.proofs.RecorderLemmas.{same_levels, those-yes, those-no}
+use Rattle.vme_bind.proofs.RecorderLemmas.{map-more, same_levels, those-yes, those-no}
 
 -- ---- the last level of each line
 
@@ -66,20 +65,13 @@ given_to last l = record { line = l; level = given last l }
 abbrev pub changes_to : List (Option Level) → ℕ → List Change
 changes_to last n = map (given_to last) (those (is_given last) 0 n)
 
-map-more : (last : List (Option Level)) (xs : List ℕ) (x : ℕ) → map (given_to last) (xs ++ x ∷ []) ≡ map (given_to last) xs ++ given_to last x ∷ []
-map-more last [] x = refl
-map-more last (y ∷ xs) x = ap (λ (cs : List Change). given_to last y ∷ cs) (map-more last xs x)
-
 pub changes-more : (last : List (Option Level)) (n : ℕ) (level : Level) → get_or last n None ≡ Some level → changes_to last (n + 1) ≡ changes_to last n ++ record { line = n; level = level } ∷ []
 changes-more last n level e =
-    ap (map (given_to last)) (those-yes (is_given last) n (ap is_some e)) ∙ map-more last (those (is_given last) 0 n) n
+    ap (map (given_to last)) (those-yes (is_given last) n (ap is_some e)) ∙ map-more (given_to last) (those (is_given last) 0 n) n
     ∙ ap (λ (x : Option Level). changes_to last n ++ record { line = n; level = unwrap_or x Unknown } ∷ []) e
 
 pub changes-same : (last : List (Option Level)) (n : ℕ) → get_or last n None ≡ None → changes_to last (n + 1) ≡ changes_to last n
 changes-same last n e = ap (map (given_to last)) (those-no (is_given last) n (ap is_some e))
-
-is_below : (l n : ℕ) → l < n → nat_lt l n ≡ true
-is_below l n lt = grind (arith, nat_tests)
 
 pub changes-do : (last : List (Option Level)) (notes : List Note) → AreLast last notes → DoTheSame (changes_to last line_count) notes
 changes-do last notes h v all =

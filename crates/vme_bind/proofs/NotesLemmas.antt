@@ -1,6 +1,6 @@
 -- What comes of notes, note by note.
 use Rattle.std.proofs.Common.{◌≡◌, ◌≢◌, ℕ, ◌+◌, ◌<◌, ◌≤◌, Bool, Option, Some, None, inl, inr, true, false, cond, ◌&&◌, List, [], ◌∷◌, ◌++◌, length, map, get_or, drop, take, refl, sym, ap, ◌∙◌, append_assoc, arith}
-use Rattle.std.specs.Prelude.{◌==◌, if◌then◌else◌, nat_lt, unwrap_or}
+use Rattle.std.specs.Prelude.{◌==◌, if◌then◌else◌, unwrap_or}
 use Rattle.std.proofs.Math.ListN.{drop_of_length-le, set}
 use Rattle.std.proofs.lemmas.Bool.{cases_eq, cases_lt, false≢true}
 use Rattle.std.proofs.lemmas.Bool.Decides.{nat_tests}
@@ -24,10 +24,10 @@ use Rattle.vme_bind.specs.declared.taps.Tap.{Tap}
 use Rattle.vme_bind.specs.declared.taps.Taps.{Taps}
 use Rattle.vme_bind.specs.Capture.{level_in}
 use Rattle.vme_bind.specs.Taps.{taps_of}
-use Rattle.vme_bind.specs.Recording.{Progress, changes_between, differs, step_between, tapped}
+use Rattle.vme_bind.specs.Recording.{Progress, all_of, changes_between, differs, step_between, tapped}
 use Rattle.vme_bind.specs.Made.{Made, made_change, made_instant}
-use Rattle.vme_bind.specs.Notes.{AreOfOne, Notes, IsEnd, is_level, last_behind, last_noted, level_noted, note_change, note_changes, levels_noted, made_by, noted_change, noted_instant, step_noted, steps_noted, with_note, with_notes}
-use Rattle.vme_bind.proofs.CaptureLemmas.{changed-those, length-changed}
+use Rattle.vme_bind.specs.Notes.{AreOfOne, Notes, IsEnd, is_level, last_behind, last_noted, level_behind, level_noted, note_change, note_changes, levels_noted, made_by, noted_change, noted_instant, step_noted, steps_noted, with_note, with_notes}
+use Rattle.vme_bind.proofs.CaptureLemmas.{changed-those, is_below, length-changed}
 use Rattle.vme_bind.proofs.RecorderLemmas.{alike, same-is, same_levels, set_other, set_same}
 use Rattle.vme_bind.proofs.WiresLemmas.{from_place}
 
@@ -68,8 +68,7 @@ with_notes-now p (Ended time ∷ notes) = with_notes-now (with_note p (Ended tim
 
 pub last_behind-append : (last : Option Level) (xs ys : List Note) (l : ℕ) → last_behind last (xs ++ ys) l ≡ last_behind (last_behind last xs l) ys l
 last_behind-append last [] ys l = refl
-last_behind-append last (Changed c ∷ xs) ys l = last_behind-append (if c.line == l then Some c.level else last) xs ys l
-last_behind-append last (Ended time ∷ xs) ys l = last_behind-append last xs ys l
+last_behind-append last (x ∷ xs) ys l = last_behind-append (level_behind last x l) xs ys l
 
 -- the line that gets a level, and any other
 pub itself : (m l : ℕ) → l ≡ m → (m == l) ≡ true
@@ -204,9 +203,6 @@ steps_noted-last p before notes i le = sym (append-nil before) ∙ ap (λ (ns : 
 pub levels_noted-last : (v : Levels) (notes : List Note) (i : ℕ) → length notes ≤ i → v ≡ levels_noted v (drop i notes)
 levels_noted-last v notes i le = ap (levels_noted v) (sym (drop_of_length-le notes le))
 
-abbrev pub all_of : Levels → Progress
-all_of v = record { shown = v; now = v }
-
 -- up to an end of an instant, and from there on
 pub with_notes-end : (p : Progress) (notes : List Note) (place : ℕ) → IsEnd notes place
     → with_notes (all_of (levels_noted p.now (take place notes))) (drop (place + 1) notes) ≡ with_notes p notes
@@ -221,9 +217,6 @@ with_notes-end p notes place h =
 are_noted : (p : Progress) (note : Note) → AreOfOne p → AreOfOne (with_note p note)
 are_noted p (Changed c) h = record { slots = h.slots; shown_all = h.shown_all; now_all = length-set p.now.levels c.line c.level ∙ h.now_all }
 are_noted p (Ended time) h = record { slots = refl; shown_all = h.now_all; now_all = h.now_all }
-
-is_below : (l n : ℕ) → l < n → nat_lt l n ≡ true
-is_below l n lt = grind (arith, nat_tests)
 
 changes-show : (p : Progress) → AreOfOne p → changed p.shown (changes_between p.shown p.now) ≡ p.now
 changes-show p h =

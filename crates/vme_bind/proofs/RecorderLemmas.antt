@@ -242,9 +242,9 @@ shown-same touched i before now shown changes sorted t here same h =
       above = λ l le. h.above l (omega (arith, le, next, low));
     }
 
-map-snoc : (f : ℕ → Change) (xs : List ℕ) (x : ℕ) → map f (xs ++ x ∷ []) ≡ map f xs ++ f x ∷ []
-map-snoc f [] x = refl
-map-snoc f (y ∷ xs) x = ap (λ (ys : List Change). f y ∷ ys) (map-snoc f xs x)
+pub map-more : {X : Type 0} (f : ℕ → X) (xs : List ℕ) (x : ℕ) → map f (xs ++ x ∷ []) ≡ map f xs ++ f x ∷ []
+map-more f [] x = refl
+map-more {X = X} f (y ∷ xs) x = ap (λ (ys : List X). f y ∷ ys) (map-more f xs x)
 
 -- the line at place i has another level than is shown: it changes
 pub shown-more : (touched : List ℕ) (i : ℕ) (before now shown : Levels) (changes : List Change) → IsNonDecreasing touched → AreTouched before now touched → i < length touched
@@ -266,7 +266,7 @@ shown-more touched i before now shown changes sorted t here other h =
       shown_all = set_all shown (get_or touched i 0) (level_at now (get_or touched i 0)) h.shown_all;
       changes_are =
           ap (λ (cs : List Change). cs ++ change_to now (get_or touched i 0) ∷ []) (h.changes_are ∙ ap (map (change_to now)) (sym (those-skip (differs before now) (bound touched i) (get_or touched i 0) low quiet)))
-          ∙ sym (map-snoc (change_to now) (those (differs before now) 0 (get_or touched i 0)) (get_or touched i 0))
+          ∙ sym (map-more (change_to now) (those (differs before now) 0 (get_or touched i 0)) (get_or touched i 0))
           ∙ ap (map (change_to now)) (sym (those-yes (differs before now) (get_or touched i 0) d) ∙ ap (those (differs before now) 0) (sym next));
       below = λ l lt. elim (cases_eq l (get_or touched i 0)) [
         | inl e ↦ ap (level_at (set_level shown (get_or touched i 0) (level_at now (get_or touched i 0)))) e ∙ set_same shown (get_or touched i 0) _ (omega (arith, line.below, h.shown_all)) ∙ ap (level_at now) (sym e)

@@ -1,6 +1,7 @@
 -- What is noted of a dump as it is read, and what comes of it.
-use Rattle.std.specs.Prelude.{◌≡◌, ℕ, ◌<◌, ◌==◌, Bool, false, if◌then◌else◌, List, [], ◌∷◌, ◌++◌, get_or, length, map}
-use Rattle.std.specs.Prelude.{Option, None, Some}
+use Rattle.std.specs.Prelude.{◌≡◌, ℕ, ◌<◌, ◌==◌, Bool, false, if◌then◌else◌, List, []}
+use Rattle.std.specs.Prelude.{◌∷◌, ◌++◌}
+use Rattle.std.specs.Prelude.{Option, None, Some, get_or, length, map}
 use Rattle.vme_trace.specs.Followed.{with_steps}
 use Rattle.vme_trace.specs.Levels.{Levels, same_level, set_level}
 use Rattle.vme_trace.specs.LineNumbers.{line_count}
@@ -20,11 +21,15 @@ pub record Notes : Type 0 where
   pub taps : Taps
   pub items : List Note
 
--- the level that a line has behind some notes, if it had this one before or none that is known
+-- the level that a line has behind a note, if it had this one before or none that is known
+abbrev pub level_behind : Option Level → Note → ℕ → Option Level
+level_behind last (Changed change) l = if change.line == l then Some change.level else last
+level_behind last (Ended time) l = last
+
+-- and behind some notes
 abbrev pub last_behind : Option Level → List Note → ℕ → Option Level
 last_behind last [] l = last
-last_behind last (Changed change ∷ notes) l = last_behind (if change.line == l then Some change.level else last) notes l
-last_behind last (Ended time ∷ notes) l = last_behind last notes l
+last_behind last (note ∷ notes) l = last_behind (level_behind last note l) notes l
 
 -- the last level that some notes give a line
 abbrev pub last_noted : List Note → ℕ → Option Level

@@ -1,5 +1,6 @@
 -- How the levels of the lines change from one instant to the next.
-use Rattle.std.specs.Prelude.{◌≡◌, ℕ, ◌<◌, Bool, true, not, if◌then◌else◌, List, [], ◌∷◌, length, map, All, Contains}
+use Rattle.std.specs.Prelude.{◌≡◌, ℕ, ◌<◌, Bool, true, not, if◌then◌else◌, List, [], ◌∷◌}
+use Rattle.std.specs.Prelude.{length, map, All, Contains}
 use Rattle.std.specs.Prelude.{IsTrue, Option, Some, None}
 use Rattle.vme_trace.specs.Instants.{any, those}
 use Rattle.vme_trace.specs.Levels.{Levels, level_at, same_level}
@@ -18,6 +19,10 @@ use Rattle.vme_bind.specs.Taps.{taps_of}
 pub record Progress : Type 0 where
   pub shown : Levels
   pub now : Levels
+
+-- the steps so far leave these levels, and no value came behind them
+abbrev pub all_of : Levels → Progress
+all_of v = record { shown = v; now = v }
 
 -- a step, or none
 abbrev pub step_in : Option Step → List Step

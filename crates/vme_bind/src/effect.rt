@@ -1,7 +1,6 @@
 //! What the notes of a piece do to the levels of the lines, in short.
 
-ghost use Rattle.std.specs.Prelude.{◌≡◌, ◌<◌, IfOk, IfSome, length};
-ghost use Rattle.vme_trace.specs.LineNumbers.{line_count};
+ghost use Rattle.std.specs.Prelude.{IfOk, IfSome};
 ghost use Rattle.vme_bind.specs.Effects.{AreLast, DoTheSame, IsEffect, IsEndBehind};
 ghost use Rattle.vme_bind.specs.Notes.{IsEnd};
 

@@ -1,7 +1,7 @@
 //! The levels of the lines as a dump goes on, and the step at which they change.
 
-ghost use Rattle.std.specs.Prelude.{◌≡◌, ◌≢◌, ◌≤◌, ◌<◌, ℕ, false, IfOk, OnOk, OnErr, map, length, [], ◌∷◌, ◌++◌, All};
-ghost use Rattle.std.specs.Prelude.{IfSome};
+ghost use Rattle.std.specs.Prelude.{◌≡◌, ◌≢◌, ◌≤◌, ◌<◌, ℕ, false, IfOk, OnOk, map, length};
+ghost use Rattle.std.specs.Prelude.{◌++◌, All};
 ghost use Rattle.std.specs.List.Sorted.{IsNonDecreasing};
 ghost use Rattle.vme_trace.specs.LineNumbers.{line_count};
 ghost use Rattle.vme_trace.specs.Levels.{set_level};
@@ -11,7 +11,8 @@ ghost use Rattle.vme_bind.specs.Capture.{level_of, level_in};
 ghost use Rattle.vme_bind.specs.Taps.{taps_of};
 ghost use Rattle.vme_bind.specs.Effects.{IsEffect};
 ghost use Rattle.vme_bind.specs.Notes.{AreOfOne, IsOfLine, end_noted, step_noted, steps_noted, with_note, with_notes};
-ghost use Rattle.vme_bind.specs.Recording.{IsLine, differs, AreTouched, AreLines, tapped, valued, changes_between};
+ghost use Rattle.vme_bind.specs.Recording.{IsLine, all_of, differs, AreTouched, AreLines, tapped, valued};
+ghost use Rattle.vme_bind.specs.Recording.{changes_between};
 ghost use Rattle.vme_bind.specs.Recording.{step_between, step_in};
 
 use crate::effect::Effect;
@@ -108,7 +109,7 @@ impl Recorder {
     /// No step yet.
     pub fn new(alloc: Global, opening: Lines) -> Recorder
         requires { length opening.levels ≡ line_count }
-        ensures { result ≡ record { shown = opening; now = opening } }
+        ensures { result ≡ all_of opening }
     {
         Recorder {
             shown: opening,
@@ -361,8 +362,8 @@ impl Recorder {
         Ok(())
     }
 
-    /// Goes on over some notes, whose steps aren't made. The levels up to an end of an instant are shown at once, if what
-    /// the notes before it do is known in short.
+    /// Goes on over some notes, whose steps aren't made. The levels up to an end of an instant are shown at once, if
+    /// what the notes before it do is known in short.
     pub fn pass(&mut self, notes: &[Note], effect: &Effect) -> Result<(), AllocError>
         requires lines { All (IsOfLine self.old.now.slots) notes.now }
         requires effect { IsEffect notes.now effect.now }
@@ -389,7 +390,7 @@ impl Recorder {
 
     /// Goes on over the end of an instant.
     fn end(&mut self)
-        ensures { self.new ≡ record { shown = self.old.now; now = self.old.now } }
+        ensures { self.new ≡ all_of self.old.now }
     {
         self.shown = self.now;
         self.touched.clear();
@@ -398,7 +399,7 @@ impl Recorder {
     /// Goes on over some changes, and the end of an instant behind them.
     fn end_behind(&mut self, changes: &[Change])
         ensures all { length self.old.now.levels ≡ line_count }
-        ensures shown { self.new ≡ record { shown = changed self.old.now changes.now; now = changed self.old.now changes.now } }
+        ensures shown { self.new ≡ all_of (changed self.old.now changes.now) }
     {
         self.now.apply(changes);
         self.shown = self.now;

@@ -388,7 +388,8 @@ fn a_path_may_part_into_scopes_anywhere(rt: HostRuntime) -> Result<(), Fail> {
         ("a.b.c", "$var wire 1 p a.b.c $end"),
         (
             "a.b.c",
-            "$scope module $end $scope module a $end $scope $end $scope module b $end $scope module $end $var wire 1 p c $end",
+            "$scope module $end $scope module a $end $scope $end $scope module b $end $scope module $end $var wire 1 \
+                p c $end",
         ),
         ("a.b.c", "$scope module a . b $end $var wire 1 p c $end"),
         (
@@ -401,11 +402,13 @@ fn a_path_may_part_into_scopes_anywhere(rt: HostRuntime) -> Result<(), Fail> {
         ),
         (
             "a.b",
-            "$scope module aa $end $var wire 1 q b $end $upscope $end $scope module a $end $var wire 1 p b $end $var wire 1 q bb $end",
+            "$scope module aa $end $var wire 1 q b $end $upscope $end $scope module a $end $var wire 1 p b $end $var \
+                wire 1 q bb $end",
         ),
         (
             "a.b",
-            "$scope module a $end $scope module a $end $var wire 1 q b $end $upscope $end $var wire 1 p b $end $upscope $end $var wire 1 q b $end",
+            "$scope module a $end $scope module a $end $var wire 1 q b $end $upscope $end $var wire 1 p b $end \
+                $upscope $end $var wire 1 q b $end",
         ),
         ("a..b", "$scope module a. $end $var wire 1 p b $end"),
         (

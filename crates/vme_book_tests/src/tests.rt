@@ -343,8 +343,8 @@ fn blocks_by_fives(alloc: Global) -> Result<Vec<Block>, &'static str> {
     }
 }
 
-/// `tests/memory/run` refuses each of its allocations in turn. Blocks in order are joined as further ones are inserted, and
-/// backwards as the book is closed.
+/// `tests/memory/run` refuses each of its allocations in turn. Blocks in order are joined as further ones are inserted,
+/// and backwards as the book is closed.
 #[test]
 fn each_growth_fails_once(rt: HostRuntime) -> Result<(), Fail> {
     let alloc = rt.alloc();

@@ -1,5 +1,6 @@
 -- What happens at the instants of a recording, and the index of the instants at which it does.
-use Rattle.std.specs.Prelude.{◌≡◌, ℕ, ◌+◌, ◌≤◌, Bool, ◌==◌, ◌&&◌, ◌||◌, List, [], map, nat_le}
+use Rattle.std.specs.Prelude.{◌≡◌, ℕ, ◌+◌, ◌≤◌, Bool, ◌==◌, ◌&&◌, ◌||◌, List, [], map}
+use Rattle.std.specs.Prelude.{nat_le}
 use Rattle.vme_trace.specs.Instants.{those}
 use Rattle.vme_trace.specs.LineNumbers.{AS, DTACK, BERR, WRITE, BBSY, BR}
 use Rattle.vme_trace.specs.Trace.{Trace, levels_at, last_instant}
@@ -33,6 +34,10 @@ list_of lists event.Request0 = lists.requests_0
 list_of lists event.Request1 = lists.requests_1
 list_of lists event.Request2 = lists.requests_2
 list_of lists event.Request3 = lists.requests_3
+
+-- a claim of a sorted list of instants holds of whatever happens at these, and at no others before an end
+abbrev pub OfWhatHappens : List ℕ → ℕ → ((ℕ → Bool) → Type 0) → Type 0
+OfWhatHappens instants end claim = (p : ℕ → Bool) (n : ℕ) → instants ≡ those p 0 n → end ≤ n → claim p
 
 -- it happens, and no earlier than from an instant on
 abbrev pub since : ℕ → (ℕ → Bool) → ℕ → Bool

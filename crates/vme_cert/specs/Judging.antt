@@ -1,10 +1,13 @@
 -- A recording at an instant, as the contracts of its searches see it.
-use Rattle.std.specs.Prelude.{◌≡◌, ℕ, ◌+◌, ◌-◌, ◌<◌, ◌≤◌, Bool, true, false, Option, None, Some, List}
+use Rattle.std.specs.Prelude.{◌≡◌, ℕ, ◌+◌, ◌-◌, ◌<◌, ◌≤◌, Bool, true, false, List}
+use Rattle.std.specs.Prelude.{Option, None, Some}
 use Rattle.vme_trace.specs.Instants.{least}
 use Rattle.vme_trace.specs.Trace.{Trace, levels_at, changed}
 use Rattle.vme_trace.specs.WellFormed.{are_changes}
 use Rattle.vme_trace.specs.declared.step.Change.{Change}
 use Rattle.vme_trace.specs.Judged.{Span}
+use Rattle.vme_trace.specs.Rules.{breaks}
+use Rattle.vme_trace.specs.declared.rule.Rule.{Rule}
 use Rattle.vme_trace.specs.Transfers.{lasts, answers, in_transfer, transfer_starts}
 use Rattle.vme_cert.specs.declared.judged.Judged.{Judged}
 use Rattle.vme_cert.specs.Watching.{is_edge_broken}
@@ -29,6 +32,10 @@ AreMade judged cs = levels_at (trace judged) (instant judged)
 -- each of them changes a line, in their order
 abbrev pub AreSound : Judged → List Change → Type 0
 AreSound judged cs = are_changes (levels_at (trace judged) (instant judged - 1)) 0 cs ≡ true
+
+-- whether a rule is broken there on a line
+abbrev pub breaks_here : Judged → Rule → ℕ → Bool
+breaks_here judged rule = breaks (trace judged) (span judged) rule (instant judged)
 
 -- whether a rule that asks for an edge is broken there on a line
 abbrev pub breaks_edge : Judged → ℕ → Bool

@@ -1,5 +1,7 @@
 -- Where a rule may be broken: the lines of which it speaks, and what such a line shows there.
-use Rattle.std.specs.Prelude.{ℕ, Bool, true, false, not, ◌+◌, ◌-◌, ◌&&◌, ◌||◌, ◌==◌, nat_le, nat_lt, if◌then◌else◌}
+use Rattle.std.specs.Prelude.{ℕ, Bool, true, false, not, ◌+◌, ◌-◌, ◌&&◌, ◌||◌, ◌==◌, nat_le}
+use Rattle.std.specs.Prelude.{nat_lt}
+use Rattle.std.specs.Prelude.{if◌then◌else◌}
 use Rattle.vme_trace.specs.Instants.{any, none}
 use Rattle.vme_trace.specs.LineNumbers.{AS, DS0, DS1, DTACK, BERR, IACK, WRITE, A, BBSY, BR, D, SYSRESET, grant}
 use Rattle.vme_trace.specs.LineNumbers.{grant_level, grant_place, iack, input_of, is_control, line_count}

@@ -1,6 +1,8 @@
 -- The words of the contracts of this crate: those of the library, of a recording and of a listing.
-pub use Rattle.std.specs.Prelude.{◌≡◌, ℕ, ◌+◌, ◌-◌, ◌^◌, ◌<◌, ◌≤◌, ◌==◌, ◌&&◌, ◌||◌, not, true, false, Bool, List, []}
-pub use Rattle.std.specs.Prelude.{◌∷◌, ◌++◌, length, nat_lt, IfOk, IfSome, IsTrue}
+pub use Rattle.std.specs.Prelude.{◌≡◌, ℕ, ◌+◌, ◌-◌, ◌^◌, ◌<◌, ◌≤◌, ◌==◌, ◌&&◌}
+pub use Rattle.std.specs.Prelude.{◌||◌, not}
+pub use Rattle.std.specs.Prelude.{true, false, Bool, List, [], ◌∷◌, ◌++◌, length, nat_lt, IfOk, IfSome}
+pub use Rattle.std.specs.Prelude.{IsTrue}
 pub use Rattle.std.specs.Option.{option_to_list}
 pub use Rattle.vme_trace.specs.Instants.{any, none, least, greatest, those}
 pub use Rattle.vme_trace.specs.LineNumbers.{grant, has_line, input_of, is_slot_grant, is_slot_iack, line_count}

@@ -1,6 +1,7 @@
 //! The right rows of a recording, followed in what is given of a listing.
 
-ghost use Rattle.std.specs.Prelude.{◌≡◌, ◌+◌, ◌<◌, ◌≤◌, ◌^◌, ◌∷◌, ◌++◌, Some, List, [], IfOk};
+ghost use Rattle.std.specs.Prelude.{◌≡◌, ◌+◌, ◌<◌, ◌≤◌, ◌^◌, ◌∷◌, ◌++◌, [], IfOk};
+ghost use Rattle.std.specs.Prelude.{List, Some};
 ghost use Rattle.vme_cert.specs.Words.{option_to_list, tenure_rows, cycle_rows, transfer_rows};
 ghost use Rattle.vme_cert.specs.Words.{rows_before, outcome_of, recorded_rows, rows_in};
 ghost use Rattle.vme_listing.specs.declared.row.Row.{Row};

@@ -9,7 +9,8 @@ ghost use Rattle.vme_trace.specs.Tenures.{tenure_starts};
 ghost use Rattle.vme_trace.specs.LineNumbers.{BR};
 ghost use Rattle.vme_trace.specs.Judged.{Span as Stretch};
 ghost use Rattle.vme_cert.specs.Spans.{between};
-ghost use Rattle.vme_cert.specs.Events.{happens, list_of, noted_of, AreEmpty, AreNoted, IsIndex, IsNew, IsNoted};
+ghost use Rattle.vme_cert.specs.Events.{happens, list_of, noted_of, AreEmpty, OfWhatHappens, AreNoted, IsIndex};
+ghost use Rattle.vme_cert.specs.Events.{IsNew, IsNoted};
 ghost use Rattle.vme_cert.specs.Events.{IsAnswerNoted, row_starts};
 
 use crate::bus::{Bus, Span};
@@ -72,7 +73,7 @@ impl Instants {
     /// How many come before an instant: all, or all but one, or else from the place of the last search on by steps that
     /// double, and then by halves.
     pub(crate) fn count_before(&self, end: u32) -> usize
-        ensures place { (p : ℕ → Bool) (n : ℕ) → self.now ≡ those p 0 n → end ≤ n → result ≡ length (those p 0 end) }
+        ensures place { OfWhatHappens self.now end (λ p. result ≡ length (those p 0 end)) }
         ensures within { result ≤ length self.now }
     {
         let instants = self.instants.as_slice();
@@ -111,7 +112,7 @@ impl Instants {
 
     /// The first one of a range.
     pub(crate) fn first(&self, first: u32, end: u32) -> Option<u32>
-        ensures least { (p : ℕ → Bool) (n : ℕ) → self.now ≡ those p 0 n → end ≤ n → result ≡ least p first end }
+        ensures least { OfWhatHappens self.now end (λ p. result ≡ least p first end) }
         ensures before { IfSome result (λ instant. instant < end) }
     {
         if end <= first {
@@ -128,7 +129,7 @@ impl Instants {
 
     /// The last one of a range.
     pub(crate) fn last(&self, first: u32, end: u32) -> Option<u32>
-        ensures greatest { (p : ℕ → Bool) (n : ℕ) → self.now ≡ those p 0 n → end ≤ n → result ≡ greatest p first end }
+        ensures greatest { OfWhatHappens self.now end (λ p. result ≡ greatest p first end) }
         ensures from { IfSome result (λ instant. first ≤ instant) }
     {
         let place = self.count_before(end);
@@ -145,7 +146,7 @@ impl Instants {
 
     /// Whether there is one in a range.
     pub(crate) fn any(&self, first: u32, end: u32) -> bool
-        ensures { (p : ℕ → Bool) (n : ℕ) → self.now ≡ those p 0 n → end ≤ n → result ≡ any p first end }
+        ensures { OfWhatHappens self.now end (λ p. result ≡ any p first end) }
     {
         self.last(first, end).is_some()
     }

@@ -1,7 +1,8 @@
 //! The rows that begin at an instant.
 #![tactic(auto, unfolding(vme_trace::specs::Signals::low, vme_listing::specs::Recorded::tenure_rows, vme_listing::specs::Recorded::cycle_rows, vme_listing::specs::Recorded::transfer_rows, vme_trace::specs::Transfers::transfer_starts, vme_trace::specs::Tenures::tenure_starts))]
 
-ghost use Rattle.std.specs.Prelude.{◌≡◌, ◌+◌, ◌^◌, ◌<◌, ◌≤◌, true, Some, None, if◌then◌else◌};
+ghost use Rattle.std.specs.Prelude.{◌≡◌, ◌+◌, ◌^◌, ◌<◌, ◌≤◌, true, Some, None};
+ghost use Rattle.std.specs.Prelude.{if◌then◌else◌};
 ghost use Rattle.vme_cert.specs.Words.{option_to_list, class_of, needs_of, address_to, cycle_row, tenure_rows};
 ghost use Rattle.vme_cert.specs.Words.{cycle_rows, transfer_rows, transfer_starts, answers, is_write, data_at};
 ghost use Rattle.vme_cert.specs.Words.{last_instant};

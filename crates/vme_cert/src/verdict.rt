@@ -33,7 +33,7 @@ fn speaks_of(rule: Rule, line: Line) -> bool
 }
 
 impl Judged<'_> {
-    ghost use Rattle.vme_cert.specs.Judging.{trace, span, instant, AreMade, AreSound, breaks_edge};
+    ghost use Rattle.vme_cert.specs.Judging.{trace, span, instant, AreMade, AreSound, breaks_edge, breaks_here};
     ghost use Rattle.vme_cert.specs.Watching.{asks_for_edge, starts, is_held_write};
 
     /// Whether a rule counts at the instant: it is judged, or the rule is the one that ends judging.
@@ -81,8 +81,7 @@ impl Judged<'_> {
     #[inline(always)]
     fn lacks_nothing(&self, rule: Rule) -> bool
         requires { asks_for_edge rule ≡ false }
-        ensures { result ≡ true → least (breaks (trace self.now) (span self.now) rule (instant self.now)) 0 line_count
-            ≡ None }
+        ensures { result ≡ true → least (breaks_here self.now rule) 0 line_count ≡ None }
     {
         let (first, end) = lines_of(rule);
         match rule {
@@ -99,7 +98,7 @@ impl Judged<'_> {
     #[inline(always)]
     fn start_break(&self, rule: Rule) -> Option<Line>
         requires { asks_for_edge rule ≡ false }
-        ensures { result ≡ least (breaks (trace self.now) (span self.now) rule (instant self.now)) 0 line_count }
+        ensures { result ≡ least (breaks_here self.now rule) 0 line_count }
     {
         if !self.starts(rule) || self.lacks_nothing(rule) {
             return None;
@@ -117,7 +116,7 @@ impl Judged<'_> {
     /// The first changed line on which a rule is broken.
     #[inline(always)]
     fn edge_break(&self, rule: Rule, changes: &[Change]) -> Option<Line>
-        ensures { result ≡ first_changed (breaks (trace self.now) (span self.now) rule (instant self.now)) changes.now }
+        ensures { result ≡ first_changed (breaks_here self.now rule) changes.now }
     {
         for change in changes {
             if self.breaks(rule, change.line) {
@@ -131,7 +130,7 @@ impl Judged<'_> {
     fn rule_break(&self, rule: Rule, changes: &[Change]) -> Option<Line>
         requires made { AreMade self.now changes.now }
         requires sound { AreSound self.now changes.now }
-        ensures { result ≡ least (breaks (trace self.now) (span self.now) rule (instant self.now)) 0 line_count }
+        ensures { result ≡ least (breaks_here self.now rule) 0 line_count }
     {
         match rule {
             U1 | U2 | U3 | U4 | H1 => self.start_break(rule),

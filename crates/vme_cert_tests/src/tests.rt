@@ -6,8 +6,9 @@ use vme_cert::{Answer, confirm, confirm_text};
 use vme_listing::{Direction, ListFault, Listing, Outcome, Row, Version, read_listing};
 use vme_trace::{Capture, Change, Changes, LINE_COUNT, Level, Line, Lines, Step};
 
-/// How a recording starts: its slots, the levels of its opening, and its first steps. A step is the lines that change, with their
-/// new levels, and they stand ten units apart. `high` is every line high, and `quiet` every line but A24 to A31.
+/// How a recording starts: its slots, the levels of its opening, and its first steps. A step is the lines that change,
+/// with their new levels, and they stand ten units apart. `high` is every line high, and `quiet` every line but A24 to
+/// A31.
 #[derive(Clone, Copy)]
 struct Start {
     slots: u8,
@@ -58,7 +59,8 @@ const LISTINGS: [(Start, &'static str, &'static str); 20] = [
     (
         DUMPED,
         "AS=1 DS0=1 DS1=1 DTACK=1 BERR=1 IACK=1;AS=0;DS0=0;DTACK=0;AS=1 DS0=1;DTACK=1",
-        "start 1\ntenure 1 open end -\ncycle 2 S 3D FFFFFE end 5\ntransfer 3 of 2 read DTACK 4 close 5\nverdict conforming\n",
+        "start 1\ntenure 1 open end -\ncycle 2 S 3D FFFFFE end 5\ntransfer 3 of 2 read DTACK 4 close 5\n\
+            verdict conforming\n",
     ),
     (DUMPED, "", "verdict never-idle\n"),
     (
@@ -74,32 +76,43 @@ const LISTINGS: [(Start, &'static str, &'static str); 20] = [
     (
         GRANTED,
         READ,
-        "start 1\ntenure 5 level 3 slot 2 end 14\ncycle 9 S 39 FFFFDE end 12\ntransfer 10 of 9 read DTACK 11 close 12\nverdict conforming\n",
+        "start 1\ntenure 5 level 3 slot 2 end 14\ncycle 9 S 39 FFFFDE end 12\n\
+            transfer 10 of 9 read DTACK 11 close 12\nverdict conforming\n",
     ),
     (
         GRANTED_FROM_IDLE,
         READ,
-        "start 0\ntenure 4 level 3 slot 2 end 13\ncycle 8 S 39 FFFFDE end 11\ntransfer 9 of 8 read DTACK 10 close 11\nverdict conforming\n",
+        "start 0\ntenure 4 level 3 slot 2 end 13\ncycle 8 S 39 FFFFDE end 11\n\
+            transfer 9 of 8 read DTACK 10 close 11\nverdict conforming\n",
     ),
     (
         GRANTED,
-        "AM1=0 AM2=0 A05=0;AS=0;DS0=0 DS1=0;DTACK=0;AS=1;A05=1;AS=0;DS0=1 DS1=1;DTACK=1;DS0=0 DS1=0;DTACK=0;AS=1 DS0=1 DS1=1;DTACK=1 BBSY=1",
-        "start 1\ntenure 5 level 3 slot 2 end 20\ncycle 9 S 39 FFFFDE end 12\ntransfer 10 of 9 read DTACK 11 close 15\ncycle 14 S 39 FFFFFE end 19\ntransfer 17 of 14 read DTACK 18 close 19\nverdict conforming\n",
+        "AM1=0 AM2=0 A05=0;AS=0;DS0=0 DS1=0;DTACK=0;AS=1;A05=1;AS=0;DS0=1 DS1=1;DTACK=1;DS0=0 DS1=0;DTACK=0;\
+            AS=1 DS0=1 DS1=1;DTACK=1 BBSY=1",
+        "start 1\ntenure 5 level 3 slot 2 end 20\ncycle 9 S 39 FFFFDE end 12\n\
+            transfer 10 of 9 read DTACK 11 close 15\ncycle 14 S 39 FFFFFE end 19\n\
+            transfer 17 of 14 read DTACK 18 close 19\nverdict conforming\n",
     ),
     (
         GRANTED,
         "AM1=0 A05=0;AS=0;DS0=0 DS1=0;DTACK=0;DS0=1 DS1=1;DTACK=1;WRITE=0;DS0=0 DS1=0;DTACK=0;AS=1 DS0=1 DS1=1;DTACK=1",
-        "start 1\ntenure 5 level 3 slot 2 end -\ncycle 9 S 3D FFFFDE end 17\ntransfer 10 of 9 read DTACK 11 close 12\ntransfer 15 of 9 write DTACK 16 close 17 data ----FFFF\nverdict conforming\n",
+        "start 1\ntenure 5 level 3 slot 2 end -\ncycle 9 S 3D FFFFDE end 17\n\
+            transfer 10 of 9 read DTACK 11 close 12\ntransfer 15 of 9 write DTACK 16 close 17 data ----FFFF\n\
+            verdict conforming\n",
     ),
     (
         GRANTED,
-        "AM1=0 WRITE=0 A05=0;AS=0;DS0=0 DS1=0;DTACK=0;DS0=1 DS1=1;DTACK=1;WRITE=1;DS0=0 DS1=0;DTACK=0;AS=1 DS0=1 DS1=1;DTACK=1",
-        "start 1\ntenure 5 level 3 slot 2 end -\ncycle 9 S 3D FFFFDE end -\ntransfer 10 of 9 write DTACK 11 close 12 data ----FFFF\ntransfer 15 read pending\nverdict broken C1 16 DTACK\n",
+        "AM1=0 WRITE=0 A05=0;AS=0;DS0=0 DS1=0;DTACK=0;DS0=1 DS1=1;DTACK=1;WRITE=1;DS0=0 DS1=0;DTACK=0;\
+            AS=1 DS0=1 DS1=1;DTACK=1",
+        "start 1\ntenure 5 level 3 slot 2 end -\ncycle 9 S 3D FFFFDE end -\n\
+            transfer 10 of 9 write DTACK 11 close 12 data ----FFFF\ntransfer 15 read pending\n\
+            verdict broken C1 16 DTACK\n",
     ),
     (
         GRANTED,
         "AM2=0 A05=0;AS=0;DS0=0 DS1=0;DTACK=0;DS0=1 DS1=1;DTACK=1 WRITE=0;DS0=0 DS1=0;DTACK=0",
-        "start 1\ntenure 5 level 3 slot 2 end -\ncycle 9 K 3B FFFFDE end -\ntransfer 10 of 9 read DTACK 11 close 12\ntransfer 14 write pending\nverdict broken C2 15 DTACK\n",
+        "start 1\ntenure 5 level 3 slot 2 end -\ncycle 9 K 3B FFFFDE end -\ntransfer 10 of 9 read DTACK 11 close 12\n\
+            transfer 14 write pending\nverdict broken C2 15 DTACK\n",
     ),
     (
         GRANTED,
@@ -109,7 +122,8 @@ const LISTINGS: [(Start, &'static str, &'static str); 20] = [
     (
         GRANTED,
         "AM1=0 AM2=0 AM4=0 A05=0;AS=0;DS0=0 DS1=0;DTACK=0;AS=1 DS0=1 DS1=1;DTACK=1;BBSY=1",
-        "start 1\ntenure 5 level 3 slot 2 end 14\ncycle 9 S 29 FFDE end 12\ntransfer 10 of 9 read DTACK 11 close 12\nverdict conforming\n",
+        "start 1\ntenure 5 level 3 slot 2 end 14\ncycle 9 S 29 FFDE end 12\ntransfer 10 of 9 read DTACK 11 close 12\n\
+            verdict conforming\n",
     ),
     (
         GRANTED,
@@ -124,7 +138,8 @@ const LISTINGS: [(Start, &'static str, &'static str); 20] = [
     (
         GRANTED,
         "A05=0;AS=0;DS0=0 DS1=0;DTACK=0;AS=1 DS0=1 DS1=1;DTACK=1;BBSY=1",
-        "start 1\ntenure 5 level 3 slot 2 end 14\ncycle 9 K 3F FFFFDE end 12\ntransfer 10 of 9 read DTACK 11 close 12\nverdict conforming\n",
+        "start 1\ntenure 5 level 3 slot 2 end 14\ncycle 9 K 3F FFFFDE end 12\n\
+            transfer 10 of 9 read DTACK 11 close 12\nverdict conforming\n",
     ),
     (
         PASSED_ON,
@@ -149,7 +164,8 @@ const LISTINGS: [(Start, &'static str, &'static str); 20] = [
     (
         GRANTED,
         "IACK=0 A02=0;AS=0;DS0=0;IA.1=0;DTACK=0;AS=1 DS0=1 IA.1=1;DTACK=1 IACK=1;BBSY=1",
-        "start 1\ntenure 5 level 3 slot 2 end 15\ncycle 9 I 5 end 13\ntransfer 10 of 9 read DTACK 12 close 13\nverdict conforming\n",
+        "start 1\ntenure 5 level 3 slot 2 end 15\ncycle 9 I 5 end 13\ntransfer 10 of 9 read DTACK 12 close 13\n\
+            verdict conforming\n",
     ),
 ];
 
@@ -162,7 +178,8 @@ const DATA: [(&'static str, &'static str); 7] = [
     ),
     (
         "AM1=0 AM2=0 WRITE=0 D03=x;AS=0;DS1=0;DS0=0;DTACK=0",
-        "start 1\ntenure 5 level 3 slot 2 end -\ncycle 9 S 39 FFFFFE end -\ntransfer 10 write pending\nverdict unreadable U4 11 D03\n",
+        "start 1\ntenure 5 level 3 slot 2 end -\ncycle 9 S 39 FFFFFE end -\ntransfer 10 write pending\n\
+            verdict unreadable U4 11 D03\n",
     ),
     // a long word moves D16, and two bytes don't
     (
@@ -171,21 +188,25 @@ const DATA: [(&'static str, &'static str); 7] = [
     ),
     (
         "AM1=0 AM2=0 WRITE=0 D16=x;AS=0;DS0=0 DS1=0;D16=0;DTACK=0;AS=1 DS0=1 DS1=1;DTACK=1",
-        "start 1\ntenure 5 level 3 slot 2 end -\ncycle 9 S 39 FFFFFE end 13\ntransfer 10 of 9 write DTACK 12 close 13 data ----FFFF\nverdict conforming\n",
+        "start 1\ntenure 5 level 3 slot 2 end -\ncycle 9 S 39 FFFFFE end 13\n\
+            transfer 10 of 9 write DTACK 12 close 13 data ----FFFF\nverdict conforming\n",
     ),
     // data change before the answer, or as the write starts and as it is answered
     (
         "AM1=0 AM2=0 WRITE=0;AS=0;DS0=0 DS1=0;D03=0;DTACK=0",
-        "start 1\ntenure 5 level 3 slot 2 end -\ncycle 9 S 39 FFFFFE end -\ntransfer 10 write pending\nverdict broken S3 11 D03\n",
+        "start 1\ntenure 5 level 3 slot 2 end -\ncycle 9 S 39 FFFFFE end -\ntransfer 10 write pending\n\
+            verdict broken S3 11 D03\n",
     ),
     (
         "AM1=0 AM2=0 WRITE=0;AS=0;DS0=0 DS1=0 D03=0;DTACK=0 D03=1;AS=1 DS0=1 DS1=1;DTACK=1",
-        "start 1\ntenure 5 level 3 slot 2 end -\ncycle 9 S 39 FFFFFE end 12\ntransfer 10 of 9 write DTACK 11 close 12 data ----FFF7\nverdict conforming\n",
+        "start 1\ntenure 5 level 3 slot 2 end -\ncycle 9 S 39 FFFFFE end 12\n\
+            transfer 10 of 9 write DTACK 11 close 12 data ----FFF7\nverdict conforming\n",
     ),
     // the data of a read may be unknown and change
     (
         "AM1=0 AM2=0 D03=x;AS=0;DS0=0 DS1=0;D03=0;DTACK=0;AS=1 DS0=1 DS1=1;DTACK=1",
-        "start 1\ntenure 5 level 3 slot 2 end -\ncycle 9 S 39 FFFFFE end 13\ntransfer 10 of 9 read DTACK 12 close 13\nverdict conforming\n",
+        "start 1\ntenure 5 level 3 slot 2 end -\ncycle 9 S 39 FFFFFE end 13\n\
+            transfer 10 of 9 read DTACK 12 close 13\nverdict conforming\n",
     ),
 ];
 
@@ -350,8 +371,8 @@ fn text_answer(alloc: Global, capture: &Capture, text: &[u8]) -> Result<Answer, 
     }
 }
 
-/// What is said of some rows: those at the front, some more, and those at the back. Where memory is short once, they are
-/// compared again.
+/// What is said of some rows: those at the front, some more, and those at the back. Where memory is short once, they
+/// are compared again.
 fn answer(
     alloc: Global,
     capture: &Capture,
@@ -620,11 +641,15 @@ fn data_count_by_the_version(rt: HostRuntime) -> Result<(), Fail> {
     let capture = capture_of(alloc, GRANTED, READ_AND_WRITE)?;
     for (text, wanted) in [
         (
-            "vmecheck listing 2\nstart 1\ntenure 5 level 3 slot 2 end -\ncycle 9 S 3D FFFFDE end 17\ntransfer 10 of 9 read DTACK 11 close 12\ntransfer 15 of 9 write DTACK 16 close 17 data ----FFFF\nverdict conforming\n",
+            "vmecheck listing 2\nstart 1\ntenure 5 level 3 slot 2 end -\ncycle 9 S 3D FFFFDE end 17\n\
+                transfer 10 of 9 read DTACK 11 close 12\ntransfer 15 of 9 write DTACK 16 close 17 data ----FFFF\n\
+                verdict conforming\n",
             Answer::Yes,
         ),
         (
-            "vmecheck listing 2\nstart 1\ntenure 5 level 3 slot 2 end -\ncycle 9 S 3D FFFFDE end 17\ntransfer 10 of 9 read DTACK 11 close 12\ntransfer 15 of 9 write DTACK 16 close 17 data ----FFFE\nverdict conforming\n",
+            "vmecheck listing 2\nstart 1\ntenure 5 level 3 slot 2 end -\ncycle 9 S 3D FFFFDE end 17\n\
+                transfer 10 of 9 read DTACK 11 close 12\ntransfer 15 of 9 write DTACK 16 close 17 data ----FFFE\n\
+                verdict conforming\n",
             Answer::No { row: 5 },
         ),
         (
@@ -634,7 +659,9 @@ fn data_count_by_the_version(rt: HostRuntime) -> Result<(), Fail> {
             Answer::Yes,
         ),
         (
-            "vmecheck listing 1\nstart 1\ntenure 5 level 3 slot 2 end -\ncycle 9 S 3D FFFFDE end 17\ntransfer 10 of 9 read DTACK 11 close 12\ntransfer 15 of 9 write DTACK 16 close 17\nverdict conforming\n",
+            "vmecheck listing 1\nstart 1\ntenure 5 level 3 slot 2 end -\ncycle 9 S 3D FFFFDE end 17\n\
+                transfer 10 of 9 read DTACK 11 close 12\ntransfer 15 of 9 write DTACK 16 close 17\n\
+                verdict conforming\n",
             Answer::Yes,
         ),
     ] {

@@ -404,8 +404,8 @@ fn the_answer_of_a_write_has_its_data(rt: HostRuntime) -> Result<(), Fail> {
     Ok(())
 }
 
-/// A digit of which a line is unknown is told as such. Where the answer comes as the transfer starts, the data are those
-/// there.
+/// A digit of which a line is unknown is told as such. Where the answer comes as the transfer starts, the data are
+/// those there.
 #[test]
 fn the_data_of_a_write_may_be_unknown(rt: HostRuntime) -> Result<(), Fail> {
     let alloc = rt.alloc();
@@ -532,8 +532,8 @@ fn each_memory_stands_at_its_place(rt: HostRuntime) -> Result<(), Fail> {
     Ok(())
 }
 
-/// How many marks the steps show, each step from each of the memories that those before it leave, once: by summaries of one
-/// step.
+/// How many marks the steps show, each step from each of the memories that those before it leave, once: by summaries of
+/// one step.
 fn shown_apart(rt: &impl Abort, alloc: Global, steps: Vec<Step>) -> Result<usize, Fail> {
     let mut lines = Lines::new(3).expect(rt, "three slots");
     let mut places = vec![in alloc; true; Dtb::COUNT]?;

@@ -34,7 +34,8 @@ fn a_variable_is_found_by_its_name(rt: HostRuntime) -> Result<(), Fail> {
     Ok(())
 }
 
-/// The binding of `DUMP`, or want of memory and no other fault: lines that could not be looked for aren't bound to constants.
+/// The binding of `DUMP`, or want of memory and no other fault: lines that could not be looked for aren't bound to
+/// constants.
 #[test]
 fn each_growth_fails_once(rt: HostRuntime) -> Result<(), Fail> {
     let no_memory = VcdFault {

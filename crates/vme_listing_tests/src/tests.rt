@@ -129,7 +129,8 @@ fn reads(rt: HostRuntime) -> Result<(), Fail> {
         is_text(
             alloc,
             &first,
-            b"start 1\ntenure 1 open end -\ncycle 2 S 3D FFFFFE end 5\ntransfer 3 of 2 read DTACK 4 close 5\nverdict conforming\n"
+            b"start 1\ntenure 1 open end -\ncycle 2 S 3D FFFFFE end 5\ntransfer 3 of 2 read DTACK 4 close 5\n\
+                verdict conforming\n"
         )?
     );
     let second = [
@@ -143,7 +144,8 @@ fn reads(rt: HostRuntime) -> Result<(), Fail> {
         is_text(
             alloc,
             &second,
-            b"start 1\ntenure 5 level 3 slot 2 end 14\ncycle 9 S 39 FFFFDE end 12\ntransfer 10 of 9 read DTACK 11 close 12\nverdict conforming\n"
+            b"start 1\ntenure 5 level 3 slot 2 end 14\ncycle 9 S 39 FFFFDE end 12\n\
+                transfer 10 of 9 read DTACK 11 close 12\nverdict conforming\n"
         )?
     );
     let short = [START, cycle(9, 0x29, 0xFFDE, Some(12)), CONFORMING];
@@ -179,7 +181,8 @@ fn transfers(rt: HostRuntime) -> Result<(), Fail> {
         is_text(
             alloc,
             &overlapped,
-            b"cycle 9 S 39 FFFFDE end 12\ntransfer 10 of 9 read DTACK 11 close 15\ncycle 14 S 39 FFFFFE end 19\ntransfer 17 of 14 read DTACK 18 close 19\n"
+            b"cycle 9 S 39 FFFFDE end 12\ntransfer 10 of 9 read DTACK 11 close 15\ncycle 14 S 39 FFFFFE end 19\n\
+                transfer 17 of 14 read DTACK 18 close 19\n"
         )?
     );
     let modified = [
@@ -192,7 +195,8 @@ fn transfers(rt: HostRuntime) -> Result<(), Fail> {
         is_text(
             alloc,
             &modified,
-            b"tenure 5 level 3 slot 2 end -\ncycle 9 S 3D FFFFDE end 17\ntransfer 10 of 9 read DTACK 11 close 12\ntransfer 15 of 9 write DTACK 16 close 17\n"
+            b"tenure 5 level 3 slot 2 end -\ncycle 9 S 3D FFFFDE end 17\ntransfer 10 of 9 read DTACK 11 close 12\n\
+                transfer 15 of 9 write DTACK 16 close 17\n"
         )?
     );
     let interrupt = Row::InterruptCycle {
@@ -268,7 +272,11 @@ fn writes(rt: HostRuntime) -> Result<(), Fail> {
         is_written(
             alloc,
             &listing,
-            b"vmecheck listing 2\ntransfer 10 of 9 write DTACK 11 close - data 7FFFFFFF\ntransfer 11 of 9 write DTACK 11 close - data ----FFFF\ntransfer 12 of 9 write DTACK 11 close - data ----XA--\ntransfer 13 of 9 write DTACK 11 close - data ------X0\ntransfer 14 of 9 write DTACK 11 close - data --------\ntransfer 15 of 9 read DTACK 16 close 17\n"
+            b"vmecheck listing 2\ntransfer 10 of 9 write DTACK 11 close - data 7FFFFFFF\n\
+                transfer 11 of 9 write DTACK 11 close - data ----FFFF\n\
+                transfer 12 of 9 write DTACK 11 close - data ----XA--\n\
+                transfer 13 of 9 write DTACK 11 close - data ------X0\n\
+                transfer 14 of 9 write DTACK 11 close - data --------\ntransfer 15 of 9 read DTACK 16 close 17\n"
         )?
     );
     Ok(())
@@ -294,7 +302,8 @@ fn resets(rt: HostRuntime) -> Result<(), Fail> {
         is_written(
             alloc,
             &listing,
-            b"vmecheck listing 3\nstart 1\ncycle 9 S 39 FFFFDE end -\ntransfer 10 read pending\nreset 11\nstart 13\nverdict conforming\n"
+            b"vmecheck listing 3\nstart 1\ncycle 9 S 39 FFFFDE end -\ntransfer 10 read pending\nreset 11\nstart 13\n\
+                verdict conforming\n"
         )?
     );
     Ok(())
@@ -390,15 +399,22 @@ fn pieces(rt: HostRuntime) -> Result<(), Fail> {
 
 /// A listing of five rows: a read in the standard space.
 const WORKED: &[u8] =
-    b"vmecheck listing 1\nstart 1\ntenure 5 level 3 slot 2 end 14\ncycle 9 S 39 FFFFDE end 12\ntransfer 10 of 9 read DTACK 11 close 12\nverdict conforming\n";
+    b"vmecheck listing 1\nstart 1\ntenure 5 level 3 slot 2 end 14\ncycle 9 S 39 FFFFDE end 12\n\
+        transfer 10 of 9 read DTACK 11 close 12\nverdict conforming\n";
 
 /// A listing of version 2: a read, and writes of each pattern of bytes that are moved, one unanswered.
 const WORKED_WRITES: &[u8] =
-    b"vmecheck listing 2\nstart 1\ncycle 9 S 39 FFFFDE end -\ntransfer 10 of 9 read DTACK 11 close 12\ntransfer 13 of 9 write BERR 14 close 15 data ----FFFF\ntransfer 16 of 9 write DTACK 17 close 18 data 7FFFFFFF\ntransfer 19 of 9 write DTACK 20 close 21 data ------X0\ntransfer 22 of 9 write DTACK 23 close 24 data ----1B--\ntransfer 25 of 9 write DTACK 26 close - data --------\ntransfer 28 write pending\nverdict conforming\n";
+    b"vmecheck listing 2\nstart 1\ncycle 9 S 39 FFFFDE end -\ntransfer 10 of 9 read DTACK 11 close 12\n\
+        transfer 13 of 9 write BERR 14 close 15 data ----FFFF\n\
+        transfer 16 of 9 write DTACK 17 close 18 data 7FFFFFFF\n\
+        transfer 19 of 9 write DTACK 20 close 21 data ------X0\n\
+        transfer 22 of 9 write DTACK 23 close 24 data ----1B--\n\
+        transfer 25 of 9 write DTACK 26 close - data --------\ntransfer 28 write pending\nverdict conforming\n";
 
 /// A listing of version 3: a reset cuts a read off, and the bus is idle again two steps later.
 const WORKED_RESET: &[u8] =
-    b"vmecheck listing 3\nstart 1\ntenure 5 level 3 slot 2 end -\ncycle 9 S 39 FFFFDE end -\ntransfer 10 read pending\nreset 11\nstart 13\nverdict conforming\n";
+    b"vmecheck listing 3\nstart 1\ntenure 5 level 3 slot 2 end -\ncycle 9 S 39 FFFFDE end -\n\
+        transfer 10 read pending\nreset 11\nstart 13\nverdict conforming\n";
 
 /// What a text reads as. Where memory is short once, it is read again.
 fn read(alloc: Global, text: &[u8]) -> Result<Listing, ListFault> {
@@ -462,7 +478,8 @@ const GOOD_RESETS: [&[u8]; 9] = [
     b"start 1\nreset 2\nstart 3\nreset 4\nstart 5\nverdict conforming\n",
     b"start 1\nreset 2\nstart 2\nverdict conforming\n",
     b"start 5\ntenure 5 open end -\ncycle 6 F 1F end -\nverdict conforming\n",
-    b"start 5\ntenure 6 level 3 slot 2 end -\ncycle 6 F 1F end -\ntransfer 6 read pending\nreset 7\nverdict conforming\n",
+    b"start 5\ntenure 6 level 3 slot 2 end -\ncycle 6 F 1F end -\ntransfer 6 read pending\nreset 7\n\
+        verdict conforming\n",
     b"start 1\nreset 11\nstart 13\ntenure 13 open end -\nverdict broken H4 14 DTACK\n",
     b"start 1\ntransfer 10 of 9 write DTACK 11 close - data ----FFFF\nverdict conforming\n",
     b"start 0\nverdict unreadable U1 11 SYSRESET\n",
@@ -495,7 +512,8 @@ const BAD_RESETS: [(&[u8], ListFault); 21] = [
         ListFault::BadRow { row: 2 },
     ),
     (
-        b"start 1\ntenure 5 level 3 slot 2 end -\ncycle 9 S 39 FFFFDE end -\ntransfer 10 read pending\nstart 13\nreset 11\nverdict conforming\n",
+        b"start 1\ntenure 5 level 3 slot 2 end -\ncycle 9 S 39 FFFFDE end -\ntransfer 10 read pending\nstart 13\n\
+            reset 11\nverdict conforming\n",
         ListFault::BadRow { row: 5 },
     ),
     (
@@ -631,11 +649,13 @@ fn faults(rt: HostRuntime) {
             ListFault::BadRow { row: 1 },
         ),
         (
-            b"vmecheck listing 1\nstart 1\ntenure 5 level 3 slot 2 end 14\ncycle 9 S 39 FFFFDE end 12\ntransfer 10 of 9 read DTACK 11 close 12\n",
+            b"vmecheck listing 1\nstart 1\ntenure 5 level 3 slot 2 end 14\ncycle 9 S 39 FFFFDE end 12\n\
+                transfer 10 of 9 read DTACK 11 close 12\n",
             ListFault::BadRow { row: 5 },
         ),
         (
-            b"vmecheck listing 1\nstart 1\ncycle 9 S 39 FFFFDE end 12\ntenure 5 level 3 slot 2 end 14\ntransfer 10 of 9 read DTACK 11 close 12\nverdict conforming\n",
+            b"vmecheck listing 1\nstart 1\ncycle 9 S 39 FFFFDE end 12\ntenure 5 level 3 slot 2 end 14\n\
+                transfer 10 of 9 read DTACK 11 close 12\nverdict conforming\n",
             ListFault::Unsorted { row: 3 },
         ),
         (

@@ -12,8 +12,8 @@ use vme_trace::{
     Block, Break, Capture, Change, Changes, LINE_COUNT, Level, Line, Lines, Rule, Step,
 };
 
-/// A recording: its slots, the levels of its opening, and its steps, ten units apart. A step is the lines that change, with their
-/// new levels. `high` is every line high, and `quiet` every line but A24 to A31.
+/// A recording: its slots, the levels of its opening, and its steps, ten units apart. A step is the lines that change,
+/// with their new levels. `high` is every line high, and `quiet` every line but A24 to A31.
 #[derive(Clone, Copy)]
 struct Recording {
     slots: u8,
@@ -42,8 +42,8 @@ const LOST_STROBE: Recording = Recording {
     steps: "AS=1 DS0=1 DS1=1 DTACK=1 BERR=1 IACK=1;AS=x;DS0=0;DTACK=0;AS=1 DS0=1;DTACK=1",
 };
 
-/// The bus is reset in a cycle, as a strobe gets lost, and idle again at the sixth step. There judging starts again, until
-/// it isn't known whether the bus is reset.
+/// The bus is reset in a cycle, as a strobe gets lost, and idle again at the sixth step. There judging starts again,
+/// until it isn't known whether the bus is reset.
 const RESET: Recording = Recording {
     slots: 1,
     opening: DUMPED,
@@ -179,8 +179,8 @@ fn whole<M: Monitor>(
     Ok(all)
 }
 
-/// What is found in a recording, whatever the size of the blocks: the first break, and where judging starts and is ended
-/// by resets.
+/// What is found in a recording, whatever the size of the blocks: the first break, and where judging starts and is
+/// ended by resets.
 fn assert_judged<M: Monitor>(
     rt: &impl Abort,
     alloc: Global,

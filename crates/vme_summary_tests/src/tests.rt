@@ -11,9 +11,9 @@ use vme_trace::{
     Rule, Step, Steps, Verdict,
 };
 
-/// How a recording starts: its slots, the levels of its opening, and its first steps. A step is the lines that change, with their
-/// new levels, and they stand ten units apart. `high` is every line high, `quiet` every line but A24 to A31, and `others` every line
-/// but SYSRESET.
+/// How a recording starts: its slots, the levels of its opening, and its first steps. A step is the lines that change,
+/// with their new levels, and they stand ten units apart. `high` is every line high, `quiet` every line but A24 to A31,
+/// and `others` every line but SYSRESET.
 #[derive(Clone, Copy)]
 pub(crate) struct Start {
     slots: u8,
@@ -76,7 +76,8 @@ pub(crate) const READ: &str =
 
 /// What its listing says.
 const READ_ROWS: &str =
-    "start 1\ntenure 5 level 3 slot 2 end 14\ncycle 9 S 39 FFFFDE end 12\ntransfer 10 of 9 read DTACK 11 close 12\nverdict conforming\n";
+    "start 1\ntenure 5 level 3 slot 2 end 14\ncycle 9 S 39 FFFFDE end 12\ntransfer 10 of 9 read DTACK 11 close 12\n\
+        verdict conforming\n";
 
 /// Recordings as a dump gives them.
 pub(crate) const DUMPS: [Worked; 4] = [
@@ -84,7 +85,8 @@ pub(crate) const DUMPS: [Worked; 4] = [
         DUMPED,
         "AS=1 DS0=1 DS1=1 DTACK=1 BERR=1 IACK=1;AS=0;DS0=0;DTACK=0;AS=1 DS0=1;DTACK=1",
         Conforming,
-        "start 1\ntenure 1 open end -\ncycle 2 S 3D FFFFFE end 5\ntransfer 3 of 2 read DTACK 4 close 5\nverdict conforming\n",
+        "start 1\ntenure 1 open end -\ncycle 2 S 3D FFFFFE end 5\ntransfer 3 of 2 read DTACK 4 close 5\n\
+            verdict conforming\n",
     ),
     (DUMPED, "", NeverIdle, "verdict never-idle\n"),
     (
@@ -108,31 +110,42 @@ pub(crate) const CYCLES: [Worked; 9] = [
         GRANTED_FROM_IDLE,
         READ,
         Conforming,
-        "start 0\ntenure 4 level 3 slot 2 end 13\ncycle 8 S 39 FFFFDE end 11\ntransfer 9 of 8 read DTACK 10 close 11\nverdict conforming\n",
+        "start 0\ntenure 4 level 3 slot 2 end 13\ncycle 8 S 39 FFFFDE end 11\n\
+            transfer 9 of 8 read DTACK 10 close 11\nverdict conforming\n",
     ),
     (
         GRANTED,
-        "AM1=0 AM2=0 A05=0;AS=0;DS0=0 DS1=0;DTACK=0;AS=1;A05=1;AS=0;DS0=1 DS1=1;DTACK=1;DS0=0 DS1=0;DTACK=0;AS=1 DS0=1 DS1=1;DTACK=1 BBSY=1",
+        "AM1=0 AM2=0 A05=0;AS=0;DS0=0 DS1=0;DTACK=0;AS=1;A05=1;AS=0;DS0=1 DS1=1;DTACK=1;DS0=0 DS1=0;DTACK=0;\
+            AS=1 DS0=1 DS1=1;DTACK=1 BBSY=1",
         Conforming,
-        "start 1\ntenure 5 level 3 slot 2 end 20\ncycle 9 S 39 FFFFDE end 12\ntransfer 10 of 9 read DTACK 11 close 15\ncycle 14 S 39 FFFFFE end 19\ntransfer 17 of 14 read DTACK 18 close 19\nverdict conforming\n",
+        "start 1\ntenure 5 level 3 slot 2 end 20\ncycle 9 S 39 FFFFDE end 12\n\
+            transfer 10 of 9 read DTACK 11 close 15\ncycle 14 S 39 FFFFFE end 19\n\
+            transfer 17 of 14 read DTACK 18 close 19\nverdict conforming\n",
     ),
     (
         GRANTED,
-        "AM1=0 A05=0;AS=0;DS0=0 DS1=0;DTACK=0;DS0=1 DS1=1;DTACK=1;WRITE=0 D07=0;DS0=0 DS1=0;DTACK=0 D00=0;AS=1 DS0=1 DS1=1;DTACK=1",
+        "AM1=0 A05=0;AS=0;DS0=0 DS1=0;DTACK=0;DS0=1 DS1=1;DTACK=1;WRITE=0 D07=0;DS0=0 DS1=0;DTACK=0 D00=0;\
+            AS=1 DS0=1 DS1=1;DTACK=1",
         Conforming,
-        "start 1\ntenure 5 level 3 slot 2 end -\ncycle 9 S 3D FFFFDE end 17\ntransfer 10 of 9 read DTACK 11 close 12\ntransfer 15 of 9 write DTACK 16 close 17 data ----FF7F\nverdict conforming\n",
+        "start 1\ntenure 5 level 3 slot 2 end -\ncycle 9 S 3D FFFFDE end 17\n\
+            transfer 10 of 9 read DTACK 11 close 12\ntransfer 15 of 9 write DTACK 16 close 17 data ----FF7F\n\
+            verdict conforming\n",
     ),
     (
         GRANTED,
-        "AM1=0 WRITE=0 A05=0;AS=0;DS0=0 DS1=0;DTACK=0;DS0=1 DS1=1;DTACK=1;WRITE=1;DS0=0 DS1=0;DTACK=0;AS=1 DS0=1 DS1=1;DTACK=1",
+        "AM1=0 WRITE=0 A05=0;AS=0;DS0=0 DS1=0;DTACK=0;DS0=1 DS1=1;DTACK=1;WRITE=1;DS0=0 DS1=0;DTACK=0;\
+            AS=1 DS0=1 DS1=1;DTACK=1",
         Broken(16, Rule::C1, "DTACK"),
-        "start 1\ntenure 5 level 3 slot 2 end -\ncycle 9 S 3D FFFFDE end -\ntransfer 10 of 9 write DTACK 11 close 12 data ----FFFF\ntransfer 15 read pending\nverdict broken C1 16 DTACK\n",
+        "start 1\ntenure 5 level 3 slot 2 end -\ncycle 9 S 3D FFFFDE end -\n\
+            transfer 10 of 9 write DTACK 11 close 12 data ----FFFF\ntransfer 15 read pending\n\
+            verdict broken C1 16 DTACK\n",
     ),
     (
         GRANTED,
         "AM2=0 A05=0;AS=0;DS0=0 DS1=0;DTACK=0;DS0=1 DS1=1;DTACK=1 WRITE=0;DS0=0 DS1=0;DTACK=0",
         Broken(15, Rule::C2, "DTACK"),
-        "start 1\ntenure 5 level 3 slot 2 end -\ncycle 9 K 3B FFFFDE end -\ntransfer 10 of 9 read DTACK 11 close 12\ntransfer 14 write pending\nverdict broken C2 15 DTACK\n",
+        "start 1\ntenure 5 level 3 slot 2 end -\ncycle 9 K 3B FFFFDE end -\ntransfer 10 of 9 read DTACK 11 close 12\n\
+            transfer 14 write pending\nverdict broken C2 15 DTACK\n",
     ),
     (
         GRANTED,
@@ -144,13 +157,15 @@ pub(crate) const CYCLES: [Worked; 9] = [
         GRANTED,
         "AM1=0 AM2=0 A05=0;AS=0;DS0=0 DS1=0;DS0=1 DS1=1 DTACK=0;AS=1;DTACK=1;BBSY=1",
         Conforming,
-        "start 1\ntenure 5 level 3 slot 2 end 14\ncycle 9 S 39 FFFFDE end 12\ntransfer 10 of 9 read DTACK 11 close 11\nverdict conforming\n",
+        "start 1\ntenure 5 level 3 slot 2 end 14\ncycle 9 S 39 FFFFDE end 12\n\
+            transfer 10 of 9 read DTACK 11 close 11\nverdict conforming\n",
     ),
     (
         GRANTED,
         "AM1=0 AM2=0 A05=0;AS=0;DS0=0 DS1=0;DS0=1 DS1=1;DTACK=0",
         Broken(11, Rule::H2, "DS0"),
-        "start 1\ntenure 5 level 3 slot 2 end -\ncycle 9 S 39 FFFFDE end -\ntransfer 10 read pending\nverdict broken H2 11 DS0\n",
+        "start 1\ntenure 5 level 3 slot 2 end -\ncycle 9 S 39 FFFFDE end -\ntransfer 10 read pending\n\
+            verdict broken H2 11 DS0\n",
     ),
 ];
 
@@ -160,7 +175,8 @@ pub(crate) const HELD: [Worked; 6] = [
         GRANTED,
         "AM1=0 AM2=0 AM4=0 A05=0;AS=0;DS0=0 DS1=0;DTACK=0;AS=1 DS0=1 DS1=1;DTACK=1;BBSY=1",
         Conforming,
-        "start 1\ntenure 5 level 3 slot 2 end 14\ncycle 9 S 29 FFDE end 12\ntransfer 10 of 9 read DTACK 11 close 12\nverdict conforming\n",
+        "start 1\ntenure 5 level 3 slot 2 end 14\ncycle 9 S 29 FFDE end 12\ntransfer 10 of 9 read DTACK 11 close 12\n\
+            verdict conforming\n",
     ),
     (
         GRANTED,
@@ -172,13 +188,15 @@ pub(crate) const HELD: [Worked; 6] = [
         GRANTED,
         "AM1=0 AM2=0 AM4=0 A05=0;AS=0;DS0=0 DS1=0;DTACK=0 A05=1;AS=1 DS0=1 DS1=1;DTACK=1;BBSY=1",
         Conforming,
-        "start 1\ntenure 5 level 3 slot 2 end 14\ncycle 9 S 29 FFDE end 12\ntransfer 10 of 9 read DTACK 11 close 12\nverdict conforming\n",
+        "start 1\ntenure 5 level 3 slot 2 end 14\ncycle 9 S 29 FFDE end 12\ntransfer 10 of 9 read DTACK 11 close 12\n\
+            verdict conforming\n",
     ),
     (
         GRANTED,
         "AM1=0 AM2=0 AM4=0 A05=0;AS=0;DS0=0 DS1=0 A16=0;DTACK=0;AS=1 DS0=1 DS1=1;DTACK=1;BBSY=1",
         Conforming,
-        "start 1\ntenure 5 level 3 slot 2 end 14\ncycle 9 S 29 FFDE end 12\ntransfer 10 of 9 read DTACK 11 close 12\nverdict conforming\n",
+        "start 1\ntenure 5 level 3 slot 2 end 14\ncycle 9 S 29 FFDE end 12\ntransfer 10 of 9 read DTACK 11 close 12\n\
+            verdict conforming\n",
     ),
     (
         GRANTED,
@@ -190,7 +208,8 @@ pub(crate) const HELD: [Worked; 6] = [
         GRANTED,
         "A05=0;AS=0;DS0=0 DS1=0;DTACK=0;AS=1 DS0=1 DS1=1;DTACK=1;BBSY=1",
         Conforming,
-        "start 1\ntenure 5 level 3 slot 2 end 14\ncycle 9 K 3F FFFFDE end 12\ntransfer 10 of 9 read DTACK 11 close 12\nverdict conforming\n",
+        "start 1\ntenure 5 level 3 slot 2 end 14\ncycle 9 K 3F FFFFDE end 12\n\
+            transfer 10 of 9 read DTACK 11 close 12\nverdict conforming\n",
     ),
 ];
 
@@ -224,19 +243,22 @@ pub(crate) const CHAINS: [Worked; 9] = [
         GRANTED,
         "IACK=0 A02=0;AS=0;DS0=0;IA.1=0;DTACK=0;AS=1 DS0=1 IA.1=1;DTACK=1 IACK=1;BBSY=1",
         Conforming,
-        "start 1\ntenure 5 level 3 slot 2 end 15\ncycle 9 I 5 end 13\ntransfer 10 of 9 read DTACK 12 close 13\nverdict conforming\n",
+        "start 1\ntenure 5 level 3 slot 2 end 15\ncycle 9 I 5 end 13\ntransfer 10 of 9 read DTACK 12 close 13\n\
+            verdict conforming\n",
     ),
     (
         GRANTED,
         "IACK=0 WRITE=0 A02=0;AS=0;DS0=0;IA.1=0;DTACK=0;AS=1 DS0=1 IA.1=1;DTACK=1 IACK=1;BBSY=1",
         Broken(12, Rule::I4, "DTACK"),
-        "start 1\ntenure 5 level 3 slot 2 end -\ncycle 9 I 5 end -\ntransfer 10 write pending\nverdict broken I4 12 DTACK\n",
+        "start 1\ntenure 5 level 3 slot 2 end -\ncycle 9 I 5 end -\ntransfer 10 write pending\n\
+            verdict broken I4 12 DTACK\n",
     ),
     (
         GRANTED,
         "IACK=0 A02=0;AS=0;DS0=0;IA.2=0",
         Broken(11, Rule::I1, "IA.2"),
-        "start 1\ntenure 5 level 3 slot 2 end -\ncycle 9 I 5 end -\ntransfer 10 read pending\nverdict broken I1 11 IA.2\n",
+        "start 1\ntenure 5 level 3 slot 2 end -\ncycle 9 I 5 end -\ntransfer 10 read pending\n\
+            verdict broken I1 11 IA.2\n",
     ),
     (
         GRANTED,
@@ -248,16 +270,20 @@ pub(crate) const CHAINS: [Worked; 9] = [
         GRANTED,
         "IACK=0 A02=0;AS=0;DS0=0;DTACK=0;IA.1=0",
         Broken(12, Rule::I3, "IA.1"),
-        "start 1\ntenure 5 level 3 slot 2 end -\ncycle 9 I 5 end -\ntransfer 10 of 9 read DTACK 11 close -\nverdict broken I3 12 IA.1\n",
+        "start 1\ntenure 5 level 3 slot 2 end -\ncycle 9 I 5 end -\ntransfer 10 of 9 read DTACK 11 close -\n\
+            verdict broken I3 12 IA.1\n",
     ),
 ];
 
 /// A read that a reset leaves without an answer, and then a whole one.
 pub(crate) const READ_AGAIN: Worked = (
     GRANTED,
-    "AM1=0 AM2=0 A05=0;AS=0;DS0=0 DS1=0;SYSRESET=0;DTACK=0;AS=1 DS0=1 DS1=1;DTACK=1 BBSY=1;SYSRESET=1;BR3=0;BG3.0=0;BG3.1=0;BBSY=0 BR3=1;BG3.0=1;BG3.1=1;AS=0;DS0=0 DS1=0;DTACK=0;AS=1 DS0=1 DS1=1;DTACK=1;BBSY=1",
+    "AM1=0 AM2=0 A05=0;AS=0;DS0=0 DS1=0;SYSRESET=0;DTACK=0;AS=1 DS0=1 DS1=1;DTACK=1 BBSY=1;SYSRESET=1;BR3=0;BG3.0=0;\
+        BG3.1=0;BBSY=0 BR3=1;BG3.0=1;BG3.1=1;AS=0;DS0=0 DS1=0;DTACK=0;AS=1 DS0=1 DS1=1;DTACK=1;BBSY=1",
     Conforming,
-    "start 1\ntenure 5 level 3 slot 2 end -\ncycle 9 S 39 FFFFDE end -\ntransfer 10 read pending\nreset 11\nstart 15\ntenure 19 level 3 slot 2 end 27\ncycle 22 S 39 FFFFDE end 25\ntransfer 23 of 22 read DTACK 24 close 25\nverdict conforming\n",
+    "start 1\ntenure 5 level 3 slot 2 end -\ncycle 9 S 39 FFFFDE end -\ntransfer 10 read pending\nreset 11\n\
+        start 15\ntenure 19 level 3 slot 2 end 27\ncycle 22 S 39 FFFFDE end 25\n\
+        transfer 23 of 22 read DTACK 24 close 25\nverdict conforming\n",
 );
 
 /// Resets of the bus.
@@ -266,38 +292,46 @@ pub(crate) const RESETS: [Worked; 15] = [
         GRANTED,
         "AM1=0 AM2=0 A05=0;AS=0;DS0=0 DS1=0;SYSRESET=0;AS=1 DS0=1 DS1=1 BBSY=1;SYSRESET=1",
         Conforming,
-        "start 1\ntenure 5 level 3 slot 2 end -\ncycle 9 S 39 FFFFDE end -\ntransfer 10 read pending\nreset 11\nstart 13\nverdict conforming\n",
+        "start 1\ntenure 5 level 3 slot 2 end -\ncycle 9 S 39 FFFFDE end -\ntransfer 10 read pending\nreset 11\n\
+            start 13\nverdict conforming\n",
     ),
     READ_AGAIN,
     (
         GRANTED_FROM_IDLE,
-        "AM1=0 AM2=0 A05=0;AS=0;DS0=0 DS1=0;SYSRESET=0;AS=1 DS0=1 DS1=1;SYSRESET=1;AS=0;DS0=0 DS1=0;DTACK=0;AS=1 DS0=1 DS1=1;DTACK=1;BBSY=1",
+        "AM1=0 AM2=0 A05=0;AS=0;DS0=0 DS1=0;SYSRESET=0;AS=1 DS0=1 DS1=1;SYSRESET=1;AS=0;DS0=0 DS1=0;DTACK=0;\
+            AS=1 DS0=1 DS1=1;DTACK=1;BBSY=1",
         Conforming,
-        "start 0\ntenure 4 level 3 slot 2 end -\ncycle 8 S 39 FFFFDE end -\ntransfer 9 read pending\nreset 10\nstart 12\ntenure 12 open end 18\ncycle 13 S 39 FFFFDE end 16\ntransfer 14 of 13 read DTACK 15 close 16\nverdict conforming\n",
+        "start 0\ntenure 4 level 3 slot 2 end -\ncycle 8 S 39 FFFFDE end -\ntransfer 9 read pending\nreset 10\n\
+            start 12\ntenure 12 open end 18\ncycle 13 S 39 FFFFDE end 16\ntransfer 14 of 13 read DTACK 15 close 16\n\
+            verdict conforming\n",
     ),
     (
         GRANTED,
         "AM1=0 AM2=0 A05=0;AS=0;DS0=0 DS1=0;SYSRESET=0;AS=1 DS0=1 DS1=1;SYSRESET=1",
         Conforming,
-        "start 1\ntenure 5 level 3 slot 2 end -\ncycle 9 S 39 FFFFDE end -\ntransfer 10 read pending\nreset 11\nstart 13\ntenure 13 open end -\nverdict conforming\n",
+        "start 1\ntenure 5 level 3 slot 2 end -\ncycle 9 S 39 FFFFDE end -\ntransfer 10 read pending\nreset 11\n\
+            start 13\ntenure 13 open end -\nverdict conforming\n",
     ),
     (
         GRANTED,
         "AM1=0 AM2=0 A05=0;AS=0;DS0=0 DS1=0;SYSRESET=0;AS=1 DS0=1 DS1=1 BBSY=1;SYSRESET=1;DTACK=0",
         Broken(14, Rule::H4, "DTACK"),
-        "start 1\ntenure 5 level 3 slot 2 end -\ncycle 9 S 39 FFFFDE end -\ntransfer 10 read pending\nreset 11\nstart 13\nverdict broken H4 14 DTACK\n",
+        "start 1\ntenure 5 level 3 slot 2 end -\ncycle 9 S 39 FFFFDE end -\ntransfer 10 read pending\nreset 11\n\
+            start 13\nverdict broken H4 14 DTACK\n",
     ),
     (
         GRANTED,
         "AM1=0 AM2=0 A05=0;AS=0;DS0=0 DS1=0;AS=x SYSRESET=0;AS=1 DS0=1 DS1=1 BBSY=1;SYSRESET=1",
         Conforming,
-        "start 1\ntenure 5 level 3 slot 2 end -\ncycle 9 S 39 FFFFDE end -\ntransfer 10 read pending\nreset 11\nstart 13\nverdict conforming\n",
+        "start 1\ntenure 5 level 3 slot 2 end -\ncycle 9 S 39 FFFFDE end -\ntransfer 10 read pending\nreset 11\n\
+            start 13\nverdict conforming\n",
     ),
     (
         GRANTED,
         "AM1=0 AM2=0 A05=0;AS=0;DS0=0 DS1=0;SYSRESET=x",
         Unreadable(11, Rule::U1, "SYSRESET"),
-        "start 1\ntenure 5 level 3 slot 2 end -\ncycle 9 S 39 FFFFDE end -\ntransfer 10 read pending\nverdict unreadable U1 11 SYSRESET\n",
+        "start 1\ntenure 5 level 3 slot 2 end -\ncycle 9 S 39 FFFFDE end -\ntransfer 10 read pending\n\
+            verdict unreadable U1 11 SYSRESET\n",
     ),
     (
         UNKNOWN,
@@ -339,7 +373,8 @@ pub(crate) const RESETS: [Worked; 15] = [
         GRANTED,
         "AM1=0 AM2=0 A05=0;AS=0;DS0=0 DS1=0;DTACK=0;AS=1 DS0=1 DS1=1;DTACK=1;BBSY=1;SYSRESET=0",
         Conforming,
-        "start 1\ntenure 5 level 3 slot 2 end 14\ncycle 9 S 39 FFFFDE end 12\ntransfer 10 of 9 read DTACK 11 close 12\nreset 15\nverdict conforming\n",
+        "start 1\ntenure 5 level 3 slot 2 end 14\ncycle 9 S 39 FFFFDE end 12\n\
+            transfer 10 of 9 read DTACK 11 close 12\nreset 15\nverdict conforming\n",
     ),
     (
         GRANTED,

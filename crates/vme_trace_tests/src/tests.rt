@@ -192,7 +192,8 @@ fn lines_by_place(rt: HostRuntime) {
     }
 }
 
-/// Whether a rule of that name is found, has that name, and is one by which a recording can't be read on where its letter says so.
+/// Whether a rule of that name is found, has that name, and is one by which a recording can't be read on where its
+/// letter says so.
 fn is_rule(name: &[u8]) -> bool {
     match Rule::from_name(name) {
         Some(rule) => {

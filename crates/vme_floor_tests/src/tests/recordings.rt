@@ -16,7 +16,8 @@ const READ: &str = "AS=0;DS0=0 DS1=0;DTACK=0;AS=1 DS0=1 DS1=1;DTACK=1";
 
 /// What the listing of the read says.
 pub(super) const READ_ROWS: &str =
-    "start 1\ntenure 5 level 3 slot 2 end 14\ncycle 9 S 39 FFFFDE end 12\ntransfer 10 of 9 read DTACK 11 close 12\nverdict conforming\n";
+    "start 1\ntenure 5 level 3 slot 2 end 14\ncycle 9 S 39 FFFFDE end 12\ntransfer 10 of 9 read DTACK 11 close 12\n\
+        verdict conforming\n";
 
 pub(super) fn no_changes(alloc: Global) -> Changes {
     Changes::new(SmallVec::new(alloc))
@@ -113,7 +114,8 @@ pub(super) fn reset_recording(alloc: Global) -> Result<Capture, &'static str> {
 
 /// What its listing says.
 pub(super) const RESET_ROWS: &str =
-    "start 1\ntenure 5 level 3 slot 2 end -\ncycle 9 S 39 FFFFDE end -\ntransfer 10 read pending\nreset 11\nstart 13\nverdict conforming\n";
+    "start 1\ntenure 5 level 3 slot 2 end -\ncycle 9 S 39 FFFFDE end -\ntransfer 10 read pending\nreset 11\n\
+        start 13\nverdict conforming\n";
 
 /// The second block of the read cut by fives, with a fall of DS0 alone as its last step.
 pub(super) fn other_second(alloc: Global) -> Result<Block, Fail> {

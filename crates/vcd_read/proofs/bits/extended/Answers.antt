@@ -1,5 +1,5 @@
 use Rattle.std.proofs.Common.{refl, sym}
-use Rattle.vcd_read.proofs.BitsLemmas.{more_fill, more_digit}
+use Rattle.vcd_read.proofs.Fill.{more_fill, more_digit}
 use Rattle.vcd_read.proofs.bits.extended.Goals as goal
 use Rattle.vcd_read.proofs.bits.extended.Goals.{then-place-missing, else-place-missing}
 

@@ -3,10 +3,10 @@ use Rattle.std.specs.Prelude.{All, OnOk}
 use Rattle.std.proofs.lemmas.List.{take_rest}
 use Rattle.std.proofs.lemmas.List.Elements.{All-drop}
 use Rattle.vme_bind.specs.Notes.{IsOfLine, levels_noted, with_notes}
-use Rattle.vme_bind.specs.Recording.{Progress}
+use Rattle.vme_bind.specs.Recording.{Progress, all_of}
 use Rattle.vme_trace.specs.Trace.{changed}
 use Rattle.vme_trace.proofs.Changing.{slots-kept}
-use Rattle.vme_bind.proofs.NotesLemmas.{all_of, with_notes-end}
+use Rattle.vme_bind.proofs.NotesLemmas.{with_notes-end}
 use Rattle.vme_bind.proofs.recorder.Recorder.pass.Goals as goal
 
 pub pass_each-requires : goal.pass_each-requires
