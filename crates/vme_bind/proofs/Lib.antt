@@ -8,11 +8,9 @@ pub mod CaptureLemmas
 pub mod StepsLemmas
 pub mod TapsLemmas
 pub mod EndLemmas
+pub mod SameLines
 pub mod OpeningLemmas
-pub mod PartLemmas
 pub mod MakingLemmas
-pub mod NotesLemmas
-pub mod EffectLemmas
 pub mod TextCaptureLemmas
 pub mod TextPieceLemmas
 pub mod WaveLemmas

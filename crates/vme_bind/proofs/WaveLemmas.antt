@@ -1,14 +1,15 @@
--- What comes of a dump whose pieces are read apart from one another, and joined in order.
-use Rattle.std.proofs.Common.{◌≡◌, ℕ, Bool, true, false, cond, List, [], ◌∷◌, ◌++◌, map, Option, Some, None, Result, refl, sym, ap, ◌∙◌, subst, append_assoc}
-use Rattle.std.specs.Prelude.{All}
+-- What comes of a dump whose pieces are read ahead of what stands before them, and joined in order.
+use Rattle.std.proofs.Common.{◌≡◌, ℕ, Bool, true, false, cond, ◌&&◌, List, [], ◌∷◌, ◌++◌, Option, Some, None, Result, refl, sym, ap, ◌∙◌, subst, append_assoc, arith}
 use Rattle.std.proofs.lemmas.List.{append-nil}
-use Rattle.std.proofs.lemmas.List.Elements.{All-append, All-cons, All-head, All-nil, All-tail}
 use Rattle.vme_trace.specs.Followed.{with_steps}
-use Rattle.vme_trace.specs.Levels.{Levels}
-use Rattle.vme_trace.specs.Trace.{Trace}
-use Rattle.vme_trace.specs.declared.step.Change.{Change}
+use Rattle.vme_trace.specs.Instants.{any}
+use Rattle.vme_trace.specs.Levels.{Levels, level_at}
+use Rattle.vme_trace.specs.LineNumbers.{line_count}
+use Rattle.vme_trace.specs.Trace.{Trace, changed, levels_after}
 use Rattle.vme_trace.specs.declared.step.Step.{Step}
-use Rattle.vcd_read.specs.Apart.{FitsBehind, IsReadApart, ReadApart, apart_with, behind_piece, ended_at, entered, with_taken}
+use Rattle.vme_trace.proofs.Changing.{slots-kept}
+use Rattle.vme_trace.proofs.Ranges.{any-fails}
+use Rattle.vcd_read.specs.Apart.{IsReadApart, ReadApart, apart_with, behind_piece, ended_at, entered, with_taken}
 use Rattle.vcd_read.specs.Header.{◌>>=◌, Net}
 use Rattle.vcd_read.specs.Reached.{Reached, rest_of}
 use Rattle.vcd_read.specs.Reading.{line_behind}
@@ -18,178 +19,167 @@ use Rattle.vcd_read.specs.declared.dump.Bit.{Bit}
 use Rattle.vcd_read.specs.declared.fault.VcdFault.{VcdFault}
 use Rattle.vcd_read.proofs.ApartLemmas.{joined-leads, kept-apart}
 use Rattle.vme_bind.specs.Made.{Made, made_change, made_instant}
-use Rattle.vme_bind.specs.Notes.{AreOfOne, IsOfLine, Notes, end_noted, is_level, last_noted, made_by, note_change, note_changes, noted_change, noted_instant, step_noted, steps_noted, with_note, with_notes}
-use Rattle.vme_bind.specs.Recording.{AreLines, IsLine, Progress, tapped}
-use Rattle.vme_bind.specs.Taps.{taps_of}
+use Rattle.vme_bind.specs.Recording.{AreTouched, Progress, all_of, changes_between, differs, end_of, ended_steps, step_between}
 use Rattle.vme_bind.specs.TextPieces.{outcome, outcome_ahead}
-use Rattle.vme_bind.specs.TextWaves.{IsJoined, IsNoted, ToMake, WaveReached, noted_apart, with_recording}
+use Rattle.vme_bind.specs.TextWaves.{FitsAhead, IsJoined, IsReadAhead, ReadAhead, WaveReached, made_ahead, made_behind, with_recording}
 use Rattle.vme_bind.specs.declared.fault.BindFault.{BindFault}
-use Rattle.vme_bind.specs.declared.note.Note.{Note}
-use Rattle.vme_bind.specs.declared.note.Note.TheVariants.{Changed, Ended}
-use Rattle.vme_bind.specs.declared.taps.Tap.{Tap}
 use Rattle.vme_bind.specs.declared.taps.Taps.{Taps}
-use Rattle.vme_bind.proofs.NotesLemmas.{levels_noted-slots, made-change, made-instant, steps_noted-show, with_notes-append, with_notes-now}
+use Rattle.vme_bind.proofs.CaptureLemmas.{changed-those, is_below, length-changed}
+use Rattle.vme_bind.proofs.RecorderLemmas.{alike, same_levels}
 
--- ---- the notes of a piece
+-- ---- the levels behind the step that ends an instant
 
-abbrev no_notes : Taps → Notes
-no_notes taps = record { taps = taps; items = [] }
-
--- what is noted with these taps
-pub noted-read : (nets : List Net) (taps : Taps) (bytes : List ℕ) (a : ReadApart Notes)
-    → IsReadApart noted_change noted_instant nets bytes (no_notes taps) a → IsNoted nets taps bytes (apart_with a.progress.taken.items a)
-noted-read nets taps bytes a is =
-    let same : a.progress.taken.taps ≡ taps =
-    kept-apart noted_change noted_instant nets (λ (n : Notes). n.taps ≡ taps) (λ n net bits h. h) (λ n time h. h) bytes (no_notes taps) a is refl in
-    subst (λ (t : Taps). IsReadApart noted_change noted_instant nets bytes (no_notes taps) (noted_apart t (apart_with a.progress.taken.items a))) same is
-
-note-line : (slots : ℕ) (notes : List Note) (c : Change) → All (IsOfLine slots) notes → IsLine slots c.line → All (IsOfLine slots) (note_change notes c)
-note-line slots notes c h line = by_last (is_level (last_noted notes c.line) c.level)
+changes-lead : (shown now : Levels) (touched : List ℕ) → AreTouched shown now touched → changed shown (changes_between shown now) ≡ now
+changes-lead shown now touched h =
+    same_levels (changed shown (changes_between shown now)) now (slots-kept shown (changes_between shown now) ∙ sym h.slots)
+    (length-changed shown (changes_between shown now) ∙ h.shown_all) h.now_all
+    (λ l lt. changed-those (differs shown now) (level_at now) shown line_count (omega (arith, h.shown_all)) l
+    ∙ ap (λ (b : Bool). cond (b && differs shown now l) (level_at now l) (level_at shown l)) (is_below l line_count lt) ∙ by_test l (differs shown now l) refl)
   where
-    by_last : (b : Bool) → All (IsOfLine slots) (cond b notes (notes ++ Changed c ∷ []))
-    by_last true = h
-    by_last false = All-append (IsOfLine slots) notes (Changed c ∷ []) h (All-cons (IsOfLine slots) (Changed c) [] line (All-nil (IsOfLine slots)))
+    by_test : (l : ℕ) (b : Bool) → differs shown now l ≡ b → cond (true && b) (level_at now l) (level_at shown l) ≡ level_at now l
+    by_test l true e = refl
+    by_test l false e = alike shown now l e
 
-changes-lines : (slots : ℕ) (notes : List Note) (taps : List Tap) (bits : List Bit) → All (IsOfLine slots) notes → AreLines slots taps
-    → All (IsOfLine slots) (note_changes notes (map (tapped bits) taps))
-changes-lines slots notes [] bits h lines = h
-changes-lines slots notes (tap ∷ taps) bits h lines =
-    changes-lines slots (note_change notes (tapped bits tap)) taps bits
-    (note-line slots notes (tapped bits tap) h (All-head (λ (t : Tap). IsLine slots t.line) tap taps lines)) (All-tail (λ (t : Tap). IsLine slots t.line) tap taps lines)
+step-leads : (time : ℕ) (shown now : Levels) (touched : List ℕ) → AreTouched shown now touched → levels_after shown (step_between time shown now) ≡ now
+step-leads time shown now touched h = by_any (any (differs shown now) 0 line_count) refl
+  where
+    by_any : (b : Bool) → any (differs shown now) 0 line_count ≡ b
+        → levels_after shown (cond b (record { time = time; changes = changes_between shown now } ∷ []) []) ≡ now
+    by_any true e = changes-lead shown now touched h
+    by_any false e = same_levels shown now (sym h.slots) h.shown_all h.now_all (λ l lt. alike shown now l (any-fails (differs shown now) 0 line_count l e (omega arith) lt))
 
--- notes with these taps, of lines of the backplane
-record AreNoted (slots : ℕ) (taps : Taps) (n : Notes) : Type 0 where
-  same : n.taps ≡ taps
-  lines : All (IsOfLine slots) n.items
+-- the step that ends the instant at hand, if one ends, leads to the levels that are shown then
+pub end-leads : (p : Progress) (shown now : Levels) (touched : List ℕ) (e : Option ℕ) → p ≡ record { shown = shown; now = now } → AreTouched shown now touched
+    → levels_after p.shown (ended_steps p e) ≡ (entered end_of p e).shown
+end-leads p shown now touched None is h = refl
+end-leads p shown now touched (Some time) is h =
+    subst (λ (q : Progress). levels_after q.shown (step_between time q.shown q.now) ≡ q.now) (sym is) (step-leads time shown now touched h)
 
-module _ (slots : ℕ) (taps : Taps) (are : (net : ℕ) → AreLines slots (taps_of taps net)) where
-  change-noted : (n : Notes) (net : ℕ) (bits : List Bit) → AreNoted slots taps n → AreNoted slots taps (noted_change n net bits)
-  change-noted n net bits h = record {
-    same = h.same;
-    lines = changes-lines slots n.items (taps_of n.taps net) bits h.lines (subst (λ (t : Taps). AreLines slots (taps_of t net)) (sym h.same) (are net));
-  }
+-- ---- what is made behind another recording
 
-  instant-noted : (n : Notes) (time : ℕ) → AreNoted slots taps n → AreNoted slots taps (noted_instant n time)
-  instant-noted n time h = record {
-    same = h.same;
-    lines = All-append (IsOfLine slots) n.items (Ended time ∷ []) h.lines (All-cons (IsOfLine slots) (Ended time) [] tt (All-nil (IsOfLine slots)));
-  }
+abbrev behind : Trace → Made → Made
+behind t m = record m { recorded = with_steps t m.recorded.steps }
 
-  -- the lines of the notes of a piece are the backplane's
-  pub noted-lines : (nets : List Net) (bytes : List ℕ) (a : ReadApart (List Note)) → IsNoted nets taps bytes a → All (IsOfLine slots) a.progress.taken
-  noted-lines nets bytes a is =
-      let kept : AreNoted slots taps (noted_apart taps a).progress.taken =
-      kept-apart noted_change noted_instant nets (AreNoted slots taps) change-noted instant-noted bytes (no_notes taps) (noted_apart taps a) is
-      (record { same = refl; lines = All-nil (IsOfLine slots) }) in
-      kept.lines
+behind-change : (t : Trace) (m : Made) (net : ℕ) (bits : List Bit) → behind t (made_change m net bits) ≡ made_change (behind t m) net bits
+behind-change t m net bits = refl
 
--- ---- what is made behind the end of an instant
+behind-instant : (t : Trace) (m : Made) (time : ℕ) → behind t (made_instant m time) ≡ made_instant (behind t m) time
+behind-instant t m time =
+    let step : List Step = step_between time m.progress.shown m.progress.now in
+    ap (λ (ss : List Step). record (made_instant m time) { recorded = record t { steps = ss } }) (sym (append_assoc t.steps m.recorded.steps step))
 
-abbrev recorded_as : Made → List Step → Made
-recorded_as m steps = record m { recorded = record m.recorded { steps = steps } }
-
--- no note makes nothing
-nothing-made : (m : Made) → made_by m (no_notes m.taps) ≡ m
-nothing-made m = ap (recorded_as m) (append-nil m.recorded.steps)
-
-pub entered-first : (m : Made) (e : Option ℕ) → made_by (entered made_instant m e) (no_notes m.taps) ≡ entered made_instant m e
-entered-first m None = nothing-made m
-entered-first m (Some time) = nothing-made (made_instant m time)
-
-pub entered-made : (m : Made) (e : Option ℕ) (items : List Note)
-    → made_by (entered made_instant m e) (record { taps = m.taps; items = items }) ≡ made_by m (record { taps = m.taps; items = end_noted e ++ items })
-entered-made m None items = refl
-entered-made m (Some time) items =
-    let p : Progress = with_note m.progress (Ended time) in
-    ap (recorded_as (record m { progress = with_notes p items })) (append_assoc m.recorded.steps (step_noted m.progress (Ended time)) (steps_noted p items))
+-- behind the end of an instant
+entered-made : (m : Made) (e : Option ℕ)
+    → entered made_instant m e ≡ record m { progress = entered end_of m.progress e; recorded = with_steps m.recorded (ended_steps m.progress e) }
+entered-made m None = ap (λ (ss : List Step). record m { recorded = record m.recorded { steps = ss } }) (sym (append-nil m.recorded.steps))
+entered-made m (Some time) = refl
 
 -- ---- a piece that is joined
 
-module _ (bytes : List ℕ) (w : WaveReached) (n : ReadApart (List Note)) (is : IsNoted w.body.nets w.taps bytes n) (fits : FitsBehind w.body n) where
-  abbrev ends : Option ℕ
-  ends = ended_at w.body.progress n.time
+module _ (bytes : List ℕ) (recorded : Trace) (w : WaveReached) (a : ReadAhead) (is : IsReadAhead w.body.nets w.taps bytes recorded a) (fits : FitsAhead w a) where
+  abbrev ended : List Step
+  ended = ended_steps w.body.progress.taken (ended_at w.body.progress a.apart.time)
 
-  abbrev all : List Note
-  all = end_noted ends ++ n.progress.taken
+  abbrev after : WaveReached
+  after = record { fault = w.fault; taps = w.taps; body = with_taken a.apart.progress.taken (behind_piece w.body.nets a.apart) }
 
-  abbrev behind : WaveReached
-  behind = record { fault = w.fault; taps = w.taps; body = with_taken (with_notes w.body.progress.taken all) (behind_piece w.body.nets n) }
+  abbrev none_made : Made
+  none_made = made_behind w.taps a.from (record { opening = recorded.opening; steps = [] })
+
+  first-made : (t : Trace) → behind (with_steps t ended) none_made
+      ≡ entered made_instant (record { taps = w.taps; progress = w.body.progress.taken; recorded = t }) (ended_at w.body.progress a.apart.time)
+  first-made t =
+      let m : Made = record { taps = w.taps; progress = w.body.progress.taken; recorded = t } in
+      ap (λ (ss : List Step). record { taps = w.taps; progress = all_of a.from; recorded = record t { steps = ss } }) (append-nil (t.steps ++ ended))
+      ∙ ap (λ (p : Progress). record { taps = w.taps; progress = p; recorded = with_steps t ended }) (sym fits.levels)
+      ∙ sym (entered-made m (ended_at w.body.progress a.apart.time))
 
   joined-rest : (t : Trace) (more : List Token)
       → outcome_ahead (with_recording t w) (tokens_from w.body.line bytes) more
-      ≡ outcome_ahead (with_recording (with_steps t (steps_noted w.body.progress.taken all)) behind) [] more
+      ≡ outcome_ahead (with_recording (with_steps t (ended ++ recorded.steps)) after) [] more
   joined-rest t more =
       let m : Made = record { taps = w.taps; progress = w.body.progress.taken; recorded = t } in
       let r : Reached Made = with_taken m w.body in
-      let a : ReadApart Notes = noted_apart w.taps n in
-      let first : Made = entered made_instant m ends in
+      let u : Trace = with_steps t ended in
       ap (λ (r : Result (State Made) VcdFault). outcome w.fault (r >>= at_end made_instant))
-      (joined-leads noted_change noted_instant made_change made_instant (made_by first) (made-change first) (made-instant first) r bytes (no_notes w.taps) a is
-      (record { place = fits.place; bracket = fits.bracket; time = fits.time; line = fits.line }) (entered-first m ends) more
-      ∙ ap (λ (m : Made). rest_of made_change made_instant (with_taken m (behind_piece w.body.nets a)) [] more) (entered-made m ends n.progress.taken))
+      (joined-leads made_change made_instant made_change made_instant (behind u) (behind-change u) (behind-instant u) r bytes none_made (made_ahead w.taps recorded a.apart) is.read
+      (record { place = fits.place.place; bracket = fits.place.bracket; time = fits.place.time; line = fits.place.line }) (first-made t) more
+      ∙ ap (λ (ss : List Step). rest_of made_change made_instant
+      (with_taken (record { taps = w.taps; progress = a.apart.progress.taken; recorded = record t { steps = ss } }) (behind_piece w.body.nets a.apart)) [] more)
+      (append_assoc t.steps ended recorded.steps))
 
-  joined-as : AreOfOne w.body.progress.taken → IsJoined bytes w behind (record { progress = w.body.progress.taken; notes = all })
-  joined-as one = record {
+  joined-as : levels_after w.body.progress.taken.shown ended ≡ a.from → IsJoined bytes recorded a.from w after ended
+  joined-as leads = record {
     fault = refl;
     taps = refl;
     nets = refl;
-    line = is.line ∙ ap (λ (line : ℕ). line_behind line bytes) (sym fits.line);
-    from = refl;
-    left = steps_noted-show w.body.progress.taken all one;
+    line = is.read.line ∙ ap (λ (line : ℕ). line_behind line bytes) (sym fits.place.line);
+    leads = leads;
     rest = joined-rest;
   }
 
-  pub joined-is : (e : Option ℕ) (after : WaveReached) (part : ToMake) → AreOfOne w.body.progress.taken → e ≡ ends
-      → after ≡ record { fault = w.fault; taps = w.taps; body = with_taken (with_notes w.body.progress.taken (end_noted e ++ n.progress.taken)) (behind_piece w.body.nets n) }
-      → part ≡ record { progress = w.body.progress.taken; notes = end_noted e ++ n.progress.taken }
-      → IsJoined bytes w after part
-  joined-is e after part one same there made =
-      subst (λ (v : WaveReached). IsJoined bytes w v part)
-      (sym (there ∙ ap (λ (e : Option ℕ). record { fault = w.fault; taps = w.taps; body = with_taken (with_notes w.body.progress.taken (end_noted e ++ n.progress.taken)) (behind_piece w.body.nets n) }) same))
-      (subst (λ (p : ToMake). IsJoined bytes w behind p)
-      (sym (made ∙ ap (λ (e : Option ℕ). record { progress = w.body.progress.taken; notes = end_noted e ++ n.progress.taken }) same)) (joined-as one))
+  pub joined-is : (there : WaveReached) (step : List Step) → there ≡ after → step ≡ ended
+      → levels_after w.body.progress.taken.shown step ≡ (entered end_of w.body.progress.taken (ended_at w.body.progress a.apart.time)).shown
+      → IsJoined bytes recorded a.from w there step
+  joined-is there step at same leads =
+      subst (λ (v : WaveReached). IsJoined bytes recorded a.from w v step) (sym at)
+      (subst (λ (ss : List Step). IsJoined bytes recorded a.from w after ss) (sym same)
+      (joined-as (subst (λ (ss : List Step). levels_after w.body.progress.taken.shown ss ≡ a.from) same (leads ∙ ap (λ (p : Progress). p.shown) fits.levels))))
 
--- ---- a wave, by its fields
+-- ---- a wave, and a piece, by their fields
 
 abbrev pub wave_of : Option BindFault → Taps → Progress → Reached (Unit {0}) → WaveReached
 wave_of fault taps p r = record { fault = fault; taps = taps; body = with_taken p r }
 
-module _ (bytes : List ℕ) (w : WaveReached) (n : ReadApart (List Note)) (fault : Option BindFault) (taps : Taps) (p : Progress) (r : Reached (Unit {0})) (items : List Note) (a : ReadApart (Unit {0}))
-    (view : w ≡ wave_of fault taps p r) (seen : n ≡ apart_with items a) (is : IsNoted w.body.nets w.taps bytes n) where
-  is-of-view : IsNoted r.nets taps bytes (apart_with items a)
-  is-of-view =
-      subst (λ (v : WaveReached). IsNoted v.body.nets v.taps bytes (apart_with items a)) view
-      (subst (λ (m : ReadApart (List Note)). IsNoted w.body.nets w.taps bytes m) seen is)
+abbrev pub ahead_of : Levels → Progress → ReadApart (Unit {0}) → ReadAhead
+ahead_of from p a = record { from = from; apart = apart_with p a }
 
-  pub wave-lines : ((net : ℕ) → AreLines p.now.slots (taps_of taps net)) → All (IsOfLine p.now.slots) items
-  wave-lines are = noted-lines p.now.slots taps are r.nets bytes (apart_with items a) is-of-view
+-- ---- what is kept as a piece is read
 
-  pub wave-joined : (e : Option ℕ) (q from : Progress) (behind : Reached (Unit {0})) → FitsBehind w.body n → AreOfOne p → e ≡ ended_at r.progress a.time
-      → q ≡ with_notes p (end_noted e ++ items) → from ≡ p → behind ≡ behind_piece r.nets a
-      → IsJoined bytes w (wave_of fault taps q behind) (record { progress = from; notes = end_noted e ++ items })
-  wave-joined e q from behind fits one ends passed same at =
-      let fitting : FitsBehind (with_taken p r) (apart_with items a) =
-      subst (λ (v : WaveReached). FitsBehind v.body (apart_with items a)) view (subst (λ (m : ReadApart (List Note)). FitsBehind w.body m) seen fits) in
-      subst (λ (v : WaveReached). IsJoined bytes v (wave_of fault taps q behind) (record { progress = from; notes = end_noted e ++ items })) (sym view)
-      (joined-is bytes (wave_of fault taps p r) (apart_with items a) is-of-view fitting e (wave_of fault taps q behind) (record { progress = from; notes = end_noted e ++ items }) one ends
-      (ap (λ (q : Progress). wave_of fault taps q behind) passed ∙ ap (λ (b : Reached (Unit {0})). wave_of fault taps (with_notes p (end_noted e ++ items)) b) at)
-      (ap (λ (p : Progress). record { progress = p; notes = end_noted e ++ items }) same))
+module _ (nets : List Net) (bytes : List ℕ) (m : Made) (a : ReadApart Made) (is : IsReadApart made_change made_instant nets bytes m a) where
+  pub taps-kept : a.progress.taken.taps ≡ m.taps
+  taps-kept = kept-apart made_change made_instant nets (λ (n : Made). n.taps ≡ m.taps) (λ n net bits h. h) (λ n time h. h) bytes m a is refl
 
--- the levels behind a piece are of the same backplane
-pub passed-slots : (p : Progress) (notes : List Note) → (with_notes p notes).now.slots ≡ p.now.slots
-passed-slots p notes = ap (λ (v : Levels). v.slots) (with_notes-now p notes) ∙ levels_noted-slots p.now notes
+  pub opening-kept : a.progress.taken.recorded.opening ≡ m.recorded.opening
+  opening-kept = kept-apart made_change made_instant nets (λ (n : Made). n.recorded.opening ≡ m.recorded.opening) (λ n net bits h. h) (λ n time h. h) bytes m a is refl
 
-pub passed-all : (p between after : Progress) (e : Option ℕ) (items : List Note) → between ≡ with_notes p (end_noted e) → after ≡ with_notes between items
-    → after ≡ with_notes p (end_noted e ++ items)
-passed-all p between after e items first then' =
-    then' ∙ ap (λ (q : Progress). with_notes q items) first ∙ sym (with_notes-append p (end_noted e) items)
+  pub slots-are : a.progress.taken.progress.now.slots ≡ m.progress.now.slots
+  slots-are = kept-apart made_change made_instant nets (λ (n : Made). n.progress.now.slots ≡ m.progress.now.slots)
+      (λ n net bits h. slots-kept n.progress.now _ ∙ h) (λ n time h. h) bytes m a is refl
 
--- what a piece was read to is noted
-pub wave-noted : (bytes : List ℕ) (w : WaveReached) (fault : Option BindFault) (taps : Taps) (p : Progress) (r : Reached (Unit {0})) → w ≡ wave_of fault taps p r
-    → (before : Notes) (a : ReadApart Notes) → before ≡ no_notes taps → IsReadApart noted_change noted_instant r.nets bytes before a
-    → (b : ReadApart (Unit {0})) (items : List Note) → b ≡ apart_with (tt {0}) a → items ≡ a.progress.taken.items → IsNoted w.body.nets w.taps bytes (apart_with items b)
-wave-noted bytes w fault taps p r view before a none is b items same told =
-    subst (λ (v : WaveReached). IsNoted v.body.nets v.taps bytes (apart_with items b)) (sym view)
-    (subst (λ (n : ReadApart (List Note)). IsNoted r.nets taps bytes n)
-    (sym (ap (λ (i : List Note). apart_with i b) told ∙ ap (λ (c : ReadApart (Unit {0})). apart_with a.progress.taken.items c) same))
-    (noted-read r.nets taps bytes a (subst (λ (n : Notes). IsReadApart noted_change noted_instant r.nets bytes n a) none is)))
+-- what was read ahead, by its fields
+pub ahead-read : (nets : List Net) (taps : Taps) (bytes : List ℕ) (from : Levels) (first : Trace) (m : Made) (a : ReadApart Made)
+    → m ≡ made_behind taps from first → first.steps ≡ [] → IsReadApart made_change made_instant nets bytes m a
+    → (u : ReadApart (Unit {0})) (q : Progress) (t : Trace) → u ≡ apart_with (tt {0}) a → q ≡ a.progress.taken.progress → t ≡ a.progress.taken.recorded
+    → IsReadAhead nets taps bytes t (ahead_of from q u)
+ahead-read nets taps bytes from first m a begun none is u q t ue qe te =
+    let opening : first.opening ≡ t.opening = ap (λ (n : Made). n.recorded.opening) (sym begun) ∙ sym (opening-kept nets bytes m a is) ∙ ap (λ (r : Trace). r.opening) (sym te) in
+    let before : m ≡ made_behind taps from (record { opening = t.opening; steps = [] }) =
+    begun ∙ ap (λ (ss : List Step). made_behind taps from (record { opening = first.opening; steps = ss })) none
+    ∙ ap (λ (v : Levels). made_behind taps from (record { opening = v; steps = [] })) opening in
+    let made : record { taps = taps; progress = q; recorded = t } ≡ a.progress.taken =
+    ap (λ (s : Taps). record { taps = s; progress = q; recorded = t }) (ap (λ (n : Made). n.taps) (sym begun) ∙ sym (taps-kept nets bytes m a is))
+    ∙ ap (λ (p : Progress). record { taps = a.progress.taken.taps; progress = p; recorded = t }) qe
+    ∙ ap (λ (r : Trace). record { taps = a.progress.taken.taps; progress = a.progress.taken.progress; recorded = r }) te in
+    subst (λ (v : ReadApart (Unit {0})). IsReadAhead nets taps bytes t (ahead_of from q v)) (sym ue) (record {
+      read =
+          subst (λ (n : Made). IsReadApart made_change made_instant nets bytes n (apart_with (record { taps = taps; progress = q; recorded = t }) a)) before
+          (subst (λ (n : Made). IsReadApart made_change made_instant nets bytes m (apart_with n a)) (sym made) is);
+    })
+
+-- a piece that is joined, by the fields of the wave and of the piece
+pub wave-joined : (bytes : List ℕ) (recorded : Trace) (w : WaveReached) (a : ReadAhead) (fault : Option BindFault) (taps : Taps) (p q : Progress) (r behind : Reached (Unit {0})) (from : Levels) (u : ReadApart (Unit {0}))
+    → w ≡ wave_of fault taps p r → a ≡ ahead_of from q u → IsReadAhead w.body.nets w.taps bytes recorded a → FitsAhead w a
+    → (e : Option ℕ) (step : List Step) (there : Progress) → e ≡ ended_at r.progress u.time → behind ≡ behind_piece r.nets u
+    → step ≡ ended_steps p e → there ≡ entered end_of p e → levels_after p.shown step ≡ there.shown
+    → IsJoined bytes recorded a.from w (wave_of fault taps q behind) step
+wave-joined bytes recorded w a fault taps p q r behind from u view seen is fits e step there at left same to leads =
+    let v : WaveReached = wave_of fault taps p r in
+    let b : ReadAhead = ahead_of from q u in
+    let is2 : IsReadAhead v.body.nets v.taps bytes recorded b =
+    subst (λ (x : WaveReached). IsReadAhead x.body.nets x.taps bytes recorded b) view (subst (λ (y : ReadAhead). IsReadAhead w.body.nets w.taps bytes recorded y) seen is) in
+    let fits2 : FitsAhead v b = subst (λ (x : WaveReached). FitsAhead x b) view (subst (λ (y : ReadAhead). FitsAhead w y) seen fits) in
+    subst (λ (x : WaveReached). IsJoined bytes recorded a.from x (wave_of fault taps q behind) step) (sym view)
+    (subst (λ (y : ReadAhead). IsJoined bytes recorded y.from v (wave_of fault taps q behind) step) (sym seen)
+    (joined-is bytes recorded v b is2 fits2 (wave_of fault taps q behind) step (ap (wave_of fault taps q) left)
+    (same ∙ ap (ended_steps p) at) (leads ∙ ap (λ (x : Progress). x.shown) (to ∙ ap (entered end_of p) at))))

@@ -10,8 +10,6 @@ pub mod Taps
 pub mod Capture
 pub mod Recording
 pub mod Made
-pub mod Notes
-pub mod Effects
 pub mod TextCapture
 pub mod TextPieces
 pub mod TextWaves

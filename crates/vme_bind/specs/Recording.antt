@@ -24,6 +24,10 @@ pub record Progress : Type 0 where
 abbrev pub all_of : Levels → Progress
 all_of v = record { shown = v; now = v }
 
+-- the end of an instant, whatever its time: its values are behind the last step
+abbrev pub end_of : Progress → ℕ → Progress
+end_of p time = all_of p.now
+
 -- a step, or none
 abbrev pub step_in : Option Step → List Step
 step_in None = []
@@ -71,3 +75,8 @@ abbrev pub step_between : ℕ → Levels → Levels → List Step
 step_between time shown now =
     if any (differs shown now) 0 line_count then record { time = time; changes = changes_between shown now }
     ∷ [] else []
+
+-- the step that ends the instant at hand, if one ends
+abbrev pub ended_steps : Progress → Option ℕ → List Step
+ended_steps p None = []
+ended_steps p (Some time) = step_between time p.shown p.now

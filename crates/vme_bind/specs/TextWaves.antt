@@ -1,17 +1,18 @@
--- The recording of a dump whose pieces are read apart from one another, and joined in order.
-use Rattle.std.specs.Prelude.{◌≡◌, ℕ, List, [], Option}
+-- The recording of a dump whose pieces are read ahead of what stands before them, and joined in order.
+use Rattle.std.specs.Prelude.{◌≡◌, ℕ, List, [], ◌++◌, Option}
 use Rattle.vme_trace.specs.Followed.{with_steps}
+use Rattle.vme_trace.specs.Levels.{Levels}
 use Rattle.vme_trace.specs.Trace.{Trace, levels_after}
-use Rattle.vcd_read.specs.Apart.{IsReadApart, ReadApart, apart_with, with_taken}
+use Rattle.vme_trace.specs.declared.step.Step.{Step}
+use Rattle.vcd_read.specs.Apart.{FitsBehind, IsReadApart, ReadApart, apart_with, ended_at, entered, with_taken}
 use Rattle.vcd_read.specs.Header.{Net}
 use Rattle.vcd_read.specs.Reached.{Reached}
 use Rattle.vcd_read.specs.Reading.{line_behind}
 use Rattle.vcd_read.specs.Tokens.{Token, tokens_from}
 use Rattle.vme_bind.specs.declared.fault.BindFault.{BindFault}
-use Rattle.vme_bind.specs.declared.note.Note.{Note}
 use Rattle.vme_bind.specs.declared.taps.Taps.{Taps}
-use Rattle.vme_bind.specs.Notes.{Notes, noted_change, noted_instant, steps_noted}
-use Rattle.vme_bind.specs.Recording.{Progress}
+use Rattle.vme_bind.specs.Made.{Made, made_change, made_instant}
+use Rattle.vme_bind.specs.Recording.{Progress, all_of, end_of}
 use Rattle.vme_bind.specs.TextPieces.{TextReached, outcome_ahead}
 
 -- how far the recording of a dump is made, but for what took it: the levels alone
@@ -28,30 +29,39 @@ with_recording t w =
       body = with_taken (record { taps = w.taps; progress = w.body.progress.taken; recorded = t }) w.body;
     }
 
--- a piece of which these notes are
-abbrev pub noted_apart : Taps → ReadApart (List Note) → ReadApart Notes
-noted_apart taps a = apart_with (record { taps = taps; items = a.progress.taken }) a
+-- a piece that was read ahead, as if these levels stood before it
+pub record ReadAhead : Type 0 where
+  pub from : Levels
+  pub apart : ReadApart Progress
 
--- these bytes were read apart, for these nets and their lines
-abbrev pub IsNoted : List Net → Taps → List ℕ → ReadApart (List Note) → Type 0
-IsNoted nets taps bytes a =
-    IsReadApart noted_change noted_instant nets bytes (record { taps = taps; items = [] }) (noted_apart taps a)
+-- what is made behind these levels, and this recording
+abbrev pub made_behind : Taps → Levels → Trace → Made
+made_behind taps v t = record { taps = taps; progress = all_of v; recorded = t }
 
--- what a part of a recording is made of: the levels before it, and notes
-pub record ToMake : Type 0 where
-  pub progress : Progress
-  pub notes : List Note
+-- what was made of a piece, whose steps this recording has
+abbrev pub made_ahead : Taps → Trace → ReadApart Progress → ReadApart Made
+made_ahead taps t a = apart_with (record { taps = taps; progress = a.progress.taken; recorded = t }) a
 
--- a piece is joined: how far the recording is made behind it, and the part that its steps are made of
-pub record IsJoined (bytes : List ℕ) (before after : WaveReached) (part : ToMake) : Type 0 where
+-- these bytes were read ahead, for these nets and their lines, and these are the steps of what was recorded
+pub record IsReadAhead (nets : List Net) (taps : Taps) (bytes : List ℕ) (recorded : Trace) (a : ReadAhead) : Type 0 where
+  pub read : IsReadApart made_change made_instant nets bytes
+      (made_behind taps a.from (record { opening = recorded.opening; steps = [] })) (made_ahead taps recorded a.apart)
+
+-- a piece that was read ahead fits behind what is read so far, which leaves the levels that it was read from
+pub record FitsAhead (w : WaveReached) (a : ReadAhead) : Type 0 where
+  pub place : FitsBehind w.body a.apart
+  pub levels : entered end_of w.body.progress.taken (ended_at w.body.progress a.apart.time) ≡ all_of a.from
+
+-- a piece is joined: how far the recording is made behind it. The step, if any, ends the instant before it.
+pub record IsJoined
+    (bytes : List ℕ) (recorded : Trace) (levels : Levels) (before after : WaveReached) (ended : List Step) : Type 0 where
   pub fault : after.fault ≡ before.fault
   pub taps : after.taps ≡ before.taps
   pub nets : after.body.nets ≡ before.body.nets
   pub line : after.body.line ≡ line_behind before.body.line bytes
-  -- the part begins with the levels before it, and leads to those behind it
-  pub from : part.progress ≡ before.body.progress.taken
-  pub left : levels_after part.progress.shown (steps_noted part.progress part.notes) ≡ after.body.progress.taken.shown
-  -- behind any recording, what comes of the piece and more is what comes of its steps and more
+  -- the step leads to the levels that the piece was read from
+  pub leads : levels_after before.body.progress.taken.shown ended ≡ levels
+  -- behind any recording, what comes of the piece and more is what comes of the steps and more
   pub rest : (t : Trace) (more : List Token)
       → outcome_ahead (with_recording t before) (tokens_from before.body.line bytes) more
-      ≡ outcome_ahead (with_recording (with_steps t (steps_noted part.progress part.notes)) after) [] more
+      ≡ outcome_ahead (with_recording (with_steps t (ended ++ recorded.steps)) after) [] more

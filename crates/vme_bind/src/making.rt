@@ -100,6 +100,87 @@ impl<F: Follower> Taker for Making<F> {
     }
 }
 
+/// The same of a piece that is read ahead, with the lines of the nets of the dump that it is of.
+#[derive(Drop)]
+pub(crate) struct MakingAhead<'t, F: Follower> {
+    taps: &'t Taps,
+    recorder: Recorder,
+    follower: F,
+}
+
+impl<'t, F: Follower> Model for MakingAhead<'t, F> {
+    ghost use Rattle.std.specs.Prelude.{ℕ};
+    ghost use Rattle.vme_bind.specs.Made.{Made};
+    ghost use Rattle.vme_bind.specs.Recording.{AreLines};
+    ghost use Rattle.vme_bind.specs.Taps.{taps_of};
+
+    ghost Value = { Made };
+
+    ghost view = { λ m. record { taps = m.taps.now; progress = m.recorder; recorded = F.recorded m.follower } };
+
+    ghost invariant = { λ m. (net : ℕ) → AreLines m.recorder.now.slots (taps_of m.taps.now net) };
+}
+
+impl<'t, F: Follower> MakingAhead<'t, F> {
+    /// What takes the recording that begins with these levels.
+    pub fn new(taps: &'t Taps, recorder: Recorder, follower: F) -> MakingAhead<'t, F>
+        requires { (net : ℕ) → AreLines recorder.now.slots (taps_of taps.now net) }
+        ensures { result ≡ record { taps = taps.now; progress = recorder; recorded = F.recorded follower } }
+    {
+        MakingAhead {
+            taps,
+            recorder,
+            follower,
+        }
+    }
+
+    /// The levels of the lines, and what took the recording.
+    pub fn into_parts(self) -> (Recorder, F)
+        ensures progress { self.entry.progress ≡ result.0 }
+        ensures recorded { self.entry.recorded ≡ F.recorded result.1 }
+    {
+        let MakingAhead {
+            taps: _,
+            recorder,
+            follower,
+        } = self;
+        (recorder, follower)
+    }
+}
+
+impl<F: Follower> Taker for MakingAhead<'_, F> {
+    ghost use Rattle.vme_bind.specs.Made.{Made};
+
+    ghost Taken = { Made };
+
+    ghost taken = { λ r. r };
+
+    ghost with_change = { made_change };
+
+    ghost with_instant = { made_instant };
+
+    #[inline(always)]
+    fn change(
+        &mut self,
+        alloc: Global,
+        net: u32,
+        size: u32,
+        digits: &[u8],
+    ) -> Result<(), AllocError> {
+        let _ = alloc;
+        let taps = self.taps;
+        self.recorder.set_by_digits(taps.of(net), size, digits)
+    }
+
+    #[inline(always)]
+    fn end_instant(&mut self, alloc: Global, time: u64) -> Result<(), AllocError> {
+        match self.recorder.end_instant(alloc, time)? {
+            Some(made) => self.follower.step(alloc, made),
+            None => Ok(()),
+        }
+    }
+}
+
 /// Takes changes of which nothing is kept.
 #[derive(Clone, Copy)]
 pub(crate) struct Passing;

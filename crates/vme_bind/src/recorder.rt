@@ -1,22 +1,19 @@
 //! The levels of the lines as a dump goes on, and the step at which they change.
 
 ghost use Rattle.std.specs.Prelude.{◌≡◌, ◌≢◌, ◌≤◌, ◌<◌, ℕ, false, IfOk, OnOk, map, length};
-ghost use Rattle.std.specs.Prelude.{◌++◌, All};
+ghost use Rattle.std.specs.Prelude.{◌↔◌, IsTrue};
+ghost use Rattle.vcd_read.specs.Apart.{entered};
 ghost use Rattle.std.specs.List.Sorted.{IsNonDecreasing};
 ghost use Rattle.vme_trace.specs.LineNumbers.{line_count};
 ghost use Rattle.vme_trace.specs.Levels.{set_level};
-ghost use Rattle.vme_trace.specs.Trace.{changed};
+ghost use Rattle.vme_trace.specs.Trace.{changed, levels_after};
 ghost use Rattle.vcd_read.specs.Numbers.{extended};
 ghost use Rattle.vme_bind.specs.Capture.{level_of, level_in};
 ghost use Rattle.vme_bind.specs.Taps.{taps_of};
-ghost use Rattle.vme_bind.specs.Effects.{IsEffect};
-ghost use Rattle.vme_bind.specs.Notes.{AreOfOne, IsOfLine, end_noted, step_noted, steps_noted, with_note, with_notes};
 ghost use Rattle.vme_bind.specs.Recording.{IsLine, all_of, differs, AreTouched, AreLines, tapped, valued};
 ghost use Rattle.vme_bind.specs.Recording.{changes_between};
-ghost use Rattle.vme_bind.specs.Recording.{step_between, step_in};
+ghost use Rattle.vme_bind.specs.Recording.{end_of, ended_steps, step_between, step_in};
 
-use crate::effect::Effect;
-use crate::note::Note;
 use crate::pushing::push;
 use crate::taps::{Tap, Taps};
 use smallvec::SmallVec;
@@ -291,143 +288,34 @@ impl Recorder {
         &self.shown
     }
 
-    /// The same levels again. The only error is want of memory.
-    pub fn copy(&self, alloc: Global) -> Result<Recorder, AllocError>
-        ensures same { IfOk result (λ recorder. recorder ≡ self.entry.now) }
-        ensures one { AreOfOne self.entry.now }
+    /// The levels after the values so far.
+    pub fn now(&self) -> &Lines
+        ensures now { result.now ≡ self.entry.now.now }
+        ensures all { length result.now.levels ≡ line_count }
     {
-        Ok(Recorder {
-            shown: self.shown,
-            now: self.now,
-            touched: Vec::from_slice(alloc, &self.touched)?,
-        })
+        &self.now
     }
 
-    /// Makes the step of a note, if it is the end of an instant at which some line changes.
-    #[inline(always)]
-    pub fn make(
-        &mut self,
-        alloc: Global,
-        note: Note,
-        steps: &mut Vec<Step>,
-    ) -> Result<(), AllocError>
-        requires { IsOfLine self.old.now.slots note }
-        ensures slots { self.new.now.slots ≡ self.old.now.slots }
-        ensures levels { OnOk result (self.new ≡ with_note self.old note) }
-        ensures steps { OnOk result (steps.new.items ≡ steps.old.items ++ step_noted self.old note) }
+    /// Ends the instant at hand, if one ends, which is a step if some line has another level than before.
+    pub fn end(&mut self, alloc: Global, ended: Option<u64>) -> Result<Option<Step>, AllocError>
+        ensures ended { OnOk result (self.new ≡ entered end_of self.old ended) }
+        ensures step { IfOk result (λ step. step_in step ≡ ended_steps self.old ended) }
+        ensures leads { IfOk result (λ step. levels_after self.old.shown (step_in step) ≡ self.new.shown) }
     {
-        match note {
-            Note::Changed(change) => self.set_line(change.line, change.level),
-            Note::Ended(time) => {
-                if let Some(step) = self.end_instant(alloc, time)? {
-                    push(steps, step)?;
-                }
-                Ok(())
-            }
+        let _ = &self.touched;
+        match ended {
+            Some(time) => self.end_instant(alloc, time),
+            None => Ok(None),
         }
     }
 
-    /// Makes the step of the end of an instant, if there is one, behind others.
-    pub fn make_end(
-        &mut self,
-        alloc: Global,
-        time: Option<u64>,
-        steps: &mut Vec<Step>,
-    ) -> Result<(), AllocError>
-        ensures slots { self.new.now.slots ≡ self.old.now.slots }
-        ensures levels { OnOk result (self.new ≡ with_notes self.old (end_noted time)) }
-        ensures steps { OnOk result (steps.new.items ≡ steps.old.items ++ steps_noted self.old (end_noted time)) }
+    /// Whether these levels are all that there is, once the instant at hand has ended, if one ends.
+    pub fn begins_with(&self, ended: Option<u64>, levels: &Lines) -> bool
+        ensures { IsTrue result ↔ (entered end_of self.entry.now ended ≡ all_of levels.now) }
     {
-        match time {
-            Some(time) => self.make(alloc, Note::Ended(time), steps),
-            None => Ok(()),
-        }
-    }
-
-    /// Makes the steps of some notes, behind others.
-    pub fn replay(
-        &mut self,
-        alloc: Global,
-        notes: &[Note],
-        steps: &mut Vec<Step>,
-    ) -> Result<(), AllocError>
-        requires { All (IsOfLine self.old.now.slots) notes.now }
-        ensures slots { self.new.now.slots ≡ self.old.now.slots }
-        ensures levels { OnOk result (self.new ≡ with_notes self.old notes.now) }
-        ensures steps { OnOk result (steps.new.items ≡ steps.old.items ++ steps_noted self.old notes.now) }
-    {
-        for note in notes {
-            self.make(alloc, *note, steps)?;
-        }
-        Ok(())
-    }
-
-    /// Goes on over some notes, whose steps aren't made. The levels up to an end of an instant are shown at once, if
-    /// what the notes before it do is known in short.
-    pub fn pass(&mut self, notes: &[Note], effect: &Effect) -> Result<(), AllocError>
-        requires lines { All (IsOfLine self.old.now.slots) notes.now }
-        requires effect { IsEffect notes.now effect.now }
-        ensures { OnOk result (self.new ≡ with_notes self.old notes.now) }
-    {
-        match effect.end_in(notes) {
-            Some(place) => {
-                self.end_behind(&effect.changes);
-                self.pass_each(&notes[place + 1..])
-            }
-            None => self.pass_each(notes),
-        }
-    }
-
-    /// Goes on over the end of an instant, if there is one.
-    pub fn pass_end(&mut self, time: Option<u64>)
-        ensures slots { self.new.now.slots ≡ self.old.now.slots }
-        ensures levels { self.new ≡ with_notes self.old (end_noted time) }
-    {
-        if time.is_some() {
-            self.end();
-        }
-    }
-
-    /// Goes on over the end of an instant.
-    fn end(&mut self)
-        ensures { self.new ≡ all_of self.old.now }
-    {
-        self.shown = self.now;
-        self.touched.clear();
-    }
-
-    /// Goes on over some changes, and the end of an instant behind them.
-    fn end_behind(&mut self, changes: &[Change])
-        ensures all { length self.old.now.levels ≡ line_count }
-        ensures shown { self.new ≡ all_of (changed self.old.now changes.now) }
-    {
-        self.now.apply(changes);
-        self.shown = self.now;
-        self.touched.clear();
-    }
-
-    /// Goes on over some notes, one after another.
-    fn pass_each(&mut self, notes: &[Note]) -> Result<(), AllocError>
-        requires { All (IsOfLine self.old.now.slots) notes.now }
-        ensures { OnOk result (self.new ≡ with_notes self.old notes.now) }
-    {
-        for note in notes {
-            self.pass_one(*note)?;
-        }
-        Ok(())
-    }
-
-    fn pass_one(&mut self, note: Note) -> Result<(), AllocError>
-        requires { IsOfLine self.old.now.slots note }
-        ensures slots { self.new.now.slots ≡ self.old.now.slots }
-        ensures levels { OnOk result (self.new ≡ with_note self.old note) }
-    {
-        match note {
-            Note::Changed(change) => self.set_line(change.line, change.level),
-            Note::Ended(_) => {
-                self.end();
-                Ok(())
-            }
+        match ended {
+            Some(_) => self.now == *levels,
+            None => self.now == *levels && self.shown == *levels,
         }
     }
 }

@@ -1,24 +1,15 @@
-//! The recording of a dump whose pieces are read apart from one another, and joined in order.
+//! The recording of a dump whose pieces are read ahead of what stands before them, and joined in order.
 
-ghost use Rattle.std.specs.Prelude.{◌≡◌, ◌≢◌, ◌<◌, ◌++◌, ◌↔◌, ℕ, List, [], All, IfOk};
+ghost use Rattle.std.specs.Prelude.{◌≡◌, ◌↔◌, ℕ, List, [], IfOk};
 ghost use Rattle.std.specs.Prelude.{IfSome, IsTrue, length};
-ghost use Rattle.std.specs.Option.{ForSome};
-ghost use Rattle.vme_trace.specs.Followed.{with_steps};
-ghost use Rattle.vme_trace.specs.Trace.{Trace, levels_after};
-ghost use Rattle.vcd_read.specs.Apart.{FitsBehind};
-ghost use Rattle.vcd_read.specs.Reading.{line_behind};
-ghost use Rattle.vcd_read.specs.Tokens.{Token, tokens_from};
-ghost use Rattle.vme_bind.specs.Notes.{IsOfLine, steps_noted};
-ghost use Rattle.vme_bind.specs.Recording.{AreLines};
-ghost use Rattle.vme_bind.specs.Taps.{taps_of};
-ghost use Rattle.vme_bind.specs.TextPieces.{outcome_ahead, text_reached};
-ghost use Rattle.vme_bind.specs.TextWaves.{IsJoined, IsNoted, with_recording};
+ghost use Rattle.vme_trace.specs.LineNumbers.{line_count};
+ghost use Rattle.vme_trace.specs.Trace.{Trace};
+ghost use Rattle.vme_bind.specs.Recording.{step_in};
+ghost use Rattle.vme_bind.specs.TextPieces.{text_reached};
+ghost use Rattle.vme_bind.specs.TextWaves.{FitsAhead, IsJoined, IsReadAhead, with_recording};
 
-use crate::effect::Effect;
 use crate::fault::BindFault;
-use crate::making::{Making, Passing};
-use crate::note::Note;
-use crate::noting::Noting;
+use crate::making::{Making, MakingAhead, Passing};
 use crate::recorder::Recorder;
 use crate::taps::Taps;
 use crate::text_state::TextPieces;
@@ -26,9 +17,6 @@ use std::alloc::{AllocError, Global};
 use std::marker::Model;
 use vcd_read::{Apart, Pieces};
 use vme_trace::{Follower, Lines, Step};
-
-/// Of how many notes steps are made at once.
-const AT_ONCE: usize = 16_384;
 
 /// The recording of a dump, as far as some pieces of its text go, without what takes it: only its levels are known.
 #[derive(Drop)]
@@ -58,49 +46,24 @@ impl Model for TextWave {
         × ((net : ℕ) → AreLines w.recorder.now.slots (taps_of w.taps net)) };
 }
 
-/// A piece of a dump that was read apart from what stands before it.
+/// A piece of a dump that was read ahead of what stands before it, as if that left these levels.
 #[derive(Drop)]
-pub struct Noted {
+pub struct Ahead {
+    from: Lines,
     apart: Apart<Passing>,
-    notes: Vec<Note>,
-    effect: Effect,
-}
-
-impl Model for Noted {
-    ghost use Rattle.std.specs.Prelude.{List};
-    ghost use Rattle.vcd_read.specs.Apart.{ReadApart, apart_with, read_apart};
-    ghost use Rattle.vme_bind.specs.Effects.{IsEffect};
-    ghost use Rattle.vme_bind.specs.declared.note.Note.{Note};
-
-    ghost Value = { ReadApart (List Note) };
-
-    ghost view = { λ n. apart_with n.notes.items (read_apart (λ p. tt {0}) n.apart) };
-
-    ghost invariant = { λ n. IsEffect n.notes.items n.effect };
-}
-
-/// What the steps of a piece are made of.
-#[derive(Drop)]
-pub struct Part {
     recorder: Recorder,
-    /// The time of the instant that the piece ends by the time that it begins with, if it ends one.
-    ended: Option<u64>,
-    notes: Vec<Note>,
-    /// Of how many notes the steps were made.
-    made: usize,
 }
 
-impl Model for Part {
-    ghost use Rattle.std.specs.Prelude.{All, ◌++◌, ◌≤◌, drop, length};
-    ghost use Rattle.vme_bind.specs.Notes.{AreOfOne, IsOfLine, end_noted};
-    ghost use Rattle.vme_bind.specs.TextWaves.{ToMake};
+impl Model for Ahead {
+    ghost use Rattle.std.specs.Prelude.{◌≡◌};
+    ghost use Rattle.vcd_read.specs.Apart.{apart_with, read_apart};
+    ghost use Rattle.vme_bind.specs.TextWaves.{ReadAhead};
 
-    ghost Value = { ToMake };
+    ghost Value = { ReadAhead };
 
-    ghost view = { λ p. record { progress = p.recorder; notes = end_noted p.ended ++ drop p.made p.notes.items } };
+    ghost view = { λ a. record { from = a.from; apart = apart_with a.recorder (read_apart (λ p. tt {0}) a.apart) } };
 
-    ghost invariant = { λ p. AreOfOne p.recorder × All (IsOfLine p.recorder.now.slots) p.notes.items
-        × (p.made ≤ length p.notes.items) };
+    ghost invariant = { λ a. a.recorder.now.slots ≡ a.from.slots };
 }
 
 impl<F: Follower> TextPieces<F> {
@@ -150,119 +113,98 @@ impl TextWave {
         self.recorder.shown()
     }
 
-    /// Reads a piece that begins on this line and ends behind a space, or where the text does, apart from what
-    /// stands before it. None is given of a piece that begins with no time, has a fault, ends within an item or tells
-    /// more than 524,288 things of the lines, nor where memory runs out.
-    pub fn read_apart(&self, alloc: Global, piece: &[u8], line: u64) -> Option<Noted>
-        ensures line { IfSome result (λ noted. noted.first_line ≡ line) }
-        ensures noted { IfSome result (IsNoted self.now.body.nets self.now.taps piece.now) }
+    /// The levels after the values so far.
+    pub fn now(&self) -> &Lines
+        ensures now { result.now ≡ self.now.body.progress.taken.now }
+        ensures all { length result.now.levels ≡ line_count }
     {
-        let noting = Noting::new(alloc, &self.taps);
-        let apart = self.pieces.apart(alloc, piece, line, noting)?;
-        let (apart, noting) = apart.with_taker(Passing);
-        let notes = noting.into_notes();
-        let Ok(effect) = Effect::of(alloc, &notes) else {
-            return None;
-        };
-        Some(Noted {
-            apart,
-            notes,
-            effect,
-        })
+        self.recorder.now()
     }
 
-    /// Whether a piece that was read apart may be joined: what is read so far ends on the line that it begins on,
-    /// between two items, outside of brackets and at no later time.
-    pub fn may_join(&self, noted: &Noted) -> bool
-        ensures { IsTrue result ↔ FitsBehind self.now.body noted.now }
-    {
-        self.pieces.may_join(&noted.apart)
-    }
-
-    /// Goes on behind a piece that was read apart, and tells what its steps are made of. The only error is want of
-    /// memory.
-    pub fn join(
-        self,
+    /// Reads a piece that begins on this line and ends behind a space, or where the text does, ahead of what stands
+    /// before it: as if that left these levels, of the same backplane. Its steps are given to the follower, to which
+    /// none was given before. None is given of a piece that begins with no time, has a fault or ends within an item,
+    /// nor where memory runs out.
+    pub fn read_ahead<F: Follower>(
+        &self,
         alloc: Global,
         piece: &[u8],
-        noted: Noted,
-    ) -> Result<(TextWave, Part), AllocError>
-        requires noted { IsNoted self.body.nets self.taps piece.now noted }
-        requires fits { FitsBehind self.body noted }
-        ensures { IfOk result (λ joined. IsJoined piece.now self joined.0 joined.1) }
+        line: u64,
+        from: &Lines,
+        follower: F,
+    ) -> Option<(Ahead, F)>
+        requires levels { length from.now.levels ≡ line_count }
+        requires none { (F.recorded follower).steps ≡ [] }
+        ensures line { IfSome result (λ made. made.0.apart.first_line ≡ line) }
+        ensures from { IfSome result (λ made. made.0.from ≡ from.now) }
+        ensures opening { IfSome result (λ made. (F.recorded made.1).opening ≡ (F.recorded follower).opening) }
+        ensures read { IfSome result (λ made.
+            IsReadAhead self.now.body.nets self.now.taps piece.now (F.recorded made.1) made.0) }
     {
-        let _ = piece.len();
+        if from.slots() != self.recorder.now().slots() {
+            return None;
+        }
+        let making = MakingAhead::new(&self.taps, Recorder::new(alloc, *from), follower);
+        let apart = self.pieces.apart(alloc, piece, line, making)?;
+        let (apart, making) = apart.with_taker(Passing);
+        let (recorder, follower) = making.into_parts();
+        let ahead = Ahead {
+            from: *from,
+            apart,
+            recorder,
+        };
+        Some((ahead, follower))
+    }
+
+    /// Whether a piece that was read ahead may be joined: what is read so far ends on the line that it begins on,
+    /// between two items, outside of brackets and at no later time, and leaves the levels that it was read from.
+    pub fn may_join(&self, ahead: &Ahead) -> bool
+        ensures { IsTrue result ↔ FitsAhead self.now ahead.now }
+    {
+        if !self.pieces.may_join(&ahead.apart) {
+            return false;
+        }
+        let ended = self.pieces.ended_by(&ahead.apart);
+        self.recorder.begins_with(ended, &ahead.from)
+    }
+
+    /// Goes on behind a piece that was read ahead. The step that ends the instant before it is given, if there is one:
+    /// those of the piece follow it. The only error is want of memory.
+    pub fn join(self, alloc: Global, ahead: Ahead) -> Result<(TextWave, Option<Step>), AllocError>
+        requires { FitsAhead self ahead }
+        ensures { IfOk result (λ joined. (bytes : List ℕ) (recorded : Trace)
+            → IsReadAhead self.body.nets self.taps bytes recorded ahead
+            → IsJoined bytes recorded ahead.from self joined.0 (step_in joined.1)) }
+    {
         let TextWave {
             pieces,
             fault,
             taps,
             mut recorder,
         } = self;
-        let Noted {
+        let Ahead {
+            from: _,
             apart,
-            notes,
-            effect,
-        } = noted;
-        let opening = recorder.copy(alloc)?;
-        let ended = pieces.ended_by(&apart);
-        recorder.pass_end(ended);
-        recorder.pass(&notes, &effect)?;
+            recorder: behind,
+        } = ahead;
+        let step = recorder.end(alloc, pieces.ended_by(&apart))?;
         let (pieces, _) = pieces.join(apart);
         let wave = TextWave {
             pieces,
             fault,
             taps,
-            recorder,
+            recorder: behind,
         };
-        let part = Part {
-            recorder: opening,
-            ended,
-            notes,
-            made: 0,
-        };
-        Ok((wave, part))
+        Ok((wave, step))
     }
 }
 
-impl Part {
-    /// The levels before its first step.
-    pub fn opening(&self) -> &Lines
-        ensures { result.now ≡ self.now.progress.shown }
+impl Ahead {
+    /// The levels behind it.
+    pub fn levels(&self) -> &Lines
+        ensures now { result.now ≡ self.now.apart.progress.taken.now }
+        ensures all { length result.now.levels ≡ line_count }
     {
-        self.recorder.shown()
-    }
-
-    /// Whether all its steps are made.
-    pub fn is_made(&self) -> bool
-        ensures { IsTrue result ↔ (self.now.notes ≡ []) }
-    {
-        self.ended.is_none() && self.made >= self.notes.len()
-    }
-
-    /// Makes its next steps, at most 16,385, in place of those that stand there, and gives what is left of it. The only
-    /// error is want of memory.
-    pub fn next_steps(self, alloc: Global, steps: &mut Vec<Step>) -> Result<Part, AllocError>
-        ensures steps { IfOk result (λ left. steps_noted self.progress self.notes
-            ≡ steps.new.items ++ steps_noted left.progress left.notes) }
-        ensures levels { IfOk result (λ left.
-            left.progress.shown ≡ levels_after self.progress.shown steps.new.items) }
-        ensures fewer { IfOk result (λ left. self.notes ≢ [] → length left.notes < length self.notes) }
-    {
-        let Part {
-            mut recorder,
-            ended,
-            notes,
-            made,
-        } = self;
-        steps.clear();
-        recorder.make_end(alloc, ended, steps)?;
-        let end = notes.len().min(made.saturating_add(AT_ONCE));
-        recorder.replay(alloc, &notes[made..end], steps)?;
-        Ok(Part {
-            recorder,
-            ended: None,
-            notes,
-            made: end,
-        })
+        self.recorder.now()
     }
 }

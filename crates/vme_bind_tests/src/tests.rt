@@ -1,11 +1,11 @@
-ghost use Rattle.std.specs.Prelude.{◌≡◌};
+ghost use Rattle.std.specs.Prelude.{◌≡◌, [], length};
+ghost use Rattle.vme_trace.specs.LineNumbers.{line_count};
 
 use std::alloc::{AllocError, Global};
-use std::mem;
 use std::process::Abort;
 use std::test::Fail;
 use vcd_read::{FaultKind, VcdFault, read_vcd};
-use vme_bind::{BindFault, BindKind, Binding, CaptureFault, Part, TextWave, read_binding};
+use vme_bind::{BindFault, BindKind, Binding, CaptureFault, TextWave, read_binding};
 use vme_trace::{Capture, Follower, Level, Line, Lines, Step};
 
 /// A binding of six lines to variables, and of the others to levels.
@@ -625,39 +625,42 @@ fn sent<T: Send>(value: T) -> T
     value
 }
 
-/// The steps of a part are given on, and how many times some of them were made at once is told, up to nine.
-fn made(alloc: Global, part: Part, kept: &mut Kept) -> Result<usize, AllocError> {
-    let mut part = part;
-    let mut steps = Vec::new(alloc);
-    for count in 0..9 {
-        if part.is_made() {
-            return Ok(count);
-        }
-        part = part.next_steps(alloc, &mut steps)?;
-        for step in mem::replace(&mut steps, Vec::new(alloc)) {
-            kept.step(alloc, step)?;
-        }
+/// Nothing is kept yet.
+fn none_kept(alloc: Global, opening: Lines) -> Kept
+    ensures { result.steps.items ≡ [] }
+{
+    Kept {
+        opening,
+        steps: Vec::new(alloc),
     }
-    Ok(9)
 }
 
-/// Reads a piece apart and joins it at once. None is given where it doesn't fit.
+/// Reads a piece ahead, from these levels, and joins it at once. None is given where it doesn't fit.
 fn joined(
     alloc: Global,
     wave: TextWave,
     piece: &[u8],
+    from: &Lines,
     kept: &mut Kept,
-) -> Result<Option<TextWave>, AllocError> {
+) -> Result<Option<TextWave>, AllocError>
+    requires { length from.now.levels ≡ line_count }
+{
     let line = wave.line();
-    let Some(noted) = shared(&wave).read_apart(alloc, piece, line) else {
+    let own = none_kept(alloc, *from);
+    let Some((ahead, own)) = shared(&wave).read_ahead(alloc, piece, line, from, own) else {
         return Ok(None);
     };
-    let noted = sent(noted);
-    if !wave.may_join(&noted) {
+    let ahead = sent(ahead);
+    if !wave.may_join(&ahead) {
         return Ok(None);
     }
-    let (wave, part) = wave.join(alloc, piece, noted)?;
-    made(alloc, sent(part), kept)?;
+    let (wave, step) = wave.join(alloc, ahead)?;
+    if let Some(step) = step {
+        kept.step(alloc, step)?;
+    }
+    for step in own.steps {
+        kept.step(alloc, step)?;
+    }
     Ok(Some(wave))
 }
 
@@ -673,7 +676,8 @@ fn in_a_wave(alloc: Global, front: &str, lines: &[&str]) -> Result<Option<Vec<u8
     };
     let (mut wave, mut kept) = text.into_wave();
     for line in lines {
-        match joined(alloc, wave, line.as_bytes(), &mut kept)? {
+        let from = *wave.now();
+        match joined(alloc, wave, line.as_bytes(), &from, &mut kept)? {
             Some(next) => wave = next,
             None => return Ok(None),
         }
@@ -692,42 +696,21 @@ fn a_wave_of_pieces_records_what_their_text_does(rt: HostRuntime) -> Result<(), 
     Ok(())
 }
 
-/// AS falls and rises by turns, 9,000 times in all: that is noted with 17,999 notes, and the end of the instant before.
+/// A piece that was read from the levels before the one that it follows isn't joined, unless that left them.
 #[test]
-fn the_steps_of_a_long_part_are_made_some_at_once(rt: HostRuntime) -> Result<(), Fail> {
+fn a_piece_that_was_read_from_other_levels_is_not_joined(rt: HostRuntime) -> Result<(), Fail> {
     let alloc = rt.alloc();
-    let front = bus_dump(alloc, AS, "#0 1p 1q 1r 1s 1t 1u\n")?;
-    let binding = read_binding(alloc, BUS_LINES.as_bytes())?;
-    let kept = Kept {
-        opening: Lines::new(1).ok_or("no slots")?,
-        steps: Vec::new(alloc),
-    };
-    let text = binding.begin_text(alloc, front.as_bytes(), kept)?;
-    let (wave, mut kept) = text.ok().ok_or("no definitions")?.into_wave();
-    let mut piece = Vec::new(alloc);
-    for time in 1..9001 {
-        let level = time % 2 == 0;
-        piece.extend_from_slice(format!(in alloc;
-            "#{time} {level}p\n",
-            level = u8::from(level)
-        )?.as_bytes())?;
-    }
-    let line = wave.line();
-    let noted = wave
-        .read_apart(alloc, piece.as_slice(), line)
-        .ok_or("not noted")?;
-    assert!(rt; wave.may_join(&noted));
-    let (wave, part) = wave.join(alloc, piece.as_slice(), noted)?;
-    assert_eq!(rt; made(alloc, part, &mut kept)?, 2);
-    assert_eq!(rt; kept.steps.len(), 9000);
-    let kept = wave.with_follower(kept).finish(alloc)?;
-    assert_eq!(rt; kept.steps.len(), 9001);
-    for (place, step) in kept.steps.iter().enumerate() {
-        assert_eq!(rt; step.time, place as u64);
-        assert_eq!(rt;
-            step.changes.as_slice().len(),
-            if place == 0 { 6 } else { 1 }
-        );
+    for (first, fits) in [("#10 0p\n", false), ("#10 1p\n", true)] {
+        let front = bus_dump(alloc, AS, "#0 1p 1q 1r 1s 1t 1u\n")?;
+        let binding = read_binding(alloc, BUS_LINES.as_bytes())?;
+        let kept = none_kept(alloc, Lines::new(1).ok_or("no slots")?);
+        let text = binding.begin_text(alloc, front.as_bytes(), kept)?;
+        let (wave, mut kept) = text.ok().ok_or("no definitions")?.into_wave();
+        let from = *wave.now();
+        let wave = joined(alloc, wave, first.as_bytes(), &from, &mut kept)?;
+        let wave = wave.ok_or("the first piece doesn't fit")?;
+        let next = joined(alloc, wave, b"#20 0q\n", &from, &mut kept)?;
+        assert_eq!(rt; next.is_some(), fits, "{first}");
     }
     Ok(())
 }
@@ -739,5 +722,7 @@ fn a_piece_that_does_not_fit_is_not_joined(rt: HostRuntime) -> Result<(), Fail> 
     let front = bus_dump(rt.alloc(), AS, "#20 1p 1q\n")?;
     assert!(rt; in_a_wave(rt.alloc(), front.as_str(), &["#10 0p\n"])?.is_none());
     assert!(rt; in_a_wave(rt.alloc(), front.as_str(), &["0p\n"])?.is_none());
+    // the instant at hand goes on, and some of its values came before
+    assert!(rt; in_a_wave(rt.alloc(), front.as_str(), &["#20 0p\n"])?.is_none());
     Ok(())
 }

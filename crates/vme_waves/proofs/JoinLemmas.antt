@@ -1,27 +1,25 @@
 -- Pieces that are joined in order, and what comes of the text.
-use Rattle.std.proofs.Common.{◌≡◌, ℕ, suc, ◌+◌, ◌<◌, add-one, drop, List, [], ◌∷◌, ◌++◌, length, get_or, Option, Some, None, refl, sym, ap, subst, ◌∙◌, arith, append_assoc, append-nil}
+use Rattle.std.proofs.Common.{◌≡◌, ℕ, suc, ◌+◌, ◌<◌, add-one, drop, List, [], ◌∷◌, ◌++◌, length, get_or, Option, None, refl, sym, ap, subst, ◌∙◌, arith, append_assoc}
+use Rattle.std.specs.Prelude.{IfSome}
 use Rattle.std.proofs.Math.Seq.{drop-cons}
 use Rattle.vme_trace.specs.Followed.{with_steps}
 use Rattle.vme_trace.specs.Levels.{Levels}
 use Rattle.vme_trace.specs.Trace.{Trace, levels_after}
 use Rattle.vme_trace.specs.declared.step.Step.{Step}
 use Rattle.vme_trace.proofs.CutBlocks.{levels_after-append}
-use Rattle.vcd_read.specs.Apart.{ReadApart}
 use Rattle.vcd_read.specs.Body.{body_from}
 use Rattle.vcd_read.specs.Header.{◌>>=◌, Net}
 use Rattle.vcd_read.specs.Reading.{line_behind}
 use Rattle.vcd_read.specs.Taking.{at_end, state_at, steps}
 use Rattle.vcd_read.specs.Tokens.{Token, tokens_from}
 use Rattle.vme_bind.specs.Made.{made_change, made_instant}
-use Rattle.vme_bind.specs.Recording.{Progress}
 use Rattle.vme_bind.specs.TextCapture.{FailsBy}
 use Rattle.vme_bind.specs.TextPieces.{TextReached, outcome, outcome_ahead}
-use Rattle.vme_bind.specs.TextWaves.{IsJoined, IsNoted, ToMake, WaveReached, with_recording}
+use Rattle.vme_bind.specs.TextWaves.{IsJoined, ReadAhead, WaveReached, with_recording}
 use Rattle.vme_bind.specs.declared.fault.CaptureFault.{CaptureFault}
-use Rattle.vme_bind.specs.declared.note.Note.{Note}
 use Rattle.vme_bind.specs.declared.taps.Taps.{Taps}
 use Rattle.vme_waves.specs.Cuts.{lines_behind, tokens_of}
-use Rattle.vme_waves.specs.Waves.{AreJoined, AreNoted, AreTaken, Follow, IsNotedAt, steps_of, trace_of}
+use Rattle.vme_waves.specs.Waves.{AreAhead, AreTaken, IsAheadAt, IsJudgedAhead}
 use Rattle.vme_waves.specs.declared.cut.Piece.{Piece}
 
 -- ---- what comes of tokens, and of others behind them
@@ -63,83 +61,47 @@ module _ (pieces : List Piece) (t u : TextReached) (piece : Piece) (left : List 
   taken-fails fault fails more =
       subst (FailsBy fault) (sym (next-first more)) (fails (tokens_of (line_behind u.body.line piece.bytes.now) left ++ more))
 
--- ---- pieces that were read apart
+-- ---- pieces that were read ahead
 
-pub are-noted : (w : WaveReached) (pieces : List Piece) (noted : List (Option (ReadApart (List Note))))
-    → ((place : ℕ) → place < length pieces → IsNotedAt w pieces place (get_or noted place None)) → AreNoted w.body.nets w.taps pieces noted
-are-noted w [] noted h = tt
-are-noted w (piece ∷ pieces) [] h = tt
-are-noted w (piece ∷ pieces) (one ∷ noted) h =
-    (h 0 (omega arith) piece refl, are-noted w pieces noted (λ place lt p at. h (suc place) (omega arith) p at))
+pub are-ahead : (w : WaveReached) (pieces : List Piece) (all : List (Option (ReadAhead × Trace)))
+    → ((place : ℕ) → place < length pieces → IsAheadAt w pieces place (get_or all place None)) → AreAhead w.body.nets w.taps pieces all
+are-ahead w [] all h = tt
+are-ahead w (piece ∷ pieces) [] h = tt
+are-ahead w (piece ∷ pieces) (one ∷ all) h =
+    (h 0 (omega arith) piece refl, are-ahead w pieces all (λ place lt p at. h (suc place) (omega arith) p at))
 
-module _ (nets : List Net) (taps : Taps) (pieces left : List Piece) (piece : Piece) (noted rest : List (Option (ReadApart (List Note)))) (one : ReadApart (List Note))
-    (are : AreNoted nets taps pieces noted) (at : pieces ≡ piece ∷ left) (of : noted ≡ Some one ∷ rest) where
-  both : AreNoted nets taps (piece ∷ left) (Some one ∷ rest)
-  both = subst (λ (ps : List Piece). AreNoted nets taps ps (Some one ∷ rest)) at (subst (AreNoted nets taps pieces) of are)
+module _ (nets : List Net) (taps : Taps) (pieces left : List Piece) (piece : Piece) (all rest : List (Option (ReadAhead × Trace))) (one : Option (ReadAhead × Trace))
+    (are : AreAhead nets taps pieces all) (at : pieces ≡ piece ∷ left) (of : all ≡ one ∷ rest) where
+  both : AreAhead nets taps (piece ∷ left) (one ∷ rest)
+  both = subst (λ (ps : List Piece). AreAhead nets taps ps (one ∷ rest)) at (subst (AreAhead nets taps pieces) of are)
 
-  pub one-noted : IsNoted nets taps piece.bytes.now one
-  one-noted = both.0
+  pub one-ahead : IfSome one (λ a. IsJudgedAhead nets taps piece.bytes.now a.1 a.0)
+  one-ahead = both.0
 
-  pub rest-noted : (w : WaveReached) → w.body.nets ≡ nets → w.taps ≡ taps → AreNoted w.body.nets w.taps left rest
-  rest-noted w same-nets same-taps =
-      subst (λ (n : List Net). AreNoted n w.taps left rest) (sym same-nets) (subst (λ (t : Taps). AreNoted nets t left rest) (sym same-taps) both.1)
+  pub rest-ahead : (w : WaveReached) → w.body.nets ≡ nets → w.taps ≡ taps → AreAhead w.body.nets w.taps left rest
+  rest-ahead w same-nets same-taps =
+      subst (λ (n : List Net). AreAhead n w.taps left rest) (sym same-nets) (subst (λ (t : Taps). AreAhead nets t left rest) (sym same-taps) both.1)
 
--- ---- parts, one behind the other
+-- ---- a piece that is joined, and whose steps are passed
 
-steps_of-push : (parts : List ToMake) (part : ToMake) → steps_of (parts ++ part ∷ []) ≡ steps_of parts ++ (trace_of part).steps
-steps_of-push [] part = append-nil (trace_of part).steps
-steps_of-push (first ∷ parts) part =
-    ap (λ (ss : List Step). (trace_of first).steps ++ ss) (steps_of-push parts part) ∙ sym (append_assoc (trace_of first).steps (steps_of parts) (trace_of part).steps)
+module _ (bytes : List ℕ) (recorded : Trace) (levels : Levels) (w v : WaveReached) (ended : List Step) (one : IsJoined bytes recorded levels w v ended)
+    (watch passed : Trace) (past : passed ≡ with_steps watch ended) where
+  -- its steps follow those that were passed
+  pub steps-follow : recorded.opening ≡ levels → levels_after watch.opening watch.steps ≡ w.body.progress.taken.shown
+      → recorded.opening ≡ levels_after passed.opening passed.steps
+  steps-follow opening leaves =
+      opening ∙ sym one.leads ∙ ap (λ (u : Levels). levels_after u ended) (sym leaves)
+      ∙ sym (levels_after-append watch.opening watch.steps ended)
+      ∙ ap (λ (t : Trace). levels_after t.opening t.steps) (sym past)
 
-follow-push : (levels : Levels) (parts : List ToMake) (part : ToMake) → Follow levels parts → (trace_of part).opening ≡ levels_after levels (steps_of parts) → Follow levels (parts ++ part ∷ [])
-follow-push levels [] part follow opens = (opens, tt)
-follow-push levels (first ∷ parts) part follow opens =
-    (follow.0, follow-push (levels_after levels (trace_of first).steps) parts part follow.1 (opens ∙ levels_after-append levels (trace_of first).steps (steps_of parts)))
-
--- ---- pieces that are joined
-
-with_no_steps : (t : Trace) → with_steps t [] ≡ t
-with_no_steps t = ap (λ (ss : List Step). record t { steps = ss }) (append-nil t.steps)
-
-pub joined-none : (pieces : List Piece) (w : WaveReached) → AreJoined pieces w w [] pieces
-joined-none pieces w = record {
-  lines = refl;
-  follow = tt;
-  shown = refl;
-  leads = λ t more. ap (λ (u : Trace). outcome_ahead (with_recording u w) (tokens_of w.body.line pieces) more) (sym (with_no_steps t));
-}
-
-module _ (pieces left : List Piece) (piece : Piece) (before between after : WaveReached) (parts : List ToMake) (part : ToMake)
-    (so : AreJoined pieces before between parts (piece ∷ left)) (one : IsJoined piece.bytes.now between after part) where
-  abbrev shown : Levels
-  shown = before.body.progress.taken.shown
-
-  opens : (trace_of part).opening ≡ levels_after shown (steps_of parts)
-  opens = ap (λ (p : Progress). p.shown) one.from ∙ sym so.shown
-
-  joined-shown : levels_after shown (steps_of (parts ++ part ∷ [])) ≡ after.body.progress.taken.shown
-  joined-shown =
-      ap (levels_after shown) (steps_of-push parts part) ∙ levels_after-append shown (steps_of parts) (trace_of part).steps
-      ∙ ap (λ (v : Levels). levels_after v (trace_of part).steps) (sym opens) ∙ one.left
-
-  joined-leads : (t : Trace) (more : List Token)
-      → outcome_ahead (with_recording t before) (tokens_of before.body.line pieces) more
-      ≡ outcome_ahead (with_recording (with_steps t (steps_of (parts ++ part ∷ []))) after) (tokens_of after.body.line left) more
-  joined-leads t more =
-      let u : Trace = with_steps t (steps_of parts) in
-      let own : List Token = tokens_from between.body.line piece.bytes.now in
-      let line : ℕ = line_behind between.body.line piece.bytes.now in
-      so.leads t more
-      ∙ ahead-append (with_recording u between) own (tokens_of line left) more
-      ∙ one.rest u (tokens_of line left ++ more)
-      ∙ ap (λ (l : ℕ). outcome_ahead (with_recording (with_steps u (trace_of part).steps) after) (tokens_of l left) more) (sym one.line)
-      ∙ ap (λ (ss : List Step). outcome_ahead (with_recording (record t { steps = ss }) after) (tokens_of after.body.line left) more)
-      (append_assoc t.steps (steps_of parts) (trace_of part).steps ∙ ap (λ (ss : List Step). t.steps ++ ss) (sym (steps_of-push parts part)))
-
-  pub joined-more : AreJoined pieces before after (parts ++ part ∷ []) left
-  joined-more = record {
-    lines = so.lines ∙ ap (λ (l : ℕ). lines_behind l left) (sym one.line);
-    follow = follow-push shown parts part so.follow opens;
-    shown = joined-shown;
-    leads = joined-leads;
-  }
+  pub joined-taken : (pieces left : List Piece) (piece : Piece) (t : TextReached) (end : Trace) → piece.bytes.now ≡ bytes
+      → AreTaken pieces t (with_recording watch w) (piece ∷ left) → end ≡ with_steps passed recorded.steps
+      → AreTaken pieces t (with_recording end v) left
+  joined-taken pieces left piece t end of so done =
+      let whole : end ≡ with_steps watch (ended ++ recorded.steps) =
+      done ∙ ap (λ (p : Trace). with_steps p recorded.steps) past
+      ∙ ap (λ (ss : List Step). record watch { steps = ss }) (append_assoc watch.steps ended recorded.steps) in
+      taken-more pieces t (with_recording watch w) piece left so (with_recording end v)
+      (one.line ∙ ap (line_behind w.body.line) (sym of))
+      (λ more. ap (λ (b : List ℕ). outcome_ahead (with_recording watch w) (tokens_from w.body.line b) more) of ∙ one.rest watch more
+      ∙ ap (λ (u : Trace). outcome_ahead (with_recording u v) [] more) (sym whole))

@@ -1,5 +1,4 @@
 pub mod CutLemmas
 pub mod JoinLemmas
-pub mod PassLemmas
 pub mod ReadLemmas
 pub mod RunLemmas

@@ -1,14 +1,12 @@
--- The steps of a part, some at once.
-use Rattle.std.proofs.Common.{◌≡◌, List, [], ◌∷◌, ◌++◌, refl, sym, ap, subst, ◌∙◌, append_assoc, append-nil}
+-- The steps of a piece, some at once.
+use Rattle.std.proofs.Common.{◌≡◌, ℕ, ◌+◌, ◌<◌, add-one, List, [], ◌∷◌, ◌++◌, length, get_or, drop, sym, ap, subst, ◌∙◌, append_assoc, append-nil}
+use Rattle.std.proofs.Math.Seq.{drop-cons}
 use Rattle.vme_trace.specs.Followed.{with_steps}
 use Rattle.vme_trace.specs.Levels.{Levels}
 use Rattle.vme_trace.specs.Trace.{Trace, levels_after}
 use Rattle.vme_trace.specs.declared.step.Step.{Step}
 use Rattle.vme_trace.proofs.CutBlocks.{levels_after-append}
-use Rattle.vme_bind.specs.Notes.{steps_noted}
-use Rattle.vme_bind.specs.TextWaves.{ToMake}
-use Rattle.vme_waves.specs.Runs.{Follow, steps_in}
-use Rattle.vme_waves.specs.Waves.{trace_of}
+use Rattle.vme_waves.specs.Runs.{AreUnderway, Follow, steps_in}
 
 steps_in-last : (runs : List Trace) (run : Trace) → steps_in (runs ++ run ∷ []) ≡ steps_in runs ++ run.steps
 steps_in-last [] run = append-nil run.steps
@@ -24,45 +22,27 @@ follow-last v (first ∷ runs) run h opens = (
   follow-last (levels_after v first.steps) runs run h.1 (opens ∙ levels_after-append v first.steps (steps_in runs)),
 )
 
--- the runs so far are the first steps of a part, of which this is left
-pub record AreOf (part left : ToMake) (runs : List Trace) : Type 0 where
-  pub follow : Follow part.progress.shown runs
-  pub shown : left.progress.shown ≡ levels_after part.progress.shown (steps_in runs)
-  pub steps : (trace_of part).steps ≡ steps_in runs ++ steps_noted left.progress left.notes
+-- the steps from a place on
+pub step-from : (steps : List Step) (i : ℕ) (step : Step) → i < length steps → step ≡ get_or steps i step → drop i steps ≡ step ∷ drop (i + 1) steps
+step-from steps i step lt is = rw add-one (drop-cons steps i step lt) ∙ ap (λ (s : Step). s ∷ drop (i + 1) steps) (sym is)
 
-pub of-none : (part : ToMake) → AreOf part part []
-of-none part = record { follow = tt; shown = refl; steps = refl }
+-- ---- one run more
 
-pub of-more : (part left next : ToMake) (runs more : List Trace) (run : Trace) (steps : List Step) → AreOf part left runs
-    → more ≡ runs ++ run ∷ [] → run ≡ record { opening = left.progress.shown; steps = steps }
-    → steps_noted left.progress left.notes ≡ steps ++ steps_noted next.progress next.notes
-    → next.progress.shown ≡ levels_after left.progress.shown steps
-    → AreOf part next more
-of-more part left next runs more run steps so is one made shows =
-    subst (AreOf part next) (sym is) (record {
-      follow = follow-last v runs run so.follow (ap (λ (t : Trace). t.opening) one ∙ so.shown);
-      shown =
-          shows ∙ ap (λ (w : Levels). levels_after w steps) so.shown ∙ sym (levels_after-append v (steps_in runs) steps)
-          ∙ ap (levels_after v) (sym all);
-      steps =
-          so.steps ∙ ap (λ (ss : List Step). steps_in runs ++ ss) made
-          ∙ sym (append_assoc (steps_in runs) steps rest) ∙ ap (λ (ss : List Step). ss ++ rest) (sym all);
-    })
-  where
-    v : Levels
-    v = part.progress.shown
+module _ (opening left : Levels) (runs more : List Trace) (run : Trace) (steps : List Step) (so : AreUnderway opening runs left)
+    (is : more ≡ runs ++ run ∷ []) (one : run ≡ record { opening = left; steps = steps }) where
+  pub run-more : Follow opening more
+  run-more = subst (Follow opening) (sym is) (follow-last opening runs run so.follow (ap (λ (t : Trace). t.opening) one ∙ so.left_is))
 
-    rest : List Step
-    rest = steps_noted next.progress next.notes
+  pub steps-more : steps_in more ≡ steps_in runs ++ steps
+  steps-more = ap steps_in is ∙ steps_in-last runs run ∙ ap (λ (t : Trace). steps_in runs ++ t.steps) one
 
-    all : steps_in (runs ++ run ∷ []) ≡ steps_in runs ++ steps
-    all = steps_in-last runs run ∙ ap (λ (t : Trace). steps_in runs ++ t.steps) one
-
-pub of-all : (part left : ToMake) (runs : List Trace) → AreOf part left runs → left.notes ≡ []
-    → record { opening = part.progress.shown; steps = steps_in runs } ≡ trace_of part
-of-all part left runs so none =
-    ap (λ (ss : List Step). record { opening = part.progress.shown; steps = ss })
-    (sym (so.steps ∙ ap (λ ns. steps_in runs ++ steps_noted left.progress ns) none ∙ append-nil (steps_in runs)))
+  pub underway-more : (behind : Levels) → behind ≡ levels_after left steps → AreUnderway opening more behind
+  underway-more behind at = record {
+    follow = run-more;
+    left_is =
+        at ∙ ap (λ (v : Levels). levels_after v steps) so.left_is ∙ sym (levels_after-append opening (steps_in runs) steps)
+        ∙ ap (levels_after opening) (sym steps-more);
+  }
 
 -- ---- passed in order
 

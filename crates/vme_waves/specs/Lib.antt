@@ -1,4 +1,3 @@
 pub mod Cuts
 pub mod Runs
 pub mod Waves
-pub mod Passed

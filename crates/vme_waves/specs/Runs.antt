@@ -13,3 +13,8 @@ steps_in (run ∷ runs) = run.steps ++ steps_in runs
 abbrev pub Follow : Levels → List Trace → Type 0
 Follow levels [] = Unit {0}
 Follow levels (run ∷ runs) = (run.opening ≡ levels) × Follow (levels_after levels run.steps) runs
+
+-- the runs so far, and the levels behind them
+pub record AreUnderway (opening : Levels) (runs : List Trace) (left : Levels) : Type 0 where
+  pub follow : Follow opening runs
+  pub left_is : left ≡ levels_after opening (steps_in runs)

@@ -1,49 +1,101 @@
-//! Pieces that were read apart, joined in order as far as they fit.
+//! Pieces that were read ahead, joined in order as far as they fit.
 
-ghost use Rattle.std.specs.Prelude.{◌≤◌, drop, length, IfOk};
-ghost use Rattle.vme_waves.specs.Waves.{AreJoined, AreNoted};
+ghost use Rattle.std.specs.Prelude.{◌≡◌, ◌≤◌, drop, length, IfOk, IfSome};
+ghost use Rattle.vme_trace.specs.Followed.{with_steps};
+ghost use Rattle.vme_bind.specs.Recording.{step_in};
+ghost use Rattle.vme_bind.specs.TextWaves.{FitsAhead, with_recording};
+ghost use Rattle.vme_waves.specs.Waves.{AreAhead, AreTaken, IsJudgedAhead};
 
+use crate::ahead::read_ahead;
 use crate::cut::Piece;
+use crate::runs::JudgedRuns;
 use std::alloc::{AllocError, Global};
-use vme_bind::{Noted, Part, TextWave};
+use vme_bind::{Ahead, TextWave};
+use vme_summary::advance::Advance;
+use vme_summary::watch::Watch;
+use vme_trace::{Follower, Step};
 
 /// What some pieces lead to, of which the first were joined.
 #[derive(Drop)]
-pub(crate) struct Joined {
+pub(crate) struct Joined<J: Advance> {
     /// How far the recording is made behind those.
     pub wave: TextWave,
-    /// Their parts, in order.
-    pub parts: Vec<Part>,
+    /// What judged it.
+    pub watch: Watch<J>,
     /// How many were joined.
     pub count: usize,
 }
 
-/// Joins the pieces in order, up to the first that was not read apart or doesn't fit. The only error is want of memory.
-pub(crate) fn join_in_order(
+/// The piece as it was read ahead, if it fits, or else as it is read ahead anew, from the levels that really stand
+/// before it, if it fits then.
+fn fitting<J: Advance>(
+    alloc: Global,
+    wave: &TextWave,
+    piece: Piece<'_>,
+    ahead: Option<(Ahead, JudgedRuns<J>)>,
+) -> Option<(Ahead, JudgedRuns<J>)>
+    requires { IfSome ahead (λ a. IsJudgedAhead wave.now.body.nets wave.now.taps piece.bytes.now a.1 a.0) }
+    ensures read { IfSome result (λ a.
+        IsJudgedAhead wave.now.body.nets wave.now.taps piece.entry.bytes.now a.1 a.0) }
+    ensures fits { IfSome result (λ a. FitsAhead wave.now a.0) }
+{
+    if let Some((ahead, runs)) = ahead {
+        if wave.may_join(&ahead) {
+            return Some((ahead, runs));
+        }
+    }
+    let (ahead, runs) = read_ahead(alloc, wave, piece, wave.now())?;
+    if wave.may_join(&ahead) {
+        Some((ahead, runs))
+    } else {
+        None
+    }
+}
+
+/// Goes past a step, if there is one. The only error is want of memory.
+fn past_step<J: Advance>(
+    alloc: Global,
+    watch: Watch<J>,
+    step: Option<Step>,
+) -> Result<Watch<J>, AllocError>
+    ensures { IfOk result (λ passed. passed ≡ with_steps watch (step_in step)) }
+{
+    let mut watch = watch;
+    if let Some(step) = step {
+        watch.step(alloc, step)?;
+    }
+    Ok(watch)
+}
+
+/// Joins the pieces in order, up to the first that doesn't fit, and judges their steps. The only error is want of
+/// memory.
+pub(crate) fn join_in_order<J: Advance>(
     alloc: Global,
     wave: TextWave,
+    watch: Watch<J>,
     pieces: &[Piece<'_>],
-    noted: Vec<Option<Noted>>,
-) -> Result<Joined, AllocError>
-    requires { AreNoted wave.body.nets wave.taps pieces.now noted.items }
+    all: Vec<Option<(Ahead, JudgedRuns<J>)>>,
+) -> Result<Joined<J>, AllocError>
+    requires { AreAhead wave.body.nets wave.taps pieces.now all.items }
     ensures count { IfOk result (λ joined. joined.count ≤ length pieces.now) }
-    ensures joined { IfOk result (λ joined.
-        AreJoined pieces.now wave joined.wave joined.parts.items (drop joined.count pieces.now)) }
+    ensures taken { IfOk result (λ joined. AreTaken pieces.now (with_recording watch wave)
+        (with_recording joined.watch joined.wave) (drop joined.count pieces.now)) }
 {
     let mut wave = wave;
-    let mut parts = Vec::new(alloc);
+    let mut watch = watch;
     let mut count = 0;
-    for noted in noted {
-        let Some(noted) = noted else {
-            break;
-        };
-        if count >= pieces.len() || !wave.may_join(&noted) {
+    for ahead in all {
+        if count >= pieces.len() || !watch.leaves(alloc, wave.shown())? {
             break;
         }
-        let (behind, part) = wave.join(alloc, pieces[count].bytes, noted)?;
+        let Some((ahead, runs)) = fitting(alloc, &wave, pieces[count], ahead) else {
+            break;
+        };
+        let (behind, step) = wave.join(alloc, ahead)?;
         wave = behind;
-        parts.push(part)?;
+        watch = past_step(alloc, watch, step)?;
+        watch = runs.pass(alloc, watch)?;
         count += 1;
     }
-    Ok(Joined { wave, parts, count })
+    Ok(Joined { wave, watch, count })
 }

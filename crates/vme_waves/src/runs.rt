@@ -1,17 +1,18 @@
 //! A part of a recording that is judged some steps at once.
 
-ghost use Rattle.std.specs.Prelude.{◌≡◌, IfOk, OnOk};
+ghost use Rattle.std.specs.Prelude.{◌≡◌, [], IfOk, OnOk};
 ghost use Rattle.vme_trace.specs.Followed.{with_steps};
 ghost use Rattle.vme_trace.specs.Trace.{levels_after};
-ghost use Rattle.vme_waves.specs.Waves.{trace_of};
 
 use std::alloc::{AllocError, Global};
 use std::marker::Model;
-use vme_bind::Part;
 use vme_summary::JudgedPart;
 use vme_summary::advance::Advance;
 use vme_summary::watch::Watch;
-use vme_trace::Lines;
+use vme_trace::{Follower, Lines, Step};
+
+/// How many steps are judged at once.
+const AT_ONCE: usize = 16_384;
 
 /// The steps of a part, which were judged some at once: of the steps themselves nothing is kept. Contracts see the
 /// lines before them and the steps, as the recording that they are.
@@ -32,23 +33,105 @@ impl<J: Advance> Model for JudgedRuns<J> {
     ghost invariant = { λ r. Follow r.opening r.runs.items };
 }
 
-impl<J: Advance> JudgedRuns<J> {
-    /// Makes the steps of a part and judges them, some at once. The only error is want of memory.
-    pub fn of(alloc: Global, part: Part) -> Result<JudgedRuns<J>, AllocError>
-        ensures { IfOk result (λ judged. judged ≡ trace_of part) }
+/// The same as the steps come.
+#[derive(Drop)]
+pub(crate) struct JudgingRuns<J: Advance> {
+    opening: Lines,
+    runs: Vec<JudgedPart<J>>,
+    /// The levels behind the runs.
+    left: Lines,
+    /// The steps that came since.
+    waiting: Vec<Step>,
+}
+
+impl<J: Advance> Model for JudgingRuns<J> {
+    ghost use Rattle.std.specs.Prelude.{◌++◌};
+    ghost use Rattle.vme_trace.specs.Trace.{Trace};
+    ghost use Rattle.vme_waves.specs.Runs.{AreUnderway, steps_in};
+
+    ghost Value = { Trace };
+
+    ghost view = { λ r. record { opening = r.opening; steps = steps_in r.runs.items ++ r.waiting.items } };
+
+    ghost invariant = { λ r. AreUnderway r.opening r.runs.items r.left };
+}
+
+/// The levels behind some steps.
+fn levels_behind(levels: &Lines, steps: &[Step]) -> Lines
+    ensures { result ≡ levels_after levels.now steps.now }
+{
+    let mut left = *levels;
+    for step in steps {
+        left.apply(step.changes.as_slice());
+    }
+    left
+}
+
+impl<J: Advance> JudgingRuns<J> {
+    /// Before the first step, which follows these lines.
+    pub fn new(alloc: Global, opening: &Lines) -> JudgingRuns<J>
+        ensures { result ≡ record { opening = opening.now; steps = [] } }
     {
-        let opening = *part.opening();
-        let mut part = part;
-        let mut steps = Vec::new(alloc);
-        let mut runs = Vec::new(alloc);
-        while !part.is_made() {
-            let before = *part.opening();
-            part = part.next_steps(alloc, &mut steps)?;
-            runs.push(JudgedPart::of(alloc, &before, &steps)?)?;
+        JudgingRuns {
+            opening: *opening,
+            runs: Vec::new(alloc),
+            left: *opening,
+            waiting: Vec::new(alloc),
         }
-        Ok(JudgedRuns { opening, runs })
     }
 
+    /// Judges the steps that wait. Few steps come to this. The only error is want of memory.
+    #[cold]
+    #[inline(never)]
+    fn judge(&mut self, alloc: Global) -> Result<(), AllocError>
+        ensures { OnOk result (self.new ≡ self.old) }
+    {
+        let part = JudgedPart::of(alloc, &self.left, &self.waiting)?;
+        self.runs.push(part)?;
+        self.left = levels_behind(&self.left, &self.waiting);
+        self.waiting.clear();
+        Ok(())
+    }
+
+    /// All steps came. The only error is want of memory.
+    pub fn finish(self, alloc: Global) -> Result<JudgedRuns<J>, AllocError>
+        ensures { IfOk result (λ judged. judged ≡ self) }
+    {
+        let JudgingRuns {
+            opening,
+            mut runs,
+            left,
+            waiting,
+        } = self;
+        runs.push(JudgedPart::of(alloc, &left, &waiting)?)?;
+        Ok(JudgedRuns { opening, runs })
+    }
+}
+
+impl<J: Advance> Follower for JudgingRuns<J> {
+    ghost recorded = { λ runs. runs };
+
+    fn open(&mut self, opening: &Lines) {
+        self.opening = *opening;
+        self.runs.clear();
+        self.left = *opening;
+        self.waiting.clear();
+    }
+
+    #[inline(always)]
+    fn step(&mut self, alloc: Global, step: Step) -> Result<(), AllocError> {
+        if self.waiting.len() == self.waiting.capacity() {
+            self.waiting.reserve(1)?;
+        }
+        self.waiting.push_reserved(step);
+        if self.waiting.len() >= AT_ONCE {
+            self.judge(alloc)?;
+        }
+        Ok(())
+    }
+}
+
+impl<J: Advance> JudgedRuns<J> {
     /// Passes the steps behind those that came. The only error is want of memory.
     pub fn pass(self, alloc: Global, watch: Watch<J>) -> Result<Watch<J>, AllocError>
         requires { self.opening ≡ levels_after watch.opening watch.steps }

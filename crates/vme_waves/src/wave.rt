@@ -1,7 +1,7 @@
 //! A piece of a dump that is read and judged by several workers.
 
 ghost use Rattle.std.specs.Prelude.{◌≡◌, ◌≤◌, [], Result, drop, length, IfOk};
-ghost use Rattle.vme_trace.specs.Trace.{Trace, levels_after};
+ghost use Rattle.vme_trace.specs.Trace.{Trace};
 ghost use Rattle.vcd_read.specs.Reading.{line_behind};
 ghost use Rattle.vcd_read.specs.Tokens.{tokens_from};
 ghost use Rattle.vme_bind.specs.TextCapture.{FailsBy};
@@ -10,11 +10,10 @@ ghost use Rattle.vme_bind.specs.TextWaves.{with_recording};
 ghost use Rattle.vme_bind.specs.declared.fault.CaptureFault.{CaptureFault as Why};
 ghost use Rattle.vme_waves.specs.Waves.{AreTaken};
 
-use crate::apart::read_each_apart;
+use crate::ahead::read_each_ahead;
 use crate::cut::{Piece, cut, cut_at_last_time, cut_at_time};
 use crate::in_order::read_in_order;
 use crate::joining::{Joined, join_in_order};
-use crate::judging::{judge_each_apart, pass_in_order};
 use std::alloc::{AllocError, Global};
 use std::thread::Threads;
 use vcd_read::{FaultKind, VcdFault};
@@ -31,30 +30,27 @@ fn want_of_memory() -> CaptureFault
     })
 }
 
-/// Reads the pieces apart from one another, joins them in order as far as they fit, and passes their steps, which were
-/// judged apart from one another. How many pieces were taken so is told too. The only error is want of memory.
-fn take_apart<R: Threads + Sync, J: Advance + Send>(
+/// Reads and judges the pieces ahead of one another, and joins them in order as far as they fit. How many pieces were
+/// taken so is told too. The only error is want of memory.
+fn take_ahead<R: Threads + Sync, J: Advance + Send>(
     rt: &R,
     alloc: Global,
     wave: TextWave,
     watch: Watch<J>,
     pieces: &[Piece<'_>],
 ) -> Result<(TextPieces<Watch<J>>, usize), AllocError>
-    requires { levels_after watch.opening watch.steps ≡ wave.body.progress.taken.shown }
     ensures count { IfOk result (λ taken. taken.1 ≤ length pieces.now) }
     ensures taken { IfOk result (λ taken.
         AreTaken pieces.now (with_recording watch wave) (text_reached taken.0) (drop taken.1 pieces.now)) }
 {
-    let noted = read_each_apart(rt, alloc, &wave, pieces)?;
-    let Joined { wave, parts, count } = join_in_order(alloc, wave, pieces, noted)?;
-    let judged = judge_each_apart(rt, alloc, parts)?;
-    let watch = pass_in_order(alloc, watch, judged)?;
+    let all = read_each_ahead(rt, alloc, &wave, pieces)?;
+    let Joined { wave, watch, count } = join_in_order(alloc, wave, watch, pieces, all)?;
     Ok((wave.with_follower(watch), count))
 }
 
 /// Takes the next piece of the text, which ends behind a space, or where the text does. It is read and judged by so
 /// many threads at most. What doesn't fit behind what stands before it is read in order, and so is what stands behind
-/// that; all of it is where it isn't known that the steps so far leave the levels that are shown.
+/// that.
 fn read_body<R: Threads + Sync, J: Advance + Send>(
     rt: &R,
     alloc: Global,
@@ -68,17 +64,10 @@ fn read_body<R: Threads + Sync, J: Advance + Send>(
         (outcome_ahead (text_reached text) (tokens_from (text_reached text).body.line piece.now)) }
 {
     let (wave, watch) = text.into_wave();
-    let mut watch = watch;
-    let Ok(leaves) = watch.leaves(alloc, wave.shown()) else {
-        return Err(want_of_memory());
-    };
-    if !leaves {
-        return wave.with_follower(watch).read(alloc, piece);
-    }
     let Ok(pieces) = cut(alloc, piece, wave.line(), workers) else {
         return Err(want_of_memory());
     };
-    match take_apart(rt, alloc, wave, watch, &pieces) {
+    match take_ahead(rt, alloc, wave, watch, &pieces) {
         Ok((text, count)) => read_in_order(alloc, text, &pieces[count..]),
         Err(_) => Err(want_of_memory()),
     }

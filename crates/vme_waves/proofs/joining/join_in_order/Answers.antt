@@ -1,36 +1,75 @@
-use Rattle.std.proofs.Common.{◌≡◌, ◌<◌, ◌+◌, ◌∷◌, ◌∙◌, List, [], Option, Some, ap, drop, get_or, length, arith, subst, sym}
+use Rattle.std.proofs.Common.{◌≡◌, ◌+◌, ◌∷◌, ◌∙◌, [], ap, drop, get_or, arith, refl, subst, sym}
 use Rattle.std.specs.Vec.Iter.{into_iter_items}
-use Rattle.vcd_read.specs.Apart.{ReadApart}
-use Rattle.vme_bind.specs.TextWaves.{ToMake, WaveReached}
-use Rattle.vme_bind.specs.declared.note.Note.{Note}
-use Rattle.vme_waves.specs.Waves.{AreJoined}
+use Rattle.vme_trace.specs.Trace.{Trace, levels_after}
+use Rattle.vme_bind.specs.Recording.{step_in}
+use Rattle.vme_bind.specs.TextWaves.{WaveReached, with_recording}
+use Rattle.vme_waves.specs.Waves.{AreAhead, AreTaken}
 use Rattle.vme_waves.specs.declared.cut.Piece.{Piece}
-use Rattle.vme_waves.proofs.JoinLemmas.{joined-more, left-more, rest-noted}
+use Rattle.vme_waves.proofs.JoinLemmas.{joined-taken, left-more, one-ahead, rest-ahead, steps-follow, taken-none}
 use Rattle.vme_waves.proofs.joining.join_in_order.Goals as goal
 
-pub loop-noted-preserved : goal.loop-noted-preserved
-loop-noted-preserved c =
+abbrev no_piece : Piece
+no_piece = record { bytes = record { ref_ptr = (0, 0); now = [] }; line = 0 }
+
+pub loop-ahead-init : goal.loop-ahead-init
+loop-ahead-init g c = record {
+  next = tt;
+  finite = tt;
+  count = omega arith;
+  ahead =
+      subst (AreAhead c.args.wave.body.nets c.args.wave.taps c.args.pieces.now) (sym c.into_iter-ahead-iterator.ensures.into_iter_gives.0)
+      c.requires;
+  taken = taken-none c.args.pieces.now (with_recording c.args.watch c.args.wave);
+}
+
+pub fitting-requires : goal.fitting-requires
+fitting-requires g c =
     let pieces = c.args.pieces.now in
-    let count = c.loop-noted.count in
-    let w : WaveReached = c.loop-noted.wave in
+    let count = c.loop-ahead.count in
+    let w : WaveReached = c.loop-ahead.wave in
+    let at : drop count pieces ≡ get_or pieces count no_piece ∷ drop (count + 1) pieces = left-more pieces count no_piece (omega arith) in
+    one-ahead w.body.nets w.taps (drop count pieces) (drop (count + 1) pieces) (get_or pieces count no_piece) (into_iter_items c.loop-ahead.ahead-iterator)
+    (into_iter_items c.next.new.self) c.in-Some.ahead c.loop-ahead.invariant.ahead at c.in-Some.ensures.steps.0
+
+pub pass-requires : goal.pass-requires
+pass-requires g c =
+    let w : WaveReached = c.loop-ahead.wave in
     let v : WaveReached = c.in_ok-behind.behind in
-    let more : List (Option (ReadApart (List Note))) = into_iter_items c.next.new.self in
-    let none : Piece = record { bytes = record { ref_ptr = (0, 0); now = [] }; line = 0 } in
-    let below : count < length pieces = omega arith in
+    let runs : Trace = c.in-Some-fitting.runs in
+    let read = c.in-Some-fitting.ensures.read in
+    let watch : Trace = c.leaves.new.self in
+    let same : watch ≡ c.loop-ahead.watch = c.in_ok-leaves.ensures.same in
+    let bytes = (get_or c.args.pieces.now c.loop-ahead.count no_piece).bytes.now in
+    let leaves : levels_after watch.opening watch.steps ≡ w.body.progress.taken.shown =
+    ap (λ (t : Trace). levels_after t.opening t.steps) same ∙ c.in_ok-leaves.ensures.leaves c.if-not-branch.false ∙ c.shown.ensures in
+    steps-follow bytes runs c.in-Some-fitting.ahead.from w v (step_in c.in_ok-behind.step) (c.in_ok-behind.ensures bytes runs read.read)
+    watch c.in_ok-watch.watch c.in_ok-watch.ensures read.opening leaves
+
+pub loop-ahead-preserved : goal.loop-ahead-preserved
+loop-ahead-preserved g c =
+    let pieces = c.args.pieces.now in
+    let count = c.loop-ahead.count in
+    let w : WaveReached = c.loop-ahead.wave in
+    let v : WaveReached = c.in_ok-behind.behind in
+    let runs : Trace = c.in-Some-fitting.runs in
+    let read = c.in-Some-fitting.ensures.read in
+    let watch : Trace = c.leaves.new.self in
+    let same : watch ≡ c.loop-ahead.watch = c.in_ok-leaves.ensures.same in
+    let piece = get_or pieces count no_piece in
     let left = drop (count + 1) pieces in
-    let at : drop count pieces ≡ get_or pieces count none ∷ left = left-more pieces count none below in
-    let one = c.in_ok-behind.ensures in
-    let read : into_iter_items c.loop-noted.noted-iterator ≡ Some c.in-Some-noted.noted ∷ more =
-    c.in-Some.ensures.steps.0 ∙ ap (λ (o : Option (ReadApart (List Note))). o ∷ more) c.in-Some-noted.is in
-    let so = subst (AreJoined pieces c.args.wave w c.loop-noted.parts.items) at c.loop-noted.invariant.joined in
+    let at : drop count pieces ≡ piece ∷ left = left-more pieces count no_piece (omega arith) in
+    let one = c.in_ok-behind.ensures piece.bytes.now runs read.read in
+    let first = with_recording c.args.watch c.args.wave in
+    let so : AreTaken pieces first (with_recording watch w) (piece ∷ left) =
+    subst (λ (t : Trace). AreTaken pieces first (with_recording t w) (piece ∷ left)) (sym same) (subst (AreTaken pieces first (with_recording c.loop-ahead.watch w)) at c.loop-ahead.invariant.taken) in
     record {
       next = tt;
       finite = tt;
       count = omega arith;
-      noted =
-          rest-noted w.body.nets w.taps (drop count pieces) left (get_or pieces count none) (into_iter_items c.loop-noted.noted-iterator) more c.in-Some-noted.noted
-          c.loop-noted.invariant.noted at read v one.nets one.taps;
-      joined =
-          subst (λ (ps : List ToMake). AreJoined pieces c.args.wave v ps left) (sym c.in_ok-push.ensures.items)
-          (joined-more pieces left (get_or pieces count none) c.args.wave w v c.loop-noted.parts.items c.in_ok-behind.part so one);
+      ahead =
+          rest-ahead w.body.nets w.taps (drop count pieces) left piece (into_iter_items c.loop-ahead.ahead-iterator) (into_iter_items c.next.new.self) c.in-Some.ahead
+          c.loop-ahead.invariant.ahead at c.in-Some.ensures.steps.0 v one.nets one.taps;
+      taken =
+          joined-taken piece.bytes.now runs c.in-Some-fitting.ahead.from w v (step_in c.in_ok-behind.step) one watch c.in_ok-watch.watch c.in_ok-watch.ensures
+          pieces left piece first c.in_ok-watch-2.watch refl so c.in_ok-watch-2.ensures;
     }

@@ -1,13 +1,14 @@
 use Rattle.std.proofs.Common.{◌≤◌, drop, length}
 use Rattle.std.specs.Vec.Iter.{into_iter_items}
-use Rattle.vme_waves.specs.Waves.{AreJoined, AreNoted}
+use Rattle.vme_bind.specs.TextWaves.{with_recording}
+use Rattle.vme_waves.specs.Waves.{AreAhead, AreTaken}
 use Rattle.vme_waves.proofs.joining.join_in_order.Given as goal
 
-abbrev pub invariant-loop-noted : goal.invariant-loop-noted
-invariant-loop-noted l = record {
-  next : (goal.iterator-loop-noted).can_next l.noted-iterator;
-  finite : (goal.iterator-loop-noted).is_finite l.noted-iterator;
+abbrev pub invariant-loop-ahead : goal.invariant-loop-ahead
+invariant-loop-ahead g l = record {
+  next : (goal.iterator-loop-ahead g).can_next l.ahead-iterator;
+  finite : (goal.iterator-loop-ahead g).is_finite l.ahead-iterator;
   count : l.count ≤ length l.pieces;
-  noted : AreNoted l.wave.body.nets l.wave.taps (drop l.count l.pieces) (into_iter_items l.noted-iterator);
-  joined : AreJoined l.pieces l.fn.wave l.wave l.parts.items (drop l.count l.pieces);
+  ahead : AreAhead l.wave.body.nets l.wave.taps (drop l.count l.pieces) (into_iter_items l.ahead-iterator);
+  taken : AreTaken l.pieces (with_recording l.fn.watch l.fn.wave) (with_recording l.watch l.wave) (drop l.count l.pieces);
 }

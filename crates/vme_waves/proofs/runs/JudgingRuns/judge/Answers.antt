@@ -1,0 +1,24 @@
+use Rattle.std.proofs.Common.{◌++◌, ◌∙◌, List, ap, append-nil, sym}
+use Rattle.vme_trace.specs.Trace.{levels_after}
+use Rattle.vme_trace.specs.declared.step.Step.{Step}
+use Rattle.vme_waves.specs.Runs.{steps_in}
+use Rattle.vme_waves.proofs.RunLemmas.{steps-more, underway-more}
+use Rattle.vme_waves.proofs.runs.JudgingRuns.judge.Goals as goal
+
+pub invariant_of-self-2 : goal.invariant_of-self-2
+invariant_of-self-2 g c =
+    let i = c.self.inside in
+    let steps : List Step = c.deref.result.now in
+    underway-more i.opening i.left i.runs.items c.push.new.self.items c.in_ok-part.part steps c.self.invariant c.in_ok-push.ensures.items c.in_ok-part.ensures
+    c.levels_behind-self-inside.result
+    (c.levels_behind-self-inside.ensures ∙ ap (levels_after i.left) (c.deref-2.ensures.value ∙ sym c.deref.ensures.value))
+
+pub returns : goal.returns
+returns g c =
+    let i = c.self.inside in
+    let steps : List Step = c.deref.result.now in
+    ap (λ (ss : List Step). record { opening = i.opening; steps = ss })
+    (ap (λ (ws : List Step). steps_in c.push.new.self.items ++ ws) c.clear.ensures.items ∙ append-nil (steps_in c.push.new.self.items)
+    ∙ steps-more i.opening i.left i.runs.items c.push.new.self.items c.in_ok-part.part steps c.self.invariant c.in_ok-push.ensures.items c.in_ok-part.ensures
+    ∙ ap (λ (ws : List Step). steps_in i.runs.items ++ ws) c.deref.ensures.value)
+    ∙ c.self.view_is
