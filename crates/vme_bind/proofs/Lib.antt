@@ -8,9 +8,9 @@ pub mod CaptureLemmas
 pub mod StepsLemmas
 pub mod TapsLemmas
 pub mod EndLemmas
-pub mod SameLines
 pub mod OpeningLemmas
 pub mod MakingLemmas
 pub mod TextCaptureLemmas
 pub mod TextPieceLemmas
+pub mod ToldLemmas
 pub mod WaveLemmas

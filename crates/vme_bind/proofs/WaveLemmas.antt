@@ -21,7 +21,7 @@ use Rattle.vcd_read.proofs.ApartLemmas.{joined-leads, kept-apart}
 use Rattle.vme_bind.specs.Made.{Made, made_change, made_instant}
 use Rattle.vme_bind.specs.Recording.{AreTouched, Progress, all_of, changes_between, differs, end_of, ended_steps, step_between}
 use Rattle.vme_bind.specs.TextPieces.{outcome, outcome_ahead}
-use Rattle.vme_bind.specs.TextWaves.{FitsAhead, IsJoined, IsReadAhead, ReadAhead, WaveReached, made_ahead, made_behind, with_recording}
+use Rattle.vme_bind.specs.TextWaves.{FitsAhead, IsJoined, IsReadAhead, ReadAhead, TellsOf, WaveReached, made_ahead, made_behind, with_recording}
 use Rattle.vme_bind.specs.declared.fault.BindFault.{BindFault}
 use Rattle.vme_bind.specs.declared.taps.Taps.{Taps}
 use Rattle.vme_bind.proofs.CaptureLemmas.{changed-those, is_below, length-changed}
@@ -131,8 +131,8 @@ module _ (bytes : List ℕ) (recorded : Trace) (w : WaveReached) (a : ReadAhead)
 abbrev pub wave_of : Option BindFault → Taps → Progress → Reached (Unit {0}) → WaveReached
 wave_of fault taps p r = record { fault = fault; taps = taps; body = with_taken p r }
 
-abbrev pub ahead_of : Levels → Progress → ReadApart (Unit {0}) → ReadAhead
-ahead_of from p a = record { from = from; apart = apart_with p a }
+abbrev pub ahead_of : Levels → Progress → ReadApart (Unit {0}) → List Bool → ReadAhead
+ahead_of from p a told = record { from = from; apart = apart_with p a; told = told }
 
 -- ---- what is kept as a piece is read
 
@@ -151,8 +151,8 @@ module _ (nets : List Net) (bytes : List ℕ) (m : Made) (a : ReadApart Made) (i
 pub ahead-read : (nets : List Net) (taps : Taps) (bytes : List ℕ) (from : Levels) (first : Trace) (m : Made) (a : ReadApart Made)
     → m ≡ made_behind taps from first → first.steps ≡ [] → IsReadApart made_change made_instant nets bytes m a
     → (u : ReadApart (Unit {0})) (q : Progress) (t : Trace) → u ≡ apart_with (tt {0}) a → q ≡ a.progress.taken.progress → t ≡ a.progress.taken.recorded
-    → IsReadAhead nets taps bytes t (ahead_of from q u)
-ahead-read nets taps bytes from first m a begun none is u q t ue qe te =
+    → (told : List Bool) → TellsOf nets taps bytes (ahead_of from q u told) → IsReadAhead nets taps bytes t (ahead_of from q u told)
+ahead-read nets taps bytes from first m a begun none is u q t ue qe te told tells =
     let opening : first.opening ≡ t.opening = ap (λ (n : Made). n.recorded.opening) (sym begun) ∙ sym (opening-kept nets bytes m a is) ∙ ap (λ (r : Trace). r.opening) (sym te) in
     let before : m ≡ made_behind taps from (record { opening = t.opening; steps = [] }) =
     begun ∙ ap (λ (ss : List Step). made_behind taps from (record { opening = first.opening; steps = ss })) none
@@ -161,21 +161,23 @@ ahead-read nets taps bytes from first m a begun none is u q t ue qe te =
     ap (λ (s : Taps). record { taps = s; progress = q; recorded = t }) (ap (λ (n : Made). n.taps) (sym begun) ∙ sym (taps-kept nets bytes m a is))
     ∙ ap (λ (p : Progress). record { taps = a.progress.taken.taps; progress = p; recorded = t }) qe
     ∙ ap (λ (r : Trace). record { taps = a.progress.taken.taps; progress = a.progress.taken.progress; recorded = r }) te in
-    subst (λ (v : ReadApart (Unit {0})). IsReadAhead nets taps bytes t (ahead_of from q v)) (sym ue) (record {
+    record {
       read =
-          subst (λ (n : Made). IsReadApart made_change made_instant nets bytes n (apart_with (record { taps = taps; progress = q; recorded = t }) a)) before
-          (subst (λ (n : Made). IsReadApart made_change made_instant nets bytes m (apart_with n a)) (sym made) is);
-    })
+          subst (λ (v : ReadApart (Unit {0})). IsReadApart made_change made_instant nets bytes (made_behind taps from (record { opening = t.opening; steps = [] })) (made_ahead taps t (apart_with q v))) (sym ue)
+          (subst (λ (n : Made). IsReadApart made_change made_instant nets bytes n (apart_with (record { taps = taps; progress = q; recorded = t }) a)) before
+          (subst (λ (n : Made). IsReadApart made_change made_instant nets bytes m (apart_with n a)) (sym made) is));
+      told = tells;
+    }
 
 -- a piece that is joined, by the fields of the wave and of the piece
-pub wave-joined : (bytes : List ℕ) (recorded : Trace) (w : WaveReached) (a : ReadAhead) (fault : Option BindFault) (taps : Taps) (p q : Progress) (r behind : Reached (Unit {0})) (from : Levels) (u : ReadApart (Unit {0}))
-    → w ≡ wave_of fault taps p r → a ≡ ahead_of from q u → IsReadAhead w.body.nets w.taps bytes recorded a → FitsAhead w a
+pub wave-joined : (bytes : List ℕ) (recorded : Trace) (w : WaveReached) (a : ReadAhead) (fault : Option BindFault) (taps : Taps) (p q : Progress) (r behind : Reached (Unit {0})) (from : Levels) (u : ReadApart (Unit {0})) (told : List Bool)
+    → w ≡ wave_of fault taps p r → a ≡ ahead_of from q u told → IsReadAhead w.body.nets w.taps bytes recorded a → FitsAhead w a
     → (e : Option ℕ) (step : List Step) (there : Progress) → e ≡ ended_at r.progress u.time → behind ≡ behind_piece r.nets u
     → step ≡ ended_steps p e → there ≡ entered end_of p e → levels_after p.shown step ≡ there.shown
     → IsJoined bytes recorded a.from w (wave_of fault taps q behind) step
-wave-joined bytes recorded w a fault taps p q r behind from u view seen is fits e step there at left same to leads =
+wave-joined bytes recorded w a fault taps p q r behind from u told view seen is fits e step there at left same to leads =
     let v : WaveReached = wave_of fault taps p r in
-    let b : ReadAhead = ahead_of from q u in
+    let b : ReadAhead = ahead_of from q u told in
     let is2 : IsReadAhead v.body.nets v.taps bytes recorded b =
     subst (λ (x : WaveReached). IsReadAhead x.body.nets x.taps bytes recorded b) view (subst (λ (y : ReadAhead). IsReadAhead w.body.nets w.taps bytes recorded y) seen is) in
     let fits2 : FitsAhead v b = subst (λ (x : WaveReached). FitsAhead x b) view (subst (λ (y : ReadAhead). FitsAhead w y) seen fits) in

@@ -10,6 +10,7 @@ pub mod Taps
 pub mod Capture
 pub mod Recording
 pub mod Made
+pub mod Told
 pub mod TextCapture
 pub mod TextPieces
 pub mod TextWaves

@@ -1,7 +1,8 @@
 -- The recording of a dump whose pieces are read ahead of what stands before them, and joined in order.
-use Rattle.std.specs.Prelude.{◌≡◌, ℕ, List, [], ◌++◌, Option}
+use Rattle.std.specs.Prelude.{◌≡◌, ℕ, ◌<◌, Bool, if◌then◌else◌, List, [], ◌++◌, length, Option}
 use Rattle.vme_trace.specs.Followed.{with_steps}
-use Rattle.vme_trace.specs.Levels.{Levels}
+use Rattle.vme_trace.specs.Levels.{Levels, level_at}
+use Rattle.vme_trace.specs.LineNumbers.{line_count}
 use Rattle.vme_trace.specs.Trace.{Trace, levels_after}
 use Rattle.vme_trace.specs.declared.step.Step.{Step}
 use Rattle.vcd_read.specs.Apart.{FitsBehind, IsReadApart, ReadApart, apart_with, ended_at, entered, with_taken}
@@ -14,6 +15,7 @@ use Rattle.vme_bind.specs.declared.taps.Taps.{Taps}
 use Rattle.vme_bind.specs.Made.{Made, made_change, made_instant}
 use Rattle.vme_bind.specs.Recording.{Progress, all_of, end_of}
 use Rattle.vme_bind.specs.TextPieces.{TextReached, outcome_ahead}
+use Rattle.vme_bind.specs.Told.{is_told}
 
 -- how far the recording of a dump is made, but for what took it: the levels alone
 pub record WaveReached : Type 0 where
@@ -29,10 +31,18 @@ with_recording t w =
       body = with_taken (record { taps = w.taps; progress = w.body.progress.taken; recorded = t }) w.body;
     }
 
--- a piece that was read ahead, as if these levels stood before it
+-- a piece that was read ahead, as if these levels stood before it; and of which lines it tells a level
 pub record ReadAhead : Type 0 where
   pub from : Levels
   pub apart : ReadApart Progress
+  pub told : List Bool
+
+-- where the first levels stand before a piece, the second have its own on each line of which it tells a level
+pub record AreLeft (a : ReadAhead) (before after : Levels) : Type 0 where
+  pub slots : after.slots ≡ before.slots
+  pub all : length after.levels ≡ line_count
+  pub levels : (l : ℕ) → l < line_count
+      → level_at after l ≡ (if is_told a.told l then level_at a.apart.progress.taken.now l else level_at before l)
 
 -- what is made behind these levels, and this recording
 abbrev pub made_behind : Taps → Levels → Trace → Made
@@ -42,10 +52,25 @@ made_behind taps v t = record { taps = taps; progress = all_of v; recorded = t }
 abbrev pub made_ahead : Taps → Trace → ReadApart Progress → ReadApart Made
 made_ahead taps t a = apart_with (record { taps = taps; progress = a.progress.taken; recorded = t }) a
 
+-- these bytes, which begin on this line, lead from the first levels to the second, whatever is recorded
+abbrev pub LeadTo : List Net → Taps → List ℕ → ℕ → Levels → Levels → Type 0
+LeadTo nets taps bytes line before after =
+    (t : Trace) (m : ReadApart Made) → m.first_line ≡ line
+    → IsReadApart made_change made_instant nets bytes (made_behind taps before t) m
+    → m.progress.taken.progress.now ≡ after
+
+-- where other levels stand before a piece, it leaves its own on the lines of which it tells one, and those on the rest
+abbrev pub TellsOf : List Net → Taps → List ℕ → ReadAhead → Type 0
+TellsOf nets taps bytes a =
+    (before after : Levels) → length before.levels ≡ line_count → AreLeft a before after
+    → LeadTo nets taps bytes a.apart.first_line before after
+
 -- these bytes were read ahead, for these nets and their lines, and these are the steps of what was recorded
-pub record IsReadAhead (nets : List Net) (taps : Taps) (bytes : List ℕ) (recorded : Trace) (a : ReadAhead) : Type 0 where
+pub record IsReadAhead
+    (nets : List Net) (taps : Taps) (bytes : List ℕ) (recorded : Trace) (a : ReadAhead) : Type 0 where
   pub read : IsReadApart made_change made_instant nets bytes
       (made_behind taps a.from (record { opening = recorded.opening; steps = [] })) (made_ahead taps recorded a.apart)
+  pub told : TellsOf nets taps bytes a
 
 -- a piece that was read ahead fits behind what is read so far, which leaves the levels that it was read from
 pub record FitsAhead (w : WaveReached) (a : ReadAhead) : Type 0 where
@@ -54,7 +79,8 @@ pub record FitsAhead (w : WaveReached) (a : ReadAhead) : Type 0 where
 
 -- a piece is joined: how far the recording is made behind it. The step, if any, ends the instant before it.
 pub record IsJoined
-    (bytes : List ℕ) (recorded : Trace) (levels : Levels) (before after : WaveReached) (ended : List Step) : Type 0 where
+    (bytes : List ℕ) (recorded : Trace) (levels : Levels) (before after : WaveReached) (ended : List Step)
+    : Type 0 where
   pub fault : after.fault ≡ before.fault
   pub taps : after.taps ≡ before.taps
   pub nets : after.body.nets ≡ before.body.nets

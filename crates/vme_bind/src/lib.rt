@@ -20,6 +20,7 @@ mod text_capture;
 mod text_pieces;
 mod text_state;
 mod text_wave;
+mod told;
 mod wires;
 mod words;
 

@@ -4,9 +4,11 @@ ghost use Rattle.std.specs.Prelude.{◌≡◌, ℕ};
 ghost use Rattle.vme_bind.specs.Recording.{AreLines};
 ghost use Rattle.vme_bind.specs.Taps.{taps_of};
 ghost use Rattle.vme_bind.specs.Made.{made_change, made_instant};
+ghost use Rattle.vme_bind.specs.Told.{ahead_change, ahead_instant, none_told};
 
 use crate::recorder::Recorder;
 use crate::taps::Taps;
+use crate::told::Told;
 use std::alloc::{AllocError, Global};
 use std::marker::Model;
 use vcd_read::Taker;
@@ -106,17 +108,21 @@ pub(crate) struct MakingAhead<'t, F: Follower> {
     taps: &'t Taps,
     recorder: Recorder,
     follower: F,
+    told: Told,
 }
 
 impl<'t, F: Follower> Model for MakingAhead<'t, F> {
     ghost use Rattle.std.specs.Prelude.{ℕ};
-    ghost use Rattle.vme_bind.specs.Made.{Made};
     ghost use Rattle.vme_bind.specs.Recording.{AreLines};
     ghost use Rattle.vme_bind.specs.Taps.{taps_of};
+    ghost use Rattle.vme_bind.specs.Told.{MadeAhead};
 
-    ghost Value = { Made };
+    ghost Value = { MadeAhead };
 
-    ghost view = { λ m. record { taps = m.taps.now; progress = m.recorder; recorded = F.recorded m.follower } };
+    ghost view = { λ m. record {
+      made = record { taps = m.taps.now; progress = m.recorder; recorded = F.recorded m.follower };
+      told = m.told;
+    } };
 
     ghost invariant = { λ m. (net : ℕ) → AreLines m.recorder.now.slots (taps_of m.taps.now net) };
 }
@@ -125,39 +131,44 @@ impl<'t, F: Follower> MakingAhead<'t, F> {
     /// What takes the recording that begins with these levels.
     pub fn new(taps: &'t Taps, recorder: Recorder, follower: F) -> MakingAhead<'t, F>
         requires { (net : ℕ) → AreLines recorder.now.slots (taps_of taps.now net) }
-        ensures { result ≡ record { taps = taps.now; progress = recorder; recorded = F.recorded follower } }
+        ensures made { result.made
+            ≡ record { taps = taps.now; progress = recorder; recorded = F.recorded follower } }
+        ensures told { result.told ≡ none_told }
     {
         MakingAhead {
             taps,
             recorder,
             follower,
+            told: Told::none(),
         }
     }
 
-    /// The levels of the lines, and what took the recording.
-    pub fn into_parts(self) -> (Recorder, F)
-        ensures progress { self.entry.progress ≡ result.0 }
-        ensures recorded { self.entry.recorded ≡ F.recorded result.1 }
+    /// The levels of the lines, what took the recording, and of which lines a level was told.
+    pub fn into_parts(self) -> (Recorder, F, Told)
+        ensures progress { self.entry.made.progress ≡ result.0 }
+        ensures recorded { self.entry.made.recorded ≡ F.recorded result.1 }
+        ensures told { self.entry.told ≡ result.2 }
     {
         let MakingAhead {
             taps: _,
             recorder,
             follower,
+            told,
         } = self;
-        (recorder, follower)
+        (recorder, follower, told)
     }
 }
 
 impl<F: Follower> Taker for MakingAhead<'_, F> {
-    ghost use Rattle.vme_bind.specs.Made.{Made};
+    ghost use Rattle.vme_bind.specs.Told.{MadeAhead};
 
-    ghost Taken = { Made };
+    ghost Taken = { MadeAhead };
 
     ghost taken = { λ r. r };
 
-    ghost with_change = { made_change };
+    ghost with_change = { ahead_change };
 
-    ghost with_instant = { made_instant };
+    ghost with_instant = { ahead_instant };
 
     #[inline(always)]
     fn change(
@@ -168,8 +179,9 @@ impl<F: Follower> Taker for MakingAhead<'_, F> {
         digits: &[u8],
     ) -> Result<(), AllocError> {
         let _ = alloc;
-        let taps = self.taps;
-        self.recorder.set_by_digits(taps.of(net), size, digits)
+        let taps = self.taps.of(net);
+        self.told.tell(taps);
+        self.recorder.set_by_digits(taps, size, digits)
     }
 
     #[inline(always)]

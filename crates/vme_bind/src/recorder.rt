@@ -204,7 +204,7 @@ impl Recorder {
     /// Ends an instant, which is a step if some line has another level than before.
     #[inline(always)]
     pub fn end_instant(&mut self, alloc: Global, time: u64) -> Result<Option<Step>, AllocError>
-        ensures slots { self.new.now.slots ≡ self.old.now.slots }
+        ensures now { self.new.now ≡ self.old.now }
         ensures shown { OnOk result (self.new ≡ record { shown = self.old.now; now = self.old.now }) }
         ensures step { IfOk result (λ step. step_in step ≡ step_between time self.old.shown self.old.now) }
     {
@@ -223,7 +223,7 @@ impl Recorder {
     fn end_with_line(&mut self, alloc: Global, time: u64, line: Line) -> Option<Step>
         requires exists { IsLine self.old.now.slots line }
         requires alone { (l : ℕ) → l ≢ line → differs self.old.shown self.old.now l ≡ false }
-        ensures slots { self.new.now.slots ≡ self.old.now.slots }
+        ensures now { self.new.now ≡ self.old.now }
         ensures shown { self.new ≡ record { shown = self.old.now; now = self.old.now } }
         ensures step { step_in result ≡ step_between time self.old.shown self.old.now }
     {
@@ -245,7 +245,7 @@ impl Recorder {
     /// Ends an instant at which any lines may have.
     #[inline(never)]
     fn end_with_lines(&mut self, alloc: Global, time: u64) -> Result<Option<Step>, AllocError>
-        ensures slots { self.new.now.slots ≡ self.old.now.slots }
+        ensures now { self.new.now ≡ self.old.now }
         ensures shown { OnOk result (self.new ≡ record { shown = self.old.now; now = self.old.now }) }
         ensures step { IfOk result (λ step. step_in step ≡ step_between time self.old.shown self.old.now) }
     {

@@ -6,17 +6,18 @@ ghost use Rattle.vme_trace.specs.LineNumbers.{line_count};
 ghost use Rattle.vme_trace.specs.Trace.{Trace};
 ghost use Rattle.vme_bind.specs.Recording.{step_in};
 ghost use Rattle.vme_bind.specs.TextPieces.{text_reached};
-ghost use Rattle.vme_bind.specs.TextWaves.{FitsAhead, IsJoined, IsReadAhead, with_recording};
+ghost use Rattle.vme_bind.specs.TextWaves.{AreLeft, FitsAhead, IsJoined, IsReadAhead, with_recording};
 
 use crate::fault::BindFault;
 use crate::making::{Making, MakingAhead, Passing};
 use crate::recorder::Recorder;
 use crate::taps::Taps;
 use crate::text_state::TextPieces;
+use crate::told::Told;
 use std::alloc::{AllocError, Global};
 use std::marker::Model;
 use vcd_read::{Apart, Pieces};
-use vme_trace::{Follower, Lines, Step};
+use vme_trace::{Follower, LINE_COUNT, Line, Lines, Step};
 
 /// The recording of a dump, as far as some pieces of its text go, without what takes it: only its levels are known.
 #[derive(Drop)]
@@ -52,18 +53,23 @@ pub struct Ahead {
     from: Lines,
     apart: Apart<Passing>,
     recorder: Recorder,
+    told: Told,
 }
 
 impl Model for Ahead {
-    ghost use Rattle.std.specs.Prelude.{◌≡◌};
+    ghost use Rattle.std.specs.Prelude.{◌≡◌, ℕ, true};
+    ghost use Rattle.vme_bind.specs.Recording.{IsLine};
+    ghost use Rattle.vme_bind.specs.Told.{is_told};
     ghost use Rattle.vcd_read.specs.Apart.{apart_with, read_apart};
     ghost use Rattle.vme_bind.specs.TextWaves.{ReadAhead};
 
     ghost Value = { ReadAhead };
 
-    ghost view = { λ a. record { from = a.from; apart = apart_with a.recorder (read_apart (λ p. tt {0}) a.apart) } };
+    ghost view = { λ a. record
+        { from = a.from; apart = apart_with a.recorder (read_apart (λ p. tt {0}) a.apart); told = a.told } };
 
-    ghost invariant = { λ a. a.recorder.now.slots ≡ a.from.slots };
+    ghost invariant = { λ a. (a.recorder.now.slots ≡ a.from.slots)
+        × ((l : ℕ) → is_told a.told l ≡ true → IsLine a.from.slots l) };
 }
 
 impl<F: Follower> TextPieces<F> {
@@ -124,7 +130,7 @@ impl TextWave {
     /// Reads a piece that begins on this line and ends behind a space, or where the text does, ahead of what stands
     /// before it: as if that left these levels, of the same backplane. Its steps are given to the follower, to which
     /// none was given before. None is given of a piece that begins with no time, has a fault or ends within an item,
-    /// nor where memory runs out.
+    /// for levels of another backplane, nor where memory runs out.
     pub fn read_ahead<F: Follower>(
         &self,
         alloc: Global,
@@ -147,11 +153,12 @@ impl TextWave {
         let making = MakingAhead::new(&self.taps, Recorder::new(alloc, *from), follower);
         let apart = self.pieces.apart(alloc, piece, line, making)?;
         let (apart, making) = apart.with_taker(Passing);
-        let (recorder, follower) = making.into_parts();
+        let (recorder, follower, told) = making.into_parts();
         let ahead = Ahead {
             from: *from,
             apart,
             recorder,
+            told,
         };
         Some((ahead, follower))
     }
@@ -186,6 +193,7 @@ impl TextWave {
             from: _,
             apart,
             recorder: behind,
+            told: _,
         } = ahead;
         let step = recorder.end(alloc, pieces.ended_by(&apart))?;
         let (pieces, _) = pieces.join(apart);
@@ -200,6 +208,30 @@ impl TextWave {
 }
 
 impl Ahead {
+    /// The levels that it was read from.
+    pub fn from(&self) -> &Lines
+        ensures { result.now ≡ self.now.from }
+    {
+        &self.from
+    }
+
+    /// The levels that it leaves where these stand before it: its own on each line of which it tells a level.
+    pub fn levels_behind(&self, levels: &Lines) -> Lines
+        requires slots { levels.now.slots ≡ self.now.from.slots }
+        requires all { length levels.now.levels ≡ line_count }
+        ensures { AreLeft self.now levels.now result }
+    {
+        let now = self.recorder.now();
+        let mut behind = *levels;
+        for number in 0..LINE_COUNT {
+            let line = Line::from_number(number).unwrap();
+            if self.told.has(line) {
+                behind.set(line, now.level(line));
+            }
+        }
+        behind
+    }
+
     /// The levels behind it.
     pub fn levels(&self) -> &Lines
         ensures now { result.now ≡ self.now.apart.progress.taken.now }

@@ -627,7 +627,8 @@ fn sent<T: Send>(value: T) -> T
 
 /// Nothing is kept yet.
 fn none_kept(alloc: Global, opening: Lines) -> Kept
-    ensures { result.steps.items ≡ [] }
+    ensures opening { result.opening ≡ opening }
+    ensures steps { result.steps.items ≡ [] }
 {
     Kept {
         opening,
@@ -711,6 +712,36 @@ fn a_piece_that_was_read_from_other_levels_is_not_joined(rt: HostRuntime) -> Res
         let wave = wave.ok_or("the first piece doesn't fit")?;
         let next = joined(alloc, wave, b"#20 0q\n", &from, &mut kept)?;
         assert_eq!(rt; next.is_some(), fits, "{first}");
+    }
+    Ok(())
+}
+
+/// Where other levels stand before a piece than those that it was read from, it leaves its own on each line of which it
+/// tells a level, also where that is the one that it was read from, and theirs on the others.
+#[test]
+fn a_piece_leaves_the_levels_that_it_tells(rt: HostRuntime) -> Result<(), Fail> {
+    let alloc = rt.alloc();
+    let front = bus_dump(alloc, AS, "#0 1p 1q 1r 1s 1t 1u\n")?;
+    let binding = read_binding(alloc, BUS_LINES.as_bytes())?;
+    let kept = none_kept(alloc, Lines::new(1).ok_or("no slots")?);
+    let text = binding.begin_text(alloc, front.as_bytes(), kept)?;
+    let (wave, _) = text.ok().ok_or("no definitions")?.into_wave();
+    let from = *wave.now();
+    let own = none_kept(alloc, from);
+    let read = wave.read_ahead(alloc, b"#10 0p 0q\n#20 1p\n", wave.line(), &from, own);
+    let (ahead, _) = read.ok_or("not read")?;
+    assert!(rt; *ahead.from() == from);
+    let mut before = from;
+    before.set(Line::AS, Level::Low);
+    before.set(Line::DTACK, Level::Low);
+    let behind = ahead.levels_behind(&before);
+    for (line, level) in [
+        (Line::AS, Level::High),
+        (Line::DS0, Level::Low),
+        (Line::DS1, Level::High),
+        (Line::DTACK, Level::Low),
+    ] {
+        assert_eq!(rt; behind.level(line), level);
     }
     Ok(())
 }

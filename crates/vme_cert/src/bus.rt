@@ -1,5 +1,4 @@
 //! A recording at one of its instants, as a walk goes from each to the next; and the stretches of it that are judged.
-#![tactic(auto, unfolding(vme_trace::specs::Signals::low, vme_trace::specs::Signals::high, vme_trace::specs::Signals::falls, vme_trace::specs::Signals::rises, vme_trace::specs::Judged::is_idle_at))]
 
 ghost use Rattle.std.specs.Prelude.{◌≡◌, ◌+◌, ◌-◌, ◌≤◌};
 ghost use Rattle.vme_cert.specs.Words.{true, IfSome, IsTrue, least, near, known, low, high, falls, rises, has_line};
@@ -155,6 +154,7 @@ impl<'a> Bus<'a> {
     }
 
     /// Whether the line was low at the instant before.
+    #[tactic(auto, unfolding(vme_trace::specs::Signals::low))]
     pub(crate) fn was_low(&self, line: Line) -> bool
         requires { IsTrue (has_line self.now.capture.now.opening.slots line) }
         ensures { result ≡ low self.now.capture.now line (self.now.instant - 1) }
@@ -163,6 +163,7 @@ impl<'a> Bus<'a> {
     }
 
     /// Whether it was high.
+    #[tactic(auto, unfolding(vme_trace::specs::Signals::high))]
     pub(crate) fn was_high(&self, line: Line) -> bool
         requires { IsTrue (has_line self.now.capture.now.opening.slots line) }
         ensures { result ≡ high self.now.capture.now line (self.now.instant - 1) }
@@ -171,6 +172,7 @@ impl<'a> Bus<'a> {
     }
 
     /// Whether it is low at the instant.
+    #[tactic(auto, unfolding(vme_trace::specs::Signals::low))]
     pub(crate) fn low(&self, line: Line) -> bool
         requires { IsTrue (has_line self.now.capture.now.opening.slots line) }
         ensures { result ≡ low self.now.capture.now line self.now.instant }
@@ -179,6 +181,7 @@ impl<'a> Bus<'a> {
     }
 
     /// Whether it is high.
+    #[tactic(auto, unfolding(vme_trace::specs::Signals::high))]
     pub(crate) fn high(&self, line: Line) -> bool
         requires { IsTrue (has_line self.now.capture.now.opening.slots line) }
         ensures { result ≡ high self.now.capture.now line self.now.instant }
@@ -187,6 +190,7 @@ impl<'a> Bus<'a> {
     }
 
     /// Whether its level is known.
+    #[tactic(auto, unfolding(vme_trace::specs::Signals::known))]
     pub(crate) fn knows(&self, line: Line) -> bool
         requires { IsTrue (has_line self.now.capture.now.opening.slots line) }
         ensures { result ≡ known self.now.capture.now line self.now.instant }
@@ -195,6 +199,7 @@ impl<'a> Bus<'a> {
     }
 
     /// Whether the line falls.
+    #[tactic(auto, unfolding(vme_trace::specs::Signals::falls))]
     pub(crate) fn falls(&self, line: Line) -> bool
         requires { IsTrue (has_line self.now.capture.now.opening.slots line) }
         ensures { result ≡ falls self.now.capture.now line self.now.instant }
@@ -203,6 +208,7 @@ impl<'a> Bus<'a> {
     }
 
     /// Whether the line rises.
+    #[tactic(auto, unfolding(vme_trace::specs::Signals::rises))]
     pub(crate) fn rises(&self, line: Line) -> bool
         requires { IsTrue (has_line self.now.capture.now.opening.slots line) }
         ensures { result ≡ rises self.now.capture.now line self.now.instant }
@@ -227,6 +233,7 @@ impl<'a> Bus<'a> {
     }
 
     /// Goes on to the next idle instant, this one included, if there is one.
+    #[tactic(auto, unfolding(vme_trace::specs::Judged::is_idle_at))]
     pub(crate) fn next_idle(&mut self) -> Option<u32>
         ensures trace { self.new.capture ≡ self.old.capture }
         ensures idle { result
@@ -243,6 +250,7 @@ impl<'a> Bus<'a> {
     }
 
     /// The next instant after an idle one at which the bus is reset or a control line is unknown, or past the last.
+    #[tactic(auto, unfolding(vme_trace::specs::Judged::is_idle_at))]
     pub(crate) fn next_stop(&self) -> u32
         requires within { self.now.instant ≤ last_instant self.now.capture.now }
         requires idle { is_idle_at self.now.capture.now self.now.instant ≡ true }

@@ -1,5 +1,4 @@
 //! What happens in a stretch of a recording, and when: sorted lists of instants, made in one walk.
-#![tactic(auto, unfolding(vme_trace::specs::Cycles::cycle_starts, vme_trace::specs::Transfers::transfer_starts, vme_trace::specs::Tenures::grant_falls, vme_trace::specs::Tenures::tenure_starts))]
 
 ghost use Rattle.std.specs.Prelude.{◌≡◌, ◌+◌, ◌<◌, ◌≤◌};
 ghost use Rattle.vme_cert.specs.Words.{ℕ, Bool, [], IfOk, IfSome, length, Trace, low, any, least, greatest, those};
@@ -191,6 +190,7 @@ impl Event {
 
 impl Bus<'_> {
     /// Whether a cycle starts.
+    #[tactic(auto, unfolding(vme_trace::specs::Cycles::cycle_starts))]
     pub(crate) fn cycle_starts(&self, span: Span) -> bool
         ensures { result ≡ cycle_starts self.now.capture.now span self.now.instant }
     {
@@ -198,6 +198,7 @@ impl Bus<'_> {
     }
 
     /// Whether a transfer starts.
+    #[tactic(auto, unfolding(vme_trace::specs::Transfers::transfer_starts))]
     pub(crate) fn transfer_starts(&self, span: Span) -> bool
         ensures { result ≡ transfer_starts self.now.capture.now span self.now.instant }
     {
@@ -207,6 +208,7 @@ impl Bus<'_> {
     }
 
     /// Whether a tenure starts.
+    #[tactic(auto, unfolding(vme_trace::specs::Tenures::tenure_starts))]
     pub(crate) fn tenure_starts(&self, span: Span) -> bool
         ensures { result ≡ tenure_starts self.now.capture.now span self.now.instant }
     {
@@ -252,6 +254,7 @@ impl Bus<'_> {
     }
 
     /// Whether the arbiter begins to grant some level.
+    #[tactic(auto, unfolding(vme_trace::specs::Tenures::grant_falls))]
     fn grant_falls(&self) -> bool
         ensures { result ≡ grant_falls self.now.capture.now self.now.instant }
     {

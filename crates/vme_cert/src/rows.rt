@@ -1,5 +1,4 @@
 //! The rows that begin at an instant.
-#![tactic(auto, unfolding(vme_trace::specs::Signals::low, vme_listing::specs::Recorded::tenure_rows, vme_listing::specs::Recorded::cycle_rows, vme_listing::specs::Recorded::transfer_rows, vme_trace::specs::Transfers::transfer_starts, vme_trace::specs::Tenures::tenure_starts))]
 
 ghost use Rattle.std.specs.Prelude.{◌≡◌, ◌+◌, ◌^◌, ◌<◌, ◌≤◌, true, Some, None};
 ghost use Rattle.std.specs.Prelude.{if◌then◌else◌};
@@ -63,6 +62,7 @@ impl Judged<'_> {
     ghost use Rattle.vme_cert.specs.Judging.{trace, span, instant, noted};
 
     /// The row of the tenure that begins at the instant.
+    #[tactic(auto, unfolding(vme_listing::specs::Recorded::tenure_rows))]
     pub(crate) fn tenure_row(&self, end: u32) -> Option<Row>
         requires within { end ≤ noted self.now }
         requires listed { instant self.now < end }
@@ -85,6 +85,7 @@ impl Judged<'_> {
     }
 
     /// The row of the cycle that starts at the instant.
+    #[tactic(auto, unfolding(vme_listing::specs::Recorded::cycle_rows))]
     pub(crate) fn cycle_row(&self, end: u32) -> Option<Row>
         requires within { end ≤ noted self.now }
         requires listed { instant self.now < end }
@@ -116,6 +117,7 @@ impl Judged<'_> {
     }
 
     /// The row of the transfer that starts at the instant.
+    #[tactic(auto, unfolding(vme_listing::specs::Recorded::transfer_rows, vme_trace::specs::Signals::low))]
     pub(crate) fn transfer_row(&self, end: u32) -> Option<Row>
         requires within { end ≤ noted self.now }
         requires listed { instant self.now < end }

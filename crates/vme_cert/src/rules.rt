@@ -1,11 +1,10 @@
 //! Tenures, and the rules, one by one, as they are defined.
-#![tactic(auto, unfolding(vme_trace::specs::Signals::low, vme_trace::specs::Signals::high, vme_trace::specs::Signals::known, vme_trace::specs::Signals::has_edge, vme_trace::specs::Cycles::in_cycle, vme_trace::specs::Tenures::is_granting, vme_trace::specs::Tenures::taken_grant, vme_trace::specs::Tenures::tenure_level, vme_trace::specs::Tenures::tenure_slot, vme_trace::specs::Tenures::last_before))]
 
 ghost use Rattle.std.specs.Prelude.{◌≡◌, ◌+◌, ◌-◌, ◌<◌, ◌≤◌, ◌==◌, ◌&&◌, ◌||◌};
 ghost use Rattle.vme_cert.specs.Words.{not, true, IfSome, IsTrue, any, none, grant, has_line, line_count};
 ghost use Rattle.vme_cert.specs.Words.{is_slot_grant, is_slot_iack, input_of as input_net, in_transfer, is_answered};
 ghost use Rattle.vme_cert.specs.Words.{in_cycle, low, taken_grant, tenure_level, tenure_slot, last_before, levels_at};
-ghost use Rattle.vme_cert.specs.Words.{last_instant, nat_lt};
+ghost use Rattle.vme_cert.specs.Words.{is_granting, last_instant, nat_lt};
 ghost use Rattle.vme_cert.specs.Events.{happens, is_acknowledged};
 ghost use Rattle.vme_cert.specs.Watching.{lines_of, speaks_of, shows, spoils, is_held, is_open_write, is_held_write};
 ghost use Rattle.vme_cert.specs.Watching.{asks};
@@ -62,21 +61,34 @@ fn input_of(line: Line) -> Line
 }
 
 impl Bus<'_> {
-    /// The levels as the arbiter grants, or else those of the instant before: whose grant a tenure takes that starts
-    /// here.
-    fn granted(&self) -> &Lines
-        ensures { result.now ≡ levels_at self.now.capture.now (taken_grant self.now.capture.now self.now.instant) }
+    /// Whether the arbiter grants some level.
+    #[tactic(auto, unfolding(vme_trace::specs::Signals::low, vme_trace::specs::Tenures::is_granting))]
+    fn is_granting(&self) -> bool
+        ensures { result ≡ is_granting self.now.capture.now self.now.instant }
     {
         let now = &self.levels;
-        let is_granting = any(
+        any(
             0,
             4,
             |level| now.level(Line::grant(level as u8, 0)).is_low(),
-        );
-        if is_granting { now } else { &self.before }
+        )
+    }
+
+    /// The levels as the arbiter grants, or else those of the instant before: whose grant a tenure takes that starts
+    /// here.
+    #[tactic(auto, unfolding(vme_trace::specs::Tenures::taken_grant))]
+    fn granted(&self) -> &Lines
+        ensures { result.now ≡ levels_at self.now.capture.now (taken_grant self.now.capture.now self.now.instant) }
+    {
+        if self.is_granting() {
+            &self.levels
+        } else {
+            &self.before
+        }
     }
 
     /// The level by which a tenure that starts here has its grant, 0 to 3.
+    #[tactic(auto, unfolding(vme_trace::specs::Signals::low, vme_trace::specs::Tenures::tenure_level))]
     pub(crate) fn tenure_level(&self) -> Option<u8>
         ensures level { result ≡ tenure_level self.now.capture.now self.now.instant }
         ensures below { IfSome result (λ level. level < 4) }
@@ -91,6 +103,7 @@ impl Bus<'_> {
     }
 
     /// The slot that takes its grant, counted from 1: the chain is low up to that slot's input.
+    #[tactic(auto, unfolding(vme_trace::specs::Signals::low, vme_trace::specs::Tenures::tenure_slot))]
     pub(crate) fn tenure_slot(&self) -> Option<u8>
         ensures { result ≡ tenure_slot self.now.capture.now self.now.instant }
     {
@@ -108,6 +121,7 @@ impl Judged<'_> {
 
     /// Whether something hasn't happened since the last time, before the instant, that something else did, or so much
     /// later.
+    #[tactic(auto, unfolding(vme_trace::specs::Tenures::last_before))]
     fn is_silent_since(&self, last: Event, later: u32, event: Event) -> bool
         requires { later ≤ 1 }
         ensures { result ≡ none (happens (trace self.now) (span self.now) event)
@@ -162,6 +176,7 @@ impl Judged<'_> {
     }
 
     /// Whether the cycle of an answer at the instant is one that a rule on cycles forbids then.
+    #[tactic(auto, unfolding(vme_trace::specs::Cycles::in_cycle))]
     fn is_cycle_spoiled(&self, rule: Rule) -> bool
         ensures { result ≡ spoils (trace self.now) (span self.now) rule (instant self.now) }
     {
@@ -180,6 +195,7 @@ impl Judged<'_> {
     }
 
     /// Whether a line shows what a rule asks first: that nothing is known of it, or an edge.
+    #[tactic(auto, unfolding(vme_trace::specs::Signals::known, vme_trace::specs::Signals::has_edge))]
     #[inline(always)]
     pub(crate) fn is_shown(&self, rule: Rule, line: Line) -> bool
         requires { IsTrue (has_line (trace self.now).opening.slots line) }
@@ -196,6 +212,7 @@ impl Judged<'_> {
     }
 
     /// Whether the rest of what a rule asks is so at the instant, on a line of which it speaks.
+    #[tactic(auto, unfolding(vme_trace::specs::Signals::low, vme_trace::specs::Cycles::in_cycle))]
     #[inline(never)]
     pub(crate) fn asks(&self, rule: Rule, line: Line) -> bool
         requires line { IsTrue (has_line (trace self.now).opening.slots line) }

@@ -6,7 +6,6 @@ pub mod Whole
 pub mod Turns
 pub mod Together
 pub mod Cuts
-pub mod SameLines
 pub mod Apart
 pub mod InstantMarks
 pub mod Forward

@@ -8,5 +8,6 @@ pub mod JudgedSpans
 pub mod NameLaws
 pub mod OpenTransfers
 pub mod Ranges
+pub mod SameLines
 pub mod SpanEnds
 pub mod WellFormedSteps

@@ -19,7 +19,7 @@ use Rattle.vme_bind.specs.TextWaves.{IsJoined, ReadAhead, WaveReached, with_reco
 use Rattle.vme_bind.specs.declared.fault.CaptureFault.{CaptureFault}
 use Rattle.vme_bind.specs.declared.taps.Taps.{Taps}
 use Rattle.vme_waves.specs.Cuts.{lines_behind, tokens_of}
-use Rattle.vme_waves.specs.Waves.{AreAhead, AreTaken, IsAheadAt, IsJudgedAhead}
+use Rattle.vme_waves.specs.Waves.{AreAhead, AreTaken, IsAheadAt, IsJudgedAhead, IsNextOf}
 use Rattle.vme_waves.specs.declared.cut.Piece.{Piece}
 
 -- ---- what comes of tokens, and of others behind them
@@ -81,6 +81,30 @@ module _ (nets : List Net) (taps : Taps) (pieces left : List Piece) (piece : Pie
   pub rest-ahead : (w : WaveReached) → w.body.nets ≡ nets → w.taps ≡ taps → AreAhead w.body.nets w.taps left rest
   rest-ahead w same-nets same-taps =
       subst (λ (n : List Net). AreAhead n w.taps left rest) (sym same-nets) (subst (λ (t : Taps). AreAhead nets t left rest) (sym same-taps) both.1)
+
+-- nothing was read
+pub none-ahead : (nets : List Net) (taps : Taps) (pieces : List Piece) → AreAhead nets taps pieces []
+none-ahead nets taps [] = tt
+none-ahead nets taps (piece ∷ pieces) = tt
+
+-- the next of those that were read again, and the others
+pub next-ahead : (nets : List Net) (taps : Taps) (pieces left : List Piece) (piece : Piece) (all rest : List (Option (ReadAhead × Trace))) (next : Option (ReadAhead × Trace))
+    → AreAhead nets taps pieces all → pieces ≡ piece ∷ left → IsNextOf all rest next
+    → IfSome next (λ a. IsJudgedAhead nets taps piece.bytes.now a.1 a.0) × AreAhead nets taps left rest
+next-ahead nets taps pieces left piece [] rest next are at (none, empty) = (
+  subst (λ (o : Option (ReadAhead × Trace)). IfSome o (λ a. IsJudgedAhead nets taps piece.bytes.now a.1 a.0)) (sym empty) tt,
+  subst (AreAhead nets taps left) (sym none) (none-ahead nets taps left),
+)
+next-ahead nets taps pieces left piece (one ∷ all) rest next are at (same, is) =
+    let both : AreAhead nets taps (piece ∷ left) (one ∷ all) = subst (λ (ps : List Piece). AreAhead nets taps ps (one ∷ all)) at are in (
+      subst (λ (o : Option (ReadAhead × Trace)). IfSome o (λ a. IsJudgedAhead nets taps piece.bytes.now a.1 a.0)) (sym is) both.0,
+      subst (AreAhead nets taps left) (sym same) both.1,
+    )
+
+pub same-nets : (nets nets2 : List Net) (taps taps2 : Taps) (pieces : List Piece) (all : List (Option (ReadAhead × Trace)))
+    → nets2 ≡ nets → taps2 ≡ taps → AreAhead nets taps pieces all → AreAhead nets2 taps2 pieces all
+same-nets nets nets2 taps taps2 pieces all e f are =
+    subst (λ (n : List Net). AreAhead n taps2 pieces all) (sym e) (subst (λ (t : Taps). AreAhead nets t pieces all) (sym f) are)
 
 -- ---- a piece that is joined, and whose steps are passed
 

@@ -1,5 +1,7 @@
 -- Pieces that are read ahead of those before them, and joined in order as far as they fit.
-use Rattle.std.specs.Prelude.{◌≡◌, ℕ, List, [], ◌∷◌, Option, Some, IfSome, slice_get}
+use Rattle.std.specs.Prelude.{◌≡◌, ℕ, All, List, [], ◌∷◌, Option, None, Some, IfSome, length, slice_get}
+use Rattle.vme_trace.specs.Levels.{Levels}
+use Rattle.vme_trace.specs.LineNumbers.{line_count}
 use Rattle.vme_trace.specs.Trace.{Trace}
 use Rattle.vcd_read.specs.Header.{Net}
 use Rattle.vcd_read.specs.Tokens.{Token}
@@ -9,8 +11,8 @@ use Rattle.vme_bind.specs.declared.taps.Taps.{Taps}
 use Rattle.vme_waves.specs.Cuts.{lines_behind, tokens_of}
 use Rattle.vme_waves.specs.declared.cut.Piece.{Piece}
 
--- these bytes were read ahead, and their steps, of which this recording is made, were judged behind the levels that they
--- were read from
+-- these bytes were read ahead, and their steps, of which this recording is made, were judged behind the levels that
+-- they were read from
 pub record IsJudgedAhead
     (nets : List Net) (taps : Taps) (bytes : List ℕ) (recorded : Trace) (ahead : ReadAhead) : Type 0 where
   pub opening : recorded.opening ≡ ahead.from
@@ -35,3 +37,12 @@ pub record AreTaken (pieces : List Piece) (before after : TextReached) (left : L
   pub leads : (more : List Token)
       → outcome_ahead before (tokens_of before.body.line pieces) more
       ≡ outcome_ahead after (tokens_of after.body.line left) more
+
+-- each of these levels, where there are any, are those of all lines
+abbrev pub AreWhole : List (Option Levels) → Type 0
+AreWhole all = All (λ one. IfSome one (λ v. length v.levels ≡ line_count)) all
+
+-- the next of these is taken, if there is one, and others are left
+abbrev pub IsNextOf : {X : Type 0} → List (Option X) → List (Option X) → Option X → Type 0
+IsNextOf [] left next = (left ≡ []) × (next ≡ None)
+IsNextOf (one ∷ all) left next = (left ≡ all) × (next ≡ one)

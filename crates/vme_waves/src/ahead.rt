@@ -2,7 +2,7 @@
 
 ghost use Rattle.std.specs.Prelude.{◌≡◌, ◌<◌, length, slice_get, IfOk, IfSome};
 ghost use Rattle.vme_trace.specs.LineNumbers.{line_count};
-ghost use Rattle.vme_waves.specs.Waves.{AreAhead, IsAheadAt, IsJudgedAhead};
+ghost use Rattle.vme_waves.specs.Waves.{AreAhead, AreWhole, IsAheadAt, IsJudgedAhead};
 
 use crate::cut::{Piece, cut_at_time};
 use crate::runs::{JudgedRuns, JudgingRuns};
@@ -89,6 +89,68 @@ pub(crate) fn read_each_ahead<R: Threads + Sync, J: Advance + Send>(
         {
             let levels = likely_levels::<J>(alloc, wave, pieces, place);
             read_ahead(alloc, wave, pieces[place], &levels)
+        },
+    )?;
+    Ok(all)
+}
+
+/// The levels from which each piece is to be read again: those that really stand before it, if it was read from others.
+/// They aren't known behind a piece that wasn't read ahead. The only error is want of memory.
+pub(crate) fn levels_to_read_again<J: Advance>(
+    alloc: Global,
+    wave: &TextWave,
+    all: &[Option<(Ahead, JudgedRuns<J>)>],
+) -> Result<Vec<Option<Lines>>, AllocError>
+    ensures { IfOk result (λ levels. AreWhole levels.items) }
+{
+    let mut again = Vec::new(alloc);
+    let mut before = *wave.now();
+    for one in all {
+        let Some((ahead, _)) = one else {
+            break;
+        };
+        if ahead.from().slots() != before.slots() {
+            break;
+        }
+        again.push(if *ahead.from() == before {
+            None
+        } else {
+            Some(before)
+        })?;
+        before = ahead.levels_behind(&before);
+    }
+    Ok(again)
+}
+
+/// Reads each piece again for which there are levels, by a thread of its own. Where there are none, nothing is read.
+pub(crate) fn read_again<R: Threads + Sync, J: Advance + Send>(
+    rt: &R,
+    alloc: Global,
+    wave: &TextWave,
+    pieces: &[Piece<'_>],
+    levels: &[Option<Lines>],
+) -> Result<Vec<Option<(Ahead, JudgedRuns<J>)>>, AllocError>
+    requires { AreWhole levels.now }
+    ensures { IfOk result (λ all. AreAhead wave.now.body.nets wave.now.taps pieces.now all.items) }
+{
+    if levels.iter().all(|one| one.is_none()) {
+        return Ok(Vec::new(alloc));
+    }
+    let all = thread::map_indices(
+        rt,
+        alloc,
+        pieces.len(),
+        &|place: usize| -> Option<(Ahead, JudgedRuns<J>)>
+            requires { (place < length pieces.now) × AreWhole levels.now }
+            ensures { IsAheadAt wave.entry.now pieces.entry.now place result }
+        {
+            if place >= levels.len() {
+                return None;
+            }
+            match &levels[place] {
+                Some(before) => read_ahead(alloc, wave, pieces[place], before),
+                None => None,
+            }
         },
     )?;
     Ok(all)

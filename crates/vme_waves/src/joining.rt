@@ -1,15 +1,17 @@
 //! Pieces that were read ahead, joined in order as far as they fit.
 
-ghost use Rattle.std.specs.Prelude.{◌≡◌, ◌≤◌, drop, length, IfOk, IfSome};
+ghost use Rattle.std.specs.Prelude.{◌≡◌, ◌≤◌, drop, length, IfOk, IfSome, Some};
+ghost use Rattle.std.specs.Vec.Iter.{into_iter_items};
 ghost use Rattle.vme_trace.specs.Followed.{with_steps};
 ghost use Rattle.vme_bind.specs.Recording.{step_in};
 ghost use Rattle.vme_bind.specs.TextWaves.{FitsAhead, with_recording};
-ghost use Rattle.vme_waves.specs.Waves.{AreAhead, AreTaken, IsJudgedAhead};
+ghost use Rattle.vme_waves.specs.Waves.{AreAhead, AreTaken, IsJudgedAhead, IsNextOf};
 
 use crate::ahead::read_ahead;
 use crate::cut::Piece;
 use crate::runs::JudgedRuns;
 use std::alloc::{AllocError, Global};
+use std::vec::IntoIter;
 use vme_bind::{Ahead, TextWave};
 use vme_summary::advance::Advance;
 use vme_summary::watch::Watch;
@@ -26,30 +28,44 @@ pub(crate) struct Joined<J: Advance> {
     pub count: usize,
 }
 
-/// The piece as it was read ahead, if it fits, or else as it is read ahead anew, from the levels that really stand
+/// A piece, if it was read and fits.
+fn if_fits<J: Advance>(
+    wave: &TextWave,
+    ahead: Option<(Ahead, JudgedRuns<J>)>,
+) -> Option<(Ahead, JudgedRuns<J>)>
+    ensures same { IfSome result (λ a. ahead ≡ Some a) }
+    ensures fits { IfSome result (λ a. FitsAhead wave.now a.0) }
+{
+    let (ahead, runs) = ahead?;
+    if wave.may_join(&ahead) {
+        Some((ahead, runs))
+    } else {
+        None
+    }
+}
+
+/// The piece as it was read ahead, or again, if it fits so, or else as it is read from the levels that really stand
 /// before it, if it fits then.
 fn fitting<J: Advance>(
     alloc: Global,
     wave: &TextWave,
     piece: Piece<'_>,
     ahead: Option<(Ahead, JudgedRuns<J>)>,
+    again: Option<(Ahead, JudgedRuns<J>)>,
 ) -> Option<(Ahead, JudgedRuns<J>)>
-    requires { IfSome ahead (λ a. IsJudgedAhead wave.now.body.nets wave.now.taps piece.bytes.now a.1 a.0) }
+    requires ahead { IfSome ahead (λ a. IsJudgedAhead wave.now.body.nets wave.now.taps piece.bytes.now a.1 a.0) }
+    requires again { IfSome again (λ a. IsJudgedAhead wave.now.body.nets wave.now.taps piece.bytes.now a.1 a.0) }
     ensures read { IfSome result (λ a.
         IsJudgedAhead wave.now.body.nets wave.now.taps piece.entry.bytes.now a.1 a.0) }
     ensures fits { IfSome result (λ a. FitsAhead wave.now a.0) }
 {
-    if let Some((ahead, runs)) = ahead {
-        if wave.may_join(&ahead) {
-            return Some((ahead, runs));
-        }
+    if let Some(fit) = if_fits(wave, ahead) {
+        return Some(fit);
     }
-    let (ahead, runs) = read_ahead(alloc, wave, piece, wave.now())?;
-    if wave.may_join(&ahead) {
-        Some((ahead, runs))
-    } else {
-        None
+    if let Some(fit) = if_fits(wave, again) {
+        return Some(fit);
     }
+    if_fits(wave, read_ahead(alloc, wave, piece, wave.now()))
 }
 
 /// Goes past a step, if there is one. The only error is want of memory.
@@ -67,16 +83,28 @@ fn past_step<J: Advance>(
     Ok(watch)
 }
 
-/// Joins the pieces in order, up to the first that doesn't fit, and judges their steps. The only error is want of
-/// memory.
+/// The next piece of these, if there is one and it was read.
+fn next_of<X: Drop>(pieces: &mut IntoIter<Option<X>>) -> Option<X>
+    ensures { IsNextOf (into_iter_items pieces.old) (into_iter_items pieces.new) result }
+{
+    match pieces.next() {
+        Some(next) => next,
+        None => None,
+    }
+}
+
+/// Joins the pieces in order, up to the first that doesn't fit, and judges their steps. Some were read again. The only
+/// error is want of memory.
 pub(crate) fn join_in_order<J: Advance>(
     alloc: Global,
     wave: TextWave,
     watch: Watch<J>,
     pieces: &[Piece<'_>],
     all: Vec<Option<(Ahead, JudgedRuns<J>)>>,
+    again: Vec<Option<(Ahead, JudgedRuns<J>)>>,
 ) -> Result<Joined<J>, AllocError>
-    requires { AreAhead wave.body.nets wave.taps pieces.now all.items }
+    requires all { AreAhead wave.body.nets wave.taps pieces.now all.items }
+    requires again { AreAhead wave.body.nets wave.taps pieces.now again.items }
     ensures count { IfOk result (λ joined. joined.count ≤ length pieces.now) }
     ensures taken { IfOk result (λ joined. AreTaken pieces.now (with_recording watch wave)
         (with_recording joined.watch joined.wave) (drop joined.count pieces.now)) }
@@ -84,11 +112,13 @@ pub(crate) fn join_in_order<J: Advance>(
     let mut wave = wave;
     let mut watch = watch;
     let mut count = 0;
+    let mut again = again.into_iter();
     for ahead in all {
         if count >= pieces.len() || !watch.leaves(alloc, wave.shown())? {
             break;
         }
-        let Some((ahead, runs)) = fitting(alloc, &wave, pieces[count], ahead) else {
+        let anew = next_of(&mut again);
+        let Some((ahead, runs)) = fitting(alloc, &wave, pieces[count], ahead, anew) else {
             break;
         };
         let (behind, step) = wave.join(alloc, ahead)?;

@@ -10,7 +10,7 @@ ghost use Rattle.vme_bind.specs.TextWaves.{with_recording};
 ghost use Rattle.vme_bind.specs.declared.fault.CaptureFault.{CaptureFault as Why};
 ghost use Rattle.vme_waves.specs.Waves.{AreTaken};
 
-use crate::ahead::read_each_ahead;
+use crate::ahead::{levels_to_read_again, read_again, read_each_ahead};
 use crate::cut::{Piece, cut, cut_at_last_time, cut_at_time};
 use crate::in_order::read_in_order;
 use crate::joining::{Joined, join_in_order};
@@ -30,8 +30,9 @@ fn want_of_memory() -> CaptureFault
     })
 }
 
-/// Reads and judges the pieces ahead of one another, and joins them in order as far as they fit. How many pieces were
-/// taken so is told too. The only error is want of memory.
+/// Reads and judges the pieces ahead of one another, those that were read from other levels than really stand before
+/// them again, and joins them in order as far as they fit. How many pieces were taken so is told too. The only error is
+/// want of memory.
 fn take_ahead<R: Threads + Sync, J: Advance + Send>(
     rt: &R,
     alloc: Global,
@@ -44,7 +45,9 @@ fn take_ahead<R: Threads + Sync, J: Advance + Send>(
         AreTaken pieces.now (with_recording watch wave) (text_reached taken.0) (drop taken.1 pieces.now)) }
 {
     let all = read_each_ahead(rt, alloc, &wave, pieces)?;
-    let Joined { wave, watch, count } = join_in_order(alloc, wave, watch, pieces, all)?;
+    let levels = levels_to_read_again(alloc, &wave, &all)?;
+    let again = read_again(rt, alloc, &wave, pieces, &levels)?;
+    let Joined { wave, watch, count } = join_in_order(alloc, wave, watch, pieces, all, again)?;
     Ok((wave.with_follower(watch), count))
 }
 

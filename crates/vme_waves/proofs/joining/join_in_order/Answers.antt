@@ -5,7 +5,7 @@ use Rattle.vme_bind.specs.Recording.{step_in}
 use Rattle.vme_bind.specs.TextWaves.{WaveReached, with_recording}
 use Rattle.vme_waves.specs.Waves.{AreAhead, AreTaken}
 use Rattle.vme_waves.specs.declared.cut.Piece.{Piece}
-use Rattle.vme_waves.proofs.JoinLemmas.{joined-taken, left-more, one-ahead, rest-ahead, steps-follow, taken-none}
+use Rattle.vme_waves.proofs.JoinLemmas.{joined-taken, left-more, next-ahead, one-ahead, rest-ahead, same-nets, steps-follow, taken-none}
 use Rattle.vme_waves.proofs.joining.join_in_order.Goals as goal
 
 abbrev no_piece : Piece
@@ -18,18 +18,30 @@ loop-ahead-init g c = record {
   count = omega arith;
   ahead =
       subst (AreAhead c.args.wave.body.nets c.args.wave.taps c.args.pieces.now) (sym c.into_iter-ahead-iterator.ensures.into_iter_gives.0)
-      c.requires;
+      c.requires.all;
+  again =
+      subst (AreAhead c.args.wave.body.nets c.args.wave.taps c.args.pieces.now) (sym c.into_iter-again.ensures.rest)
+      c.requires.again;
   taken = taken-none c.args.pieces.now (with_recording c.args.watch c.args.wave);
 }
 
-pub fitting-requires : goal.fitting-requires
-fitting-requires g c =
+pub fitting-requires-clause-ahead : goal.fitting-requires-clause-ahead
+fitting-requires-clause-ahead g c =
     let pieces = c.args.pieces.now in
     let count = c.loop-ahead.count in
     let w : WaveReached = c.loop-ahead.wave in
     let at : drop count pieces ≡ get_or pieces count no_piece ∷ drop (count + 1) pieces = left-more pieces count no_piece (omega arith) in
     one-ahead w.body.nets w.taps (drop count pieces) (drop (count + 1) pieces) (get_or pieces count no_piece) (into_iter_items c.loop-ahead.ahead-iterator)
     (into_iter_items c.next.new.self) c.in-Some.ahead c.loop-ahead.invariant.ahead at c.in-Some.ensures.steps.0
+
+pub fitting-requires-clause-again : goal.fitting-requires-clause-again
+fitting-requires-clause-again g c =
+    let pieces = c.args.pieces.now in
+    let count = c.loop-ahead.count in
+    let w : WaveReached = c.loop-ahead.wave in
+    let at : drop count pieces ≡ get_or pieces count no_piece ∷ drop (count + 1) pieces = left-more pieces count no_piece (omega arith) in
+    (next-ahead w.body.nets w.taps (drop count pieces) (drop (count + 1) pieces) (get_or pieces count no_piece) (into_iter_items c.loop-ahead.again)
+    (into_iter_items c.next_of-anew.new.pieces) c.next_of-anew.result c.loop-ahead.invariant.again at c.next_of-anew.ensures).0
 
 pub pass-requires : goal.pass-requires
 pass-requires g c =
@@ -69,6 +81,10 @@ loop-ahead-preserved g c =
       ahead =
           rest-ahead w.body.nets w.taps (drop count pieces) left piece (into_iter_items c.loop-ahead.ahead-iterator) (into_iter_items c.next.new.self) c.in-Some.ahead
           c.loop-ahead.invariant.ahead at c.in-Some.ensures.steps.0 v one.nets one.taps;
+      again =
+          same-nets w.body.nets v.body.nets w.taps v.taps left (into_iter_items c.next_of-anew.new.pieces) one.nets one.taps
+          (next-ahead w.body.nets w.taps (drop count pieces) left piece (into_iter_items c.loop-ahead.again) (into_iter_items c.next_of-anew.new.pieces) c.next_of-anew.result
+          c.loop-ahead.invariant.again at c.next_of-anew.ensures).1;
       taken =
           joined-taken piece.bytes.now runs c.in-Some-fitting.ahead.from w v (step_in c.in_ok-behind.step) one watch c.in_ok-watch.watch c.in_ok-watch.ensures
           pieces left piece first c.in_ok-watch-2.watch refl so c.in_ok-watch-2.ensures;

@@ -10,5 +10,6 @@ invariant-loop-ahead g l = record {
   finite : (goal.iterator-loop-ahead g).is_finite l.ahead-iterator;
   count : l.count ≤ length l.pieces;
   ahead : AreAhead l.wave.body.nets l.wave.taps (drop l.count l.pieces) (into_iter_items l.ahead-iterator);
+  again : AreAhead l.wave.body.nets l.wave.taps (drop l.count l.pieces) (into_iter_items l.again);
   taken : AreTaken l.pieces (with_recording l.fn.watch l.fn.wave) (with_recording l.watch l.wave) (drop l.count l.pieces);
 }

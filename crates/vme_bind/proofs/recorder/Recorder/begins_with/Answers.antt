@@ -4,7 +4,7 @@ use Rattle.std.proofs.lemmas.Bool.{false≢true}
 use Rattle.vcd_read.specs.Apart.{entered}
 use Rattle.vme_trace.specs.Levels.{Levels}
 use Rattle.vme_bind.specs.Recording.{Progress, all_of, end_of}
-use Rattle.vme_bind.proofs.SameLines.{lines_decide}
+use Rattle.vme_trace.proofs.SameLines.{lines_decide}
 use Rattle.vme_bind.proofs.recorder.Recorder.begins_with.Goals as goal
 
 both : (shown now levels : Levels) → shown ≡ levels → now ≡ levels → record { shown = shown; now = now } ≡ all_of levels

@@ -12,8 +12,8 @@ returns c =
     let r : Reached (Unit {0}) = reached (λ p. tt {0}) inside.pieces in
     let u : ReadApart (Unit {0}) = read_apart (λ p. tt {0}) ahead.apart in
     let view : c.args.self ≡ wave_of inside.fault inside.taps inside.recorder r = search rules in
-    let seen : c.args.ahead ≡ ahead_of ahead.from ahead.recorder u = search rules in
+    let seen : c.args.ahead ≡ ahead_of ahead.from ahead.recorder u ahead.told = search rules in
     λ bytes recorded is.
     wave-joined bytes recorded c.args.self c.args.ahead inside.fault inside.taps inside.recorder ahead.recorder r (reached (λ p. tt {0}) c.join-pieces.result.0) ahead.from u
-    view seen is c.requires c.ended_by.result (step_in c.in_ok-step.step) c.end.new.self c.ended_by.ensures c.join-pieces.ensures.behind
+    ahead.told view seen is c.requires c.ended_by.result (step_in c.in_ok-step.step) c.end.new.self c.ended_by.ensures c.join-pieces.ensures.behind
     c.in_ok-step.ensures.step c.in_ok-step.ensures.ended c.in_ok-step.ensures.leads

@@ -1,5 +1,5 @@
 use Rattle.std.proofs.Common.{rules, ◌≡◌, [], ◌∷◌, sym, ◌∙◌, ap}
-use Rattle.vme_trace.specs.Transfers.{answers, is_write}
+use Rattle.vme_trace.specs.Transfers.{answers, is_write, transfer_starts}
 use Rattle.vme_trace.proofs.Ranges.{least-found}
 use Rattle.vme_listing.specs.Recorded.{direction_of, answer_line}
 use Rattle.vme_listing.specs.declared.row.Direction.{Direction}
@@ -48,3 +48,7 @@ pub write_data-requires-clause-from : goal.write_data-requires-clause-from
 write_data-requires-clause-from c =
     let self = c.args.self.now in
     (least-found (answers (trace self) (span self) (instant self)) (instant self) c.args.end c.in-Some.answer (sym c.answer_of.ensures.answer ∙ c.in-Some.is)).first
+
+pub answer_of-requires-clause-after : goal.answer_of-requires-clause-after
+unfolding transfer_starts
+answer_of-requires-clause-after c = let starts = sym c.transfer_starts.ensures ∙ c.if-not-transfer_starts.false in search rules

@@ -1,7 +1,7 @@
 -- What judges all steps that came knows the lines that they leave.
 use Rattle.std.proofs.Common.{sym, ◌∙◌, ap}
 use Rattle.vme_trace.specs.Trace.{Trace, levels_after}
-use Rattle.vme_summary.proofs.SameLines.{lines_decide}
+use Rattle.vme_trace.proofs.SameLines.{lines_decide}
 use Rattle.vme_summary.proofs.Watching.{all-judged}
 use Rattle.vme_summary.proofs.watch.Watch.leaves.Goals as goal
 
