@@ -20,10 +20,11 @@ use Rattle.vme_monitor.specs.declared.tracking.Pending.TheVariants.{Closed, Read
 use Rattle.vme_monitor.proofs.TrackedTransfers.{answers_write_is}
 use Rattle.vme_dtb.specs.CycleState.{cycle_entered, is_acknowledge, is_acknowledged, is_pair_spoiled, is_turned}
 use Rattle.vme_dtb.specs.Edge.{asked_of, edges_between}
-use Rattle.vme_dtb.specs.Machine.{answer_in, broken}
+use Rattle.vme_dtb.specs.Machine.{answer_in, broken, cycle_faults, cycle_rules}
 use Rattle.vme_dtb.specs.declared.cycle.Cycle.{Cycle}
 use Rattle.vme_dtb.specs.declared.edges.Edges.{Edges}
 use Rattle.vme_dtb.specs.declared.memory.Memory.{Memory}
+use Rattle.vme_dtb.proofs.Faults.{AreOf}
 use Rattle.vme_dtb.proofs.CycleMemory.{before_is, cycle_before, in_acknowledge, in_acknowledged, in_spoiled, in_turned}
 use Rattle.vme_dtb.proofs.HandshakeBreaks.{answer_is}
 use Rattle.vme_dtb.proofs.Held.{Holds}
@@ -110,7 +111,7 @@ module _ (t : Trace) (span : Span) (reads : ReadsStrobes t span) (n : ℕ) (from
   unfolding breaks is_broken
   form_c1 l = ap (λ b. is_judged span (suc n) && has_line t.opening.slots l && b) (gathered (is_answer_line l && falls t l (suc n)) (is_answer t span (suc n)) spoiled)
 
-  pub c1 : option_map (break_at (suc n) (time_at t (suc n))) (broken C1 (is_pair_spoiled here (is_writing within)) (answer_in within seen)) ≡ rule_break t span (suc n) C1
+  c1 : option_map (break_at (suc n) (time_at t (suc n))) (broken C1 (is_pair_spoiled here (is_writing within)) (answer_in within seen)) ≡ rule_break t span (suc n) C1
   c1 = from_cycle C1 spoiled is_pair_spoiled form_c1 (in_spoiled t span (suc n))
 
   abbrev turned : Bool
@@ -120,7 +121,7 @@ module _ (t : Trace) (span : Span) (reads : ReadsStrobes t span) (n : ℕ) (from
   unfolding breaks is_broken
   form_c2 l = ap (λ b. is_judged span (suc n) && has_line t.opening.slots l && b) (gathered (is_answer_line l && falls t l (suc n)) (is_answer t span (suc n)) turned)
 
-  pub c2 : option_map (break_at (suc n) (time_at t (suc n))) (broken C2 (is_turned here (is_writing within)) (answer_in within seen)) ≡ rule_break t span (suc n) C2
+  c2 : option_map (break_at (suc n) (time_at t (suc n))) (broken C2 (is_turned here (is_writing within)) (answer_in within seen)) ≡ rule_break t span (suc n) C2
   c2 = from_cycle C2 turned is_turned form_c2 (in_turned t span (suc n))
 
   abbrev later : Bool
@@ -130,7 +131,7 @@ module _ (t : Trace) (span : Span) (reads : ReadsStrobes t span) (n : ℕ) (from
   unfolding breaks is_broken
   form_i5 l = ap (λ b. is_judged span (suc n) && has_line t.opening.slots l && b) (gathered (is_answer_line l && falls t l (suc n)) (is_answer t span (suc n)) later)
 
-  pub i5 : option_map (break_at (suc n) (time_at t (suc n))) (broken I5 (is_acknowledged here) (answer_in within seen)) ≡ rule_break t span (suc n) I5
+  i5 : option_map (break_at (suc n) (time_at t (suc n))) (broken I5 (is_acknowledged here) (answer_in within seen)) ≡ rule_break t span (suc n) I5
   i5 = from_cycle I5 later (λ c w. is_acknowledged c) form_i5 (in_acknowledged t span (suc n))
 
   abbrev acknowledges : Bool
@@ -140,7 +141,7 @@ module _ (t : Trace) (span : Span) (reads : ReadsStrobes t span) (n : ℕ) (from
   unfolding breaks is_broken
   form_i4 l = ap (λ b. is_judged span (suc n) && has_line t.opening.slots l && b) (gathered (is_answer_line l && falls t l (suc n)) (answers_write t span (suc n)) acknowledges)
 
-  pub i4 : option_map (break_at (suc n) (time_at t (suc n))) (broken I4 (is_acknowledge here && is_writing within) (answer_in within seen)) ≡ rule_break t span (suc n) I4
+  i4 : option_map (break_at (suc n) (time_at t (suc n))) (broken I4 (is_acknowledge here && is_writing within) (answer_in within seen)) ≡ rule_break t span (suc n) I4
   i4 =
       rule_from t n span from before I4 (is_acknowledge here && is_writing within) (answer_in within seen)
       (on_answers t n span from before I4 (λ l. falls t l (suc n)) (answers_write t span (suc n) && acknowledges) form_i4
@@ -149,3 +150,7 @@ module _ (t : Trace) (span : Span) (reads : ReadsStrobes t span) (n : ℕ) (from
     where
       same_and : (a b c d : Bool) → a ≡ c → b ≡ d → (a && b) ≡ (c && d)
       same_and a b c d e f = rw (e, f) refl
+
+  -- each fault is that of its rule
+  pub cycles-broken : AreOf (break_at (suc n) (time_at t (suc n))) (rule_break t span (suc n)) cycle_rules (cycle_faults here (is_writing within) (answer_in within seen))
+  cycles-broken = (c1, (c2, (i4, (i5, tt))))

@@ -18,9 +18,10 @@ use Rattle.vme_monitor.specs.Tracking.{entered, is_unanswered, is_within}
 use Rattle.vme_monitor.specs.declared.tracking.Pending.{Pending}
 use Rattle.vme_monitor.proofs.TrackedTransfers.{in_transfer_is, is_answer_is}
 use Rattle.vme_dtb.specs.Edge.{edges_between}
-use Rattle.vme_dtb.specs.Machine.{answer_in, broken, dropped, freed, is_doubled, is_replied, is_unserved}
+use Rattle.vme_dtb.specs.Machine.{answer_in, broken, dropped, freed, is_doubled, is_replied, is_unserved, strobe_faults, strobe_rules}
 use Rattle.vme_dtb.specs.declared.edges.Edges.{Edges}
 use Rattle.vme_dtb.specs.declared.memory.Memory.{Memory}
+use Rattle.vme_dtb.proofs.Faults.{AreOf}
 use Rattle.vme_dtb.proofs.FreedAnswers.{freed_at, held_is}
 use Rattle.vme_dtb.proofs.Held.{Holds}
 use Rattle.vme_dtb.proofs.OpenState.{doubled_is, replied_is, unserved_is}
@@ -61,7 +62,7 @@ module _ (t : Trace) (span : Span) (reads : ReadsStrobes t span) (n : ℕ) (from
   unfolding breaks is_broken
   form_1 l = ap (λ b. is_judged span (suc n) && has_line t.opening.slots l && b) (turned_round (is_answer_line l) (transfer_starts t span (suc n)) (not (near (high t l) (suc n))))
 
-  pub h1 : option_map (break_at (suc n) (time_at t (suc n))) (broken H1 true seen.unready) ≡ rule_break t span (suc n) H1
+  h1 : option_map (break_at (suc n) (time_at t (suc n))) (broken H1 true seen.unready) ≡ rule_break t span (suc n) H1
   h1 =
       rule_from t n span from before H1 true seen.unready
       (on_answers t n span from before H1 (λ l. not (near (high t l) (suc n))) (transfer_starts t span (suc n)) form_1
@@ -77,7 +78,7 @@ module _ (t : Trace) (span : Span) (reads : ReadsStrobes t span) (n : ℕ) (from
   unfolding breaks is_broken
   form_2 l = refl
 
-  pub h2 : option_map (break_at (suc n) (time_at t (suc n))) (broken H2 (is_unserved m.pending seen) seen.strobe_rise) ≡ rule_break t span (suc n) H2
+  h2 : option_map (break_at (suc n) (time_at t (suc n))) (broken H2 (is_unserved m.pending seen) seen.strobe_rise) ≡ rule_break t span (suc n) H2
   h2 =
       rule_from t n span from before H2 (is_unserved m.pending seen) seen.strobe_rise
       (on_strobes t n span from before H2 (λ l. rises t l (suc n)) (in_transfer t span unserved_at (suc n)) form_2 ∙ same_cond _ _ _ _ unserved (strobe_rise_is t n))
@@ -89,7 +90,7 @@ module _ (t : Trace) (span : Span) (reads : ReadsStrobes t span) (n : ℕ) (from
   unfolding breaks is_broken
   form_3 l = refl
 
-  pub h3 : option_map (break_at (suc n) (time_at t (suc n))) (broken H3 (is_replied m.pending) seen.strobe_fall) ≡ rule_break t span (suc n) H3
+  h3 : option_map (break_at (suc n) (time_at t (suc n))) (broken H3 (is_replied m.pending) seen.strobe_fall) ≡ rule_break t span (suc n) H3
   h3 =
       rule_from t n span from before H3 (is_replied m.pending) seen.strobe_fall
       (on_strobes t n span from before H3 (λ l. falls t l (suc n)) (in_transfer t span replied_at (suc n)) form_3 ∙ same_cond _ _ _ _ (replied_is t span reads n from before m.pending holds.transfer) (strobe_fall_is t n))
@@ -98,7 +99,7 @@ module _ (t : Trace) (span : Span) (reads : ReadsStrobes t span) (n : ℕ) (from
   unfolding breaks is_broken
   form_4 l = refl
 
-  pub h4 : option_map (break_at (suc n) (time_at t (suc n))) (broken H4 (not (is_within within)) seen.answer_fall) ≡ rule_break t span (suc n) H4
+  h4 : option_map (break_at (suc n) (time_at t (suc n))) (broken H4 (not (is_within within)) seen.answer_fall) ≡ rule_break t span (suc n) H4
   h4 =
       rule_from t n span from before H4 (not (is_within within)) seen.answer_fall
       (on_answers t n span from before H4 (λ l. falls t l (suc n)) (not (in_transfer t span (λ i. true) (suc n))) form_4
@@ -119,7 +120,7 @@ module _ (t : Trace) (span : Span) (reads : ReadsStrobes t span) (n : ℕ) (from
       same_both : (a b c d : Bool) → a ≡ c → b ≡ d → (is_replied within || (is_unanswered within && (a && b))) ≡ (is_replied within || (is_unanswered within && (c && d)))
       same_both a b c d e f = rw (e, f) refl
 
-  pub h5 : option_map (break_at (suc n) (time_at t (suc n))) (broken H5 (is_doubled within seen) seen.answer_fall) ≡ rule_break t span (suc n) H5
+  h5 : option_map (break_at (suc n) (time_at t (suc n))) (broken H5 (is_doubled within seen) seen.answer_fall) ≡ rule_break t span (suc n) H5
   h5 =
       rule_from t n span from before H5 (is_doubled within seen) seen.answer_fall
       (on_answers t n span from before H5 (λ l. falls t l (suc n)) (in_transfer t span twice_at (suc n)) form_5 ∙ same_cond _ _ _ _ doubled (answer_fall_is t n))
@@ -145,7 +146,7 @@ module _ (t : Trace) (span : Span) (reads : ReadsStrobes t span) (n : ℕ) (from
       same_held : (a b c d e f : Bool) → a ≡ d → b ≡ e → c ≡ f → (a && not (b || c)) ≡ (d && not (e || f))
       same_held a b c d e f x y z = rw (x, y, z) refl
 
-  pub h6 : option_map (break_at (suc n) (time_at t (suc n))) (broken H6 true (dropped m seen)) ≡ rule_break t span (suc n) H6
+  h6 : option_map (break_at (suc n) (time_at t (suc n))) (broken H6 true (dropped m seen)) ≡ rule_break t span (suc n) H6
   h6 =
       rule_from t n span from before H6 true (dropped m seen)
       (on_answers t n span from before H6 held_at true form_6 ∙ same_cond true true _ _ refl (same_first _ _ _ _ DTACK BERR (held DTACK m.dtack_freed holds.dtack) (held BERR m.berr_freed holds.berr)))
@@ -154,7 +155,7 @@ module _ (t : Trace) (span : Span) (reads : ReadsStrobes t span) (n : ℕ) (from
   unfolding breaks is_broken
   form_7 l = refl
 
-  pub h7 : option_map (break_at (suc n) (time_at t (suc n))) (broken H7 (is_unserved m.pending seen && seen.shown.cycle_end) (Some AS)) ≡ rule_break t span (suc n) H7
+  h7 : option_map (break_at (suc n) (time_at t (suc n))) (broken H7 (is_unserved m.pending seen && seen.shown.cycle_end) (Some AS)) ≡ rule_break t span (suc n) H7
   h7 =
       rule_from t n span from before H7 (is_unserved m.pending seen && seen.shown.cycle_end) (Some AS)
       (on_address t n span from before H7 (λ l. rises t l (suc n)) (in_transfer t span unserved_at (suc n)) form_7
@@ -179,7 +180,7 @@ module _ (t : Trace) (span : Span) (reads : ReadsStrobes t span) (n : ℕ) (from
   unfolding breaks is_broken
   form_8 l = ap (λ b. is_judged span (suc n) && has_line t.opening.slots l && b) (gathered (is_answer_line l && falls t l (suc n)) (is_answer t span (suc n)) (not (near (low t AS) (suc n))))
 
-  pub h8 : option_map (break_at (suc n) (time_at t (suc n))) (broken H8 seen.unaddressed (answer_in within seen)) ≡ rule_break t span (suc n) H8
+  h8 : option_map (break_at (suc n) (time_at t (suc n))) (broken H8 seen.unaddressed (answer_in within seen)) ≡ rule_break t span (suc n) H8
   h8 =
       rule_from t n span from before H8 seen.unaddressed (answer_in within seen)
       (on_answers t n span from before H8 (λ l. falls t l (suc n)) (is_answer t span (suc n) && not (near (low t AS) (suc n))) form_8
@@ -188,3 +189,7 @@ module _ (t : Trace) (span : Span) (reads : ReadsStrobes t span) (n : ℕ) (from
     where
       same_and : (a b c d : Bool) → a ≡ c → b ≡ d → (a && b) ≡ (c && d)
       same_and a b c d e f = rw (e, f) refl
+
+  -- each fault is that of its rule
+  pub strobes-broken : AreOf (break_at (suc n) (time_at t (suc n))) (rule_break t span (suc n)) strobe_rules (strobe_faults m within seen)
+  strobes-broken = (h1, (h2, (h3, (h4, (h5, (h6, (h7, (h8, tt))))))))

@@ -12,7 +12,7 @@ use Rattle.vme_trace.specs.Signals.{falls, rises, low, high}
 use Rattle.vme_trace.specs.Judged.{Span, is_judged}
 use Rattle.vme_trace.specs.Transfers.{strobes_high, transfer_starts, lasts, in_transfer, answers, is_answer, is_write, answers_write, data_at}
 use Rattle.vme_trace.specs.Cycles.{cycle_starts}
-use Rattle.vme_trace.specs.Verdict.{break_at as rules_break_at}
+use Rattle.vme_trace.specs.Verdict.{break_at as rules_break_at, rule_break}
 use Rattle.vme_trace.specs.declared.data.Lanes.{Lanes}
 use Rattle.vme_trace.specs.declared.verdict.Break.{Break}
 use Rattle.vme_trace.proofs.OpenTransfers.{suc-sub-one}
@@ -33,69 +33,21 @@ use Rattle.vme_monitor.proofs.LeastLines.{least_answer}
 use Rattle.vme_monitor.proofs.OwnRules.{own_event, own_marks}
 use Rattle.vme_monitor.proofs.SpanFacts.{IsSpan}
 use Rattle.vme_dtb.specs.Edge.{asked_of, edges_between}
-use Rattle.vme_dtb.specs.Machine.{answer_in, answered_in, broken, dropped, dtb_begin, dtb_ends, dtb_next, dtb_opens, dtb_sight, dtb_step, fault_in, is_doubled, is_replied, is_unserved}
+use Rattle.vme_dtb.specs.Machine.{answer_in, answered_in, cycle_faults, cycle_rules, dtb_begin, dtb_ends, dtb_next, dtb_opens, dtb_sight, dtb_step, fault_in, handshake_rules, strobe_faults, strobe_rules}
 use Rattle.vme_dtb.specs.declared.cycle.Cycle.{Cycle}
-use Rattle.vme_dtb.specs.CycleState.{cycle_entered, is_acknowledge, is_acknowledged, is_pair_spoiled, is_turned}
-use Rattle.vme_trace.specs.declared.rule.Rule.TheVariants.{H1, H2, H3, H4, H5, H6, H7, H8, C1, C2, I4, I5}
-use Rattle.vme_dtb.specs.Shown.{answer_line, answered, closes, handshake_rules, handshake_shown}
+use Rattle.vme_dtb.specs.CycleState.{cycle_entered}
+use Rattle.vme_dtb.specs.Shown.{answer_line, answered, closes, handshake_shown}
 use Rattle.vme_dtb.specs.declared.edges.Edges.{Edges}
 use Rattle.vme_dtb.specs.declared.memory.Memory.{Memory}
-use Rattle.vme_dtb.proofs.CycleBreaks.{c1, c2, cycle_starts_is, i4, i5, write_is}
-use Rattle.vme_dtb.proofs.HandshakeBreaks.{answer_is, h1, h2, h3, h4, h5, h6, h7, h8}
+use Rattle.vme_dtb.proofs.CycleBreaks.{cycle_starts_is, cycles-broken, write_is}
+use Rattle.vme_dtb.proofs.Faults.{both-first}
+use Rattle.vme_dtb.proofs.HandshakeBreaks.{answer_is, strobes-broken}
 use Rattle.vme_dtb.proofs.Held.{Holds}
 use Rattle.vme_dtb.proofs.Holding.{holds_at, memory_at}
 use Rattle.vme_dtb.proofs.OpenState.{started_is}
 use Rattle.vme_dtb.proofs.Searches.{lt_fails}
 use Rattle.vme_dtb.proofs.StepFacts.{old, new, answer_fall_is, judged, rises_is, starts_is}
 use Rattle.vme_dtb.proofs.StillSteps.{noticed_is}
-
-map_or : (f : Fault → Break) (a b : Option Fault) → option_map f (option_or a b) ≡ option_or (option_map f a) (option_map f b)
-map_or f None b = refl
-map_or f (Some x) b = refl
-
-or_assoc : (a b c : Option Break) → option_or (option_or a b) c ≡ option_or a (option_or b c)
-or_assoc None b c = refl
-or_assoc (Some x) b c = refl
-
-or_none : (a : Option Break) → a ≡ option_or a None
-or_none None = refl
-or_none (Some x) = refl
-
-or_same : (x y r s : Option Break) → x ≡ y → r ≡ s → option_or x r ≡ option_or y s
-or_same x y r s e f = rw (e, f) refl
-
--- one more in front of what is grouped to the left
-or_more : (f : Fault → Break) (a b : Option Fault) (r : Option Break) → option_or (option_map f (option_or a b)) r ≡ option_or (option_map f a) (option_or (option_map f b) r)
-or_more f None b r = refl
-or_more f (Some x) b r = refl
-
-mapped : (f : Fault → Break) (a1 a2 a3 a4 a5 a6 a7 a8 a9 a10 a11 a12 : Option Fault)
-    → option_map f (option_or (option_or (option_or (option_or (option_or (option_or (option_or (option_or a1 a2) a3) a4) a5) a6) a7) a8) (option_or (option_or (option_or a9 a10) a11) a12))
-    ≡ option_or (option_map f a1) (option_or (option_map f a2) (option_or (option_map f a3) (option_or (option_map f a4) (option_or (option_map f a5) (option_or (option_map f a6) (option_or (option_map f a7) (option_or (option_map f a8)
-    (option_or (option_map f a9) (option_or (option_map f a10) (option_or (option_map f a11) (option_or (option_map f a12) None)))))))))))
-mapped f a1 a2 a3 a4 a5 a6 a7 a8 a9 a10 a11 a12 =
-    map_or f (option_or (option_or (option_or (option_or (option_or (option_or (option_or a1 a2) a3) a4) a5) a6) a7) a8) (option_or (option_or (option_or a9 a10) a11) a12)
-    ∙ or_same _ _ _ _ refl
-    (or_none (option_map f (option_or (option_or (option_or a9 a10) a11) a12))
-    ∙ (or_more f (option_or (option_or a9 a10) a11) a12 None ∙ (or_more f (option_or a9 a10) a11 (option_or (option_map f a12) None) ∙ or_more f a9 a10 (option_or (option_map f a11) (option_or (option_map f a12) None)))))
-    ∙ late (option_or (option_map f a9) (option_or (option_map f a10) (option_or (option_map f a11) (option_or (option_map f a12) None))))
-  where
-    late : (r : Option Break) → option_or (option_map f (option_or (option_or (option_or (option_or (option_or (option_or (option_or a1 a2) a3) a4) a5) a6) a7) a8)) r
-        ≡ option_or (option_map f a1) (option_or (option_map f a2) (option_or (option_map f a3) (option_or (option_map f a4) (option_or (option_map f a5) (option_or (option_map f a6) (option_or (option_map f a7) (option_or (option_map f a8) r)))))))
-    late r =
-        let r8 = option_or (option_map f a8) r in
-        let r7 = option_or (option_map f a7) r8 in
-        let r6 = option_or (option_map f a6) r7 in
-        let r5 = option_or (option_map f a5) r6 in
-        let r4 = option_or (option_map f a4) r5 in
-        let r3 = option_or (option_map f a3) r4 in
-        or_more f (option_or (option_or (option_or (option_or (option_or (option_or a1 a2) a3) a4) a5) a6) a7) a8 r
-        ∙ (or_more f (option_or (option_or (option_or (option_or (option_or a1 a2) a3) a4) a5) a6) a7 r8
-        ∙ (or_more f (option_or (option_or (option_or (option_or a1 a2) a3) a4) a5) a6 r7
-        ∙ (or_more f (option_or (option_or (option_or a1 a2) a3) a4) a5 r6
-        ∙ (or_more f (option_or (option_or a1 a2) a3) a4 r5
-        ∙ (or_more f (option_or a1 a2) a3 r4
-        ∙ or_more f a1 a2 r3)))))
 
 answered_line : (u : Bool) (o : Option ℕ) → cond (u && is_some o) o None ≡ cond u o None
 answered_line true None = refl
@@ -127,22 +79,8 @@ module _ (t : Trace) (span : Span) (facts : IsSpan t span) (n : ℕ) (from : spa
   breaks_are : option_map (break_at (suc n) (time_at t (suc n))) (fault_in m (old t n) (new t n) seen) ≡ rules_break_at t span handshake_rules (suc n)
   unfolding rules_break_at
   breaks_are =
-      mapped (break_at (suc n) (time_at t (suc n))) (broken H1 true seen.unready) (broken H2 (is_unserved m.pending seen) seen.strobe_rise) (broken H3 (is_replied m.pending) seen.strobe_fall) (broken H4 (not (is_within within)) seen.answer_fall)
-      (broken H5 (is_doubled within seen) seen.answer_fall) (broken H6 true (dropped m seen)) (broken H7 (is_unserved m.pending seen && seen.shown.cycle_end) (Some AS)) (broken H8 seen.unaddressed (answer_in within seen))
-      (broken C1 (is_pair_spoiled here (is_writing within)) (answer_in within seen)) (broken C2 (is_turned here (is_writing within)) (answer_in within seen)) (broken I4 (is_acknowledge here && is_writing within) (answer_in within seen))
-      (broken I5 (is_acknowledged here) (answer_in within seen))
-      ∙ or_same _ _ _ _ (h1 t span facts.reads n from before m holds)
-      (or_same _ _ _ _ (h2 t span facts.reads n from before m holds)
-      (or_same _ _ _ _ (h3 t span facts.reads n from before m holds)
-      (or_same _ _ _ _ (h4 t span facts.reads n from before m holds)
-      (or_same _ _ _ _ (h5 t span facts.reads n from before m holds)
-      (or_same _ _ _ _ (h6 t span facts.reads n from before m holds)
-      (or_same _ _ _ _ (h7 t span facts.reads n from before m holds)
-      (or_same _ _ _ _ (h8 t span facts.reads n from before m holds)
-      (or_same _ _ _ _ (c1 t span facts.reads n from before m holds)
-      (or_same _ _ _ _ (c2 t span facts.reads n from before m holds)
-      (or_same _ _ _ _ (i4 t span facts.reads n from before m holds)
-      (or_same _ _ _ _ (i5 t span facts.reads n from before m holds) refl)))))))))))
+      both-first (break_at (suc n) (time_at t (suc n))) (rule_break t span (suc n)) strobe_rules cycle_rules (strobe_faults m within seen) (cycle_faults here (is_writing within) (answer_in within seen))
+      (strobes-broken t span facts.reads n from before m holds) (cycles-broken t span facts.reads n from before m holds)
 
   pub dtb_inside : option_map (break_at (suc n) (time_at t (suc n))) (next_at (noticed dtb_sight dtb_step) t m n).fault ≡ rules_break_at t span handshake_rules (suc n)
   dtb_inside = ap (λ (x : Next Memory). option_map (break_at (suc n) (time_at t (suc n))) x.fault) (noticed_is t span n m holds (changes_of (slice_get t.steps n))) ∙ breaks_are

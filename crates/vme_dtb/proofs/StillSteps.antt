@@ -11,8 +11,7 @@ use Rattle.vme_trace.specs.Signals.{low, high}
 use Rattle.vme_trace.specs.Judged.{Span}
 use Rattle.vme_trace.specs.declared.level.Level.{Level}
 use Rattle.vme_trace.specs.declared.level.Level.TheVariants.{Low, High, Unknown}
-use Rattle.vme_trace.specs.declared.rule.Rule.{Rule}
-use Rattle.vme_trace.specs.declared.rule.Rule.TheVariants.{H1, H2, H3, H4, H5, H6, H7, H8, C1, C2, I4, I5}
+use Rattle.vme_trace.specs.declared.rule.Rule.TheVariants.{H2, H3, H4, H5, H7, H8}
 use Rattle.vme_trace.specs.declared.step.Change.{Change}
 use Rattle.vme_monitor.specs.Run.{noticed, nothing, quiet}
 use Rattle.vme_monitor.specs.Tracked.{Says}
@@ -22,12 +21,13 @@ use Rattle.vme_monitor.specs.declared.mark.Asked.{Asked}
 use Rattle.vme_monitor.specs.declared.mark.Fault.{Fault}
 use Rattle.vme_monitor.specs.declared.tracking.Pending.{Pending}
 use Rattle.vme_monitor.specs.declared.tracking.Pending.TheVariants.{Closed, Reading, Writing, Answered}
-use Rattle.vme_dtb.specs.CycleState.{after_answer, is_acknowledge, is_acknowledged, is_pair_spoiled, is_turned}
+use Rattle.vme_dtb.specs.CycleState.{after_answer}
 use Rattle.vme_dtb.specs.Edge.{asked_of, edges_between, first_of, is_still, is_unready}
-use Rattle.vme_dtb.specs.Machine.{answer_in, answered_in, broken, cycle_fault, data_in, dtb_next, dtb_sight, dtb_step, handshake_fault, is_doubled, is_replied, is_unserved, memory_after}
+use Rattle.vme_dtb.specs.Machine.{answer_in, answered_in, broken, cycle_fault, data_in, dtb_next, dtb_sight, dtb_step, handshake_fault, is_doubled, is_replied, is_unserved, memory_after, strobe_faults}
 use Rattle.vme_dtb.specs.declared.cycle.Cycle.{Cycle}
 use Rattle.vme_dtb.specs.declared.edges.Edges.{Edges}
 use Rattle.vme_dtb.specs.declared.memory.Memory.{Memory}
+use Rattle.vme_dtb.proofs.Faults.{none-first, not_applied, unanswered, unnamed}
 use Rattle.vme_dtb.proofs.Held.{Holds}
 use Rattle.vme_dtb.proofs.StepFacts.{old, new}
 
@@ -75,37 +75,12 @@ nowhere : {A : Type 0} (b : Bool) (o : Option A) → o ≡ None → cond b o Non
 nowhere true o e = e
 nowhere false o e = refl
 
-unbroken : (r : Rule) (b : Bool) → broken r b None ≡ None
-unbroken r true = refl
-unbroken r false = refl
+and_false : (b : Bool) → (b && false) ≡ false
+and_false true = refl
+and_false false = refl
 
-unbroken_and : (r : Rule) (b : Bool) (o : Option ℕ) → broken r (b && false) o ≡ None
-unbroken_and r true o = refl
-unbroken_and r false o = refl
-
-all_unbroken : (b2 b3 b4 b5 b7 b8 c1 c2 i4 i5 : Bool)
-    → option_or
-    (option_or
-    (option_or
-    (option_or
-    (option_or
-    (option_or
-    (option_or
-    (option_or (broken H1 true None) (broken H2 b2 None))
-    (broken H3 b3 None))
-    (broken H4 b4 None))
-    (broken H5 b5 None))
-    (broken H6 true None))
-    (broken H7 (b7 && false) (Some AS)))
-    (broken H8 b8 None))
-    (option_or
-    (option_or
-    (option_or (broken C1 c1 None) (broken C2 c2 None))
-    (broken I4 i4 None))
-    (broken I5 i5 None))
-    ≡ None
-all_unbroken b2 b3 b4 b5 b7 b8 c1 c2 i4 i5 =
-    rw (unbroken H2 b2, unbroken H3 b3, unbroken H4 b4, unbroken H5 b5, unbroken_and H7 b7 (Some AS), unbroken H8 b8, unbroken C1 c1, unbroken C2 c2, unbroken I4 i4, unbroken I5 i5) refl
+neither : (a b : Option Fault) → a ≡ None → b ≡ None → option_or a b ≡ None
+neither a b e f = rw (e, f) refl
 
 -- the edges of a step, by the tests that they rest on
 abbrev pub built : (as_falls as_rises starts closes rise0 rise1 fall0 fall1 dtack_falls berr_falls dtack_rises berr_rises unaddressed : Bool) → Asked → Bool → Option ℕ → Edges
@@ -216,24 +191,10 @@ module _ (t : Trace) (span : Span) (n : ℕ) (m : Memory) (holds : Holds t span 
       (same_memory (tracked m.pending v w) (cond (is_some (answer_in e (silent u))) (after_answer m.cycle (is_writing e)) m.cycle) (is_low (level_at w DTACK) && (m.dtack_freed || false)) (is_low (level_at w BERR) && (m.berr_freed || false))
       (tracked_still v w still m.pending ∙ pending_kept m.pending holds.transfer) (ap (λ o. cond (is_some o) (after_answer m.cycle (is_writing e)) m.cycle) none)
       (freed_kept (is_low (level_at w DTACK)) (is_low (level_at v DTACK)) _ m.dtack_freed (ap is_low kept.3) holds.dtack) (freed_kept (is_low (level_at w BERR)) (is_low (level_at v BERR)) _ m.berr_freed (ap is_low kept.4) holds.berr))
-      (ap (λ o.
-      option_or
-      (option_or
-      (option_or
-      (option_or
-      (option_or
-      (option_or
-      (option_or
-      (option_or (broken H1 true None) (broken H2 (is_unserved m.pending (silent u)) None))
-      (broken H3 (is_replied m.pending) None))
-      (broken H4 (not (is_within e)) None))
-      (broken H5 (is_doubled e (silent u)) None))
-      (broken H6 true None))
-      (broken H7 (is_unserved m.pending (silent u) && false) (Some AS)))
-      (broken H8 u o))
-      (cycle_fault m.cycle (is_writing e) o)) none
-      ∙ all_unbroken (is_unserved m.pending (silent u)) (is_replied m.pending) (not (is_within e)) (is_doubled e (silent u)) (is_unserved m.pending (silent u)) u (is_pair_spoiled m.cycle (is_writing e)) (is_turned m.cycle (is_writing e)) (is_acknowledge m.cycle && is_writing e)
-      (is_acknowledged m.cycle))
+      (neither (handshake_fault m e (silent u)) (cycle_fault m.cycle (is_writing e) (answer_in e (silent u)))
+      (none-first (strobe_faults m e (silent u))
+      (refl, (unnamed H2 (is_unserved m.pending (silent u)), (unnamed H3 (is_replied m.pending), (unnamed H4 (not (is_within e)), (unnamed H5 (is_doubled e (silent u)), (refl, (not_applied H7 _ (Some AS) (and_false (is_unserved m.pending (silent u))), (ap (broken H8 u) none ∙ unnamed H8 u, tt)))))))))
+      (ap (cycle_fault m.cycle (is_writing e)) none ∙ sym (unanswered m.cycle (is_writing e))))
       no_mark
 
   -- so a step that isn't noticed is done all the same

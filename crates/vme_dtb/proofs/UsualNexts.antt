@@ -19,18 +19,14 @@ use Rattle.vme_monitor.specs.declared.mark.Next.{Next}
 use Rattle.vme_monitor.specs.declared.tracking.Pending.{Pending}
 use Rattle.vme_monitor.specs.declared.tracking.Pending.TheVariants.{Closed, Reading, Writing, Answered}
 use Rattle.vme_dtb.specs.CycleState.{after_answer, unanswered_of}
-use Rattle.vme_dtb.specs.Machine.{broken, cycle_fault, data_in, dtb_next, handshake_fault, is_doubled, is_replied, is_unserved}
+use Rattle.vme_dtb.specs.Machine.{broken, cycle_fault, data_in, dtb_next, handshake_fault, is_doubled, is_replied, is_unserved, strobe_faults}
 use Rattle.vme_dtb.specs.Edge.{asked_of, closes_between, edges_between, first_of, is_addressed, stays_on}
 use Rattle.vme_dtb.specs.UsualSteps.{is_answer_alone, is_hasty, is_start_alone, is_strobes_alone, memory_left}
 use Rattle.vme_dtb.specs.declared.cycle.Cycle.{Cycle}
 use Rattle.vme_dtb.specs.declared.memory.Memory.{Memory}
-use Rattle.vme_dtb.proofs.Faults.{unanswered, unnamed}
+use Rattle.vme_dtb.proofs.Faults.{none-first, not_applied, unanswered, unnamed}
 use Rattle.vme_dtb.proofs.StillSteps.{all_five}
 use Rattle.vme_dtb.proofs.UsualEdges.{all_four, answer_edges, answer_is, no_fall, no_start, ready_edges, ready_is, rises_alone, start_edges, start_is, strobes_are, strobes_here}
-
-all_none : (h1 h2 h3 h4 h5 h6 h7 h8 : Option Fault) → h1 ≡ None → h2 ≡ None → h3 ≡ None → h4 ≡ None → h5 ≡ None → h6 ≡ None → h7 ≡ None → h8 ≡ None
-    → option_or (option_or (option_or (option_or (option_or (option_or (option_or h1 h2) h3) h4) h5) h6) h7) h8 ≡ None
-all_none h1 h2 h3 h4 h5 h6 h7 h8 e1 e2 e3 e4 e5 e6 e7 e8 = rw (e1, e2, e3, e4, e5, e6, e7, e8) refl
 
 same_next : (p l : Pending) (k : Kinds) (c d : Cycle) (x y : Bool) (h q r : Option Fault) (a b : Option Answer) → p ≡ l → c ≡ d → h ≡ None → q ≡ r → a ≡ b
     → ◌≡◌ {A = Next Memory} (record { memory = record { pending = p; cycle = c; dtack_freed = x; berr_freed = y }; fault = option_or h q; kinds = record k { answer = a } })
@@ -40,9 +36,6 @@ same_next p l k c d x y h q r a b o e f g i = rw (o, e, f, g, i) refl
 nowhere : (b : Bool) → let none : Option ℕ = None in cond b none none ≡ none
 nowhere true = refl
 nowhere false = refl
-
-not_applied : (r : Rule) (b : Bool) (o : Option ℕ) → b ≡ false → broken r b o ≡ None
-not_applied r b o e = rw e refl
 
 and_false : (b : Bool) → (b && false) ≡ false
 and_false true = refl
@@ -152,7 +145,7 @@ module _ (m : Memory) (v w : Levels) where
       let c = unanswered_of (asked_of w).class in
       sym
       (same_next (tracked m.pending v w) _ s.shown _ c _ _ (handshake_fault m within s) _ None _ None (unanswered_left m.pending (no_fall v w DTACK all.3) (no_fall v w BERR all.4) (within_is (no_start v w all.1 all.2))) (kept_cycle c)
-      (all_none _ _ _ _ _ _ _ _ refl (unnamed H2 (is_unserved m.pending s)) (unnamed H3 (is_replied m.pending)) (unnamed H4 (not (is_within within))) (unnamed H5 (is_doubled within s)) refl (not_applied H7 _ (Some AS) (and_false (is_unserved m.pending s))) (no_h8 false))
+      (none-first (strobe_faults m within s) (refl, (unnamed H2 (is_unserved m.pending s), (unnamed H3 (is_replied m.pending), (unnamed H4 (not (is_within within)), (unnamed H5 (is_doubled within s), (refl, (not_applied H7 _ (Some AS) (and_false (is_unserved m.pending s)), (no_h8 false, tt)))))))))
       (unanswered_here c) no_mark)
       ∙ ap (dtb_next m v w) (start_is v w alone)
 
@@ -164,8 +157,7 @@ module _ (m : Memory) (v w : Levels) where
       ap (λ (b : Bool). by_rise (memory_left m w within m.cycle b)) (sym (any_of (rises_between v w DS0) (rises_between v w DS1) DS0 DS1))
       ∙ sym
       (same_next (tracked m.pending v w) _ s.shown _ m.cycle _ _ (handshake_fault m within s) _ None _ None (unanswered_left within (no_fall v w DTACK all.1) (no_fall v w BERR all.2) refl) (kept_cycle m.cycle)
-      (all_none _ _ _ _ _ _ _ _ refl (hasty_rise m.pending (rises_between v w DS0) (rises_between v w DS1) (rises_between v w AS) (strobe_falls_between v w) calm) (hasty_fall m.pending (strobe_rises_between v w) (rises_between v w AS) (falls_between v w DS0) (falls_between v w DS1) calm)
-      (unnamed H4 (not (is_within within))) (unnamed H5 (is_doubled within s)) refl (not_applied H7 _ (Some AS) (hasty_end m.pending (strobe_rises_between v w) (rises_between v w AS) (strobe_falls_between v w) calm)) (no_h8 false))
+      (none-first (strobe_faults m within s) (refl, (hasty_rise m.pending (rises_between v w DS0) (rises_between v w DS1) (rises_between v w AS) (strobe_falls_between v w) calm, (hasty_fall m.pending (strobe_rises_between v w) (rises_between v w AS) (falls_between v w DS0) (falls_between v w DS1) calm, (unnamed H4 (not (is_within within)), (unnamed H5 (is_doubled within s), (refl, (not_applied H7 _ (Some AS) (hasty_end m.pending (strobe_rises_between v w) (rises_between v w AS) (strobe_falls_between v w) calm), (no_h8 false, tt)))))))))
       (unanswered_here m.cycle) no_mark)
       ∙ ap (dtb_next m v w) (strobes_are v w alone)
     where
@@ -182,7 +174,7 @@ module _ (m : Memory) (v w : Levels) where
       sym
       (same_next (tracked m.pending v w) _ s.shown _ (after_answer m.cycle (is_writing m.pending)) _ _ (handshake_fault m within s) _ (cycle_fault m.cycle (is_writing m.pending) (Some DTACK)) _ (Some (plain_answer DTACK)) (answered_left falls (ap is_unanswered same ∙ waits))
       (ap (λ (o : Option ℕ). cond (is_some o) (after_answer m.cycle (is_writing within)) m.cycle) one.2 ∙ ap (λ (p : Pending). after_answer m.cycle (is_writing p)) same)
-      (all_none _ _ _ _ _ _ _ _ refl (unnamed H2 (is_unserved m.pending s)) (unnamed H3 (is_replied m.pending)) (not_applied H4 _ (Some DTACK) one.0) (not_applied H5 _ (Some DTACK) one.1) refl (not_applied H7 _ (Some AS) (and_false (is_unserved m.pending s))) refl)
+      (none-first (strobe_faults m within s) (refl, (unnamed H2 (is_unserved m.pending s), (unnamed H3 (is_replied m.pending), (not_applied H4 _ (Some DTACK) one.0, (not_applied H5 _ (Some DTACK) one.1, (refl, (not_applied H7 _ (Some AS) (and_false (is_unserved m.pending s)), (refl, tt)))))))))
       (ap (cycle_fault m.cycle (is_writing within)) one.2 ∙ ap (λ (p : Pending). cycle_fault m.cycle (is_writing p) (Some DTACK)) same)
       (ap (option_map told) one.2 ∙ ap (λ (d : Option Lanes). Some (told_with d DTACK)) (plain_data (no_start v w all.1 all.2))))
       ∙ ap (dtb_next m v w) (answer_is v w alone falls addressed)
@@ -194,6 +186,6 @@ module _ (m : Memory) (v w : Levels) where
       sym
       (same_next (tracked m.pending v w) _ s.shown _ m.cycle _ _ (handshake_fault m within s) _ None _ None
       (unanswered_left m.pending (rises_alone (level_at v DTACK) (level_at w DTACK) rises) (no_fall v w BERR all.3) (within_is (no_start v w all.1 all.2))) (kept_cycle m.cycle)
-      (all_none _ _ _ _ _ _ _ _ refl (unnamed H2 (is_unserved m.pending s)) (unnamed H3 (is_replied m.pending)) (unnamed H4 (not (is_within within))) (unnamed H5 (is_doubled within s)) (rw gone refl) (not_applied H7 _ (Some AS) (and_false (is_unserved m.pending s))) (no_h8 (not (is_addressed v w))))
+      (none-first (strobe_faults m within s) (refl, (unnamed H2 (is_unserved m.pending s), (unnamed H3 (is_replied m.pending), (unnamed H4 (not (is_within within)), (unnamed H5 (is_doubled within s), (rw gone refl, (not_applied H7 _ (Some AS) (and_false (is_unserved m.pending s)), (no_h8 (not (is_addressed v w)), tt)))))))))
       (unanswered_here m.cycle) no_mark)
       ∙ ap (dtb_next m v w) (ready_is v w alone rises)

@@ -1,6 +1,6 @@
 -- What the machine of the handshake does with a step.
-use Rattle.std.specs.Prelude.{ℕ, Bool, true, false, not, ◌&&◌, ◌||◌, List, Option, None, Some, option_map, is_some}
-use Rattle.std.specs.Prelude.{if◌then◌else◌}
+use Rattle.std.specs.Prelude.{ℕ, Bool, true, false, not, ◌&&◌, ◌||◌, List, [], ◌∷◌, ◌++◌, Option, None, Some}
+use Rattle.std.specs.Prelude.{is_some, option_map, if◌then◌else◌}
 use Rattle.std.specs.Option.{option_or}
 use Rattle.vme_trace.specs.Edges.{starts_between}
 use Rattle.vme_trace.specs.LineNumbers.{AS, DTACK, BERR}
@@ -65,30 +65,50 @@ abbrev pub dropped : Memory → Edges → Option ℕ
 dropped m s = first_of (s.dtack_rises && not (freed m.dtack_freed s)) DTACK
     (s.berr_rises && not (freed m.berr_freed s)) BERR
 
-abbrev pub handshake_fault : Memory → Pending → Edges → Option Fault
-handshake_fault m e s =
-    option_or
-    (option_or
-    (option_or
-    (option_or
-    (option_or
-    (option_or
-    (option_or (broken H1 true s.unready) (broken H2 (is_unserved m.pending s) s.strobe_rise))
-    (broken H3 (is_replied m.pending) s.strobe_fall))
-    (broken H4 (not (is_within e)) s.answer_fall))
-    (broken H5 (is_doubled e s) s.answer_fall))
-    (broken H6 true (dropped m s)))
-    (broken H7 (is_unserved m.pending s && s.shown.cycle_end) (Some AS)))
-    (broken H8 s.unaddressed (answer_in e s))
+-- the first of some faults, behind an earlier one if there is one
+abbrev pub or_first : Option Fault → List (Option Fault) → Option Fault
+or_first earlier [] = earlier
+or_first earlier (f ∷ fs) = or_first (option_or earlier f) fs
 
--- w: the transfer is a write
+abbrev pub first_of_faults : List (Option Fault) → Option Fault
+first_of_faults = or_first None
+
+-- the rules on strobes and answers, and what breaks each
+abbrev pub strobe_rules : List Rule
+strobe_rules = H1 ∷ H2 ∷ H3 ∷ H4 ∷ H5 ∷ H6 ∷ H7 ∷ H8 ∷ []
+
+abbrev pub strobe_faults : Memory → Pending → Edges → List (Option Fault)
+strobe_faults m e s =
+    broken H1 true s.unready
+    ∷ broken H2 (is_unserved m.pending s) s.strobe_rise
+    ∷ broken H3 (is_replied m.pending) s.strobe_fall
+    ∷ broken H4 (not (is_within e)) s.answer_fall
+    ∷ broken H5 (is_doubled e s) s.answer_fall
+    ∷ broken H6 true (dropped m s)
+    ∷ broken H7 (is_unserved m.pending s && s.shown.cycle_end) (Some AS)
+    ∷ broken H8 s.unaddressed (answer_in e s)
+    ∷ []
+
+-- the rules on the answers of a cycle, and what breaks each; w: the transfer is a write
+abbrev pub cycle_rules : List Rule
+cycle_rules = C1 ∷ C2 ∷ I4 ∷ I5 ∷ []
+
+abbrev pub cycle_faults : Cycle → Bool → Option ℕ → List (Option Fault)
+cycle_faults c w answer =
+    broken C1 (is_pair_spoiled c w) answer
+    ∷ broken C2 (is_turned c w) answer
+    ∷ broken I4 (is_acknowledge c && w) answer
+    ∷ broken I5 (is_acknowledged c) answer
+    ∷ []
+
+abbrev pub handshake_rules : List Rule
+handshake_rules = strobe_rules ++ cycle_rules
+
+abbrev pub handshake_fault : Memory → Pending → Edges → Option Fault
+handshake_fault m e s = first_of_faults (strobe_faults m e s)
+
 abbrev pub cycle_fault : Cycle → Bool → Option ℕ → Option Fault
-cycle_fault c w answer =
-    option_or
-    (option_or
-    (option_or (broken C1 (is_pair_spoiled c w) answer) (broken C2 (is_turned c w) answer))
-    (broken I4 (is_acknowledge c && w) answer))
-    (broken I5 (is_acknowledged c) answer)
+cycle_fault c w answer = first_of_faults (cycle_faults c w answer)
 
 abbrev pub memory_after : Memory → Levels → Levels → Edges → Memory
 memory_after m v w s =

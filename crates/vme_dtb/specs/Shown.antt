@@ -1,5 +1,5 @@
--- The rules of the handshake and of cycles, and what cycles and transfers show at each instant.
-use Rattle.std.specs.Prelude.{ℕ, Bool, ◌&&◌, List, [], ◌∷◌, Option, None, Some, option_map, nat_lt, if◌then◌else◌}
+-- What cycles and transfers show at each instant.
+use Rattle.std.specs.Prelude.{ℕ, Bool, ◌&&◌, Option, None, Some, option_map, nat_lt, if◌then◌else◌}
 use Rattle.vme_trace.specs.Instants.{least}
 use Rattle.vme_trace.specs.LineNumbers.{line_count, AS, is_answer_line}
 use Rattle.vme_trace.specs.Trace.{Trace, levels_at}
@@ -8,15 +8,10 @@ use Rattle.vme_trace.specs.Judged.{Span, is_judged}
 use Rattle.vme_trace.specs.Transfers.{strobes_high, transfer_starts, in_transfer, is_answer, is_write}
 use Rattle.vme_trace.specs.Transfers.{answers_write, data_at}
 use Rattle.vme_trace.specs.Cycles.{cycle_starts}
-use Rattle.vme_trace.specs.declared.rule.Rule.{Rule}
-use Rattle.vme_trace.specs.declared.rule.Rule.TheVariants.{H1, H2, H3, H4, H5, H6, H7, H8, C1, C2, I4, I5}
 use Rattle.vme_monitor.specs.Run.{nothing}
 use Rattle.vme_monitor.specs.declared.mark.Answered.{Answered}
 use Rattle.vme_monitor.specs.declared.mark.Kinds.{Kinds}
 use Rattle.vme_dtb.specs.Edge.{asked_of}
-
-abbrev pub handshake_rules : List Rule
-handshake_rules = H1 ∷ H2 ∷ H3 ∷ H4 ∷ H5 ∷ H6 ∷ H7 ∷ H8 ∷ C1 ∷ C2 ∷ I4 ∷ I5 ∷ []
 
 module _ (t : Trace) (span : Span) where
   -- a transfer closes: the first instant after its start at which both strobes are high

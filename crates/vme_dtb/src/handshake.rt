@@ -14,10 +14,11 @@ ghost use Rattle.vme_monitor.specs.Run.{nothing};
 ghost use Rattle.vme_monitor.specs.Whole.{FindsLeast, ShowsAll};
 ghost use Rattle.vme_dtb.specs.Machine.{answer_in, answered_in, broken as broken_on, cycle_fault as fault_of_cycle};
 ghost use Rattle.vme_dtb.specs.Machine.{data_in, dropped as dropped_line, dtb_next, freed as is_freed};
-ghost use Rattle.vme_dtb.specs.Machine.{handshake_fault as fault_of_handshake, is_doubled, is_replied, is_unserved};
+ghost use Rattle.vme_dtb.specs.Machine.{handshake_fault as fault_of_handshake, handshake_rules, is_doubled, is_replied};
+ghost use Rattle.vme_dtb.specs.Machine.{is_unserved};
 ghost use Rattle.vme_dtb.specs.Edge.{edges_between, is_addressed};
 ghost use Rattle.vme_dtb.specs.UsualSteps.{is_answer_alone, is_hasty, is_start_alone, is_strobes_alone, memory_left};
-ghost use Rattle.vme_dtb.specs.Shown.{handshake_rules, handshake_shown};
+ghost use Rattle.vme_dtb.specs.Shown.{handshake_shown};
 
 use crate::cycle::Cycle;
 use crate::edges::{

@@ -10,7 +10,8 @@
 //! they are made; [`verdict_by_blocks`] and [`listing_by_blocks`] take a capture, and copy none of its blocks.
 //!
 //! What judges takes steps that were judged apart, too: a [`JudgedPart`] is made of steps that follow some lines, on
-//! any thread, and the parts of a recording are passed in order to what judges it.
+//! any thread, and the parts of a recording are passed in order to what judges it. [`Unkept`] takes steps and judges
+//! none.
 //!
 //! A [`Progress`] goes on past further blocks from where judging has come to, without a join and without memory.
 //!
@@ -34,6 +35,7 @@ mod rows;
 pub mod span;
 mod summary;
 mod taken;
+mod unkept;
 pub mod watch;
 
 pub use cut::{listing_by_blocks, verdict_by_blocks};
@@ -41,4 +43,5 @@ pub use judged::{Judged, judge_block};
 pub use part::JudgedPart;
 pub use progress::Progress;
 pub use span::{JoinFault, Span, append, join, joined_blocks_are_sound};
+pub use unkept::Unkept;
 pub use watch::{Judge, Lister, NoVerdict};

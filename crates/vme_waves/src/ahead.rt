@@ -5,11 +5,13 @@ ghost use Rattle.vme_trace.specs.LineNumbers.{line_count};
 ghost use Rattle.vme_waves.specs.Waves.{AreAhead, AreWhole, IsAheadAt, IsJudgedAhead};
 
 use crate::cut::{Piece, cut_at_time};
+use crate::guess::Guess;
 use crate::runs::{JudgedRuns, JudgingRuns};
 use std::alloc::{AllocError, Global};
 use std::thread;
 use std::thread::Threads;
 use vme_bind::{Ahead, TextWave};
+use vme_summary::Unkept;
 use vme_summary::advance::Advance;
 use vme_trace::Lines;
 
@@ -25,28 +27,25 @@ fn last_lines(bytes: &[u8]) -> Option<&[u8]> {
     Some(last)
 }
 
-/// The levels that a piece likely begins with: those that the last lines before it lead to, from the levels before all
-/// pieces. A line that changed earlier than in those is taken to have its first level still.
-fn likely_levels<J: Advance>(
-    alloc: Global,
-    wave: &TextWave,
-    pieces: &[Piece<'_>],
-    place: usize,
-) -> Lines
-    requires { place < length pieces.now }
+/// What a piece does to the levels, where it is read from those before all pieces. None is given where
+/// `TextWave::read_ahead` gives none.
+fn read_levels(alloc: Global, wave: &TextWave, bytes: &[u8], line: u64) -> Option<Ahead> {
+    let now = wave.now();
+    let (ahead, _) = wave.read_ahead(alloc, bytes, line, now, Unkept::new(now))?;
+    Some(ahead)
+}
+
+/// The levels that likely stand behind a piece: those that its last lines lead to, from the levels before all pieces. A
+/// line that changed earlier than in those is taken to have its first level still.
+fn likely_behind(alloc: Global, wave: &TextWave, piece: Piece<'_>) -> Lines
     ensures { length result.levels ≡ line_count }
 {
     let now = *wave.now();
-    if place == 0 {
-        return now;
-    }
-    let before = pieces[place - 1];
-    let Some(bytes) = last_lines(before.bytes) else {
+    let Some(bytes) = last_lines(piece.bytes) else {
         return now;
     };
-    let steps = JudgingRuns::<J>::new(alloc, &now);
-    match wave.read_ahead(alloc, bytes, before.line, &now, steps) {
-        Some((ahead, _)) => *ahead.levels(),
+    match read_levels(alloc, wave, bytes, piece.line) {
+        Some(ahead) => *ahead.levels(),
         None => now,
     }
 }
@@ -70,8 +69,8 @@ pub(crate) fn read_ahead<J: Advance>(
     }
 }
 
-/// Reads each piece ahead, by a thread of its own.
-pub(crate) fn read_each_ahead<R: Threads + Sync, J: Advance + Send>(
+/// Reads each piece ahead from the levels that likely stand before it, by a thread of its own.
+pub(crate) fn read_each_guessed<R: Threads + Sync, J: Advance + Send>(
     rt: &R,
     alloc: Global,
     wave: &TextWave,
@@ -87,11 +86,69 @@ pub(crate) fn read_each_ahead<R: Threads + Sync, J: Advance + Send>(
             requires { place < length pieces.now }
             ensures { IsAheadAt wave.entry.now pieces.entry.now place result }
         {
-            let levels = likely_levels::<J>(alloc, wave, pieces, place);
+            let levels = if place == 0 {
+                *wave.now()
+            } else {
+                likely_behind(alloc, wave, pieces[place - 1])
+            };
             read_ahead(alloc, wave, pieces[place], &levels)
         },
     )?;
     Ok(all)
+}
+
+/// The levels behind a piece that was read ahead, where these stand before it. There are none of another backplane.
+fn behind(ahead: &Ahead, before: &Lines) -> Option<Lines>
+    requires { length before.now.levels ≡ line_count }
+    ensures { IfSome result (λ levels. length levels.levels ≡ line_count) }
+{
+    if ahead.from().slots() != before.slots() {
+        return None;
+    }
+    Some(ahead.levels_behind(before))
+}
+
+/// The levels before each piece: what the pieces before it do to the lines is read first, each by a thread of its own.
+/// They aren't known behind a piece that can't be read ahead. Whether a guess would have been wrong is noted. The only
+/// error is want of memory.
+pub(crate) fn levels_before_each<R: Threads + Sync>(
+    rt: &R,
+    alloc: Global,
+    wave: &TextWave,
+    pieces: &[Piece<'_>],
+    guess: &Guess,
+) -> Result<Vec<Option<Lines>>, AllocError>
+    ensures { IfOk result (λ levels. AreWhole levels.items) }
+{
+    let read = thread::map_indices(
+        rt,
+        alloc,
+        pieces.len().saturating_sub(1),
+        &|place: usize| -> Option<(Ahead, Lines)>
+            requires { place < length pieces.now }
+        {
+            let piece = pieces[place];
+            let ahead = read_levels(alloc, wave, piece.bytes, piece.line)?;
+            Some((ahead, likely_behind(alloc, wave, piece)))
+        },
+    )?;
+    let mut levels = Vec::new(alloc);
+    let mut before = *wave.now();
+    let mut wrong = false;
+    levels.push(Some(before))?;
+    for one in &read {
+        let Some((ahead, likely)) = one else {
+            break;
+        };
+        let Some(next) = behind(ahead, &before) else {
+            break;
+        };
+        levels.push(Some(next))?;
+        wrong = wrong || *likely != next;
+        before = next;
+    }
+    guess.note(wrong);
+    Ok(levels)
 }
 
 /// The levels from which each piece is to be read again: those that really stand before it, if it was read from others.
@@ -109,21 +166,21 @@ pub(crate) fn levels_to_read_again<J: Advance>(
         let Some((ahead, _)) = one else {
             break;
         };
-        if ahead.from().slots() != before.slots() {
+        let Some(next) = behind(ahead, &before) else {
             break;
-        }
+        };
         again.push(if *ahead.from() == before {
             None
         } else {
             Some(before)
         })?;
-        before = ahead.levels_behind(&before);
+        before = next;
     }
     Ok(again)
 }
 
-/// Reads each piece again for which there are levels, by a thread of its own. Where there are none, nothing is read.
-pub(crate) fn read_again<R: Threads + Sync, J: Advance + Send>(
+/// Reads each piece from its levels, if there are any, by a thread of its own. Where there are none, nothing is read.
+pub(crate) fn read_from<R: Threads + Sync, J: Advance + Send>(
     rt: &R,
     alloc: Global,
     wave: &TextWave,

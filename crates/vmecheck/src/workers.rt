@@ -11,7 +11,7 @@ use std::thread::Threads;
 use vme_bind::{CaptureFault, TextPieces};
 use vme_summary::advance::Advance;
 use vme_summary::watch::Watch;
-use vme_waves::read_by_workers;
+use vme_waves::{Guess, read_by_workers};
 
 /// How many bytes of a dump are looked at together, where that is enough for its definitions and its longest word.
 const PIECE: usize = 262_144;
@@ -23,6 +23,8 @@ pub(crate) struct Workers<'r, R: Threads + Sync> {
     count: u32,
     /// How many bytes are read at once.
     piece: usize,
+    /// Whether the levels before the pieces of several workers were guessed wrong.
+    guess: Guess,
     ghost piece_in_range: { (1 ≤ piece) × (piece ≤ longest_input) },
 }
 
@@ -36,7 +38,12 @@ impl<'r, R: Threads + Sync> Workers<'r, R> {
     pub fn with_pieces(rt: &'r R, count: u32, piece: usize) -> Workers<'r, R>
         requires { (1 ≤ piece) × (piece ≤ longest_input) }
     {
-        Workers { rt, count, piece }
+        Workers {
+            rt,
+            count,
+            piece,
+            guess: Guess::new(),
+        }
     }
 
     /// How many bytes are read at once.
@@ -64,6 +71,6 @@ impl<'r, R: Threads + Sync> Workers<'r, R> {
         ensures rest { LeadsTo (λ next. outcome_ahead (text_reached next) []) result
             (outcome_ahead (text_reached text) (tokens_from (text_reached text).body.line piece.now)) }
     {
-        read_by_workers(self.rt, alloc, text, piece, self.count)
+        read_by_workers(self.rt, alloc, text, piece, self.count, &self.guess)
     }
 }

@@ -1,7 +1,7 @@
 use Rattle.std.proofs.Common.{None, subst, sym}
 use Rattle.vme_waves.specs.Waves.{AreAhead}
 use Rattle.vme_waves.proofs.JoinLemmas.{are-ahead, none-ahead}
-use Rattle.vme_waves.proofs.ahead.read_again.Goals as goal
+use Rattle.vme_waves.proofs.ahead.read_from.Goals as goal
 
 pub returns-then-all : goal.returns-then-all
 returns-then-all g c =

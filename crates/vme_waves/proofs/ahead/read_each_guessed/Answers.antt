@@ -1,6 +1,6 @@
 use Rattle.std.proofs.Common.{None}
 use Rattle.vme_waves.proofs.JoinLemmas.{are-ahead}
-use Rattle.vme_waves.proofs.ahead.read_each_ahead.Goals as goal
+use Rattle.vme_waves.proofs.ahead.read_each_guessed.Goals as goal
 
 pub returns : goal.returns
 returns g c =
