@@ -1,6 +1,7 @@
 -- The lines that the program writes, in ASCII and without their line feeds, and its exit status.
 use Rattle.std.specs.Prelude.{ℕ, List, [], ◌∷◌, ◌++◌, codes, decimal}
-use Rattle.vme_trace.specs.Names.{line_name, rule_name}
+use Rattle.vme_trace.specs.Rules.{rule_name}
+use Rattle.vme_trace.specs.Names.{line_name}
 use Rattle.vme_trace.specs.declared.verdict.Break.{Break}
 use Rattle.vme_trace.specs.declared.verdict.Verdict.{Verdict}
 use Rattle.vme_trace.specs.declared.verdict.Verdict.TheVariants.{Conforming, Broken, Unreadable, NeverIdle}

@@ -6,9 +6,9 @@ use Rattle.vme_trace.specs.Instants.{least}
 use Rattle.vme_trace.specs.Judged.{Span}
 use Rattle.vme_trace.specs.Levels.{Levels, level_at, same_level}
 use Rattle.vme_trace.specs.LineNumbers.{line_count, has_line}
-use Rattle.vme_trace.specs.Rules.{breaks}
+use Rattle.vme_trace.specs.Rules.{breaks, all_rules}
 use Rattle.vme_trace.specs.Trace.{Trace, levels_at, changed}
-use Rattle.vme_trace.specs.Verdict.{all_rules, break_at}
+use Rattle.vme_trace.specs.Verdict.{break_at}
 use Rattle.vme_trace.specs.WellFormed.{are_changes}
 use Rattle.vme_trace.specs.declared.rule.Rule.{Rule}
 use Rattle.vme_trace.specs.declared.rule.Rule.TheVariants.{U1, U2, U3, U4, H1, H2, H3, H4, H5, H6, H7, H8, S1, S2, S3, C1, C2, G1, G2, G3, G4, G5, B1, B2, B3, B4, I1, I2, I3, I4, I5}

@@ -9,8 +9,8 @@ use Rattle.vme_trace.specs.LineNumbers.{line_count, has_line, is_control}
 use Rattle.vme_trace.specs.Levels.{is_lost, is_known_on, loses_control}
 use Rattle.vme_trace.specs.Trace.{Trace, levels_at, last_instant}
 use Rattle.vme_trace.specs.Judged.{Span, IsSpanOf, is_idle_at, is_reset_at, loses_control_at, judged_spans, span_from, span_end}
-use Rattle.vme_trace.specs.Rules.{breaks, is_broken}
-use Rattle.vme_trace.specs.Verdict.{all_rules, least_break, least_of}
+use Rattle.vme_trace.specs.Rules.{breaks, is_broken, all_rules}
+use Rattle.vme_trace.specs.Verdict.{least_break, least_of}
 use Rattle.vme_trace.specs.declared.rule.Rule.TheVariants.{U1}
 use Rattle.vme_trace.specs.declared.verdict.Break.{Break}
 use Rattle.vme_trace.proofs.JudgedSpans.{AreInOrder, Awaits, awaits-first, reset-busy_at, starts_before_end, ends_within, span_lost, span_reset, spans_after, spans_final, spans_from_first, spans_in_order, spans_next, spans_none}

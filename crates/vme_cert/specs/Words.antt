@@ -17,7 +17,7 @@ pub use Rattle.vme_trace.specs.Transfers.{data_at}
 pub use Rattle.vme_trace.specs.Cycle.{class_of, needs_of}
 pub use Rattle.vme_trace.specs.Cycles.{cycle_starts, class_at, cycle_of, in_cycle, answers_of}
 pub use Rattle.vme_trace.specs.Tenures.{grant_falls, is_granting, taken_grant, tenure_level, tenure_slot, last_before}
-pub use Rattle.vme_trace.specs.Rules.{spoils_pair, turns, is_broken, breaks}
-pub use Rattle.vme_trace.specs.Verdict.{all_rules, break_at, least_break}
+pub use Rattle.vme_trace.specs.Rules.{spoils_pair, turns, is_broken, breaks, all_rules}
+pub use Rattle.vme_trace.specs.Verdict.{break_at, least_break}
 pub use Rattle.vme_listing.specs.Recorded.{address_to, cycle_row, tenure_rows, cycle_rows, transfer_rows, rows_before}
 pub use Rattle.vme_listing.specs.Recorded.{outcome_of, recorded_rows, row_in, rows_in}

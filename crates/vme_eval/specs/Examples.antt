@@ -2,7 +2,8 @@
 -- can't be added.
 use Rattle.std.specs.Prelude.{◌≡◌, ◌≤◌, Bool, true, false, List, [], ◌∷◌, length, All, Option, None, Some}
 use Rattle.vme_trace.specs.Trace.{Trace}
-use Rattle.vme_trace.specs.Verdict.{verdict, is_unreadable}
+use Rattle.vme_trace.specs.Rules.{is_unreadable}
+use Rattle.vme_trace.specs.Verdict.{verdict}
 use Rattle.vme_trace.specs.declared.rule.Rule.{Rule}
 use Rattle.vme_trace.specs.declared.rule.Rule.TheVariants.{U1, U2, U3, U4, H1, H2, H3, H4, H5, H6, H7, H8, S1, S2, S3}
 use Rattle.vme_trace.specs.declared.rule.Rule.TheVariants.{C1, C2, G1, G2, G3, G4, G5, B1, B2, B3, B4, I1, I2, I3, I4}

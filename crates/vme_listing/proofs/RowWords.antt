@@ -2,7 +2,8 @@
 use Rattle.std.proofs.Common.{◌≡◌, ℕ, ◌<◌, true, List, [], ◌∷◌, refl, ap, ◌∙◌, append_assoc, arith}
 use Rattle.std.specs.Prelude.{Option, None, Some, codes, decimal}
 use Rattle.std.proofs.lemmas.List.{append-nil}
-use Rattle.vme_trace.specs.Names.{line_name, rule_name}
+use Rattle.vme_trace.specs.Rules.{rule_name}
+use Rattle.vme_trace.specs.Names.{line_name}
 use Rattle.vme_trace.specs.declared.class.Class.{Class}
 use Rattle.vme_trace.specs.declared.data.Lanes.{Lanes}
 use Rattle.vme_trace.specs.declared.rule.Rule.{Rule}

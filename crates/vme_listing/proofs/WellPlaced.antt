@@ -9,9 +9,9 @@ use Rattle.vme_trace.specs.Judged.{Span, IsSpanOf, is_judged, is_reset_at, judge
 use Rattle.vme_trace.specs.Transfers.{transfer_starts}
 use Rattle.vme_trace.specs.Cycles.{cycle_starts}
 use Rattle.vme_trace.specs.Tenures.{tenure_starts}
-use Rattle.vme_trace.specs.Rules.{breaks}
+use Rattle.vme_trace.specs.Rules.{breaks, all_rules, is_unreadable}
 use Rattle.vme_trace.specs.Names.{rule_number}
-use Rattle.vme_trace.specs.Verdict.{all_rules, is_unreadable, least_break, least_of}
+use Rattle.vme_trace.specs.Verdict.{least_break, least_of}
 use Rattle.vme_trace.specs.declared.rule.Rule.{Rule}
 use Rattle.vme_trace.specs.declared.rule.Rule.TheVariants.{U2, B4}
 use Rattle.vme_trace.specs.declared.verdict.Break.{Break}

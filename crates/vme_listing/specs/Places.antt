@@ -5,7 +5,7 @@ use Rattle.std.specs.Prelude.{Option, None, Some, nat_lt, nat_le, if◌then◌el
 use Rattle.std.specs.List.{list_all}
 use Rattle.vme_trace.specs.Cycle.{highest_address, is_block}
 use Rattle.vme_trace.specs.LineNumbers.{line_count}
-use Rattle.vme_trace.specs.Verdict.{is_unreadable}
+use Rattle.vme_trace.specs.Rules.{is_unreadable}
 use Rattle.vme_trace.specs.declared.class.Class.{Class}
 use Rattle.vme_trace.specs.declared.class.Class.TheVariants as class
 use Rattle.vme_trace.specs.declared.data.Lanes.{Lanes}

@@ -12,7 +12,8 @@ use Rattle.vme_trace.specs.Judged.{Span, is_reset_at, judged_spans}
 use Rattle.vme_trace.specs.Transfers.{strobes_high, transfer_starts, answers, is_write, data_at}
 use Rattle.vme_trace.specs.Cycles.{cycle_starts, cycle_of}
 use Rattle.vme_trace.specs.Tenures.{tenure_starts, tenure_level, tenure_slot}
-use Rattle.vme_trace.specs.Verdict.{all_rules, least_of, is_unreadable}
+use Rattle.vme_trace.specs.Rules.{all_rules, is_unreadable}
+use Rattle.vme_trace.specs.Verdict.{least_of}
 use Rattle.vme_trace.specs.declared.class.Class.{Class}
 use Rattle.vme_trace.specs.declared.class.Class.TheVariants as class
 use Rattle.vme_trace.specs.declared.data.Lanes.{Lanes}

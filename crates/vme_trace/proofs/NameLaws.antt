@@ -9,8 +9,8 @@ use Rattle.std.proofs.lemmas.List.FromFn.{get_or-map-range_with_len}
 use Rattle.std.proofs.lemmas.Slice.Eq.{bytes_eq-Decides}
 use Rattle.vme_trace.specs.Instants.{any, none, every}
 use Rattle.vme_trace.specs.LineNumbers.{line_count}
-use Rattle.vme_trace.specs.Names.{two_digits, line_name, line_named, is_line_name, rule_name, rule_named, rule_number, is_rule_name}
-use Rattle.vme_trace.specs.Verdict.{all_rules}
+use Rattle.vme_trace.specs.Rules.{rule_name, all_rules}
+use Rattle.vme_trace.specs.Names.{two_digits, line_name, line_named, is_line_name, rule_named, rule_number, is_rule_name}
 use Rattle.vme_trace.specs.declared.rule.Rule.{Rule}
 use Rattle.vme_trace.proofs.EveryRule.{every-rule, same-rule}
 use Rattle.vme_trace.proofs.Ranges.{any-fails, least-is, least-none, least-found, fails-any, clash}

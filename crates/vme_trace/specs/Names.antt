@@ -5,11 +5,8 @@ use Rattle.std.specs.List.{position_or_len}
 use Rattle.vme_trace.specs.Instants.{least}
 use Rattle.vme_trace.specs.LineNumbers.{line_count, AS, DS0, DS1, DTACK, BERR, IACK, AM, LWORD, WRITE, A, BBSY, BR}
 use Rattle.vme_trace.specs.LineNumbers.{grant, iack, D, SYSRESET, grant_level, grant_place}
-use Rattle.vme_trace.specs.Verdict.{all_rules}
+use Rattle.vme_trace.specs.Rules.{all_rules, rule_name}
 use Rattle.vme_trace.specs.declared.rule.Rule.{Rule}
-use Rattle.vme_trace.specs.declared.rule.Rule.TheVariants.{U1, U2, U3, U4, H1, H2, H3, H4, H5, H6, H7, H8, S1, S2, S3}
-use Rattle.vme_trace.specs.declared.rule.Rule.TheVariants.{C1, C2, G1, G2, G3, G4, G5, B1, B2, B3, B4, I1, I2, I3, I4}
-use Rattle.vme_trace.specs.declared.rule.Rule.TheVariants.{I5}
 
 -- a number below 100, with a leading zero where it is below 10
 abbrev pub two_digits : ℕ → List ℕ
@@ -41,39 +38,6 @@ is_line_name name l = bytes_eq (line_name l) name
 -- the line that has a name
 unfoldable pub line_named : List ℕ → Option ℕ
 line_named name = least (is_line_name name) 0 line_count
-
-abbrev pub rule_name : Rule → List ℕ
-rule_name U1 = codes "U1"
-rule_name U2 = codes "U2"
-rule_name U3 = codes "U3"
-rule_name U4 = codes "U4"
-rule_name H1 = codes "H1"
-rule_name H2 = codes "H2"
-rule_name H3 = codes "H3"
-rule_name H4 = codes "H4"
-rule_name H5 = codes "H5"
-rule_name H6 = codes "H6"
-rule_name H7 = codes "H7"
-rule_name H8 = codes "H8"
-rule_name S1 = codes "S1"
-rule_name S2 = codes "S2"
-rule_name S3 = codes "S3"
-rule_name C1 = codes "C1"
-rule_name C2 = codes "C2"
-rule_name G1 = codes "G1"
-rule_name G2 = codes "G2"
-rule_name G3 = codes "G3"
-rule_name G4 = codes "G4"
-rule_name G5 = codes "G5"
-rule_name B1 = codes "B1"
-rule_name B2 = codes "B2"
-rule_name B3 = codes "B3"
-rule_name B4 = codes "B4"
-rule_name I1 = codes "I1"
-rule_name I2 = codes "I2"
-rule_name I3 = codes "I3"
-rule_name I4 = codes "I4"
-rule_name I5 = codes "I5"
 
 abbrev pub is_rule_name : List ℕ → Rule → Bool
 is_rule_name name r = bytes_eq (rule_name r) name

@@ -6,19 +6,11 @@ use Rattle.vme_trace.specs.Instants.{least}
 use Rattle.vme_trace.specs.LineNumbers.{line_count}
 use Rattle.vme_trace.specs.Trace.{Trace, time_at, last_instant}
 use Rattle.vme_trace.specs.Judged.{Span, judged_spans}
-use Rattle.vme_trace.specs.Rules.{breaks}
+use Rattle.vme_trace.specs.Rules.{all_rules, breaks, is_unreadable}
 use Rattle.vme_trace.specs.declared.rule.Rule.{Rule}
-use Rattle.vme_trace.specs.declared.rule.Rule.TheVariants.{U1, U2, U3, U4, H1, H2, H3, H4, H5, H6, H7, H8, S1, S2, S3}
-use Rattle.vme_trace.specs.declared.rule.Rule.TheVariants.{C1, C2, G1, G2, G3, G4, G5, B1, B2, B3, B4, I1, I2, I3, I4}
-use Rattle.vme_trace.specs.declared.rule.Rule.TheVariants.{I5}
 use Rattle.vme_trace.specs.declared.verdict.Break.{Break}
 use Rattle.vme_trace.specs.declared.verdict.Verdict.{Verdict}
 use Rattle.vme_trace.specs.declared.verdict.Verdict.TheVariants.{Conforming, Broken, Unreadable, NeverIdle}
-
--- every rule, in the order in which breaks at one instant are named
-abbrev pub all_rules : List Rule
-all_rules = U1 ∷ U2 ∷ U3 ∷ U4 ∷ H1 ∷ H2 ∷ H3 ∷ H4 ∷ H5 ∷ H6 ∷ H7 ∷ H8 ∷ S1 ∷ S2 ∷ S3 ∷ C1 ∷ C2 ∷ G1 ∷ G2 ∷ G3 ∷ G4 ∷ G5
-    ∷ B1 ∷ B2 ∷ B3 ∷ B4 ∷ I1 ∷ I2 ∷ I3 ∷ I4 ∷ I5 ∷ []
 
 -- how many rules there are
 abbrev pub rule_count : ℕ
@@ -47,13 +39,6 @@ module _ (t : Trace) (span : Span) where
   -- the least break of some rules
   unfoldable pub least_break : List Rule → Option Break
   least_break rules = break_before rules (last_instant t + 1)
-
-abbrev pub is_unreadable : Rule → Bool
-is_unreadable U1 = true
-is_unreadable U2 = true
-is_unreadable U3 = true
-is_unreadable U4 = true
-is_unreadable r = false
 
 abbrev pub verdict_on : Option Break → Verdict
 verdict_on None = Conforming

@@ -77,8 +77,9 @@ pub const RULE_COUNT: usize = 31;
 
 impl Rule {
     ghost use Rattle.std.specs.Prelude.{slice_get};
-    ghost use Rattle.vme_trace.specs.Names.{rule_name, rule_named, rule_number};
-    ghost use Rattle.vme_trace.specs.Verdict.{all_rules, is_unreadable};
+    ghost use Rattle.vme_trace.specs.Rules.{rule_name};
+    ghost use Rattle.vme_trace.specs.Names.{rule_named, rule_number};
+    ghost use Rattle.vme_trace.specs.Rules.{all_rules, is_unreadable};
     ghost use Rattle.vme_trace.specs.declared.rule.Rule.{Rule};
 
     /// All rules, in the order in which breaks at one instant are named.

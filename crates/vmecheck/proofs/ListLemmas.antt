@@ -7,7 +7,8 @@ use Rattle.std.specs.Option.{option_map_or}
 use Rattle.vcd_read.specs.Header.{◌>>=◌}
 use Rattle.vme_trace.specs.Judged.{Span, judged_spans}
 use Rattle.vme_trace.specs.Trace.{Trace}
-use Rattle.vme_trace.specs.Verdict.{all_rules, rules_in_force, least_of, is_unreadable, judge, verdict_by, verdict_on}
+use Rattle.vme_trace.specs.Rules.{all_rules, is_unreadable}
+use Rattle.vme_trace.specs.Verdict.{rules_in_force, least_of, judge, verdict_by, verdict_on}
 use Rattle.vme_trace.specs.declared.verdict.Break.{Break}
 use Rattle.vme_trace.specs.declared.verdict.Verdict.TheVariants as verdict
 use Rattle.vme_listing.specs.Listed.{Listed}

@@ -4,7 +4,8 @@ use Rattle.std.specs.Prelude.{min}
 use Rattle.std.proofs.Math.Nat.{min-eq_left, min-eq_right}
 use Rattle.vme_trace.specs.Trace.{Trace, last_instant}
 use Rattle.vme_trace.specs.Judged.{Span}
-use Rattle.vme_trace.specs.Verdict.{all_rules, break_at, least_break}
+use Rattle.vme_trace.specs.Rules.{all_rules}
+use Rattle.vme_trace.specs.Verdict.{break_at, least_break}
 use Rattle.vme_cert.specs.declared.index.Index.{Index}
 use Rattle.vme_cert.specs.Events.{IsIndex}
 use Rattle.vme_cert.specs.Spans.{between}

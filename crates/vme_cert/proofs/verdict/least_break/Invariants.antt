@@ -1,6 +1,7 @@
 use Rattle.std.proofs.Common.{◌≡◌}
 use Rattle.std.specs.Prelude.{None}
-use Rattle.vme_trace.specs.Verdict.{all_rules, break_before}
+use Rattle.vme_trace.specs.Rules.{all_rules}
+use Rattle.vme_trace.specs.Verdict.{break_before}
 use Rattle.vme_cert.specs.Events.{IsIndex}
 use Rattle.vme_cert.specs.Spans.{between}
 use Rattle.vme_cert.proofs.verdict.least_break.Given as goal

@@ -5,7 +5,8 @@ use Rattle.std.specs.Option.{option_to_list}
 use Rattle.vme_trace.specs.Instants.{any, least}
 use Rattle.vme_trace.specs.Trace.{Trace, last_instant}
 use Rattle.vme_trace.specs.Judged.{Span, IsSpanOf, is_idle_at, judged_spans, span_end}
-use Rattle.vme_trace.specs.Verdict.{all_rules, least_break}
+use Rattle.vme_trace.specs.Rules.{all_rules}
+use Rattle.vme_trace.specs.Verdict.{least_break}
 use Rattle.vme_trace.specs.declared.verdict.Break.{Break}
 use Rattle.vme_trace.proofs.JudgedSpans.{ends_within, spans_after, starts_before_end}
 use Rattle.vme_trace.proofs.Ranges.{least-found, least-none-any}

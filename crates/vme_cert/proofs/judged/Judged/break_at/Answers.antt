@@ -1,7 +1,8 @@
 -- The rules up to the one at hand aren't broken.
 use Rattle.std.proofs.Common.{◌≡◌, ◌<◌, Bool, true, false, not, List, drop, refl, sym, ◌∙◌, ap, arith, add-one, drop-cons}
 use Rattle.std.specs.Prelude.{Option, None, Some, is_some}
-use Rattle.vme_trace.specs.Verdict.{all_rules, break_at}
+use Rattle.vme_trace.specs.Rules.{all_rules}
+use Rattle.vme_trace.specs.Verdict.{break_at}
 use Rattle.vme_trace.specs.declared.rule.Rule.{Rule}
 use Rattle.vme_trace.specs.declared.rule.Rule.TheVariants.{U1}
 use Rattle.vme_cert.specs.Judging.{trace, span, instant}

@@ -1,5 +1,6 @@
 use Rattle.std.proofs.Common.{◌≡◌, drop}
-use Rattle.vme_trace.specs.Verdict.{all_rules, break_at}
+use Rattle.vme_trace.specs.Rules.{all_rules}
+use Rattle.vme_trace.specs.Verdict.{break_at}
 use Rattle.vme_cert.specs.Judging.{trace, span, instant}
 use Rattle.vme_cert.proofs.judged.Judged.break_at.Given as goal
 
