@@ -17,7 +17,7 @@ use Rattle.vme_trace.specs.declared.rule.Rule.{Rule}
 use Rattle.vme_trace.specs.declared.rule.Rule.TheVariants.{U1, U2, U3, U4, H1, H2, H3, H4, H5, H6, H7, H8, S1, S2, S3, C1, C2, G1, G2, G3, G4, G5, B1, B2, B3, B4, I1, I2, I3, I4, I5}
 use Rattle.vme_trace.specs.Instants.{any, least}
 use Rattle.vme_trace.proofs.Ranges.{any-fails, fails-any, least-is, least-none}
-use Rattle.vme_cert.specs.Watching.{lines_of, speaks_of, shows, asks, asks_for_edge, starts, is_held, is_held_write}
+use Rattle.vme_cert.specs.Watching.{lines_of, speaks_of, shows, asks, asks_for_edge, starts, is_any, is_held, is_held_write}
 use Rattle.vme_cert.proofs.Kept.{no_fall, no_rise, no_edge}
 
 off : (a : Bool) → (a && false) ≡ false
@@ -301,3 +301,76 @@ module _ (t : Trace) (span : Span) (j : ℕ) (r : Rule) (e : asks_for_edge r ≡
 
   pub least-unstarted : starts t span r j ≡ false → None ≡ least (breaks t span r j) 0 line_count
   least-unstarted h = sym (least-none (breaks t span r j) 0 line_count (fails-any (breaks t span r j) 0 line_count (λ l a b. breaks-unstarted t span j l b r e h)))
+
+one : (a b : Bool) → (a || b) ≡ false → a ≡ false
+one true b h = absurd (cc)
+one false b h = refl
+
+more : (a b : Bool) → (a || b) ≡ false → b ≡ false
+more true b h = absurd (cc)
+more false b h = h
+
+over : (f e l k : ℕ) → k ≤ f → (nat_le f l && nat_lt l e) ≡ true → nat_lt l k ≡ false
+over f e l k order s = grind (arith, nat_tests)
+
+under : (f e l k : ℕ) → e ≤ k → (nat_le f l && nat_lt l e) ≡ true → nat_lt l k ≡ true
+under f e l k order s = grind (arith, nat_tests)
+
+module _ (p : Rule → Bool) (l : ℕ) (kept : is_any p l ≡ false) where
+  on_address : (f e : ℕ) → e ≤ 1 → (nat_le f l && nat_lt l e) ≡ true → (p H7 || p B3) ≡ false
+  on_address f e end s = let e_is : is_any p l ≡ (p H7 || p B3) = rw (under f e l 1 end s) refl in sym e_is ∙ kept
+
+  on_strobe : (f e : ℕ) → 1 ≤ f → e ≤ 3 → (nat_le f l && nat_lt l e) ≡ true → (p H2 || p H3) ≡ false
+  on_strobe f e from end s = let e_is : is_any p l ≡ (p H2 || p H3) = rw (over f e l 1 from s, under f e l 3 end s) refl in sym e_is ∙ kept
+
+  on_answer : (f e : ℕ) → 3 ≤ f → e ≤ 5 → (nat_le f l && nat_lt l e) ≡ true → (p H4 || p H5 || p H6 || p H8 || p C1 || p C2 || p I4 || p I5) ≡ false
+  on_answer f e from end s = let e_is : is_any p l ≡ (p H4 || p H5 || p H6 || p H8 || p C1 || p C2 || p I4 || p I5) = rw (over f e l 1 (omega (arith, from)) s, over f e l 3 from s, under f e l 5 end s) refl in sym e_is ∙ kept
+
+  on_needed : (f e : ℕ) → 5 ≤ f → e ≤ 45 → (nat_le f l && nat_lt l e) ≡ true → (p S1 || p S2) ≡ false
+  on_needed f e from end s = let e_is : is_any p l ≡ (p S1 || p S2) = rw (over f e l 1 (omega (arith, from)) s, over f e l 3 (omega (arith, from)) s, over f e l 5 from s, under f e l 45 end s) refl in sym e_is ∙ kept
+
+  on_busy : (f e : ℕ) → 45 ≤ f → e ≤ 50 → (nat_le f l && nat_lt l e) ≡ true → (p B1 || p B2 || p B4) ≡ false
+  on_busy f e from end s = let e_is : is_any p l ≡ (p B1 || p B2 || p B4) = rw (over f e l 1 (omega (arith, from)) s, over f e l 3 (omega (arith, from)) s, over f e l 5 (omega (arith, from)) s, over f e l 45 from s, under f e l 50 end s) refl in sym e_is ∙ kept
+
+  on_grant : (f e : ℕ) → 50 ≤ f → e ≤ 138 → (nat_le f l && nat_lt l e) ≡ true → (p G1 || p G2 || p G3 || p G4 || p G5) ≡ false
+  on_grant f e from end s = let e_is : is_any p l ≡ (p G1 || p G2 || p G3 || p G4 || p G5) = rw (over f e l 1 (omega (arith, from)) s, over f e l 3 (omega (arith, from)) s, over f e l 5 (omega (arith, from)) s, over f e l 45 (omega (arith, from)) s, over f e l 50 from s, under f e l 138 end s) refl in sym e_is ∙ kept
+
+  on_chain : (f e : ℕ) → 138 ≤ f → e ≤ 159 → (nat_le f l && nat_lt l e) ≡ true → (p I1 || p I2 || p I3) ≡ false
+  on_chain f e from end s = let e_is : is_any p l ≡ (p I1 || p I2 || p I3) = rw (over f e l 1 (omega (arith, from)) s, over f e l 3 (omega (arith, from)) s, over f e l 5 (omega (arith, from)) s, over f e l 45 (omega (arith, from)) s, over f e l 50 (omega (arith, from)) s, over f e l 138 from s, under f e l 159 end s) refl in sym e_is ∙ kept
+
+  on_data : (f e : ℕ) → 159 ≤ f → (nat_le f l && nat_lt l e) ≡ true → p S3 ≡ false
+  on_data f e from s = let e_is : is_any p l ≡ p S3 = rw (over f e l 1 (omega (arith, from)) s, over f e l 3 (omega (arith, from)) s, over f e l 5 (omega (arith, from)) s, over f e l 45 (omega (arith, from)) s, over f e l 50 (omega (arith, from)) s, over f e l 138 (omega (arith, from)) s, over f e l 159 from s) refl in sym e_is ∙ kept
+
+  -- where it speaks of the line, it is one of those
+  pub edge-among : (r : Rule) → asks_for_edge r ≡ true → speaks_of r l ≡ true → p r ≡ false
+  edge-among U1 e s = absurd (cc)
+  edge-among U2 e s = absurd (cc)
+  edge-among U3 e s = absurd (cc)
+  edge-among U4 e s = absurd (cc)
+  edge-among H1 e s = absurd (cc)
+  edge-among H2 e s = one _ _ (on_strobe 1 3 (omega arith) (omega arith) s)
+  edge-among H3 e s = more _ _ (on_strobe 1 3 (omega arith) (omega arith) s)
+  edge-among H4 e s = one _ _ (one _ _ (one _ _ (one _ _ (one _ _ (one _ _ (one _ _ (on_answer 3 5 (omega arith) (omega arith) s)))))))
+  edge-among H5 e s = more _ _ (one _ _ (one _ _ (one _ _ (one _ _ (one _ _ (one _ _ (on_answer 3 5 (omega arith) (omega arith) s)))))))
+  edge-among H6 e s = more _ _ (one _ _ (one _ _ (one _ _ (one _ _ (one _ _ (on_answer 3 5 (omega arith) (omega arith) s))))))
+  edge-among H7 e s = one _ _ (on_address 0 1 (omega arith) s)
+  edge-among H8 e s = more _ _ (one _ _ (one _ _ (one _ _ (one _ _ (on_answer 3 5 (omega arith) (omega arith) s)))))
+  edge-among S1 e s = one _ _ (on_needed 5 45 (omega arith) (omega arith) s)
+  edge-among S2 e s = more _ _ (on_needed 13 14 (omega arith) (omega arith) s)
+  edge-among S3 e s = on_data 159 191 (omega arith) s
+  edge-among C1 e s = more _ _ (one _ _ (one _ _ (one _ _ (on_answer 3 5 (omega arith) (omega arith) s))))
+  edge-among C2 e s = more _ _ (one _ _ (one _ _ (on_answer 3 5 (omega arith) (omega arith) s)))
+  edge-among G1 e s = one _ _ (one _ _ (one _ _ (one _ _ (on_grant 50 138 (omega arith) (omega arith) s))))
+  edge-among G2 e s = more _ _ (one _ _ (one _ _ (one _ _ (on_grant 50 138 (omega arith) (omega arith) s))))
+  edge-among G3 e s = more _ _ (one _ _ (one _ _ (on_grant 50 138 (omega arith) (omega arith) s)))
+  edge-among G4 e s = more _ _ (one _ _ (on_grant 50 138 (omega arith) (omega arith) s))
+  edge-among G5 e s = more _ _ (on_grant 50 138 (omega arith) (omega arith) s)
+  edge-among B1 e s = one _ _ (one _ _ (on_busy 45 46 (omega arith) (omega arith) s))
+  edge-among B2 e s = more _ _ (one _ _ (on_busy 45 46 (omega arith) (omega arith) s))
+  edge-among B3 e s = more _ _ (on_address 0 1 (omega arith) s)
+  edge-among B4 e s = more _ _ (on_busy 45 46 (omega arith) (omega arith) s)
+  edge-among I1 e s = one _ _ (one _ _ (on_chain 138 159 (omega arith) (omega arith) s))
+  edge-among I2 e s = more _ _ (one _ _ (on_chain 138 159 (omega arith) (omega arith) s))
+  edge-among I3 e s = more _ _ (on_chain 138 159 (omega arith) (omega arith) s)
+  edge-among I4 e s = more _ _ (one _ _ (on_answer 3 5 (omega arith) (omega arith) s))
+  edge-among I5 e s = more _ _ (on_answer 3 5 (omega arith) (omega arith) s)

@@ -4,7 +4,9 @@ ghost use Rattle.std.specs.Prelude.{◌≡◌, ◌+◌, ◌-◌, ◌<◌, ◌≤
 ghost use Rattle.vme_cert.specs.Words.{not, true, IfSome, IsTrue, any, none, grant, has_line, line_count};
 ghost use Rattle.vme_cert.specs.Words.{is_slot_grant, is_slot_iack, input_of as input_net, in_transfer, is_answered};
 ghost use Rattle.vme_cert.specs.Words.{in_cycle, low, taken_grant, tenure_level, tenure_slot, last_before, levels_at};
-ghost use Rattle.vme_cert.specs.Words.{is_granting, last_instant, nat_lt};
+ghost use Rattle.vme_cert.specs.Words.{is_granting, last_instant, nat_lt, false, breaks};
+ghost use Rattle.vme_trace.specs.Judged.{is_judged};
+ghost use Rattle.vme_trace.specs.Rules.{ends_span};
 ghost use Rattle.vme_cert.specs.Events.{happens, is_acknowledged};
 ghost use Rattle.vme_cert.specs.Watching.{lines_of, speaks_of, shows, spoils, is_held, is_open_write, is_held_write};
 ghost use Rattle.vme_cert.specs.Watching.{asks};
@@ -47,6 +49,17 @@ pub(crate) fn lines_of(rule: Rule) -> (u8, u8)
         I1 | I2 | I3 => (Line::iack(1).number(), Line::data(0).number()),
         U4 | S3 => (Line::data(0).number(), Line::SYSRESET.number()),
     }
+}
+
+/// Whether a rule speaks of a line.
+#[inline(always)]
+fn speaks_of(rule: Rule, line: Line) -> bool
+    ensures is { result ≡ speaks_of rule line }
+    ensures exists { line < line_count }
+{
+    let (first, end) = lines_of(rule);
+    let number = line.number();
+    first <= number && number < end
 }
 
 /// The net at the input of the slot that drives a net.
@@ -117,7 +130,7 @@ impl Bus<'_> {
 }
 
 impl Judged<'_> {
-    ghost use Rattle.vme_cert.specs.Judging.{trace, span, instant, noted};
+    ghost use Rattle.vme_cert.specs.Judging.{trace, span, instant, noted, breaks_edge};
 
     /// Whether something hasn't happened since the last time, before the instant, that something else did, or so much
     /// later.
@@ -284,5 +297,73 @@ impl Judged<'_> {
                 None => false,
             },
         }
+    }
+
+    /// Whether a rule counts at the instant: it is judged, or the rule is the one that ends judging.
+    fn counts(&self, rule: Rule) -> bool
+        ensures { result ≡ (ends_span rule || is_judged (span self.now) (instant self.now)) }
+    {
+        match rule {
+            U1 => true,
+            _ => self.index.span.contains(self.bus.instant),
+        }
+    }
+
+    /// Whether a rule is broken at the instant on a line, where it counts.
+    #[inline(always)]
+    pub(crate) fn breaks(&self, rule: Rule, line: Line) -> bool
+        ensures { result ≡ breaks (trace self.now) (span self.now) rule (instant self.now) line }
+    {
+        if !speaks_of(rule, line) {
+            return false;
+        }
+        if !self.bus.levels.has(line) {
+            return false;
+        }
+        if !self.is_shown(rule, line) {
+            return false;
+        }
+        self.counts(rule) && self.asks(rule, line)
+    }
+
+    /// Whether a rule that asks for an edge is broken on a line, where perhaps a write holds its data.
+    pub(crate) fn is_edge_broken(&self, line: Line, may_hold: bool) -> bool
+        requires { may_hold ≡ false → is_held_write (trace self.now) (span self.now) (instant self.now) ≡ false }
+        ensures { result ≡ breaks_edge self.now line }
+    {
+        let number = line.number();
+        if number < Line::DS0.number() {
+            return self.breaks(H7, line) || self.breaks(B3, line);
+        }
+        if number < Line::DTACK.number() {
+            return self.breaks(H2, line) || self.breaks(H3, line);
+        }
+        if number < Line::IACK.number() {
+            return self.breaks(H4, line)
+                || self.breaks(H5, line)
+                || self.breaks(H6, line)
+                || self.breaks(H8, line)
+                || self.breaks(C1, line)
+                || self.breaks(C2, line)
+                || self.breaks(I4, line)
+                || self.breaks(I5, line);
+        }
+        if number < Line::BBSY.number() {
+            return self.breaks(S1, line) || self.breaks(S2, line);
+        }
+        if number < Line::grant(0, 0).number() {
+            return self.breaks(B1, line) || self.breaks(B2, line) || self.breaks(B4, line);
+        }
+        if number < Line::iack(1).number() {
+            return self.breaks(G1, line)
+                || self.breaks(G2, line)
+                || self.breaks(G3, line)
+                || self.breaks(G4, line)
+                || self.breaks(G5, line);
+        }
+        if number < Line::data(0).number() {
+            return self.breaks(I1, line) || self.breaks(I2, line) || self.breaks(I3, line);
+        }
+        may_hold && self.breaks(S3, line)
     }
 }

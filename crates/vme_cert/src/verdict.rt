@@ -1,12 +1,9 @@
 //! The least break of the rules.
 
-ghost use Rattle.std.specs.Prelude.{◌≡◌, ◌+◌, ◌<◌, ◌≤◌, ◌||◌, None};
-ghost use Rattle.vme_cert.specs.Words.{true, false, IfOk, IfSome, least, line_count, last_instant, breaks, all_rules};
+ghost use Rattle.std.specs.Prelude.{◌≡◌, ◌+◌, ◌<◌, ◌≤◌, None};
+ghost use Rattle.vme_cert.specs.Words.{true, false, IfOk, IfSome, least, line_count, last_instant, all_rules};
 ghost use Rattle.vme_cert.specs.Words.{break_at, least_break};
-ghost use Rattle.vme_trace.specs.Judged.{is_judged};
-ghost use Rattle.vme_trace.specs.Rules.{ends_span};
 ghost use Rattle.vme_cert.specs.ChangedLines.{first_changed};
-ghost use Rattle.vme_cert.specs.Watching.{speaks_of};
 ghost use Rattle.vme_cert.specs.Events.{IsIndex};
 ghost use Rattle.vme_cert.specs.Spans.{between, end_in};
 
@@ -15,53 +12,12 @@ use crate::index::Index;
 use crate::judged::Judged;
 use crate::rules::{lines_of, nth_line};
 use std::alloc::{AllocError, Global};
-use vme_trace::Rule::{
-    B1, B2, B3, B4, C1, C2, G1, G2, G3, G4, G5, H1, H2, H3, H4, H5, H6, H7, H8, I1, I2, I3, I4, I5,
-    S1, S2, S3, U1, U2, U3, U4,
-};
+use vme_trace::Rule::{H1, U1, U2, U3, U4};
 use vme_trace::{Break, Change, Line, RULE_COUNT, Rule};
-
-/// Whether a rule speaks of a line.
-#[inline(always)]
-fn speaks_of(rule: Rule, line: Line) -> bool
-    ensures is { result ≡ speaks_of rule line }
-    ensures exists { line < line_count }
-{
-    let (first, end) = lines_of(rule);
-    let number = line.number();
-    first <= number && number < end
-}
 
 impl Judged<'_> {
     ghost use Rattle.vme_cert.specs.Judging.{trace, span, instant, AreMade, AreSound, breaks_edge, breaks_here};
-    ghost use Rattle.vme_cert.specs.Watching.{asks_for_edge, starts, is_held_write};
-
-    /// Whether a rule counts at the instant: it is judged, or the rule is the one that ends judging.
-    fn counts(&self, rule: Rule) -> bool
-        ensures { result ≡ (ends_span rule || is_judged (span self.now) (instant self.now)) }
-    {
-        match rule {
-            U1 => true,
-            _ => self.index.span.contains(self.bus.instant),
-        }
-    }
-
-    /// Whether a rule is broken at the instant on a line, where it counts.
-    #[inline(always)]
-    fn breaks(&self, rule: Rule, line: Line) -> bool
-        ensures { result ≡ breaks (trace self.now) (span self.now) rule (instant self.now) line }
-    {
-        if !speaks_of(rule, line) {
-            return false;
-        }
-        if !self.bus.levels.has(line) {
-            return false;
-        }
-        if !self.is_shown(rule, line) {
-            return false;
-        }
-        self.counts(rule) && self.asks(rule, line)
-    }
+    ghost use Rattle.vme_cert.specs.Watching.{asks_for_edge, starts};
 
     /// Whether what a rule speaks of that asks for no edge is at the instant.
     #[inline(always)]
@@ -138,48 +94,8 @@ impl Judged<'_> {
         }
     }
 
-    /// Whether a rule that asks for an edge is broken on a line, where perhaps a write holds its data.
-    fn is_edge_broken(&self, line: Line, may_hold: bool) -> bool
-        requires { may_hold ≡ false → is_held_write (trace self.now) (span self.now) (instant self.now) ≡ false }
-        ensures { result ≡ breaks_edge self.now line }
-    {
-        let number = line.number();
-        if number < Line::DS0.number() {
-            return self.breaks(H7, line) || self.breaks(B3, line);
-        }
-        if number < Line::DTACK.number() {
-            return self.breaks(H2, line) || self.breaks(H3, line);
-        }
-        if number < Line::IACK.number() {
-            return self.breaks(H4, line)
-                || self.breaks(H5, line)
-                || self.breaks(H6, line)
-                || self.breaks(H8, line)
-                || self.breaks(C1, line)
-                || self.breaks(C2, line)
-                || self.breaks(I4, line)
-                || self.breaks(I5, line);
-        }
-        if number < Line::BBSY.number() {
-            return self.breaks(S1, line) || self.breaks(S2, line);
-        }
-        if number < Line::grant(0, 0).number() {
-            return self.breaks(B1, line) || self.breaks(B2, line) || self.breaks(B4, line);
-        }
-        if number < Line::iack(1).number() {
-            return self.breaks(G1, line)
-                || self.breaks(G2, line)
-                || self.breaks(G3, line)
-                || self.breaks(G4, line)
-                || self.breaks(G5, line);
-        }
-        if number < Line::data(0).number() {
-            return self.breaks(I1, line) || self.breaks(I2, line) || self.breaks(I3, line);
-        }
-        may_hold && self.breaks(S3, line)
-    }
-
-    /// The first changed line on which one is. Whether a write holds its data is asked once, if it doesn't.
+    /// The first changed line on which a rule that asks for an edge is broken. Whether a write holds its data is asked
+    /// once, if it doesn't.
     fn changed_break(&self, changes: &[Change]) -> Option<Line>
         ensures { result ≡ first_changed (breaks_edge self.now) changes.now }
     {

@@ -2,7 +2,7 @@
 use Rattle.std.proofs.Common.{◌≡◌, ◌<◌, Bool, true, false, not, List, drop, refl, sym, ◌∙◌, ap, arith, add-one, drop-cons}
 use Rattle.std.specs.Prelude.{Option, None, Some, is_some}
 use Rattle.vme_trace.specs.Rules.{all_rules}
-use Rattle.vme_trace.specs.Verdict.{break_at}
+use Rattle.vme_trace.specs.Verdict.{break_at, rule_count}
 use Rattle.vme_trace.specs.declared.rule.Rule.{Rule}
 use Rattle.vme_trace.specs.declared.rule.Rule.TheVariants.{U1}
 use Rattle.vme_cert.specs.Judging.{trace, span, instant}
@@ -13,7 +13,7 @@ use Rattle.vme_cert.proofs.judged.Judged.break_at.Goals as goal
 pub returns-in-Some-clause-break_at : goal.returns-in-Some-clause-break_at
 returns-in-Some-clause-break_at c =
     let self = c.args.self.now in
-    let within : c.loop-place.place < 31 = omega arith in
+    let within : c.loop-place.place < rule_count = omega arith in
     rw c.step_at-time.ensures.time
     (sym
     (sym c.loop-place.invariant
@@ -23,7 +23,7 @@ returns-in-Some-clause-break_at c =
 pub loop-place-preserved : goal.loop-place-preserved
 loop-place-preserved c =
     let self = c.args.self.now in
-    let within : c.loop-place.place < 31 = omega arith in
+    let within : c.loop-place.place < rule_count = omega arith in
     rw add-one
     (sym (break_at-next (trace self) (span self) _ _ (instant self) (sym c.rule_break.ensures ∙ c.in_default.is))
     ∙ (sym (ap (λ (rs : List Rule). break_at (trace self) (span self) rs (instant self)) (drop-cons all_rules c.loop-place.place U1 within))
@@ -32,7 +32,7 @@ loop-place-preserved c =
 pub returns-clause-break_at : goal.returns-clause-break_at
 returns-clause-break_at c =
     let self = c.args.self.now in
-    let e : c.loop-place.place ≡ 31 = omega arith in
+    let e : c.loop-place.place ≡ rule_count = omega arith in
     sym
     (sym c.loop-place.invariant
     ∙ (ap (λ k. break_at (trace self) (span self) (drop k all_rules) (instant self)) e ∙ break_at-empty (trace self) (span self) (instant self)))
