@@ -1,7 +1,7 @@
 -- Computed from the definitions.
 use Rattle.std.proofs.Common.{refl}
-use Rattle.vme_eval.specs.Recording.{Agrees}
-use Rattle.vme_eval.specs.HeldLines.{short_address, address_changes_early, address_changes_with_answer, unneeded_line_changes, address_lost_in_the_cycle, highest_address_line_changes, address_changes_as_the_cycle_ends, address_changes_after_an_answer_at_the_start, unknown_modifier, floating_modifier, address_lost_as_the_cycle_starts, address_known_as_the_cycle_starts, highest_address_line_unknown, direction_unknown, direction_known_as_the_transfer_starts, direction_settles_as_the_transfer_starts, direction_changes, direction_changes_after_the_answer, direction_changes_as_a_strobe_rises}
+use Rattle.vme_eval.specs.Recording.{Agrees, AllAgree}
+use Rattle.vme_eval.specs.HeldLines.{held_lines, short_address, address_changes_early, address_changes_with_answer, unneeded_line_changes, address_lost_in_the_cycle, highest_address_line_changes, address_changes_as_the_cycle_ends, address_changes_after_an_answer_at_the_start, unknown_modifier, floating_modifier, address_lost_as_the_cycle_starts, address_known_as_the_cycle_starts, highest_address_line_unknown, direction_unknown, direction_known_as_the_transfer_starts, direction_settles_as_the_transfer_starts, direction_changes, direction_changes_after_the_answer, direction_changes_as_a_strobe_rises}
 use Rattle.vme_eval.proofs.Everything.{everything, rows}
 
 pub short_address_agrees : Agrees short_address
@@ -79,3 +79,7 @@ direction_changes_after_the_answer_agrees = record { well_formed = refl; verdict
 pub direction_changes_as_a_strobe_rises_agrees : Agrees direction_changes_as_a_strobe_rises
 unfolding everything rows direction_changes_as_a_strobe_rises
 direction_changes_as_a_strobe_rises_agrees = record { well_formed = refl; verdict = refl; rows = refl }
+
+pub held_lines_agree : AllAgree held_lines
+held_lines_agree =
+    (short_address_agrees, (address_changes_early_agrees, (address_changes_with_answer_agrees, (unneeded_line_changes_agrees, (address_lost_in_the_cycle_agrees, (highest_address_line_changes_agrees, (address_changes_as_the_cycle_ends_agrees, (address_changes_after_an_answer_at_the_start_agrees, (unknown_modifier_agrees, (floating_modifier_agrees, (address_lost_as_the_cycle_starts_agrees, (address_known_as_the_cycle_starts_agrees, (highest_address_line_unknown_agrees, (direction_unknown_agrees, (direction_known_as_the_transfer_starts_agrees, (direction_settles_as_the_transfer_starts_agrees, (direction_changes_agrees, (direction_changes_after_the_answer_agrees, (direction_changes_as_a_strobe_rises_agrees, tt)))))))))))))))))))

@@ -1,7 +1,7 @@
 -- Computed from the definitions.
 use Rattle.std.proofs.Common.{refl}
-use Rattle.vme_eval.specs.Recording.{Agrees}
-use Rattle.vme_eval.specs.WriteData.{data_unknown, unmoved_data_unknown, data_change_with_the_answer, data_change, unmoved_data_change, data_of_a_read, second_byte_unknown, second_byte_unknown_with_the_answer, second_byte_unknown_after_the_answer, upper_byte_alone, second_byte_settles, data_lost, data_change_after_the_answer, long_word, long_word_unknown, long_word_changes, no_long_word_at_an_odd_word, lanes_unknown, answered_as_it_starts}
+use Rattle.vme_eval.specs.Recording.{Agrees, AllAgree}
+use Rattle.vme_eval.specs.WriteData.{write_data, data_unknown, unmoved_data_unknown, data_change_with_the_answer, data_change, unmoved_data_change, data_of_a_read, second_byte_unknown, second_byte_unknown_with_the_answer, second_byte_unknown_after_the_answer, upper_byte_alone, second_byte_settles, data_lost, data_change_after_the_answer, long_word, long_word_unknown, long_word_changes, no_long_word_at_an_odd_word, lanes_unknown, answered_as_it_starts}
 use Rattle.vme_eval.proofs.Everything.{everything, rows}
 
 pub data_unknown_agrees : Agrees data_unknown
@@ -79,3 +79,7 @@ lanes_unknown_agrees = record { well_formed = refl; verdict = refl; rows = refl 
 pub answered_as_it_starts_agrees : Agrees answered_as_it_starts
 unfolding everything rows answered_as_it_starts
 answered_as_it_starts_agrees = record { well_formed = refl; verdict = refl; rows = refl }
+
+pub write_data_agree : AllAgree write_data
+write_data_agree =
+    (data_unknown_agrees, (unmoved_data_unknown_agrees, (data_change_with_the_answer_agrees, (data_change_agrees, (unmoved_data_change_agrees, (data_of_a_read_agrees, (second_byte_unknown_agrees, (second_byte_unknown_with_the_answer_agrees, (second_byte_unknown_after_the_answer_agrees, (upper_byte_alone_agrees, (second_byte_settles_agrees, (data_lost_agrees, (data_change_after_the_answer_agrees, (long_word_agrees, (long_word_unknown_agrees, (long_word_changes_agrees, (no_long_word_at_an_odd_word_agrees, (lanes_unknown_agrees, (answered_as_it_starts_agrees, tt)))))))))))))))))))

@@ -1,5 +1,5 @@
 -- Interrupt acknowledges along their chain.
-use Rattle.std.specs.Prelude.{[], ◌∷◌, codes}
+use Rattle.std.specs.Prelude.{List, [], ◌∷◌, codes}
 use Rattle.vme_trace.specs.LineNumbers.{AS, DS0, DS1, DTACK, BERR, IACK, WRITE, A, BBSY, iack}
 use Rattle.vme_trace.specs.declared.rule.Rule.TheVariants.{I1, I2, I3, I4, I5}
 use Rattle.vme_trace.specs.declared.verdict.Verdict.TheVariants.{Conforming, Broken}
@@ -267,3 +267,14 @@ acknowledged_twice = record {
       ∷ codes "transfer 10 of 9 read DTACK 11 close 12" ∷ codes "transfer 14 read pending"
       ∷ codes "verdict broken I5 15 DTACK" ∷ [];
 }
+
+-- all of them
+abbrev pub acknowledges : List Recording
+acknowledges = acknowledge_cycle ∷ acknowledge_of_level_3 ∷ acknowledge_skips_slot
+    ∷ acknowledge_outside_an_acknowledge_cycle ∷ acknowledge_with_its_input ∷ acknowledge_as_its_input_rises
+    ∷ acknowledge_before_strobe ∷ acknowledge_before_the_cycle ∷ acknowledge_by_the_second_strobe
+    ∷ acknowledge_as_the_strobe_rises ∷ acknowledge_as_the_second_strobe_rises
+    ∷ acknowledge_as_the_second_strobe_falls ∷ acknowledge_near_a_strobe_and_near_the_cycle ∷ acknowledge_after_answer
+    ∷ acknowledge_after_an_answer_at_the_start ∷ acknowledge_after_the_answer_of_a_data_cycle
+    ∷ acknowledge_with_the_answer ∷ acknowledge_after_a_bus_error ∷ acknowledge_as_the_next_cycle_starts
+    ∷ acknowledge_write ∷ acknowledge_turns_to_a_read ∷ acknowledge_is_a_read_from_its_start ∷ acknowledged_twice ∷ []

@@ -1,5 +1,5 @@
 -- Classes of cycles, and cycles of several transfers.
-use Rattle.std.specs.Prelude.{[], ◌∷◌, codes}
+use Rattle.std.specs.Prelude.{List, [], ◌∷◌, codes}
 use Rattle.vme_trace.specs.LineNumbers.{AS, DS0, DS1, DTACK, IACK, WRITE, AM, A, BBSY}
 use Rattle.vme_trace.specs.declared.rule.Rule.TheVariants.{C1, C2}
 use Rattle.vme_trace.specs.declared.verdict.Verdict.TheVariants.{Conforming, Broken}
@@ -180,3 +180,9 @@ acknowledge_line_rises_as_the_cycle_starts = record {
       codes "start 1" ∷ codes "tenure 5 level 3 slot 2 end -" ∷ codes "cycle 9 K 3F FFFFFE end 10"
       ∷ codes "verdict conforming" ∷ [];
 }
+
+-- all of them
+abbrev pub cycles : List Recording
+cycles = read_modify_write ∷ write_then_read ∷ two_writes ∷ read_write_write ∷ answer_as_the_cycle_starts_counts
+    ∷ block_read ∷ block_turns ∷ block_turns_from_write_to_read ∷ free_cycle ∷ free_cycle_reads_writes_and_reads
+    ∷ extended_read ∷ extended_block_read ∷ acknowledge_line_rises_as_the_cycle_starts ∷ []

@@ -1,5 +1,5 @@
 -- Recordings of one slot, as from a dump, and where judging starts and ends.
-use Rattle.std.specs.Prelude.{[], ◌∷◌, codes}
+use Rattle.std.specs.Prelude.{List, [], ◌∷◌, codes}
 use Rattle.vme_trace.specs.LineNumbers.{AS, DS0, DS1, DTACK, BERR, IACK, A}
 use Rattle.vme_trace.specs.declared.rule.Rule.TheVariants.{U1, H4, S1}
 use Rattle.vme_trace.specs.declared.verdict.Verdict.TheVariants.{Conforming, Broken, Unreadable, NeverIdle}
@@ -95,3 +95,8 @@ earlier_break_of_a_later_rule = record {
       codes "start 1" ∷ codes "tenure 5 level 3 slot 2 end -" ∷ codes "cycle 9 S 39 FFFFDE end -"
       ∷ codes "verdict broken S1 10 A05" ∷ [];
 }
+
+-- all of them
+abbrev pub dumps : List Recording
+dumps = dumped_read ∷ dumped_nothing ∷ dumped_stray_answer ∷ dumped_unknown_strobe ∷ dumped_gap ∷ strobe_lost_at_once
+    ∷ answer_low_before_judging ∷ address_lost_between_cycles ∷ earlier_break_of_a_later_rule ∷ []

@@ -1,5 +1,5 @@
 -- Grants along their chains, and the requests that they answer.
-use Rattle.std.specs.Prelude.{[], ◌∷◌, codes}
+use Rattle.std.specs.Prelude.{List, [], ◌∷◌, codes}
 use Rattle.vme_trace.specs.LineNumbers.{BR, BBSY, grant}
 use Rattle.vme_trace.specs.declared.rule.Rule.TheVariants.{G1, G2, G3, G4, G5}
 use Rattle.vme_trace.specs.declared.verdict.Verdict.TheVariants.{Conforming, Broken}
@@ -186,3 +186,12 @@ grant_withdrawn = record {
   verdict = Conforming;
   rows = codes "start 1" ∷ codes "verdict conforming" ∷ [];
 }
+
+-- all of them
+abbrev pub grants : List Recording
+grants = slot_grants_ungranted ∷ slot_grants_with_its_input ∷ slot_grants_as_its_input_rises
+    ∷ slot_ends_its_grant_early ∷ slot_ends_its_grant_as_its_input_falls ∷ second_level_granted
+    ∷ higher_level_granted_second ∷ two_levels_granted_at_once ∷ another_level_granted_as_the_first_ends
+    ∷ grant_while_busy ∷ slot_grants_while_busy ∷ grant_falls_as_the_bus_is_let_go ∷ grant_unasked
+    ∷ request_with_the_grant ∷ request_low_at_the_start ∷ request_of_the_grant_before_serves_again
+    ∷ request_before_another_levels_grant ∷ request_of_two_grants_before ∷ grant_withdrawn ∷ []

@@ -1,5 +1,5 @@
 -- Lines that are known and held while a cycle or a transfer lasts.
-use Rattle.std.specs.Prelude.{[], ◌∷◌, codes}
+use Rattle.std.specs.Prelude.{List, [], ◌∷◌, codes}
 use Rattle.vme_trace.specs.LineNumbers.{AS, DS0, DS1, DTACK, WRITE, AM, A, BBSY}
 use Rattle.vme_trace.specs.declared.rule.Rule.TheVariants.{U2, U3, S1, S2}
 use Rattle.vme_trace.specs.declared.verdict.Verdict.TheVariants.{Conforming, Broken, Unreadable}
@@ -220,3 +220,12 @@ direction_changes_as_a_strobe_rises = record {
       codes "start 1" ∷ codes "tenure 5 level 3 slot 2 end 15" ∷ codes "cycle 9 S 39 FFFFDE end 13"
       ∷ codes "transfer 10 of 9 read DTACK 11 close 13" ∷ codes "verdict conforming" ∷ [];
 }
+
+-- all of them
+abbrev pub held_lines : List Recording
+held_lines = short_address ∷ address_changes_early ∷ address_changes_with_answer ∷ unneeded_line_changes
+    ∷ address_lost_in_the_cycle ∷ highest_address_line_changes ∷ address_changes_as_the_cycle_ends
+    ∷ address_changes_after_an_answer_at_the_start ∷ unknown_modifier ∷ floating_modifier
+    ∷ address_lost_as_the_cycle_starts ∷ address_known_as_the_cycle_starts ∷ highest_address_line_unknown
+    ∷ direction_unknown ∷ direction_known_as_the_transfer_starts ∷ direction_settles_as_the_transfer_starts
+    ∷ direction_changes ∷ direction_changes_after_the_answer ∷ direction_changes_as_a_strobe_rises ∷ []

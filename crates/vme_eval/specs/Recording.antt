@@ -1,5 +1,5 @@
 -- A worked recording: its steps, and what the definitions say of it.
-use Rattle.std.specs.Prelude.{◌≡◌, ℕ, List, None, map}
+use Rattle.std.specs.Prelude.{◌≡◌, ℕ, List, [], ◌∷◌, None, map}
 use Rattle.vme_trace.specs.Judged.{Span, judged_spans}
 use Rattle.vme_trace.specs.Trace.{Trace}
 use Rattle.vme_trace.specs.Verdict.{verdict}
@@ -27,3 +27,8 @@ pub record Agrees (r : Recording) : Type 0 where
   pub well_formed : malformed_step r.trace ≡ None
   pub verdict : verdict r.trace ≡ r.verdict
   pub rows : told r.trace ≡ r.rows
+
+-- so it is with each of these
+abbrev pub AllAgree : List Recording → Type 0
+AllAgree [] = Unit {0}
+AllAgree (r ∷ rs) = Agrees r × AllAgree rs

@@ -1,5 +1,5 @@
 -- Resets of the bus, which end what is judged, and the starts after them.
-use Rattle.std.specs.Prelude.{[], ◌∷◌, codes}
+use Rattle.std.specs.Prelude.{List, [], ◌∷◌, codes}
 use Rattle.vme_trace.specs.LineNumbers.{AS, DS0, DS1, DTACK, BERR, WRITE, AM, A, BBSY, BR, D, SYSRESET, grant}
 use Rattle.vme_trace.specs.declared.rule.Rule.TheVariants.{U1, H4, H6, G5, B1, B2}
 use Rattle.vme_trace.specs.declared.verdict.Verdict.TheVariants.{Conforming, Broken, Unreadable, NeverIdle}
@@ -363,3 +363,16 @@ open_tenure_ends_in_the_reset = record {
       codes "start 1" ∷ codes "tenure 1 open end -" ∷ codes "reset 2" ∷ codes "start 4"
       ∷ codes "verdict conforming" ∷ [];
 }
+
+-- all of them
+abbrev pub resets : List Recording
+resets = reset_in_a_read ∷ busy_after_the_reset ∷ answer_after_the_reset ∷ strobe_lost_with_the_reset
+    ∷ reset_line_lost ∷ reset_forgets_a_request ∷ request_without_a_reset ∷ reset_for_good ∷ reset_before_judging
+    ∷ reset_at_the_end ∷ two_resets ∷ stray_answer_with_the_reset ∷ stray_answers_around_the_reset
+    ∷ strobe_unknown_after_the_reset ∷ strobe_lost_after_the_reset ∷ reset_after_a_lost_strobe
+    ∷ address_changes_after_the_reset ∷ address_changes_after_a_lost_strobe ∷ direction_changes_after_the_reset
+    ∷ direction_changes_after_lost_strobes ∷ data_changes_after_the_reset ∷ read_after_the_reset_of_a_write
+    ∷ answer_withdrawn_in_the_reset ∷ answer_withdrawn_early_after_the_reset ∷ answer_in_the_reset
+    ∷ block_write_after_the_reset_of_a_block_read ∷ bus_granted_again_after_the_reset
+    ∷ grant_taken_twice_after_the_reset ∷ grant_before_the_reset_taken ∷ bus_taken_as_judging_starts_again
+    ∷ open_tenure_ends_in_the_reset ∷ []

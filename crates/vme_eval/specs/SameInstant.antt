@@ -1,5 +1,5 @@
 -- Recordings that break two rules at one instant, of which the one that stands first is named.
-use Rattle.std.specs.Prelude.{[], ◌∷◌, codes}
+use Rattle.std.specs.Prelude.{List, [], ◌∷◌, codes}
 use Rattle.vme_trace.specs.LineNumbers.{AS, DS0, DS1, DTACK, BERR, WRITE, AM, A, BR, BBSY, D, grant, iack}
 use Rattle.vme_trace.specs.declared.rule.Rule.TheVariants.{U2, U3, U4, H5, S1, S2, C2, G1, G2, G3, G4, B4, I1, I2, I3}
 use Rattle.vme_trace.specs.declared.rule.Rule.TheVariants.{I4}
@@ -189,3 +189,13 @@ second_acknowledge_is_a_write = record {
       ∷ codes "transfer 10 of 9 read DTACK 11 close 12" ∷ codes "transfer 14 write pending"
       ∷ codes "verdict broken I4 15 DTACK" ∷ [];
 }
+
+-- all of them
+abbrev pub same_instant : List Recording
+same_instant = modifier_and_direction_unknown ∷ direction_unknown_as_the_answer_is_low
+    ∷ data_unknown_as_the_answer_is_low ∷ answered_again_as_the_answer_is_withdrawn ∷ address_and_direction_change
+    ∷ direction_and_data_change ∷ direction_changes_with_a_second_answer ∷ block_turns_as_a_slot_grants
+    ∷ slot_grants_as_another_ends_its_grant ∷ slot_ends_its_grant_as_a_level_is_granted
+    ∷ two_levels_granted_while_busy ∷ unasked_level_granted_while_busy ∷ past_the_last_slot_with_an_acknowledge
+    ∷ acknowledge_of_nothing ∷ acknowledge_after_answer_and_strobe ∷ acknowledge_with_a_second_write
+    ∷ second_acknowledge_is_a_write ∷ []

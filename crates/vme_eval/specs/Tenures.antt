@@ -1,5 +1,5 @@
 -- Tenures of the bus, and the grants that they take.
-use Rattle.std.specs.Prelude.{[], ◌∷◌, codes}
+use Rattle.std.specs.Prelude.{List, [], ◌∷◌, codes}
 use Rattle.vme_trace.specs.LineNumbers.{AS, DS0, DS1, DTACK, BR, BBSY, grant}
 use Rattle.vme_trace.specs.declared.rule.Rule.TheVariants.{B1, B2, B3, B4}
 use Rattle.vme_trace.specs.declared.verdict.Verdict.TheVariants.{Conforming, Broken}
@@ -249,3 +249,13 @@ past_the_last_slot_as_the_grant_ends = record {
   verdict = Broken (record { instant = 7; time = 60; rule = B4; line = BBSY });
   rows = codes "start 1" ∷ codes "verdict broken B4 7 BBSY" ∷ [];
 }
+
+-- all of them
+abbrev pub tenures : List Recording
+tenures = tenure_on_level_0 ∷ tenure_on_level_1 ∷ tenure_on_level_2 ∷ taken_by_the_last_slot ∷ open_tenure_ends
+    ∷ tenure_after_an_open_one ∷ two_tenures ∷ grant_read_at_the_instant_before ∷ slot_read_as_the_bus_is_taken
+    ∷ another_levels_grant_taken ∷ higher_levels_grant_taken ∷ grant_chain_with_a_gap ∷ bus_taken_ungranted
+    ∷ taken_by_a_slots_grant_alone ∷ grant_taken_twice ∷ grant_of_the_same_instant_taken_twice
+    ∷ taken_again_by_a_slots_grant ∷ third_tenure_without_a_grant ∷ cycle_without_the_bus
+    ∷ cycle_starts_as_the_bus_is_taken ∷ cycle_starts_as_the_bus_is_let_go ∷ everything_starts_at_one_instant
+    ∷ grant_past_last_slot ∷ past_the_last_slot_as_the_grant_ends ∷ []

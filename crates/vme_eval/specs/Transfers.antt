@@ -1,5 +1,5 @@
 -- Transfers, answers and the address strobe.
-use Rattle.std.specs.Prelude.{[], ◌∷◌, codes}
+use Rattle.std.specs.Prelude.{List, [], ◌∷◌, codes}
 use Rattle.vme_trace.specs.LineNumbers.{AS, DS0, DS1, DTACK, BERR, AM, A, BBSY, iack}
 use Rattle.vme_trace.specs.declared.rule.Rule.TheVariants.{H1, H2, H3, H4, H5, H6, H7, H8}
 use Rattle.vme_trace.specs.declared.verdict.Verdict.TheVariants.{Conforming, Broken}
@@ -317,3 +317,14 @@ transfer_between_two_cycles = record {
       ∷ codes "transfer 10 of 9 read DTACK 11 close 12" ∷ codes "transfer 14 of 15 read DTACK 16 close 17"
       ∷ codes "cycle 15 S 39 FFFFDE end 17" ∷ codes "verdict conforming" ∷ [];
 }
+
+-- all of them
+abbrev pub transfers : List Recording
+transfers = read_cycle ∷ read_cycle_from_idle ∷ pipelined_cycles ∷ bus_error ∷ starts_before_the_answer_rose
+    ∷ answer_rises_as_the_next_transfer_starts ∷ strobes_rise_early ∷ strobes_rise_with_answer
+    ∷ one_strobe_rises_early ∷ strobe_falls_after_the_answer ∷ strobe_falls_with_the_answer
+    ∷ second_strobe_falls_before_the_answer ∷ stray_answer ∷ bus_error_to_nobody ∷ answered_at_its_first_instant
+    ∷ answered_by_both_lines_in_turn ∷ answered_by_both_lines_at_once ∷ answered_again_by_the_same_line
+    ∷ answer_withdrawn_early ∷ second_answer_withdrawn_early ∷ answer_rises_with_the_strobes ∷ cycle_ends_unanswered
+    ∷ cycle_ends_with_the_answer ∷ transfer_as_the_cycle_ends ∷ answer_without_a_cycle ∷ strobe_before_the_cycle
+    ∷ transfer_between_two_cycles ∷ []

@@ -1,5 +1,5 @@
 -- Data lines that a write moves: known as its strobes fall, and held until the answer.
-use Rattle.std.specs.Prelude.{[], ◌∷◌, codes}
+use Rattle.std.specs.Prelude.{List, [], ◌∷◌, codes}
 use Rattle.vme_trace.specs.LineNumbers.{AS, DS0, DS1, DTACK, LWORD, WRITE, AM, A, D}
 use Rattle.vme_trace.specs.declared.rule.Rule.TheVariants.{U4, H3, S3}
 use Rattle.vme_trace.specs.declared.verdict.Verdict.TheVariants.{Conforming, Broken, Unreadable}
@@ -251,3 +251,11 @@ answered_as_it_starts = record {
       codes "start 1" ∷ codes "tenure 5 level 3 slot 2 end -" ∷ codes "cycle 9 S 39 FFFFDE end 11"
       ∷ codes "transfer 10 of 9 write DTACK 10 close 11 data ----FFFE" ∷ codes "verdict conforming" ∷ [];
 }
+
+-- all of them
+abbrev pub write_data : List Recording
+write_data = data_unknown ∷ unmoved_data_unknown ∷ data_change_with_the_answer ∷ data_change ∷ unmoved_data_change
+    ∷ data_of_a_read ∷ second_byte_unknown ∷ second_byte_unknown_with_the_answer
+    ∷ second_byte_unknown_after_the_answer ∷ upper_byte_alone ∷ second_byte_settles ∷ data_lost
+    ∷ data_change_after_the_answer ∷ long_word ∷ long_word_unknown ∷ long_word_changes ∷ no_long_word_at_an_odd_word
+    ∷ lanes_unknown ∷ answered_as_it_starts ∷ []

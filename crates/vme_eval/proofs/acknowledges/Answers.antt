@@ -1,29 +1,5 @@
-use Rattle.vme_eval.proofs.AcknowledgesAgree.{acknowledge_cycle_agrees, acknowledge_of_level_3_agrees, acknowledge_skips_slot_agrees, acknowledge_outside_an_acknowledge_cycle_agrees, acknowledge_with_its_input_agrees, acknowledge_as_its_input_rises_agrees, acknowledge_before_strobe_agrees, acknowledge_before_the_cycle_agrees, acknowledge_by_the_second_strobe_agrees, acknowledge_as_the_strobe_rises_agrees, acknowledge_as_the_second_strobe_rises_agrees, acknowledge_as_the_second_strobe_falls_agrees, acknowledge_near_a_strobe_and_near_the_cycle_agrees, acknowledge_after_answer_agrees, acknowledge_after_an_answer_at_the_start_agrees, acknowledge_after_the_answer_of_a_data_cycle_agrees, acknowledge_with_the_answer_agrees, acknowledge_after_a_bus_error_agrees, acknowledge_as_the_next_cycle_starts_agrees, acknowledge_write_agrees, acknowledge_turns_to_a_read_agrees, acknowledge_is_a_read_from_its_start_agrees, acknowledged_twice_agrees}
+use Rattle.vme_eval.proofs.AcknowledgesAgree.{acknowledges_agree}
 use Rattle.vme_eval.proofs.acknowledges.Goals as goal
 
 pub returns : goal.returns
-returns c = record {
-  acknowledge_cycle = acknowledge_cycle_agrees;
-  acknowledge_of_level_3 = acknowledge_of_level_3_agrees;
-  acknowledge_skips_slot = acknowledge_skips_slot_agrees;
-  acknowledge_outside_an_acknowledge_cycle = acknowledge_outside_an_acknowledge_cycle_agrees;
-  acknowledge_with_its_input = acknowledge_with_its_input_agrees;
-  acknowledge_as_its_input_rises = acknowledge_as_its_input_rises_agrees;
-  acknowledge_before_strobe = acknowledge_before_strobe_agrees;
-  acknowledge_before_the_cycle = acknowledge_before_the_cycle_agrees;
-  acknowledge_by_the_second_strobe = acknowledge_by_the_second_strobe_agrees;
-  acknowledge_as_the_strobe_rises = acknowledge_as_the_strobe_rises_agrees;
-  acknowledge_as_the_second_strobe_rises = acknowledge_as_the_second_strobe_rises_agrees;
-  acknowledge_as_the_second_strobe_falls = acknowledge_as_the_second_strobe_falls_agrees;
-  acknowledge_near_a_strobe_and_near_the_cycle = acknowledge_near_a_strobe_and_near_the_cycle_agrees;
-  acknowledge_after_answer = acknowledge_after_answer_agrees;
-  acknowledge_after_an_answer_at_the_start = acknowledge_after_an_answer_at_the_start_agrees;
-  acknowledge_after_the_answer_of_a_data_cycle = acknowledge_after_the_answer_of_a_data_cycle_agrees;
-  acknowledge_with_the_answer = acknowledge_with_the_answer_agrees;
-  acknowledge_after_a_bus_error = acknowledge_after_a_bus_error_agrees;
-  acknowledge_as_the_next_cycle_starts = acknowledge_as_the_next_cycle_starts_agrees;
-  acknowledge_write = acknowledge_write_agrees;
-  acknowledge_turns_to_a_read = acknowledge_turns_to_a_read_agrees;
-  acknowledge_is_a_read_from_its_start = acknowledge_is_a_read_from_its_start_agrees;
-  acknowledged_twice = acknowledged_twice_agrees;
-}
+returns c = acknowledges_agree

@@ -1,25 +1,5 @@
-use Rattle.vme_eval.proofs.GrantsAgree.{slot_grants_ungranted_agrees, slot_grants_with_its_input_agrees, slot_grants_as_its_input_rises_agrees, slot_ends_its_grant_early_agrees, slot_ends_its_grant_as_its_input_falls_agrees, second_level_granted_agrees, higher_level_granted_second_agrees, two_levels_granted_at_once_agrees, another_level_granted_as_the_first_ends_agrees, grant_while_busy_agrees, slot_grants_while_busy_agrees, grant_falls_as_the_bus_is_let_go_agrees, grant_unasked_agrees, request_with_the_grant_agrees, request_low_at_the_start_agrees, request_of_the_grant_before_serves_again_agrees, request_before_another_levels_grant_agrees, request_of_two_grants_before_agrees, grant_withdrawn_agrees}
+use Rattle.vme_eval.proofs.GrantsAgree.{grants_agree}
 use Rattle.vme_eval.proofs.grants.Goals as goal
 
 pub returns : goal.returns
-returns c = record {
-  slot_grants_ungranted = slot_grants_ungranted_agrees;
-  slot_grants_with_its_input = slot_grants_with_its_input_agrees;
-  slot_grants_as_its_input_rises = slot_grants_as_its_input_rises_agrees;
-  slot_ends_its_grant_early = slot_ends_its_grant_early_agrees;
-  slot_ends_its_grant_as_its_input_falls = slot_ends_its_grant_as_its_input_falls_agrees;
-  second_level_granted = second_level_granted_agrees;
-  higher_level_granted_second = higher_level_granted_second_agrees;
-  two_levels_granted_at_once = two_levels_granted_at_once_agrees;
-  another_level_granted_as_the_first_ends = another_level_granted_as_the_first_ends_agrees;
-  grant_while_busy = grant_while_busy_agrees;
-  slot_grants_while_busy = slot_grants_while_busy_agrees;
-  grant_falls_as_the_bus_is_let_go = grant_falls_as_the_bus_is_let_go_agrees;
-  grant_unasked = grant_unasked_agrees;
-  request_with_the_grant = request_with_the_grant_agrees;
-  request_low_at_the_start = request_low_at_the_start_agrees;
-  request_of_the_grant_before_serves_again = request_of_the_grant_before_serves_again_agrees;
-  request_before_another_levels_grant = request_before_another_levels_grant_agrees;
-  request_of_two_grants_before = request_of_two_grants_before_agrees;
-  grant_withdrawn = grant_withdrawn_agrees;
-}
+returns c = grants_agree

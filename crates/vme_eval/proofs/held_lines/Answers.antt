@@ -1,25 +1,5 @@
-use Rattle.vme_eval.proofs.HeldLinesAgree.{short_address_agrees, address_changes_early_agrees, address_changes_with_answer_agrees, unneeded_line_changes_agrees, address_lost_in_the_cycle_agrees, highest_address_line_changes_agrees, address_changes_as_the_cycle_ends_agrees, address_changes_after_an_answer_at_the_start_agrees, unknown_modifier_agrees, floating_modifier_agrees, address_lost_as_the_cycle_starts_agrees, address_known_as_the_cycle_starts_agrees, highest_address_line_unknown_agrees, direction_unknown_agrees, direction_known_as_the_transfer_starts_agrees, direction_settles_as_the_transfer_starts_agrees, direction_changes_agrees, direction_changes_after_the_answer_agrees, direction_changes_as_a_strobe_rises_agrees}
+use Rattle.vme_eval.proofs.HeldLinesAgree.{held_lines_agree}
 use Rattle.vme_eval.proofs.held_lines.Goals as goal
 
 pub returns : goal.returns
-returns c = record {
-  short_address = short_address_agrees;
-  address_changes_early = address_changes_early_agrees;
-  address_changes_with_answer = address_changes_with_answer_agrees;
-  unneeded_line_changes = unneeded_line_changes_agrees;
-  address_lost_in_the_cycle = address_lost_in_the_cycle_agrees;
-  highest_address_line_changes = highest_address_line_changes_agrees;
-  address_changes_as_the_cycle_ends = address_changes_as_the_cycle_ends_agrees;
-  address_changes_after_an_answer_at_the_start = address_changes_after_an_answer_at_the_start_agrees;
-  unknown_modifier = unknown_modifier_agrees;
-  floating_modifier = floating_modifier_agrees;
-  address_lost_as_the_cycle_starts = address_lost_as_the_cycle_starts_agrees;
-  address_known_as_the_cycle_starts = address_known_as_the_cycle_starts_agrees;
-  highest_address_line_unknown = highest_address_line_unknown_agrees;
-  direction_unknown = direction_unknown_agrees;
-  direction_known_as_the_transfer_starts = direction_known_as_the_transfer_starts_agrees;
-  direction_settles_as_the_transfer_starts = direction_settles_as_the_transfer_starts_agrees;
-  direction_changes = direction_changes_agrees;
-  direction_changes_after_the_answer = direction_changes_after_the_answer_agrees;
-  direction_changes_as_a_strobe_rises = direction_changes_as_a_strobe_rises_agrees;
-}
+returns c = held_lines_agree

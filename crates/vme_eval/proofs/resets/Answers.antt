@@ -1,37 +1,5 @@
-use Rattle.vme_eval.proofs.ResetsAgree.{reset_in_a_read_agrees, busy_after_the_reset_agrees, answer_after_the_reset_agrees, strobe_lost_with_the_reset_agrees, reset_line_lost_agrees, reset_forgets_a_request_agrees, request_without_a_reset_agrees, reset_for_good_agrees, reset_before_judging_agrees, reset_at_the_end_agrees, two_resets_agrees, stray_answer_with_the_reset_agrees, stray_answers_around_the_reset_agrees, strobe_unknown_after_the_reset_agrees, strobe_lost_after_the_reset_agrees, reset_after_a_lost_strobe_agrees, address_changes_after_the_reset_agrees, address_changes_after_a_lost_strobe_agrees, direction_changes_after_the_reset_agrees, direction_changes_after_lost_strobes_agrees, data_changes_after_the_reset_agrees, read_after_the_reset_of_a_write_agrees, answer_withdrawn_in_the_reset_agrees, answer_withdrawn_early_after_the_reset_agrees, answer_in_the_reset_agrees, block_write_after_the_reset_of_a_block_read_agrees, bus_granted_again_after_the_reset_agrees, grant_taken_twice_after_the_reset_agrees, grant_before_the_reset_taken_agrees, bus_taken_as_judging_starts_again_agrees, open_tenure_ends_in_the_reset_agrees}
+use Rattle.vme_eval.proofs.ResetsAgree.{resets_agree}
 use Rattle.vme_eval.proofs.resets.Goals as goal
 
 pub returns : goal.returns
-returns c = record {
-  reset_in_a_read = reset_in_a_read_agrees;
-  busy_after_the_reset = busy_after_the_reset_agrees;
-  answer_after_the_reset = answer_after_the_reset_agrees;
-  strobe_lost_with_the_reset = strobe_lost_with_the_reset_agrees;
-  reset_line_lost = reset_line_lost_agrees;
-  reset_forgets_a_request = reset_forgets_a_request_agrees;
-  request_without_a_reset = request_without_a_reset_agrees;
-  reset_for_good = reset_for_good_agrees;
-  reset_before_judging = reset_before_judging_agrees;
-  reset_at_the_end = reset_at_the_end_agrees;
-  two_resets = two_resets_agrees;
-  stray_answer_with_the_reset = stray_answer_with_the_reset_agrees;
-  stray_answers_around_the_reset = stray_answers_around_the_reset_agrees;
-  strobe_unknown_after_the_reset = strobe_unknown_after_the_reset_agrees;
-  strobe_lost_after_the_reset = strobe_lost_after_the_reset_agrees;
-  reset_after_a_lost_strobe = reset_after_a_lost_strobe_agrees;
-  address_changes_after_the_reset = address_changes_after_the_reset_agrees;
-  address_changes_after_a_lost_strobe = address_changes_after_a_lost_strobe_agrees;
-  direction_changes_after_the_reset = direction_changes_after_the_reset_agrees;
-  direction_changes_after_lost_strobes = direction_changes_after_lost_strobes_agrees;
-  data_changes_after_the_reset = data_changes_after_the_reset_agrees;
-  read_after_the_reset_of_a_write = read_after_the_reset_of_a_write_agrees;
-  answer_withdrawn_in_the_reset = answer_withdrawn_in_the_reset_agrees;
-  answer_withdrawn_early_after_the_reset = answer_withdrawn_early_after_the_reset_agrees;
-  answer_in_the_reset = answer_in_the_reset_agrees;
-  block_write_after_the_reset_of_a_block_read = block_write_after_the_reset_of_a_block_read_agrees;
-  bus_granted_again_after_the_reset = bus_granted_again_after_the_reset_agrees;
-  grant_taken_twice_after_the_reset = grant_taken_twice_after_the_reset_agrees;
-  grant_before_the_reset_taken = grant_before_the_reset_taken_agrees;
-  bus_taken_as_judging_starts_again = bus_taken_as_judging_starts_again_agrees;
-  open_tenure_ends_in_the_reset = open_tenure_ends_in_the_reset_agrees;
-}
+returns c = resets_agree

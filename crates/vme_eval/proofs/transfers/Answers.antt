@@ -1,33 +1,5 @@
-use Rattle.vme_eval.proofs.TransfersAgree.{read_cycle_agrees, read_cycle_from_idle_agrees, pipelined_cycles_agrees, bus_error_agrees, starts_before_the_answer_rose_agrees, answer_rises_as_the_next_transfer_starts_agrees, strobes_rise_early_agrees, strobes_rise_with_answer_agrees, one_strobe_rises_early_agrees, strobe_falls_after_the_answer_agrees, strobe_falls_with_the_answer_agrees, second_strobe_falls_before_the_answer_agrees, stray_answer_agrees, bus_error_to_nobody_agrees, answered_at_its_first_instant_agrees, answered_by_both_lines_in_turn_agrees, answered_by_both_lines_at_once_agrees, answered_again_by_the_same_line_agrees, answer_withdrawn_early_agrees, second_answer_withdrawn_early_agrees, answer_rises_with_the_strobes_agrees, cycle_ends_unanswered_agrees, cycle_ends_with_the_answer_agrees, transfer_as_the_cycle_ends_agrees, answer_without_a_cycle_agrees, strobe_before_the_cycle_agrees, transfer_between_two_cycles_agrees}
+use Rattle.vme_eval.proofs.TransfersAgree.{transfers_agree}
 use Rattle.vme_eval.proofs.transfers.Goals as goal
 
 pub returns : goal.returns
-returns c = record {
-  read_cycle = read_cycle_agrees;
-  read_cycle_from_idle = read_cycle_from_idle_agrees;
-  pipelined_cycles = pipelined_cycles_agrees;
-  bus_error = bus_error_agrees;
-  starts_before_the_answer_rose = starts_before_the_answer_rose_agrees;
-  answer_rises_as_the_next_transfer_starts = answer_rises_as_the_next_transfer_starts_agrees;
-  strobes_rise_early = strobes_rise_early_agrees;
-  strobes_rise_with_answer = strobes_rise_with_answer_agrees;
-  one_strobe_rises_early = one_strobe_rises_early_agrees;
-  strobe_falls_after_the_answer = strobe_falls_after_the_answer_agrees;
-  strobe_falls_with_the_answer = strobe_falls_with_the_answer_agrees;
-  second_strobe_falls_before_the_answer = second_strobe_falls_before_the_answer_agrees;
-  stray_answer = stray_answer_agrees;
-  bus_error_to_nobody = bus_error_to_nobody_agrees;
-  answered_at_its_first_instant = answered_at_its_first_instant_agrees;
-  answered_by_both_lines_in_turn = answered_by_both_lines_in_turn_agrees;
-  answered_by_both_lines_at_once = answered_by_both_lines_at_once_agrees;
-  answered_again_by_the_same_line = answered_again_by_the_same_line_agrees;
-  answer_withdrawn_early = answer_withdrawn_early_agrees;
-  second_answer_withdrawn_early = second_answer_withdrawn_early_agrees;
-  answer_rises_with_the_strobes = answer_rises_with_the_strobes_agrees;
-  cycle_ends_unanswered = cycle_ends_unanswered_agrees;
-  cycle_ends_with_the_answer = cycle_ends_with_the_answer_agrees;
-  transfer_as_the_cycle_ends = transfer_as_the_cycle_ends_agrees;
-  answer_without_a_cycle = answer_without_a_cycle_agrees;
-  strobe_before_the_cycle = strobe_before_the_cycle_agrees;
-  transfer_between_two_cycles = transfer_between_two_cycles_agrees;
-}
+returns c = transfers_agree
