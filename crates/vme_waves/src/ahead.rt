@@ -4,11 +4,11 @@ ghost use Rattle.std.specs.Prelude.{◌≡◌, ◌<◌, length, slice_get, IfOk,
 ghost use Rattle.vme_trace.specs.LineNumbers.{line_count};
 ghost use Rattle.vme_waves.specs.Waves.{AreAhead, AreWhole, IsAheadAt, IsJudgedAhead};
 
+use crate::apart::map_places;
 use crate::cut::{Piece, cut_at_time};
 use crate::guess::Guess;
 use crate::runs::{JudgedRuns, JudgingRuns};
 use std::alloc::{AllocError, Global};
-use std::thread;
 use std::thread::Threads;
 use vme_bind::{Ahead, TextWave};
 use vme_summary::Unkept;
@@ -78,7 +78,7 @@ pub(crate) fn read_each_guessed<R: Threads + Sync, J: Advance + Send>(
 ) -> Result<Vec<Option<(Ahead, JudgedRuns<J>)>>, AllocError>
     ensures { IfOk result (λ all. AreAhead wave.now.body.nets wave.now.taps pieces.now all.items) }
 {
-    let all = thread::map_indices(
+    let all = map_places(
         rt,
         alloc,
         pieces.len(),
@@ -120,7 +120,7 @@ pub(crate) fn levels_before_each<R: Threads + Sync>(
 ) -> Result<Vec<Option<Lines>>, AllocError>
     ensures { IfOk result (λ levels. AreWhole levels.items) }
 {
-    let read = thread::map_indices(
+    let read = map_places(
         rt,
         alloc,
         pieces.len().saturating_sub(1),
@@ -193,7 +193,7 @@ pub(crate) fn read_from<R: Threads + Sync, J: Advance + Send>(
     if levels.iter().all(|one| one.is_none()) {
         return Ok(Vec::new(alloc));
     }
-    let all = thread::map_indices(
+    let all = map_places(
         rt,
         alloc,
         pieces.len(),
