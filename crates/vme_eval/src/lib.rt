@@ -2,8 +2,8 @@
 //!
 //! Each function is a law: its contract is what it says. `every_rule` says that each rule has an example that breaks it
 //! and recordings near to that which conform; `tables` which codes and lines the definitions single out; each of the
-//! others that the recordings of one module of `specs/`, which ends in the list of them, get the verdict and the listing
-//! that stand beside them.
+//! others that the recordings of one module of `specs/`, which ends in the list of them, get the verdict and the
+//! listing that stand beside them.
 //! Start reading in `specs/Recording`, then `specs/Examples`. `./test` runs the program on dumps of the recordings,
 //! read off `specs/`, and `tests/definitions/try` edits the definitions, which a law has to refuse.
 #![tactic(auto)]

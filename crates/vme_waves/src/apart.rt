@@ -7,9 +7,10 @@ ghost use Rattle.std.specs.Thread.{IsSync, IsSend};
 use std::alloc::{AllocError, Global};
 use std::thread::{Threads, join};
 
-/// Calls `f` at each place below this count, and gives what it returns, in order. Each place but 0 has a thread of its
-/// own, where one can be made. The calling thread starts all of them: where threads start others in their turn, the
-/// system spreads them over the processors too late. The only error is want of memory.
+/// Calls `f` at each place below this count, and gives what it returns, in order. Each place has a thread of its own,
+/// where one can be made. The calling thread starts all of them and waits, so that each finds a processor: the system
+/// is late to spread threads that start one another, or of which one works where it started the others. The only error
+/// is want of memory.
 #[cycle(apart)]
 pub(crate) fn map_places<R: Threads + Sync, X: Send + Drop, F: Fn(usize) -> X + Sync>(
     rt: &R,
@@ -21,15 +22,10 @@ pub(crate) fn map_places<R: Threads + Sync, X: Send + Drop, F: Fn(usize) -> X + 
     ensures len { IfOk result (λ all. vec_len all ≡ count) }
     ensures each { IfOk result (λ all. GivesEach F.Fn f.now count all.items) }
 {
-    let mut all = Vec::new(alloc);
     if count == 0 {
-        return Ok(all);
+        return Ok(Vec::new(alloc));
     }
     let last = count - 1;
-    if last == 0 {
-        all.push(f(last))?;
-        return Ok(all);
-    }
     let apart = move || -> X
         requires { IsSync F.row × IsSend X.row × F.pre f.now last }
         ensures { F.post f.entry.now last result }

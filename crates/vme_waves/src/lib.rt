@@ -4,8 +4,8 @@
 //! last is read in order. The rest is cut where times begin (`cut`); each part of it is read ahead of those before it,
 //! from the levels that likely stand there, and judged as it is read (`ahead`, `runs`), in a thread of its own
 //! (`apart`). Once these were guessed wrong (`guess`), what the parts do to the lines is read first. They are joined in
-//! order (`joining`): a part that was read from other levels than really stand before it is read again, from those. From
-//! the first that doesn't fit on, they are read in order (`in_order`).
+//! order (`joining`): a part that was read from other levels than really stand before it is read again, from those.
+//! From the first that doesn't fit on, they are read in order (`in_order`).
 #![tactic(auto)]
 
 mod ahead;

@@ -73,7 +73,7 @@ fn expect_pieces<R: Abort + AllocGlobal + Threads + Sync>(
                 rt,
                 bound,
                 dump,
-                &Workers::with_pieces(rt, count, piece),
+                &Workers::with_pieces(rt, count, piece, 4 * piece),
                 expected,
             );
         }
