@@ -1,6 +1,7 @@
 -- A recording that is judged as it is made.
 use Rattle.std.specs.Prelude.{◌≡◌, ℕ, ◌+◌, ◌≤◌, List, ◌++◌, length, min}
 use Rattle.vme_trace.specs.Levels.{Levels}
+use Rattle.vme_trace.specs.Trace.{levels_after}
 use Rattle.vme_trace.specs.WellFormed.{capture_limit}
 use Rattle.vme_trace.specs.declared.step.Step.{Step}
 use Rattle.vme_summary.specs.declared.judgement.Judgement.{Judgement}
@@ -13,6 +14,7 @@ pub record KeepsUp (IsPast : Levels → List Step → Type 0) (count : ℕ) (ope
 
 -- a part was judged by itself, if a recording may have so many steps; what judges says so of this judgement
 pub record IsPart (IsMadeOf : Judgement → Levels → List Step → Type 0) (judgement : Judgement) (count : ℕ)
-    (opening : Levels) (taken : List Step) : Type 0 where
+    (opening : Levels) (taken : List Step) (left : Levels) : Type 0 where
   pub counted : count ≡ min (length taken) (capture_limit + 1)
   pub made : length taken ≤ capture_limit → IsMadeOf judgement opening taken
+  pub left_is : left ≡ levels_after opening taken

@@ -33,7 +33,8 @@ pub trait Advance: Drop {
     /// Judges steps by themselves: of what stands before them no more is known than the lines that it leaves.
     fn judge(alloc: Global, opening: &Lines, steps: &[Step]) -> Result<Judgement, AllocError>
         requires { length steps.now ≤ 268435456 }
-        ensures { IfOk result (λ judgement. is_made_of judgement opening.now steps.now) };
+        ensures made { IfOk result (λ judgement. is_made_of judgement opening.now steps.now) }
+        ensures left { IfOk result (λ judgement. judgement.left ≡ levels_after opening.now steps.now) };
 
     /// Past the steps that follow, which were judged by themselves: there are at most 268,435,456 in all. Without
     /// memory it stays where it is.

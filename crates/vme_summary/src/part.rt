@@ -1,6 +1,7 @@
 //! A part of a recording that was judged by itself.
 
 ghost use Rattle.std.specs.Prelude.{◌≡◌, IfOk};
+ghost use Rattle.vme_trace.specs.Trace.{levels_after};
 
 use crate::advance::{Advance, MOST_STEPS};
 use crate::judgement::Judgement;
@@ -16,6 +17,8 @@ pub struct JudgedPart<J: Advance> {
     /// How many steps there are, or one over the most.
     pub(crate) count: u32,
     opening: Lines,
+    /// The lines that the steps leave.
+    left: Lines,
     pub(crate) judgement: Judgement,
     pub(crate) taken: Taken,
     by: PhantomData<J>,
@@ -29,7 +32,18 @@ impl<J: Advance> Model for JudgedPart<J> {
 
     ghost view = { λ p. record { opening = p.opening; steps = p.taken.items } };
 
-    ghost invariant = { λ p. IsPart J.is_made_of p.judgement p.count p.opening p.taken.items };
+    ghost invariant = { λ p. IsPart J.is_made_of p.judgement p.count p.opening p.taken.items p.left };
+}
+
+/// The lines that some steps leave.
+fn left_by(lines: &Lines, steps: &[Step]) -> Lines
+    ensures { result ≡ levels_after lines.now steps.now }
+{
+    let mut left = *lines;
+    for step in steps {
+        left.apply(step.changes.as_slice());
+    }
+    left
 }
 
 impl<J: Advance> JudgedPart<J> {
@@ -38,13 +52,22 @@ impl<J: Advance> JudgedPart<J> {
     pub fn of(alloc: Global, opening: &Lines, steps: &[Step]) -> Result<JudgedPart<J>, AllocError>
         ensures { IfOk result (λ part. part ≡ record { opening = opening.now; steps = steps.now }) }
     {
-        let few = steps.len().min(MOST_STEPS as usize);
+        let (first, rest) = steps.split_at(steps.len().min(MOST_STEPS as usize));
+        let judgement = J::judge(alloc, opening, first)?;
         Ok(JudgedPart {
             count: steps.len().min(MOST_STEPS as usize + 1) as u32,
             opening: *opening,
-            judgement: J::judge(alloc, opening, &steps[..few])?,
+            left: left_by(&judgement.left, rest),
+            judgement,
             taken: Taken::of(steps),
             by: PhantomData,
         })
+    }
+
+    /// The lines that the steps leave.
+    pub fn left(&self) -> &Lines
+        ensures { result.now ≡ levels_after self.now.opening self.now.steps }
+    {
+        &self.left
     }
 }

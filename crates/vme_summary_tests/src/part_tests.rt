@@ -27,6 +27,15 @@ fn sent<T: Send>(value: T) -> T
     value
 }
 
+/// The lines that a block leaves.
+fn left_by(block: &Block) -> Lines {
+    let mut left = block.opening;
+    for step in block.steps.as_slice() {
+        left.apply(step.changes.as_slice());
+    }
+    left
+}
+
 /// Passes a block, which is judged by itself, to what leaves the lines that it opens with.
 fn pass_block<J: Advance + Send>(
     rt: &impl Abort,
@@ -37,6 +46,7 @@ fn pass_block<J: Advance + Send>(
     let part = sent(JudgedPart::<J>::of(alloc, &block.opening, block.steps.as_slice())?);
     let follows = watch.leaves(alloc, &block.opening)?;
     assert!(rt; follows);
+    assert!(rt; *part.left() == left_by(block));
     watch.pass(alloc, part)?;
     Ok(())
 }

@@ -1,6 +1,5 @@
 -- The steps of a piece, some at once.
-use Rattle.std.proofs.Common.{◌≡◌, ℕ, ◌+◌, ◌<◌, add-one, List, [], ◌∷◌, ◌++◌, length, get_or, drop, sym, ap, subst, ◌∙◌, append_assoc, append-nil}
-use Rattle.std.proofs.Math.Seq.{drop-cons}
+use Rattle.std.proofs.Common.{◌≡◌, List, [], ◌∷◌, ◌++◌, sym, ap, subst, ◌∙◌, append_assoc, append-nil}
 use Rattle.vme_trace.specs.Followed.{with_steps}
 use Rattle.vme_trace.specs.Levels.{Levels}
 use Rattle.vme_trace.specs.Trace.{Trace, levels_after}
@@ -21,10 +20,6 @@ follow-last v (first ∷ runs) run h opens = (
   h.0,
   follow-last (levels_after v first.steps) runs run h.1 (opens ∙ levels_after-append v first.steps (steps_in runs)),
 )
-
--- the steps from a place on
-pub step-from : (steps : List Step) (i : ℕ) (step : Step) → i < length steps → step ≡ get_or steps i step → drop i steps ≡ step ∷ drop (i + 1) steps
-step-from steps i step lt is = rw add-one (drop-cons steps i step lt) ∙ ap (λ (s : Step). s ∷ drop (i + 1) steps) (sym is)
 
 -- ---- one run more
 

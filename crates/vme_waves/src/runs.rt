@@ -56,17 +56,6 @@ impl<J: Advance> Model for JudgingRuns<J> {
     ghost invariant = { λ r. AreUnderway r.opening r.runs.items r.left };
 }
 
-/// The levels behind some steps.
-fn levels_behind(levels: &Lines, steps: &[Step]) -> Lines
-    ensures { result ≡ levels_after levels.now steps.now }
-{
-    let mut left = *levels;
-    for step in steps {
-        left.apply(step.changes.as_slice());
-    }
-    left
-}
-
 impl<J: Advance> JudgingRuns<J> {
     /// Before the first step, which follows these lines.
     pub fn new(alloc: Global, opening: &Lines) -> JudgingRuns<J>
@@ -87,8 +76,9 @@ impl<J: Advance> JudgingRuns<J> {
         ensures { OnOk result (self.new ≡ self.old) }
     {
         let part = JudgedPart::of(alloc, &self.left, &self.waiting)?;
+        let left = *part.left();
         self.runs.push(part)?;
-        self.left = levels_behind(&self.left, &self.waiting);
+        self.left = left;
         self.waiting.clear();
         Ok(())
     }

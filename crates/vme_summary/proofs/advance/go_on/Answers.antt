@@ -7,4 +7,4 @@ pub pass-requires : goal.pass-requires
 pass-requires g c =
     let steps = c.args.steps.now in
     let r = c.requires in
-    (r.0, r.1, steps, r.2, subst (λ (v : Levels). g.J.Advance.is_made_of c.in_ok-judgement.judgement v steps) (c.left.ensures r.0 r.1 r.2) c.in_ok-judgement.ensures, r.3)
+    (r.0, r.1, steps, r.2, subst (λ (v : Levels). g.J.Advance.is_made_of c.in_ok-judgement.judgement v steps) (c.left.ensures r.0 r.1 r.2) c.in_ok-judgement.ensures.made, r.3)

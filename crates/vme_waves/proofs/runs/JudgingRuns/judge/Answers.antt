@@ -1,5 +1,5 @@
-use Rattle.std.proofs.Common.{◌++◌, ◌∙◌, List, ap, append-nil, sym}
-use Rattle.vme_trace.specs.Trace.{levels_after}
+use Rattle.std.proofs.Common.{◌++◌, ◌∙◌, List, ap, append-nil}
+use Rattle.vme_trace.specs.Trace.{Trace, levels_after}
 use Rattle.vme_trace.specs.declared.step.Step.{Step}
 use Rattle.vme_waves.specs.Runs.{steps_in}
 use Rattle.vme_waves.proofs.RunLemmas.{steps-more, underway-more}
@@ -10,8 +10,8 @@ invariant_of-self-2 g c =
     let i = c.self.inside in
     let steps : List Step = c.deref.result.now in
     underway-more i.opening i.left i.runs.items c.push.new.self.items c.in_ok-part.part steps c.self.invariant c.in_ok-push.ensures.items c.in_ok-part.ensures
-    c.levels_behind-self-inside.result
-    (c.levels_behind-self-inside.ensures ∙ ap (levels_after i.left) (c.deref-2.ensures.value ∙ sym c.deref.ensures.value))
+    c.left-left.result.now
+    (c.left-left.ensures ∙ ap (λ (t : Trace). levels_after t.opening t.steps) c.in_ok-part.ensures)
 
 pub returns : goal.returns
 returns g c =

@@ -1,9 +1,10 @@
-use Rattle.std.proofs.Common.{◌∙◌, ◌+◌, ap, drop, sym}
+use Rattle.std.proofs.Common.{◌≡◌, ◌∙◌, ◌+◌, ◌∷◌, add-one, ap, drop, sym}
 use Rattle.std.proofs.Math.ListN.{drop_of_length-le}
 use Rattle.vme_trace.specs.Levels.{Levels}
 use Rattle.vme_trace.specs.Trace.{changed, levels_after}
-use Rattle.vme_waves.proofs.RunLemmas.{step-from}
-use Rattle.vme_waves.proofs.runs.levels_behind.Goals as goal
+use Rattle.std.proofs.Math.Seq.{drop-cons}
+use Rattle.vme_trace.specs.declared.step.Step.{Step}
+use Rattle.vme_summary.proofs.part.left_by.Goals as goal
 
 pub loop-step-preserved : goal.loop-step-preserved
 loop-step-preserved c =
@@ -11,8 +12,9 @@ loop-step-preserved c =
     let steps = c.args.steps.now in
     let step = c.step-item.result in
     let before : Levels = c.loop-step.left in
+    let cut : drop i steps ≡ step ∷ drop (i + 1) steps = rw add-one (drop-cons steps i step c.loop-step-test.true) ∙ ap (λ (s : Step). s ∷ drop (i + 1) steps) (sym c.step-item.is) in
     ap (λ (v : Levels). levels_after v (drop (i + 1) steps)) (c.apply.ensures ∙ ap (changed before) c.as_slice.ensures)
-    ∙ ap (levels_after before) (sym (step-from steps i step c.loop-step-test.true c.step-item.is))
+    ∙ ap (levels_after before) (sym cut)
     ∙ c.loop-step.invariant
 
 pub returns : goal.returns
