@@ -13,11 +13,14 @@ use Rattle.vme_trace.specs.declared.block.Block.{Block}
 use Rattle.vme_core.specs.declared.view.View.{View}
 use Rattle.vme_core.specs.Counting.{HasPair, occurrences, numbers, sum_below, missing_count}
 use Rattle.vme_core.specs.Rule.{Rule}
+use Rattle.vme_core.specs.Stages.{rank, seen}
+use Rattle.vme_core.proofs.StageRanks.{seen_free}
+use Rattle.vme_core.specs.Shares.{IsWhole}
 use Rattle.vme_core.proofs.Sums.{occurs_of_pair, pair_of_occurs}
 use Rattle.vme_core.proofs.SumsBelow.{sum_below_plus, sum_below_agree, sum_below_limit}
-use Rattle.vme_core.proofs.RuleSteps.{unlisted, is_taken, few_listed, few_taken, all_listed, all_taken, one_content}
+use Rattle.vme_core.proofs.RuleSteps.{own_draws, own_claims, own_takes, whole_listed, whole_taken, unlisted, is_taken, few_listed, few_taken, all_listed, all_taken, one_content}
 use Rattle.vme_board.specs.Words.{bit_of, Homes, IsEmpty, IsFilled, Holds, kept}
-use Rattle.vme_board.specs.Contents.{HasBlock, filled_bit, filled_at, filled_count}
+use Rattle.vme_board.specs.Contents.{DidAll, HasBlock, filled_bit, filled_at, filled_count}
 use Rattle.vme_board.proofs.Bits.{bit_small}
 
 at_length : {A : Type 0} (l : List A) (i : ℕ) (a : A) → get_elem? l i ≡ some a → i < length l
@@ -109,6 +112,32 @@ module _ (width id : ℕ) (v : View) (ws : List ℕ) (xs items : List (Option Bl
 
   pub taken_sum : missing_count v.taken (numbers v.takes) total + length v.takes ≤ sum_below T total
   taken_sum = few_taken total (bit_of 3 ws) (bit_of 0 ws) F T K (IsEmpty homes) (IsFilled homes) fin.0.views r id v at_view
+
+  -- who has the whole share did all
+  module _ (all : IsWhole v.share) where
+    pub whole_filed : sum_below F total ≡ length v.list
+    whole_filed = whole_listed total (bit_of 3 ws) (bit_of 0 ws) F T K (IsEmpty homes) (IsFilled homes) fin.0.views r id v at_view all
+
+    pub whole_gone : sum_below T total ≡ length v.takes
+    whole_gone = whole_taken total (bit_of 3 ws) (bit_of 0 ws) F T K (IsEmpty homes) (IsFilled homes) fin.0.views r id v at_view all
+
+    -- a number that was seen claimed, filed or taken is claimed
+    is_claimed : (n : ℕ) → 1 ≤ rank (seen v n) → bit_of 0 ws n ≡ 1
+    is_claimed n h = let b = r.stages.bit n in let p = r.stages.pending_once n in let t = r.stages.taken_is_filed n in
+        dite (ℕ_discrete (occurrences n v.taken) 0)
+        (λ a. dite (ℕ_discrete (occurrences n v.filed) 0)
+        (λ c. dite (ℕ_discrete (occurrences n v.claimed) 0)
+        (λ d. let z : rank (seen v n) ≡ 0 = ap rank (seen_free v n a c d) in absurd (omega (arith, h, z)))
+        (λ ne. r.stages.saw_claimed id v at_view n (omega (arith, ne))))
+        (λ ne. let f = r.stages.saw_filed id v at_view n (omega (arith, ne)) in omega (arith, b, p, f)))
+        (λ ne. let f = r.stages.saw_taken id v at_view n (omega (arith, ne)) in omega (arith, b, p, t, f))
+
+    pub whole_did : v.pending ≡ [] → DidAll v
+    whole_did none = record {
+      draws = λ d h. sym (own_draws total (bit_of 3 ws) (bit_of 0 ws) F T K (IsEmpty homes) (IsFilled homes) fin.0.views r id v at_view all d) ∙ r.draws.found id v at_view d h;
+      list = λ n h. let p : occurrences n v.pending ≡ 0 = ap (occurrences n) none in omega (arith, own_claims total (bit_of 3 ws) (bit_of 0 ws) F T K (IsEmpty homes) (IsFilled homes) fin.0.views r id v at_view all n, is_claimed n h, p);
+      takes = λ n h. sym (own_takes total (bit_of 3 ws) (bit_of 0 ws) F T K (IsEmpty homes) (IsFilled homes) fin.0.views r id v at_view all n) ∙ r.stages.saw_taken id v at_view n h;
+    }
 
   pub close_kept : (n : ℕ) (b : Block) → sum_below T total ≤ length v.takes → HasPair v.list n b → occurrences n (numbers v.takes) ≡ 0 → slice_get items n ≡ Some (Some b)
   close_kept n b all has none = let l = list_is n b has in full n b l.0 l.1 (all_taken total (bit_of 3 ws) (bit_of 0 ws) F T K (IsEmpty homes) (IsFilled homes) fin.0.views r id v at_view all n l.0 ∙ none) l.2

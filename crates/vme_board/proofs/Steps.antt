@@ -1,5 +1,5 @@
 -- Each step keeps the rule, and tells what its play says.
-use Rattle.std.proofs.Common.{◌≡◌, ℕ, zero, suc, ◌+◌, ◌*◌, ◌/◌, ◌%◌, ◌<◌, List, [], ◌∷◌, ◌++◌, length, get_or, set, sym, refl, ap, ◌∙◌, subst, arith, bit_or, length-set, Option, Some, None, replicate, map}
+use Rattle.std.proofs.Common.{◌≡◌, ℕ, zero, suc, ◌+◌, ◌*◌, ◌/◌, ◌%◌, ◌<◌, ◌≢◌, List, [], ◌∷◌, ◌++◌, length, get_or, set, sym, refl, ap, ◌∙◌, subst, arith, bit_or, length-set, Option, Some, None, replicate, map}
 use mathlib.Core.Option as maybe
 use mathlib.Core.Option.{none, some, some-injective, some-ne-none}
 use lib.ListN.{get_elem?}
@@ -11,10 +11,10 @@ use Rattle.atomic_table.proofs.Lists.{set_again, set_else, set_here, at_index}
 use Rattle.vme_trace.specs.declared.block.Block.{Block}
 use Rattle.vme_core.specs.declared.view.View.{View}
 use Rattle.vme_core.specs.Counting.{occurrences, numbers, HasPair, set_bits, update}
-use Rattle.vme_core.specs.Views.{after_draw, with_found, after_claim, after_filing, after_take, with_claimed, with_filed, with_taken, split_view, joint_view, empty_view}
+use Rattle.vme_core.specs.Views.{after_draw, with_found, after_claim, after_filing, after_take, with_claimed, with_filed, with_taken, kept_view, split_view, joint_view, empty_view, first_view}
 use Rattle.vme_core.specs.Rule.{Rule}
 use Rattle.vme_core.proofs.Sums.{update_here, update_else, each}
-use Rattle.vme_core.proofs.ViewChanges.{saw_one, saw_both, from_fresh}
+use Rattle.vme_core.proofs.ViewChanges.{saw_one, saw_both, from_fresh, shares_first}
 use Rattle.vme_core.proofs.SetBits.{set_bits_true}
 use Rattle.vme_core.proofs.SumsBelow.{sum_below_limit}
 use Rattle.vme_core.proofs.RuleSteps.{rule_alike, rule_saw, rule_gets, undrawn, unlisted, untaken, is_taken, rule_wins, is_pending, rule_files, rule_takes, rule_gives, rule_splits, rule_joins, rule_once, rule_agrees, few_listed, few_taken, one_content, none_some}
@@ -28,6 +28,9 @@ St = State (Option Block) View
 
 abbrev Contents_of : Type 0
 Contents_of = ℕ → Option Block
+
+has_any : {es : List ℕ} → 0 < length es → es ≢ []
+has_any h z = omega (arith, h, ap length z)
 
 -- the rule with as many slots
 resized : (K : Contents_of) (a b : ℕ) (D C F T : ℕ → ℕ) (E : ℕ → Type 0) (H : ℕ → Block → Type 0) (vs : List View) → b ≡ a → Rule a D C F T K E H vs → Rule b D C F T K E H vs
@@ -130,9 +133,9 @@ module _ (width : ℕ) (s : St) (h : Holds width s) (id : ℕ) (seat : SeatState
   there : (w : View) → get_elem? (set s.views id w) id ≡ some w
   there w = set_here s.views id w (at_within s.views id seat.0 e)
 
-  draw_by : (d : ℕ) → 4 * (d / 64) + 3 < width → (x : ℕ) → D d ≡ x → Goes (4 * (d / 64) + 3) (bit_or (get_or s.words (4 * (d / 64) + 3) 0) (mask_of d))
+  draw_by : 0 < length seat.0.share → (d : ℕ) → 4 * (d / 64) + 3 < width → (x : ℕ) → D d ≡ x → Goes (4 * (d / 64) + 3) (bit_or (get_or s.words (4 * (d / 64) + 3) 0) (mask_of d))
       (λ after. (x ≡ 0 → (occurrences d seat.0.draws ≡ 0) × (occurrences d seat.0.found ≡ 0) × (after ≡ (after_draw seat.0 d, seat.1))) × (x ≡ 1 → after ≡ (with_found seat.0 d, seat.1)))
-  draw_by d small zero is =
+  draw_by rich d small zero is =
       let near : 4 * (d / 64) + 3 < length s.words = inside (4 * (d / 64) + 3) small in let ws' : List ℕ = marked 3 s.words d in let D' : ℕ → ℕ = bit_of 3 ws' in
       let unfound : occurrences d seat.0.found ≡ 0 = dite (ℕ_discrete (occurrences d seat.0.found) 0) (λ z. z) (λ ne. absurd (omega (arith, is, found d (omega (arith, ne))))) in (
         after_draw seat.0 d,
@@ -143,28 +146,28 @@ module _ (width : ℕ) (s : St) (h : Holds width s) (id : ℕ) (seat : SeatState
           (
             K,
             rule_alike (length s.homes) D' D' C (bit_of 0 ws') F (bit_of 1 ws') T (bit_of 2 ws') K E H (set s.views id (after_draw seat.0 d)) (λ _. refl) (bit_row 3 s.words d near 0 (omega arith) (omega arith) (λ z. omega arith)) (bit_row 3 s.words d near 1 (omega arith) (omega arith) (λ z. omega arith)) (bit_row 3 s.words d near 2 (omega arith) (omega arith) (λ z. omega arith))
-                (rule_gets (length s.homes) D C F T K E H s.views r id seat.0 e D' d is (bit_here 3 s.words d near) (bit_else 3 s.words d near)),
+                (rule_gets (length s.homes) D C F T K E H s.views r id seat.0 e (has_any rich) D' d is (bit_here 3 s.words d near) (bit_else 3 s.words d near)),
             h.1.2,
           ),
         ),
         ((λ _. (undrawn (length s.homes) D C F T K E H s.views r id seat.0 e d is, unfound, refl)), λ z. absurd (omega (arith, z))),
       )
-  draw_by d small (suc zero) is = let near : 4 * (d / 64) + 3 < length s.words = inside (4 * (d / 64) + 3) small in (
+  draw_by rich d small (suc zero) is = let near : 4 * (d / 64) + 3 < length s.words = inside (4 * (d / 64) + 3) small in (
     with_found seat.0 d,
     keeps,
     tt,
     stands 3 d (omega arith) near is (with_found seat.0 d) (saw (d ∷ seat.0.found) seat.0.claimed seat.0.filed seat.0.taken (saw_one D d seat.0.found is found) claims filings takings),
     ((λ z. absurd (omega (arith, z))), λ _. refl),
   )
-  draw_by d small (suc (suc k)) is = absurd (omega (arith, is, bit_small 3 s.words d))
+  draw_by rich d small (suc (suc k)) is = absurd (omega (arith, is, bit_small 3 s.words d))
 
-  claim_by : (n : ℕ) → n < length s.homes → 4 * (n / 64) + 0 < width → seat.0.pending ≡ [] → (x : ℕ) → C n ≡ x → Goes (4 * (n / 64) + 0) (bit_or (get_or s.words (4 * (n / 64) + 0) 0) (mask_of n))
+  claim_by : 0 < length seat.0.share → (n : ℕ) → n < length s.homes → 4 * (n / 64) + 0 < width → seat.0.pending ≡ [] → (x : ℕ) → C n ≡ x → Goes (4 * (n / 64) + 0) (bit_or (get_or s.words (4 * (n / 64) + 0) 0) (mask_of n))
       (λ after. (x ≡ 0 → (occurrences n (numbers seat.0.list) ≡ 0) × (after ≡ (after_claim seat.0 n, (n, None) ∷ seat.1))) × (x ≡ 1 → after ≡ (with_claimed seat.0 (n ∷ []), seat.1)))
-  claim_by n low small free zero is =
+  claim_by rich n low small free zero is =
       let near : 4 * (n / 64) + 0 < length s.words = inside (4 * (n / 64) + 0) small in let ws' : List ℕ = marked 0 s.words n in
       let homes' : Homes = set s.homes n none in let vs' : List View = set s.views id (after_claim seat.0 n) in
       let unfiled : F n ≡ 0 = let p = r.stages.pending_once n in omega (arith, p, is) in
-      let rule : Rule (length s.homes) D (bit_of 0 ws') F T K (IsEmpty homes') (IsFilled homes') vs' = rule_wins (length s.homes) D C F T K E H s.views r id seat.0 e (bit_of 0 ws') (IsEmpty homes') (IsFilled homes') n free low is (bit_here 0 s.words n near) (bit_else 0 s.words n near)
+      let rule : Rule (length s.homes) D (bit_of 0 ws') F T K (IsEmpty homes') (IsFilled homes') vs' = rule_wins (length s.homes) D C F T K E H s.views r id seat.0 e (has_any rich) (bit_of 0 ws') (IsEmpty homes') (IsFilled homes') n free low is (bit_here 0 s.words n near) (bit_else 0 s.words n near)
       (λ m ne empty l. set_else s.homes n m none ne ∙ empty (subst (λ (y : ℕ). m < y) (length-set s.homes n none) l)) (λ m x ne full. set_else s.homes n m none ne ∙ full) (λ m x ne full. sym (set_else s.homes n m none ne) ∙ full)
       (λ x full. none_full none x refl (sym (set_here s.homes n none low) ∙ full)) in (
         after_claim seat.0 n,
@@ -181,14 +184,14 @@ module _ (width : ℕ) (s : St) (h : Holds width s) (id : ℕ) (seat : SeatState
         ),
         ((λ _. (unlisted (length s.homes) D C F T K E H s.views r id seat.0 e n unfiled, refl)), λ z. absurd (omega (arith, z))),
       )
-  claim_by n low small free (suc zero) is = let near : 4 * (n / 64) + 0 < length s.words = inside (4 * (n / 64) + 0) small in (
+  claim_by rich n low small free (suc zero) is = let near : 4 * (n / 64) + 0 < length s.words = inside (4 * (n / 64) + 0) small in (
     with_claimed seat.0 (n ∷ []),
     keeps,
     tt,
     stands 0 n (omega arith) near is (with_claimed seat.0 (n ∷ [])) (sees_1 (n ∷ []) (λ m. only_here C n m is)),
     ((λ z. absurd (omega (arith, z))), λ _. refl),
   )
-  claim_by n low small free (suc (suc k)) is = absurd (omega (arith, is, bit_small 0 s.words n))
+  claim_by rich n low small free (suc (suc k)) is = absurd (omega (arith, is, bit_small 0 s.words n))
 
   file_by : (n : ℕ) (b : Block) → b.number ≡ n → n < length s.homes → 4 * (n / 64) + 1 < width → seat.0.pending ≡ n ∷ [] → seat.1 ≡ (n, Some b) ∷ [] → Goes (4 * (n / 64) + 1) (bit_or (get_or s.words (4 * (n / 64) + 1) 0) (mask_of n))
       (λ after. (occurrences n (numbers seat.0.list) ≡ 0) × (after ≡ (after_filing seat.0 n b, [])) × (length seat.0.list < length s.homes) × SameBlocks after.0)
@@ -218,14 +221,14 @@ module _ (width : ℕ) (s : St) (h : Holds width s) (id : ℕ) (seat : SeatState
         (unlisted (length s.homes) D C F T K E H s.views r id seat.0 e n was.1, (λ i. (w, rest (has i))), omega (arith, most, least), rule_agrees (length s.homes) D C F' T K' (IsEmpty homes') (IsFilled homes') vs' rule id w (there w)),
       )
 
-  take_by : (n : ℕ) → n < length s.homes → 4 * (n / 64) + 2 < width → 0 < occurrences n seat.0.filed → (x : ℕ) → T n ≡ x → Goes (4 * (n / 64) + 2) (bit_or (get_or s.words (4 * (n / 64) + 2) 0) (mask_of n))
+  take_by : 0 < length seat.0.share → (n : ℕ) → n < length s.homes → 4 * (n / 64) + 2 < width → 0 < occurrences n seat.0.filed → (x : ℕ) → T n ≡ x → Goes (4 * (n / 64) + 2) (bit_or (get_or s.words (4 * (n / 64) + 2) 0) (mask_of n))
       (λ after. (x ≡ 0 → (b : Block) × (b.number ≡ n) × (occurrences n (numbers seat.0.takes) ≡ 0) × (after ≡ (after_take seat.0 n b, (n, Some b) ∷ seat.1)) × (length seat.0.takes < length s.homes) × SameBlocks after.0)
       × (x ≡ 1 → after ≡ (with_taken seat.0 (n ∷ []), seat.1)))
-  take_by n low small saw_it zero is =
+  take_by rich n low small saw_it zero is =
       let near : 4 * (n / 64) + 2 < length s.words = inside (4 * (n / 64) + 2) small in let ws' : List ℕ = marked 2 s.words n in
       let f1 : F n ≡ 1 = filings n saw_it in let full = r.contents.filed_is_home n f1 is in let b : Block = full.0 in
       let homes' : Homes = set s.homes n none in let w : View = after_take seat.0 n b in let vs' : List View = set s.views id w in let T' : ℕ → ℕ = bit_of 2 ws' in
-      let rule : Rule (length s.homes) D C F T' K (IsEmpty homes') (IsFilled homes') vs' = rule_takes (length s.homes) D C F T K E H s.views r id seat.0 e T' (IsEmpty homes') (IsFilled homes') n b f1 is (bit_here 2 s.words n near) (bit_else 2 s.words n near) full.1
+      let rule : Rule (length s.homes) D C F T' K (IsEmpty homes') (IsFilled homes') vs' = rule_takes (length s.homes) D C F T K E H s.views r id seat.0 e (has_any rich) T' (IsEmpty homes') (IsFilled homes') n b f1 is (bit_here 2 s.words n near) (bit_else 2 s.words n near) full.1
       (λ m ne empty l. set_else s.homes n m none ne ∙ empty (subst (λ (y : ℕ). m < y) (length-set s.homes n none) l)) (λ m x ne full. set_else s.homes n m none ne ∙ full) (λ m x ne full. sym (set_else s.homes n m none ne) ∙ full)
       (λ x full. none_full none x refl (sym (set_here s.homes n none low) ∙ full)) in
       let most = few_taken (length s.homes) D C F T' K (IsEmpty homes') (IsFilled homes') vs' rule id w (there w) in
@@ -244,14 +247,14 @@ module _ (width : ℕ) (s : St) (h : Holds width s) (id : ℕ) (seat : SeatState
         ),
         ((λ _. (b, h.1.2 n b full.1, untaken (length s.homes) D C F T K E H s.views r id seat.0 e n is, refl, omega (arith, most, least), rule_agrees (length s.homes) D C F T' K (IsEmpty homes') (IsFilled homes') vs' rule id w (there w))), λ z. absurd (omega (arith, z))),
       )
-  take_by n low small saw_it (suc zero) is = let near : 4 * (n / 64) + 2 < length s.words = inside (4 * (n / 64) + 2) small in (
+  take_by rich n low small saw_it (suc zero) is = let near : 4 * (n / 64) + 2 < length s.words = inside (4 * (n / 64) + 2) small in (
     with_taken seat.0 (n ∷ []),
     keeps,
     tt,
     stands 2 n (omega arith) near is (with_taken seat.0 (n ∷ [])) (sees_3 (n ∷ []) (λ m. only_here T n m is)),
     ((λ z. absurd (omega (arith, z))), λ _. refl),
   )
-  take_by n low small saw_it (suc (suc k)) is = absurd (omega (arith, is, bit_small 2 s.words n))
+  take_by rich n low small saw_it (suc (suc k)) is = absurd (omega (arith, is, bit_small 2 s.words n))
 
 -- a word and a mask that were computed
 pub at_word : (Tells : TableStep → SeatState → ℕ → SeatState → Type 0) (width slots id : ℕ) (seat : SeatState) (i j m k : ℕ) → i ≡ j → m ≡ k
@@ -263,16 +266,16 @@ at_word Tells width slots id seat i j m k is same allowed =
 told : (slots k d : ℕ) (F : ℕ → Type 0) → F d → (n : ℕ) → IsAtBit (step slots (4 * (d / 64) + k) (mask_of d) 0 none) k n → F n
 told slots k d F f n a = subst F (one_number k d n a.word a.mask) f
 
-pub draws_allowed : (width slots id : ℕ) (seat : SeatState) (d : ℕ) → 4 * (d / 64) + 3 < width → Allows (Holds width) slots id seat (4 * (d / 64) + 3) (λ n. bit_or n (mask_of d)) (DrawTells (step slots (4 * (d / 64) + 3) (mask_of d) 0 none) seat)
-draws_allowed width slots id seat d small s h wide e fits = let g = draw_by width s h id seat e d small (bit_of 3 s.words d) refl in
+pub draws_allowed : (width slots id : ℕ) (seat : SeatState) → 0 < length seat.0.share → (d : ℕ) → 4 * (d / 64) + 3 < width → Allows (Holds width) slots id seat (4 * (d / 64) + 3) (λ n. bit_or n (mask_of d)) (DrawTells (step slots (4 * (d / 64) + 3) (mask_of d) 0 none) seat)
+draws_allowed width slots id seat rich d small s h wide e fits = let g = draw_by width s h id seat e rich d small (bit_of 3 s.words d) refl in
     (g.0, g.1, g.2, g.3, told slots 3 d (λ n. (bit_at (get_or s.words (4 * (d / 64) + 3) 0) (n % 64) ≡ 0 → (occurrences n seat.0.draws ≡ 0) × (occurrences n seat.0.found ≡ 0) × ((g.0, carried_after seat.1 g.1) ≡ (after_draw seat.0 n, seat.1))) × (bit_at (get_or s.words (4 * (d / 64) + 3) 0) (n % 64) ≡ 1 → (g.0, carried_after seat.1 g.1) ≡ (with_found seat.0 n, seat.1))) g.4)
 
-pub claims_allowed : (width slots id : ℕ) (seat : SeatState) (n : ℕ) → n < slots → 4 * (n / 64) + 0 < width → seat.0.pending ≡ [] → Allows (Holds width) slots id seat (4 * (n / 64) + 0) (λ x. bit_or x (mask_of n)) (ClaimTells (step slots (4 * (n / 64) + 0) (mask_of n) 0 none) seat)
-claims_allowed width slots id seat n low small free s h wide e fits = let g = claim_by width s h id seat e n (omega (arith, low, wide)) small free (bit_of 0 s.words n) refl in
+pub claims_allowed : (width slots id : ℕ) (seat : SeatState) → 0 < length seat.0.share → (n : ℕ) → n < slots → 4 * (n / 64) + 0 < width → seat.0.pending ≡ [] → Allows (Holds width) slots id seat (4 * (n / 64) + 0) (λ x. bit_or x (mask_of n)) (ClaimTells (step slots (4 * (n / 64) + 0) (mask_of n) 0 none) seat)
+claims_allowed width slots id seat rich n low small free s h wide e fits = let g = claim_by width s h id seat e rich n (omega (arith, low, wide)) small free (bit_of 0 s.words n) refl in
     (g.0, g.1, g.2, g.3, told slots 0 n (λ m. (bit_at (get_or s.words (4 * (n / 64) + 0) 0) (m % 64) ≡ 0 → (occurrences m (numbers seat.0.list) ≡ 0) × ((g.0, carried_after seat.1 g.1) ≡ (after_claim seat.0 m, (m, None) ∷ seat.1))) × (bit_at (get_or s.words (4 * (n / 64) + 0) 0) (m % 64) ≡ 1 → (g.0, carried_after seat.1 g.1) ≡ (with_claimed seat.0 (m ∷ []), seat.1))) g.4)
 
-pub takes_allowed : (width slots id : ℕ) (seat : SeatState) (n : ℕ) → n < slots → 4 * (n / 64) + 2 < width → 0 < occurrences n seat.0.filed → Allows (Holds width) slots id seat (4 * (n / 64) + 2) (λ x. bit_or x (mask_of n)) (TakeTells (step slots (4 * (n / 64) + 2) (mask_of n) 0 none) seat)
-takes_allowed width slots id seat n low small saw_it s h wide e fits = let g = take_by width s h id seat e n (omega (arith, low, wide)) small saw_it (bit_of 2 s.words n) refl in let after : SeatState = (g.0, carried_after seat.1 g.1) in (
+pub takes_allowed : (width slots id : ℕ) (seat : SeatState) → 0 < length seat.0.share → (n : ℕ) → n < slots → 4 * (n / 64) + 2 < width → 0 < occurrences n seat.0.filed → Allows (Holds width) slots id seat (4 * (n / 64) + 2) (λ x. bit_or x (mask_of n)) (TakeTells (step slots (4 * (n / 64) + 2) (mask_of n) 0 none) seat)
+takes_allowed width slots id seat rich n low small saw_it s h wide e fits = let g = take_by width s h id seat e rich n (omega (arith, low, wide)) small saw_it (bit_of 2 s.words n) refl in let after : SeatState = (g.0, carried_after seat.1 g.1) in (
   g.0,
   g.1,
   g.2,
@@ -394,20 +397,21 @@ unfilled (suc n) (suc i) b e = unfilled n i b e
 abbrev nothing : Contents_of
 nothing n = None
 
-pub opens : (width total : ℕ) (ws : List ℕ) → ws ≡ replicate width 0 → length ws ≡ width → Holds width (record { words = ws; homes = vacant total; views = empty_view ∷ [] })
+pub opens : (width total : ℕ) (ws : List ℕ) → ws ≡ replicate width 0 → length ws ≡ width → Holds width (record { words = ws; homes = vacant total; views = first_view ∷ [] })
 opens width total ws is long = let blank : (k m : ℕ) → bit_of k ws m ≡ 0 = λ k m. ap (λ (y : List ℕ). bit_of k y m) is ∙ no_bit k width m in (
   long,
   (
     nothing,
     record {
-      draws = record { bit = bit_small 3 ws; won_once = λ d. omega arith; found = from_fresh (λ v. (d : ℕ) → 0 < occurrences d v.found → bit_of 3 ws d ≡ 1) (λ d h. absurd (omega arith)) };
+      draws = record { bit = bit_small 3 ws; won_once = λ d. sym (blank 3 d); found = from_fresh (λ v. (d : ℕ) → 0 < occurrences d v.found → bit_of 3 ws d ≡ 1) (λ d h. absurd (omega arith)) };
+      shares = shares_first;
       stages = record {
         bit = bit_small 0 ws;
         in_range = λ m h. absurd (omega (arith, h, blank 0 m));
         taken_is_filed = λ m. omega (arith, blank 2 m);
-        pending_once = λ m. omega (arith, blank 1 m);
-        filed_once = λ m. omega arith;
-        taken_once = λ m. omega arith;
+        pending_once = λ m. omega (arith, blank 0 m, blank 1 m);
+        filed_once = λ m. sym (blank 1 m);
+        taken_once = λ m. sym (blank 2 m);
         saw_claimed = from_fresh (λ v. (n : ℕ) → 0 < occurrences n v.claimed → bit_of 0 ws n ≡ 1) (λ d h. absurd (omega arith));
         saw_filed = from_fresh (λ v. (n : ℕ) → 0 < occurrences n v.filed → bit_of 1 ws n ≡ 1) (λ d h. absurd (omega arith));
         saw_taken = from_fresh (λ v. (n : ℕ) → 0 < occurrences n v.taken → bit_of 2 ws n ≡ 1) (λ d h. absurd (omega arith));
@@ -425,8 +429,8 @@ opens width total ws is long = let blank : (k m : ℕ) → bit_of k ws m ≡ 0 =
   ),
 )
 
-pub splits : (width id : ℕ) (v : View) → Splits (Holds width) id v v (split_view v)
-splits width id v s (wide, (k, q, own)) e = (wide, (k, subst (λ (vs : List View). Reads k s.words s.homes (vs ++ split_view v ∷ [])) (sym (set_again s.views id v e)) (rule_splits (length s.homes) (bit_of 3 s.words) (bit_of 0 s.words) (bit_of 1 s.words) (bit_of 2 s.words) k (IsEmpty s.homes) (IsFilled s.homes) s.views q id v e), own))
+pub splits : (width id : ℕ) (v : View) → Splits (Holds width) id v (kept_view v) (split_view v)
+splits width id v s (wide, (k, q, own)) e = (wide, (k, rule_splits (length s.homes) (bit_of 3 s.words) (bit_of 0 s.words) (bit_of 1 s.words) (bit_of 2 s.words) k (IsEmpty s.homes) (IsFilled s.homes) s.views q id v e, own))
 
 pub joins : (width id other : ℕ) (v w : View) → Joins (Holds width) id v other w (joint_view v w) empty_view
 joins width id other v w s (wide, (k, q, own)) e ne f = (wide, (k, rule_joins (length s.homes) (bit_of 3 s.words) (bit_of 0 s.words) (bit_of 1 s.words) (bit_of 2 s.words) k (IsEmpty s.homes) (IsFilled s.homes) s.views q id v e other w ne (sym (set_else s.views id other (joint_view v w) ne) ∙ f), own))

@@ -1,7 +1,9 @@
 -- The places of a closed board.
 use Rattle.std.specs.Prelude.{◌≡◌, ◌⊎◌, ℕ, ◌+◌, ◌<◌, List, length, slice_get, Option, Some, None}
 use Rattle.vme_trace.specs.declared.block.Block.{Block}
+use Rattle.vme_core.specs.declared.stage.Stage.TheVariants.{Claimed}
 use Rattle.vme_core.specs.declared.view.View.{View}
+use Rattle.vme_core.specs.Stages.{HasSeen}
 use Rattle.vme_core.specs.Counting.{HasPair, occurrences, numbers, sum_below, missing_count}
 
 -- the place of n has this block
@@ -53,6 +55,12 @@ LacksOthers v places = (n : ℕ) → n < length places → occurrences n (number
 -- the numbers of the list and the others are those at a filled place and the taken ones
 abbrev pub AddUp : View → List (Option Block) → ℕ → ℕ → Type 0
 AddUp v places others taken = others + length v.list ≡ filled_count places + taken + length v.takes
+
+-- each draw that the bench has seen won, it won, and each number that it has seen claimed or further, it filed
+pub record DidAll (v : View) : Type 0 where
+  pub draws : (d : ℕ) → 0 < occurrences d v.found → occurrences d v.draws ≡ 1
+  pub list : (n : ℕ) → HasSeen v n Claimed → occurrences n (numbers v.list) ≡ 1
+  pub takes : (n : ℕ) → 0 < occurrences n v.taken → occurrences n (numbers v.takes) ≡ 1
 
 -- how many numbers the bench has seen filed that it didn't file
 abbrev pub unlisted_count : View → ℕ → ℕ

@@ -6,10 +6,11 @@ use Rattle.vme_core.specs.declared.stage.Stage.TheVariants.{Filed, Taken}
 use Rattle.vme_core.specs.Counting.{occurrences, HasPair}
 use Rattle.vme_core.specs.Stages.{rank, seen}
 
--- the draws are as they were, and so are the draws found
+-- the draws are as they were, and so are the draws found and the share
 pub record SameDraws (old new : View) : Type 0 where
   pub draws : new.draws ≡ old.draws
   pub found : new.found ≡ old.found
+  pub share : new.share ≡ old.share
 
 -- what the bench filed, took, won and found won is as it was
 pub record SameWork (old new : View) : Type 0 where
@@ -17,6 +18,7 @@ pub record SameWork (old new : View) : Type 0 where
   pub takes : new.takes ≡ old.takes
   pub draws : new.draws ≡ old.draws
   pub found : new.found ≡ old.found
+  pub share : new.share ≡ old.share
 
 -- all but the draws is as it was
 pub record SameNumbers (old new : View) : Type 0 where
@@ -26,6 +28,7 @@ pub record SameNumbers (old new : View) : Type 0 where
   pub filed : new.filed ≡ old.filed
   pub taken : new.taken ≡ old.taken
   pub pending : new.pending ≡ old.pending
+  pub share : new.share ≡ old.share
 
 -- the bench has found each draw below k won
 abbrev pub AllFound : View → ℕ → Type 0

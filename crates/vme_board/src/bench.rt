@@ -5,7 +5,7 @@ ghost use Rattle.std.specs.Bool.{OnTrue, OnFalse};
 ghost use Rattle.vme_core.specs.declared.stage.Stage.TheVariants as stage;
 ghost use Rattle.vme_core.specs.Counting.{occurrences, numbers, AreDisjoint};
 ghost use Rattle.vme_core.specs.Stages.{rank, seen, HasSeen, SeesMore};
-ghost use Rattle.vme_core.specs.Views.{empty_view, split_view, joint_view};
+ghost use Rattle.vme_core.specs.Views.{empty_view, first_view, kept_view, split_view, joint_view};
 ghost use Rattle.vme_board.specs.Refusals.{IsDeliverable, IsReason};
 ghost use Rattle.vme_board.specs.Tells.{DrawTells, ClaimTells, FileTells, TakeTells, GiveTells, CountTells};
 ghost use Rattle.vme_board.specs.Tells.{ClaimedLookTells, FiledLookTells, TakenLookTells};
@@ -79,7 +79,7 @@ impl Play<Option<Judged>, View> for Count {
 struct SplitOff;
 
 impl Split<View> for SplitOff {
-    ghost left = { λ v. v };
+    ghost left = { kept_view };
 
     ghost right = { split_view };
 }
@@ -103,6 +103,7 @@ pub struct Bench {
     pub(crate) taken: u32,
     ghost no_slots: { seat.me.1 ≡ [] },
     ghost not_pending: { seat.me.0.pending ≡ [] },
+    ghost shares: { 0 < length seat.me.0.share },
     ghost found: { AllFound seat.me.0 next },
     ghost counted: { (filed ≡ length seat.me.0.list) × (taken ≡ length seat.me.0.takes) },
     ghost same_blocks: { SameBlocks seat.me.0 },
@@ -112,7 +113,7 @@ impl Bench {
     ghost use Rattle.vme_board.specs.Benches.{view_of, IsOf, total_of, draws_of};
 
     pub(crate) fn first(seat: BoardSeat) -> Bench
-        requires { seat.me ≡ (empty_view, []) }
+        requires { seat.me ≡ (first_view, []) }
         ensures { result.seat ≡ seat }
     {
         Bench {
@@ -150,11 +151,12 @@ impl Bench {
         None
     }
 
-    /// A bench for another worker. It has seen what this one has, and has filed, taken and drawn nothing.
+    /// A bench for another worker. It has seen what this one has, and has filed, taken and drawn nothing. It gets half
+    /// of the first part of this one's share. Where it is dropped and not folded in, its share is gone with it.
     pub fn split(&mut self, board: &Board) -> Bench
         requires { IsOf self.old board.now }
         ensures board { IsOf self.new board.now × IsOf result board.now }
-        ensures old { view_of self.new ≡ view_of self.old }
+        ensures old { view_of self.new ≡ kept_view (view_of self.old) }
         ensures new { view_of result ≡ split_view (view_of self.old) }
     {
         let seat = board.table.shared.split_seat::<SplitOff>(&mut self.seat);

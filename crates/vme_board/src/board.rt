@@ -5,9 +5,10 @@ ghost use Rattle.std.specs.Prelude.{IfOk, IfErr, Err, Some, None, slice_get, vec
 ghost use Rattle.std.specs.Mem.Slots.{slots_items, slots_len, IsFull};
 ghost use Rattle.vme_trace.specs.declared.block.Block.{Block};
 ghost use Rattle.vme_core.specs.Counting.{sum_below};
-ghost use Rattle.vme_core.specs.Views.{empty_view};
+ghost use Rattle.vme_core.specs.Views.{first_view};
+ghost use Rattle.vme_core.specs.Shares.{IsWhole};
 ghost use Rattle.vme_board.specs.Contents.{AreNumbered, HasList, HasUntaken, LacksTakes, HasOnlyList, LacksOthers};
-ghost use Rattle.vme_board.specs.Contents.{AddUp, unlisted_count, untaken_count};
+ghost use Rattle.vme_board.specs.Contents.{AddUp, unlisted_count, untaken_count, DidAll};
 ghost use Rattle.vme_board.specs.Words.{Holds, IsWideFor, AreKept, bit_of, kept};
 ghost use Rattle.vme_board.specs.declared.board.BoardFault.TheVariants.{BadTotal, BadDraws};
 
@@ -26,7 +27,7 @@ pub(crate) struct BoardRule;
 impl TableRule<Option<Judged>, View, usize> for BoardRule {
     ghost holds = { Holds };
 
-    ghost first = { λ _. empty_view };
+    ghost first = { λ _. first_view };
 }
 
 /// A place for each number below a total, and draws to hand out. Its memory is in proportion to both.
@@ -72,7 +73,7 @@ impl Board {
         ensures draws { IfOk result (λ made. draws_of made.0 ≡ draws) }
         ensures limits { IfOk result (λ made. (0 < total) × (total ≤ 4096) × (draws ≤ 65536)) }
         ensures bench { IfOk result (λ made. IsOf made.1 made.0) }
-        ensures empty { IfOk result (λ made. view_of made.1 ≡ empty_view) }
+        ensures first { IfOk result (λ made. view_of made.1 ≡ first_view) }
         ensures bad_total { (result ≡ Err BadTotal) ↔ (¬ ((0 < total) × (total ≤ 4096))) }
         ensures bad_draws { (result ≡ Err BadDraws) ↔ ((0 < total) × (total ≤ 4096) × (65536 < draws)) }
     {
@@ -121,6 +122,11 @@ impl Board {
         // What it didn't file is there only if there are others.
         ensures only { IfOk result (λ c. c.others ≡ 0 → HasOnlyList (view_of bench) c.contents.items) }
         ensures outside { IfOk result (λ c. c.others ≡ 0 → LacksOthers (view_of bench) c.contents.items) }
+
+        // The bench that has the whole share filed, took and drew all that was filed, taken and drawn.
+        ensures no_others { IfOk result (λ c. IsWhole (view_of bench).share → c.others ≡ 0) }
+        ensures no_taken { IfOk result (λ c. IsWhole (view_of bench).share → c.taken ≡ 0) }
+        ensures did_all { IfOk result (λ c. IsWhole (view_of bench).share → DidAll (view_of bench)) }
 
         ensures counts { IfOk result (λ c. AddUp (view_of bench) c.contents.items c.others c.taken) }
         ensures within { IfOk result (λ c. c.others + length (view_of bench).list ≤ total_of self) }

@@ -6,27 +6,33 @@ use Rattle.vme_core.specs.declared.stage.Stage.TheVariants.{Claimed, Filed, Take
 use Rattle.vme_core.specs.declared.view.View.{View}
 use Rattle.vme_core.specs.Counting.{occurrences, numbers, update}
 use Rattle.vme_core.specs.Stages.{rank, claimed_bit, filed_bit, taken_bit}
-use Rattle.vme_core.specs.Views.{empty_view, split_view, joint_view}
+use Rattle.vme_core.specs.Views.{empty_view, kept_view, split_view, joint_view}
 use Rattle.vme_core.specs.Machine.{Core, Event, empty, filled, idle, has_put, has_lifted, make, split, join, claim, put, file, look, draw, take, lift, give, load, with_views, after_claim_step, after_file_step, after_draw_step, after_take_step, after_look, Happens, IsRun}
 use Rattle.vme_core.specs.Rule.{Invariant}
 use Rattle.vme_core.specs.Law.{IsLawful, OnlyGrows}
 use Rattle.vme_core.proofs.Sums.{sum_by_plus, update_here, update_else, each}
 use Rattle.vme_core.proofs.StageRanks.{bits_of, seen_below}
-use Rattle.vme_core.proofs.RuleSteps.{is_pending, none_some}
+use Rattle.vme_core.proofs.RuleSteps.{own_draws, own_list, own_takes, own_claims, is_pending, none_some}
 use Rattle.vme_core.proofs.Runs.{keeps_event}
 
 filed_bits : (x : Stage) → x ≡ Filed → (filed_bit x ≡ 1) × (taken_bit x ≡ 0)
 filed_bits x is = (ap filed_bit is, ap taken_bit is)
 
 pub lawful : (limit : ℕ) (s : Core) → Invariant limit s → IsLawful s
-lawful limit s r = record {
+lawful limit s r = let C : ℕ → ℕ = λ n. claimed_bit (s.stage n) in let F : ℕ → ℕ = λ n. filed_bit (s.stage n) in let T : ℕ → ℕ = λ n. taken_bit (s.stage n) in let E : ℕ → Type 0 = λ n. s.home n ≡ empty in let H : ℕ → Block → Type 0 = λ n b. s.home n ≡ filled b in record {
   one_owner = λ n. omega (arith, sum_by_plus (λ (v : View). occurrences n v.pending) (λ v. occurrences n (numbers v.list)) s.views, r.stages.pending_once n, r.stages.filed_once n, r.stages.bit n);
   filed_once = r.stages.filed_once;
   taken_once = r.stages.taken_once;
   listed = r.contents.listed;
   took = r.contents.took;
   filed_is_home = λ n is. let f = filed_bits (s.stage n) is in r.contents.filed_is_home n f.0 f.1;
-  won_once = λ d. omega (arith, r.draws.won_once d, r.draws.bit d);
+  won_once = r.draws.won_once;
+  alone = λ i v e all. record {
+    draws = own_draws limit s.drawn C F T s.content E H s.views r i v e all;
+    filed = own_list limit s.drawn C F T s.content E H s.views r i v e all;
+    taken = own_takes limit s.drawn C F T s.content E H s.views r i v e all;
+    claimed = own_claims limit s.drawn C F T s.content E H s.views r i v e all;
+  };
   seen_is_so = λ i v e n. seen_below (occurrences n v.taken) (occurrences n v.filed) (occurrences n v.claimed) (s.stage n) (r.stages.saw_claimed i v e n) (r.stages.saw_filed i v e n) (r.stages.saw_taken i v e n);
   found_is_drawn = r.draws.found;
 }
@@ -72,16 +78,16 @@ module _ (limit : ℕ) (s : Core) (r : Invariant limit s) where
 
   on_event : (draws : ℕ) (e : Event) (t : Core) → Happens limit draws s e t → OnlyGrows s t
   on_event draws make t is = subst (OnlyGrows s) (sym is) (unchanged s (with_views s (s.views ++ empty_view ∷ [])) refl refl refl)
-  on_event draws (split i) t (v, e, _, is) = subst (OnlyGrows s) (sym is) (unchanged s (with_views s (s.views ++ split_view v ∷ [])) refl refl refl)
+  on_event draws (split i) t (v, e, _, is) = subst (OnlyGrows s) (sym is) (unchanged s (with_views s (set s.views i (kept_view v) ++ split_view v ∷ [])) refl refl refl)
   on_event draws (join i j) t (v, w, ne, e, f, _, _, is) = subst (OnlyGrows s) (sym is) (unchanged s (with_views s (set (set s.views i (joint_view v w)) j empty_view)) refl refl refl)
-  on_event draws (claim i n b) t (v, _, e, none, is) = subst (OnlyGrows s) (sym is) (on_claim i n b v (claimed_bit (s.stage n)) refl)
+  on_event draws (claim i n b) t (v, _, e, _, none, is) = subst (OnlyGrows s) (sym is) (on_claim i n b v (claimed_bit (s.stage n)) refl)
   on_event draws (put i n b) t (v, _, _, _, is) = subst (OnlyGrows s) (sym is) (unchanged s (record s { progress = update s.progress i (has_put n b) }) refl refl refl)
   on_event draws (file i n b) t (v, e, one, _, is) =
       let was = is_pending limit s.drawn (λ n. claimed_bit (s.stage n)) (λ n. filed_bit (s.stage n)) (λ n. taken_bit (s.stage n)) s.content (λ n. s.home n ≡ empty) (λ n b. s.home n ≡ filled b) s.views r i v e n one in
       subst (OnlyGrows s) (sym is) (on_file i n b v was.1)
   on_event draws (look i row g) t (v, e, is) = subst (OnlyGrows s) (sym is) (unchanged s (with_views s (set s.views i (after_look s v row g))) refl refl refl)
-  on_event draws (draw i d) t (v, _, e, is) = subst (OnlyGrows s) (sym is) (on_draw i d v (s.drawn d) refl)
-  on_event draws (take i n) t (v, e, saw_it, is) = subst (OnlyGrows s) (sym is) (on_take i n v (taken_bit (s.stage n)) (s.content n))
+  on_event draws (draw i d) t (v, _, e, _, is) = subst (OnlyGrows s) (sym is) (on_draw i d v (s.drawn d) refl)
+  on_event draws (take i n) t (v, e, _, saw_it, is) = subst (OnlyGrows s) (sym is) (on_take i n v (taken_bit (s.stage n)) (s.content n))
   on_event draws (lift i n) t (v, b, _, _, is) = subst (OnlyGrows s) (sym is) (unchanged s (record s { progress = update s.progress i (has_lifted n b) }) refl refl refl)
   on_event draws (give i n) t (v, b, e, mine, _, is) = subst (OnlyGrows s) (sym is) (unchanged s (record s { home = update s.home n empty; progress = update s.progress i idle }) refl refl refl)
   on_event draws (load i) t (v, _, is) = subst (OnlyGrows s) (sym is) (unchanged s s refl refl refl)

@@ -1,4 +1,5 @@
 pub mod Sums
+pub mod ShareSums
 pub mod SetBits
 pub mod ViewChanges
 pub mod SumsBelow

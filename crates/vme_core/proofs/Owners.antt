@@ -1,19 +1,16 @@
 -- A number is filed by its owner, and taken when it is filed.
-use Rattle.std.proofs.Common.{◌≡◌, ℕ, zero, suc, ◌+◌, ◌<◌, ◌≤◌, ◌≢◌, List, [], ◌∷◌, ◌++◌, set, sym, refl, ap, ◌∙◌, arith, subst, Option, Some, None}
-use mathlib.Core.Option.{some}
-use lib.ListN.{get_elem?}
+use Rattle.std.proofs.Common.{◌≡◌, ℕ, zero, suc, ◌<◌, ◌≢◌, [], ◌∷◌, ◌++◌, set, sym, refl, ap, ◌∙◌, arith, subst, Option, Some, None}
 use Rattle.vme_trace.specs.declared.block.Block.{Block}
 use Rattle.vme_core.specs.declared.stage.Stage.{Stage}
 use Rattle.vme_core.specs.declared.stage.Stage.TheVariants.{Free, Claimed, Filed, Taken}
 use Rattle.vme_core.specs.declared.view.View.{View}
-use Rattle.vme_core.specs.Counting.{occurrences, numbers, update}
+use Rattle.vme_core.specs.Counting.{numbers, update}
 use Rattle.vme_core.specs.Stages.{claimed_bit, filed_bit, taken_bit}
-use Rattle.vme_core.specs.Views.{empty_view, split_view, joint_view, after_filing, after_take}
-use Rattle.vme_core.specs.Machine.{Core, Row, Event, empty, filled, idle, has_put, has_lifted, make, split, join, claim, put, file, look, draw, take, lift, give, load, with_views, HasView, after_claim_step, after_file_step, after_draw_step, after_take_step, after_look, Happens}
+use Rattle.vme_core.specs.Views.{empty_view, kept_view, split_view, joint_view, after_filing, after_take}
+use Rattle.vme_core.specs.Machine.{Core, Event, empty, idle, has_put, has_lifted, make, split, join, claim, put, file, look, draw, take, lift, give, load, with_views, HasView, after_claim_step, after_file_step, after_draw_step, after_take_step, after_look, Happens}
 use Rattle.vme_core.specs.Rule.{Invariant}
 use Rattle.vme_core.specs.Law.{IsFiledByOwner, IsTakenWhenFiled, IsRightStep}
 use Rattle.vme_core.proofs.Sums.{occurrences_here, update_here, update_else, each, set_here}
-use Rattle.vme_core.proofs.StageRanks.{bits_of}
 
 -- the stages are as they were
 quiet : (s t : Core) → s.stage ≡ t.stage → IsRightStep s t
@@ -62,14 +59,14 @@ by_take s i n v zero (Some b) e full = changed s (after_take_step s i n v zero (
 
 pub right_step : (limit : ℕ) (s : Core) → Invariant limit s → (draws : ℕ) (e : Event) (t : Core) → Happens limit draws s e t → IsRightStep s t
 right_step limit s r draws make t is = subst (IsRightStep s) (sym is) (quiet s (with_views s (s.views ++ empty_view ∷ [])) refl)
-right_step limit s r draws (split i) t (v, e, _, is) = subst (IsRightStep s) (sym is) (quiet s (with_views s (s.views ++ split_view v ∷ [])) refl)
+right_step limit s r draws (split i) t (v, e, _, is) = subst (IsRightStep s) (sym is) (quiet s (with_views s (set s.views i (kept_view v) ++ split_view v ∷ [])) refl)
 right_step limit s r draws (join i j) t (v, w, ne, e, f, _, _, is) = subst (IsRightStep s) (sym is) (quiet s (with_views s (set (set s.views i (joint_view v w)) j empty_view)) refl)
-right_step limit s r draws (claim i n b) t (v, _, e, _, is) = subst (IsRightStep s) (sym is) (by_claim s i n b v (claimed_bit (s.stage n)))
+right_step limit s r draws (claim i n b) t (v, _, e, _, _, is) = subst (IsRightStep s) (sym is) (by_claim s i n b v (claimed_bit (s.stage n)))
 right_step limit s r draws (put i n b) t (v, _, _, _, is) = subst (IsRightStep s) (sym is) (quiet s (record s { progress = update s.progress i (has_put n b) }) refl)
 right_step limit s r draws (file i n b) t (v, e, one, _, is) = subst (IsRightStep s) (sym is) (by_file s i n b v e one)
 right_step limit s r draws (look i row g) t (v, e, is) = subst (IsRightStep s) (sym is) (quiet s (with_views s (set s.views i (after_look s v row g))) refl)
-right_step limit s r draws (draw i d) t (v, _, e, is) = subst (IsRightStep s) (sym is) (by_draw s i d v (s.drawn d))
-right_step limit s r draws (take i n) t (v, e, saw, is) = subst (IsRightStep s) (sym is) (by_take s i n v (taken_bit (s.stage n)) (s.content n) e (r.stages.saw_filed i v e n saw))
+right_step limit s r draws (draw i d) t (v, _, e, _, is) = subst (IsRightStep s) (sym is) (by_draw s i d v (s.drawn d))
+right_step limit s r draws (take i n) t (v, e, _, saw, is) = subst (IsRightStep s) (sym is) (by_take s i n v (taken_bit (s.stage n)) (s.content n) e (r.stages.saw_filed i v e n saw))
 right_step limit s r draws (lift i n) t (v, b, _, _, is) = subst (IsRightStep s) (sym is) (quiet s (record s { progress = update s.progress i (has_lifted n b) }) refl)
 right_step limit s r draws (give i n) t (v, b, _, _, _, is) = subst (IsRightStep s) (sym is) (quiet s (record s { home = update s.home n empty; progress = update s.progress i idle }) refl)
 right_step limit s r draws (load i) t (v, _, is) = subst (IsRightStep s) (sym is) (quiet s s refl)

@@ -1,5 +1,5 @@
 -- Each part of the rule is kept where one view changes, one comes, or two are joined.
-use Rattle.std.proofs.Common.{◌≡◌, ℕ, zero, suc, ◌+◌, ◌<◌, ◌≤◌, ◌≢◌, List, [], ◌∷◌, ◌++◌, set, sym, ◌∙◌, arith, subst, ⊎_elim, le_refl, Option, Some, None}
+use Rattle.std.proofs.Common.{◌≡◌, ℕ, zero, suc, ◌+◌, ◌<◌, ◌≤◌, ◌≢◌, List, [], ◌∷◌, ◌++◌, length, set, sym, refl, ap, ◌∙◌, arith, subst, ⊎_elim, le_refl, Option, Some, None}
 use mathlib.Core.Option.{some, some-injective, some-ne-none}
 use lib.ListN.{get_elem?}
 use Rattle.vme_trace.specs.declared.block.Block.{Block}
@@ -7,11 +7,16 @@ use Rattle.vme_core.specs.declared.view.View.{View}
 use Rattle.std.specs.Prelude.{sum_by}
 use Rattle.std.proofs.lemmas.List.Sums.{sum_by_push}
 use Rattle.vme_core.specs.Counting.{occurrences, numbers, HasPair}
-use Rattle.vme_core.specs.Views.{empty_view}
-use Rattle.vme_core.specs.Rule.{DrawRule, StageRule, ContentRule}
+use Rattle.vme_core.specs.Views.{first_view, kept_view, split_view}
+use Rattle.vme_core.specs.Rule.{DrawRule, StageRule, ContentRule, HasNothing, ShareRule}
+use Rattle.vme_core.specs.Shares.{weight, FitsIn, kept_share}
+use Rattle.vme_core.proofs.ShareSums.{fits-append, weight-append, fits_kept, fits_split, halves, whole_more}
 use mathlib.Core.Logic.{dite}
 use native.Mathlib.Decide.{ℕ_discrete}
 use Rattle.vme_core.proofs.Sums.{sum_by_set, at_set, at_snoc, set_else, occurrences_else, occurrences-append, each}
+
+pub cons_none : {x : ℕ} {xs : List ℕ} → x ∷ xs ≡ [] → ⊥
+cons_none z = omega (arith, ap length z)
 
 -- F holds of each view after one changed
 pub after_set : (F : View → Type 0) (vs : List View) (i : ℕ) (w : View) → F w → ((j : ℕ) (u : View) → get_elem? vs j ≡ some u → F u) → (j : ℕ) (u : View) → get_elem? (set vs i w) j ≡ some u → F u
@@ -28,9 +33,18 @@ after_two F vs i j b s mine spent old = after_set F (set vs i b) j s spent (afte
 pub sum_by_two : (g : View → ℕ) (vs : List View) (i j : ℕ) (v w b s : View) → get_elem? vs i ≡ some v → j ≢ i → get_elem? vs j ≡ some w → g b + g s ≡ g v + g w → sum_by g (set (set vs i b) j s) ≡ sum_by g vs
 sum_by_two g vs i j v w b s e ne f same = omega (arith, sum_by_set g vs i v b e, sum_by_set g (set vs i b) j w s (set_else vs i j b ne ∙ f), same)
 
+-- who keeps no share had none
+none_kept : (es : List ℕ) → kept_share es ≡ [] → es ≡ []
+none_kept [] z = refl
+none_kept (e ∷ es) z = absurd (cons_none z)
+
+none_of : (xs ys : List ℕ) → xs ++ ys ≡ [] → (xs ≡ []) × (ys ≡ [])
+none_of [] ys z = (refl, z)
+none_of (x ∷ xs) ys z = absurd (cons_none z)
+
 module _ (drawn : ℕ → ℕ) (vs : List View) (r : DrawRule drawn vs) where
   pub draws_set : (drawn' : ℕ → ℕ) (i : ℕ) (v w : View) → get_elem? vs i ≡ some v → ((d : ℕ) → drawn' d ≤ 1) → ((d : ℕ) → drawn d ≤ drawn' d)
-      → ((d : ℕ) → occurrences d w.draws + drawn d ≤ occurrences d v.draws + drawn' d) → ((d : ℕ) → 0 < occurrences d w.found → drawn' d ≡ 1) → DrawRule drawn' (set vs i w)
+      → ((d : ℕ) → occurrences d w.draws + drawn d ≡ occurrences d v.draws + drawn' d) → ((d : ℕ) → 0 < occurrences d w.found → drawn' d ≡ 1) → DrawRule drawn' (set vs i w)
   draws_set drawn' i v w e bit more count found = record {
     bit = bit;
     won_once = λ d. omega (arith, sum_by_set (λ (u : View). occurrences d u.draws) vs i v w e, r.won_once d, count d);
@@ -52,6 +66,43 @@ module _ (drawn : ℕ → ℕ) (vs : List View) (r : DrawRule drawn vs) where
     found = after_two (λ u. (d : ℕ) → 0 < occurrences d u.found → drawn d ≡ 1) vs i j b s mine spent r.found;
   }
 
+module _ (vs : List View) (r : ShareRule vs) where
+  -- one view changed, and not its share
+  pub shares_set : (i : ℕ) (v w : View) → get_elem? vs i ≡ some v → w.share ≡ v.share → (v.share ≡ [] → HasNothing w) → ShareRule (set vs i w)
+  shares_set i v w e same none = record {
+    k = r.k;
+    fit = after_set (λ u. FitsIn r.k u.share) vs i w (subst (FitsIn r.k) (sym same) (r.fit i v e)) r.fit;
+    whole = omega (arith, sum_by_set (λ (u : View). weight r.k u.share) vs i v w e, r.whole, ap (weight r.k) same);
+    poor = after_set (λ u. u.share ≡ [] → HasNothing u) vs i w (λ z. none (sym same ∙ z)) r.poor;
+  }
+
+  pub shares_append : (w : View) → w.share ≡ [] → HasNothing w → ShareRule (vs ++ w ∷ [])
+  shares_append w lacks none = record {
+    k = r.k;
+    fit = after_append (λ u. FitsIn r.k u.share) vs w (subst (FitsIn r.k) (sym lacks) tt) r.fit;
+    whole = omega (arith, sum_by_push (λ (u : View). weight r.k u.share) vs w, r.whole, ap (weight r.k) lacks);
+    poor = after_append (λ u. u.share ≡ [] → HasNothing u) vs w (λ _. none) r.poor;
+  }
+
+  -- one view is cut in two
+  pub shares_split : (i : ℕ) (v : View) → get_elem? vs i ≡ some v → ShareRule (set vs i (kept_view v) ++ split_view v ∷ [])
+  shares_split i v e = let f = r.fit i v e in let more = whole_more (λ (u : View). u.share) r.k vs (r.fit, r.whole) in let n : ℕ = suc r.k in let ws : List View = set vs i (kept_view v) in record {
+    k = n;
+    fit = after_append (λ u. FitsIn n u.share) ws (split_view v) (fits_split r.k v.share f) (after_set (λ u. FitsIn n u.share) vs i (kept_view v) (fits_kept r.k v.share f) more.0);
+    whole = omega (arith, sum_by_push (λ (u : View). weight n u.share) ws (split_view v), sum_by_set (λ (u : View). weight n u.share) vs i v (kept_view v) e, more.1, halves r.k v.share f);
+    poor = after_append (λ u. u.share ≡ [] → HasNothing u) ws (split_view v) (λ _. record { list = refl; takes = refl; draws = refl; pending = refl })
+        (after_set (λ u. u.share ≡ [] → HasNothing u) vs i (kept_view v) (λ z. let h = r.poor i v e (none_kept v.share z) in record { list = h.list; takes = h.takes; draws = h.draws; pending = h.pending }) r.poor);
+  }
+
+  -- two views are made one, with both shares, and the other has none
+  pub shares_two : (i j : ℕ) (v w b s : View) → get_elem? vs i ≡ some v → j ≢ i → get_elem? vs j ≡ some w → b.share ≡ v.share ++ w.share → s.share ≡ [] → HasNothing s → (v.share ≡ [] → w.share ≡ [] → HasNothing b) → ShareRule (set (set vs i b) j s)
+  shares_two i j v w b s e ne g both lacks spent none = let k : ℕ = r.k in record {
+    k = k;
+    fit = after_two (λ u. FitsIn k u.share) vs i j b s (subst (FitsIn k) (sym both) (fits-append k v.share w.share (r.fit i v e) (r.fit j w g))) (subst (FitsIn k) (sym lacks) tt) r.fit;
+    whole = omega (arith, sum_by_two (λ (u : View). weight k u.share) vs i j v w b s e ne g (omega (arith, ap (weight k) both, ap (weight k) lacks, weight-append k v.share w.share)), r.whole);
+    poor = after_two (λ u. u.share ≡ [] → HasNothing u) vs i j b s (λ z. let parts = none_of v.share w.share (sym both ∙ z) in none parts.0 parts.1) (λ _. spent) r.poor;
+  }
+
 -- what a view says that it saw is so
 pub record Sighted (c f t : ℕ → ℕ) (w : View) : Type 0 where
   pub claimed : (n : ℕ) → 0 < occurrences n w.claimed → c n ≡ 1
@@ -64,10 +115,10 @@ module _ (limit : ℕ) (c f t : ℕ → ℕ) (vs : List View) (r : StageRule lim
 
   pub stages_set : (c' f' t' : ℕ → ℕ) (i : ℕ) (v w : View) → get_elem? vs i ≡ some v → ((n : ℕ) → c' n ≤ 1) → ((n : ℕ) → 0 < c' n → n < limit) → ((n : ℕ) → t' n ≤ f' n)
       → ((n : ℕ) → c n ≤ c' n) → ((n : ℕ) → f n ≤ f' n) → ((n : ℕ) → t n ≤ t' n)
-      → ((n : ℕ) → occurrences n w.pending + f' n + c n ≤ occurrences n v.pending + f n + c' n) → ((n : ℕ) → occurrences n (numbers w.list) + f n ≤ occurrences n (numbers v.list) + f' n)
-      → ((n : ℕ) → occurrences n (numbers w.takes) + t n ≤ occurrences n (numbers v.takes) + t' n) → Sighted c' f' t' w → StageRule limit c' f' t' (set vs i w)
+      → ((n : ℕ) → occurrences n w.pending + f' n + c n ≡ occurrences n v.pending + f n + c' n) → ((n : ℕ) → occurrences n (numbers w.list) + f n ≡ occurrences n (numbers v.list) + f' n)
+      → ((n : ℕ) → occurrences n (numbers w.takes) + t n ≡ occurrences n (numbers v.takes) + t' n) → Sighted c' f' t' w → StageRule limit c' f' t' (set vs i w)
   stages_set c' f' t' i v w e bit within order mc mf mt pend list take saw =
-      let pends : (n : ℕ) → sum_by (λ (u : View). occurrences n u.pending) (set vs i w) + f' n ≤ c' n = λ n. omega (arith, sum_by_set (λ (u : View). occurrences n u.pending) vs i v w e, r.pending_once n, pend n) in record {
+      let pends : (n : ℕ) → sum_by (λ (u : View). occurrences n u.pending) (set vs i w) + f' n ≡ c' n = λ n. omega (arith, sum_by_set (λ (u : View). occurrences n u.pending) vs i v w e, r.pending_once n, pend n) in record {
         bit = bit;
         in_range = within;
         taken_is_filed = order;
@@ -80,7 +131,7 @@ module _ (limit : ℕ) (c f t : ℕ → ℕ) (vs : List View) (r : StageRule lim
       }
 
   -- one view saw more, and nothing else changed
-  pub stages_saw : (i : ℕ) (v w : View) → get_elem? vs i ≡ some v → ((n : ℕ) → occurrences n w.pending ≤ occurrences n v.pending) → ((n : ℕ) → occurrences n (numbers w.list) ≤ occurrences n (numbers v.list)) → ((n : ℕ) → occurrences n (numbers w.takes) ≤ occurrences n (numbers v.takes))
+  pub stages_saw : (i : ℕ) (v w : View) → get_elem? vs i ≡ some v → ((n : ℕ) → occurrences n w.pending ≡ occurrences n v.pending) → ((n : ℕ) → occurrences n (numbers w.list) ≡ occurrences n (numbers v.list)) → ((n : ℕ) → occurrences n (numbers w.takes) ≡ occurrences n (numbers v.takes))
       → Sighted c f t w → StageRule limit c f t (set vs i w)
   stages_saw i v w e p l k saw = stages_set c f t i v w e r.bit r.in_range r.taken_is_filed (λ n. le_refl _) (λ n. le_refl _) (λ n. le_refl _) (λ n. omega (arith, p n)) (λ n. omega (arith, l n)) (λ n. omega (arith, k n)) saw
 
@@ -176,6 +227,15 @@ only_one : {A : Type 0} (a b : A) (i : ℕ) → get_elem? (a ∷ []) i ≡ some 
 only_one a b zero e = some-injective a b e
 only_one a b (suc i) e = absurd (some-ne-none b (sym e))
 
--- what the only view has none of, as it is empty_view
-pub from_fresh : (F : View → Type 0) → F empty_view → (i : ℕ) (v : View) → get_elem? (empty_view ∷ []) i ≡ some v → F v
-from_fresh F f i v e = subst F (only_one empty_view v i e) f
+-- what holds of the only view, as it is first_view
+pub from_fresh : (F : View → Type 0) → F first_view → (i : ℕ) (v : View) → get_elem? (first_view ∷ []) i ≡ some v → F v
+from_fresh F f i v e = subst F (only_one first_view v i e) f
+
+-- the first bench has the whole share
+pub shares_first : ShareRule (first_view ∷ [])
+shares_first = record {
+  k = 0;
+  fit = from_fresh (λ v. FitsIn 0 v.share) (omega arith, tt);
+  whole = refl;
+  poor = from_fresh (λ v. v.share ≡ [] → HasNothing v) (λ z. absurd (cons_none z));
+}

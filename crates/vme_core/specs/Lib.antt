@@ -1,4 +1,5 @@
 pub mod Counting
+pub mod Shares
 pub mod Stages
 pub mod Views
 pub mod Machine

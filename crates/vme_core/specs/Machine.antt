@@ -8,7 +8,8 @@ use Rattle.vme_core.specs.declared.stage.Stage.TheVariants.{Free, Claimed, Filed
 use Rattle.vme_core.specs.declared.view.View.{View}
 use Rattle.vme_core.specs.Counting.{update, occurrences, numbers, set_bits}
 use Rattle.vme_core.specs.Stages.{claimed_bit, filed_bit, taken_bit}
-use Rattle.vme_core.specs.Views.{empty_view, split_view, joint_view, with_claimed, with_filed, with_taken, with_found}
+use Rattle.vme_core.specs.Views.{empty_view, first_view, kept_view, split_view, joint_view}
+use Rattle.vme_core.specs.Views.{with_claimed, with_filed, with_taken, with_found}
 use Rattle.vme_core.specs.Views.{after_draw, after_claim, after_filing, after_take}
 
 -- the slot of a number: at home and empty, out with a bench, or at home with a block
@@ -65,7 +66,7 @@ start = record {
   home = λ _. empty;
   drawn = λ _. 0;
   progress = λ _. idle;
-  views = empty_view ∷ [];
+  views = first_view ∷ [];
 }
 
 -- the bench i has the view v
@@ -134,12 +135,13 @@ module _ (total draws : ℕ) where
   abbrev pub Happens : Core → Event → Core → Type 0
   Happens s make t = t ≡ with_views s (s.views ++ empty_view ∷ [])
   Happens s (split i) t =
-      (v : View) × HasView s i v × (v.pending ≡ []) × (t ≡ with_views s (s.views ++ split_view v ∷ []))
+      (v : View) × HasView s i v × (v.pending ≡ [])
+      × (t ≡ with_views s (slice_set s.views i (kept_view v) ++ split_view v ∷ []))
   Happens s (join i j) t =
       (v w : View) × (j ≢ i) × HasView s i v × HasView s j w × (v.pending ≡ []) × (w.pending ≡ [])
       × (t ≡ with_views s (slice_set (slice_set s.views i (joint_view v w)) j empty_view))
   Happens s (claim i n b) t =
-      (v : View) × (n < total) × HasView s i v × (v.pending ≡ [])
+      (v : View) × (n < total) × HasView s i v × (v.share ≢ []) × (v.pending ≡ [])
       × (t ≡ after_claim_step s i n b v (claimed_bit (s.stage n)))
   Happens s (put i n b) t =
       (v : View) × HasView s i v × (v.pending ≡ n ∷ []) × (s.progress i ≡ has_claimed n b)
@@ -148,9 +150,11 @@ module _ (total draws : ℕ) where
       (v : View) × HasView s i v × (v.pending ≡ n ∷ []) × (s.progress i ≡ has_put n b) × (t ≡ after_file_step s i n b v)
   Happens s (look i row g) t =
       (v : View) × HasView s i v × (t ≡ with_views s (slice_set s.views i (after_look s v row g)))
-  Happens s (draw i d) t = (v : View) × (d < draws) × HasView s i v × (t ≡ after_draw_step s i d v (s.drawn d))
+  Happens s (draw i d) t =
+      (v : View) × (d < draws) × HasView s i v × (v.share ≢ [])
+      × (t ≡ after_draw_step s i d v (s.drawn d))
   Happens s (take i n) t =
-      (v : View) × HasView s i v × (0 < occurrences n v.filed)
+      (v : View) × HasView s i v × (v.share ≢ []) × (0 < occurrences n v.filed)
       × (t ≡ after_take_step s i n v (taken_bit (s.stage n)) (s.content n))
   Happens s (lift i n) t =
       (v : View) × (b : Block) × HasView s i v × (s.progress i ≡ has_taken n b)

@@ -2,31 +2,31 @@
 -- the words and slots of a shared table: for each number whether it is claimed, filed, taken, for each draw whether
 -- it is drawn (0 or 1), the content of each number, and whether its slot is at home and empty, or at home with a
 -- block.
-use Rattle.std.specs.Prelude.{◌≡◌, ℕ, ◌+◌, ◌<◌, ◌≤◌, List, Option, Some, None, sum_by}
+use Rattle.std.specs.Prelude.{◌≡◌, ℕ, ◌+◌, ◌^◌, ◌<◌, ◌≤◌, List, [], Option, Some, None, sum_by}
 use mathlib.Core.Option.{some}
 use lib.ListN.{get_elem?}
 use Rattle.vme_trace.specs.declared.block.Block.{Block}
 use Rattle.vme_core.specs.declared.view.View.{View}
 use Rattle.vme_core.specs.Counting.{occurrences, numbers, HasPair}
+use Rattle.vme_core.specs.Shares.{weight, FitsIn}
 use Rattle.vme_core.specs.Stages.{claimed_bit, filed_bit, taken_bit}
 use Rattle.vme_core.specs.Machine.{Core, empty, filled}
 
--- each draw is won once at most, and only if it is drawn; a draw that a bench has seen won is drawn
+-- each draw that is drawn was won once, and no other; a draw that a bench has seen won is drawn
 pub record DrawRule (drawn : ℕ → ℕ) (views : List View) : Type 0 where
   pub bit : (d : ℕ) → drawn d ≤ 1
-  pub won_once : (d : ℕ) → sum_by (λ v. occurrences d v.draws) views ≤ drawn d
+  pub won_once : (d : ℕ) → sum_by (λ v. occurrences d v.draws) views ≡ drawn d
   pub found : (i : ℕ) (v : View) → get_elem? views i ≡ some v → (d : ℕ) → 0 < occurrences d v.found → drawn d ≡ 1
 
--- A number is pending with one bench at most, and only if it is claimed and not filed; it was filed by one bench at
--- most, and only if it is filed; it was taken by one bench at most, and only if it is taken. What a bench has seen is
--- so.
+-- A number is pending with one bench if it is claimed and not filed, and else with none; it was filed by one bench if
+-- it is filed, and taken by one if it is taken. What a bench has seen is so.
 pub record StageRule (limit : ℕ) (claimed filed taken : ℕ → ℕ) (views : List View) : Type 0 where
   pub bit : (n : ℕ) → claimed n ≤ 1
   pub in_range : (n : ℕ) → 0 < claimed n → n < limit
   pub taken_is_filed : (n : ℕ) → taken n ≤ filed n
-  pub pending_once : (n : ℕ) → sum_by (λ v. occurrences n v.pending) views + filed n ≤ claimed n
-  pub filed_once : (n : ℕ) → sum_by (λ v. occurrences n (numbers v.list)) views ≤ filed n
-  pub taken_once : (n : ℕ) → sum_by (λ v. occurrences n (numbers v.takes)) views ≤ taken n
+  pub pending_once : (n : ℕ) → sum_by (λ v. occurrences n v.pending) views + filed n ≡ claimed n
+  pub filed_once : (n : ℕ) → sum_by (λ v. occurrences n (numbers v.list)) views ≡ filed n
+  pub taken_once : (n : ℕ) → sum_by (λ v. occurrences n (numbers v.takes)) views ≡ taken n
   pub saw_claimed : (i : ℕ) (v : View) → get_elem? views i ≡ some v
       → (n : ℕ) → 0 < occurrences n v.claimed → claimed n ≡ 1
   pub saw_filed : (i : ℕ) (v : View) → get_elem? views i ≡ some v → (n : ℕ) → 0 < occurrences n v.filed → filed n ≡ 1
@@ -45,9 +45,24 @@ pub record ContentRule (claimed filed taken : ℕ → ℕ) (content : ℕ → Op
   pub took : (i : ℕ) (v : View) → get_elem? views i ≡ some v
       → (n : ℕ) (b : Block) → HasPair v.takes n b → content n ≡ Some b
 
+-- the view has no list, no takes, no draws, and nothing pending
+pub record HasNothing (v : View) : Type 0 where
+  pub list : v.list ≡ []
+  pub takes : v.takes ≡ []
+  pub draws : v.draws ≡ []
+  pub pending : v.pending ≡ []
+
+-- The shares of all views are the whole, in parts of 2^-k, and a view without a share has nothing.
+pub record ShareRule (views : List View) : Type 0 where
+  pub k : ℕ
+  pub fit : (i : ℕ) (v : View) → get_elem? views i ≡ some v → FitsIn k v.share
+  pub whole : sum_by (λ v. weight k v.share) views ≡ 2 ^ k
+  pub poor : (i : ℕ) (v : View) → get_elem? views i ≡ some v → v.share ≡ [] → HasNothing v
+
 pub record Rule (limit : ℕ) (drawn claimed filed taken : ℕ → ℕ) (content : ℕ → Option Block)
     (IsEmpty : ℕ → Type 0) (IsFilled : ℕ → Block → Type 0) (views : List View) : Type 0 where
   pub draws : DrawRule drawn views
+  pub shares : ShareRule views
   pub stages : StageRule limit claimed filed taken views
   pub contents : ContentRule claimed filed taken content IsEmpty IsFilled views
 

@@ -2,8 +2,9 @@
 use Rattle.std.specs.Prelude.{ℕ, List, [], ◌∷◌, ◌++◌}
 use Rattle.vme_trace.specs.declared.block.Block.{Block}
 use Rattle.vme_core.specs.declared.view.View.{View}
+use Rattle.vme_core.specs.Shares.{kept_share, split_share}
 
--- the view of the first bench, and of one that was joined to another
+-- the view of a bench that was joined to another: it has no share
 abbrev pub empty_view : View
 empty_view = record {
   list = [];
@@ -14,7 +15,16 @@ empty_view = record {
   filed = [];
   taken = [];
   pending = [];
+  share = [];
 }
+
+-- the view of the first bench: it has the whole share
+abbrev pub first_view : View
+first_view = record empty_view { share = 0 ∷ [] }
+
+-- the view of a bench after another was split off
+abbrev pub kept_view : View → View
+kept_view v = record v { share = kept_share v.share }
 
 -- the view of a bench split off: it has seen the same, and has filed, taken and drawn nothing
 abbrev pub split_view : View → View
@@ -27,6 +37,7 @@ split_view v = record {
   filed = v.filed;
   taken = v.taken;
   pending = [];
+  share = split_share v.share;
 }
 
 -- the view of one bench for two
@@ -40,6 +51,7 @@ joint_view v w = record {
   filed = v.filed ++ w.filed;
   taken = v.taken ++ w.taken;
   pending = v.pending ++ w.pending;
+  share = v.share ++ w.share;
 }
 
 -- the bench sees these numbers claimed

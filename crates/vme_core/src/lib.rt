@@ -5,15 +5,21 @@
 //! tried; a filed block is taken, lifted out of its slot, and the slot given back. A run is any list of such events,
 //! of any benches in any order. [`every_run`] is the law of all runs.
 //!
-//! `specs/Machine.antt` has the states and the events, `specs/Law.antt` what holds after them. `specs/Rule.antt` is
-//! the invariant behind the law, over functions that say what is claimed, filed, taken, drawn and where.
+//! Each bench has a share of the board. The first has the whole; a split halves a part of it, and a join puts two
+//! shares together ([`shares_stay_whole`]). Whatever was claimed, filed, taken or drawn was so by a bench that has a
+//! share, so that the one which has the whole share has done all of it.
+//!
+//! `specs/Machine.antt` has the states and the events, `specs/Law.antt` what holds after them, `specs/Shares.antt` the
+//! shares. `specs/Rule.antt` is the invariant behind the law, over functions that say what is claimed, filed, taken,
+//! drawn and where.
 //! `proofs/RuleSteps.antt` shows that each step keeps it, whatever those functions are read from: the machine's state
 //! here, the words and slots of a shared table in the crate that stands on this one.
 #![tactic(auto)]
 
-ghost use Rattle.std.specs.Prelude.{ℕ};
-ghost use Rattle.vme_core.specs.Machine.{Core};
+ghost use Rattle.std.specs.Prelude.{ℕ, List, [], ◌∷◌, ◌++◌};
 ghost use Rattle.vme_core.specs.Law.{IsReachable, StepsTo, LeadsTo, IsLawful, IsRightStep, OnlyGrows};
+ghost use Rattle.vme_core.specs.Machine.{Core};
+ghost use Rattle.vme_core.specs.Shares.{IsWhole, kept_share, split_share};
 
 pub mod stage;
 pub mod view;
@@ -21,11 +27,20 @@ pub mod view;
 pub use stage::Stage;
 pub use view::View;
 
-/// After every run of a board of `n` numbers and `d` draws, each number has one owner at most, is filed once
-/// at most and by its owner, and is taken once at most and only when filed; each draw is won once at most; and what a
-/// bench filed, took, or has seen is so. However the run goes on, no stage goes back and no content changes.
+/// After every run of a board of `n` numbers and `d` draws, each number has one owner if it is claimed, was filed once
+/// and by its owner if it is filed, and was taken once and only when filed if it is taken, and else none; each draw
+/// that is drawn was won once; what a bench filed, took, or has seen is so; and the bench that has the whole share has
+/// done all that was done. However the run goes on, no stage goes back and no content changes.
 pub fn every_run()
     ensures lawful { (n d : ℕ) (s : Core) → IsReachable n d s → IsLawful s }
     ensures steps { (n d : ℕ) (s t : Core) → IsReachable n d s → StepsTo n d s t → IsRightStep s t }
     ensures grows { (n d : ℕ) (s t : Core) → IsReachable n d s → LeadsTo n d s t → OnlyGrows s t }
+{}
+
+/// The first bench has the whole share. Shares that are the whole together are so in any order, and after one of them
+/// was split into its two halves.
+pub fn shares_stay_whole()
+    ensures first { IsWhole (0 ∷ []) }
+    ensures swapped { (s t : List ℕ) → IsWhole (s ++ t) → IsWhole (t ++ s) }
+    ensures halved { (s t : List ℕ) → IsWhole (s ++ t) → IsWhole (kept_share s ++ (split_share s ++ t)) }
 {}

@@ -19,4 +19,7 @@ pub struct View {
     pub taken: [u32; 0],
     /// The number that it claimed and has not filed yet, if any.
     pub pending: [u32; 0],
+    /// Its share of the board: the exponents of its parts, each of 2^-e. A bench without a share has filed, taken and
+    /// drawn nothing.
+    pub share: [u32; 0],
 }

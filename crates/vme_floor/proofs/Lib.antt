@@ -1,9 +1,11 @@
 pub mod Places
+pub mod Sharing
 pub mod Working
 pub mod Collecting
 pub mod Uniting
-pub mod Filing
 pub mod Replying
 pub mod Ordering
 pub mod Weighing
 pub mod Settling
+pub mod Cutting
+pub mod SizeCuts

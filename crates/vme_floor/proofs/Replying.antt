@@ -1,6 +1,6 @@
 -- The table of the replies.
-use Rattle.std.proofs.Common.{◌≡◌, ◌≢◌, ◌⊎◌, ℕ, zero, suc, ◌+◌, ◌<◌, ◌≤◌, List, [], ◌∷◌, ◌++◌, length, length-set, slice_get, set, replicate, Option, Some, None, sym, refl, ap, ◌∙◌, subst, arith, inl, inr, ⊎_elim}
-use Rattle.std.proofs.lemmas.Option.{none-some, same_Some, slice_get_within}
+use Rattle.std.proofs.Common.{◌≡◌, ℕ, zero, suc, ◌+◌, ◌<◌, List, [], ◌∷◌, ◌++◌, length, length-set, slice_get, set, replicate, Option, Some, None, sym, refl, ap, ◌∙◌, arith, ⊎_elim}
+use Rattle.std.proofs.lemmas.Option.{none-some, same_Some}
 use mathlib.Core.Logic.{dite}
 use native.Mathlib.Decide.{ℕ_discrete}
 use Rattle.vme_core.specs.Counting.{occurrences}
@@ -8,7 +8,7 @@ use Rattle.vme_core.proofs.Sums.{occurrences_else}
 use Rattle.vme_floor.specs.declared.answer.Answer.{Answer}
 use Rattle.vme_floor.specs.declared.answer.Reply.{Reply}
 use Rattle.vme_floor.specs.Works.{replied}
-use Rattle.vme_floor.specs.Settling.{reply_of, IsTable, AreReplies}
+use Rattle.vme_floor.specs.Settling.{reply_of, IsTable}
 use Rattle.vme_floor.proofs.Places.{get_here, get_else, get_snoc, get_replicate}
 
 abbrev O : Type 0

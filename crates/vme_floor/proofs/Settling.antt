@@ -1,26 +1,22 @@
 -- The claims, from the work of all workers and from what the board gave.
-use Rattle.std.proofs.Common.{◌≡◌, ◌≢◌, ◌==◌, ℕ, zero, suc, ◌+◌, ◌<◌, ◌≤◌, cond, List, [], ◌∷◌, length, map, slice_get, Option, Some, None, sym, refl, ap, ◌∙◌, subst, arith, eq-eqb, ⊎_elim}
-use Rattle.std.specs.Option.{option_map}
+use Rattle.std.proofs.Common.{◌≡◌, ℕ, zero, suc, ◌+◌, ◌<◌, ◌≤◌, cond, List, length, map, slice_get, Option, Some, None, sym, refl, ap, ◌∙◌, subst, arith, eq-eqb, ⊎_elim}
 use Rattle.std.proofs.lemmas.Option.{none-some, same_Some, slice_get_within}
 use mathlib.Core.Logic.{dite}
 use native.Mathlib.Decide.{ℕ_discrete}
-use Rattle.vme_trace.specs.Trace.{Trace}
 use Rattle.vme_trace.specs.declared.block.Block.{Block}
-use Rattle.vme_summary.specs.Joins.{joined_trace}
-use Rattle.vme_summary.specs.Stands.{SpanStandsFor, first_number}
-use Rattle.vme_summary.specs.declared.span.Span.{Span}
 use Rattle.vme_core.specs.Counting.{occurrences, numbers, HasPair, lack, missing_count}
 use Rattle.vme_core.specs.declared.view.View.{View}
 use Rattle.vme_core.proofs.Sums.{occurs_of_pair, pair_of_occurs}
-use Rattle.vme_board.specs.Contents.{HasBlock}
+use Rattle.vme_board.specs.Contents.{DidAll, HasBlock}
+use Rattle.vme_core.specs.Stages.{HasSeen}
+use Rattle.vme_core.specs.declared.stage.Stage.TheVariants.{Claimed}
 use Rattle.vme_board.specs.declared.board.Closed.{Closed}
 use Rattle.vme_floor.specs.Answering.{Suits, FiledAs, IsFiled, IsFiledNumber}
 use Rattle.vme_floor.specs.Claims.{Answered, IsContent, IsRecorded, IsLeastMissing, IsTorn}
-use Rattle.vme_floor.specs.Orders.{IsLeastTorn}
 use Rattle.vme_floor.specs.Collecting.{HasTakenOwn}
-use Rattle.vme_floor.specs.Settling.{reply_of, AreReplies, DoubledAreFiled, IsAccount, IsClosed, IsUnion}
+use Rattle.vme_floor.specs.Settling.{reply_of, AreReplies, IsAccount, IsClosed, IsUnion}
 use Rattle.vme_floor.specs.declared.collector.Collection.{Collection}
-use Rattle.vme_floor.specs.Works.{number_in, number_at, filing, filings, replied, IsListed, IsReply, IsWork}
+use Rattle.vme_floor.specs.Works.{number_in, number_at, filings, IsListed, IsReply, IsSeenIf, IsWork}
 use Rattle.vme_floor.specs.declared.answer.Answer.{Answer}
 use Rattle.vme_floor.specs.declared.answer.Answer.TheVariants.{Filed, Doubled}
 use Rattle.vme_floor.specs.declared.answer.Reply.{Reply}
@@ -30,7 +26,6 @@ use Rattle.vme_book.specs.declared.book.Whole.{Whole}
 use Rattle.vme_floor.proofs.Collecting.{count_all, place_of}
 use Rattle.vme_floor.proofs.Ordering.{all_at, all_count}
 use Rattle.vme_floor.proofs.Places.{each_at, get_within}
-use Rattle.vme_floor.proofs.Working.{unrefused}
 use Rattle.vme_floor.proofs.Weighing.{draws_of, files_of, weigh_draws, weigh_filings, weigh_two, weigh_some, is_filing, filing_here, one_block}
 
 abbrev no_block : Option Block
@@ -45,9 +40,6 @@ module _ (total : ℕ) (ds : List Block) (v : View) (replies : List Reply) (answ
 
   right_at : (d : ℕ) (a : Answer) (b : Block) → slice_get answers d ≡ Some a → slice_get ds d ≡ Some b → Suits total b a × IsListed v.list b a
   right_at d a b at there = let p = are d a at in (reply_at p.0 (reply_of d a) p.1).1 b there
-
-  pub doubled_within : (d : ℕ) (b : Block) → slice_get answers d ≡ Some Doubled → slice_get ds d ≡ Some b → b.number < total
-  doubled_within d b at there = unrefused total b (right_at d Doubled b at there).0
 
   same_reply : (k l : ℕ) (r s : Reply) → slice_get replies k ≡ Some r → slice_get replies l ≡ Some s → r.delivery ≡ s.delivery → r ≡ s
   same_reply k l r s at there e = dite (ℕ_discrete k l) (λ z. same_Some r s (sym at ∙ (ap (slice_get replies) z ∙ there)))
@@ -81,9 +73,6 @@ module _ (total : ℕ) (ds : List Block) (v : View) (replies : List Reply) (answ
       (λ ne. let two = weigh_two (files_of ds n) replies p.0 q.0 (reply_of d Filed) (reply_of e Filed) ne p.1 q.1 in let k = weigh_filings ds n replies in
       let a = filing_here (number_at ds d) n (sym (ap number_in f.1)) in let z = filing_here (number_at ds e) n (same ∙ sym (ap number_in g.1)) in absurd (omega (arith, two, k, a, z, w.filed n, w.files_once n)))
 
-  pub filed_below : (d : ℕ) (b : Block) → slice_get answers d ≡ Some Filed → slice_get ds d ≡ Some b → b.number < total
-  filed_below d b at there = unrefused total b (right_at d Filed b at there).0
-
   -- a number that was told filed, was filed
   told_filed : (n : ℕ) → 0 < filings ds replies n → IsFiledNumber ds answers n
   told_filed n told =
@@ -92,16 +81,20 @@ module _ (total : ℕ) (ds : List Block) (v : View) (replies : List Reply) (answ
       let c = get_within ds r.delivery (reply_at k r some.2).0 in
       (c.0, sym (ap number_in c.1) ∙ sym is.1, (r.delivery, (answer_of k r some.2 ∙ ap (λ (a : Answer). Some a) is.0, c.1)))
 
-  pub none_told : (n : ℕ) → (IsFiledNumber ds answers n → ⊥) → filings ds replies n ≡ 0
-  none_told n none = dite (ℕ_discrete (filings ds replies n) 0) (λ z. z) (λ ne. absurd (none (told_filed n (omega (arith, ne)))))
+  -- a number of which a delivery was told Doubled, was filed, where the bench did all that it has seen done
+  doubled_filed : DidAll v → (d : ℕ) (b : Block) → slice_get answers d ≡ Some Doubled → slice_get ds d ≡ Some b → IsFiledNumber ds answers b.number
+  doubled_filed did d b at there =
+      let p = are d Doubled at in let n_is : number_at ds d ≡ b.number = ap number_in there in
+      let saw : HasSeen v (number_at ds d) Claimed = each_at (IsSeenIf ds v) replies p.0 (reply_of d Doubled) w.doubled p.1 refl in
+      let one = did.list b.number (subst (λ (m : ℕ). HasSeen v m Claimed) n_is saw) in let filed = w.filed b.number in told_filed b.number (omega (arith, one, filed))
 
   -- the first claim
-  pub answered : DoubledAreFiled ds answers (length ds) → Answered total ds answers
-  answered there = record {
+  pub answered : DidAll v → Answered total ds answers
+  answered did = record {
     count = count;
     right = λ d a b at here. (right_at d a b at here).0;
     once = filed_once;
-    doubled = λ d b at here. there d b (slice_get_within ds d b here) at here;
+    doubled = doubled_filed did;
   }
 
   module _ (contents : List (Option Block)) (is_closed : IsClosed total v contents) where

@@ -9,13 +9,17 @@ use Rattle.vme_trace.specs.declared.block.Block.{Block}
 use Rattle.vme_core.specs.Counting.{occurrences, numbers, HasPair}
 use Rattle.vme_core.specs.Views.{joint_view}
 use Rattle.vme_core.specs.declared.view.View.{View}
+use Rattle.vme_core.specs.Stages.{rank, seen, HasSeen, SeesMore}
+use Rattle.vme_core.specs.declared.stage.Stage.TheVariants.{Claimed}
+use Rattle.vme_core.proofs.StageRanks.{seen_grows}
+use Rattle.vme_board.specs.Views.{AllFound}
 use Rattle.vme_core.proofs.Sums.{occurrences-append, numbers-append}
 use Rattle.vme_floor.specs.Answering.{first_refusal, Suits}
 use Rattle.vme_floor.specs.declared.answer.Answer.{Answer}
 use Rattle.vme_floor.specs.declared.answer.Answer.TheVariants.{Filed, Stranger, TooLong, Malformed, Doubled, Memory}
 use Rattle.vme_floor.specs.declared.answer.Reply.{Reply}
 use Rattle.vme_floor.specs.Settling.{reply_of}
-use Rattle.vme_floor.specs.Works.{number_in, number_at, filing, filings, replied, Each, IsListed, IsOldOrFiled, IsReply, IsWork, Lists, left}
+use Rattle.vme_floor.specs.Works.{number_in, number_at, filing, filings, replied, Each, IsListed, IsSeenIf, IsOldOrFiled, IsReply, IsWork, Lists, left}
 use Rattle.vme_floor.proofs.Weighing.{is_filing}
 
 low_where : (total n : ℕ) (test : Bool) (rest : Option Answer) → nat_lt n total ≡ test → (if test then rest else Some Stranger) ≡ None → n < total
@@ -66,11 +70,26 @@ listed_grows xs ys f Memory b r = tt
 replies_grow : (total : ℕ) (ds : List Block) (xs ys : List (ℕ × Block)) → Within xs ys → (rs : List Reply) → Each (IsReply total ds xs) rs → Each (IsReply total ds ys) rs
 replies_grow total ds xs ys f = each_map (IsReply total ds xs) (IsReply total ds ys) (λ t r. (r.0, λ b e. let s = r.1 b e in (s.0, listed_grows xs ys f t.answer b s.1)))
 
+-- what was seen, is seen by one who sees more
+seen_if_more : (ds : List Block) (v w : View) → SeesMore v w → (rs : List Reply) → Each (IsSeenIf ds v) rs → Each (IsSeenIf ds w) rs
+seen_if_more ds v w more = each_map (IsSeenIf ds v) (IsSeenIf ds w) (λ r f is. let a : 1 ≤ rank (seen v (number_at ds r.delivery)) = f is in let b = seen_grows v w (number_at ds r.delivery) more in let g : 1 ≤ rank (seen w (number_at ds r.delivery)) = omega (arith, a, b) in g)
+
+sees_left : (v w u : View) → u ≡ joint_view v w → SeesMore v u
+sees_left v w u is = subst (SeesMore v) (sym is) (record { found = λ d. omega (arith, occurrences-append d v.found w.found); claimed = λ d. omega (arith, occurrences-append d v.claimed w.claimed); filed = λ d. omega (arith, occurrences-append d v.filed w.filed); taken = λ d. omega (arith, occurrences-append d v.taken w.taken) })
+
+sees_right : (v w u : View) → u ≡ joint_view v w → SeesMore w u
+sees_right v w u is = subst (SeesMore w) (sym is) (record { found = λ d. omega (arith, occurrences-append d v.found w.found); claimed = λ d. omega (arith, occurrences-append d v.claimed w.claimed); filed = λ d. omega (arith, occurrences-append d v.filed w.filed); taken = λ d. omega (arith, occurrences-append d v.taken w.taken) })
+
+-- two have found what the first has
+pub found_both : (v w u : View) (k : ℕ) → u ≡ joint_view v w → AllFound v k → AllFound u k
+found_both v w u k is all d low = let a = all d low in let b = (sees_left v w u is).found d in omega (arith, a, b)
+
 pub no_work : (total : ℕ) (ds : List Block) (v : View) → v.list ≡ [] → v.draws ≡ [] → IsWork total ds v []
 no_work total ds v l d = record {
   drew = λ k. ap (occurrences k) d;
   filed = λ n. ap (λ (xs : List (ℕ × Block)). occurrences n (numbers xs)) l;
   right = tt;
+  doubled = tt;
   draws_once = λ k. let z = ap (occurrences k) d in omega (arith, z);
   files_once = λ n. let z = ap (λ (xs : List (ℕ × Block)). occurrences n (numbers xs)) l in omega (arith, z);
 }
@@ -122,8 +141,8 @@ same_block b c o e f = cc
 -- a draw, and its delivery
 pub works_on : (total : ℕ) (ds : List Block) (u v w : View) (rs : List Reply) (d : ℕ) (b : Block) (a : Answer) → IsWork total ds u rs
     → occurrences d u.draws ≡ 0 → v.draws ≡ d ∷ u.draws → v.list ≡ u.list → w.draws ≡ v.draws → Suits total b a → Lists v.list w.list b a → d < length ds → slice_get ds d ≡ Some b
-    → IsWork total ds w (rs ++ reply_of d a ∷ [])
-works_on total ds u v w rs d b a k fresh drew same_list more suits changed near at =
+    → SeesMore u w → (a ≡ Doubled → HasSeen w b.number Claimed) → IsWork total ds w (rs ++ reply_of d a ∷ [])
+works_on total ds u v w rs d b a k fresh drew same_list more suits changed near at sees second =
     let one : List Reply = reply_of d a ∷ [] in
     let lists : Lists u.list w.list b a = subst (λ (xs : List (ℕ × Block)). Lists xs w.list b a) same_list changed in
     let n_is : number_at ds d ≡ b.number = ap number_in at in
@@ -133,6 +152,7 @@ works_on total ds u v w rs d b a k fresh drew same_list more suits changed near 
       filed = λ n. let x = counted u.list w.list b a lists n in let y = k.filed n in let z = filings_append ds rs one n in let t = ap (λ (m : ℕ). filing a m n) n_is in omega (arith, x, y, z, t);
       right = each_append (IsReply total ds w.list) rs one (replies_grow total ds u.list w.list (kept u.list w.list b a lists) rs k.right)
           ((near, λ c e. subst (λ (x : Block). Suits total x a × IsListed w.list x a) (same_block b c (slice_get ds d) at e) (suits, listed u.list w.list b a lists)), tt);
+      doubled = each_append (IsSeenIf ds w) rs one (seen_if_more ds u w sees rs k.doubled) ((λ is. subst (λ (m : ℕ). HasSeen w m Claimed) (sym n_is) (second is)), tt);
       draws_once = λ e. let x = draws e in let o = k.draws_once e in dite (ℕ_discrete e d) (λ s. let z = subst (λ (y : ℕ). occurrences y u.draws ≡ 0) (sym s) fresh in grind (arith, nat_tests)) (λ ne. let t = ap {B = ℕ} (λ t. cond t 1 0) (ne_eqb e d ne) in omega (arith, x, o, t));
       files_once = λ n. once u.list w.list b a lists n (k.files_once n);
     }
@@ -150,16 +170,18 @@ works_both total ds v w u xs ys is a b d n =
       right = each_append (IsReply total ds u.list) xs ys
           (replies_grow total ds v.list u.list (λ m c h. subst (λ (l : List (ℕ × Block)). HasPair l m c) (sym list) (has_left v.list w.list m c h)) xs a.right)
           (replies_grow total ds w.list u.list (λ m c h. subst (λ (l : List (ℕ × Block)). HasPair l m c) (sym list) (has_right v.list w.list m c h)) ys b.right);
+      doubled = each_append (IsSeenIf ds u) xs ys (seen_if_more ds v u (sees_left v w u is) xs a.doubled) (seen_if_more ds w u (sees_right v w u is) ys b.doubled);
       draws_once = λ k. let x = drew k in let y = d k in omega (arith, x, y);
       files_once = λ k. let x = filed k in let y = n k in omega (arith, x, y);
     }
 
 -- the same work of a bench that has taken or seen more
-pub works_same : (total : ℕ) (ds : List Block) (v w : View) (rs : List Reply) → w.list ≡ v.list → w.draws ≡ v.draws → IsWork total ds v rs → IsWork total ds w rs
-works_same total ds v w rs list draws k = record {
+pub works_same : (total : ℕ) (ds : List Block) (v w : View) (rs : List Reply) → w.list ≡ v.list → w.draws ≡ v.draws → SeesMore v w → IsWork total ds v rs → IsWork total ds w rs
+works_same total ds v w rs list draws sees k = record {
   drew = λ d. ap (occurrences d) draws ∙ k.drew d;
   filed = λ n. ap (λ (l : List (ℕ × Block)). occurrences n (numbers l)) list ∙ k.filed n;
   right = subst (λ (l : List (ℕ × Block)). Each (IsReply total ds l) rs) (sym list) k.right;
+  doubled = seen_if_more ds v w sees rs k.doubled;
   draws_once = λ d. let z = ap (occurrences d) draws in let o = k.draws_once d in omega (arith, z, o);
   files_once = λ n. let z = ap (λ (l : List (ℕ × Block)). occurrences n (numbers l)) list in let o = k.files_once n in omega (arith, z, o);
 }

@@ -83,7 +83,7 @@ IsFault total deliveries workers fault.BadWorkers =
     (0 < total) × (total ≤ 4096) × (length deliveries ≤ 65536) × ((workers ≡ 0) ⊎ (64 < workers))
 IsFault total deliveries workers fault.Memory = InRange total deliveries workers
 IsFault total deliveries workers fault.NoWorker = InRange total deliveries workers × (1 < workers)
-IsFault total deliveries workers fault.Stray = InRange total deliveries workers
+IsFault total deliveries workers fault.Stray = ⊥
 IsFault total deliveries workers (fault.Missing n answers) =
     InRange total deliveries workers × IsLeastMissing total deliveries answers n
 IsFault total deliveries workers (fault.Torn n answers) =
@@ -96,6 +96,6 @@ IsLate total deliveries fault.BadDraws = ⊥
 IsLate total deliveries fault.BadWorkers = ⊥
 IsLate total deliveries fault.Memory = Unit {0}
 IsLate total deliveries fault.NoWorker = ⊥
-IsLate total deliveries fault.Stray = Unit {0}
+IsLate total deliveries fault.Stray = ⊥
 IsLate total deliveries (fault.Missing n answers) = IsLeastMissing total deliveries answers n
 IsLate total deliveries (fault.Torn n answers) = IsTorn total deliveries answers n

@@ -6,6 +6,7 @@ use Rattle.vme_core.specs.Stages.{SeesMore}
 use Rattle.vme_core.specs.declared.view.View.{View}
 use Rattle.vme_board.specs.Benches.{total_of, view_of}
 use Rattle.vme_board.specs.Contents.{HasBlock}
+use Rattle.vme_board.specs.Views.{AllFound}
 use Rattle.vme_board.specs.declared.board.Board.{Board}
 use Rattle.vme_floor.specs.Works.{IsWorkOf}
 use Rattle.vme_floor.specs.declared.collector.Collection.{Collection}
@@ -39,10 +40,12 @@ pub record TakesOnly (old new : View) : Type 0 where
   pub list : new.list ≡ old.list
   pub draws : new.draws ≡ old.draws
   pub found : new.found ≡ old.found
+  pub share : new.share ≡ old.share
   pub takes : (n : ℕ) → occurrences n (numbers old.takes) ≤ occurrences n (numbers new.takes)
   pub sees : SeesMore old new
 
--- the work of a bench of the board, and the book of what it took
+-- the work of a bench of the board that has found each draw won, and the book of what it took
 pub record IsCollectedOf (board : Board) (deliveries : List Block) (c : Collector) : Type 0 where
   pub work : IsWorkOf board deliveries c.work
+  pub found : AllFound (view_of c.work.bench) (length deliveries)
   pub collected : IsCollected (total_of board) (view_of c.work.bench) c.collection

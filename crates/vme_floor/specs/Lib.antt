@@ -3,4 +3,5 @@ pub mod Works
 pub mod Collecting
 pub mod Orders
 pub mod Claims
+pub mod Cuts
 pub mod Settling

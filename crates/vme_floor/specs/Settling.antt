@@ -1,18 +1,15 @@
 -- From the work of all to the answers and the contents.
-use Rattle.std.specs.Prelude.{◌≡◌, ◌≢◌, ◌⊎◌, ℕ, Bool, true, false, ◌<◌, ◌≤◌, List, length, slice_get, Option, Some}
-use Rattle.std.specs.Prelude.{None}
+use Rattle.std.specs.Prelude.{◌≡◌, ◌⊎◌, ℕ, ◌<◌, ◌≤◌, List, length, slice_get, Option, Some, None}
 use Rattle.vme_trace.specs.declared.block.Block.{Block}
 use Rattle.vme_core.specs.Counting.{occurrences, HasPair}
 use Rattle.vme_core.specs.declared.view.View.{View}
-use Rattle.vme_board.specs.Contents.{AreNumbered, HasBlock, HasOnlyList, HasUntaken, LacksTakes, unlisted_count}
+use Rattle.vme_board.specs.Contents.{AreNumbered, DidAll, HasBlock, HasOnlyList, HasUntaken, LacksTakes, unlisted_count}
 use Rattle.vme_board.specs.Contents.{untaken_count}
-use Rattle.vme_board.specs.Views.{SameBlocks}
+use Rattle.vme_board.specs.Views.{AllFound, SameBlocks}
 use Rattle.vme_board.specs.declared.board.Closed.{Closed}
-use Rattle.vme_floor.specs.Answering.{FiledAs, IsFiledNumber}
 use Rattle.vme_floor.specs.Collecting.{HasTakenOwn, IsCollected}
-use Rattle.vme_floor.specs.Works.{replied, filings, IsWork}
+use Rattle.vme_floor.specs.Works.{replied, IsWork}
 use Rattle.vme_floor.specs.declared.answer.Answer.{Answer}
-use Rattle.vme_floor.specs.declared.answer.Answer.TheVariants.{Doubled}
 use Rattle.vme_floor.specs.declared.answer.Reply.{Reply}
 use Rattle.vme_floor.specs.declared.collector.Collection.{Collection}
 
@@ -55,6 +52,10 @@ pub record IsAccount
   pub collected : IsCollected total v collection
   pub closing : IsClosing total v closed
   pub same : SameBlocks v
+  pub found : AllFound v (length deliveries)
+  pub no_others : closed.others ≡ 0
+  pub no_taken : closed.taken ≡ 0
+  pub did : DidAll v
 
 -- where a bench took all that it filed, and the rest is accounted for, all blocks were taken
 abbrev pub IsOwnEarly : ℕ → List Block → List Reply → Collection → Closed → ℕ → Type 0
@@ -81,41 +82,3 @@ pub record IsUnionBelow (xs ys : List (Option Block)) (limit : ℕ) (zs : List (
 -- the third has the blocks of both
 abbrev pub IsUnion : List (Option Block) → List (Option Block) → List (Option Block) → Type 0
 IsUnion xs ys zs = IsUnionBelow xs ys (length ys) zs
-
--- the numbers of the deliveries with this answer are below a limit
-abbrev pub AreBelow : List Block → List Answer → Answer → ℕ → Type 0
-AreBelow deliveries answers a limit =
-    (d : ℕ) (b : Block) → slice_get answers d ≡ Some a → slice_get deliveries d ≡ Some b → b.number < limit
-
--- at each number whether one of the first deliveries was filed under it
-pub record AreFiled (deliveries : List Block) (answers : List Answer) (total seen : ℕ)
-    (table : List Bool) : Type 0 where
-  pub long : length table ≡ total
-  pub yes : (n : ℕ) → slice_get table n ≡ Some true → IsFiledNumber deliveries answers n
-  pub no :
-      (n : ℕ) → slice_get table n ≡ Some false
-      → (d : ℕ) (b : Block) → d < seen → FiledAs deliveries answers d b → b.number ≡ n → ⊥
-
--- a delivery was answered Doubled, and none of its number Filed
-abbrev pub HasUnfiled : List Block → List Answer → Type 0
-HasUnfiled deliveries answers =
-    (d : ℕ) × (b : Block)
-    × (slice_get answers d ≡ Some Doubled) × (slice_get deliveries d ≡ Some b)
-    × (¬ IsFiledNumber deliveries answers b.number)
-
--- of each number of the first deliveries answered Doubled one was filed
-abbrev pub DoubledAreFiled : List Block → List Answer → ℕ → Type 0
-DoubledAreFiled deliveries answers limit =
-    (d : ℕ) (b : Block) → d < limit → slice_get answers d ≡ Some Doubled → slice_get deliveries d ≡ Some b
-    → IsFiledNumber deliveries answers b.number
-
--- the folded benches don't account for the board: others filed or took too, a draw has no reply, or a doubled number
--- was told Filed to nobody
-pub data IsUnaccounted (deliveries : List Block) (replies : List Reply) (closed : Closed) : Type 0 where
-  others : closed.others ≢ 0 → IsUnaccounted deliveries replies closed
-  taken : closed.taken ≢ 0 → IsUnaccounted deliveries replies closed
-  undrawn :
-      (d : ℕ) → d < length deliveries → occurrences d (replied replies) ≡ 0 → IsUnaccounted deliveries replies closed
-  unfiled :
-      (k d : ℕ) (b : Block) → slice_get replies k ≡ Some (reply_of d Doubled) → slice_get deliveries d ≡ Some b
-      → filings deliveries replies b.number ≡ 0 → IsUnaccounted deliveries replies closed

@@ -10,7 +10,7 @@ use Rattle.vme_board.specs.Benches.{IsOf, draws_of, total_of, view_of}
 use Rattle.vme_board.specs.Views.{SameNumbers}
 use Rattle.vme_board.specs.declared.bench.Bench.{Bench}
 use Rattle.vme_board.specs.declared.board.Board.{Board}
-use Rattle.vme_floor.specs.Answering.{first_refusal, Suits}
+use Rattle.vme_floor.specs.Answering.{Suits}
 use Rattle.vme_floor.specs.declared.answer.Answer.{Answer}
 use Rattle.vme_floor.specs.declared.answer.Answer.TheVariants.{Filed, Stranger, TooLong, Malformed, Doubled, Memory}
 use Rattle.vme_floor.specs.declared.answer.Reply.{Reply}
@@ -57,6 +57,10 @@ IsListed list b (Malformed step) = Unit {0}
 IsListed list b Doubled = Unit {0}
 IsListed list b Memory = Unit {0}
 
+-- where the answer is Doubled, the view has seen the number of that delivery claimed
+abbrev pub IsSeenIf : List Block → View → Reply → Type 0
+IsSeenIf deliveries v r = r.answer ≡ Doubled → HasSeen v (number_at deliveries r.delivery) stage.Claimed
+
 -- the reply is to one of the deliveries, and its answer suits that block; where it is Filed, the list has the block
 abbrev pub IsReply : ℕ → List Block → List (ℕ × Block) → Reply → Type 0
 IsReply total deliveries list r =
@@ -68,6 +72,7 @@ pub record IsWork (total : ℕ) (deliveries : List Block) (v : View) (replies : 
   pub drew : (d : ℕ) → occurrences d v.draws ≡ occurrences d (replied replies)
   pub filed : (n : ℕ) → occurrences n (numbers v.list) ≡ filings deliveries replies n
   pub right : Each (IsReply total deliveries v.list) replies
+  pub doubled : Each (IsSeenIf deliveries v) replies
   pub draws_once : (d : ℕ) → occurrences d v.draws ≤ 1
   pub files_once : (n : ℕ) → occurrences n (numbers v.list) ≤ 1
 
@@ -88,6 +93,11 @@ pub record IsWorkOf (board : Board) (deliveries : List Block) (work : Work) : Ty
 pub record IsOtherWorkOf (board : Board) (deliveries : List Block) (work : Work) : Type 0 where
   pub is_work : IsWorkOf board deliveries work
   pub takes : (view_of work.bench).takes ≡ []
+
+-- the work of the worker of this number: it takes nothing, and it has the share that the worker was given
+abbrev pub IsWorkBy : Board → List Block → ℕ → Work → Type 0
+IsWorkBy board deliveries worker work =
+    IsOtherWorkOf board deliveries work × ((view_of work.bench).share ≡ worker ∷ [])
 
 -- what a delivery with this answer does to the list of the bench
 abbrev pub Lists : List (ℕ × Block) → List (ℕ × Block) → Block → Answer → Type 0

@@ -129,6 +129,7 @@ pub(crate) fn deliver_and_collect<G: Gate>(
     requires collected { IsCollected (total_of board.now) (view_of bench) collection }
     ensures collected { IfOk result (λ all. IsCollectedOf board.now deliveries.now all) }
     ensures own { IfOk result (λ all. HasTakenOwn (view_of all.work.bench)) }
+    ensures share { IfOk result (λ all. (view_of all.work.bench).share ≡ (view_of bench).share) }
 {
     let mut work = Work {
         bench,

@@ -7,14 +7,15 @@
 //!
 //! To read it: `runner` (the call and its contract), `worker` (what one worker does), `collector` (what the calling
 //! thread does beside that: it takes filed blocks into a book, which joins them), `threads` (the workers side by side),
-//! `settle` (from what they did to a report), `answers` (the replies in the order of the deliveries) and `filed` (which
-//! numbers were filed). The claims are defined in `specs/Claims`, on `specs/Answering`.
+//! `settle` (from what they did to a report) and `answers` (the replies in the order of the deliveries). The claims are
+//! defined in `specs/Claims`, on `specs/Answering`, and what comes of a cut of a recording in `specs/Cuts`
+//! ([`every_size_cuts`]).
 #![tactic(auto)]
 
 mod answer;
 mod answers;
 mod collector;
-mod filed;
+mod cuts;
 mod gate;
 mod report;
 mod runner;
@@ -23,6 +24,7 @@ mod threads;
 mod worker;
 
 pub use answer::{Answer, Answers};
+pub use cuts::every_size_cuts;
 pub use gate::{Gate, Open};
 pub use report::{Report, RunFault};
 pub use runner::run;

@@ -33,7 +33,8 @@ pub enum RunFault {
     Memory,
     /// A thread couldn't be started.
     NoWorker,
-    /// The benches of the workers don't account for what the board holds.
+    /// The benches of the workers don't account for what the board holds. This never comes: the bench of all workers
+    /// has the whole share, and so has done all that was done on the board.
     Stray,
     /// No delivery of a number was filed.
     Missing {

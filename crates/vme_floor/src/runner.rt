@@ -1,8 +1,12 @@
 //! The whole: deliveries, workers, and the verdict.
 
-ghost use Rattle.std.specs.Prelude.{◌≡◌, IfOk, IfErr, OnOk};
+ghost use Rattle.std.specs.Prelude.{◌≡◌, ◌≢◌, IfOk, IfErr, OnOk};
 ghost use Rattle.vme_trace.specs.Verdict.{rules_in_force, verdict_by};
+ghost use Rattle.vme_listing.specs.Recorded.{recorded_rows};
+ghost use Rattle.vme_split.specs.Split.{Splits};
 ghost use Rattle.vme_floor.specs.Claims.{AreAnswered, InRange, IsEarly, IsFault, IsRecorded};
+ghost use Rattle.vme_floor.specs.Cuts.{JudgesCuts};
+ghost use Rattle.vme_floor.specs.declared.report.RunFault.TheVariants.{Stray};
 
 use crate::collector::{Collection, Collector};
 use crate::gate::Gate;
@@ -53,10 +57,39 @@ pub fn run<R: Threads + Wait + Sync, G: Gate + Sync>(
     ensures recorded { IfOk result (λ r. IsRecorded total deliveries.now r.answers r.capture r.span) }
     ensures verdict { IfOk result (λ r. r.verdict ≡ verdict_by rules_in_force r.capture) }
 
+    // The judged edges of the recording split into exactly what its listing tells.
+    ensures split { IfOk result (λ r. Splits r.capture r.verdict (recorded_rows r.capture)) }
+
     // How many blocks were taken before the threads were joined.
     ensures early { IfOk result (λ r. IsEarly total workers r.early) }
 
     // When each refusal comes.
+    ensures refusals { IfErr result (λ fault. IsFault total deliveries.now workers fault) }
+
+    // The workers' benches account for all that the board holds.
+    ensures accounted { IfErr result (λ fault. fault ≢ Stray) }
+
+    // Of all blocks of a cut of a recording, in any order and each as often as may be, a report has that recording and
+    // its verdict; there is none only for want of memory or of a thread.
+    ensures cut { JudgesCuts total deliveries.now workers result }
+{
+    run_deliveries(rt, alloc, deliveries, total, workers, gate)
+}
+
+/// The same, by the claims from which the others follow.
+fn run_deliveries<R: Threads + Wait + Sync, G: Gate + Sync>(
+    rt: &R,
+    alloc: Global,
+    deliveries: &[Block],
+    total: u32,
+    workers: u32,
+    gate: &G,
+) -> Result<Report, RunFault>
+    ensures accepted { OnOk result (InRange total deliveries.now workers) }
+    ensures answers { AreAnswered total deliveries.now result }
+    ensures recorded { IfOk result (λ r. IsRecorded total deliveries.now r.answers r.capture r.span) }
+    ensures verdict { IfOk result (λ r. r.verdict ≡ verdict_by rules_in_force r.capture) }
+    ensures early { IfOk result (λ r. IsEarly total workers r.early) }
     ensures refusals { IfErr result (λ fault. IsFault total deliveries.now workers fault) }
 {
     if total == 0 || total > MOST_BLOCKS {

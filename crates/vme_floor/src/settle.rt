@@ -5,13 +5,11 @@ ghost use Rattle.vme_trace.specs.Verdict.{rules_in_force, verdict_by};
 ghost use Rattle.vme_core.specs.declared.view.View.{View};
 ghost use Rattle.vme_floor.specs.Claims.{AreAnswered, IsLate, IsRecorded};
 ghost use Rattle.vme_board.specs.Contents.{AreNumbered};
-ghost use Rattle.vme_floor.specs.Settling.{AreApart, IsAccount, IsOwnEarly, IsUnaccounted, IsUnion};
-ghost use Rattle.vme_floor.specs.declared.report.RunFault.TheVariants.{Stray};
+ghost use Rattle.vme_floor.specs.Settling.{AreApart, IsAccount, IsOwnEarly, IsUnion};
 
 use crate::answer::Reply;
 use crate::answers::{Unanswered, answers_in_order};
 use crate::collector::Collection;
-use crate::filed::{filed_numbers, has_unfiled};
 use crate::report::{Report, RunFault};
 use std::alloc::{AllocError, Global};
 use vme_board::Closed;
@@ -37,22 +35,12 @@ pub(crate) fn settle(
     ensures within { IfOk result (λ r. r.early ≤ total) }
     ensures own { IfOk result (λ r. IsOwnEarly total deliveries.now replies.items collection closed r.early) }
     ensures refusals { IfErr result (λ fault. IsLate total deliveries.now fault) }
-    ensures stray { IfErr result (λ fault. fault ≡ Stray → IsUnaccounted deliveries.now replies.items closed) }
 {
-    if closed.others != 0 || closed.taken != 0 {
-        return Err(RunFault::Stray);
-    }
     let answers = match answers_in_order(alloc, replies.as_slice(), deliveries.len()) {
         Ok(answers) => answers,
         Err(Unanswered::Memory) => return Err(RunFault::Memory),
-        Err(Unanswered::Undrawn) => return Err(RunFault::Stray),
+        Err(Unanswered::Undrawn) => unreachable!(),
     };
-    let Ok(filed) = filed_numbers(alloc, deliveries, answers.as_slice(), total as usize) else {
-        return Err(RunFault::Memory);
-    };
-    if has_unfiled(deliveries, answers.as_slice(), filed.as_slice()) {
-        return Err(RunFault::Stray);
-    }
     let early = collection.count;
     let Ok(book) = insert_all(alloc, collection.book, closed.contents) else {
         return Err(RunFault::Memory);

@@ -1,10 +1,11 @@
 //! The workers side by side: the calling thread is worker 0, each other one has a scoped thread.
 
-ghost use Rattle.std.specs.Prelude.{◌≡◌, ◌<◌, IfOk, IfErr};
+ghost use Rattle.std.specs.Prelude.{◌≡◌, ◌<◌, ℕ, List, [], ◌∷◌, ◌++◌, IfOk, IfErr};
+ghost use Rattle.vme_core.specs.Shares.{IsWhole};
 ghost use Rattle.vme_board.specs.Benches.{total_of, view_of};
 ghost use Rattle.vme_floor.specs.Collecting.{HasTakenOwn, IsCollected, IsCollectedOf};
 ghost use Rattle.vme_floor.specs.declared.threads.ThreadFault.TheVariants.{NoWorker};
-ghost use Rattle.vme_floor.specs.Works.{IsNew, IsOtherWorkOf};
+ghost use Rattle.vme_floor.specs.Works.{IsNew, IsOtherWorkOf, IsWorkBy};
 
 use crate::collector::{Collection, Collector, deliver_and_collect};
 use crate::gate::Gate;
@@ -30,10 +31,11 @@ pub(crate) enum ThreadFault {
 struct Assignment<'a> {
     board: &'a Board,
     deliveries: &'a [Block],
+    worker: u32,
 }
 
 impl<'a> Promise<Result<Work, AllocError>> for Assignment<'a> {
-    ghost kept_by = { λ p r. IfOk r (λ work. IsOtherWorkOf p.board.now p.deliveries.now work) };
+    ghost kept_by = { λ p r. IfOk r (IsWorkBy p.board.now p.deliveries.now p.worker) };
 }
 
 /// The work of all workers together, once each has ended.
@@ -48,9 +50,11 @@ pub(crate) fn work_together<R: Threads + Wait + Sync, G: Gate + Sync>(
     collection: Collection,
 ) -> Result<Collector, ThreadFault>
     requires new { IsNew board.now deliveries.now bench }
+    requires share { (view_of bench).share ≡ 0 ∷ [] }
     requires collected { IsCollected (total_of board.now) (view_of bench) collection }
     ensures collected { IfOk result (λ all. IsCollectedOf board.now deliveries.now all) }
     ensures own { IfOk result (λ all. workers ≡ 1 → HasTakenOwn (view_of all.work.bench)) }
+    ensures whole { IfOk result (λ all. IsWhole (view_of all.work.bench).share) }
     ensures alone { IfErr result (λ fault. fault ≡ NoWorker → 1 < workers) }
 {
     thread::scope(
@@ -58,9 +62,11 @@ pub(crate) fn work_together<R: Threads + Wait + Sync, G: Gate + Sync>(
         rt,
         |scope| -> Result<Collector, ThreadFault>
             requires new { IsNew board.now deliveries.now bench }
+            requires share { (view_of bench).share ≡ 0 ∷ [] }
             requires collected { IsCollected (total_of board.now) (view_of bench) collection }
             ensures collected { IfOk result (λ all. IsCollectedOf board.entry.now deliveries.entry.now all) }
             ensures own { IfOk result (λ all. workers ≡ 1 → HasTakenOwn (view_of all.work.bench)) }
+            ensures whole { IfOk result (λ all. IsWhole (view_of all.work.bench).share) }
             ensures alone { IfErr result (λ fault. fault ≡ NoWorker → 1 < workers) }
         {
             work_in_scope(
@@ -84,9 +90,11 @@ fn work_in_scope<'s, E, R: Threads + Wait + Sync, G: Gate + Sync>(
     collection: Collection,
 ) -> Result<Collector, ThreadFault>
     requires new { IsNew board.now deliveries.now bench }
+    requires share { (view_of bench).share ≡ 0 ∷ [] }
     requires collected { IsCollected (total_of board.now) (view_of bench) collection }
     ensures collected { IfOk result (λ all. IsCollectedOf board.now deliveries.now all) }
     ensures own { IfOk result (λ all. workers ≡ 1 → HasTakenOwn (view_of all.work.bench)) }
+    ensures whole { IfOk result (λ all. IsWhole (view_of all.work.bench).share) }
     ensures alone { IfErr result (λ fault. fault ≡ NoWorker → 1 < workers) }
 {
     let mut bench = bench;
@@ -101,10 +109,15 @@ fn work_in_scope<'s, E, R: Threads + Wait + Sync, G: Gate + Sync>(
         }
         let own = bench.split(board);
         match scope.spawn_with(
-            Assignment { board, deliveries },
+            Assignment {
+                board,
+                deliveries,
+                worker,
+            },
             move || -> Result<Work, AllocError>
-                requires { IsNew board.now deliveries.now own }
-                ensures { IfOk result (λ work. IsOtherWorkOf board.entry.now deliveries.entry.now work) }
+                requires new { IsNew board.now deliveries.now own }
+                requires share { (view_of own).share ≡ worker ∷ [] }
+                ensures { IfOk result (IsWorkBy board.entry.now deliveries.entry.now worker) }
             { deliver_drawn(alloc, board, deliveries, gate, worker, own) },
         ) {
             Ok(handle) => handles.push_reserved(handle),
@@ -136,7 +149,10 @@ fn with_other(
 ) -> Result<Collector, AllocError>
     requires first { IfOk first (λ all. IsCollectedOf board.now deliveries.now all) }
     requires other { IfOk other (λ work. IsOtherWorkOf board.now deliveries.now work) }
-    ensures { IfOk result (λ all. IsCollectedOf board.now deliveries.now all) }
+    ensures collected { IfOk result (λ all. IsCollectedOf board.now deliveries.now all) }
+    ensures share { (s t : List ℕ) → IfOk first (λ all. (view_of all.work.bench).share ≡ s)
+        → IfOk other (λ work. (view_of work.bench).share ≡ t)
+        → IfOk result (λ all. (view_of all.work.bench).share ≡ s ++ t) }
 {
     let Collector { work, collection } = first?;
     let Work {

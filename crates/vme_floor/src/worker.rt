@@ -1,12 +1,12 @@
 //! What one worker does.
 
-ghost use Rattle.std.specs.Prelude.{◌≡◌, IfOk, OnOk};
+ghost use Rattle.std.specs.Prelude.{◌≡◌, IfOk, OnOk, None};
 ghost use Rattle.vme_core.specs.Stages.{HasSeen, SeesMore};
 ghost use Rattle.vme_core.specs.declared.stage.Stage.TheVariants as stage;
-ghost use Rattle.vme_board.specs.Benches.{IsOf, total_of, view_of};
-ghost use Rattle.vme_board.specs.Views.{SameDraws};
+ghost use Rattle.vme_board.specs.Benches.{IsOf, draws_of, total_of, view_of};
+ghost use Rattle.vme_board.specs.Views.{AllFound, SameDraws};
 ghost use Rattle.vme_floor.specs.Answering.{Suits};
-ghost use Rattle.vme_floor.specs.declared.answer.Answer.TheVariants.{Filed};
+ghost use Rattle.vme_floor.specs.declared.answer.Answer.TheVariants.{Doubled, Filed};
 ghost use Rattle.vme_floor.specs.Works.{IsNew, IsNext, IsOtherWorkOf, IsWorkOf, Lists};
 
 use crate::answer::{Answer, Reply};
@@ -32,7 +32,8 @@ pub(crate) fn deliver_drawn<G: Gate>(
     bench: Bench,
 ) -> Result<Work, AllocError>
     requires { IsNew board.now deliveries.now bench }
-    ensures { IfOk result (λ work. IsOtherWorkOf board.now deliveries.now work) }
+    ensures other { IfOk result (λ work. IsOtherWorkOf board.now deliveries.now work) }
+    ensures share { IfOk result (λ work. (view_of work.bench).share ≡ (view_of bench).share) }
 {
     let mut work = Work {
         bench,
@@ -54,6 +55,8 @@ pub(crate) fn deliver_next<G: Gate>(
     requires work { IsWorkOf board.now deliveries.now work.old }
     ensures work { OnOk result (IsWorkOf board.now deliveries.now work.new) }
     ensures next { IfOk result (IsNext board.now deliveries.now work.old work.new) }
+    ensures share { OnOk result ((view_of work.new.bench).share ≡ (view_of work.old.bench).share) }
+    ensures none_left { IfOk result (λ r. r ≡ None → AllFound (view_of work.new.bench) (draws_of board.now)) }
 {
     // Before the draw, so that no delivery that was drawn goes without a reply.
     work.replies.reserve(1)?;
@@ -81,6 +84,7 @@ fn deliver_copy(alloc: Global, board: &Board, block: &Block, bench: &mut Bench) 
     ensures takes { (view_of bench.new).takes ≡ (view_of bench.old).takes }
     ensures sees { SeesMore (view_of bench.old) (view_of bench.new) }
     ensures filed { result ≡ Filed → HasSeen (view_of bench.new) block.now.number stage.Filed }
+    ensures doubled { result ≡ Doubled → HasSeen (view_of bench.new) block.now.number stage.Claimed }
     ensures suits { Suits (total_of board.now) block.now result }
     ensures lists { Lists (view_of bench.old).list (view_of bench.new).list block.now result }
 {

@@ -1,35 +1,27 @@
 -- What a run joins is the recording whose blocks are delivered.
-use Rattle.std.proofs.Common.{◌≡◌, ℕ, zero, suc, ◌+◌, ◌*◌, ◌<◌, ◌≤◌, List, [], ◌∷◌, ◌++◌, append_assoc, length, slice_get, get_or, take, drop, map, Option, Some, None, Result, Ok, Err, sym, refl, ap, ◌∙◌, subst, arith, ◌⊎◌, inl, inr}
+use Rattle.std.proofs.Common.{◌≡◌, ℕ, zero, suc, ◌*◌, ◌<◌, ◌≤◌, List, [], ◌∷◌, length, slice_get, get_or, Some, None, Result, Ok, Err, sym, refl, ap, ◌∙◌, subst, arith}
 use Rattle.std.specs.Prelude.{All, IfErr, IfOk}
-use Rattle.std.specs.List.{range_with_len}
 use Rattle.std.proofs.lemmas.Option.{none-some, same_Some, slice_get-get_or}
 use Rattle.std.proofs.lemmas.List.FromFn.{get_or-map-range_with_len, length-map-range_with_len}
 use Rattle.vme_trace.specs.Blocks.{block_at, block_count, blocks_of}
 use Rattle.vme_trace.specs.WellFormed.{malformed_step}
 use Rattle.vme_trace.specs.Trace.{Trace}
 use Rattle.vme_trace.specs.declared.block.Block.{Block}
-use Rattle.vme_summary.specs.Joins.{BlocksJoin, Follows, joined_trace}
+use Rattle.vme_summary.specs.Joins.{BlocksJoin, joined_trace}
 use Rattle.vme_summary.proofs.Cuts.{cut_filled, cut_whole, parts_join}
 use Rattle.vme_trace.specs.Verdict.{verdict_by, rules_in_force}
 use Rattle.vme_trace.specs.declared.verdict.Verdict.{Verdict}
 use Rattle.vme_floor.specs.Claims.{IsContent, IsFault, IsRecorded}
-use Rattle.vme_floor.specs.Orders.{IsLeastTorn}
 use Rattle.vme_floor.specs.declared.answer.Answer.{Answer}
 use Rattle.vme_floor.specs.declared.report.Report.{Report}
 use Rattle.vme_floor.specs.declared.report.RunFault.{RunFault}
 use Rattle.vme_floor.specs.declared.report.RunFault.TheVariants as fault
+use Rattle.vme_floor.proofs.Cutting.{same_lists, not_torn, out_of_range}
 use Rattle.vme_pods.specs.Deliveries.{AreDeliveries, AreOf}
 use Rattle.vme_pods.specs.Outcomes.{MayCome}
 use Rattle.vme_pods.specs.Judgements.{NeedsThreads}
 use Rattle.vme_pods.specs.declared.unjudged.Unjudged.{Unjudged}
 use Rattle.vme_pods.specs.declared.unjudged.Unjudged.TheVariants.{NoWorker}
-
--- lists of one length that agree at each place
-same_lists : (xs ys : List Block) → length xs ≡ length ys → ((k : ℕ) (x : Block) → slice_get xs k ≡ Some x → slice_get ys k ≡ Some x) → xs ≡ ys
-same_lists [] [] e h = refl
-same_lists [] (y ∷ ys) e h = absurd (omega arith)
-same_lists (x ∷ xs) [] e h = absurd (omega arith)
-same_lists (x ∷ xs) (y ∷ ys) e h = let head : x ≡ y = sym (same_Some y x (h zero x refl)) in let tail = same_lists xs ys (omega arith) (λ k z at. h (suc k) z at) in λ i. head i ∷ tail i
 
 -- what holds of all holds at each place
 all_at : (P : Block → Type 0) (xs : List Block) (k : ℕ) (x : Block) → All P xs → slice_get xs k ≡ Some x → P x
@@ -42,19 +34,6 @@ pub content_is : (blocks deliveries : List Block) (answers : List Answer) (conte
 content_is blocks deliveries answers content total count of c = same_lists content blocks (c.count ∙ count) (λ n b at.
     let f = c.filed n b at in let own : slice_get blocks b.number ≡ Some b = all_at (λ (x : Block). slice_get blocks x.number ≡ Some x) deliveries f.0 b of f.1.1 in
     ap (λ (k : ℕ). slice_get blocks k) (sym (c.numbered n b at)) ∙ own)
-
-take_drop : (k : ℕ) (xs : List Block) → take k xs ++ drop k xs ≡ xs
-take_drop zero [] = refl
-take_drop zero (x ∷ xs) = refl
-take_drop (suc k) [] = refl
-take_drop (suc k) (x ∷ xs) = ap (λ l. x ∷ l) (take_drop k xs)
-
--- the first of blocks that join, join
-pub first_join : (k : ℕ) (xs : List Block) → BlocksJoin xs → BlocksJoin (take k xs)
-first_join k xs j = record { follow = λ before after a b is. j.follow before (after ++ drop k xs) a b (sym (take_drop k xs) ∙ (ap (λ (l : List Block). l ++ drop k xs) is ∙ append_assoc before (a ∷ b ∷ after) (drop k xs))) }
-
-pub not_torn : (bs : List Block) (n : ℕ) → BlocksJoin bs → IsLeastTorn bs n → ⊥
-not_torn bs n j t = t.torn (first_join (n + 1) bs j)
 
 pub cut_joins : (t : Trace) (size : ℕ) → malformed_step t ≡ None → BlocksJoin (blocks_of size t)
 cut_joins t size sound = parts_join t size sound 0 0 0 (block_count size t) refl
@@ -84,10 +63,6 @@ report_verdict blocks deliveries total (Ok r) t count of joined recorded verdict
     verdict ∙ ap (λ (x : Trace). verdict_by rules_in_force x) same
 report_verdict blocks deliveries total (Err f) t count of joined recorded verdict = tt
 
-out_of_range : (n most : ℕ) → 0 < n → n ≤ most → (n ≡ 0) ⊎ (most < n) → ⊥
-out_of_range n most positive few (inl none) = omega arith
-out_of_range n most positive few (inr many) = omega arith
-
 too_long : (blocks deliveries total : ℕ) → total ≡ blocks → total ≤ 4096 → deliveries ≤ 2 * blocks → 65536 < deliveries → ⊥
 too_long blocks deliveries total is few short many = omega arith
 
@@ -99,7 +74,7 @@ may_come blocks ds total w fault.BadDraws is positive few some most join d r = t
 may_come blocks ds total w fault.BadWorkers is positive few some most join d r = out_of_range w 64 some most r.3
 may_come blocks ds total w fault.Memory is positive few some most join d r = tt
 may_come blocks ds total w fault.NoWorker is positive few some most join d r = tt
-may_come blocks ds total w fault.Stray is positive few some most join d r = tt
+may_come blocks ds total w fault.Stray is positive few some most join d r = r
 may_come blocks ds total w (fault.Missing n answers) is positive few some most join d r = tt
 may_come blocks ds total w (fault.Torn n answers) is positive few some most join d r =
     let torn = r.1 in not_torn torn.blocks n (subst BlocksJoin (sym (content_is blocks ds answers torn.blocks total is d.of torn.content)) join) torn.torn
@@ -116,15 +91,15 @@ outcome_alone ds total w outcome (Ok v) refusals alone = tt
 outcome_alone ds total w outcome (Err unjudged) refusals alone = λ is. (subst (λ (o : Result Report RunFault). IfErr o (λ f. IsFault total ds w f)) (alone is) refusals).1
 
 -- what is left of the faults
-pub none_left : (f : RunFault) → MayCome f → (f ≡ fault.NoWorker → ⊥) → (f ≡ fault.Stray → ⊥) → (f ≡ fault.Memory → ⊥) → ((n : ℕ) (answers : List Answer) → f ≡ fault.Missing n answers → ⊥) → ⊥
-none_left fault.BadTotal may worker stray memory missing = may
-none_left fault.BadDraws may worker stray memory missing = may
-none_left fault.BadWorkers may worker stray memory missing = may
-none_left fault.Memory may worker stray memory missing = memory refl
-none_left fault.NoWorker may worker stray memory missing = worker refl
-none_left fault.Stray may worker stray memory missing = stray refl
-none_left (fault.Missing n answers) may worker stray memory missing = missing n answers refl
-none_left (fault.Torn n answers) may worker stray memory missing = may
+pub none_left : (f : RunFault) → MayCome f → (f ≡ fault.NoWorker → ⊥) → (f ≡ fault.Memory → ⊥) → ((n : ℕ) (answers : List Answer) → f ≡ fault.Missing n answers → ⊥) → ⊥
+none_left fault.BadTotal may worker memory missing = may
+none_left fault.BadDraws may worker memory missing = may
+none_left fault.BadWorkers may worker memory missing = may
+none_left fault.Memory may worker memory missing = memory refl
+none_left fault.NoWorker may worker memory missing = worker refl
+none_left fault.Stray may worker memory missing = may
+none_left (fault.Missing n answers) may worker memory missing = missing n answers refl
+none_left (fault.Torn n answers) may worker memory missing = may
 
 pub few_of : (n : ℕ) → (4096 < n → ⊥) → n ≤ 4096
 few_of n h = grind arith

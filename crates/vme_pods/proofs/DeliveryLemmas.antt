@@ -1,8 +1,8 @@
 -- Deliveries in another order, and with more of them.
-use Rattle.std.proofs.Common.{◌≡◌, ℕ, ◌+◌, ◌*◌, ◌<◌, ◌≤◌, List, [], ◌∷◌, ◌++◌, length, take, drop, sym, refl, ap, subst, ◌∙◌, arith}
+use Rattle.std.proofs.Common.{◌≡◌, ℕ, ◌*◌, ◌≤◌, List, [], ◌++◌, length, take, drop, sym, ap, subst, arith}
 use Rattle.std.proofs.Math.ListN.{drop_of_length-le}
 use Rattle.std.proofs.Math.Seq.{take-append_seam}
-use Rattle.std.specs.Prelude.{All, Contains, IsPermutation, Some, slice_get}
+use Rattle.std.specs.Prelude.{IsPermutation, Some, slice_get}
 use Rattle.std.proofs.lemmas.List.Elements.{All-contains_itself, Contains-append_left}
 use Rattle.std.proofs.lemmas.List.Sorted.{All-permutation, Contains-permutation, length_permutation}
 use Rattle.vme_trace.specs.declared.block.Block.{Block}

@@ -2,7 +2,7 @@
 use Rattle.std.proofs.Common.{◌≡◌, ◌≤◌, ◌<◌, ◌↔◌, ℕ, suc, List, Bool, true, false, Result, Ok, Err, refl, sym, subst, arith}
 use Rattle.std.specs.Prelude.{nat_lt, if◌then◌else◌, Option, Some}
 use Rattle.std.proofs.lemmas.Bool.Decides.{nat_tests}
-use Rattle.vme_answer.specs.Answers.{Gives, answer_by, answer_of, judgement_of, verdict_in_blocks}
+use Rattle.vme_answer.specs.Answers.{answer_by, answer_of, judgement_of, verdict_in_blocks}
 use Rattle.vme_answer.specs.Ends.{Tells}
 use Rattle.vme_answer.specs.declared.refusal.Refusal.{Refusal}
 use Rattle.vme_answer.specs.declared.refusal.Refusal.TheVariants as refused
@@ -31,7 +31,7 @@ pub passed : (unjudged : Unjudged) (there : Result Verdict Refusal) → IsPassin
 passed (Refused refused.Memory) there is = tt
 passed (Refused refusal) there is = absurd is
 passed NoWorker there is = tt
-passed Stray there is = tt
+passed Stray there is = absurd is
 
 judged_by : (test : Bool) (v : Verdict) → test ≡ false → (if test then Err refused.TooManyBlocks else Ok v) ≡ Ok v
 judged_by true v e = cc
@@ -72,7 +72,7 @@ told_as_checked : (there : Result Verdict Refusal) (found : Result Verdict Unjud
 told_as_checked there (Ok v) finds other = given_is answer_by refl (Ok v) there finds other
 told_as_checked there (Err (Refused r)) finds other = given_is answer_by refl (Err r) there finds other
 told_as_checked there (Err NoWorker) finds other = absurd (other refl)
-told_as_checked there (Err Stray) finds other = absurd (other refl)
+told_as_checked there (Err Stray) finds other = absurd finds
 
 abbrev MayFind : ℕ → ℕ → Option (List ℕ) → Option (List ℕ) → Result Verdict Unjudged → Type 0
 MayFind block workers b d found = Finds found (judgement_of b d block) × NeedsThreads workers found

@@ -1,5 +1,5 @@
 -- Deliveries of the blocks of a recording.
-use Rattle.std.specs.Prelude.{◌≡◌, ◌*◌, ◌≤◌, ℕ, List, All, Contains, Some, length, slice_get}
+use Rattle.std.specs.Prelude.{◌≡◌, ◌*◌, ◌≤◌, List, All, Contains, Some, length, slice_get}
 use Rattle.vme_trace.specs.declared.block.Block.{Block}
 
 -- each delivery is the block of its number

@@ -10,13 +10,13 @@ use Rattle.vme_pods.specs.declared.unjudged.Unjudged.TheVariants.{Refused, NoWor
 use Rattle.vme_trace.specs.Streams.{Reading, Writing}
 use Rattle.vme_trace.specs.declared.verdict.Verdict.{Verdict}
 
--- what workers find is what there is to tell, unless there was no memory, a thread couldn't be started, or a block was
--- stray
+-- what workers find is what there is to tell, unless there was no memory, or a thread couldn't be started; no block is
+-- ever stray
 abbrev pub Finds : Result Verdict Unjudged → Result Verdict Refusal → Type 0
 Finds (Ok verdict) there = there ≡ Ok verdict
 Finds (Err (Refused refusal)) there = Gives (λ (v : Verdict). v) (Err refusal) there
 Finds (Err NoWorker) there = Unit {0}
-Finds (Err Stray) there = Unit {0}
+Finds (Err Stray) there = ⊥
 
 -- one worker needs no thread
 abbrev pub NeedsThreads : ℕ → Result Verdict Unjudged → Type 0
@@ -27,7 +27,7 @@ abbrev pub IsPassing : Unjudged → Type 0
 IsPassing (Refused Memory) = Unit {0}
 IsPassing (Refused refusal) = ⊥
 IsPassing NoWorker = Unit {0}
-IsPassing Stray = Unit {0}
+IsPassing Stray = ⊥
 
 -- ---- the answer
 

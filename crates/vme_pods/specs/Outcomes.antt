@@ -9,6 +9,6 @@ MayCome fault.BadDraws = ⊥
 MayCome fault.BadWorkers = ⊥
 MayCome fault.Memory = Unit {0}
 MayCome fault.NoWorker = Unit {0}
-MayCome fault.Stray = Unit {0}
+MayCome fault.Stray = ⊥
 MayCome (fault.Missing n answers) = Unit {0}
 MayCome (fault.Torn n answers) = ⊥

@@ -17,7 +17,7 @@ use vme_trace::{Sink, Source, Verdict};
 
 /// Judges the recording that a binding makes of a dump by workers, and writes its verdict to `out`, or why there is
 /// none to `err`. The line and the exit status are those of a check, for every order, every repetition and every number
-/// of workers; the status is 4 where there is no memory, a thread can't be started, or a block is stray.
+/// of workers; the status is 4 where there is no memory or a thread can't be started.
 ///
 /// The binding is read, and then the dump. A failure of `err` is ignored.
 pub fn check_by_pods<R: Threads + Wait + Sync, B: Source, D: Source, O: Sink, E: Sink>(

@@ -32,8 +32,8 @@ pub struct Plan {
 }
 
 /// The verdict on a recording that is cut into blocks, which workers deliver in the order that the plan says. Whatever
-/// the order, the repetition and the number of workers, the answer is the same one, unless memory is short, a thread
-/// can't be started, or a block is stray.
+/// the order, the repetition and the number of workers, the answer is the same one, unless memory is short or a thread
+/// can't be started.
 pub fn verdict_by_pods<R: Threads + Wait + Sync>(
     rt: &R,
     alloc: Global,
@@ -100,7 +100,6 @@ fn unjudged_by(fault: RunFault) -> Unjudged
 {
     match fault {
         RunFault::NoWorker => Unjudged::NoWorker,
-        RunFault::Stray => Unjudged::Stray,
         RunFault::Memory => Unjudged::Refused(Refusal::Memory),
         // All deliveries of a number were answered with want of memory.
         RunFault::Missing { .. } => Unjudged::Refused(Refusal::Memory),

@@ -14,7 +14,7 @@ pub enum Unjudged {
     Refused(Refusal),
     /// A thread couldn't be started.
     NoWorker,
-    /// The benches of the workers don't account for what the board holds.
+    /// The benches of the workers don't account for what the board holds. This never comes.
     Stray,
 }
 

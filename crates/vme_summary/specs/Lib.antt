@@ -4,6 +4,7 @@ pub mod Runs
 pub mod Summaries
 pub mod HasRoom
 pub mod Stands
+pub mod Splitting
 pub mod AllShown
 pub mod Leading
 pub mod MarkedRows

@@ -5,6 +5,7 @@ ghost use Rattle.vme_trace.specs.Blocks.{joined_steps};
 ghost use Rattle.vme_trace.specs.declared.block.Block.{Block};
 ghost use Rattle.vme_listing.specs.Places.{is_well_placed};
 ghost use Rattle.vme_summary.specs.Joins.{MakeSoundRecording, first_block_number, last_block_number};
+ghost use Rattle.vme_summary.specs.Splitting.{SplitsItsRecording};
 ghost use Rattle.vme_summary.specs.Stands.{IsListingOf, IsVerdictOf, SaysTorn, SpanStandsFor, StandsForBlocks};
 ghost use Rattle.vme_summary.specs.Stands.{StandsForBoth, first_number, step_count};
 
@@ -73,6 +74,9 @@ impl Span {
     pub fn listing(&self, alloc: Global) -> Result<Listing, AllocError>
         requires { first_number self.now ≡ 0 }
         ensures listing { IfOk result (IsListingOf self.now) }
+
+        // The judged edges of that recording split into exactly what it tells.
+        ensures split { IfOk result (SplitsItsRecording self.now) }
         ensures placed { IfOk result (λ rows. StandsForBlocks self.now → is_well_placed rows ≡ true) }
     {
         let opening = &self.extent.opening;

@@ -1,4 +1,4 @@
-use Rattle.std.proofs.Common.{◌≡◌, ℕ, ◌+◌, ◌<◌, ◌≤◌, refl, [], ◌∷◌, length, length-append, slice_get, get_or, Some, None, Option, ◌∙◌, sym, ap, arith}
+use Rattle.std.proofs.Common.{◌≡◌, ℕ, refl, [], ◌∷◌, length, length-append, slice_get, Some, None, Option, ◌∙◌, sym, ap, arith}
 use Rattle.std.proofs.lemmas.Option.{slice_get_read}
 use Rattle.vme_floor.specs.declared.answer.Answer.{Answer}
 use Rattle.vme_floor.proofs.Replying.{undrawn, pushes}

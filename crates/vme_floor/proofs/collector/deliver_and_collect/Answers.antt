@@ -1,4 +1,4 @@
-use Rattle.std.proofs.Common.{◌≡◌, ℕ, ◌<◌, List, Option, Some, subst, ap, length, slice_get, slice_index_or}
+use Rattle.std.proofs.Common.{◌≡◌, ℕ, List, ◌∙◌, subst, ap, slice_index_or}
 use Rattle.std.proofs.lemmas.Option.{slice_get-get_or}
 use Rattle.vme_trace.specs.declared.block.Block.{Block}
 use Rattle.vme_core.specs.declared.view.View.{View}
@@ -18,7 +18,8 @@ draws-preserved g c =
     let b : Block = slice_index_or ds reply.delivery c.index-deliveries-reply.result in
     let n_is : number_at ds reply.delivery ≡ b.number = ap number_in (slice_get-get_or ds reply.delivery c.index-deliveries-reply.result next.within) in
     record {
-      work = record { of = after.board; draws = done.draws; did = works_same total ds v w c.deliver_next.new.work.replies.items after.rest.list after.rest.draws done.did };
+      work = record { of = after.board; draws = done.draws; did = works_same total ds v w c.deliver_next.new.work.replies.items after.rest.list after.rest.draws after.rest.sees done.did };
       collected = after.collected;
       own = own_next board ds u v w reply b.number next after.rest n_is after.gone c.draws.invariant.own;
+      share = after.rest.share ∙ (c.in_ok-reply.ensures.share ∙ c.draws.invariant.share);
     }

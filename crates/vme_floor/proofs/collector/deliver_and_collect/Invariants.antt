@@ -1,3 +1,4 @@
+use Rattle.std.proofs.Common.{◌≡◌}
 use Rattle.vme_board.specs.Benches.{draws_of, total_of, view_of}
 use Rattle.vme_floor.specs.Collecting.{HasTakenOwn, IsCollected}
 use Rattle.vme_floor.specs.Works.{IsWorkOf, left}
@@ -8,6 +9,7 @@ invariant-draws g l = record {
   work : IsWorkOf l.board l.deliveries l.work;
   collected : IsCollected (total_of l.board) (view_of l.work.bench) l.collection;
   own : HasTakenOwn (view_of l.work.bench);
+  share : (view_of l.work.bench).share ≡ (view_of l.fn.bench).share;
 }
 
 abbrev pub decreases-draws : goal.decreases-draws

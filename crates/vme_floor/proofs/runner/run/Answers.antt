@@ -1,26 +1,33 @@
-use Rattle.std.proofs.Common.{rules, ◌≡◌, ℕ, ◌≤◌, List, Result, Ok, Err, IfOk, sym, subst, ap}
+-- What follows from the claims.
+use Rattle.std.proofs.Common.{◌≡◌, ◌≢◌, ℕ, List, Result, Ok, Err, sym, subst}
+use Rattle.std.specs.Prelude.{IfErr, IfOk}
+use Rattle.vme_trace.specs.Verdict.{rules_in_force, verdict_by}
 use Rattle.vme_trace.specs.declared.block.Block.{Block}
-use Rattle.vme_core.specs.declared.view.View.{View}
-use Rattle.vme_board.specs.Benches.{view_of}
-use Rattle.vme_floor.specs.Claims.{IsEarly}
-use Rattle.vme_floor.specs.Collecting.{HasTakenOwn, IsCollected}
-use Rattle.vme_floor.specs.Settling.{IsAccount, IsOwnEarly}
+use Rattle.vme_listing.specs.Recorded.{recorded_rows}
+use Rattle.vme_split.specs.Split.{Splits}
+use Rattle.vme_split.proofs.Listings.{listing_splits}
+use Rattle.vme_floor.specs.Claims.{IsFault}
 use Rattle.vme_floor.specs.declared.report.Report.{Report}
 use Rattle.vme_floor.specs.declared.report.RunFault.{RunFault}
+use Rattle.vme_floor.specs.declared.report.RunFault.TheVariants.{Stray}
+use Rattle.vme_floor.proofs.Cutting.{outcome_of}
 use Rattle.vme_floor.proofs.runner.run.Goals as goal
 
-both_early : (total workers : ℕ) (P : ℕ → Type 0) (r : Result Report RunFault) → IfOk r (λ x. x.early ≤ total) → IfOk r (λ x. P x.early) → ((early : ℕ) → P early → workers ≡ 1 → early ≡ total)
-    → IfOk r (λ x. IsEarly total workers x.early)
-both_early total workers P (Ok x) within own alone = record { within = within; alone = alone x.early own }
-both_early total workers P (Err fault) within own alone = tt
+split_of : (r : Result Report RunFault) → IfOk r (λ x. x.verdict ≡ verdict_by rules_in_force x.capture) → IfOk r (λ x. Splits x.capture x.verdict (recorded_rows x.capture))
+split_of (Ok x) is = subst (λ v. Splits x.capture v (recorded_rows x.capture)) (sym is) (listing_splits x.capture)
+split_of (Err fault) is = tt
 
-pub work_together-requires-clause-collected : goal.work_together-requires-clause-collected
-work_together-requires-clause-collected g c κs within =
-    subst (λ (t : ℕ). IsCollected t (view_of c.in-Ok.bench) c.in-Ok-new.collection) (sym c.in-Ok.ensures.total) (c.in-Ok-new.ensures (view_of c.in-Ok.bench) (ap (λ (v : View). v.takes) c.in-Ok.ensures.empty))
+pub returns-clause-split : goal.returns-clause-split
+returns-clause-split g c = split_of c.run_deliveries.result c.run_deliveries.ensures.verdict
 
-pub returns-in-Ok-close-clause-early : goal.returns-in-Ok-close-clause-early
-returns-in-Ok-close-clause-early g c =
-    let all = c.in-Ok-work_together.all in let v : View = view_of all.work.bench in
-    let account : IsAccount c.args.total c.args.deliveries.now v all.work.replies.items all.collection c.in-Ok-close.closed = search rules in
-    both_early c.args.total c.args.workers (IsOwnEarly c.args.total c.args.deliveries.now all.work.replies.items all.collection c.in-Ok-close.closed) c.settle.result c.settle.ensures.within c.settle.ensures.own
-    (λ early own one. own v account (c.in-Ok-work_together.ensures.own one))
+not_stray : (total : ℕ) (deliveries : List Block) (workers : ℕ) (r : Result Report RunFault) → IfErr r (λ f. IsFault total deliveries workers f) → IfErr r (λ f. f ≢ Stray)
+not_stray total deliveries workers (Ok x) is = tt
+not_stray total deliveries workers (Err f) is = λ stray. subst (λ (f : RunFault). IsFault total deliveries workers f) stray is
+
+pub returns-clause-accounted : goal.returns-clause-accounted
+returns-clause-accounted g c = not_stray c.args.total c.args.deliveries.now c.args.workers c.run_deliveries.result c.run_deliveries.ensures.refusals
+
+pub returns-clause-cut : goal.returns-clause-cut
+returns-clause-cut g c t blocks cut are range =
+    let done = c.run_deliveries.ensures in
+    outcome_of t c.args.total c.args.workers blocks c.args.deliveries.now cut are range c.run_deliveries.result done.answers done.recorded done.verdict done.refusals

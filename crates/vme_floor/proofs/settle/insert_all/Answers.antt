@@ -1,5 +1,5 @@
-use Rattle.std.proofs.Common.{rules, ◌≡◌, ℕ, ◌+◌, ◌<◌, List, Option, Some, None, ◌∙◌, sym, subst, ap, arith, length}
-use Rattle.std.specs.Vec.Iter.{into_iter_items, into_iter_len}
+use Rattle.std.proofs.Common.{rules, ◌≡◌, ℕ, ◌+◌, ◌<◌, List, Option, None, subst, ap, arith, length}
+use Rattle.std.specs.Vec.Iter.{into_iter_items}
 use Rattle.vme_trace.specs.declared.block.Block.{Block}
 use Rattle.vme_floor.proofs.Collecting.{place_of}
 use Rattle.vme_floor.proofs.Uniting.{IsPart, at_i, never_refused, part_first, part_next, part_skip}

@@ -1,45 +1,20 @@
-use Rattle.std.proofs.Common.{◌≡◌, ℕ, ◌<◌, List, Option, length, map, slice_get, Some, ◌∙◌, sym, ap, subst, arith}
+use Rattle.std.proofs.Common.{◌≡◌, ℕ, List, Option, sym, subst, arith}
 use Rattle.vme_trace.specs.declared.block.Block.{Block}
 use Rattle.vme_core.specs.Counting.{occurrences}
 use Rattle.vme_core.specs.declared.view.View.{View}
 use Rattle.vme_book.specs.Inserted as Inserted
 use Rattle.vme_book.specs.Inserted.{RefusesClose}
-use Rattle.vme_book.specs.declared.book.CloseFault.{CloseFault}
-use Rattle.vme_floor.specs.Settling.{undrawn, unfiled, AreReplies, DoubledAreFiled, HasUnfiled, IsClosed}
+use Rattle.vme_floor.specs.Settling.{AreReplies, IsClosed}
 use Rattle.vme_floor.specs.Works.{replied}
 use Rattle.vme_floor.specs.declared.answer.Answer.{Answer}
-use Rattle.vme_floor.specs.declared.answer.Answer.TheVariants.{Doubled}
 use Rattle.vme_floor.specs.declared.answer.Reply.{Reply}
 use Rattle.vme_floor.proofs.Collecting.{count_limit}
 use Rattle.vme_floor.proofs.Ordering.{all_there}
-use Rattle.vme_floor.proofs.Settling.{all_early, answered, apart, closed_all, doubled_within, filed_below, first_torn, least_missing, none_told, recorded}
+use Rattle.vme_floor.proofs.Settling.{all_early, answered, apart, closed_all, first_torn, least_missing, recorded}
 use Rattle.vme_floor.proofs.settle.settle.Goals as goal
 
 are_all : (lent replies : List Reply) (answers : List Answer) → lent ≡ replies → AreReplies lent answers → AreReplies replies answers
 are_all lent replies answers is are = subst (λ (rs : List Reply). AreReplies rs answers) is are
-
-pub returns-in-Err-Undrawn-clause-stray : goal.returns-in-Err-Undrawn-clause-stray
-returns-in-Err-Undrawn-clause-stray c is =
-    let d = c.in-Err-Undrawn.ensures.undrawn c.in-Err-Undrawn.field-0-is in
-    undrawn d.0 d.1 (subst (λ (rs : List Reply). occurrences d.0 (replied rs) ≡ 0) c.as_slice.ensures.value d.2)
-
-pub filed_numbers-requires-clause-below : goal.filed_numbers-requires-clause-below
-filed_numbers-requires-clause-below c d b at there =
-    let are = are_all c.as_slice.result.now c.args.replies.items c.in-Ok.answers c.as_slice.ensures.value c.in-Ok.ensures.replies in
-    filed_below c.args.total c.args.deliveries.now c.requires.account.0 c.args.replies.items c.in-Ok.answers c.requires.account.1.work are c.in-Ok.ensures.count d b (ap (λ (xs : List Answer). slice_get xs d) (sym c.as_slice-2.ensures) ∙ at) there
-
-pub has_unfiled-requires-clause-below : goal.has_unfiled-requires-clause-below
-has_unfiled-requires-clause-below c d b at there =
-    let are = are_all c.as_slice.result.now c.args.replies.items c.in-Ok.answers c.as_slice.ensures.value c.in-Ok.ensures.replies in
-    let low = doubled_within c.args.total c.args.deliveries.now c.requires.account.0 c.args.replies.items c.in-Ok.answers c.requires.account.1.work are c.in-Ok.ensures.count d b (ap (λ (xs : List Answer). slice_get xs d) (sym c.as_slice-3.ensures) ∙ at) there in
-    let lent = ap length c.as_slice-4.ensures.value in let long = c.in-Ok-filed_numbers.ensures.long in omega (arith, low, lent, long)
-
-pub returns-then-has_unfiled-clause-stray : goal.returns-then-has_unfiled-clause-stray
-returns-then-has_unfiled-clause-stray c is =
-    let are = are_all c.as_slice.result.now c.args.replies.items c.in-Ok.answers c.as_slice.ensures.value c.in-Ok.ensures.replies in
-    let some : HasUnfiled c.args.deliveries.now c.in-Ok.answers = subst (λ (xs : List Answer). HasUnfiled c.args.deliveries.now xs) c.as_slice-3.ensures c.if-has_unfiled.ensures.some in
-    let d : ℕ = some.0 in let b : Block = some.1 in let k = are d Doubled some.2 in
-    unfiled k.0 d b k.1 some.3 (none_told c.args.total c.args.deliveries.now c.requires.account.0 c.args.replies.items c.in-Ok.answers c.requires.account.1.work are c.in-Ok.ensures.count b.number some.4)
 
 pub insert_all-requires-clause-apart : goal.insert_all-requires-clause-apart
 insert_all-requires-clause-apart c n b d at left = apart c.args.total c.args.deliveries.now c.requires.account.0 c.args.replies.items c.args.collection c.args.closed c.requires.account.1 n b d at left
@@ -48,27 +23,24 @@ insert_all-requires-clause-apart c n b d at left = apart c.args.total c.args.del
 pub returns-in-Ok-close-clause-answers : goal.returns-in-Ok-close-clause-answers
 returns-in-Ok-close-clause-answers c =
     let are = are_all c.as_slice.result.now c.args.replies.items c.in-Ok.answers c.as_slice.ensures.value c.in-Ok.ensures.replies in
-    answered c.args.total c.args.deliveries.now c.requires.account.0 c.args.replies.items c.in-Ok.answers c.requires.account.1.work are c.in-Ok.ensures.count
-    (subst (λ (xs : List Answer). DoubledAreFiled c.args.deliveries.now xs (length c.args.deliveries.now)) c.as_slice-3.ensures c.if-has_unfiled.ensures.none)
+    answered c.args.total c.args.deliveries.now c.requires.account.0 c.args.replies.items c.in-Ok.answers c.requires.account.1.work are c.in-Ok.ensures.count c.requires.account.1.did
 
 pub returns-in-Err-default-Missing-clause-answers : goal.returns-in-Err-default-Missing-clause-answers
 returns-in-Err-default-Missing-clause-answers c =
     let are = are_all c.as_slice.result.now c.args.replies.items c.in-Ok.answers c.as_slice.ensures.value c.in-Ok.ensures.replies in
-    answered c.args.total c.args.deliveries.now c.requires.account.0 c.args.replies.items c.in-Ok.answers c.requires.account.1.work are c.in-Ok.ensures.count
-    (subst (λ (xs : List Answer). DoubledAreFiled c.args.deliveries.now xs (length c.args.deliveries.now)) c.as_slice-3.ensures c.if-has_unfiled.ensures.none)
+    answered c.args.total c.args.deliveries.now c.requires.account.0 c.args.replies.items c.in-Ok.answers c.requires.account.1.work are c.in-Ok.ensures.count c.requires.account.1.did
 
 pub returns-in-Err-default-Torn-clause-answers : goal.returns-in-Err-default-Torn-clause-answers
 returns-in-Err-default-Torn-clause-answers c =
     let are = are_all c.as_slice.result.now c.args.replies.items c.in-Ok.answers c.as_slice.ensures.value c.in-Ok.ensures.replies in
-    answered c.args.total c.args.deliveries.now c.requires.account.0 c.args.replies.items c.in-Ok.answers c.requires.account.1.work are c.in-Ok.ensures.count
-    (subst (λ (xs : List Answer). DoubledAreFiled c.args.deliveries.now xs (length c.args.deliveries.now)) c.as_slice-3.ensures c.if-has_unfiled.ensures.none)
+    answered c.args.total c.args.deliveries.now c.requires.account.0 c.args.replies.items c.in-Ok.answers c.requires.account.1.work are c.in-Ok.ensures.count c.requires.account.1.did
 
 -- the second
 pub returns-in-Ok-close-clause-recorded : goal.returns-in-Ok-close-clause-recorded
 returns-in-Ok-close-clause-recorded c =
     let are = are_all c.as_slice.result.now c.args.replies.items c.in-Ok.answers c.as_slice.ensures.value c.in-Ok.ensures.replies in let v : View = c.requires.account.0 in let k = c.requires.account.1 in
     let all : List (Option Block) = c.in-Ok-insert_all.book in let whole = c.in-Ok-close.ensures.whole in
-    let closed : IsClosed c.args.total v all = closed_all c.args.total c.args.deliveries.now v c.args.replies.items c.args.collection c.args.closed k c.if-closed-ne0.false c.if-closed-ne0-2.false all c.in-Ok-insert_all.ensures in
+    let closed : IsClosed c.args.total v all = closed_all c.args.total c.args.deliveries.now v c.args.replies.items c.args.collection c.args.closed k k.no_others k.no_taken all c.in-Ok-insert_all.ensures in
     recorded c.args.total c.args.deliveries.now v c.args.replies.items c.in-Ok.answers k.work are c.in-Ok.ensures.count all closed c.in-Ok-close.whole whole.0 whole.1
 
 -- what was taken early
@@ -80,7 +52,7 @@ pub returns-in-Ok-close-clause-own : goal.returns-in-Ok-close-clause-own
 returns-in-Ok-close-clause-own c v k own =
     let all : List (Option Block) = c.in-Ok-insert_all.book in let whole = c.in-Ok-close.ensures.whole in
     let union = c.in-Ok-insert_all.ensures in let long = union.long in let held = k.collected.long in
-    all_early c.args.total c.args.deliveries.now v c.args.replies.items c.args.collection c.args.closed k c.if-closed-ne0.false c.if-closed-ne0-2.false all union own
+    all_early c.args.total c.args.deliveries.now v c.args.replies.items c.args.collection c.args.closed k k.no_others k.no_taken all union own
     (λ n low. all_there whole.0 all (sym whole.1.all) n (omega (arith, low, long, held)))
 
 -- the third
@@ -88,7 +60,7 @@ pub returns-in-Err-default-Missing-clause-refusals : goal.returns-in-Err-default
 returns-in-Err-default-Missing-clause-refusals c =
     let are = are_all c.as_slice.result.now c.args.replies.items c.in-Ok.answers c.as_slice.ensures.value c.in-Ok.ensures.replies in let v : View = c.requires.account.0 in let k = c.requires.account.1 in
     let all : List (Option Block) = c.in-Ok-insert_all.book in
-    let closed : IsClosed c.args.total v all = closed_all c.args.total c.args.deliveries.now v c.args.replies.items c.args.collection c.args.closed k c.if-closed-ne0.false c.if-closed-ne0-2.false all c.in-Ok-insert_all.ensures in
+    let closed : IsClosed c.args.total v all = closed_all c.args.total c.args.deliveries.now v c.args.replies.items c.args.collection c.args.closed k k.no_others k.no_taken all c.in-Ok-insert_all.ensures in
     let why : Inserted.IsLeastMissing all c.in-Err-default-Missing.number = subst (RefusesClose all) c.in-Err-default-Missing.field-0-1-is c.in-Err-default-Missing.ensures.why in
     least_missing c.args.total c.args.deliveries.now v c.args.replies.items c.in-Ok.answers k.work are c.in-Ok.ensures.count all closed c.in-Err-default-Missing.number why
 
@@ -96,6 +68,13 @@ pub returns-in-Err-default-Torn-clause-refusals : goal.returns-in-Err-default-To
 returns-in-Err-default-Torn-clause-refusals c =
     let are = are_all c.as_slice.result.now c.args.replies.items c.in-Ok.answers c.as_slice.ensures.value c.in-Ok.ensures.replies in let v : View = c.requires.account.0 in let k = c.requires.account.1 in
     let all : List (Option Block) = c.in-Ok-insert_all.book in
-    let closed : IsClosed c.args.total v all = closed_all c.args.total c.args.deliveries.now v c.args.replies.items c.args.collection c.args.closed k c.if-closed-ne0.false c.if-closed-ne0-2.false all c.in-Ok-insert_all.ensures in
+    let closed : IsClosed c.args.total v all = closed_all c.args.total c.args.deliveries.now v c.args.replies.items c.args.collection c.args.closed k k.no_others k.no_taken all c.in-Ok-insert_all.ensures in
     let why : (bs : List Block) × Inserted.IsLeastTorn all c.in-Err-default-Torn.number bs = subst (RefusesClose all) c.in-Err-default-Torn.field-0-1-is c.in-Err-default-Torn.ensures.why in
     first_torn c.args.total c.args.deliveries.now v c.args.replies.items c.in-Ok.answers k.work are c.in-Ok.ensures.count all closed c.in-Err-default-Torn.number why.0 why.1
+
+-- the benches account for the board: each delivery was drawn by one of them
+pub unreachable-requires : goal.unreachable-requires
+unreachable-requires c =
+    let lacks = c.in-Err-Undrawn.ensures.undrawn c.in-Err-Undrawn.field-0-is in let d : ℕ = lacks.0 in let k = c.requires.account.1 in
+    let none : occurrences d (replied c.args.replies.items) ≡ 0 = subst (λ (rs : List Reply). occurrences d (replied rs) ≡ 0) c.as_slice.ensures.value lacks.2 in
+    let drew = k.work.drew d in let one = k.did.draws d (k.found d lacks.1) in omega (arith, none, drew, one)

@@ -1,4 +1,4 @@
-use Rattle.std.proofs.Common.{ℕ, List, Result, IfOk, sym, subst}
+use Rattle.std.proofs.Common.{ℕ, List, ◌≡◌, ◌++◌, ◌∙◌, length, Result, IfOk, sym, ap, subst}
 use Rattle.std.specs.declared.alloc.AllocError.{AllocError}
 use Rattle.vme_trace.specs.declared.block.Block.{Block}
 use Rattle.vme_core.specs.declared.view.View.{View}
@@ -9,11 +9,11 @@ use Rattle.vme_floor.specs.declared.collector.Collector.{Collector}
 use Rattle.vme_floor.specs.declared.worker.Work.{Work}
 use Rattle.vme_floor.specs.Works.{IsOtherWorkOf, IsWork}
 use Rattle.vme_floor.proofs.Collecting.{collected_both}
-use Rattle.vme_floor.proofs.Working.{works_both}
+use Rattle.vme_floor.proofs.Working.{works_both, found_both}
 use Rattle.vme_floor.proofs.threads.with_other.Goals as goal
 
-pub returns : goal.returns
-returns c =
+pub returns-clause-collected : goal.returns-clause-collected
+returns-clause-collected c =
     let board = c.args.board.now in let ds : List Block = c.args.deliveries.now in let total : ℕ = total_of board in
     let P : Result Collector AllocError → Type 0 = λ r. IfOk r (λ all. IsCollectedOf board ds all) in
     let Q : Result Work AllocError → Type 0 = λ r. IfOk r (λ w. IsOtherWorkOf board ds w) in
@@ -23,6 +23,7 @@ returns c =
     let fold = c.fold-bench.ensures in
     let v : View = view_of first.work.bench in let w : View = view_of other.bench in let u : View = view_of c.fold-bench.result in
     record {
+      found = found_both v w u (length ds) fold.joint a.found;
       work = record {
         of = fold.board;
         draws = a.work.draws;
@@ -31,3 +32,9 @@ returns c =
       };
       collected = collected_both total v w u first.collection fold.joint b.takes a.collected;
     }
+
+pub returns-clause-share : goal.returns-clause-share
+returns-clause-share c s t a b =
+    let x : (view_of c.in_ok-work.field-0.work.bench).share ≡ s = subst (λ (r : Result Collector AllocError). IfOk r (λ all. (view_of all.work.bench).share ≡ s)) c.in_ok-work.was a in
+    let y : (view_of c.in_ok-other_bench.field-0.bench).share ≡ t = subst (λ (r : Result Work AllocError). IfOk r (λ work. (view_of work.bench).share ≡ t)) c.in_ok-other_bench.was b in
+    ap (λ (u : View). u.share) c.fold-bench.ensures.joint ∙ (λ i. x i ++ y i)

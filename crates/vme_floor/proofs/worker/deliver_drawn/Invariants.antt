@@ -1,9 +1,13 @@
+use Rattle.std.proofs.Common.{◌≡◌}
 use Rattle.vme_board.specs.Benches.{draws_of, view_of}
 use Rattle.vme_floor.specs.Works.{IsOtherWorkOf, left}
 use Rattle.vme_floor.proofs.worker.deliver_drawn.Given as goal
 
 abbrev pub invariant-draws : goal.invariant-draws
-invariant-draws g l = IsOtherWorkOf l.board l.deliveries l.work
+invariant-draws g l = record {
+  other : IsOtherWorkOf l.board l.deliveries l.work;
+  share : (view_of l.work.bench).share ≡ (view_of l.fn.bench).share;
+}
 
 abbrev pub decreases-draws : goal.decreases-draws
 decreases-draws g l = left (draws_of l.board) (view_of l.work.bench).found

@@ -1,4 +1,4 @@
-use Rattle.std.proofs.Common.{◌≡◌, ℕ, ◌+◌, ◌<◌, ◌++◌, [], ◌∷◌, List, Some, None, ◌∙◌, sym, subst, ap, arith, length, slice_get}
+use Rattle.std.proofs.Common.{◌≡◌, ℕ, ◌<◌, ◌++◌, [], ◌∷◌, List, Some, ◌∙◌, sym, subst, ap, arith, length, slice_get}
 use Rattle.std.proofs.lemmas.Option.{slice_get-get_or}
 use Rattle.vme_trace.specs.declared.block.Block.{Block}
 use Rattle.vme_core.specs.Counting.{occurrences}
@@ -23,7 +23,8 @@ returns-clause-work g c =
       of = delivered.ensures.board;
       draws = was.draws;
       did = subst (λ (rs : List Reply). IsWork total ds (view_of delivered.new.bench) rs) (sym (c.push_reserved.ensures.items ∙ ap (λ (rs : List Reply). rs ++ reply_of d delivered.result ∷ []) c.reserve.ensures.items))
-          (works_on total ds (view_of c.args.work.now.bench) (view_of c.draw.new.self) (view_of delivered.new.bench) c.args.work.now.replies.items d b delivered.result was.did draw.fresh.0 draw.won draw.rest.list delivered.ensures.draws.draws delivered.ensures.suits delivered.ensures.lists near at);
+          (works_on total ds (view_of c.args.work.now.bench) (view_of c.draw.new.self) (view_of delivered.new.bench) c.args.work.now.replies.items d b delivered.result was.did draw.fresh.0 draw.won draw.rest.list delivered.ensures.draws.draws delivered.ensures.suits delivered.ensures.lists near at
+          (sees_on (view_of c.args.work.now.bench) (view_of c.draw.new.self) (view_of delivered.new.bench) draw.grows delivered.ensures.sees) delivered.ensures.doubled);
     }
 
 pub returns-clause-next : goal.returns-clause-next

@@ -1,4 +1,3 @@
-use Rattle.std.proofs.Common.{◌≤◌, ◌<◌, arith}
 use Rattle.vme_trace.specs.Blocks.{block_count}
 use Rattle.vme_pods.proofs.Contents.{cut_count, cut_joins, cut_numbered, cut_recording, few_of}
 use Rattle.vme_pods.proofs.Judging.{told_few}

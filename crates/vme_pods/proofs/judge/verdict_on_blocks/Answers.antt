@@ -1,4 +1,4 @@
-use Rattle.std.proofs.Common.{◌≡◌, ◌≤◌, ◌<◌, length, arith}
+use Rattle.std.proofs.Common.{arith}
 use Rattle.vme_trace.specs.Verdict.{verdict_by, rules_in_force}
 use Rattle.vme_pods.specs.Deliveries.{AreDeliveries}
 use Rattle.vme_pods.proofs.Contents.{outcome_alone, outcome_may_come, report_verdict}

@@ -12,5 +12,5 @@ fetch_or-found-requires c =
       c.loop-self.invariant.0,
       omega (arith, near, board.sized.0, is),
       at_word DrawTells board.table.shared.key board.table.shared.table_id.slots bench.seat.id bench.seat.me c.word_of.result (4 * (bench.next / 64) + 3) c.mask_of.result (mask_of bench.next) is c.mask_of.ensures
-          (draws_allowed board.table.shared.key board.table.shared.table_id.slots bench.seat.id bench.seat.me bench.next near),
+          (draws_allowed board.table.shared.key board.table.shared.table_id.slots bench.seat.id bench.seat.me bench.shares bench.next near),
     )

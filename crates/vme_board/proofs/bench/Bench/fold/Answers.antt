@@ -24,6 +24,7 @@ invariant_of-result c =
     let a = c.args.self.seat.me.0 in let b = c.args.other.seat.me.0 in let once = c.load.ensures.2 in let last : c.load.new.seat.me ≡ (joint_view a b, c.args.self.seat.me.1) = once.0 ∙ c.join_seat.ensures.2 in
     let x = c.args.self.counted in let y = c.args.other.counted in record {
       no_slots = ap (λ (m : SeatState). m.1) last ∙ c.args.self.no_slots;
+      shares = let same : length c.load.new.seat.me.0.share ≡ length (a.share ++ b.share) = ap (λ (m : SeatState). length m.0.share) last in omega (arith, c.args.self.shares, same, length-append a.share b.share);
       not_pending = ap (λ (m : SeatState). m.0.pending) last ∙ (λ i. c.args.self.not_pending i ++ c.args.other.not_pending i);
       found = λ d l. subst (λ (m : SeatState). 0 < occurrences d m.0.found) (sym last) (elim c.if-next-other_next.branch [
         | then-next-other_next w ↦ let h = c.args.other.found d (omega (arith, l, w.next-is)) in omega (arith, h, occurrences-append d a.found b.found)

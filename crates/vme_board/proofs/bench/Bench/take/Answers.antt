@@ -15,7 +15,7 @@ fetch_or-taken-requires c =
       c.sees_filed.ensures.board,
       omega (arith, near, board.sized.0, is),
       at_word TakeTells width slots bench.seat.id bench.seat.me c.word_of.result (4 * (n / 64) + 2) c.mask_of.result (mask_of n) is c.mask_of.ensures
-          (takes_allowed width slots bench.seat.id bench.seat.me n (omega (arith, low, board.sized.1)) near c.if-not-sees_filed.ensures.yes),
+          (takes_allowed width slots bench.seat.id bench.seat.me bench.shares n (omega (arith, low, board.sized.1)) near c.if-not-sees_filed.ensures.yes),
     )
 
 pub exchange-judged-requires : goal.exchange-judged-requires

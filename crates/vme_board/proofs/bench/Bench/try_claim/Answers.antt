@@ -23,7 +23,7 @@ fetch_or-claimed-requires c =
       c.requires.bench,
       omega (arith, near, board.sized.0, is),
       at_word ClaimTells width slots bench.seat.id bench.seat.me c.word_of.result (4 * (n / 64) + 0) c.mask_of.result (mask_of n) is c.mask_of.ensures
-          (claims_allowed width slots bench.seat.id bench.seat.me n (omega (arith, low, board.sized.1)) near bench.not_pending),
+          (claims_allowed width slots bench.seat.id bench.seat.me bench.shares n (omega (arith, low, board.sized.1)) near bench.not_pending),
     )
 
 pub fetch_or-requires : goal.fetch_or-requires
@@ -60,6 +60,7 @@ invariant_of-self-2 c =
     let had = c.args.self.now.counted in let last = done.seat in record {
       no_slots = ap (λ (m : SeatState). m.1) last;
       not_pending = ap (λ (m : SeatState). m.0.pending) last;
+      shares = let same : length c.fetch_or.new.seat.me.0.share ≡ length c.args.self.now.seat.me.0.share = ap (λ (m : SeatState). length m.0.share) last in omega (arith, c.args.self.now.shares, same);
       found = λ d l. subst (λ (m : SeatState). 0 < occurrences d m.0.found) (sym last) (c.args.self.now.found d l);
       counted = (omega (arith, had.0, ap (λ (m : SeatState). length m.0.list) last), had.1 ∙ sym (ap (λ (m : SeatState). length m.0.takes) last));
       same_blocks = done.same_blocks;
@@ -100,7 +101,7 @@ returns-clause-draws c =
     let free = subst (λ (y : ℕ). bit_at c.fetch_or-claimed.result (y % 64) ≡ 0) own (bit_0 c.fetch_or-claimed.result (c.block.result.now.number % 64) c.bit.result c.bit.ensures c.if-bit-eq1.false) in
     let exchange : c.exchange.new.seat.me ≡ (c.fetch_or-claimed.new.seat.me.0, (c.args.judged.number, Some c.args.judged) ∷ rest c.fetch_or-claimed.new.seat.me.1) = subst (λ (y : ℕ). c.exchange.new.seat.me ≡ (c.fetch_or-claimed.new.seat.me.0, (y, Some c.args.judged) ∷ rest c.fetch_or-claimed.new.seat.me.1)) own c.exchange.ensures.3 in
     let done = after_file slots c.args.judged.number c.word_of.result c.mask_of.result c.word_of-2.result c.mask_of-2.result c.args.judged c.args.self.now.seat.me c.fetch_or-claimed.new.seat.me c.exchange.new.seat.me c.fetch_or.new.seat.me c.fetch_or-claimed.result c.fetch_or.result c.fetch_or-claimed.ensures.2 at_claim free c.args.self.now.no_slots exchange c.fetch_or.ensures.2 (at_equal slots 1 c.word_of-2.result c.mask_of-2.result c.block.result.now.number c.args.judged.number c.word_of-2.ensures c.mask_of-2.ensures own) in
-    record { draws = ap (λ (m : SeatState). m.0.draws) done.seat; found = ap (λ (m : SeatState). m.0.found) done.seat }
+    record { draws = ap (λ (m : SeatState). m.0.draws) done.seat; found = ap (λ (m : SeatState). m.0.found) done.seat; share = ap (λ (m : SeatState). m.0.share) done.seat }
 
 pub returns-clause-grows : goal.returns-clause-grows
 returns-clause-grows c =

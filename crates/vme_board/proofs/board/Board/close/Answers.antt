@@ -1,7 +1,7 @@
 use Rattle.std.proofs.Common.{◌∙◌, sym, arith}
 use Rattle.std.specs.Mem.Slots.{slots_items}
 use Rattle.vme_board.proofs.board.Board.close.Goals as goal
-use Rattle.vme_board.proofs.Endings.{close_numbered, close_listed, close_gone, close_kept, close_only, close_outside, listed_sum, taken_sum, places_sum, files_limit}
+use Rattle.vme_board.proofs.Endings.{close_numbered, close_listed, close_gone, close_kept, close_only, close_outside, listed_sum, taken_sum, places_sum, files_limit, whole_filed, whole_gone, whole_did}
 
 pub overflow_sub-result : goal.overflow_sub-result
 overflow_sub-result c = let had = c.args.bench.counted in let all_filed = c.emptied-contents.ensures.filed in let all_taken = c.emptied-contents.ensures.taken in let few = listed_sum c.args.self.table.shared.key c.args.bench.seat.id c.args.bench.seat.me.0 (slots_items c.close_with.result.words) (slots_items c.close_with.result.slots) c.emptied-contents.result.0.items c.args.self.total (sym c.close_with.result.slots.ok.0 ∙ (c.close_with.ensures.counts.1 ∙ c.args.self.sized.1)) c.close_with.ensures.values.2 c.emptied-contents.ensures.contents in omega (arith, few, had.0, all_filed)
@@ -38,3 +38,12 @@ returns-clause-saw_filed c = let had = c.args.bench.counted in let all_filed = c
 
 pub returns-clause-saw_taken : goal.returns-clause-saw_taken
 returns-clause-saw_taken c = let had = c.args.bench.counted in let all_filed = c.emptied-contents.ensures.filed in let all_taken = c.emptied-contents.ensures.taken in let few = taken_sum c.args.self.table.shared.key c.args.bench.seat.id c.args.bench.seat.me.0 (slots_items c.close_with.result.words) (slots_items c.close_with.result.slots) c.emptied-contents.result.0.items c.args.self.total (sym c.close_with.result.slots.ok.0 ∙ (c.close_with.ensures.counts.1 ∙ c.args.self.sized.1)) c.close_with.ensures.values.2 c.emptied-contents.ensures.contents in omega (arith, few, had.1, all_taken)
+
+pub returns-clause-no_others : goal.returns-clause-no_others
+returns-clause-no_others c whole = let had = c.args.bench.counted in let all_filed = c.emptied-contents.ensures.filed in let same = whole_filed c.args.self.table.shared.key c.args.bench.seat.id c.args.bench.seat.me.0 (slots_items c.close_with.result.words) (slots_items c.close_with.result.slots) c.emptied-contents.result.0.items c.args.self.total (sym c.close_with.result.slots.ok.0 ∙ (c.close_with.ensures.counts.1 ∙ c.args.self.sized.1)) c.close_with.ensures.values.2 c.emptied-contents.ensures.contents whole in omega (arith, same, had.0, all_filed)
+
+pub returns-clause-no_taken : goal.returns-clause-no_taken
+returns-clause-no_taken c whole = let had = c.args.bench.counted in let all_taken = c.emptied-contents.ensures.taken in let same = whole_gone c.args.self.table.shared.key c.args.bench.seat.id c.args.bench.seat.me.0 (slots_items c.close_with.result.words) (slots_items c.close_with.result.slots) c.emptied-contents.result.0.items c.args.self.total (sym c.close_with.result.slots.ok.0 ∙ (c.close_with.ensures.counts.1 ∙ c.args.self.sized.1)) c.close_with.ensures.values.2 c.emptied-contents.ensures.contents whole in omega (arith, same, had.1, all_taken)
+
+pub returns-clause-did_all : goal.returns-clause-did_all
+returns-clause-did_all c whole = whole_did c.args.self.table.shared.key c.args.bench.seat.id c.args.bench.seat.me.0 (slots_items c.close_with.result.words) (slots_items c.close_with.result.slots) c.emptied-contents.result.0.items c.args.self.total (sym c.close_with.result.slots.ok.0 ∙ (c.close_with.ensures.counts.1 ∙ c.args.self.sized.1)) c.close_with.ensures.values.2 c.emptied-contents.ensures.contents whole c.args.bench.not_pending

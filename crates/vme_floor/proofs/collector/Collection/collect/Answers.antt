@@ -1,4 +1,4 @@
-use Rattle.std.proofs.Common.{◌≡◌, ℕ, ◌+◌, ◌<◌, ◌≤◌, None, refl, arith}
+use Rattle.std.proofs.Common.{ℕ, ◌<◌, None, refl, arith}
 use Rattle.vme_core.specs.declared.view.View.{View}
 use Rattle.vme_board.specs.Benches.{total_of, view_of}
 use Rattle.vme_core.specs.Counting.{occurrences}

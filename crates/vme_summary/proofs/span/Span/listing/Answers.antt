@@ -1,5 +1,13 @@
 -- The summary has the listing.
-use Rattle.std.proofs.Common.{◌≤◌, arith}
+use Rattle.std.proofs.Common.{◌≡◌, ◌≤◌, sym, ◌∙◌, ap, subst, arith, Some, option_map}
+use Rattle.vme_trace.specs.Verdict.{verdict}
+use Rattle.vme_listing.specs.Listed.{Listed}
+use Rattle.vme_listing.specs.Recorded.{listing_of}
+use Rattle.vme_split.specs.Split.{Splits}
+use Rattle.vme_split.proofs.Listings.{listing_splits}
+use Rattle.vme_summary.specs.Splitting.{SplitsItsRecording}
+use Rattle.vme_summary.specs.Stands.{IsListingOf}
+use Rattle.vme_summary.specs.declared.span.Span.{Span}
 use Rattle.std.proofs.lemmas.Result.{IfOk-weaker}
 use Rattle.vme_summary.proofs.Listed.{listing_joined, placed_joined}
 use Rattle.vme_summary.proofs.span.Span.listing.Goals as goal
@@ -9,6 +17,19 @@ returns-clause-listing c =
     let s = c.args.self.now in
     let few : s.extent.opening.slots ≤ 21 = omega arith in
     IfOk-weaker c.listing.result _ _ (λ rows is. listing_joined s few rows is) c.listing.ensures.listing
+
+-- a listing of the recording splits it
+split_of : (s : Span) (listing : Listed) → IsListingOf s listing → SplitsItsRecording s listing
+split_of s listing is blocks t stands joins =
+    let same : Some (listing_of t) ≡ Some listing = sym (ap (option_map listing_of) joins) ∙ is blocks stands in
+    let told : listing_of t ≡ listing = cc in
+    subst (λ (l : Listed). Splits t (verdict t) l.rows) told (listing_splits t)
+
+pub returns-clause-split : goal.returns-clause-split
+returns-clause-split c =
+    let s = c.args.self.now in
+    let few : s.extent.opening.slots ≤ 21 = omega arith in
+    IfOk-weaker c.listing.result _ _ (λ rows is. split_of s rows (listing_joined s few rows is)) c.listing.ensures.listing
 
 pub returns-clause-placed : goal.returns-clause-placed
 returns-clause-placed c =

@@ -1,0 +1,433 @@
+-- What is listed is as the rules ask for it.
+use Rattle.std.proofs.Common.{lit<, ◌≡◌, ◌≢◌, ℕ, zero, suc, ◌+◌, ◌-◌, ◌<◌, ◌≤◌, Bool, true, false, ◌&&◌, ◌||◌, not, cond, if◌then◌else◌, refl, sym, ◌∙◌, ap, arith, subst, List, [], ◌∷◌, ◌++◌, map, flat_map, inl, inr, ◌⊎◌, All, Contains}
+use Rattle.std.specs.Prelude.{Option, None, Some, IfSome, ◌==◌, nat_lt, nat_le, option_map, option_and_then}
+use Rattle.std.proofs.lemmas.Bool.Decides.{nat_tests}
+use Rattle.std.proofs.lemmas.List.Elements.{Contains-append_left, Contains-append_right}
+use Rattle.vme_trace.specs.Instants.{any, least, greatest, those}
+use Rattle.vme_trace.specs.LineNumbers.{AS, BBSY, grant}
+use Rattle.vme_trace.specs.Levels.{Levels}
+use Rattle.vme_trace.specs.Trace.{Trace, levels_at}
+use Rattle.vme_trace.specs.Signals.{near, low, falls, rises}
+use Rattle.vme_trace.specs.Judged.{Span, IsSpanOf, is_judged}
+use Rattle.vme_trace.specs.Transfers.{strobes_high, answer_falls, transfer_starts, lasts, is_answered, answers, in_transfer}
+use Rattle.vme_trace.specs.Cycles.{cycle_starts, cycle_of}
+use Rattle.vme_trace.specs.Tenures.{is_granting, has_reached, taken_grant, tenure_level, tenure_slot, tenure_starts}
+use Rattle.vme_trace.specs.Rules.{is_broken, is_option_equal}
+use Rattle.vme_trace.specs.declared.rule.Rule.TheVariants as rule
+use Rattle.vme_trace.specs.declared.class.Class.{Class}
+use Rattle.vme_trace.specs.declared.class.Class.TheVariants as class
+use Rattle.vme_trace.proofs.OpenTransfers.{bool_cases, in_transfer-is}
+use Rattle.vme_trace.proofs.Ranges.{every-more, IsLeast, any-fails, fails-any, least-found, least-none-any, clash}
+use Rattle.vme_listing.specs.Recorded.{cycle_row, transfer_row, answered_row, rows_before}
+use Rattle.vme_listing.specs.declared.row.Row.{Row}
+use Rattle.vme_listing.specs.declared.row.Row.TheVariants as row
+use Rattle.vme_listing.specs.declared.row.Row.TheVariants.{OpenTenure, Tenure}
+use Rattle.vme_split.specs.Split.{TellsGrant, IsOpenAtStart, Interval, interval, Covers, StartsInOne, IsOfASlot, IsAnsweredInCycle, AwaitsAnswer, is_traffic, tenure_in, cycle_in, KeepsRules}
+use Rattle.vme_split.proofs.Lists.{past_or_below, greatest-is, greatest-found}
+use Rattle.vme_split.proofs.Intervals.{Covering, covering, goes_on}
+use Rattle.vme_split.proofs.Unbroken.{IsUnbroken, held}
+use Rattle.vme_split.proofs.Cycles as cycles
+use Rattle.vme_split.proofs.Tenures as tenures
+use Rattle.vme_split.proofs.Answering.{unclosed, lasts_on, reply_at, answered_is, first_reply, addressed}
+use Rattle.vme_split.proofs.Transfers.{after_start, CycleCovers, cycle_there, cycle_begun, low_near}
+use Rattle.vme_split.proofs.Classes.{cycles_of_classes}
+use Rattle.vme_split.proofs.Telling.{acknowledges_told, directions_told}
+use Rattle.vme_split.proofs.Codes.{codes_told, modifiers_told, addresses_told}
+use Rattle.vme_split.proofs.EachRow.{contains_told, all_told, all_before, all_tenure, all_tenure_at, all_cycle, all_transfer}
+
+greatest-below : (p : ℕ → Bool) (first n i : ℕ) → greatest p first n ≡ Some i → i < n
+unfolding greatest
+greatest-below p first zero i e = absurd (cc)
+greatest-below p first (suc n) i e = chosen (nat_le first n && p n) (λ h. greatest-below p first n i h) e
+  where
+    chosen : (b : Bool) → (greatest p first n ≡ Some i → i < n) → cond b (Some n) (greatest p first n) ≡ Some i → i < suc n
+    chosen true before h = let same : n ≡ i = cc in omega arith
+    chosen false before h = omega (arith, before h)
+
+-- the slot of a tenure is one of the backplane or the one past the last
+slot_within : (t : Trace) (i slot : ℕ) → tenure_slot t i ≡ Some slot → (1 ≤ slot) × (slot ≤ t.opening.slots + 1)
+unfolding tenure_slot
+slot_within t i slot e = by_level (tenure_level t i) e
+  where
+    counted : (o : Option ℕ) → ((k : ℕ) → o ≡ Some k → k < t.opening.slots + 1) → option_map (λ k. 1 + k) o ≡ Some slot → (1 ≤ slot) × (slot ≤ t.opening.slots + 1)
+    counted None h f = absurd (cc)
+    counted (Some k) h f = let same : 1 + k ≡ slot = cc in let below = h k refl in (omega arith, omega arith)
+
+    by_level : (o : Option ℕ) → option_map (λ k. 1 + k) (option_and_then (λ n. greatest (has_reached t (taken_grant t i) n) 0 (t.opening.slots + 1)) o) ≡ Some slot → (1 ≤ slot) × (slot ≤ t.opening.slots + 1)
+    by_level None f = absurd (cc)
+    by_level (Some n) f = counted (greatest (has_reached t (taken_grant t i) n) 0 (t.opening.slots + 1)) (greatest-below (has_reached t (taken_grant t i) n) 0 (t.opening.slots + 1)) f
+
+level_within : (t : Trace) (i level : ℕ) → tenure_level t i ≡ Some level → level < 4
+unfolding tenure_level
+level_within t i level e = (least-found (λ n. low t (grant n 0) (taken_grant t i)) 0 4 level e).below
+
+unequal : (m n : ℕ) → (m == n) ≡ false → m ≢ n
+unequal m n h = grind (arith, nat_tests)
+
+-- near an instant, where a line is low
+line_near : (t : Trace) (l s r : ℕ) → s < r → near (low t l) r ≡ true → (k : ℕ) × (s ≤ k) × (k ≤ r) × (r ≤ k + 1) × (low t l k ≡ true)
+line_near t l s r after h = by (bool_cases (low t l r))
+  where
+    first : (a b : Bool) → (a || b) ≡ true → b ≡ false → a ≡ true
+    first true b e f = refl
+    first false true e f = absurd (cc)
+    first false false e f = absurd (cc)
+
+    by : (low t l r ≡ true) ⊎ (low t l r ≡ false) → (k : ℕ) × (s ≤ k) × (k ≤ r) × (r ≤ k + 1) × (low t l k ≡ true)
+    by (inl now) = (r, omega arith, omega arith, omega arith, now)
+    by (inr off) = (r - 1, omega arith, omega arith, omega arith, first (low t l (r - 1)) (low t l r) h off)
+
+if_some : (o : Option ℕ) (P : ℕ → Type 0) → ((e : ℕ) → o ≡ Some e → P e) → IfSome o P
+if_some None P h = tt
+if_some (Some e) P h = h e refl
+
+module _ (t : Trace) (span : Span) (is : IsSpanOf t span) (end : ℕ) (within : span.start < end) (most : end ≤ span.end) (unbroken : IsUnbroken t span end) where
+  -- tenures
+  of_a_slot : (i : ℕ) → i < end → tenure_starts t span i ≡ true → (level slot : ℕ) → tenure_level t i ≡ Some level → tenure_slot t i ≡ Some slot → (level < 4) × (1 ≤ slot) × (slot ≤ t.opening.slots)
+  unfolding is_broken
+  of_a_slot i before starts level slot l e =
+      let there = tenures.judged_falls t span is end within most unbroken i starts in
+      let bounds = slot_within t i slot e in
+      let past = off_past (falls t BBSY i) _ there.1 (held t span end most unbroken rule.B4 i BBSY there.0 before (lit< tt) refl) in
+      let other = unequal slot (t.opening.slots + 1) (sym (ap (λ (o : Option ℕ). is_option_equal o (t.opening.slots + 1)) e) ∙ past) in
+      (level_within t i level l, bounds.0, omega (arith, bounds.1, other))
+    where
+      off_past : (a b : Bool) → a ≡ true → (true && a && b) ≡ false → b ≡ false
+      off_past true b h e = e
+      off_past false b h e = absurd (cc)
+
+  slots_held : All (IsOfASlot t.opening.slots) (rows_before t span end end)
+  slots_held = all_before (IsOfASlot t.opening.slots) t span end
+      (λ i before. all_tenure (IsOfASlot t.opening.slots) t span end i (λ e. tt) (λ starts level slot e l s. of_a_slot i before starts level slot l s))
+      (λ i before. all_cycle (IsOfASlot t.opening.slots) t span end i (in_cycle i))
+      (λ i before. all_transfer (IsOfASlot t.opening.slots) t span end i (λ starts. in_transfer_row i (least (answers t span i) i end)))
+      end (omega arith)
+    where
+      in_cycle : (i : ℕ) (c : Class) → IsOfASlot t.opening.slots (cycle_row i (levels_at t i) (least (rises t AS) (i + 1) end) c)
+      in_cycle i class.S = tt
+      in_cycle i class.K = tt
+      in_cycle i class.I = tt
+      in_cycle i class.F = tt
+
+      in_answered : (i r : ℕ) (o : Option ℕ) → IsOfASlot t.opening.slots (answered_row t span end i r o)
+      in_answered i r None = tt
+      in_answered i r (Some c) = tt
+
+      in_transfer_row : (i : ℕ) (o : Option ℕ) → IsOfASlot t.opening.slots (transfer_row t span end i o)
+      in_transfer_row i None = tt
+      in_transfer_row i (Some r) = in_answered i r (cycle_of t span r)
+
+  -- the nets of its level are low as far as its slot
+  grant_there : (i : ℕ) → i < end → tenure_starts t span i ≡ true → (level slot : ℕ) (e : Option ℕ) → tenure_level t i ≡ Some level → tenure_slot t i ≡ Some slot → TellsGrant t (row.Tenure i level slot e)
+  unfolding tenure_slot has_reached taken_grant
+  grant_there i before starts level slot e l s = by (greatest (has_reached t (taken_grant t i) level) 0 (t.opening.slots + 1)) refl (sym (ap (λ (o : Option ℕ). option_map (λ k. 1 + k) (option_and_then (λ n. greatest (has_reached t (taken_grant t i) n) 0 (t.opening.slots + 1)) o)) l) ∙ s)
+    where
+      first : (b : Bool) → (if b then i else i - 1) ≤ i
+      first true = omega arith
+      first false = omega arith
+
+      second : (b : Bool) → i ≤ (if b then i else i - 1) + 1
+      second true = omega arith
+      second false = omega arith
+
+      on_by : (b : Bool) → not b ≡ false → b ≡ true
+      on_by true h = refl
+      on_by false h = absurd (cc)
+
+      off_by : (b : Bool) → not b ≡ true → b ≡ false
+      off_by true h = absurd (cc)
+      off_by false h = refl
+
+      off : (b : Bool) → (b ≡ true → ⊥) → b ≡ false
+      off true h = absurd (h refl)
+      off false h = refl
+
+      by : (o : Option ℕ) → greatest (has_reached t (taken_grant t i) level) 0 (t.opening.slots + 1) ≡ o → option_map (λ k. 1 + k) o ≡ Some slot → TellsGrant t (row.Tenure i level slot e)
+      by None f g = absurd (cc)
+      by (Some k) f g =
+          let same : 1 + k ≡ slot = cc in
+          let found = greatest-found (has_reached t (taken_grant t i) level) 0 (t.opening.slots + 1) k f in
+          let of = of_a_slot i before starts level slot l s in (
+            taken_grant t i,
+            first (is_granting t i),
+            second (is_granting t i),
+            (
+              (λ m a. on_by (low t (grant level m) (taken_grant t i)) (any-fails (λ net. not (low t (grant level net) (taken_grant t i))) 0 (k + 1) m (off_by (any (λ net. not (low t (grant level net) (taken_grant t i))) 0 (k + 1)) found.holds) (omega arith) (omega (arith, same)))),
+              off (low t (grant level slot) (taken_grant t i)) (λ h. let next : slot ≡ k + 1 = omega (arith, same) in
+                  clash (has_reached t (taken_grant t i) level (k + 1)) (every-more (λ net. low t (grant level net) (taken_grant t i)) 0 (k + 1) found.holds (ap (λ n. low t (grant level n) (taken_grant t i)) (sym next) ∙ h)) (found.none (k + 1) (omega arith) (omega (arith, same, of.2)))),
+            ),
+          )
+
+  grants_told : All (TellsGrant t) (rows_before t span end end)
+  grants_told = all_before (TellsGrant t) t span end
+      (λ i before. all_tenure (TellsGrant t) t span end i (λ e. tt) (λ starts level slot e l s. grant_there i before starts level slot e l s))
+      (λ i before. all_cycle (TellsGrant t) t span end i (in_cycle i))
+      (λ i before. all_transfer (TellsGrant t) t span end i (λ starts. in_transfer_row i (least (answers t span i) i end)))
+      end (omega arith)
+    where
+      in_cycle : (i : ℕ) (c : Class) → TellsGrant t (cycle_row i (levels_at t i) (least (rises t AS) (i + 1) end) c)
+      in_cycle i class.S = tt
+      in_cycle i class.K = tt
+      in_cycle i class.I = tt
+      in_cycle i class.F = tt
+
+      in_answered : (i r : ℕ) (o : Option ℕ) → TellsGrant t (answered_row t span end i r o)
+      in_answered i r None = tt
+      in_answered i r (Some c) = tt
+
+      in_transfer_row : (i : ℕ) (o : Option ℕ) → TellsGrant t (transfer_row t span end i o)
+      in_transfer_row i None = tt
+      in_transfer_row i (Some r) = in_answered i r (cycle_of t span r)
+
+  open_first : All (IsOpenAtStart span.start) (rows_before t span end end)
+  open_first = all_before (IsOpenAtStart span.start) t span end
+      (λ i before. all_tenure_at (IsOpenAtStart span.start) t span end i (λ same e. same) (λ starts level slot e l s. (tenures.judged_falls t span is end within most unbroken i starts).0))
+      (λ i before. all_cycle (IsOpenAtStart span.start) t span end i (in_cycle i))
+      (λ i before. all_transfer (IsOpenAtStart span.start) t span end i (λ starts. in_transfer_row i (least (answers t span i) i end)))
+      end (omega arith)
+    where
+      in_cycle : (i : ℕ) (c : Class) → IsOpenAtStart span.start (cycle_row i (levels_at t i) (least (rises t AS) (i + 1) end) c)
+      in_cycle i class.S = tt
+      in_cycle i class.K = tt
+      in_cycle i class.I = tt
+      in_cycle i class.F = tt
+
+      in_answered : (i r : ℕ) (o : Option ℕ) → IsOpenAtStart span.start (answered_row t span end i r o)
+      in_answered i r None = tt
+      in_answered i r (Some c) = tt
+
+      in_transfer_row : (i : ℕ) (o : Option ℕ) → IsOpenAtStart span.start (transfer_row t span end i o)
+      in_transfer_row i None = tt
+      in_transfer_row i (Some r) = in_answered i r (cycle_of t span r)
+
+  traffic_alone : All (λ row. is_traffic row ≡ true) (rows_before t span end end)
+  traffic_alone = all_before (λ row. is_traffic row ≡ true) t span end
+      (λ i before. all_tenure (λ row. is_traffic row ≡ true) t span end i (λ e. refl) (λ starts level slot e l s. refl))
+      (λ i before. all_cycle (λ row. is_traffic row ≡ true) t span end i (in_cycle i))
+      (λ i before. all_transfer (λ row. is_traffic row ≡ true) t span end i (λ starts. in_transfer_row i (least (answers t span i) i end)))
+      end (omega arith)
+    where
+      in_cycle : (i : ℕ) (c : Class) → is_traffic (cycle_row i (levels_at t i) (least (rises t AS) (i + 1) end) c) ≡ true
+      in_cycle i class.S = refl
+      in_cycle i class.K = refl
+      in_cycle i class.I = refl
+      in_cycle i class.F = refl
+
+      in_answered : (i r : ℕ) (o : Option ℕ) → is_traffic (answered_row t span end i r o) ≡ true
+      in_answered i r None = refl
+      in_answered i r (Some c) = refl
+
+      in_transfer_row : (i : ℕ) (o : Option ℕ) → is_traffic (transfer_row t span end i o) ≡ true
+      in_transfer_row i None = refl
+      in_transfer_row i (Some r) = in_answered i r (cycle_of t span r)
+
+  -- cycles
+  busy_near : (i : ℕ) → span.start < i → i < end → falls t AS i ≡ true → near (low t BBSY) i ≡ true
+  unfolding is_broken
+  busy_near i after before down = by (falls t AS i) (near (low t BBSY) i) down (held t span end most unbroken rule.B3 i AS after before (lit< tt) refl)
+    where
+      by : (a b : Bool) → a ≡ true → (true && a && not b) ≡ false → b ≡ true
+      by true true h e = refl
+      by true false h e = absurd (cc)
+      by false b h e = absurd (cc)
+
+  cycle_judged : (i : ℕ) → cycle_starts t span i ≡ true → (span.start < i) × (falls t AS i ≡ true)
+  unfolding cycle_starts
+  cycle_judged i e = (grind (arith, nat_tests), grind (arith, nat_tests))
+
+  abbrev tenure_told : ℕ → Interval
+  tenure_told = tenures.tenure_at t span is end within most unbroken
+
+  TenureCovers : ℕ → Type 0
+  TenureCovers k = Covering (low t BBSY) (tenure_starts t span) (rises t BBSY) (rises t BBSY) span.start end
+      (tenures.starts_is t span is end within most unbroken) (tenures.ends_is t span is end within most unbroken) (tenures.stop_is t span is end within most unbroken) k
+
+  in_tenure : (i : ℕ) → i < end → cycle_starts t span i ≡ true → StartsInOne (flat_map tenure_in (rows_before t span end end)) (cycles.cycle_at t span end i)
+  unfolding TenureCovers
+  in_tenure i before starts =
+      let down = cycle_judged i starts in
+      let there = line_near t BBSY span.start i down.0 (busy_near i down.0 before down.1) in
+      let cover : TenureCovers there.0 = covering (low t BBSY) (tenure_starts t span) (rises t BBSY) (rises t BBSY) span.start end
+      (tenures.starts_is t span is end within most unbroken) (tenures.ends_is t span is end within most unbroken) (tenures.stop_is t span is end within most unbroken) there.0 there.1 (omega (arith, there.2, before)) there.4 in (
+        tenure_told cover.first,
+        subst (λ xs. Contains xs (tenure_told cover.first)) (sym (tenures.tenures_told t span is end within most unbroken)) (by there.0 (omega (arith, there.2, before)) cover cover.begun),
+        (
+          omega (arith, cover.to, there.2),
+          if_some (least (rises t BBSY) (cover.first + 1) end) (λ e. i ≤ e) (λ e f. let later = goes_on (low t BBSY) (tenure_starts t span) (rises t BBSY) (rises t BBSY) span.start end
+              (tenures.starts_is t span is end within most unbroken) (tenures.ends_is t span is end within most unbroken) (tenures.stop_is t span is end within most unbroken) there.0 (omega (arith, there.2, before)) cover e f in omega (arith, later, there.3)),
+        ),
+      )
+    where
+      at_first : (b : Bool) → b ≡ true → (a : Interval) → Contains (cond b (a ∷ []) []) a
+      at_first true h a = (0, omega arith, refl)
+      at_first false h a = absurd (cc)
+
+      by : (k : ℕ) → k < end → (c : TenureCovers k) → (c.first ≡ span.start) ⊎ ((span.start < c.first) × (tenure_starts t span c.first ≡ true))
+          → Contains (cond (low t BBSY span.start) (tenure_told span.start ∷ []) [] ++ map tenure_told (those (tenure_starts t span) (span.start + 1) end)) (tenure_told c.first)
+      by k below c (inl same) =
+          subst (λ n. Contains (cond (low t BBSY span.start) (tenure_told span.start ∷ []) [] ++ map tenure_told (those (tenure_starts t span) (span.start + 1) end)) (tenure_told n)) (sym same)
+          (Contains-append_left (cond (low t BBSY span.start) (tenure_told span.start ∷ []) []) _ (tenure_told span.start)
+          (at_first (low t BBSY span.start) (ap (low t BBSY) (sym same) ∙ c.held c.first (omega arith) c.to) (tenure_told span.start)))
+      by k below c (inr begun) =
+          Contains-append_right (cond (low t BBSY span.start) (tenure_told span.start ∷ []) []) _ (tenure_told c.first)
+          (contains_told tenure_told (tenure_starts t span) (span.start + 1) end c.first (omega (arith, begun.0)) (omega (arith, c.to, below)) begun.1)
+
+  cycles_held : All (StartsInOne (flat_map tenure_in (rows_before t span end end))) (flat_map cycle_in (rows_before t span end end))
+  cycles_held =
+      subst (All (StartsInOne (flat_map tenure_in (rows_before t span end end)))) (sym (cycles.cycles_told t span end within))
+      (all_told (StartsInOne (flat_map tenure_in (rows_before t span end end))) (cycles.cycle_at t span end) (cycle_starts t span) end end (span.start + 1) (omega arith) (λ i from before starts. in_tenure i before starts))
+
+  -- transfers
+  abbrev cycles_listed : List Interval
+  cycles_listed = flat_map cycle_in (rows_before t span end end)
+
+  module _ (i r : ℕ) (starts : transfer_starts t span i ≡ true) (e : least (reply_at t span i) i end ≡ Some r) where
+    after : span.start < i
+    after = after_start t span i starts
+
+    found : IsLeast (reply_at t span i) i end r
+    found = least-found (reply_at t span i) i end r e
+
+    lasting : lasts t span i r ≡ true
+    lasting = first_part (lasts t span i r) (answer_falls t r) found.holds
+      where
+        first_part : (a b : Bool) → (a && b) ≡ true → a ≡ true
+        first_part true b h = refl
+        first_part false b h = absurd (cc)
+
+    -- none of the instants in between has both strobes high
+    still : (m : ℕ) → i < m → m < r → strobes_high t m ≡ false
+    unfolding lasts
+    still m a b = any-fails (strobes_high t) (i + 1) r m (last_part (nat_le i r) (is_judged span r) (any (strobes_high t) (i + 1) r) lasting) (omega arith) b
+      where
+        last_part : (x y z : Bool) → (x && y && not z) ≡ true → z ≡ false
+        last_part true true true h = absurd (cc)
+        last_part true true false h = refl
+        last_part true false z h = absurd (cc)
+        last_part false y z h = absurd (cc)
+
+    in_its_transfer : Covers (interval i (least (strobes_high t) (i + 1) end)) r
+    in_its_transfer = (found.first, if_some (least (strobes_high t) (i + 1) end) (λ c. r ≤ c) (λ c f. by c (least-found (strobes_high t) (i + 1) end c f) (past_or_below c r)))
+      where
+        by : (c : ℕ) → IsLeast (strobes_high t) (i + 1) end c → (r ≤ c) ⊎ (c < r) → r ≤ c
+        by c close (inl past) = past
+        by c close (inr before) = absurd (clash (strobes_high t c) close.holds (still c (omega (arith, close.first)) before))
+
+    abbrev Near : Type 0
+    Near = (k : ℕ) × (span.start ≤ k) × (k ≤ r) × (r ≤ k + 1) × (low t AS k ≡ true)
+
+    there : Near
+    there = low_near t span is end within most r (omega (arith, found.first, after)) (addressed t span is end within most unbroken i r after starts e)
+
+    cover : CycleCovers t span is end within most there.0
+    cover = cycle_there t span is end within most there.0 there.1 (omega (arith, there.2, found.below)) there.4
+
+    -- no cycle starts later
+    none_later : (k : ℕ) → cover.first < k → k < r + 1 → cycle_starts t span k ≡ false
+    none_later k a b =
+        let back : k ≡ (k - 1) + 1 = omega (arith, a) in
+        ap (cycle_starts t span) back
+        ∙ (cycles.starts_is t span is end within most (k - 1) (omega (arith, cover.from, a)) (omega (arith, back, b, found.below))
+        ∙ ap (λ v. not v && low t AS (k - 1 + 1)) (cover.held (k - 1) (omega (arith, a)) (omega (arith, back, b, there.3))))
+
+    its_cycle : cycle_of t span r ≡ Some cover.first
+    unfolding cycle_of
+    its_cycle =
+        let begun = cycle_begun t span is end within most there.0 cover in
+        greatest-is (cycle_starts t span) (span.start + 1) (r + 1) cover.first (omega (arith, begun.0)) (omega (arith, cover.to, there.2)) begun.1 none_later
+
+    in_its_cycle : (o : Option ℕ) × Contains cycles_listed (interval cover.first o) × Covers (interval cover.first o) r
+    in_its_cycle =
+        let begun = cycle_begun t span is end within most there.0 cover in (
+          least (rises t AS) (cover.first + 1) end,
+          subst (λ xs. Contains xs (cycles.cycle_at t span end cover.first)) (sym (cycles.cycles_told t span end within))
+              (contains_told (cycles.cycle_at t span end) (cycle_starts t span) (span.start + 1) end cover.first (omega (arith, begun.0)) (omega (arith, cover.to, there.2, found.below)) begun.1),
+          (
+            omega (arith, cover.to, there.2),
+            if_some (least (rises t AS) (cover.first + 1) end) (λ c. r ≤ c) (λ c f.
+                let later = goes_on (low t AS) (cycle_starts t span) (rises t AS) (rises t AS) span.start end
+                (cycles.starts_is t span is end within most) (cycles.ends_is t span is end within most) (cycles.stop_is t span is end within most) there.0 (omega (arith, there.2, found.below)) cover c f in
+                omega (arith, later, there.3)),
+          ),
+        )
+
+  -- the address strobe doesn't rise in a transfer that isn't answered yet
+  awaited : (i j : ℕ) → transfer_starts t span i ≡ true → i < j → j < end → lasts t span i j ≡ true → any (reply_at t span i) i (j + 1) ≡ false → rises t AS j ≡ false
+  unfolding is_broken
+  awaited i j starts order before lasting none =
+      by (rises t AS j) (in_transfer t span (λ k. nat_lt k j && not (is_answered t span k (j + 1))) j) (nat_lt i j) (is_answered t span i (j + 1))
+      (in_transfer-is t span (λ k. nat_lt k j && not (is_answered t span k (j + 1))) i j (after_start t span i starts) (omega arith) starts lasting)
+      (less i j order) (answered_is t span i (j + 1) ∙ none)
+      (held t span end most unbroken rule.H7 j AS (omega (arith, after_start t span i starts)) before (lit< tt) refl)
+    where
+      less : (m n : ℕ) → m < n → nat_lt m n ≡ true
+      less m n h = grind (arith, nat_tests)
+
+      by : (a x n d : Bool) → x ≡ (n && not d) → n ≡ true → d ≡ false → (true && a && x) ≡ false → a ≡ false
+      by true x n d h k e f = absurd (clash x (h ∙ (ap (λ b. b && not d) k ∙ ap not e)) f)
+      by false x n d h k e f = refl
+
+  awaits_answer : (i : ℕ) → transfer_starts t span i ≡ true → AwaitsAnswer t end (transfer_row t span end i (least (answers t span i) i end))
+  awaits_answer i starts = subst (λ (o : Option ℕ). AwaitsAnswer t end (transfer_row t span end i o)) (sym (first_reply t span i end)) (by (least (reply_at t span i) i end) refl)
+    where
+      row_told : (r : ℕ) (o : Option ℕ) (c : ℕ) → o ≡ Some c → least (reply_at t span i) i end ≡ Some r → AwaitsAnswer t end (answered_row t span end i r o)
+      row_told r None c e f = absurd (cc)
+      row_told r (Some k) c e f = λ j a b.
+          let found = least-found (reply_at t span i) i end r f in
+          awaited i j starts a (omega (arith, found.below))
+          (lasts_on t span is i j (after_start t span i starts) (omega arith) (omega (arith, found.below)) (λ m x y. still i r starts f m x (omega arith)))
+          (fails-any (reply_at t span i) i (j + 1) (λ m x y. any-fails (reply_at t span i) i r m found.least x (omega arith)))
+
+      by : (o : Option ℕ) → least (reply_at t span i) i end ≡ o → AwaitsAnswer t end (transfer_row t span end i o)
+      by None e = λ j a b.
+          awaited i j starts a b
+          (lasts_on t span is i j (after_start t span i starts) (omega arith) (omega arith) (λ m x y. any-fails (strobes_high t) (i + 1) end m (least-none-any (strobes_high t) (i + 1) end (unclosed t span is end within most unbroken i (after_start t span i starts) starts e)) (omega arith) (omega arith)))
+          (fails-any (reply_at t span i) i (j + 1) (λ m x y. any-fails (reply_at t span i) i end m (least-none-any (reply_at t span i) i end e) x (omega arith)))
+      by (Some r) e = row_told r (cycle_of t span r) (cover i r starts e).first (its_cycle i r starts e) e
+
+  answered_in_cycle : (i : ℕ) → transfer_starts t span i ≡ true → IsAnsweredInCycle cycles_listed (transfer_row t span end i (least (answers t span i) i end))
+  answered_in_cycle i starts = subst (λ (o : Option ℕ). IsAnsweredInCycle cycles_listed (transfer_row t span end i o)) (sym (first_reply t span i end)) (by (least (reply_at t span i) i end) refl)
+    where
+      by : (o : Option ℕ) → least (reply_at t span i) i end ≡ o → IsAnsweredInCycle cycles_listed (transfer_row t span end i o)
+      by None e = tt
+      by (Some r) e = subst (λ (c : Option ℕ). IsAnsweredInCycle cycles_listed (answered_row t span end i r c)) (sym (its_cycle i r starts e)) (in_its_transfer i r starts e, in_its_cycle i r starts e)
+
+  abbrev transfers_held : (P : Row → Type 0) → Type 0
+  transfers_held P = ((i : ℕ) (e : Option ℕ) → P (OpenTenure i e)) → ((i level slot : ℕ) (e : Option ℕ) → P (Tenure i level slot e)) → ((i : ℕ) (v : Levels) (e : Option ℕ) (c : Class) → P (cycle_row i v e c))
+      → ((i : ℕ) → transfer_starts t span i ≡ true → P (transfer_row t span end i (least (answers t span i) i end))) → All P (rows_before t span end end)
+
+  by_transfers : (P : Row → Type 0) → transfers_held P
+  by_transfers P opened started cycle transfer = all_before P t span end
+      (λ i before. all_tenure P t span end i (opened i) (λ starts level slot e l s. started i level slot e))
+      (λ i before. all_cycle P t span end i (cycle i (levels_at t i) (least (rises t AS) (i + 1) end)))
+      (λ i before. all_transfer P t span end i (transfer i))
+      end (omega arith)
+
+  no_answer : (i : ℕ) (v : Levels) (e : Option ℕ) (c : Class) → IsAnsweredInCycle cycles_listed (cycle_row i v e c)
+  no_answer i v e class.S = tt
+  no_answer i v e class.K = tt
+  no_answer i v e class.I = tt
+  no_answer i v e class.F = tt
+
+  no_wait : (i : ℕ) (v : Levels) (e : Option ℕ) (c : Class) → AwaitsAnswer t end (cycle_row i v e c)
+  no_wait i v e class.S = tt
+  no_wait i v e class.K = tt
+  no_wait i v e class.I = tt
+  no_wait i v e class.F = tt
+
+  pub nested : KeepsRules t span.start end (rows_before t span end end)
+  nested = record {
+    tenures_of_slots = slots_held;
+    open_at_start = open_first;
+    grants = grants_told;
+    cycles_in_tenures = cycles_held;
+    answers_in_cycles = by_transfers (IsAnsweredInCycle cycles_listed) (λ i e. tt) (λ i level slot e. tt) no_answer answered_in_cycle;
+    cycles_of_classes = cycles_of_classes t span is end within most unbroken;
+    acknowledges = acknowledges_told t span is end within most unbroken;
+    codes_of_classes = codes_told t span end most unbroken;
+    modifiers = modifiers_told t span end most unbroken;
+    addresses = addresses_told t span end most unbroken;
+    directions = directions_told t span is end within most unbroken;
+    strobe_awaits = by_transfers (AwaitsAnswer t end) (λ i e. tt) (λ i level slot e. tt) no_wait awaits_answer;
+    nothing_else = traffic_alone;
+  }

@@ -1,0 +1,344 @@
+-- How the rows of a listing split the edges of the lines of a stretch that is judged.
+use Rattle.std.specs.Prelude.{◌≡◌, ◌≢◌, ◌⊎◌, ◌<◌, ◌≤◌, ◌+◌, ◌-◌, ◌/◌, ◌%◌, ◌^◌, ◌==◌, ◌&&◌, not}
+use Rattle.std.specs.Prelude.{ℕ, suc, Bool, true, false}
+use Rattle.std.specs.Prelude.{List, [], ◌∷◌, ◌++◌, map, flat_map, All, Contains, filter, min, nat_lt, if◌then◌else◌}
+use Rattle.std.specs.Prelude.{Option, None, MatchOption, IfSome, option_to_list}
+use Rattle.vme_trace.specs.Instants.{those}
+use Rattle.vme_trace.specs.Cycle.{highest_address, is_block}
+use Rattle.vme_trace.specs.LineNumbers.{AS, DTACK, BERR, IACK, AM, WRITE, A, BBSY, grant}
+use Rattle.vme_trace.specs.Trace.{Trace, last_instant}
+use Rattle.vme_trace.specs.Signals.{low, high, falls, rises}
+use Rattle.vme_trace.specs.Judged.{Span, is_idle_at, is_reset_at, judged_spans}
+use Rattle.vme_trace.specs.Transfers.{strobes_high}
+use Rattle.vme_listing.specs.declared.row.AnswerLine.TheVariants.{Dtack, Berr}
+use Rattle.vme_trace.specs.declared.class.Class.TheVariants as class
+use Rattle.vme_listing.specs.declared.row.Direction.{Direction}
+use Rattle.vme_listing.specs.declared.row.Direction.TheVariants.{Read, Write}
+use Rattle.vme_trace.specs.declared.verdict.Verdict.{Verdict}
+use Rattle.vme_trace.specs.declared.verdict.Verdict.TheVariants as said
+use Rattle.vme_listing.specs.declared.row.Outcome.{Outcome}
+use Rattle.vme_listing.specs.declared.row.Outcome.TheVariants as outcome
+use Rattle.vme_listing.specs.declared.row.Row.{Row}
+use Rattle.vme_listing.specs.declared.row.Row.TheVariants.{Start, Reset, OpenTenure, Tenure, AddressedCycle}
+use Rattle.vme_listing.specs.declared.row.Row.TheVariants.{FreeCycle, InterruptCycle, Transfer, PendingTransfer}
+use Rattle.vme_listing.specs.declared.row.Row.TheVariants as row
+
+-- something that lasts from one instant to another, where it ends
+pub record Interval : Type 0 where
+  pub start : ℕ
+  pub end : Option ℕ
+
+abbrev pub interval : ℕ → Option ℕ → Interval
+interval start end = record { start = start; end = end }
+
+-- the tenure that a row tells
+abbrev pub tenure_in : Row → List Interval
+tenure_in (OpenTenure start end) = interval start end ∷ []
+tenure_in (Tenure start level slot end) = interval start end ∷ []
+tenure_in other = []
+
+-- the cycle
+abbrev pub cycle_in : Row → List Interval
+cycle_in (AddressedCycle start class modifier address end) = interval start end ∷ []
+cycle_in (FreeCycle start modifier end) = interval start end ∷ []
+cycle_in (InterruptCycle start level end) = interval start end ∷ []
+cycle_in other = []
+
+-- the transfer
+abbrev pub transfer_in : Row → List Interval
+transfer_in (Transfer direction line start cycle answer close lanes) = interval start close ∷ []
+transfer_in (PendingTransfer start direction) = interval start None ∷ []
+transfer_in other = []
+
+-- the answer by either line
+abbrev pub dtack_in : Row → List ℕ
+dtack_in (Transfer direction Dtack start cycle answer close lanes) = answer ∷ []
+dtack_in other = []
+
+abbrev pub berr_in : Row → List ℕ
+berr_in (Transfer direction Berr start cycle answer close lanes) = answer ∷ []
+berr_in other = []
+
+-- the instants at which some intervals start, and those at which they end
+abbrev pub starts_of : List Interval → List ℕ
+starts_of intervals = map (λ a. a.start) intervals
+
+abbrev pub ends_of : List Interval → List ℕ
+ends_of intervals = flat_map (λ a. option_to_list a.end) intervals
+
+-- each interval starts at an instant or later, and ends later than it starts; the next one starts later than that,
+-- and after one without an end comes none
+abbrev pub AreInTurn : ℕ → List Interval → Type 0
+AreInTurn n [] = Unit {0}
+AreInTurn n (a ∷ more) =
+    (n ≤ a.start) × MatchOption a.end (more ≡ []) (λ e. (a.start < e) × AreInTurn (e + 1) more)
+
+-- each number is more than the one before
+abbrev pub Ascends : ℕ → List ℕ → Type 0
+Ascends n [] = Unit {0}
+Ascends n (i ∷ more) = (n ≤ i) × Ascends (i + 1) more
+
+-- the interval has started at i, and ended no earlier
+abbrev pub Covers : Interval → ℕ → Type 0
+Covers a i = (a.start ≤ i) × IfSome a.end (λ e. i ≤ e)
+
+-- one of the intervals that start here covers the instant
+abbrev pub StartsOneThatCovers : List Interval → ℕ → ℕ → Type 0
+StartsOneThatCovers intervals start i =
+    (end : Option ℕ) × Contains intervals (interval start end) × Covers (interval start end) i
+
+-- one of them has started by then and not ended before: a cycle starts in a tenure
+abbrev pub StartsInOne : List Interval → Interval → Type 0
+StartsInOne tenures cycle = (a : Interval) × Contains tenures a × Covers a cycle.start
+
+-- a tenure is of one of the levels, and of one of the slots
+abbrev pub IsOfASlot : ℕ → Row → Type 0
+IsOfASlot slots (Tenure start level slot end) = (level < 4) × (1 ≤ slot) × (slot ≤ slots)
+IsOfASlot slots other = Unit {0}
+
+-- the answer comes in the transfer, and in the cycle that the row names
+abbrev pub IsAnsweredInCycle : List Interval → Row → Type 0
+IsAnsweredInCycle cycles (Transfer direction line start cycle answer close lanes) =
+    Covers (interval start close) answer × StartsOneThatCovers cycles cycle answer
+IsAnsweredInCycle cycles other = Unit {0}
+
+-- the address strobe doesn't rise between two instants
+abbrev pub StaysDown : Trace → ℕ → ℕ → Type 0
+StaysDown t start end = (j : ℕ) → start < j → j < end → rises t AS j ≡ false
+
+-- nor between the start of a transfer and its answer
+abbrev pub AwaitsAnswer : Trace → ℕ → Row → Type 0
+AwaitsAnswer t end (Transfer direction line start cycle answer close lanes) = StaysDown t start answer
+AwaitsAnswer t end (PendingTransfer start direction) = StaysDown t start end
+AwaitsAnswer t end other = Unit {0}
+
+-- a transfer is a write where WRITE is low as it starts, and a read where it is high
+abbrev pub TellsDirection : Trace → Row → Type 0
+TellsDirection t (Transfer Read line start cycle answer close lanes) = high t WRITE start ≡ true
+TellsDirection t (Transfer Write line start cycle answer close lanes) = low t WRITE start ≡ true
+TellsDirection t (PendingTransfer start Read) = high t WRITE start ≡ true
+TellsDirection t (PendingTransfer start Write) = low t WRITE start ≡ true
+TellsDirection t other = Unit {0}
+
+-- a cycle is an interrupt acknowledge where IACK is low as it starts, and another where it is high
+abbrev pub TellsAcknowledge : Trace → Row → Type 0
+TellsAcknowledge t (InterruptCycle start level end) = low t IACK start ≡ true
+TellsAcknowledge t (AddressedCycle start class modifier address end) = high t IACK start ≡ true
+TellsAcknowledge t (FreeCycle start modifier end) = high t IACK start ≡ true
+TellsAcknowledge t other = Unit {0}
+
+-- bit n of a number
+abbrev pub bit_of : ℕ → ℕ → ℕ
+bit_of x n = x / 2 ^ n % 2
+
+-- a line shows a bit: it is high for 1, and low for 0
+abbrev pub ShowsBit : Trace → ℕ → ℕ → ℕ → Type 0
+ShowsBit t l i bit = ((bit ≡ 1) × (high t l i ≡ true)) ⊎ ((bit ≡ 0) × (low t l i ≡ true))
+
+-- so many lines show a number: each shows the bit of its place, and there are no further bits
+abbrev pub ShowNumber : Trace → (ℕ → ℕ) → ℕ → ℕ → ℕ → Type 0
+ShowNumber t line count i x = (x < 2 ^ count) × ((n : ℕ) → n < count → ShowsBit t (line n) i (bit_of x n))
+
+-- the address lines start with A01
+abbrev pub address_line : ℕ → ℕ
+address_line n = A (suc n)
+
+-- the modifier code of a cycle is what its six lines show as it starts
+abbrev pub TellsModifier : Trace → Row → Type 0
+TellsModifier t (AddressedCycle start class modifier address end) = ShowNumber t (λ n. AM n) 6 start modifier
+TellsModifier t (FreeCycle start modifier end) = ShowNumber t (λ n. AM n) 6 start modifier
+TellsModifier t other = Unit {0}
+
+-- the address is what the lines show that the modifier code makes meaningful, and its bit 0, which has no line, is 0;
+-- the level of an acknowledge is what A01 to A03 show
+abbrev pub TellsAddress : Trace → Row → Type 0
+TellsAddress t (AddressedCycle start class modifier address end) =
+    (address % 2 ≡ 0) × ShowNumber t (λ n. address_line n) (highest_address modifier) start (address / 2)
+TellsAddress t (InterruptCycle start level end) = ShowNumber t (λ n. address_line n) 3 start level
+TellsAddress t other = Unit {0}
+
+-- the class is that of the modifier code: K of a block, S of another with an address, and F of one without
+abbrev pub IsOfItsCode : Row → Type 0
+IsOfItsCode (AddressedCycle start class.S modifier address end) =
+    (is_block modifier ≡ false) × (highest_address modifier ≢ 0)
+IsOfItsCode (AddressedCycle start class.K modifier address end) = is_block modifier ≡ true
+IsOfItsCode (AddressedCycle start class.I modifier address end) = ⊥
+IsOfItsCode (AddressedCycle start class.F modifier address end) = ⊥
+IsOfItsCode (FreeCycle start modifier end) = (is_block modifier ≡ false) × (highest_address modifier ≡ 0)
+IsOfItsCode other = Unit {0}
+
+-- the nets of a level are low as far as a slot, and no farther
+abbrev pub IsGrantedTo : Trace → ℕ → ℕ → ℕ → Type 0
+IsGrantedTo t level slot q =
+    ((k : ℕ) → k < slot → low t (grant level k) q ≡ true) × (low t (grant level slot) q ≡ false)
+
+-- a tenure takes a grant: as it starts, or at the instant before
+abbrev pub TellsGrant : Trace → Row → Type 0
+TellsGrant t (Tenure start level slot end) =
+    (q : ℕ) × (q ≤ start) × (start ≤ q + 1) × IsGrantedTo t level slot q
+TellsGrant t other = Unit {0}
+
+-- open is a tenure at the start of the stretch, and no other
+abbrev pub IsOpenAtStart : ℕ → Row → Type 0
+IsOpenAtStart first (OpenTenure start end) = start ≡ first
+IsOpenAtStart first (Tenure start level slot end) = first < start
+IsOpenAtStart first other = Unit {0}
+
+-- the row tells a tenure, a cycle or a transfer
+abbrev pub is_traffic : Row → Bool
+is_traffic (Start instant) = false
+is_traffic (Reset instant) = false
+is_traffic (row.Verdict end) = false
+is_traffic other = true
+
+-- the direction of a transfer, where it names the cycle
+abbrev pub direction_in : ℕ → Row → List Direction
+direction_in cycle (Transfer direction line start named answer close lanes) =
+    if named == cycle then direction ∷ [] else []
+direction_in cycle other = []
+
+-- at most one transfer, or a read and then a write
+abbrev pub IsSingle : List Direction → Type 0
+IsSingle [] = Unit {0}
+IsSingle (d ∷ []) = Unit {0}
+IsSingle (d ∷ e ∷ []) = (d ≡ Read) × (e ≡ Write)
+IsSingle (d ∷ e ∷ f ∷ more) = ⊥
+
+-- transfers of one direction
+abbrev pub IsOneWay : List Direction → Type 0
+IsOneWay [] = Unit {0}
+IsOneWay (d ∷ more) = All (λ e. e ≡ d) more
+
+-- at most one transfer, a read
+abbrev pub IsVectorRead : List Direction → Type 0
+IsVectorRead [] = Unit {0}
+IsVectorRead (d ∷ []) = d ≡ Read
+IsVectorRead (d ∷ e ∷ more) = ⊥
+
+-- the transfers that name a cycle are those that its class allows
+abbrev pub IsOfItsClass : List Row → Row → Type 0
+IsOfItsClass rows (AddressedCycle start class.S modifier address end) = IsSingle (flat_map (direction_in start) rows)
+IsOfItsClass rows (AddressedCycle start class.K modifier address end) = IsOneWay (flat_map (direction_in start) rows)
+IsOfItsClass rows (InterruptCycle start level end) = IsVectorRead (flat_map (direction_in start) rows)
+IsOfItsClass rows other = Unit {0}
+
+-- both strobes were high, and one isn't
+abbrev pub strobes_leave : Trace → ℕ → Bool
+strobes_leave t i = strobes_high t (i - 1) && not (strobes_high t i)
+
+-- both are high again
+abbrev pub strobes_return : Trace → ℕ → Bool
+strobes_return t i = not (strobes_high t (i - 1)) && strobes_high t i
+
+-- first: the start of the stretch; end: where it ends, or where what is listed ends
+module _ (t : Trace) (first end : ℕ) where
+  -- the instants in between at which something is so, in order
+  abbrev pub instants : (ℕ → Bool) → List ℕ
+  instants p = those p (first + 1) end
+
+  -- the cycles are those of the address strobe: each of its falls starts one, and each of its rises ends one
+  pub record CyclesSplit (rows : List Row) : Type 0 where
+    pub start : starts_of (flat_map cycle_in rows) ≡ instants (falls t AS)
+    pub stop : ends_of (flat_map cycle_in rows) ≡ instants (rises t AS)
+    pub in_turn : AreInTurn (first + 1) (flat_map cycle_in rows)
+
+  -- where the busy line is low at the start, a tenure is open there
+  abbrev pub open_tenures : List ℕ
+  open_tenures = if low t BBSY first then first ∷ [] else []
+
+  -- the tenures are those of the busy line: each of its falls starts one, and each of its rises ends one; the open one
+  -- is more than that
+  pub record TenuresSplit (rows : List Row) : Type 0 where
+    pub start : starts_of (flat_map tenure_in rows) ≡ open_tenures ++ instants (falls t BBSY)
+    pub stop : ends_of (flat_map tenure_in rows) ≡ instants (rises t BBSY)
+    pub in_turn : AreInTurn first (flat_map tenure_in rows)
+
+  -- the transfers are those of the strobes: one starts where both were high and one isn't, and closes where both are
+  -- again
+  pub record TransfersSplit (rows : List Row) : Type 0 where
+    pub start : starts_of (flat_map transfer_in rows) ≡ instants (strobes_leave t)
+    pub close : ends_of (flat_map transfer_in rows) ≡ instants (strobes_return t)
+    pub in_turn : AreInTurn (first + 1) (flat_map transfer_in rows)
+
+  -- each fall of an answer line is the answer of one transfer
+  pub record AnswersSplit (rows : List Row) : Type 0 where
+    pub dtack : flat_map dtack_in rows ≡ instants (falls t DTACK)
+    pub berr : flat_map berr_in rows ≡ instants (falls t BERR)
+
+  -- what is listed is as the rules ask for it
+  pub record KeepsRules (rows : List Row) : Type 0 where
+    pub tenures_of_slots : All (IsOfASlot t.opening.slots) rows
+    pub open_at_start : All (IsOpenAtStart first) rows
+    pub grants : All (TellsGrant t) rows
+    pub cycles_in_tenures : All (StartsInOne (flat_map tenure_in rows)) (flat_map cycle_in rows)
+    pub answers_in_cycles : All (IsAnsweredInCycle (flat_map cycle_in rows)) rows
+    pub cycles_of_classes : All (IsOfItsClass rows) rows
+    pub acknowledges : All (TellsAcknowledge t) rows
+    pub codes_of_classes : All IsOfItsCode rows
+    pub modifiers : All (TellsModifier t) rows
+    pub addresses : All (TellsAddress t) rows
+    pub directions : All (TellsDirection t) rows
+    pub strobe_awaits : All (AwaitsAnswer t end) rows
+    pub nothing_else : All (λ told. is_traffic told ≡ true) rows
+
+  -- what is listed of a stretch splits the edges of its lines, and is as the rules ask for it
+  pub record SplitsStretch (rows : List Row) : Type 0 where
+    pub cycles : CyclesSplit rows
+    pub tenures : TenuresSplit rows
+    pub transfers : TransfersSplit rows
+    pub answers : AnswersSplit rows
+    pub keeps : KeepsRules rows
+
+-- limit: the first instant that isn't listed
+module _ (t : Trace) (limit : ℕ) where
+  -- the reset that ends a stretch
+  abbrev pub reset_row : Span → List Row
+  reset_row span = if is_reset_at t span.end && nat_lt span.end limit then Reset span.end ∷ [] else []
+
+  -- a listing tells of each stretch in turn its start, what splits its edges, and its reset; the verdict comes last
+  abbrev pub SplitsRecording : Outcome → List Span → List Row → Type 0
+  SplitsRecording end [] rows = rows ≡ row.Verdict end ∷ []
+  SplitsRecording end (span ∷ spans) rows =
+      (here : List Row) × (later : List Row) × (rows ≡ Start span.start ∷ here ++ reset_row span ++ later)
+      × SplitsStretch t span.start (min span.end limit) here × SplitsRecording end spans later
+
+  -- the stretches whose start is listed
+  abbrev pub listed_spans : List Span
+  listed_spans = filter (λ span. nat_lt span.start limit) (judged_spans t)
+
+-- the rows of a listing split what is judged of a recording with this verdict: all of it, or what is before the break.
+-- The bus is never idle where no instant is, and then nothing is judged
+abbrev pub Splits : Trace → Verdict → List Row → Type 0
+Splits t said.Conforming rows = SplitsRecording t (last_instant t + 1) outcome.Conforming (judged_spans t) rows
+Splits t (said.Broken b) rows =
+    SplitsRecording t b.instant (outcome.Broken b.rule b.instant b.line) (listed_spans t b.instant) rows
+Splits t (said.Unreadable b) rows =
+    SplitsRecording t b.instant (outcome.Unreadable b.rule b.instant b.line) (listed_spans t b.instant) rows
+Splits t said.NeverIdle rows =
+    ((i : ℕ) → i ≤ last_instant t → is_idle_at t i ≡ false) × (rows ≡ row.Verdict outcome.NeverIdle ∷ [])
+
+-- an answered transfer: where it starts, the cycle that it names, and its answer
+pub record Answered : Type 0 where
+  pub start : ℕ
+  pub cycle : ℕ
+  pub answer : ℕ
+
+abbrev pub answered : ℕ → ℕ → ℕ → Answered
+answered start cycle answer = record { start = start; cycle = cycle; answer = answer }
+
+-- the transfer that a row tells as answered by either line
+abbrev pub answered_by_dtack : Row → List Answered
+answered_by_dtack (Transfer direction Dtack start cycle answer close lanes) = answered start cycle answer ∷ []
+answered_by_dtack other = []
+
+abbrev pub answered_by_berr : Row → List Answered
+answered_by_berr (Transfer direction Berr start cycle answer close lanes) = answered start cycle answer ∷ []
+answered_by_berr other = []
+
+-- rows tell the same tenures, cycles and transfers, and the same answers, each of the same transfer in the same cycle
+pub record TellAlike (rows others : List Row) : Type 0 where
+  pub tenures : flat_map tenure_in rows ≡ flat_map tenure_in others
+  pub cycles : flat_map cycle_in rows ≡ flat_map cycle_in others
+  pub transfers : flat_map transfer_in rows ≡ flat_map transfer_in others
+  pub dtack : flat_map answered_by_dtack rows ≡ flat_map answered_by_dtack others
+  pub berr : flat_map answered_by_berr rows ≡ flat_map answered_by_berr others

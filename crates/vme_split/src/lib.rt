@@ -1,0 +1,77 @@
+//! What a listing says of the edges of its recording: they split into exactly what is listed.
+//!
+//! A listing is made row by row, by definitions in `vme_listing`. Here stands what its rows mean, in the words of the
+//! bus alone: each judged fall and rise of AS and of BBSY, each instant at which the data strobes leave high or are
+//! both back, and each fall of an answer line belongs to one row, and each row to its edges. [`listings_split`] says so
+//! of every recording and every verdict. Where the recording conforms, all of its judged edges are split; where it is
+//! broken or unreadable, those before the break.
+//!
+//! A recording is judged in stretches: the first begins as the bus is idle, a reset ends one, and the next begins as
+//! the bus is idle again. For each stretch these hold, each a field of `SplitsStretch` in `specs/Split.antt`:
+//!
+//! | Part | What it says |
+//! |---|---|
+//! | `cycles` | the cycles start at the falls of AS and end at its rises, one for each, in turn |
+//! | `tenures` | so do the tenures at those of BBSY; one more is first, where it is low as the stretch begins |
+//! | `transfers` | a transfer starts where both strobes were high and one isn't, and closes where both are; in turn |
+//! | `answers` | the answers by DTACK are the falls of DTACK, one for each, and those by BERR the falls of BERR |
+//! | `keeps.tenures_of_slots` | a tenure is of a level from 0 to 3, and of one of the slots |
+//! | `keeps.open_at_start` | a tenure is open where it was there as the stretch began, and no other is |
+//! | `keeps.grants` | a tenure takes a grant: as it starts, or just before, its level's nets are low up to its slot |
+//! | `keeps.cycles_in_tenures` | a cycle starts in a tenure |
+//! | `keeps.answers_in_cycles` | an answer comes in its transfer, and in the cycle that the row names |
+//! | `keeps.cycles_of_classes` | a cycle has the transfers that its class allows |
+//! | `keeps.acknowledges` | an interrupt acknowledge is a cycle that starts with IACK low; others start with it high |
+//! | `keeps.codes_of_classes` | the class of another cycle is that of its modifier code |
+//! | `keeps.modifiers` | the modifier is what AM0 to AM5 show as the cycle starts: high for 1, low for 0, each known |
+//! | `keeps.addresses` | so do the lines of the address that the code makes meaningful, and A01 to A03 the level |
+//! | `keeps.directions` | a write starts with WRITE low, a read with it high |
+//! | `keeps.strobe_awaits` | AS doesn't rise from the start of a transfer to its answer |
+//! | `keeps.nothing_else` | a stretch has no other rows |
+//!
+//! "In turn" says that each ends later than it starts, that the next starts later than that, and that only the last
+//! may lack an end. The sentences speak of lists of instants, and [`instants_are_exact`] says what these are: each
+//! instant at which something is so, once and in order. So a fall without a row, a row without a fall, and a row told
+//! twice are refused alike. [`split_is_unique`] says that nothing else splits the same edges: rows that do tell the
+//! same tenures, cycles, transfers and answers, each answer of the same transfer and in the same cycle.
+//!
+//! [`older_listings_split`] says the same of the listings of earlier versions.
+//!
+//! What isn't said: the data of a transfer, and the order of rows of different kinds. For these the definitions of
+//! `vme_listing` stand.
+#![tactic(auto)]
+
+ghost use Rattle.std.specs.Prelude.{◌≡◌, ◌<◌, ◌≤◌, ◌↔◌, ℕ, Bool, true, List, Contains};
+ghost use Rattle.vme_trace.specs.Instants.{those};
+ghost use Rattle.vme_trace.specs.Trace.{Trace};
+ghost use Rattle.vme_trace.specs.Verdict.{verdict};
+ghost use Rattle.vme_listing.specs.Recorded.{recorded_rows, rows_in};
+ghost use Rattle.vme_listing.specs.declared.row.Row.{Row};
+ghost use Rattle.vme_listing.specs.declared.row.Version.{Version};
+ghost use Rattle.vme_split.specs.Split.{Ascends, Splits, SplitsStretch, TellAlike};
+
+/// The judged edges of every recording, well formed or not, split into exactly what its listing tells: all of them
+/// where it conforms, and those before the break where it doesn't. Where the verdict is that the bus is never idle, no
+/// instant is idle, so nothing was judged.
+pub fn listings_split()
+    ensures { (t : Trace) → Splits t (verdict t) (recorded_rows t) }
+{}
+
+/// So does the listing of each earlier version split them, whose rows are the same without data.
+pub fn older_listings_split()
+    ensures { (version : Version) (t : Trace) → Splits t (verdict t) (rows_in version (recorded_rows t)) }
+{}
+
+/// Nothing else splits them: rows that split the same edges tell the same tenures, cycles and transfers, and the same
+/// answers, each of the same transfer in the same cycle.
+pub fn split_is_unique()
+    ensures { (t : Trace) (first end : ℕ) (rows others : List Row)
+        → SplitsStretch t first end rows → SplitsStretch t first end others → TellAlike rows others }
+{}
+
+/// The instants of a range at which something is so, as the laws above list them, are each of these, once and in order.
+pub fn instants_are_exact()
+    ensures each { (p : ℕ → Bool) (first end i : ℕ)
+        → Contains (those p first end) i ↔ ((first ≤ i) × (i < end) × (p i ≡ true)) }
+    ensures once { (p : ℕ → Bool) (first end : ℕ) → Ascends first (those p first end) }
+{}
