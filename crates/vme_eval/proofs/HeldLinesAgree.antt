@@ -1,7 +1,16 @@
 -- Computed from the definitions.
 use Rattle.std.proofs.Common.{refl}
 use Rattle.vme_eval.specs.Recording.{Agrees, AllAgree}
-use Rattle.vme_eval.specs.HeldLines.{held_lines, short_address, address_changes_early, address_changes_with_answer, unneeded_line_changes, address_lost_in_the_cycle, highest_address_line_changes, address_changes_as_the_cycle_ends, address_changes_after_an_answer_at_the_start, unknown_modifier, floating_modifier, address_lost_as_the_cycle_starts, address_known_as_the_cycle_starts, highest_address_line_unknown, direction_unknown, direction_known_as_the_transfer_starts, direction_settles_as_the_transfer_starts, direction_changes, direction_changes_after_the_answer, direction_changes_as_a_strobe_rises}
+use Rattle.vme_eval.specs.HeldLines.{held_lines, short_address, address_changes_early, address_changes_with_answer}
+use Rattle.vme_eval.specs.HeldLines.{unneeded_line_changes, address_lost_in_the_cycle, highest_address_line_changes}
+use Rattle.vme_eval.specs.HeldLines.{address_changes_as_the_cycle_ends, address_changes_after_an_answer_at_the_start}
+use Rattle.vme_eval.specs.HeldLines.{unknown_modifier, floating_modifier, address_lost_as_the_cycle_starts}
+use Rattle.vme_eval.specs.HeldLines.{address_known_as_the_cycle_starts, highest_address_line_unknown, direction_unknown}
+use Rattle.vme_eval.specs.HeldLines.{direction_known_as_the_transfer_starts, direction_settles_as_the_transfer_starts}
+use Rattle.vme_eval.specs.HeldLines.{direction_changes, direction_changes_after_the_answer}
+use Rattle.vme_eval.specs.HeldLines.{direction_changes_as_a_strobe_rises, level_of_an_acknowledge_changes}
+use Rattle.vme_eval.specs.HeldLines.{acknowledge_line_changes, highest_modifier_line_changes}
+use Rattle.vme_eval.specs.HeldLines.{lowest_modifier_line_changes, long_word_line_changes, lowest_address_line_changes}
 use Rattle.vme_eval.proofs.Everything.{everything, rows}
 
 pub short_address_agrees : Agrees short_address
@@ -80,6 +89,30 @@ pub direction_changes_as_a_strobe_rises_agrees : Agrees direction_changes_as_a_s
 unfolding everything rows direction_changes_as_a_strobe_rises
 direction_changes_as_a_strobe_rises_agrees = record { well_formed = refl; verdict = refl; rows = refl }
 
+pub level_of_an_acknowledge_changes_agrees : Agrees level_of_an_acknowledge_changes
+unfolding everything rows level_of_an_acknowledge_changes
+level_of_an_acknowledge_changes_agrees = record { well_formed = refl; verdict = refl; rows = refl }
+
+pub acknowledge_line_changes_agrees : Agrees acknowledge_line_changes
+unfolding everything rows acknowledge_line_changes
+acknowledge_line_changes_agrees = record { well_formed = refl; verdict = refl; rows = refl }
+
+pub highest_modifier_line_changes_agrees : Agrees highest_modifier_line_changes
+unfolding everything rows highest_modifier_line_changes
+highest_modifier_line_changes_agrees = record { well_formed = refl; verdict = refl; rows = refl }
+
+pub lowest_modifier_line_changes_agrees : Agrees lowest_modifier_line_changes
+unfolding everything rows lowest_modifier_line_changes
+lowest_modifier_line_changes_agrees = record { well_formed = refl; verdict = refl; rows = refl }
+
+pub long_word_line_changes_agrees : Agrees long_word_line_changes
+unfolding everything rows long_word_line_changes
+long_word_line_changes_agrees = record { well_formed = refl; verdict = refl; rows = refl }
+
+pub lowest_address_line_changes_agrees : Agrees lowest_address_line_changes
+unfolding everything rows lowest_address_line_changes
+lowest_address_line_changes_agrees = record { well_formed = refl; verdict = refl; rows = refl }
+
 pub held_lines_agree : AllAgree held_lines
 held_lines_agree =
-    (short_address_agrees, (address_changes_early_agrees, (address_changes_with_answer_agrees, (unneeded_line_changes_agrees, (address_lost_in_the_cycle_agrees, (highest_address_line_changes_agrees, (address_changes_as_the_cycle_ends_agrees, (address_changes_after_an_answer_at_the_start_agrees, (unknown_modifier_agrees, (floating_modifier_agrees, (address_lost_as_the_cycle_starts_agrees, (address_known_as_the_cycle_starts_agrees, (highest_address_line_unknown_agrees, (direction_unknown_agrees, (direction_known_as_the_transfer_starts_agrees, (direction_settles_as_the_transfer_starts_agrees, (direction_changes_agrees, (direction_changes_after_the_answer_agrees, (direction_changes_as_a_strobe_rises_agrees, tt)))))))))))))))))))
+    (short_address_agrees, (address_changes_early_agrees, (address_changes_with_answer_agrees, (unneeded_line_changes_agrees, (address_lost_in_the_cycle_agrees, (highest_address_line_changes_agrees, (address_changes_as_the_cycle_ends_agrees, (address_changes_after_an_answer_at_the_start_agrees, (unknown_modifier_agrees, (floating_modifier_agrees, (address_lost_as_the_cycle_starts_agrees, (address_known_as_the_cycle_starts_agrees, (highest_address_line_unknown_agrees, (direction_unknown_agrees, (direction_known_as_the_transfer_starts_agrees, (direction_settles_as_the_transfer_starts_agrees, (direction_changes_agrees, (direction_changes_after_the_answer_agrees, (direction_changes_as_a_strobe_rises_agrees, (level_of_an_acknowledge_changes_agrees, (acknowledge_line_changes_agrees, (highest_modifier_line_changes_agrees, (lowest_modifier_line_changes_agrees, (long_word_line_changes_agrees, (lowest_address_line_changes_agrees, tt)))))))))))))))))))))))))

@@ -4,6 +4,7 @@ pub mod DumpsAgree
 pub mod Everything
 pub mod GrantsAgree
 pub mod HeldLinesAgree
+pub mod LenienciesAgree
 pub mod ResetsAgree
 pub mod SameInstantAgree
 pub mod ShownRules

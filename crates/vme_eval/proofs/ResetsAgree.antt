@@ -1,7 +1,21 @@
 -- Computed from the definitions.
 use Rattle.std.proofs.Common.{refl}
 use Rattle.vme_eval.specs.Recording.{Agrees, AllAgree}
-use Rattle.vme_eval.specs.Resets.{resets, reset_in_a_read, busy_after_the_reset, answer_after_the_reset, strobe_lost_with_the_reset, reset_line_lost, reset_forgets_a_request, request_without_a_reset, reset_for_good, reset_before_judging, reset_at_the_end, two_resets, stray_answer_with_the_reset, stray_answers_around_the_reset, strobe_unknown_after_the_reset, strobe_lost_after_the_reset, reset_after_a_lost_strobe, address_changes_after_the_reset, address_changes_after_a_lost_strobe, direction_changes_after_the_reset, direction_changes_after_lost_strobes, data_changes_after_the_reset, read_after_the_reset_of_a_write, answer_withdrawn_in_the_reset, answer_withdrawn_early_after_the_reset, answer_in_the_reset, block_write_after_the_reset_of_a_block_read, bus_granted_again_after_the_reset, grant_taken_twice_after_the_reset, grant_before_the_reset_taken, bus_taken_as_judging_starts_again, open_tenure_ends_in_the_reset}
+use Rattle.vme_eval.specs.Resets.{resets, reset_in_a_read, busy_after_the_reset, answer_after_the_reset}
+use Rattle.vme_eval.specs.Resets.{strobe_lost_with_the_reset, reset_line_lost, reset_forgets_a_request}
+use Rattle.vme_eval.specs.Resets.{request_without_a_reset, reset_for_good, reset_before_judging, reset_at_the_end}
+use Rattle.vme_eval.specs.Resets.{two_resets, stray_answer_with_the_reset, stray_answers_around_the_reset}
+use Rattle.vme_eval.specs.Resets.{strobe_unknown_after_the_reset, strobe_lost_after_the_reset}
+use Rattle.vme_eval.specs.Resets.{reset_after_a_lost_strobe, address_changes_after_the_reset}
+use Rattle.vme_eval.specs.Resets.{address_changes_after_a_lost_strobe, direction_changes_after_the_reset}
+use Rattle.vme_eval.specs.Resets.{direction_changes_after_lost_strobes, data_changes_after_the_reset}
+use Rattle.vme_eval.specs.Resets.{read_after_the_reset_of_a_write, answer_withdrawn_in_the_reset}
+use Rattle.vme_eval.specs.Resets.{answer_withdrawn_early_after_the_reset, answer_in_the_reset}
+use Rattle.vme_eval.specs.Resets.{block_write_after_the_reset_of_a_block_read, bus_granted_again_after_the_reset}
+use Rattle.vme_eval.specs.Resets.{grant_taken_twice_after_the_reset, grant_before_the_reset_taken}
+use Rattle.vme_eval.specs.Resets.{bus_taken_as_judging_starts_again, open_tenure_ends_in_the_reset}
+use Rattle.vme_eval.specs.Resets.{everything_ends_at_the_reset, tenure_ends_at_the_reset}
+use Rattle.vme_eval.specs.Resets.{unreadable_after_a_break_before_the_reset}
 use Rattle.vme_eval.proofs.Everything.{everything, rows}
 
 pub reset_in_a_read_agrees : Agrees reset_in_a_read
@@ -128,6 +142,18 @@ pub open_tenure_ends_in_the_reset_agrees : Agrees open_tenure_ends_in_the_reset
 unfolding everything rows open_tenure_ends_in_the_reset
 open_tenure_ends_in_the_reset_agrees = record { well_formed = refl; verdict = refl; rows = refl }
 
+pub everything_ends_at_the_reset_agrees : Agrees everything_ends_at_the_reset
+unfolding everything rows everything_ends_at_the_reset
+everything_ends_at_the_reset_agrees = record { well_formed = refl; verdict = refl; rows = refl }
+
+pub tenure_ends_at_the_reset_agrees : Agrees tenure_ends_at_the_reset
+unfolding everything rows tenure_ends_at_the_reset
+tenure_ends_at_the_reset_agrees = record { well_formed = refl; verdict = refl; rows = refl }
+
+pub unreadable_after_a_break_before_the_reset_agrees : Agrees unreadable_after_a_break_before_the_reset
+unfolding everything rows unreadable_after_a_break_before_the_reset
+unreadable_after_a_break_before_the_reset_agrees = record { well_formed = refl; verdict = refl; rows = refl }
+
 pub resets_agree : AllAgree resets
 resets_agree =
-    (reset_in_a_read_agrees, (busy_after_the_reset_agrees, (answer_after_the_reset_agrees, (strobe_lost_with_the_reset_agrees, (reset_line_lost_agrees, (reset_forgets_a_request_agrees, (request_without_a_reset_agrees, (reset_for_good_agrees, (reset_before_judging_agrees, (reset_at_the_end_agrees, (two_resets_agrees, (stray_answer_with_the_reset_agrees, (stray_answers_around_the_reset_agrees, (strobe_unknown_after_the_reset_agrees, (strobe_lost_after_the_reset_agrees, (reset_after_a_lost_strobe_agrees, (address_changes_after_the_reset_agrees, (address_changes_after_a_lost_strobe_agrees, (direction_changes_after_the_reset_agrees, (direction_changes_after_lost_strobes_agrees, (data_changes_after_the_reset_agrees, (read_after_the_reset_of_a_write_agrees, (answer_withdrawn_in_the_reset_agrees, (answer_withdrawn_early_after_the_reset_agrees, (answer_in_the_reset_agrees, (block_write_after_the_reset_of_a_block_read_agrees, (bus_granted_again_after_the_reset_agrees, (grant_taken_twice_after_the_reset_agrees, (grant_before_the_reset_taken_agrees, (bus_taken_as_judging_starts_again_agrees, (open_tenure_ends_in_the_reset_agrees, tt)))))))))))))))))))))))))))))))
+    (reset_in_a_read_agrees, (busy_after_the_reset_agrees, (answer_after_the_reset_agrees, (strobe_lost_with_the_reset_agrees, (reset_line_lost_agrees, (reset_forgets_a_request_agrees, (request_without_a_reset_agrees, (reset_for_good_agrees, (reset_before_judging_agrees, (reset_at_the_end_agrees, (two_resets_agrees, (stray_answer_with_the_reset_agrees, (stray_answers_around_the_reset_agrees, (strobe_unknown_after_the_reset_agrees, (strobe_lost_after_the_reset_agrees, (reset_after_a_lost_strobe_agrees, (address_changes_after_the_reset_agrees, (address_changes_after_a_lost_strobe_agrees, (direction_changes_after_the_reset_agrees, (direction_changes_after_lost_strobes_agrees, (data_changes_after_the_reset_agrees, (read_after_the_reset_of_a_write_agrees, (answer_withdrawn_in_the_reset_agrees, (answer_withdrawn_early_after_the_reset_agrees, (answer_in_the_reset_agrees, (block_write_after_the_reset_of_a_block_read_agrees, (bus_granted_again_after_the_reset_agrees, (grant_taken_twice_after_the_reset_agrees, (grant_before_the_reset_taken_agrees, (bus_taken_as_judging_starts_again_agrees, (open_tenure_ends_in_the_reset_agrees, (everything_ends_at_the_reset_agrees, (tenure_ends_at_the_reset_agrees, (unreadable_after_a_break_before_the_reset_agrees, tt))))))))))))))))))))))))))))))))))

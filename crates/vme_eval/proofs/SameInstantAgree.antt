@@ -1,7 +1,16 @@
 -- Computed from the definitions.
 use Rattle.std.proofs.Common.{refl}
 use Rattle.vme_eval.specs.Recording.{Agrees, AllAgree}
-use Rattle.vme_eval.specs.SameInstant.{same_instant, modifier_and_direction_unknown, direction_unknown_as_the_answer_is_low, data_unknown_as_the_answer_is_low, answered_again_as_the_answer_is_withdrawn, address_and_direction_change, direction_and_data_change, direction_changes_with_a_second_answer, block_turns_as_a_slot_grants, slot_grants_as_another_ends_its_grant, slot_ends_its_grant_as_a_level_is_granted, two_levels_granted_while_busy, unasked_level_granted_while_busy, past_the_last_slot_with_an_acknowledge, acknowledge_of_nothing, acknowledge_after_answer_and_strobe, acknowledge_with_a_second_write, second_acknowledge_is_a_write}
+use Rattle.vme_eval.specs.SameInstant.{same_instant, modifier_and_direction_unknown}
+use Rattle.vme_eval.specs.SameInstant.{direction_unknown_as_the_answer_is_low, data_unknown_as_the_answer_is_low}
+use Rattle.vme_eval.specs.SameInstant.{answered_again_as_the_answer_is_withdrawn, address_and_direction_change}
+use Rattle.vme_eval.specs.SameInstant.{direction_and_data_change, direction_changes_with_a_second_answer}
+use Rattle.vme_eval.specs.SameInstant.{block_turns_as_a_slot_grants, slot_grants_as_another_ends_its_grant}
+use Rattle.vme_eval.specs.SameInstant.{slot_ends_its_grant_as_a_level_is_granted, two_levels_granted_while_busy}
+use Rattle.vme_eval.specs.SameInstant.{unasked_level_granted_while_busy, past_the_last_slot_with_an_acknowledge}
+use Rattle.vme_eval.specs.SameInstant.{acknowledge_of_nothing, acknowledge_after_answer_and_strobe}
+use Rattle.vme_eval.specs.SameInstant.{acknowledge_with_a_second_write, second_acknowledge_is_a_write}
+use Rattle.vme_eval.specs.SameInstant.{address_and_data_unknown}
 use Rattle.vme_eval.proofs.Everything.{everything, rows}
 
 pub modifier_and_direction_unknown_agrees : Agrees modifier_and_direction_unknown
@@ -72,6 +81,10 @@ pub second_acknowledge_is_a_write_agrees : Agrees second_acknowledge_is_a_write
 unfolding everything rows second_acknowledge_is_a_write
 second_acknowledge_is_a_write_agrees = record { well_formed = refl; verdict = refl; rows = refl }
 
+pub address_and_data_unknown_agrees : Agrees address_and_data_unknown
+unfolding everything rows address_and_data_unknown
+address_and_data_unknown_agrees = record { well_formed = refl; verdict = refl; rows = refl }
+
 pub same_instant_agree : AllAgree same_instant
 same_instant_agree =
-    (modifier_and_direction_unknown_agrees, (direction_unknown_as_the_answer_is_low_agrees, (data_unknown_as_the_answer_is_low_agrees, (answered_again_as_the_answer_is_withdrawn_agrees, (address_and_direction_change_agrees, (direction_and_data_change_agrees, (direction_changes_with_a_second_answer_agrees, (block_turns_as_a_slot_grants_agrees, (slot_grants_as_another_ends_its_grant_agrees, (slot_ends_its_grant_as_a_level_is_granted_agrees, (two_levels_granted_while_busy_agrees, (unasked_level_granted_while_busy_agrees, (past_the_last_slot_with_an_acknowledge_agrees, (acknowledge_of_nothing_agrees, (acknowledge_after_answer_and_strobe_agrees, (acknowledge_with_a_second_write_agrees, (second_acknowledge_is_a_write_agrees, tt)))))))))))))))))
+    (modifier_and_direction_unknown_agrees, (direction_unknown_as_the_answer_is_low_agrees, (data_unknown_as_the_answer_is_low_agrees, (answered_again_as_the_answer_is_withdrawn_agrees, (address_and_direction_change_agrees, (direction_and_data_change_agrees, (direction_changes_with_a_second_answer_agrees, (block_turns_as_a_slot_grants_agrees, (slot_grants_as_another_ends_its_grant_agrees, (slot_ends_its_grant_as_a_level_is_granted_agrees, (two_levels_granted_while_busy_agrees, (unasked_level_granted_while_busy_agrees, (past_the_last_slot_with_an_acknowledge_agrees, (acknowledge_of_nothing_agrees, (acknowledge_after_answer_and_strobe_agrees, (acknowledge_with_a_second_write_agrees, (second_acknowledge_is_a_write_agrees, (address_and_data_unknown_agrees, tt))))))))))))))))))

@@ -2,7 +2,10 @@
 use Rattle.std.proofs.Common.{◌≡◌, refl}
 use Rattle.std.specs.Prelude.{◌∷◌, []}
 use Rattle.vme_trace.specs.declared.level.Level.TheVariants.{Low, Unknown}
-use Rattle.vme_eval.specs.Tables.{asks_up_to, codes_that, is_block_transfer, is_single_transfer, control_lines, high_lines, lost_lines, not_idle_with}
+use Rattle.vme_trace.specs.LineNumbers.{IACK}
+use Rattle.vme_eval.specs.Tables.{asks_up_to, codes_that, is_block_transfer, is_single_transfer, control_lines}
+use Rattle.vme_eval.specs.Tables.{high_but, high_lines, lines_of_code, lost_lines, modifier_lines, needed_lines}
+use Rattle.vme_eval.specs.Tables.{not_idle_with, standard_lines}
 use Rattle.vme_eval.proofs.Everything.{everything}
 
 pub rows_block_codes : codes_that is_block_transfer ≡ 11 ∷ 15 ∷ 59 ∷ 63 ∷ []
@@ -36,3 +39,15 @@ rows_known_lines = refl
 pub rows_control_lines : lost_lines ≡ control_lines
 unfolding everything
 rows_control_lines = refl
+
+pub rows_standard_needs : needed_lines (lines_of_code 61) ≡ standard_lines
+unfolding everything
+rows_standard_needs = refl
+
+pub rows_acknowledge_needs : needed_lines (high_but IACK Low) ≡ 5 ∷ 14 ∷ 15 ∷ 16 ∷ []
+unfolding everything
+rows_acknowledge_needs = refl
+
+pub rows_modifier_lines : modifier_lines ≡ 6 ∷ 7 ∷ 8 ∷ 9 ∷ 10 ∷ 11 ∷ []
+unfolding everything
+rows_modifier_lines = refl

@@ -1,10 +1,10 @@
 -- Lines that are known and held while a cycle or a transfer lasts.
 use Rattle.std.specs.Prelude.{List, [], ◌∷◌, codes}
-use Rattle.vme_trace.specs.LineNumbers.{AS, DS0, DS1, DTACK, WRITE, AM, A, BBSY}
+use Rattle.vme_trace.specs.LineNumbers.{AS, DS0, DS1, DTACK, IACK, LWORD, WRITE, AM, A, BBSY}
 use Rattle.vme_trace.specs.declared.rule.Rule.TheVariants.{U2, U3, S1, S2}
 use Rattle.vme_trace.specs.declared.verdict.Verdict.TheVariants.{Conforming, Broken, Unreadable}
 use Rattle.vme_eval.specs.Recording.{Recording}
-use Rattle.vme_eval.specs.Steps.{low, high, unknown, asking, once_granted}
+use Rattle.vme_eval.specs.Steps.{low, high, unknown, asking, from_idle_but, once_granted}
 
 -- a short address, by modifier 29
 unfoldable pub short_address : Recording
@@ -221,6 +221,68 @@ direction_changes_as_a_strobe_rises = record {
       ∷ codes "transfer 10 of 9 read DTACK 11 close 13" ∷ codes "verdict conforming" ∷ [];
 }
 
+-- an acknowledge needs the three lines of its level, and neither the modifier, the long word line nor A04. What it
+-- needs is by the levels where the address strobe falls
+unfoldable pub level_of_an_acknowledge_changes : Recording
+level_of_an_acknowledge_changes = record {
+  trace =
+      from_idle_but BBSY ((low AS ∷ low IACK ∷ []) ∷ (low (AM 0) ∷ low (AM 5) ∷ low LWORD ∷ low (A 4) ∷ [])
+      ∷ (low (A 3) ∷ []) ∷ []);
+  verdict = Broken (record { instant = 4; time = 30; rule = S1; line = A 3 });
+  rows =
+      codes "start 1" ∷ codes "tenure 1 open end -" ∷ codes "cycle 2 I 7 end -" ∷ codes "verdict broken S1 4 A03" ∷ [];
+}
+
+-- a cycle that is no acknowledge needs the acknowledge line
+unfoldable pub acknowledge_line_changes : Recording
+acknowledge_line_changes = record {
+  trace = from_idle_but BBSY ((low AS ∷ []) ∷ (low IACK ∷ []) ∷ []);
+  verdict = Broken (record { instant = 3; time = 20; rule = S1; line = IACK });
+  rows =
+      codes "start 1" ∷ codes "tenure 1 open end -" ∷ codes "cycle 2 K 3F FFFFFE end -"
+      ∷ codes "verdict broken S1 3 IACK" ∷ [];
+}
+
+-- the highest line of the modifier changes before the answer
+unfoldable pub highest_modifier_line_changes : Recording
+highest_modifier_line_changes = record {
+  trace = from_idle_but BBSY ((low AS ∷ []) ∷ (low (AM 5) ∷ []) ∷ []);
+  verdict = Broken (record { instant = 3; time = 20; rule = S1; line = AM 5 });
+  rows =
+      codes "start 1" ∷ codes "tenure 1 open end -" ∷ codes "cycle 2 K 3F FFFFFE end -"
+      ∷ codes "verdict broken S1 3 AM5" ∷ [];
+}
+
+-- its lowest line changes
+unfoldable pub lowest_modifier_line_changes : Recording
+lowest_modifier_line_changes = record {
+  trace = from_idle_but BBSY ((low AS ∷ []) ∷ (low (AM 0) ∷ []) ∷ []);
+  verdict = Broken (record { instant = 3; time = 20; rule = S1; line = AM 0 });
+  rows =
+      codes "start 1" ∷ codes "tenure 1 open end -" ∷ codes "cycle 2 K 3F FFFFFE end -"
+      ∷ codes "verdict broken S1 3 AM0" ∷ [];
+}
+
+-- the long word line changes before the answer
+unfoldable pub long_word_line_changes : Recording
+long_word_line_changes = record {
+  trace = from_idle_but BBSY ((low AS ∷ []) ∷ (low LWORD ∷ []) ∷ []);
+  verdict = Broken (record { instant = 3; time = 20; rule = S1; line = LWORD });
+  rows =
+      codes "start 1" ∷ codes "tenure 1 open end -" ∷ codes "cycle 2 K 3F FFFFFE end -"
+      ∷ codes "verdict broken S1 3 LWORD" ∷ [];
+}
+
+-- the lowest line of the address changes before the answer
+unfoldable pub lowest_address_line_changes : Recording
+lowest_address_line_changes = record {
+  trace = from_idle_but BBSY ((low AS ∷ []) ∷ (low (A 1) ∷ []) ∷ []);
+  verdict = Broken (record { instant = 3; time = 20; rule = S1; line = A 1 });
+  rows =
+      codes "start 1" ∷ codes "tenure 1 open end -" ∷ codes "cycle 2 K 3F FFFFFE end -"
+      ∷ codes "verdict broken S1 3 A01" ∷ [];
+}
+
 -- all of them
 abbrev pub held_lines : List Recording
 held_lines = short_address ∷ address_changes_early ∷ address_changes_with_answer ∷ unneeded_line_changes
@@ -228,4 +290,6 @@ held_lines = short_address ∷ address_changes_early ∷ address_changes_with_an
     ∷ address_changes_after_an_answer_at_the_start ∷ unknown_modifier ∷ floating_modifier
     ∷ address_lost_as_the_cycle_starts ∷ address_known_as_the_cycle_starts ∷ highest_address_line_unknown
     ∷ direction_unknown ∷ direction_known_as_the_transfer_starts ∷ direction_settles_as_the_transfer_starts
-    ∷ direction_changes ∷ direction_changes_after_the_answer ∷ direction_changes_as_a_strobe_rises ∷ []
+    ∷ direction_changes ∷ direction_changes_after_the_answer ∷ direction_changes_as_a_strobe_rises
+    ∷ level_of_an_acknowledge_changes ∷ acknowledge_line_changes ∷ highest_modifier_line_changes
+    ∷ lowest_modifier_line_changes ∷ long_word_line_changes ∷ lowest_address_line_changes ∷ []

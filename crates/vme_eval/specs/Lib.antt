@@ -4,6 +4,7 @@ pub mod Dumps
 pub mod Examples
 pub mod Grants
 pub mod HeldLines
+pub mod Leniencies
 pub mod Recording
 pub mod Resets
 pub mod SameInstant

@@ -364,6 +364,38 @@ open_tenure_ends_in_the_reset = record {
       ∷ codes "verdict conforming" ∷ [];
 }
 
+-- an open tenure, a cycle and a transfer end at the instant of the reset, which is not listed of them
+unfoldable pub everything_ends_at_the_reset : Recording
+everything_ends_at_the_reset = record {
+  trace =
+      from_idle_but BBSY ((low AS ∷ low DS0 ∷ low DTACK ∷ []) ∷ (high AS ∷ high DS0 ∷ high BBSY ∷ low SYSRESET ∷ [])
+      ∷ []);
+  verdict = Conforming;
+  rows =
+      codes "start 1" ∷ codes "tenure 1 open end -" ∷ codes "cycle 2 K 3F FFFFFE end -"
+      ∷ codes "transfer 2 of 2 read DTACK 2 close -" ∷ codes "reset 3" ∷ codes "verdict conforming" ∷ [];
+}
+
+-- so does a tenure that a grant began
+unfoldable pub tenure_ends_at_the_reset : Recording
+tenure_ends_at_the_reset = record {
+  trace =
+      from_idle ((low (BR 3) ∷ []) ∷ (low (grant 3 0) ∷ []) ∷ (low BBSY ∷ high (BR 3) ∷ []) ∷ (high (grant 3 0) ∷ [])
+      ∷ (high BBSY ∷ low SYSRESET ∷ []) ∷ []);
+  verdict = Conforming;
+  rows = codes "start 1" ∷ codes "tenure 4 level 3 slot 1 end -" ∷ codes "reset 6" ∷ codes "verdict conforming" ∷ [];
+}
+
+-- an answer to nobody before the reset, and an unknown direction after it: the earlier break is named
+unfoldable pub unreadable_after_a_break_before_the_reset : Recording
+unreadable_after_a_break_before_the_reset = record {
+  trace =
+      from_idle ((low BERR ∷ []) ∷ (low SYSRESET ∷ []) ∷ (high BERR ∷ high SYSRESET ∷ [])
+      ∷ (low DS0 ∷ unknown WRITE ∷ []) ∷ []);
+  verdict = Broken (record { instant = 2; time = 10; rule = H4; line = BERR });
+  rows = codes "start 1" ∷ codes "verdict broken H4 2 BERR" ∷ [];
+}
+
 -- all of them
 abbrev pub resets : List Recording
 resets = reset_in_a_read ∷ busy_after_the_reset ∷ answer_after_the_reset ∷ strobe_lost_with_the_reset
@@ -375,4 +407,5 @@ resets = reset_in_a_read ∷ busy_after_the_reset ∷ answer_after_the_reset ∷
     ∷ answer_withdrawn_in_the_reset ∷ answer_withdrawn_early_after_the_reset ∷ answer_in_the_reset
     ∷ block_write_after_the_reset_of_a_block_read ∷ bus_granted_again_after_the_reset
     ∷ grant_taken_twice_after_the_reset ∷ grant_before_the_reset_taken ∷ bus_taken_as_judging_starts_again
-    ∷ open_tenure_ends_in_the_reset ∷ []
+    ∷ open_tenure_ends_in_the_reset ∷ everything_ends_at_the_reset ∷ tenure_ends_at_the_reset
+    ∷ unreadable_after_a_break_before_the_reset ∷ []

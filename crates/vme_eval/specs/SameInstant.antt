@@ -1,11 +1,12 @@
 -- Recordings that break two rules at one instant, of which the one that stands first is named.
 use Rattle.std.specs.Prelude.{List, [], ◌∷◌, codes}
-use Rattle.vme_trace.specs.LineNumbers.{AS, DS0, DS1, DTACK, BERR, WRITE, AM, A, BR, BBSY, D, grant, iack}
+use Rattle.vme_trace.specs.LineNumbers.{AS, DS0, DS1, DTACK, BERR, WRITE, AM, A, BBSY, BR, D, grant, iack}
 use Rattle.vme_trace.specs.declared.rule.Rule.TheVariants.{U2, U3, U4, H5, S1, S2, C2, G1, G2, G3, G4, B4, I1, I2, I3}
 use Rattle.vme_trace.specs.declared.rule.Rule.TheVariants.{I4}
 use Rattle.vme_trace.specs.declared.verdict.Verdict.TheVariants.{Broken, Unreadable}
 use Rattle.vme_eval.specs.Recording.{Recording}
-use Rattle.vme_eval.specs.Steps.{low, high, unknown, asking, acknowledging, from_idle, once_granted, passed_on}
+use Rattle.vme_eval.specs.Steps.{low, high, unknown, asking, acknowledging, from_idle, from_idle_but, once_granted}
+use Rattle.vme_eval.specs.Steps.{passed_on}
 
 -- the address strobe and a strobe fall together: the modifier, and then the direction
 unfoldable pub modifier_and_direction_unknown : Recording
@@ -190,6 +191,14 @@ second_acknowledge_is_a_write = record {
       ∷ codes "verdict broken I4 15 DTACK" ∷ [];
 }
 
+-- the address, and then a data line
+unfoldable pub address_and_data_unknown : Recording
+address_and_data_unknown = record {
+  trace = from_idle_but BBSY ((low AS ∷ low DS0 ∷ low WRITE ∷ unknown (A 5) ∷ unknown (D 0) ∷ []) ∷ []);
+  verdict = Unreadable (record { instant = 2; time = 10; rule = U2; line = A 5 });
+  rows = codes "start 1" ∷ codes "tenure 1 open end -" ∷ codes "verdict unreadable U2 2 A05" ∷ [];
+}
+
 -- all of them
 abbrev pub same_instant : List Recording
 same_instant = modifier_and_direction_unknown ∷ direction_unknown_as_the_answer_is_low
@@ -198,4 +207,4 @@ same_instant = modifier_and_direction_unknown ∷ direction_unknown_as_the_answe
     ∷ slot_grants_as_another_ends_its_grant ∷ slot_ends_its_grant_as_a_level_is_granted
     ∷ two_levels_granted_while_busy ∷ unasked_level_granted_while_busy ∷ past_the_last_slot_with_an_acknowledge
     ∷ acknowledge_of_nothing ∷ acknowledge_after_answer_and_strobe ∷ acknowledge_with_a_second_write
-    ∷ second_acknowledge_is_a_write ∷ []
+    ∷ second_acknowledge_is_a_write ∷ address_and_data_unknown ∷ []

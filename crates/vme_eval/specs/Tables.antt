@@ -1,6 +1,6 @@
 -- Which modifier codes and which lines the definitions single out.
 use Rattle.std.specs.Prelude.{ℕ, Bool, not, ◌==◌, ◌/◌, ◌%◌, List, [], ◌∷◌, ◌++◌, replicate, if◌then◌else◌}
-use Rattle.vme_trace.specs.Cycle.{class_of, needs_of}
+use Rattle.vme_trace.specs.Cycle.{class_of, needs_of, is_needed}
 use Rattle.vme_trace.specs.Instants.{those}
 use Rattle.vme_trace.specs.Levels.{Levels, set_level, is_idle, loses_control}
 use Rattle.vme_trace.specs.LineNumbers.{line_count}
@@ -61,3 +61,17 @@ high_lines = 0 ∷ 1 ∷ 2 ∷ 3 ∷ 4 ∷ nets ++ 191 ∷ []
 -- these, and those of the interrupt acknowledge, of the busy bus and of its requests
 abbrev pub control_lines : List ℕ
 control_lines = 0 ∷ 1 ∷ 2 ∷ 3 ∷ 4 ∷ 5 ∷ 45 ∷ 46 ∷ 47 ∷ 48 ∷ 49 ∷ nets ++ 191 ∷ []
+
+-- the lines that a cycle needs that starts with these levels
+abbrev pub needed_lines : Levels → List ℕ
+needed_lines v = those (is_needed v) 0 line_count
+
+-- the interrupt acknowledge, the address modifier, the long word line and a standard address
+abbrev pub standard_lines : List ℕ
+standard_lines =
+    5 ∷ 6 ∷ 7 ∷ 8 ∷ 9 ∷ 10 ∷ 11 ∷ 12 ∷ 14 ∷ 15 ∷ 16 ∷ 17 ∷ 18 ∷ 19 ∷ 20 ∷ 21 ∷ 22 ∷ 23 ∷ 24 ∷ 25 ∷ 26 ∷ 27 ∷ 28
+    ∷ 29 ∷ 30 ∷ 31 ∷ 32 ∷ 33 ∷ 34 ∷ 35 ∷ 36 ∷ []
+
+-- the lines that make a cycle of code 0F a free one while they are unknown
+abbrev pub modifier_lines : List ℕ
+modifier_lines = those (λ l. asks_up_to 0 (set_level (lines_of_code 15) l Unknown)) 0 line_count

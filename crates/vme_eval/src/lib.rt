@@ -1,21 +1,22 @@
 //! What the definitions of a break, of a verdict and of a listing say of worked recordings, by computing them.
 //!
 //! Each function is a law: its contract is what it says. `every_rule` says that each rule has an example that breaks it
-//! and recordings near to that which conform; `tables` which codes and lines the definitions single out; each of the
-//! others that the recordings of one module of `specs/`, which ends in the list of them, get the verdict and the
-//! listing that stand beside them.
+//! and recordings near to that which conform; `tables` which codes and lines the definitions single out;
+//! `malformed_steps` which steps may not stand where they stand; each of the others that the recordings of one module
+//! of `specs/`, which ends in the list of them, get the verdict and the listing that stand beside them.
 //! Start reading in `specs/Recording`, then `specs/Examples`. `./test` runs the program on dumps of the recordings,
 //! read off `specs/`, and `tests/definitions/try` edits the definitions, which a law has to refuse.
 #![tactic(auto)]
 
 ghost use Rattle.std.specs.Prelude.{◌≡◌, ◌∷◌, [], Some};
+ghost use Rattle.vme_trace.specs.LineNumbers.{AS, BBSY, DS0, IACK, grant};
 ghost use Rattle.vme_trace.specs.Tenures.{tenure_level};
 ghost use Rattle.vme_trace.specs.WellFormed.{malformed_step};
 ghost use Rattle.vme_trace.specs.declared.level.Level.TheVariants.{Low, Unknown};
 ghost use Rattle.vme_trace.specs.declared.rule.Rule.{Rule};
 ghost use Rattle.vme_eval.specs.Examples.{IsShown};
 ghost use Rattle.vme_eval.specs.Recording.{AllAgree, judged};
-ghost use Rattle.vme_eval.specs.Steps.{at, dumped_at};
+ghost use Rattle.vme_eval.specs.Steps.{at, dumped_at, high, low};
 ghost use Rattle.vme_eval.specs.Dumps.{dumps};
 ghost use Rattle.vme_eval.specs.Transfers.{transfers};
 ghost use Rattle.vme_eval.specs.Cycles.{cycles};
@@ -26,15 +27,18 @@ ghost use Rattle.vme_eval.specs.Tenures.{tenures};
 ghost use Rattle.vme_eval.specs.Acknowledges.{acknowledges};
 ghost use Rattle.vme_eval.specs.Resets.{resets, reset_after_a_lost_strobe, two_resets};
 ghost use Rattle.vme_eval.specs.SameInstant.{same_instant};
-ghost use Rattle.vme_eval.specs.Tables.{asks_up_to, codes_that, control_lines, high_lines, is_block_transfer};
-ghost use Rattle.vme_eval.specs.Tables.{is_single_transfer, lost_lines, not_idle_with};
+ghost use Rattle.vme_eval.specs.Leniencies.{leniencies};
+ghost use Rattle.vme_eval.specs.Tables.{asks_up_to, codes_that, control_lines, high_but, high_lines, is_block_transfer};
+ghost use Rattle.vme_eval.specs.Tables.{is_single_transfer, lines_of_code, lost_lines, modifier_lines, needed_lines};
+ghost use Rattle.vme_eval.specs.Tables.{not_idle_with, standard_lines};
 
 /// Each rule is broken in its example, and the recordings nearest to that conform.
 pub fn every_rule()
     ensures { (r : Rule) → IsShown r }
 {}
 
-/// The modifier codes of each class, the lines that have to be high or known on an idle bus, and the control lines.
+/// The modifier codes of each class, the lines that have to be high or known on an idle bus, the control lines, and the
+/// lines that a cycle needs.
 pub fn tables()
     ensures block_codes { codes_that is_block_transfer ≡ 11 ∷ 15 ∷ 59 ∷ 63 ∷ [] }
     ensures single_codes { codes_that is_single_transfer ≡ 9 ∷ 10 ∷ 13 ∷ 14 ∷ 41 ∷ 45 ∷ 57 ∷ 58 ∷ 61 ∷ 62 ∷ [] }
@@ -44,6 +48,9 @@ pub fn tables()
     ensures high_lines { not_idle_with Low ≡ high_lines }
     ensures known_lines { not_idle_with Unknown ≡ control_lines }
     ensures control_lines { lost_lines ≡ control_lines }
+    ensures standard_needs { needed_lines (lines_of_code 61) ≡ standard_lines }
+    ensures acknowledge_needs { needed_lines (high_but IACK Low) ≡ 5 ∷ 14 ∷ 15 ∷ 16 ∷ [] }
+    ensures modifier_lines { modifier_lines ≡ 6 ∷ 7 ∷ 8 ∷ 9 ∷ 10 ∷ 11 ∷ [] }
 {}
 
 /// Of two levels that are granted the lesser one is a tenure's, and of two malformed steps the first is named. No
@@ -51,6 +58,17 @@ pub fn tables()
 pub fn least_of_two()
     ensures level { tenure_level two_levels_granted_at_once.trace 3 ≡ Some 2 }
     ensures step { malformed_step (dumped_at (at 5 [] ∷ at 3 [] ∷ [])) ≡ Some 0 }
+{}
+
+/// Steps that may not stand where they stand: one that changes nothing, one that is no later than the one before, and
+/// ones that change a line that one slot doesn't have, a line to the level that it has, and lines out of order.
+pub fn malformed_steps()
+    ensures no_change { malformed_step (dumped_at (at 5 [] ∷ [])) ≡ Some 0 }
+    ensures no_later { malformed_step (dumped_at (at 5 (low AS ∷ []) ∷ at 5 (low DS0 ∷ []) ∷ [])) ≡ Some 1 }
+    ensures no_line { malformed_step (dumped_at (at 5 (low (grant 0 2) ∷ []) ∷ [])) ≡ Some 0 }
+    ensures no_level { malformed_step (dumped_at (at 5 (low BBSY ∷ []) ∷ [])) ≡ Some 0 }
+    ensures no_order { malformed_step (dumped_at (at 5 (low DS0 ∷ low AS ∷ []) ∷ [])) ≡ Some 0 }
+    ensures one_line_twice { malformed_step (dumped_at (at 5 (low AS ∷ high AS ∷ []) ∷ [])) ≡ Some 0 }
 {}
 
 /// Recordings of one slot, as from a dump, and where judging starts and ends.
@@ -108,4 +126,9 @@ pub fn judged_stretches()
 /// Recordings that break two rules at one instant: the one that stands first is named.
 pub fn same_instant()
     ensures { AllAgree same_instant }
+{}
+
+/// What conforms though the standard's order of edges forbids it.
+pub fn leniencies()
+    ensures { AllAgree leniencies }
 {}

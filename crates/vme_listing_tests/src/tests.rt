@@ -669,7 +669,7 @@ fn faults(rt: HostRuntime) {
 }
 
 /// Lines that are no row behind `start 1`.
-const BAD_LINES: [&[u8]; 30] = [
+const BAD_LINES: [&[u8]; 26] = [
     b"",
     b"start 2",
     b"tenure 05 level 3 slot 2 end 14",
@@ -696,10 +696,6 @@ const BAD_LINES: [&[u8]; 30] = [
     b"transfer 10 of 9 write DTACK 11 close 12 data 7FFFFFFF",
     b"transfer 10 of 9 write DTACK 11 close 12 data --------",
     b"transfer 10 read",
-    b"verdict never-idle",
-    b"verdict broken U1 10 AS",
-    b"verdict unreadable H4 10 DTACK",
-    b"verdict broken H4 10 D32",
 ];
 
 /// The fault of a text with these two lines at its front, or none.
@@ -715,6 +711,126 @@ fn bad_lines(rt: HostRuntime) -> Result<(), Fail> {
     for line in BAD_LINES {
         let fault = fault_behind(rt.alloc(), b"vmecheck listing 1\nstart 1\n", line)?;
         assert!(rt; fault == Some(ListFault::BadRow { row: 2 }));
+    }
+    Ok(())
+}
+
+/// The header of each version, and a start.
+const STARTED: [&[u8]; 3] = [
+    b"vmecheck listing 1\nstart 1\n",
+    b"vmecheck listing 2\nstart 1\n",
+    b"vmecheck listing 3\nstart 1\n",
+];
+
+/// Verdicts that may stand last.
+const GOOD_VERDICTS: [&[u8]; 6] = [
+    b"verdict conforming\n",
+    b"verdict broken H4 10 D31\n",
+    b"verdict broken I5 4294967295 SYSRESET\n",
+    b"verdict broken G1 0 BG0.21\n",
+    b"verdict unreadable U1 10 AS\n",
+    b"verdict unreadable U4 10 D00\n",
+];
+
+/// Lines that are no verdict, and stand last.
+const BAD_VERDICTS: [&[u8]; 15] = [
+    b"verdict never-idle\n",
+    b"verdict broken U1 10 AS\n",
+    b"verdict broken U4 10 D00\n",
+    b"verdict unreadable H4 10 DTACK\n",
+    b"verdict unreadable I5 10 DTACK\n",
+    b"verdict broken H4 10 D32\n",
+    b"verdict broken G1 10 BG0.22\n",
+    b"verdict broken H9 10 DTACK\n",
+    b"verdict broken H4 4294967296 DTACK\n",
+    b"verdict broken H4 010 DTACK\n",
+    b"verdict broken H4 10 DTACK \n",
+    b"verdict broken H4 DTACK\n",
+    b"verdict broken\n",
+    b"verdict conforming \n",
+    b"verdict\n",
+];
+
+/// Verdicts at the end of a listing, so that a fault is one of their form.
+#[test]
+fn last_verdicts(rt: HostRuntime) -> Result<(), Fail> {
+    for front in STARTED {
+        for line in GOOD_VERDICTS {
+            let text = text_of(rt.alloc(), front, line)?;
+            assert!(rt; fault_of(rt.alloc(), text.as_slice()).is_none());
+        }
+        for line in BAD_VERDICTS {
+            let text = text_of(rt.alloc(), front, line)?;
+            let fault = fault_of(rt.alloc(), text.as_slice());
+            assert!(rt; fault == Some(ListFault::BadRow { row: 2 }));
+        }
+    }
+    Ok(())
+}
+
+/// Two rows of one instant and one kind.
+const ONE_PLACE: [&[u8]; 6] = [
+    b"tenure 5 open end -\ntenure 5 open end -\n",
+    b"tenure 5 open end -\ntenure 5 level 3 slot 2 end -\n",
+    b"tenure 5 level 3 slot 2 end 7\ntenure 5 level 3 slot 2 end 7\n",
+    b"cycle 5 S 39 FFFFDE end -\ncycle 5 F 1F end -\n",
+    b"cycle 5 I 7 end -\ncycle 5 I 7 end -\n",
+    b"transfer 5 of 5 read DTACK 6 close 7\ntransfer 5 read pending\n",
+];
+
+/// Rows that may stand behind `start 1` in each version: of each kind, at one instant and at later ones.
+const GOOD_ROWS: [&[u8]; 9] = [
+    b"tenure 1 open end 4294967295\ncycle 5 K 3B FFFFDE end 12\nverdict conforming\n",
+    b"tenure 5 level 0 slot 1 end -\ntenure 6 level 3 slot 21 end 7\nverdict conforming\n",
+    b"tenure 5 level 3 slot 2 end -\ncycle 5 F 1F end -\ntransfer 5 read pending\nverdict conforming\n",
+    b"transfer 5 write pending\ntenure 6 level 3 slot 2 end -\nverdict conforming\n",
+    b"cycle 5 S 29 FFFE end -\ncycle 6 S 0D FFFFFFFE end -\ncycle 7 K 0B 00000000 end -\nverdict conforming\n",
+    b"cycle 5 F 00 end -\ncycle 6 F 3C end -\ncycle 7 I 0 end -\ncycle 8 I 7 end -\nverdict conforming\n",
+    b"transfer 0 of 0 read BERR 0 close 0\ntransfer 1 of 9 read DTACK 0 close -\nverdict conforming\n",
+    b"tenure 4294967295 open end -\nverdict conforming\n",
+    b"verdict conforming\n",
+];
+
+/// Rows of each kind in the versions that have them, and two of one place in each.
+#[test]
+fn placed_rows(rt: HostRuntime) -> Result<(), Fail> {
+    for front in STARTED {
+        for rows in ONE_PLACE {
+            let text = text_of(rt.alloc(), front, rows)?;
+            let fault = fault_of(rt.alloc(), text.as_slice());
+            assert!(rt; fault == Some(ListFault::Unsorted { row: 3 }));
+        }
+    }
+    for rows in GOOD_ROWS {
+        for header in [
+            b"vmecheck listing 1\nstart 0\n",
+            b"vmecheck listing 2\nstart 0\n",
+        ] {
+            let text = text_of(rt.alloc(), header, rows)?;
+            let listing = read(rt.alloc(), text.as_slice()).ok().ok_or("no listing")?;
+            assert!(rt; is_written(rt.alloc(), &listing, text.as_slice())?);
+        }
+    }
+    Ok(())
+}
+
+/// The row of an answered write in each version, and the fault that it is there.
+#[test]
+fn writes_of_versions(rt: HostRuntime) -> Result<(), Fail> {
+    let bare = b"transfer 5 of 5 write DTACK 6 close 7\nverdict conforming\n".as_slice();
+    let told =
+        b"transfer 5 of 5 write DTACK 6 close 7 data ----1X34\nverdict conforming\n".as_slice();
+    for (front, rows, is_row) in [
+        (STARTED[0], bare, true),
+        (STARTED[0], told, false),
+        (STARTED[1], bare, false),
+        (STARTED[1], told, true),
+        (STARTED[2], bare, false),
+        (STARTED[2], told, true),
+    ] {
+        let text = text_of(rt.alloc(), front, rows)?;
+        let fault = fault_of(rt.alloc(), text.as_slice());
+        assert!(rt; fault == (!is_row).then_some(ListFault::BadRow { row: 2 }));
     }
     Ok(())
 }

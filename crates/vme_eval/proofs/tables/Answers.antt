@@ -1,4 +1,6 @@
-use Rattle.vme_eval.proofs.TableRows.{rows_block_codes, rows_single_codes, rows_extended_codes, rows_standard_codes, rows_short_codes, rows_high_lines, rows_known_lines, rows_control_lines}
+use Rattle.vme_eval.proofs.TableRows.{rows_block_codes, rows_single_codes, rows_extended_codes, rows_standard_codes}
+use Rattle.vme_eval.proofs.TableRows.{rows_short_codes, rows_high_lines, rows_known_lines, rows_control_lines}
+use Rattle.vme_eval.proofs.TableRows.{rows_standard_needs, rows_acknowledge_needs, rows_modifier_lines}
 use Rattle.vme_eval.proofs.tables.Goals as goal
 
 pub returns : goal.returns
@@ -11,4 +13,7 @@ returns c = record {
   high_lines = rows_high_lines;
   known_lines = rows_known_lines;
   control_lines = rows_control_lines;
+  standard_needs = rows_standard_needs;
+  acknowledge_needs = rows_acknowledge_needs;
+  modifier_lines = rows_modifier_lines;
 }
