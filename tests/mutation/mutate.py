@@ -7,9 +7,9 @@ Run K of seed S is the same on every machine. Each run takes a binding and a dum
 of them (or the listing) a few times, and runs `check`, `list` and `confirm` on it. It is checked that
 
 - no run ends by a signal, takes more than 10 seconds of a processor or needs more than 1 GB of memory;
-- the status and the two streams are those that the model gives (model.py): of `check` in blocks of 1, 7 and 16,384 steps, and
-  where the program takes its built-in binding; of `list`; and of `confirm` on that listing, on it with a row dropped, doubled or
-  changed, and on it in an older version.
+- the status and the two streams are those that the second judge gives (reference/vmecheck.py): of `check` in blocks of 1, 7
+  and 16,384 steps, and where the program takes its built-in binding; of `list`; and of `confirm` on that listing, on it with
+  a row dropped, doubled or changed, and on it in an older version.
 
 It prints each run that fails, with the command, and keeps its files in FOLDER; its status is then 1.
 """
@@ -27,10 +27,13 @@ import subprocess
 import sys
 import tempfile
 
-import model
-
 HERE = pathlib.Path(__file__).resolve().parent
-EXAMPLES = HERE.parent.parent / "examples"
+TOP = HERE.parent.parent
+sys.path.insert(0, str(TOP / "reference"))
+
+import vmecheck
+
+EXAMPLES = TOP / "examples"
 MEMORY = 1 << 30
 SECONDS = 10
 
@@ -219,7 +222,7 @@ def seeds():
     texts = HERE / "texts"
     resets = sorted(EXAMPLES.glob("reset_*.vcd"))
     pairs = [(bench, dump.read_bytes()) for dump in sorted(EXAMPLES.glob("*.vcd")) if dump.name != "read_cycle.vcd"]
-    builtin = (texts / "builtin.bind").read_bytes()
+    builtin = vmecheck.BUILT_IN
     for _ in range(8):
         pairs += [(reset, dump.read_bytes()) for dump in resets]
         pairs.append((builtin, (EXAMPLES / "read_cycle.vcd").read_bytes()))
@@ -258,7 +261,7 @@ class Case:
         got = self.run(*words, stdin=stdin)
         if got != answer:
             said = [(status, out[-200:], err[-200:]) for status, out, err in (got, answer)]
-            raise Failed(f"{' '.join(words)}: {said[0]}, and the model: {said[1]}")
+            raise Failed(f"{' '.join(words)}: {said[0]}, and the second judge: {said[1]}")
 
 
 def in_version(version, listing):
@@ -284,7 +287,7 @@ def with_changed_row(rng, listing):
 
 
 def check_listings(case, rng, inputs, change):
-    """Whether the listing is the model's, and is confirmed, and a changed one and an older one are answered as they should be."""
+    """Whether the listing is the second judge's, and is confirmed, and a changed one and an older one are answered as they should be."""
     block = rng.choice([1, 7, 16384])
     case.expect(inputs.list(block), "list", "--block", str(block), "binding", "dump")
     status, listing, _ = inputs.list()
@@ -310,7 +313,7 @@ def one_run(case, seed, number):
         binding = mutated(rng, binding)
     case.write("binding", binding)
     case.write("dump", dump)
-    inputs = model.Inputs(binding, dump)
+    inputs = vmecheck.Inputs(binding, dump)
     if what >= 0.9:
         check_listings(case, rng, inputs, mutated)
         return

@@ -1,0 +1,1079 @@
+#!/usr/bin/env python3
+"""The second judge: what docs/PROTOCOL.md and docs/FORMATS.md say, in one file.
+
+    reference/vmecheck.py < DUMP                                 the verdict, by the built-in binding
+    reference/vmecheck.py check [--block N] [--workers N] BINDING DUMP
+    reference/vmecheck.py list [--block N] [--workers N] BINDING DUMP
+    reference/vmecheck.py confirm BINDING DUMP LISTING
+
+It answers what the proved program answers, on standard output and by its status, and shares nothing with it: it was
+written by the two pages alone, keeps the whole recording, and looks each thing up by its definition. Nothing of it is
+proved. It reads as docs/PROTOCOL.md does: the lines, what is judged, the rules in the order of their table, the verdict.
+"""
+import bisect
+import os
+import re
+import sys
+
+HELP = """Usage: vmecheck [check|list|confirm] ..
+
+  vmecheck < DUMP                                       the verdict, by the built-in binding
+  vmecheck check [--block N] [--workers N] BINDING DUMP     the verdict
+  vmecheck list [--block N] [--workers N] BINDING DUMP      the listing
+  vmecheck confirm BINDING DUMP LISTING                     whether a listing is true
+
+This is the second judge, in Python: nothing of it is proved, and it has these commands alone.
+
+Example: vmecheck check examples/backplane.bind examples/address_changed.vcd
+Status: 0 conforming or confirmed; 1 broken or not confirmed; 2 unreadable or never idle;
+3 refused input or usage; 4 want of memory; 5 standard output can't be written.
+"""
+LONGEST = 268_435_456
+LIMIT = (1 << 32) - 1
+LATEST = (1 << 64) - 1
+
+
+class Fault(Exception):
+    """A fault of an input: the text that tells it."""
+
+
+# ---- the lines
+
+AS, DS0, DS1, DTACK, BERR, IACK, LWORD, WRITE, BBSY, SYSRESET = 0, 1, 2, 3, 4, 5, 12, 13, 45, 191
+STROBES, ANSWERS = (DS0, DS1), (DTACK, BERR)
+AM, DATA = range(6, 12), range(159, 191)
+NAMES = (["AS", "DS0", "DS1", "DTACK", "BERR", "IACK"] + [f"AM{n}" for n in range(6)] + ["LWORD", "WRITE"]
+         + [f"A{n:02}" for n in range(1, 32)] + ["BBSY"] + [f"BR{n}" for n in range(4)]
+         + [f"BG{n}.{k}" for n in range(4) for k in range(22)] + [f"IA.{k}" for k in range(1, 22)]
+         + [f"D{n:02}" for n in range(32)] + ["SYSRESET"])
+NUMBERS = {name: number for number, name in enumerate(NAMES)}
+LOW, HIGH, UNKNOWN = b"01x"
+
+
+def address(n):
+    return 13 + n
+
+
+def request(n):
+    return 46 + n
+
+
+def grant(n, k):
+    return 50 + 22 * n + k
+
+
+def acknowledge(k):
+    return 137 + k if k else IACK
+
+
+def is_net(line):
+    return 50 <= line < 159
+
+
+def is_grant(line):
+    return 50 <= line < 138
+
+
+def nets(slots):
+    """The nets of a backplane, each with the line at the input of the slot that drives it, if a slot does."""
+    chains = [(grant(n, k), grant(n, k - 1) if k else None) for n in range(4) for k in range(slots + 1)]
+    return chains + [(acknowledge(k), acknowledge(k - 1)) for k in range(1, slots + 1)]
+
+
+def lines(slots):
+    """The lines of a backplane."""
+    own = {net for net, _ in nets(slots)}
+    return [line for line in range(len(NAMES)) if not is_net(line) or line in own]
+
+
+# ---- the dump (docs/FORMATS.md)
+
+def tokens_of(text):
+    """The tokens with their lines."""
+    line, last = 1, 0
+    for found in re.finditer(rb"[^ \t\r\n]+", text):
+        line += text.count(b"\n", last, found.start())
+        last = found.start()
+        yield found.group(), line
+
+
+def number(digits, most):
+    """The number, or None where it is greater than the most."""
+    digits = digits.lstrip(b"0") or b"0"
+    return None if len(digits) > 20 or int(digits) > most else int(digits)
+
+
+class Variable:
+    """A variable of a dump: its path by scopes and name, its index, how wide it is, and its code."""
+
+    def __init__(self, scopes, name, index, size, code):
+        self.scopes, self.name, self.index, self.size, self.code = scopes, name, index, size, code
+        self.length = sum(map(len, scopes)) + len(scopes) + len(name)
+
+    def has_path(self, path):
+        return self.length == len(path) and b".".join((*self.scopes, self.name)) == path
+
+
+def dump_fault(kind, line):
+    raise Fault(f"dump line {line}: {kind}")
+
+
+def read_dump(text):
+    """The variables of a dump, and its instants: their times, each with the last value of each code that changes there."""
+    tokens = tokens_of(text)
+    variables, sizes = read_header(text, tokens)
+    return variables, read_body(tokens, sizes)
+
+
+def read_header(text, tokens):
+    """The variables, and the size of each code."""
+    variables, sizes, scopes = [], {}, []
+    for token, line in tokens:
+        if not token.startswith(b"$") or token == b"$end":
+            dump_fault("BadToken", line)
+        words = []
+        for word, _ in tokens:
+            if word == b"$end":
+                break
+            words.append(word)
+        else:
+            dump_fault("UnfinishedSection", line)
+        if token == b"$enddefinitions":
+            return variables, sizes
+        if token == b"$scope":
+            scopes.append(b"".join(words[1:]))
+        elif token == b"$upscope":
+            if not scopes:
+                dump_fault("ScopeUnderflow", line)
+            scopes.pop()
+        elif token == b"$var":
+            if len(words) < 4 or not words[1].isdigit():
+                dump_fault("BadVar", line)
+            size, code, name, index = number(words[1], 65536), words[2], b"".join(words[3:]), None
+            if size is None:
+                dump_fault("NumberTooLarge", line)
+            if not all(0x21 <= byte <= 0x7E for byte in code):
+                dump_fault("BadVar", line)
+            if found := re.fullmatch(rb"(.+)\[([0-9]{1,9})(?::([0-9]{1,9}))?\]", name, re.DOTALL):
+                first = int(found[2])
+                last = int(found[3]) if found[3] else first
+                if abs(first - last) + 1 == size:
+                    name, index = found[1], (first, last)
+            if sizes.setdefault(code, size) != size:
+                dump_fault("SizeConflict", line)
+            variables.append(Variable(tuple(scope for scope in scopes if scope), name, index, size, code))
+    return dump_fault("NoEndDefinitions", text.count(b"\n") + 1)
+
+
+def read_body(tokens, sizes):
+    """The instants of the body."""
+    time, values, instants, bracket = 0, {}, [], None
+    for token, line in tokens:
+        first, rest = token[:1], token[1:]
+        if first == b"#":
+            if not rest.isdigit():
+                dump_fault("BadToken", line)
+            later = number(rest, LATEST)
+            if later is None:
+                dump_fault("NumberTooLarge", line)
+            if later < time:
+                dump_fault("TimeBackwards", line)
+            if later > time and values:
+                instants.append((time, values))
+                values = {}
+            time = later
+        elif first in (b"0", b"1", b"x", b"X", b"z", b"Z", b"b", b"B", b"r", b"R", b"s"):
+            is_scalar, is_vector = first in b"01xXzZ", first in b"bB"
+            if is_scalar and not rest or is_vector and not re.fullmatch(rb"[01xXzZ]+", rest):
+                dump_fault("BadToken", line)
+            code = rest if is_scalar else next(tokens, (None, 0))[0]
+            if code is None:
+                dump_fault("UnfinishedSection", line)
+            if code not in sizes:
+                dump_fault("UndeclaredCode", line)
+            if is_scalar or is_vector:
+                digits = (first if is_scalar else rest).lower()
+                if len(digits) > sizes[code]:
+                    dump_fault("TooWide", line)
+                values[code] = digits.rjust(sizes[code], b"0" if digits[:1] in b"01" else digits[:1])
+        elif token == b"$comment":
+            if all(word != b"$end" for word, _ in tokens):
+                dump_fault("UnfinishedSection", line)
+        elif token in (b"$dumpvars", b"$dumpall", b"$dumpon", b"$dumpoff") and bracket is None:
+            bracket = line
+        elif token == b"$end" and bracket is not None:
+            bracket = None
+        else:
+            dump_fault("BadToken", line)
+    if bracket is not None:
+        dump_fault("UnfinishedSection", bracket)
+    if values:
+        instants.append((time, values))
+    return instants
+
+
+# ---- the binding (docs/FORMATS.md)
+
+BUILT_IN = b"""slots 1
+AS = bus.AS
+DS0 = bus.DS0
+DS1 = bus.DS1
+DTACK = bus.DTACK
+BERR = bus.BERR
+IACK = bus.IACK
+AM0 = 1
+AM1 = 0
+AM2 = 1
+AM3 = 1
+AM4 = 1
+AM5 = 1
+LWORD = 1
+WRITE = 1
+A = 1
+BBSY = 0
+BR = 1
+BG0 = 1
+BG1 = 1
+BG2 = 1
+BG3 = 1
+IA = 1
+"""
+
+
+def groups(slots):
+    """Each name of a binding with its lines."""
+    named = {NAMES[line]: [line] for line in lines(slots)}
+    named |= {"AM": [*reversed(AM)], "A": [address(n) for n in range(31, 0, -1)],
+              "BR": [request(n) for n in range(3, -1, -1)], "IA": [acknowledge(k) for k in range(slots, 0, -1)],
+              "D": [*reversed(DATA)]}
+    return named | {f"BG{n}": [grant(n, k) for k in range(slots, -1, -1)] for n in range(4)}
+
+
+def read_binding(text):
+    """The slots, and for each line of the binding its line of text, the lines that it binds, and its source."""
+    def fault(kind, line):
+        raise Fault(f"binding line {line}: {kind}")
+
+    rows = text.split(b"\n")
+    ended = [row[:-1] if row.endswith(b"\r") else row for row in rows[:-1]] + rows[-1:]
+    slots, named, bound, parts = None, {}, set(), []
+    for at, row in enumerate(ended, 1):
+        words = [word for word in re.split(rb"[ \t]+", row) if word]
+        if not words or words[0].startswith(b"#"):
+            continue
+        if slots is None:
+            if len(words) != 2 or words[0] != b"slots" or not re.fullmatch(rb"[1-9]|1[0-9]|2[01]", words[1]):
+                fault("SlotsFirst", at)
+            slots = int(words[1])
+            named = groups(slots)
+            continue
+        if len(words) != 3 or words[1] != b"=":
+            fault("BadLine", at)
+        these = named.get(words[0].decode("latin-1"))
+        if these is None:
+            fault("UnknownName", at)
+        if not bound.isdisjoint(these):
+            fault("NamedTwice", at)
+        bound.update(these)
+        parts.append((at, these, words[2]))
+    if slots is None:
+        fault("SlotsFirst", len(rows))
+    # what may be left out is high for good
+    left_out = [SYSRESET] * (SYSRESET not in bound) + [*DATA] * bound.isdisjoint(DATA)
+    for line in lines(slots):
+        if line not in bound and line not in left_out:
+            fault(f"Unbound {NAMES[line]}", len(rows))
+    return slots, parts + [(0, [line], b"1") for line in left_out]
+
+
+def found(at, source, variables):
+    """The code and the bits that a source names."""
+    chosen = re.fullmatch(rb"(.*)\[([0-9]{1,9})(?::([0-9]{1,9}))?\]", source, re.DOTALL)
+    path, candidates = chosen[1] if chosen else source, set()
+    for variable in variables:
+        if not variable.has_path(path):
+            continue
+        places = range(variable.size)
+        if chosen:
+            if variable.index is None:
+                continue
+            first, last = int(chosen[2]), int(chosen[3] or chosen[2])
+            left, right = variable.index
+            if not all(min(left, right) <= n <= max(left, right) for n in (first, last)):
+                continue
+            if first != last and (first > last) != (left > right):
+                continue
+            places = range(abs(first - left), abs(last - left) + 1)
+        candidates.add((variable.code, tuple(places)))
+    if len(candidates) != 1:
+        raise Fault(f"binding line {at}: {'AmbiguousPath' if candidates else 'NoSuchPath'}")
+    return candidates.pop()
+
+
+class Recording:
+    """A recording: the slots, and of each instant the levels, the lines that changed and the time; 0 is the opening."""
+
+    def __init__(self, binding, dump):
+        self.slots, parts = binding
+        variables, instants = dump
+        opening, bits = bytearray(b"x" * len(NAMES)), {}
+        for at, these, source in parts:
+            if source in (b"0", b"1", b"x"):
+                for line in these:
+                    opening[line] = source[0]
+                continue
+            code, places = found(at, source, variables)
+            if len(places) != len(these):
+                raise Fault(f"binding line {at}: WrongWidth")
+            for line, bit in zip(these, places):
+                bits.setdefault(code, []).append((line, bit))
+        self.levels, self.changed, self.times = [bytes(opening)], [[]], [0]
+        for time, values in instants:
+            before = self.levels[-1]
+            now = bytearray(before)
+            for code, value in values.items():
+                for line, bit in bits.get(code, ()):
+                    level = value[bit]
+                    now[line] = level if level != ord("z") else UNKNOWN if is_net(line) else HIGH
+            if now != before:
+                touched = {line for code in values for line, _ in bits.get(code, ())}
+                self.levels.append(bytes(now))
+                self.changed.append([line for line in sorted(touched) if before[line] != now[line]])
+                self.times.append(time)
+
+
+# ---- what is judged (docs/PROTOCOL.md, from here on)
+
+EXTENDED, STANDARD, SHORT = (9, 10, 11, 13, 14, 15), (57, 58, 59, 61, 62, 63), (41, 45)
+BLOCKS = (11, 15, 59, 63)
+
+
+def highest_address(modifier):
+    """The highest address line that an address modifier code makes meaningful, or 0."""
+    return 31 if modifier in EXTENDED else 23 if modifier in STANDARD else 15 if modifier in SHORT else 0
+
+
+def between(instants, first, last):
+    """Those of some ascending instants that are in the range, both ends included."""
+    return instants[bisect.bisect_left(instants, first):bisect.bisect_right(instants, last)]
+
+
+def has_between(instants, first, last):
+    at = bisect.bisect_left(instants, first)
+    return at < len(instants) and instants[at] <= last
+
+
+class Transfer:
+    """A transfer: its start, its direction, and its answer, if it has one.
+
+    It starts where both strobes were High and one is Low, and closes at the next instant at which both are High. Its
+    answer is the first instant within it at which DTACK or BERR falls. It is a write if WRITE is Low at its start.
+    """
+
+    def __init__(self, start, write):
+        self.start, self.write, self.answer = start, write, None
+
+    def is_answered(self, j):
+        """Whether it has its answer at j or before."""
+        return self.answer is not None and self.answer <= j
+
+
+class Stretch:
+    """A stretch of a recording that is judged: the instants after its start and before its end.
+
+    What is said of cycles, transfers, tenures and edges is said within it; what an earlier one left unfinished is no part
+    of it. A cycle starts where AS falls and ends at the next rise of AS; a tenure goes by BBSY so.
+    """
+
+    def __init__(self, recording, start, end):
+        self.at, self.changed, self.slots = recording.levels, recording.changed, recording.slots
+        self.start, self.end = start, end
+        self.source = dict(nets(self.slots))
+        judged = range(start + 1, end)
+        self.cycles = [j for j in judged if self.falls(AS, j)]
+        self.cycle_ends = [j for j in judged if self.rises(AS, j)]
+        self.strobe_rises = [j for j in judged if any(self.rises(line, j) for line in STROBES)]
+        # the transfer that each instant is in, and the one that is answered there
+        self.inside, self.answers, open_one = {}, {}, None
+        for j in judged:
+            if open_one is None and self.strobes_high(j - 1) and not self.strobes_high(j):
+                open_one = Transfer(j, self.low(WRITE, j))
+            if open_one is not None:
+                self.inside[j] = open_one
+                if open_one.answer is None and any(self.falls(line, j) for line in ANSWERS):
+                    open_one.answer = j
+                    self.answers[j] = open_one
+                if self.strobes_high(j):
+                    open_one = None
+        self.answered = list(self.answers)
+
+    # levels and edges
+
+    def low(self, line, i):
+        return self.at[i][line] == LOW
+
+    def high(self, line, i):
+        return self.at[i][line] == HIGH
+
+    def unknown(self, line, i):
+        return self.at[i][line] == UNKNOWN
+
+    def falls(self, line, i):
+        return self.at[i - 1][line] == HIGH and self.at[i][line] == LOW
+
+    def rises(self, line, i):
+        return self.at[i - 1][line] == LOW and self.at[i][line] == HIGH
+
+    def low_near(self, line, j):
+        return self.low(line, j - 1) or self.low(line, j)
+
+    def high_near(self, line, j):
+        return self.high(line, j - 1) or self.high(line, j)
+
+    def strobes_high(self, i):
+        return self.high(DS0, i) and self.high(DS1, i)
+
+    def strobe_rose(self, first, last):
+        """Whether a strobe rises at one of these instants, both included."""
+        return has_between(self.strobe_rises, first, last)
+
+    def last_before(self, shows, j):
+        """The last instant before j at which this is shown, or else the start."""
+        return next((i for i in range(j - 1, self.start, -1) if shows(i)), self.start)
+
+    # transfers
+
+    def starts(self, j):
+        return j in self.inside and self.inside[j].start == j
+
+    def goes_on(self, j):
+        """The transfer that j is in, if that started before."""
+        one = self.inside.get(j)
+        return one if one is not None and one.start < j else None
+
+    def waits(self, j):
+        """The transfer that j is in, if that started before and has no answer so far."""
+        one = self.goes_on(j)
+        return one if one is not None and not one.is_answered(j) else None
+
+    def falling_answers(self, j):
+        return [line for line in ANSWERS if self.falls(line, j)]
+
+    def moved(self, i):
+        """The data lines that a transfer moves."""
+        if self.high(LWORD, i):
+            return [*DATA[:8]] * self.low(DS0, i) + [*DATA[8:16]] * self.low(DS1, i)
+        return [*DATA] if all(self.low(line, i) for line in (LWORD, address(1), DS0, DS1)) else []
+
+    # cycles
+
+    def modifier(self, i):
+        """The address modifier code, a line that isn't High being 0."""
+        return sum(1 << n for n, line in enumerate(AM) if self.high(line, i))
+
+    def kind(self, i):
+        """The class of a cycle that starts here."""
+        if self.low(IACK, i):
+            return "I"
+        if any(self.unknown(line, i) for line in AM) or not highest_address(self.modifier(i)):
+            return "F"
+        return "K" if self.modifier(i) in BLOCKS else "S"
+
+    def needed(self, i):
+        """The lines that a cycle needs which starts here."""
+        if self.low(IACK, i):
+            return [IACK, *map(address, (1, 2, 3))]
+        highest = 0 if self.kind(i) == "F" else highest_address(self.modifier(i))
+        return [IACK, *AM, LWORD, *map(address, range(1, highest + 1))]
+
+    def cycle_of(self, r):
+        """The start of the last cycle that starts at r or before."""
+        at = bisect.bisect_right(self.cycles, r)
+        return self.cycles[at - 1] if at else None
+
+    def earlier_answers(self, j, kind):
+        """The answers before j of the cycle to which the answer at j belongs, if that is of this class, else None."""
+        i = self.cycle_of(j)
+        if j not in self.answers or i is None or self.kind(i) != kind:
+            return None
+        return between(self.answered, i, j - 1)
+
+    # tenures
+
+    def granting(self, i):
+        return any(self.low(grant(n, 0), i) for n in range(4))
+
+    def arbiter_falls(self, j):
+        """The levels whose grant the arbiter lets fall."""
+        return [n for n in range(4) if self.falls(grant(n, 0), j)]
+
+    def slot(self, j):
+        """The level and the slot of the tenure that starts here."""
+        taken = j if self.granting(j) else j - 1
+        for n in range(4):
+            if self.low(grant(n, 0), taken):
+                passed = range(self.slots + 2)
+                return n, next(k for k in passed if k > self.slots or not self.low(grant(n, k), taken))
+        return None
+
+    def edges_of_nets(self, edge, j, of_grants):
+        """The nets that a slot drives which have this edge, each with the line at the slot's input."""
+        return [(net, self.source[net]) for net in self.changed[j]
+                if self.source.get(net) is not None and is_grant(net) == of_grants and edge(net, j)]
+
+
+# ---- the rules, in the order of their table: the lines of which each is broken at a judged instant
+
+def rule_u2(s, j):
+    """AS falls and a needed line of this cycle is Unknown"""
+    return [line for line in s.needed(j) if s.unknown(line, j)] if s.falls(AS, j) else []
+
+
+def rule_u3(s, j):
+    """A transfer starts and WRITE is Unknown"""
+    return [WRITE] if s.starts(j) and s.unknown(WRITE, j) else []
+
+
+def rule_u4(s, j):
+    """A strobe falls in a write, no later than its answer, and a data line that the write moves is Unknown"""
+    one = s.inside.get(j)
+    if one is None or not one.write or one.is_answered(j - 1) or not any(s.falls(line, j) for line in STROBES):
+        return []
+    return [line for line in s.moved(j) if s.unknown(line, j)]
+
+
+def rule_h1(s, j):
+    """A transfer starts, and DTACK, or BERR, isn't High near"""
+    return [line for line in ANSWERS if not s.high_near(line, j)] if s.starts(j) else []
+
+
+def rule_h2(s, j):
+    """A strobe rises inside a transfer, after its start, that has no answer so far"""
+    return [line for line in STROBES if s.rises(line, j)] if s.waits(j) else []
+
+
+def rule_h3(s, j):
+    """A strobe falls inside a transfer, after its start and after its answer"""
+    one = s.goes_on(j)
+    return [line for line in STROBES if s.falls(line, j)] if one and one.is_answered(j - 1) else []
+
+
+def rule_h4(s, j):
+    """An answer line falls outside any transfer"""
+    return s.falling_answers(j) if j not in s.inside else []
+
+
+def rule_h5(s, j):
+    """An answer line falls in a transfer after its answer, or both answer lines fall at the answer"""
+    one = s.inside.get(j)
+    fallen = s.falling_answers(j)
+    return fallen if one and (one.is_answered(j - 1) or len(fallen) == 2) else []
+
+
+def rule_h6(s, j):
+    """An answer line rises, and no strobe rose at any instant from that line's last fall on, both instants included"""
+    return [line for line in ANSWERS
+            if s.rises(line, j) and not s.strobe_rose(s.last_before(lambda i: s.falls(line, i), j), j)]
+
+
+def rule_h7(s, j):
+    """AS rises while a transfer that started before is open and has no answer so far"""
+    return [AS] if s.rises(AS, j) and s.waits(j) else []
+
+
+def rule_h8(s, j):
+    """A transfer is answered and AS isn't Low near"""
+    return s.falling_answers(j) if j in s.answers and not s.low_near(AS, j) else []
+
+
+def rule_s1(s, j):
+    """A needed line has an edge after its cycle's start, before the cycle's end and before any transfer's answer since"""
+    i = s.cycle_of(j - 1)
+    if i is None or has_between(s.cycle_ends, i + 1, j) or has_between(s.answered, i, j):
+        return []
+    return [line for line in s.needed(i) if line in s.changed[j]]
+
+
+def rule_s2(s, j):
+    """WRITE has an edge after a transfer's start, before a strobe rises in it"""
+    one = s.goes_on(j)
+    return [WRITE] if one and WRITE in s.changed[j] and not s.strobe_rose(one.start + 1, j) else []
+
+
+def rule_s3(s, j):
+    """A data line that a write moves has an edge after its start, before its answer and before a strobe rises in it"""
+    one = s.waits(j)
+    if one is None or not one.write or s.strobe_rose(one.start + 1, j):
+        return []
+    return [line for line in s.moved(j - 1) if line in s.changed[j]]
+
+
+def rule_c1(s, j):
+    """A single cycle has a second answer and the two aren't a read, then a write; or a later answer"""
+    before = s.earlier_answers(j, "S")
+    pair = before and len(before) == 1 and not s.answers[before[0]].write and s.answers[j].write
+    return s.falling_answers(j) if before and not pair else []
+
+
+def rule_c2(s, j):
+    """The direction of an answered transfer of a block cycle differs from the cycle's first"""
+    before = s.earlier_answers(j, "K")
+    return s.falling_answers(j) if before and s.answers[before[0]].write != s.answers[j].write else []
+
+
+def rule_g1(s, j):
+    """A slot's grant output falls and its input isn't Low near"""
+    return [net for net, source in s.edges_of_nets(s.falls, j, True) if not s.low_near(source, j)]
+
+
+def rule_g2(s, j):
+    """A slot's grant output rises and its input isn't High near"""
+    return [net for net, source in s.edges_of_nets(s.rises, j, True) if not s.high_near(source, j)]
+
+
+def rule_g3(s, j):
+    """Two of BG0.0 to BG3.0 are Low, and one of these falls"""
+    granted = [n for n in range(4) if s.low(grant(n, 0), j)]
+    return [grant(n, 0) for n in s.arbiter_falls(j)] if len(granted) > 1 else []
+
+
+def rule_g4(s, j):
+    """A grant net falls and BBSY isn't High near"""
+    return [net for net in s.changed[j] if is_grant(net) and s.falls(net, j) and not s.high_near(BBSY, j)]
+
+
+def rule_g5(s, j):
+    """BGn.0 falls, and BRn is Low at no instant from the last fall of any BGx.0 before (or the start) on, both included"""
+    return [grant(n, 0) for n in s.arbiter_falls(j)
+            if not any(s.low(request(n), i) for i in range(s.last_before(s.arbiter_falls, j), j + 1))]
+
+
+def rule_b1(s, j):
+    """BBSY falls and no BGn.0 is Low near"""
+    return [BBSY] if s.falls(BBSY, j) and not (s.granting(j - 1) or s.granting(j)) else []
+
+
+def rule_b2(s, j):
+    """BBSY falls, and no BGn.0 fell after the previous fall of BBSY (or the start)"""
+    if not s.falls(BBSY, j):
+        return []
+    previous = s.last_before(lambda i: s.falls(BBSY, i), j)
+    return [BBSY] if not any(map(s.arbiter_falls, range(previous + 1, j + 1))) else []
+
+
+def rule_b3(s, j):
+    """AS falls and BBSY isn't Low near"""
+    return [AS] if s.falls(AS, j) and not s.low_near(BBSY, j) else []
+
+
+def rule_b4(s, j):
+    """BBSY falls and the grant came past the last slot"""
+    taken = s.slot(j) if s.falls(BBSY, j) else None
+    return [BBSY] if taken and taken[1] > s.slots else []
+
+
+def rule_i1(s, j):
+    """IA.k falls and the slot's input isn't Low near"""
+    return [net for net, source in s.edges_of_nets(s.falls, j, False) if not s.low_near(source, j)]
+
+
+def rule_i2(s, j):
+    """IA.k falls, and AS isn't Low near or neither strobe is Low near"""
+    is_right = s.low_near(AS, j) and any(s.low_near(line, j) for line in STROBES)
+    return [net for net, _ in s.edges_of_nets(s.falls, j, False) if not is_right]
+
+
+def rule_i3(s, j):
+    """IA.k falls while AS stays Low, after a transfer of this cycle was answered by DTACK"""
+    fallen, i = s.edges_of_nets(s.falls, j, False), s.cycle_of(j - 1)
+    if not fallen or i is None or not (s.low(AS, j - 1) and s.low(AS, j)):
+        return []
+    return [net for net, _ in fallen] if any(s.falls(DTACK, r) for r in between(s.answered, i, j - 1)) else []
+
+
+def rule_i4(s, j):
+    """An interrupt acknowledge's transfer that is answered is a write"""
+    return s.falling_answers(j) if s.earlier_answers(j, "I") is not None and s.answers[j].write else []
+
+
+def rule_i5(s, j):
+    """An interrupt acknowledge has a second answer"""
+    return s.falling_answers(j) if s.earlier_answers(j, "I") else []
+
+
+RULES = {name[5:].upper(): rule for name, rule in list(globals().items()) if name.startswith("rule_")}
+
+
+def broken(stretch, j):
+    """The first rule that is broken at a judged instant, and the least line of that."""
+    for rule, lines_of_rule in RULES.items():
+        if broken_on := lines_of_rule(stretch, j):
+            return rule, min(broken_on)
+    return None
+
+
+# ---- the verdict
+
+class Judged:
+    """A recording, judged: the stretches, and its first break, if it has one: instant, rule, line.
+
+    A stretch starts at an idle instant, at which every control line is known, and AS, strobes, answers, SYSRESET and every
+    net are High. It ends before the first later one at which SYSRESET is Low, and judging starts again at the next idle
+    instant; or at which a control line is Unknown, which breaks U1 and ends judging for good.
+    """
+
+    def __init__(self, recording):
+        self.recording, self.stretches, self.found = recording, [], None
+        control = [line for line in lines(recording.slots) if line < 6 or 45 <= line < 159 or line == SYSRESET]
+        resting = [AS, *STROBES, *ANSWERS, SYSRESET] + [net for net, _ in nets(recording.slots)]
+        start = None
+        for i, levels in enumerate(recording.levels):
+            lost = [line for line in control if levels[line] == UNKNOWN] if UNKNOWN in levels else []
+            if start is None:
+                if not lost and all(levels[line] == HIGH for line in resting):
+                    start = i
+            elif levels[SYSRESET] == LOW:
+                self.ended(start, i)
+                start = None
+            elif lost:
+                self.ended(start, i)
+                self.found = self.found or (i, "U1", lost[0])
+            if self.found is not None:
+                break
+        else:
+            if start is not None:
+                self.ended(start, len(recording.levels))
+
+    def ended(self, start, end):
+        """Judges a stretch."""
+        stretch = Stretch(self.recording, start, end)
+        self.stretches.append(stretch)
+        for j in range(start + 1, end):
+            if told := broken(stretch, j):
+                self.found = j, *told
+                return
+
+    def told(self):
+        """The status, and the line of the verdict."""
+        if not self.stretches:
+            return 2, "never idle"
+        if self.found is None:
+            return 0, "conforming"
+        i, rule, line = self.found
+        word = "unreadable" if rule[0] == "U" else "broken"
+        text = f"{word} {rule} at instant {i} time {self.recording.times[i]} line {NAMES[line]}"
+        return 2 if rule[0] == "U" else 1, text
+
+    def rows(self):
+        """The rows of the listing."""
+        if not self.stretches:
+            return ["verdict never-idle"]
+        limit = self.found[0] if self.found else len(self.recording.levels)
+        rows = []
+        for stretch in self.stretches:
+            rows += [f"start {stretch.start}"]
+            end = min(stretch.end, limit)
+            for i in range(stretch.start, end):
+                found_here = (of_instant(stretch, i, end) for of_instant in (tenure_row, cycle_row, transfer_row))
+                rows += [row for row in found_here if row]
+            if stretch.end < limit:
+                rows += [f"reset {stretch.end}"]
+        if self.found is None:
+            return rows + ["verdict conforming"]
+        i, rule, line = self.found
+        return rows + [f"verdict {'unreadable' if rule[0] == 'U' else 'broken'} {rule} {i} {NAMES[line]}"]
+
+
+# ---- the listing (docs/FORMATS.md)
+
+def next_or_hyphen(shows, i, end):
+    return next((j for j in range(i + 1, end) if shows(j)), "-")
+
+
+def tenure_row(s, i, end):
+    if i == s.start and s.low(BBSY, i):
+        return f"tenure {i} open end {next_or_hyphen(lambda j: s.rises(BBSY, j), i, end)}"
+    if i == s.start or not s.falls(BBSY, i) or s.slot(i) is None:
+        return None
+    n, slot = s.slot(i)
+    return f"tenure {i} level {n} slot {slot} end {next_or_hyphen(lambda j: s.rises(BBSY, j), i, end)}"
+
+
+def cycle_row(s, i, end):
+    if i == s.start or not s.falls(AS, i):
+        return None
+    kind, modifier = s.kind(i), s.modifier(i)
+    value = sum(1 << n for n in range(1, highest_address(modifier) + 1) if s.high(address(n), i))
+    digits = (highest_address(modifier) + 1) // 4
+    said = {"I": f"I {sum(1 << n for n in range(3) if s.high(address(n + 1), i))}",
+            "F": f"F {modifier:02X}"}.get(kind, f"{kind} {modifier:02X} {value:0{digits}X}")
+    return f"cycle {i} {said} end {next_or_hyphen(lambda j: s.rises(AS, j), i, end)}"
+
+
+def transfer_row(s, i, end):
+    if not s.starts(i):
+        return None
+    one = s.inside[i]
+    way, r = "write" if one.write else "read", one.answer
+    if r is None or r >= end or s.cycle_of(r) is None:
+        return f"transfer {i} {way} pending"
+    line = "DTACK" if s.falls(DTACK, r) else "BERR"
+    row = f"transfer {i} of {s.cycle_of(r)} {way} {line} {r} close {next_or_hyphen(s.strobes_high, i, end)}"
+    if not one.write:
+        return row
+    taken = r if r == i else r - 1
+    moved, digits = s.moved(taken), ""
+    for k in range(7, -1, -1):
+        four = DATA[4 * k:4 * k + 4]
+        value = sum(1 << n for n, data in enumerate(four) if s.high(data, taken))
+        digits += "-" if four[0] not in moved else "X" if any(s.unknown(data, taken) for data in four) else f"{value:X}"
+    return f"{row} data {digits}"
+
+
+NUMBER = r"(0|[1-9][0-9]*)"
+EDGE = r"(-|0|[1-9][0-9]*)"
+FORMS = {
+    "reset": rf"reset {NUMBER}",
+    "start": rf"start {NUMBER}",
+    "tenure": rf"tenure {NUMBER} (?:open|level [0-3] slot (?:[1-9]|1[0-9]|2[01])) end {EDGE}",
+    "cycle": rf"cycle {NUMBER} (?:([SKF]) ([0-3][0-9A-F])(?: ([0-9A-F]+))?|I [0-7]) end {EDGE}",
+    "transfer": (rf"transfer {NUMBER} (?:of {NUMBER} (read|write) (?:DTACK|BERR) {NUMBER} close {EDGE}"
+                 r"(?: data ([-0-9A-FX]{8}))?|(?:read|write) pending)"),
+    "verdict": rf"verdict (?:conforming|never-idle|(broken|unreadable) ([A-Z][0-9]) {NUMBER} ([A-Z0-9.]+))",
+}
+KINDS = list(FORMS)
+# which groups of a form are numbers
+NUMBERED = {"reset": (1,), "start": (1,), "tenure": (1, 2), "cycle": (1, 5), "transfer": (1, 2, 4, 5), "verdict": (3,)}
+MOVED = re.compile(r"-{8}|-{6}[^-]{2}|-{4}[^-]{2}--|-{4}[^-]{4}|[^-]{8}")
+
+
+def row_of(text, version):
+    """The kind and the first instant of a row that is written so, or None."""
+    kind = text.split(" ")[0]
+    form = re.fullmatch(FORMS[kind], text) if kind in FORMS and text.isascii() else None
+    if not form or kind == "reset" and version < 3:
+        return None
+    numbers = [digits for digits in form.group(0, *NUMBERED[kind])[1:] if digits not in (None, "-")]
+    if any(number(digits.encode(), LIMIT) is None for digits in numbers):
+        return None
+    if kind == "cycle" and form[2]:
+        modifier = int(form[3], 16)
+        highest, block = highest_address(modifier), modifier in BLOCKS
+        if form[2] != ("F" if not highest else "K" if block else "S") or (form[4] is None) != (form[2] == "F"):
+            return None
+        if form[4] and (len(form[4]) != (highest + 1) // 4 or int(form[4], 16) % 2):
+            return None
+    if kind == "transfer" and form[2]:
+        if (form[6] is not None) != (version > 1 and form[3] == "write") or form[6] and not MOVED.fullmatch(form[6]):
+            return None
+    if kind == "verdict" and form[1]:
+        known = ["U1", *RULES] if form[1] == "unreadable" else RULES
+        if form[2] not in known or (form[2][0] == "U") != (form[1] == "unreadable") or form[4] not in NUMBERS:
+            return None
+    return kind, int(form[1]) if kind != "verdict" else None
+
+
+def read_listing(text):
+    """The version of a listing, and its rows."""
+    header, feed, rest = text.partition(b"\n")
+    form = re.fullmatch(rb"vmecheck listing ([123])", header)
+    if not form or not feed:
+        raise Fault("listing header")
+    version, rows, before, last, begin = int(form[1]), [], None, None, len(header) + 1
+    while before != "verdict":
+        at, end = len(rows) + 1, text.find(b"\n", begin)
+        line = text[begin:end].decode("latin-1")
+        row = row_of(line, version) if end >= 0 else None
+        if row is None or not may_follow(before, row[0], line) or row[0] == "verdict" and end + 1 < len(text):
+            raise Fault(f"listing row {at}: BadRow")
+        place = (row[1], KINDS.index(row[0])) if row[0] != "verdict" and (version > 2 or row[0] != "start") else None
+        if place and last and place <= last:
+            raise Fault(f"listing row {at}: Unsorted")
+        rows.append(line)
+        before, last, begin = row[0], place, end + 1
+    return version, rows
+
+
+def may_follow(before, kind, line):
+    """Whether a row of this kind may stand behind one of that."""
+    if before is None:
+        return kind == "start" or line == "verdict never-idle"
+    if line == "verdict never-idle":
+        return False
+    return kind in ("start", "verdict") if before == "reset" else kind != "start"
+
+
+def in_version(version, rows):
+    """The rows as a listing of the version tells them."""
+    return [row.partition(" data ")[0] for row in rows] if version == 1 else rows
+
+
+def text_of(version, rows):
+    return "".join(f"{row}\n" for row in (f"vmecheck listing {version}", *in_version(version, rows))).encode()
+
+
+# ---- the commands
+
+class Inputs:
+    """A binding and a dump, and what the commands answer on them: the status and the bytes on the two streams."""
+
+    def __init__(self, binding, dump):
+        self.fault, self.unusable, self.judged = None, None, None
+        try:
+            parts = read_binding(binding), read_dump(dump)
+        except Fault as fault:
+            self.fault = fault
+            return
+        try:
+            self.judged = Judged(Recording(*parts))
+        except Fault as fault:
+            self.unusable = fault
+
+    def answer(self, block, text):
+        """The answer with this text, where the recording isn't cut into too many blocks."""
+        if fault := self.fault or self.unusable:
+            return refused(fault)
+        if len(self.judged.recording.levels) - 1 > 4096 * block:
+            return refused("too many blocks")
+        return self.judged.told()[0], text(), b""
+
+    def check(self, block=16384):
+        return self.answer(block, lambda: f"{self.judged.told()[1]}\n".encode())
+
+    def list(self, block=16384):
+        return self.answer(block, lambda: text_of(3, self.judged.rows()))
+
+    def confirm(self, listing):
+        if self.fault:
+            return refused(self.fault)
+        try:
+            version, rows = read_listing(listing)
+        except Fault as fault:
+            return refused(fault)
+        if self.unusable:
+            return refused(self.unusable)
+        own = in_version(version, self.judged.rows())
+        if rows == own:
+            return 0, b"confirmed\n", b""
+        at = next((k for k, (a, b) in enumerate(zip(rows, own), 1) if a != b), min(len(rows), len(own)) + 1)
+        return 1, f"not confirmed at row {at}\n".encode(), b""
+
+
+def refused(fault, status=3):
+    return status, b"", f"vmecheck: {fault}\n".encode()
+
+
+# ---- the program
+
+class Usage(Exception):
+    """Wrong words: what is wrong with them."""
+
+
+NAMED = {"check": ("BINDING", "DUMP"), "list": ("BINDING", "DUMP"), "confirm": ("BINDING", "DUMP", "LISTING")}
+MOST = {"--block": 65536, "--workers": 64}
+
+
+def order_of(words):
+    """The command, the files and the steps of a block that the words ask for."""
+    command, names, given, rest = words[0], [], {}, iter(words[1:])
+    if command not in NAMED:
+        raise Usage(f"there is no command '{command}' here")
+    for word in rest:
+        option, equals, value = word.partition("=")
+        if word == "--":
+            names += rest
+        elif not word.startswith("-") or word == "-":
+            names.append(word)
+        elif option not in MOST or command == "confirm" or option in given:
+            raise Usage(f"unexpected argument '{word}'")
+        else:
+            value = value if equals else next(rest, "")
+            given[option] = number(value.encode(), MOST[option]) if re.fullmatch("[0-9]+", value) else None
+            if not given[option]:
+                raise Usage(f"invalid value '{value}' for '{option}': it takes 1 to {MOST[option]}")
+    if len(names) != len(NAMED[command]):
+        raise Usage(f"{command} takes {' '.join(NAMED[command])}")
+    return command, names, given.get("--block", 16384)
+
+
+def opened(names, inputs):
+    """The files, all opened before one is read."""
+    files = []
+    for name, what in zip(names, inputs):
+        try:
+            files.append(os.open(name, os.O_RDONLY))
+        except (OSError, ValueError):
+            raise Fault(f"cannot open {what}") from None
+    return files
+
+
+def whole(file, what):
+    """All bytes of an input."""
+    parts, length = [], 0
+    while True:
+        try:
+            part = os.read(file, 1 << 20)
+        except OSError:
+            raise Fault(f"cannot read {what}") from None
+        if not part:
+            return b"".join(parts)
+        length += len(part)
+        if length > LONGEST:
+            raise Fault(f"{what} too long")
+        parts.append(part)
+
+
+def answer(command, names, block):
+    """What a command answers. An input is read only where those before it have no fault."""
+    files = opened(names, ("binding", "dump", "listing"))
+    binding = whole(files[0], "binding")
+    read_binding(binding)
+    dump = whole(files[1], "dump")
+    inputs = Inputs(binding, dump)
+    if command == "check":
+        return inputs.check(block)
+    if command == "list":
+        return inputs.list(block)
+    return refused(inputs.fault) if inputs.fault else inputs.confirm(whole(files[2], "listing"))
+
+
+def answer_words(words):
+    """What the words are answered."""
+    if not words:
+        if os.isatty(0):
+            write(2, b"vmecheck: reads a dump from standard input; vmecheck --help tells of the commands\n")
+        return Inputs(BUILT_IN, whole(0, "dump")).check()
+    if any("\udc80" <= letter <= "\udcff" for word in words for letter in word):
+        raise Usage("a word is no text")
+    if words[0] == "help" or not {"-h", "--help"}.isdisjoint(words):
+        return 0, HELP.encode(), b""
+    return answer(*order_of(words))
+
+
+def write(stream, text):
+    """Whether all of the text could be written."""
+    try:
+        while text:
+            text = text[os.write(stream, text):]
+    except OSError:
+        return False
+    return True
+
+
+def main():
+    try:
+        status, out, err = answer_words(sys.argv[1:])
+    except Fault as fault:
+        status, out, err = refused(fault)
+    except Usage as usage:
+        status, out, err = 3, b"", f"error: {usage}\n\n{HELP}".encode()
+    except MemoryError:
+        status, out, err = refused("out of memory", 4)
+    if not write(1, out):
+        status, out, err = refused("cannot write", 5)
+    write(2, err)
+    return status
+
+
+if __name__ == "__main__":
+    sys.exit(main())
