@@ -1,39 +1,52 @@
-use smallvec::SmallVec;
 use std::alloc::{AllocError, Global};
 use std::process::Abort;
 use std::test::Fail;
 use vcd_read::{
-    Apart, Bit, Bits, Dump, FaultKind, Path, Pieces, Taker, Value, Values, Variable, Variables,
-    VcdFault, line_feeds, read_front, read_vcd,
+    Apart, Bit, Dump, FaultKind, Instant, Pieces, Taker, Variable, Variables, VcdFault, line_feeds,
+    read_front, read_vcd,
 };
 
 /// What a dump says, a line for each variable and each instant.
 fn shown(alloc: Global, dump: &Dump) -> Result<Vec<u8>, AllocError> {
     let mut text = shown_variables(alloc, dump.variables())?;
     for instant in dump.instants() {
-        let time = instant.time;
-        text.extend_from_slice(format!(in alloc; "#{time}")?.as_bytes())?;
-        for value in instant.values.as_slice() {
-            let net = value.net;
-            text.extend_from_slice(format!(in alloc; " {net}=")?.as_bytes())?;
-            show_bits(&mut text, value.bits.as_slice())?;
-        }
-        text.push(b'\n')?;
+        show_instant(alloc, &mut text, instant)?;
     }
     Ok(text)
+}
+
+fn show_instant(alloc: Global, text: &mut Vec<u8>, instant: &Instant) -> Result<(), AllocError> {
+    let time = instant.time;
+    push(text, format!(in alloc; "#{time}")?)?;
+    for value in instant.values.as_slice() {
+        let net = value.net;
+        push(text, format!(in alloc; " {net}=")?)?;
+        show_bits(text, value.bits.as_slice())?;
+    }
+    text.push(b'\n')?;
+    Ok(())
+}
+
+fn push(text: &mut Vec<u8>, part: String) -> Result<(), AllocError> {
+    text.extend_from_slice(part.as_bytes())?;
+    Ok(())
 }
 
 fn shown_variables(alloc: Global, variables: &[Variable]) -> Result<Vec<u8>, AllocError> {
     let mut text = Vec::new(alloc);
     for variable in variables {
-        text.extend_from_slice(variable.path.as_bytes())?;
-        if let Some((left, right)) = variable.index {
-            text.extend_from_slice(format!(in alloc; "[{left}:{right}]")?.as_bytes())?;
-        }
-        let (size, net) = (variable.size, variable.net);
-        text.extend_from_slice(format!(in alloc; " {size} {net}\n")?.as_bytes())?;
+        show_variable(alloc, &mut text, variable)?;
     }
     Ok(text)
+}
+
+fn show_variable(alloc: Global, text: &mut Vec<u8>, variable: &Variable) -> Result<(), AllocError> {
+    text.extend_from_slice(variable.path.as_bytes())?;
+    if let Some((left, right)) = variable.index {
+        push(text, format!(in alloc; "[{left}:{right}]")?)?;
+    }
+    let (size, net) = (variable.size, variable.net);
+    push(text, format!(in alloc; " {size} {net}\n")?)
 }
 
 fn show_bits(text: &mut Vec<u8>, bits: &[Bit]) -> Result<(), AllocError> {
@@ -107,12 +120,10 @@ impl Telling {
 
     fn tell(&mut self, alloc: Global, time: u64) -> Result<(), AllocError> {
         self.changed.sort_unstable_by_key(|changed| changed.net);
-        self.text
-            .extend_from_slice(format!(in alloc; "#{time}")?.as_bytes())?;
+        push(&mut self.text, format!(in alloc; "#{time}")?)?;
         for changed in &self.changed {
             let net = changed.net;
-            self.text
-                .extend_from_slice(format!(in alloc; " {net}=")?.as_bytes())?;
+            push(&mut self.text, format!(in alloc; " {net}=")?)?;
             self.text.extend_from_slice(&changed.bits)?;
         }
         self.text.push(b'\n')?;
@@ -158,6 +169,18 @@ impl Taker for Keeping {
     fn end_instant(&mut self, alloc: Global, time: u64) -> Result<(), AllocError> {
         let _ = alloc;
         self.told.push(Told::End(time))?;
+        Ok(())
+    }
+}
+
+impl Telling {
+    fn take_all(&mut self, alloc: Global, keeping: Keeping) -> Result<(), AllocError> {
+        for told in keeping.told {
+            match told {
+                Told::Change(change) => self.set(change)?,
+                Told::End(time) => self.tell(alloc, time)?,
+            }
+        }
         Ok(())
     }
 }
@@ -276,12 +299,7 @@ fn join_piece(alloc: Global, so_far: Joined, kept: Kept<'_>) -> Result<Joined, V
     if let Some(time) = ended {
         telling.tell(alloc, time)?;
     }
-    for told in keeping.told {
-        match told {
-            Told::Change(change) => telling.set(change)?,
-            Told::End(time) => telling.tell(alloc, time)?,
-        }
-    }
+    telling.take_all(alloc, keeping)?;
     let (pieces, _) = pieces.with_taker(telling);
     Ok(Joined {
         pieces,
@@ -311,43 +329,6 @@ fn shown_by_joining(
 
 /// The sizes of pieces that are tried.
 const SIZES: [usize; 6] = [1, 2, 5, 13, 40, 64];
-
-/// Reads a text, and tells whether the dump is the one that is wanted, also in pieces.
-fn reads_as(rt: &impl Abort, alloc: Global, text: &[u8], wanted: &str) -> Result<(), Fail> {
-    let dump = read_vcd(alloc, text)?;
-    let found = shown(alloc, &dump)?;
-    assert!(rt; found.as_slice() == wanted.as_bytes(), "not {wanted}");
-    for size in SIZES {
-        let Some(found) = shown_by_pieces(alloc, text, size)? else {
-            return Err(Fail::new("no definitions"));
-        };
-        assert!(rt;
-            found.as_slice() == wanted.as_bytes(),
-            "not {wanted} by {size}"
-        );
-    }
-    Ok(())
-}
-
-/// Whether reading a text gives this fault, also in pieces, which are none of it before its definitions end.
-fn fails_with(alloc: Global, text: &[u8], line: u64, kind: FaultKind) -> bool {
-    let is_fault = |fault: VcdFault| fault.line == line && fault.kind == kind;
-    let mut same = match read_vcd(alloc, text) {
-        Ok(_) => false,
-        Err(fault) => is_fault(fault),
-    };
-    for size in SIZES {
-        same &= match shown_by_pieces(alloc, text, size) {
-            Ok(Some(_)) => false,
-            Ok(None) => matches!(
-                kind,
-                FaultKind::NoEndDefinitions | FaultKind::UnfinishedSection
-            ),
-            Err(fault) => is_fault(fault),
-        };
-    }
-    same
-}
 
 /// Takes changes of which nothing is kept.
 #[derive(Drop)]
@@ -383,7 +364,7 @@ impl Taker for Silent {
     }
 }
 
-/// A recording of six lines of the bus.
+/// The definitions of a recording of six lines of the bus, but for their end.
 const BUS: &str = "\
 $timescale 1 ns $end
 $scope module bus $end
@@ -394,6 +375,10 @@ $var wire 1 s DTACK $end
 $var wire 1 t BERR $end
 $var wire 1 u IACK $end
 $upscope $end
+";
+
+/// The rest of the recording.
+const BUS_BODY: &str = "\
 $enddefinitions $end
 #0 1p 1q 1r 1s 1t 1u
 #10 0p
@@ -419,160 +404,221 @@ bus.IACK 1 5
 #50 3=1
 ";
 
-#[test]
-fn reads_a_recording_of_the_bus(rt: HostRuntime) -> Result<(), Fail> {
-    reads_as(&rt, rt.alloc(), BUS.as_bytes(), BUS_SHOWN)
-}
-
-#[test]
-fn extends_short_values_on_the_left(rt: HostRuntime) -> Result<(), Fail> {
-    let text = "$var wire 6 p P $end $enddefinitions $end\n\
-        #0 b1x p #1 bx1 p #2 bz p #3 b1 p #4 0p #5 xp #6 B01Xz p";
-    let wanted =
-        "P 6 0\n#0 0=00001x\n#1 0=xxxxx1\n#2 0=zzzzzz\n#3 0=000001\n#4 0=000000\n#5 0=xxxxxx\n#6 0=0001xz\n";
-    reads_as(&rt, rt.alloc(), text.as_bytes(), wanted)
-}
-
-#[test]
-fn reads_a_value_of_more_bits_than_lie_inline(rt: HostRuntime) -> Result<(), Fail> {
-    let text =
-        "$var reg 20 ! D [19:0] $end $enddefinitions $end #3 b10000000000000000001 ! 1! bx1 !";
-    let wanted = "D[19:0] 20 0\n#3 0=xxxxxxxxxxxxxxxxxxx1\n";
-    reads_as(&rt, rt.alloc(), text.as_bytes(), wanted)
-}
-
-#[test]
-fn reads_scopes_indices_aliases_and_comments(rt: HostRuntime) -> Result<(), Fail> {
-    let text = "$comment $scope $end $date today $end\n\
-        $scope module rack $end $scope begin $end $var wire 4 a D [3:0] $end $upscope $end\n\
-        $scope module slot 1 $end $var wire 4 a ALIAS [4:1] $end $var wire 1 b n [ 7 ] $end\n\
-        $var integer 3 c B[3:0] $end $upscope $upscope $end $var real 0 d R $end $enddefinitions now $end\n\
-        1b $comment a #5 $end $dumpvars b1 a 0b rnone c $end\n\
-        $comment $end #7 #7 zb s c $dumpoff xb bx a $end 1b #9 #10 b0 c";
-    let wanted =
-        "rack.D[3:0] 4 0\nrack.slot1.ALIAS[4:1] 4 0\nrack.slot1.n[7:7] 1 1\nrack.slot1.B[3:0] 3 2\nrack.R 0 3\n\
-        #0 0=0001 1=0\n#7 0=xxxx 1=1\n#9\n#10 2=000\n";
-    reads_as(&rt, rt.alloc(), text.as_bytes(), wanted)
-}
-
 /// Six variables with codes of one to five bytes, and a seventh with a code that another has.
 const CODES: &str = "\
 $var wire 1 ! a $end $var reg 8 \" b $end $var wire 1 !! c $end $var wire 1 ~~~ d $end
 $var wire 65536 !!!! e $end $var wire 1 clock f $end $var wire 8 \" g $end $enddefinitions $end
 ";
 
-#[test]
-fn nets_are_found_by_their_codes(rt: HostRuntime) -> Result<(), Fail> {
-    let text = format!(in rt.alloc(); "{CODES}#0 1! b1 \" 0!! x~~~ zclock")?;
-    let wanted =
-        "a 1 0\nb 8 1\nc 1 2\nd 1 3\ne 65536 4\nf 1 5\ng 8 1\n#0 0=1 1=00000001 2=0 3=x 5=z\n";
-    reads_as(&rt, rt.alloc(), text.as_bytes(), wanted)?;
-    for other in ["#", "!\"", "!!!", "!!!!!", "\x7f"] {
-        let text = format!(in rt.alloc(); "{CODES}#0 1{other}")?;
-        assert!(rt;
-            fails_with(rt.alloc(), text.as_bytes(), 3, FaultKind::UndeclaredCode),
-            "{other}"
-        );
+/// The front and the rest of texts, and what they say.
+const TOLD: [(&str, &str, &str); 7] = [
+    (BUS, BUS_BODY, BUS_SHOWN),
+    (
+        "",
+        "$var wire 6 p P $end $enddefinitions $end\n\
+        #0 b1x p #1 bx1 p #2 bz p #3 b1 p #4 0p #5 xp #6 B01Xz p",
+        "P 6 0\n#0 0=00001x\n#1 0=xxxxx1\n#2 0=zzzzzz\n#3 0=000001\n#4 0=000000\n#5 0=xxxxxx\n#6 0=0001xz\n",
+    ),
+    (
+        "",
+        "$var reg 20 ! D [19:0] $end $enddefinitions $end #3 b10000000000000000001 ! 1! bx1 !",
+        "D[19:0] 20 0\n#3 0=xxxxxxxxxxxxxxxxxxx1\n",
+    ),
+    (
+        "",
+        "$comment $scope $end $date today $end\n\
+        $scope module rack $end $scope begin $end $var wire 4 a D [3:0] $end $upscope $end\n\
+        $scope module slot 1 $end $var wire 4 a ALIAS [4:1] $end $var wire 1 b n [ 7 ] $end\n\
+        $var integer 3 c B[3:0] $end $upscope $upscope $end $var real 0 d R $end $enddefinitions now $end\n\
+        1b $comment a #5 $end $dumpvars b1 a 0b rnone c $end\n\
+        $comment $end #7 #7 zb s c $dumpoff xb bx a $end 1b #9 #10 b0 c",
+        "rack.D[3:0] 4 0\nrack.slot1.ALIAS[4:1] 4 0\nrack.slot1.n[7:7] 1 1\nrack.slot1.B[3:0] 3 2\nrack.R 0 3\n\
+        #0 0=0001 1=0\n#7 0=xxxx 1=1\n#9\n#10 2=000\n",
+    ),
+    (
+        CODES,
+        "#0 1! b1 \" 0!! x~~~ zclock",
+        "a 1 0\nb 8 1\nc 1 2\nd 1 3\ne 65536 4\nf 1 5\ng 8 1\n#0 0=1 1=00000001 2=0 3=x 5=z\n",
+    ),
+    (
+        "",
+        "$var wire 1 p AS $end $enddefinitions $end r1.5 p R p $dumpall s p $end #4",
+        "AS 1 0\n#4\n",
+    ),
+    (
+        "",
+        "$var wire 3 p B[3:0] $end\n$enddefinitions $end\n",
+        "B[3:0] 3 0\n",
+    ),
+];
+
+/// The texts of a list, one behind the other.
+fn together(alloc: Global, parts: &[&str]) -> Result<Vec<u8>, AllocError> {
+    let mut text = Vec::new(alloc);
+    for part in parts {
+        text.extend_from_slice(part.as_bytes())?;
     }
-    Ok(())
+    Ok(text)
+}
+
+/// Whether a text is a dump that says this.
+fn says(alloc: Global, text: &[u8], wanted: &str) -> Result<bool, VcdFault> {
+    let dump = read_vcd(alloc, text)?;
+    let found = shown(alloc, &dump)?;
+    Ok(found.as_slice() == wanted.as_bytes())
+}
+
+/// The same, where it is read in pieces.
+fn says_by_pieces(alloc: Global, text: &[u8], size: usize, wanted: &str) -> Result<bool, VcdFault> {
+    let found = shown_by_pieces(alloc, text, size)?;
+    Ok(match found {
+        Some(found) => found.as_slice() == wanted.as_bytes(),
+        None => false,
+    })
 }
 
 #[test]
-fn skipped_changes_make_no_instant(rt: HostRuntime) -> Result<(), Fail> {
-    let text = "$var wire 1 p AS $end $enddefinitions $end r1.5 p R p $dumpall s p $end #4";
-    reads_as(&rt, rt.alloc(), text.as_bytes(), "AS 1 0\n#4\n")
-}
-
-#[test]
-fn an_index_of_another_count_belongs_to_the_name(rt: HostRuntime) -> Result<(), Fail> {
-    let text = "$var wire 3 p B[3:0] $end\n$enddefinitions $end\n";
-    let dump = read_vcd(rt.alloc(), text.as_bytes())?;
-    assert_eq!(rt; dump.variables().len(), 1);
-    assert!(rt; dump.variables()[0].path.as_bytes() == b"B[3:0]".as_slice());
-    assert_eq!(rt; dump.variables()[0].index, None);
-    assert!(rt; dump.instants().is_empty());
-    Ok(())
-}
-
-#[test]
-fn bits_values_and_paths_are_given_back(rt: HostRuntime) -> Result<(), Fail> {
-    let bits = SmallVec::from_slice(rt.alloc(), &[Bit::Z, Bit::One])?;
-    let bits = Bits::from_small_vec(bits).into_inner();
-    assert!(rt; bits.as_slice() == [Bit::Z, Bit::One].as_slice());
-    let mut values = Vec::new(rt.alloc());
-    let bits = Bits::from_small_vec(bits);
-    values.push(Value { net: 3, bits })?;
-    let values = Values::from_vec(values).into_inner();
-    assert!(rt; values.len() == 1 && values[0].net == 3);
-    let path = Path::from_vec(Vec::from_slice(rt.alloc(), b"bus.AS")?).into_inner();
-    assert!(rt; path.as_slice() == b"bus.AS".as_slice());
+fn dumps(rt: HostRuntime) -> Result<(), Fail> {
+    for (front, rest, wanted) in TOLD {
+        let text = together(rt.alloc(), &[front, rest])?;
+        assert!(rt; says(rt.alloc(), &text, wanted)?, "not {wanted}");
+        for size in SIZES {
+            assert!(rt;
+                says_by_pieces(rt.alloc(), &text, size, wanted)?,
+                "{size}: not {wanted}"
+            );
+        }
+    }
     Ok(())
 }
 
 /// One variable of one bit, in two lines.
 const ONE_BIT: &str = "$var wire 1 p AS $end\n$enddefinitions $end\n";
 
-#[test]
-fn names_the_first_fault_of_a_body(rt: HostRuntime) -> Result<(), Fail> {
-    for (body, line, kind) in [
-        ("1q", 3, FaultKind::UndeclaredCode),
-        ("b10 p", 3, FaultKind::TooWide),
-        ("#5\n#4", 4, FaultKind::TimeBackwards),
-        ("#18446744073709551616", 3, FaultKind::NumberTooLarge),
-        ("2p", 3, FaultKind::BadToken),
-        ("$dumpvars 1p", 3, FaultKind::UnfinishedSection),
-        ("$comment x", 3, FaultKind::UnfinishedSection),
-        ("b1", 3, FaultKind::UnfinishedSection),
-        ("$end", 3, FaultKind::BadToken),
-        ("$dumpvars $dumpall $end $end", 3, FaultKind::BadToken),
-        ("$dumpvars\n1q", 4, FaultKind::UndeclaredCode),
-        ("\n#5 b1\nq", 4, FaultKind::UndeclaredCode),
-        ("r1.5\n\nq", 3, FaultKind::UndeclaredCode),
-        ("b1 $end", 3, FaultKind::UndeclaredCode),
-        ("b12", 3, FaultKind::BadToken),
-        ("1", 3, FaultKind::BadToken),
-        ("#", 3, FaultKind::BadToken),
-        ("#1x", 3, FaultKind::BadToken),
-        ("S p", 3, FaultKind::BadToken),
-        ("$dumpflush", 3, FaultKind::BadToken),
-    ] {
-        let text = format!(in rt.alloc(); "{ONE_BIT}{body}")?;
+/// A text behind a front, and the line and kind of the first fault of both.
+type Faulty = (&'static str, u64, FaultKind);
+
+/// Faults of a body, behind the definitions of one variable.
+const OF_BODIES: [Faulty; 20] = [
+    ("1q", 3, FaultKind::UndeclaredCode),
+    ("b10 p", 3, FaultKind::TooWide),
+    ("#5\n#4", 4, FaultKind::TimeBackwards),
+    ("#18446744073709551616", 3, FaultKind::NumberTooLarge),
+    ("2p", 3, FaultKind::BadToken),
+    ("$dumpvars 1p", 3, FaultKind::UnfinishedSection),
+    ("$comment x", 3, FaultKind::UnfinishedSection),
+    ("b1", 3, FaultKind::UnfinishedSection),
+    ("$end", 3, FaultKind::BadToken),
+    ("$dumpvars $dumpall $end $end", 3, FaultKind::BadToken),
+    ("$dumpvars\n1q", 4, FaultKind::UndeclaredCode),
+    ("\n#5 b1\nq", 4, FaultKind::UndeclaredCode),
+    ("r1.5\n\nq", 3, FaultKind::UndeclaredCode),
+    ("b1 $end", 3, FaultKind::UndeclaredCode),
+    ("b12", 3, FaultKind::BadToken),
+    ("1", 3, FaultKind::BadToken),
+    ("#", 3, FaultKind::BadToken),
+    ("#1x", 3, FaultKind::BadToken),
+    ("S p", 3, FaultKind::BadToken),
+    ("$dumpflush", 3, FaultKind::BadToken),
+];
+
+/// Faults of a header.
+const OF_HEADERS: [Faulty; 11] = [
+    ("$upscope $end", 1, FaultKind::ScopeUnderflow),
+    ("$var wire 1 p $end", 1, FaultKind::BadVar),
+    ("$var wire 1 p AS $end\n", 2, FaultKind::NoEndDefinitions),
+    (
+        "$var wire 1 p AS $end\n$var wire 2 p B $end",
+        2,
+        FaultKind::SizeConflict,
+    ),
+    ("", 1, FaultKind::NoEndDefinitions),
+    ("$var wire 65537 p A $end", 1, FaultKind::NumberTooLarge),
+    (
+        "$var wire 0 p A $end\n$enddefinitions $end\n0p",
+        3,
+        FaultKind::TooWide,
+    ),
+    ("$var wire one p A $end", 1, FaultKind::BadVar),
+    ("$scope module a $end\n#0", 2, FaultKind::BadToken),
+    ("\n\n$end", 3, FaultKind::BadToken),
+    ("$date\n$var wire 1 p A", 1, FaultKind::UnfinishedSection),
+];
+
+/// Faults of fronts of the recording of the bus.
+const OF_FRONTS: [Faulty; 2] = [
+    ("$enddef", 10, FaultKind::UnfinishedSection),
+    (
+        "$enddefinitions $end\n#0 1p 1q 1r 1s 1t 1u\n#",
+        12,
+        FaultKind::BadToken,
+    ),
+];
+
+/// Codes that aren't declared, where many are.
+const OF_CODES: [Faulty; 5] = [
+    ("#0 1#", 3, FaultKind::UndeclaredCode),
+    ("#0 1!\"", 3, FaultKind::UndeclaredCode),
+    ("#0 1!!!", 3, FaultKind::UndeclaredCode),
+    ("#0 1!!!!!", 3, FaultKind::UndeclaredCode),
+    ("#0 1\x7f", 3, FaultKind::UndeclaredCode),
+];
+
+/// Whether reading a text gives this fault, also in pieces, which are none of it before its definitions end.
+fn fails_with(alloc: Global, text: &[u8], sizes: &[usize], line: u64, kind: FaultKind) -> bool {
+    let is_fault = |fault: VcdFault| fault.line == line && fault.kind == kind;
+    let mut same = match read_vcd(alloc, text) {
+        Ok(_) => false,
+        Err(fault) => is_fault(fault),
+    };
+    for size in sizes {
+        same &= match shown_by_pieces(alloc, text, *size) {
+            Ok(Some(_)) => false,
+            Ok(None) => matches!(
+                kind,
+                FaultKind::NoEndDefinitions | FaultKind::UnfinishedSection
+            ),
+            Err(fault) => is_fault(fault),
+        };
+    }
+    same
+}
+
+fn assert_faults(
+    rt: &impl Abort,
+    alloc: Global,
+    front: &'static str,
+    faults: &[Faulty],
+    sizes: &[usize],
+) -> Result<(), Fail> {
+    for (rest, line, kind) in faults {
+        let text = together(alloc, &[front, *rest])?;
         assert!(rt;
-            fails_with(rt.alloc(), text.as_bytes(), line, kind),
-            "{body}"
+            fails_with(alloc, &text, sizes, *line, *kind),
+            "{line} {kind:?}"
         );
     }
     Ok(())
 }
 
 #[test]
-fn names_the_first_fault_of_a_header(rt: HostRuntime) {
-    for (text, line, kind) in [
-        ("$upscope $end", 1, FaultKind::ScopeUnderflow),
-        ("$var wire 1 p $end", 1, FaultKind::BadVar),
-        ("$var wire 1 p AS $end\n", 2, FaultKind::NoEndDefinitions),
-        (
-            "$var wire 1 p AS $end\n$var wire 2 p B $end",
-            2,
-            FaultKind::SizeConflict,
-        ),
-        ("", 1, FaultKind::NoEndDefinitions),
-        ("$var wire 65537 p A $end", 1, FaultKind::NumberTooLarge),
-        (
-            "$var wire 0 p A $end\n$enddefinitions $end\n0p",
-            3,
-            FaultKind::TooWide,
-        ),
-        ("$var wire one p A $end", 1, FaultKind::BadVar),
-        ("$scope module a $end\n#0", 2, FaultKind::BadToken),
-        ("\n\n$end", 3, FaultKind::BadToken),
-        ("$date\n$var wire 1 p A", 1, FaultKind::UnfinishedSection),
-    ] {
-        assert!(rt;
-            fails_with(rt.alloc(), text.as_bytes(), line, kind),
-            "{text}"
-        );
-    }
+fn faults_of_bodies(rt: HostRuntime) -> Result<(), Fail> {
+    assert_faults(&rt, rt.alloc(), ONE_BIT, &OF_BODIES, &SIZES)
+}
+
+#[test]
+fn faults_of_headers(rt: HostRuntime) -> Result<(), Fail> {
+    assert_faults(&rt, rt.alloc(), "", &OF_HEADERS, &SIZES)
+}
+
+#[test]
+fn faults_of_fronts(rt: HostRuntime) -> Result<(), Fail> {
+    assert_faults(&rt, rt.alloc(), BUS, &OF_FRONTS, &SIZES)
+}
+
+#[test]
+fn faults_of_codes(rt: HostRuntime) -> Result<(), Fail> {
+    assert_faults(&rt, rt.alloc(), CODES, &OF_CODES, &[13])
 }
 
 #[test]
@@ -584,21 +630,21 @@ fn a_fault_is_shown_with_its_line(rt: HostRuntime) -> Result<(), Fail> {
     Ok(())
 }
 
-#[test]
-fn every_prefix_of_a_recording_is_a_dump_or_has_a_fault(rt: HostRuntime) {
-    let text = BUS.as_bytes();
-    for end in 0..text.len() {
-        if let Err(fault) = read_vcd(rt.alloc(), &text[..end]) {
-            assert!(rt; fault.kind != FaultKind::Memory, "at {end}");
-        }
-        if text[..end].ends_with(b"$enddef") {
-            let kind = FaultKind::UnfinishedSection;
-            assert!(rt; fails_with(rt.alloc(), &text[..end], 10, kind));
-        }
-        if text[..end].ends_with(b"#0 1p 1q 1r 1s 1t 1u\n#") {
-            assert!(rt; fails_with(rt.alloc(), &text[..end], 12, FaultKind::BadToken));
-        }
+/// Whether memory is refused, which is ample.
+fn is_short_of_memory(alloc: Global, text: &[u8]) -> bool {
+    match read_vcd(alloc, text) {
+        Ok(_) => false,
+        Err(fault) => fault.kind == FaultKind::Memory,
     }
+}
+
+#[test]
+fn every_prefix_of_a_recording_is_a_dump_or_has_a_fault(rt: HostRuntime) -> Result<(), Fail> {
+    let text = together(rt.alloc(), &[BUS, BUS_BODY])?;
+    for end in 0..text.len() {
+        assert!(rt; !is_short_of_memory(rt.alloc(), &text[..end]), "at {end}");
+    }
+    Ok(())
 }
 
 #[test]
@@ -667,26 +713,25 @@ const BODY_SHOWN: &str = "\
 #12 0=0
 ";
 
+/// What that body says behind these definitions, read in pieces that are joined where they fit, and how many are.
+fn joined_from(alloc: Global, body: &[u8], ends: &[usize]) -> Result<(Vec<u8>, usize), Fail> {
+    let found = shown_by_joining(alloc, FRONT.as_bytes(), body, ends)?;
+    Ok(found.ok_or("no definitions")?)
+}
+
 #[test]
 fn pieces_are_joined_where_they_fit(rt: HostRuntime) -> Result<(), Fail> {
     let alloc = rt.alloc();
     let body = BODY.as_bytes();
-    let Some((found, count)) = shown_by_joining(
-        alloc,
-        FRONT.as_bytes(),
-        body,
-        &times_of(alloc, body)?,
-    )?
-    else {
-        return Err(Fail::new("no definitions"));
-    };
-    assert!(rt; found.as_slice() == BODY_SHOWN.as_bytes(), "{BODY_SHOWN}");
-    assert_eq!(rt; count, 6);
+    let times = times_of(alloc, body)?;
+    let (found, count) = joined_from(alloc, body, &times)?;
+    assert!(rt;
+        found.as_slice() == BODY_SHOWN.as_bytes() && count == 6,
+        "{count}"
+    );
     for size in SIZES {
         let ends = ends_of(alloc, body, size)?;
-        let Some((found, _)) = shown_by_joining(alloc, FRONT.as_bytes(), body, &ends)? else {
-            return Err(Fail::new("no definitions"));
-        };
+        let (found, _) = joined_from(alloc, body, &ends)?;
         assert!(rt; found.as_slice() == BODY_SHOWN.as_bytes(), "by {size}");
     }
     Ok(())
@@ -696,14 +741,12 @@ fn pieces_are_joined_where_they_fit(rt: HostRuntime) -> Result<(), Fail> {
 fn an_earlier_time_is_a_fault_where_pieces_are_joined(rt: HostRuntime) -> Result<(), Fail> {
     let alloc = rt.alloc();
     let body = b"#5 1p\n#3 0p\n#6 1p\n";
-    match shown_by_joining(alloc, FRONT.as_bytes(), body, &times_of(alloc, body)?) {
-        Ok(_) => Err(Fail::new("no fault")),
-        Err(fault) => {
-            assert!(rt;
-                fault.line == 3 && fault.kind == FaultKind::TimeBackwards,
-                "{fault:?}"
-            );
-            Ok(())
-        }
-    }
+    let ends = times_of(alloc, body)?;
+    let wanted = VcdFault {
+        line: 3,
+        kind: FaultKind::TimeBackwards,
+    };
+    let fault = shown_by_joining(alloc, FRONT.as_bytes(), body, &ends).err();
+    assert!(rt; fault == Some(wanted));
+    Ok(())
 }

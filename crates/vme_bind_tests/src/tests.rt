@@ -1,10 +1,9 @@
-ghost use Rattle.std.specs.Prelude.{◌≡◌, [], length};
-ghost use Rattle.vme_trace.specs.LineNumbers.{line_count};
+ghost use Rattle.std.specs.Prelude.{◌≡◌, []};
 
 use std::alloc::{AllocError, Global};
 use std::process::Abort;
 use std::test::Fail;
-use vcd_read::{FaultKind, VcdFault, read_vcd};
+use vcd_read::{FaultKind, read_vcd};
 use vme_bind::{BindFault, BindKind, Binding, CaptureFault, TextWave, read_binding};
 use vme_trace::{Capture, Follower, Level, Line, Lines, Step};
 
@@ -46,12 +45,15 @@ $upscope $end
 $enddefinitions $end
 ";
 
+/// The scope of those variables, in which AS is declared.
+const BUS: &str = "$scope module bus $end\n$var wire 1 p AS $end\n";
+
+const AS: &str = "$var wire 1 p AS $end";
+
 /// A dump in which AS is declared so, with these changes.
 fn bus_dump(alloc: Global, declared: &str, changes: &str) -> Result<String, AllocError> {
     format!(in alloc; "$scope module bus $end\n{declared}\n{DECLARED}{changes}")
 }
-
-const AS: &str = "$var wire 1 p AS $end";
 
 /// A read of the bus.
 const READ: &str = "\
@@ -73,201 +75,6 @@ const READ_STEPS: &str = "\
 #50 DTACK=1
 ";
 
-fn sign_of(level: Level) -> u8 {
-    match level {
-        Level::Low => b'0',
-        Level::High => b'1',
-        Level::Unknown => b'x',
-    }
-}
-
-/// The steps of a recording, a line each.
-fn shown(alloc: Global, capture: &Capture) -> Result<Vec<u8>, AllocError> {
-    written(alloc, capture.steps())
-}
-
-fn written(alloc: Global, steps: &[Step]) -> Result<Vec<u8>, AllocError> {
-    let mut text = Vec::new(alloc);
-    for step in steps {
-        let time = step.time;
-        text.extend_from_slice(format!(in alloc; "#{time}")?.as_bytes())?;
-        for change in step.changes.as_slice() {
-            text.push(b' ')?;
-            text.extend_from_slice(change.line.name().as_bytes())?;
-            text.push(b'=')?;
-            text.push(sign_of(change.level))?;
-        }
-        text.push(b'\n')?;
-    }
-    Ok(text)
-}
-
-fn captured(alloc: Global, binding: &str, dump: &str) -> Result<Capture, Fail> {
-    let binding = read_binding(alloc, binding.as_bytes())?;
-    Ok(binding.capture_text(alloc, dump.as_bytes())?)
-}
-
-/// Makes a recording, and tells whether its steps are those that are wanted.
-fn records_as(
-    rt: &impl Abort,
-    alloc: Global,
-    binding: &str,
-    dump: &str,
-    wanted: &str,
-) -> Result<(), Fail> {
-    let capture = captured(alloc, binding, dump)?;
-    let found = shown(alloc, &capture)?;
-    assert!(rt; found.as_slice() == wanted.as_bytes(), "not {wanted}");
-    Ok(())
-}
-
-/// Whether a text has this fault.
-fn fails_with(alloc: Global, text: &str, line: u64, kind: BindKind) -> bool {
-    read_binding(alloc, text.as_bytes()).err() == Some(BindFault { line, kind })
-}
-
-/// Whether a binding has this fault with a dump.
-fn lacks(
-    alloc: Global,
-    binding: &str,
-    dump: &str,
-    line: u64,
-    kind: BindKind,
-) -> Result<bool, Fail> {
-    let binding = read_binding(alloc, binding.as_bytes())?;
-    let dump = read_vcd(alloc, dump.as_bytes())?;
-    match binding.capture(alloc, &dump) {
-        Ok(_) => Ok(false),
-        Err(fault) => Ok(fault == BindFault { line, kind }),
-    }
-}
-
-#[test]
-fn records_a_read(rt: HostRuntime) -> Result<(), Fail> {
-    let dump = bus_dump(rt.alloc(), AS, READ)?;
-    let capture = captured(rt.alloc(), BUS_LINES, dump.as_str())?;
-    let opening = capture.opening();
-    assert_eq!(rt; opening.slots(), 1);
-    assert_eq!(rt; opening.level(Line::AS), Level::Unknown);
-    assert_eq!(rt; opening.level(Line::BBSY), Level::Low);
-    assert_eq!(rt; opening.level(Line::address_modifier(1)), Level::Low);
-    assert_eq!(rt; opening.level(Line::iack(1)), Level::High);
-    records_as(&rt, rt.alloc(), BUS_LINES, dump.as_str(), READ_STEPS)
-}
-
-#[test]
-fn data_lines_that_are_left_out_are_high(rt: HostRuntime) -> Result<(), Fail> {
-    let dump = bus_dump(rt.alloc(), AS, READ)?;
-    let capture = captured(rt.alloc(), BUS_LINES, dump.as_str())?;
-    for bit in 0..32 {
-        assert!(rt;
-            capture.opening().level(Line::data(bit)) == Level::High,
-            "{bit}"
-        );
-    }
-    Ok(())
-}
-
-#[test]
-fn data_lines_are_bound_as_a_group(rt: HostRuntime) -> Result<(), Fail> {
-    let binding = format!(in rt.alloc(); "{BUS_LINES}D = bus.D\n")?;
-    let declared = "$var wire 1 p AS $end $var wire 32 d D $end";
-    let dump = bus_dump(rt.alloc(), declared, "#1 1p b0 d #2 b100x d #3 bz1 d")?;
-    let wanted =
-        "#1 AS=1 D00=0 D01=0 D02=0 D03=0 D04=0 D05=0 D06=0 D07=0 D08=0 D09=0 D10=0 D11=0 D12=0 D13=0 D14=0 \
-        D15=0 D16=0 D17=0 D18=0 D19=0 D20=0 D21=0 D22=0 D23=0 D24=0 D25=0 D26=0 D27=0 D28=0 D29=0 D30=0 D31=0\n\
-        #2 D00=x D03=1\n\
-        #3 D00=1 D01=1 D02=1 D04=1 D05=1 D06=1 D07=1 D08=1 D09=1 D10=1 D11=1 D12=1 D13=1 D14=1 D15=1 D16=1 \
-        D17=1 D18=1 D19=1 D20=1 D21=1 D22=1 D23=1 D24=1 D25=1 D26=1 D27=1 D28=1 D29=1 D30=1 D31=1\n";
-    records_as(&rt, rt.alloc(), binding.as_str(), dump.as_str(), wanted)
-}
-
-#[test]
-fn data_lines_are_all_bound_or_none(rt: HostRuntime) -> Result<(), Fail> {
-    let alloc = rt.alloc();
-    let one = format!(in alloc; "{BUS_LINES}D00 = 1\n")?;
-    assert!(rt; fails_with(alloc, one.as_str(), 25, BindKind::Unbound(Line::data(1))));
-    let twice = format!(in alloc; "{BUS_LINES}D = 1\nD31 = 1\n")?;
-    assert!(rt; fails_with(alloc, twice.as_str(), 25, BindKind::NamedTwice));
-    let without = format!(in alloc; "{BUS_LINES}D32 = 1\n")?;
-    assert!(rt; fails_with(alloc, without.as_str(), 24, BindKind::UnknownName));
-    Ok(())
-}
-
-/// The level that SYSRESET opens with, where the binding has this line more.
-fn reset_with(alloc: Global, more: &str) -> Result<Level, Fail> {
-    let binding = format!(in alloc; "{BUS_LINES}{more}")?;
-    let dump = bus_dump(alloc, AS, READ)?;
-    let capture = captured(alloc, binding.as_str(), dump.as_str())?;
-    Ok(capture.opening().level(Line::SYSRESET))
-}
-
-#[test]
-fn a_system_reset_that_is_left_out_is_high(rt: HostRuntime) -> Result<(), Fail> {
-    for (more, level) in [
-        ("", Level::High),
-        ("D = 0\n", Level::High),
-        ("SYSRESET = 0\n", Level::Low),
-        ("SYSRESET = 1\n", Level::High),
-        ("SYSRESET = x\n", Level::Unknown),
-    ] {
-        assert!(rt; reset_with(rt.alloc(), more)? == level, "{more}");
-    }
-    Ok(())
-}
-
-#[test]
-fn a_system_reset_is_bound_by_its_name(rt: HostRuntime) -> Result<(), Fail> {
-    let binding = format!(in rt.alloc(); "{BUS_LINES}SYSRESET = bus.RESET\n")?;
-    let declared = "$var wire 1 p AS $end $var wire 1 e RESET $end";
-    let changes = "#1 1p 1e #2 0e #3 ze #4 xe #5 1e";
-    let dump = bus_dump(rt.alloc(), declared, changes)?;
-    let wanted = "#1 AS=1 SYSRESET=1\n#2 SYSRESET=0\n#3 SYSRESET=1\n#4 SYSRESET=x\n#5 SYSRESET=1\n";
-    records_as(&rt, rt.alloc(), binding.as_str(), dump.as_str(), wanted)?;
-    let lacking = bus_dump(rt.alloc(), AS, READ)?;
-    let kind = BindKind::NoSuchPath;
-    assert!(rt; lacks(rt.alloc(), binding.as_str(), lacking.as_str(), 24, kind)?);
-    let twice = format!(in rt.alloc(); "{binding}SYSRESET = 1\n")?;
-    assert!(rt; fails_with(rt.alloc(), twice.as_str(), 25, BindKind::NamedTwice));
-    Ok(())
-}
-
-#[test]
-fn an_alias_changes_nothing(rt: HostRuntime) -> Result<(), Fail> {
-    let declared = "$var wire 1 p AS $end $var wire 1 p AS2 $end $var wire 1 p AS $end";
-    let dump = bus_dump(rt.alloc(), declared, READ)?;
-    records_as(&rt, rt.alloc(), BUS_LINES, dump.as_str(), READ_STEPS)
-}
-
-#[test]
-fn a_time_at_which_nothing_changes_is_no_step(rt: HostRuntime) -> Result<(), Fail> {
-    let changes = "#0 1p 1q #1 1p #2 #3 0p 1p #4 0q 0p #5 xp bx q";
-    let dump = bus_dump(rt.alloc(), AS, changes)?;
-    let wanted = "#0 AS=1 DS0=1\n#4 AS=0 DS0=0\n#5 AS=x DS0=x\n";
-    records_as(&rt, rt.alloc(), BUS_LINES, dump.as_str(), wanted)
-}
-
-#[test]
-fn names_the_first_fault_of_a_text(rt: HostRuntime) {
-    for (text, line, kind) in [
-        ("AS = 0", 1, BindKind::SlotsFirst),
-        ("slots 22", 1, BindKind::SlotsFirst),
-        ("slots 0", 1, BindKind::SlotsFirst),
-        ("slots 01", 1, BindKind::SlotsFirst),
-        ("slots 1 1", 1, BindKind::SlotsFirst),
-        ("\n# no slots\n", 3, BindKind::SlotsFirst),
-        ("slots 1\nBG0.2 = 1", 2, BindKind::UnknownName),
-        ("slots 1\nAS 0", 2, BindKind::BadLine),
-        ("slots 1\nAS = 0 1", 2, BindKind::BadLine),
-        ("slots 1\nAM = 1\nAM3 = 0", 3, BindKind::NamedTwice),
-        ("slots 1", 1, BindKind::Unbound(Line::AS)),
-        ("\t slots\t1 \r\n\n", 3, BindKind::Unbound(Line::AS)),
-        ("slots 1\r", 1, BindKind::SlotsFirst),
-    ] {
-        assert!(rt; fails_with(rt.alloc(), text, line, kind), "{text}");
-    }
-}
-
 /// The lines that the vectors below leave.
 const OTHERS: &str = "\
 DS0 = 1
@@ -286,16 +93,6 @@ BG3 = 1
 IA = 1
 ";
 
-/// A binding with these sources, at lines 2 to 4.
-fn vectors(
-    alloc: Global,
-    strobe: &str,
-    requests: &str,
-    grants: &str,
-) -> Result<String, AllocError> {
-    format!(in alloc; "slots 1\nAS = {strobe}\nBR = {requests}\nBG0 = {grants}\n{OTHERS}")
-}
-
 /// Vectors with their indices down and up.
 const VECTORS: &str = "\
 $var wire 8 d down [7:0] $end
@@ -306,45 +103,468 @@ $enddefinitions $end
 #6 bzzz0zzzz d b01xz u bz g
 ";
 
+/// What the binding of the bus has behind its lines, what the dump declares behind AS, its changes, and the steps of the
+/// recording.
+const OF_BUS: [(&str, &str, &str, &str); 5] = [
+    ("", "", READ, READ_STEPS),
+    (
+        "D = bus.D\n",
+        "$var wire 32 d D $end\n",
+        "#1 1p b0 d #2 b100x d #3 bz1 d",
+        "#1 AS=1 D00=0 D01=0 D02=0 D03=0 D04=0 D05=0 D06=0 D07=0 D08=0 D09=0 D10=0 D11=0 D12=0 D13=0 D14=0 \
+        D15=0 D16=0 D17=0 D18=0 D19=0 D20=0 D21=0 D22=0 D23=0 D24=0 D25=0 D26=0 D27=0 D28=0 D29=0 D30=0 D31=0\n\
+        #2 D00=x D03=1\n\
+        #3 D00=1 D01=1 D02=1 D04=1 D05=1 D06=1 D07=1 D08=1 D09=1 D10=1 D11=1 D12=1 D13=1 D14=1 D15=1 D16=1 \
+        D17=1 D18=1 D19=1 D20=1 D21=1 D22=1 D23=1 D24=1 D25=1 D26=1 D27=1 D28=1 D29=1 D30=1 D31=1\n",
+    ),
+    (
+        "SYSRESET = bus.RESET\n",
+        "$var wire 1 e RESET $end\n",
+        "#1 1p 1e #2 0e #3 ze #4 xe #5 1e",
+        "#1 AS=1 SYSRESET=1\n#2 SYSRESET=0\n#3 SYSRESET=1\n#4 SYSRESET=x\n#5 SYSRESET=1\n",
+    ),
+    (
+        "",
+        "$var wire 1 p AS2 $end $var wire 1 p AS $end\n",
+        READ,
+        READ_STEPS,
+    ),
+    (
+        "",
+        "",
+        "#0 1p 1q #1 1p #2 #3 0p 1p #4 0q 0p #5 xp bx q",
+        "#0 AS=1 DS0=1\n#4 AS=0 DS0=0\n#5 AS=x DS0=x\n",
+    ),
+];
+
+/// The bits of AS, those of BR, and the steps of the recording.
+const OF_VECTORS: [(&str, &str, &str); 3] = [
+    (
+        "down[7]",
+        "down[4:1]",
+        "#5 AS=1 BR0=1 BR1=1 BR2=0 BR3=1 BG0.0=0\n#6 BR2=1 BR3=0 BG0.0=x\n",
+    ),
+    (
+        "up[1]",
+        "up",
+        "#5 AS=0 BR0=1 BR1=1 BR2=0 BR3=0 BG0.0=0\n#6 AS=1 BR1=x BR2=1 BG0.0=x\n",
+    ),
+    (
+        "up[3:3]",
+        "up[0:3]",
+        "#5 AS=1 BR0=1 BR1=1 BR2=0 BR3=0 BG0.0=0\n#6 BR1=x BR2=1 BG0.0=x\n",
+    ),
+];
+
+/// The path of AS, and the declarations of a dump in which it is p: a path may part into scopes anywhere.
+const OF_PATHS: [(&str, &str); 12] = [
+    (
+        "a.b.c",
+        "$scope module a $end $scope begin b $end $var wire 1 p c $end",
+    ),
+    ("a.b.c", "$scope module a.b $end $var wire 1 p c $end"),
+    ("a.b.c", "$scope module a $end $var wire 1 p b.c $end"),
+    ("a.b.c", "$var wire 1 p a.b.c $end"),
+    (
+        "a.b.c",
+        "$scope module $end $scope module a $end $scope $end $scope module b $end $scope module $end $var wire 1 \
+                p c $end",
+    ),
+    ("a.b.c", "$scope module a . b $end $var wire 1 p c $end"),
+    (
+        "a.b",
+        "$scope module a $end $scope module b $end $upscope $end $var wire 1 p b $end",
+    ),
+    (
+        "a.b",
+        "$scope module a $end $upscope $end $scope module a $end $var wire 1 p b $end",
+    ),
+    (
+        "a.b",
+        "$scope module aa $end $var wire 1 q b $end $upscope $end $scope module a $end $var wire 1 p b $end $var \
+                wire 1 q bb $end",
+    ),
+    (
+        "a.b",
+        "$scope module a $end $scope module a $end $var wire 1 q b $end $upscope $end $var wire 1 p b $end \
+                $upscope $end $var wire 1 q b $end",
+    ),
+    ("a..b", "$scope module a. $end $var wire 1 p b $end"),
+    (
+        ".b",
+        "$scope module . $end $var wire 1 q b $end $upscope $end $var wire 1 p .b $end",
+    ),
+];
+
+/// The other lines of a binding of AS to a path.
+const ONES: &str = "\nBR = 1\nBG0 = 1\n";
+
+/// The variable with the code p falls.
+const FALLS: &str = " $enddefinitions $end #1 1p #2 0p";
+
+/// The texts of a list, one behind the other.
+fn together(alloc: Global, parts: &[&str]) -> Result<Vec<u8>, AllocError> {
+    let mut text = Vec::new(alloc);
+    for part in parts {
+        text.extend_from_slice(part.as_bytes())?;
+    }
+    Ok(text)
+}
+
+fn bound(alloc: Global, parts: &[&str]) -> Result<Binding, Fail> {
+    let text = together(alloc, parts)?;
+    Ok(read_binding(alloc, text.as_slice())?)
+}
+
+fn captured(alloc: Global, binding: &[&str], dump: &[&str]) -> Result<Capture, Fail> {
+    let binding = bound(alloc, binding)?;
+    let text = together(alloc, dump)?;
+    Ok(binding.capture_text(alloc, text.as_slice())?)
+}
+
+/// The same by a dump that was read before.
+fn captured_by_dump(alloc: Global, binding: &[&str], dump: &[&str]) -> Result<Capture, Fail> {
+    let binding = bound(alloc, binding)?;
+    let text = together(alloc, dump)?;
+    let dump = read_vcd(alloc, text.as_slice())?;
+    Ok(binding.capture(alloc, &dump)?)
+}
+
+fn sign_of(level: Level) -> u8 {
+    match level {
+        Level::Low => b'0',
+        Level::High => b'1',
+        Level::Unknown => b'x',
+    }
+}
+
+/// The steps of a recording, a line each.
+fn written(alloc: Global, steps: &[Step]) -> Result<Vec<u8>, AllocError> {
+    let mut text = Vec::new(alloc);
+    for step in steps {
+        write_step(alloc, &mut text, step)?;
+    }
+    Ok(text)
+}
+
+fn write_step(alloc: Global, text: &mut Vec<u8>, step: &Step) -> Result<(), AllocError> {
+    let time = step.time;
+    push(text, format!(in alloc; "#{time}")?)?;
+    for change in step.changes.as_slice() {
+        text.push(b' ')?;
+        text.extend_from_slice(change.line.name().as_bytes())?;
+        text.push(b'=')?;
+        text.push(sign_of(change.level))?;
+    }
+    text.push(b'\n')?;
+    Ok(())
+}
+
+fn push(text: &mut Vec<u8>, part: String) -> Result<(), AllocError> {
+    text.extend_from_slice(part.as_bytes())?;
+    Ok(())
+}
+
+/// Whether the steps of a recording are written so.
+fn is_written(alloc: Global, capture: &Capture, wanted: &str) -> Result<bool, AllocError> {
+    let text = written(alloc, capture.steps())?;
+    Ok(text.as_slice() == wanted.as_bytes())
+}
+
+fn assert_recorded(
+    rt: &impl Abort,
+    alloc: Global,
+    binding: &[&str],
+    dump: &[&str],
+    wanted: &str,
+) -> Result<(), Fail> {
+    let capture = captured(alloc, binding, dump)?;
+    assert!(rt; is_written(alloc, &capture, wanted)?, "not {wanted}");
+    Ok(())
+}
+
 #[test]
-fn selects_bits_by_their_indices(rt: HostRuntime) -> Result<(), Fail> {
-    for (strobe, requests, wanted) in [
-        (
-            "down[7]",
-            "down[4:1]",
-            "#5 AS=1 BR0=1 BR1=1 BR2=0 BR3=1 BG0.0=0\n#6 BR2=1 BR3=0 BG0.0=x\n",
-        ),
-        (
-            "up[1]",
-            "up",
-            "#5 AS=0 BR0=1 BR1=1 BR2=0 BR3=0 BG0.0=0\n#6 AS=1 BR1=x BR2=1 BG0.0=x\n",
-        ),
-        (
-            "up[3:3]",
-            "up[0:3]",
-            "#5 AS=1 BR0=1 BR1=1 BR2=0 BR3=0 BG0.0=0\n#6 BR1=x BR2=1 BG0.0=x\n",
-        ),
-    ] {
-        let binding = vectors(rt.alloc(), strobe, requests, "grants")?;
-        records_as(&rt, rt.alloc(), binding.as_str(), VECTORS, wanted)?;
+fn recordings_of_the_bus(rt: HostRuntime) -> Result<(), Fail> {
+    for (more, declared, changes, wanted) in OF_BUS {
+        let dump = [BUS, declared, DECLARED, changes];
+        assert_recorded(&rt, rt.alloc(), &[BUS_LINES, more], &dump, wanted)?;
     }
     Ok(())
 }
 
 #[test]
-fn names_the_first_line_that_a_dump_lacks(rt: HostRuntime) -> Result<(), Fail> {
-    for (strobe, requests, line, kind) in [
-        ("down", "none", 2, BindKind::WrongWidth),
-        ("down[8]", "up", 2, BindKind::NoSuchPath),
-        ("up[0]", "up[3:0]", 3, BindKind::NoSuchPath),
-        ("up[0]", "down[4:2]", 3, BindKind::WrongWidth),
-        ("grants[0]", "up", 2, BindKind::NoSuchPath),
-        ("X", "up", 2, BindKind::NoSuchPath),
-        ("[3]", "up", 2, BindKind::NoSuchPath),
-    ] {
-        let binding = vectors(rt.alloc(), strobe, requests, "grants")?;
+fn a_dump_that_was_read_is_recorded(rt: HostRuntime) -> Result<(), Fail> {
+    let capture = captured_by_dump(rt.alloc(), &[BUS_LINES], &[BUS, DECLARED, READ])?;
+    assert!(rt; is_written(rt.alloc(), &capture, READ_STEPS)?);
+    Ok(())
+}
+
+#[test]
+fn recordings_of_vectors(rt: HostRuntime) -> Result<(), Fail> {
+    for (strobe, requests, wanted) in OF_VECTORS {
+        let binding = [
+            "slots 1\nAS = ",
+            strobe,
+            "\nBR = ",
+            requests,
+            "\nBG0 = grants\n",
+            OTHERS,
+        ];
+        assert_recorded(&rt, rt.alloc(), &binding, &[VECTORS], wanted)?;
+    }
+    Ok(())
+}
+
+#[test]
+fn recordings_by_paths(rt: HostRuntime) -> Result<(), Fail> {
+    for (path, header) in OF_PATHS {
+        let binding = ["slots 1\nAS = ", path, ONES, OTHERS];
+        assert_recorded(
+            &rt,
+            rt.alloc(),
+            &binding,
+            &[header, FALLS],
+            "#1 AS=1\n#2 AS=0\n",
+        )?;
+    }
+    Ok(())
+}
+
+/// What the binding has behind its lines, a line, and the level that it opens with.
+const OPENINGS: [(&str, &str, Level); 9] = [
+    ("", "AS", Level::Unknown),
+    ("", "BBSY", Level::Low),
+    ("", "AM1", Level::Low),
+    ("", "IA.1", Level::High),
+    // a system reset that is left out is high
+    ("", "SYSRESET", Level::High),
+    ("D = 0\n", "SYSRESET", Level::High),
+    ("SYSRESET = 0\n", "SYSRESET", Level::Low),
+    ("SYSRESET = 1\n", "SYSRESET", Level::High),
+    ("SYSRESET = x\n", "SYSRESET", Level::Unknown),
+];
+
+fn level_of(lines: &Lines, name: &str) -> Option<Level> {
+    let line = Line::from_name(name.as_bytes())?;
+    if !lines.has(line) {
+        return None;
+    }
+    Some(lines.level(line))
+}
+
+fn has_data_high(lines: &Lines) -> bool {
+    for bit in 0..32 {
+        if lines.level(Line::data(bit)) != Level::High {
+            return false;
+        }
+    }
+    true
+}
+
+/// The level of a line in the opening, where the binding has more lines.
+fn opening_level(alloc: Global, more: &str, name: &str) -> Result<Option<Level>, Fail> {
+    let capture = captured(alloc, &[BUS_LINES, more], &[BUS, DECLARED, READ])?;
+    Ok(level_of(capture.opening(), name))
+}
+
+#[test]
+fn openings(rt: HostRuntime) -> Result<(), Fail> {
+    for (more, name, level) in OPENINGS {
         assert!(rt;
-            lacks(rt.alloc(), binding.as_str(), VECTORS, line, kind)?,
+            opening_level(rt.alloc(), more, name)? == Some(level),
+            "{name} {more}"
+        );
+    }
+    Ok(())
+}
+
+#[test]
+fn data_lines_that_are_left_out_are_high(rt: HostRuntime) -> Result<(), Fail> {
+    let capture = captured(rt.alloc(), &[BUS_LINES], &[BUS, DECLARED, READ])?;
+    assert!(rt; capture.opening().slots() == 1 && has_data_high(capture.opening()));
+    Ok(())
+}
+
+/// Texts, and their first faults.
+const FAULTS: [(&str, &str); 13] = [
+    ("AS = 0", "binding line 1: SlotsFirst"),
+    ("slots 22", "binding line 1: SlotsFirst"),
+    ("slots 0", "binding line 1: SlotsFirst"),
+    ("slots 01", "binding line 1: SlotsFirst"),
+    ("slots 1 1", "binding line 1: SlotsFirst"),
+    ("\n# no slots\n", "binding line 3: SlotsFirst"),
+    ("slots 1\nBG0.2 = 1", "binding line 2: UnknownName"),
+    ("slots 1\nAS 0", "binding line 2: BadLine"),
+    ("slots 1\nAS = 0 1", "binding line 2: BadLine"),
+    ("slots 1\nAM = 1\nAM3 = 0", "binding line 3: NamedTwice"),
+    ("slots 1", "binding line 1: Unbound AS"),
+    ("\t slots\t1 \r\n\n", "binding line 3: Unbound AS"),
+    ("slots 1\r", "binding line 1: SlotsFirst"),
+];
+
+/// What is behind the lines of the bus, and the first fault.
+const MORE_FAULTS: [(&str, &str); 4] = [
+    ("D00 = 1\n", "binding line 25: Unbound D01"),
+    ("D = 1\nD31 = 1\n", "binding line 25: NamedTwice"),
+    ("D32 = 1\n", "binding line 24: UnknownName"),
+    (
+        "SYSRESET = bus.RESET\nSYSRESET = 1\n",
+        "binding line 25: NamedTwice",
+    ),
+];
+
+/// The first fault of a text, as it is shown.
+fn fault_of(alloc: Global, parts: &[&str]) -> Result<String, Fail> {
+    let text = together(alloc, parts)?;
+    let fault = read_binding(alloc, text.as_slice()).err();
+    let fault = fault.ok_or("no fault")?;
+    Ok(format!(in alloc; "{fault}")?)
+}
+
+fn assert_fault(rt: &impl Abort, alloc: Global, parts: &[&str], wanted: &str) -> Result<(), Fail> {
+    let found = fault_of(alloc, parts)?;
+    assert!(rt; found.as_str() == wanted, "not {wanted}");
+    Ok(())
+}
+
+#[test]
+fn faults_of_bindings(rt: HostRuntime) -> Result<(), Fail> {
+    for (text, wanted) in FAULTS {
+        assert_fault(&rt, rt.alloc(), &[text], wanted)?;
+    }
+    Ok(())
+}
+
+#[test]
+fn faults_behind_the_lines_of_the_bus(rt: HostRuntime) -> Result<(), Fail> {
+    for (more, wanted) in MORE_FAULTS {
+        assert_fault(&rt, rt.alloc(), &[BUS_LINES, more], wanted)?;
+    }
+    Ok(())
+}
+
+/// The bits of AS, those of BR, and the first fault by the lines of the binding.
+const NO_VECTORS: [(&str, &str, &str); 7] = [
+    ("down", "none", "binding line 2: WrongWidth"),
+    ("down[8]", "up", "binding line 2: NoSuchPath"),
+    ("up[0]", "up[3:0]", "binding line 3: NoSuchPath"),
+    ("up[0]", "down[4:2]", "binding line 3: WrongWidth"),
+    ("grants[0]", "up", "binding line 2: NoSuchPath"),
+    ("X", "up", "binding line 2: NoSuchPath"),
+    ("[3]", "up", "binding line 2: NoSuchPath"),
+];
+
+/// The path of AS, the declarations of a dump, and the first fault by the lines of the binding.
+const NO_PATHS: [(&str, &str, &str); 8] = [
+    (
+        "a.b",
+        "$scope module a $end $upscope $end $var wire 1 p b $end",
+        "binding line 2: NoSuchPath",
+    ),
+    (
+        "a.b",
+        "$scope module a $end $scope module b $end $var wire 1 p b $end",
+        "binding line 2: NoSuchPath",
+    ),
+    (
+        "a.b",
+        "$scope module a $end $var wire 1 p bb $end",
+        "binding line 2: NoSuchPath",
+    ),
+    (
+        "a.b",
+        "$scope module a $end $var wire 1 p b $end $upscope $end $scope module a $end $var wire 1 q b $end",
+        "binding line 2: AmbiguousPath",
+    ),
+    (
+        "a.b",
+        "$scope module a $end $var wire 1 p b $end $upscope $end $var wire 1 q a.b $end",
+        "binding line 2: AmbiguousPath",
+    ),
+    (
+        "a.b",
+        "$scope module a $end $var wire 1 q b $end $var wire 1 p b $end $var wire 1 q b $end",
+        "binding line 2: AmbiguousPath",
+    ),
+    (
+        "a.b",
+        "$scope module a $end $var wire 2 p b [1:0] $end",
+        "binding line 2: WrongWidth",
+    ),
+    (
+        "a.b[2]",
+        "$scope module a $end $var wire 2 p b [1:0] $end",
+        "binding line 2: NoSuchPath",
+    ),
+];
+
+fn shown_fault(alloc: Global, fault: CaptureFault) -> Result<String, AllocError> {
+    match fault {
+        CaptureFault::Binding(fault) => format!(in alloc; "{fault}"),
+        CaptureFault::Dump(fault) => format!(in alloc; "{fault}"),
+    }
+}
+
+/// Why the text of a dump makes no recording.
+fn lacked(alloc: Global, binding: &Binding, text: &[u8]) -> Result<String, Fail> {
+    let fault = binding.capture_text(alloc, text).err();
+    Ok(shown_fault(alloc, fault.ok_or("a recording")?)?)
+}
+
+/// Why a dump makes none.
+fn lacked_by_dump(alloc: Global, binding: &Binding, text: &[u8]) -> Result<String, Fail> {
+    let dump = read_vcd(alloc, text)?;
+    let fault = binding.capture(alloc, &dump).err();
+    let fault = fault.ok_or("a recording")?;
+    Ok(format!(in alloc; "{fault}")?)
+}
+
+/// Whether a binding has this fault with a dump, and with its text.
+fn lacks(alloc: Global, binding: &[&str], dump: &[&str], wanted: &str) -> Result<bool, Fail> {
+    let binding = bound(alloc, binding)?;
+    let text = together(alloc, dump)?;
+    let found = lacked(alloc, &binding, text.as_slice())?;
+    if found.as_str() != wanted {
+        return Ok(false);
+    }
+    let found = lacked_by_dump(alloc, &binding, text.as_slice())?;
+    Ok(found.as_str() == wanted)
+}
+
+#[test]
+fn what_dumps_of_the_bus_lack(rt: HostRuntime) -> Result<(), Fail> {
+    let alloc = rt.alloc();
+    let wanted = "binding line 24: NoSuchPath";
+    let more = "SYSRESET = bus.RESET\n";
+    assert!(rt; lacks(alloc, &[BUS_LINES, more], &[BUS, DECLARED, READ], wanted)?);
+    let wanted = "binding line 2: NoSuchPath";
+    assert!(rt;
+        lacks(
+            alloc,
+            &[BUS_LINES],
+            &["$scope module bus $end\n", DECLARED],
+            wanted
+        )?
+    );
+    let wanted = "binding line 2: AmbiguousPath";
+    let other = "$var wire 1 v AS $end\n";
+    assert!(rt; lacks(alloc, &[BUS_LINES], &[BUS, other, DECLARED], wanted)?);
+    Ok(())
+}
+
+#[test]
+fn what_dumps_of_vectors_lack(rt: HostRuntime) -> Result<(), Fail> {
+    for (strobe, requests, wanted) in NO_VECTORS {
+        let binding = [
+            "slots 1\nAS = ",
+            strobe,
+            "\nBR = ",
+            requests,
+            "\nBG0 = grants\n",
+            OTHERS,
+        ];
+        assert!(rt;
+            lacks(rt.alloc(), &binding, &[VECTORS], wanted)?,
             "{strobe}"
         );
     }
@@ -352,156 +572,11 @@ fn names_the_first_line_that_a_dump_lacks(rt: HostRuntime) -> Result<(), Fail> {
 }
 
 #[test]
-fn names_a_path_that_is_missing_or_ambiguous(rt: HostRuntime) -> Result<(), Fail> {
-    let none = bus_dump(rt.alloc(), "", "")?;
-    let kind = BindKind::NoSuchPath;
-    assert!(rt; lacks(rt.alloc(), BUS_LINES, none.as_str(), 2, kind)?);
-    let two = bus_dump(
-        rt.alloc(),
-        "$var wire 1 p AS $end $var wire 1 v AS $end",
-        "",
-    )?;
-    let kind = BindKind::AmbiguousPath;
-    assert!(rt; lacks(rt.alloc(), BUS_LINES, two.as_str(), 2, kind)?);
-    Ok(())
-}
-
-/// A binding of AS to a variable, and of the other lines to levels.
-fn bound_to(alloc: Global, path: &str) -> Result<String, AllocError> {
-    vectors(alloc, path, "1", "1")
-}
-
-/// The dump with this header, in which p falls.
-fn falling(alloc: Global, header: &str) -> Result<String, AllocError> {
-    format!(in alloc; "{header} $enddefinitions $end #1 1p #2 0p")
-}
-
-#[test]
-fn a_path_may_part_into_scopes_anywhere(rt: HostRuntime) -> Result<(), Fail> {
-    for (path, header) in [
-        (
-            "a.b.c",
-            "$scope module a $end $scope begin b $end $var wire 1 p c $end",
-        ),
-        ("a.b.c", "$scope module a.b $end $var wire 1 p c $end"),
-        ("a.b.c", "$scope module a $end $var wire 1 p b.c $end"),
-        ("a.b.c", "$var wire 1 p a.b.c $end"),
-        (
-            "a.b.c",
-            "$scope module $end $scope module a $end $scope $end $scope module b $end $scope module $end $var wire 1 \
-                p c $end",
-        ),
-        ("a.b.c", "$scope module a . b $end $var wire 1 p c $end"),
-        (
-            "a.b",
-            "$scope module a $end $scope module b $end $upscope $end $var wire 1 p b $end",
-        ),
-        (
-            "a.b",
-            "$scope module a $end $upscope $end $scope module a $end $var wire 1 p b $end",
-        ),
-        (
-            "a.b",
-            "$scope module aa $end $var wire 1 q b $end $upscope $end $scope module a $end $var wire 1 p b $end $var \
-                wire 1 q bb $end",
-        ),
-        (
-            "a.b",
-            "$scope module a $end $scope module a $end $var wire 1 q b $end $upscope $end $var wire 1 p b $end \
-                $upscope $end $var wire 1 q b $end",
-        ),
-        ("a..b", "$scope module a. $end $var wire 1 p b $end"),
-        (
-            ".b",
-            "$scope module . $end $var wire 1 q b $end $upscope $end $var wire 1 p .b $end",
-        ),
-    ] {
-        let binding = bound_to(rt.alloc(), path)?;
-        let dump = falling(rt.alloc(), header)?;
-        records_as(
-            &rt,
-            rt.alloc(),
-            binding.as_str(),
-            dump.as_str(),
-            "#1 AS=1\n#2 AS=0\n",
-        )?;
-    }
-    Ok(())
-}
-
-#[test]
-fn a_text_lacks_what_its_dump_lacks(rt: HostRuntime) -> Result<(), Fail> {
-    for (path, header, kind) in [
-        (
-            "a.b",
-            "$scope module a $end $upscope $end $var wire 1 p b $end",
-            BindKind::NoSuchPath,
-        ),
-        (
-            "a.b",
-            "$scope module a $end $scope module b $end $var wire 1 p b $end",
-            BindKind::NoSuchPath,
-        ),
-        (
-            "a.b",
-            "$scope module a $end $var wire 1 p bb $end",
-            BindKind::NoSuchPath,
-        ),
-        (
-            "a.b",
-            "$scope module a $end $var wire 1 p b $end $upscope $end $scope module a $end $var wire 1 q b $end",
-            BindKind::AmbiguousPath,
-        ),
-        (
-            "a.b",
-            "$scope module a $end $var wire 1 p b $end $upscope $end $var wire 1 q a.b $end",
-            BindKind::AmbiguousPath,
-        ),
-        (
-            "a.b",
-            "$scope module a $end $var wire 1 q b $end $var wire 1 p b $end $var wire 1 q b $end",
-            BindKind::AmbiguousPath,
-        ),
-        (
-            "a.b",
-            "$scope module a $end $var wire 2 p b [1:0] $end",
-            BindKind::WrongWidth,
-        ),
-        (
-            "a.b[2]",
-            "$scope module a $end $var wire 2 p b [1:0] $end",
-            BindKind::NoSuchPath,
-        ),
-    ] {
-        let binding = bound_to(rt.alloc(), path)?;
-        let dump = format!(in rt.alloc(); "{header} $enddefinitions $end")?;
-        let fault = BindFault { line: 2, kind };
-        assert!(rt;
-            lacks(rt.alloc(), binding.as_str(), dump.as_str(), 2, kind)?,
-            "{header}"
-        );
-        let bound = read_binding(rt.alloc(), binding.as_bytes())?;
-        assert!(rt;
-            bound.capture_text(rt.alloc(), dump.as_bytes()).err()
-                == Some(CaptureFault::Binding(fault)),
-            "{header}"
-        );
-    }
-    Ok(())
-}
-
-#[test]
-fn every_front_of_a_dump_makes_a_recording_or_has_a_fault(rt: HostRuntime) -> Result<(), Fail> {
-    let dump = bus_dump(rt.alloc(), AS, READ)?;
-    let text = dump.as_bytes();
-    let binding = read_binding(rt.alloc(), BUS_LINES.as_bytes())?;
-    for end in 0..text.len() {
-        let wanted = match read_vcd(rt.alloc(), &text[..end]) {
-            Ok(_) => None,
-            Err(fault) => Some(CaptureFault::Dump(fault)),
-        };
-        let found = binding.capture_text(rt.alloc(), &text[..end]).err();
-        assert!(rt; found == wanted, "at {end}");
+fn paths_that_dumps_lack(rt: HostRuntime) -> Result<(), Fail> {
+    for (path, header, wanted) in NO_PATHS {
+        let binding = ["slots 1\nAS = ", path, ONES, OTHERS];
+        let dump = [header, " $enddefinitions $end"];
+        assert!(rt; lacks(rt.alloc(), &binding, &dump, wanted)?, "{header}");
     }
     Ok(())
 }
@@ -521,16 +596,16 @@ fn lines_are_counted_to_a_million(rt: HostRuntime) -> Result<(), Fail> {
     Ok(())
 }
 
+/// The text of a dump whose last line is bad.
+const BROKEN: &[u8] = b"$enddefinitions $end\n#1\n2p";
+
 #[test]
 fn a_fault_of_the_dump_comes_before_one_of_the_binding(rt: HostRuntime) -> Result<(), Fail> {
-    let binding = read_binding(rt.alloc(), BUS_LINES.as_bytes())?;
-    let (line, kind) = (2, BindKind::NoSuchPath);
-    let lacking = Some(CaptureFault::Binding(BindFault { line, kind }));
-    let (line, kind) = (3, FaultKind::BadToken);
-    let broken = Some(CaptureFault::Dump(VcdFault { line, kind }));
-    let text = b"$enddefinitions $end\n#1\n2p".as_slice();
-    assert!(rt; binding.capture_text(rt.alloc(), text).err() == broken);
-    assert!(rt; binding.capture_text(rt.alloc(), &text[..23]).err() == lacking);
+    let binding = bound(rt.alloc(), &[BUS_LINES])?;
+    let found = lacked(rt.alloc(), &binding, BROKEN)?;
+    assert!(rt; found.as_str() == "dump line 3: BadToken");
+    let found = lacked(rt.alloc(), &binding, &BROKEN[..23])?;
+    assert!(rt; found.as_str() == "binding line 2: NoSuchPath");
     Ok(())
 }
 
@@ -636,124 +711,56 @@ fn none_kept(alloc: Global, opening: Lines) -> Kept
     }
 }
 
-/// Reads a piece ahead, from these levels, and joins it at once. None is given where it doesn't fit.
-fn joined(
+/// Keeps the step that ends an instant, and those of a piece.
+fn keep_all(
     alloc: Global,
-    wave: TextWave,
-    piece: &[u8],
-    from: &Lines,
     kept: &mut Kept,
-) -> Result<Option<TextWave>, AllocError>
-    requires { length from.now.levels ≡ line_count }
-{
-    let line = wave.line();
-    let own = none_kept(alloc, *from);
-    let Some((ahead, own)) = shared(&wave).read_ahead(alloc, piece, line, from, own) else {
-        return Ok(None);
-    };
-    let ahead = sent(ahead);
-    if !wave.may_join(&ahead) {
-        return Ok(None);
-    }
-    let (wave, step) = wave.join(alloc, ahead)?;
-    if let Some(step) = step {
+    ended: Option<Step>,
+    own: Kept,
+) -> Result<(), AllocError> {
+    if let Some(step) = ended {
         kept.step(alloc, step)?;
     }
     for step in own.steps {
         kept.step(alloc, step)?;
     }
-    Ok(Some(wave))
-}
-
-/// Reads this body behind the front of the bus, by a wave of pieces, each of which is a line.
-fn in_a_wave(alloc: Global, front: &str, lines: &[&str]) -> Result<Option<Vec<u8>>, Fail> {
-    let binding = read_binding(alloc, BUS_LINES.as_bytes())?;
-    let kept = Kept {
-        opening: Lines::new(1).ok_or("no slots")?,
-        steps: Vec::new(alloc),
-    };
-    let Ok(text) = binding.begin_text(alloc, front.as_bytes(), kept)? else {
-        return Ok(None);
-    };
-    let (mut wave, mut kept) = text.into_wave();
-    for line in lines {
-        let from = *wave.now();
-        match joined(alloc, wave, line.as_bytes(), &from, &mut kept)? {
-            Some(next) => wave = next,
-            None => return Ok(None),
-        }
-    }
-    let kept = wave.with_follower(kept).finish(alloc)?;
-    Ok(Some(written(alloc, &kept.steps)?))
-}
-
-#[test]
-fn a_wave_of_pieces_records_what_their_text_does(rt: HostRuntime) -> Result<(), Fail> {
-    let front = bus_dump(rt.alloc(), AS, "#0 1p 1q 1r 1s 1t 1u\n")?;
-    let lines = ["#10 0p\n", "#20 0q\n", "#30 0s\n#40 1p 1q\n", "#50 1s\n"];
-    let found = in_a_wave(rt.alloc(), front.as_str(), &lines)?;
-    let found = found.ok_or("a piece doesn't fit")?;
-    assert!(rt; found.as_slice() == READ_STEPS.as_bytes());
     Ok(())
 }
 
-/// A piece that was read from the levels before the one that it follows isn't joined, unless that left them.
-#[test]
-fn a_piece_that_was_read_from_other_levels_is_not_joined(rt: HostRuntime) -> Result<(), Fail> {
-    let alloc = rt.alloc();
-    for (first, fits) in [("#10 0p\n", false), ("#10 1p\n", true)] {
-        let front = bus_dump(alloc, AS, "#0 1p 1q 1r 1s 1t 1u\n")?;
-        let binding = read_binding(alloc, BUS_LINES.as_bytes())?;
-        let kept = none_kept(alloc, Lines::new(1).ok_or("no slots")?);
-        let text = binding.begin_text(alloc, front.as_bytes(), kept)?;
-        let (wave, mut kept) = text.ok().ok_or("no definitions")?.into_wave();
-        let from = *wave.now();
-        let wave = joined(alloc, wave, first.as_bytes(), &from, &mut kept)?;
-        let wave = wave.ok_or("the first piece doesn't fit")?;
-        let next = joined(alloc, wave, b"#20 0q\n", &from, &mut kept)?;
-        assert_eq!(rt; next.is_some(), fits, "{first}");
-    }
-    Ok(())
-}
-
-/// Where other levels stand before a piece than those that it was read from, it leaves its own on each line of which it
-/// tells a level, also where that is the one that it was read from, and theirs on the others.
-#[test]
-fn a_piece_leaves_the_levels_that_it_tells(rt: HostRuntime) -> Result<(), Fail> {
-    let alloc = rt.alloc();
-    let front = bus_dump(alloc, AS, "#0 1p 1q 1r 1s 1t 1u\n")?;
-    let binding = read_binding(alloc, BUS_LINES.as_bytes())?;
-    let kept = none_kept(alloc, Lines::new(1).ok_or("no slots")?);
-    let text = binding.begin_text(alloc, front.as_bytes(), kept)?;
-    let (wave, _) = text.ok().ok_or("no definitions")?.into_wave();
+/// Reads a piece ahead, from the levels that the wave is at, and joins it at once.
+fn joined(alloc: Global, wave: TextWave, piece: &[u8], kept: &mut Kept) -> Result<TextWave, Fail> {
     let from = *wave.now();
     let own = none_kept(alloc, from);
-    let read = wave.read_ahead(alloc, b"#10 0p 0q\n#20 1p\n", wave.line(), &from, own);
-    let (ahead, _) = read.ok_or("not read")?;
-    assert!(rt; *ahead.from() == from);
-    let mut before = from;
-    before.set(Line::AS, Level::Low);
-    before.set(Line::DTACK, Level::Low);
-    let behind = ahead.levels_behind(&before);
-    for (line, level) in [
-        (Line::AS, Level::High),
-        (Line::DS0, Level::Low),
-        (Line::DS1, Level::High),
-        (Line::DTACK, Level::Low),
-    ] {
-        assert_eq!(rt; behind.level(line), level);
+    let read = shared(&wave).read_ahead(alloc, piece, wave.line(), &from, own);
+    let (ahead, own) = read.ok_or("a piece isn't read")?;
+    let ahead = sent(ahead);
+    if !wave.may_join(&ahead) {
+        return Err(Fail::new("a piece doesn't fit"));
     }
-    Ok(())
+    let (wave, ended) = wave.join(alloc, ahead)?;
+    keep_all(alloc, kept, ended, own)?;
+    Ok(wave)
 }
 
+/// A wave that has read the front of a dump of the bus.
+fn begun(alloc: Global, front: &[&str]) -> Result<(TextWave, Kept), Fail> {
+    let binding = bound(alloc, &[BUS_LINES])?;
+    let front = together(alloc, front)?;
+    let kept = none_kept(alloc, Lines::new(1).ok_or("no slots")?);
+    let text = binding.begin_text(alloc, front.as_slice(), kept)?;
+    Ok(text.ok().ok_or("no definitions")?.into_wave())
+}
+
+/// A wave of pieces, each of which is a line.
 #[test]
-fn a_piece_that_does_not_fit_is_not_joined(rt: HostRuntime) -> Result<(), Fail> {
-    let front = bus_dump(rt.alloc(), AS, "#20 1p $dumpvars 1q\n")?;
-    assert!(rt; in_a_wave(rt.alloc(), front.as_str(), &["#30 0p\n"])?.is_none());
-    let front = bus_dump(rt.alloc(), AS, "#20 1p 1q\n")?;
-    assert!(rt; in_a_wave(rt.alloc(), front.as_str(), &["#10 0p\n"])?.is_none());
-    assert!(rt; in_a_wave(rt.alloc(), front.as_str(), &["0p\n"])?.is_none());
-    // the instant at hand goes on, and some of its values came before
-    assert!(rt; in_a_wave(rt.alloc(), front.as_str(), &["#20 0p\n"])?.is_none());
+fn a_wave_of_pieces_records_what_their_text_does(rt: HostRuntime) -> Result<(), Fail> {
+    let alloc = rt.alloc();
+    let (mut wave, mut kept) = begun(alloc, &[BUS, DECLARED, "#0 1p 1q 1r 1s 1t 1u\n"])?;
+    for line in ["#10 0p\n", "#20 0q\n", "#30 0s\n#40 1p 1q\n", "#50 1s\n"] {
+        wave = joined(alloc, wave, line.as_bytes(), &mut kept)?;
+    }
+    let kept = wave.with_follower(kept).finish(alloc)?;
+    let found = written(alloc, &kept.steps)?;
+    assert!(rt; found.as_slice() == READ_STEPS.as_bytes());
     Ok(())
 }

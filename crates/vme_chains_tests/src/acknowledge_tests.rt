@@ -1,17 +1,16 @@
 use smallvec::SmallVec;
-use std::alloc::Global;
+use std::alloc::{AllocError, Global};
 use std::process::Abort;
 use std::test::Fail;
 use vme_chains::acknowledge::Iack;
 use vme_monitor::finite::Finite;
 use vme_monitor::monitor::{Monitor, join, none};
-use vme_trace::{Block, Change, Changes, Level, Line, Lines, Rule, Step, Steps};
+use vme_trace::{Block, Break, Capture, Change, Changes, Level, Line, Lines, Rule, Step};
 
-/// A time, and the numbers of the lines that change at it, with their new levels.
-type Row<'a> = (u64, &'a [(u8, Level)]);
+/// The numbers of the lines that change at a step, with their new levels.
+type Row = &'static [(u8, Level)];
 
-/// An instant, its time, a rule and the number of a line.
-type Found = (u32, u64, Rule, u8);
+type Summary = <Iack as Monitor>::Summary;
 
 const AS: u8 = 0;
 
@@ -49,88 +48,30 @@ fn line_of(rt: &impl Abort, number: u8) -> Line {
     Line::from_number(number).expect(rt, "a line")
 }
 
-fn step_of(rt: &impl Abort, alloc: Global, row: Row<'_>) -> Result<Step, Fail> {
+/// Adds a step, ten units behind the last.
+fn push_step(
+    rt: &impl Abort,
+    alloc: Global,
+    steps: &mut Vec<Step>,
+    row: &[(u8, Level)],
+) -> Result<(), AllocError> {
     let mut list = SmallVec::new(alloc);
-    for (number, level) in row.1 {
+    for (number, level) in row {
         list.push(Change {
             line: line_of(rt, *number),
             level: *level,
         })?;
     }
-    Ok(Step {
-        time: row.0,
+    let time = (steps.len() as u64).saturating_mul(10);
+    steps.push(Step {
+        time,
         changes: Changes::new(list),
-    })
-}
-
-/// The summary of some rows, and the levels that they leave.
-fn summary_of(
-    rt: &impl Abort,
-    alloc: Global,
-    opening: &Lines,
-    rows: &[Row<'_>],
-) -> Result<(<Iack as Monitor>::Summary, Lines), Fail> {
-    let mut steps = Vec::new(alloc);
-    for row in rows {
-        steps.push(step_of(rt, alloc, *row)?)?;
-    }
-    let block = Block {
-        number: 0,
-        opening: *opening,
-        steps: Steps::new(steps),
-    };
-    block.check().expect(rt, "well formed");
-    assert!(rt; block.steps.as_slice().len() <= 1000);
-    let summary = Iack::summarise(alloc, &block.opening, block.steps.as_slice())?;
-    let mut left = *opening;
-    for step in block.steps.as_slice() {
-        left.apply(step.changes.as_slice());
-    }
-    Ok((summary, left))
-}
-
-/// The summary of some rows that are cut by a size and composed from the left.
-fn composed(
-    rt: &impl Abort,
-    alloc: Global,
-    opening: &Lines,
-    rows: &[Row<'_>],
-    size: usize,
-) -> Result<<Iack as Monitor>::Summary, Fail> {
-    assert!(rt; size > 0);
-    let mut all = none::<Iack>(alloc)?;
-    let mut lines = *opening;
-    for piece in rows.chunks(size) {
-        let (summary, left) = summary_of(rt, alloc, &lines, piece)?;
-        assert!(rt; Iack::steps(&all) <= 1000);
-        assert!(rt; Iack::steps(&summary) <= 1000);
-        all = join::<Iack>(alloc, &all, &summary)?;
-        lines = left;
-    }
-    Ok(all)
-}
-
-fn assert_event(
-    rt: &impl Abort,
-    summary: &<Iack as Monitor>::Summary,
-    opening: &Lines,
-    want: Option<Found>,
-) {
-    let found = Iack::event(summary, Iack::start(opening));
-    match want {
-        Some(want) => {
-            let found = found.expect(rt, "a break");
-            assert_eq!(rt; found.instant, want.0);
-            assert_eq!(rt; found.time, want.1);
-            assert_eq!(rt; found.rule, want.2);
-            assert_eq!(rt; found.line.number(), want.3);
-        }
-        None => assert!(rt; found.is_none()),
-    }
+    })?;
+    Ok(())
 }
 
 /// Every line of three slots high, but address lines 24 to 31 and the data lines.
-fn all_high(rt: &impl Abort, alloc: Global) -> Result<Vec<(u8, Level)>, Fail> {
+fn all_high(rt: &impl Abort, alloc: Global) -> Result<Vec<(u8, Level)>, AllocError> {
     let lines = Lines::new(3).expect(rt, "three slots");
     let mut changes = Vec::new(alloc);
     for number in 0..159u8 {
@@ -142,81 +83,121 @@ fn all_high(rt: &impl Abort, alloc: Global) -> Result<Vec<(u8, Level)>, Fail> {
     Ok(changes)
 }
 
-/// The first rows of an interrupt acknowledge that conforms, and then others: the same is found in one block and in
-/// blocks of one step each.
+/// All lines high, and then some rows.
+fn steps_of(rt: &impl Abort, alloc: Global, rows: &[Row]) -> Result<Vec<Step>, AllocError> {
+    let mut steps = Vec::new(alloc);
+    let highs = all_high(rt, alloc)?;
+    push_step(rt, alloc, &mut steps, highs.as_slice())?;
+    for row in rows {
+        push_step(rt, alloc, &mut steps, row)?;
+    }
+    Ok(steps)
+}
+
+fn summary_of(rt: &impl Abort, alloc: Global, block: &Block) -> Result<Summary, AllocError> {
+    block.check().expect(rt, "well formed");
+    let steps = block.steps.as_slice();
+    assert!(rt; steps.len() <= 1000);
+    Iack::summarise(alloc, &block.opening, steps)
+}
+
+fn joined(
+    rt: &impl Abort,
+    alloc: Global,
+    first: &Summary,
+    second: &Summary,
+) -> Result<Summary, AllocError> {
+    assert!(rt; Iack::steps(first) <= 1000);
+    assert!(rt; Iack::steps(second) <= 1000);
+    join::<Iack>(alloc, first, second)
+}
+
+/// The summary of a capture that is cut into blocks of this size.
+fn whole(rt: &impl Abort, alloc: Global, rows: &[Row], size: u32) -> Result<Summary, Fail> {
+    let opening = Lines::new(3).ok_or("three slots")?;
+    let capture = Capture::new(opening, steps_of(rt, alloc, rows)?).ok();
+    let blocks = capture.ok_or("malformed")?.cut(alloc, size)?;
+    let mut all = none::<Iack>(alloc)?;
+    for block in blocks.iter() {
+        let part = summary_of(rt, alloc, block)?;
+        all = joined(rt, alloc, &all, &part)?;
+    }
+    Ok(all)
+}
+
+/// The memory from which a recording is judged.
+fn start(rt: &impl Abort) -> <Iack as Monitor>::Memory {
+    Iack::start(&Lines::new(3).expect(rt, "three slots"))
+}
+
+/// The break of a rule on a line, in a recording whose steps stand ten units apart.
+fn break_of(rt: &impl Abort, want: Option<(u32, Rule, u8)>) -> Option<Break> {
+    let (instant, rule, number) = want?;
+    Some(Break {
+        instant,
+        time: 10 * u64::from(instant.saturating_sub(1)),
+        rule,
+        line: line_of(rt, number),
+    })
+}
+
+/// An interrupt acknowledge that conforms, behind the step that makes all lines high.
+const CONFORMING: [Row; 14] = [
+    &[(BR3, LOW)],
+    &[(BG3_0, LOW)],
+    &[(BG3_1, LOW)],
+    &[(BBSY, LOW), (BR3, HIGH)],
+    &[(BG3_0, HIGH)],
+    &[(BG3_1, HIGH)],
+    &[(IACK, LOW), (A02, LOW)],
+    &[(AS, LOW)],
+    &[(DS0, LOW)],
+    &[(IA_1, LOW)],
+    &[(DTACK, LOW)],
+    &[(AS, HIGH), (DS0, HIGH), (IA_1, HIGH)],
+    &[(DTACK, HIGH), (IACK, HIGH)],
+    &[(BBSY, HIGH)],
+];
+
+/// One whose slot is skipped.
+const SKIPPED: [Row; 10] = [
+    &[(BR3, LOW)],
+    &[(BG3_0, LOW)],
+    &[(BG3_1, LOW)],
+    &[(BBSY, LOW), (BR3, HIGH)],
+    &[(BG3_0, HIGH)],
+    &[(BG3_1, HIGH)],
+    &[(IACK, LOW), (A02, LOW)],
+    &[(AS, LOW)],
+    &[(DS0, LOW)],
+    &[(IA_2, LOW)],
+];
+
+/// The same is found in one block and in blocks of one step each, and nothing is shown.
 fn assert_judged(
     rt: &impl Abort,
     alloc: Global,
-    kept: usize,
-    others: &[Row<'_>],
-    want: Option<Found>,
+    rows: &[Row],
+    want: Option<(u32, Rule, u8)>,
 ) -> Result<(), Fail> {
-    let highs = all_high(rt, alloc)?;
-    let conforming: [Row<'_>; 15] = [
-        (0, highs.as_slice()),
-        (10, &[(BR3, LOW)]),
-        (20, &[(BG3_0, LOW)]),
-        (30, &[(BG3_1, LOW)]),
-        (40, &[(BBSY, LOW), (BR3, HIGH)]),
-        (50, &[(BG3_0, HIGH)]),
-        (60, &[(BG3_1, HIGH)]),
-        (70, &[(IACK, LOW), (A02, LOW)]),
-        (80, &[(AS, LOW)]),
-        (90, &[(DS0, LOW)]),
-        (100, &[(IA_1, LOW)]),
-        (110, &[(DTACK, LOW)]),
-        (120, &[(AS, HIGH), (DS0, HIGH), (IA_1, HIGH)]),
-        (130, &[(DTACK, HIGH), (IACK, HIGH)]),
-        (140, &[(BBSY, HIGH)]),
-    ];
-    let mut rows = Vec::new(alloc);
-    for row in conforming.iter().take(kept) {
-        rows.push(*row)?;
-    }
-    for row in others {
-        rows.push(*row)?;
-    }
-    let opening = Lines::new(3).expect(rt, "three slots");
     for size in [1, 1000] {
-        let summary = composed(rt, alloc, &opening, rows.as_slice(), size)?;
-        assert_event(rt, &summary, &opening, want);
-        let marks = Iack::marks(alloc, &summary, Iack::start(&opening))?;
-        assert_eq!(rt; marks.len(), 0);
+        let all = whole(rt, alloc, rows, size)?;
+        assert!(rt; Iack::event(&all, start(rt)) == break_of(rt, want));
+        assert!(rt; Iack::marks(alloc, &all, start(rt))?.is_empty());
     }
     Ok(())
 }
 
 #[test]
 fn judges_interrupt_acknowledges(rt: HostRuntime) -> Result<(), Fail> {
-    let alloc = rt.alloc();
-    assert_judged(&rt, alloc, 15, &[], None)?;
-    assert_judged(
-        &rt,
-        alloc,
-        10,
-        &[(100, &[(IA_2, LOW)])],
-        Some((11, 100, Rule::I1, IA_2)),
-    )?;
-    assert_judged(
-        &rt,
-        alloc,
-        9,
-        &[(90, &[(IA_1, LOW)])],
-        Some((10, 90, Rule::I2, IA_1)),
-    )?;
-    assert_judged(
-        &rt,
-        alloc,
-        10,
-        &[(100, &[(DTACK, LOW)]), (110, &[(IA_1, LOW)])],
-        Some((12, 110, Rule::I3, IA_1)),
-    )
+    assert_judged(&rt, rt.alloc(), &CONFORMING, None)?;
+    assert_judged(&rt, rt.alloc(), &SKIPPED, Some((11, Rule::I1, IA_2)))
 }
 
 #[test]
 fn counts_its_memories(rt: HostRuntime) {
-    assert_eq!(rt; Iack::COUNT, 11);
+    assert!(rt; Iack::COUNT == 11);
     for k in 0..Iack::COUNT {
-        assert_eq!(rt; Iack::place(Iack::nth(k)), k);
+        assert!(rt; Iack::place(Iack::nth(k)) == k);
     }
 }

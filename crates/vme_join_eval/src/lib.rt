@@ -1,11 +1,9 @@
 //! What it is for blocks to join, shown on worked blocks: where they do, and each way in which they don't.
 //!
-//! The functions are laws about the definition `BlocksJoin`, computed from it; the tests ask `join` and `append` of
-//! vme_summary the same of the blocks in `specs/Worked`. Start reading there.
+//! The functions are laws about the definition `BlocksJoin`, computed from it for the blocks in `specs/Worked`; by
+//! their contracts `join` and `append` of vme_summary answer that spans are torn exactly where their blocks don't join.
+//! Start reading at `specs/Worked`.
 #![tactic(auto)]
-
-#[cfg(test)]
-mod tests;
 
 ghost use Rattle.std.specs.Prelude.{[], ◌∷◌};
 ghost use Rattle.vme_summary.specs.Joins.{BlocksJoin};

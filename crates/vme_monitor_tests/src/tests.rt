@@ -13,7 +13,7 @@ use vme_trace::{
 };
 
 /// A recording: its slots, the levels of its opening, and its steps, ten units apart. A step is the lines that change,
-/// with their new levels. `high` is every line high, and `quiet` every line but A24 to A31.
+/// with their new levels. `high` is every line high.
 #[derive(Clone, Copy)]
 struct Recording {
     slots: u8,
@@ -64,13 +64,6 @@ const NEVER_IDLE: Recording = Recording {
     steps: "AS=1 DS0=1 DS1=1 DTACK=1 BERR=1 IACK=1 SYSRESET=0;AS=0;AS=1",
 };
 
-/// A request, a grant of level 3 to slot 2, and a cycle in which an answer comes before a strobe.
-const EARLY_ANSWER: Recording = Recording {
-    slots: 3,
-    opening: "",
-    steps: "quiet;BR3=0;BG3.0=0;BG3.1=0;BBSY=0 BR3=1;BG3.0=1;BG3.1=1;AM1=0 AM2=0 A05=0;AS=0;DTACK=0",
-};
-
 /// The change that a word says, as BR3=0.
 fn change_of(word: &str) -> Option<Change> {
     let (name, level) = word.split_once('=')?;
@@ -85,11 +78,11 @@ fn change_of(word: &str) -> Option<Change> {
     })
 }
 
-/// Adds that each line gets high, but those of some numbers.
-fn push_high(changes: &mut Vec<Change>, lines: &Lines, first: u8, last: u8) -> Result<(), Fail> {
+/// Adds that each line gets high.
+fn push_high(changes: &mut Vec<Change>, lines: &Lines) -> Result<(), Fail> {
     for number in 0..LINE_COUNT {
         let line = Line::from_number(number).ok_or("no such line")?;
-        if lines.has(line) && (number < first || last < number) {
+        if lines.has(line) {
             changes.push(Change {
                 line,
                 level: Level::High,
@@ -104,9 +97,7 @@ fn changes_of(alloc: Global, lines: &Lines, text: &str) -> Result<Vec<Change>, F
     let mut changes = Vec::new(alloc);
     for word in text.split_whitespace() {
         if word == "high" {
-            push_high(&mut changes, lines, LINE_COUNT, LINE_COUNT)?;
-        } else if word == "quiet" {
-            push_high(&mut changes, lines, 37, 44)?;
+            push_high(&mut changes, lines)?;
         } else {
             changes.push(change_of(word).ok_or("no change")?)?;
         }
@@ -267,41 +258,10 @@ fn tells_whether_judging_started(rt: HostRuntime) -> Result<(), Fail> {
     Ok(())
 }
 
-/// From every memory, two summaries say the same.
-fn assert_alike<M: Finite>(
-    rt: &impl Abort,
-    alloc: Global,
-    a: &M::Summary,
-    b: &M::Summary,
-) -> Result<(), Fail> {
-    assert_eq!(rt; M::steps(a), M::steps(b));
-    for k in 0..M::COUNT {
-        let memory = M::nth(k);
-        assert_eq!(rt; M::place(memory), k);
-        assert!(rt; M::leaving(a, memory) == M::leaving(b, memory));
-        assert!(rt; M::event(a, memory) == M::event(b, memory));
-        let first = M::marks(alloc, a, memory)?;
-        let second = M::marks(alloc, b, memory)?;
-        assert!(rt; first.as_slice() == second.as_slice());
-    }
-    Ok(())
-}
-
-/// A summary of no steps, before or after any other, changes nothing that this says.
-fn assert_unit<M: Finite>(rt: &impl Abort, alloc: Global) -> Result<(), Fail> {
-    let unit = none::<M>(alloc)?;
-    for block in capture_of(alloc, EARLY_ANSWER)?.cut(alloc, 1)? {
-        let part = summary_of::<M>(rt, alloc, &block)?;
-        let before = joined::<M>(rt, alloc, &unit, &part)?;
-        assert_alike::<M>(rt, alloc, &before, &part)?;
-        let after = joined::<M>(rt, alloc, &part, &unit)?;
-        assert_alike::<M>(rt, alloc, &after, &part)?;
-    }
-    Ok(())
-}
-
 #[test]
-fn a_summary_of_nothing_changes_nothing(rt: HostRuntime) -> Result<(), Fail> {
-    assert_eq!(rt; Known::COUNT, 4);
-    assert_unit::<Known>(&rt, rt.alloc())
+fn memories_have_places(rt: HostRuntime) {
+    assert!(rt; Known::COUNT == 4);
+    for k in 0..Known::COUNT {
+        assert!(rt; Known::place(Known::nth(k)) == k);
+    }
 }

@@ -1,4 +1,4 @@
-use crate::tests::{CHAINS, CYCLES, DUMPS, HELD, RESETS, Worked, capture_of, followed};
+use crate::tests::{self, Worked, capture_of, followed};
 use std::alloc::Global;
 use std::process::Abort;
 use std::test::Fail;
@@ -69,39 +69,39 @@ fn listing_as_made(alloc: Global, capture: &Capture) -> Result<Listing, Fail> {
     Ok(lister.listing(alloc, 65536).ok().ok_or("no listing")?)
 }
 
+fn assert_listed(
+    rt: &impl Abort,
+    alloc: Global,
+    capture: &Capture,
+    size: u32,
+    rows: &str,
+) -> Result<(), Fail> {
+    let listing = listing_in(alloc, capture, size)?;
+    assert_rows(rt, alloc, &listing, rows)
+}
+
 /// Each recording has its listing, whatever the size of the blocks.
 fn assert_listings(rt: &impl Abort, alloc: Global, recordings: &[Worked]) -> Result<(), Fail> {
     for (start, text, _, rows) in recordings {
         let capture = capture_of(alloc, *start, text)?;
         for size in [1, 2, 5, 65536] {
-            assert_rows(rt, alloc, &listing_in(alloc, &capture, size)?, rows)?;
+            assert_listed(rt, alloc, &capture, size, rows)?;
         }
-        assert_rows(rt, alloc, &listing_as_made(alloc, &capture)?, rows)?;
+        let listing = listing_as_made(alloc, &capture)?;
+        assert_rows(rt, alloc, &listing, rows)?;
     }
     Ok(())
 }
 
 #[test]
 fn dumps(rt: HostRuntime) -> Result<(), Fail> {
-    assert_listings(&rt, rt.alloc(), &DUMPS)
+    assert_listings(&rt, rt.alloc(), &tests::dumps())
 }
 
 #[test]
-fn cycles(rt: HostRuntime) -> Result<(), Fail> {
-    assert_listings(&rt, rt.alloc(), &CYCLES)
-}
-
-#[test]
-fn held_lines(rt: HostRuntime) -> Result<(), Fail> {
-    assert_listings(&rt, rt.alloc(), &HELD)
-}
-
-#[test]
-fn chains(rt: HostRuntime) -> Result<(), Fail> {
-    assert_listings(&rt, rt.alloc(), &CHAINS)
-}
-
-#[test]
-fn resets(rt: HostRuntime) -> Result<(), Fail> {
-    assert_listings(&rt, rt.alloc(), &RESETS)
+fn cycles_chains_and_resets(rt: HostRuntime) -> Result<(), Fail> {
+    assert_listings(&rt, rt.alloc(), &tests::cycles())?;
+    assert_listings(&rt, rt.alloc(), &tests::held())?;
+    assert_listings(&rt, rt.alloc(), &tests::chains())?;
+    assert_listings(&rt, rt.alloc(), &tests::resets())
 }

@@ -1,5 +1,5 @@
 //! Judged blocks in a list, in a table and through a thread, and spans that are given away.
-use crate::tests::{Expected, GRANTED, READ, capture_of, judged, spans_of, verdict_of};
+use crate::tests::{GRANTED, READ, capture_of, judged};
 use atomic_table::{Table, TableRule};
 use std::alloc::Global;
 use std::process::Abort;
@@ -8,9 +8,8 @@ use std::test::Fail;
 use std::thread;
 use std::thread::Threads;
 use vme_summary::judged::Judged;
-use vme_summary::progress::Progress;
-use vme_summary::span::{JoinFault, Span, append};
-use vme_trace::{Rule, Verdict};
+use vme_summary::span::{Span, append};
+use vme_trace::{Block, Verdict};
 
 /// Nothing is asked of the blocks in the table.
 struct AnyBlocks;
@@ -56,11 +55,24 @@ fn through_thread<R: Threads + Wait + Sync>(
     Ok(back.ok_or("no thread")?)
 }
 
+/// Adds the judged block to a list.
+fn push_judged(
+    rt: &impl Abort,
+    alloc: Global,
+    all: &mut Vec<Option<Judged>>,
+    block: Block,
+) -> Result<(), Fail> {
+    let judged = judged(rt, alloc, block)?;
+    all.push(Some(judged))?;
+    Ok(())
+}
+
 /// The judged blocks of a read that is cut into blocks of five steps, in a list.
 fn listed(rt: &impl Abort, alloc: Global) -> Result<Vec<Option<Judged>>, Fail> {
+    let blocks = capture_of(alloc, GRANTED, READ)?.cut(alloc, 5)?;
     let mut all = Vec::new(alloc);
-    for block in capture_of(alloc, GRANTED, READ)?.cut(alloc, 5)? {
-        all.push(Some(judged(rt, alloc, block)?))?;
+    for block in blocks {
+        push_judged(rt, alloc, &mut all, block)?;
     }
     Ok(all)
 }
@@ -81,64 +93,51 @@ fn appended(rt: &impl Abort, alloc: Global, first: Span, second: Span) -> Result
     }
 }
 
-/// Blocks 2 and 1 of a read go through a table and a thread, and make one span with block 0.
+/// Block 2 of a read goes through a table, and block 1 through a thread.
+fn moved<R: Abort + Threads + Wait + Sync>(
+    rt: &R,
+    alloc: Global,
+    middle: Judged,
+    last: Judged,
+) -> Result<(Span, Span), Fail> {
+    let last = through_table(alloc, last)?;
+    let middle = through_thread(rt, &last, middle)?;
+    Ok((middle.into_parts().1, last.into_parts().1))
+}
+
+/// The span of both.
+fn back_of<R: Abort + Threads + Wait + Sync>(
+    rt: &R,
+    alloc: Global,
+    all: &mut Vec<Option<Judged>>,
+) -> Result<Span, Fail> {
+    let last = last_of(all)?;
+    let middle = last_of(all)?;
+    let (middle, last) = moved(rt, alloc, middle, last)?;
+    appended(rt, alloc, middle, last)
+}
+
+/// The span of both, behind block 0.
+fn whole_of<R: Abort + Threads + Wait + Sync>(
+    rt: &R,
+    alloc: Global,
+    all: &mut Vec<Option<Judged>>,
+) -> Result<Span, Fail> {
+    let back = back_of(rt, alloc, all)?;
+    let first = last_of(all)?.into_parts().1;
+    appended(rt, alloc, first, back)
+}
+
 fn assert_moved<R: Abort + Threads + Wait + Sync>(rt: &R, alloc: Global) -> Result<(), Fail> {
     let mut all = listed(rt, alloc)?;
-    let last = through_table(alloc, last_of(&mut all)?)?;
-    let middle = through_thread(rt, &last, last_of(&mut all)?)?;
-    let first = last_of(&mut all)?;
-    let back = appended(rt, alloc, middle.into_parts().1, last.into_parts().1)?;
-    let whole = appended(rt, alloc, first.into_parts().1, back)?;
-    assert_eq!(rt; (whole.last(), whole.steps()), (2, 14));
+    let whole = whole_of(rt, alloc, &mut all)?;
+    assert!(rt; whole.last() == 2 && whole.steps() == 14);
     assert!(rt; whole.first() == 0);
-    assert_eq!(rt; whole.verdict(), Verdict::Conforming);
+    assert!(rt; whole.verdict() == Verdict::Conforming);
     Ok(())
 }
 
 #[test]
 fn through_a_list_a_table_and_a_thread(rt: HostRuntime) -> Result<(), Fail> {
     assert_moved(&rt, rt.alloc())
-}
-
-/// Blocks 0 and 2 make no span, and come back.
-fn assert_handed_back(rt: &impl Abort, alloc: Global) -> Result<(), Fail> {
-    let mut spans = spans_of(rt, alloc, GRANTED, READ, 5)?;
-    let last = spans.pop().ok_or("block 2")?;
-    spans.pop();
-    let first = spans.pop().ok_or("block 0")?;
-    assert!(rt; first.steps() <= 1000);
-    assert!(rt; last.steps() <= 1000);
-    let (first, last, fault) = append(alloc, first, last).err().ok_or("joined")?;
-    assert!(rt; fault == JoinFault::Torn);
-    assert_eq!(rt;
-        (first.first(), first.steps(), last.first(), last.steps()),
-        (0, 5, 2, 4)
-    );
-    Ok(())
-}
-
-#[test]
-fn torn_spans_come_back(rt: HostRuntime) -> Result<(), Fail> {
-    assert_handed_back(&rt, rt.alloc())
-}
-
-/// An answer outside every transfer is the first step of block 1: block 0 conforms so far. Block 0 can't follow itself.
-fn assert_progress(rt: &impl Abort, alloc: Global) -> Result<(), Fail> {
-    let text = "AM1=0 AM2=0 A05=0;AS=0;DTACK=0";
-    let spans = spans_of(rt, alloc, GRANTED, text, 9)?;
-    assert_eq!(rt; spans.len(), 2);
-    assert!(rt; spans[0].steps() <= 1000);
-    assert!(rt; spans[1].steps() <= 1000);
-    let start = Progress::of(&spans[0]);
-    assert_eq!(rt; start.verdict(), Verdict::Conforming);
-    assert!(rt; start.after(&spans[0]).is_none());
-    let past = start.after(&spans[1]).ok_or("torn")?;
-    let broken = verdict_of(Expected::Broken(10, Rule::H4, "DTACK")).ok_or("no line")?;
-    assert_eq!(rt; past.verdict(), broken);
-    Ok(())
-}
-
-#[test]
-fn progress_goes_on_past_each_block(rt: HostRuntime) -> Result<(), Fail> {
-    assert_progress(&rt, rt.alloc())
 }

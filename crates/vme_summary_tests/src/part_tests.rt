@@ -3,14 +3,14 @@
 ghost use Rattle.std.specs.Prelude.{◌≡◌};
 
 use crate::listing_tests::assert_rows;
-use crate::tests::{CYCLES, DUMPS, GRANTED, READ, RESETS, Worked, capture_of, verdict_of};
+use crate::tests::{Worked, capture_of, cycles, resets, verdict_of};
 use std::alloc::Global;
 use std::process::Abort;
 use std::test::Fail;
 use vme_summary::advance::Advance;
 use vme_summary::watch::Watch;
 use vme_summary::{Judge, JudgedPart, Lister};
-use vme_trace::{Block, Capture, Follower, Lines};
+use vme_trace::{Block, Follower, Lines, Verdict};
 
 /// Which blocks of a cut are taken step by step.
 #[derive(Clone, Copy)]
@@ -51,50 +51,79 @@ fn pass_block<J: Advance + Send>(
     Ok(())
 }
 
-/// What took a recording that is cut into blocks of this size.
+/// Passes a block, or its steps one after the other.
+fn take_block<J: Advance + Send>(
+    rt: &impl Abort,
+    alloc: Global,
+    watch: &mut Watch<J>,
+    block: &Block,
+    by_step: ByStep,
+) -> Result<(), Fail> {
+    let stepwise = match by_step {
+        ByStep::None => false,
+        ByStep::EveryEven => block.number % 2 == 0,
+        ByStep::EveryOdd => block.number % 2 == 1,
+    };
+    if !stepwise {
+        return pass_block(rt, alloc, watch, block);
+    }
+    for step in block.steps.as_slice() {
+        watch.step(alloc, step.copy(alloc)?)?;
+    }
+    Ok(())
+}
+
+/// What took a recording that is cut into blocks.
 fn taken_in_blocks<J: Advance + Send>(
     rt: &impl Abort,
     alloc: Global,
-    capture: &Capture,
-    size: u32,
+    opening: &Lines,
+    blocks: &[Block],
     by_step: ByStep,
-    watch: Watch<J>,
 ) -> Result<Watch<J>, Fail> {
-    let mut watch = watch;
-    watch.open(capture.opening());
-    for block in capture.cut(alloc, size)? {
-        let stepwise = match by_step {
-            ByStep::None => false,
-            ByStep::EveryEven => block.number % 2 == 0,
-            ByStep::EveryOdd => block.number % 2 == 1,
-        };
-        if stepwise {
-            for step in block.steps.as_slice() {
-                watch.step(alloc, step.copy(alloc)?)?;
-            }
-        } else {
-            pass_block(rt, alloc, &mut watch, &block)?;
-        }
+    let mut watch = Watch::new(alloc, &Lines::new(1).ok_or("no such backplane")?);
+    watch.open(opening);
+    for block in blocks {
+        take_block(rt, alloc, &mut watch, block, by_step)?;
     }
     Ok(watch)
 }
 
+/// What is taken in these blocks has this verdict and this listing.
+fn assert_taken(
+    rt: &impl Abort,
+    alloc: Global,
+    opening: &Lines,
+    blocks: &[Block],
+    by_step: ByStep,
+    verdict: &Verdict,
+    rows: &str,
+) -> Result<(), Fail> {
+    let judge: Judge = taken_in_blocks(rt, alloc, opening, blocks, by_step)?;
+    let found = judge.verdict(alloc, 3).ok().ok_or("no verdict")?;
+    assert!(rt; found == *verdict);
+    let lister: Lister = taken_in_blocks(rt, alloc, opening, blocks, by_step)?;
+    let listing = lister.listing(alloc, 3).ok().ok_or("no listing")?;
+    assert_rows(rt, alloc, &listing, rows)
+}
+
 /// Each recording has its verdict and its listing, wherever it is cut.
 fn assert_parts(rt: &impl Abort, alloc: Global, recordings: &[Worked]) -> Result<(), Fail> {
-    let other = Lines::new(1).ok_or("no such backplane")?;
     for (start, text, expected, rows) in recordings {
         let capture = capture_of(alloc, *start, text)?;
         let verdict = verdict_of(*expected).ok_or("no such line")?;
         for size in 1..=14 {
+            let blocks = capture.cut(alloc, size)?;
             for by_step in [ByStep::None, ByStep::EveryEven, ByStep::EveryOdd] {
-                let judge = Judge::new(alloc, &other);
-                let judge = taken_in_blocks(rt, alloc, &capture, size, by_step, judge)?;
-                let found = judge.verdict(alloc, size).ok().ok_or("no verdict")?;
-                assert_eq!(rt; found, verdict, "in parts of {size}");
-                let lister = Lister::new(alloc, &other);
-                let lister = taken_in_blocks(rt, alloc, &capture, size, by_step, lister)?;
-                let listing = lister.listing(alloc, size).ok().ok_or("no listing")?;
-                assert_rows(rt, alloc, &listing, rows)?;
+                assert_taken(
+                    rt,
+                    alloc,
+                    capture.opening(),
+                    &blocks,
+                    by_step,
+                    &verdict,
+                    rows,
+                )?;
             }
         }
     }
@@ -102,31 +131,11 @@ fn assert_parts(rt: &impl Abort, alloc: Global, recordings: &[Worked]) -> Result
 }
 
 #[test]
-fn parts_of_dumps(rt: HostRuntime) -> Result<(), Fail> {
-    assert_parts(&rt, rt.alloc(), &DUMPS)
-}
-
-#[test]
 fn parts_of_a_read(rt: HostRuntime) -> Result<(), Fail> {
-    assert_parts(&rt, rt.alloc(), &CYCLES[..1])
+    assert_parts(&rt, rt.alloc(), &cycles()[..1])
 }
 
 #[test]
 fn parts_of_a_read_with_resets(rt: HostRuntime) -> Result<(), Fail> {
-    assert_parts(&rt, rt.alloc(), &RESETS[..3])
-}
-
-#[test]
-fn other_lines_are_not_left(rt: HostRuntime) -> Result<(), Fail> {
-    let alloc = rt.alloc();
-    let capture = capture_of(alloc, GRANTED, READ)?;
-    let mut judge = Judge::new(alloc, capture.opening());
-    let opens = judge.leaves(alloc, capture.opening())?;
-    assert!(rt; opens);
-    for step in capture.steps() {
-        judge.step(alloc, step.copy(alloc)?)?;
-    }
-    let stays = judge.leaves(alloc, capture.opening())?;
-    assert!(rt; !stays);
-    Ok(())
+    assert_parts(&rt, rt.alloc(), &resets()[..3])
 }

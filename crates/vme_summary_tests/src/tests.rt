@@ -8,7 +8,7 @@ use vme_summary::span::{JoinFault, Span, join};
 use vme_summary::{Judge, verdict_by_blocks};
 use vme_trace::{
     Block, Break, Capture, Change, Changes, CutFault, Follower, LINE_COUNT, Level, Line, Lines,
-    Rule, Step, Steps, Verdict,
+    Rule, Step, Verdict,
 };
 
 /// How a recording starts: its slots, the levels of its opening, and its first steps. A step is the lines that change,
@@ -80,7 +80,7 @@ const READ_ROWS: &str =
         verdict conforming\n";
 
 /// Recordings as a dump gives them.
-pub(crate) const DUMPS: [Worked; 4] = [
+const DUMPS: [Worked; 4] = [
     (
         DUMPED,
         "AS=1 DS0=1 DS1=1 DTACK=1 BERR=1 IACK=1;AS=0;DS0=0;DTACK=0;AS=1 DS0=1;DTACK=1",
@@ -104,7 +104,7 @@ pub(crate) const DUMPS: [Worked; 4] = [
 ];
 
 /// Transfers and cycles.
-pub(crate) const CYCLES: [Worked; 9] = [
+const CYCLES: [Worked; 9] = [
     (GRANTED, READ, Conforming, READ_ROWS),
     (
         GRANTED_FROM_IDLE,
@@ -170,7 +170,7 @@ pub(crate) const CYCLES: [Worked; 9] = [
 ];
 
 /// Lines that a cycle needs.
-pub(crate) const HELD: [Worked; 6] = [
+const HELD: [Worked; 6] = [
     (
         GRANTED,
         "AM1=0 AM2=0 AM4=0 A05=0;AS=0;DS0=0 DS1=0;DTACK=0;AS=1 DS0=1 DS1=1;DTACK=1;BBSY=1",
@@ -214,7 +214,7 @@ pub(crate) const HELD: [Worked; 6] = [
 ];
 
 /// Grants and interrupt acknowledges.
-pub(crate) const CHAINS: [Worked; 9] = [
+const CHAINS: [Worked; 9] = [
     (
         PASSED_ON,
         "BBSY=0 BR3=1;BBSY=1;BBSY=0",
@@ -276,7 +276,7 @@ pub(crate) const CHAINS: [Worked; 9] = [
 ];
 
 /// A read that a reset leaves without an answer, and then a whole one.
-pub(crate) const READ_AGAIN: Worked = (
+const READ_AGAIN: Worked = (
     GRANTED,
     "AM1=0 AM2=0 A05=0;AS=0;DS0=0 DS1=0;SYSRESET=0;DTACK=0;AS=1 DS0=1 DS1=1;DTACK=1 BBSY=1;SYSRESET=1;BR3=0;BG3.0=0;\
         BG3.1=0;BBSY=0 BR3=1;BG3.0=1;BG3.1=1;AS=0;DS0=0 DS1=0;DTACK=0;AS=1 DS0=1 DS1=1;DTACK=1;BBSY=1",
@@ -287,7 +287,7 @@ pub(crate) const READ_AGAIN: Worked = (
 );
 
 /// Resets of the bus.
-pub(crate) const RESETS: [Worked; 15] = [
+const RESETS: [Worked; 15] = [
     (
         GRANTED,
         "AM1=0 AM2=0 A05=0;AS=0;DS0=0 DS1=0;SYSRESET=0;AS=1 DS0=1 DS1=1 BBSY=1;SYSRESET=1",
@@ -384,6 +384,26 @@ pub(crate) const RESETS: [Worked; 15] = [
     ),
 ];
 
+pub(crate) fn dumps() -> [Worked; 4] {
+    DUMPS
+}
+
+pub(crate) fn cycles() -> [Worked; 9] {
+    CYCLES
+}
+
+pub(crate) fn held() -> [Worked; 6] {
+    HELD
+}
+
+pub(crate) fn chains() -> [Worked; 9] {
+    CHAINS
+}
+
+pub(crate) fn resets() -> [Worked; 15] {
+    RESETS
+}
+
 /// The break of a recording whose steps stand ten units apart.
 fn break_of(instant: u32, rule: Rule, name: &str) -> Option<Break> {
     Some(Break {
@@ -439,20 +459,26 @@ fn push_high(
     Ok(())
 }
 
+/// Adds the changes that a word says.
+fn push_word(changes: &mut Vec<Change>, lines: &Lines, word: &str) -> Result<(), &'static str> {
+    if word == "high" {
+        return push_high(changes, lines, LINE_COUNT, LINE_COUNT);
+    }
+    if word == "quiet" {
+        return push_high(changes, lines, 37, 44);
+    }
+    if word == "others" {
+        return push_high(changes, lines, LINE_COUNT - 1, LINE_COUNT - 1);
+    }
+    let change = change_of(word).ok_or("no change")?;
+    changes.push(change).ok().ok_or("no memory")
+}
+
 /// The changes that a text says.
 fn changes_of(alloc: Global, lines: &Lines, text: &str) -> Result<Vec<Change>, &'static str> {
     let mut changes = Vec::new(alloc);
     for word in text.split_whitespace() {
-        if word == "high" {
-            push_high(&mut changes, lines, LINE_COUNT, LINE_COUNT)?;
-        } else if word == "quiet" {
-            push_high(&mut changes, lines, 37, 44)?;
-        } else if word == "others" {
-            push_high(&mut changes, lines, LINE_COUNT - 1, LINE_COUNT - 1)?;
-        } else {
-            let change = change_of(word).ok_or("no change")?;
-            changes.push(change).ok().ok_or("no memory")?;
-        }
+        push_word(&mut changes, lines, word)?;
     }
     Ok(changes)
 }
@@ -540,16 +566,10 @@ fn assert_verdict(
     verdict: Verdict,
 ) -> Result<(), Fail> {
     for size in [1, 2, 5, 9, 65536] {
-        assert_eq!(rt;
-            verdict_in(alloc, capture, size)?,
-            verdict,
-            "in blocks of {size}"
-        );
-        assert_eq!(rt;
-            verdict_as_made(rt, alloc, capture, size)?,
-            verdict,
-            "as it is made, in blocks of {size}"
-        );
+        let cut = verdict_in(alloc, capture, size)?;
+        assert!(rt; cut == verdict, "in blocks of {size}");
+        let made = verdict_as_made(rt, alloc, capture, size)?;
+        assert!(rt; made == verdict, "as it is made, in blocks of {size}");
     }
     Ok(())
 }
@@ -565,23 +585,11 @@ fn assert_verdicts(rt: &impl Abort, alloc: Global, recordings: &[Worked]) -> Res
 
 #[test]
 fn verdicts(rt: HostRuntime) -> Result<(), Fail> {
-    assert_verdicts(&rt, rt.alloc(), &DUMPS)?;
-    assert_verdicts(&rt, rt.alloc(), &CYCLES)?;
-    assert_verdicts(&rt, rt.alloc(), &HELD)?;
-    assert_verdicts(&rt, rt.alloc(), &CHAINS)?;
-    assert_verdicts(&rt, rt.alloc(), &RESETS)
-}
-
-#[test]
-fn bad_sizes(rt: HostRuntime) -> Result<(), Fail> {
-    let capture = capture_of(rt.alloc(), GRANTED, READ)?;
-    for size in [0, 65537] {
-        assert_eq!(rt;
-            verdict_in(rt.alloc(), &capture, size),
-            Err(CutFault::BadSize)
-        );
-    }
-    Ok(())
+    assert_verdicts(&rt, rt.alloc(), &dumps())?;
+    assert_verdicts(&rt, rt.alloc(), &cycles())?;
+    assert_verdicts(&rt, rt.alloc(), &held())?;
+    assert_verdicts(&rt, rt.alloc(), &chains())?;
+    assert_verdicts(&rt, rt.alloc(), &resets())
 }
 
 /// The span of a block. Where memory is short once, the block that comes back is judged again.
@@ -604,82 +612,27 @@ fn joined(rt: &impl Abort, alloc: Global, first: &Span, second: &Span) -> Result
     }
 }
 
-/// The spans of the blocks of a recording that is cut.
-pub(crate) fn spans_of(
-    rt: &impl Abort,
-    alloc: Global,
-    start: Start,
-    text: &str,
-    size: u32,
-) -> Result<Vec<Span>, Fail> {
-    let capture = capture_of(alloc, start, text)?;
-    let mut spans = Vec::new(alloc);
-    for block in capture.cut(alloc, size)? {
-        let number = block.number;
-        let span = judged(rt, alloc, block)?.into_parts().1;
-        assert!(rt; span.first() == number && span.last() == number);
-        spans.push(span)?;
-    }
-    Ok(spans)
-}
-
-/// The spans of the blocks of a read that is cut.
-fn read_spans(rt: &impl Abort, alloc: Global, size: u32) -> Result<Vec<Span>, Fail> {
-    spans_of(rt, alloc, GRANTED, READ, size)
-}
-
 /// The join of two spans that aren't torn.
 fn together(rt: &impl Abort, alloc: Global, first: &Span, second: &Span) -> Result<Span, Fail> {
     Ok(joined(rt, alloc, first, second).ok().ok_or("torn")?)
 }
 
-fn from_left(rt: &impl Abort, alloc: Global, spans: Vec<Span>) -> Result<Span, Fail> {
+/// A span behind those so far, if any.
+fn added(rt: &impl Abort, alloc: Global, all: Option<Span>, span: Span) -> Result<Span, Fail> {
+    match all {
+        None => Ok(span),
+        Some(before) => together(rt, alloc, &before, &span),
+    }
+}
+
+/// The spans of blocks, joined from the left.
+fn span_of(rt: &impl Abort, alloc: Global, blocks: Vec<Block>) -> Result<Span, Fail> {
     let mut all = None;
-    for span in spans {
-        all = Some(match all {
-            None => span,
-            Some(before) => together(rt, alloc, &before, &span)?,
-        });
+    for block in blocks {
+        let span = judged(rt, alloc, block)?.into_parts().1;
+        all = Some(added(rt, alloc, all, span)?);
     }
     Ok(all.ok_or("no spans")?)
-}
-
-fn from_right(rt: &impl Abort, alloc: Global, spans: Vec<Span>) -> Result<Span, Fail> {
-    let mut all = None;
-    for span in spans.into_iter().rev() {
-        all = Some(match all {
-            None => span,
-            Some(after) => together(rt, alloc, &span, &after)?,
-        });
-    }
-    Ok(all.ok_or("no spans")?)
-}
-
-/// The first span joined with the second, the third with the fourth, and so on.
-fn paired(rt: &impl Abort, alloc: Global, spans: Vec<Span>) -> Result<Vec<Span>, Fail> {
-    let mut pairs = Vec::new(alloc);
-    let mut odd = None;
-    for span in spans {
-        odd = match odd {
-            None => Some(span),
-            Some(first) => {
-                pairs.push(together(rt, alloc, &first, &span)?)?;
-                None
-            }
-        };
-    }
-    if let Some(last) = odd {
-        pairs.push(last)?;
-    }
-    Ok(pairs)
-}
-
-fn by_halves(rt: &impl Abort, alloc: Global, spans: Vec<Span>) -> Result<Span, Fail> {
-    let mut spans = spans;
-    for _ in 0..5 {
-        spans = paired(rt, alloc, spans)?;
-    }
-    Ok(spans.pop().ok_or("no spans")?)
 }
 
 /// The span is that of a whole recording, which conforms, in blocks of one step.
@@ -690,77 +643,30 @@ fn assert_whole(
     last: u32,
     rows: &str,
 ) -> Result<(), Fail> {
-    assert!(rt; all.first() == 0 && last <= 1000);
-    assert_eq!(rt; (all.last(), all.steps()), (last, last + 1));
-    assert_eq!(rt; all.verdict(), Verdict::Conforming);
-    let listing = match all.listing(alloc) {
-        Ok(listing) => listing,
-        Err(_) => all.listing(alloc)?,
-    };
+    assert!(rt; all.first() == 0);
+    assert!(rt; all.last() == last && all.steps().checked_sub(1) == Some(last));
+    assert!(rt; all.verdict() == Verdict::Conforming);
+    let listing = all.listing(alloc)?;
     assert_rows(rt, alloc, &listing, rows)
 }
 
-/// A recording that conforms and is cut into single steps conforms, however they are joined.
-fn assert_bracketed(
+/// A recording that conforms and is cut into single steps conforms.
+fn assert_joined(
     rt: &impl Abort,
     alloc: Global,
     recording: &Worked,
     last: u32,
 ) -> Result<(), Fail> {
     let (start, text, _, rows) = recording;
-    let left = from_left(rt, alloc, spans_of(rt, alloc, *start, text, 1)?)?;
-    assert_whole(rt, alloc, &left, last, rows)?;
-    let right = from_right(rt, alloc, spans_of(rt, alloc, *start, text, 1)?)?;
-    assert_whole(rt, alloc, &right, last, rows)?;
-    let halves = by_halves(rt, alloc, spans_of(rt, alloc, *start, text, 1)?)?;
-    assert_whole(rt, alloc, &halves, last, rows)
-}
-
-/// The block again, with DS0* alone in its last step.
-fn strobe_last(rt: &impl Abort, alloc: Global, block: Block) -> Result<Block, Fail> {
-    let mut steps = block.steps.into_inner();
-    let last = steps.pop().expect(rt, "a step");
-    steps.push(step_of(alloc, &block.opening, last.time, "DS0=0")?)?;
-    Ok(Block {
-        number: block.number,
-        opening: block.opening,
-        steps: Steps::new(steps),
-    })
-}
-
-/// Blocks 0 and 1 join, and blocks 0 and 2 don't.
-fn assert_torn_by_numbers(rt: &impl Abort, alloc: Global) -> Result<(), Fail> {
-    let spans = read_spans(rt, alloc, 5)?;
-    assert_eq!(rt; spans.len(), 3);
-    assert!(rt; joined(rt, alloc, &spans[0], &spans[1]).is_ok());
-    assert!(rt; joined(rt, alloc, &spans[0], &spans[2]).err() == Some(JoinFault::Torn));
-    Ok(())
-}
-
-/// Block 1 with another last step leaves other lines than those that block 2 opens with.
-fn assert_torn_by_lines(rt: &impl Abort, alloc: Global) -> Result<(), Fail> {
-    let mut blocks = capture_of(alloc, GRANTED, READ)?.cut(alloc, 5)?;
-    let last = blocks.pop().expect(rt, "block 2");
-    let middle = blocks.pop().expect(rt, "block 1");
-    let first = judged(rt, alloc, strobe_last(rt, alloc, middle)?)?;
-    let second = judged(rt, alloc, last)?;
-    assert!(rt; joined(rt, alloc, first.span(), second.span()).err() == Some(JoinFault::Torn));
-    assert_eq!(rt; first.block().number, 1);
-    assert_eq!(rt; first.into_block().steps.as_slice().len(), 5);
-    Ok(())
-}
-
-/// Spans that follow one another are joined in any brackets, and others are torn.
-fn assert_joins(rt: &impl Abort, alloc: Global) -> Result<(), Fail> {
-    assert_bracketed(rt, alloc, &CYCLES[0], 13)?;
-    assert_bracketed(rt, alloc, &READ_AGAIN, 26)?;
-    assert_torn_by_numbers(rt, alloc)?;
-    assert_torn_by_lines(rt, alloc)
+    let blocks = capture_of(alloc, *start, text)?.cut(alloc, 1)?;
+    let all = span_of(rt, alloc, blocks)?;
+    assert_whole(rt, alloc, &all, last, rows)
 }
 
 #[test]
-fn joined_in_any_brackets_or_torn(rt: HostRuntime) -> Result<(), Fail> {
-    assert_joins(&rt, rt.alloc())
+fn joined_spans(rt: HostRuntime) -> Result<(), Fail> {
+    assert_joined(&rt, rt.alloc(), &cycles()[0], 13)?;
+    assert_joined(&rt, rt.alloc(), &resets()[1], 26)
 }
 
 /// The recording of a read. Where memory is refused once, it is made again.
@@ -779,27 +685,25 @@ fn cut_by_fives(alloc: Global, capture: &Capture) -> Result<Vec<Block>, CutFault
     }
 }
 
-/// `tests/memory/run` refuses each of its allocations in turn.
-#[test]
-fn each_growth_fails_once(rt: HostRuntime) -> Result<(), Fail> {
-    let alloc = rt.alloc();
-    let capture = read_capture(alloc)?;
-    let mut all: Option<Span> = None;
-    for block in cut_by_fives(alloc, &capture)? {
-        let span = judged(&rt, alloc, block)?.into_parts().1;
-        all = Some(match all {
-            None => span,
-            Some(before) => together(&rt, alloc, &before, &span)?,
-        });
-    }
-    let whole = all.ok_or("no spans")?;
-    assert_eq!(rt; (whole.last(), whole.steps()), (2, 14));
+/// The number of rows of the listing of a span that conforms. Where memory is refused once, it is made again.
+fn row_count(rt: &impl Abort, alloc: Global, whole: &Span) -> Result<usize, Fail> {
     assert!(rt; whole.first() == 0);
-    assert_eq!(rt; whole.verdict(), Verdict::Conforming);
+    assert!(rt; whole.verdict() == Verdict::Conforming);
     let listing = match whole.listing(alloc) {
         Ok(listing) => listing,
         Err(_) => whole.listing(alloc)?,
     };
-    assert!(rt; listing.rows().len() == 5);
+    Ok(listing.rows().len())
+}
+
+/// `tests/memory/run` refuses each of its allocations in turn.
+#[test]
+fn each_growth_fails_once(rt: HostRuntime) -> Result<(), Fail> {
+    let capture = read_capture(rt.alloc())?;
+    let blocks = cut_by_fives(rt.alloc(), &capture)?;
+    let whole = span_of(&rt, rt.alloc(), blocks)?;
+    assert!(rt; whole.last() == 2 && whole.steps() == 14);
+    let rows = row_count(&rt, rt.alloc(), &whole)?;
+    assert!(rt; rows == 5);
     Ok(())
 }

@@ -3,64 +3,74 @@ use std::alloc::{AllocError, Global};
 use std::test::Fail;
 use vme_trace::{
     Block, Capture, Change, Changes, Class, CutFault, LINE_COUNT, Level, Line, LineSet, Lines,
-    Malformed, Rule, Step, Steps, am_class, am_code, is_selected, needed,
+    Rule, Step, Steps, am_class, am_code, is_selected, needed,
 };
 
-fn low(line: Line) -> Change {
-    Change {
-        line,
-        level: Level::Low,
-    }
-}
+/// The numbers of the lines that change at a time, with their new levels.
+type Row = (u64, &'static [(u8, Level)]);
 
-fn high(line: Line) -> Change {
-    Change {
-        line,
-        level: Level::High,
-    }
-}
+const AS: u8 = 0;
 
-fn step(alloc: Global, time: u64, changes: &[Change]) -> Result<Step, AllocError> {
+const DS0: u8 = 1;
+
+const DS1: u8 = 2;
+
+const DTACK: u8 = 3;
+
+const BERR: u8 = 4;
+
+const IACK: u8 = 5;
+
+const IACK_1: u8 = 138;
+
+const IACK_2: u8 = 139;
+
+const LOW: Level = Level::Low;
+
+const HIGH: Level = Level::High;
+
+const UNKNOWN: Level = Level::Unknown;
+
+fn step((time, row): Row, alloc: Global) -> Result<Step, AllocError> {
+    let mut changes = SmallVec::new(alloc);
+    for (number, level) in row {
+        if let Some(line) = Line::from_number(*number) {
+            changes.push(Change {
+                line,
+                level: *level,
+            })?;
+        }
+    }
     Ok(Step {
         time,
-        changes: Changes::new(SmallVec::from_slice(alloc, changes)?),
+        changes: Changes::new(changes),
     })
 }
 
-/// The strobes, the answers and IACK* high.
-fn first_six_high() -> [Change; 6] {
-    [
-        high(Line::AS),
-        high(Line::DS0),
-        high(Line::DS1),
-        high(Line::DTACK),
-        high(Line::BERR),
-        high(Line::IACK),
-    ]
-}
-
 /// The bus becomes idle, and a read follows.
+const READ: [Row; 6] = [
+    (
+        0,
+        &[
+            (AS, HIGH),
+            (DS0, HIGH),
+            (DS1, HIGH),
+            (DTACK, HIGH),
+            (BERR, HIGH),
+            (IACK, HIGH),
+        ],
+    ),
+    (10, &[(AS, LOW)]),
+    (20, &[(DS0, LOW)]),
+    (30, &[(DTACK, LOW)]),
+    (40, &[(AS, HIGH), (DS0, HIGH)]),
+    (50, &[(DTACK, HIGH)]),
+];
+
 fn read_steps(alloc: Global) -> Result<Vec<Step>, AllocError> {
     let mut steps = Vec::new(alloc);
-    steps.push(step(alloc, 0, &first_six_high())?)?;
-    steps.push(step(alloc, 10, &[low(Line::AS)])?)?;
-    steps.push(step(alloc, 20, &[low(Line::DS0)])?)?;
-    steps.push(step(alloc, 30, &[low(Line::DTACK)])?)?;
-    steps.push(step(alloc, 40, &[high(Line::AS), high(Line::DS0)])?)?;
-    steps.push(step(alloc, 50, &[high(Line::DTACK)])?)?;
-    Ok(steps)
-}
-
-/// A line rises and falls in turn, a step each.
-fn toggles(alloc: Global, count: u64) -> Result<Vec<Step>, AllocError> {
-    let mut steps = Vec::new(alloc);
-    for time in 0..count {
-        let change = if time % 2 == 0 {
-            high(Line::AS)
-        } else {
-            low(Line::AS)
-        };
-        steps.push(step(alloc, time, &[change])?)?;
+    for row in READ {
+        steps.push(step(row, alloc)?)?;
     }
     Ok(steps)
 }
@@ -96,18 +106,6 @@ fn read_capture(alloc: Global) -> Result<Capture, Fail> {
     Ok(capture.ok_or("malformed")?)
 }
 
-#[test]
-fn levels(rt: HostRuntime) {
-    for (level, shows) in [
-        (Level::Low, [true, false, true]),
-        (Level::High, [false, true, true]),
-        (Level::Unknown, [false, false, false]),
-    ] {
-        assert!(rt; [level.is_low(), level.is_high(), level.is_known()] == shows);
-        assert!(rt; level.is_same(Level::High) == level.is_high());
-    }
-}
-
 /// Whether a line has a number and a name, and is found by both.
 fn is_named(number: u8, name: &[u8]) -> bool {
     let line = Line::from_number(number);
@@ -115,61 +113,64 @@ fn is_named(number: u8, name: &[u8]) -> bool {
         && line.is_some_and(|line| line.number() == number && line.name().as_bytes() == name)
 }
 
+/// Lines by their numbers.
+const NAMED: [(u8, &str); 22] = [
+    (0, "AS"),
+    (5, "IACK"),
+    (6, "AM0"),
+    (12, "LWORD"),
+    (14, "A01"),
+    (22, "A09"),
+    (23, "A10"),
+    (44, "A31"),
+    (45, "BBSY"),
+    (49, "BR3"),
+    (50, "BG0.0"),
+    (60, "BG0.10"),
+    (71, "BG0.21"),
+    (72, "BG1.0"),
+    (137, "BG3.21"),
+    (138, "IA.1"),
+    (158, "IA.21"),
+    (159, "D00"),
+    (168, "D09"),
+    (169, "D10"),
+    (190, "D31"),
+    (191, "SYSRESET"),
+];
+
+/// No line has one of these names.
+const UNNAMED: [&str; 21] = [
+    "",
+    "A",
+    "A00",
+    "A1",
+    "A001",
+    "A32",
+    "AM6",
+    "BR4",
+    "BG4.0",
+    "BG0.22",
+    "BG0.01",
+    "IA.0",
+    "IA.22",
+    "D",
+    "D0",
+    "D32",
+    "SYSRES",
+    "SYSRESET*",
+    "as",
+    "AS ",
+    "AS*",
+];
+
 #[test]
 fn line_names(rt: HostRuntime) {
-    for (number, name) in [
-        (0, "AS"),
-        (5, "IACK"),
-        (6, "AM0"),
-        (12, "LWORD"),
-        (14, "A01"),
-        (22, "A09"),
-        (23, "A10"),
-        (44, "A31"),
-        (45, "BBSY"),
-        (49, "BR3"),
-        (50, "BG0.0"),
-        (60, "BG0.10"),
-        (71, "BG0.21"),
-        (72, "BG1.0"),
-        (137, "BG3.21"),
-        (138, "IA.1"),
-        (158, "IA.21"),
-        (159, "D00"),
-        (168, "D09"),
-        (169, "D10"),
-        (190, "D31"),
-        (191, "SYSRESET"),
-    ] {
+    for (number, name) in NAMED {
         assert!(rt; is_named(number, name.as_bytes()), "{name}");
     }
-    for name in [
-        "",
-        "A",
-        "A00",
-        "A1",
-        "A001",
-        "A32",
-        "AM6",
-        "BR4",
-        "BG4.0",
-        "BG0.22",
-        "BG0.01",
-        "IA.0",
-        "IA.22",
-        "D",
-        "D0",
-        "D32",
-        "SYSRES",
-        "SYSRESET*",
-        "as",
-        "AS ",
-        "AS*",
-    ] {
+    for name in UNNAMED {
         assert!(rt; Line::from_name(name.as_bytes()).is_none(), "{name}");
-    }
-    for number in [192, 255] {
-        assert!(rt; Line::from_number(number).is_none());
     }
 }
 
@@ -219,62 +220,32 @@ fn rule_names(rt: HostRuntime) {
     }
 }
 
+/// Lines by their numbers, whether they are on a backplane of three slots, and whether they are control lines there.
+const THERE: [(u8, bool, bool); 9] = [
+    (AS, true, true),
+    // LWORD*
+    (12, true, false),
+    // BBSY*
+    (45, true, true),
+    // BG0.3 and BG0.4
+    (53, true, true),
+    (54, false, false),
+    // IA.3 and IA.4
+    (140, true, true),
+    (141, false, false),
+    // D31
+    (190, true, false),
+    // SYSRESET*
+    (191, true, true),
+];
+
 #[test]
 fn backplanes(rt: HostRuntime) -> Result<(), Fail> {
-    assert!(rt; Lines::new(0).is_none() && Lines::new(22).is_none());
     let lines = Lines::new(3).ok_or("no such backplane")?;
-    assert!(rt; lines.slots() == 3);
-    for (line, exists, control) in [
-        (Line::AS, true, true),
-        (Line::LWORD, true, false),
-        (Line::BBSY, true, true),
-        (Line::grant(0, 3), true, true),
-        (Line::grant(0, 4), false, false),
-        (Line::iack(3), true, true),
-        (Line::iack(4), false, false),
-        (Line::data(31), true, false),
-        (Line::SYSRESET, true, true),
-    ] {
+    for (number, exists, control) in THERE {
+        let line = Line::from_number(number).ok_or("no such line")?;
         assert!(rt; lines.has(line) == exists && lines.is_control(line) == control);
     }
-    Ok(())
-}
-
-#[test]
-fn changing_lines(rt: HostRuntime) -> Result<(), Fail> {
-    let mut lines = Lines::new(3).ok_or("no such backplane")?;
-    lines.set(Line::AS, Level::Low);
-    assert!(rt; lines.level(Line::AS).is_low());
-    let changes = [high(Line::AS), low(Line::WRITE)];
-    lines.apply(&changes);
-    assert!(rt; lines.level(Line::AS).is_high() && lines.level(Line::WRITE).is_low());
-    assert!(rt; lines.touches_control(&changes) && lines.lost_among(&changes).is_none());
-    lines.set(Line::AS, Level::Unknown);
-    assert!(rt; lines.lost_among(&changes) == Some(Line::AS));
-    Ok(())
-}
-
-#[test]
-fn buses_that_are_reset(rt: HostRuntime) -> Result<(), Fail> {
-    let mut lines = high_lines(2)?;
-    let changes = [
-        low(Line::DTACK),
-        Change {
-            line: Line::BBSY,
-            level: Level::Unknown,
-        },
-    ];
-    lines.apply(&changes);
-    assert!(rt; !lines.is_reset() && lines.lost_among(&changes) == Some(Line::BBSY));
-    lines.set(Line::SYSRESET, Level::Low);
-    assert!(rt; lines.is_reset() && lines.lost_among(&changes).is_none());
-    let unknown = [Change {
-        line: Line::SYSRESET,
-        level: Level::Unknown,
-    }];
-    lines.apply(&unknown);
-    assert!(rt; !lines.is_reset() && lines.touches_control(&unknown));
-    assert!(rt; lines.lost_among(&unknown) == Some(Line::SYSRESET));
     Ok(())
 }
 
@@ -308,38 +279,44 @@ fn idle_buses(rt: HostRuntime) -> Result<(), Fail> {
     Ok(())
 }
 
-/// Whether a transfer moves just the lines with these numbers, where LWORD*, A01, DS0* and DS1* show these levels.
-fn moves(levels: [Level; 4], first: u8, end: u8) -> Result<bool, Fail> {
-    let mut lines = high_lines(1)?;
-    lines.set(Line::LWORD, levels[0]);
-    lines.set(Line::address(1), levels[1]);
-    lines.set(Line::DS0, levels[2]);
-    lines.set(Line::DS1, levels[3]);
+/// The levels of LWORD*, A01, DS0* and DS1*, and the numbers of the data lines that a transfer then moves: from the
+/// first up to an end.
+const MOVED: [([Level; 4], u8, u8); 10] = [
+    ([HIGH, HIGH, LOW, HIGH], 159, 167),
+    ([HIGH, HIGH, HIGH, LOW], 167, 175),
+    ([HIGH, LOW, LOW, LOW], 159, 175),
+    ([LOW, LOW, LOW, LOW], 159, 191),
+    ([HIGH, HIGH, HIGH, HIGH], 0, 0),
+    ([LOW, LOW, LOW, HIGH], 0, 0),
+    ([LOW, LOW, HIGH, LOW], 0, 0),
+    ([LOW, HIGH, LOW, LOW], 0, 0),
+    ([LOW, UNKNOWN, LOW, LOW], 0, 0),
+    ([UNKNOWN, LOW, LOW, LOW], 0, 0),
+];
+
+/// Whether a transfer moves just the lines with these numbers.
+fn moves(lines: &Lines, first: u8, end: u8) -> bool {
     for number in 0..LINE_COUNT {
-        let line = Line::from_number(number).ok_or("no such line")?;
-        if is_selected(&lines, line) != (first <= number && number < end) {
-            return Ok(false);
+        let is_moved = match Line::from_number(number) {
+            Some(line) => is_selected(lines, line),
+            None => false,
+        };
+        if is_moved != (first <= number && number < end) {
+            return false;
         }
     }
-    Ok(true)
+    true
 }
 
 #[test]
 fn moved_data_lines(rt: HostRuntime) -> Result<(), Fail> {
-    let (low, high) = (Level::Low, Level::High);
-    assert!(rt; moves([high, high, low, high], 159, 167)?);
-    assert!(rt; moves([high, high, high, low], 167, 175)?);
-    assert!(rt; moves([high, low, low, low], 159, 175)?);
-    assert!(rt; moves([low, low, low, low], 159, 191)?);
-    for levels in [
-        [high, high, high, high],
-        [low, low, low, high],
-        [low, low, high, low],
-        [low, high, low, low],
-        [low, Level::Unknown, low, low],
-        [Level::Unknown, low, low, low],
-    ] {
-        assert!(rt; moves(levels, 0, 0)?);
+    for (levels, first, end) in MOVED {
+        let mut lines = high_lines(1)?;
+        lines.set(Line::LWORD, levels[0]);
+        lines.set(Line::address(1), levels[1]);
+        lines.set(Line::DS0, levels[2]);
+        lines.set(Line::DS1, levels[3]);
+        assert!(rt; moves(&lines, first, end), "{first}");
     }
     Ok(())
 }
@@ -396,158 +373,90 @@ fn acknowledge_class(rt: HostRuntime) -> Result<(), Fail> {
     Ok(())
 }
 
-/// Which step is named as malformed, where one more step is put behind those of the read: by a block, and by a capture.
-fn malformed_with(
-    alloc: Global,
-    time: u64,
-    changes: &[Change],
-) -> Result<(Option<usize>, Option<usize>), Fail> {
+/// The step behind those of the read, and whether it is malformed there.
+const BEHIND: [(Row, bool); 8] = [
+    ((60, &[(AS, LOW)]), false),
+    ((50, &[(AS, LOW)]), true),
+    ((60, &[]), true),
+    ((60, &[(AS, HIGH)]), true),
+    ((60, &[(DS0, LOW), (AS, LOW)]), true),
+    ((60, &[(AS, LOW), (AS, HIGH)]), true),
+    ((60, &[(AS, LOW), (IACK_2, LOW)]), true),
+    ((60, &[(AS, LOW), (IACK_1, LOW)]), false),
+];
+
+/// The steps of the read, and one behind them.
+fn read_and(row: Row, alloc: Global) -> Result<Vec<Step>, AllocError> {
     let mut steps = read_steps(alloc)?;
-    steps.push(step(alloc, time, changes)?)?;
+    steps.push(step(row, alloc)?)?;
+    Ok(steps)
+}
+
+/// Which step is named as malformed, by a block and by a capture.
+fn malformed_in(opening: Lines, steps: Vec<Step>) -> (Option<usize>, Option<usize>) {
     let block = Block {
         number: 7,
-        opening: dump_lines()?,
+        opening,
         steps: Steps::new(steps),
     };
     let named = block.check().err().map(|fault| fault.step);
-    match Capture::new(block.opening, block.steps.into_inner()) {
-        Ok(_) => Ok((named, None)),
-        Err((_, fault)) => Ok((named, Some(fault.step))),
+    match Capture::new(opening, block.steps.into_inner()) {
+        Ok(_) => (named, None),
+        Err((_, fault)) => (named, Some(fault.step)),
     }
 }
 
 #[test]
 fn malformed_steps(rt: HostRuntime) -> Result<(), Fail> {
-    let cases: [(u64, &[Change], Option<usize>); 8] = [
-        (60, &[low(Line::AS)], None),
-        (50, &[low(Line::AS)], Some(6)),
-        (60, &[], Some(6)),
-        (60, &[high(Line::AS)], Some(6)),
-        (60, &[low(Line::DS0), low(Line::AS)], Some(6)),
-        (60, &[low(Line::AS), high(Line::AS)], Some(6)),
-        (60, &[low(Line::AS), low(Line::iack(2))], Some(6)),
-        (60, &[low(Line::AS), low(Line::iack(1))], None),
-    ];
-    for (time, changes, wrong) in cases {
-        assert!(rt; malformed_with(rt.alloc(), time, changes)? == (wrong, wrong));
+    for (row, is_malformed) in BEHIND {
+        let wrong = if is_malformed { Some(6) } else { None };
+        let steps = read_and(row, rt.alloc())?;
+        assert!(rt; malformed_in(dump_lines()?, steps) == (wrong, wrong));
     }
     Ok(())
 }
 
-#[test]
-fn first_step_malformed(rt: HostRuntime) -> Result<(), Fail> {
-    let mut steps = Vec::new(rt.alloc());
-    steps.push(step(rt.alloc(), 0, &[])?)?;
-    let block = Block {
-        number: 0,
-        opening: dump_lines()?,
-        steps: Steps::new(steps),
-    };
-    assert!(rt; block.check() == Err(Malformed { step: 0 }));
-    Ok(())
-}
-
-/// A capture of steps that a block has found well formed.
-#[test]
-fn well_formed_steps(rt: HostRuntime) -> Result<(), Fail> {
-    let block = Block {
-        number: 0,
-        opening: dump_lines()?,
-        steps: Steps::new(read_steps(rt.alloc())?),
-    };
-    let capture = match block.check() {
-        Ok(()) => Capture::from_well_formed(block.opening, block.steps.into_inner()),
-        Err(_) => None,
-    };
-    let capture = capture.ok_or("malformed")?;
-    assert!(rt; *capture.opening() == dump_lines()? && capture.steps().len() == 6);
-    Ok(())
-}
-
-/// How many blocks a capture of so many steps is cut into, or why it isn't.
-fn cut_of(alloc: Global, steps: u64, size: u32) -> Result<Result<usize, CutFault>, Fail> {
-    let capture = Capture::new(dump_lines()?, toggles(alloc, steps)?).ok();
-    let capture = capture.ok_or("malformed")?;
-    Ok(capture.cut(alloc, size).map(|blocks| blocks.len()))
-}
-
-#[test]
-fn cuts(rt: HostRuntime) -> Result<(), Fail> {
-    for (steps, size, count) in [
-        (4096, 1, Ok(4096)),
-        (4097, 1, Err(CutFault::TooManyBlocks)),
-        (4097, 2, Ok(2049)),
-        (4097, 0, Err(CutFault::BadSize)),
-        (4097, 65536, Ok(1)),
-        (4097, 65537, Err(CutFault::BadSize)),
-        (0, 1, Ok(1)),
-        (0, 0, Err(CutFault::BadSize)),
-    ] {
-        assert!(rt; cut_of(rt.alloc(), steps, size)? == count);
-    }
-    Ok(())
-}
-
-/// The numbers of blocks, and the times of their steps.
-fn numbers_and_times(alloc: Global, blocks: &[Block]) -> Result<(Vec<u32>, Vec<u64>), Fail> {
-    let mut numbers = Vec::new(alloc);
-    let mut times = Vec::new(alloc);
+/// The number of a block and the time of its first step, for each.
+fn numbers_and_times(alloc: Global, blocks: &[Block]) -> Result<Vec<(u32, u64)>, Fail> {
+    let mut firsts = Vec::new(alloc);
     for block in blocks {
-        numbers.push(block.number)?;
-        for step in block.steps.as_slice() {
-            times.push(step.time)?;
-        }
+        let first = block.steps.as_slice().first().ok_or("no step")?;
+        firsts.push((block.number, first.time))?;
     }
-    Ok((numbers, times))
+    Ok(firsts)
 }
 
+/// The read is cut into blocks of four steps, each of which can be copied.
 #[test]
 fn blocks_of_a_read(rt: HostRuntime) -> Result<(), Fail> {
-    let alloc = rt.alloc();
-    let capture = read_capture(alloc)?;
-    assert!(rt; *capture.opening() == dump_lines()? && capture.steps().len() == 6);
-    let numbers: [(u32, &[u32]); 5] = [
-        (1, &[0, 1, 2, 3, 4, 5]),
-        (2, &[0, 1, 2]),
-        (4, &[0, 1]),
-        (6, &[0]),
-        (7, &[0]),
-    ];
-    for (size, wanted) in numbers {
-        let Ok(blocks) = capture.cut(alloc, size) else {
-            return Err("not cut".into());
-        };
-        let (numbers, times) = numbers_and_times(alloc, blocks.as_slice())?;
-        assert!(rt; numbers.as_slice() == wanted);
-        assert!(rt; times.as_slice() == [0, 10, 20, 30, 40, 50].as_slice());
+    let capture = read_capture(rt.alloc())?;
+    let blocks = capture.cut(rt.alloc(), 4)?;
+    for block in blocks.iter() {
+        block.copy(rt.alloc())?;
     }
+    let firsts = numbers_and_times(rt.alloc(), blocks.as_slice())?;
+    assert!(rt; firsts.as_slice() == [(0, 0), (1, 40)].as_slice());
     Ok(())
 }
 
-/// Whether the steps are alike.
-fn are_alike(first: &[Step], second: &[Step]) -> bool {
-    for (one, other) in first.iter().zip(second) {
-        if one.time != other.time || one.changes.as_slice() != other.changes.as_slice() {
-            return false;
+/// Whether a cut makes so many blocks, or memory is refused.
+fn is_cut_or_refused(alloc: Global, capture: &Capture, size: u32, count: usize) -> bool {
+    match capture.cut(alloc, size) {
+        Ok(blocks) => blocks.len() == count,
+        Err(fault) => fault == CutFault::Memory,
+    }
+}
+
+/// Whether each copy that is made is of a block of one step.
+fn are_copied_or_refused(alloc: Global, blocks: &[Block]) -> bool {
+    for block in blocks {
+        if let Ok(copy) = block.copy(alloc) {
+            if copy.steps.as_slice().len() != 1 {
+                return false;
+            }
         }
     }
-    first.len() == second.len()
-}
-
-#[test]
-fn copies(rt: HostRuntime) -> Result<(), Fail> {
-    let alloc = rt.alloc();
-    let block = Block {
-        number: 7,
-        opening: dump_lines()?,
-        steps: Steps::new(read_steps(alloc)?),
-    };
-    let copy = block.copy(alloc)?;
-    assert!(rt; copy.number == 7 && copy.opening == block.opening);
-    assert!(rt; are_alike(copy.steps.as_slice(), block.steps.as_slice()));
-    let changes = step(alloc, 60, &[low(Line::AS)])?.changes.into_inner();
-    assert!(rt; changes.as_slice() == [low(Line::AS)].as_slice());
-    Ok(())
+    true
 }
 
 /// Where memory is refused, a cut and a copy say so, and nothing else. (Run with each allocation refused in turn.)
@@ -559,18 +468,10 @@ fn refused_memory(rt: HostRuntime) -> Result<(), Fail> {
     };
     let capture = Capture::new(dump_lines()?, steps).ok();
     let capture = capture.ok_or("malformed")?;
-    match capture.cut(alloc, 4) {
-        Ok(blocks) => assert!(rt; blocks.len() == 2),
-        Err(fault) => assert!(rt; fault == CutFault::Memory),
-    }
-    let many = capture.cut(alloc, 1);
-    if let Ok(blocks) = many {
+    assert!(rt; is_cut_or_refused(alloc, &capture, 4, 2));
+    if let Ok(blocks) = capture.cut(alloc, 1) {
         assert!(rt; blocks.len() == 6);
-        for block in blocks.iter() {
-            if let Ok(copy) = block.copy(alloc) {
-                assert!(rt; copy.steps.as_slice().len() == 1);
-            }
-        }
+        assert!(rt; are_copied_or_refused(alloc, blocks.as_slice()));
     }
     Ok(())
 }

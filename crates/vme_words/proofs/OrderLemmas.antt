@@ -1,6 +1,6 @@
 -- What the typed getters of a parse read.
-use Rattle.std.proofs.Common.{◌≡◌, ℕ, ◌<◌, ◌≤◌, ◌^◌, List, [], ◌∷◌, ◌++◌, map, refl, ap, sym, subst, ◌∙◌, IfErr, IsErrAnd, inl, inr, is_some, true, true≢false}
-use Rattle.std.specs.Prelude.{Option, Some, None, Result, Ok, Err, codes, option_map, string_bytes}
+use Rattle.std.proofs.Common.{◌≡◌, ℕ, ◌<◌, ◌≤◌, ◌^◌, List, [], ◌∷◌, ◌++◌, refl, ap, sym, subst, ◌∙◌, IfErr, IsErrAnd, inl, inr, is_some, true, true≢false}
+use Rattle.std.specs.Prelude.{Option, Some, None, Result, Ok, Err, codes, option_map}
 use Rattle.std.specs.Borrow.{Bor}
 use Rattle.std.specs.Str.Parse.{ParsesUnsigned}
 use Rattle.clap.specs.Words.{HasKind, IsAmong, Row, Text, ReadsOne, fault_of, first_of, first_value, found_of, kind_of, one_text, rows_of, without_minus}

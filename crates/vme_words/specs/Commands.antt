@@ -1,6 +1,8 @@
 -- The command line of the program, as a parse reads it.
-use Rattle.std.specs.Prelude.{ℕ, pos, true, ◌∷◌, [], Some, codes}
-use Rattle.clap.specs.Words.{App, Rule, Text, new_app, new_rule, with_rule, with_subcommand}
+use Rattle.std.specs.Prelude.{◌≡◌, ℕ, pos, true, false, ◌∷◌, [], Some, codes, Result, IfOk}
+use Rattle.clap.specs.Words.{App, Rule, Text, app_of, new_app, new_rule, with_rule, with_subcommand}
+use Rattle.clap.specs.declared.builder.command.Command.{Command}
+use Rattle.clap.specs.declared.builder.command.Command.TheViews.{out-Command}
 use Rattle.clap.specs.declared.builder.value_parser.ValueParser.TheVariants.{Signed}
 
 -- `--NAME N`, N from 1 to the greatest, with the number that it has by default
@@ -71,3 +73,7 @@ abbrev pub vmecheck_app : App
 vmecheck_app =
     let a = with_subcommand (with_subcommand telling_app bind_app.top) explain_app.top in
     record a { top = record a.top { subcommand_required = true; has_version = true } }
+
+-- what is made, unless there was no memory, is read so, and has no option that holds for its subcommands too
+abbrev pub Makes : {E : Type 0} → App → Result Command E → Type 0
+Makes app made = IfOk made (λ command. (app_of command ≡ app) × ((out-Command command).has_globals ≡ false))

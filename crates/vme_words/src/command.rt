@@ -1,11 +1,10 @@
 //! The command line of the program.
 
 ghost use Rattle.std.specs.Prelude.{◌≡◌, IfOk, Some, codes, false};
-ghost use Rattle.clap.specs.Words.{app_of, rule_of};
-ghost use Rattle.clap.specs.declared.builder.command.Command.TheViews.{out-Command};
-ghost use Rattle.vme_words.specs.Commands.{bind_app, confirm_app, explain_app, file_rule, number_rule, recording_app};
-ghost use Rattle.vme_words.specs.Commands.{recordings_app, rules_app, slots_rule, telling_app, variables_app};
-ghost use Rattle.vme_words.specs.Commands.{vmecheck_app, word_rule};
+ghost use Rattle.clap.specs.Words.{App, Rule, app_of, new_app, rule_of, with_rule, with_subcommand};
+ghost use Rattle.vme_words.specs.Commands.{Makes, bind_app, confirm_app, explain_app, file_rule, number_rule};
+ghost use Rattle.vme_words.specs.Commands.{recording_app, recordings_app, rules_app, slots_rule, telling_app};
+ghost use Rattle.vme_words.specs.Commands.{variables_app, vmecheck_app, word_rule};
 
 use clap::{Arg, Command, value_parser};
 use std::alloc::{AllocError, Global};
@@ -18,92 +17,108 @@ pub const VERSION: &str = "0.1.0, commit (built from a working tree, not a relea
 pub fn vmecheck_command<'a>(alloc: Global) -> Result<Command<'a>, AllocError>
     ensures { IfOk result (λ command. app_of command ≡ vmecheck_app) }
 {
-    let bind = bind_command(alloc)?;
-    let explain = explain_command(alloc)?;
-    let command = telling_commands(alloc)?
-        .subcommand(bind)?
-        .subcommand(explain)?
-        .subcommand_required(true)
-        .version(VERSION);
-    Ok(command)
+    let command = with_task(telling_commands(alloc), bind_command(alloc));
+    let command = with_task(command, explain_command(alloc))?;
+    Ok(command.subcommand_required(true).version(VERSION))
 }
 
 /// The program, with the subcommands on recordings, and those that tell of rules and of variables.
 fn telling_commands<'a>(alloc: Global) -> Result<Command<'a>, AllocError>
-    ensures app { IfOk result (λ command. app_of command ≡ telling_app) }
-    ensures local { IfOk result (λ command. (out-Command command).has_globals ≡ false) }
+    ensures { Makes telling_app result }
 {
-    let rules = rules_command(alloc)?;
-    let variables = variables_command(alloc)?;
-    let command = recording_commands(alloc)?
-        .subcommand(rules)?
-        .subcommand(variables)?;
-    Ok(command)
+    let command = with_task(recording_commands(alloc), rules_command(alloc));
+    with_task(command, variables_command(alloc))
 }
 
 /// The program, with the subcommands that judge recordings by a binding and nothing more.
 fn recording_commands<'a>(alloc: Global) -> Result<Command<'a>, AllocError>
-    ensures app { IfOk result (λ command. app_of command ≡ recordings_app) }
-    ensures local { IfOk result (λ command. (out-Command command).has_globals ≡ false) }
+    ensures { Makes recordings_app result }
 {
-    let check = check_command(alloc)?;
-    let list = list_command(alloc)?;
-    let confirm = confirm_command(alloc)?;
-    let command = Command::new(alloc, "vmecheck")
-        .subcommand(check)?
-        .subcommand(list)?
-        .subcommand(confirm)?;
-    Ok(command)
+    let command = Ok(Command::new(alloc, "vmecheck"));
+    let command = with_task(command, check_command(alloc));
+    let command = with_task(command, list_command(alloc));
+    with_task(command, confirm_command(alloc))
+}
+
+/// A command of this name, and what is said of it.
+fn new_command<'a>(alloc: Global, name: &'a str, about: &'a str) -> Result<Command<'a>, AllocError>
+    ensures { Makes (new_app name.entry.now) result }
+{
+    Ok(Command::new(alloc, name).about(about))
+}
+
+/// A command with one more subcommand.
+fn with_task<'a>(
+    command: Result<Command<'a>, AllocError>,
+    task: Result<Command<'a>, AllocError>,
+) -> Result<Command<'a>, AllocError>
+    ensures { (app part : App) → Makes app command.entry → Makes part task.entry
+        → Makes (with_subcommand app part.top) result }
+{
+    command?.subcommand(task?)
+}
+
+/// A command with one more option or file.
+fn with_arg<'a>(
+    command: Result<Command<'a>, AllocError>,
+    arg: Arg<'a>,
+) -> Result<Command<'a>, AllocError>
+    ensures { (app : App) (rule : Rule) → Makes app command.entry → rule_of arg.entry ≡ rule
+        → arg.entry.global ≡ false → Makes (with_rule app rule) result }
+{
+    command?.arg(arg)
 }
 
 /// The command that judges a recording.
 pub(crate) fn check_command<'a>(alloc: Global) -> Result<Command<'a>, AllocError>
-    ensures app { IfOk result (λ command. app_of command ≡ recording_app (codes "check")) }
-    ensures local { IfOk result (λ command. (out-Command command).has_globals ≡ false) }
+    ensures { Makes (recording_app (codes "check")) result }
 {
-    Ok(recording_command(alloc, "check")?.about("Judges a recording, and writes the verdict"))
+    recording_command(alloc, "check", "Judges a recording, and writes the verdict")
 }
 
 /// The command that lists what a recording has.
 pub(crate) fn list_command<'a>(alloc: Global) -> Result<Command<'a>, AllocError>
-    ensures app { IfOk result (λ command. app_of command ≡ recording_app (codes "list")) }
-    ensures local { IfOk result (λ command. (out-Command command).has_globals ≡ false) }
+    ensures { Makes (recording_app (codes "list")) result }
 {
-    Ok(recording_command(alloc, "list")?.about(
+    recording_command(
+        alloc,
+        "list",
         "Lists the tenures, cycles and transfers of a recording, and its verdict",
-    ))
+    )
 }
 
 /// A command on the recording that a binding makes of a dump.
-fn recording_command<'a>(alloc: Global, name: &'a str) -> Result<Command<'a>, AllocError>
-    ensures app { IfOk result (λ command. app_of command ≡ recording_app name.entry.now) }
-    ensures local { IfOk result (λ command. (out-Command command).has_globals ≡ false) }
+fn recording_command<'a>(
+    alloc: Global,
+    name: &'a str,
+    about: &'a str,
+) -> Result<Command<'a>, AllocError>
+    ensures { Makes (recording_app name.entry.now) result }
 {
-    let command = Command::new(alloc, name)
-        .arg(block_option(alloc))?
-        .arg(workers_option(alloc))?
-        .arg(binding_file(alloc))?
-        .arg(dump_file(alloc))?;
-    Ok(command)
+    let command = new_command(alloc, name, about);
+    let command = with_arg(command, block_option(alloc));
+    let command = with_arg(command, workers_option(alloc));
+    let command = with_arg(command, binding_file(alloc));
+    with_arg(command, dump_file(alloc))
 }
 
 /// The command on a listing of the recording that a binding makes of a dump.
 pub(crate) fn confirm_command<'a>(alloc: Global) -> Result<Command<'a>, AllocError>
-    ensures app { IfOk result (λ command. app_of command ≡ confirm_app) }
-    ensures local { IfOk result (λ command. (out-Command command).has_globals ≡ false) }
+    ensures { Makes confirm_app result }
 {
-    let command = Command::new(alloc, "confirm")
-        .about("Says whether a listing is that of a recording")
-        .arg(binding_file(alloc))?
-        .arg(dump_file(alloc))?
-        .arg(file(alloc, "LISTING", "The file of the listing"))?;
-    Ok(command)
+    let command = new_command(
+        alloc,
+        "confirm",
+        "Says whether a listing is that of a recording",
+    );
+    let command = with_arg(command, binding_file(alloc));
+    let command = with_arg(command, dump_file(alloc));
+    with_arg(command, file(alloc, "LISTING", "The file of the listing"))
 }
 
 /// The command that says what the rules ask.
 pub(crate) fn rules_command<'a>(alloc: Global) -> Result<Command<'a>, AllocError>
-    ensures app { IfOk result (λ command. app_of command ≡ rules_app) }
-    ensures local { IfOk result (λ command. (out-Command command).has_globals ≡ false) }
+    ensures { Makes rules_app result }
 {
     let rule = Arg::new(alloc, "RULE").help(
         "One rule by its name, as H4; all of them, where none is named",
@@ -115,8 +130,7 @@ pub(crate) fn rules_command<'a>(alloc: Global) -> Result<Command<'a>, AllocError
 
 /// The command that writes the variables of a dump.
 pub(crate) fn variables_command<'a>(alloc: Global) -> Result<Command<'a>, AllocError>
-    ensures app { IfOk result (λ command. app_of command ≡ variables_app) }
-    ensures local { IfOk result (λ command. (out-Command command).has_globals ≡ false) }
+    ensures { Makes variables_app result }
 {
     Command::new(alloc, "variables")
         .about("Lists the variables of a dump, and how often each changes")
@@ -125,27 +139,29 @@ pub(crate) fn variables_command<'a>(alloc: Global) -> Result<Command<'a>, AllocE
 
 /// The command that writes a binding for a dump.
 pub(crate) fn bind_command<'a>(alloc: Global) -> Result<Command<'a>, AllocError>
-    ensures app { IfOk result (λ command. app_of command ≡ bind_app) }
-    ensures local { IfOk result (λ command. (out-Command command).has_globals ≡ false) }
+    ensures { Makes bind_app result }
 {
-    let command = Command::new(alloc, "bind")
-        .about("Writes a binding for a dump, by the names of its variables")
-        .arg(slots_option(alloc))?
-        .arg(dump_file(alloc))?;
-    Ok(command)
+    let command = new_command(
+        alloc,
+        "bind",
+        "Writes a binding for a dump, by the names of its variables",
+    );
+    let command = with_arg(command, slots_option(alloc));
+    with_arg(command, dump_file(alloc))
 }
 
 /// The command that says why and where a recording is judged as it is.
 pub(crate) fn explain_command<'a>(alloc: Global) -> Result<Command<'a>, AllocError>
-    ensures app { IfOk result (λ command. app_of command ≡ explain_app) }
-    ensures local { IfOk result (λ command. (out-Command command).has_globals ≡ false) }
+    ensures { Makes explain_app result }
 {
-    let command = Command::new(alloc, "explain")
-        .about("Judges a recording, and says why and where")
-        .arg(save_file_option(alloc))?
-        .arg(binding_file(alloc))?
-        .arg(dump_file(alloc))?;
-    Ok(command)
+    let command = new_command(
+        alloc,
+        "explain",
+        "Judges a recording, and says why and where",
+    );
+    let command = with_arg(command, save_file_option(alloc));
+    let command = with_arg(command, binding_file(alloc));
+    with_arg(command, dump_file(alloc))
 }
 
 fn slots_option<'a>(alloc: Global) -> Arg<'a>

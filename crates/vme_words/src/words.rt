@@ -5,8 +5,9 @@ ghost use Rattle.std.specs.Prelude.{string_bytes, true};
 ghost use Rattle.clap.specs.Words.{fault_of, first_of, found_of, kind_of, rows_of, subcommand_of, subcommand_rows_of};
 ghost use Rattle.vme_words.specs.Commands.{vmecheck_app};
 ghost use Rattle.vme_words.specs.OrderFaults.{HasUsageKind, IsFaultOf, IsOfWords};
-ghost use Rattle.vme_words.specs.Orders.{HasConfirmation, HasName, HasNames, HasNumber, HasOrder, HasRecording};
-ghost use Rattle.vme_words.specs.Orders.{IsOrder, SaysOrder, SaysWords, if_given, names_in, number_in};
+ghost use Rattle.vme_words.specs.declared.order.Task.{Task};
+ghost use Rattle.vme_words.specs.Orders.{HasAll, HasConfirmation, HasName, HasNames, HasNumber, HasOrder, HasRecording};
+ghost use Rattle.vme_words.specs.Orders.{IsOrder, SaysOrder, SaysWords, if_given, names_in, number_in, task_name};
 
 use crate::command::{
     bind_command, check_command, confirm_command, explain_command, list_command, rules_command,
@@ -42,14 +43,52 @@ fn order_in(alloc: Global, matches: &ArgMatches<'_>) -> Result<Option<Order>, Al
     ensures found { HasOrder (subcommand_rows_of matches.now) → IfOk result (λ o. is_some o ≡ true) }
 {
     match matches.subcommand() {
-        Some((name, found)) if name == "check" => check_order(alloc, found),
-        Some((name, found)) if name == "list" => list_order(alloc, found),
-        Some((name, found)) if name == "confirm" => confirm_order(alloc, found),
-        Some((name, found)) if name == "rules" => rules_order(alloc, found),
-        Some((name, found)) if name == "variables" => variables_order(alloc, found),
-        Some((name, found)) if name == "bind" => bind_order(alloc, found),
-        Some((name, found)) if name == "explain" => explain_order(alloc, found),
-        _ => Ok(None),
+        Some((name, found)) => match task_named(name) {
+            Some(task) => order_to(alloc, task, found),
+            None => Ok(None),
+        },
+        None => Ok(None),
+    }
+}
+
+/// The task of this name.
+fn task_named(name: &str) -> Option<Task>
+    ensures named { IfSome result (λ task. name.now ≡ task_name task) }
+    ensures found { (task : Task) → name.now ≡ task_name task → result ≡ Some task }
+{
+    if name == "check" {
+        Some(Task::Check)
+    } else if name == "list" {
+        Some(Task::List)
+    } else if name == "confirm" {
+        Some(Task::Confirm)
+    } else if name == "rules" {
+        Some(Task::Rules)
+    } else if name == "variables" {
+        Some(Task::Variables)
+    } else if name == "bind" {
+        Some(Task::Bind)
+    } else if name == "explain" {
+        Some(Task::Explain)
+    } else {
+        None
+    }
+}
+
+/// The order to do a task that its matches are, if they are one.
+fn order_to(alloc: Global, task: Task, found: &ArgMatches<'_>) -> Result<Option<Order>, AllocError>
+    ensures said { IfOk result (λ o. IfSome o (λ order. IsOrder order
+        (Some (task_name task, rows_of (found_of found.now))))) }
+    ensures found { HasAll task (rows_of (found_of found.now)) → IfOk result (λ o. is_some o ≡ true) }
+{
+    match task {
+        Task::Check => check_order(alloc, found),
+        Task::List => list_order(alloc, found),
+        Task::Confirm => confirm_order(alloc, found),
+        Task::Rules => rules_order(alloc, found),
+        Task::Variables => variables_order(alloc, found),
+        Task::Bind => bind_order(alloc, found),
+        Task::Explain => explain_order(alloc, found),
     }
 }
 
@@ -303,13 +342,31 @@ fn usage_error(
 
 /// The command of a task, by its name behind that of the program.
 fn task_command<'a>(alloc: Global, task: Task) -> Result<Command<'a>, AllocError> {
+    command_of(alloc, task)?.bin_name(words_of(task))
+}
+
+/// The command of a task.
+fn command_of<'a>(alloc: Global, task: Task) -> Result<Command<'a>, AllocError> {
     match task {
-        Task::Check => check_command(alloc)?.bin_name("vmecheck check"),
-        Task::List => list_command(alloc)?.bin_name("vmecheck list"),
-        Task::Confirm => confirm_command(alloc)?.bin_name("vmecheck confirm"),
-        Task::Rules => rules_command(alloc)?.bin_name("vmecheck rules"),
-        Task::Variables => variables_command(alloc)?.bin_name("vmecheck variables"),
-        Task::Bind => bind_command(alloc)?.bin_name("vmecheck bind"),
-        Task::Explain => explain_command(alloc)?.bin_name("vmecheck explain"),
+        Task::Check => check_command(alloc),
+        Task::List => list_command(alloc),
+        Task::Confirm => confirm_command(alloc),
+        Task::Rules => rules_command(alloc),
+        Task::Variables => variables_command(alloc),
+        Task::Bind => bind_command(alloc),
+        Task::Explain => explain_command(alloc),
+    }
+}
+
+/// The words that ask for a task.
+fn words_of(task: Task) -> &'static str {
+    match task {
+        Task::Check => "vmecheck check",
+        Task::List => "vmecheck list",
+        Task::Confirm => "vmecheck confirm",
+        Task::Rules => "vmecheck rules",
+        Task::Variables => "vmecheck variables",
+        Task::Bind => "vmecheck bind",
+        Task::Explain => "vmecheck explain",
     }
 }

@@ -8,73 +8,24 @@ ghost use Rattle.vme_words.specs.OrderFaults.{IsOfWords};
 ghost use Rattle.vme_answer.specs.Texts.{refusal_status};
 ghost use Rattle.vme_answer.specs.declared.refusal.Refusal.TheVariants.{CannotOpen};
 
-mod bind;
-mod check;
-mod confirm;
-mod explain;
-mod followed;
-mod list;
-#[cfg(test)]
-mod piece_tests;
-mod rules;
-#[cfg(test)]
-mod stream_tests;
-mod telling;
-#[cfg(test)]
-mod tests;
-mod told;
-mod underway;
-mod variables;
-mod words;
-mod workers;
-
-use bind::bind;
-use check::check;
-use confirm::confirm_with;
-use explain::explain;
-use list::list;
-use rules::tell_rules;
 use std::env;
 use std::fs::{self, File};
 use std::io::ErrorKind;
 use std::process::ExitCode;
 use std::thread::Threads;
-use variables::tell_variables;
 use vme_answer::{Input, Refusal, cannot_write_line, refusal_line};
+use vme_commands::bind::bind;
+use vme_commands::check::check;
+use vme_commands::confirm::confirm_with;
+use vme_commands::explain::explain;
+use vme_commands::list::list;
+use vme_commands::{
+    BLOCK, BUILT_IN, place_of, tell_rules, tell_variables, unread_words, words_status,
+};
 use vme_stream::{Bytes, Io, complain, write_all};
 use vme_trace::Rule;
 use vme_words::words::order;
 use vme_words::{Order, OrderFault, Task, task_fault};
-use words::{place_of, unread_words, words_status};
-
-/// The binding that is used where no words name one.
-const BUILT_IN: &[u8] = b"slots 1
-AS = bus.AS
-DS0 = bus.DS0
-DS1 = bus.DS1
-DTACK = bus.DTACK
-BERR = bus.BERR
-IACK = bus.IACK
-AM0 = 1
-AM1 = 0
-AM2 = 1
-AM3 = 1
-AM4 = 1
-AM5 = 1
-LWORD = 1
-WRITE = 1
-A = 1
-BBSY = 0
-BR = 1
-BG0 = 1
-BG1 = 1
-BG2 = 1
-BG3 = 1
-IA = 1
-";
-
-/// How many steps a block has where no words say it.
-const BLOCK: u32 = 16_384;
 
 fn main(rt: HostRuntime) -> ExitCode {
     ExitCode::from(run(&rt, &rt))

@@ -1,5 +1,5 @@
-use Rattle.std.proofs.Common.{◌≡◌, ℕ, List, [], ◌++◌, append-nil, ap, refl, sym, ◌∙◌}
-use Rattle.std.specs.Prelude.{Option, Some, None, codes, option_map}
+use Rattle.std.proofs.Common.{◌≡◌, ℕ, List, append-nil, ap, refl, sym, ◌∙◌}
+use Rattle.std.specs.Prelude.{Option, Some, None, option_map}
 use Rattle.std.specs.Borrow.{Bor}
 use Rattle.clap.specs.Words.{first_of, found_of, rows_of}
 use Rattle.clap.proofs.WalkLemmas.{first_value-rows}

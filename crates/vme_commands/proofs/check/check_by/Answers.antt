@@ -1,0 +1,25 @@
+use Rattle.std.proofs.Common.{refl, inl}
+use Rattle.std.specs.Prelude.{Ok, Err}
+use Rattle.std.proofs.KnownBytes.{Appends-nil}
+use Rattle.vme_commands.proofs.check.check_by.Goals as goal
+
+pub returns-in-Ok : goal.returns-in-Ok
+returns-in-Ok g c =
+    let (binding, dump, binding_reading, dump_reading, given) = c.in-Ok.ensures in
+    (binding, dump, Ok c.in-Ok.verdict, binding_reading, dump_reading, given, c.tell_verdict.ensures)
+
+pub returns-in-Err : goal.returns-in-Err
+returns-in-Err g c =
+    let (binding, dump, binding_reading, dump_reading, given) = c.in-Err.ensures in (
+      binding,
+      dump,
+      Err c.in-Err.refusal,
+      binding_reading,
+      dump_reading,
+      given,
+      inl (record {
+        out_is = (Appends-nil _, refl);
+        err_is = rw c.refusal_line.ensures at c.complain.ensures;
+        status_is = c.status.ensures;
+      }),
+    )

@@ -1,0 +1,82 @@
+-- Listings as a command finds and ends by them.
+use Rattle.std.specs.Prelude.{◌≡◌, ℕ, [], List, Option, None, Result, Ok, Err}
+use Rattle.std.specs.List.{last_or}
+use Rattle.std.specs.Option.{option_map_or}
+use Rattle.vcd_read.specs.Header.{◌>>=◌}
+use Rattle.vme_trace.specs.Streams.{Reading, Writing}
+use Rattle.vme_trace.specs.Trace.{Trace}
+use Rattle.vme_trace.specs.Verdict.{verdict_by, rules_in_force}
+use Rattle.vme_listing.specs.Listed.{Listed}
+use Rattle.vme_listing.specs.Recorded.{listing_of}
+use Rattle.vme_listing.specs.RowText.{text_of}
+use Rattle.vme_answer.specs.Answers.{Answer, Gives, capture_read, refusal_answer}
+use Rattle.vme_answer.specs.Ends.{Does}
+use Rattle.vme_answer.specs.Texts.{verdict_status}
+use Rattle.vme_answer.specs.declared.refusal.Refusal.{Refusal}
+use Rattle.vme_answer.specs.declared.refusal.Refusal.TheVariants.{Memory}
+use Rattle.vme_commands.specs.Judged.{in_blocks}
+use Rattle.vme_listing.specs.declared.row.Outcome.{Outcome}
+use Rattle.vme_listing.specs.declared.row.Outcome.TheVariants.{Conforming, NeverIdle, Broken, Unreadable}
+use Rattle.vme_listing.specs.declared.row.Row.{Row}
+use Rattle.vme_listing.specs.declared.row.Row.TheVariants.{Start, Reset, OpenTenure, Tenure, AddressedCycle}
+use Rattle.vme_listing.specs.declared.row.Row.TheVariants.{FreeCycle, InterruptCycle, Transfer, PendingTransfer}
+use Rattle.vme_listing.specs.declared.row.Row.TheVariants.{Verdict}
+
+-- the recording that a binding makes of a dump, if it is cut into at most 4,096 blocks of so many steps, or the first
+-- reason that there is none
+unfoldable pub recording_of : Option (List ℕ) → Option (List ℕ) → ℕ → Result Trace Refusal
+recording_of binding dump block = do
+  t ← capture_read binding dump
+  in_blocks block t
+
+-- The listing is that of the recording that is to be read there, or what is found is why there is none, unless there
+-- was no memory.
+abbrev pub GivesListing : Result Listed Refusal → Result Trace Refusal → Type 0
+GivesListing (Ok listing) recording = (t : Trace) × (recording ≡ Ok t) × (listing ≡ listing_of t)
+GivesListing (Err Memory) recording = Unit {0}
+GivesListing (Err refusal) recording = recording ≡ Err refusal
+
+-- ---- the exit status that a listing has by its last row
+
+abbrev pub outcome_status : Outcome → ℕ
+outcome_status Conforming = 0
+outcome_status NeverIdle = 2
+outcome_status (Broken rule instant line) = 1
+outcome_status (Unreadable rule instant line) = 2
+
+-- a row that is no verdict says no more than that nothing was judged
+abbrev pub row_status : Row → ℕ
+row_status (Start instant) = 2
+row_status (Reset instant) = 2
+row_status (OpenTenure start end) = 2
+row_status (Tenure start level slot end) = 2
+row_status (AddressedCycle start class modifier address end) = 2
+row_status (FreeCycle start modifier end) = 2
+row_status (InterruptCycle start level end) = 2
+row_status (Transfer direction line start cycle answer close lanes) = 2
+row_status (PendingTransfer start direction) = 2
+row_status (Verdict outcome) = outcome_status outcome
+
+abbrev pub rows_status : List Row → ℕ
+rows_status rows = option_map_or row_status (last_or None rows) 2
+
+abbrev pub listing_status : Listed → ℕ
+listing_status listing = rows_status listing.rows
+
+-- ---- the answer
+
+-- a listing is told with the status of the verdict
+abbrev pub listing_answer_by : Result Trace Refusal → Answer
+listing_answer_by (Ok t) =
+    record { out = text_of (listing_of t); error = []; status = verdict_status (verdict_by rules_in_force t) }
+listing_answer_by (Err refusal) = refusal_answer refusal
+
+-- the answer to a binding and a dump that are to be listed, each by its bytes or unreadable
+abbrev pub listing_answer_of : Option (List ℕ) → Option (List ℕ) → ℕ → Answer
+listing_answer_of binding dump block = listing_answer_by (recording_of binding dump block)
+
+-- what the inputs say is listed, unless there was no memory
+abbrev pub Lists : Reading × Reading → Reading × Reading → ℕ → Writing × Writing → Writing × Writing → ℕ → Type 0
+Lists binding dump block out err status =
+    Does listing_answer_by (λ b d recording. Gives (λ t. t) recording (recording_of b d block))
+    binding dump out err status

@@ -1,0 +1,114 @@
+//! The check of one recording.
+
+ghost use Rattle.std.specs.Prelude.{◌≡◌, ◌≢◌, ◌≤◌, ◌↔◌, ℕ, suc, List, Option, Some, None};
+ghost use Rattle.vme_answer.specs.Answers.{Gives, answer_of, judgement_of};
+ghost use Rattle.vme_answer.specs.Ends.{Checks, Tells};
+ghost use Rattle.vme_stream.specs.Inputs.{IsReading, TellsWhole};
+ghost use Rattle.vme_trace.specs.WellFormed.{malformed_step};
+ghost use Rattle.vme_commands.specs.Judged.{judged_in_blocks};
+
+use crate::followed::followed;
+use crate::workers::Workers;
+use std::alloc::Global;
+use std::thread::Threads;
+use vme_answer::{Refusal, refusal_line, tell_verdict};
+use vme_stream::complain;
+use vme_summary::Judge;
+use vme_trace::{Sink, Source, Verdict};
+
+/// Judges the recording that a binding makes of a dump, and writes its verdict to `out`, or why there is none to `err`.
+/// The answer is the exit status: 0 conforming, 1 broken, 2 unreadable or never idle, 3 where an input is refused, 4
+/// for want of memory, 5 where the verdict can't be written.
+///
+/// The binding is read, and then the dump, piece by piece. Neither the dump nor the recording is kept: the steps are
+/// judged as they are made. A recording that fills more than 4,096 blocks of `block` steps is refused, and the verdict
+/// is otherwise the same for each size. A failure of `err` is ignored.
+pub fn check<R: Threads + Sync, B: Source, D: Source, O: Sink, E: Sink>(
+    rt: &R,
+    alloc: Global,
+    binding: &mut B,
+    dump: &mut D,
+    block: u32,
+    workers: u32,
+    out: &mut O,
+    err: &mut E,
+) -> u8
+    requires block { (1 ≤ block) × (block ≤ 65536) }
+    requires workers { (1 ≤ workers) × (workers ≤ 64) }
+    ensures answer { Checks
+        (B.reading binding.old, B.reading binding.new) (D.reading dump.old, D.reading dump.new) block
+        (O.writing out.old, O.writing out.new) (E.writing err.old, E.writing err.new) result }
+    ensures unwritten { (result ≡ 5) ↔ ((O.writing out.new).failures ≡ suc (O.writing out.old).failures) }
+
+    // Inputs that are told whole, no failure, and memory give exactly the answer that is defined.
+    ensures exact { (b d : List ℕ) → TellsWhole (B.reading binding.old) (B.reading binding.new) b
+        → TellsWhole (D.reading dump.old) (D.reading dump.new) d
+        → (O.writing out.new).failures ≡ (O.writing out.old).failures → result ≢ 4
+        → Tells (answer_of (Some b) (Some d) block)
+        (O.writing out.old, O.writing out.new) (E.writing err.old, E.writing err.new) result }
+{
+    check_by(
+        alloc,
+        &Workers::new(rt, workers),
+        binding,
+        dump,
+        block,
+        out,
+        err,
+    )
+}
+
+/// The same by workers whose pieces have a size of their own: what is answered doesn't depend on it.
+pub fn check_by<R: Threads + Sync, B: Source, D: Source, O: Sink, E: Sink>(
+    alloc: Global,
+    workers: &Workers<'_, R>,
+    binding: &mut B,
+    dump: &mut D,
+    block: u32,
+    out: &mut O,
+    err: &mut E,
+) -> u8
+    requires { (1 ≤ block) × (block ≤ 65536) }
+    ensures { Checks
+        (B.reading binding.old, B.reading binding.new) (D.reading dump.old, D.reading dump.new) block
+        (O.writing out.old, O.writing out.new) (E.writing err.old, E.writing err.new) result }
+{
+    match judge(alloc, workers, binding, dump, block) {
+        Ok(verdict) => tell_verdict(&verdict, out, err),
+        Err(refusal) => {
+            complain(err, refusal_line(&refusal));
+            refusal.status()
+        }
+    }
+}
+
+/// The verdict on the recording that a binding makes of a dump, or the first reason that there is none.
+fn judge<R: Threads + Sync, B: Source, D: Source>(
+    alloc: Global,
+    workers: &Workers<'_, R>,
+    binding: &mut B,
+    dump: &mut D,
+    block: u32,
+) -> Result<Verdict, Refusal>
+    requires { (1 ≤ block) × (block ≤ 65536) }
+    ensures { (binding_bytes dump_bytes : Option (List ℕ))
+        × IsReading (B.reading binding.old) (B.reading binding.new) binding_bytes
+        × IsReading (D.reading dump.old) (D.reading dump.new) dump_bytes
+        × Gives (λ verdict. verdict) result (judgement_of binding_bytes dump_bytes block) }
+{
+    match followed(alloc, workers, binding, dump) {
+        Ok(judge) => verdict_of(alloc, judge, block),
+        Err(refusal) => Err(refusal),
+    }
+}
+
+/// The verdict on a recording whose steps were judged.
+fn verdict_of(alloc: Global, judge: Judge, block: u32) -> Result<Verdict, Refusal>
+    requires { (1 ≤ block) × (block ≤ 65536) }
+    ensures { malformed_step judge ≡ None → Gives (λ verdict. verdict) result (judged_in_blocks block judge) }
+{
+    match judge.verdict(alloc, block) {
+        Ok(verdict) => Ok(verdict),
+        Err(why) => Err(Refusal::of_judging(why)),
+    }
+}

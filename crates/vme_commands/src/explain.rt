@@ -1,0 +1,210 @@
+//! Why a recording is judged as it is.
+
+ghost use Rattle.std.specs.Prelude.{◌≡◌, ◌++◌, ℕ, List, Option, IfOk, Result};
+ghost use Rattle.vcd_read.specs.Meaning.{dump_of};
+ghost use Rattle.vme_bind.specs.Binding.{binding_of};
+ghost use Rattle.vme_answer.specs.Answers.{Gives, binding_read, dump_read, judgement_of, or_bad_binding, or_bad_dump};
+ghost use Rattle.vme_answer.specs.Answers.{verdict_in_blocks};
+ghost use Rattle.vme_commands.specs.Explained.{BeginsWithLine, BeginsWithVerdict, Explains, judged_by};
+ghost use Rattle.vme_stream.specs.Inputs.{IsReading};
+ghost use Rattle.vme_answer.specs.Texts.{line_of, verdict_text};
+
+use crate::telling::tell_bytes;
+use std::alloc::{AllocError, Global};
+use vcd_read::{Variables, read_definitions};
+use vme_answer::{
+    Input, Refusal, binding_in, captured_in, refusal_line, verdict_line, verdict_on, verdict_status,
+};
+use vme_bind::Binding;
+use vme_explain::{Subject, explanation, save_file};
+use vme_find::time_unit;
+use vme_stream::{complain, read_all};
+use vme_summary::listing_by_blocks;
+use vme_text::Text;
+use vme_trace::{Capture, Sink, Source, Verdict};
+
+/// How many steps a block has.
+const BLOCK: u32 = 16_384;
+
+/// A verdict, and what is told of it.
+#[derive(Drop)]
+pub struct Explained {
+    /// The verdict.
+    pub verdict: Verdict,
+    /// Its line, and behind it why.
+    pub text: Text,
+    /// A save file for the waveform viewer, for a dump of the name that was given.
+    pub viewer: Text,
+}
+
+/// Writes to `out` the line of the verdict on the recording that a binding makes of a dump, as `check` does, and behind
+/// it why; or to `err` why there is none. The status is that of `check`. The save file is for a dump of this name;
+/// there is none where no verdict is written.
+pub fn explain<B: Source, D: Source, O: Sink, E: Sink>(
+    alloc: Global,
+    binding: &mut B,
+    dump: &mut D,
+    name: &[u8],
+    out: &mut O,
+    err: &mut E,
+) -> (u8, Option<Text>)
+    ensures { Explains
+        (B.reading binding.old, B.reading binding.new) (D.reading dump.old, D.reading dump.new)
+        (O.writing out.old, O.writing out.new) (E.writing err.old, E.writing err.new) result.0 }
+{
+    match explained_from(alloc, binding, dump, name) {
+        Ok(told) => {
+            let Explained {
+                verdict,
+                text,
+                viewer,
+            } = told;
+            let status = tell_bytes(text.as_bytes(), verdict_status(&verdict), out, err);
+            (status, Some(viewer))
+        }
+        Err(refusal) => {
+            complain(err, refusal_line(&refusal));
+            (refusal.status(), None)
+        }
+    }
+}
+
+/// The verdict on the recording that a binding makes of a dump, and what is told of it: the binding is read first.
+fn explained_from<B: Source, D: Source>(
+    alloc: Global,
+    binding: &mut B,
+    dump: &mut D,
+    name: &[u8],
+) -> Result<Explained, Refusal>
+    ensures read { (binding_bytes dump_bytes : Option (List ℕ))
+        × IsReading (B.reading binding.old) (B.reading binding.new) binding_bytes
+        × IsReading (D.reading dump.old) (D.reading dump.new) dump_bytes
+        × Gives (λ told. told.verdict) result (judgement_of binding_bytes dump_bytes 16384) }
+    ensures begins { BeginsWithVerdict result }
+{
+    match read_all(alloc, binding) {
+        Ok(text) => explained_bound(alloc, text.as_slice(), dump, name),
+        Err(fault) => Err(Refusal::of_input(Input::Binding, fault)),
+    }
+}
+
+/// The same, of the text of a binding.
+fn explained_bound<D: Source>(
+    alloc: Global,
+    binding: &[u8],
+    dump: &mut D,
+    name: &[u8],
+) -> Result<Explained, Refusal>
+    ensures read { (bytes : Option (List ℕ))
+        × IsReading (D.reading dump.old) (D.reading dump.new) bytes
+        × ((b : Option (List ℕ)) → binding_read b ≡ or_bad_binding (binding_of binding.now)
+        → Gives (λ told. told.verdict) result (judgement_of b bytes 16384)) }
+    ensures begins { BeginsWithVerdict result }
+{
+    match binding_in(alloc, binding) {
+        Ok(bound) => explained_by(alloc, binding, &bound, dump, name),
+        Err(refusal) => Err(refusal),
+    }
+}
+
+/// The same, by a binding and its text.
+fn explained_by<D: Source>(
+    alloc: Global,
+    binding: &[u8],
+    bound: &Binding,
+    dump: &mut D,
+    name: &[u8],
+) -> Result<Explained, Refusal>
+    ensures read { (bytes : Option (List ℕ))
+        × IsReading (D.reading dump.old) (D.reading dump.new) bytes
+        × Gives (λ told. told.verdict) result (judged_by bound.now (dump_read bytes)) }
+    ensures begins { BeginsWithVerdict result }
+{
+    match read_all(alloc, dump) {
+        Ok(text) => explained_in(alloc, binding, bound, text.as_slice(), name),
+        Err(fault) => Err(Refusal::of_input(Input::Dump, fault)),
+    }
+}
+
+/// The same, of the text of a dump.
+fn explained_in(
+    alloc: Global,
+    binding: &[u8],
+    bound: &Binding,
+    dump: &[u8],
+    name: &[u8],
+) -> Result<Explained, Refusal>
+    ensures read { Gives (λ told. told.verdict) result (judged_by bound.now (or_bad_dump (dump_of dump.now))) }
+    ensures begins { BeginsWithVerdict result }
+{
+    match captured_in(alloc, bound, dump) {
+        Ok(capture) => explained_of(alloc, binding, &capture, dump, name),
+        Err(refusal) => Err(refusal),
+    }
+}
+
+/// The same, of a recording.
+fn explained_of(
+    alloc: Global,
+    binding: &[u8],
+    capture: &Capture,
+    dump: &[u8],
+    name: &[u8],
+) -> Result<Explained, Refusal>
+    ensures read { Gives (λ told. told.verdict) result (verdict_in_blocks 16384 capture.now) }
+    ensures begins { BeginsWithVerdict result }
+{
+    match verdict_on(alloc, capture, BLOCK) {
+        Ok(verdict) => match told_of(alloc, binding, capture, verdict, dump, name) {
+            Ok(told) => Ok(told),
+            Err(_) => Err(Refusal::Memory),
+        },
+        Err(refusal) => Err(refusal),
+    }
+}
+
+/// What is told of a verdict. The only error is want of memory.
+fn told_of(
+    alloc: Global,
+    binding: &[u8],
+    capture: &Capture,
+    verdict: Verdict,
+    dump: &[u8],
+    name: &[u8],
+) -> Result<Explained, AllocError>
+    ensures verdict { IfOk result (λ told. told.verdict ≡ verdict) }
+    ensures begins { IfOk result BeginsWithLine }
+{
+    let Ok(listing) = listing_by_blocks(alloc, capture, BLOCK) else {
+        return Err(AllocError);
+    };
+    let Ok((_, variables)) = read_definitions(alloc, dump, Variables::new(alloc)) else {
+        return Err(AllocError);
+    };
+    let subject = Subject {
+        capture,
+        rows: listing.rows(),
+        verdict: &verdict,
+        binding,
+        variables: variables.as_slice(),
+        time_unit: time_unit(alloc, dump)?,
+    };
+    let text = whole_text(alloc, &verdict, &subject)?;
+    let viewer = save_file(alloc, &subject, name)?;
+    Ok(Explained {
+        verdict,
+        text,
+        viewer,
+    })
+}
+
+/// The line of a verdict, and behind it why.
+fn whole_text(alloc: Global, verdict: &Verdict, subject: &Subject<'_>) -> Result<Text, AllocError>
+    ensures { IfOk result (λ text. (rest : List ℕ) × (text ≡ line_of (verdict_text verdict.now) ++ rest)) }
+{
+    let mut text = Text::new(alloc);
+    text.push(verdict_line(verdict).as_bytes())?;
+    let rest = explanation(alloc, subject)?;
+    text.push(rest.as_bytes())?;
+    Ok(text)
+}

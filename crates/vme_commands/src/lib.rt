@@ -1,0 +1,28 @@
+//! What the program's commands do, over any sources and sinks: the program opens the files and streams, and no more.
+//!
+//! [`check::check`] judges a recording and [`list::list`] lists it, by [`Workers`]; [`confirm::confirm_with`] compares
+//! a listing with that of a recording, [`explain::explain`] says why it is judged so, and [`bind::bind`] writes a
+//! binding for a dump. Each contract says what is written and which exit status is answered, by the bytes that were
+//! read. Start reading at `check`.
+#![tactic(auto)]
+
+pub mod bind;
+mod built_in;
+pub mod check;
+pub mod confirm;
+pub mod explain;
+mod followed;
+pub mod list;
+mod rules;
+mod telling;
+mod told;
+mod underway;
+mod variables;
+mod words;
+mod workers;
+
+pub use built_in::{BLOCK, BUILT_IN};
+pub use rules::tell_rules;
+pub use variables::tell_variables;
+pub use words::{place_of, unread_words, words_status};
+pub use workers::Workers;

@@ -1,0 +1,162 @@
+//! The listing of one recording.
+
+ghost use Rattle.std.specs.Prelude.{◌≡◌, ◌≢◌, ◌≤◌, ◌↔◌, ℕ, suc, List, Option, None, Some, Ok};
+ghost use Rattle.vme_listing.specs.Recorded.{listing_of};
+ghost use Rattle.vme_trace.specs.Trace.{Trace};
+ghost use Rattle.vme_trace.specs.WellFormed.{malformed_step};
+ghost use Rattle.vme_answer.specs.Ends.{Ends, Tells};
+ghost use Rattle.vme_stream.specs.Inputs.{IsReading, TellsWhole};
+ghost use Rattle.vme_commands.specs.Judged.{limited_in_blocks};
+ghost use Rattle.vme_commands.specs.Listings.{GivesListing, Lists, listing_answer_by, listing_answer_of, recording_of};
+ghost use Rattle.vme_commands.specs.Listings.{listing_status, outcome_status, row_status};
+
+use crate::followed::followed;
+use crate::workers::Workers;
+use std::alloc::Global;
+use std::thread::Threads;
+use vme_answer::{Refusal, cannot_write_line, refusal_line};
+use vme_listing::{Listing, Outcome, Row, write_listing};
+use vme_stream::complain;
+use vme_summary::Lister;
+use vme_trace::{Sink, Source};
+
+/// Writes to `out` the listing of the recording that a binding makes of a dump, or to `err` why there is none. The
+/// answer is the exit status: that of the listing's verdict, 0 conforming, 1 broken, 2 unreadable or never idle; 3
+/// where an input is refused, 4 for want of memory, 5 where the listing can't be written.
+///
+/// The binding is read, and then the dump, piece by piece. Neither the dump nor the recording is kept: the steps are
+/// judged as they are made, and their marks are kept. A recording that fills more than 4,096 blocks of `block` steps is
+/// refused, and the listing is otherwise the same for each size. It is written in pieces of up to 4,096 bytes. A
+/// failure of `err` is ignored.
+pub fn list<R: Threads + Sync, B: Source, D: Source, O: Sink, E: Sink>(
+    rt: &R,
+    alloc: Global,
+    binding: &mut B,
+    dump: &mut D,
+    block: u32,
+    workers: u32,
+    out: &mut O,
+    err: &mut E,
+) -> u8
+    requires block { (1 ≤ block) × (block ≤ 65536) }
+    requires workers { (1 ≤ workers) × (workers ≤ 64) }
+    ensures answer { Lists
+        (B.reading binding.old, B.reading binding.new) (D.reading dump.old, D.reading dump.new) block
+        (O.writing out.old, O.writing out.new) (E.writing err.old, E.writing err.new) result }
+    ensures unwritten { (result ≡ 5) ↔ ((O.writing out.new).failures ≡ suc (O.writing out.old).failures) }
+
+    // Inputs that are told whole, no failure, and memory give exactly the answer that is defined.
+    ensures exact { (b d : List ℕ) → TellsWhole (B.reading binding.old) (B.reading binding.new) b
+        → TellsWhole (D.reading dump.old) (D.reading dump.new) d
+        → (O.writing out.new).failures ≡ (O.writing out.old).failures → result ≢ 4
+        → Tells (listing_answer_of (Some b) (Some d) block)
+        (O.writing out.old, O.writing out.new) (E.writing err.old, E.writing err.new) result }
+{
+    list_by(
+        alloc,
+        &Workers::new(rt, workers),
+        binding,
+        dump,
+        block,
+        out,
+        err,
+    )
+}
+
+/// The same by workers whose pieces have a size of their own: what is answered doesn't depend on it.
+pub fn list_by<R: Threads + Sync, B: Source, D: Source, O: Sink, E: Sink>(
+    alloc: Global,
+    workers: &Workers<'_, R>,
+    binding: &mut B,
+    dump: &mut D,
+    block: u32,
+    out: &mut O,
+    err: &mut E,
+) -> u8
+    requires { (1 ≤ block) × (block ≤ 65536) }
+    ensures { Lists
+        (B.reading binding.old, B.reading binding.new) (D.reading dump.old, D.reading dump.new) block
+        (O.writing out.old, O.writing out.new) (E.writing err.old, E.writing err.new) result }
+{
+    match listing(alloc, workers, binding, dump, block) {
+        Ok(listing) => tell(&listing, out, err),
+        Err(refusal) => {
+            complain(err, refusal_line(&refusal));
+            refusal.status()
+        }
+    }
+}
+
+/// Writes a listing.
+fn tell<O: Sink, E: Sink>(listing: &Listing, out: &mut O, err: &mut E) -> u8
+    ensures { (t : Trace) → listing.now ≡ listing_of t → Ends (listing_answer_by (Ok t))
+        (O.writing out.old, O.writing out.new) (E.writing err.old, E.writing err.new) result }
+{
+    match write_listing(listing, out) {
+        Ok(()) => status(listing),
+        Err(_) => {
+            complain(err, cannot_write_line());
+            5
+        }
+    }
+}
+
+/// The exit status of a listing: that of the verdict, its last row.
+fn status(listing: &Listing) -> u8
+    ensures { result ≡ listing_status listing.now }
+{
+    match listing.rows().last() {
+        Some(row) => row_code(row),
+        None => 2,
+    }
+}
+
+fn row_code(row: &Row) -> u8
+    ensures { result ≡ row_status row.now }
+{
+    match row {
+        Row::Verdict(outcome) => outcome_code(*outcome),
+        _ => 2,
+    }
+}
+
+fn outcome_code(outcome: Outcome) -> u8
+    ensures { result ≡ outcome_status outcome }
+{
+    match outcome {
+        Outcome::Conforming => 0,
+        Outcome::Broken(..) => 1,
+        Outcome::Unreadable(..) | Outcome::NeverIdle => 2,
+    }
+}
+
+/// The listing of the recording that a binding makes of a dump, or the first reason that there is none.
+fn listing<R: Threads + Sync, B: Source, D: Source>(
+    alloc: Global,
+    workers: &Workers<'_, R>,
+    binding: &mut B,
+    dump: &mut D,
+    block: u32,
+) -> Result<Listing, Refusal>
+    requires { (1 ≤ block) × (block ≤ 65536) }
+    ensures { (binding_bytes dump_bytes : Option (List ℕ))
+        × IsReading (B.reading binding.old) (B.reading binding.new) binding_bytes
+        × IsReading (D.reading dump.old) (D.reading dump.new) dump_bytes
+        × GivesListing result (recording_of binding_bytes dump_bytes block) }
+{
+    match followed(alloc, workers, binding, dump) {
+        Ok(lister) => listing_of_steps(alloc, lister, block),
+        Err(refusal) => Err(refusal),
+    }
+}
+
+/// The listing of a recording whose steps were judged.
+fn listing_of_steps(alloc: Global, lister: Lister, block: u32) -> Result<Listing, Refusal>
+    requires { (1 ≤ block) × (block ≤ 65536) }
+    ensures { malformed_step lister ≡ None → GivesListing result (limited_in_blocks block lister) }
+{
+    match lister.listing(alloc, block) {
+        Ok(listing) => Ok(listing),
+        Err(why) => Err(Refusal::of_judging(why)),
+    }
+}

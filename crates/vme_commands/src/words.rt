@@ -1,0 +1,56 @@
+//! What the words of the command line name, and how a call ends whose words are no order.
+
+ghost use Rattle.std.specs.Prelude.{◌≡◌, ◌≢◌, false, if◌then◌else◌, true};
+ghost use Rattle.vme_words.specs.OrderFaults.{HasUsageKind, IsOfWords};
+ghost use Rattle.vme_commands.specs.Words.{names_dump_alone, place_of};
+
+use clap::error::ErrorKind;
+use std::alloc::Global;
+use vme_answer::Input;
+use vme_words::{OrderFault, Task, usage_fault};
+
+/// Whether a task names a dump and no binding.
+fn names_dump_alone(task: Task) -> bool
+    ensures { result ≡ names_dump_alone task }
+{
+    matches!(task, Task::Variables | Task::Bind)
+}
+
+/// The place of an input among the words behind a task, from 0.
+pub fn place_of(task: Task, input: Input) -> usize
+    ensures { result ≡ place_of task input }
+{
+    match input {
+        Input::Binding => 0,
+        Input::Dump if names_dump_alone(task) => 0,
+        Input::Dump => 1,
+        Input::Listing => 2,
+    }
+}
+
+/// Why the words can't be had: there was no memory, or one of them is no text.
+pub fn unread_words(alloc: Global, is_no_memory: bool) -> OrderFault
+    ensures of_words { IsOfWords result }
+    ensures memory { is_no_memory ≡ true → result ≡ OrderFault.Memory }
+    ensures no_text { is_no_memory ≡ false → HasUsageKind ErrorKind.InvalidSubcommand result }
+{
+    if is_no_memory {
+        OrderFault::Memory
+    } else {
+        usage_fault(alloc, "a word is no text")
+    }
+}
+
+/// The exit status behind words that are no order, by what clap finds and by whether its text could be written: 3 for
+/// wrong words; for the help or the version 0 where it was written, and 5 where not.
+pub fn words_status(kind: ErrorKind, is_written: bool) -> u8
+    ensures wrong { kind ≢ ErrorKind.DisplayHelp → kind ≢ ErrorKind.DisplayVersion → result ≡ 3 }
+    ensures help { kind ≡ ErrorKind.DisplayHelp → result ≡ (if is_written then 0 else 5) }
+    ensures version { kind ≡ ErrorKind.DisplayVersion → result ≡ (if is_written then 0 else 5) }
+{
+    match (kind, is_written) {
+        (ErrorKind::DisplayHelp | ErrorKind::DisplayVersion, true) => 0,
+        (ErrorKind::DisplayHelp | ErrorKind::DisplayVersion, false) => 5,
+        _ => 3,
+    }
+}

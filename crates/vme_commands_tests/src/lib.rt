@@ -1,0 +1,10 @@
+//! Tests of vme_commands: what its commands write and answer, on streams that fail at each place, and on dumps that are
+//! cut anywhere and read by several workers; and the words that order them.
+#![tactic(auto)]
+
+#[cfg(test)]
+mod piece_tests;
+#[cfg(test)]
+mod stream_tests;
+#[cfg(test)]
+mod tests;

@@ -1,0 +1,179 @@
+//! A dump that is judged in pieces: the verdict and the listing are those of the whole text, wherever it is cut.
+
+use crate::tests::{LISTING, Page};
+use std::process::Abort;
+use std::test::Fail;
+use std::thread::Threads;
+use vme_commands::check::check_by;
+use vme_commands::list::list_by;
+use vme_commands::{BLOCK, BUILT_IN, Workers};
+use vme_stream::Bytes;
+
+const HEAD: &str = "$timescale 1 ns $end\n$scope module bus $end\n\
+$var wire 1 p AS $end\n$var wire 1 q DS0 $end\n$var wire 1 r DS1 $end\n\
+$var wire 1 s DTACK $end\n$var wire 1 t BERR $end\n$var wire 1 u IACK $end\n\
+$upscope $end\n$enddefinitions $end\n";
+
+/// How long the pieces are that a dump is cut into. The longest is longer than each dump here.
+const PIECES: [usize; 10] = [1, 2, 3, 5, 8, 13, 21, 34, 64, 4096];
+
+/// How many workers read each dump.
+const WORKERS: [u32; 3] = [1, 2, 5];
+
+/// What is told of a dump: the line of its verdict, its listing, or else its first fault, and the status.
+#[derive(Clone, Copy)]
+struct Wanted {
+    line: &'static str,
+    listing: &'static str,
+    fault: &'static str,
+    status: u8,
+}
+
+const CONFORMING: Wanted = Wanted {
+    line: "conforming\n",
+    listing: LISTING,
+    fault: "",
+    status: 0,
+};
+
+const NEVER_IDLE: Wanted = Wanted {
+    line: "never idle\n",
+    listing: "vmecheck listing 3\nverdict never-idle\n",
+    fault: "",
+    status: 2,
+};
+
+/// What is told of a dump with this fault.
+fn faulty(fault: &'static str) -> Wanted {
+    Wanted {
+        line: "",
+        listing: "",
+        fault,
+        status: 3,
+    }
+}
+
+fn expect_pieces<R: Abort + AllocGlobal + Threads + Sync>(rt: &R, dump: &str, wanted: Wanted) {
+    for piece in PIECES {
+        for count in WORKERS {
+            let workers = Workers::with_pieces(rt, count, piece, 4 * piece);
+            expect_verdict(rt, dump, &workers, wanted);
+            expect_listing(rt, dump, &workers, wanted);
+        }
+    }
+}
+
+fn expect_verdict<R: Abort + AllocGlobal + Threads + Sync>(
+    rt: &R,
+    dump: &str,
+    workers: &Workers<'_, R>,
+    wanted: Wanted,
+) {
+    let mut out = Page::new(rt.alloc(), 1000);
+    let mut err = Page::new(rt.alloc(), 1000);
+    let status = check_by(
+        rt.alloc(),
+        workers,
+        &mut Bytes::new(BUILT_IN),
+        &mut Bytes::new(dump.as_bytes()),
+        BLOCK,
+        &mut out,
+        &mut err,
+    );
+    expect_told(rt, dump, workers.piece(), &out, wanted.line);
+    expect_told(rt, dump, workers.piece(), &err, wanted.fault);
+    assert_eq!(rt; status, wanted.status);
+}
+
+fn expect_listing<R: Abort + AllocGlobal + Threads + Sync>(
+    rt: &R,
+    dump: &str,
+    workers: &Workers<'_, R>,
+    wanted: Wanted,
+) {
+    let mut out = Page::new(rt.alloc(), 1000);
+    let mut err = Page::new(rt.alloc(), 1000);
+    let status = list_by(
+        rt.alloc(),
+        workers,
+        &mut Bytes::new(BUILT_IN),
+        &mut Bytes::new(dump.as_bytes()),
+        BLOCK,
+        &mut out,
+        &mut err,
+    );
+    expect_told(rt, dump, workers.piece(), &out, wanted.listing);
+    expect_told(rt, dump, workers.piece(), &err, wanted.fault);
+    assert_eq!(rt; status, wanted.status);
+}
+
+fn expect_told<R: Abort + AllocGlobal>(rt: &R, dump: &str, piece: usize, page: &Page, text: &str) {
+    assert!(rt;
+        page.bytes.as_slice() == text.as_bytes(),
+        "pieces of {piece} bytes: {dump}"
+    );
+}
+
+#[test]
+fn dumps_in_pieces(rt: HostRuntime) -> Result<(), Fail> {
+    for (body, wanted) in [
+        (
+            "#0 1p 1q 1r 1s 1t 1u\n#10 0p\n#20 0q\n#30 0s\n#40 1p 1q\n#50 1s\n",
+            CONFORMING,
+        ),
+        // no line feed at the end
+        (
+            "#0 1p 1q 1r 1s 1t 1u\n#10 0p\n#20 0q\n#30 0s\n#40 1p 1q\n#50 1s",
+            CONFORMING,
+        ),
+        // times in a comment, a value and its code on two lines, brackets, a time twice
+        (
+            "#0 1p 1q 1r $comment #5 0p #7\n#8 b $end 1s 1t 1u\n#10 $dumpall b0\np\n$end\n#20 0q\n#20\n#30 r1.5\n\
+                q 0s\n#40 1p 1q\n#50 1s\n",
+            CONFORMING,
+        ),
+        ("", NEVER_IDLE),
+        // faults at the front, in the middle and at the end
+        ("?\n#0 1p\n", faulty("vmecheck: dump line 11: BadToken\n")),
+        (
+            "#0 1p 1q 1r 1s 1t 1u\n#10 0p\n#9 0q\n#30 0s\n",
+            faulty("vmecheck: dump line 13: TimeBackwards\n"),
+        ),
+        (
+            "#0 1p 1q 1r 1s 1t 1u\n#10 0p\n#20 0z\n",
+            faulty("vmecheck: dump line 13: UndeclaredCode\n"),
+        ),
+        (
+            "#0 1p 1q 1r 1s 1t 1u\n#10 0p\n#20 b1",
+            faulty("vmecheck: dump line 13: UnfinishedSection\n"),
+        ),
+        (
+            "#0 1p 1q 1r 1s 1t 1u\n#10 $dumpall 0p\n#20 0q\n",
+            faulty("vmecheck: dump line 12: UnfinishedSection\n"),
+        ),
+        (
+            "#0 1p 1q 1r 1s 1t 1u\n#10 0p $comment\n#20 0q\n",
+            faulty("vmecheck: dump line 12: UnfinishedSection\n"),
+        ),
+    ] {
+        let mut dump = String::from_str(rt.alloc(), HEAD)?;
+        dump.push_str(body)?;
+        expect_pieces(&rt, dump.as_str(), wanted);
+    }
+    Ok(())
+}
+
+#[test]
+fn definitions_in_pieces(rt: HostRuntime) {
+    expect_pieces(&rt, "", faulty("vmecheck: dump line 1: NoEndDefinitions\n"));
+    expect_pieces(
+        &rt,
+        "$scope module\nbus",
+        faulty("vmecheck: dump line 1: UnfinishedSection\n"),
+    );
+    expect_pieces(
+        &rt,
+        "$upscope\n$end\n",
+        faulty("vmecheck: dump line 1: ScopeUnderflow\n"),
+    );
+}

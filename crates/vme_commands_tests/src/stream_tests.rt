@@ -1,0 +1,385 @@
+//! Readers that fail or never end, and writers that fail, at each place.
+
+use std::alloc::Global;
+use std::io::{self, Error, ErrorKind, Read, Write};
+use std::process::Abort;
+use std::test::Fail;
+use std::thread::Threads;
+use vme_commands::check::check;
+use vme_commands::confirm::confirm_with;
+use vme_commands::list::list;
+use vme_commands::{BLOCK, BUILT_IN};
+use vme_stream::{Bytes, Io};
+use vme_trace::Source;
+
+/// A dump of one read cycle.
+const DUMP: &str = "$timescale 1 ns $end
+$scope module bus $end
+$var wire 1 p AS $end
+$var wire 1 q DS0 $end
+$var wire 1 r DS1 $end
+$var wire 1 s DTACK $end
+$var wire 1 t BERR $end
+$var wire 1 u IACK $end
+$upscope $end
+$enddefinitions $end
+#0 1p 1q 1r 1s 1t 1u
+#10 0p
+#20 0q
+#30 0s
+#40 1p 1q
+#50 1s
+";
+
+/// Its listing.
+const LISTING: &str = "vmecheck listing 3
+start 1
+tenure 1 open end -
+cycle 2 S 3D FFFFFE end 5
+transfer 3 of 2 read DTACK 4 close 5
+verdict conforming
+";
+
+/// The listing without the strobe.
+const BROKEN: &str = "vmecheck listing 3
+start 1
+tenure 1 open end -
+cycle 2 S 3D FFFFFE end -
+verdict broken H4 3 DTACK
+";
+
+/// A command that judges a recording.
+#[derive(Clone, Copy)]
+enum Command {
+    Check,
+    List,
+    Confirm,
+}
+
+const COMMANDS: [Command; 3] = [Command::Check, Command::List, Command::Confirm];
+
+/// A reader that gives so many bytes a read, is interrupted before each, and fails behind the last.
+#[derive(Drop)]
+struct Torn<'a> {
+    left: &'a [u8],
+    piece: usize,
+    interrupted: bool,
+}
+
+impl Read for Torn<'_> {
+    fn read(&mut self, buffer: &mut [u8]) -> io::Result<usize> {
+        self.interrupted = !self.interrupted;
+        if self.interrupted {
+            return Err(Error::from(ErrorKind::Interrupted));
+        }
+        if self.left.is_empty() {
+            return Err(Error::from(ErrorKind::Other));
+        }
+        let count = self.left.len().min(buffer.len()).min(self.piece);
+        buffer[..count].copy_from_slice(&self.left[..count]);
+        self.left = &self.left[count..];
+        Ok(count)
+    }
+}
+
+/// A source of the bytes up to a place, so many a read, that fails there.
+fn torn_at(text: &str, place: usize, piece: usize) -> Io<Torn<'_>> {
+    Io::new(Torn {
+        left: text.as_bytes().get(..place).unwrap_or_default(),
+        piece,
+        interrupted: false,
+    })
+}
+
+/// A reader of so many line feeds, so many a read.
+#[derive(Drop)]
+struct LineFeeds {
+    left: usize,
+    piece: usize,
+}
+
+impl Read for LineFeeds {
+    fn read(&mut self, buffer: &mut [u8]) -> io::Result<usize> {
+        let count = buffer.len().min(self.left).min(self.piece);
+        buffer[..count].fill(b'\n');
+        self.left -= count;
+        Ok(count)
+    }
+}
+
+/// A reader that is interrupted for good.
+#[derive(Drop)]
+struct Stuck;
+
+impl Read for Stuck {
+    fn read(&mut self, _buffer: &mut [u8]) -> io::Result<usize> {
+        Err(Error::from(ErrorKind::Interrupted))
+    }
+}
+
+/// A writer that holds what it took, so many bytes a write, is interrupted before each, and fails once it has no room.
+#[derive(Drop)]
+struct Page {
+    bytes: Vec<u8>,
+    room: usize,
+    piece: usize,
+    interrupted: bool,
+}
+
+impl Page {
+    fn new(alloc: Global, room: usize, piece: usize) -> Page {
+        Page {
+            bytes: Vec::new(alloc),
+            room,
+            piece,
+            interrupted: false,
+        }
+    }
+}
+
+impl Write for Page {
+    fn write(&mut self, bytes: &[u8]) -> io::Result<usize> {
+        self.interrupted = !self.interrupted;
+        if self.interrupted {
+            return Err(Error::from(ErrorKind::Interrupted));
+        }
+        let count = bytes.len().min(self.room).min(self.piece);
+        if count > 0 && self.bytes.extend_from_slice(&bytes[..count]).is_ok() {
+            self.room -= count;
+            return Ok(count);
+        }
+        Err(Error::from(ErrorKind::Other))
+    }
+
+    fn flush(&mut self) -> io::Result<()> {
+        Ok(())
+    }
+}
+
+/// A writer that takes nothing, and says so.
+#[derive(Drop)]
+struct Deaf;
+
+impl Write for Deaf {
+    fn write(&mut self, _bytes: &[u8]) -> io::Result<usize> {
+        Ok(0)
+    }
+
+    fn flush(&mut self) -> io::Result<()> {
+        Ok(())
+    }
+}
+
+/// The status with which a command ends.
+fn ended<R: AllocGlobal + Threads + Sync, B: Source, D: Source, L: Source>(
+    rt: &R,
+    command: Command,
+    binding: &mut B,
+    dump: &mut D,
+    listing: &mut L,
+    out: &mut Page,
+    err: &mut Page,
+) -> u8 {
+    let (mut out, mut err) = (Io::new(out), Io::new(err));
+    let (out, err) = (&mut out, &mut err);
+    let alloc = rt.alloc();
+    match command {
+        Command::Check => check(rt, alloc, binding, dump, BLOCK, 1, out, err),
+        Command::List => list(rt, alloc, binding, dump, BLOCK, 1, out, err),
+        Command::Confirm => confirm_with(alloc, binding, dump, listing, out, err),
+    }
+}
+
+fn expect_refusal<R: Abort + AllocGlobal + Threads + Sync, B: Source, D: Source, L: Source>(
+    rt: &R,
+    command: Command,
+    binding: &mut B,
+    dump: &mut D,
+    listing: &mut L,
+    text: &str,
+) {
+    let mut out = Page::new(rt.alloc(), 1000, 1000);
+    let mut err = Page::new(rt.alloc(), 1000, 1000);
+    let status = ended(rt, command, binding, dump, listing, &mut out, &mut err);
+    assert!(rt; out.bytes.is_empty());
+    assert!(rt; err.bytes.as_slice() == text.as_bytes(), "{text}");
+    assert_eq!(rt; status, 3);
+}
+
+#[test]
+fn torn_bindings(rt: HostRuntime) -> Result<(), Fail> {
+    let text = str::from_utf8(BUILT_IN).ok().ok_or("no text")?;
+    for command in COMMANDS {
+        for place in 0..=text.len() {
+            let mut binding = torn_at(text, place, 1000);
+            let mut dump = Bytes::new(DUMP.as_bytes());
+            let mut listing = Bytes::new(LISTING.as_bytes());
+            let wanted = "vmecheck: cannot read binding\n";
+            expect_refusal(&rt, command, &mut binding, &mut dump, &mut listing, wanted);
+        }
+    }
+    Ok(())
+}
+
+#[test]
+fn torn_dumps(rt: HostRuntime) {
+    for command in COMMANDS {
+        for place in 0..=DUMP.len() {
+            let mut binding = Bytes::new(BUILT_IN);
+            let mut dump = torn_at(DUMP, place, 1);
+            let mut listing = Bytes::new(LISTING.as_bytes());
+            let wanted = "vmecheck: cannot read dump\n";
+            expect_refusal(&rt, command, &mut binding, &mut dump, &mut listing, wanted);
+        }
+    }
+}
+
+#[test]
+fn torn_listings(rt: HostRuntime) {
+    for place in 0..=LISTING.len() {
+        let mut binding = Bytes::new(BUILT_IN);
+        let mut dump = Bytes::new(DUMP.as_bytes());
+        let mut listing = torn_at(LISTING, place, 7);
+        let wanted = "vmecheck: cannot read listing\n";
+        expect_refusal(
+            &rt,
+            Command::Confirm,
+            &mut binding,
+            &mut dump,
+            &mut listing,
+            wanted,
+        );
+    }
+}
+
+/// Dumps that are long, and too long to be read in pieces of this size or at all: 17,000,000 bytes, the most that there
+/// may be, one more, and as many as 64 bits can count.
+#[test]
+fn long_dumps(rt: HostRuntime) {
+    for (left, piece, wanted) in [
+        (
+            17_000_000,
+            100_000,
+            "vmecheck: dump line 17000001: NoEndDefinitions\n",
+        ),
+        (
+            268_435_456,
+            1_000_000,
+            "vmecheck: dump line 268435457: NoEndDefinitions\n",
+        ),
+        (268_435_457, 1_000_000, "vmecheck: dump too long\n"),
+        (usize::MAX, 1, "vmecheck: cannot read dump\n"),
+        (usize::MAX, 1_000_000, "vmecheck: dump too long\n"),
+    ] {
+        let mut binding = Bytes::new(BUILT_IN);
+        let mut listing = Bytes::new(LISTING.as_bytes());
+        expect_refusal(
+            &rt,
+            Command::Check,
+            &mut binding,
+            &mut Io::new(LineFeeds { left, piece }),
+            &mut listing,
+            wanted,
+        );
+    }
+}
+
+#[test]
+fn a_reader_that_is_interrupted_for_good(rt: HostRuntime) {
+    for command in COMMANDS {
+        let mut binding = Bytes::new(BUILT_IN);
+        let mut listing = Bytes::new(LISTING.as_bytes());
+        let wanted = "vmecheck: cannot read dump\n";
+        expect_refusal(
+            &rt,
+            command,
+            &mut binding,
+            &mut Io::new(Stuck),
+            &mut listing,
+            wanted,
+        );
+    }
+}
+
+#[test]
+fn a_writer_that_takes_nothing(rt: HostRuntime) {
+    let mut err = Page::new(rt.alloc(), 1000, 1000);
+    let status = check(
+        &rt,
+        rt.alloc(),
+        &mut Bytes::new(BUILT_IN),
+        &mut Bytes::new(DUMP.as_bytes()),
+        BLOCK,
+        1,
+        &mut Io::new(Deaf),
+        &mut Io::new(&mut err),
+    );
+    assert!(rt; err.bytes.as_slice() == b"vmecheck: cannot write\n".as_slice());
+    assert_eq!(rt; status, 5);
+}
+
+/// What a command wrote to a page with so much room, and its status, which are a front of a text and this one.
+fn expect_front<R: Abort + AllocGlobal + Threads + Sync>(
+    rt: &R,
+    command: Command,
+    dump: &str,
+    text: &str,
+    room: usize,
+    wanted: (&str, u8),
+) {
+    let mut out = Page::new(rt.alloc(), room, 5);
+    let mut err = Page::new(rt.alloc(), 1000, 1000);
+    let status = ended(
+        rt,
+        command,
+        &mut Bytes::new(BUILT_IN),
+        &mut Bytes::new(dump.as_bytes()),
+        &mut Bytes::new(LISTING.as_bytes()),
+        &mut out,
+        &mut err,
+    );
+    assert!(rt;
+        Some(out.bytes.as_slice()) == text.as_bytes().get(..room),
+        "{text}"
+    );
+    assert!(rt;
+        (err.bytes.as_slice(), status) == (wanted.0.as_bytes(), wanted.1),
+        "{text}"
+    );
+}
+
+#[test]
+fn full_pages(rt: HostRuntime) -> Result<(), Fail> {
+    let broken = DUMP.replace(rt.alloc(), "#20 0q\n", "")?;
+    for (command, dump, text, status) in [
+        (Command::Check, DUMP, "conforming\n", 0),
+        (Command::List, DUMP, LISTING, 0),
+        (Command::Confirm, DUMP, "confirmed\n", 0),
+        (
+            Command::Check,
+            broken.as_str(),
+            "broken H4 at instant 3 time 30 line DTACK\n",
+            1,
+        ),
+        (Command::List, broken.as_str(), BROKEN, 1),
+        (
+            Command::Confirm,
+            broken.as_str(),
+            "not confirmed at row 3\n",
+            1,
+        ),
+    ] {
+        for room in 0..text.len() {
+            expect_front(
+                &rt,
+                command,
+                dump,
+                text,
+                room,
+                ("vmecheck: cannot write\n", 5),
+            );
+        }
+        expect_front(&rt, command, dump, text, text.len(), ("", status));
+    }
+    Ok(())
+}
