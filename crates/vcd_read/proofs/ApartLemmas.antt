@@ -10,14 +10,14 @@ use Rattle.vcd_read.specs.declared.fault.VcdFault.{VcdFault}
 use Rattle.vcd_read.specs.Tokens.{Token, tokens_from}
 use Rattle.vcd_read.specs.Numbers.{number, time_of, extended}
 use Rattle.vcd_read.specs.Reading.{left_from}
-use Rattle.vcd_read.specs.declared.place.Place.{Place}
-use Rattle.vcd_read.specs.declared.place.Place.TheVariants.{Ready}
+use Rattle.vcd_read.specs.declared.open_item.OpenItem.{OpenItem}
+use Rattle.vcd_read.specs.declared.open_item.OpenItem.TheVariants.{Ready}
 use Rattle.vcd_read.specs.Bodies.{place_of}
 use Rattle.vcd_read.specs.Header.{◌>>=◌, at_line, is_end, Net, net_of, size_of}
 use Rattle.vcd_read.specs.Body.{BodyItem, time_item, change, skipped, bracket_open, bracket_end, wrong, BodyPlace, ready, code_of_vector, code_of_foreign, in_comment, Shape, time_shape, scalar, vector, foreign, comment, open_shape, end_shape, none, Standing, stand_after, time_after, body_from, shape_of}
 use Rattle.vcd_read.specs.Taking.{Taking, State, advanced, progress_after, state_at, step, steps}
 use Rattle.vcd_read.specs.Reached.{Reached, rest_of}
-use Rattle.vcd_read.specs.Apart.{FitsBehind, IsReadApart, ReadApart, before_piece, behind_piece, ended_at, entered, items_apart, time_first, with_taken}
+use Rattle.vcd_read.specs.DetachedPieces.{MayFollow, IsReadApart, ReadApart, before_piece, behind_piece, ended_at, entered, items_apart, time_first, with_taken}
 use Rattle.vcd_read.proofs.BodyLemmas.{items_of, shape_read}
 
 -- ---- the time that a piece begins with
@@ -58,13 +58,13 @@ module _ {A : Type 0} (with_change : A → ℕ → List Bit → A) (with_instant
   steps-append s (item ∷ items) more = then-steps items more (step with_change with_instant nets s item) (λ next. steps-append next items more)
 
   -- what is read to its end between two items is this
-  pub read-whole : (s end : State A) (place : Place) (left ts : List Token) → left ≡ ts → place ≡ Ready
+  pub read-whole : (s end : State A) (place : OpenItem) (left ts : List Token) → left ≡ ts → place ≡ Ready
       → steps with_change with_instant nets s (body_from ready (left ++ [])) ≡ steps with_change with_instant nets end (body_from (place_of place) [])
       → steps with_change with_instant nets s (body_from ready ts) ≡ Ok end
   unfolding steps body_from
   read-whole s end place left ts e is h =
       ap (λ (ts : List Token). steps with_change with_instant nets s (body_from ready ts)) (sym e ∙ sym (append-nil left))
-      ∙ h ∙ ap (λ (p : Place). steps with_change with_instant nets end (body_from (place_of p) [])) is
+      ∙ h ∙ ap (λ (p : OpenItem). steps with_change with_instant nets end (body_from (place_of p) [])) is
 
   -- what is so of what was taken, and of what each change and each end of an instant makes of it, is so behind the items
   module _ (R : A → Type 0) (on_change : (a : A) (net : ℕ) (bits : List Bit) → R a → R (with_change a net bits)) (on_instant : (a : A) (time : ℕ) → R a → R (with_instant a time)) where
@@ -254,7 +254,7 @@ module _ {A B : Type 0} (with_change : A → ℕ → List Bit → A) (with_insta
     first-learned (item ∷ items) before time end p first whole low told = absurd cc
 
   -- what comes of a body is what a piece that was read apart tells, and what is behind it
-  pub joined-leads : (r : Reached B) (bytes : List ℕ) (before : A) (apart : ReadApart A) → IsReadApart with_change with_instant r.nets bytes before apart → FitsBehind r apart
+  pub joined-leads : (r : Reached B) (bytes : List ℕ) (before : A) (apart : ReadApart A) → IsReadApart with_change with_instant r.nets bytes before apart → MayFollow r apart
       → learned before ≡ entered other_instant r.progress.taken (ended_at r.progress apart.time)
       → (more : List Token) → rest_of other_change other_instant r (tokens_from r.line bytes) more
       ≡ rest_of other_change other_instant (with_taken (learned apart.progress.taken) (behind_piece r.nets apart)) [] more

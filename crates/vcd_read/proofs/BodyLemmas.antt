@@ -6,16 +6,16 @@ use Rattle.vcd_read.specs.declared.fault.VcdFault.{VcdFault}
 use Rattle.vcd_read.specs.Tokens.{Token}
 use Rattle.std.specs.Result.{IsErrAnd}
 use Rattle.vcd_read.specs.Reading.{left_at, token_at}
-use Rattle.vcd_read.specs.declared.piece.Piece.{Piece}
-use Rattle.vcd_read.specs.declared.piece.Start.{Start}
-use Rattle.vcd_read.specs.declared.place.Place.{Place}
-use Rattle.vcd_read.specs.declared.place.Place.TheVariants.{Ready, Vector, Foreign, Comment}
+use Rattle.vcd_read.specs.declared.body_piece.BodyPiece.{BodyPiece}
+use Rattle.vcd_read.specs.declared.body_piece.Start.{Start}
+use Rattle.vcd_read.specs.declared.open_item.OpenItem.{OpenItem}
+use Rattle.vcd_read.specs.declared.open_item.OpenItem.TheVariants.{Ready, Vector, Foreign, Comment}
 use Rattle.vcd_read.specs.Header.{◌>>=◌, Net, is_end}
 use Rattle.vcd_read.specs.Body.{BodyItem, time_item, change, skipped, bracket_open, bracket_end, wrong, BodyPlace, Shape, time_shape, scalar, vector, foreign, comment, open_shape, end_shape, none, ready, code_of_vector, code_of_foreign, in_comment, body_from, shape_of}
-use Rattle.vcd_read.specs.Meaning.{Fails, FailsAs, Gives}
+use Rattle.vcd_read.specs.Meaning.{ReadFails, ReadFailsAs, ReadGives}
 use Rattle.vcd_read.specs.declared.dump.Bit.{Bit}
 use Rattle.vcd_read.specs.Taking.{Taking, State, ended, state_of, step, steps}
-use Rattle.vcd_read.specs.Bodies.{Leads, Leaves, finished, place_of, unfinished}
+use Rattle.vcd_read.specs.Bodies.{BodyContinuesTo, BodyContinuesAs, finished, place_of, unfinished}
 
 -- ---- the cut, by what a token is
 
@@ -63,40 +63,40 @@ comment_more line before ts t cut e = ap (body_from (in_comment line)) cut ∙ c
 -- what reading gives stays as it was, or is this fault
 abbrev LeavesOne : {A X : Type 0} → Result (State A) VcdFault → Result (State A) VcdFault → Result X VcdFault → Type 0
 LeavesOne before after (Ok _) = before ≡ after
-LeavesOne before after (Err fault) = Fails fault before
+LeavesOne before after (Err fault) = ReadFails fault before
 
-pub fails_same : {Y : Type 0} (fault : VcdFault) (a b : Result Y VcdFault) → a ≡ b → Fails fault b → Fails fault a
+pub fails_same : {Y : Type 0} (fault : VcdFault) (a b : Result Y VcdFault) → a ≡ b → ReadFails fault b → ReadFails fault a
 fails_same fault a b e h = fails_as_same fault.line fault.kind a b e h
   where
-    fails_as_same : {Y : Type 0} (line : ℕ) (kind : FaultKind) (a b : Result Y VcdFault) → a ≡ b → FailsAs line kind b → FailsAs line kind a
+    fails_as_same : {Y : Type 0} (line : ℕ) (kind : FaultKind) (a b : Result Y VcdFault) → a ≡ b → ReadFailsAs line kind b → ReadFailsAs line kind a
     fails_as_same line Memory a b e h = h
     fails_as_same line kind a b e h = e ∙ h
 
 -- a fault that isn't want of memory
-pub fails_with : {Y : Type 0} (fault : VcdFault) (read : Result Y VcdFault) → read ≡ Err fault → (fault.kind ≡ Memory → fault.line ≡ 0) → Fails fault read
+pub fails_with : {Y : Type 0} (fault : VcdFault) (read : Result Y VcdFault) → read ≡ Err fault → (fault.kind ≡ Memory → fault.line ≡ 0) → ReadFails fault read
 fails_with fault read e memory = from_kind fault.line fault.kind read e memory
   where
-    from_kind : {Y : Type 0} (line : ℕ) (kind : FaultKind) (read : Result Y VcdFault) → read ≡ Err (record { line = line; kind = kind }) → (kind ≡ Memory → line ≡ 0) → FailsAs line kind read
+    from_kind : {Y : Type 0} (line : ℕ) (kind : FaultKind) (read : Result Y VcdFault) → read ≡ Err (record { line = line; kind = kind }) → (kind ≡ Memory → line ≡ 0) → ReadFailsAs line kind read
     from_kind line Memory read e memory = memory refl
     from_kind line kind read e memory = e
 
 -- the same for each text that goes on
-leaves_each : {A X : Type 0} (before after : List Token → Result (State A) VcdFault) (r : Result X VcdFault) → ((more : List Token) → LeavesOne (before more) (after more) r) → Leaves before after r
+leaves_each : {A X : Type 0} (before after : List Token → Result (State A) VcdFault) (r : Result X VcdFault) → ((more : List Token) → LeavesOne (before more) (after more) r) → BodyContinuesAs before after r
 leaves_each before after (Ok x) h = h
 leaves_each before after (Err fault) h = h
 
-pub leaves_same : {A X : Type 0} (before before2 after : List Token → Result (State A) VcdFault) (r : Result X VcdFault) → ((more : List Token) → before more ≡ before2 more) → Leaves before2 after r → Leaves before after r
+pub leaves_same : {A X : Type 0} (before before2 after : List Token → Result (State A) VcdFault) (r : Result X VcdFault) → ((more : List Token) → before more ≡ before2 more) → BodyContinuesAs before2 after r → BodyContinuesAs before after r
 leaves_same before before2 after (Ok x) e h = λ more. e more ∙ h more
 leaves_same before before2 after (Err fault) e h = λ more. fails_same fault (before more) (before2 more) (e more) (h more)
 
 -- what a `?` returns
-pub leaves_err : {A X : Type 0} (before after : List Token → Result (State A) VcdFault) (r : Result X VcdFault) (fault : VcdFault) → IsErrAnd r (λ e. e ≡ fault) → ((more : List Token) → Fails fault (before more)) → Leaves before after r
+pub leaves_err : {A X : Type 0} (before after : List Token → Result (State A) VcdFault) (r : Result X VcdFault) (fault : VcdFault) → IsErrAnd r (λ e. e ≡ fault) → ((more : List Token) → ReadFails fault (before more)) → BodyContinuesAs before after r
 leaves_err before after (Ok x) fault is h = absurd is
-leaves_err before after (Err e) fault is h = subst (λ (f : VcdFault). (more : List Token) → Fails f (before more)) (sym is) h
+leaves_err before after (Err e) fault is h = subst (λ (f : VcdFault). (more : List Token) → ReadFails f (before more)) (sym is) h
 
-pub leads_err : {A X : Type 0} (view : X → List Token → Result (State A) VcdFault) (before : List Token → Result (State A) VcdFault) (r : Result X VcdFault) (fault : VcdFault) → IsErrAnd r (λ e. e ≡ fault) → ((more : List Token) → Fails fault (before more)) → Leads view r before
+pub leads_err : {A X : Type 0} (view : X → List Token → Result (State A) VcdFault) (before : List Token → Result (State A) VcdFault) (r : Result X VcdFault) (fault : VcdFault) → IsErrAnd r (λ e. e ≡ fault) → ((more : List Token) → ReadFails fault (before more)) → BodyContinuesTo view r before
 leads_err view before (Ok x) fault is h = absurd is
-leads_err view before (Err e) fault is h = subst (λ (f : VcdFault). (more : List Token) → Fails f (before more)) (sym is) h
+leads_err view before (Err e) fault is h = subst (λ (f : VcdFault). (more : List Token) → ReadFails f (before more)) (sym is) h
 
 same_some : (a b : ℕ) → Some a ≡ Some b → a ≡ b
 same_some a b e = cc
@@ -109,20 +109,20 @@ module _ {A : Type 0} (with_change : A → ℕ → List Bit → A) (with_instant
   unfolding steps
   steps_item nets s item items = refl
 
-  fails_more : (nets : List Net) (s : State A) (item : BodyItem) (items : List BodyItem) (line : ℕ) (kind : FaultKind) → FailsAs line kind (step with_change with_instant nets s item) → FailsAs line kind (steps with_change with_instant nets s (item ∷ items))
+  fails_more : (nets : List Net) (s : State A) (item : BodyItem) (items : List BodyItem) (line : ℕ) (kind : FaultKind) → ReadFailsAs line kind (step with_change with_instant nets s item) → ReadFailsAs line kind (steps with_change with_instant nets s (item ∷ items))
   fails_more nets s item items line Memory h = h
   fails_more nets s item items line kind h = steps_item nets s item items ∙ ap (λ (r : Result (State A) VcdFault). r >>= λ next. steps with_change with_instant nets next items) h
 
-  item_leaves : {X : Type 0} (nets : List Net) (s s2 : State A) (item : BodyItem) (after : List BodyItem) (r : Result X VcdFault) → Gives (λ _. s2) r (step with_change with_instant nets s item) → LeavesOne (steps with_change with_instant nets s (item ∷ after)) (steps with_change with_instant nets s2 after) r
+  item_leaves : {X : Type 0} (nets : List Net) (s s2 : State A) (item : BodyItem) (after : List BodyItem) (r : Result X VcdFault) → ReadGives (λ _. s2) r (step with_change with_instant nets s item) → LeavesOne (steps with_change with_instant nets s (item ∷ after)) (steps with_change with_instant nets s2 after) r
   item_leaves nets s s2 item after (Ok x) h = steps_item nets s item after ∙ ap (λ (r : Result (State A) VcdFault). r >>= λ next. steps with_change with_instant nets next after) h
   item_leaves nets s s2 item after (Err fault) h = fails_more nets s item after fault.line fault.kind h
 
   -- one item is read by a function that leaves the reader where it was
-  pub read_item : {X : Type 0} (nets nets2 : List Net) (s s2 : State A) (text text2 : Piece) (at at2 : ℕ) (place : Place) (item : BodyItem) (before : List Token → List BodyItem) (r : Result X VcdFault)
+  pub read_item : {X : Type 0} (nets nets2 : List Net) (s s2 : State A) (text text2 : BodyPiece) (at at2 : ℕ) (place : OpenItem) (item : BodyItem) (before : List Token → List BodyItem) (r : Result X VcdFault)
       → nets2 ≡ nets → text2 ≡ text → at2 ≡ at → place ≡ Ready
       → ((more : List Token) → before more ≡ item ∷ body_from ready (left_at text at ++ more))
-      → Gives (λ _. s2) r (step with_change with_instant nets s item)
-      → Leaves (λ more. steps with_change with_instant nets s (before more)) (λ more. steps with_change with_instant nets2 s2 (body_from (place_of place) (left_at text2 at2 ++ more))) r
+      → ReadGives (λ _. s2) r (step with_change with_instant nets s item)
+      → BodyContinuesAs (λ more. steps with_change with_instant nets s (before more)) (λ more. steps with_change with_instant nets2 s2 (body_from (place_of place) (left_at text2 at2 ++ more))) r
   read_item nets nets2 s s2 text text2 at at2 place item before r n t a p is h =
       leaves_each (λ more. steps with_change with_instant nets s (before more)) (λ more. steps with_change with_instant nets2 s2 (body_from (place_of place) (left_at text2 at2 ++ more))) r
       (λ more. rw (n, t, a, p, is more) (item_leaves nets s s2 item (body_from ready (left_at text at ++ more)) r h))
@@ -138,10 +138,10 @@ module _ {A : Type 0} (with_change : A → ℕ → List Bit → A) (with_instant
   nothing_left nets s place before after e e2 more = rw (e, e2) refl
 
   -- what is ahead where what was read to is the same
-  pub same_left : (nets nets2 : List Net) (text text2 : Piece) (waves waves2 : Taking A) (bracket bracket2 : Option Start) (place place2 : BodyPlace) (at : ℕ) → nets2 ≡ nets → text2 ≡ text → waves2 ≡ waves → bracket2 ≡ bracket → place2 ≡ place
-      → (more : List Token) → steps with_change with_instant nets (state_of text waves bracket) (body_from place (left_at text at ++ more))
+  pub same_left : (nets nets2 : List Net) (text text2 : BodyPiece) (timed waves2 : Taking A) (bracket bracket2 : Option Start) (place place2 : BodyPlace) (at : ℕ) → nets2 ≡ nets → text2 ≡ text → waves2 ≡ timed → bracket2 ≡ bracket → place2 ≡ place
+      → (more : List Token) → steps with_change with_instant nets (state_of text timed bracket) (body_from place (left_at text at ++ more))
       ≡ steps with_change with_instant nets2 (state_of text2 waves2 bracket2) (body_from place2 (left_at text2 at ++ more))
-  same_left nets nets2 text text2 waves waves2 bracket bracket2 place place2 at n t w b p more = rw (n, t, w, b, p) refl
+  same_left nets nets2 text text2 timed waves2 bracket bracket2 place place2 at n t w b p more = rw (n, t, w, b, p) refl
 
   -- a piece that is read to its end leaves what is behind it
   pub nothing_behind : (nets nets2 : List Net) (s : State A) (place : BodyPlace) (left : List Token) → nets2 ≡ nets → left ≡ []
@@ -149,26 +149,26 @@ module _ {A : Type 0} (with_change : A → ℕ → List Bit → A) (with_instant
   nothing_behind nets nets2 s place left n e more = rw (n, e) refl
 
   -- a token is at hand, and then it is read
-  pub token_left : (nets : List Net) (text text2 : Piece) (waves : Taking A) (bracket : Option Start) (at at2 after : ℕ) (bytes : List ℕ) → text2 ≡ text → at2 ≡ at
+  pub token_left : (nets : List Net) (text text2 : BodyPiece) (timed : Taking A) (bracket : Option Start) (at at2 after : ℕ) (bytes : List ℕ) → text2 ≡ text → at2 ≡ at
       → left_at text at ≡ token_at text at bytes ∷ left_at text after
-      → (more : List Token) → steps with_change with_instant nets (state_of text waves bracket) (body_from ready (left_at text at ++ more))
-      ≡ steps with_change with_instant nets (state_of text2 waves bracket) (body_from ready (token_at text2 at2 bytes ∷ (left_at text2 after ++ more)))
-  token_left nets text text2 waves bracket at at2 after bytes t a cut more =
-      rw (t, a) (ap (λ (ts : List Token). steps with_change with_instant nets (state_of text waves bracket) (body_from ready (ts ++ more))) cut)
+      → (more : List Token) → steps with_change with_instant nets (state_of text timed bracket) (body_from ready (left_at text at ++ more))
+      ≡ steps with_change with_instant nets (state_of text2 timed bracket) (body_from ready (token_at text2 at2 bytes ∷ (left_at text2 after ++ more)))
+  token_left nets text text2 timed bracket at at2 after bytes t a cut more =
+      rw (t, a) (ap (λ (ts : List Token). steps with_change with_instant nets (state_of text timed bracket) (body_from ready (ts ++ more))) cut)
 
   -- what isn't ended is met at the end
-  pub unfinished_fails : (nets : List Net) (waves : Taking A) (bracket : Option ℕ) (place : Place) (line : ℕ) → unfinished place bracket ≡ Some line
-      → finished with_change with_instant nets waves bracket (place_of place) ≡ Err (record { line = line; kind = UnfinishedSection })
+  pub unfinished_fails : (nets : List Net) (timed : Taking A) (bracket : Option ℕ) (place : OpenItem) (line : ℕ) → unfinished place bracket ≡ Some line
+      → finished with_change with_instant nets timed bracket (place_of place) ≡ Err (record { line = line; kind = UnfinishedSection })
   unfolding steps body_from
-  unfinished_fails nets waves bracket Ready line e = ap (λ (b : Option ℕ). finished with_change with_instant nets waves b ready) e
-  unfinished_fails nets waves bracket (Vector digits) line e = ap unfinished_at (same_some digits.line line e)
-  unfinished_fails nets waves bracket (Foreign at) line e = ap unfinished_at (same_some at line e)
-  unfinished_fails nets waves bracket (Comment at) line e = ap unfinished_at (same_some at line e)
+  unfinished_fails nets timed bracket Ready line e = ap (λ (b : Option ℕ). finished with_change with_instant nets timed b ready) e
+  unfinished_fails nets timed bracket (Vector digits) line e = ap unfinished_at (same_some digits.line line e)
+  unfinished_fails nets timed bracket (Foreign at) line e = ap unfinished_at (same_some at line e)
+  unfinished_fails nets timed bracket (Comment at) line e = ap unfinished_at (same_some at line e)
 
-  pub finished-ok : (nets : List Net) (waves : Taking A) (bracket : Option ℕ) (place : Place) → unfinished place bracket ≡ None
-      → finished with_change with_instant nets waves bracket (place_of place) ≡ Ok (ended with_instant waves)
+  pub finished-ok : (nets : List Net) (timed : Taking A) (bracket : Option ℕ) (place : OpenItem) → unfinished place bracket ≡ None
+      → finished with_change with_instant nets timed bracket (place_of place) ≡ Ok (ended with_instant timed)
   unfolding steps body_from
-  finished-ok nets waves bracket Ready e = ap (λ (b : Option ℕ). finished with_change with_instant nets waves b ready) e
-  finished-ok nets waves bracket (Vector digits) e = absurd (cc e)
-  finished-ok nets waves bracket (Foreign at) e = absurd (cc e)
-  finished-ok nets waves bracket (Comment at) e = absurd (cc e)
+  finished-ok nets timed bracket Ready e = ap (λ (b : Option ℕ). finished with_change with_instant nets timed b ready) e
+  finished-ok nets timed bracket (Vector digits) e = absurd (cc e)
+  finished-ok nets timed bracket (Foreign at) e = absurd (cc e)
+  finished-ok nets timed bracket (Comment at) e = absurd (cc e)

@@ -7,7 +7,7 @@ use Rattle.vcd_read.specs.declared.dump.Variable.{Variable}
 use Rattle.vcd_read.specs.declared.fault.FaultKind.{FaultKind}
 use Rattle.vcd_read.specs.declared.fault.VcdFault.{VcdFault}
 use Rattle.vcd_read.specs.Tokens.{Token, tokens}
-use Rattle.vcd_read.specs.Header.{◌>>=◌, at_line, HeaderItem, whole, unfinished, stray, Joined, net_for, net_of, VarWords, var_words, variable_in, reference_of, Declared, declare_all, declare_section, declare_var, open_scope, close_scope, nothing_declared, appended, header_from, between}
+use Rattle.vcd_read.specs.Header.{◌>>=◌, at_line, HeaderItem, whole, unfinished, stray, JoinedNets, net_for, net_of, VarWords, var_words, variable_in, reference_of, Declared, declare_all, declare_section, declare_var, open_scope, close_scope, nothing_declared, appended, header_from, between}
 use Rattle.vcd_read.specs.Sections.{Defined, headed, header_of}
 use Rattle.vcd_read.specs.Meaning.{body_of}
 use Rattle.vcd_read.proofs.DumpLemmas.{whole_header}
@@ -24,7 +24,7 @@ module _ {V : Type 0} (with_variable : V → Variable → V) where
   abbrev taken_of : V → Result (Declared (List Variable)) FaultKind → Result (Declared V) FaultKind
   taken_of v r = r >>= λ d. Ok (taken_in v d)
 
-  same_net : (v : V) (d : Declared (List Variable)) (var : VarWords) (r : Result Joined FaultKind)
+  same_net : (v : V) (d : Declared (List Variable)) (var : VarWords) (r : Result JoinedNets FaultKind)
       → (r >>= λ joined. Ok (record (taken_in v d) { nets = joined.nets; variables = with_variable (taken_all v d.variables) (variable_in d.scopes joined.net var.size (reference_of var.size var.reference)) }))
       ≡ taken_of v (r >>= λ joined. Ok (record d { nets = joined.nets; variables = appended d.variables (variable_in d.scopes joined.net var.size (reference_of var.size var.reference)) }))
   same_net v d var (Ok joined) =

@@ -5,9 +5,9 @@ use Rattle.vcd_read.specs.declared.fault.FaultKind.{FaultKind}
 use Rattle.vcd_read.specs.declared.fault.FaultKind.TheVariants.{Memory, NoEndDefinitions, UnfinishedSection}
 use Rattle.vcd_read.specs.declared.fault.VcdFault.{VcdFault}
 use Rattle.vcd_read.specs.Tokens.{Token}
-use Rattle.vcd_read.specs.Header.{◌>>=◌, at_line, is_end, opens_section, ends_definitions, Section, whole, stray, Header, with_item, between, inside, opened, with_word, Place, header_from, Declared, declare_all, declare_section}
+use Rattle.vcd_read.specs.Header.{◌>>=◌, at_line, is_end, opens_section, ends_definitions, Section, whole, stray, Header, with_item, between, inside, opened, with_word, HeaderPlace, header_from, Declared, declare_all, declare_section}
 use Rattle.vcd_read.specs.Sections.{Defined, defined, headed, header_of, rest_of_header}
-use Rattle.vcd_read.specs.Meaning.{FailsAs, body_of}
+use Rattle.vcd_read.specs.Meaning.{ReadFailsAs, body_of}
 use Rattle.vcd_read.specs.Fronts.{going_on, IsMetAtTheEnd}
 
 -- a fault stays, but for those that are met at the end of a text
@@ -72,7 +72,7 @@ module _ {V : Type 0} (with_variable : V → Variable → V) (text longer : List
   between_step t ts d true goes_on = goes_on
   between_step t ts d false goes_on = refl
 
-  front : (ts : List Token) (place : Place) (d : Declared V) → Both d (header_from place ts) (header_from place (ts ++ more))
+  front : (ts : List Token) (place : HeaderPlace) (d : Declared V) → Both d (header_from place ts) (header_from place (ts ++ more))
   unfolding IsFrontOf StaysAs header_from declare_all
   front [] between d = tt
   front [] (inside section) d = tt
@@ -86,8 +86,8 @@ module _ {V : Type 0} (with_variable : V → Variable → V) (text longer : List
   found-front d ts found is = subst (λ (r : Result (Defined V) VcdFault). IsFrontOf more r (header_of with_variable longer d (ts ++ more))) is (front ts between d)
 
   -- a fault that isn't met at the end is that of every text that goes on so
-  pub failed-front : (d : Declared V) (ts : List Token) (line : ℕ) (kind : FaultKind) → (IsMetAtTheEnd kind → ⊥) → FailsAs line kind (header_of with_variable text d ts)
-      → FailsAs line kind (header_of with_variable longer d (ts ++ more))
+  pub failed-front : (d : Declared V) (ts : List Token) (line : ℕ) (kind : FaultKind) → (IsMetAtTheEnd kind → ⊥) → ReadFailsAs line kind (header_of with_variable text d ts)
+      → ReadFailsAs line kind (header_of with_variable longer d (ts ++ more))
   unfolding IsFrontOf StaysAs
   failed-front d ts line Memory other fails = fails
   failed-front d ts line NoEndDefinitions other fails = absurd (other tt)

@@ -13,7 +13,7 @@ use Rattle.vcd_read.specs.Tokens.{Token, line_after}
 use Rattle.vcd_read.specs.Reading.{line_behind}
 use Rattle.vcd_read.specs.Header.{◌>>=◌, at_line, is_end, opens_section, ends_definitions, Section, whole, unfinished, stray, with_word, Header, with_item, between, inside, opened, header_from, Declared, declare_all, declare_section, declare_var, open_scope, close_scope}
 use Rattle.vcd_read.specs.Sections.{Ended, after_word, ended_in, section_from, behind_section, opening_of, Defined, headed, header_of, rest_of_header}
-use Rattle.vcd_read.specs.Meaning.{Fails, FailsAs, body_of}
+use Rattle.vcd_read.specs.Meaning.{ReadFails, ReadFailsAs, body_of}
 
 -- ---- what a token opens
 
@@ -197,11 +197,11 @@ module _ {V : Type 0} (with_variable : V → Variable → V) where
   goes : {A B : Type 0} (all : Result B VcdFault) (read : Result A VcdFault) (g : A → Result B VcdFault) (x : A) → all ≡ (read >>= g) → read ≡ Ok x → all ≡ g x
   goes {A} {B} all read g x e is = e ∙ ap (λ (r : Result A VcdFault). r >>= g) is
 
-  fails_as : {A B : Type 0} (line : ℕ) (kind : FaultKind) (all : Result B VcdFault) (read : Result A VcdFault) (g : A → Result B VcdFault) → all ≡ (read >>= g) → FailsAs line kind read → FailsAs line kind all
+  fails_as : {A B : Type 0} (line : ℕ) (kind : FaultKind) (all : Result B VcdFault) (read : Result A VcdFault) (g : A → Result B VcdFault) → all ≡ (read >>= g) → ReadFailsAs line kind read → ReadFailsAs line kind all
   fails_as line Memory all read g e h = h
   fails_as {A} line kind all read g e h = e ∙ ap (λ (r : Result A VcdFault). r >>= g) h
 
-  stops : {A B : Type 0} (fault : VcdFault) (all : Result B VcdFault) (read : Result A VcdFault) (g : A → Result B VcdFault) → all ≡ (read >>= g) → Fails fault read → Fails fault all
+  stops : {A B : Type 0} (fault : VcdFault) (all : Result B VcdFault) (read : Result A VcdFault) (g : A → Result B VcdFault) → all ≡ (read >>= g) → ReadFails fault read → ReadFails fault all
   stops fault all read g e h = fails_as fault.line fault.kind all read g e h
 
   module _ (text : List ℕ) (d : Declared V) (t : Token) (ts : List Token) where
@@ -220,10 +220,10 @@ module _ {V : Type 0} (with_variable : V → Variable → V) where
     abbrev behind_skipped : List Token → Reading
     behind_skipped rest = header_of with_variable text d rest
 
-    pub var_stops : (fault : VcdFault) → Var ≡ opening_of t.bytes → Fails fault (section_from t.line ts) → Fails fault (header_of with_variable text d (t ∷ ts))
+    pub var_stops : (fault : VcdFault) → Var ≡ opening_of t.bytes → ReadFails fault (section_from t.line ts) → ReadFails fault (header_of with_variable text d (t ∷ ts))
     var_stops fault e h = stops fault (header_of with_variable text d (t ∷ ts)) (section_from t.line ts) behind_var (read_var text d t ts e) h
 
-    pub var_refused : (fault : VcdFault) (words : List (List ℕ)) (rest : List Token) → Var ≡ opening_of t.bytes → section_from t.line ts ≡ Ok (record { words = words; rest = rest }) → Fails fault (at_line t.line (declare_var with_variable d words)) → Fails fault (header_of with_variable text d (t ∷ ts))
+    pub var_refused : (fault : VcdFault) (words : List (List ℕ)) (rest : List Token) → Var ≡ opening_of t.bytes → section_from t.line ts ≡ Ok (record { words = words; rest = rest }) → ReadFails fault (at_line t.line (declare_var with_variable d words)) → ReadFails fault (header_of with_variable text d (t ∷ ts))
     var_refused fault words rest e is h =
         stops fault (header_of with_variable text d (t ∷ ts)) (at_line t.line (declare_var with_variable d words)) (λ next. header_of with_variable text next rest)
         (goes (header_of with_variable text d (t ∷ ts)) (section_from t.line ts) behind_var (record { words = words; rest = rest }) (read_var text d t ts e) is) h
@@ -233,13 +233,13 @@ module _ {V : Type 0} (with_variable : V → Variable → V) where
         goes (header_of with_variable text d (t ∷ ts)) (at_line t.line (declare_var with_variable d words)) (λ next. header_of with_variable text next rest) next
         (goes (header_of with_variable text d (t ∷ ts)) (section_from t.line ts) behind_var (record { words = words; rest = rest }) (read_var text d t ts e) is) h
 
-    pub scope_stops : (fault : VcdFault) → Scope ≡ opening_of t.bytes → Fails fault (section_from t.line ts) → Fails fault (header_of with_variable text d (t ∷ ts))
+    pub scope_stops : (fault : VcdFault) → Scope ≡ opening_of t.bytes → ReadFails fault (section_from t.line ts) → ReadFails fault (header_of with_variable text d (t ∷ ts))
     scope_stops fault e h = stops fault (header_of with_variable text d (t ∷ ts)) (section_from t.line ts) behind_scope (read_scope text d t ts e) h
 
     pub scope_goes : (words : List (List ℕ)) (rest : List Token) → Scope ≡ opening_of t.bytes → section_from t.line ts ≡ Ok (record { words = words; rest = rest }) → header_of with_variable text d (t ∷ ts) ≡ header_of with_variable text (open_scope d words) rest
     scope_goes words rest e is = goes (header_of with_variable text d (t ∷ ts)) (section_from t.line ts) behind_scope (record { words = words; rest = rest }) (read_scope text d t ts e) is
 
-    pub upscope_stops : (fault : VcdFault) → Upscope ≡ opening_of t.bytes → Fails fault (behind_section t.line ts) → Fails fault (header_of with_variable text d (t ∷ ts))
+    pub upscope_stops : (fault : VcdFault) → Upscope ≡ opening_of t.bytes → ReadFails fault (behind_section t.line ts) → ReadFails fault (header_of with_variable text d (t ∷ ts))
     upscope_stops fault e h = stops fault (header_of with_variable text d (t ∷ ts)) (behind_section t.line ts) behind_upscope (read_upscope text d t ts e) h
 
     pub upscope_refused : (rest : List Token) → Upscope ≡ opening_of t.bytes → behind_section t.line ts ≡ Ok rest → d.scopes ≡ [] → header_of with_variable text d (t ∷ ts) ≡ Err (record { line = t.line; kind = ScopeUnderflow })
@@ -252,13 +252,13 @@ module _ {V : Type 0} (with_variable : V → Variable → V) where
         goes (header_of with_variable text d (t ∷ ts)) (behind_section t.line ts) behind_upscope rest (read_upscope text d t ts e) is
         ∙ ap (λ (scopes : List (List ℕ)). at_line t.line (close_scope d scopes) >>= λ next. header_of with_variable text next rest) some
 
-    pub end_stops : (fault : VcdFault) → EndDefinitions ≡ opening_of t.bytes → Fails fault (behind_section t.line ts) → Fails fault (header_of with_variable text d (t ∷ ts))
+    pub end_stops : (fault : VcdFault) → EndDefinitions ≡ opening_of t.bytes → ReadFails fault (behind_section t.line ts) → ReadFails fault (header_of with_variable text d (t ∷ ts))
     end_stops fault e h = stops fault (header_of with_variable text d (t ∷ ts)) (behind_section t.line ts) behind_end (read_end text d t ts e) h
 
     pub end_goes : (rest : List Token) → EndDefinitions ≡ opening_of t.bytes → behind_section t.line ts ≡ Ok rest → header_of with_variable text d (t ∷ ts) ≡ Ok (headed d rest)
     end_goes rest e is = goes (header_of with_variable text d (t ∷ ts)) (behind_section t.line ts) behind_end rest (read_end text d t ts e) is
 
-    pub skipped_stops : (fault : VcdFault) → Skipped ≡ opening_of t.bytes → Fails fault (behind_section t.line ts) → Fails fault (header_of with_variable text d (t ∷ ts))
+    pub skipped_stops : (fault : VcdFault) → Skipped ≡ opening_of t.bytes → ReadFails fault (behind_section t.line ts) → ReadFails fault (header_of with_variable text d (t ∷ ts))
     skipped_stops fault e h = stops fault (header_of with_variable text d (t ∷ ts)) (behind_section t.line ts) behind_skipped (read_skipped text d t ts e) h
 
     pub skipped_goes : (rest : List Token) → Skipped ≡ opening_of t.bytes → behind_section t.line ts ≡ Ok rest → header_of with_variable text d (t ∷ ts) ≡ header_of with_variable text d rest

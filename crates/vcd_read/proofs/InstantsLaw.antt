@@ -15,8 +15,8 @@ use Rattle.vcd_read.specs.Contents.{TimesAscend}
 use Rattle.vcd_read.specs.Numbers.{number, time_of}
 use Rattle.vcd_read.specs.Header.{◌>>=◌, at_line, Net, net_of}
 use Rattle.vcd_read.specs.Body.{BodyItem, time_item, change, skipped, bracket_open, bracket_end, wrong, Standing, stand_after, time_after, fitting, opened_at, closed}
-use Rattle.vcd_read.specs.Meaning.{Change, change_of, changes_from, times_from, last_at, value_of, value_at, instant_at, instants_of}
-use Rattle.vcd_read.specs.Progress.{Progress, values_from, advanced, ended, progress_after, State, step, steps}
+use Rattle.vcd_read.specs.Meaning.{NetChange, change_of, changes_from, times_from, last_at, value_of, value_at, instant_at, instants_of}
+use Rattle.vcd_read.specs.DumpProgress.{DumpProgress, values_from, advanced, ended, progress_after, DumpState, step, steps}
 
 -- ---- the fold without its faults
 
@@ -63,42 +63,42 @@ stands nets s next (bracket_open line) h = stays (opened_at line s.bracket) line
 stands nets s next (bracket_end line) h = stays (closed s.bracket) line s next (λ bracket. record s { bracket = bracket }) (λ bracket. refl) h
 stands nets s next (wrong line kind) h = absurd cc
 
-step_is : (nets : List Net) (s next : State) (item : BodyItem) → step nets s item ≡ Ok next → (stand_after nets s.standing item ≡ Ok next.standing) × (next.progress ≡ progress_after nets s.progress item)
+step_is : (nets : List Net) (s next : DumpState) (item : BodyItem) → step nets s item ≡ Ok next → (stand_after nets s.standing item ≡ Ok next.standing) × (next.progress ≡ progress_after nets s.progress item)
 step_is nets s next item h =
     let a = bind_ok (stand_after nets s.standing item) _ next h in
-    let made : State = record { standing = a.0; progress = progress_after nets s.progress item } in
+    let made : DumpState = record { standing = a.0; progress = progress_after nets s.progress item } in
     let e : made ≡ next = cc in
-    (a.1 ∙ ap (λ (n : State). Ok n.standing) e, sym (ap (λ (n : State). n.progress) e))
+    (a.1 ∙ ap (λ (n : DumpState). Ok n.standing) e, sym (ap (λ (n : DumpState). n.progress) e))
 
 -- no time goes back
 abbrev Ascends : ℕ → List BodyItem → Type 0
 Ascends now [] = Unit {0}
 Ascends now (item ∷ items) = (now ≤ now_after now item) × Ascends (now_after now item) items
 
-abbrev progress_after_all : List Net → Progress → List BodyItem → Progress
+abbrev progress_after_all : List Net → DumpProgress → List BodyItem → DumpProgress
 progress_after_all nets p [] = p
 progress_after_all nets p (item ∷ items) = progress_after_all nets (progress_after nets p item) items
 
-all_is : (nets : List Net) (s end : State) (items : List BodyItem) → steps nets s items ≡ Ok end → Ascends s.standing.now items × (end.progress ≡ progress_after_all nets s.progress items)
+all_is : (nets : List Net) (s end : DumpState) (items : List BodyItem) → steps nets s items ≡ Ok end → Ascends s.standing.now items × (end.progress ≡ progress_after_all nets s.progress items)
 unfolding steps
 all_is nets s end [] h =
     let e : s ≡ end = cc in
-    (tt, sym (ap (λ (s : State). s.progress) e))
+    (tt, sym (ap (λ (s : DumpState). s.progress) e))
 all_is nets s end (item ∷ items) h =
     let a = bind_ok (step nets s item) (λ next. steps nets next items) end h in
     let b = step_is nets s a.0 item a.1 in
     let c = stands nets s.standing a.0.standing item b.0 in
     let rest = all_is nets a.0 end items a.2 in
-    ((c.1, subst (λ (n : ℕ). Ascends n items) c.0 rest.0), rest.1 ∙ ap (λ (p : Progress). progress_after_all nets p items) b.1)
+    ((c.1, subst (λ (n : ℕ). Ascends n items) c.0 rest.0), rest.1 ∙ ap (λ (p : DumpProgress). progress_after_all nets p items) b.1)
 
 -- ---- the values at one time
 
 -- the last bits of each net, after the changes of one time
-abbrev applied : ℕ → List Change → List (Option (List Bit)) → List (Option (List Bit))
+abbrev applied : ℕ → List NetChange → List (Option (List Bit)) → List (Option (List Bit))
 applied t [] current = current
 applied t (c ∷ changes) current = applied t changes (cond (eqb c.time t) (slice_set current c.net (Some c.bits)) current)
 
-length-applied : (t : ℕ) (changes : List Change) (current : List (Option (List Bit))) → length (applied t changes current) ≡ length current
+length-applied : (t : ℕ) (changes : List NetChange) (current : List (Option (List Bit))) → length (applied t changes current) ≡ length current
 length-applied t [] current = refl
 length-applied t (c ∷ changes) current = length-applied t changes _ ∙ same_length (eqb c.time t) current c.net (Some c.bits)
   where
@@ -125,7 +125,7 @@ written_at true true current net k bits e lt = let i : net ≡ k = eqb-true net 
 written_at true false current net k bits e lt = get_or-set_other current net k (Some bits) None (λ i. eqb-false net k e (sym i))
 written_at false same current net k bits e lt = refl
 
-applied_at : (t : ℕ) (changes : List Change) (current : List (Option (List Bit))) (k : ℕ) → k < length current → get_or (applied t changes current) k None ≡ over (last_at t k changes) (get_or current k None)
+applied_at : (t : ℕ) (changes : List NetChange) (current : List (Option (List Bit))) (k : ℕ) → k < length current → get_or (applied t changes current) k None ≡ over (last_at t k changes) (get_or current k None)
 unfolding last_at
 applied_at t [] current k lt = refl
 applied_at t (c ∷ changes) current k lt =
@@ -153,14 +153,14 @@ abbrev none_of : ℕ → List (Option (List Bit))
 none_of count = replicate count None
 
 -- the instant at a time, from what the nets had before these changes
-abbrev instant_from : List (Option (List Bit)) → List Change → ℕ → Instant
+abbrev instant_from : List (Option (List Bit)) → List NetChange → ℕ → Instant
 instant_from current changes t = record { time = t; values = values_from 0 (applied t changes current) }
 
 -- the same where no net had a value
-abbrev fresh : ℕ → List Change → ℕ → Instant
+abbrev fresh : ℕ → List NetChange → ℕ → Instant
 fresh count changes t = instant_from (none_of count) changes t
 
-fresh-is : (count : ℕ) (changes : List Change) (t : ℕ) → fresh count changes t ≡ instant_at count changes t
+fresh-is : (count : ℕ) (changes : List NetChange) (t : ℕ) → fresh count changes t ≡ instant_at count changes t
 fresh-is count changes t =
     let len : length (applied t changes (none_of count)) ≡ count = length-applied t changes (none_of count) ∙ length-replicate count None in
     let last : (k : ℕ) → k < count → last_at t k changes ≡ get_or (applied t changes (none_of count)) k None = λ k lt.
@@ -240,7 +240,7 @@ same_at_others f g (wrong line kind ∷ items) first now up le same = same_at_ot
 
 -- ---- the fold
 
-abbrev begun_at : List Instant → ℕ → List (Option (List Bit)) → Progress
+abbrev begun_at : List Instant → ℕ → List (Option (List Bit)) → DumpProgress
 begun_at done now current = record { done = done; time = now; begun = true; current = current }
 
 advanced_same : (done : List Instant) (now t : ℕ) (current : List (Option (List Bit))) → eqb t now ≡ true → advanced (begun_at done now current) t ≡ begun_at done t current
@@ -251,16 +251,16 @@ advanced_next : (done : List Instant) (now t : ℕ) (current : List (Option (Lis
 advanced_next done now t current e = rw e refl
 
 -- an instant that is begun, and those behind it
-abbrev instants_at : ℕ → List (Option (List Bit)) → List Change → ℕ → List ℕ → List Instant
+abbrev instants_at : ℕ → List (Option (List Bit)) → List NetChange → ℕ → List ℕ → List Instant
 instants_at count current changes now times = instant_from current changes now ∷ map (fresh count changes) (others now times)
 
-at_same : (count : ℕ) (current : List (Option (List Bit))) (changes : List Change) (now t : ℕ) (times : List ℕ) → eqb t now ≡ true
+at_same : (count : ℕ) (current : List (Option (List Bit))) (changes : List NetChange) (now t : ℕ) (times : List ℕ) → eqb t now ≡ true
     → instants_at count current changes t times ≡ instants_at count current changes now (t ∷ times)
 at_same count current changes now t times e =
     ap (λ (n : ℕ). instant_from current changes n ∷ map (fresh count changes) (others t times)) (eqb-true t now e)
     ∙ ap (λ (ts : List ℕ). instant_from current changes now ∷ map (fresh count changes) ts) (sym (others_same t now times e))
 
-at_next : (count : ℕ) (done : List Instant) (current : List (Option (List Bit))) (changes : List Change) (now t : ℕ) (times : List ℕ) → eqb t now ≡ false → length current ≡ count → applied now changes current ≡ current
+at_next : (count : ℕ) (done : List Instant) (current : List (Option (List Bit))) (changes : List NetChange) (now t : ℕ) (times : List ℕ) → eqb t now ≡ false → length current ≡ count → applied now changes current ≡ current
     → (done ++ record { time = now; values = values_from 0 current } ∷ []) ++ instants_at count (none_of (length current)) changes t times ≡ done ++ instants_at count current changes now (t ∷ times)
 at_next count done current changes now t times e len kept =
     let rest : List Instant = map (fresh count changes) (others t times) in
@@ -270,11 +270,11 @@ at_next count done current changes now t times e len kept =
     ∙ ap (λ (ts : List ℕ). done ++ instant_from current changes now ∷ map (fresh count changes) ts) (sym (others_next t now times e))
 
 -- a change at the current time
-at_change : (nets : List Net) (items : List BodyItem) (now : ℕ) (current : List (Option (List Bit))) (c : Change) → c.time ≡ now → Ascends now items
+at_change : (nets : List Net) (items : List BodyItem) (now : ℕ) (current : List (Option (List Bit))) (c : NetChange) → c.time ≡ now → Ascends now items
     → instants_at (length nets) (slice_set current c.net (Some c.bits)) (changes_from nets now items) now (times_from now items)
     ≡ instants_at (length nets) current (c ∷ changes_from nets now items) now (now ∷ times_from now items)
 at_change nets items now current c here up =
-    let changes : List Change = changes_from nets now items in
+    let changes : List NetChange = changes_from nets now items in
     let times : List ℕ = times_from now items in
     let now_too : instant_from (slice_set current c.net (Some c.bits)) changes now ≡ instant_from current (c ∷ changes) now =
     ap (λ (cs : List (Option (List Bit))). instant_from cs changes now) (sym (cond-true (eqb c.time now) _ current (eq-eqb c.time now here))) in
@@ -291,20 +291,20 @@ unfolding changes_from times_from
 begun_law nets [] done now current len up = refl
 begun_law nets (time_item line digits ∷ items) done now current len up =
     let t : ℕ = number digits in
-    let changes : List Change = changes_from nets (number digits) items in
+    let changes : List NetChange = changes_from nets (number digits) items in
     let times : List ℕ = times_from (number digits) items in
     elim (cases_Bool (eqb (number digits) now)) [
       | inl e ↦
-          ap (λ (p : Progress). ended (progress_after_all nets p items)) (advanced_same done now (number digits) current e)
+          ap (λ (p : DumpProgress). ended (progress_after_all nets p items)) (advanced_same done now (number digits) current e)
           ∙ begun_law nets items done (number digits) current len up.1
           ∙ ap (λ (is : List Instant). done ++ is) (at_same (length nets) current changes now (number digits) times e)
       | inr e ↦
-          ap (λ (p : Progress). ended (progress_after_all nets p items)) (advanced_next done now (number digits) current e)
+          ap (λ (p : DumpProgress). ended (progress_after_all nets p items)) (advanced_next done now (number digits) current e)
           ∙ begun_law nets items _ (number digits) (none_of (length current)) (length-replicate (length current) None ∙ len) up.1
           ∙ at_next (length nets) done current changes now (number digits) times e len (untouched nets items (number digits) now current up.1 (later_than now (number digits) up.0 e))
     ]
 begun_law nets (change line digits code ∷ items) done now current len up =
-    let c : Change = change_of nets now digits code in
+    let c : NetChange = change_of nets now digits code in
     begun_law nets items done now (slice_set current c.net (Some c.bits)) (length-set current c.net (Some c.bits) ∙ len) up.1
     ∙ ap (λ (is : List Instant). done ++ is) (at_change nets items now current c refl up.1)
 begun_law nets (skipped line code ∷ items) done now current len up = begun_law nets items done now current len up.1
@@ -322,7 +322,7 @@ start_law nets (time_item line digits ∷ items) now up =
     begun_law nets items [] (number digits) (none_of (length nets)) (length-replicate (length nets) None) up.1
     ∙ ap (map (fresh (length nets) (changes_from nets (number digits) items))) (sym (dedup_is (number digits) (times_from (number digits) items)))
 start_law nets (change line digits code ∷ items) now up =
-    let c : Change = change_of nets now digits code in
+    let c : NetChange = change_of nets now digits code in
     let none : List (Option (List Bit)) = none_of (length nets) in
     let times : List ℕ = times_from now items in
     begun_law nets items [] now (slice_set none c.net (Some c.bits)) (length-set none c.net (Some c.bits) ∙ length-replicate (length nets) None) up.1
@@ -379,23 +379,23 @@ times_of : (f : ℕ → Instant) → ((t : ℕ) → (f t).time ≡ t) → (times
 times_of f same [] = refl
 times_of f same (t ∷ times) = ap (λ (u : ℕ). u ∷ map (λ (i : Instant). i.time) (map f times)) (same t) ∙ ap (λ (ts : List ℕ). t ∷ ts) (times_of f same times)
 
-abbrev pub at_start : List Net → State
+abbrev pub at_start : List Net → DumpState
 at_start nets =
     record {
       standing = record { now = 0; bracket = None };
       progress = record { done = []; time = 0; begun = false; current = replicate (length nets) None };
     }
 
-abbrev pub reached : State → Result State VcdFault
+abbrev pub reached : DumpState → Result DumpState VcdFault
 reached s = Ok s
 
-pub instants_law : (nets : List Net) (items : List BodyItem) (s : State) → steps nets (at_start nets) items ≡ reached s → ended s.progress ≡ instants_of nets items
+pub instants_law : (nets : List Net) (items : List BodyItem) (s : DumpState) → steps nets (at_start nets) items ≡ reached s → ended s.progress ≡ instants_of nets items
 instants_law nets items s whole =
     let all = all_is nets (at_start nets) s items whole in
     let is : (λ (t : ℕ). fresh (length nets) (changes_from nets 0 items) t) ≡ instant_at (length nets) (changes_from nets 0 items) = λ i t. fresh-is (length nets) (changes_from nets 0 items) t i in
     ap ended all.1 ∙ start_law nets items 0 all.0 ∙ ap (λ (f : ℕ → Instant). map f (dedup nat_eq (times_from 0 items))) is
 
-pub instants_rise : (nets : List Net) (items : List BodyItem) (s : State) → steps nets (at_start nets) items ≡ reached s → TimesAscend (instants_of nets items)
+pub instants_rise : (nets : List Net) (items : List BodyItem) (s : DumpState) → steps nets (at_start nets) items ≡ reached s → TimesAscend (instants_of nets items)
 instants_rise nets items s whole =
     let all = all_is nets (at_start nets) s items whole in
     subst IsStrictlyIncreasing (sym (times_of (instant_at (length nets) (changes_from nets 0 items)) (λ t. refl) (dedup nat_eq (times_from 0 items)))) (times_rise items 0 all.0)

@@ -10,9 +10,9 @@ use Rattle.vcd_read.specs.Tokens.{Token}
 use Rattle.vcd_read.specs.Numbers.{number, extended}
 use Rattle.vcd_read.specs.Header.{◌>>=◌, at_line, Net, net_of, size_of}
 use Rattle.vcd_read.specs.Body.{BodyItem, time_item, change, skipped, bracket_open, bracket_end, wrong, Standing, stand_after, at_the_end, fitting, ready, body_from}
-use Rattle.vcd_read.specs.Meaning.{Fails, FailsAs, instants_from}
-use Rattle.vcd_read.specs.Progress.{Progress, values_from, flushed}
-use Rattle.vcd_read.specs.Progress.{State as Whole, ended as instants_at, steps as whole_steps, progress_after as whole_after}
+use Rattle.vcd_read.specs.Meaning.{ReadFails, ReadFailsAs, instants_from}
+use Rattle.vcd_read.specs.DumpProgress.{DumpProgress, values_from, flushed}
+use Rattle.vcd_read.specs.DumpProgress.{DumpState as Whole, ended as instants_at, steps as whole_steps, progress_after as whole_after}
 use Rattle.vcd_read.specs.Taking.{Taking, State, ended, at_end, at_first, progress_after, steps, taken_from}
 use Rattle.vcd_read.specs.Collected.{Collected, collected_change, collected_instant}
 use Rattle.vcd_read.proofs.InstantsLaw.{at_start}
@@ -44,13 +44,13 @@ err_same x y r e h = cc
 ok_or_err : {A E : Type 0} (x : A) (y : E) (r : Result A E) → r ≡ Ok x → r ≡ Err y → ⊥
 ok_or_err x y r e h = cc
 
-fails_as : {A : Type 0} (R : List Instant → A → Type 0) (w : Result (List Instant) VcdFault) (r : Result A VcdFault) (line : ℕ) (kind : FaultKind) → Follows R w r → FailsAs line kind r → FailsAs line kind w
+fails_as : {A : Type 0} (R : List Instant → A → Type 0) (w : Result (List Instant) VcdFault) (r : Result A VcdFault) (line : ℕ) (kind : FaultKind) → Follows R w r → ReadFailsAs line kind r → ReadFailsAs line kind w
 fails_as R w r line Memory f h = h
 fails_as R (Ok instants) r line kind f h = absurd (ok_or_err f.0 _ r f.1 h)
 fails_as R (Err fault) r line kind f h = ap Err (err_same fault _ r f h)
 
 -- what fails for the taker, fails
-pub fails-followed : {A : Type 0} (R : List Instant → A → Type 0) (w : Result (List Instant) VcdFault) (r : Result A VcdFault) (fault : VcdFault) → Follows R w r → Fails fault r → Fails fault w
+pub fails-followed : {A : Type 0} (R : List Instant → A → Type 0) (w : Result (List Instant) VcdFault) (r : Result A VcdFault) (fault : VcdFault) → Follows R w r → ReadFails fault r → ReadFails fault w
 fails-followed R w r fault f h = fails_as R w r fault.line fault.kind f h
 
 -- what is taken is taken of instants
@@ -63,26 +63,26 @@ module _ {A : Type 0} (with_change : A → ℕ → List Bit → A) (with_instant
     (on_instant : (done : List Instant) (current : Current) (a : A) (time : ℕ) → R done current a
     → R (done ++ record { time = time; values = values_from 0 current } ∷ []) (replicate (length current) None) (with_instant a time)) where
   -- what is taken, where the instants are so far read
-  abbrev taking_at : Progress → A → Taking A
+  abbrev taking_at : DumpProgress → A → Taking A
   taking_at p a = record { taken = a; time = p.time; begun = p.begun }
 
   abbrev state_at : Whole → A → State A
   state_at s a = record { standing = s.standing; progress = taking_at s.progress a }
 
-  abbrev Keeps : Progress → Taking A → Type 0
+  abbrev Keeps : DumpProgress → Taking A → Type 0
   Keeps p t = (a : A) × (t ≡ taking_at p a) × R p.done p.current a
 
   abbrev KeepsState : Result Whole VcdFault → Result (State A) VcdFault → Type 0
   KeepsState (Ok s) r = (a : A) × (r ≡ Ok (state_at s a)) × R s.progress.done s.progress.current a
   KeepsState (Err fault) r = r ≡ Err fault
 
-  on_time : (test : Bool) (p : Progress) (a : A) (t : ℕ) → R p.done p.current a
+  on_time : (test : Bool) (p : DumpProgress) (a : A) (t : ℕ) → R p.done p.current a
       → Keeps (cond test (record (flushed p) { time = t; begun = true }) (record p { time = t; begun = true }))
       (cond test (record { taken = with_instant a p.time; time = t; begun = true }) (record { taken = a; time = t; begun = true }))
   on_time true p a t r = (with_instant a p.time, refl, on_instant p.done p.current a p.time r)
   on_time false p a t r = (a, refl, r)
 
-  on_item : (item : BodyItem) (s next : Standing) (p : Progress) (a : A) → stand_after nets s item ≡ Ok next → R p.done p.current a
+  on_item : (item : BodyItem) (s next : Standing) (p : DumpProgress) (a : A) → stand_after nets s item ≡ Ok next → R p.done p.current a
       → Keeps (whole_after nets p item) (progress_after with_change with_instant nets (taking_at p a) item)
   on_item (time_item line digits) s next p a ok r = on_time (p.begun && not (number digits == p.time)) p a (number digits) r
   on_item (change line digits code) s next p a ok r =
@@ -94,7 +94,7 @@ module _ {A : Type 0} (with_change : A → ℕ → List Bit → A) (with_instant
   on_item (bracket_end line) s next p a ok r = (a, refl, r)
   on_item (wrong line kind) s next p a ok r = (a, refl, r)
 
-  abbrev whole_of : Progress → Result Standing VcdFault → Result Whole VcdFault
+  abbrev whole_of : DumpProgress → Result Standing VcdFault → Result Whole VcdFault
   whole_of p r = r >>= λ next. Ok (record { standing = next; progress = p })
 
   abbrev taken_of : Taking A → Result Standing VcdFault → Result (State A) VcdFault
@@ -115,7 +115,7 @@ module _ {A : Type 0} (with_change : A → ℕ → List Bit → A) (with_instant
   steps-follow [] s a r = (a, refl, r)
   steps-follow (item ∷ items) s a r = step-follows items item s a (stand_after nets s.standing item) refl r (λ s2 b kept. steps-follow items s2 b kept)
 
-  on_end : (begun : Bool) (p : Progress) (a : A) → R p.done p.current a
+  on_end : (begun : Bool) (p : DumpProgress) (a : A) → R p.done p.current a
       → (b : A) × (cond begun (with_instant a p.time) a ≡ b) × ((current : Current) × R (cond begun (flushed p).done p.done) current b)
   on_end true p a r = (with_instant a p.time, refl, (replicate (length p.current) None, on_instant p.done p.current a p.time r))
   on_end false p a r = (a, refl, (p.current, r))

@@ -7,8 +7,8 @@ use Rattle.std.proofs.lemmas.List.{append-nil, append_assoc, length-set, get_or_
 use Rattle.std.proofs.lemmas.Bool.{cases_eq}
 use Rattle.vcd_read.specs.declared.dump.Bit.{Bit}
 use Rattle.vcd_read.specs.declared.dump.Value.{Value}
-use Rattle.vcd_read.specs.Progress.{values_from}
-use Rattle.vcd_read.specs.Touched.{AreTouched}
+use Rattle.vcd_read.specs.DumpProgress.{values_from}
+use Rattle.vcd_read.specs.Touched.{ListsTouchedNets}
 
 abbrev pub Current : Type 0
 Current = List (Option (List Bit))
@@ -26,7 +26,7 @@ some_is_none None e h = cc
 some_is_none (Some bits) e h = cc
 
 -- nothing is listed where no net has a value
-pub none_touched : (n : ℕ) → AreTouched [] (replicate n no_bits)
+pub none_touched : (n : ℕ) → ListsTouchedNets [] (replicate n no_bits)
 none_touched n = record {
   below = λ k d lt. absurd (omega (arith, lt));
   listed = λ net some. absurd (some_is_none (get_or (replicate n no_bits) net None) (none_at n net) some);
@@ -48,7 +48,7 @@ pub record IsMoved (touched : List ℕ) (place : ℕ) (start current : Current) 
 stands_from : (touched : List ℕ) (net : ℕ) → Contains touched net → StandsFrom touched 0 net
 stands_from touched net h = record { at = h.0; low = omega arith; high = h.1; is = get_or_default touched h.0 0 net h.1 ∙ h.2 }
 
-pub moved_first : (touched : List ℕ) (start : Current) → AreTouched touched start → IsMoved touched 0 start start []
+pub moved_first : (touched : List ℕ) (start : Current) → ListsTouchedNets touched start → IsMoved touched 0 start start []
 moved_first touched start h = record {
   values = refl;
   room = refl;
@@ -157,7 +157,7 @@ moved_all touched place start current moved h past =
     )
 
 -- the order of the list doesn't matter
-pub touched_sorted : (xs ys : List ℕ) (current : Current) → IsPermutation xs ys → AreTouched xs current → AreTouched ys current
+pub touched_sorted : (xs ys : List ℕ) (current : Current) → IsPermutation xs ys → ListsTouchedNets xs current → ListsTouchedNets ys current
 touched_sorted xs ys current same h = record {
   below = All-permutation (λ (net : ℕ). net < length current) xs ys same h.below;
   listed = λ net some. Contains-permutation xs ys net same (h.listed net some);

@@ -2,7 +2,7 @@
 use Rattle.std.specs.Prelude.{ℕ, List, [], ◌∷◌, ◌++◌, length, replicate, slice_set, Option, Some, None}
 use Rattle.vcd_read.specs.declared.dump.Bit.{Bit}
 use Rattle.vcd_read.specs.declared.dump.Instant.{Instant}
-use Rattle.vcd_read.specs.Progress.{values_from}
+use Rattle.vcd_read.specs.DumpProgress.{values_from}
 
 -- The instants before the one at hand, and the last value of each net at that.
 pub record Collected : Type 0 where

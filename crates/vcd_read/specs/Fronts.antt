@@ -7,7 +7,7 @@ use Rattle.vcd_read.specs.declared.fault.VcdFault.{VcdFault}
 use Rattle.vcd_read.specs.Tokens.{Token, tokens}
 use Rattle.vcd_read.specs.Header.{Declared}
 use Rattle.vcd_read.specs.Sections.{Headed, defined, header_of}
-use Rattle.vcd_read.specs.Meaning.{Fails}
+use Rattle.vcd_read.specs.Meaning.{ReadFails}
 
 -- The header that a front has, and the line that the front ends on.
 pub record ReadFront : Type 0 where
@@ -27,10 +27,10 @@ IsMetAtTheEnd kind = ⊥
 module _ {V X : Type 0} (with_variable : V → Variable → V) (declared : Declared V) (front : List ℕ) (head : X → Headed)
     (taken : X → V) where
   -- what is found of the definitions is what each text has that begins so, unless they don't end in that front
-  abbrev pub BeginsAs : Result (Option X) VcdFault → Type 0
-  BeginsAs (Ok (Some x)) = (text : List ℕ) (more : List Token)
+  abbrev pub HeaderContinuesAs : Result (Option X) VcdFault → Type 0
+  HeaderContinuesAs (Ok (Some x)) = (text : List ℕ) (more : List Token)
       → header_of with_variable text declared (tokens front ++ more) ≡ Ok (defined (going_on (head x) more) (taken x))
-  BeginsAs (Ok None) = (fault : VcdFault) × (header_of with_variable front declared (tokens front) ≡ Err fault)
+  HeaderContinuesAs (Ok None) = (fault : VcdFault) × (header_of with_variable front declared (tokens front) ≡ Err fault)
       × IsMetAtTheEnd fault.kind
-  BeginsAs (Err fault) = (text : List ℕ) (more : List Token)
-      → Fails fault (header_of with_variable text declared (tokens front ++ more))
+  HeaderContinuesAs (Err fault) = (text : List ℕ) (more : List Token)
+      → ReadFails fault (header_of with_variable text declared (tokens front ++ more))

@@ -55,9 +55,9 @@ abbrev pub ends_definitions : Section → Bool
 ends_definitions section = bytes_eq section.keyword (codes "$enddefinitions")
 
 -- between two sections, or inside one with the words so far
-pub data Place : Type 0 where
-  between : Place
-  inside : Section → Place
+pub data HeaderPlace : Type 0 where
+  between : HeaderPlace
+  inside : Section → HeaderPlace
 
 abbrev pub opened : Token → Section
 opened token = record { line = token.line; keyword = token.bytes; words = [] }
@@ -65,7 +65,7 @@ opened token = record { line = token.line; keyword = token.bytes; words = [] }
 abbrev pub with_word : Section → List ℕ → Section
 with_word section word = record section { words = section.words ++ word ∷ [] }
 
-unfoldable pub header_from : Place → List Token → Header
+unfoldable pub header_from : HeaderPlace → List Token → Header
 header_from between [] = record { items = []; body = None }
 header_from between (t ∷ ts) =
     elim (opens_section t.bytes) [
@@ -182,12 +182,12 @@ variable_in scopes net size reference = record {
 }
 
 -- a net, and the nets with it
-pub record Joined : Type 0 where
+pub record JoinedNets : Type 0 where
   pub net : ℕ
   pub nets : List Net
 
 -- the net of a code, which may have been declared before, and then with the same size
-abbrev pub net_for : List Net → List ℕ → ℕ → Option ℕ → Result Joined FaultKind
+abbrev pub net_for : List Net → List ℕ → ℕ → Option ℕ → Result JoinedNets FaultKind
 net_for nets code size None = Ok (record { net = length nets; nets = nets ++ record { code = code; size = size } ∷ [] })
 net_for nets code size (Some net) = if size_of nets net == size then Ok
     (record { net = net; nets = nets }) else Err SizeConflict

@@ -4,9 +4,9 @@ pub mod Numbers
 pub mod Header
 pub mod Body
 pub mod Meaning
-pub mod Rows
+pub mod WorkedDumps
 pub mod Reading
-pub mod Progress
+pub mod DumpProgress
 pub mod Taking
 pub mod Collected
 pub mod Touched
@@ -16,7 +16,7 @@ pub mod CodeIndexes
 pub mod Shapes
 pub mod Bodies
 pub mod Reached
-pub mod Apart
+pub mod DetachedPieces
 pub mod Scopes
 pub mod Sections
 pub mod Fronts

@@ -19,18 +19,18 @@ use Rattle.vcd_read.specs.Body.{at_the_end}
 -- ---- the instants
 
 -- a change with the time that it has
-pub record Change : Type 0 where
+pub record NetChange : Type 0 where
   pub time : ℕ
   pub net : ℕ
   pub bits : List Bit
 
-abbrev pub change_of : List Net → ℕ → List ℕ → List ℕ → Change
+abbrev pub change_of : List Net → ℕ → List ℕ → List ℕ → NetChange
 change_of nets now digits code =
     let net = unwrap_or (net_of nets code) 0 in
     record { time = now; net = net; bits = extended (size_of nets net) digits }
 
 -- a change has the time of the last time item before it, or else this one
-unfoldable pub changes_from : List Net → ℕ → List BodyItem → List Change
+unfoldable pub changes_from : List Net → ℕ → List BodyItem → List NetChange
 changes_from nets now [] = []
 changes_from nets now (time_item line digits ∷ items) = changes_from nets (number digits) items
 changes_from nets now (change line digits code ∷ items) = change_of nets now digits code ∷ changes_from nets now items
@@ -44,7 +44,7 @@ times_from now (change line digits code ∷ items) = now ∷ times_from now item
 times_from now (item ∷ items) = times_from now items
 
 -- the bits of the last of these changes that is of this net at this time
-unfoldable pub last_at : ℕ → ℕ → List Change → Option (List Bit)
+unfoldable pub last_at : ℕ → ℕ → List NetChange → Option (List Bit)
 last_at t net [] = None
 last_at t net (c ∷ changes) = elim (last_at t net changes) [
   | Some bits ↦ Some bits
@@ -54,13 +54,13 @@ last_at t net (c ∷ changes) = elim (last_at t net changes) [
 abbrev pub value_of : ℕ → List Bit → Value
 value_of net bits = record { net = net; bits = bits }
 
-abbrev pub value_at : ℕ → List Change → ℕ → Option Value
+abbrev pub value_at : ℕ → List NetChange → ℕ → Option Value
 value_at t changes net = option_map (value_of net) (last_at t net changes)
 
-abbrev pub values_at : ℕ → ℕ → List Change → List Value
+abbrev pub values_at : ℕ → ℕ → List NetChange → List Value
 values_at count t changes = filter_map (value_at t changes) (range_with_len 0 count)
 
-abbrev pub instant_at : ℕ → List Change → ℕ → Instant
+abbrev pub instant_at : ℕ → List NetChange → ℕ → Instant
 instant_at count changes t = record { time = t; values = values_at count t changes }
 
 abbrev pub instants_of : List Net → List BodyItem → List Instant
@@ -90,15 +90,15 @@ dump_of text =
 
 -- ---- what a reader answers
 
-abbrev pub FailsAs : {Y : Type 0} → ℕ → FaultKind → Result Y VcdFault → Type 0
-FailsAs line Memory read = line ≡ 0
-FailsAs line kind read = read ≡ Err (record { line = line; kind = kind })
+abbrev pub ReadFailsAs : {Y : Type 0} → ℕ → FaultKind → Result Y VcdFault → Type 0
+ReadFailsAs line Memory read = line ≡ 0
+ReadFailsAs line kind read = read ≡ Err (record { line = line; kind = kind })
 
 -- the fault is what reading gives, unless memory ran out
-abbrev pub Fails : {Y : Type 0} → VcdFault → Result Y VcdFault → Type 0
-Fails fault read = FailsAs fault.line fault.kind read
+abbrev pub ReadFails : {Y : Type 0} → VcdFault → Result Y VcdFault → Type 0
+ReadFails fault read = ReadFailsAs fault.line fault.kind read
 
 -- what a function returned, seen by view, is what reading gives, unless memory ran out
-abbrev pub Gives : {X Y : Type 0} → (X → Y) → Result X VcdFault → Result Y VcdFault → Type 0
-Gives view (Ok x) read = read ≡ Ok (view x)
-Gives view (Err fault) read = Fails fault read
+abbrev pub ReadGives : {X Y : Type 0} → (X → Y) → Result X VcdFault → Result Y VcdFault → Type 0
+ReadGives view (Ok x) read = read ≡ Ok (view x)
+ReadGives view (Err fault) read = ReadFails fault read

@@ -24,7 +24,7 @@ abbrev pub reached : {T A : Type 0} → (T → A) → Pieces T → Reached A
 reached taken p =
     record {
       nets = p.codes;
-      progress = taking (taken p.underway.waves.taker) p.underway.waves.clock;
+      progress = taking (taken p.underway.timed.visitor) p.underway.timed.clock;
       bracket = p.underway.bracket;
       place = place_of p.underway.place;
       line = p.line;

@@ -12,7 +12,7 @@ use Rattle.vcd_read.specs.Tokens.{Token}
 use Rattle.vcd_read.specs.Header.{◌>>=◌, VarWords, Header, header_from, between, is_end, opens_section, Net, Declared}
 use Rattle.vcd_read.specs.Header.{declare_all}
 use Rattle.vcd_read.specs.Scopes.{texts}
-use Rattle.vcd_read.specs.Meaning.{body_of, Fails}
+use Rattle.vcd_read.specs.Meaning.{body_of, ReadFails}
 
 -- ---- a section
 
@@ -60,9 +60,9 @@ abbrev pub var_of : VarSection → VarWords
 var_of var = record { size = var.size; code = var.code.now; reference = concat (texts var.reference.now) }
 
 -- what a function returned, seen by view, is this
-abbrev pub Answers : {X Y E : Type 0} → (X → Y) → Result X E → Result Y E → Type 0
-Answers view (Ok x) read = read ≡ Ok (view x)
-Answers view (Err e) read = read ≡ Err e
+abbrev pub ReturnsAs : {X Y E : Type 0} → (X → Y) → Result X E → Result Y E → Type 0
+ReturnsAs view (Ok x) read = read ≡ Ok (view x)
+ReturnsAs view (Err e) read = read ≡ Err e
 
 -- ---- the whole header
 
@@ -97,8 +97,8 @@ module _ {V : Type 0} (with_variable : V → Variable → V) where
 
 -- whether the definitions go on behind a section: reading the header gives then what it gave before, and otherwise it
 -- gives this
-abbrev pub Continues : {V : Type 0} → Result (Defined V) VcdFault → Result (Defined V) VcdFault → Defined V
+abbrev pub SectionContinuesAs : {V : Type 0} → Result (Defined V) VcdFault → Result (Defined V) VcdFault → Defined V
     → Result Bool VcdFault → Type 0
-Continues before after end (Ok true) = before ≡ after
-Continues before after end (Ok false) = before ≡ Ok end
-Continues before after end (Err fault) = Fails fault before
+SectionContinuesAs before after end (Ok true) = before ≡ after
+SectionContinuesAs before after end (Ok false) = before ≡ Ok end
+SectionContinuesAs before after end (Err fault) = ReadFails fault before

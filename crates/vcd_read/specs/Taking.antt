@@ -3,12 +3,12 @@ use Rattle.std.specs.Prelude.{ℕ, Bool, true, false, ◌&&◌, not, ◌==◌, i
 use Rattle.std.specs.Prelude.{option_map, unwrap_or, Result, Ok}
 use Rattle.vcd_read.specs.declared.dump.Bit.{Bit}
 use Rattle.vcd_read.specs.declared.fault.VcdFault.{VcdFault}
-use Rattle.vcd_read.specs.declared.waves.Clock.{Clock}
+use Rattle.vcd_read.specs.declared.timed_visitor.Clock.{Clock}
 use Rattle.vcd_read.specs.Tokens.{Token}
 use Rattle.vcd_read.specs.Numbers.{number, extended}
 use Rattle.vcd_read.specs.Reading.{line_of}
-use Rattle.vcd_read.specs.declared.piece.Piece.{Piece}
-use Rattle.vcd_read.specs.declared.piece.Start.{Start}
+use Rattle.vcd_read.specs.declared.body_piece.BodyPiece.{BodyPiece}
+use Rattle.vcd_read.specs.declared.body_piece.Start.{Start}
 use Rattle.vcd_read.specs.Header.{◌>>=◌, Net, net_of, size_of}
 use Rattle.vcd_read.specs.Body.{BodyItem, time_item, change, Standing, stand_after, at_the_end, ready, body_from}
 
@@ -28,11 +28,11 @@ pub record State (A : Type 0) : Type 0 where
 
 -- how far a body is read, with the line of the bracket that is open
 abbrev pub state_at : {A : Type 0} → Taking A → Option ℕ → State A
-state_at waves bracket = record { standing = record { now = waves.time; bracket = bracket }; progress = waves }
+state_at timed bracket = record { standing = record { now = timed.time; bracket = bracket }; progress = timed }
 
 -- the same, where it starts in the piece that is read, or before it
-abbrev pub state_of : {A : Type 0} → Piece → Taking A → Option Start → State A
-state_of text waves bracket = state_at waves (option_map (line_of text) bracket)
+abbrev pub state_of : {A : Type 0} → BodyPiece → Taking A → Option Start → State A
+state_of text timed bracket = state_at timed (option_map (line_of text) bracket)
 
 -- before any item
 abbrev pub at_first : {A : Type 0} → A → State A

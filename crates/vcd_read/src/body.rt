@@ -6,40 +6,40 @@ ghost use Rattle.std.specs.Option.{ForSome};
 ghost use Rattle.vcd_read.specs.Tokens.{is_space};
 ghost use Rattle.vcd_read.specs.Numbers.{time_of};
 ghost use Rattle.vcd_read.specs.Reading.{IsStart, left_at, line_of};
-ghost use Rattle.vcd_read.specs.declared.piece.Piece.{Piece};
+ghost use Rattle.vcd_read.specs.declared.body_piece.BodyPiece.{BodyPiece};
 ghost use Rattle.vcd_read.specs.Body.{time_item, change, skipped, bracket_open, bracket_end, ready, code_of_vector};
 ghost use Rattle.vcd_read.specs.Body.{code_of_foreign, in_comment};
 ghost use Rattle.vcd_read.specs.Taking.{taking, state_of, step};
-ghost use Rattle.vcd_read.specs.Bodies.{Leads, Leaves, ahead, place_of, remaining_in, from_token};
-ghost use Rattle.vcd_read.specs.Meaning.{Gives};
-ghost use Rattle.vcd_read.specs.declared.place.Place.TheVariants.{Ready};
+ghost use Rattle.vcd_read.specs.Bodies.{BodyContinuesTo, BodyContinuesAs, ahead, place_of, remaining_in, from_token};
+ghost use Rattle.vcd_read.specs.Meaning.{ReadGives};
+ghost use Rattle.vcd_read.specs.declared.open_item.OpenItem.TheVariants.{Ready};
 
+use crate::body_piece::Start;
+use crate::body_state::BodyState;
+use crate::change_visitor::ChangeVisitor;
 use crate::codes::Codes;
 use crate::fault::{FaultKind, VcdFault};
 use crate::number::decimal;
-use crate::piece::Start;
-use crate::place::{Digits, Place};
+use crate::open_item::{Digits, OpenItem};
 use crate::shape::{Shape, is_end, shape_of};
-use crate::taker::Taker;
+use crate::timed_visitor::TimedVisitor;
 use crate::token::{Reader, Token};
-use crate::underway::Underway;
-use crate::waves::Waves;
 use std::alloc::Global;
 use std::mem;
 
 /// A piece of a body that is read.
 #[derive(Drop)]
-pub(crate) struct Body<'a, 'c, T: Taker> {
+pub(crate) struct Body<'a, 'c, T: ChangeVisitor> {
     reader: Reader<'a>,
     codes: &'c Codes,
-    waves: Waves<T>,
+    timed: TimedVisitor<T>,
     /// Where the bracket that is open starts.
     bracket: Option<Start>,
-    place: Place,
+    place: OpenItem,
     ghost bracket_within: { ForSome bracket (λ start. IsStart reader.text start) },
 }
 
-impl<'a, 'c, T: Taker> Body<'a, 'c, T> {
+impl<'a, 'c, T: ChangeVisitor> Body<'a, 'c, T> {
     // Each of these reads one item, or begins it, and answers whether another may follow in the piece.
 
     /// Reads one item, if there is one left.
@@ -50,11 +50,11 @@ impl<'a, 'c, T: Taker> Body<'a, 'c, T> {
         ensures moves { result ≡ Ok true → self.old.reader.at < self.new.reader.at }
         ensures between { result ≡ Ok true → self.new.place ≡ Ready }
         ensures end { result ≡ Ok false → left_at self.new.reader.text self.new.reader.at ≡ [] }
-        ensures rest { Leaves
+        ensures rest { BodyContinuesAs
             (remaining_in T.with_change T.with_instant (place_of self.old.place) self.old.codes.now self.old.reader
-            (taking (T.taken self.old.waves.taker) self.old.waves.clock) self.old.bracket)
+            (taking (T.taken self.old.timed.visitor) self.old.timed.clock) self.old.bracket)
             (remaining_in T.with_change T.with_instant (place_of self.new.place) self.new.codes.now self.new.reader
-            (taking (T.taken self.new.waves.taker) self.new.waves.clock) self.new.bracket) result }
+            (taking (T.taken self.new.timed.visitor) self.new.timed.clock) self.new.bracket) result }
     {
         let Some(at) = self.reader.start() else {
             return Ok(false);
@@ -75,11 +75,11 @@ impl<'a, 'c, T: Taker> Body<'a, 'c, T> {
         ensures moves { self.old.reader.at < self.new.reader.at }
         ensures between { result ≡ Ok true → self.new.place ≡ Ready }
         ensures end { result ≡ Ok false → left_at self.new.reader.text self.new.reader.at ≡ [] }
-        ensures rest { Leaves
+        ensures rest { BodyContinuesAs
             (remaining_in T.with_change T.with_instant ready self.old.codes.now self.old.reader
-            (taking (T.taken self.old.waves.taker) self.old.waves.clock) self.old.bracket)
+            (taking (T.taken self.old.timed.visitor) self.old.timed.clock) self.old.bracket)
             (remaining_in T.with_change T.with_instant (place_of self.new.place) self.new.codes.now self.new.reader
-            (taking (T.taken self.new.waves.taker) self.new.waves.clock) self.new.bracket) result }
+            (taking (T.taken self.new.timed.visitor) self.new.timed.clock) self.new.bracket) result }
     {
         if let Some(short) = self.reader.short_time() {
             return self.go_to(alloc, Start::Here(at), short.time);
@@ -100,11 +100,11 @@ impl<'a, 'c, T: Taker> Body<'a, 'c, T> {
         ensures moves { self.old.reader.at ≤ self.new.reader.at }
         ensures between { result ≡ Ok true → self.new.place ≡ Ready }
         ensures end { result ≡ Ok false → left_at self.new.reader.text self.new.reader.at ≡ [] }
-        ensures rest { Leaves
+        ensures rest { BodyContinuesAs
             (from_token T.with_change T.with_instant token.entry.at token.entry.bytes.now self.old.codes.now
-            self.old.reader (taking (T.taken self.old.waves.taker) self.old.waves.clock) self.old.bracket)
+            self.old.reader (taking (T.taken self.old.timed.visitor) self.old.timed.clock) self.old.bracket)
             (remaining_in T.with_change T.with_instant (place_of self.new.place) self.new.codes.now self.new.reader
-            (taking (T.taken self.new.waves.taker) self.new.waves.clock) self.new.bracket) result }
+            (taking (T.taken self.new.timed.visitor) self.new.timed.clock) self.new.bracket) result }
     {
         let start = Start::Here(token.at);
         match shape_of(token.bytes) {
@@ -124,10 +124,10 @@ impl<'a, 'c, T: Taker> Body<'a, 'c, T> {
         ensures same { (self.new.reader ≡ self.old.reader) × (self.new.codes ≡ self.old.codes)
             × (self.new.place ≡ self.old.place) }
         ensures goes_on { IfOk result (λ goes_on. goes_on ≡ true) }
-        ensures step { Gives (λ _. state_of self.new.reader.text
-            (taking (T.taken self.new.waves.taker) self.new.waves.clock) self.new.bracket) result
+        ensures step { ReadGives (λ _. state_of self.new.reader.text
+            (taking (T.taken self.new.timed.visitor) self.new.timed.clock) self.new.bracket) result
             (step T.with_change T.with_instant self.old.codes.now (state_of self.old.reader.text
-            (taking (T.taken self.old.waves.taker) self.old.waves.clock) self.old.bracket)
+            (taking (T.taken self.old.timed.visitor) self.old.timed.clock) self.old.bracket)
             (time_item (line_of self.old.reader.text start) digits.now)) }
     {
         match decimal(digits, u64::MAX, FaultKind::BadToken) {
@@ -143,16 +143,16 @@ impl<'a, 'c, T: Taker> Body<'a, 'c, T> {
         ensures same { (self.new.reader ≡ self.old.reader) × (self.new.codes ≡ self.old.codes)
             × (self.new.place ≡ self.old.place) }
         ensures goes_on { IfOk result (λ goes_on. goes_on ≡ true) }
-        ensures step { (digits : List ℕ) → time_of digits ≡ Ok time → Gives (λ _. state_of self.new.reader.text
-            (taking (T.taken self.new.waves.taker) self.new.waves.clock) self.new.bracket) result
+        ensures step { (digits : List ℕ) → time_of digits ≡ Ok time → ReadGives (λ _. state_of self.new.reader.text
+            (taking (T.taken self.new.timed.visitor) self.new.timed.clock) self.new.bracket) result
             (step T.with_change T.with_instant self.old.codes.now (state_of self.old.reader.text
-            (taking (T.taken self.old.waves.taker) self.old.waves.clock) self.old.bracket)
+            (taking (T.taken self.old.timed.visitor) self.old.timed.clock) self.old.bracket)
             (time_item (line_of self.old.reader.text start) digits)) }
     {
-        if time < self.waves.clock.time {
+        if time < self.timed.clock.time {
             return Err(self.reader.fault(start, FaultKind::TimeBackwards));
         }
-        self.waves.advance(alloc, time)?;
+        self.timed.advance(alloc, time)?;
         Ok(true)
     }
 
@@ -169,10 +169,10 @@ impl<'a, 'c, T: Taker> Body<'a, 'c, T> {
         ensures same { (self.new.reader ≡ self.old.reader) × (self.new.codes ≡ self.old.codes)
             × (self.new.place ≡ self.old.place) }
         ensures goes_on { IfOk result (λ goes_on. goes_on ≡ true) }
-        ensures step { Gives (λ _. state_of self.new.reader.text
-            (taking (T.taken self.new.waves.taker) self.new.waves.clock) self.new.bracket) result
+        ensures step { ReadGives (λ _. state_of self.new.reader.text
+            (taking (T.taken self.new.timed.visitor) self.new.timed.clock) self.new.bracket) result
             (step T.with_change T.with_instant self.old.codes.now (state_of self.old.reader.text
-            (taking (T.taken self.old.waves.taker) self.old.waves.clock) self.old.bracket)
+            (taking (T.taken self.old.timed.visitor) self.old.timed.clock) self.old.bracket)
             (change (line_of self.old.reader.text start) digits.now code.now)) }
     {
         let net = match self.codes.net(code) {
@@ -183,7 +183,7 @@ impl<'a, 'c, T: Taker> Body<'a, 'c, T> {
         if digits.len() > size as usize {
             return Err(self.reader.fault(start, FaultKind::TooWide));
         }
-        self.waves.change(alloc, net, size, digits)?;
+        self.timed.change(alloc, net, size, digits)?;
         Ok(true)
     }
 
@@ -197,18 +197,18 @@ impl<'a, 'c, T: Taker> Body<'a, 'c, T> {
         ensures moves { self.old.reader.at ≤ self.new.reader.at }
         ensures between { result ≡ Ok true → self.new.place ≡ Ready }
         ensures end { result ≡ Ok false → left_at self.new.reader.text self.new.reader.at ≡ [] }
-        ensures rest { Leaves
+        ensures rest { BodyContinuesAs
             (remaining_in T.with_change T.with_instant (code_of_vector (line_of self.old.reader.text start) digits.now)
             self.old.codes.now self.old.reader
-            (taking (T.taken self.old.waves.taker) self.old.waves.clock) self.old.bracket)
+            (taking (T.taken self.old.timed.visitor) self.old.timed.clock) self.old.bracket)
             (remaining_in T.with_change T.with_instant (place_of self.new.place) self.new.codes.now self.new.reader
-            (taking (T.taken self.new.waves.taker) self.new.waves.clock) self.new.bracket) result }
+            (taking (T.taken self.new.timed.visitor) self.new.timed.clock) self.new.bracket) result }
     {
         match self.reader.next() {
             Some(code) => self.change(alloc, start, digits, code.bytes),
             None => {
                 let line = self.reader.line(start);
-                self.place = Place::Vector(Digits::new(alloc, line, digits)?);
+                self.place = OpenItem::Vector(Digits::new(alloc, line, digits)?);
                 Ok(false)
             }
         }
@@ -223,17 +223,17 @@ impl<'a, 'c, T: Taker> Body<'a, 'c, T> {
         ensures moves { self.old.reader.at ≤ self.new.reader.at }
         ensures between { result ≡ Ok true → self.new.place ≡ Ready }
         ensures end { result ≡ Ok false → left_at self.new.reader.text self.new.reader.at ≡ [] }
-        ensures rest { Leaves
+        ensures rest { BodyContinuesAs
             (remaining_in T.with_change T.with_instant (code_of_foreign (line_of self.old.reader.text start))
             self.old.codes.now self.old.reader
-            (taking (T.taken self.old.waves.taker) self.old.waves.clock) self.old.bracket)
+            (taking (T.taken self.old.timed.visitor) self.old.timed.clock) self.old.bracket)
             (remaining_in T.with_change T.with_instant (place_of self.new.place) self.new.codes.now self.new.reader
-            (taking (T.taken self.new.waves.taker) self.new.waves.clock) self.new.bracket) result }
+            (taking (T.taken self.new.timed.visitor) self.new.timed.clock) self.new.bracket) result }
     {
         match self.reader.next() {
             Some(code) => self.skip(start, code.bytes),
             None => {
-                self.place = Place::Foreign(self.reader.line(start));
+                self.place = OpenItem::Foreign(self.reader.line(start));
                 Ok(false)
             }
         }
@@ -242,10 +242,10 @@ impl<'a, 'c, T: Taker> Body<'a, 'c, T> {
     fn skip(&self, start: Start, code: &[u8]) -> Result<bool, VcdFault>
         requires { IsStart self.now.reader.text start }
         ensures goes_on { IfOk result (λ goes_on. goes_on ≡ true) }
-        ensures step { Gives (λ _. state_of self.entry.now.reader.text
-            (taking (T.taken self.entry.now.waves.taker) self.entry.now.waves.clock) self.entry.now.bracket) result
+        ensures step { ReadGives (λ _. state_of self.entry.now.reader.text
+            (taking (T.taken self.entry.now.timed.visitor) self.entry.now.timed.clock) self.entry.now.bracket) result
             (step T.with_change T.with_instant self.entry.now.codes.now (state_of self.entry.now.reader.text
-            (taking (T.taken self.entry.now.waves.taker) self.entry.now.waves.clock) self.entry.now.bracket)
+            (taking (T.taken self.entry.now.timed.visitor) self.entry.now.timed.clock) self.entry.now.bracket)
             (skipped (line_of self.entry.now.reader.text start) code.now)) }
     {
         match self.codes.net(code) {
@@ -263,19 +263,19 @@ impl<'a, 'c, T: Taker> Body<'a, 'c, T> {
         ensures moves { self.old.reader.at ≤ self.new.reader.at }
         ensures between { result ≡ Ok true → self.new.place ≡ Ready }
         ensures end { result ≡ Ok false → left_at self.new.reader.text self.new.reader.at ≡ [] }
-        ensures rest { Leaves
+        ensures rest { BodyContinuesAs
             (remaining_in T.with_change T.with_instant (in_comment (line_of self.old.reader.text start))
             self.old.codes.now self.old.reader
-            (taking (T.taken self.old.waves.taker) self.old.waves.clock) self.old.bracket)
+            (taking (T.taken self.old.timed.visitor) self.old.timed.clock) self.old.bracket)
             (remaining_in T.with_change T.with_instant (place_of self.new.place) self.new.codes.now self.new.reader
-            (taking (T.taken self.new.waves.taker) self.new.waves.clock) self.new.bracket) result }
+            (taking (T.taken self.new.timed.visitor) self.new.timed.clock) self.new.bracket) result }
     {
         while let Some(word) = self.reader.next() {
             if is_end(word.bytes) {
                 return Ok(true);
             }
         }
-        self.place = Place::Comment(self.reader.line(start));
+        self.place = OpenItem::Comment(self.reader.line(start));
         Ok(false)
     }
 
@@ -284,10 +284,10 @@ impl<'a, 'c, T: Taker> Body<'a, 'c, T> {
         ensures same { (self.new.reader ≡ self.old.reader) × (self.new.codes ≡ self.old.codes)
             × (self.new.place ≡ self.old.place) }
         ensures goes_on { IfOk result (λ goes_on. goes_on ≡ true) }
-        ensures step { Gives (λ _. state_of self.new.reader.text
-            (taking (T.taken self.new.waves.taker) self.new.waves.clock) self.new.bracket) result
+        ensures step { ReadGives (λ _. state_of self.new.reader.text
+            (taking (T.taken self.new.timed.visitor) self.new.timed.clock) self.new.bracket) result
             (step T.with_change T.with_instant self.old.codes.now (state_of self.old.reader.text
-            (taking (T.taken self.old.waves.taker) self.old.waves.clock) self.old.bracket)
+            (taking (T.taken self.old.timed.visitor) self.old.timed.clock) self.old.bracket)
             (bracket_open (line_of self.old.reader.text start))) }
     {
         if self.bracket.is_some() {
@@ -302,10 +302,10 @@ impl<'a, 'c, T: Taker> Body<'a, 'c, T> {
         ensures same { (self.new.reader ≡ self.old.reader) × (self.new.codes ≡ self.old.codes)
             × (self.new.place ≡ self.old.place) }
         ensures goes_on { IfOk result (λ goes_on. goes_on ≡ true) }
-        ensures step { Gives (λ _. state_of self.new.reader.text
-            (taking (T.taken self.new.waves.taker) self.new.waves.clock) self.new.bracket) result
+        ensures step { ReadGives (λ _. state_of self.new.reader.text
+            (taking (T.taken self.new.timed.visitor) self.new.timed.clock) self.new.bracket) result
             (step T.with_change T.with_instant self.old.codes.now (state_of self.old.reader.text
-            (taking (T.taken self.old.waves.taker) self.old.waves.clock) self.old.bracket)
+            (taking (T.taken self.old.timed.visitor) self.old.timed.clock) self.old.bracket)
             (bracket_end (line_of self.old.reader.text start))) }
     {
         if self.bracket.is_none() {
@@ -321,19 +321,19 @@ impl<'a, 'c, T: Taker> Body<'a, 'c, T> {
         ensures text { self.new.reader.text ≡ self.old.reader.text }
         ensures between { result ≡ Ok true → self.new.place ≡ Ready }
         ensures end { result ≡ Ok false → left_at self.new.reader.text self.new.reader.at ≡ [] }
-        ensures rest { Leaves
+        ensures rest { BodyContinuesAs
             (remaining_in T.with_change T.with_instant (place_of self.old.place) self.old.codes.now self.old.reader
-            (taking (T.taken self.old.waves.taker) self.old.waves.clock) self.old.bracket)
+            (taking (T.taken self.old.timed.visitor) self.old.timed.clock) self.old.bracket)
             (remaining_in T.with_change T.with_instant (place_of self.new.place) self.new.codes.now self.new.reader
-            (taking (T.taken self.new.waves.taker) self.new.waves.clock) self.new.bracket) result }
+            (taking (T.taken self.new.timed.visitor) self.new.timed.clock) self.new.bracket) result }
     {
-        match mem::replace(&mut self.place, Place::Ready) {
-            Place::Ready => Ok(true),
-            Place::Vector(digits) => {
+        match mem::replace(&mut self.place, OpenItem::Ready) {
+            OpenItem::Ready => Ok(true),
+            OpenItem::Vector(digits) => {
                 self.vector(alloc, Start::Before(digits.line), digits.bytes.as_slice())
             }
-            Place::Foreign(line) => self.foreign(Start::Before(line)),
-            Place::Comment(line) => self.comment(Start::Before(line)),
+            OpenItem::Foreign(line) => self.foreign(Start::Before(line)),
+            OpenItem::Comment(line) => self.comment(Start::Before(line)),
         }
     }
 
@@ -342,11 +342,11 @@ impl<'a, 'c, T: Taker> Body<'a, 'c, T> {
         ensures codes { self.new.codes ≡ self.old.codes }
         ensures text { self.new.reader.text ≡ self.old.reader.text }
         ensures end { OnOk result (left_at self.new.reader.text self.new.reader.at ≡ []) }
-        ensures rest { Leaves
+        ensures rest { BodyContinuesAs
             (remaining_in T.with_change T.with_instant (place_of self.old.place) self.old.codes.now self.old.reader
-            (taking (T.taken self.old.waves.taker) self.old.waves.clock) self.old.bracket)
+            (taking (T.taken self.old.timed.visitor) self.old.timed.clock) self.old.bracket)
             (remaining_in T.with_change T.with_instant (place_of self.new.place) self.new.codes.now self.new.reader
-            (taking (T.taken self.new.waves.taker) self.new.waves.clock) self.new.bracket) result }
+            (taking (T.taken self.new.timed.visitor) self.new.timed.clock) self.new.bracket) result }
     {
         if !self.resume(alloc)? {
             return Ok(());
@@ -356,9 +356,9 @@ impl<'a, 'c, T: Taker> Body<'a, 'c, T> {
     }
 
     /// How far the body is read, behind the piece.
-    fn end(self) -> Underway<T>
-        ensures taken { T.taken result.waves.taker ≡ T.taken self.entry.waves.taker }
-        ensures clock { result.waves.clock ≡ self.entry.waves.clock }
+    fn end(self) -> BodyState<T>
+        ensures taken { T.taken result.timed.visitor ≡ T.taken self.entry.timed.visitor }
+        ensures clock { result.timed.clock ≡ self.entry.timed.clock }
         ensures bracket { result.bracket ≡ option_map (line_of self.entry.reader.text) self.entry.bracket }
         ensures place { result.place ≡ self.entry.place }
     {
@@ -366,8 +366,8 @@ impl<'a, 'c, T: Taker> Body<'a, 'c, T> {
             Some(start) => Some(self.reader.line(start)),
             None => None,
         };
-        Underway {
-            waves: self.waves,
+        BodyState {
+            timed: self.timed,
             bracket,
             place: self.place,
         }
@@ -376,8 +376,8 @@ impl<'a, 'c, T: Taker> Body<'a, 'c, T> {
 
 /// What starts on a line, in the piece that follows it.
 fn on_line(line: Option<u64>) -> Option<Start>
-    ensures line { (text : Piece) → option_map (line_of text) result ≡ line }
-    ensures start { (text : Piece) → ForSome result (λ start. IsStart text start) }
+    ensures line { (text : BodyPiece) → option_map (line_of text) result ≡ line }
+    ensures start { (text : BodyPiece) → ForSome result (λ start. IsStart text start) }
 {
     match line {
         Some(line) => Some(Start::Before(line)),
@@ -386,26 +386,26 @@ fn on_line(line: Option<u64>) -> Option<Start>
 }
 
 /// Reads what is left of a piece of a body, from where the body was read to.
-pub(crate) fn read_piece<T: Taker>(
+pub(crate) fn read_piece<T: ChangeVisitor>(
     alloc: Global,
     reader: Reader<'_>,
     codes: &Codes,
-    underway: Underway<T>,
-) -> Result<Underway<T>, VcdFault>
-    ensures { Leads (λ u. ahead T.with_change T.with_instant codes.now (taking (T.taken u.waves.taker) u.waves.clock)
+    underway: BodyState<T>,
+) -> Result<BodyState<T>, VcdFault>
+    ensures { BodyContinuesTo (λ u. ahead T.with_change T.with_instant codes.now (taking (T.taken u.timed.visitor) u.timed.clock)
         u.bracket (place_of u.place) []) result
-        (ahead T.with_change T.with_instant codes.now (taking (T.taken underway.waves.taker) underway.waves.clock)
+        (ahead T.with_change T.with_instant codes.now (taking (T.taken underway.timed.visitor) underway.timed.clock)
         underway.bracket (place_of underway.place) (left_at reader.entry.text reader.entry.at)) }
 {
-    let Underway {
-        waves,
+    let BodyState {
+        timed,
         bracket,
         place,
     } = underway;
     let mut body = Body {
         reader,
         codes,
-        waves,
+        timed,
         bracket: on_line(bracket),
         place,
     };

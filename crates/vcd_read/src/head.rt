@@ -3,20 +3,20 @@
 ghost use Rattle.std.specs.Prelude.{◌≡◌, ◌++◌, [], length, IfOk};
 ghost use Rattle.vcd_read.specs.Header.{nothing_declared};
 ghost use Rattle.vcd_read.specs.Tokens.{tokens};
-ghost use Rattle.vcd_read.specs.Meaning.{Gives};
+ghost use Rattle.vcd_read.specs.Meaning.{ReadGives};
 ghost use Rattle.vcd_read.specs.Sections.{defined, header_of};
 ghost use Rattle.vcd_read.specs.Body.{body_from, ready};
-ghost use Rattle.vcd_read.specs.Bodies.{Leads, ahead, place_of};
+ghost use Rattle.vcd_read.specs.Bodies.{BodyContinuesTo, ahead, place_of};
 ghost use Rattle.vcd_read.specs.Taking.{at_first, steps, taken_from, taking};
 
 use crate::body::read_piece;
+use crate::body_state::BodyState;
+use crate::change_visitor::ChangeVisitor;
 use crate::codes::Codes;
-use crate::declarations::Declarations;
+use crate::declaration_visitor::DeclarationVisitor;
 use crate::fault::VcdFault;
 use crate::header::{Definitions, read_header};
-use crate::taker::Taker;
 use crate::token::Reader;
-use crate::underway::Underway;
 use std::alloc::Global;
 use std::marker::Model;
 
@@ -38,13 +38,13 @@ impl<'a> Model for Head<'a> {
 
 /// Reads the definitions of a text, and gives its scopes and variables to what takes them, in the order of the text.
 /// The first fault met is named.
-pub fn read_definitions<D: Declarations>(
+pub fn read_definitions<D: DeclarationVisitor>(
     alloc: Global,
     text: &[u8],
     declarations: D,
 ) -> Result<(Head<'_>, D), VcdFault>
     requires { D.scopes declarations ≡ [] }
-    ensures { Gives (λ made. defined made.0 (D.taken made.1)) result
+    ensures { ReadGives (λ made. defined made.0 (D.taken made.1)) result
         (header_of D.with_variable text.now (nothing_declared (D.taken declarations)) (tokens text.now)) }
 {
     let mut reader = Reader::new(text);
@@ -64,32 +64,32 @@ impl<'a> Head<'a> {
     }
 
     /// Gives the changes of the body to a taker, and ends the last instant. The first fault met is named.
-    pub fn read_body<T: Taker>(&self, alloc: Global, taker: T) -> Result<T, VcdFault>
-        ensures { Gives (λ t. T.taken t) result (taken_from T.with_change T.with_instant self.now.nets
-            (T.taken taker) self.now.body) }
+    pub fn read_body<T: ChangeVisitor>(&self, alloc: Global, visitor: T) -> Result<T, VcdFault>
+        ensures { ReadGives (λ t. T.taken t) result (taken_from T.with_change T.with_instant self.now.nets
+            (T.taken visitor) self.now.body) }
     {
         let reader = Reader {
             text: self.reader.text,
             at: self.reader.at,
         };
-        let underway = read_piece(alloc, reader, &self.codes, Underway::new(taker))?;
+        let underway = read_piece(alloc, reader, &self.codes, BodyState::new(visitor))?;
         underway.finish(alloc)
     }
 
     /// Gives the changes of what the text has of the body to a taker. The body may go on behind the text.
-    pub(crate) fn begin<T: Taker>(
+    pub(crate) fn begin<T: ChangeVisitor>(
         self,
         alloc: Global,
-        taker: T,
-    ) -> Result<(Codes, Underway<T>), VcdFault>
+        visitor: T,
+    ) -> Result<(Codes, BodyState<T>), VcdFault>
         ensures codes { IfOk result (λ made. made.0 ≡ self.entry.nets) }
-        ensures rest { Leads (λ made. ahead T.with_change T.with_instant self.entry.nets
-            (taking (T.taken made.1.waves.taker) made.1.waves.clock) made.1.bracket (place_of made.1.place) []) result
-            (λ more. steps T.with_change T.with_instant self.entry.nets (at_first (T.taken taker))
+        ensures rest { BodyContinuesTo (λ made. ahead T.with_change T.with_instant self.entry.nets
+            (taking (T.taken made.1.timed.visitor) made.1.timed.clock) made.1.bracket (place_of made.1.place) []) result
+            (λ more. steps T.with_change T.with_instant self.entry.nets (at_first (T.taken visitor))
             (body_from ready (self.entry.body ++ more))) }
     {
         let Head { reader, codes } = self;
-        let underway = read_piece(alloc, reader, &codes, Underway::new(taker))?;
+        let underway = read_piece(alloc, reader, &codes, BodyState::new(visitor))?;
         Ok((codes, underway))
     }
 }

@@ -7,16 +7,16 @@ ghost use Rattle.vcd_read.specs.Reading.{line_at, left_at, token_at};
 ghost use Rattle.vcd_read.specs.Header.{is_code, is_end, opens_section, var_words, reference_of, net_of, net_for};
 ghost use Rattle.vcd_read.specs.Header.{variable_in, at_line, declare_var, nothing_declared, header_from, between};
 ghost use Rattle.vcd_read.specs.Scopes.{texts};
-ghost use Rattle.vcd_read.specs.Meaning.{Gives};
+ghost use Rattle.vcd_read.specs.Meaning.{ReadGives};
 ghost use Rattle.vcd_read.specs.declared.fault.FaultKind.TheVariants.{SizeConflict};
-ghost use Rattle.vcd_read.specs.Sections.{opening_of, var_of, Answers, section_from, behind_section, declared_in};
-ghost use Rattle.vcd_read.specs.Sections.{Continues, headed, header_of};
+ghost use Rattle.vcd_read.specs.Sections.{opening_of, var_of, ReturnsAs, section_from, behind_section, declared_in};
+ghost use Rattle.vcd_read.specs.Sections.{SectionContinuesAs, headed, header_of};
 
+use crate::body_piece::Start;
 use crate::codes::Codes;
-use crate::declarations::{Declaration, Declarations};
+use crate::declaration_visitor::{Declaration, DeclarationVisitor};
 use crate::fault::{FaultKind, VcdFault};
 use crate::number::decimal;
-use crate::piece::Start;
 use crate::reference::{Reference, reference_of};
 use crate::shape::is_end;
 use crate::token::{Reader, Token};
@@ -27,7 +27,7 @@ const MAX_SIZE: u64 = 65_536;
 
 /// What the sections so far declare.
 #[derive(Drop)]
-pub(crate) struct Definitions<D: Declarations> {
+pub(crate) struct Definitions<D: DeclarationVisitor> {
     pub codes: Codes,
     /// What takes the scopes and the variables.
     pub declarations: D,
@@ -87,7 +87,7 @@ fn opening_of(word: &[u8]) -> Opening
 
 /// Reads the section of a variable, by its words.
 fn var_section<'w>(words: &'w [&'w [u8]]) -> Result<VarSection<'w>, FaultKind>
-    ensures { Answers var_of result (var_words (texts words.now)) }
+    ensures { ReturnsAs var_of result (var_words (texts words.now)) }
 {
     let [_, size, code, reference @ ..] = words else {
         return Err(FaultKind::BadVar);
@@ -115,7 +115,7 @@ fn words_of<'a>(
     requires { first ≤ length reader.old.text.bytes.now }
     ensures text { reader.new.text ≡ reader.old.text }
     ensures moves { OnOk result (reader.old.at ≤ reader.new.at) }
-    ensures words { Gives
+    ensures words { ReadGives
         (λ words. record { words = texts words.items; rest = left_at reader.old.text reader.new.at }) result
         (section_from (line_at reader.old.text first) (left_at reader.old.text reader.old.at)) }
     ensures each { IfOk result (λ words. All (λ word. 0 < length word.now) words.items) }
@@ -135,7 +135,7 @@ fn skip_section(reader: &mut Reader<'_>, first: usize) -> Result<(), VcdFault>
     requires { first ≤ length reader.old.text.bytes.now }
     ensures text { reader.new.text ≡ reader.old.text }
     ensures moves { OnOk result (reader.old.at ≤ reader.new.at) }
-    ensures rest { Gives (λ _. left_at reader.old.text reader.new.at) result
+    ensures rest { ReadGives (λ _. left_at reader.old.text reader.new.at) result
         (behind_section (line_at reader.old.text first) (left_at reader.old.text reader.old.at)) }
 {
     while let Some(token) = reader.next() {
@@ -183,7 +183,7 @@ fn net_for(
 }
 
 /// Gives the variable that a section declares on this net to what takes them.
-fn declare_on<D: Declarations>(
+fn declare_on<D: DeclarationVisitor>(
     declarations: &mut D,
     alloc: Global,
     var: VarSection<'_>,
@@ -208,7 +208,7 @@ fn declare_on<D: Declarations>(
     )
 }
 
-impl<D: Declarations> Definitions<D> {
+impl<D: DeclarationVisitor> Definitions<D> {
     fn new(alloc: Global, declarations: D) -> Result<Definitions<D>, AllocError>
         requires { D.scopes declarations ≡ [] }
         ensures { IfOk result (λ d. declared_in (D.scopes d.declarations) d.codes (D.taken d.declarations)
@@ -230,7 +230,7 @@ impl<D: Declarations> Definitions<D> {
     ) -> Result<(), VcdFault>
         requires first { first ≤ length reader.now.text.bytes.now }
         requires each { All (λ word. 0 < length word.now) words.now }
-        ensures { Gives (λ _. declared_in (D.scopes self.new.declarations) self.new.codes
+        ensures { ReadGives (λ _. declared_in (D.scopes self.new.declarations) self.new.codes
             (D.taken self.new.declarations)) result
             (at_line (line_at reader.now.text first) (declare_var D.with_variable
             (declared_in (D.scopes self.old.declarations) self.old.codes (D.taken self.old.declarations))
@@ -260,7 +260,7 @@ impl<D: Declarations> Definitions<D> {
         ensures rest { let text = reader.old.text.bytes.now in
             let piece = reader.old.text in
             let new = declared_in (D.scopes self.new.declarations) self.new.codes (D.taken self.new.declarations) in
-            Continues (header_of D.with_variable text
+            SectionContinuesAs (header_of D.with_variable text
             (declared_in (D.scopes self.old.declarations) self.old.codes (D.taken self.old.declarations))
             (token_at piece first.entry.at first.entry.bytes.now ∷ left_at piece reader.old.at))
             (header_of D.with_variable text new (left_at piece reader.new.at))
@@ -297,7 +297,7 @@ impl<D: Declarations> Definitions<D> {
 }
 
 /// Reads the header of a text, up to the end of its definitions. The first fault met is named.
-pub(crate) fn read_header<D: Declarations>(
+pub(crate) fn read_header<D: DeclarationVisitor>(
     alloc: Global,
     reader: &mut Reader<'_>,
     declarations: D,
@@ -306,7 +306,7 @@ pub(crate) fn read_header<D: Declarations>(
     requires scopes { D.scopes declarations ≡ [] }
     ensures text { reader.new.text ≡ reader.old.text }
     ensures header { let text = reader.old.text in
-        Gives (λ d. headed (declared_in (D.scopes d.declarations) d.codes (D.taken d.declarations))
+        ReadGives (λ d. headed (declared_in (D.scopes d.declarations) d.codes (D.taken d.declarations))
         (left_at text reader.new.at)) result
         (header_of D.with_variable text.bytes.now (nothing_declared (D.taken declarations))
         (left_at text reader.old.at)) }

@@ -1,35 +1,36 @@
 //! A reader of four-state value change dumps (IEEE Std 1364-2005, clause 18).
 #![tactic(auto)]
 
-mod apart;
 mod bits;
 mod body;
+mod body_piece;
+mod body_state;
+mod change_visitor;
 mod code_index;
 mod codes;
-mod collector;
-mod declarations;
+mod declaration_visitor;
+mod detached_piece;
 mod dump;
 mod fault;
 mod head;
 mod header;
+mod instant_collector;
 mod lines;
 mod number;
-mod piece;
+mod open_item;
 mod pieces;
-mod place;
 mod read;
 mod reference;
 mod scopes;
 mod shape;
-mod taker;
+mod timed_visitor;
 mod token;
-mod underway;
 mod variables;
-mod waves;
 
-pub use apart::Apart;
 pub use bits::bit_at;
-pub use declarations::{Declaration, Declarations};
+pub use change_visitor::ChangeVisitor;
+pub use declaration_visitor::{Declaration, DeclarationVisitor};
+pub use detached_piece::DetachedPiece;
 pub use dump::{Bit, Bits, Dump, Instant, Path, Value, Values, Variable};
 pub use fault::{FaultKind, VcdFault};
 pub use head::{Head, read_definitions};
@@ -37,6 +38,5 @@ pub use lines::line_feeds;
 pub use pieces::{Front, Pieces, read_front};
 pub use read::read_vcd;
 pub use scopes::Scopes;
-pub use taker::Taker;
 pub use token::whole_tokens;
 pub use variables::Variables;

@@ -5,21 +5,21 @@ ghost use Rattle.vcd_read.specs.Header.{nothing_declared};
 ghost use Rattle.vcd_read.specs.Tokens.{tokens_from};
 ghost use Rattle.vcd_read.specs.Reading.{line_behind};
 ghost use Rattle.vcd_read.specs.Body.{body_from, ready};
-ghost use Rattle.vcd_read.specs.Bodies.{Leads};
-ghost use Rattle.vcd_read.specs.Fronts.{BeginsAs};
-ghost use Rattle.vcd_read.specs.Meaning.{Gives};
+ghost use Rattle.vcd_read.specs.Bodies.{BodyContinuesTo};
+ghost use Rattle.vcd_read.specs.Fronts.{HeaderContinuesAs};
+ghost use Rattle.vcd_read.specs.Meaning.{ReadGives};
 ghost use Rattle.vcd_read.specs.Reached.{outcome_of, reached, rest_of};
 ghost use Rattle.vcd_read.specs.Taking.{at_first, steps};
 
 use crate::body::read_piece;
+use crate::body_piece::{BodyPiece, Start};
+use crate::body_state::BodyState;
+use crate::change_visitor::ChangeVisitor;
 use crate::codes::Codes;
-use crate::declarations::Declarations;
+use crate::declaration_visitor::DeclarationVisitor;
 use crate::fault::{FaultKind, VcdFault};
 use crate::head::{Head, read_definitions};
-use crate::piece::{Piece, Start};
-use crate::taker::Taker;
 use crate::token::Reader;
-use crate::underway::Underway;
 use std::alloc::Global;
 use std::marker::Model;
 
@@ -41,23 +41,23 @@ impl<'a> Model for Front<'a> {
 
 /// A dump whose definitions are read, and its body as far as some pieces go.
 #[derive(Drop)]
-pub struct Pieces<T: Taker> {
+pub struct Pieces<T: ChangeVisitor> {
     pub(crate) codes: Codes,
-    pub(crate) underway: Underway<T>,
+    pub(crate) underway: BodyState<T>,
     /// The line that the next piece begins on.
     pub(crate) line: u64,
 }
 
 /// Reads the definitions of a text by a front of it that ends behind a space, and gives its scopes and variables to
 /// what takes them. None are read where they don't end in it; a fault is that of every text that begins so.
-pub fn read_front<D: Declarations>(
+pub fn read_front<D: DeclarationVisitor>(
     alloc: Global,
     front: &[u8],
     declarations: D,
 ) -> Result<Option<(Front<'_>, D)>, VcdFault>
     requires { D.scopes declarations ≡ [] }
     ensures line { IfOk result (λ found. IfSome found (λ made. made.0.line ≡ line_behind 1 front.now)) }
-    ensures header { BeginsAs D.with_variable (nothing_declared (D.taken declarations)) front.now (λ made. made.0.head)
+    ensures header { HeaderContinuesAs D.with_variable (nothing_declared (D.taken declarations)) front.now (λ made. made.0.head)
         (λ made. D.taken made.1) result }
 {
     match read_definitions(alloc, front, declarations) {
@@ -74,14 +74,14 @@ pub fn read_front<D: Declarations>(
 
 impl<'a> Front<'a> {
     /// Gives the changes that the front has to a taker.
-    pub fn pieces<T: Taker>(self, alloc: Global, taker: T) -> Result<Pieces<T>, VcdFault>
+    pub fn pieces<T: ChangeVisitor>(self, alloc: Global, visitor: T) -> Result<Pieces<T>, VcdFault>
         ensures line { IfOk result (λ pieces. (reached T.taken pieces).line ≡ self.entry.line) }
-        ensures rest { Leads (λ pieces. rest_of T.with_change T.with_instant (reached T.taken pieces) []) result
-            (λ more. steps T.with_change T.with_instant self.entry.head.nets (at_first (T.taken taker))
+        ensures rest { BodyContinuesTo (λ pieces. rest_of T.with_change T.with_instant (reached T.taken pieces) []) result
+            (λ more. steps T.with_change T.with_instant self.entry.head.nets (at_first (T.taken visitor))
             (body_from ready (self.entry.head.body ++ more))) }
     {
         let Front { head, line } = self;
-        let (codes, underway) = head.begin(alloc, taker)?;
+        let (codes, underway) = head.begin(alloc, visitor)?;
         Ok(Pieces {
             codes,
             underway,
@@ -90,14 +90,14 @@ impl<'a> Front<'a> {
     }
 }
 
-impl<T: Taker> Pieces<T> {
+impl<T: ChangeVisitor> Pieces<T> {
     /// Reads the next piece of the body, which ends behind a space, or where the text does. The first fault met is that
     /// of every text that goes on so. Where lines could no longer be counted, memory is said to run out.
     pub fn read(self, alloc: Global, piece: &[u8]) -> Result<Pieces<T>, VcdFault>
         ensures nets { IfOk result (λ pieces. (reached T.taken pieces).nets ≡ (reached T.taken self).nets) }
         ensures line { IfOk result (λ pieces. (reached T.taken pieces).line
             ≡ line_behind (reached T.taken self).line piece.now) }
-        ensures rest { Leads (λ pieces. rest_of T.with_change T.with_instant (reached T.taken pieces) []) result
+        ensures rest { BodyContinuesTo (λ pieces. rest_of T.with_change T.with_instant (reached T.taken pieces) []) result
             (rest_of T.with_change T.with_instant (reached T.taken self)
             (tokens_from (reached T.taken self).line piece.now)) }
     {
@@ -112,7 +112,7 @@ impl<T: Taker> Pieces<T> {
                 kind: FaultKind::Memory,
             });
         }
-        let text = Piece { bytes: piece, line };
+        let text = BodyPiece { bytes: piece, line };
         let reader = Reader { text, at: 0 };
         let line = reader.line(Start::Here(piece.len()));
         let underway = read_piece(alloc, reader, &codes, underway)?;
@@ -126,7 +126,7 @@ impl<T: Taker> Pieces<T> {
     /// What took the body, of which nothing is left. An item that isn't whole and a bracket that is still open are met
     /// here.
     pub fn finish(self, alloc: Global) -> Result<T, VcdFault>
-        ensures { Gives (λ t. T.taken t) result
+        ensures { ReadGives (λ t. T.taken t) result
             (outcome_of T.with_change T.with_instant (reached T.taken self)) }
     {
         self.underway.finish(alloc)

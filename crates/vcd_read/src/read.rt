@@ -1,11 +1,11 @@
 //! The whole dump of a text.
 
-ghost use Rattle.vcd_read.specs.Meaning.{Gives, dump_of};
+ghost use Rattle.vcd_read.specs.Meaning.{ReadGives, dump_of};
 
-use crate::collector::Collector;
 use crate::dump::Dump;
 use crate::fault::VcdFault;
 use crate::head::read_definitions;
+use crate::instant_collector::InstantCollector;
 use crate::variables::Variables;
 use std::alloc::Global;
 
@@ -15,10 +15,10 @@ use std::alloc::Global;
 /// `$dumpvars` that is never closed is met at the end of the text. Where memory runs out, that is the fault,
 /// at line 0.
 pub fn read_vcd(alloc: Global, text: &[u8]) -> Result<Dump, VcdFault>
-    ensures { Gives (λ dump. dump) result (dump_of text.now) }
+    ensures { ReadGives (λ dump. dump) result (dump_of text.now) }
 {
     let (head, variables) = read_definitions(alloc, text, Variables::new(alloc))?;
-    let collector = Collector::new(alloc, head.net_count())?;
+    let collector = InstantCollector::new(alloc, head.net_count())?;
     let collected = head.read_body(alloc, collector)?;
     Ok(Dump::new(variables.into_vec(), collected.into_instants()))
 }

@@ -7,10 +7,10 @@ ghost use Rattle.vcd_read.specs.Numbers.{time_of};
 ghost use Rattle.vcd_read.specs.Body.{shape_of, scalar};
 ghost use Rattle.vcd_read.specs.Reading.{IsStart, left_at, left_from, line_behind, line_of, token_at};
 
+use crate::body_piece::{BodyPiece, Start};
 use crate::fault::{FaultKind, VcdFault};
 use crate::lines::line_feeds;
 use crate::number::{Leading, leading_number};
-use crate::piece::{Piece, Start};
 use crate::shape::is_bit;
 
 /// A token, and the place of its first byte.
@@ -37,7 +37,7 @@ pub(crate) struct ShortChange<'a> {
 /// A piece of a text, and the place up to which it is read.
 #[derive(Drop)]
 pub(crate) struct Reader<'a> {
-    pub text: Piece<'a>,
+    pub text: BodyPiece<'a>,
     pub at: usize,
     ghost within: { at ≤ length text.bytes.now },
 }
@@ -132,7 +132,7 @@ impl<'a> Reader<'a> {
         ensures at { result.at ≡ 0 }
     {
         Reader {
-            text: Piece {
+            text: BodyPiece {
                 bytes: text,
                 line: 1,
             },

@@ -2,7 +2,7 @@
 
 ghost use Rattle.std.specs.Prelude.{◌≡◌, [], IfOk};
 
-use crate::declarations::{Declaration, Declarations};
+use crate::declaration_visitor::{Declaration, DeclarationVisitor};
 use crate::dump::{Path, Variable};
 use crate::scopes::Scopes;
 use std::alloc::{AllocError, Global};
@@ -18,8 +18,8 @@ pub struct Variables {
 impl Variables {
     /// No variable yet, and no open scope.
     pub fn new(alloc: Global) -> Variables
-        ensures scopes { ⟦<Variables as Declarations>⟧.scopes result ≡ [] }
-        ensures taken { ⟦<Variables as Declarations>⟧.taken result ≡ [] }
+        ensures scopes { ⟦<Variables as DeclarationVisitor>⟧.scopes result ≡ [] }
+        ensures taken { ⟦<Variables as DeclarationVisitor>⟧.taken result ≡ [] }
     {
         Variables {
             scopes: Scopes::new(alloc),
@@ -29,20 +29,20 @@ impl Variables {
 
     /// The variables, in the order of their sections.
     pub fn as_slice(&self) -> &[Variable]
-        ensures { result.now ≡ ⟦<Variables as Declarations>⟧.taken self.now }
+        ensures { result.now ≡ ⟦<Variables as DeclarationVisitor>⟧.taken self.now }
     {
         self.variables.as_slice()
     }
 
     /// The same, given away.
     pub fn into_vec(self) -> Vec<Variable>
-        ensures { result.items ≡ ⟦<Variables as Declarations>⟧.taken self }
+        ensures { result.items ≡ ⟦<Variables as DeclarationVisitor>⟧.taken self }
     {
         self.variables
     }
 }
 
-impl Declarations for Variables {
+impl DeclarationVisitor for Variables {
     ghost use Rattle.std.specs.Prelude.{List};
     ghost use Rattle.vcd_read.specs.declared.dump.Variable.{Variable as Declared};
     ghost use Rattle.vcd_read.specs.Header.{appended};

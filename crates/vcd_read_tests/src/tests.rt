@@ -2,8 +2,8 @@ use std::alloc::{AllocError, Global};
 use std::process::Abort;
 use std::test::Fail;
 use vcd_read::{
-    Apart, Bit, Dump, FaultKind, Instant, Pieces, Taker, Variable, Variables, VcdFault, line_feeds,
-    read_front, read_vcd,
+    Bit, ChangeVisitor, DetachedPiece, Dump, FaultKind, Instant, Pieces, Variable, Variables,
+    VcdFault, line_feeds, read_front, read_vcd,
 };
 
 /// What a dump says, a line for each variable and each instant.
@@ -76,7 +76,7 @@ struct Telling {
     changed: Vec<Changed>,
 }
 
-impl Taker for Telling {
+impl ChangeVisitor for Telling {
     ghost Taken = { Unit {0} };
 
     ghost taken = { λ t. tt };
@@ -134,7 +134,7 @@ impl Telling {
 
 /// What a taker is told.
 #[derive(Drop)]
-enum Told {
+enum Visit {
     Change(Changed),
     End(u64),
 }
@@ -142,10 +142,10 @@ enum Told {
 /// Keeps all that it is told.
 #[derive(Drop)]
 struct Keeping {
-    told: Vec<Told>,
+    visits: Vec<Visit>,
 }
 
-impl Taker for Keeping {
+impl ChangeVisitor for Keeping {
     ghost Taken = { Unit {0} };
 
     ghost taken = { λ k. tt };
@@ -161,24 +161,24 @@ impl Taker for Keeping {
         size: u32,
         digits: &[u8],
     ) -> Result<(), AllocError> {
-        self.told
-            .push(Told::Change(bits_of(alloc, net, size, digits)?))?;
+        self.visits
+            .push(Visit::Change(bits_of(alloc, net, size, digits)?))?;
         Ok(())
     }
 
     fn end_instant(&mut self, alloc: Global, time: u64) -> Result<(), AllocError> {
         let _ = alloc;
-        self.told.push(Told::End(time))?;
+        self.visits.push(Visit::End(time))?;
         Ok(())
     }
 }
 
 impl Telling {
     fn take_all(&mut self, alloc: Global, keeping: Keeping) -> Result<(), AllocError> {
-        for told in keeping.told {
-            match told {
-                Told::Change(change) => self.set(change)?,
-                Told::End(time) => self.tell(alloc, time)?,
+        for visits in keeping.visits {
+            match visits {
+                Visit::Change(change) => self.set(change)?,
+                Visit::End(time) => self.tell(alloc, time)?,
             }
         }
         Ok(())
@@ -248,9 +248,9 @@ fn times_of(alloc: Global, text: &[u8]) -> Result<Vec<usize>, AllocError> {
 
 /// A piece, and what it tells where it is read apart.
 #[derive(Drop)]
-struct Kept<'a> {
+struct KeptPiece<'a> {
     piece: &'a [u8],
-    apart: Option<Apart<Keeping>>,
+    apart: Option<DetachedPiece<Keeping>>,
 }
 
 /// Reads each piece of a body apart from the others.
@@ -259,15 +259,15 @@ fn read_apart<'a>(
     pieces: &Pieces<Telling>,
     body: &'a [u8],
     ends: &[usize],
-) -> Result<Vec<Kept<'a>>, AllocError> {
+) -> Result<Vec<KeptPiece<'a>>, AllocError> {
     let mut all = Vec::new(alloc);
     let mut from = 0;
     let mut line = pieces.line();
     for end in ends {
         let piece = body.get(from..*end).unwrap_or(&[]);
-        let told = Vec::new(alloc);
-        let apart = pieces.apart(alloc, piece, line, Keeping { told });
-        all.push(Kept { piece, apart })?;
+        let visits = Vec::new(alloc);
+        let apart = pieces.apart(alloc, piece, line, Keeping { visits });
+        all.push(KeptPiece { piece, apart })?;
         line = line.saturating_add(line_feeds(piece));
         from = *end;
     }
@@ -282,9 +282,9 @@ struct Joined {
 }
 
 /// Goes on behind a piece: it is joined where it fits, and read in order elsewhere.
-fn join_piece(alloc: Global, so_far: Joined, kept: Kept<'_>) -> Result<Joined, VcdFault> {
+fn join_piece(alloc: Global, so_far: Joined, kept: KeptPiece<'_>) -> Result<Joined, VcdFault> {
     let Joined { pieces, count } = so_far;
-    let Kept { piece, apart } = kept;
+    let KeptPiece { piece, apart } = kept;
     let Some(apart) = apart else {
         let pieces = pieces.read(alloc, piece)?;
         return Ok(Joined { pieces, count });
@@ -295,12 +295,12 @@ fn join_piece(alloc: Global, so_far: Joined, kept: Kept<'_>) -> Result<Joined, V
     }
     let ended = pieces.ended_by(&apart);
     let (pieces, mut telling) = pieces.join(apart);
-    let (pieces, keeping) = pieces.with_taker(Silent);
+    let (pieces, keeping) = pieces.with_visitor(IgnoreChanges);
     if let Some(time) = ended {
         telling.tell(alloc, time)?;
     }
     telling.take_all(alloc, keeping)?;
-    let (pieces, _) = pieces.with_taker(telling);
+    let (pieces, _) = pieces.with_visitor(telling);
     Ok(Joined {
         pieces,
         count: count.saturating_add(1),
@@ -332,9 +332,9 @@ const SIZES: [usize; 6] = [1, 2, 5, 13, 40, 64];
 
 /// Takes changes of which nothing is kept.
 #[derive(Drop)]
-struct Silent;
+struct IgnoreChanges;
 
-impl Taker for Silent {
+impl ChangeVisitor for IgnoreChanges {
     ghost Taken = { Unit {0} };
 
     ghost taken = { λ s. tt };

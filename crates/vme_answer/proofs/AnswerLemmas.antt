@@ -8,10 +8,10 @@ use Rattle.vcd_read.specs.Meaning.{dump_of}
 use Rattle.vcd_read.specs.declared.fault.VcdFault.{VcdFault}
 use Rattle.vcd_read.specs.declared.fault.FaultKind.{FaultKind}
 use Rattle.vcd_read.specs.declared.fault.FaultKind.TheVariants as vcd
-use Rattle.vme_bind.specs.Answers.{FailsAs}
+use Rattle.vme_bind.specs.Answers.{BindFailsAs}
 use Rattle.vme_bind.specs.Binding.{BoundLines, binding_of}
 use Rattle.vme_bind.specs.Capture.{capture_of, limited, recording, recording_of}
-use Rattle.vme_bind.specs.Wires.{wires_in}
+use Rattle.vme_bind.specs.BoundGroups.{bound_groups_in}
 use Rattle.vme_bind.proofs.TextCaptureLemmas.{captured-by, fails-captured}
 use Rattle.vme_trace.specs.WellFormed.{capture_limit}
 use Rattle.vme_bind.specs.TextCapture.{or_binding}
@@ -31,7 +31,7 @@ use Rattle.vme_answer.specs.declared.refusal.Input.{Input}
 use Rattle.vme_answer.specs.declared.refusal.Input.TheVariants.{Binding, Dump}
 use Rattle.vme_answer.specs.declared.refusal.Refusal.{Refusal}
 use Rattle.vme_answer.specs.declared.refusal.Refusal.TheVariants.{TooLong, BadBinding, BadDump, TooManyBlocks, Memory}
-use Rattle.vme_answer.specs.Answers.{Gives, whole, or_bad_binding, or_bad_dump, binding_read, dump_read, capture_by, capture_read, judgement_of, recorded_by, recording_by, recording_read, verdict_in_blocks}
+use Rattle.vme_answer.specs.Answers.{AnswerGives, whole, or_bad_binding, or_bad_dump, binding_read, dump_read, capture_by, capture_read, judgement_of, recorded_by, recording_by, recording_read, verdict_in_blocks}
 use Rattle.vme_stream.specs.Inputs.{IsInTime, IsReading, longest_input}
 use Rattle.vme_answer.specs.Refusals.{refused, binding_refusal, dump_refusal, capture_refusal}
 use Rattle.vme_stream.proofs.InputLemmas.{in_time}
@@ -47,8 +47,8 @@ too_long_is input text long = rw (lt-leb (length text) longest_input long) refl
 
 -- ---- what functions give of the faults that they meet
 
-pub or_bad_binding-gives : {Y : Type 0} (line : ℕ) (kind : BindKind) (answer : Result Y BindFault) → FailsAs line kind answer
-    → Gives (λ (y : Y). y) (Err (binding_refusal (record { line = line; kind = kind }))) (or_bad_binding answer)
+pub or_bad_binding-gives : {Y : Type 0} (line : ℕ) (kind : BindKind) (answer : Result Y BindFault) → BindFailsAs line kind answer
+    → AnswerGives (λ (y : Y). y) (Err (binding_refusal (record { line = line; kind = kind }))) (or_bad_binding answer)
 or_bad_binding-gives line bind.Memory answer is = tt
 or_bad_binding-gives {Y} line kind answer is = ap (λ (r : Result Y BindFault). or_bad_binding r) is
 
@@ -77,7 +77,7 @@ text_recorded-ok bound bytes t e = text_recorded bound bytes ∙ ap by_either e
 -- a refusal, where one of the binding is why it makes no recording
 abbrev IsRefused : {A : Type 0} → Refusal → Result (Result A BindFault) Refusal → Type 0
 IsRefused (BadBinding fault) recorded = recorded ≡ Ok (Err fault)
-IsRefused {A} refusal recorded = Gives (λ (r : Result A BindFault). r) (Err refusal) recorded
+IsRefused {A} refusal recorded = AnswerGives (λ (r : Result A BindFault). r) (Err refusal) recorded
 
 refused_dump : {A : Type 0} (line : ℕ) (kind : FaultKind) (answer : Result A CaptureFault) → text.DumpFails line kind answer
     → IsRefused (dump_refusal (record { line = line; kind = kind })) (by_either answer)
@@ -104,19 +104,19 @@ text_recorded-kept bound bytes fault kept h is =
     subst (λ (r : Refusal). IsRefused r (recorded_by bound (or_bad_dump (dump_of bytes)))) is (text_refusal bound bytes fault h)
 
 told_at_once : {A : Type 0} (r : Refusal) (recorded : Result (Result A BindFault) Refusal) → ((kept : BindFault) → r ≡ BadBinding kept → ⊥)
-    → IsRefused r recorded → Gives (λ (x : Result A BindFault). x) (Err r) recorded
+    → IsRefused r recorded → AnswerGives (λ (x : Result A BindFault). x) (Err r) recorded
 told_at_once (BadBinding fault) recorded other is = absurd (other fault refl)
 told_at_once r recorded other is = is
 
 -- a fault of the text, or want of memory
 pub text_recorded-refused : (bound : BoundLines) (bytes : List ℕ) (fault : CaptureFault) → text.FailsBy fault (text.capture_of_text bound bytes)
     → ((kept : BindFault) → capture_refusal fault ≡ BadBinding kept → ⊥)
-    → Gives (λ (recorded : Result Trace BindFault). recorded) (Err (capture_refusal fault)) (recorded_by bound (or_bad_dump (dump_of bytes)))
+    → AnswerGives (λ (recorded : Result Trace BindFault). recorded) (Err (capture_refusal fault)) (recorded_by bound (or_bad_dump (dump_of bytes)))
 text_recorded-refused bound bytes fault h other = told_at_once (capture_refusal fault) (recorded_by bound (or_bad_dump (dump_of bytes))) other (text_refusal bound bytes fault h)
 
 -- a refusal passes through the next step
-pub passes_through : {X Y : Type 0} (r : Refusal) (first : Result X Refusal) (next : X → Result Y Refusal) → Gives (λ (x : X). x) (Err r) first
-    → Gives (λ (y : Y). y) (Err r) (first >>= next)
+pub passes_through : {X Y : Type 0} (r : Refusal) (first : Result X Refusal) (next : X → Result Y Refusal) → AnswerGives (λ (x : X). x) (Err r) first
+    → AnswerGives (λ (y : Y). y) (Err r) (first >>= next)
 passes_through Memory first next is = tt
 passes_through {X} {Y} r first next is = ap (λ (w : Result X Refusal). w >>= next) is
 
@@ -129,7 +129,7 @@ pub binding_refused : {A : Type 0} (old new : Reading) (result : Result A InFaul
     → (result ≡ Err read.Read → IsReading old new None)
     → (result ≡ Err read.TooLong → (bytes : List ℕ) × (longest_input < length bytes) × IsReading old new (Some bytes))
     → (result ≡ Err read.Memory → IsInTime old new)
-    → (bytes : Option (List ℕ)) × IsReading old new bytes × Gives (λ (b : BoundLines). b) (Err (refused Binding fault)) (binding_read bytes)
+    → (bytes : Option (List ℕ)) × IsReading old new bytes × AnswerGives (λ (b : BoundLines). b) (Err (refused Binding fault)) (binding_read bytes)
 unfolding binding_read
 binding_refused old new result read.Read is cannot long memory = (None, cannot is, refl)
 binding_refused old new result read.TooLong is cannot long memory =
@@ -152,7 +152,7 @@ pub dump_refused : {A : Type 0} (old new : Reading) (result : Result A InFault) 
     → (result ≡ Err read.Read → IsReading old new None)
     → (result ≡ Err read.TooLong → (bytes : List ℕ) × (longest_input < length bytes) × IsReading old new (Some bytes))
     → (result ≡ Err read.Memory → IsInTime old new)
-    → (bytes : Option (List ℕ)) × IsReading old new bytes × Gives (λ (d : Contents). d) (Err (refused Dump fault)) (dump_read bytes)
+    → (bytes : Option (List ℕ)) × IsReading old new bytes × AnswerGives (λ (d : Contents). d) (Err (refused Dump fault)) (dump_read bytes)
 unfolding dump_read
 dump_refused old new result read.Read is cannot long memory = (None, cannot is, refl)
 dump_refused old new result read.TooLong is cannot long memory =
@@ -168,8 +168,8 @@ dump_read-whole text short = ap (λ (w : Result (List ℕ) Refusal). w >>= dumpe
 
 -- ---- the recording
 
-pub recorded_by-refused : (bound : BoundLines) (dump : Result Contents Refusal) (r : Refusal) → Gives (λ (d : Contents). d) (Err r) dump
-    → Gives (λ (recorded : Result Trace BindFault). recorded) (Err r) (recorded_by bound dump)
+pub recorded_by-refused : (bound : BoundLines) (dump : Result Contents Refusal) (r : Refusal) → AnswerGives (λ (d : Contents). d) (Err r) dump
+    → AnswerGives (λ (recorded : Result Trace BindFault). recorded) (Err r) (recorded_by bound dump)
 recorded_by-refused bound dump Memory is = tt
 recorded_by-refused bound dump r is = ap (recorded_by bound) is
 
@@ -185,9 +185,9 @@ pub capture_by-recorded : (bound : BoundLines) (dump : Result Contents Refusal) 
 capture_by-recorded bound dump recorded is = capture_by-is bound dump ∙ ap (λ (w : Result (Result Trace BindFault) Refusal). w >>= or_kept) is
 
 pub capture_by-refused : (bound : BoundLines) (dump : Result Contents Refusal) (r : Refusal)
-    → Gives (λ (recorded : Result Trace BindFault). recorded) (Err r) (recorded_by bound dump) → Gives (λ (t : Trace). t) (Err r) (capture_by bound dump)
+    → AnswerGives (λ (recorded : Result Trace BindFault). recorded) (Err r) (recorded_by bound dump) → AnswerGives (λ (t : Trace). t) (Err r) (capture_by bound dump)
 capture_by-refused bound dump r is =
-    subst (Gives (λ (t : Trace). t) (Err r)) (sym (capture_by-is bound dump)) (passes_through r (recorded_by bound dump) or_kept is)
+    subst (AnswerGives (λ (t : Trace). t) (Err r)) (sym (capture_by-is bound dump)) (passes_through r (recorded_by bound dump) or_kept is)
 
 -- ---- the recording, however long it is
 
@@ -215,29 +215,29 @@ module _ (bound : BoundLines) (bytes : List ℕ) where
 
   -- a fault of the text or of the binding
   pub recording_by-fails : (fault : CaptureFault) → text.FailsBy fault (text.recording_of_text bound bytes)
-      → Gives (λ (t : Trace). t) (Err (capture_refusal fault)) (recording_by bound (or_bad_dump (dump_of bytes)))
+      → AnswerGives (λ (t : Trace). t) (Err (capture_refusal fault)) (recording_by bound (or_bad_dump (dump_of bytes)))
   recording_by-fails (capture.Dump fault) h = by_kind fault.line fault.kind h
     where
       by_kind : (line : ℕ) (kind : FaultKind) → text.DumpFails line kind (text.recording_of_text bound bytes)
-          → Gives (λ (t : Trace). t) (Err (dump_refusal (record { line = line; kind = kind }))) (recording_by bound (or_bad_dump (dump_of bytes)))
+          → AnswerGives (λ (t : Trace). t) (Err (dump_refusal (record { line = line; kind = kind }))) (recording_by bound (or_bad_dump (dump_of bytes)))
       by_kind line vcd.Memory h = tt
       by_kind line kind h = text_recording ∙ ap or_refused h
   recording_by-fails (capture.Binding fault) h = by_kind fault.line fault.kind h
     where
       by_kind : (line : ℕ) (kind : BindKind) → text.BindingFails line kind (text.recording_of_text bound bytes)
-          → Gives (λ (t : Trace). t) (Err (binding_refusal (record { line = line; kind = kind }))) (recording_by bound (or_bad_dump (dump_of bytes)))
+          → AnswerGives (λ (t : Trace). t) (Err (binding_refusal (record { line = line; kind = kind }))) (recording_by bound (or_bad_dump (dump_of bytes)))
       by_kind line bind.Memory h = tt
       by_kind line kind h = text_recording ∙ ap or_refused h
 
-pub recording_by-refused : (bound : BoundLines) (dump : Result Contents Refusal) (r : Refusal) → Gives (λ (d : Contents). d) (Err r) dump
-    → Gives (λ (t : Trace). t) (Err r) (recording_by bound dump)
+pub recording_by-refused : (bound : BoundLines) (dump : Result Contents Refusal) (r : Refusal) → AnswerGives (λ (d : Contents). d) (Err r) dump
+    → AnswerGives (λ (t : Trace). t) (Err r) (recording_by bound dump)
 recording_by-refused bound dump r is = passes_through r dump (λ contents. or_bad_binding (recording_of bound contents)) is
 
 abbrev recorded_of : Option (List ℕ) → BoundLines → Result Trace Refusal
 recorded_of dump bound = recording_by bound (dump_read dump)
 
-pub recording_read-refused : (binding dump : Option (List ℕ)) (r : Refusal) → Gives (λ (b : BoundLines). b) (Err r) (binding_read binding)
-    → Gives (λ (t : Trace). t) (Err r) (recording_read binding dump)
+pub recording_read-refused : (binding dump : Option (List ℕ)) (r : Refusal) → AnswerGives (λ (b : BoundLines). b) (Err r) (binding_read binding)
+    → AnswerGives (λ (t : Trace). t) (Err r) (recording_read binding dump)
 unfolding recording_read
 recording_read-refused binding dump r is = passes_through r (binding_read binding) (recorded_of dump) is
 
@@ -256,7 +256,7 @@ short_in (Err fault) made = refl
 
 short_of : (bound : BoundLines) (contents : Contents) → or_bad_binding (capture_of bound contents) ≡ (or_bad_binding (recording_of bound contents) >>= or_too_long)
 unfolding capture_of recording_of
-short_of bound contents = short_in (wires_in contents.variables bound.assignments) (λ wires. recording bound.slots wires contents.instants (length contents.instants))
+short_of bound contents = short_in (bound_groups_in contents.variables bound.assignments) (λ wires. recording bound.slots wires contents.instants (length contents.instants))
 
 capture_by-short : (bound : BoundLines) (dump : Result Contents Refusal) → capture_by bound dump ≡ (recording_by bound dump >>= or_too_long)
 capture_by-short bound (Ok contents) = short_of bound contents
@@ -278,13 +278,13 @@ pub capture_read-recorded : (binding dump : Option (List ℕ)) (t : Trace) → r
 capture_read-recorded binding dump t is = capture_read-short binding dump ∙ ap (λ (r : Result Trace Refusal). r >>= or_too_long) is
 
 -- and where there is none, this is why
-pub capture_read-unrecorded : (binding dump : Option (List ℕ)) (r : Refusal) → Gives (λ (t : Trace). t) (Err r) (recording_read binding dump)
-    → Gives (λ (t : Trace). t) (Err r) (capture_read binding dump)
+pub capture_read-unrecorded : (binding dump : Option (List ℕ)) (r : Refusal) → AnswerGives (λ (t : Trace). t) (Err r) (recording_read binding dump)
+    → AnswerGives (λ (t : Trace). t) (Err r) (capture_read binding dump)
 capture_read-unrecorded binding dump r is =
-    subst (Gives (λ (t : Trace). t) (Err r)) (sym (capture_read-short binding dump)) (passes_through r (recording_read binding dump) or_too_long is)
+    subst (AnswerGives (λ (t : Trace). t) (Err r)) (sym (capture_read-short binding dump)) (passes_through r (recording_read binding dump) or_too_long is)
 
-pub capture_read-refused : (binding dump : Option (List ℕ)) (r : Refusal) → Gives (λ (b : BoundLines). b) (Err r) (binding_read binding)
-    → Gives (λ (t : Trace). t) (Err r) (capture_read binding dump)
+pub capture_read-refused : (binding dump : Option (List ℕ)) (r : Refusal) → AnswerGives (λ (b : BoundLines). b) (Err r) (binding_read binding)
+    → AnswerGives (λ (t : Trace). t) (Err r) (capture_read binding dump)
 unfolding capture_read
 capture_read-refused binding dump r is = passes_through r (binding_read binding) (captured_by dump) is
 
@@ -295,8 +295,8 @@ capture_read-bound binding dump b is = ap (λ (r : Result BoundLines Refusal). r
 
 -- ---- the verdict
 
-pub judgement_of-refused : (binding dump : Option (List ℕ)) (block : ℕ) (r : Refusal) → Gives (λ (t : Trace). t) (Err r) (capture_read binding dump)
-    → Gives (λ (v : Verdict). v) (Err r) (judgement_of binding dump block)
+pub judgement_of-refused : (binding dump : Option (List ℕ)) (block : ℕ) (r : Refusal) → AnswerGives (λ (t : Trace). t) (Err r) (capture_read binding dump)
+    → AnswerGives (λ (v : Verdict). v) (Err r) (judgement_of binding dump block)
 unfolding judgement_of
 judgement_of-refused binding dump block r is = passes_through r (capture_read binding dump) (verdict_in_blocks block) is
 

@@ -5,7 +5,7 @@ use Rattle.vme_trace.specs.declared.verdict.Verdict.{Verdict}
 use Rattle.vme_trace.specs.declared.verdict.Verdict.TheVariants.{Conforming, Broken, Unreadable, NeverIdle}
 use Rattle.vme_answer.specs.declared.refusal.Refusal.{Refusal}
 use Rattle.vme_answer.specs.declared.refusal.Refusal.TheVariants.{Memory}
-use Rattle.vme_answer.specs.Answers.{Answer, Gives, answer_by, answer_of, judgement_of}
+use Rattle.vme_answer.specs.Answers.{CommandAnswer, AnswerGives, answer_by, answer_of, judgement_of}
 use Rattle.vme_answer.specs.Ends.{Tells, Ends, Does, Checks}
 use Rattle.vme_stream.specs.Inputs.{IsReading, TellsWhole, most_reads}
 use Rattle.vme_trace.specs.Streams.{Reading, Writing}
@@ -52,7 +52,7 @@ read_is old new None told (inr up) whole =
 
 -- ---- a command whose answers have a status of at most 4
 
-module _ {A : Type 0} (answer : A → Answer) (small : (found : A) → (answer found).status ≤ 4) where
+module _ {A : Type 0} (answer : A → CommandAnswer) (small : (found : A) → (answer found).status ≤ 4) where
   pub unwritten_by : (found : A) (out err : Writing × Writing) (status : ℕ) → Ends (answer found) out err status
       → (status ≡ 5) ↔ (out.1.failures ≡ suc out.0.failures)
   unwritten_by found out err status (inl told) = (
@@ -61,10 +61,10 @@ module _ {A : Type 0} (answer : A → Answer) (small : (found : A) → (answer f
   )
   unwritten_by found out err status (inr failed) = (λ _. failed.out_is.1, λ _. failed.status_is)
 
-  exact_by : (said : Answer) (found : A) (out err : Writing × Writing) (status : ℕ) → Ends (answer found) out err status
+  exact_by : (said : CommandAnswer) (found : A) (out err : Writing × Writing) (status : ℕ) → Ends (answer found) out err status
       → (((answer found).status ≡ 4 → ⊥) → answer found ≡ said) → out.1.failures ≡ out.0.failures → (status ≡ 4 → ⊥) → Tells said out err status
   exact_by said found out err status (inl told) is same memory =
-      subst (λ (a : Answer). Tells a out err status) (is (λ four. memory (told.status_is ∙ four))) told
+      subst (λ (a : CommandAnswer). Tells a out err status) (is (λ four. memory (told.status_is ∙ four))) told
   exact_by said found out err status (inr failed) is same memory = absurd (not_both out.1.failures out.0.failures same failed.out_is.1)
 
   module _ (MayFind : Option (List ℕ) → Option (List ℕ) → A → Type 0) (binding dump : Reading × Reading) (out err : Writing × Writing) (status : ℕ) where
@@ -75,7 +75,7 @@ module _ {A : Type 0} (answer : A → Answer) (small : (found : A) → (answer f
         unwritten_by found out err status end
 
     -- inputs that are told whole, and no failure, give this answer, if all that may be found of them has it but for a status of 4
-    pub Does-exact : Does answer MayFind binding dump out err status → (b d : List ℕ) (said : Answer)
+    pub Does-exact : Does answer MayFind binding dump out err status → (b d : List ℕ) (said : CommandAnswer)
         → ((found : A) → MayFind (Some b) (Some d) found → ((answer found).status ≡ 4 → ⊥) → answer found ≡ said)
         → TellsWhole binding.0 binding.1 b → TellsWhole dump.0 dump.1 d → out.1.failures ≡ out.0.failures → (status ≡ 4 → ⊥)
         → Tells said out err status
@@ -88,8 +88,8 @@ module _ {A : Type 0} (answer : A → Answer) (small : (found : A) → (answer f
         exact_by said found out err status end (is found with_d) same memory
 
 -- what is given is answered as what is said, but for want of memory
-pub given_is : {A : Type 0} (answer : Result A Refusal → Answer) → (answer (Err Memory)).status ≡ 4
-    → (found said : Result A Refusal) → Gives (λ (x : A). x) found said → ((answer found).status ≡ 4 → ⊥) → answer found ≡ answer said
+pub given_is : {A : Type 0} (answer : Result A Refusal → CommandAnswer) → (answer (Err Memory)).status ≡ 4
+    → (found said : Result A Refusal) → AnswerGives (λ (x : A). x) found said → ((answer found).status ≡ 4 → ⊥) → answer found ≡ answer said
 given_is answer no_memory (Ok x) said given memory = ap answer (sym given)
 given_is answer no_memory (Err Memory) said given memory = absurd (memory no_memory)
 given_is answer no_memory (Err r) said given memory = ap answer (sym given)
@@ -101,7 +101,7 @@ answer_by-small (Ok v) = verdict_status-small v
 answer_by-small (Err r) = refusal_status-small r
 
 abbrev MayJudge : ℕ → Option (List ℕ) → Option (List ℕ) → Result Verdict Refusal → Type 0
-MayJudge block b d judged = Gives (λ (v : Verdict). v) judged (judgement_of b d block)
+MayJudge block b d judged = AnswerGives (λ (v : Verdict). v) judged (judgement_of b d block)
 
 pub Checks-unwritten : (binding dump : Reading × Reading) (block : ℕ) (out err : Writing × Writing) (status : ℕ) → Checks binding dump block out err status
     → (status ≡ 5) ↔ (out.1.failures ≡ suc out.0.failures)

@@ -90,26 +90,26 @@ judgement_of binding dump block = do
   verdict_in_blocks block t
 
 -- What a function gives is what is to be read there, unless there was no memory.
-abbrev pub Gives : {X Y : Type 0} → (X → Y) → Result X Refusal → Result Y Refusal → Type 0
-Gives view (Ok x) read = read ≡ Ok (view x)
-Gives view (Err Memory) read = Unit {0}
-Gives view (Err refusal) read = read ≡ Err refusal
+abbrev pub AnswerGives : {X Y : Type 0} → (X → Y) → Result X Refusal → Result Y Refusal → Type 0
+AnswerGives view (Ok x) read = read ≡ Ok (view x)
+AnswerGives view (Err Memory) read = Unit {0}
+AnswerGives view (Err refusal) read = read ≡ Err refusal
 
 -- ---- the answer
 
 -- what is written to standard output and to standard error, and the exit status
-pub record Answer : Type 0 where
+pub record CommandAnswer : Type 0 where
   pub out : List ℕ
   pub error : List ℕ
   pub status : ℕ
 
-abbrev pub refusal_answer : Refusal → Answer
+abbrev pub refusal_answer : Refusal → CommandAnswer
 refusal_answer refusal = record { out = []; error = line_of (refusal_text refusal); status = refusal_status refusal }
 
-abbrev pub answer_by : Result Verdict Refusal → Answer
+abbrev pub answer_by : Result Verdict Refusal → CommandAnswer
 answer_by (Ok verdict) = record { out = line_of (verdict_text verdict); error = []; status = verdict_status verdict }
 answer_by (Err refusal) = refusal_answer refusal
 
 -- the answer to a binding and a dump, each by its bytes or unreadable
-abbrev pub answer_of : Option (List ℕ) → Option (List ℕ) → ℕ → Answer
+abbrev pub answer_of : Option (List ℕ) → Option (List ℕ) → ℕ → CommandAnswer
 answer_of binding dump block = answer_by (judgement_of binding dump block)

@@ -9,8 +9,8 @@ use Rattle.vme_bind.specs.declared.fault.CaptureFault.{CaptureFault}
 use Rattle.vme_bind.specs.declared.fault.CaptureFault.TheVariants as capture
 use Rattle.vme_listing.specs.declared.fault.ListFault.{ListFault}
 use Rattle.vme_listing.specs.declared.fault.ListFault.TheVariants as list
-use Rattle.vme_summary.specs.declared.watch.NoVerdict.{NoVerdict}
-use Rattle.vme_summary.specs.declared.watch.NoVerdict.TheVariants as judge
+use Rattle.vme_summary.specs.declared.stream_judge.NoVerdict.{NoVerdict}
+use Rattle.vme_summary.specs.declared.stream_judge.NoVerdict.TheVariants as judge
 use Rattle.vme_stream.specs.declared.input.InFault.{InFault}
 use Rattle.vme_stream.specs.declared.input.InFault.TheVariants as read
 use Rattle.vme_answer.specs.declared.refusal.Input.{Input}

@@ -4,7 +4,7 @@ ghost use Rattle.std.specs.Prelude.{◌≡◌, ℕ, List, Option};
 ghost use Rattle.vme_stream.specs.Inputs.{IsReading};
 ghost use Rattle.vcd_read.specs.Meaning.{dump_of};
 ghost use Rattle.vme_bind.specs.Binding.{binding_of};
-ghost use Rattle.vme_answer.specs.Answers.{Gives, or_bad_binding, or_bad_dump, binding_read, dump_read, capture_by};
+ghost use Rattle.vme_answer.specs.Answers.{AnswerGives, or_bad_binding, or_bad_dump, binding_read, dump_read, capture_by};
 ghost use Rattle.vme_answer.specs.Answers.{capture_read, recorded_by};
 
 use crate::refusal::{Input, Refusal};
@@ -22,7 +22,7 @@ pub fn capture_from<B: Source, D: Source>(
     ensures { (binding_bytes dump_bytes : Option (List ℕ))
         × IsReading (B.reading binding.old) (B.reading binding.new) binding_bytes
         × IsReading (D.reading dump.old) (D.reading dump.new) dump_bytes
-        × Gives (λ capture. capture) result (capture_read binding_bytes dump_bytes) }
+        × AnswerGives (λ capture. capture) result (capture_read binding_bytes dump_bytes) }
 {
     match binding_from(alloc, binding) {
         Ok(bound) => capture_of_dump(alloc, &bound, dump),
@@ -38,7 +38,7 @@ fn capture_of_dump<D: Source>(
 ) -> Result<Capture, Refusal>
     ensures { (bytes : Option (List ℕ))
         × IsReading (D.reading dump.old) (D.reading dump.new) bytes
-        × Gives (λ capture. capture) result (capture_by bound.now (dump_read bytes)) }
+        × AnswerGives (λ capture. capture) result (capture_by bound.now (dump_read bytes)) }
 {
     match recorded_from(alloc, bound, dump) {
         Ok(Ok(capture)) => Ok(capture),
@@ -56,7 +56,7 @@ pub fn recorded_from<D: Source>(
 ) -> Result<Result<Capture, BindFault>, Refusal>
     ensures { (bytes : Option (List ℕ))
         × IsReading (D.reading dump.old) (D.reading dump.new) bytes
-        × Gives (λ recorded. recorded) result (recorded_by bound.now (dump_read bytes)) }
+        × AnswerGives (λ recorded. recorded) result (recorded_by bound.now (dump_read bytes)) }
 {
     match read_all(alloc, dump) {
         Ok(text) => recorded_in(alloc, bound, text.as_slice()),
@@ -66,7 +66,7 @@ pub fn recorded_from<D: Source>(
 
 /// The recording that a binding makes of the text of a dump.
 pub fn captured_in(alloc: Global, bound: &Binding, text: &[u8]) -> Result<Capture, Refusal>
-    ensures { Gives (λ capture. capture) result (capture_by bound.now (or_bad_dump (dump_of text.now))) }
+    ensures { AnswerGives (λ capture. capture) result (capture_by bound.now (or_bad_dump (dump_of text.now))) }
 {
     match recorded_in(alloc, bound, text) {
         Ok(Ok(capture)) => Ok(capture),
@@ -81,7 +81,7 @@ fn recorded_in(
     bound: &Binding,
     text: &[u8],
 ) -> Result<Result<Capture, BindFault>, Refusal>
-    ensures { Gives (λ recorded. recorded) result (recorded_by bound.now (or_bad_dump (dump_of text.now))) }
+    ensures { AnswerGives (λ recorded. recorded) result (recorded_by bound.now (or_bad_dump (dump_of text.now))) }
 {
     match bound.capture_text(alloc, text) {
         Ok(capture) => Ok(Ok(capture)),
@@ -97,7 +97,7 @@ fn recorded_in(
 pub fn binding_from<R: Source>(alloc: Global, source: &mut R) -> Result<Binding, Refusal>
     ensures { (bytes : Option (List ℕ))
         × IsReading (R.reading source.old) (R.reading source.new) bytes
-        × Gives (λ binding. binding) result (binding_read bytes) }
+        × AnswerGives (λ binding. binding) result (binding_read bytes) }
 {
     match read_all(alloc, source) {
         Ok(text) => binding_in(alloc, text.as_slice()),
@@ -107,7 +107,7 @@ pub fn binding_from<R: Source>(alloc: Global, source: &mut R) -> Result<Binding,
 
 /// The binding that a text is.
 pub fn binding_in(alloc: Global, text: &[u8]) -> Result<Binding, Refusal>
-    ensures { Gives (λ binding. binding) result (or_bad_binding (binding_of text.now)) }
+    ensures { AnswerGives (λ binding. binding) result (or_bad_binding (binding_of text.now)) }
 {
     match read_binding(alloc, text) {
         Ok(binding) => Ok(binding),

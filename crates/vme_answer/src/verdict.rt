@@ -1,7 +1,7 @@
 //! The verdict on a recording, and telling it.
 
 ghost use Rattle.std.specs.Prelude.{◌≡◌, ◌≤◌, Ok};
-ghost use Rattle.vme_answer.specs.Answers.{Gives, answer_by, verdict_in_blocks};
+ghost use Rattle.vme_answer.specs.Answers.{AnswerGives, answer_by, verdict_in_blocks};
 ghost use Rattle.vme_answer.specs.Ends.{Ends};
 
 use crate::refusal::Refusal;
@@ -14,7 +14,7 @@ use vme_trace::{Capture, CutFault, Sink, Verdict};
 /// The verdict on a recording, in blocks of so many steps.
 pub fn verdict_on(alloc: Global, capture: &Capture, block: u32) -> Result<Verdict, Refusal>
     requires { (1 ≤ block) × (block ≤ 65536) }
-    ensures { Gives (λ verdict. verdict) result (verdict_in_blocks block capture.now) }
+    ensures { AnswerGives (λ verdict. verdict) result (verdict_in_blocks block capture.now) }
 {
     match verdict_by_blocks(alloc, capture, block) {
         Ok(verdict) => Ok(verdict),

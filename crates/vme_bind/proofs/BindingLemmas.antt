@@ -5,20 +5,20 @@ use Rattle.vcd_read.specs.Header.{◌>>=◌}
 use Rattle.vme_bind.specs.declared.fault.BindFault.{BindFault}
 use Rattle.vme_bind.specs.declared.fault.BindKind.{BindKind}
 use Rattle.vme_bind.specs.declared.fault.BindKind.TheVariants.{Memory, SlotsFirst, Unbound}
-use Rattle.vme_bind.specs.Answers.{at_line, FailsAs, Fails, Gives}
+use Rattle.vme_bind.specs.Answers.{at_line, BindFailsAs, BindFails, BindGives}
 use Rattle.vme_bind.specs.Text.{Saying, all_said, end_line}
 use Rattle.vme_bind.specs.Binding.{BoundLines, slots_behind, bound, bound_all, all_bound, finished, least_unbound, unless_unbound, no_assignments, with_left_out, binding_from, binding_of}
 
-fails_then : {X Y : Type 0} (line : ℕ) (kind : BindKind) (r : Result X BindFault) (next : X → Result Y BindFault) → FailsAs line kind r → FailsAs line kind (r >>= next)
+fails_then : {X Y : Type 0} (line : ℕ) (kind : BindKind) (r : Result X BindFault) (next : X → Result Y BindFault) → BindFailsAs line kind r → BindFailsAs line kind (r >>= next)
 fails_then line Memory r next h = h
 fails_then {X = X} {Y = Y} line kind r next h = ap (λ (r : Result X BindFault). r >>= next) h
 
 -- what fails first, fails
-pub fails_first : {X Y : Type 0} (fault : BindFault) (r : Result X BindFault) (next : X → Result Y BindFault) (whole : Result Y BindFault) → whole ≡ (r >>= next) → Fails fault r → Fails fault whole
+pub fails_first : {X Y : Type 0} (fault : BindFault) (r : Result X BindFault) (next : X → Result Y BindFault) (whole : Result Y BindFault) → whole ≡ (r >>= next) → BindFails fault r → BindFails fault whole
 fails_first fault r next whole e h = rw e (fails_then fault.line fault.kind r next h)
 
 -- what a `?` returns
-pub gives_err : {X Y : Type 0} (view : X → Y) (r : Result X BindFault) (fault : BindFault) (whole : Result Y BindFault) → IsErrAnd r (λ e. e ≡ fault) → Fails fault whole → Gives view r whole
+pub gives_err : {X Y : Type 0} (view : X → Y) (r : Result X BindFault) (fault : BindFault) (whole : Result Y BindFault) → IsErrAnd r (λ e. e ≡ fault) → BindFails fault whole → BindGives view r whole
 gives_err view (Ok x) fault whole is h = absurd is
 gives_err view (Err e) fault whole is h = rw is h
 

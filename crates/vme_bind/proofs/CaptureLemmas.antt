@@ -19,13 +19,13 @@ use Rattle.vme_trace.proofs.Changing.{slots-kept}
 use Rattle.vcd_read.specs.declared.dump.Bit.{Bit}
 use Rattle.vcd_read.specs.declared.dump.Instant.{Instant}
 use Rattle.vcd_read.specs.declared.dump.Value.{Value}
-use Rattle.vme_bind.specs.declared.taps.Tap.{Tap}
-use Rattle.vme_bind.specs.declared.taps.Taps.{Taps}
-use Rattle.vme_bind.specs.declared.wires.Wire.{Wire}
-use Rattle.vme_bind.specs.declared.wires.LineSource.{LineSource}
-use Rattle.vme_bind.specs.declared.wires.LineSource.TheVariants.{Always, Bit as AtBit}
-use Rattle.vme_bind.specs.Wires.{line_source}
-use Rattle.vme_bind.specs.Taps.{taps_of, is_on, place_in, is_tap, tap_at, taps_below}
+use Rattle.vme_bind.specs.declared.net_lines.LineBit.{LineBit}
+use Rattle.vme_bind.specs.declared.net_lines.NetLines.{NetLines}
+use Rattle.vme_bind.specs.declared.bound_groups.BoundGroup.{BoundGroup}
+use Rattle.vme_bind.specs.declared.bound_groups.LineSource.{LineSource}
+use Rattle.vme_bind.specs.declared.bound_groups.LineSource.TheVariants.{Always, Bit as AtBit}
+use Rattle.vme_bind.specs.BoundGroups.{line_source}
+use Rattle.vme_bind.specs.NetLines.{line_bits_of, is_on, place_in, is_line_bit, line_bit_at, line_bits_below}
 use Rattle.vme_bind.specs.Capture.{level_in, last_bits, values_of, bits_at, last_change, level_by, level_after, levels_after}
 use Rattle.vme_bind.specs.Recording.{tapped, valued}
 use Rattle.vme_bind.proofs.RecorderLemmas.{map-more, same_levels, set_other, set_same, those-no, those-yes, zero_le}
@@ -115,11 +115,11 @@ by_values l None values base = base
 by_values l (Some (Always level)) values base = base
 by_values l (Some (AtBit bit)) values base = option_map_or (level_in l bit.place) (last_bits bit.net values) base
 
-abbrev pub tap_level : ℕ → Option LineSource → List Bit → Level
-tap_level l source bits = level_in l (place_in source) bits
+abbrev pub line_bit_level : ℕ → Option LineSource → List Bit → Level
+line_bit_level l source bits = level_in l (place_in source) bits
 
 one_value : (l : ℕ) (source : Option LineSource) (v : Value) (values : List Value) (base : Level)
-    → by_values l source values (cond (is_on v.net source) (tap_level l source v.bits) base) ≡ by_values l source (v ∷ values) base
+    → by_values l source values (cond (is_on v.net source) (line_bit_level l source v.bits) base) ≡ by_values l source (v ∷ values) base
 one_value l None v values base = refl
 one_value l (Some (Always level)) v values base = refl
 one_value l (Some (AtBit bit)) v values base = by_last (last_bits bit.net values) (v.net == bit.net)
@@ -136,40 +136,40 @@ nothing_said l (Some (Always level)) base = refl
 nothing_said l (Some (AtBit bit)) base = refl
 
 -- the taps are those of some wires
-abbrev pub AreTaps : ℕ → List Wire → Taps → Type 0
-AreTaps slots wires taps = (net : ℕ) → taps_of taps net ≡ taps_below slots wires net line_count
+abbrev pub AreTaps : ℕ → List BoundGroup → NetLines → Type 0
+AreTaps slots bound_groups line_bits = (net : ℕ) → line_bits_of line_bits net ≡ line_bits_below slots bound_groups net line_count
 
-tapped_twice : (slots : ℕ) (wires : List Wire) (bits : List Bit) (xs : List ℕ) → map (tapped bits) (map (tap_at slots wires) xs) ≡ map (to_level (λ l. tap_level l (line_source slots wires l) bits)) xs
-tapped_twice slots wires bits [] = refl
-tapped_twice slots wires bits (x ∷ xs) = ap (λ (cs : List Change). to_level (λ l. tap_level l (line_source slots wires l) bits) x ∷ cs) (tapped_twice slots wires bits xs)
+tapped_twice : (slots : ℕ) (bound_groups : List BoundGroup) (bits : List Bit) (xs : List ℕ) → map (tapped bits) (map (line_bit_at slots bound_groups) xs) ≡ map (to_level (λ l. line_bit_level l (line_source slots bound_groups l) bits)) xs
+tapped_twice slots bound_groups bits [] = refl
+tapped_twice slots bound_groups bits (x ∷ xs) = ap (λ (cs : List Change). to_level (λ l. line_bit_level l (line_source slots bound_groups l) bits) x ∷ cs) (tapped_twice slots bound_groups bits xs)
 
-abbrev pub one_valued : Taps → Value → Levels → Levels
-one_valued taps v now = changed now (map (tapped v.bits) (taps_of taps v.net))
+abbrev pub one_valued : NetLines → Value → Levels → Levels
+one_valued line_bits v now = changed now (map (tapped v.bits) (line_bits_of line_bits v.net))
 
-pub one_valued-at : (slots : ℕ) (wires : List Wire) (taps : Taps) → AreTaps slots wires taps → (v : Value) (now : Levels) → length now.levels ≡ line_count → (l : ℕ) → l < line_count
-    → level_at (one_valued taps v now) l ≡ cond (is_on v.net (line_source slots wires l)) (tap_level l (line_source slots wires l) v.bits) (level_at now l)
-unfolding is_tap
-one_valued-at slots wires taps all v now e l lt =
-    ap (λ (ts : List Tap). level_at (changed now (map (tapped v.bits) ts)) l) (all v.net)
-    ∙ ap (λ (cs : List Change). level_at (changed now cs) l) (tapped_twice slots wires v.bits (those (is_tap slots wires v.net) 0 line_count))
-    ∙ changed-those (is_tap slots wires v.net) (λ k. tap_level k (line_source slots wires k) v.bits) now line_count (omega (arith, e)) l
-    ∙ ap (λ (b : Bool). cond (b && is_tap slots wires v.net l) (tap_level l (line_source slots wires l) v.bits) (level_at now l)) (is_below l line_count lt)
+pub one_valued-at : (slots : ℕ) (bound_groups : List BoundGroup) (line_bits : NetLines) → AreTaps slots bound_groups line_bits → (v : Value) (now : Levels) → length now.levels ≡ line_count → (l : ℕ) → l < line_count
+    → level_at (one_valued line_bits v now) l ≡ cond (is_on v.net (line_source slots bound_groups l)) (line_bit_level l (line_source slots bound_groups l) v.bits) (level_at now l)
+unfolding is_line_bit
+one_valued-at slots bound_groups line_bits all v now e l lt =
+    ap (λ (ts : List LineBit). level_at (changed now (map (tapped v.bits) ts)) l) (all v.net)
+    ∙ ap (λ (cs : List Change). level_at (changed now cs) l) (tapped_twice slots bound_groups v.bits (those (is_line_bit slots bound_groups v.net) 0 line_count))
+    ∙ changed-those (is_line_bit slots bound_groups v.net) (λ k. line_bit_level k (line_source slots bound_groups k) v.bits) now line_count (omega (arith, e)) l
+    ∙ ap (λ (b : Bool). cond (b && is_line_bit slots bound_groups v.net l) (line_bit_level l (line_source slots bound_groups l) v.bits) (level_at now l)) (is_below l line_count lt)
 
-pub length-valued : (taps : Taps) (values : List Value) (now : Levels) → length (valued taps values now).levels ≡ length now.levels
-length-valued taps [] now = refl
-length-valued taps (v ∷ values) now = length-valued taps values (one_valued taps v now) ∙ length-changed now (map (tapped v.bits) (taps_of taps v.net))
+pub length-valued : (line_bits : NetLines) (values : List Value) (now : Levels) → length (valued line_bits values now).levels ≡ length now.levels
+length-valued line_bits [] now = refl
+length-valued line_bits (v ∷ values) now = length-valued line_bits values (one_valued line_bits v now) ∙ length-changed now (map (tapped v.bits) (line_bits_of line_bits v.net))
 
-pub slots-valued : (taps : Taps) (values : List Value) (now : Levels) → (valued taps values now).slots ≡ now.slots
-slots-valued taps [] now = refl
-slots-valued taps (v ∷ values) now = slots-valued taps values (one_valued taps v now) ∙ slots-kept now (map (tapped v.bits) (taps_of taps v.net))
+pub slots-valued : (line_bits : NetLines) (values : List Value) (now : Levels) → (valued line_bits values now).slots ≡ now.slots
+slots-valued line_bits [] now = refl
+slots-valued line_bits (v ∷ values) now = slots-valued line_bits values (one_valued line_bits v now) ∙ slots-kept now (map (tapped v.bits) (line_bits_of line_bits v.net))
 
-pub valued-at : (slots : ℕ) (wires : List Wire) (taps : Taps) → AreTaps slots wires taps → (values : List Value) (now : Levels) → length now.levels ≡ line_count → (l : ℕ) → l < line_count
-    → level_at (valued taps values now) l ≡ by_values l (line_source slots wires l) values (level_at now l)
-valued-at slots wires taps all [] now e l lt = sym (nothing_said l (line_source slots wires l) (level_at now l))
-valued-at slots wires taps all (v ∷ values) now e l lt =
-    valued-at slots wires taps all values (one_valued taps v now) (length-changed now (map (tapped v.bits) (taps_of taps v.net)) ∙ e) l lt
-    ∙ ap (by_values l (line_source slots wires l) values) (one_valued-at slots wires taps all v now e l lt)
-    ∙ one_value l (line_source slots wires l) v values (level_at now l)
+pub valued-at : (slots : ℕ) (bound_groups : List BoundGroup) (line_bits : NetLines) → AreTaps slots bound_groups line_bits → (values : List Value) (now : Levels) → length now.levels ≡ line_count → (l : ℕ) → l < line_count
+    → level_at (valued line_bits values now) l ≡ by_values l (line_source slots bound_groups l) values (level_at now l)
+valued-at slots bound_groups line_bits all [] now e l lt = sym (nothing_said l (line_source slots bound_groups l) (level_at now l))
+valued-at slots bound_groups line_bits all (v ∷ values) now e l lt =
+    valued-at slots bound_groups line_bits all values (one_valued line_bits v now) (length-changed now (map (tapped v.bits) (line_bits_of line_bits v.net)) ∙ e) l lt
+    ∙ ap (by_values l (line_source slots bound_groups l) values) (one_valued-at slots bound_groups line_bits all v now e l lt)
+    ∙ one_value l (line_source slots bound_groups l) v values (level_at now l)
 
 -- ---- one instant more
 
@@ -181,46 +181,46 @@ greatest-no : (p : ℕ → Bool) (n : ℕ) → p n ≡ false → greatest p 0 (n
 unfolding greatest
 greatest-no p n h = rw (add-one, zero_le n, h) refl
 
-module _ (slots : ℕ) (wires : List Wire) (instants : List Instant) where
-  bit_more : (n l net place : ℕ) (here : Option (List Bit)) → bits_at slots wires instants net n ≡ here
-      → option_map_or (level_in l place) (option_and_then (bits_at slots wires instants net) (last_change slots wires instants net (n + 1))) Unknown
-      ≡ option_map_or (level_in l place) here (option_map_or (level_in l place) (option_and_then (bits_at slots wires instants net) (last_change slots wires instants net n)) Unknown)
+module _ (slots : ℕ) (bound_groups : List BoundGroup) (instants : List Instant) where
+  bit_more : (n l net place : ℕ) (here : Option (List Bit)) → bits_at slots bound_groups instants net n ≡ here
+      → option_map_or (level_in l place) (option_and_then (bits_at slots bound_groups instants net) (last_change slots bound_groups instants net (n + 1))) Unknown
+      ≡ option_map_or (level_in l place) here (option_map_or (level_in l place) (option_and_then (bits_at slots bound_groups instants net) (last_change slots bound_groups instants net n)) Unknown)
   bit_more n l net place None e =
-      ap (λ (o : Option ℕ). option_map_or (level_in l place) (option_and_then (bits_at slots wires instants net) o) Unknown) (greatest-no (λ i. is_some (bits_at slots wires instants net i)) n (ap is_some e))
+      ap (λ (o : Option ℕ). option_map_or (level_in l place) (option_and_then (bits_at slots bound_groups instants net) o) Unknown) (greatest-no (λ i. is_some (bits_at slots bound_groups instants net i)) n (ap is_some e))
   bit_more n l net place (Some bits) e =
-      ap (λ (o : Option ℕ). option_map_or (level_in l place) (option_and_then (bits_at slots wires instants net) o) Unknown) (greatest-yes (λ i. is_some (bits_at slots wires instants net i)) n (ap is_some e))
+      ap (λ (o : Option ℕ). option_map_or (level_in l place) (option_and_then (bits_at slots bound_groups instants net) o) Unknown) (greatest-yes (λ i. is_some (bits_at slots bound_groups instants net i)) n (ap is_some e))
       ∙ ap (λ (o : Option (List Bit)). option_map_or (level_in l place) o Unknown) e
 
-  by_source : (n l : ℕ) (source : Option LineSource) → level_by slots wires instants (n + 1) l source ≡ by_values l source (values_of (slice_get instants n)) (level_by slots wires instants n l source)
+  by_source : (n l : ℕ) (source : Option LineSource) → level_by slots bound_groups instants (n + 1) l source ≡ by_values l source (values_of (slice_get instants n)) (level_by slots bound_groups instants n l source)
   by_source n l None = refl
   by_source n l (Some (Always level)) = refl
-  by_source n l (Some (AtBit bit)) = bit_more n l bit.net bit.place (bits_at slots wires instants bit.net n) refl
+  by_source n l (Some (AtBit bit)) = bit_more n l bit.net bit.place (bits_at slots bound_groups instants bit.net n) refl
 
-  pub after-more : (n l : ℕ) → level_after slots wires instants (n + 1) l ≡ by_values l (line_source slots wires l) (values_of (slice_get instants n)) (level_after slots wires instants n l)
+  pub after-more : (n l : ℕ) → level_after slots bound_groups instants (n + 1) l ≡ by_values l (line_source slots bound_groups l) (values_of (slice_get instants n)) (level_after slots bound_groups instants n l)
   unfolding level_after
-  after-more n l = by_source n l (line_source slots wires l)
+  after-more n l = by_source n l (line_source slots bound_groups l)
 
-  pub levels-at : (n l : ℕ) → l < line_count → level_at (levels_after slots wires instants n) l ≡ level_after slots wires instants n l
+  pub levels-at : (n l : ℕ) → l < line_count → level_at (levels_after slots bound_groups instants n) l ≡ level_after slots bound_groups instants n l
   unfolding levels_after
-  levels-at n l lt = unwrap_or-slice_get (map (level_after slots wires instants n) (range_with_len 0 line_count)) l Unknown ∙ get_or-map-range_with_len (level_after slots wires instants n) 0 line_count l l Unknown lt (omega arith)
+  levels-at n l lt = unwrap_or-slice_get (map (level_after slots bound_groups instants n) (range_with_len 0 line_count)) l Unknown ∙ get_or-map-range_with_len (level_after slots bound_groups instants n) 0 line_count l l Unknown lt (omega arith)
 
-  pub levels-all : (n : ℕ) → length (levels_after slots wires instants n).levels ≡ line_count
+  pub levels-all : (n : ℕ) → length (levels_after slots bound_groups instants n).levels ≡ line_count
   unfolding levels_after
-  levels-all n = length-map-range_with_len (level_after slots wires instants n) 0 line_count
+  levels-all n = length-map-range_with_len (level_after slots bound_groups instants n) 0 line_count
 
-  pub levels-slots : (n : ℕ) → (levels_after slots wires instants n).slots ≡ slots
+  pub levels-slots : (n : ℕ) → (levels_after slots bound_groups instants n).slots ≡ slots
   unfolding levels_after
   levels-slots n = refl
 
   -- the values of an instant lead from the levels before it to those after it
-  pub valued-more : (taps : Taps) → AreTaps slots wires taps → (n : ℕ) (values : List Value) → values ≡ values_of (slice_get instants n)
-      → valued taps values (levels_after slots wires instants n) ≡ levels_after slots wires instants (n + 1)
-  valued-more taps all n values e =
-      same_levels (valued taps values (levels_after slots wires instants n)) (levels_after slots wires instants (n + 1))
-      (slots-valued taps values (levels_after slots wires instants n) ∙ levels-slots n ∙ sym (levels-slots (n + 1)))
-      (length-valued taps values (levels_after slots wires instants n) ∙ levels-all n) (levels-all (n + 1))
+  pub valued-more : (line_bits : NetLines) → AreTaps slots bound_groups line_bits → (n : ℕ) (values : List Value) → values ≡ values_of (slice_get instants n)
+      → valued line_bits values (levels_after slots bound_groups instants n) ≡ levels_after slots bound_groups instants (n + 1)
+  valued-more line_bits all n values e =
+      same_levels (valued line_bits values (levels_after slots bound_groups instants n)) (levels_after slots bound_groups instants (n + 1))
+      (slots-valued line_bits values (levels_after slots bound_groups instants n) ∙ levels-slots n ∙ sym (levels-slots (n + 1)))
+      (length-valued line_bits values (levels_after slots bound_groups instants n) ∙ levels-all n) (levels-all (n + 1))
       (λ l lt.
-      valued-at slots wires taps all values (levels_after slots wires instants n) (levels-all n) l lt
-      ∙ ap (λ (vs : List Value). by_values l (line_source slots wires l) vs (level_at (levels_after slots wires instants n) l)) e
-      ∙ ap (by_values l (line_source slots wires l) (values_of (slice_get instants n))) (levels-at n l lt)
+      valued-at slots bound_groups line_bits all values (levels_after slots bound_groups instants n) (levels-all n) l lt
+      ∙ ap (λ (vs : List Value). by_values l (line_source slots bound_groups l) vs (level_at (levels_after slots bound_groups instants n) l)) e
+      ∙ ap (by_values l (line_source slots bound_groups l) (values_of (slice_get instants n))) (levels-at n l lt)
       ∙ sym (after-more n l) ∙ sym (levels-at (n + 1) l lt))

@@ -10,7 +10,7 @@ use Rattle.vme_trace.specs.LineNumbers.{line_count}
 use Rattle.vme_trace.specs.declared.step.Change.{Change}
 use Rattle.vme_trace.specs.declared.step.Step.{Step}
 use Rattle.vme_trace.proofs.Ranges.{any-fails}
-use Rattle.vme_bind.specs.Recording.{Progress, IsLine, differs, AreTouched, change_to, changes_between, step_between}
+use Rattle.vme_bind.specs.Recording.{RecorderLevels, IsLine, differs, ListsTouchedLines, change_to, changes_between, step_between}
 use Rattle.vme_bind.proofs.RecorderLemmas.{those-yes, those-skip, bool_cases, alike, same_levels, set_same, set_other, set_all}
 use Rattle.vme_bind.proofs.StepsLemmas.{some_of}
 
@@ -44,7 +44,7 @@ step-none time a b cs e h = by_any (any (differs a b) 0 line_count) refl
     by_any false k = refl
 
 -- where no line differs, all is shown
-pub all-shown : (shown now : Levels) (touched : List ℕ) → AreTouched shown now touched → ((l : ℕ) → differs shown now l ≡ false) → shown ≡ now
+pub all-shown : (shown now : Levels) (touched : List ℕ) → ListsTouchedLines shown now touched → ((l : ℕ) → differs shown now l ≡ false) → shown ≡ now
 all-shown shown now touched h same = same_levels shown now (sym h.slots) h.shown_all h.now_all (λ l lt. alike shown now l (same l))
 
 -- where no line differs, there is no step
@@ -54,34 +54,34 @@ step-same time shown now same =
     sym (step-none time shown now [] (ap (map (change_to now)) (sym (those-skip (differs shown now) 0 line_count (omega arith) (λ l low lt. same l)))) refl)
 
 -- where no line is listed, none differs
-pub none_differs : (shown now : Levels) (touched : List ℕ) → length touched ≡ 0 → AreTouched shown now touched → (l : ℕ) → differs shown now l ≡ false
+pub none_differs : (shown now : Levels) (touched : List ℕ) → length touched ≡ 0 → ListsTouchedLines shown now touched → (l : ℕ) → differs shown now l ≡ false
 none_differs shown now touched none h l =
     elim (bool_cases (differs shown now l)) [
       | inl d ↦ let here = h.listed l d in absurd (omega (arith, here.1, none))
       | inr same ↦ same
     ]
 
-abbrev pub progress : Levels → Levels → Progress
+abbrev pub progress : Levels → Levels → RecorderLevels
 progress shown now = record { shown = shown; now = now }
 
 -- the step, by what is shown
-pub step-at : (time : ℕ) (p : Progress) (shown now : Levels) → p ≡ progress shown now → step_between time shown now ≡ step_between time p.shown p.now
-step-at time p shown now e = ap (λ (q : Progress). step_between time q.shown q.now) (sym e)
+pub step-at : (time : ℕ) (p : RecorderLevels) (shown now : Levels) → p ≡ progress shown now → step_between time shown now ≡ step_between time p.shown p.now
+step-at time p shown now e = ap (λ (q : RecorderLevels). step_between time q.shown q.now) (sym e)
 
 -- all is shown at the end
-pub ended : (p : Progress) (shown now after : Levels) → p ≡ progress shown now → after ≡ now → progress after now ≡ progress p.now p.now
-ended p shown now after e is = ap (λ (v : Levels). progress v now) is ∙ ap (λ (q : Progress). progress q.now q.now) (sym e)
+pub ended : (p : RecorderLevels) (shown now after : Levels) → p ≡ progress shown now → after ≡ now → progress after now ≡ progress p.now p.now
+ended p shown now after e is = ap (λ (v : Levels). progress v now) is ∙ ap (λ (q : RecorderLevels). progress q.now q.now) (sym e)
 
 -- where nothing is listed, nothing ends
-pub none-ended : (p : Progress) (shown now : Levels) (touched : List ℕ) → p ≡ progress shown now → AreTouched shown now touched → length touched ≡ 0 → p ≡ progress p.now p.now
+pub none-ended : (p : RecorderLevels) (shown now : Levels) (touched : List ℕ) → p ≡ progress shown now → ListsTouchedLines shown now touched → length touched ≡ 0 → p ≡ progress p.now p.now
 none-ended p shown now touched e h none = e ∙ ended p shown now shown e (all-shown shown now touched h (none_differs shown now touched none h))
 
-pub none-step : (time : ℕ) (p : Progress) (shown now : Levels) (touched : List ℕ) → p ≡ progress shown now → AreTouched shown now touched → length touched ≡ 0 → [] ≡ step_between time p.shown p.now
+pub none-step : (time : ℕ) (p : RecorderLevels) (shown now : Levels) (touched : List ℕ) → p ≡ progress shown now → ListsTouchedLines shown now touched → length touched ≡ 0 → [] ≡ step_between time p.shown p.now
 none-step time p shown now touched e h none = step-same time shown now (none_differs shown now touched none h) ∙ step-at time p shown now e
 
 -- ---- one line that differs
 
-module _ (shown now : Levels) (touched : List ℕ) (line : ℕ) (h : AreTouched shown now touched) (is : IsLine shown.slots line) (alone : (l : ℕ) → l ≢ line → differs shown now l ≡ false) where
+module _ (shown now : Levels) (touched : List ℕ) (line : ℕ) (h : ListsTouchedLines shown now touched) (is : IsLine shown.slots line) (alone : (l : ℕ) → l ≢ line → differs shown now l ≡ false) where
   -- it is shown
   pub lone-shown : set_level shown line (level_at now line) ≡ now
   lone-shown =
@@ -108,13 +108,13 @@ module _ (shown now : Levels) (touched : List ℕ) (line : ℕ) (h : AreTouched 
   ]
 
 -- the end of an instant at which no line but one may differ
-module _ (p : Progress) (shown now : Levels) (touched : List ℕ) (line : ℕ) (view : p ≡ progress shown now) (h : AreTouched shown now touched)
+module _ (p : RecorderLevels) (shown now : Levels) (touched : List ℕ) (line : ℕ) (view : p ≡ progress shown now) (h : ListsTouchedLines shown now touched)
     (exists : IsLine p.now.slots line) (alone : (l : ℕ) → l ≢ line → differs p.shown p.now l ≡ false) where
   line_exists : IsLine shown.slots line
-  line_exists = subst (λ (s : ℕ). IsLine s line) (ap (λ (q : Progress). q.now.slots) view ∙ h.slots) exists
+  line_exists = subst (λ (s : ℕ). IsLine s line) (ap (λ (q : RecorderLevels). q.now.slots) view ∙ h.slots) exists
 
   is_alone : (l : ℕ) → l ≢ line → differs shown now l ≡ false
-  is_alone l ne = subst (λ (q : Progress). differs q.shown q.now l ≡ false) view (alone l ne)
+  is_alone l ne = subst (λ (q : RecorderLevels). differs q.shown q.now l ≡ false) view (alone l ne)
 
   pub line-shown : (after : Levels) → after ≡ set_level shown line (level_at now line) → after ≡ now
   line-shown after set = set ∙ lone-shown shown now touched line h line_exists is_alone

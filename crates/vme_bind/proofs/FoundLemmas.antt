@@ -13,37 +13,37 @@ use Rattle.vme_bind.specs.declared.assignment.Assignment.{Assignment}
 use Rattle.vme_bind.specs.declared.fault.BindFault.{BindFault}
 use Rattle.vme_bind.specs.declared.fault.BindKind.{BindKind}
 use Rattle.vme_bind.specs.declared.fault.BindKind.TheVariants.{AmbiguousPath}
-use Rattle.vme_bind.specs.declared.source.Source.{Source}
-use Rattle.vme_bind.specs.declared.source.Source.TheVariants.{Constant, Variable as Named}
-use Rattle.vme_bind.specs.declared.source.Variables.{Variables}
-use Rattle.vme_bind.specs.declared.sought.Sought.{Sought}
-use Rattle.vme_bind.specs.declared.sought.Found.{Found}
-use Rattle.vme_bind.specs.declared.sought.Found.TheVariants.{Nothing, Only, Several}
-use Rattle.vme_bind.specs.declared.wires.BitRange.{BitRange}
-use Rattle.vme_bind.specs.declared.wires.Wire.{Wire}
-use Rattle.vme_bind.specs.Sought.{Seen, with_bits, only_found, path_sought, scopes_begun, candidate_of, with_candidate, with_variable, seen_in, unseen, source_of, wire_of, wires_of}
-use Rattle.vme_bind.specs.Wires.{bits_meant, candidate, same_bits, only, source_by, source_in, wire_by, wire_in, wires_in}
+use Rattle.vme_bind.specs.declared.source.LevelSource.{LevelSource}
+use Rattle.vme_bind.specs.declared.source.LevelSource.TheVariants.{Constant, Variable as Named}
+use Rattle.vme_bind.specs.declared.source.VariableSelector.{VariableSelector}
+use Rattle.vme_bind.specs.declared.path_search.PathSearch.{PathSearch}
+use Rattle.vme_bind.specs.declared.path_search.PathMatch.{PathMatch}
+use Rattle.vme_bind.specs.declared.path_search.PathMatch.TheVariants.{Nothing, Only, Several}
+use Rattle.vme_bind.specs.declared.bound_groups.BitRange.{BitRange}
+use Rattle.vme_bind.specs.declared.bound_groups.BoundGroup.{BoundGroup}
+use Rattle.vme_bind.specs.PathSearch.{Searched, with_bits, only_found, path_sought, scopes_begun, candidate_of, with_candidate, with_variable, seen_in, unseen, source_of, bound_group_of, bound_groups_of}
+use Rattle.vme_bind.specs.BoundGroups.{bits_meant, candidate, same_bits, only, source_by, source_in, bound_group_by, bound_group_in, bound_groups_in}
 use Rattle.vme_bind.proofs.SoughtLemmas.{path_test}
-use Rattle.vme_bind.proofs.WiresLemmas.{behind_wires, push_in, from_place}
+use Rattle.vme_bind.proofs.WiresLemmas.{behind_bound_groups, push_in, from_place}
 use Rattle.std.proofs.Math.ListN.{drop_of_length-le}
 use Rattle.std.proofs.lemmas.List.{append-nil}
 
 -- ---- one assignment
 
 -- what is found behind these candidates
-abbrev only_behind : Found → List BitRange → Result BitRange BindKind
+abbrev only_behind : PathMatch → List BitRange → Result BitRange BindKind
 only_behind Nothing others = only others
 only_behind (Only bits) others = cond (list_all (same_bits bits) others) (Ok bits) (Err AmbiguousPath)
 only_behind Several others = Err AmbiguousPath
 
-abbrev found_all : Source → Found → List Variable → Found
-found_all source found variables = fold (λ (f : Found) (v : Variable). with_bits f (candidate_of source v)) found variables
+abbrev found_all : LevelSource → PathMatch → List Variable → PathMatch
+found_all source found variables = fold (λ (f : PathMatch) (v : Variable). with_bits f (candidate_of source v)) found variables
 
 abbrev behind : Option BitRange → List BitRange → List BitRange
 behind None others = others
 behind (Some bits) others = bits ∷ others
 
-behind_one : (found : Found) (next : Option BitRange) (others : List BitRange) → only_behind (with_bits found next) others ≡ only_behind found (behind next others)
+behind_one : (found : PathMatch) (next : Option BitRange) (others : List BitRange) → only_behind (with_bits found next) others ≡ only_behind found (behind next others)
 behind_one found None others = refl
 behind_one Nothing (Some next) others = refl
 behind_one (Only bits) (Some next) others = by_same (same_bits bits next)
@@ -53,11 +53,11 @@ behind_one (Only bits) (Some next) others = by_same (same_bits bits next)
     by_same false = refl
 behind_one Several (Some next) others = refl
 
-more_candidates : (named : Variables) (v : Variable) (vs : List Variable) (next : Option BitRange) → candidate named v ≡ next → filter_map (candidate named) (v ∷ vs) ≡ behind next (filter_map (candidate named) vs)
+more_candidates : (named : VariableSelector) (v : Variable) (vs : List Variable) (next : Option BitRange) → candidate named v ≡ next → filter_map (candidate named) (v ∷ vs) ≡ behind next (filter_map (candidate named) vs)
 more_candidates named v vs None e = rw e refl
 more_candidates named v vs (Some bits) e = rw e refl
 
-found_only : (named : Variables) (vs : List Variable) (found : Found) → only_found (found_all (Named named) found vs) ≡ only_behind found (filter_map (candidate named) vs)
+found_only : (named : VariableSelector) (vs : List Variable) (found : PathMatch) → only_found (found_all (Named named) found vs) ≡ only_behind found (filter_map (candidate named) vs)
 found_only named [] Nothing = refl
 found_only named [] (Only bits) = refl
 found_only named [] Several = refl
@@ -66,33 +66,33 @@ found_only named (v ∷ vs) found =
     ∙ behind_one found (candidate named v) (filter_map (candidate named) vs)
     ∙ ap (only_behind found) (sym (more_candidates named v vs (candidate named v) refl))
 
-found_source : (count : ℕ) (source : Source) (vs : List Variable) → source_of count (found_all source Nothing vs) source ≡ source_in vs count source
+found_source : (count : ℕ) (source : LevelSource) (vs : List Variable) → source_of count (found_all source Nothing vs) source ≡ source_in vs count source
 found_source count (Constant level) vs = refl
 found_source count (Named named) vs = ap (λ (r : Result BitRange BindKind). source_by count r) (found_only named vs Nothing)
 
 -- ---- all assignments
 
-abbrev seen_all : List Variable → Seen → Seen
+abbrev seen_all : List Variable → Searched → Searched
 seen_all vs s = record s { found = found_all s.assignment.source s.found vs }
 
-seen_each : (vs : List Variable) (seen : List Seen) → fold with_variable seen vs ≡ map (seen_all vs) seen
+seen_each : (vs : List Variable) (seen : List Searched) → fold with_variable seen vs ≡ map (seen_all vs) seen
 seen_each [] seen = sym (map-id seen)
 seen_each (v ∷ vs) seen = seen_each vs (map (with_candidate v) seen) ∙ map-map (seen_all vs) (with_candidate v) seen
 
-wires_each : (vs : List Variable) (as' : List Assignment) → wires_of (map (seen_all vs) (map unseen as')) ≡ wires_in vs as'
-unfolding wires_of wires_in
-wires_each vs [] = refl
-wires_each vs (a ∷ as') =
-    ap (λ (r : Result Wire BindFault). r >>= λ wire. wires_of (map (seen_all vs) (map unseen as')) >>= λ wires. Ok (wire ∷ wires)) (ap (wire_by a) (found_source a.group.count a.source vs))
-    ∙ ap (λ (r : Result (List Wire) BindFault). wire_in vs a >>= λ wire. r >>= λ wires. Ok (wire ∷ wires)) (wires_each vs as')
+bound_groups_each : (vs : List Variable) (as' : List Assignment) → bound_groups_of (map (seen_all vs) (map unseen as')) ≡ bound_groups_in vs as'
+unfolding bound_groups_of bound_groups_in
+bound_groups_each vs [] = refl
+bound_groups_each vs (a ∷ as') =
+    ap (λ (r : Result BoundGroup BindFault). r >>= λ bound_group. bound_groups_of (map (seen_all vs) (map unseen as')) >>= λ bound_groups. Ok (bound_group ∷ bound_groups)) (ap (bound_group_by a) (found_source a.group.count a.source vs))
+    ∙ ap (λ (r : Result (List BoundGroup) BindFault). bound_group_in vs a >>= λ bound_group. r >>= λ bound_groups. Ok (bound_group ∷ bound_groups)) (bound_groups_each vs as')
 
 -- the wires of what is found are those of the variables
-pub wires_found : (vs : List Variable) (as' : List Assignment) (seen : List Seen) → seen ≡ fold with_variable (map unseen as') vs → wires_of seen ≡ wires_in vs as'
-wires_found vs as' seen e = ap wires_of (e ∙ seen_each vs (map unseen as')) ∙ wires_each vs as'
+pub bound_groups_found : (vs : List Variable) (as' : List Assignment) (seen : List Searched) → seen ≡ fold with_variable (map unseen as') vs → bound_groups_of seen ≡ bound_groups_in vs as'
+bound_groups_found vs as' seen e = ap bound_groups_of (e ∙ seen_each vs (map unseen as')) ∙ bound_groups_each vs as'
 
 -- ---- a variable in the open scopes
 
-module _ (named : Variables) (scopes : List (List ℕ)) (net size : ℕ) (r : Reference) (some : 0 < length r.name) where
+module _ (named : VariableSelector) (scopes : List (List ℕ)) (net size : ℕ) (r : Reference) (some : 0 < length r.name) where
   candidate_by : candidate named (variable_in scopes net size r)
       ≡ cond (eqb (scopes_begun named.path scopes) (length scopes) && bytes_eq (drop (length (path_in scopes)) named.path) r.name) (bits_meant named.selection net size r.index) None
   candidate_by = ap (λ (b : Bool). cond b (bits_meant named.selection net size r.index) None) (path_test named.path r.name scopes some)
@@ -124,27 +124,27 @@ module _ (named : Variables) (scopes : List (List ℕ)) (net size : ℕ) (r : Re
       none = grind (arith, nat_tests, is, other)
 
 -- what is sought in other scopes is found no more of
-pub found-other : (source : Source) (found : Found) (scopes : List (List ℕ)) (net size : ℕ) (r : Reference) (begun : ℕ) → 0 < length r.name → begun ≡ scopes_begun (path_sought source) scopes → (begun ≡ length scopes → ⊥)
+pub found-other : (source : LevelSource) (found : PathMatch) (scopes : List (List ℕ)) (net size : ℕ) (r : Reference) (begun : ℕ) → 0 < length r.name → begun ≡ scopes_begun (path_sought source) scopes → (begun ≡ length scopes → ⊥)
     → found ≡ with_bits found (candidate_of source (variable_in scopes net size r))
 found-other (Constant level) found scopes net size r begun some is other = refl
 found-other (Named named) found scopes net size r begun some is other = ap (with_bits found) (candidate-other named scopes net size r some begun is other)
 
 -- ---- the wires one after the other
 
-pub wires-first : (wires : List Wire) (sought : List Sought) (i : ℕ) (s : Sought) → i < length sought → s ≡ get_or sought i s
-    → behind_wires wires (wires_of (map seen_in (drop i sought))) ≡ (wire_of (seen_in s) >>= λ wire. behind_wires (wires ++ wire ∷ []) (wires_of (map seen_in (drop (i + 1) sought))))
-unfolding wires_of
-wires-first wires sought i s lt e =
-    ap (λ (rest : List Sought). behind_wires wires (wires_of (map seen_in rest))) (from_place sought i s lt e)
-    ∙ push_in wires (wire_of (seen_in s)) (wires_of (map seen_in (drop (i + 1) sought)))
+pub bound_groups-first : (bound_groups : List BoundGroup) (sought : List PathSearch) (i : ℕ) (s : PathSearch) → i < length sought → s ≡ get_or sought i s
+    → behind_bound_groups bound_groups (bound_groups_of (map seen_in (drop i sought))) ≡ (bound_group_of (seen_in s) >>= λ bound_group. behind_bound_groups (bound_groups ++ bound_group ∷ []) (bound_groups_of (map seen_in (drop (i + 1) sought))))
+unfolding bound_groups_of
+bound_groups-first bound_groups sought i s lt e =
+    ap (λ (rest : List PathSearch). behind_bound_groups bound_groups (bound_groups_of (map seen_in rest))) (from_place sought i s lt e)
+    ∙ push_in bound_groups (bound_group_of (seen_in s)) (bound_groups_of (map seen_in (drop (i + 1) sought)))
 
-pub wires-step : (wires : List Wire) (sought : List Sought) (i : ℕ) (s : Sought) (wire : Wire) → i < length sought → s ≡ get_or sought i s → wire_of (seen_in s) ≡ Ok wire
-    → behind_wires wires (wires_of (map seen_in (drop i sought))) ≡ behind_wires (wires ++ wire ∷ []) (wires_of (map seen_in (drop (i + 1) sought)))
-wires-step wires sought i s wire lt e is =
-    wires-first wires sought i s lt e
-    ∙ ap (λ (r : Result Wire BindFault). r >>= λ wire. behind_wires (wires ++ wire ∷ []) (wires_of (map seen_in (drop (i + 1) sought)))) is
+pub bound_groups-step : (bound_groups : List BoundGroup) (sought : List PathSearch) (i : ℕ) (s : PathSearch) (bound_group : BoundGroup) → i < length sought → s ≡ get_or sought i s → bound_group_of (seen_in s) ≡ Ok bound_group
+    → behind_bound_groups bound_groups (bound_groups_of (map seen_in (drop i sought))) ≡ behind_bound_groups (bound_groups ++ bound_group ∷ []) (bound_groups_of (map seen_in (drop (i + 1) sought)))
+bound_groups-step bound_groups sought i s bound_group lt e is =
+    bound_groups-first bound_groups sought i s lt e
+    ∙ ap (λ (r : Result BoundGroup BindFault). r >>= λ bound_group. behind_bound_groups (bound_groups ++ bound_group ∷ []) (bound_groups_of (map seen_in (drop (i + 1) sought)))) is
 
-pub wires-end : (wires : List Wire) (sought : List Sought) (i : ℕ) → length sought ≤ i → behind_wires wires (wires_of (map seen_in (drop i sought))) ≡ Ok wires
-unfolding wires_of
-wires-end wires sought i le =
-    ap (λ (rest : List Sought). behind_wires wires (wires_of (map seen_in rest))) (drop_of_length-le sought le) ∙ ap Ok (append-nil wires)
+pub bound_groups-end : (bound_groups : List BoundGroup) (sought : List PathSearch) (i : ℕ) → length sought ≤ i → behind_bound_groups bound_groups (bound_groups_of (map seen_in (drop i sought))) ≡ Ok bound_groups
+unfolding bound_groups_of
+bound_groups-end bound_groups sought i le =
+    ap (λ (rest : List PathSearch). behind_bound_groups bound_groups (bound_groups_of (map seen_in rest))) (drop_of_length-le sought le) ∙ ap Ok (append-nil bound_groups)

@@ -14,18 +14,18 @@ use Rattle.vme_trace.proofs.Changing.{slots-kept}
 use Rattle.vcd_read.specs.declared.dump.Bit.{Bit}
 use Rattle.vcd_read.specs.declared.dump.Instant.{Instant}
 use Rattle.vcd_read.specs.declared.dump.Value.{Value}
-use Rattle.vcd_read.specs.Progress.{values_from}
-use Rattle.vme_bind.specs.declared.taps.Taps.{Taps}
-use Rattle.vme_bind.specs.declared.wires.Wire.{Wire}
-use Rattle.vme_bind.specs.declared.wires.LineSource.{LineSource}
-use Rattle.vme_bind.specs.declared.wires.LineSource.TheVariants.{Always, Bit as AtBit}
-use Rattle.vme_bind.specs.Wires.{line_source}
-use Rattle.vme_bind.specs.Taps.{taps_of, is_on}
+use Rattle.vcd_read.specs.DumpProgress.{values_from}
+use Rattle.vme_bind.specs.declared.net_lines.NetLines.{NetLines}
+use Rattle.vme_bind.specs.declared.bound_groups.BoundGroup.{BoundGroup}
+use Rattle.vme_bind.specs.declared.bound_groups.LineSource.{LineSource}
+use Rattle.vme_bind.specs.declared.bound_groups.LineSource.TheVariants.{Always, Bit as AtBit}
+use Rattle.vme_bind.specs.BoundGroups.{line_source}
+use Rattle.vme_bind.specs.NetLines.{line_bits_of, is_on}
 use Rattle.vme_bind.specs.Capture.{level_in, last_bits, values_of, time_of, levels_after, recording}
-use Rattle.vme_bind.specs.Recording.{Progress, tapped, valued, step_between}
+use Rattle.vme_bind.specs.Recording.{RecorderLevels, tapped, valued, step_between}
 use Rattle.vme_bind.specs.Made.{Made, IsBegun, made_change, made_instant}
 use Rattle.vme_bind.proofs.RecorderLemmas.{same_levels}
-use Rattle.vme_bind.proofs.CaptureLemmas.{AreTaps, by_values, valued-more, tap_level, one_valued, one_valued-at, length-valued, slots-valued, valued-at, levels-all, length-changed}
+use Rattle.vme_bind.proofs.CaptureLemmas.{AreTaps, by_values, valued-more, line_bit_level, one_valued, one_valued-at, length-valued, slots-valued, valued-at, levels-all, length-changed}
 use Rattle.vme_bind.proofs.OpeningLemmas.{recording-first, recording-more}
 
 abbrev pub Current : Type 0
@@ -86,7 +86,7 @@ last-set current net at bits lt =
     not_eqb a b ne = grind (arith, nat_tests)
 
 one_more : (l net : ℕ) (source : Option LineSource) (current : Current) (bits : List Bit) (base : Level) → net < length current
-    → cond (is_on net source) (tap_level l source bits) (by_values l source (values_from 0 current) base) ≡ by_values l source (values_from 0 (slice_set current net (Some bits))) base
+    → cond (is_on net source) (line_bit_level l source bits) (by_values l source (values_from 0 current) base) ≡ by_values l source (values_from 0 (slice_set current net (Some bits))) base
 one_more l net None current bits base lt = refl
 one_more l net (Some (Always level)) current bits base lt = refl
 one_more l net (Some (AtBit bit)) current bits base lt =
@@ -96,23 +96,23 @@ one_more l net (Some (AtBit bit)) current bits base lt =
     by_test true o = refl
     by_test false o = refl
 
-module _ (slots : ℕ) (wires : List Wire) (taps : Taps) (all : AreTaps slots wires taps) where
+module _ (slots : ℕ) (bound_groups : List BoundGroup) (line_bits : NetLines) (all : AreTaps slots bound_groups line_bits) where
   -- a change of a net, after others of the instant
   pub valued-set : (current : Current) (net : ℕ) (bits : List Bit) (v : Levels) → net < length current → length v.levels ≡ line_count
-      → changed (valued taps (values_from 0 current) v) (map (tapped bits) (taps_of taps net)) ≡ valued taps (values_from 0 (slice_set current net (Some bits))) v
+      → changed (valued line_bits (values_from 0 current) v) (map (tapped bits) (line_bits_of line_bits net)) ≡ valued line_bits (values_from 0 (slice_set current net (Some bits))) v
   valued-set current net bits v lt len =
-      let before : Levels = valued taps (values_from 0 current) v in
-      let after : Levels = valued taps (values_from 0 (slice_set current net (Some bits))) v in
+      let before : Levels = valued line_bits (values_from 0 current) v in
+      let after : Levels = valued line_bits (values_from 0 (slice_set current net (Some bits))) v in
       let value : Value = record { net = net; bits = bits } in
-      same_levels (one_valued taps value before) after
-      (slots-kept before (map (tapped bits) (taps_of taps net)) ∙ slots-valued taps (values_from 0 current) v ∙ sym (slots-valued taps (values_from 0 (slice_set current net (Some bits))) v))
-      (length-changed before (map (tapped bits) (taps_of taps net)) ∙ length-valued taps (values_from 0 current) v ∙ len)
-      (length-valued taps (values_from 0 (slice_set current net (Some bits))) v ∙ len)
+      same_levels (one_valued line_bits value before) after
+      (slots-kept before (map (tapped bits) (line_bits_of line_bits net)) ∙ slots-valued line_bits (values_from 0 current) v ∙ sym (slots-valued line_bits (values_from 0 (slice_set current net (Some bits))) v))
+      (length-changed before (map (tapped bits) (line_bits_of line_bits net)) ∙ length-valued line_bits (values_from 0 current) v ∙ len)
+      (length-valued line_bits (values_from 0 (slice_set current net (Some bits))) v ∙ len)
       (λ l lt2.
-      one_valued-at slots wires taps all value before (length-valued taps (values_from 0 current) v ∙ len) l lt2
-      ∙ ap (cond (is_on net (line_source slots wires l)) (tap_level l (line_source slots wires l) bits)) (valued-at slots wires taps all (values_from 0 current) v len l lt2)
-      ∙ one_more l net (line_source slots wires l) current bits (level_at v l) lt
-      ∙ sym (valued-at slots wires taps all (values_from 0 (slice_set current net (Some bits))) v len l lt2))
+      one_valued-at slots bound_groups line_bits all value before (length-valued line_bits (values_from 0 current) v ∙ len) l lt2
+      ∙ ap (cond (is_on net (line_source slots bound_groups l)) (line_bit_level l (line_source slots bound_groups l) bits)) (valued-at slots bound_groups line_bits all (values_from 0 current) v len l lt2)
+      ∙ one_more l net (line_source slots bound_groups l) current bits (level_at v l) lt
+      ∙ sym (valued-at slots bound_groups line_bits all (values_from 0 (slice_set current net (Some bits))) v len l lt2))
 
 -- ---- what is made so far
 
@@ -125,34 +125,34 @@ next_in [] rest x = refl
 next_in (y ∷ done) rest x = next_in done rest x
 
 -- what is made, with so many instants ended and these values at the one at hand
-pub record IsMade (slots : ℕ) (wires : List Wire) (count : ℕ) (instants : List Instant) (n : ℕ) (current : Current) (m : Made) : Type 0 where
-  pub taps : AreTaps slots wires m.taps
+pub record IsMade (slots : ℕ) (bound_groups : List BoundGroup) (count : ℕ) (instants : List Instant) (n : ℕ) (current : Current) (m : Made) : Type 0 where
+  pub line_bits : AreTaps slots bound_groups m.line_bits
   pub room : length current ≡ count
-  pub shown : m.progress.shown ≡ levels_after slots wires instants n
-  pub now : m.progress.now ≡ valued m.taps (values_from 0 current) (levels_after slots wires instants n)
-  pub recorded : m.recorded ≡ recording slots wires instants n
+  pub shown : m.progress.shown ≡ levels_after slots bound_groups instants n
+  pub now : m.progress.now ≡ valued m.line_bits (values_from 0 current) (levels_after slots bound_groups instants n)
+  pub recorded : m.recorded ≡ recording slots bound_groups instants n
 
-module _ (slots : ℕ) (wires : List Wire) (count : ℕ) (instants : List Instant) where
+module _ (slots : ℕ) (bound_groups : List BoundGroup) (count : ℕ) (instants : List Instant) where
   -- where the instants so far are the first of all
   abbrev pub Makes : List Instant → Current → Made → Type 0
-  Makes done current m = (rest : List Instant) → instants ≡ done ++ rest → IsMade slots wires count instants (length done) current m
+  Makes done current m = (rest : List Instant) → instants ≡ done ++ rest → IsMade slots bound_groups count instants (length done) current m
 
   pub makes-change : (done : List Instant) (current : Current) (m : Made) (net : ℕ) (bits : List Bit) → net < count → Makes done current m → Makes done (slice_set current net (Some bits)) (made_change m net bits)
   makes-change done current m net bits lt made rest e =
       let h = made rest e in
       let within : net < length current = omega (arith, lt, h.room) in
       record {
-        taps = h.taps;
+        line_bits = h.line_bits;
         room = length-set current net (Some bits) ∙ h.room;
         shown = h.shown;
         now =
-            ap (λ (w : Levels). changed w (map (tapped bits) (taps_of m.taps net))) h.now
-            ∙ valued-set slots wires m.taps h.taps current net bits (levels_after slots wires instants (length done)) within (levels-all slots wires instants (length done));
+            ap (λ (w : Levels). changed w (map (tapped bits) (line_bits_of m.line_bits net))) h.now
+            ∙ valued-set slots bound_groups m.line_bits h.line_bits current net bits (levels_after slots bound_groups instants (length done)) within (levels-all slots bound_groups instants (length done));
         recorded = h.recorded;
       }
 
-  none_said : (taps : Taps) (n : ℕ) (v : Levels) → v ≡ valued taps (values_from 0 (replicate n no_bits)) v
-  none_said taps n v = sym (ap (λ (values : List Value). valued taps values v) (none_from n 0))
+  none_said : (line_bits : NetLines) (n : ℕ) (v : Levels) → v ≡ valued line_bits (values_from 0 (replicate n no_bits)) v
+  none_said line_bits n v = sym (ap (λ (values : List Value). valued line_bits values v) (none_from n 0))
 
   pub makes-instant : (done : List Instant) (current : Current) (m : Made) (time : ℕ) → Makes done current m
       → Makes (done ++ record { time = time; values = values_from 0 current } ∷ []) (replicate (length current) None) (made_instant m time)
@@ -162,30 +162,30 @@ module _ (slots : ℕ) (wires : List Wire) (count : ℕ) (instants : List Instan
       let whole : instants ≡ done ++ x ∷ rest = e ∙ append_assoc done (x ∷ []) rest in
       let h = made (x ∷ rest) whole in
       let found : slice_get instants n ≡ Some x = ap (λ (xs : List Instant). slice_get xs n) whole ∙ next_in done rest x in
-      let v : Levels = levels_after slots wires instants n in
+      let v : Levels = levels_after slots bound_groups instants n in
       let count_more : n + 1 ≡ length (done ++ x ∷ []) = sym (length_push done x) in
-      let levels : m.progress.now ≡ levels_after slots wires instants (n + 1) = h.now ∙ valued-more slots wires instants m.taps h.taps n (values_from 0 current) (sym (ap values_of found)) in
-      let after : m.progress.now ≡ levels_after slots wires instants (length (done ++ x ∷ [])) = levels ∙ ap (λ (k : ℕ). levels_after slots wires instants k) count_more in
+      let levels : m.progress.now ≡ levels_after slots bound_groups instants (n + 1) = h.now ∙ valued-more slots bound_groups instants m.line_bits h.line_bits n (values_from 0 current) (sym (ap values_of found)) in
+      let after : m.progress.now ≡ levels_after slots bound_groups instants (length (done ++ x ∷ [])) = levels ∙ ap (λ (k : ℕ). levels_after slots bound_groups instants k) count_more in
       record {
-        taps = h.taps;
+        line_bits = h.line_bits;
         room = length-replicate (length current) None ∙ h.room;
         shown = after;
-        now = after ∙ none_said m.taps (length current) (levels_after slots wires instants (length (done ++ x ∷ [])));
+        now = after ∙ none_said m.line_bits (length current) (levels_after slots bound_groups instants (length (done ++ x ∷ [])));
         recorded =
             ap (λ (t : Trace). with_steps t (step_between time m.progress.shown m.progress.now)) h.recorded
-            ∙ ap (λ (w : Levels). with_steps (recording slots wires instants n) (step_between time w m.progress.now)) h.shown
-            ∙ ap (λ (w : Levels). with_steps (recording slots wires instants n) (step_between time v w)) levels
-            ∙ recording-more slots wires instants n time (sym (ap time_of found))
-            ∙ ap (λ (k : ℕ). recording slots wires instants k) count_more;
+            ∙ ap (λ (w : Levels). with_steps (recording slots bound_groups instants n) (step_between time w m.progress.now)) h.shown
+            ∙ ap (λ (w : Levels). with_steps (recording slots bound_groups instants n) (step_between time v w)) levels
+            ∙ recording-more slots bound_groups instants n time (sym (ap time_of found))
+            ∙ ap (λ (k : ℕ). recording slots bound_groups instants k) count_more;
       }
 
-  pub makes-first : (m : Made) → IsBegun slots wires m → Makes [] (replicate count None) m
+  pub makes-first : (m : Made) → IsBegun slots bound_groups m → Makes [] (replicate count None) m
   makes-first m begun rest e =
-      let opens : m.recorded.opening ≡ levels_after slots wires instants 0 = begun.first instants in
+      let opens : m.recorded.opening ≡ levels_after slots bound_groups instants 0 = begun.first instants in
       record {
-        taps = begun.taps;
+        line_bits = begun.line_bits;
         room = length-replicate count None;
-        shown = ap (λ (p : Progress). p.shown) begun.progress ∙ opens;
-        now = ap (λ (p : Progress). p.now) begun.progress ∙ opens ∙ none_said m.taps count (levels_after slots wires instants 0);
-        recorded = recording-first slots wires instants m.recorded opens begun.none;
+        shown = ap (λ (p : RecorderLevels). p.shown) begun.progress ∙ opens;
+        now = ap (λ (p : RecorderLevels). p.now) begun.progress ∙ opens ∙ none_said m.line_bits count (levels_after slots bound_groups instants 0);
+        recorded = recording-first slots bound_groups instants m.recorded opens begun.none;
       }

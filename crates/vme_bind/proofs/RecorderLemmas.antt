@@ -14,7 +14,7 @@ use Rattle.vme_trace.specs.LineNumbers.{line_count}
 use Rattle.vme_trace.specs.declared.level.Level.{Level}
 use Rattle.vme_trace.specs.declared.level.Level.TheVariants.{Low, High, Unknown}
 use Rattle.vme_trace.specs.declared.step.Change.{Change}
-use Rattle.vme_bind.specs.Recording.{IsLine, differs, AreTouched, change_to, changes_between}
+use Rattle.vme_bind.specs.Recording.{IsLine, differs, ListsTouchedLines, change_to, changes_between}
 
 -- ---- levels
 
@@ -85,7 +85,7 @@ touched_listed a b c m l same other h =
     ]
 
 -- a line gets the level that is shown
-pub touched-same : (shown now : Levels) (touched : List ℕ) (m : ℕ) (x : Level) → AreTouched shown now touched → IsLine shown.slots m → same_level (level_at shown m) x ≡ true → AreTouched shown (set_level now m x) touched
+pub touched-same : (shown now : Levels) (touched : List ℕ) (m : ℕ) (x : Level) → ListsTouchedLines shown now touched → IsLine shown.slots m → same_level (level_at shown m) x ≡ true → ListsTouchedLines shown (set_level now m x) touched
 touched-same shown now touched m x h line same = record {
   slots = h.slots;
   shown_all = h.shown_all;
@@ -97,7 +97,7 @@ touched-same shown now touched m x h line same = record {
 }
 
 -- a line gets any level, and is listed
-pub touched-more : (shown now : Levels) (touched : List ℕ) (m : ℕ) (x : Level) → AreTouched shown now touched → IsLine shown.slots m → AreTouched shown (set_level now m x) (touched ++ m ∷ [])
+pub touched-more : (shown now : Levels) (touched : List ℕ) (m : ℕ) (x : Level) → ListsTouchedLines shown now touched → IsLine shown.slots m → ListsTouchedLines shown (set_level now m x) (touched ++ m ∷ [])
 touched-more shown now touched m x h line = record {
   slots = h.slots;
   shown_all = h.shown_all;
@@ -109,7 +109,7 @@ touched-more shown now touched m x h line = record {
   ];
 }
 
-pub touched-permuted : (shown now : Levels) (touched others : List ℕ) → AreTouched shown now touched → IsPermutation touched others → AreTouched shown now others
+pub touched-permuted : (shown now : Levels) (touched others : List ℕ) → ListsTouchedLines shown now touched → IsPermutation touched others → ListsTouchedLines shown now others
 touched-permuted shown now touched others h p = record {
   slots = h.slots;
   shown_all = h.shown_all;
@@ -119,7 +119,7 @@ touched-permuted shown now touched others h p = record {
 }
 
 -- where all is shown, nothing need be listed
-pub touched-none : (shown now : Levels) → shown ≡ now → length now.levels ≡ line_count → AreTouched shown now []
+pub touched-none : (shown now : Levels) → shown ≡ now → length now.levels ≡ line_count → ListsTouchedLines shown now []
 touched-none shown now e all = record {
   slots = ap (λ (v : Levels). v.slots) (sym e);
   shown_all = ap (λ (v : Levels). length v.levels) e ∙ all;
@@ -177,7 +177,7 @@ place_cases touched (suc i) k l sorted lt e here =
     ]
 
 -- between the bound and the next touched line no line differs
-quiet_before : (before now : Levels) (touched : List ℕ) (i l : ℕ) → IsNonDecreasing touched → AreTouched before now touched → i < length touched → bound touched i ≤ l → l < get_or touched i 0 → differs before now l ≡ false
+quiet_before : (before now : Levels) (touched : List ℕ) (i l : ℕ) → IsNonDecreasing touched → ListsTouchedLines before now touched → i < length touched → bound touched i ≤ l → l < get_or touched i 0 → differs before now l ≡ false
 quiet_before before now touched i l sorted h here low high =
     elim (bool_cases (differs before now l)) [
       | inl d ↦
@@ -194,7 +194,7 @@ bound_next : (touched : List ℕ) (i : ℕ) → bound touched (i + 1) ≡ get_or
 bound_next touched i = let more : i + 1 ≡ suc i = omega arith in ap (bound touched) more
 
 -- behind the last touched line no line differs
-quiet_after : (before now : Levels) (touched : List ℕ) (i l : ℕ) → IsNonDecreasing touched → AreTouched before now touched → length touched ≤ i → i ≤ length touched → bound touched i ≤ l → differs before now l ≡ false
+quiet_after : (before now : Levels) (touched : List ℕ) (i l : ℕ) → IsNonDecreasing touched → ListsTouchedLines before now touched → length touched ≤ i → i ≤ length touched → bound touched i ≤ l → differs before now l ≡ false
 quiet_after before now touched i l sorted h past le low =
     elim (bool_cases (differs before now l)) [
       | inl d ↦ let in' = h.listed l d in absurd (at_end i le past low in'.0 in'.1 in'.2)
@@ -205,7 +205,7 @@ quiet_after before now touched i l sorted h past le low =
     at_end zero le past low k lt e = omega arith
     at_end (suc i) le past low k lt e = omega (arith, sorted k i 0 (omega arith) (omega arith), get_or_default touched k 0 l lt, e)
 
-pub shown-first : (touched : List ℕ) (before now : Levels) → AreTouched before now touched → AreShown touched 0 before now before []
+pub shown-first : (touched : List ℕ) (before now : Levels) → ListsTouchedLines before now touched → AreShown touched 0 before now before []
 unfolding those
 shown-first touched before now h = record {
   slots = h.slots;
@@ -216,7 +216,7 @@ shown-first touched before now h = record {
 }
 
 -- the line at place i is shown as it is: it needs no change
-pub shown-same : (touched : List ℕ) (i : ℕ) (before now shown : Levels) (changes : List Change) → IsNonDecreasing touched → AreTouched before now touched → i < length touched
+pub shown-same : (touched : List ℕ) (i : ℕ) (before now shown : Levels) (changes : List Change) → IsNonDecreasing touched → ListsTouchedLines before now touched → i < length touched
     → same_level (level_at shown (get_or touched i 0)) (level_at now (get_or touched i 0)) ≡ true
     → AreShown touched i before now shown changes → AreShown touched (i + 1) before now shown changes
 shown-same touched i before now shown changes sorted t here same h =
@@ -247,7 +247,7 @@ map-more f [] x = refl
 map-more {X = X} f (y ∷ xs) x = ap (λ (ys : List X). f y ∷ ys) (map-more f xs x)
 
 -- the line at place i has another level than is shown: it changes
-pub shown-more : (touched : List ℕ) (i : ℕ) (before now shown : Levels) (changes : List Change) → IsNonDecreasing touched → AreTouched before now touched → i < length touched
+pub shown-more : (touched : List ℕ) (i : ℕ) (before now shown : Levels) (changes : List Change) → IsNonDecreasing touched → ListsTouchedLines before now touched → i < length touched
     → same_level (level_at shown (get_or touched i 0)) (level_at now (get_or touched i 0)) ≡ false
     → AreShown touched i before now shown changes
     → AreShown touched (i + 1) before now (set_level shown (get_or touched i 0) (level_at now (get_or touched i 0))) (changes ++ change_to now (get_or touched i 0) ∷ [])
@@ -279,7 +279,7 @@ shown-more touched i before now shown changes sorted t here other h =
     }
 
 -- as far as lines are shown, those that differ are still listed
-pub shown-touched : (touched : List ℕ) (i : ℕ) (before now shown : Levels) (changes : List Change) → AreTouched before now touched → AreShown touched i before now shown changes → AreTouched shown now touched
+pub shown-touched : (touched : List ℕ) (i : ℕ) (before now shown : Levels) (changes : List Change) → ListsTouchedLines before now touched → AreShown touched i before now shown changes → ListsTouchedLines shown now touched
 shown-touched touched i before now shown changes t h = record {
   slots = h.slots;
   shown_all = h.shown_all;
@@ -291,15 +291,15 @@ shown-touched touched i before now shown changes t h = record {
   ];
 }
 
-bound_most : (before now : Levels) (touched : List ℕ) (i : ℕ) → AreTouched before now touched → i ≤ length touched → bound touched i ≤ line_count
+bound_most : (before now : Levels) (touched : List ℕ) (i : ℕ) → ListsTouchedLines before now touched → i ≤ length touched → bound touched i ≤ line_count
 bound_most before now touched zero t le = omega arith
 bound_most before now touched (suc i) t le = omega (arith, (t.lines i 0 (omega arith)).below)
 
-pub shown-changes : (touched : List ℕ) (i : ℕ) (before now shown : Levels) (changes : List Change) → IsNonDecreasing touched → AreTouched before now touched → length touched ≤ i → i ≤ length touched → AreShown touched i before now shown changes → changes ≡ changes_between before now
+pub shown-changes : (touched : List ℕ) (i : ℕ) (before now shown : Levels) (changes : List Change) → IsNonDecreasing touched → ListsTouchedLines before now touched → length touched ≤ i → i ≤ length touched → AreShown touched i before now shown changes → changes ≡ changes_between before now
 shown-changes touched i before now shown changes sorted t past le h =
     h.changes_are ∙ ap (map (change_to now)) (sym (those-skip (differs before now) (bound touched i) line_count (bound_most before now touched i t le) (λ l low high. quiet_after before now touched i l sorted t past le low)))
 
-pub shown-all : (touched : List ℕ) (i : ℕ) (before now shown : Levels) (changes : List Change) → IsNonDecreasing touched → AreTouched before now touched → length touched ≤ i → i ≤ length touched → AreShown touched i before now shown changes → shown ≡ now
+pub shown-all : (touched : List ℕ) (i : ℕ) (before now shown : Levels) (changes : List Change) → IsNonDecreasing touched → ListsTouchedLines before now touched → length touched ≤ i → i ≤ length touched → AreShown touched i before now shown changes → shown ≡ now
 shown-all touched i before now shown changes sorted t past le h =
     same_levels shown now (sym h.slots) h.shown_all t.now_all (λ l lt. elim (cases_lt l (bound touched i)) [
       | inl less ↦ h.below l less
@@ -311,12 +311,12 @@ shown-all touched i before now shown changes sorted t past le h =
 line_at : (touched : List ℕ) (i x : ℕ) → i < length touched → x ≡ get_or touched i x → x ≡ get_or touched i 0
 line_at touched i x lt e = e ∙ get_or_default touched i x 0 lt
 
-pub line-same : (touched : List ℕ) (i : ℕ) (before now shown : Levels) (changes : List Change) (x : ℕ) → IsNonDecreasing touched → AreTouched before now touched → i < length touched → x ≡ get_or touched i x
+pub line-same : (touched : List ℕ) (i : ℕ) (before now shown : Levels) (changes : List Change) (x : ℕ) → IsNonDecreasing touched → ListsTouchedLines before now touched → i < length touched → x ≡ get_or touched i x
     → same_level (level_at shown x) (level_at now x) ≡ true → AreShown touched i before now shown changes → AreShown touched (i + 1) before now shown changes
 line-same touched i before now shown changes x sorted t here e same h =
     shown-same touched i before now shown changes sorted t here (subst (λ (y : ℕ). same_level (level_at shown y) (level_at now y) ≡ true) (line_at touched i x here e) same) h
 
-pub line-more : (touched : List ℕ) (i : ℕ) (before now shown : Levels) (changes : List Change) (x : ℕ) → IsNonDecreasing touched → AreTouched before now touched → i < length touched → x ≡ get_or touched i x
+pub line-more : (touched : List ℕ) (i : ℕ) (before now shown : Levels) (changes : List Change) (x : ℕ) → IsNonDecreasing touched → ListsTouchedLines before now touched → i < length touched → x ≡ get_or touched i x
     → same_level (level_at shown x) (level_at now x) ≡ false → AreShown touched i before now shown changes
     → AreShown touched (i + 1) before now (set_level shown x (level_at now x)) (changes ++ change_to now x ∷ [])
 line-more touched i before now shown changes x sorted t here e other h =
@@ -324,5 +324,5 @@ line-more touched i before now shown changes x sorted t here e other h =
     subst (λ (y : ℕ). AreShown touched (i + 1) before now (set_level shown y (level_at now y)) (changes ++ change_to now y ∷ [])) (sym is)
     (shown-more touched i before now shown changes sorted t here (subst (λ (y : ℕ). same_level (level_at shown y) (level_at now y) ≡ false) is other) h)
 
-pub line-exists : (before now : Levels) (touched : List ℕ) (i x : ℕ) → AreTouched before now touched → i < length touched → x ≡ get_or touched i x → IsLine before.slots x
+pub line-exists : (before now : Levels) (touched : List ℕ) (i x : ℕ) → ListsTouchedLines before now touched → i < length touched → x ≡ get_or touched i x → IsLine before.slots x
 line-exists before now touched i x t here e = subst (IsLine before.slots) (sym e) (t.lines i x here)

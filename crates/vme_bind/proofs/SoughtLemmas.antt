@@ -15,8 +15,8 @@ use Rattle.vcd_read.specs.Scopes.{with_dot, path_in}
 use Rattle.vcd_read.proofs.ScopesLemmas.{path_of-is}
 use denote.Ref.{Bor}
 use Rattle.vme_bind.specs.declared.assignment.Assignment.{Assignment}
-use Rattle.vme_bind.specs.declared.sought.Sought.{Sought}
-use Rattle.vme_bind.specs.Sought.{begins_with, scopes_begun, begun_behind, path_sought, IsBegun, opened, closed, Seen, seen_in}
+use Rattle.vme_bind.specs.declared.path_search.PathSearch.{PathSearch}
+use Rattle.vme_bind.specs.PathSearch.{begins_with, scopes_begun, begun_behind, path_sought, HasOpened, opened, closed, Searched, seen_in}
 
 -- ---- the front of a text
 
@@ -116,28 +116,28 @@ path_test path name scopes some =
 
 -- ---- all that is sought
 
-pub begun_none : (s : Sought) → s.begun ≡ 0 → IsBegun [] s
+pub begun_none : (s : PathSearch) → s.begun ≡ 0 → HasOpened [] s
 unfolding scopes_begun
 begun_none s e = e
 
-opened-one : (name : List ℕ) (scopes : List (List ℕ)) (s : Sought) → IsBegun scopes s → IsBegun (name ∷ scopes) (opened (length scopes) (length (path_in scopes)) (with_dot name) s)
+opened-one : (name : List ℕ) (scopes : List (List ℕ)) (s : PathSearch) → HasOpened scopes s → HasOpened (name ∷ scopes) (opened (length scopes) (length (path_in scopes)) (with_dot name) s)
 opened-one name scopes s begun =
     let path : List ℕ = path_sought s.assignment.now.source in
     ap (begun_behind (length scopes) (length (path_in scopes)) (with_dot name) path) begun ∙ begun-open path name scopes
 
-pub same_begun : (scopes : List (List ℕ)) (s s' : Sought) → s'.begun ≡ s.begun → s'.assignment ≡ s.assignment → IsBegun scopes s → IsBegun scopes s'
+pub same_begun : (scopes : List (List ℕ)) (s s' : PathSearch) → s'.begun ≡ s.begun → s'.assignment ≡ s.assignment → HasOpened scopes s → HasOpened scopes s'
 same_begun scopes s s' begun same is = begun ∙ is ∙ sym (ap (λ (a : Bor Assignment). scopes_begun (path_sought a.now.source) scopes) same)
 
-pub opened-all : (name : List ℕ) (scopes : List (List ℕ)) (sought : List Sought) → All (IsBegun scopes) sought → All (IsBegun (name ∷ scopes)) (map (opened (length scopes) (length (path_in scopes)) (with_dot name)) sought)
+pub opened-all : (name : List ℕ) (scopes : List (List ℕ)) (sought : List PathSearch) → All (HasOpened scopes) sought → All (HasOpened (name ∷ scopes)) (map (opened (length scopes) (length (path_in scopes)) (with_dot name)) sought)
 opened-all name scopes sought all =
-    All-map (IsBegun (name ∷ scopes)) (opened (length scopes) (length (path_in scopes)) (with_dot name)) sought (λ k s at. opened-one name scopes (get_or sought k s) (all k s at))
+    All-map (HasOpened (name ∷ scopes)) (opened (length scopes) (length (path_in scopes)) (with_dot name)) sought (λ k s at. opened-one name scopes (get_or sought k s) (all k s at))
 
-closed-one : (name : List ℕ) (scopes : List (List ℕ)) (s : Sought) → IsBegun (name ∷ scopes) s → IsBegun scopes (closed (length scopes) s)
+closed-one : (name : List ℕ) (scopes : List (List ℕ)) (s : PathSearch) → HasOpened (name ∷ scopes) s → HasOpened scopes (closed (length scopes) s)
 closed-one name scopes s begun = ap (λ (n : ℕ). min n (length scopes)) begun ∙ begun-close (path_sought s.assignment.now.source) name scopes
 
-pub closed-all : (name : List ℕ) (scopes : List (List ℕ)) (sought : List Sought) → All (IsBegun (name ∷ scopes)) sought → All (IsBegun scopes) (map (closed (length scopes)) sought)
+pub closed-all : (name : List ℕ) (scopes : List (List ℕ)) (sought : List PathSearch) → All (HasOpened (name ∷ scopes)) sought → All (HasOpened scopes) (map (closed (length scopes)) sought)
 closed-all name scopes sought all =
-    All-map (IsBegun scopes) (closed (length scopes)) sought (λ k s at. closed-one name scopes (get_or sought k s) (all k s at))
+    All-map (HasOpened scopes) (closed (length scopes)) sought (λ k s at. closed-one name scopes (get_or sought k s) (all k s at))
 
 -- the part of the path that a scope adds
 pub part_behind : (name : List ℕ) (scopes : List (List ℕ)) → drop (length (path_in scopes)) (path_in (name ∷ scopes)) ≡ with_dot name
@@ -171,34 +171,34 @@ stepped_rest xs ys i y e = drop-set-lt (i + 1) xs i y (omega arith) ∙ drop_mor
 
 -- ---- what is lent as a slice and given back
 
-given_back : (sought new : List Sought) (len : ℕ) → len ≡ length sought → length new ≡ length sought → take len (new ++ drop (length new) sought) ≡ new
+given_back : (sought new : List PathSearch) (len : ℕ) → len ≡ length sought → length new ≡ length sought → take len (new ++ drop (length new) sought) ≡ new
 given_back sought new len e n = take_at new (drop (length new) sought) len (n ∙ sym e)
 
-same_count : (f : Sought → Sought) (sought lent new : List Sought) → lent ≡ sought → new ≡ map f lent → length new ≡ length sought
-same_count f sought lent new e is = ap (λ (xs : List Sought). length xs) is ∙ length-map lent f ∙ ap (λ (xs : List Sought). length xs) e
+same_count : (f : PathSearch → PathSearch) (sought lent new : List PathSearch) → lent ≡ sought → new ≡ map f lent → length new ≡ length sought
+same_count f sought lent new e is = ap (λ (xs : List PathSearch). length xs) is ∙ length-map lent f ∙ ap (λ (xs : List PathSearch). length xs) e
 
-pub opened-back : (name : List ℕ) (scopes now : List (List ℕ)) (sought lent new : List Sought) (len depth start : ℕ) (part : List ℕ) → All (IsBegun scopes) sought → now ≡ name ∷ scopes → len ≡ length sought → lent ≡ sought
-    → new ≡ map (opened depth start part) lent → depth ≡ length scopes → start ≡ length (path_in scopes) → part ≡ drop start (path_in now) → All (IsBegun now) (take len (new ++ drop (length new) sought))
+pub opened-back : (name : List ℕ) (scopes now : List (List ℕ)) (sought lent new : List PathSearch) (len depth start : ℕ) (part : List ℕ) → All (HasOpened scopes) sought → now ≡ name ∷ scopes → len ≡ length sought → lent ≡ sought
+    → new ≡ map (opened depth start part) lent → depth ≡ length scopes → start ≡ length (path_in scopes) → part ≡ drop start (path_in now) → All (HasOpened now) (take len (new ++ drop (length new) sought))
 opened-back name scopes now sought lent new len depth start part all names e same is d s p =
     let own : part ≡ with_dot name = p ∙ ap (λ (n : ℕ). drop n (path_in now)) s ∙ ap (λ (ns : List (List ℕ)). drop (length (path_in scopes)) (path_in ns)) names ∙ part_behind name scopes in
     let mapped : new ≡ map (opened (length scopes) (length (path_in scopes)) (with_dot name)) sought =
-    is ∙ ap (λ (xs : List Sought). map (opened depth start part) xs) same
+    is ∙ ap (λ (xs : List PathSearch). map (opened depth start part) xs) same
     ∙ ap (λ (n : ℕ). map (opened n start part) sought) d ∙ ap (λ (n : ℕ). map (opened (length scopes) n part) sought) s ∙ ap (λ (b : List ℕ). map (opened (length scopes) (length (path_in scopes)) b) sought) own in
     rw (given_back sought new len e (same_count (opened depth start part) sought lent new same is), mapped, names) (opened-all name scopes sought all)
 
-pub closed-back : (name : List ℕ) (scopes now : List (List ℕ)) (sought lent new : List Sought) (len depth : ℕ) → All (IsBegun scopes) sought → scopes ≡ name ∷ now → len ≡ length sought → lent ≡ sought
-    → new ≡ map (closed depth) lent → depth ≡ length now → All (IsBegun now) (take len (new ++ drop (length new) sought))
+pub closed-back : (name : List ℕ) (scopes now : List (List ℕ)) (sought lent new : List PathSearch) (len depth : ℕ) → All (HasOpened scopes) sought → scopes ≡ name ∷ now → len ≡ length sought → lent ≡ sought
+    → new ≡ map (closed depth) lent → depth ≡ length now → All (HasOpened now) (take len (new ++ drop (length new) sought))
 closed-back name scopes now sought lent new len depth all names e same is d =
-    let mapped : new ≡ map (closed (length now)) sought = is ∙ ap (λ (xs : List Sought). map (closed depth) xs) same ∙ ap (λ (n : ℕ). map (closed n) sought) d in
-    let before : All (IsBegun (name ∷ now)) sought = rw names at all in
+    let mapped : new ≡ map (closed (length now)) sought = is ∙ ap (λ (xs : List PathSearch). map (closed depth) xs) same ∙ ap (λ (n : ℕ). map (closed n) sought) d in
+    let before : All (HasOpened (name ∷ now)) sought = rw names at all in
     rw (given_back sought new len e (same_count (closed depth) sought lent new same is), mapped) (closed-all name now sought before)
 
 -- what is seen stays as it was
-pub seen-back : (f : Sought → Sought) (sought lent new : List Sought) (len : ℕ) → ((s : Sought) → seen_in (f s) ≡ seen_in s) → len ≡ length sought → lent ≡ sought → new ≡ map f lent → map seen_in (take len (new ++ drop (length new) sought)) ≡ map seen_in sought
+pub seen-back : (f : PathSearch → PathSearch) (sought lent new : List PathSearch) (len : ℕ) → ((s : PathSearch) → seen_in (f s) ≡ seen_in s) → len ≡ length sought → lent ≡ sought → new ≡ map f lent → map seen_in (take len (new ++ drop (length new) sought)) ≡ map seen_in sought
 seen-back f sought lent new len kept e same is =
-    ap (λ (xs : List Sought). map seen_in xs) (given_back sought new len e (same_count f sought lent new same is) ∙ is ∙ ap (λ (xs : List Sought). map f xs) same)
+    ap (λ (xs : List PathSearch). map seen_in xs) (given_back sought new len e (same_count f sought lent new same is) ∙ is ∙ ap (λ (xs : List PathSearch). map f xs) same)
     ∙ map-map seen_in f sought ∙ map-same (λ s. seen_in (f s)) seen_in sought kept
   where
-    map-same : (g h : Sought → Seen) (xs : List Sought) → ((s : Sought) → g s ≡ h s) → map g xs ≡ map h xs
+    map-same : (g h : PathSearch → Searched) (xs : List PathSearch) → ((s : PathSearch) → g s ≡ h s) → map g xs ≡ map h xs
     map-same g h [] k = refl
-    map-same g h (x ∷ xs) k = ap (λ (y : Seen). y ∷ map g xs) (k x) ∙ ap (λ (ys : List Seen). h x ∷ ys) (map-same g h xs k)
+    map-same g h (x ∷ xs) k = ap (λ (y : Searched). y ∷ map g xs) (k x) ∙ ap (λ (ys : List Searched). h x ∷ ys) (map-same g h xs k)

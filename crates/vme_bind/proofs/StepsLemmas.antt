@@ -19,8 +19,8 @@ use Rattle.vme_trace.proofs.Changing.{slots-kept}
 use Rattle.vme_trace.proofs.WellFormedSteps.{HasChecked, HasChecked-step, malformed_step-none}
 use Rattle.vcd_read.specs.declared.dump.Instant.{Instant}
 use Rattle.vcd_read.specs.Contents.{TimesAscend}
-use Rattle.vme_bind.specs.declared.wires.Wire.{Wire}
-use Rattle.vme_bind.specs.Wires.{line_source}
+use Rattle.vme_bind.specs.declared.bound_groups.BoundGroup.{BoundGroup}
+use Rattle.vme_bind.specs.BoundGroups.{line_source}
 use Rattle.vme_bind.specs.Capture.{time_of, level_by, level_after, changes_at, is_step, change_at, step_at, levels_after, recording}
 use Rattle.vme_bind.specs.Recording.{differs, change_to, changes_between, step_between}
 use Rattle.vme_bind.proofs.RecorderLemmas.{those-yes, those-no, same-is, same_levels, bool_cases}
@@ -208,8 +208,8 @@ first_or_later : (n clock time : ℕ) → (n ≡ 0) ⊎ (clock < time) → ((n =
 first_or_later n clock time (inl e) = grind (arith, nat_tests)
 first_or_later n clock time (inr lt) = grind (arith, nat_tests)
 
-nowhere : (slots l : ℕ) (wires : List Wire) → has_line slots l ≡ false → line_source slots wires l ≡ None
-nowhere slots l wires e = rw e refl
+nowhere : (slots l : ℕ) (bound_groups : List BoundGroup) → has_line slots l ≡ false → line_source slots bound_groups l ≡ None
+nowhere slots l bound_groups e = rw e refl
 
 not_false : (b : Bool) → not b ≡ false → b ≡ true
 not_false true h = refl
@@ -219,57 +219,57 @@ not_true : (b : Bool) → not b ≡ true → b ≡ false
 not_true false h = refl
 not_true true h = absurd cc
 
-module _ (slots : ℕ) (wires : List Wire) (instants : List Instant) where
+module _ (slots : ℕ) (bound_groups : List BoundGroup) (instants : List Instant) where
   -- only lines of the backplane change
-  changes-exist : (n l : ℕ) → changes_at slots wires instants n l ≡ true → has_line slots l ≡ true
+  changes-exist : (n l : ℕ) → changes_at slots bound_groups instants n l ≡ true → has_line slots l ≡ true
   unfolding changes_at level_after
   changes-exist n l h = elim (bool_cases (has_line slots l)) [
     | inl e ↦ e
     | inr none ↦
-        let still : not (same_level Unknown Unknown) ≡ true = ap (λ source. not (same_level (level_by slots wires instants n l source) (level_by slots wires instants (n + 1) l source))) (sym (nowhere slots l wires none)) ∙ h in
+        let still : not (same_level Unknown Unknown) ≡ true = ap (λ source. not (same_level (level_by slots bound_groups instants n l source) (level_by slots bound_groups instants (n + 1) l source))) (sym (nowhere slots l bound_groups none)) ∙ h in
         absurd (false≢true still)
   ]
 
-  differs-is : (n l : ℕ) → l < line_count → differs (levels_after slots wires instants n) (levels_after slots wires instants (n + 1)) l ≡ changes_at slots wires instants n l
+  differs-is : (n l : ℕ) → l < line_count → differs (levels_after slots bound_groups instants n) (levels_after slots bound_groups instants (n + 1)) l ≡ changes_at slots bound_groups instants n l
   unfolding changes_at
-  differs-is n l lt = rw (levels-at slots wires instants n l lt, levels-at slots wires instants (n + 1) l lt) refl
+  differs-is n l lt = rw (levels-at slots bound_groups instants n l lt, levels-at slots bound_groups instants (n + 1) l lt) refl
 
-  pub step-is : (n : ℕ) → any (differs (levels_after slots wires instants n) (levels_after slots wires instants (n + 1))) 0 line_count ≡ is_step slots wires instants n
+  pub step-is : (n : ℕ) → any (differs (levels_after slots bound_groups instants n) (levels_after slots bound_groups instants (n + 1))) 0 line_count ≡ is_step slots bound_groups instants n
   unfolding is_step
-  step-is n = any-alike (differs (levels_after slots wires instants n) (levels_after slots wires instants (n + 1))) (changes_at slots wires instants n) 0 line_count (λ l low lt. differs-is n l lt)
+  step-is n = any-alike (differs (levels_after slots bound_groups instants n) (levels_after slots bound_groups instants (n + 1))) (changes_at slots bound_groups instants n) 0 line_count (λ l low lt. differs-is n l lt)
 
-  changes-are : (n : ℕ) → changes_between (levels_after slots wires instants n) (levels_after slots wires instants (n + 1)) ≡ map (change_at slots wires instants n) (those (changes_at slots wires instants n) 0 line_count)
+  changes-are : (n : ℕ) → changes_between (levels_after slots bound_groups instants n) (levels_after slots bound_groups instants (n + 1)) ≡ map (change_at slots bound_groups instants n) (those (changes_at slots bound_groups instants n) 0 line_count)
   changes-are n =
-      ap (map (change_to (levels_after slots wires instants (n + 1)))) (those-alike _ (changes_at slots wires instants n) line_count (λ l lt. differs-is n l lt))
-      ∙ map-alike (change_to (levels_after slots wires instants (n + 1))) (change_at slots wires instants n) (changes_at slots wires instants n) line_count
-      (λ l lt. ap (to_level_on l) (levels-at slots wires instants (n + 1) l lt))
+      ap (map (change_to (levels_after slots bound_groups instants (n + 1)))) (those-alike _ (changes_at slots bound_groups instants n) line_count (λ l lt. differs-is n l lt))
+      ∙ map-alike (change_to (levels_after slots bound_groups instants (n + 1))) (change_at slots bound_groups instants n) (changes_at slots bound_groups instants n) line_count
+      (λ l lt. ap (to_level_on l) (levels-at slots bound_groups instants (n + 1) l lt))
     where
       to_level_on : ℕ → Level → Change
       to_level_on l x = record { line = l; level = x }
 
   -- the steps at one instant more
   pub steps-more : (n time : ℕ) → time ≡ time_of (slice_get instants n)
-      → (recording slots wires instants (n + 1)).steps ≡ (recording slots wires instants n).steps ++ step_between time (levels_after slots wires instants n) (levels_after slots wires instants (n + 1))
+      → (recording slots bound_groups instants (n + 1)).steps ≡ (recording slots bound_groups instants n).steps ++ step_between time (levels_after slots bound_groups instants n) (levels_after slots bound_groups instants (n + 1))
   unfolding recording step_at
-  steps-more n time e = by_test (is_step slots wires instants n) refl
+  steps-more n time e = by_test (is_step slots bound_groups instants n) refl
     where
       f : ℕ → Step
-      f = step_at slots wires instants
+      f = step_at slots bound_groups instants
 
       p : ℕ → Bool
-      p = is_step slots wires instants
+      p = is_step slots bound_groups instants
 
       snoc : (xs : List ℕ) (x : ℕ) → map f (xs ++ x ∷ []) ≡ map f xs ++ f x ∷ []
       snoc [] x = refl
       snoc (y ∷ xs) x = ap (λ (ys : List Step). f y ∷ ys) (snoc xs x)
 
       between : Bool → List Step
-      between b = cond b (record { time = time; changes = changes_between (levels_after slots wires instants n) (levels_after slots wires instants (n + 1)) } ∷ []) []
+      between b = cond b (record { time = time; changes = changes_between (levels_after slots bound_groups instants n) (levels_after slots bound_groups instants (n + 1)) } ∷ []) []
 
-      same : f n ≡ record { time = time; changes = changes_between (levels_after slots wires instants n) (levels_after slots wires instants (n + 1)) }
+      same : f n ≡ record { time = time; changes = changes_between (levels_after slots bound_groups instants n) (levels_after slots bound_groups instants (n + 1)) }
       same = sym (rw (e, changes-are n) refl)
 
-      by_test : (b : Bool) → is_step slots wires instants n ≡ b → map f (those p 0 (n + 1)) ≡ map f (those p 0 n) ++ between (any (differs (levels_after slots wires instants n) (levels_after slots wires instants (n + 1))) 0 line_count)
+      by_test : (b : Bool) → is_step slots bound_groups instants n ≡ b → map f (those p 0 (n + 1)) ≡ map f (those p 0 n) ++ between (any (differs (levels_after slots bound_groups instants n) (levels_after slots bound_groups instants (n + 1))) 0 line_count)
       by_test true h =
           ap (map f) (those-yes p n h) ∙ snoc (those p 0 n) n ∙ ap (λ (s : Step). map f (those p 0 n) ++ s ∷ []) same
           ∙ ap (λ (b : Bool). map f (those p 0 n) ++ between b) (sym h ∙ sym (step-is n))
@@ -277,60 +277,60 @@ module _ (slots : ℕ) (wires : List Wire) (instants : List Instant) where
           ap (map f) (those-no p n h) ∙ sym (append-nil (map f (those p 0 n)))
           ∙ ap (λ (b : Bool). map f (those p 0 n) ++ between b) (sym h ∙ sym (step-is n))
 
-  level-kept : (n l : ℕ) → changes_at slots wires instants n l ≡ false → level_after slots wires instants n l ≡ level_after slots wires instants (n + 1) l
+  level-kept : (n l : ℕ) → changes_at slots bound_groups instants n l ≡ false → level_after slots bound_groups instants n l ≡ level_after slots bound_groups instants (n + 1) l
   unfolding changes_at
   level-kept n l h = same-is _ _ (not_false _ h)
 
   -- where no line changes, the levels stay
-  levels-kept : (n : ℕ) → is_step slots wires instants n ≡ false → levels_after slots wires instants n ≡ levels_after slots wires instants (n + 1)
+  levels-kept : (n : ℕ) → is_step slots bound_groups instants n ≡ false → levels_after slots bound_groups instants n ≡ levels_after slots bound_groups instants (n + 1)
   unfolding is_step
   levels-kept n h =
-      same_levels (levels_after slots wires instants n) (levels_after slots wires instants (n + 1)) (levels-slots slots wires instants n ∙ sym (levels-slots slots wires instants (n + 1))) (levels-all slots wires instants n) (levels-all slots wires instants (n + 1))
-      (λ l lt. levels-at slots wires instants n l lt ∙ level-kept n l (any-fails (changes_at slots wires instants n) 0 line_count l h (omega arith) lt) ∙ sym (levels-at slots wires instants (n + 1) l lt))
+      same_levels (levels_after slots bound_groups instants n) (levels_after slots bound_groups instants (n + 1)) (levels-slots slots bound_groups instants n ∙ sym (levels-slots slots bound_groups instants (n + 1))) (levels-all slots bound_groups instants n) (levels-all slots bound_groups instants (n + 1))
+      (λ l lt. levels-at slots bound_groups instants n l lt ∙ level-kept n l (any-fails (changes_at slots bound_groups instants n) 0 line_count l h (omega arith) lt) ∙ sym (levels-at slots bound_groups instants (n + 1) l lt))
 
   -- the changes of a step lead from the levels before it to those after it
-  levels-step : (n : ℕ) → changed (levels_after slots wires instants n) (map (change_at slots wires instants n) (those (changes_at slots wires instants n) 0 line_count)) ≡ levels_after slots wires instants (n + 1)
+  levels-step : (n : ℕ) → changed (levels_after slots bound_groups instants n) (map (change_at slots bound_groups instants n) (those (changes_at slots bound_groups instants n) 0 line_count)) ≡ levels_after slots bound_groups instants (n + 1)
   levels-step n =
-      same_levels (changed before cs) (levels_after slots wires instants (n + 1))
-      (slots-kept before cs ∙ levels-slots slots wires instants n ∙ sym (levels-slots slots wires instants (n + 1)))
-      (length-changed before cs ∙ levels-all slots wires instants n) (levels-all slots wires instants (n + 1))
+      same_levels (changed before cs) (levels_after slots bound_groups instants (n + 1))
+      (slots-kept before cs ∙ levels-slots slots bound_groups instants n ∙ sym (levels-slots slots bound_groups instants (n + 1)))
+      (length-changed before cs ∙ levels-all slots bound_groups instants n) (levels-all slots bound_groups instants (n + 1))
       (λ l lt.
-      changed-those (changes_at slots wires instants n) (level_after slots wires instants (n + 1)) before line_count (omega (arith, levels-all slots wires instants n)) l
-      ∙ ap (cond (nat_lt l line_count && changes_at slots wires instants n l) (level_after slots wires instants (n + 1) l)) (levels-at slots wires instants n l lt)
-      ∙ either (nat_lt l line_count) (changes_at slots wires instants n l) l (is_below l line_count lt) refl
-      ∙ sym (levels-at slots wires instants (n + 1) l lt))
+      changed-those (changes_at slots bound_groups instants n) (level_after slots bound_groups instants (n + 1)) before line_count (omega (arith, levels-all slots bound_groups instants n)) l
+      ∙ ap (cond (nat_lt l line_count && changes_at slots bound_groups instants n l) (level_after slots bound_groups instants (n + 1) l)) (levels-at slots bound_groups instants n l lt)
+      ∙ either (nat_lt l line_count) (changes_at slots bound_groups instants n l) l (is_below l line_count lt) refl
+      ∙ sym (levels-at slots bound_groups instants (n + 1) l lt))
     where
       before : Levels
-      before = levels_after slots wires instants n
+      before = levels_after slots bound_groups instants n
 
       cs : List Change
-      cs = map (change_at slots wires instants n) (those (changes_at slots wires instants n) 0 line_count)
+      cs = map (change_at slots bound_groups instants n) (those (changes_at slots bound_groups instants n) 0 line_count)
 
       is_below : (l n : ℕ) → l < n → nat_lt l n ≡ true
       is_below l n lt = grind (arith, nat_tests)
 
-      either : (a b : Bool) (l : ℕ) → a ≡ true → changes_at slots wires instants n l ≡ b → cond (a && b) (level_after slots wires instants (n + 1) l) (level_after slots wires instants n l) ≡ level_after slots wires instants (n + 1) l
+      either : (a b : Bool) (l : ℕ) → a ≡ true → changes_at slots bound_groups instants n l ≡ b → cond (a && b) (level_after slots bound_groups instants (n + 1) l) (level_after slots bound_groups instants n l) ≡ level_after slots bound_groups instants (n + 1) l
       either true true l e h = refl
       either true false l e h = level-kept n l h
       either false b l e h = absurd cc
 
-  is-change : (n l : ℕ) → l < line_count → changes_at slots wires instants n l ≡ true → IsChange (levels_after slots wires instants n) (to_level (level_after slots wires instants (n + 1)) l)
+  is-change : (n l : ℕ) → l < line_count → changes_at slots bound_groups instants n l ≡ true → IsChange (levels_after slots bound_groups instants n) (to_level (level_after slots bound_groups instants (n + 1)) l)
   unfolding changes_at
   is-change n l lt h = record {
-    exists = ap (λ (s : ℕ). has_line s l) (levels-slots slots wires instants n) ∙ changes-exist n l h;
-    other = ap (λ (x : Level). same_level x (level_after slots wires instants (n + 1) l)) (levels-at slots wires instants n l lt) ∙ not_true _ h;
+    exists = ap (λ (s : ℕ). has_line s l) (levels-slots slots bound_groups instants n) ∙ changes-exist n l h;
+    other = ap (λ (x : Level). same_level x (level_after slots bound_groups instants (n + 1) l)) (levels-at slots bound_groups instants n l lt) ∙ not_true _ h;
   }
 
   abbrev whole : Trace
-  whole = recording slots wires instants (length instants)
+  whole = recording slots bound_groups instants (length instants)
 
   abbrev count : ℕ → ℕ
-  count i = length (those (is_step slots wires instants) 0 i)
+  count i = length (those (is_step slots bound_groups instants) 0 i)
 
   -- the steps at the first i instants may stand where they stand
   record IsSound (i : ℕ) : Type 0 where
     clock : ℕ
-    checked : HasChecked whole (count i) (levels_after slots wires instants i) clock
+    checked : HasChecked whole (count i) (levels_after slots bound_groups instants i) clock
     earlier : (count i ≡ 0) ⊎ ((j : ℕ) × (j < i) × (clock ≡ time_of (slice_get instants j)))
 
   sound-first : IsSound 0
@@ -341,37 +341,37 @@ module _ (slots : ℕ) (wires : List Wire) (instants : List Instant) where
     earlier = inl refl;
   }
 
-  step-found : (i : ℕ) → i < length instants → is_step slots wires instants i ≡ true → slice_get whole.steps (count i) ≡ Some (step_at slots wires instants i)
+  step-found : (i : ℕ) → i < length instants → is_step slots bound_groups instants i ≡ true → slice_get whole.steps (count i) ≡ Some (step_at slots bound_groups instants i)
   unfolding recording
-  step-found i lt h = get-map (step_at slots wires instants) (those (is_step slots wires instants) 0 (length instants)) (count i) i (those-place (is_step slots wires instants) (length instants) i lt h)
+  step-found i lt h = get-map (step_at slots bound_groups instants) (those (is_step slots bound_groups instants) 0 (length instants)) (count i) i (those-place (is_step slots bound_groups instants) (length instants) i lt h)
 
-  step-may : TimesAscend instants → (i : ℕ) → i < length instants → is_step slots wires instants i ≡ true → (s : IsSound i) → may_follow (levels_after slots wires instants i) (count i) s.clock (step_at slots wires instants i) ≡ true
+  step-may : TimesAscend instants → (i : ℕ) → i < length instants → is_step slots bound_groups instants i ≡ true → (s : IsSound i) → may_follow (levels_after slots bound_groups instants i) (count i) s.clock (step_at slots bound_groups instants i) ≡ true
   unfolding step_at is_step
   step-may up i lt h s =
-      may-follow (levels_after slots wires instants i) (count i) s.clock (step_at slots wires instants i)
+      may-follow (levels_after slots bound_groups instants i) (count i) s.clock (step_at slots bound_groups instants i)
       (first_or_later (count i) s.clock (time_of (slice_get instants i)) (elim s.earlier [
         | inl none ↦ inl none
         | inr at ↦ inr (let rises = time-rises instants up at.0 i at.1 lt in omega (arith, at.2, rises))
       ]))
-      (not_empty _ (omega (arith, some_of (changes_at slots wires instants i) line_count h, length-map (those (changes_at slots wires instants i) 0 line_count) (change_at slots wires instants i))))
-      (changes-those (levels_after slots wires instants i) (changes_at slots wires instants i) (level_after slots wires instants (i + 1)) line_count (λ l l-lt c. is-change i l l-lt c)).sound
+      (not_empty _ (omega (arith, some_of (changes_at slots bound_groups instants i) line_count h, length-map (those (changes_at slots bound_groups instants i) 0 line_count) (change_at slots bound_groups instants i))))
+      (changes-those (levels_after slots bound_groups instants i) (changes_at slots bound_groups instants i) (level_after slots bound_groups instants (i + 1)) line_count (λ l l-lt c. is-change i l l-lt c)).sound
 
-  sound-more : TimesAscend instants → (i : ℕ) → i < length instants → (b : Bool) → is_step slots wires instants i ≡ b → IsSound i → IsSound (i + 1)
+  sound-more : TimesAscend instants → (i : ℕ) → i < length instants → (b : Bool) → is_step slots bound_groups instants i ≡ b → IsSound i → IsSound (i + 1)
   unfolding step_at
   sound-more up i lt true h s =
-      let more : count (i + 1) ≡ count i + 1 = ap length (those-yes (is_step slots wires instants) i h) ∙ length-append (those (is_step slots wires instants) 0 i) (i ∷ []) in
-      let next = HasChecked-step whole (count i) (levels_after slots wires instants i) s.clock (step_at slots wires instants i) s.checked (step-found i lt h) (step-may up i lt h s) in
+      let more : count (i + 1) ≡ count i + 1 = ap length (those-yes (is_step slots bound_groups instants) i h) ∙ length-append (those (is_step slots bound_groups instants) 0 i) (i ∷ []) in
+      let next = HasChecked-step whole (count i) (levels_after slots bound_groups instants i) s.clock (step_at slots bound_groups instants i) s.checked (step-found i lt h) (step-may up i lt h s) in
       record {
         clock = time_of (slice_get instants i);
-        checked = subst (λ (n : ℕ). HasChecked whole n (levels_after slots wires instants (i + 1)) (time_of (slice_get instants i))) (sym more)
+        checked = subst (λ (n : ℕ). HasChecked whole n (levels_after slots bound_groups instants (i + 1)) (time_of (slice_get instants i))) (sym more)
             (subst (λ (v : Levels). HasChecked whole (count i + 1) v (time_of (slice_get instants i))) (levels-step i) next);
         earlier = inr (i, omega arith, refl);
       }
   sound-more up i lt false h s =
-      let same : count (i + 1) ≡ count i = ap length (those-no (is_step slots wires instants) i h) in
+      let same : count (i + 1) ≡ count i = ap length (those-no (is_step slots bound_groups instants) i h) in
       record {
         clock = s.clock;
-        checked = subst (λ (n : ℕ). HasChecked whole n (levels_after slots wires instants (i + 1)) s.clock) (sym same)
+        checked = subst (λ (n : ℕ). HasChecked whole n (levels_after slots bound_groups instants (i + 1)) s.clock) (sym same)
             (subst (λ (v : Levels). HasChecked whole (count i) v s.clock) (levels-kept i h) s.checked);
         earlier = elim s.earlier [ inl none ↦ inl (same ∙ none) | inr at ↦ inr (at.0, omega (arith, at.1), at.2) ];
       }
@@ -380,10 +380,10 @@ module _ (slots : ℕ) (wires : List Wire) (instants : List Instant) where
   sound-all up zero le = sound-first
   sound-all up (suc i) le =
       let more : i + 1 ≡ suc i = omega arith in
-      subst IsSound more (sound-more up i (omega (arith, le)) (is_step slots wires instants i) refl (sound-all up i (omega (arith, le))))
+      subst IsSound more (sound-more up i (omega (arith, le)) (is_step slots bound_groups instants i) refl (sound-all up i (omega (arith, le))))
 
-  pub well_formed : TimesAscend instants → malformed_step (recording slots wires instants (length instants)) ≡ None
+  pub well_formed : TimesAscend instants → malformed_step (recording slots bound_groups instants (length instants)) ≡ None
   unfolding recording
   well_formed up =
       let s = sound-all up (length instants) (omega arith) in
-      malformed_step-none whole (count (length instants)) (levels_after slots wires instants (length instants)) s.clock s.checked (sym (length-map (those (is_step slots wires instants) 0 (length instants)) (step_at slots wires instants)))
+      malformed_step-none whole (count (length instants)) (levels_after slots bound_groups instants (length instants)) s.clock s.checked (sym (length-map (those (is_step slots bound_groups instants) 0 (length instants)) (step_at slots bound_groups instants)))

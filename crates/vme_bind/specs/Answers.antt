@@ -9,15 +9,15 @@ abbrev pub at_line : {A : Type 0} → ℕ → Result A BindKind → Result A Bin
 at_line line (Ok x) = Ok x
 at_line line (Err kind) = Err (record { line = line; kind = kind })
 
-abbrev pub FailsAs : {Y : Type 0} → ℕ → BindKind → Result Y BindFault → Type 0
-FailsAs line Memory answer = line ≡ 0
-FailsAs line kind answer = answer ≡ Err (record { line = line; kind = kind })
+abbrev pub BindFailsAs : {Y : Type 0} → ℕ → BindKind → Result Y BindFault → Type 0
+BindFailsAs line Memory answer = line ≡ 0
+BindFailsAs line kind answer = answer ≡ Err (record { line = line; kind = kind })
 
 -- the fault is the answer, unless memory ran out
-abbrev pub Fails : {Y : Type 0} → BindFault → Result Y BindFault → Type 0
-Fails fault answer = FailsAs fault.line fault.kind answer
+abbrev pub BindFails : {Y : Type 0} → BindFault → Result Y BindFault → Type 0
+BindFails fault answer = BindFailsAs fault.line fault.kind answer
 
 -- what a function returned, seen by view, is the answer, unless memory ran out
-abbrev pub Gives : {X Y : Type 0} → (X → Y) → Result X BindFault → Result Y BindFault → Type 0
-Gives view (Ok x) answer = answer ≡ Ok (view x)
-Gives view (Err fault) answer = Fails fault answer
+abbrev pub BindGives : {X Y : Type 0} → (X → Y) → Result X BindFault → Result Y BindFault → Type 0
+BindGives view (Ok x) answer = answer ≡ Ok (view x)
+BindGives view (Err fault) answer = BindFails fault answer

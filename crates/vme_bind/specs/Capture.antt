@@ -20,11 +20,11 @@ use Rattle.vcd_read.specs.Contents.{Contents}
 use Rattle.vcd_read.specs.Header.{◌>>=◌}
 use Rattle.vme_bind.specs.declared.fault.BindFault.{BindFault}
 use Rattle.vme_bind.specs.declared.fault.BindKind.TheVariants.{TooManySteps}
-use Rattle.vme_bind.specs.declared.wires.Wire.{Wire}
-use Rattle.vme_bind.specs.declared.wires.LineSource.{LineSource}
-use Rattle.vme_bind.specs.declared.wires.LineSource.TheVariants.{Always, Bit as AtBit}
+use Rattle.vme_bind.specs.declared.bound_groups.BoundGroup.{BoundGroup}
+use Rattle.vme_bind.specs.declared.bound_groups.LineSource.{LineSource}
+use Rattle.vme_bind.specs.declared.bound_groups.LineSource.TheVariants.{Always, Bit as AtBit}
 use Rattle.vme_bind.specs.Binding.{BoundLines}
-use Rattle.vme_bind.specs.Wires.{wires_in, line_source}
+use Rattle.vme_bind.specs.BoundGroups.{bound_groups_in, line_source}
 
 -- what a bit says of a line: a bused line floats high, and a net to nowhere
 abbrev pub level_of : ℕ → Bit → Level
@@ -50,7 +50,7 @@ abbrev pub time_of : Option Instant → ℕ
 time_of None = 0
 time_of (Some instant) = instant.time
 
-module _ (slots : ℕ) (wires : List Wire) (instants : List Instant) where
+module _ (slots : ℕ) (bound_groups : List BoundGroup) (instants : List Instant) where
   -- the bits that a net has at an instant, if it changes there; the first instant is 0
   abbrev pub bits_at : ℕ → ℕ → Option (List Bit)
   bits_at net i = last_bits net (values_of (slice_get instants i))
@@ -68,7 +68,7 @@ module _ (slots : ℕ) (wires : List Wire) (instants : List Instant) where
 
   -- the level of a line after the first n instants: that of the last change of its bit, up to then
   unfoldable pub level_after : ℕ → ℕ → Level
-  level_after n l = level_by n l (line_source slots wires l)
+  level_after n l = level_by n l (line_source slots bound_groups l)
 
   -- a line changes at instant n
   unfoldable pub changes_at : ℕ → ℕ → Bool
@@ -99,8 +99,8 @@ module _ (slots : ℕ) (wires : List Wire) (instants : List Instant) where
 
 -- the recording that a binding makes of a dump, however long it is, or else the first fault
 unfoldable pub recording_of : BoundLines → Contents → Result Trace BindFault
-recording_of b dump = wires_in dump.variables b.assignments
-    >>= λ wires. Ok (recording b.slots wires dump.instants (length dump.instants))
+recording_of b dump = bound_groups_in dump.variables b.assignments
+    >>= λ bound_groups. Ok (recording b.slots bound_groups dump.instants (length dump.instants))
 
 -- a recording has so many steps at most
 abbrev pub limited : Trace → Result Trace BindFault
@@ -108,5 +108,5 @@ limited t = if nat_lt capture_limit (length t.steps) then Err (record { line = 0
 
 -- the recording that a binding makes of a dump, or else the first fault
 unfoldable pub capture_of : BoundLines → Contents → Result Trace BindFault
-capture_of b dump = wires_in dump.variables b.assignments
-    >>= λ wires. limited (recording b.slots wires dump.instants (length dump.instants))
+capture_of b dump = bound_groups_in dump.variables b.assignments
+    >>= λ bound_groups. limited (recording b.slots bound_groups dump.instants (length dump.instants))

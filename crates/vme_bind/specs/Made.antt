@@ -5,16 +5,16 @@ use Rattle.vme_trace.specs.Followed.{with_steps}
 use Rattle.vme_trace.specs.Trace.{Trace, changed}
 use Rattle.vcd_read.specs.declared.dump.Bit.{Bit}
 use Rattle.vcd_read.specs.declared.dump.Instant.{Instant}
-use Rattle.vme_bind.specs.declared.taps.Taps.{Taps}
-use Rattle.vme_bind.specs.declared.wires.Wire.{Wire}
+use Rattle.vme_bind.specs.declared.net_lines.NetLines.{NetLines}
+use Rattle.vme_bind.specs.declared.bound_groups.BoundGroup.{BoundGroup}
 use Rattle.vme_bind.specs.Capture.{levels_after}
-use Rattle.vme_bind.specs.Taps.{taps_of, taps_below}
-use Rattle.vme_bind.specs.Recording.{Progress, tapped, step_between}
+use Rattle.vme_bind.specs.NetLines.{line_bits_of, line_bits_below}
+use Rattle.vme_bind.specs.Recording.{RecorderLevels, tapped, step_between}
 
 -- the lines of the nets, their levels, and the recording so far
 pub record Made : Type 0 where
-  pub taps : Taps
-  pub progress : Progress
+  pub line_bits : NetLines
+  pub progress : RecorderLevels
   pub recorded : Trace
 
 -- a net gets these bits
@@ -22,7 +22,7 @@ abbrev pub made_change : Made → ℕ → List Bit → Made
 made_change m net bits = record m {
   progress = record m.progress {
     now = changed m.progress.now
-        (map (tapped bits) (taps_of m.taps net));
+        (map (tapped bits) (line_bits_of m.line_bits net));
   };
 }
 
@@ -35,8 +35,8 @@ made_instant m time =
     }
 
 -- nothing is taken yet, for lines of so many slots with these wires
-pub record IsBegun (slots : ℕ) (wires : List Wire) (m : Made) : Type 0 where
-  pub first : (instants : List Instant) → m.recorded.opening ≡ levels_after slots wires instants 0
+pub record IsBegun (slots : ℕ) (bound_groups : List BoundGroup) (m : Made) : Type 0 where
+  pub first : (instants : List Instant) → m.recorded.opening ≡ levels_after slots bound_groups instants 0
   pub none : m.recorded.steps ≡ []
-  pub taps : (net : ℕ) → taps_of m.taps net ≡ taps_below slots wires net line_count
+  pub line_bits : (net : ℕ) → line_bits_of m.line_bits net ≡ line_bits_below slots bound_groups net line_count
   pub progress : m.progress ≡ record { shown = m.recorded.opening; now = m.recorded.opening }

@@ -10,22 +10,22 @@ use Rattle.vme_trace.specs.declared.step.Change.{Change}
 use Rattle.vme_trace.specs.declared.step.Step.{Step}
 use Rattle.vcd_read.specs.declared.dump.Bit.{Bit}
 use Rattle.vcd_read.specs.declared.dump.Value.{Value}
-use Rattle.vme_bind.specs.declared.taps.Tap.{Tap}
-use Rattle.vme_bind.specs.declared.taps.Taps.{Taps}
+use Rattle.vme_bind.specs.declared.net_lines.LineBit.{LineBit}
+use Rattle.vme_bind.specs.declared.net_lines.NetLines.{NetLines}
 use Rattle.vme_bind.specs.Capture.{level_in}
-use Rattle.vme_bind.specs.Taps.{taps_of}
+use Rattle.vme_bind.specs.NetLines.{line_bits_of}
 
 -- the levels that the steps so far leave, and those after some values of the instant at hand
-pub record Progress : Type 0 where
+pub record RecorderLevels : Type 0 where
   pub shown : Levels
   pub now : Levels
 
 -- the steps so far leave these levels, and no value came behind them
-abbrev pub all_of : Levels → Progress
+abbrev pub all_of : Levels → RecorderLevels
 all_of v = record { shown = v; now = v }
 
 -- the end of an instant, whatever its time: its values are behind the last step
-abbrev pub end_of : Progress → ℕ → Progress
+abbrev pub end_of : RecorderLevels → ℕ → RecorderLevels
 end_of p time = all_of p.now
 
 -- a step, or none
@@ -43,7 +43,7 @@ abbrev pub differs : Levels → Levels → ℕ → Bool
 differs a b l = not (same_level (level_at a l) (level_at b l))
 
 -- both are levels of one backplane, and each line on which they differ is listed
-pub record AreTouched (shown now : Levels) (touched : List ℕ) : Type 0 where
+pub record ListsTouchedLines (shown now : Levels) (touched : List ℕ) : Type 0 where
   pub slots : now.slots ≡ shown.slots
   pub shown_all : length shown.levels ≡ line_count
   pub now_all : length now.levels ≡ line_count
@@ -51,17 +51,17 @@ pub record AreTouched (shown now : Levels) (touched : List ℕ) : Type 0 where
   pub listed : (l : ℕ) → differs shown now l ≡ true → Contains touched l
 
 -- what the bits of a net do to the line of a tap
-abbrev pub tapped : List Bit → Tap → Change
-tapped bits tap = record { line = tap.line; level = level_in tap.line tap.place bits }
+abbrev pub tapped : List Bit → LineBit → Change
+tapped bits line_bit = record { line = line_bit.line; level = level_in line_bit.line line_bit.place bits }
 
 -- what some values do to the levels
-abbrev pub valued : Taps → List Value → Levels → Levels
-valued taps [] now = now
-valued taps (v ∷ values) now = valued taps values (changed now (map (tapped v.bits) (taps_of taps v.net)))
+abbrev pub valued : NetLines → List Value → Levels → Levels
+valued line_bits [] now = now
+valued line_bits (v ∷ values) now = valued line_bits values (changed now (map (tapped v.bits) (line_bits_of line_bits v.net)))
 
 -- the lines of all taps are the backplane's
-abbrev pub AreLines : ℕ → List Tap → Type 0
-AreLines slots taps = All (λ (tap : Tap). IsLine slots tap.line) taps
+abbrev pub AreLines : ℕ → List LineBit → Type 0
+AreLines slots line_bits = All (λ (line_bit : LineBit). IsLine slots line_bit.line) line_bits
 
 abbrev pub change_to : Levels → ℕ → Change
 change_to now l = record { line = l; level = level_at now l }
@@ -77,6 +77,6 @@ step_between time shown now =
     ∷ [] else []
 
 -- the step that ends the instant at hand, if one ends
-abbrev pub ended_steps : Progress → Option ℕ → List Step
+abbrev pub ended_steps : RecorderLevels → Option ℕ → List Step
 ended_steps p None = []
 ended_steps p (Some time) = step_between time p.shown p.now

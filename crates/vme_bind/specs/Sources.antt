@@ -2,8 +2,8 @@
 use Rattle.std.specs.Prelude.{ℕ, if◌then◌else◌, List, codes, bytes_eq, Option, Some, None}
 use Rattle.vme_trace.specs.declared.level.Level.TheVariants.{Low, High, Unknown}
 use Rattle.vcd_read.specs.Header.{bracketed, index_between}
-use Rattle.vme_bind.specs.declared.source.Source.{Source}
-use Rattle.vme_bind.specs.declared.source.Source.TheVariants.{Constant, Variable}
+use Rattle.vme_bind.specs.declared.source.LevelSource.{LevelSource}
+use Rattle.vme_bind.specs.declared.source.LevelSource.TheVariants.{Constant, Variable}
 
 -- a path, and the indices of the bits that are selected, if not all are
 abbrev pub path_and_selection : List ℕ → Option (List ℕ × List ℕ) → List ℕ × Option (ℕ × ℕ)
@@ -14,11 +14,11 @@ path_and_selection word (Some parts) = elim (index_between parts.1) [
       (parts.0, Some selection)
 ]
 
-abbrev pub variables_in : List ℕ × Option (ℕ × ℕ) → Source
+abbrev pub variables_in : List ℕ × Option (ℕ × ℕ) → LevelSource
 variables_in parts = Variable (record { path = parts.0; selection = parts.1 })
 
 -- what stands behind the equals sign: a level for good, or else variables
-abbrev pub source_of : List ℕ → Source
+abbrev pub source_of : List ℕ → LevelSource
 source_of word =
     if bytes_eq word (codes "0") then Constant Low
     else if bytes_eq word (codes "1") then Constant High

@@ -15,7 +15,7 @@ use Rattle.vme_bind.specs.declared.fault.BindKind.TheVariants.{Memory as NoMemor
 use Rattle.vme_bind.specs.declared.fault.CaptureFault.{CaptureFault}
 use Rattle.vme_bind.specs.declared.fault.CaptureFault.TheVariants.{Dump, Binding}
 use Rattle.vme_bind.specs.Binding.{BoundLines}
-use Rattle.vme_bind.specs.declared.wires.Wire.{Wire}
+use Rattle.vme_bind.specs.declared.bound_groups.BoundGroup.{BoundGroup}
 use Rattle.vme_bind.specs.Capture.{recording, recording_of, capture_of}
 
 abbrev pub or_binding : {A : Type 0} → Result A BindFault → Result A CaptureFault
@@ -27,9 +27,9 @@ or_dump (Ok x) = Ok x
 or_dump (Err fault) = Err (Dump fault)
 
 -- the recording that wires make of the body behind some definitions
-abbrev pub body_recording : ℕ → List Wire → Headed → Result Trace CaptureFault
-body_recording slots wires h = or_dump (instants_from h.nets h.body)
-    >>= λ instants. Ok (recording slots wires instants (length instants))
+abbrev pub body_recording : ℕ → List BoundGroup → Headed → Result Trace CaptureFault
+body_recording slots bound_groups h = or_dump (instants_from h.nets h.body)
+    >>= λ instants. Ok (recording slots bound_groups instants (length instants))
 
 -- what a binding makes of what reading a dump gave: a fault of the dump comes first
 abbrev pub capture_read : BoundLines → Result Contents VcdFault → Result Trace CaptureFault
@@ -63,14 +63,14 @@ BindingFails line NoMemory answer = line ≡ 0
 BindingFails line kind answer = answer ≡ Err (Binding (record { line = line; kind = kind }))
 
 -- the fault is the answer, unless memory ran out
-abbrev pub FailsBy : {Y : Type 0} → CaptureFault → Result Y CaptureFault → Type 0
-FailsBy (Dump fault) answer = DumpFails fault.line fault.kind answer
-FailsBy (Binding fault) answer = BindingFails fault.line fault.kind answer
+abbrev pub CaptureFailsBy : {Y : Type 0} → CaptureFault → Result Y CaptureFault → Type 0
+CaptureFailsBy (Dump fault) answer = DumpFails fault.line fault.kind answer
+CaptureFailsBy (Binding fault) answer = BindingFails fault.line fault.kind answer
 
 -- what a function returned, seen by view, is the answer, unless memory ran out
 abbrev pub GivesBy : {X Y : Type 0} → (X → Y) → Result X CaptureFault → Result Y CaptureFault → Type 0
 GivesBy view (Ok x) answer = answer ≡ Ok (view x)
-GivesBy view (Err fault) answer = FailsBy fault answer
+GivesBy view (Err fault) answer = CaptureFailsBy fault answer
 
 -- a fault that a binding has, and not want of memory
 abbrev pub IsOfBinding : BindFault → Type 0

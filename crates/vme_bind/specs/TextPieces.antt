@@ -1,7 +1,7 @@
 -- The recording that a binding makes of a dump that is read piece by piece.
 use Rattle.std.specs.Prelude.{◌≡◌, ℕ, List, ◌++◌, Option, None, Some, Result, Ok, Err}
 use Rattle.vme_trace.specs.Trace.{Trace}
-use Rattle.vme_trace.specs.declared.follower.Follower.{Ghosts}
+use Rattle.vme_trace.specs.declared.step_visitor.StepVisitor.{Ghosts}
 use Rattle.vcd_read.specs.Fronts.{IsMetAtTheEnd}
 use Rattle.vcd_read.specs.Header.{◌>>=◌}
 use Rattle.vcd_read.specs.Meaning.{instants_from}
@@ -15,14 +15,14 @@ use Rattle.vme_bind.specs.declared.fault.CaptureFault.{CaptureFault}
 use Rattle.vme_bind.specs.declared.text_state.TextPieces.{TextPieces}
 use Rattle.vme_bind.specs.declared.fault.CaptureFault.TheVariants.{Dump, Binding}
 use Rattle.vme_bind.specs.Made.{Made, made_change, made_instant}
-use Rattle.vme_bind.specs.TextCapture.{FailsBy, body_recording, or_dump, recording_of_text}
+use Rattle.vme_bind.specs.TextCapture.{CaptureFailsBy, body_recording, or_dump, recording_of_text}
 use Rattle.vme_bind.specs.Binding.{BoundLines}
-use Rattle.vme_bind.specs.declared.wires.Wire.{Wire}
+use Rattle.vme_bind.specs.declared.bound_groups.BoundGroup.{BoundGroup}
 
 -- what a body comes to by its definition: its own fault, or else that of the binding, or else the recording
-abbrev pub body_outcome : Option BindFault → ℕ → List Wire → Headed → Result Trace CaptureFault
-body_outcome None slots wires h = body_recording slots wires h
-body_outcome (Some fault) slots wires h = or_dump (instants_from h.nets h.body) >>= λ instants. Err (Binding fault)
+abbrev pub body_outcome : Option BindFault → ℕ → List BoundGroup → Headed → Result Trace CaptureFault
+body_outcome None slots bound_groups h = body_recording slots bound_groups h
+body_outcome (Some fault) slots bound_groups h = or_dump (instants_from h.nets h.body) >>= λ instants. Err (Binding fault)
 
 -- the same by what was made of it
 abbrev pub outcome : Option BindFault → Result Made VcdFault → Result Trace CaptureFault
@@ -43,18 +43,18 @@ outcome_ahead t tokens more = outcome t.fault (rest_of made_change made_instant 
     >>= at_end made_instant)
 
 -- what was read to leaves what comes of the text, whatever follows, or this fault does
-abbrev pub LeadsTo : {X : Type 0} → (X → List Token → Result Trace CaptureFault) → Result X CaptureFault
+abbrev pub TextContinuesAs : {X : Type 0} → (X → List Token → Result Trace CaptureFault) → Result X CaptureFault
     → (List Token → Result Trace CaptureFault) → Type 0
-LeadsTo view (Ok x) before = (more : List Token) → before more ≡ view x more
-LeadsTo view (Err fault) before = (more : List Token) → FailsBy fault (before more)
+TextContinuesAs view (Ok x) before = (more : List Token) → before more ≡ view x more
+TextContinuesAs view (Err fault) before = (more : List Token) → CaptureFailsBy fault (before more)
 
 -- what is begun of a text by its front is what comes of each text that goes on so, unless its definitions don't end in
 -- it
-abbrev pub BeginsText : {X Y : Type 0} → (X → List Token → Result Trace CaptureFault) → BoundLines → List ℕ
+abbrev pub TextBeginsAs : {X Y : Type 0} → (X → List Token → Result Trace CaptureFault) → BoundLines → List ℕ
     → Result (Result X Y) CaptureFault → Type 0
-BeginsText view b front (Ok (Ok begun)) = (whole : List ℕ) (more : List Token) → tokens whole ≡ tokens front ++ more
+TextBeginsAs view b front (Ok (Ok begun)) = (whole : List ℕ) (more : List Token) → tokens whole ≡ tokens front ++ more
     → recording_of_text b whole ≡ view begun more
-BeginsText view b front (Ok (Err back)) = (fault : VcdFault) × (recording_of_text b front ≡ Err (Dump fault))
+TextBeginsAs view b front (Ok (Err back)) = (fault : VcdFault) × (recording_of_text b front ≡ Err (Dump fault))
     × IsMetAtTheEnd fault.kind
-BeginsText view b front (Err fault) = (whole : List ℕ) (more : List Token) → tokens whole ≡ tokens front ++ more
-    → FailsBy fault (recording_of_text b whole)
+TextBeginsAs view b front (Err fault) = (whole : List ℕ) (more : List Token) → tokens whole ≡ tokens front ++ more
+    → CaptureFailsBy fault (recording_of_text b whole)

@@ -1,7 +1,7 @@
 //! What one line of a text binds.
 
 use crate::group::Group;
-use crate::source::Source;
+use crate::source::LevelSource;
 
 /// Lines of the backplane, and where their levels come from.
 #[derive(Drop)]
@@ -9,5 +9,5 @@ pub(crate) struct Assignment {
     /// The line of the text.
     pub line: u64,
     pub group: Group,
-    pub source: Source,
+    pub source: LevelSource,
 }

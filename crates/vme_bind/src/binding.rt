@@ -4,14 +4,14 @@ ghost use Rattle.std.specs.Prelude.{◌≡◌, ◌++◌, ◌∷◌, [], MatchOpt
 ghost use Rattle.vme_trace.specs.LineNumbers.{line_count};
 ghost use Rattle.vme_trace.specs.declared.level.Level.TheVariants.{Unknown};
 ghost use Rattle.vme_bind.specs.declared.fault.BindKind.TheVariants.{BadLine, SlotsFirst};
-ghost use Rattle.vme_bind.specs.Answers.{Gives, at_line};
+ghost use Rattle.vme_bind.specs.Answers.{BindGives, at_line};
 ghost use Rattle.vme_bind.specs.Binding.{binding_of};
 ghost use Rattle.vme_bind.specs.Sources.{source_of};
 
 use crate::assignment::Assignment;
 use crate::fault::{BindFault, BindKind};
 use crate::group::Group;
-use crate::source::Source;
+use crate::source::LevelSource;
 use crate::statements::{Statement, Statements};
 use std::alloc::{AllocError, Global};
 use std::marker::Model;
@@ -142,7 +142,7 @@ impl Binding {
 
     /// What a statement binds, where nothing is wrong with it.
     fn assignment(&self, alloc: Global, statement: Statement<'_>) -> Result<Assignment, BindFault>
-        ensures { Gives (λ a. record self.entry.now { assignments = self.entry.now.assignments ++ a ∷ [] }) result
+        ensures { BindGives (λ a. record self.entry.now { assignments = self.entry.now.assignments ++ a ∷ [] }) result
             (at_line statement.entry.line (bound self.entry.now (saying statement.entry))) }
     {
         let line = statement.line;
@@ -167,13 +167,13 @@ impl Binding {
         Ok(Assignment {
             line,
             group,
-            source: Source::of(alloc, word)?,
+            source: LevelSource::of(alloc, word)?,
         })
     }
 
     /// Binds what a statement says.
     fn bind(&mut self, alloc: Global, statement: Statement<'_>) -> Result<(), BindFault>
-        ensures { Gives (λ _. self.new) result (at_line statement.entry.line
+        ensures { BindGives (λ _. self.new) result (at_line statement.entry.line
             (bound self.old (saying statement.entry))) }
     {
         let assignment = self.assignment(alloc, statement)?;
@@ -183,7 +183,7 @@ impl Binding {
 
     /// Binds what the rest of a text says.
     fn bind_all(&mut self, alloc: Global, statements: &mut Statements<'_>) -> Result<(), BindFault>
-        ensures bound { Gives (λ _. self.new) result (bound_all self.old (left statements.old)) }
+        ensures bound { BindGives (λ _. self.new) result (bound_all self.old (left statements.old)) }
         ensures end { OnOk result (statements.new.line ≡ last_line statements.old) }
     {
         while let Some(statement) = statements.next() {
@@ -199,7 +199,7 @@ impl Binding {
     fn high(line: u64, group: Group) -> Assignment
         ensures { result ≡ record { line = line; group = group; source = source_of (codes "1") } }
     {
-        let source = Source::Constant(Level::High);
+        let source = LevelSource::Constant(Level::High);
         Assignment {
             line,
             group,
@@ -247,7 +247,7 @@ impl Binding {
 /// The text is read from the top, and an error names the first fault met and its line. A line that isn't bound is
 /// met at the end of the text. Where memory runs out, that is the fault, at line 0.
 pub fn read_binding(alloc: Global, text: &[u8]) -> Result<Binding, BindFault>
-    ensures { Gives (λ binding. binding) result (binding_of text.now) }
+    ensures { BindGives (λ binding. binding) result (binding_of text.now) }
 {
     let mut statements = Statements::new(text);
     let Some(first) = statements.next() else {

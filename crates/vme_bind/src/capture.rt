@@ -5,27 +5,27 @@ ghost use Rattle.vme_trace.specs.WellFormed.{malformed_step};
 ghost use Rattle.vme_trace.specs.LineNumbers.{line_count};
 ghost use Rattle.vme_trace.specs.declared.level.Level.TheVariants.{Unknown};
 ghost use Rattle.vcd_read.specs.declared.dump.Instant.{Instant};
-ghost use Rattle.vme_bind.specs.Answers.{Gives};
+ghost use Rattle.vme_bind.specs.Answers.{BindGives};
 ghost use Rattle.vme_bind.specs.Capture.{levels_after, recording, limited, capture_of};
 
 use crate::binding::Binding;
+use crate::bound_groups::{BoundGroup, LineSource};
 use crate::fault::{BindFault, BindKind};
+use crate::net_lines::{NetLines, line_source};
 use crate::recorder::Recorder;
-use crate::taps::{Taps, line_source};
-use crate::wires::{LineSource, Wire};
 use std::alloc::{AllocError, Global};
 use vcd_read::{Dump, Instant as DumpInstant};
 use vme_trace::{Capture, LINE_COUNT, Line, Lines, Step};
 
 /// The levels before any change: a line has a level where it is bound to one for good.
-pub(crate) fn opening_of(lines: &Lines, wires: &[Wire]) -> Lines
+pub(crate) fn opening_of(lines: &Lines, bound_groups: &[BoundGroup]) -> Lines
     requires { lines.now.levels ≡ replicate line_count Unknown }
-    ensures { (instants : List Instant) → result ≡ levels_after lines.now.slots wires.now instants 0 }
+    ensures { (instants : List Instant) → result ≡ levels_after lines.now.slots bound_groups.now instants 0 }
 {
     let mut opening = *lines;
     for number in 0..LINE_COUNT {
         if let Some(line) = Line::from_number(number) {
-            match line_source(lines, wires, line) {
+            match line_source(lines, bound_groups, line) {
                 Some(LineSource::Always(level)) => opening.set(line, level),
                 Some(LineSource::Bit(_)) => {}
                 None => {}
@@ -39,21 +39,21 @@ pub(crate) fn opening_of(lines: &Lines, wires: &[Wire]) -> Lines
 fn record_all(
     alloc: Global,
     lines: &Lines,
-    wires: &[Wire],
+    bound_groups: &[BoundGroup],
     instants: &[DumpInstant],
 ) -> Result<(Lines, Vec<Step>), AllocError>
     requires { lines.now.levels ≡ replicate line_count Unknown }
-    ensures { IfOk result (λ made. recording lines.now.slots wires.now instants.now (length instants.now)
+    ensures { IfOk result (λ made. recording lines.now.slots bound_groups.now instants.now (length instants.now)
         ≡ record { opening = made.0; steps = made.1.items }) }
 {
-    let taps = Taps::of_wires(alloc, lines, wires)?;
-    let opening = opening_of(lines, wires);
+    let line_bits = NetLines::of_bound_groups(alloc, lines, bound_groups)?;
+    let opening = opening_of(lines, bound_groups);
     let mut recorder = Recorder::new(alloc, opening);
     let mut steps = Vec::new(alloc);
     for instant in instants {
         if let Some(step) = recorder.record(
             alloc,
-            &taps,
+            &line_bits,
             instant.time,
             instant.values.as_slice(),
         )? {
@@ -84,10 +84,10 @@ impl Binding {
     /// An error names the first line of the binding whose source the dump lacks, has twice, or has in another width
     /// than its lines. Over 268,435,456 steps, and want of memory, are faults at line 0.
     pub fn capture(&self, alloc: Global, dump: &Dump) -> Result<Capture, BindFault>
-        ensures { Gives (λ capture. capture) result (capture_of self.now dump.now) }
+        ensures { BindGives (λ capture. capture) result (capture_of self.now dump.now) }
     {
-        let wires = Wire::all(alloc, self.assignments(), dump.variables())?;
-        let (opening, steps) = record_all(alloc, self.lines(), &wires, dump.instants())?;
+        let bound_groups = BoundGroup::all(alloc, self.assignments(), dump.variables())?;
+        let (opening, steps) = record_all(alloc, self.lines(), &bound_groups, dump.instants())?;
         captured(opening, steps)
     }
 }

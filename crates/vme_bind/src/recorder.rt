@@ -2,20 +2,20 @@
 
 ghost use Rattle.std.specs.Prelude.{◌≡◌, ◌≢◌, ◌≤◌, ◌<◌, ℕ, false, IfOk, OnOk, map, length};
 ghost use Rattle.std.specs.Prelude.{◌↔◌, IsTrue};
-ghost use Rattle.vcd_read.specs.Apart.{entered};
+ghost use Rattle.vcd_read.specs.DetachedPieces.{entered};
 ghost use Rattle.std.specs.List.Sorted.{IsNonDecreasing};
 ghost use Rattle.vme_trace.specs.LineNumbers.{line_count};
 ghost use Rattle.vme_trace.specs.Levels.{set_level};
 ghost use Rattle.vme_trace.specs.Trace.{changed, levels_after};
 ghost use Rattle.vcd_read.specs.Numbers.{extended};
 ghost use Rattle.vme_bind.specs.Capture.{level_of, level_in};
-ghost use Rattle.vme_bind.specs.Taps.{taps_of};
-ghost use Rattle.vme_bind.specs.Recording.{IsLine, all_of, differs, AreTouched, AreLines, tapped, valued};
+ghost use Rattle.vme_bind.specs.NetLines.{line_bits_of};
+ghost use Rattle.vme_bind.specs.Recording.{IsLine, all_of, differs, ListsTouchedLines, AreLines, tapped, valued};
 ghost use Rattle.vme_bind.specs.Recording.{changes_between};
 ghost use Rattle.vme_bind.specs.Recording.{end_of, ended_steps, step_between, step_in};
 
+use crate::net_lines::{LineBit, NetLines};
 use crate::pushing::push;
-use crate::taps::{Tap, Taps};
 use smallvec::SmallVec;
 use std::alloc::{AllocError, Global};
 use std::marker::Model;
@@ -34,13 +34,13 @@ pub(crate) struct Recorder {
 }
 
 impl Model for Recorder {
-    ghost use Rattle.vme_bind.specs.Recording.{Progress, AreTouched};
+    ghost use Rattle.vme_bind.specs.Recording.{RecorderLevels, ListsTouchedLines};
 
-    ghost Value = { Progress };
+    ghost Value = { RecorderLevels };
 
     ghost view = { λ r. record { shown = r.shown; now = r.now } };
 
-    ghost invariant = { λ r. AreTouched r.shown r.now r.touched.items };
+    ghost invariant = { λ r. ListsTouchedLines r.shown r.now r.touched.items };
 }
 
 /// What a bit says of a line: a bused line floats high, and a net to nowhere.
@@ -62,19 +62,22 @@ fn level_of(line: Line, bit: Bit) -> Level
 }
 
 /// What the bit of a tap says of its line.
-fn level_in(tap: Tap, bits: &[Bit]) -> Level
-    ensures { result ≡ level_in tap.line tap.place bits.now }
+fn level_in(line_bit: LineBit, bits: &[Bit]) -> Level
+    ensures { result ≡ level_in line_bit.line line_bit.place bits.now }
 {
-    level_of(tap.line, bits.get(tap.place).copied().unwrap_or(Bit::X))
+    level_of(
+        line_bit.line,
+        bits.get(line_bit.place).copied().unwrap_or(Bit::X),
+    )
 }
 
 /// What the digits of a value say of the line of a tap.
-pub(crate) fn level_by_digits(tap: Tap, size: u32, digits: &[u8]) -> Level
+pub(crate) fn level_by_digits(line_bit: LineBit, size: u32, digits: &[u8]) -> Level
     requires some { 0 < length digits.now }
     requires fits { length digits.now ≤ size }
-    ensures { result ≡ level_in tap.line tap.place (extended size digits.now) }
+    ensures { result ≡ level_in line_bit.line line_bit.place (extended size digits.now) }
 {
-    level_of(tap.line, bit_at(size, digits, tap.place))
+    level_of(line_bit.line, bit_at(size, digits, line_bit.place))
 }
 
 /// The changes from the levels that were shown to those of now, on the lines that were touched, in the order of their
@@ -86,10 +89,10 @@ fn show(
     shown: &mut Lines,
 ) -> Result<SmallVec<Change, 8>, AllocError>
     requires sorted { IsNonDecreasing touched.now }
-    requires touched { AreTouched shown.old now.now touched.now }
+    requires touched { ListsTouchedLines shown.old now.now touched.now }
     ensures changes { IfOk result (λ changes. changes.items ≡ changes_between shown.old now.now) }
     ensures shown { OnOk result (shown.new ≡ now.now) }
-    ensures touched { AreTouched shown.new now.now touched.now }
+    ensures touched { ListsTouchedLines shown.new now.now touched.now }
 {
     let mut changes = SmallVec::with_capacity(alloc, touched.len())?;
     for line in touched {
@@ -130,15 +133,15 @@ impl Recorder {
     }
 
     /// Gives the lines of a net the levels that these bits are.
-    fn set_lines(&mut self, taps: &[Tap], bits: &[Bit]) -> Result<(), AllocError>
-        requires { AreLines self.old.now.slots taps.now }
+    fn set_lines(&mut self, line_bits: &[LineBit], bits: &[Bit]) -> Result<(), AllocError>
+        requires { AreLines self.old.now.slots line_bits.now }
         ensures { OnOk result (self.new ≡ record self.old {
           now = changed self.old.now
-              (map (tapped bits.now) taps.now);
+              (map (tapped bits.now) line_bits.now);
         }) }
     {
-        for tap in taps {
-            self.set_line(tap.line, level_in(*tap, bits))?;
+        for line_bit in line_bits {
+            self.set_line(line_bit.line, level_in(*line_bit, bits))?;
         }
         Ok(())
     }
@@ -148,55 +151,55 @@ impl Recorder {
     #[inline(always)]
     pub fn set_by_digits(
         &mut self,
-        taps: &[Tap],
+        line_bits: &[LineBit],
         size: u32,
         digits: &[u8],
     ) -> Result<(), AllocError>
         requires some { 0 < length digits.now }
         requires fits { length digits.now ≤ size }
-        requires lines { AreLines self.old.now.slots taps.now }
+        requires lines { AreLines self.old.now.slots line_bits.now }
         ensures slots { self.new.now.slots ≡ self.old.now.slots }
         ensures ok { OnOk result (self.new ≡ record self.old {
           now = changed self.old.now
-              (map (tapped (extended size digits.now)) taps.now);
+              (map (tapped (extended size digits.now)) line_bits.now);
         }) }
     {
-        match taps {
+        match line_bits {
             [] => Ok(()),
-            [tap] => self.set_line(tap.line, level_by_digits(*tap, size, digits)),
-            _ => self.set_each_by_digits(taps, size, digits),
+            [line_bit] => self.set_line(line_bit.line, level_by_digits(*line_bit, size, digits)),
+            _ => self.set_each_by_digits(line_bits, size, digits),
         }
     }
 
     #[inline(never)]
     fn set_each_by_digits(
         &mut self,
-        taps: &[Tap],
+        line_bits: &[LineBit],
         size: u32,
         digits: &[u8],
     ) -> Result<(), AllocError>
         requires some { 0 < length digits.now }
         requires fits { length digits.now ≤ size }
-        requires lines { AreLines self.old.now.slots taps.now }
+        requires lines { AreLines self.old.now.slots line_bits.now }
         ensures slots { self.new.now.slots ≡ self.old.now.slots }
         ensures ok { OnOk result (self.new ≡ record self.old {
           now = changed self.old.now
-              (map (tapped (extended size digits.now)) taps.now);
+              (map (tapped (extended size digits.now)) line_bits.now);
         }) }
     {
-        for tap in taps {
-            self.set_line(tap.line, level_by_digits(*tap, size, digits))?;
+        for line_bit in line_bits {
+            self.set_line(line_bit.line, level_by_digits(*line_bit, size, digits))?;
         }
         Ok(())
     }
 
     /// Takes the values of an instant.
-    fn set_values(&mut self, taps: &Taps, values: &[Value]) -> Result<(), AllocError>
-        requires { (net : ℕ) → AreLines self.old.now.slots (taps_of taps.now net) }
-        ensures { OnOk result (self.new ≡ record self.old { now = valued taps.now values.now self.old.now }) }
+    fn set_values(&mut self, line_bits: &NetLines, values: &[Value]) -> Result<(), AllocError>
+        requires { (net : ℕ) → AreLines self.old.now.slots (line_bits_of line_bits.now net) }
+        ensures { OnOk result (self.new ≡ record self.old { now = valued line_bits.now values.now self.old.now }) }
     {
         for value in values {
-            self.set_lines(taps.of(value.net), value.bits.as_slice())?;
+            self.set_lines(line_bits.of(value.net), value.bits.as_slice())?;
         }
         Ok(())
     }
@@ -265,19 +268,19 @@ impl Recorder {
     pub fn record(
         &mut self,
         alloc: Global,
-        taps: &Taps,
+        line_bits: &NetLines,
         time: u64,
         values: &[Value],
     ) -> Result<Option<Step>, AllocError>
-        requires { (net : ℕ) → AreLines self.old.now.slots (taps_of taps.now net) }
+        requires { (net : ℕ) → AreLines self.old.now.slots (line_bits_of line_bits.now net) }
         ensures shown { OnOk result (self.new ≡ record {
-          shown = valued taps.now values.now self.old.now;
-          now = valued taps.now values.now self.old.now;
+          shown = valued line_bits.now values.now self.old.now;
+          now = valued line_bits.now values.now self.old.now;
         }) }
         ensures step { IfOk result (λ step. step_in step
-            ≡ step_between time self.old.shown (valued taps.now values.now self.old.now)) }
+            ≡ step_between time self.old.shown (valued line_bits.now values.now self.old.now)) }
     {
-        self.set_values(taps, values)?;
+        self.set_values(line_bits, values)?;
         self.end_instant(alloc, time)
     }
 

@@ -3,27 +3,27 @@
 ghost use Rattle.std.specs.Prelude.{◌≡◌, ◌<◌, ◌+◌, ◌^◌, ℕ, [], List, IfOk, length, map};
 ghost use Rattle.std.specs.List.{All};
 ghost use Rattle.vcd_read.specs.Header.{variable_in};
-ghost use Rattle.vme_bind.specs.Answers.{Gives};
-ghost use Rattle.vme_bind.specs.Sought.{IsBegun, closed, opened, seen_in, unseen, with_candidate, wires_of};
+ghost use Rattle.vme_bind.specs.Answers.{BindGives};
+ghost use Rattle.vme_bind.specs.PathSearch.{HasOpened, closed, opened, seen_in, unseen, with_candidate, bound_groups_of};
 
 use crate::assignment::Assignment;
+use crate::bound_groups::BoundGroup;
 use crate::fault::BindFault;
-use crate::sought::{Sought, rest_of};
-use crate::wires::Wire;
+use crate::path_search::{PathSearch, rest_of};
 use std::alloc::{AllocError, Global};
-use vcd_read::{Declaration, Declarations, Scopes};
+use vcd_read::{Declaration, DeclarationVisitor, Scopes};
 
 /// What is found of the variables of a binding so far. Of the variables of the dump nothing else is kept.
 #[derive(Drop)]
 pub(crate) struct Search<'b> {
     /// In the order of the binding's text.
-    sought: Vec<Sought<'b>>,
+    sought: Vec<PathSearch<'b>>,
     scopes: Scopes,
-    ghost begun: { All (IsBegun scopes) sought.items },
+    ghost begun: { All (HasOpened scopes) sought.items },
 }
 
 /// Opens a scope behind so many others: this part of the path is its own, from this place on.
-fn open_all(sought: &mut [Sought<'_>], depth: usize, start: usize, part: &[u8])
+fn open_all(sought: &mut [PathSearch<'_>], depth: usize, start: usize, part: &[u8])
     requires { depth + 1 < 2 ^ 64 }
     ensures { sought.new ≡ map (opened depth start part.now) sought.old }
 {
@@ -33,7 +33,7 @@ fn open_all(sought: &mut [Sought<'_>], depth: usize, start: usize, part: &[u8])
 }
 
 /// Closes the innermost scope, so that so many are left.
-fn close_all(sought: &mut [Sought<'_>], depth: usize)
+fn close_all(sought: &mut [PathSearch<'_>], depth: usize)
     ensures { sought.new ≡ map (closed depth) sought.old }
 {
     for s in sought.iter_mut() {
@@ -42,16 +42,16 @@ fn close_all(sought: &mut [Sought<'_>], depth: usize)
 }
 
 /// Looks at a variable that is declared in these scopes.
-fn see_all(sought: &mut [Sought<'_>], scopes: &Scopes, variable: Declaration<'_>)
-    requires begun { All (IsBegun scopes.now) sought.old }
+fn visit_all(sought: &mut [PathSearch<'_>], scopes: &Scopes, variable: Declaration<'_>)
+    requires begun { All (HasOpened scopes.now) sought.old }
     requires name { 0 < length variable.name.now }
-    ensures begun { All (IsBegun scopes.now) sought.new }
+    ensures begun { All (HasOpened scopes.now) sought.new }
     ensures seen { map seen_in sought.new ≡ map (with_candidate
         (variable_in scopes.now variable.entry.net variable.entry.size
         (record { name = variable.entry.name.now; index = variable.entry.index }))) (map seen_in sought.old) }
 {
     for s in sought.iter_mut() {
-        s.see(scopes, variable);
+        s.visit(scopes, variable);
     }
 }
 
@@ -63,7 +63,7 @@ impl<'b> Search<'b> {
     {
         let mut sought = Vec::with_capacity(alloc, assignments.len())?;
         for assignment in assignments {
-            sought.push_reserved(Sought::new(assignment));
+            sought.push_reserved(PathSearch::new(assignment));
         }
         Ok(Search {
             sought,
@@ -72,26 +72,26 @@ impl<'b> Search<'b> {
     }
 
     /// The wires of all lines of the binding.
-    pub fn wires(&self, alloc: Global) -> Result<Vec<Wire>, BindFault>
-        ensures { Gives (λ wires. wires.items) result (wires_of (map seen_in self.now.sought.items)) }
+    pub fn bound_groups(&self, alloc: Global) -> Result<Vec<BoundGroup>, BindFault>
+        ensures { BindGives (λ bound_groups. bound_groups.items) result (bound_groups_of (map seen_in self.now.sought.items)) }
     {
-        let mut wires = Vec::with_capacity(alloc, self.sought.len())?;
+        let mut bound_groups = Vec::with_capacity(alloc, self.sought.len())?;
         for sought in &self.sought {
-            match sought.wire() {
-                Ok(wire) => wires.push_reserved(wire),
+            match sought.bound_group() {
+                Ok(bound_group) => bound_groups.push_reserved(bound_group),
                 // The fault is taken apart, since the checker can't carry it out of a loop whole.
                 Err(BindFault { line, kind }) => return Err(BindFault { line, kind }),
             }
         }
-        Ok(wires)
+        Ok(bound_groups)
     }
 }
 
-impl<'b> Declarations for Search<'b> {
+impl<'b> DeclarationVisitor for Search<'b> {
     ghost use Rattle.std.specs.Prelude.{List, map};
-    ghost use Rattle.vme_bind.specs.Sought.{Seen, seen_in, with_variable};
+    ghost use Rattle.vme_bind.specs.PathSearch.{Searched, seen_in, with_variable};
 
-    ghost Taken = { List Seen };
+    ghost Taken = { List Searched };
 
     ghost taken = { λ s. map seen_in s.sought.items };
 
@@ -118,7 +118,7 @@ impl<'b> Declarations for Search<'b> {
 
     fn declare(&mut self, alloc: Global, variable: Declaration<'_>) -> Result<(), AllocError> {
         let _ = alloc;
-        see_all(self.sought.as_mut_slice(), &self.scopes, variable);
+        visit_all(self.sought.as_mut_slice(), &self.scopes, variable);
         Ok(())
     }
 }

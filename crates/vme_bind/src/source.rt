@@ -10,7 +10,7 @@ use vme_trace::Level;
 
 /// Variables of a dump, or some of their bits.
 #[derive(Drop)]
-pub(crate) struct Variables {
+pub(crate) struct VariableSelector {
     /// The path that they all have.
     pub path: Path,
     /// The indices of the leftmost and of the rightmost bit, where not all bits are meant.
@@ -19,31 +19,31 @@ pub(crate) struct Variables {
 
 /// Where the levels of some lines come from.
 #[derive(Drop)]
-pub(crate) enum Source {
+pub(crate) enum LevelSource {
     /// A level for good.
     Constant(Level),
     /// The bits of a variable.
-    Variable(Variables),
+    Variable(VariableSelector),
 }
 
-impl Source {
+impl LevelSource {
     ghost use Rattle.vme_bind.specs.Sources.{source_of, path_and_selection};
 
     /// The source that a word is.
-    pub fn of(alloc: Global, word: &[u8]) -> Result<Source, AllocError>
+    pub fn of(alloc: Global, word: &[u8]) -> Result<LevelSource, AllocError>
         ensures { IfOk result (λ source. source ≡ source_of word.now) }
     {
         if word == b"0".as_slice() {
-            return Ok(Source::Constant(Level::Low));
+            return Ok(LevelSource::Constant(Level::Low));
         }
         if word == b"1".as_slice() {
-            return Ok(Source::Constant(Level::High));
+            return Ok(LevelSource::Constant(Level::High));
         }
         if word == b"x".as_slice() {
-            return Ok(Source::Constant(Level::Unknown));
+            return Ok(LevelSource::Constant(Level::Unknown));
         }
-        let (path, selection) = Source::path_and_selection(word);
-        Ok(Source::Variable(Variables {
+        let (path, selection) = LevelSource::path_and_selection(word);
+        Ok(LevelSource::Variable(VariableSelector {
             path: Path::from_vec(Vec::from_slice(alloc, path)?),
             selection,
         }))

@@ -3,7 +3,7 @@
 ghost use Rattle.std.specs.Prelude.{◌≡◌, ◌<◌, ◌≤◌, ◌+◌, ◌^◌, ◌∷◌, ◌++◌, [], length, MatchOption, IfNone};
 ghost use Rattle.vme_bind.specs.Text.{words, said, without_return, all_said, end_line};
 
-use crate::words::Words;
+use crate::words::LineWords;
 use memchr::memchr;
 
 /// A line that says something: its first word, and those behind it.
@@ -12,7 +12,7 @@ pub(crate) struct Statement<'a> {
     /// The line's number, from 1.
     pub line: u64,
     pub first: &'a [u8],
-    pub others: Words<'a>,
+    pub others: LineWords<'a>,
 }
 
 /// What is left of a text, and the number of its first line.
@@ -82,7 +82,7 @@ impl<'a> Statements<'a> {
     {
         while !self.rest.is_empty() {
             let line = self.line;
-            let mut others = Words::new(self.next_line());
+            let mut others = LineWords::new(self.next_line());
             if let Some(first) = others.next() {
                 if !matches!(first, [b'#', ..]) {
                     return Some(Statement {

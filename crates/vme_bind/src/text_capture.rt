@@ -5,76 +5,76 @@ ghost use Rattle.std.specs.List.{fold};
 ghost use Rattle.vme_trace.specs.WellFormed.{malformed_step};
 ghost use Rattle.vme_trace.specs.LineNumbers.{line_count};
 ghost use Rattle.vme_trace.specs.declared.level.Level.TheVariants.{Unknown};
-ghost use Rattle.vme_bind.specs.Answers.{Fails};
+ghost use Rattle.vme_bind.specs.Answers.{BindFails};
 ghost use Rattle.vme_bind.specs.declared.fault.BindKind.TheVariants.{Memory};
 ghost use Rattle.vme_bind.specs.Binding.{BoundLines};
-ghost use Rattle.vme_bind.specs.Sought.{seen_in, unseen, with_variable};
-ghost use Rattle.vme_bind.specs.Wires.{wires_in};
-ghost use Rattle.vme_bind.specs.declared.wires.Wire.{Wire};
+ghost use Rattle.vme_bind.specs.PathSearch.{seen_in, unseen, with_variable};
+ghost use Rattle.vme_bind.specs.BoundGroups.{bound_groups_in};
+ghost use Rattle.vme_bind.specs.declared.bound_groups.BoundGroup.{BoundGroup};
 ghost use Rattle.vme_bind.specs.Made.{IsBegun};
 ghost use Rattle.vcd_read.specs.declared.dump.Variable.{Variable};
 ghost use Rattle.vcd_read.specs.Sections.{defined};
-ghost use Rattle.vme_bind.specs.TextCapture.{FailsBy, GivesBy, body_recording, capture_of_text, recording_behind};
+ghost use Rattle.vme_bind.specs.TextCapture.{CaptureFailsBy, GivesBy, body_recording, capture_of_text, recording_behind};
 ghost use Rattle.vme_bind.specs.TextCapture.{recording_of_text};
 
 use crate::binding::Binding;
+use crate::bound_groups::BoundGroup;
 use crate::capture::{captured, opening_of};
+use crate::capture_builder::{CaptureBuilder, DiscardChanges};
 use crate::fault::{BindFault, BindKind, CaptureFault};
-use crate::kept::Kept;
-use crate::making::{Making, Passing};
+use crate::net_lines::NetLines;
 use crate::recorder::Recorder;
 use crate::search::Search;
-use crate::taps::Taps;
-use crate::wires::Wire;
+use crate::step_collector::StepCollector;
 use std::alloc::{AllocError, Global};
 use vcd_read::{Head, read_definitions};
-use vme_trace::{Capture, Follower, Lines};
+use vme_trace::{Capture, Lines, StepVisitor};
 
 /// What takes the changes of a dump for a follower, and has taken none.
-pub(crate) fn making_of<F: Follower>(
+pub(crate) fn making_of<F: StepVisitor>(
     alloc: Global,
     lines: &Lines,
-    wires: &[Wire],
-    follower: F,
-) -> Result<Making<F>, AllocError>
+    bound_groups: &[BoundGroup],
+    visitor: F,
+) -> Result<CaptureBuilder<F>, AllocError>
     requires { lines.now.levels ≡ replicate line_count Unknown }
-    ensures { IfOk result (IsBegun lines.now.slots wires.now) }
+    ensures { IfOk result (IsBegun lines.now.slots bound_groups.now) }
 {
-    let taps = Taps::of_wires(alloc, lines, wires)?;
-    let opening = opening_of(lines, wires);
+    let line_bits = NetLines::of_bound_groups(alloc, lines, bound_groups)?;
+    let opening = opening_of(lines, bound_groups);
     let recorder = Recorder::new(alloc, opening);
-    let mut follower = follower;
-    follower.open(&opening);
-    Ok(Making::new(taps, recorder, follower))
+    let mut visitor = visitor;
+    visitor.open(&opening);
+    Ok(CaptureBuilder::new(line_bits, recorder, visitor))
 }
 
 /// Reads the body behind some definitions.
-fn record_body<F: Follower>(
+fn record_body<F: StepVisitor>(
     alloc: Global,
-    made: Making<F>,
+    made: CaptureBuilder<F>,
     head: &Head<'_>,
 ) -> Result<F, CaptureFault>
-    ensures { (slots : ℕ) (wires : List Wire) → IsBegun slots wires made
-        → GivesBy (λ f. F.recorded f) result (body_recording slots wires head.now) }
+    ensures { (slots : ℕ) (bound_groups : List BoundGroup) → IsBegun slots bound_groups made
+        → GivesBy (λ f. F.recorded f) result (body_recording slots bound_groups head.now) }
 {
     match head.read_body(alloc, made) {
-        Ok(end) => Ok(end.into_follower()),
+        Ok(end) => Ok(end.into_visitor()),
         Err(fault) => Err(CaptureFault::Dump(fault)),
     }
 }
 
 /// The recording that wires make of the body behind some definitions.
-fn record_wires<F: Follower>(
+fn record_bound_groups<F: StepVisitor>(
     alloc: Global,
     lines: &Lines,
-    wires: &[Wire],
+    bound_groups: &[BoundGroup],
     head: &Head<'_>,
-    follower: F,
+    visitor: F,
 ) -> Result<F, CaptureFault>
     requires { lines.now.levels ≡ replicate line_count Unknown }
-    ensures { GivesBy (λ f. F.recorded f) result (body_recording lines.now.slots wires.now head.now) }
+    ensures { GivesBy (λ f. F.recorded f) result (body_recording lines.now.slots bound_groups.now head.now) }
 {
-    match making_of(alloc, lines, wires, follower) {
+    match making_of(alloc, lines, bound_groups, visitor) {
         Ok(made) => record_body(alloc, made, head),
         Err(_) => Err(CaptureFault::Binding(want_of_memory())),
     }
@@ -91,10 +91,10 @@ pub(crate) fn want_of_memory() -> BindFault
 
 /// A fault of the body behind some definitions, which comes first, or else this fault of a binding.
 fn first_fault(alloc: Global, head: &Head<'_>, fault: BindFault) -> CaptureFault
-    ensures { (b : BoundLines) (variables : List Variable) → Fails fault (wires_in variables b.assignments)
-        → FailsBy result (recording_behind b (defined head.now variables)) }
+    ensures { (b : BoundLines) (variables : List Variable) → BindFails fault (bound_groups_in variables b.assignments)
+        → CaptureFailsBy result (recording_behind b (defined head.now variables)) }
 {
-    match head.read_body(alloc, Passing) {
+    match head.read_body(alloc, DiscardChanges) {
         Ok(_) => CaptureFault::Binding(fault),
         Err(first) => CaptureFault::Dump(first),
     }
@@ -108,7 +108,7 @@ impl Binding {
     pub fn capture_text(&self, alloc: Global, text: &[u8]) -> Result<Capture, CaptureFault>
         ensures { GivesBy (λ capture. capture) result (capture_of_text self.now text.now) }
     {
-        let kept = Kept {
+        let kept = StepCollector {
             opening: *self.lines(),
             steps: Vec::new(alloc),
         };
@@ -123,11 +123,11 @@ impl Binding {
 
     /// Gives the recording that the binding makes of the dump that a text is to what takes it, step by step: nothing
     /// else is kept of it, and it may be as long as it is. A fault of the dump comes before one of the binding.
-    pub fn record_text<F: Follower>(
+    pub fn record_text<F: StepVisitor>(
         &self,
         alloc: Global,
         text: &[u8],
-        follower: F,
+        visitor: F,
     ) -> Result<F, CaptureFault>
         ensures gives { GivesBy (λ f. F.recorded f) result (recording_of_text self.now text.now) }
         ensures formed { IfOk result (λ f. malformed_step (F.recorded f) ≡ None) }
@@ -137,25 +137,31 @@ impl Binding {
             Err(_) => return Err(CaptureFault::Binding(want_of_memory())),
         };
         match read_definitions(alloc, text, search) {
-            Ok((head, search)) => self.record_head(alloc, &head, &search, follower),
+            Ok((head, search)) => self.record_head(alloc, &head, &search, visitor),
             Err(fault) => Err(CaptureFault::Dump(fault)),
         }
     }
 
     /// The recording of the body behind some definitions, of whose variables this was found.
-    fn record_head<F: Follower>(
+    fn record_head<F: StepVisitor>(
         &self,
         alloc: Global,
         head: &Head<'_>,
         search: &Search<'_>,
-        follower: F,
+        visitor: F,
     ) -> Result<F, CaptureFault>
         ensures { (variables : List Variable) → map seen_in search.now.sought.items
             ≡ fold with_variable (map unseen self.now.assignments) variables
             → GivesBy (λ f. F.recorded f) result (recording_behind self.now (defined head.now variables)) }
     {
-        match search.wires(alloc) {
-            Ok(wires) => record_wires(alloc, self.lines(), &wires, head, follower),
+        match search.bound_groups(alloc) {
+            Ok(bound_groups) => record_bound_groups(
+                alloc,
+                self.lines(),
+                &bound_groups,
+                head,
+                visitor,
+            ),
             Err(fault) => Err(first_fault(alloc, head, fault)),
         }
     }

@@ -3,15 +3,15 @@
 ghost use Rattle.std.specs.Option.{ForSome};
 ghost use Rattle.vme_bind.specs.TextCapture.{IsOfBinding};
 
+use crate::capture_builder::CaptureBuilder;
 use crate::fault::BindFault;
-use crate::making::Making;
 use vcd_read::Pieces;
-use vme_trace::Follower;
+use vme_trace::StepVisitor;
 
 /// The recording that a binding makes of a dump, as far as some pieces of its text go.
 #[derive(Drop)]
-pub struct TextPieces<F: Follower> {
-    pub(crate) pieces: Pieces<Making<F>>,
+pub struct TextPieces<F: StepVisitor> {
+    pub(crate) pieces: Pieces<CaptureBuilder<F>>,
     /// Why the binding makes no recording of it, which is told at the end, if the dump has no fault.
     pub(crate) fault: Option<BindFault>,
     ghost own: { ForSome fault IsOfBinding },

@@ -8,7 +8,7 @@ use memchr::memchr2;
 
 /// What is left of a line.
 #[derive(Drop)]
-pub(crate) struct Words<'a> {
+pub(crate) struct LineWords<'a> {
     rest: &'a [u8],
 }
 
@@ -23,11 +23,11 @@ fn cut_at_blank(line: &[u8]) -> (&[u8], &[u8])
     }
 }
 
-impl<'a> Words<'a> {
-    pub fn new(line: &'a [u8]) -> Words<'a>
+impl<'a> LineWords<'a> {
+    pub fn new(line: &'a [u8]) -> LineWords<'a>
         ensures { result.rest.now ≡ line.now }
     {
-        Words { rest: line }
+        LineWords { rest: line }
     }
 
     /// The next word, if there is one.

@@ -4,8 +4,8 @@ use std::alloc::{AllocError, Global};
 use std::process::Abort;
 use std::test::Fail;
 use vcd_read::{FaultKind, read_vcd};
-use vme_bind::{BindFault, BindKind, Binding, CaptureFault, TextWave, read_binding};
-use vme_trace::{Capture, Follower, Level, Line, Lines, Step};
+use vme_bind::{BindFault, BindKind, Binding, CaptureFault, SpeculativeReader, read_binding};
+use vme_trace::{Capture, Level, Line, Lines, Step, StepVisitor};
 
 /// A binding of six lines to variables, and of the others to levels.
 const BUS_LINES: &str = "\
@@ -668,12 +668,12 @@ fn want_of_memory_at_a_text_is_the_fault(rt: HostRuntime) {
 
 /// A recording that is kept as it is made.
 #[derive(Drop)]
-struct Kept {
+struct KeptSteps {
     opening: Lines,
     steps: Vec<Step>,
 }
 
-impl Follower for Kept {
+impl StepVisitor for KeptSteps {
     ghost recorded = { λ kept. record { opening = kept.opening; steps = kept.steps.items } };
 
     fn open(&mut self, opening: &Lines) {
@@ -701,11 +701,11 @@ fn sent<T: Send>(value: T) -> T
 }
 
 /// Nothing is kept yet.
-fn none_kept(alloc: Global, opening: Lines) -> Kept
+fn none_kept(alloc: Global, opening: Lines) -> KeptSteps
     ensures opening { result.opening ≡ opening }
     ensures steps { result.steps.items ≡ [] }
 {
-    Kept {
+    KeptSteps {
         opening,
         steps: Vec::new(alloc),
     }
@@ -714,9 +714,9 @@ fn none_kept(alloc: Global, opening: Lines) -> Kept
 /// Keeps the step that ends an instant, and those of a piece.
 fn keep_all(
     alloc: Global,
-    kept: &mut Kept,
+    kept: &mut KeptSteps,
     ended: Option<Step>,
-    own: Kept,
+    own: KeptSteps,
 ) -> Result<(), AllocError> {
     if let Some(step) = ended {
         kept.step(alloc, step)?;
@@ -728,7 +728,12 @@ fn keep_all(
 }
 
 /// Reads a piece ahead, from the levels that the wave is at, and joins it at once.
-fn joined(alloc: Global, wave: TextWave, piece: &[u8], kept: &mut Kept) -> Result<TextWave, Fail> {
+fn joined(
+    alloc: Global,
+    wave: SpeculativeReader,
+    piece: &[u8],
+    kept: &mut KeptSteps,
+) -> Result<SpeculativeReader, Fail> {
     let from = *wave.now();
     let own = none_kept(alloc, from);
     let read = shared(&wave).read_ahead(alloc, piece, wave.line(), &from, own);
@@ -743,7 +748,7 @@ fn joined(alloc: Global, wave: TextWave, piece: &[u8], kept: &mut Kept) -> Resul
 }
 
 /// A wave that has read the front of a dump of the bus.
-fn begun(alloc: Global, front: &[&str]) -> Result<(TextWave, Kept), Fail> {
+fn begun(alloc: Global, front: &[&str]) -> Result<(SpeculativeReader, KeptSteps), Fail> {
     let binding = bound(alloc, &[BUS_LINES])?;
     let front = together(alloc, front)?;
     let kept = none_kept(alloc, Lines::new(1).ok_or("no slots")?);
@@ -759,7 +764,7 @@ fn a_wave_of_pieces_records_what_their_text_does(rt: HostRuntime) -> Result<(), 
     for line in ["#10 0p\n", "#20 0q\n", "#30 0s\n#40 1p 1q\n", "#50 1s\n"] {
         wave = joined(alloc, wave, line.as_bytes(), &mut kept)?;
     }
-    let kept = wave.with_follower(kept).finish(alloc)?;
+    let kept = wave.with_step_visitor(kept).finish(alloc)?;
     let found = written(alloc, &kept.steps)?;
     assert!(rt; found.as_slice() == READ_STEPS.as_bytes());
     Ok(())

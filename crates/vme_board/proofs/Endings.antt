@@ -12,10 +12,10 @@ use Rattle.atomic_table.specs.Table.{Final, Seen}
 use Rattle.vme_trace.specs.declared.block.Block.{Block}
 use Rattle.vme_core.specs.declared.view.View.{View}
 use Rattle.vme_core.specs.Counting.{HasPair, occurrences, numbers, sum_below, missing_count}
-use Rattle.vme_core.specs.Rule.{Rule}
+use Rattle.vme_core.specs.Rule.{StepRule}
 use Rattle.vme_core.specs.Stages.{rank, seen}
 use Rattle.vme_core.proofs.StageRanks.{seen_free}
-use Rattle.vme_core.specs.Shares.{IsWhole}
+use Rattle.vme_core.specs.Shares.{IsWholeShare}
 use Rattle.vme_core.proofs.Sums.{occurs_of_pair, pair_of_occurs}
 use Rattle.vme_core.proofs.SumsBelow.{sum_below_plus, sum_below_agree, sum_below_limit}
 use Rattle.vme_core.proofs.RuleSteps.{own_draws, own_claims, own_takes, whole_listed, whole_taken, unlisted, is_taken, few_listed, few_taken, all_listed, all_taken, one_content}
@@ -79,8 +79,8 @@ module _ (width id : ℕ) (v : View) (ws : List ℕ) (xs items : List (Option Bl
   abbrev T : ℕ → ℕ
   T = bit_of 2 ws
 
-  r : Rule total (bit_of 3 ws) (bit_of 0 ws) F T K (IsEmpty homes) (IsFilled homes) fin.0.views
-  r = subst (λ (z : ℕ × List ℕ). Rule z.0 (bit_of 3 z.1) (bit_of 0 z.1) (bit_of 1 z.1) (bit_of 2 z.1) K (IsEmpty homes) (IsFilled homes) fin.0.views) (λ i. ((fin.3 ∙ long) i, fin.2 i)) fin.1.0.1.1
+  r : StepRule total (bit_of 3 ws) (bit_of 0 ws) F T K (IsEmpty homes) (IsFilled homes) fin.0.views
+  r = subst (λ (z : ℕ × List ℕ). StepRule z.0 (bit_of 3 z.1) (bit_of 0 z.1) (bit_of 1 z.1) (bit_of 2 z.1) K (IsEmpty homes) (IsFilled homes) fin.0.views) (λ i. ((fin.3 ∙ long) i, fin.2 i)) fin.1.0.1.1
 
   at_view : get_elem? fin.0.views id ≡ some v
   at_view = fin.1.1
@@ -114,7 +114,7 @@ module _ (width id : ℕ) (v : View) (ws : List ℕ) (xs items : List (Option Bl
   taken_sum = few_taken total (bit_of 3 ws) (bit_of 0 ws) F T K (IsEmpty homes) (IsFilled homes) fin.0.views r id v at_view
 
   -- who has the whole share did all
-  module _ (all : IsWhole v.share) where
+  module _ (all : IsWholeShare v.share) where
     pub whole_filed : sum_below F total ≡ length v.list
     whole_filed = whole_listed total (bit_of 3 ws) (bit_of 0 ws) F T K (IsEmpty homes) (IsFilled homes) fin.0.views r id v at_view all
 

@@ -12,7 +12,7 @@ use Rattle.vme_trace.specs.declared.block.Block.{Block}
 use Rattle.vme_core.specs.declared.view.View.{View}
 use Rattle.vme_core.specs.Counting.{occurrences, numbers, HasPair, set_bits, update}
 use Rattle.vme_core.specs.Views.{after_draw, with_found, after_claim, after_filing, after_take, with_claimed, with_filed, with_taken, kept_view, split_view, joint_view, empty_view, first_view}
-use Rattle.vme_core.specs.Rule.{Rule}
+use Rattle.vme_core.specs.Rule.{StepRule}
 use Rattle.vme_core.proofs.Sums.{update_here, update_else, each}
 use Rattle.vme_core.proofs.ViewChanges.{saw_one, saw_both, from_fresh, shares_first}
 use Rattle.vme_core.proofs.SetBits.{set_bits_true}
@@ -33,8 +33,8 @@ has_any : {es : List ℕ} → 0 < length es → es ≢ []
 has_any h z = omega (arith, h, ap length z)
 
 -- the rule with as many slots
-resized : (K : Contents_of) (a b : ℕ) (D C F T : ℕ → ℕ) (E : ℕ → Type 0) (H : ℕ → Block → Type 0) (vs : List View) → b ≡ a → Rule a D C F T K E H vs → Rule b D C F T K E H vs
-resized K a b D C F T E H vs is r = subst (λ (y : ℕ). Rule y D C F T K E H vs) (sym is) r
+resized : (K : Contents_of) (a b : ℕ) (D C F T : ℕ → ℕ) (E : ℕ → Type 0) (H : ℕ → Block → Type 0) (vs : List View) → b ≡ a → StepRule a D C F T K E H vs → StepRule b D C F T K E H vs
+resized K a b D C F T E H vs is r = subst (λ (y : ℕ). StepRule y D C F T K E H vs) (sym is) r
 
 -- a bit was set that was set before
 again : (k : ℕ) (ws : List ℕ) (n : ℕ) → k < 4 → 4 * (n / 64) + k < length ws → bit_of k ws n ≡ 1 → (k' : ℕ) → k' < 4 → (m : ℕ) → bit_of k' (marked k ws n) m ≡ bit_of k' ws m
@@ -167,7 +167,7 @@ module _ (width : ℕ) (s : St) (h : Holds width s) (id : ℕ) (seat : SeatState
       let near : 4 * (n / 64) + 0 < length s.words = inside (4 * (n / 64) + 0) small in let ws' : List ℕ = marked 0 s.words n in
       let homes' : Homes = set s.homes n none in let vs' : List View = set s.views id (after_claim seat.0 n) in
       let unfiled : F n ≡ 0 = let p = r.stages.pending_once n in omega (arith, p, is) in
-      let rule : Rule (length s.homes) D (bit_of 0 ws') F T K (IsEmpty homes') (IsFilled homes') vs' = rule_wins (length s.homes) D C F T K E H s.views r id seat.0 e (has_any rich) (bit_of 0 ws') (IsEmpty homes') (IsFilled homes') n free low is (bit_here 0 s.words n near) (bit_else 0 s.words n near)
+      let rule : StepRule (length s.homes) D (bit_of 0 ws') F T K (IsEmpty homes') (IsFilled homes') vs' = rule_wins (length s.homes) D C F T K E H s.views r id seat.0 e (has_any rich) (bit_of 0 ws') (IsEmpty homes') (IsFilled homes') n free low is (bit_here 0 s.words n near) (bit_else 0 s.words n near)
       (λ m ne empty l. set_else s.homes n m none ne ∙ empty (subst (λ (y : ℕ). m < y) (length-set s.homes n none) l)) (λ m x ne full. set_else s.homes n m none ne ∙ full) (λ m x ne full. sym (set_else s.homes n m none ne) ∙ full)
       (λ x full. none_full none x refl (sym (set_here s.homes n none low) ∙ full)) in (
         after_claim seat.0 n,
@@ -200,7 +200,7 @@ module _ (width : ℕ) (s : St) (h : Holds width s) (id : ℕ) (seat : SeatState
       let here : Option Block = Some b in let homes' : Homes = set s.homes n (some here) in let w : View = after_filing seat.0 n b in let vs' : List View = set s.views id w in let K' : Contents_of = update K n (Some b) in let F' : ℕ → ℕ = bit_of 1 ws' in
       let numbered : IsNumbered K' = each n (λ m. (x : Block) → update K n (Some b) m ≡ Some x → x.number ≡ m) (λ x z. let same : b ≡ x = one_content (update K n (Some b) n) b x (update_here K n (Some b)) z in subst (λ (y : Block). y.number ≡ n) same own) (λ m ne x z. h.1.2 m x (sym (update_else K n (Some b) m ne) ∙ z)) in
       let was = is_pending (length s.homes) D C F T K E H s.views r id seat.0 e n one in
-      let rule : Rule (length s.homes) D C F' T K' (IsEmpty homes') (IsFilled homes') vs' = rule_files (length s.homes) D C F T K E H s.views r id seat.0 e F' K' (IsEmpty homes') (IsFilled homes') n b one (bit_here 1 s.words n near) (bit_else 1 s.words n near) (update_here K n (Some b)) (update_else K n (Some b))
+      let rule : StepRule (length s.homes) D C F' T K' (IsEmpty homes') (IsFilled homes') vs' = rule_files (length s.homes) D C F T K E H s.views r id seat.0 e F' K' (IsEmpty homes') (IsFilled homes') n b one (bit_here 1 s.words n near) (bit_else 1 s.words n near) (update_here K n (Some b)) (update_else K n (Some b))
       (λ m ne empty l. set_else s.homes n m (some here) ne ∙ empty (subst (λ (y : ℕ). m < y) (length-set s.homes n (some here)) l)) (λ m x ne full. set_else s.homes n m (some here) ne ∙ full) (λ m x ne full. sym (set_else s.homes n m (some here) ne) ∙ full)
       (set_here s.homes n (some here) low) (λ x full. one_block x b (sym full ∙ set_here s.homes n (some here) low)) in
       let kept : Holds width (record { words = ws'; homes = homes'; views = vs' }) = (
@@ -228,7 +228,7 @@ module _ (width : ℕ) (s : St) (h : Holds width s) (id : ℕ) (seat : SeatState
       let near : 4 * (n / 64) + 2 < length s.words = inside (4 * (n / 64) + 2) small in let ws' : List ℕ = marked 2 s.words n in
       let f1 : F n ≡ 1 = filings n saw_it in let full = r.contents.filed_is_home n f1 is in let b : Block = full.0 in
       let homes' : Homes = set s.homes n none in let w : View = after_take seat.0 n b in let vs' : List View = set s.views id w in let T' : ℕ → ℕ = bit_of 2 ws' in
-      let rule : Rule (length s.homes) D C F T' K (IsEmpty homes') (IsFilled homes') vs' = rule_takes (length s.homes) D C F T K E H s.views r id seat.0 e (has_any rich) T' (IsEmpty homes') (IsFilled homes') n b f1 is (bit_here 2 s.words n near) (bit_else 2 s.words n near) full.1
+      let rule : StepRule (length s.homes) D C F T' K (IsEmpty homes') (IsFilled homes') vs' = rule_takes (length s.homes) D C F T K E H s.views r id seat.0 e (has_any rich) T' (IsEmpty homes') (IsFilled homes') n b f1 is (bit_here 2 s.words n near) (bit_else 2 s.words n near) full.1
       (λ m ne empty l. set_else s.homes n m none ne ∙ empty (subst (λ (y : ℕ). m < y) (length-set s.homes n none) l)) (λ m x ne full. set_else s.homes n m none ne ∙ full) (λ m x ne full. sym (set_else s.homes n m none ne) ∙ full)
       (λ x full. none_full none x refl (sym (set_here s.homes n none low) ∙ full)) in
       let most = few_taken (length s.homes) D C F T' K (IsEmpty homes') (IsFilled homes') vs' rule id w (there w) in
@@ -368,7 +368,7 @@ pub gives_allowed : (width slots id : ℕ) (seat : SeatState) (n : ℕ) → 0 < 
 gives_allowed width slots id seat n wide_enough low mine has s h wide e fits =
     let q = h.1.1 in let K : Contents_of = h.1.0 in let L : ℕ = length s.homes in let out : Option Block = None in let homes' : Homes = set s.homes n (some out) in let near : n < length s.homes = omega (arith, low, wide) in
     let t1 = is_taken L (bit_of 3 s.words) (bit_of 0 s.words) (bit_of 1 s.words) (bit_of 2 s.words) K (IsEmpty s.homes) (IsFilled s.homes) s.views q id seat.0 e n mine in
-    let rule : Rule L (bit_of 3 s.words) (bit_of 0 s.words) (bit_of 1 s.words) (bit_of 2 s.words) K (IsEmpty homes') (IsFilled homes') s.views = rule_gives L (bit_of 3 s.words) (bit_of 0 s.words) (bit_of 1 s.words) (bit_of 2 s.words) K (IsEmpty s.homes) (IsFilled s.homes) s.views q (IsEmpty homes') (IsFilled homes') n t1
+    let rule : StepRule L (bit_of 3 s.words) (bit_of 0 s.words) (bit_of 1 s.words) (bit_of 2 s.words) K (IsEmpty homes') (IsFilled homes') s.views = rule_gives L (bit_of 3 s.words) (bit_of 0 s.words) (bit_of 1 s.words) (bit_of 2 s.words) K (IsEmpty s.homes) (IsFilled s.homes) s.views q (IsEmpty homes') (IsFilled homes') n t1
     (λ m ne empty l. set_else s.homes n m (some out) ne ∙ empty (subst (λ (y : ℕ). m < y) (length-set s.homes n (some out)) l)) (λ m x ne full. set_else s.homes n m (some out) ne ∙ full) (λ m x ne full. sym (set_else s.homes n m (some out) ne) ∙ full)
     (λ x full. empty_full x (sym (set_here s.homes n (some out) near) ∙ full)) in
     let sized : Reads K s.words homes' s.views = resized K L (length homes') (bit_of 3 s.words) (bit_of 0 s.words) (bit_of 1 s.words) (bit_of 2 s.words) (IsEmpty homes') (IsFilled homes') s.views (length-set s.homes n (some out)) rule in

@@ -3,15 +3,15 @@ use Rattle.std.specs.Prelude.{◌≡◌, ℕ, ◌<◌, ◌≤◌, length, Some, 
 use Rattle.vme_trace.specs.Block.{trace_of}
 use Rattle.vme_trace.specs.WellFormed.{malformed_step}
 use Rattle.vme_trace.specs.declared.block.Block.{Block}
-use Rattle.vme_board.specs.declared.delivery.Refusal.{Refusal}
-use Rattle.vme_board.specs.declared.delivery.Refusal.TheVariants.{Stranger, TooLong, Malformed, Doubled, Memory}
+use Rattle.vme_board.specs.declared.delivery.DeliveryRefusal.{DeliveryRefusal}
+use Rattle.vme_board.specs.declared.delivery.DeliveryRefusal.TheVariants.{Stranger, TooLong, Malformed, Doubled, Memory}
 
 -- the block alone is no reason to refuse it
 abbrev pub IsDeliverable : ℕ → Block → Type 0
 IsDeliverable total b = (b.number < total) × (length b.steps ≤ 65536) × (malformed_step (trace_of b) ≡ None)
 
 -- the reasons exclude one another: the first three are of the block alone, in this order
-abbrev pub IsReason : ℕ → Block → Refusal → Type 0
+abbrev pub IsReason : ℕ → Block → DeliveryRefusal → Type 0
 IsReason total b Stranger = total ≤ b.number
 IsReason total b TooLong = (b.number < total) × (65536 < length b.steps)
 IsReason total b (Malformed step) =

@@ -11,10 +11,10 @@ ghost use Rattle.vme_board.specs.Tells.{DrawTells, ClaimTells, FileTells, TakeTe
 ghost use Rattle.vme_board.specs.Tells.{ClaimedLookTells, FiledLookTells, TakenLookTells};
 ghost use Rattle.vme_board.specs.Views.{SameDraws, SameWork, SameNumbers, AllFound, IsNewDraw, SameBlocks};
 ghost use Rattle.vme_board.specs.Views.{HasNothingToTake, SeesGreater};
-ghost use Rattle.vme_board.specs.declared.delivery.Refusal.TheVariants.{Doubled, Memory};
+ghost use Rattle.vme_board.specs.declared.delivery.DeliveryRefusal.TheVariants.{Doubled, Memory};
 
 use crate::board::{Board, BoardSeat};
-use crate::delivery::{Filed, Refusal, Refused};
+use crate::delivery::{DeliveryRefusal, Filed, Refused};
 use crate::words::{CLAIMED, DRAWN, FILED, TAKEN, bit, mask_of, word_of};
 use atomic_table::{Join, Play, Split};
 use std::alloc::Global;
@@ -343,25 +343,25 @@ impl Bench {
     {
         if block.number >= board.total {
             return Err(Refused {
-                why: Refusal::Stranger,
+                why: DeliveryRefusal::Stranger,
                 block,
             });
         }
         if block.steps.as_slice().len() > 65536 {
             return Err(Refused {
-                why: Refusal::TooLong,
+                why: DeliveryRefusal::TooLong,
                 block,
             });
         }
         if let Err(fault) = block.check() {
             return Err(Refused {
-                why: Refusal::Malformed { step: fault.step },
+                why: DeliveryRefusal::Malformed { step: fault.step },
                 block,
             });
         }
         if self.sees_claimed(board, block.number) {
             return Err(Refused {
-                why: Refusal::Doubled,
+                why: DeliveryRefusal::Doubled,
                 block,
             });
         }
@@ -369,7 +369,7 @@ impl Bench {
             Ok(judged) => judged,
             Err((block, _)) => {
                 return Err(Refused {
-                    why: Refusal::Memory,
+                    why: DeliveryRefusal::Memory,
                     block,
                 });
             }
@@ -377,7 +377,7 @@ impl Bench {
         match self.try_claim(board, judged) {
             Ok(filed) => Ok(filed),
             Err(judged) => Err(Refused {
-                why: Refusal::Doubled,
+                why: DeliveryRefusal::Doubled,
                 block: judged.into_block(),
             }),
         }

@@ -6,7 +6,7 @@ ghost use Rattle.std.specs.Mem.Slots.{slots_items, slots_len, IsFull};
 ghost use Rattle.vme_trace.specs.declared.block.Block.{Block};
 ghost use Rattle.vme_core.specs.Counting.{sum_below};
 ghost use Rattle.vme_core.specs.Views.{first_view};
-ghost use Rattle.vme_core.specs.Shares.{IsWhole};
+ghost use Rattle.vme_core.specs.Shares.{IsWholeShare};
 ghost use Rattle.vme_board.specs.Contents.{AreNumbered, HasList, HasUntaken, LacksTakes, HasOnlyList, LacksOthers};
 ghost use Rattle.vme_board.specs.Contents.{AddUp, unlisted_count, untaken_count, DidAll};
 ghost use Rattle.vme_board.specs.Words.{Holds, IsWideFor, AreKept, bit_of, kept};
@@ -124,9 +124,9 @@ impl Board {
         ensures outside { IfOk result (λ c. c.others ≡ 0 → LacksOthers (view_of bench) c.contents.items) }
 
         // The bench that has the whole share filed, took and drew all that was filed, taken and drawn.
-        ensures no_others { IfOk result (λ c. IsWhole (view_of bench).share → c.others ≡ 0) }
-        ensures no_taken { IfOk result (λ c. IsWhole (view_of bench).share → c.taken ≡ 0) }
-        ensures did_all { IfOk result (λ c. IsWhole (view_of bench).share → DidAll (view_of bench)) }
+        ensures no_others { IfOk result (λ c. IsWholeShare (view_of bench).share → c.others ≡ 0) }
+        ensures no_taken { IfOk result (λ c. IsWholeShare (view_of bench).share → c.taken ≡ 0) }
+        ensures did_all { IfOk result (λ c. IsWholeShare (view_of bench).share → DidAll (view_of bench)) }
 
         ensures counts { IfOk result (λ c. AddUp (view_of bench) c.contents.items c.others c.taken) }
         ensures within { IfOk result (λ c. c.others + length (view_of bench).list ≤ total_of self) }

@@ -2,7 +2,7 @@ use vme_trace::Block;
 
 /// Why a delivery is refused.
 #[derive(Clone, Copy, Debug, PartialEq, Eq)]
-pub enum Refusal {
+pub enum DeliveryRefusal {
     /// The block's number isn't below the board's total.
     Stranger,
     /// The block has more than 65,536 steps.
@@ -22,7 +22,7 @@ pub enum Refusal {
 #[derive(Drop)]
 pub struct Refused {
     /// Why.
-    pub why: Refusal,
+    pub why: DeliveryRefusal,
     /// The block, as it was handed in.
     pub block: Block,
 }

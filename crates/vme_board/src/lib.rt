@@ -18,5 +18,5 @@ mod words;
 
 pub use bench::Bench;
 pub use board::{Board, BoardFault, Closed};
-pub use delivery::{Filed, Refusal, Refused};
+pub use delivery::{DeliveryRefusal, Filed, Refused};
 pub use vme_core::Stage;

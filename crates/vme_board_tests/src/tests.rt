@@ -5,7 +5,7 @@ use smallvec::SmallVec;
 use std::alloc::{AllocError, Global};
 use std::process::Abort;
 use std::test::Fail;
-use vme_board::{Bench, Board, BoardFault, Closed, Filed, Refusal, Refused, Stage};
+use vme_board::{Bench, Board, BoardFault, Closed, DeliveryRefusal, Filed, Refused, Stage};
 use vme_summary::{Judged, Span, join};
 use vme_trace::{
     Block, Capture, Change, Changes, LINE_COUNT, Level, Line, Lines, Step, Steps, Verdict,
@@ -131,7 +131,11 @@ pub(crate) fn is_filed(answer: &Result<Filed, Refused>, number: u32) -> bool {
 }
 
 /// Whether the delivery was refused for this reason, and the block handed back.
-pub(crate) fn is_refused(answer: &Result<Filed, Refused>, why: Refusal, block: &Block) -> bool {
+pub(crate) fn is_refused(
+    answer: &Result<Filed, Refused>,
+    why: DeliveryRefusal,
+    block: &Block,
+) -> bool {
     match answer {
         Ok(_) => false,
         Err(refused) => refused.why == why && is_equal(&refused.block, block),
@@ -256,7 +260,7 @@ fn refusals_in_order(rt: HostRuntime) -> Result<(), Fail> {
     assert!(rt;
         is_refused(
             &bench.deliver(alloc, &board, long()?),
-            Refusal::Stranger,
+            DeliveryRefusal::Stranger,
             &long()?
         )
     );
@@ -264,12 +268,12 @@ fn refusals_in_order(rt: HostRuntime) -> Result<(), Fail> {
     assert!(rt;
         is_refused(
             &bench.deliver(alloc, &board, long()?),
-            Refusal::TooLong,
+            DeliveryRefusal::TooLong,
             &long()?
         )
     );
     let malformed = || malformed_block(alloc, 5, 2).ok_or("no memory");
-    let why = Refusal::Malformed { step: 0 };
+    let why = DeliveryRefusal::Malformed { step: 0 };
     assert!(rt;
         is_filed(
             &bench.deliver(alloc, &board, block_of(alloc, 5, 0, 1).ok_or("no memory")?),
@@ -295,7 +299,13 @@ fn file_five(rt: &impl Abort, alloc: Global, board: &Board, bench: &mut Bench) -
     let again = block_of(alloc, 5, 7, 3).ok_or("no memory")?;
     let same = block_of(alloc, 5, 7, 3).ok_or("no memory")?;
     assert!(rt; is_filed(&bench.deliver(alloc, board, given), 5));
-    assert!(rt; is_refused(&bench.deliver(alloc, board, again), Refusal::Doubled, &same));
+    assert!(rt;
+        is_refused(
+            &bench.deliver(alloc, board, again),
+            DeliveryRefusal::Doubled,
+            &same
+        )
+    );
     Ok(())
 }
 
@@ -358,7 +368,7 @@ fn deliver_twice(
     match bench.deliver(alloc, board, block) {
         Err(
             Refused {
-                why: Refusal::Memory,
+                why: DeliveryRefusal::Memory,
                 block,
             },
         ) => {

@@ -11,7 +11,7 @@ use std::sync::Wait;
 use std::test::Fail;
 use std::thread;
 use std::thread::{Promise, Threads, join};
-use vme_board::{Bench, Board, Filed, Refusal, Refused, Stage};
+use vme_board::{Bench, Board, DeliveryRefusal, Filed, Refused, Stage};
 use vme_summary::Judged;
 use vme_trace::{Block, Lines, Steps};
 
@@ -169,13 +169,19 @@ fn refusals_by_threads(rt: HostRuntime) -> Result<(), Fail> {
     let (board, bench) = board_of(alloc)?;
     let stranger = || block_of(alloc, 14, 0, 1).ok_or("no memory");
     let (bench, answer) = deliver_apart(&rt, alloc, &board, bench, stranger()?);
-    assert!(rt; is_refused(&answer, Refusal::Stranger, &stranger()?));
+    assert!(rt; is_refused(&answer, DeliveryRefusal::Stranger, &stranger()?));
     let long = || block_of(alloc, 4, 0, 65537).ok_or("no memory");
     let (bench, answer) = deliver_apart(&rt, alloc, &board, bench, long()?);
-    assert!(rt; is_refused(&answer, Refusal::TooLong, &long()?));
+    assert!(rt; is_refused(&answer, DeliveryRefusal::TooLong, &long()?));
     let malformed = || malformed_block(alloc, 5, 2).ok_or("no memory");
     let (_bench, answer) = deliver_apart(&rt, alloc, &board, bench, malformed()?);
-    assert!(rt; is_refused(&answer, Refusal::Malformed { step: 0 }, &malformed()?));
+    assert!(rt;
+        is_refused(
+            &answer,
+            DeliveryRefusal::Malformed { step: 0 },
+            &malformed()?
+        )
+    );
     Ok(())
 }
 
@@ -194,7 +200,7 @@ fn file_five(
     let (bench, answer) = deliver_apart(rt, alloc, board, bench, given);
     assert!(rt; is_filed(&answer, 5));
     let (_bench, answer) = deliver_apart(rt, alloc, board, bench, again);
-    assert!(rt; is_refused(&answer, Refusal::Doubled, &same));
+    assert!(rt; is_refused(&answer, DeliveryRefusal::Doubled, &same));
     Ok(())
 }
 
@@ -287,14 +293,14 @@ fn deliver_range(alloc: Global, board: &Board, bench: Bench, thread: u8) -> Work
         let answer = work.bench.deliver(alloc, board, block);
         if is_filed(&answer, number) {
             work.filed = work.filed.wrapping_add(1);
-        } else if is_refused(&answer, Refusal::Doubled, &same) {
+        } else if is_refused(&answer, DeliveryRefusal::Doubled, &same) {
             work.doubled = work.doubled.wrapping_add(1);
         }
     }
     work
 }
 
-fn is_refused_for(answer: &Result<Filed, Refused>, why: Refusal) -> bool {
+fn is_refused_for(answer: &Result<Filed, Refused>, why: DeliveryRefusal) -> bool {
     match answer {
         Ok(_) => false,
         Err(refused) => refused.why == why,
@@ -322,13 +328,13 @@ fn deliver_hostile(alloc: Global, board: &Board, bench: Bench, thread: u8) -> Wo
         };
         if is_refused_for(
             &work.bench.deliver(alloc, board, stranger),
-            Refusal::Stranger,
+            DeliveryRefusal::Stranger,
         ) {
             work.hostile = work.hostile.wrapping_add(1);
         }
         if is_refused_for(
             &work.bench.deliver(alloc, board, malformed),
-            Refusal::Malformed { step: 0 },
+            DeliveryRefusal::Malformed { step: 0 },
         ) {
             work.hostile = work.hostile.wrapping_add(1);
         }

@@ -15,13 +15,13 @@ use Rattle.vme_summary.specs.Joins.{BlocksJoin, joined_trace}
 use Rattle.vme_book.specs.Inserted.{AllJoin, IsJoinedPrefix, IsLeastTorn, IsLongestPrefix, stored}
 use Rattle.vme_summary.specs.Progressed.{HasCome}
 use Rattle.vme_summary.specs.Stands.{SpanStandsFor, first_number}
-use Rattle.vme_summary.specs.declared.progress.Progress.{Progress}
+use Rattle.vme_summary.specs.declared.running_verdict.RunningVerdict.{RunningVerdict}
 use Rattle.vme_summary.specs.declared.span.Span.{Span}
 use Rattle.vme_summary.proofs.Chains.{not_empty, steps-append}
 use Rattle.vme_summary.proofs.Progressing.{come_join, span_first}
-use Rattle.vme_book.specs.Kept.{AreJoined, ArePlaced, ComeTo, HaveSpans, IsEnd, IsOf, IsPast, Keeps, StandsForSome}
-use Rattle.vme_book.specs.declared.joined.Joined.{Joined}
-use Rattle.vme_book.specs.declared.places.Places.{Places}
+use Rattle.vme_book.specs.Kept.{AreJoinedTo, ArePlaced, ComeTo, HaveSpans, IsEnd, IsBlockNumbered, IsPast, Keeps, StandsForSome}
+use Rattle.vme_book.specs.declared.joined.JoinedPrefix.{JoinedPrefix}
+use Rattle.vme_book.specs.declared.places.BookSlots.{BookSlots}
 
 pub some_of : {A : Type 0} (o : Option A) → is_some o ≡ true → (a : A) × (o ≡ Some a)
 some_of None e = absurd (cc)
@@ -192,8 +192,8 @@ put_back inserted spans n from y s h there = subst (λ (l : List (Option Span)).
     set_again (x ∷ xs) zero y z = refl
     set_again (x ∷ xs) (suc n) y z = ap (λ l. x ∷ l) (set_again xs n y z)
 
-pub joined_after : (inserted : List (Option Block)) (old new : Joined) (xs : List Block) (b : Block) → AreJoined inserted old xs → stored inserted old.count ≡ Some b → new.count ≡ old.count + 1
-    → StandsForSome new.span (xs ++ b ∷ []) → AreJoined inserted new (xs ++ b ∷ [])
+pub joined_after : (inserted : List (Option Block)) (old new : JoinedPrefix) (xs : List Block) (b : Block) → AreJoinedTo inserted old xs → stored inserted old.count ≡ Some b → new.count ≡ old.count + 1
+    → StandsForSome new.span (xs ++ b ∷ []) → AreJoinedTo inserted new (xs ++ b ∷ [])
 joined_after inserted old new xs b a there more stands =
     record {
       there = one_more inserted xs b a.there (ap (λ (k : ℕ). get_or inserted k None) a.count ∙ there);
@@ -202,13 +202,13 @@ joined_after inserted old new xs b a there more stands =
     }
 
 -- judging goes on past one block more
-pub past_one_more : (inserted : List (Option Block)) (progress : Option Progress) (p : Progress) (n : ℕ) (bs : List Block) (b : Block) {before : Option Progress} → IsPast inserted before n bs → stored inserted (length bs) ≡ Some b
+pub past_one_more : (inserted : List (Option Block)) (progress : Option RunningVerdict) (p : RunningVerdict) (n : ℕ) (bs : List Block) (b : Block) {before : Option RunningVerdict} → IsPast inserted before n bs → stored inserted (length bs) ≡ Some b
     → progress ≡ Some p → HasCome p (bs ++ b ∷ []) → IsPast inserted progress (n + 1) (bs ++ b ∷ [])
 past_one_more inserted progress p n bs b past there e come =
     record {
       prefix = record { there = one_more inserted bs b past.prefix.there there; join = come_join p (bs ++ b ∷ []) come };
       count = length-append bs (b ∷ []) ∙ ap (λ (k : ℕ). k + 1) past.count;
-      come = subst (λ (q : Option Progress). ComeTo q (bs ++ b ∷ [])) (sym e) come;
+      come = subst (λ (q : Option RunningVerdict). ComeTo q (bs ++ b ∷ [])) (sym e) come;
     }
 
 -- the span that is read at the number of a block stands for that block
@@ -236,7 +236,7 @@ nothing_there (suc total) zero = refl
 nothing_there (suc total) (suc n) = nothing_there total n
 
 -- a book with nothing inserted
-pub keeps_nothing : (places : Places) (start : Joined) (total : ℕ) → 0 < total → total ≤ 4096 → places.blocks.items ≡ replicate total None → places.spans.items ≡ replicate total None → start.count ≡ 0 → start.span ≡ None
+pub keeps_nothing : (places : BookSlots) (start : JoinedPrefix) (total : ℕ) → 0 < total → total ≤ 4096 → places.blocks.items ≡ replicate total None → places.spans.items ≡ replicate total None → start.count ≡ 0 → start.span ≡ None
     → Keeps places None 0 start [] []
 keeps_nothing places start total some few blocks spans count span =
     let none : (n : ℕ) (b : Block) → stored places.blocks.items n ≡ Some b → ⊥ = λ n b e. none-some b (sym (nothing_there total n) ∙ ap (λ (l : List (Option Block)). get_or l n None) (sym blocks) ∙ e) in
@@ -270,7 +270,7 @@ module _ (inserted : List (Option Block)) (n : ℕ) (b : Block) (below : n < len
         each = λ m c e. elim (same_or_other m n) [
           | inl same ↦
               let here : Some b ≡ Some c = sym (get_or-set_same inserted n (Some b) None below) ∙ ap (λ (k : ℕ). get_or (set inserted n (Some b)) k None) (sym same) ∙ e in
-              subst (λ (c : Block). IsOf m c) (same_Some b c here) (record { number = number ∙ sym same; short = short })
+              subst (λ (c : Block). IsBlockNumbered m c) (same_Some b c here) (record { number = number ∙ sym same; short = short })
           | inr other ↦ p.each m c (sym (get_or-set_other inserted n m (Some b) None other) ∙ e)
         ];
       }
@@ -297,25 +297,25 @@ module _ (inserted : List (Option Block)) (n : ℕ) (b : Block) (below : n < len
     | inr more ↦ let x = next_of inserted bs n e more in absurd (none-some x.0 (sym free ∙ x.1))
   ]
 
-  pub past_set : (progress : Option Progress) (m : ℕ) (bs : List Block) → stored inserted n ≡ None → IsPast inserted progress m bs → IsPast (set inserted n (Some b)) progress m bs
+  pub past_set : (progress : Option RunningVerdict) (m : ℕ) (bs : List Block) → stored inserted n ≡ None → IsPast inserted progress m bs → IsPast (set inserted n (Some b)) progress m bs
   past_set progress m bs free p = record { prefix = record { there = there_set bs free p.prefix.there; join = p.prefix.join }; count = p.count; come = p.come }
 
-  pub joined_set : (start : Joined) (xs : List Block) → stored inserted n ≡ None → AreJoined inserted start xs → AreJoined (set inserted n (Some b)) start xs
+  pub joined_set : (start : JoinedPrefix) (xs : List Block) → stored inserted n ≡ None → AreJoinedTo inserted start xs → AreJoinedTo (set inserted n (Some b)) start xs
   joined_set start xs free a = record { there = there_set xs free a.there; count = a.count; stands = a.stands }
 
 pub spans_later : (inserted : List (Option Block)) (spans : List (Option Span)) (from to : ℕ) → HaveSpans inserted spans from → from ≤ to → HaveSpans inserted spans to
 spans_later inserted spans from to h le = record { as_many = h.as_many; each = λ n b m e. h.each n b (omega arith) e }
 
-pub longest_at : (inserted : List (Option Block)) (progress : Option Progress) (n : ℕ) (bs : List Block) → IsPast inserted progress n bs → IsEnd inserted n bs → IsLongestPrefix inserted bs
+pub longest_at : (inserted : List (Option Block)) (progress : Option RunningVerdict) (n : ℕ) (bs : List Block) → IsPast inserted progress n bs → IsEnd inserted n bs → IsLongestPrefix inserted bs
 longest_at inserted progress n bs past end = longest_of inserted bs past.prefix (subst (λ (k : ℕ). IsEnd inserted k bs) (sym past.count) end)
 
 -- a book with one block more, before judging goes on
-pub record IsReady (inserted : List (Option Block)) (spans : List (Option Span)) (progress : Option Progress) (reached : ℕ) (start : Joined) (bs xs : List Block) : Type 0 where
+pub record IsReady (inserted : List (Option Block)) (spans : List (Option Span)) (progress : Option RunningVerdict) (reached : ℕ) (start : JoinedPrefix) (bs xs : List Block) : Type 0 where
   pub some : 0 < length inserted
   pub placed : ArePlaced inserted
   pub waiting : HaveSpans inserted spans start.count
   pub past : IsPast inserted progress reached bs
-  pub joined : AreJoined inserted start xs
+  pub joined : AreJoinedTo inserted start xs
   pub within : start.count ≤ reached
 
 pub none_of : {A : Type 0} (o : Option A) → is_some o ≡ false → o ≡ None
@@ -325,8 +325,8 @@ none_of (Some a) e = absurd (cc)
 pub free_at : {A : Type 0} (places : List (Option A)) (n : ℕ) (x : Option A) → n < length places → x ≡ get_or places n x → x ≡ None → get_or places n None ≡ None
 free_at places n x below is e = get_or_default places n None x below ∙ sym is ∙ e
 
-pub ready_after : (old : Places) (progress : Option Progress) (reached : ℕ) (before start : Joined) (bs xs ys : List Block) (blocks : Vec (Option Block)) (spans : List (Option Span)) (n : ℕ) (b : Block) (s : Span)
-    → Keeps old progress reached before bs xs → blocks ≡ old.blocks → HaveSpans old.blocks.items spans start.count → AreJoined old.blocks.items start ys → start.count ≤ reached → n < length old.blocks.items
+pub ready_after : (old : BookSlots) (progress : Option RunningVerdict) (reached : ℕ) (before start : JoinedPrefix) (bs xs ys : List Block) (blocks : Vec (Option Block)) (spans : List (Option Span)) (n : ℕ) (b : Block) (s : Span)
+    → Keeps old progress reached before bs xs → blocks ≡ old.blocks → HaveSpans old.blocks.items spans start.count → AreJoinedTo old.blocks.items start ys → start.count ≤ reached → n < length old.blocks.items
     → stored old.blocks.items n ≡ None → b.number ≡ n → length b.steps ≤ 65536 → SpanStandsFor s (b ∷ []) → IsReady (set blocks.items n (Some b)) (set spans n (Some s)) progress reached start bs ys
 ready_after old progress reached before start bs xs ys blocks spans n b s kept same waiting joined le below free number short stands =
     let inserted = old.blocks.items in
@@ -341,7 +341,7 @@ ready_after old progress reached before start bs xs ys blocks spans n b s kept s
     } in
     subst (λ (v : Vec (Option Block)). IsReady (set v.items n (Some b)) (set spans n (Some s)) progress reached start bs ys) (sym same) ready
 
-pub keeps_after : (places : Places) (progress further : Option Progress) (reached end : ℕ) (start : Joined) (bs cs xs : List Block) → IsReady places.blocks.items places.spans.items progress reached start bs xs → reached ≤ end
+pub keeps_after : (places : BookSlots) (progress further : Option RunningVerdict) (reached end : ℕ) (start : JoinedPrefix) (bs cs xs : List Block) → IsReady places.blocks.items places.spans.items progress reached start bs xs → reached ≤ end
     → IsPast places.blocks.items further end cs → IsEnd places.blocks.items end cs → Keeps places further end start cs xs
 keeps_after places progress further reached end start bs cs xs ready le past ended =
     let within = ready.within in

@@ -4,12 +4,12 @@ ghost use Rattle.std.specs.Prelude.{◌≡◌, ◌<◌, ◌↔◌, ◌⊎◌, le
 ghost use Rattle.std.specs.Prelude.{None, Some};
 ghost use Rattle.vme_book.specs.Inserted.{IsVerdictSoFar, MakesWhole, RefusesBlock, RefusesClose, stored};
 
-use crate::joined::Joined;
-use crate::places::Places;
+use crate::joined::JoinedPrefix;
+use crate::places::BookSlots;
 use crate::recording::recording;
 use std::alloc::Global;
 use std::marker::Model;
-use vme_summary::{Judged, Progress, Span};
+use vme_summary::{Judged, RunningVerdict, Span};
 use vme_trace::{Block, Capture, Verdict};
 
 /// How many blocks a book is of at most.
@@ -59,13 +59,13 @@ pub struct Whole {
 /// block that was inserted there, if there is one.
 #[derive(Drop)]
 pub struct Book {
-    places: Places,
+    places: BookSlots,
     /// What judging has come to past the blocks from number 0 on that are inserted and join, if there are some.
-    progress: Option<Progress>,
+    progress: Option<RunningVerdict>,
     /// How many blocks they are.
     reached: usize,
     /// The first of them, joined to one span.
-    joined: Joined,
+    joined: JoinedPrefix,
 }
 
 impl Model for Book {
@@ -90,14 +90,14 @@ impl Book {
         if total == 0 || total > MOST_BLOCKS {
             return Err(BookFault::BadTotal);
         }
-        let Ok(places) = Places::new(alloc, total as usize) else {
+        let Ok(places) = BookSlots::new(alloc, total as usize) else {
             return Err(BookFault::Memory);
         };
         Ok(Book {
             places,
             progress: None,
             reached: 0,
-            joined: Joined::new(),
+            joined: JoinedPrefix::new(),
         })
     }
 

@@ -4,26 +4,26 @@ ghost use Rattle.std.specs.Prelude.{◌≡◌, ◌+◌, ◌<◌, ◌≤◌, None
 ghost use Rattle.vme_book.specs.Kept.{AreSomeJoined, ArePlaced, FirstJoin, FitsAfter, HaveSpans, IsJoinedTo};
 ghost use Rattle.vme_book.specs.Kept.{JoinsAfter, StandsAsBefore};
 
-use crate::places::Places;
+use crate::places::BookSlots;
 use std::alloc::{AllocError, Global};
 use vme_summary::{JoinFault, Span, append};
 
 /// The first blocks, joined to one span.
 #[derive(Drop)]
-pub(crate) struct Joined {
+pub(crate) struct JoinedPrefix {
     /// The span, if there are some.
     pub(crate) span: Option<Span>,
     /// How many blocks they are.
     pub(crate) count: usize,
 }
 
-impl Joined {
+impl JoinedPrefix {
     /// No blocks.
-    pub(crate) fn new() -> Joined
+    pub(crate) fn new() -> JoinedPrefix
         ensures count { result.count ≡ 0 }
         ensures span { result.span ≡ None }
     {
-        Joined {
+        JoinedPrefix {
             span: None,
             count: 0,
         }
@@ -65,7 +65,7 @@ impl Joined {
     pub(crate) fn go_on(
         &mut self,
         alloc: Global,
-        places: &mut Places,
+        places: &mut BookSlots,
         end: usize,
     ) -> Result<(), AllocError>
         requires placed { ArePlaced places.old.blocks.items }

@@ -5,12 +5,12 @@ ghost use Rattle.vme_book.specs.Inserted.{AllThere, IsLeastMissing};
 ghost use Rattle.vme_book.specs.Kept.{ArePlaced, HaveSpans, IsPastMost, IsPastSome};
 
 use std::alloc::{AllocError, Global};
-use vme_summary::{Progress, Span};
+use vme_summary::{RunningVerdict, Span};
 use vme_trace::Block;
 
 /// At each number the block that was inserted there, and its span until that is joined to those before it.
 #[derive(Drop)]
-pub(crate) struct Places {
+pub(crate) struct BookSlots {
     pub(crate) blocks: Vec<Option<Block>>,
     pub(crate) spans: Vec<Option<Span>>,
 }
@@ -26,13 +26,13 @@ fn vacant<T>(alloc: Global, count: usize) -> Result<Vec<Option<T>>, AllocError>
     Ok(places)
 }
 
-impl Places {
+impl BookSlots {
     /// So many numbers, with nothing inserted.
-    pub(crate) fn new(alloc: Global, total: usize) -> Result<Places, AllocError>
+    pub(crate) fn new(alloc: Global, total: usize) -> Result<BookSlots, AllocError>
         ensures blocks { IfOk result (λ places. places.blocks.items ≡ replicate total None) }
         ensures spans { IfOk result (λ places. places.spans.items ≡ replicate total None) }
     {
-        Ok(Places {
+        Ok(BookSlots {
             blocks: vacant(alloc, total)?,
             spans: vacant(alloc, total)?,
         })
@@ -55,9 +55,9 @@ impl Places {
     /// what that comes to, and the first number that it isn't past.
     pub(crate) fn judged_on(
         &self,
-        progress: Option<Progress>,
+        progress: Option<RunningVerdict>,
         from: usize,
-    ) -> (Option<Progress>, usize)
+    ) -> (Option<RunningVerdict>, usize)
         requires placed { ArePlaced self.now.blocks.items }
         requires waiting { HaveSpans self.now.blocks.items self.now.spans.items from }
         requires past { IsPastSome self.now.blocks.items progress from }
@@ -73,7 +73,7 @@ impl Places {
                 unreachable!()
             };
             let next = match &progress {
-                None => Some(Progress::of(span)),
+                None => Some(RunningVerdict::of(span)),
                 Some(before) => before.after(span),
             };
             if next.is_none() {

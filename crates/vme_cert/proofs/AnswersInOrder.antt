@@ -3,14 +3,14 @@ use Rattle.std.proofs.Common.{◌≡◌, ℕ, ◌+◌, Bool, false, ◌||◌, no
 use Rattle.std.specs.Prelude.{Option, None, Some, is_some}
 use Rattle.vme_trace.specs.Instants.{any, least, those}
 use Rattle.vme_trace.specs.Trace.{Trace}
-use Rattle.vme_trace.specs.Judged.{Span}
+use Rattle.vme_trace.specs.Judged.{Stretch}
 use Rattle.vme_trace.specs.Transfers.{is_answer, answers_write}
 use Rattle.vme_trace.specs.Cycles.{answers_of}
 use Rattle.vme_trace.specs.Rules.{spoils_pair, turns, is_later, differ}
 use Rattle.vme_trace.proofs.Ranges.{least-none-any, least-found}
 use Rattle.vme_cert.proofs.Those.{any-first, those-none, those-least}
 
-module _ (t : Trace) (span : Span) where
+module _ (t : Trace) (span : Stretch) where
   first_of : (i j : ℕ) → Option ℕ → List ℕ
   first_of i j None = []
   first_of i j (Some r) = r ∷ those (is_answer t span) (r + 1) j

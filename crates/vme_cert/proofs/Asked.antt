@@ -5,7 +5,7 @@ use Rattle.std.specs.Option.{option_map_or}
 use Rattle.std.proofs.lemmas.Bool.Decides.{nat_tests}
 use Rattle.vme_trace.specs.Instants.{any, none, least}
 use Rattle.vme_trace.specs.Trace.{Trace}
-use Rattle.vme_trace.specs.Judged.{Span}
+use Rattle.vme_trace.specs.Judged.{Stretch}
 use Rattle.vme_trace.specs.LineNumbers.{grant, DTACK, BERR, WRITE}
 use Rattle.vme_trace.specs.Signals.{low, near, falls}
 use Rattle.vme_trace.specs.Tenures.{is_granting, taken_grant, tenure_level}
@@ -16,7 +16,7 @@ use Rattle.vme_cert.specs.Watching.{is_open_write, is_held_write}
 use Rattle.vme_cert.proofs.AtTransfers.{answered-by, answered-before}
 use Rattle.vme_cert.proofs.Those.{any-first}
 
-module _ (t : Trace) (span : Span) (j start : ℕ) (answer : Option ℕ) (h : IsTransferFrom t span j start answer) where
+module _ (t : Trace) (span : Stretch) (j start : ℕ) (answer : Option ℕ) (h : IsTransferFrom t span j start answer) where
   -- it started before, and isn't answered
   pub unanswered-is : in_transfer t span (λ i. nat_lt i j && not (is_answered t span i (j + 1))) j ≡ (nat_lt start j && not (is_some answer))
   unanswered-is = h.is (λ i. nat_lt i j && not (is_answered t span i (j + 1))) ∙ rw (answered-by t span start j h.order answer h.answer_is) refl

@@ -7,7 +7,7 @@ use Rattle.std.proofs.lemmas.Option.{slice_get-map}
 use Rattle.vme_trace.specs.Instants.{any, those}
 use Rattle.vme_trace.specs.LineNumbers.{AS, WRITE}
 use Rattle.vme_trace.specs.Trace.{Trace}
-use Rattle.vme_trace.specs.Judged.{Span, is_judged}
+use Rattle.vme_trace.specs.Judged.{Stretch, is_judged}
 use Rattle.vme_trace.specs.Signals.{low, falls}
 use Rattle.vme_trace.specs.Transfers.{answer_falls, answers, is_answer, is_write, answers_write, in_transfer}
 use Rattle.vme_trace.specs.Cycle.{Needs}
@@ -28,7 +28,7 @@ only_here a c n h = grind (arith, nat_tests)
 pub any-one : (p : ℕ → Bool) (n : ℕ) → any p n (n + 1) ≡ p n
 any-one p n = any-step p n n ∙ only_here (any p n n) (p n) n (any-start p n n (omega arith))
 
-module _ (t : Trace) (span : Span) (at : ℕ) where
+module _ (t : Trace) (span : Stretch) (at : ℕ) where
   -- the instant is the answer of the transfer there, if its first answer by then is
   module _ (start : ℕ) (o : Option ℕ) (from : IsTransferFrom t span at start o) where
     pub is_answer-here : is_answer t span at ≡ option_map_or (λ r. r == at) o false
@@ -49,7 +49,7 @@ module _ (t : Trace) (span : Span) (at : ℕ) where
     unfolding answers_write is_write
     answers_write-never = none (λ i. answers t span i at && is_write t span i)
 
-pub no-answer : (t : Trace) (span : Span) (r : ℕ) → answer_falls t r ≡ false → is_answer t span r ≡ false
+pub no-answer : (t : Trace) (span : Stretch) (r : ℕ) → answer_falls t r ≡ false → is_answer t span r ≡ false
 unfolding is_answer in_transfer answers
 no-answer t span r h = fails-any _ (span.start + 1) (r + 1) (λ i a b. second_fails _ _ (first_fails _ _ (second_fails _ _ h)))
 
@@ -66,7 +66,7 @@ pub write-never : (o : Option ℕ) (at : ℕ) (b : Bool) → o ≡ None → fals
 write-never o at b e = ap (λ x. option_map_or (λ r. r == at) x false && b) (sym e)
 
 -- a cycle starts after the span does
-pub cycle-after : (t : Trace) (span : Span) (i : ℕ) → cycle_starts t span i ≡ true → span.start ≤ i
+pub cycle-after : (t : Trace) (span : Stretch) (i : ℕ) → cycle_starts t span i ≡ true → span.start ≤ i
 unfolding cycle_starts
 cycle-after t span i h =
     let judged = and_true (nat_lt span.start i) (nat_lt i span.end) (and_true (is_judged span i) (falls t AS i) h).0 in

@@ -4,7 +4,7 @@ use Rattle.std.specs.Prelude.{Option, None, Some, is_some, nat_le, nat_lt, ◌==
 use Rattle.std.specs.Option.{option_map_or}
 use Rattle.vme_trace.specs.Instants.{any, least, greatest}
 use Rattle.vme_trace.specs.Trace.{Trace}
-use Rattle.vme_trace.specs.Judged.{Span, is_judged}
+use Rattle.vme_trace.specs.Judged.{Stretch, is_judged}
 use Rattle.vme_trace.specs.Transfers.{strobes_high, answer_falls, transfer_starts, lasts, is_answered, answers, in_transfer}
 use Rattle.vme_trace.proofs.Ranges.{IsLeast, least-is, least-none, any-holds, any-fails, fails-any, least-found, least-none-any, clash}
 use Rattle.vme_trace.proofs.OpenTransfers.{bool_cases, in_transfer-is}
@@ -37,7 +37,7 @@ firsts q i n = by_least (least q i n) refl
         least-is (λ k. q k && not (any q i k)) i n r found.first found.below (both _ _ found.holds (rw found.least refl))
         (fails-any (λ k. q k && not (any q i k)) i r (λ k a b. first_false _ _ (any-fails q i r k found.least a b))) ∙ sym e
 
-module _ (t : Trace) (span : Span) where
+module _ (t : Trace) (span : Stretch) where
   -- what it is to last
   pub record Lasts (i j : ℕ) : Type 0 where
     pub order : i ≤ j

@@ -4,7 +4,7 @@ use Rattle.std.specs.Prelude.{Option, None, Some, is_some, unwrap_or, nat_le}
 use Rattle.vme_trace.specs.Instants.{any, none, least, greatest}
 use Rattle.vme_trace.specs.Cycle.{is_needed}
 use Rattle.vme_trace.specs.Cycles.{cycle_starts, cycle_runs}
-use Rattle.vme_trace.specs.Judged.{Span}
+use Rattle.vme_trace.specs.Judged.{Stretch}
 use Rattle.vme_trace.specs.LineNumbers.{AS}
 use Rattle.vme_trace.specs.Signals.{rises}
 use Rattle.vme_trace.specs.Trace.{Trace, levels_at}
@@ -57,7 +57,7 @@ module _ (p q : ℕ → Bool) (f n : ℕ) where
   pub any-neither : least p f n ≡ None → any (λ k. p k && q k) f n ≡ false
   any-neither e = sym (any-first (λ k. p k && q k) f n) ∙ ap is_some (least-neither p q f n e)
 
-module _ (t : Trace) (span : Span) (j l : ℕ) where
+module _ (t : Trace) (span : Stretch) (j l : ℕ) where
   last_three : (a b c d : Bool) → (a && b && c && d) ≡ (a && (c && d) && b)
   last_three true true true d = sym (true_last d)
     where

@@ -4,7 +4,7 @@ use Rattle.std.specs.Prelude.{Option, Some, ◌==◌, nat_le}
 use Rattle.std.proofs.lemmas.Bool.Decides.{nat_tests}
 use Rattle.vme_trace.specs.Changes.{is_changed}
 use Rattle.vme_trace.specs.Instants.{any, least}
-use Rattle.vme_trace.specs.Judged.{Span}
+use Rattle.vme_trace.specs.Judged.{Stretch}
 use Rattle.vme_trace.specs.Levels.{Levels, level_at, same_level}
 use Rattle.vme_trace.specs.LineNumbers.{line_count, has_line}
 use Rattle.vme_trace.specs.Rules.{breaks}
@@ -80,7 +80,7 @@ module _ (p : ℕ → Bool) (v : Levels) (few : v.slots ≤ 21) where
       (fails-any p 0 c.line (λ l a b. kept l (before_kept c.line l b below) (rw (unlike c.line l b, below_changes v (c.line + 1) l cs q.2 (one_more c.line l b)) refl)))
       (λ e. first-least (c.line + 1) cs q.2 (kept_too c cs kept e))
 
-pub edge-least : (t : Trace) (span : Span) (j : ℕ) (r : Rule) (cs : List Change) → asks_for_edge r ≡ true → t.opening.slots ≤ 21 → levels_at t j ≡ changed (levels_at t (j - 1)) cs → are_changes (levels_at t (j - 1)) 0 cs ≡ true → first_changed (breaks t span r j) cs ≡ least (breaks t span r j) 0 line_count
+pub edge-least : (t : Trace) (span : Stretch) (j : ℕ) (r : Rule) (cs : List Change) → asks_for_edge r ≡ true → t.opening.slots ≤ 21 → levels_at t j ≡ changed (levels_at t (j - 1)) cs → are_changes (levels_at t (j - 1)) 0 cs ≡ true → first_changed (breaks t span r j) cs ≡ least (breaks t span r j) 0 line_count
 edge-least t span j r cs edge few made sound =
     first-least (breaks t span r j) (levels_at t (j - 1)) (rw (slots_at t (j - 1)) few) 0 cs sound
     (λ l below h. breaks-still t span j l below (ap (λ (v : Levels). level_at v l) made ∙ level-kept (levels_at t (j - 1)) cs l h) r edge)

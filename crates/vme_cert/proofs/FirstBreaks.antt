@@ -4,7 +4,7 @@ use Rattle.std.specs.Prelude.{Option, None, Some, is_some, IfSome}
 use Rattle.vme_trace.specs.Instants.{least}
 use Rattle.vme_trace.specs.LineNumbers.{line_count}
 use Rattle.vme_trace.specs.Trace.{Trace, time_at}
-use Rattle.vme_trace.specs.Judged.{Span}
+use Rattle.vme_trace.specs.Judged.{Stretch}
 use Rattle.vme_trace.specs.Rules.{breaks}
 use Rattle.vme_trace.specs.Verdict.{rule_break, break_at, break_before}
 use Rattle.vme_trace.specs.declared.rule.Rule.{Rule}
@@ -12,7 +12,7 @@ use Rattle.vme_trace.specs.declared.verdict.Break.{Break}
 use Rattle.vme_trace.proofs.SpanEnds.{break_before-stays}
 use Rattle.vme_cert.specs.Spans.{end_in}
 
-module _ (t : Trace) (span : Span) where
+module _ (t : Trace) (span : Stretch) where
   pub break_at-here : (r : Rule) (rs : List Rule) (j l : ℕ) → least (breaks t span r j) 0 line_count ≡ Some l → break_at t span (r ∷ rs) j ≡ Some (record { instant = j; time = time_at t j; rule = r; line = l })
   unfolding break_at rule_break
   break_at-here r rs j l e = rw e refl
@@ -47,10 +47,10 @@ module _ (t : Trace) (span : Span) where
   none-more rules (Some b) j none e some = absurd (cc)
 
 -- where the recording, the stretch and the instant go by other names
-pub same-break : (t u : Trace) (span other : Span) (rules : List Rule) (i j : ℕ) (o : Option Break) → u ≡ t → other ≡ span → i ≡ j → o ≡ break_at u other rules i → o ≡ break_at t span rules j
-same-break t u span other rules i j o e f g h = h ∙ (ap (λ (v : Trace). break_at v other rules i) e ∙ (ap (λ (s : Span). break_at t s rules i) f ∙ ap (break_at t span rules) g))
+pub same-break : (t u : Trace) (span other : Stretch) (rules : List Rule) (i j : ℕ) (o : Option Break) → u ≡ t → other ≡ span → i ≡ j → o ≡ break_at u other rules i → o ≡ break_at t span rules j
+same-break t u span other rules i j o e f g h = h ∙ (ap (λ (v : Trace). break_at v other rules i) e ∙ (ap (λ (s : Stretch). break_at t s rules i) f ∙ ap (break_at t span rules) g))
 
 -- the rows of a span end at the instant of its break
-pub ends-at : (span : Span) (o : Option Break) (j : ℕ) → IfSome o (λ b. b.instant ≡ j) → is_some o ≡ true → end_in span o ≤ j
+pub ends-at : (span : Stretch) (o : Option Break) (j : ℕ) → IfSome o (λ b. b.instant ≡ j) → is_some o ≡ true → end_in span o ≤ j
 ends-at span None j at some = absurd (cc)
 ends-at span (Some b) j at some = omega arith

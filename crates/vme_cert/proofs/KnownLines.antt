@@ -3,7 +3,7 @@ use Rattle.std.proofs.Common.{◌≡◌, ℕ, ◌+◌, ◌-◌, ◌<◌, ◌≤�
 use Rattle.std.specs.Prelude.{None, nat_le, nat_lt}
 use Rattle.std.proofs.lemmas.Bool.Decides.{nat_tests}
 use Rattle.vme_trace.specs.Instants.{every, least}
-use Rattle.vme_trace.specs.Judged.{Span}
+use Rattle.vme_trace.specs.Judged.{Stretch}
 use Rattle.vme_trace.specs.Levels.{is_known_on}
 use Rattle.vme_trace.specs.LineNumbers.{line_count}
 use Rattle.vme_trace.specs.Rules.{breaks}
@@ -27,7 +27,7 @@ unknown : (b : Bool) → not b ≡ true → b ≡ false
 unknown true h = absurd (cc)
 unknown false h = refl
 
-module _ (t : Trace) (span : Span) (j : ℕ) (r : Rule) (edge : asks_for_edge r ≡ false) (other : r ≡ H1 → ⊥) where
+module _ (t : Trace) (span : Stretch) (j : ℕ) (r : Rule) (edge : asks_for_edge r ≡ false) (other : r ≡ H1 → ⊥) where
   unknown-shown : (q : Rule) → r ≡ q → (l : ℕ) → shows t q l j ≡ true → is_known_on (levels_at t j) l ≡ false
   unfolding known
   unknown-shown U1 e l h = unknown _ h

@@ -4,7 +4,7 @@ use Rattle.std.proofs.lemmas.List.{map-append}
 use Rattle.vme_trace.specs.Instants.{those}
 use Rattle.vme_trace.specs.Trace.{Trace, levels_at, last_instant}
 use Rattle.vme_trace.specs.Levels.{Levels}
-use Rattle.vme_trace.specs.Judged.{Span}
+use Rattle.vme_trace.specs.Judged.{Stretch}
 use Rattle.vme_trace.specs.Transfers.{is_answer}
 use Rattle.vme_trace.specs.Cycle.{Needs, class_of, needs_of}
 use Rattle.vme_trace.specs.Cycles.{cycle_starts}
@@ -38,13 +38,13 @@ noted-index t old mid new n index at within kept with_cycles lists same_span sam
     let so_far = index.answered in
     record {
       is = record {
-        started = omega (arith, index.started, answered, ap (λ (s : Span). s.start) span);
+        started = omega (arith, index.started, answered, ap (λ (s : Stretch). s.start) span);
         noted = omega arith;
         answered = omega arith;
-        lists = λ event. lists event (ap (λ ls. list_of ls event) kept ∙ (index.lists event ∙ (ap (λ (s : Span). those (noted_of t s event) 0 old.noted) (sym with_cycles.span) ∙ ap (those (noted_of t mid.span event) 0) at))) ∙ (ap (λ (s : Span). those (noted_of t s event) 0 (n + 1)) (sym same_span) ∙ ap (those (noted_of t new.span event) 0) next);
-        cycles = ap (λ v. v.items) same_cycles ∙ (with_cycles.cycles ∙ (ap (λ (s : Span). map (cycle_at t) (those (since s.start (cycle_starts t s)) 0 (n + 1))) (sym span) ∙ ap (λ m. map (cycle_at t) (those (since new.span.start (cycle_starts t new.span)) 0 m)) next));
-        answers = same_answers ∙ (with_cycles.answers ∙ (index.answers ∙ (ap (λ (s : Span). those (is_answer t s) 0 old.answered) (sym span) ∙ ap (λ m. those (is_answer t new.span) 0 m) (sym answered))));
-        acknowledges = same_acknowledges ∙ (with_cycles.acknowledges ∙ (index.acknowledges ∙ (ap (λ (s : Span). those (is_acknowledged t s) 0 old.answered) (sym span) ∙ ap (λ m. those (is_acknowledged t new.span) 0 m) (sym answered))));
+        lists = λ event. lists event (ap (λ ls. list_of ls event) kept ∙ (index.lists event ∙ (ap (λ (s : Stretch). those (noted_of t s event) 0 old.noted) (sym with_cycles.span) ∙ ap (those (noted_of t mid.span event) 0) at))) ∙ (ap (λ (s : Stretch). those (noted_of t s event) 0 (n + 1)) (sym same_span) ∙ ap (those (noted_of t new.span event) 0) next);
+        cycles = ap (λ v. v.items) same_cycles ∙ (with_cycles.cycles ∙ (ap (λ (s : Stretch). map (cycle_at t) (those (since s.start (cycle_starts t s)) 0 (n + 1))) (sym span) ∙ ap (λ m. map (cycle_at t) (those (since new.span.start (cycle_starts t new.span)) 0 m)) next));
+        answers = same_answers ∙ (with_cycles.answers ∙ (index.answers ∙ (ap (λ (s : Stretch). those (is_answer t s) 0 old.answered) (sym span) ∙ ap (λ m. those (is_answer t new.span) 0 m) (sym answered))));
+        acknowledges = same_acknowledges ∙ (with_cycles.acknowledges ∙ (index.acknowledges ∙ (ap (λ (s : Stretch). those (is_acknowledged t s) 0 old.answered) (sym span) ∙ ap (λ m. those (is_acknowledged t new.span) 0 m) (sym answered))));
       };
       span_is = span;
       noted = omega arith;

@@ -6,7 +6,7 @@ use Rattle.std.proofs.lemmas.List.{append-nil}
 use Rattle.vme_trace.specs.Instants.{any, those}
 use Rattle.vme_trace.specs.LineNumbers.{line_count}
 use Rattle.vme_trace.specs.Trace.{Trace}
-use Rattle.vme_trace.specs.Judged.{Span, is_judged}
+use Rattle.vme_trace.specs.Judged.{Stretch, is_judged}
 use Rattle.vme_trace.specs.Transfers.{in_transfer, is_answer, transfer_starts}
 use Rattle.vme_trace.specs.Cycles.{cycle_starts}
 use Rattle.vme_trace.specs.Tenures.{tenure_starts}
@@ -23,10 +23,10 @@ use Rattle.vme_cert.proofs.Those.{those-none}
 use Rattle.vme_cert.proofs.Truth.{first_fails}
 use Rattle.vme_cert.proofs.Watched.{breaks-unstarted}
 
-before_start : (span : Span) (i : ℕ) → i ≤ span.start → is_judged span i ≡ false
+before_start : (span : Stretch) (i : ℕ) → i ≤ span.start → is_judged span i ≡ false
 before_start span i h = grind (arith, nat_tests)
 
-past_end : (span : Span) (i : ℕ) → span.end < i → is_judged span i ≡ false
+past_end : (span : Stretch) (i : ℕ) → span.end < i → is_judged span i ≡ false
 past_end span i h = grind (arith, nat_tests)
 
 other : (i j : ℕ) → (i < j) ⊎ (j < i) → (i == j) ≡ false
@@ -43,7 +43,7 @@ none_of false false true d h = absurd (cc)
 none_of false false false true h = absurd (cc)
 none_of false false false false h = (refl, refl, refl, refl)
 
-module _ (t : Trace) (span : Span) where
+module _ (t : Trace) (span : Stretch) where
   unanswered : (r : ℕ) → r ≤ span.start → is_answer t span r ≡ false
   unfolding is_answer in_transfer
   unanswered r h = any-start _ (span.start + 1) (r + 1) (omega arith)

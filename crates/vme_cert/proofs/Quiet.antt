@@ -3,7 +3,7 @@ use Rattle.std.proofs.Common.{◌≡◌, ℕ, ◌+◌, ◌-◌, ◌<◌, ◌≤�
 use Rattle.std.specs.Prelude.{Option, None, Some, nat_le, nat_lt}
 use Rattle.std.proofs.lemmas.Bool.Decides.{nat_tests}
 use Rattle.vme_trace.specs.Instants.{least}
-use Rattle.vme_trace.specs.Judged.{Span}
+use Rattle.vme_trace.specs.Judged.{Stretch}
 use Rattle.vme_trace.specs.Levels.{Levels, level_at, same_level}
 use Rattle.vme_trace.specs.LineNumbers.{line_count, has_line}
 use Rattle.vme_trace.specs.Rules.{breaks, all_rules}
@@ -24,13 +24,13 @@ beyond : (k l : ℕ) → k ≤ l → nat_lt l k ≡ false
 beyond k l h = grind (arith, nat_tests)
 
 -- nor on a line of data where no write holds them
-pub data-kept : (t : Trace) (span : Span) (j l : ℕ) → l < line_count → 159 ≤ l → is_held_write t span j ≡ false → is_edge_broken t span j l ≡ false
+pub data-kept : (t : Trace) (span : Stretch) (j l : ℕ) → l < line_count → 159 ≤ l → is_held_write t span j ≡ false → is_edge_broken t span j l ≡ false
 data-kept t span j l below from h =
     let only : is_edge_broken t span j l ≡ breaks t span S3 j l =
     rw (beyond 1 l (omega arith), beyond 3 l (omega arith), beyond 5 l (omega arith), beyond 45 l (omega arith), beyond 50 l (omega arith), beyond 138 l (omega arith), beyond 159 l from) refl in
     only ∙ breaks-unheld t span j l below h
 
-edge-kept : (t : Trace) (span : Span) (j l : ℕ) → l < line_count → is_edge_broken t span j l ≡ false → (r : Rule) → asks_for_edge r ≡ true → breaks t span r j l ≡ false
+edge-kept : (t : Trace) (span : Stretch) (j l : ℕ) → l < line_count → is_edge_broken t span j l ≡ false → (r : Rule) → asks_for_edge r ≡ true → breaks t span r j l ≡ false
 edge-kept t span j l below kept r e = by_test (speaks_of r l) refl
   where
     by_test : (b : Bool) → speaks_of r l ≡ b → breaks t span r j l ≡ false
@@ -53,7 +53,7 @@ abbrev ask_for_edges : List Rule → Bool
 ask_for_edges [] = true
 ask_for_edges (r ∷ rs) = asks_for_edge r && ask_for_edges rs
 
-module _ (t : Trace) (span : Span) (j : ℕ) where
+module _ (t : Trace) (span : Stretch) (j : ℕ) where
   none-of : (rs : List Rule) → ask_for_edges rs ≡ true → ((r : Rule) → asks_for_edge r ≡ true → least (breaks t span r j) 0 line_count ≡ None) → break_at t span rs j ≡ None
   none-of [] edges kept = break_at-empty t span j
   none-of (r ∷ rs) edges kept =

@@ -8,7 +8,7 @@ use Rattle.vme_trace.specs.Instants.{any}
 use Rattle.vme_trace.specs.LineNumbers.{line_count, has_line, is_control}
 use Rattle.vme_trace.specs.Levels.{is_lost, is_known_on, loses_control}
 use Rattle.vme_trace.specs.Trace.{Trace, levels_at, last_instant}
-use Rattle.vme_trace.specs.Judged.{Span, IsSpanOf, is_idle_at, is_reset_at, loses_control_at, judged_spans, span_from, span_end}
+use Rattle.vme_trace.specs.Judged.{Stretch, IsSpanOf, is_idle_at, is_reset_at, loses_control_at, judged_spans, span_from, span_end}
 use Rattle.vme_trace.specs.Rules.{breaks, is_broken, all_rules}
 use Rattle.vme_trace.specs.Verdict.{least_break, least_of}
 use Rattle.vme_trace.specs.declared.rule.Rule.TheVariants.{U1}
@@ -18,8 +18,8 @@ use Rattle.vme_trace.proofs.OpenTransfers.{bool_cases}
 use Rattle.vme_trace.proofs.Ranges.{any-least, clash, least-found}
 use Rattle.vme_trace.proofs.SpanEnds.{slots_at}
 use Rattle.vme_listing.specs.Recorded.{rows_before, rows_of_span, listed_end, listing_before, listing_by, listing_of_spans, outcome_of, recorded_rows}
-use Rattle.vme_listing.specs.declared.row.Outcome.{Outcome}
-use Rattle.vme_listing.specs.declared.row.Outcome.TheVariants.{Conforming, NeverIdle}
+use Rattle.vme_listing.specs.declared.row.ListedVerdict.{ListedVerdict}
+use Rattle.vme_listing.specs.declared.row.ListedVerdict.TheVariants.{Conforming, NeverIdle}
 use Rattle.vme_listing.specs.declared.row.Row.{Row}
 use Rattle.vme_listing.specs.declared.row.Row.TheVariants.{Start, Verdict}
 use Rattle.vme_listing.proofs.FoundBreaks.{least_break-judged, unbroken_always}
@@ -29,49 +29,49 @@ use Rattle.vme_cert.proofs.Truth.{and_true, eq_holds, le_holds, lt_fails, lt_hol
 
 module _ (t : Trace) where
   -- the rows of a stretch up to an end
-  abbrev pub rows_to : Span → ℕ → List Row
+  abbrev pub rows_to : Stretch → ℕ → List Row
   rows_to span end = Start span.start ∷ rows_before t span end end
 
   -- the rows from a stretch on, where this is its least break
-  abbrev pub rows_by : Span → Option Break → List Row → List Row
+  abbrev pub rows_by : Stretch → Option Break → List Row → List Row
   rows_by span None later = rows_to span span.end ++ (reset_at t span.end ++ later)
   rows_by span (Some b) later = rows_to span b.instant ++ Verdict (outcome_of (Some b)) ∷ []
 
   -- the rows of stretches that follow one another, or else the verdict
-  abbrev pub rows_from : Outcome → List Span → List Row
+  abbrev pub rows_from : ListedVerdict → List Stretch → List Row
   rows_from outcome [] = Verdict outcome ∷ []
   rows_from outcome (span ∷ spans) = rows_by span (least_break t span all_rules) (rows_from Conforming spans)
 
   -- a stretch is listed whole, up to an instant, or not at all
-  whole : (span : Span) (limit : ℕ) → span.start < span.end → span.end ≤ limit → nat_lt span.end limit ≡ nat_lt span.end (last_instant t + 1) → rows_of_span t limit span ≡ rows_to span span.end ++ reset_at t span.end
+  whole : (span : Stretch) (limit : ℕ) → span.start < span.end → span.end ≤ limit → nat_lt span.end limit ≡ nat_lt span.end (last_instant t + 1) → rows_of_span t limit span ≡ rows_to span span.end ++ reset_at t span.end
   unfolding rows_of_span
   whole span limit order within same = rw (lt_holds span.start limit (omega arith), min-eq_left within, same) refl
 
-  cut : (span : Span) (limit : ℕ) → span.start < limit → limit ≤ span.end → rows_of_span t limit span ≡ rows_to span limit
+  cut : (span : Stretch) (limit : ℕ) → span.start < limit → limit ≤ span.end → rows_of_span t limit span ≡ rows_to span limit
   unfolding rows_of_span
   cut span limit order within =
       rw (lt_holds span.start limit order, min-eq_right within, second_fails (is_reset_at t span.end) (nat_lt span.end limit) (lt_fails span.end limit within))
       (append-nil (rows_to span limit))
 
-  past : (span : Span) (limit : ℕ) → limit ≤ span.start → rows_of_span t limit span ≡ []
+  past : (span : Stretch) (limit : ℕ) → limit ≤ span.start → rows_of_span t limit span ≡ []
   unfolding rows_of_span
   past span limit h = rw (lt_fails span.start limit h) refl
 
-  is_first : (span : Span) (spans : List Span) → AreInOrder t (span ∷ spans) → IsSpanOf t span
+  is_first : (span : Stretch) (spans : List Stretch) → AreInOrder t (span ∷ spans) → IsSpanOf t span
   is_first span [] order = order
   is_first span (next ∷ spans) order = order.0
 
-  past_all : (span : Span) (spans : List Span) (limit : ℕ) → AreInOrder t (span ∷ spans) → limit ≤ span.end → flat_map (rows_of_span t limit) spans ≡ []
+  past_all : (span : Stretch) (spans : List Stretch) (limit : ℕ) → AreInOrder t (span ∷ spans) → limit ≤ span.end → flat_map (rows_of_span t limit) spans ≡ []
   past_all span [] limit order h = refl
   past_all span (next ∷ spans) limit order h =
       ap (λ (rows : List Row). rows ++ flat_map (rows_of_span t limit) spans) (past next limit (omega (arith, h, order.2)))
       ∙ past_all next spans limit order.3 (omega (arith, h, order.2, starts_before_end t next (is_first next spans order.3)))
 
   -- the least break of some stretches comes after the start of the first
-  broken_later : (span : Span) (b : Break) → IsSpanOf t span → least_break t span all_rules ≡ Some b → (span.start < b.instant) × (b.instant ≤ span.end)
+  broken_later : (span : Stretch) (b : Break) → IsSpanOf t span → least_break t span all_rules ≡ Some b → (span.start < b.instant) × (b.instant ≤ span.end)
   broken_later span b is e = least_break-judged t span all_rules b (starts_before_end t span is) e
 
-  ends_later : (span : Span) (spans : List Span) → AreInOrder t (span ∷ spans) → span.start < listed_end t (least_of all_rules t (span ∷ spans))
+  ends_later : (span : Stretch) (spans : List Stretch) → AreInOrder t (span ∷ spans) → span.start < listed_end t (least_of all_rules t (span ∷ spans))
   ends_later span [] is = by_break (least_break t span all_rules) refl
     where
       by_break : (o : Option Break) → least_break t span all_rules ≡ o → span.start < listed_end t o
@@ -83,7 +83,7 @@ module _ (t : Trace) where
       by_break None e later = omega (arith, later, order.2, starts_before_end t span order.0)
       by_break (Some b) e later = (broken_later span b order.0 e).0
 
-  listed_alone : (span : Span) → IsSpanOf t span → listing_before t (span ∷ []) (least_break t span all_rules) ≡ rows_by span (least_break t span all_rules) (Verdict Conforming ∷ [])
+  listed_alone : (span : Stretch) → IsSpanOf t span → listing_before t (span ∷ []) (least_break t span all_rules) ≡ rows_by span (least_break t span all_rules) (Verdict Conforming ∷ [])
   listed_alone span is = by_break (least_break t span all_rules) refl
     where
       by_break : (o : Option Break) → least_break t span all_rules ≡ o → listing_before t (span ∷ []) o ≡ rows_by span o (Verdict Conforming ∷ [])
@@ -94,7 +94,7 @@ module _ (t : Trace) where
           let there = broken_later span b is e in
           rw (append-nil (rows_of_span t b.instant span), cut span b.instant there.0 there.1) refl
 
-  listed : (outcome : Outcome) (span : Span) (spans : List Span) → AreInOrder t (span ∷ spans) → listing_before t (span ∷ spans) (least_of all_rules t (span ∷ spans)) ≡ rows_from outcome (span ∷ spans)
+  listed : (outcome : ListedVerdict) (span : Stretch) (spans : List Stretch) → AreInOrder t (span ∷ spans) → listing_before t (span ∷ spans) (least_of all_rules t (span ∷ spans)) ≡ rows_from outcome (span ∷ spans)
   listed outcome span [] is = listed_alone span is
   listed outcome span (next ∷ spans) order = by_break (least_break t span all_rules) refl (listed Conforming next spans order.3)
     where
@@ -122,12 +122,12 @@ module _ (t : Trace) where
   unfolding listing_by
   recorded-from = by_spans (judged_spans t) (spans_in_order t)
     where
-      by_spans : (spans : List Span) → AreInOrder t spans → listing_of_spans all_rules t spans ≡ rows_from NeverIdle spans
+      by_spans : (spans : List Stretch) → AreInOrder t spans → listing_of_spans all_rules t spans ≡ rows_from NeverIdle spans
       by_spans [] order = refl
       by_spans (span ∷ spans) order = listed NeverIdle span spans order
 
   -- from an instant on these are the stretches: the next idle instant, if there is one, starts the first
-  pub record Follow (n : ℕ) (spans : List Span) : Type 0 where
+  pub record Follow (n : ℕ) (spans : List Stretch) : Type 0 where
     pub none : any (is_idle_at t) n (last_instant t + 1) ≡ false → spans ≡ []
     pub next : (i : ℕ) → n ≤ i → i ≤ last_instant t → is_idle_at t i ≡ true → any (is_idle_at t) n i ≡ false
         → IsSpanOf t (span_from t i) × (spans ≡ span_from t i ∷ spans_after t (span_end t i + 1))
@@ -139,7 +139,7 @@ module _ (t : Trace) where
   }
 
   -- where one doesn't end by a loss, the next ones follow its end
-  pub follow-later : (span : Span) → IsSpanOf t span → (span.end ≤ last_instant t → is_reset_at t span.end ≡ true) → Follow span.end (spans_after t (span.end + 1))
+  pub follow-later : (span : Stretch) → IsSpanOf t span → (span.end ≤ last_instant t → is_reset_at t span.end ≡ true) → Follow span.end (spans_after t (span.end + 1))
   follow-later span is resets = record {
     none = λ h. elim (within_or_past span.end (last_instant t)) [
       | inl within ↦ spans_none t (span.end + 1) (awaited within) (none-later (is_idle_at t) span.end (span.end + 1) (last_instant t + 1) (omega arith) h)
@@ -163,7 +163,7 @@ module _ (t : Trace) where
       awaited within = let next : suc span.end ≡ span.end + 1 = omega arith in subst (Awaits t) next (span_reset t span is (resets within))
 
   -- a lost line breaks U1 at the end of the stretch, so one without a break doesn't end by a loss
-  lost_breaks : (span : Span) (l : ℕ) → span.end ≤ last_instant t → is_lost (levels_at t span.end) l ≡ true → breaks t span U1 span.end l ≡ true
+  lost_breaks : (span : Stretch) (l : ℕ) → span.end ≤ last_instant t → is_lost (levels_at t span.end) l ≡ true → breaks t span U1 span.end l ≡ true
   unfolding breaks is_broken
   lost_breaks span l within h =
       let v = levels_at t span.end in
@@ -171,7 +171,7 @@ module _ (t : Trace) where
       let has : has_line t.opening.slots l ≡ true = ap (λ slots. has_line slots l) (sym (slots_at t span.end)) ∙ (and_true (has_line v.slots l) _ control).0 in
       rw (has, eq_holds span.end span.end refl, le_holds span.end (last_instant t) within, h) refl
 
-  pub unbroken-resets : (span : Span) → IsSpanOf t span → least_break t span all_rules ≡ None → span.end ≤ last_instant t → is_reset_at t span.end ≡ true
+  pub unbroken-resets : (span : Stretch) → IsSpanOf t span → least_break t span all_rules ≡ None → span.end ≤ last_instant t → is_reset_at t span.end ≡ true
   unfolding loses_control_at loses_control
   unbroken-resets span is none within = by_reset (bool_cases (is_reset_at t span.end))
     where

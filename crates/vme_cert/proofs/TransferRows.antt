@@ -3,13 +3,13 @@ use Rattle.std.proofs.Common.{◌≡◌, ℕ, ◌+◌, true, refl, [], ◌∷◌
 use Rattle.std.specs.Prelude.{None, Some}
 use Rattle.vme_trace.specs.Instants.{least}
 use Rattle.vme_trace.specs.Trace.{Trace}
-use Rattle.vme_trace.specs.Judged.{Span}
+use Rattle.vme_trace.specs.Judged.{Stretch}
 use Rattle.vme_trace.specs.Cycles.{cycle_of}
 use Rattle.vme_trace.specs.Transfers.{transfer_starts, answers, strobes_high}
 use Rattle.vme_listing.specs.Recorded.{transfer_rows, direction_of, answer_line, data_of}
 use Rattle.vme_listing.specs.declared.row.Row.TheVariants.{PendingTransfer, Transfer}
 
-module _ (t : Trace) (span : Span) (end i : ℕ) (starts : transfer_starts t span i ≡ true) where
+module _ (t : Trace) (span : Stretch) (end i : ℕ) (starts : transfer_starts t span i ≡ true) where
   pub row-unanswered : least (answers t span i) i end ≡ None → PendingTransfer i (direction_of t span end i) ∷ [] ≡ transfer_rows t span end i
   unfolding transfer_rows
   row-unanswered none = rw (starts, none) refl

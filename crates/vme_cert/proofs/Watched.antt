@@ -11,7 +11,7 @@ use Rattle.vme_trace.specs.Levels.{Levels, level_at, is_low, is_high}
 use Rattle.vme_trace.specs.LineNumbers.{DS0, DS1, LWORD, A, line_count, has_line, is_strobe, is_answer_line, is_grant, is_slot_iack}
 use Rattle.vme_trace.specs.Trace.{Trace, levels_at}
 use Rattle.vme_trace.specs.Signals.{level, known}
-use Rattle.vme_trace.specs.Judged.{Span, is_judged}
+use Rattle.vme_trace.specs.Judged.{Stretch, is_judged}
 use Rattle.vme_trace.specs.Rules.{is_broken, breaks, ends_span}
 use Rattle.vme_trace.specs.declared.rule.Rule.{Rule}
 use Rattle.vme_trace.specs.declared.rule.Rule.TheVariants.{U1, U2, U3, U4, H1, H2, H3, H4, H5, H6, H7, H8, S1, S2, S3, C1, C2, G1, G2, G3, G4, G5, B1, B2, B3, B4, I1, I2, I3, I4, I5}
@@ -161,7 +161,7 @@ module _ (c e s k x : Bool) where
   asked : s ≡ true → e ≡ true → k ≡ true → (c && e && (s && k && x)) ≡ (c && x)
   asked h exists shown = rw (h, exists, shown, on c) refl
 
-module _ (t : Trace) (span : Span) (j l : ℕ) (below : l < line_count) where
+module _ (t : Trace) (span : Stretch) (j l : ℕ) (below : l < line_count) where
   never_held : (nat_le 5 l && nat_lt l 45) ≡ false → is_held t span j l ≡ false
   never_held h = fails-any _ (span.start + 1) j (λ i a b. fails _ _ (not_needed (levels_at t i) l h))
 
@@ -275,7 +275,7 @@ past_end f e l h = grind (arith, nat_tests)
 early_or_not : (l f : ℕ) → (l < f) ⊎ (f ≤ l)
 early_or_not l f = grind arith
 
-module _ (t : Trace) (span : Span) (j : ℕ) (r : Rule) (e : asks_for_edge r ≡ false) where
+module _ (t : Trace) (span : Stretch) (j : ℕ) (r : Rule) (e : asks_for_edge r ≡ false) where
   -- the lines before one are kept, if those of which the rule speaks are
   none-before : (l : ℕ) → l ≤ line_count → ((k : ℕ) → (lines_of r).0 ≤ k → k < l → k < (lines_of r).1 → breaks t span r j k ≡ false) → any (breaks t span r j) 0 l ≡ false
   none-before l within kept =

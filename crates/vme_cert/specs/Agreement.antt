@@ -10,18 +10,18 @@ use Rattle.vme_cert.specs.declared.compare.Answer.{Answer}
 use Rattle.vme_cert.specs.declared.compare.Answer.TheVariants.{Yes, No}
 
 -- the rows before this one, counted from 1, are the same, and this one isn't, or only one of the two lists has it
-pub record DiffersAt (given right : List Row) (row : ℕ) : Type 0 where
+pub record DiffersAt (candidate right : List Row) (row : ℕ) : Type 0 where
   pub first : 1 ≤ row
-  pub before : take (row - 1) given ≡ take (row - 1) right
-  pub here : slice_get given (row - 1) ≡ slice_get right (row - 1) → ⊥
+  pub before : take (row - 1) candidate ≡ take (row - 1) right
+  pub here : slice_get candidate (row - 1) ≡ slice_get right (row - 1) → ⊥
 
 -- the given rows are the right ones, or this is the first that differs
-abbrev pub Settles : List Row → List Row → Answer → Type 0
-Settles given right Yes = given ≡ right
-Settles given right (No row) = DiffersAt given right row
+abbrev pub DecidesListing : List Row → List Row → Answer → Type 0
+DecidesListing candidate right Yes = candidate ≡ right
+DecidesListing candidate right (No row) = DiffersAt candidate right row
 
 -- the text is that of a listing, and this is the answer to its rows, where the right ones are those of a recording
-abbrev pub SettlesText : List ℕ → Trace → Answer → Type 0
-SettlesText text t answer =
-    (given : Listed) × (is_well_placed given ≡ true) × (text_of given ≡ text)
-    × Settles given.rows (rows_in given.version (recorded_rows t)) answer
+abbrev pub DecidesText : List ℕ → Trace → Answer → Type 0
+DecidesText text t answer =
+    (candidate : Listed) × (is_well_placed candidate ≡ true) × (text_of candidate ≡ text)
+    × DecidesListing candidate.rows (rows_in candidate.version (recorded_rows t)) answer

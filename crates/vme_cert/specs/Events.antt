@@ -4,19 +4,19 @@ use Rattle.std.specs.Prelude.{nat_le}
 use Rattle.vme_trace.specs.Instants.{those}
 use Rattle.vme_trace.specs.LineNumbers.{AS, DTACK, BERR, WRITE, BBSY, BR}
 use Rattle.vme_trace.specs.Trace.{Trace, levels_at, last_instant}
-use Rattle.vme_trace.specs.Judged.{Span}
+use Rattle.vme_trace.specs.Judged.{Stretch}
 use Rattle.vme_trace.specs.Signals.{low, falls, rises}
 use Rattle.vme_trace.specs.Transfers.{strobes_high, strobe_rises, answer_falls, transfer_starts, is_answer}
 use Rattle.vme_trace.specs.Cycle.{Needs, class_of, needs_of}
 use Rattle.vme_trace.specs.Cycles.{cycle_starts}
 use Rattle.vme_trace.specs.Tenures.{grant_falls, tenure_starts}
 use Rattle.vme_trace.specs.declared.class.Class.{Class}
-use Rattle.vme_cert.specs.declared.index.Event.{Event}
-use Rattle.vme_cert.specs.declared.index.Event.TheVariants as event
+use Rattle.vme_cert.specs.declared.index.BusEvent.{BusEvent}
+use Rattle.vme_cert.specs.declared.index.BusEvent.TheVariants as event
 use Rattle.vme_cert.specs.declared.index.EventLists.{EventLists}
 use Rattle.vme_cert.specs.declared.index.Index.{Index}
 
-abbrev pub list_of : EventLists → Event → List ℕ
+abbrev pub list_of : EventLists → BusEvent → List ℕ
 list_of lists event.RowStart = lists.row_starts
 list_of lists event.CycleStart = lists.cycle_starts
 list_of lists event.AddressRise = lists.address_rises
@@ -43,13 +43,13 @@ OfWhatHappens instants end claim = (p : ℕ → Bool) (n : ℕ) → instants ≡
 abbrev pub since : ℕ → (ℕ → Bool) → ℕ → Bool
 since first p i = nat_le first i && p i
 
-module _ (t : Trace) (span : Span) where
+module _ (t : Trace) (span : Stretch) where
   -- rows may start: those of the span, a tenure, a cycle or a transfer
   abbrev pub row_starts : ℕ → Bool
   row_starts i = (i == span.start) || tenure_starts t span i || cycle_starts t span i || transfer_starts t span i
 
   -- when an event happens
-  abbrev pub happens : Event → ℕ → Bool
+  abbrev pub happens : BusEvent → ℕ → Bool
   happens event.RowStart i = row_starts i
   happens event.CycleStart i = cycle_starts t span i
   happens event.AddressRise i = rises t AS i
@@ -69,7 +69,7 @@ module _ (t : Trace) (span : Span) where
   happens event.Request3 i = low t (BR 3) i
 
   -- and what is noted of it
-  abbrev pub noted_of : Event → ℕ → Bool
+  abbrev pub noted_of : BusEvent → ℕ → Bool
   noted_of event = since span.start (happens event)
 
   -- an answer by DTACK*
@@ -82,12 +82,12 @@ cycle_at t i = (class_of (levels_at t i), needs_of (levels_at t i))
 
 -- of no event there is an instant
 abbrev pub AreEmpty : EventLists → Type 0
-AreEmpty lists = (event : Event) → list_of lists event ≡ []
+AreEmpty lists = (event : BusEvent) → list_of lists event ≡ []
 
 -- each list has the instants before n at which its event happens, and the other one those before n + 1
-abbrev pub AreNoted : Trace → Span → ℕ → EventLists → EventLists → Type 0
+abbrev pub AreNoted : Trace → Stretch → ℕ → EventLists → EventLists → Type 0
 AreNoted t span n old new =
-    (event : Event) → list_of old event ≡ those (noted_of t span event) 0 n
+    (event : BusEvent) → list_of old event ≡ those (noted_of t span event) 0 n
     → list_of new event ≡ those (noted_of t span event) 0 (n + 1)
 
 -- each list has the instants, from the start of the span on and so far, at which its event happens, and the cycles and
@@ -96,14 +96,14 @@ pub record IsIndex (t : Trace) (index : Index) : Type 0 where
   pub started : index.span.start ≤ index.answered
   pub noted : index.noted ≤ last_instant t + 1
   pub answered : index.answered ≤ index.noted
-  pub lists : (event : Event) → list_of index.lists event ≡ those (noted_of t index.span event) 0 index.noted
+  pub lists : (event : BusEvent) → list_of index.lists event ≡ those (noted_of t index.span event) 0 index.noted
   pub cycles :
       index.cycles.items ≡ map (cycle_at t) (those (since index.span.start (cycle_starts t index.span)) 0 index.noted)
   pub answers : index.answers ≡ those (is_answer t index.span) 0 index.answered
   pub acknowledges : index.acknowledges ≡ those (is_acknowledged t index.span) 0 index.answered
 
 -- the index of no instants
-pub record IsNew (t : Trace) (span : Span) (index : Index) : Type 0 where
+pub record IsNewIndex (t : Trace) (span : Stretch) (index : Index) : Type 0 where
   pub is : IsIndex t index
   pub span_is : index.span ≡ span
   pub noted : index.noted ≡ span.start

@@ -2,13 +2,13 @@
 use Rattle.std.specs.Prelude.{◌≡◌, true, false, List, length}
 use Rattle.vme_listing.specs.Recorded.{rows_in}
 use Rattle.vme_listing.specs.declared.row.Row.{Row}
-use Rattle.vme_cert.specs.Giving.{AreNext, DepartsWithin}
-use Rattle.vme_cert.specs.declared.given.Given.{Given}
-use Rattle.vme_cert.specs.declared.follower.Follower.{Follower}
+use Rattle.vme_cert.specs.Candidates.{AreNext, DepartsWithin}
+use Rattle.vme_cert.specs.declared.candidate.Candidate.{Candidate}
+use Rattle.vme_cert.specs.declared.listing_matcher.ListingMatcher.{ListingMatcher}
 
 -- in the version of what is given, the right ones so far are given first, or one of them isn't
-pub record Follows (given : Given) (right : List Row) (follower : Follower) : Type 0 where
-  pub agree : follower.differs ≡ false → AreNext given (rows_in follower.version right) follower.given
-  pub count : follower.differs ≡ false → length right ≡ follower.agree
-  pub differ : follower.differs ≡ true → DepartsWithin given (rows_in follower.version right) follower.agree
-      follower.given
+pub record Matches (candidate : Candidate) (right : List Row) (matcher : ListingMatcher) : Type 0 where
+  pub agree : matcher.differs ≡ false → AreNext candidate (rows_in matcher.version right) matcher.candidate
+  pub count : matcher.differs ≡ false → length right ≡ matcher.agree
+  pub differ : matcher.differs ≡ true → DepartsWithin candidate (rows_in matcher.version right) matcher.agree
+      matcher.candidate

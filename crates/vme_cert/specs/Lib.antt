@@ -2,7 +2,7 @@ pub mod Agreement
 pub mod ChangedLines
 pub mod Events
 pub mod Following
-pub mod Giving
+pub mod Candidates
 pub mod Judging
 pub mod Spans
 pub mod Tests

@@ -1,16 +1,16 @@
 -- A span by its bounds, where its rows end, and the row of a reset.
 use Rattle.std.specs.Prelude.{ℕ, ◌+◌, ◌&&◌, List, [], ◌∷◌, Option, None, Some, nat_lt, if◌then◌else◌}
 use Rattle.vme_trace.specs.Trace.{Trace, last_instant}
-use Rattle.vme_trace.specs.Judged.{Span, is_reset_at}
+use Rattle.vme_trace.specs.Judged.{Stretch, is_reset_at}
 use Rattle.vme_trace.specs.declared.verdict.Break.{Break}
 use Rattle.vme_listing.specs.declared.row.Row.{Row}
 use Rattle.vme_listing.specs.declared.row.Row.TheVariants.{Reset}
 
-abbrev pub between : ℕ → ℕ → Span
+abbrev pub between : ℕ → ℕ → Stretch
 between start end = record { start = start; end = end }
 
 -- the first instant of a span that isn't listed: that of its least break, or its end
-abbrev pub end_in : Span → Option Break → ℕ
+abbrev pub end_in : Stretch → Option Break → ℕ
 end_in span None = span.end
 end_in span (Some b) = b.instant
 

@@ -7,7 +7,7 @@ use Rattle.vme_trace.specs.LineNumbers.{AS, DS0, DS1, DTACK, BERR, IACK, WRITE, 
 use Rattle.vme_trace.specs.LineNumbers.{grant_level, grant_place, iack, input_of, is_control, line_count}
 use Rattle.vme_trace.specs.Tenures.{is_granting, grant_falls, tenure_slot, last_before}
 use Rattle.vme_trace.specs.Trace.{Trace, levels_at, last_instant}
-use Rattle.vme_trace.specs.Judged.{Span}
+use Rattle.vme_trace.specs.Judged.{Stretch}
 use Rattle.vme_trace.specs.Levels.{is_reset}
 use Rattle.vme_trace.specs.Cycle.{is_needed}
 use Rattle.vme_trace.specs.Data.{is_selected}
@@ -67,7 +67,7 @@ shows t S2 l j = has_edge t l j
 shows t S3 l j = has_edge t l j
 shows t r l j = falls t l j
 
-module _ (t : Trace) (span : Span) where
+module _ (t : Trace) (span : Stretch) where
   -- an answer at j belongs to a cycle of the class of which the rule speaks, after others than the rule allows
   abbrev pub spoils : Rule → ℕ → Bool
   spoils C1 j = in_cycle t span (λ i. is_single (class_at t span i) && spoils_pair t span (answers_of t span i j) j) j
@@ -142,7 +142,7 @@ asks_for_edge H1 = false
 asks_for_edge r = true
 
 -- what a rule speaks of that asks for no edge is at the instant
-abbrev pub starts : Trace → Span → Rule → ℕ → Bool
+abbrev pub starts : Trace → Stretch → Rule → ℕ → Bool
 starts t span U1 j = j == span.end
 starts t span U2 j = cycle_starts t span j
 starts t span U4 j = strobe_falls t j
@@ -161,5 +161,5 @@ is_any p l =
     else p S3
 
 -- one of those rules is broken on it
-abbrev pub is_edge_broken : Trace → Span → ℕ → ℕ → Bool
+abbrev pub is_edge_broken : Trace → Stretch → ℕ → ℕ → Bool
 is_edge_broken t span j l = is_any (λ r. breaks t span r j l) l

@@ -10,13 +10,13 @@ use vme_trace::{Capture, Change, Level, Line, Lines};
 
 /// A stretch of instants that is judged as one: those after its start and before its end.
 #[derive(Clone, Copy, Debug, PartialEq, Eq)]
-pub(crate) struct Span {
+pub(crate) struct StretchBounds {
     pub(crate) start: u32,
     pub(crate) end: u32,
 }
 
-impl Model for Span {
-    ghost use Rattle.vme_trace.specs.Judged.{Span as Stretch};
+impl Model for StretchBounds {
+    ghost use Rattle.vme_trace.specs.Judged.{Stretch as Stretch};
 
     ghost Value = { Stretch };
 
@@ -25,7 +25,7 @@ impl Model for Span {
     ghost inverse = { λ v. record { start = v.start; end = v.end } };
 }
 
-impl Span {
+impl StretchBounds {
     ghost use Rattle.vme_trace.specs.Judged.{is_judged};
 
     /// Whether the instant is judged.

@@ -3,10 +3,10 @@
 ghost use Rattle.std.specs.Prelude.{◌≡◌, IfOk, IfErr};
 ghost use Rattle.vme_listing.specs.Reading.{IsFirstFault, IsNoListing};
 ghost use Rattle.vme_cert.specs.Words.{recorded_rows, rows_in};
-ghost use Rattle.vme_cert.specs.Agreement.{Settles, SettlesText};
+ghost use Rattle.vme_cert.specs.Agreement.{DecidesListing, DecidesText};
 
-use crate::follower::Follower;
-use crate::given::Given;
+use crate::candidate::Candidate;
+use crate::listing_matcher::ListingMatcher;
 use std::alloc::{AllocError, Global};
 use vme_listing::{ListFault, Listing, ListingText, read_listing};
 use vme_trace::Capture;
@@ -26,19 +26,19 @@ pub enum Answer {
 /// Whether a listing is the one of a capture in its version, by the definitions alone. If not, the first row that
 /// differs. The only error is want of memory.
 pub fn confirm(alloc: Global, capture: &Capture, listing: &Listing) -> Result<Answer, AllocError>
-    ensures { IfOk result (λ answer. Settles listing.now.rows
+    ensures { IfOk result (λ answer. DecidesListing listing.now.rows
         (rows_in listing.now.version (recorded_rows capture.now)) answer) }
 {
-    let mut follower = Follower::new(listing.version(), Given::Rows(listing.rows()));
-    follower.follow_capture(alloc, capture)?;
-    Ok(follower.answer())
+    let mut matcher = ListingMatcher::new(listing.version(), Candidate::Rows(listing.rows()));
+    matcher.follow_capture(alloc, capture)?;
+    Ok(matcher.answer())
 }
 
 /// Whether a text is the one of the listing of a capture in its version. If not, the first row that differs, or the
 /// first fault of the text. The right rows are written as they are found, and compared as bytes: the text is read only
 /// where one of them differs.
 pub fn confirm_text(alloc: Global, capture: &Capture, text: &[u8]) -> Result<Answer, ListFault>
-    ensures answer { IfOk result (λ answer. SettlesText text.now capture.now answer) }
+    ensures answer { IfOk result (λ answer. DecidesText text.now capture.now answer) }
     ensures first { IfErr result (λ fault. IsFirstFault text.now fault) }
     ensures none { IfErr result (λ fault. IsNoListing text.now fault) }
 {
@@ -46,11 +46,11 @@ pub fn confirm_text(alloc: Global, capture: &Capture, text: &[u8]) -> Result<Ans
         return Err(ListFault::BadHeader);
     };
     let (_slots, _steps) = (capture.opening().slots(), capture.steps());
-    let mut follower = Follower::new(behind.version(), Given::Text(behind));
-    let Ok(()) = follower.follow_capture(alloc, capture) else {
+    let mut matcher = ListingMatcher::new(behind.version(), Candidate::Text(behind));
+    let Ok(()) = matcher.follow_capture(alloc, capture) else {
         return Err(ListFault::Memory);
     };
-    match follower.answer() {
+    match matcher.answer() {
         Answer::Yes => Ok(Answer::Yes),
         Answer::No { row } => {
             read_listing(alloc, text)?;

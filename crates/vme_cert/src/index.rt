@@ -6,13 +6,13 @@ ghost use Rattle.vme_cert.specs.Words.{last_instant, cycle_starts, transfer_star
 ghost use Rattle.vme_cert.specs.Words.{strobes_high, answer_falls, grant_falls, is_answer};
 ghost use Rattle.vme_trace.specs.Tenures.{tenure_starts};
 ghost use Rattle.vme_trace.specs.LineNumbers.{BR};
-ghost use Rattle.vme_trace.specs.Judged.{Span as Stretch};
+ghost use Rattle.vme_trace.specs.Judged.{Stretch as Stretch};
 ghost use Rattle.vme_cert.specs.Spans.{between};
 ghost use Rattle.vme_cert.specs.Events.{happens, list_of, noted_of, AreEmpty, OfWhatHappens, AreNoted, IsIndex};
-ghost use Rattle.vme_cert.specs.Events.{IsNew, IsNoted};
+ghost use Rattle.vme_cert.specs.Events.{IsNewIndex, IsNoted};
 ghost use Rattle.vme_cert.specs.Events.{IsAnswerNoted, row_starts};
 
-use crate::bus::{Bus, Span};
+use crate::bus::{Bus, StretchBounds};
 use crate::search::any;
 use std::alloc::{AllocError, Global};
 use std::cell::Cell;
@@ -153,7 +153,7 @@ impl Instants {
 
 /// What may happen at an instant: `happens`, in `specs/Events.antt`, says when it does.
 #[derive(Clone, Copy, Debug, PartialEq, Eq)]
-pub(crate) enum Event {
+pub(crate) enum BusEvent {
     RowStart,
     CycleStart,
     AddressRise,
@@ -173,17 +173,17 @@ pub(crate) enum Event {
     Request3,
 }
 
-impl Event {
+impl BusEvent {
     /// That a level, 0 to 3, is requested.
-    pub(crate) fn request(level: u8) -> Event
+    pub(crate) fn request(level: u8) -> BusEvent
         requires { level < 4 }
         ensures { (t : Trace) (span : Stretch) → happens t span result ≡ low t (BR level) }
     {
         match level {
-            0 => Event::Request0,
-            1 => Event::Request1,
-            2 => Event::Request2,
-            _ => Event::Request3,
+            0 => BusEvent::Request0,
+            1 => BusEvent::Request1,
+            2 => BusEvent::Request2,
+            _ => BusEvent::Request3,
         }
     }
 }
@@ -191,7 +191,7 @@ impl Event {
 impl Bus<'_> {
     /// Whether a cycle starts.
     #[tactic(auto, unfolding(vme_trace::specs::Cycles::cycle_starts))]
-    pub(crate) fn cycle_starts(&self, span: Span) -> bool
+    pub(crate) fn cycle_starts(&self, span: StretchBounds) -> bool
         ensures { result ≡ cycle_starts self.now.capture.now span self.now.instant }
     {
         span.contains(self.instant) && self.falls(Line::AS)
@@ -199,7 +199,7 @@ impl Bus<'_> {
 
     /// Whether a transfer starts.
     #[tactic(auto, unfolding(vme_trace::specs::Transfers::transfer_starts))]
-    pub(crate) fn transfer_starts(&self, span: Span) -> bool
+    pub(crate) fn transfer_starts(&self, span: StretchBounds) -> bool
         ensures { result ≡ transfer_starts self.now.capture.now span self.now.instant }
     {
         span.contains(self.instant)
@@ -209,14 +209,14 @@ impl Bus<'_> {
 
     /// Whether a tenure starts.
     #[tactic(auto, unfolding(vme_trace::specs::Tenures::tenure_starts))]
-    pub(crate) fn tenure_starts(&self, span: Span) -> bool
+    pub(crate) fn tenure_starts(&self, span: StretchBounds) -> bool
         ensures { result ≡ tenure_starts self.now.capture.now span self.now.instant }
     {
         span.contains(self.instant) && self.falls(Line::BBSY)
     }
 
     /// Whether rows may start: those of the stretch, a tenure, a cycle or a transfer.
-    fn row_starts(&self, span: Span) -> bool
+    fn row_starts(&self, span: StretchBounds) -> bool
         ensures { result ≡ row_starts self.now.capture.now span self.now.instant }
     {
         self.instant == span.start
@@ -312,33 +312,33 @@ impl EventLists {
 
     /// Those of one event.
     #[inline(always)]
-    fn get(&self, event: Event) -> &Instants
+    fn get(&self, event: BusEvent) -> &Instants
         ensures { result.now ≡ list_of self.now event }
     {
         match event {
-            Event::RowStart => &self.row_starts,
-            Event::CycleStart => &self.cycle_starts,
-            Event::AddressRise => &self.address_rises,
-            Event::TransferStart => &self.transfer_starts,
-            Event::StrobeRise => &self.strobe_rises,
-            Event::StrobesHigh => &self.strobes_high,
-            Event::WriteStart => &self.write_starts,
-            Event::AnswerFall => &self.answer_falls,
-            Event::AcknowledgeFall => &self.acknowledge_falls,
-            Event::ErrorFall => &self.error_falls,
-            Event::BusyFall => &self.busy_falls,
-            Event::BusyRise => &self.busy_rises,
-            Event::GrantFall => &self.grant_falls,
-            Event::Request0 => &self.requests_0,
-            Event::Request1 => &self.requests_1,
-            Event::Request2 => &self.requests_2,
-            Event::Request3 => &self.requests_3,
+            BusEvent::RowStart => &self.row_starts,
+            BusEvent::CycleStart => &self.cycle_starts,
+            BusEvent::AddressRise => &self.address_rises,
+            BusEvent::TransferStart => &self.transfer_starts,
+            BusEvent::StrobeRise => &self.strobe_rises,
+            BusEvent::StrobesHigh => &self.strobes_high,
+            BusEvent::WriteStart => &self.write_starts,
+            BusEvent::AnswerFall => &self.answer_falls,
+            BusEvent::AcknowledgeFall => &self.acknowledge_falls,
+            BusEvent::ErrorFall => &self.error_falls,
+            BusEvent::BusyFall => &self.busy_falls,
+            BusEvent::BusyRise => &self.busy_rises,
+            BusEvent::GrantFall => &self.grant_falls,
+            BusEvent::Request0 => &self.requests_0,
+            BusEvent::Request1 => &self.requests_1,
+            BusEvent::Request2 => &self.requests_2,
+            BusEvent::Request3 => &self.requests_3,
         }
     }
 
     /// Notes what happens at the next instant. The only error is want of memory.
     #[inline(always)]
-    fn note(&mut self, bus: &Bus, span: Span) -> Result<(), AllocError>
+    fn note(&mut self, bus: &Bus, span: StretchBounds) -> Result<(), AllocError>
         requires { span.start ≤ bus.now.instant }
         ensures { IfOk result (λ _. AreNoted bus.now.capture.now span bus.now.instant self.old self.new) }
     {
@@ -375,7 +375,7 @@ impl EventLists {
 /// are answers, and by DTACK*.
 #[derive(Drop)]
 pub(crate) struct Index {
-    pub(crate) span: Span,
+    pub(crate) span: StretchBounds,
     pub(crate) lists: EventLists,
     pub(crate) cycles: Vec<(Class, LineSet)>,
     pub(crate) answers: Instants,
@@ -388,10 +388,10 @@ pub(crate) struct Index {
 impl Index {
     /// The index of no instants, for a stretch.
     pub(crate) fn new(alloc: Global, start: u32, end: u32) -> Index
-        ensures { (t : Trace) → start ≤ last_instant t → IsNew t (between start end) result }
+        ensures { (t : Trace) → start ≤ last_instant t → IsNewIndex t (between start end) result }
     {
         Index {
-            span: Span { start, end },
+            span: StretchBounds { start, end },
             lists: EventLists::new(alloc),
             cycles: Vec::new(alloc),
             answers: Instants::new(alloc),
@@ -402,7 +402,7 @@ impl Index {
     }
 
     /// The instants of an event.
-    pub(crate) fn list(&self, event: Event) -> &Instants
+    pub(crate) fn list(&self, event: BusEvent) -> &Instants
         ensures { (t : Trace) → IsIndex t self.now
             → result.now ≡ those (noted_of t self.now.span event) 0 self.now.noted }
     {
@@ -416,7 +416,7 @@ impl Index {
         ensures least { (t : Trace) → IsIndex t self.now → result ≡ least (row_starts t self.now.span) first end }
         ensures before { IfSome result (λ found. found < end) }
     {
-        self.list(Event::RowStart).first(first, end)
+        self.list(BusEvent::RowStart).first(first, end)
     }
 
     /// Notes what happens at the next instant. The only error is want of memory.

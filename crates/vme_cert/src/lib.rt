@@ -4,8 +4,8 @@
 //! # What is claimed
 //!
 //! [`confirm`] says yes exactly where the rows, the verdict's included, are those of the recording (`listing_of`), and
-//! else names the first row that differs: its contract is `Settles`, in `specs/Agreement.antt`. [`confirm_text`] says
-//! the same of a text (`SettlesText`), or names its first fault. No monitor and no summary has a part in them or in
+//! else names the first row that differs: its contract is `DecidesListing`, in `specs/Agreement.antt`. [`confirm_text`] says
+//! the same of a text (`DecidesText`), or names its first fault. No monitor and no summary has a part in them or in
 //! their proofs.
 //!
 //! # What has to be trusted
@@ -26,19 +26,19 @@
 //! 5. `rules.rt`: tenures, and each rule beside its definition, in the order of docs/PROTOCOL.md.
 //! 6. `verdict.rt`: the least break of a stretch. One fact spares most of the work (`proofs/Watched.antt`): apart from
 //!    U1, U2, U3, U4 and H1 a rule is broken only on a line that changes at the instant.
-//! 7. `rows.rt` and `follower.rt`: the rows, at each instant at which some may start, compared as they are found,
+//! 7. `rows.rt` and `matcher.rt`: the rows, at each instant at which some may start, compared as they are found,
 //!    stretch by stretch up to the first that has a break (`proofs/Stretches.antt` says that these are the rows of the
 //!    listing).
-//! 8. `given.rt` and `compare.rt`: what they are compared with, rows or a text (`specs/Giving.antt`). Of a text the
+//! 8. `candidate.rt` and `compare.rt`: what they are compared with, rows or a text (`specs/Giving.antt`). Of a text the
 //!    line of each right row is taken; it is read only where one of them isn't there, since it may be no listing's.
 #![tactic(auto)]
 
 mod bus;
+mod candidate;
 pub mod compare;
-mod follower;
-mod given;
 mod index;
-mod judged;
+mod instant_view;
+mod listing_matcher;
 mod rows;
 mod rules;
 mod search;

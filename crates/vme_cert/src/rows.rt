@@ -6,8 +6,8 @@ ghost use Rattle.vme_cert.specs.Words.{option_to_list, class_of, needs_of, addre
 ghost use Rattle.vme_cert.specs.Words.{cycle_rows, transfer_rows, transfer_starts, answers, is_write, data_at};
 ghost use Rattle.vme_cert.specs.Words.{last_instant};
 
-use crate::index::Event::{AcknowledgeFall, AddressRise, BusyRise, StrobesHigh};
-use crate::judged::Judged;
+use crate::index::BusEvent::{AcknowledgeFall, AddressRise, BusyRise, StrobesHigh};
+use crate::instant_view::InstantView;
 use vme_listing::{AnswerLine, Direction, Row};
 use vme_trace::{Class, Lanes, Line, LineSet, Lines, am_code};
 
@@ -58,7 +58,7 @@ fn cycle_row(start: u32, lines: &Lines, cycle: (Class, LineSet), end: Option<u32
     }
 }
 
-impl Judged<'_> {
+impl InstantView<'_> {
     ghost use Rattle.vme_cert.specs.Judging.{trace, span, instant, noted};
 
     /// The row of the tenure that begins at the instant.

@@ -12,11 +12,11 @@ ghost use Rattle.vme_cert.specs.Watching.{lines_of, speaks_of, shows, spoils, is
 ghost use Rattle.vme_cert.specs.Watching.{asks};
 
 use crate::bus::Bus;
-use crate::index::Event::{
+use crate::index::BusEvent::{
     self, AcknowledgeFall, AddressRise, BusyFall, CycleStart, ErrorFall, GrantFall, StrobeRise,
     TransferStart,
 };
-use crate::judged::Judged;
+use crate::instant_view::InstantView;
 use crate::search::{any, least};
 use vme_trace::Rule::{
     B1, B2, B3, B4, C1, C2, G1, G2, G3, G4, G5, H1, H2, H3, H4, H5, H6, H7, H8, I1, I2, I3, I4, I5,
@@ -129,13 +129,13 @@ impl Bus<'_> {
     }
 }
 
-impl Judged<'_> {
+impl InstantView<'_> {
     ghost use Rattle.vme_cert.specs.Judging.{trace, span, instant, noted, breaks_edge};
 
     /// Whether something hasn't happened since the last time, before the instant, that something else did, or so much
     /// later.
     #[tactic(auto, unfolding(vme_trace::specs::Tenures::last_before))]
-    fn is_silent_since(&self, last: Event, later: u32, event: Event) -> bool
+    fn is_silent_since(&self, last: BusEvent, later: u32, event: BusEvent) -> bool
         requires { later ≤ 1 }
         ensures { result ≡ none (happens (trace self.now) (span self.now) event)
             (last_before (trace self.now) (span self.now) (happens (trace self.now) (span self.now) last)
@@ -276,7 +276,7 @@ impl Judged<'_> {
                 place == 0 && any(0, 4, is_other)
             }
             G4 => !bus.high_near(Line::BBSY),
-            G5 => place == 0 && self.is_silent_since(GrantFall, 0, Event::request(level)),
+            G5 => place == 0 && self.is_silent_since(GrantFall, 0, BusEvent::request(level)),
             B1 => bus.tenure_level().is_none(),
             B2 => self.is_silent_since(BusyFall, 1, GrantFall),
             B3 => !bus.low_near(Line::BBSY),

@@ -9,14 +9,14 @@ ghost use Rattle.vme_cert.specs.Spans.{between, end_in};
 
 use crate::bus::{Bus, step_at};
 use crate::index::Index;
-use crate::judged::Judged;
+use crate::instant_view::InstantView;
 use crate::rules::{lines_of, nth_line};
 use std::alloc::{AllocError, Global};
 use vme_trace::Rule::{H1, U1, U2, U3, U4};
 use vme_trace::{Break, Change, Line, RULE_COUNT, Rule};
 
-impl Judged<'_> {
-    ghost use Rattle.vme_cert.specs.Judging.{trace, span, instant, AreMade, AreSound, breaks_edge, breaks_here};
+impl InstantView<'_> {
+    ghost use Rattle.vme_cert.specs.Judging.{trace, span, instant, AreMade, AreSoundChanges, breaks_edge, breaks_here};
     ghost use Rattle.vme_cert.specs.Watching.{asks_for_edge, starts};
 
     /// Whether what a rule speaks of that asks for no edge is at the instant.
@@ -85,7 +85,7 @@ impl Judged<'_> {
     /// The least line on which a rule is broken.
     fn rule_break(&self, rule: Rule, changes: &[Change]) -> Option<Line>
         requires made { AreMade self.now changes.now }
-        requires sound { AreSound self.now changes.now }
+        requires sound { AreSoundChanges self.now changes.now }
         ensures { result ≡ least (breaks_here self.now rule) 0 line_count }
     {
         match rule {
@@ -165,7 +165,7 @@ pub(crate) fn least_break(
     let mut index = Index::new(alloc, instant, end);
     for _instant in instant..last + 1 {
         index.note(&bus)?;
-        let judged = Judged {
+        let judged = InstantView {
             bus: &bus,
             index: &index,
         };

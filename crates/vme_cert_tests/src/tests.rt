@@ -3,7 +3,7 @@ use std::alloc::Global;
 use std::process::Abort;
 use std::test::Fail;
 use vme_cert::{Answer, confirm, confirm_text};
-use vme_listing::{Direction, ListFault, Listing, Outcome, Row, Version, read_listing};
+use vme_listing::{Direction, ListFault, ListedVerdict, Listing, Row, Version, read_listing};
 use vme_trace::{Capture, Change, Changes, LINE_COUNT, Level, Line, Lines, Step};
 
 /// How a recording starts: its slots, the levels of its opening, and its first steps. A step is the lines that change,
@@ -470,8 +470,8 @@ fn changed(row: Row) -> Row {
             start: start ^ 1,
             direction,
         },
-        Row::Verdict(Outcome::NeverIdle) => Row::Verdict(Outcome::Conforming),
-        Row::Verdict(_) => Row::Verdict(Outcome::NeverIdle),
+        Row::Verdict(ListedVerdict::NeverIdle) => Row::Verdict(ListedVerdict::Conforming),
+        Row::Verdict(_) => Row::Verdict(ListedVerdict::NeverIdle),
     }
 }
 

@@ -7,7 +7,7 @@ use Rattle.vme_trace.specs.LineNumbers.{line_count, AS, is_slot_iack, input_of, 
 use Rattle.vme_trace.specs.Levels.{Levels, level_at, is_low}
 use Rattle.vme_trace.specs.Trace.{Trace, levels_at}
 use Rattle.vme_trace.specs.Signals.{low, high, falls}
-use Rattle.vme_trace.specs.Judged.{Span, is_judged}
+use Rattle.vme_trace.specs.Judged.{Stretch, is_judged}
 use Rattle.vme_trace.specs.Cycles.{in_cycle}
 use Rattle.vme_trace.specs.Rules.{breaks, is_broken}
 use Rattle.vme_trace.specs.declared.rule.Rule.TheVariants.{I1, I2, I3}
@@ -32,7 +32,7 @@ and_four true false falls a b c = refl
 and_four false true falls a b c = refl
 and_four false false falls a b c = refl
 
-module _ (t : Trace) (span : Span) (n : ℕ) (from : span.start ≤ n) (before : suc n < span.end) where
+module _ (t : Trace) (span : Stretch) (n : ℕ) (from : span.start ≤ n) (before : suc n < span.end) where
   abbrev old : Levels
   old = levels_at t n
 

@@ -8,14 +8,14 @@ use Rattle.vme_trace.specs.LineNumbers.{line_count}
 use Rattle.vme_trace.specs.Levels.{Levels}
 use Rattle.vme_trace.specs.Trace.{Trace, levels_at, time_at, changed}
 use Rattle.vme_trace.specs.WellFormed.{malformed_step}
-use Rattle.vme_trace.specs.Judged.{Span}
+use Rattle.vme_trace.specs.Judged.{Stretch}
 use Rattle.vme_trace.specs.Verdict.{break_at as rules_break_at, rule_break}
 use Rattle.vme_trace.specs.declared.rule.Rule.TheVariants.{I1, I2, I3}
 use Rattle.vme_trace.specs.declared.step.Change.{Change}
 use Rattle.vme_trace.proofs.SpanEnds.{slots_at}
 use Rattle.vme_monitor.specs.Along.{changes_of, next_at, memory_from}
 use Rattle.vme_monitor.specs.Run.{break_at, noticed, nothing, run_of}
-use Rattle.vme_monitor.specs.Spanned.{noted, spanned, start_in}
+use Rattle.vme_monitor.specs.OverStretches.{noted, spanned, start_in}
 use Rattle.vme_monitor.specs.Whole.{FindsLeast, ShowsAll}
 use Rattle.vme_monitor.specs.declared.mark.Next.{Next}
 use Rattle.vme_monitor.proofs.OwnRules.{own_event, own_marks}
@@ -23,12 +23,12 @@ use Rattle.vme_monitor.proofs.SpanFacts.{IsSpan}
 use Rattle.vme_monitor.proofs.Alongside.{levels_step, changes_fit, memory_early}
 use Rattle.vme_chains.specs.AcknowledgeSpec.{acknowledge_begin, acknowledge_ends, acknowledge_next, acknowledge_opens, acknowledge_rules, acknowledge_shown, acknowledge_sight, fault_among, fault_on, changes_memory, first_changed, memory_after, passes_on, passes_unasked, is_strobed, is_addressed}
 use Rattle.vme_chains.specs.declared.acknowledge.Acknowledgement.{Acknowledgement}
-use Rattle.vme_chains.specs.declared.acknowledge.Passing.{Passing}
+use Rattle.vme_chains.specs.declared.acknowledge.PassingSlots.{PassingSlots}
 use Rattle.vme_chains.proofs.AcknowledgeBreaks.{least_input, least_strobes, least_answer}
 use Rattle.vme_chains.proofs.AcknowledgeChanges.{first-least, none_of, or_false, passes_not, unasked_none, unasked_not}
 use Rattle.vme_chains.proofs.AcknowledgeMemory.{Holds, holds_start, holds_next, memory_same}
 
-module _ (t : Trace) (span : Span) (ok : malformed_step t ≡ None) (few : t.opening.slots ≤ 21) (facts : IsSpan t span) where
+module _ (t : Trace) (span : Stretch) (ok : malformed_step t ≡ None) (few : t.opening.slots ≤ 21) (facts : IsSpan t span) where
   abbrev step : Acknowledgement → Levels → Levels → List Change → Next Acknowledgement
   step = noticed acknowledge_sight acknowledge_next
 
@@ -140,6 +140,6 @@ acknowledge_marks =
       inside = λ n from before within. by_sight (acknowledge_sight (levels_at t n) (levels_at t (suc n)) (changes_of (slice_get t.steps n))) (memory_from (noticed acknowledge_sight acknowledge_next) t (acknowledge_begin (levels_at t span.start)) span.start n) (levels_at t n) (levels_at t (suc n));
     })
   where
-    by_sight : (o : Option Passing) (m : Acknowledgement) (v w : Levels) → (option_map_or (acknowledge_next m v w) o (record { memory = m; fault = None; kinds = nothing })).kinds ≡ nothing
+    by_sight : (o : Option PassingSlots) (m : Acknowledgement) (v w : Levels) → (option_map_or (acknowledge_next m v w) o (record { memory = m; fault = None; kinds = nothing })).kinds ≡ nothing
     by_sight None m v w = refl
     by_sight (Some seen) m v w = refl

@@ -8,14 +8,14 @@ use Rattle.vme_trace.specs.LineNumbers.{line_count, AS, DTACK, BERR, WRITE}
 use Rattle.vme_trace.specs.Levels.{Levels, level_at, is_low, is_high, is_known, is_idle, is_idle_on}
 use Rattle.vme_trace.specs.Trace.{Trace, levels_at}
 use Rattle.vme_trace.specs.Signals.{low, high, falls}
-use Rattle.vme_trace.specs.Judged.{Span}
+use Rattle.vme_trace.specs.Judged.{Stretch}
 use Rattle.vme_trace.specs.Transfers.{strobes_high, is_answer}
 use Rattle.vme_trace.specs.Cycles.{cycle_starts, cycle_of, in_cycle}
 use Rattle.vme_trace.specs.declared.level.Level.{Level}
 use Rattle.vme_trace.specs.declared.level.Level.TheVariants.{Low, High, Unknown}
 use Rattle.vme_trace.proofs.Ranges.{any-fails, clash, fails-any}
 use Rattle.vme_trace.proofs.OpenTransfers.{is_judged-holds, suc-sub-one}
-use Rattle.vme_monitor.specs.Tracked.{Says}
+use Rattle.vme_monitor.specs.Tracked.{SaysPending}
 use Rattle.vme_monitor.specs.Tracking.{answered_by, entered, is_unanswered}
 use Rattle.vme_monitor.specs.declared.tracking.Pending.{Pending}
 use Rattle.vme_monitor.specs.declared.tracking.Pending.TheVariants.{Closed, Reading, Writing, Answered}
@@ -44,7 +44,7 @@ any_suc : (p : ℕ → Bool) (f n : ℕ) → any p f (suc n) ≡ (any p f n || (
 unfolding any
 any_suc p f n = refl
 
-module _ (t : Trace) (span : Span) where
+module _ (t : Trace) (span : Stretch) where
   -- a transfer is answered by DTACK* at r
   abbrev pub acknowledges : ℕ → Bool
   acknowledges r = is_answer t span r && falls t DTACK r
@@ -57,7 +57,7 @@ module _ (t : Trace) (span : Span) where
 
   -- what the memory means after instant n
   pub record Holds (n : ℕ) (m : Acknowledgement) : Type 0 where
-    pub transfer : Says t span n m.transfer
+    pub transfer : SaysPending t span n m.transfer
     pub idle : low t AS n ≡ false → m.acknowledged ≡ false
     pub cycle : low t AS n ≡ true → IsOn n m.acknowledged
 
@@ -114,7 +114,7 @@ module _ (t : Trace) (span : Span) where
       unfolding falls high low
       falls_is l = rw (suc-sub-one n) refl
 
-      acknowledges_is : (m : Pending) → Says t span n m → acknowledges (suc n) ≡ is_acknowledged m old new
+      acknowledges_is : (m : Pending) → SaysPending t span n m → acknowledges (suc n) ≡ is_acknowledged m old new
       acknowledges_is m says = rw (is_answer_is t span facts.reads n from before m says, falls_is DTACK) (by_tests (is_unanswered (entered m old new)) (falls_between old new DTACK) (falls_between old new BERR))
         where
           by_tests : (u d b : Bool) → ((u && (d || b)) && d) ≡ (u && d)
@@ -149,7 +149,7 @@ module _ (t : Trace) (span : Span) where
           within i n h = grind (arith, nat_tests)
 
       -- another starts
-      starts_here : (m : Acknowledgement) → Says t span n m.transfer → m.acknowledged ≡ false → falls_between old new AS ≡ true → is_low (level_at new AS) ≡ true → IsOn (suc n) (acknowledged_after m old new)
+      starts_here : (m : Acknowledgement) → SaysPending t span n m.transfer → m.acknowledged ≡ false → falls_between old new AS ≡ true → is_low (level_at new AS) ≡ true → IsOn (suc n) (acknowledged_after m old new)
       starts_here m says fresh fall on =
           let empty : any acknowledges (suc n) (suc n) ≡ false = fails-any acknowledges (suc n) (suc n) (λ i a b. absurd (omega arith)) in
           record {
@@ -193,7 +193,7 @@ module _ (t : Trace) (span : Span) where
       holds_next m h = record { transfer = tracked_is t span facts.reads n from before m.transfer h.transfer; idle = idle_next m; cycle = cycle_next m h }
 
       -- no transfer is open where both strobes are high
-      closed_there : (p : Pending) → Says t span n p → strobes_high_in old ≡ true → p ≡ Closed
+      closed_there : (p : Pending) → SaysPending t span n p → strobes_high_in old ≡ true → p ≡ Closed
       unfolding high
       closed_there Closed says h = refl
       closed_there Reading says h = absurd (clash (strobes_high t n) h (says.1.still n says.1.within (omega arith)))

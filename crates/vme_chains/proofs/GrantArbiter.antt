@@ -6,7 +6,7 @@ use Rattle.vme_trace.specs.Instants.{any, none, least}
 use Rattle.vme_trace.specs.LineNumbers.{line_count, BR, grant, has_line, is_arbiter_grant, grant_level}
 use Rattle.vme_trace.specs.Trace.{Trace, levels_at}
 use Rattle.vme_trace.specs.Signals.{low, falls}
-use Rattle.vme_trace.specs.Judged.{Span, is_judged}
+use Rattle.vme_trace.specs.Judged.{Stretch, is_judged}
 use Rattle.vme_trace.specs.Rules.{breaks, is_broken}
 use Rattle.vme_trace.specs.Tenures.{grant_falls, last_before}
 use Rattle.vme_trace.specs.declared.rule.Rule.TheVariants.{G5}
@@ -66,7 +66,7 @@ in_union a b (suc (suc zero)) h = refl
 in_union a b (suc (suc (suc zero))) h = refl
 in_union a b (suc (suc (suc (suc l)))) h = absurd (omega arith)
 
-module _ (t : Trace) (span : Span) (few : t.opening.slots ≤ 21) (n : ℕ) (from : span.start ≤ n) (before : suc n < span.end) (m : Arbitration) (held : Holds t span n m) where
+module _ (t : Trace) (span : Stretch) (few : t.opening.slots ≤ 21) (n : ℕ) (from : span.start ≤ n) (before : suc n < span.end) (m : Arbitration) (held : Holds t span n m) where
   requests_are : (l : ℕ) → l < 4 → is_in (union m.requests (requested_in (levels_at t (suc n)))) l ≡ any (low t (BR l)) (last_before t span (grant_falls t) (suc n)) (suc n + 1)
   requests_are l h =
       in_union m.requests (requested_in (levels_at t (suc n))) l h

@@ -7,7 +7,7 @@ use Rattle.vme_trace.specs.LineNumbers.{line_count, AS, BBSY, grant}
 use Rattle.vme_trace.specs.Levels.{Levels}
 use Rattle.vme_trace.specs.Trace.{Trace, levels_at, time_at, changed}
 use Rattle.vme_trace.specs.WellFormed.{are_changes}
-use Rattle.vme_trace.specs.Judged.{Span}
+use Rattle.vme_trace.specs.Judged.{Stretch}
 use Rattle.vme_trace.specs.Rules.{breaks, is_option_equal}
 use Rattle.vme_trace.specs.Verdict.{break_at as rules_break_at, rule_break}
 use Rattle.vme_trace.specs.declared.rule.Rule.{Rule}
@@ -53,7 +53,7 @@ first_of_nine j time None None None None None None None (Some l) b4 = refl
 first_of_nine j time None None None None None None None None (Some l) = refl
 first_of_nine j time None None None None None None None None None = refl
 
-module _ (t : Trace) (span : Span) where
+module _ (t : Trace) (span : Stretch) where
   rules_first : (j : ℕ) (g1 g2 g3 g4 g5 b1 b2 b3 b4 : Option ℕ)
       → least (breaks t span G1 j) 0 line_count ≡ g1 → least (breaks t span G2 j) 0 line_count ≡ g2 → least (breaks t span G3 j) 0 line_count ≡ g3 → least (breaks t span G4 j) 0 line_count ≡ g4
       → least (breaks t span G5 j) 0 line_count ≡ g5 → least (breaks t span B1 j) 0 line_count ≡ b1 → least (breaks t span B2 j) 0 line_count ≡ b2 → least (breaks t span B3 j) 0 line_count ≡ b3

@@ -8,16 +8,16 @@ use Rattle.vme_trace.specs.Levels.{Levels}
 use Rattle.vme_trace.specs.Trace.{Trace, levels_at, time_at, changed}
 use Rattle.vme_trace.specs.WellFormed.{malformed_step, are_changes}
 use Rattle.vme_trace.specs.Signals.{low, falls, rises}
-use Rattle.vme_trace.specs.Judged.{Span, is_judged}
+use Rattle.vme_trace.specs.Judged.{Stretch, is_judged}
 use Rattle.vme_trace.specs.Tenures.{grant_falls, tenure_starts}
 use Rattle.vme_trace.specs.Verdict.{break_at as rules_break_at}
 use Rattle.vme_trace.specs.declared.step.Change.{Change}
 use Rattle.vme_trace.proofs.OpenTransfers.{is_judged-holds}
 use Rattle.vme_monitor.specs.Along.{changes_of, next_at, memory_from}
 use Rattle.vme_monitor.specs.Run.{break_at, noticed, run_of, nothing, quiet}
-use Rattle.vme_monitor.specs.Spanned.{noted, spanned, start_in}
+use Rattle.vme_monitor.specs.OverStretches.{noted, spanned, start_in}
 use Rattle.vme_monitor.specs.Whole.{FindsLeast, ShowsAll}
-use Rattle.vme_monitor.specs.declared.mark.Taken.{Taken}
+use Rattle.vme_monitor.specs.declared.mark.BusGrant.{BusGrant}
 use Rattle.vme_monitor.proofs.OwnRules.{own_event, own_marks}
 use Rattle.vme_monitor.proofs.Alongside.{levels_step, changes_fit, memory_early}
 use Rattle.vme_chains.specs.GrantLevels.{falls_between, rises_between, is_low_in, grant_begins, requested_in, taken_between, touches_arbitration, is_cycle_unowned, is_ungranted}
@@ -53,7 +53,7 @@ nothing_more : (f g x : Bool) → f ≡ false → g ≡ false → (not f && (x |
 nothing_more f g true h k = rw h refl
 nothing_more f g false h k = rw (h, k) refl
 
-shown_alike : (opened : Bool) (x y : Option Taken) (ends ends' : Bool) → opened ≡ false → x ≡ y → ends ≡ ends' → record nothing { tenure = x; tenure_end = ends } ≡ record nothing { opened = opened; tenure = y; tenure_end = ends' }
+shown_alike : (opened : Bool) (x y : Option BusGrant) (ends ends' : Bool) → opened ≡ false → x ≡ y → ends ≡ ends' → record nothing { tenure = x; tenure_end = ends } ≡ record nothing { opened = opened; tenure = y; tenure_end = ends' }
 shown_alike opened x y ends ends' a b c = rw (a, b, c) refl
 
 not_at_start : (j s : ℕ) (b : Bool) → s < j → ((j == s) && b) ≡ false
@@ -62,7 +62,7 @@ not_at_start j s b h = grind (arith, nat_tests)
 judged_and : (judged b : Bool) → judged ≡ true → b ≡ (judged && b)
 judged_and judged b h = rw h refl
 
-module _ (t : Trace) (span : Span) (few : t.opening.slots ≤ 21) where
+module _ (t : Trace) (span : Stretch) (few : t.opening.slots ≤ 21) where
   -- at the start
   holds_start : Holds t span span.start (grant_begin (levels_at t span.start))
   holds_start =
@@ -133,7 +133,7 @@ module _ (t : Trace) (span : Span) (few : t.opening.slots ≤ 21) where
     taken_shown =
         alike _ _ _ _ (falls-is t n BBSY refl ∙ judged_and (is_judged span (suc n)) (falls t BBSY (suc n)) (is_judged-holds span (suc n) (omega arith) before)) (taken_between-is t few n)
       where
-        alike : (b c : Bool) (x y : Option Taken) → b ≡ c → x ≡ y → cond b x None ≡ cond c y None
+        alike : (b c : Bool) (x y : Option BusGrant) → b ≡ c → x ≡ y → cond b x None ≡ cond c y None
         alike b c x y e h = rw (e, h) refl
 
     kinds_seen : (m : Arbitration) → (grant_next m old new seen).kinds ≡ tenures_shown t span (suc n)
@@ -197,7 +197,7 @@ module _ (t : Trace) (span : Span) (few : t.opening.slots ≤ 21) where
       not_judged : (s e : ℕ) → (nat_lt s s && nat_lt s e) ≡ false
       not_judged s e = grind (arith, nat_tests)
 
-      alike : (same judged x y falls rises : Bool) (o : Option Taken) → same ≡ true → x ≡ y → judged ≡ false
+      alike : (same judged x y falls rises : Bool) (o : Option BusGrant) → same ≡ true → x ≡ y → judged ≡ false
           → record nothing { opened = x } ≡ record nothing { opened = same && y; tenure = cond (judged && falls) o None; tenure_end = judged && rises }
       alike same judged x y falls rises o a b c = rw (a, b, c) refl
 

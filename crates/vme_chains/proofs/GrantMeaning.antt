@@ -6,7 +6,7 @@ use Rattle.vme_trace.specs.Instants.{any}
 use Rattle.vme_trace.specs.LineNumbers.{BBSY, BR}
 use Rattle.vme_trace.specs.Trace.{Trace}
 use Rattle.vme_trace.specs.Signals.{low, falls}
-use Rattle.vme_trace.specs.Judged.{Span}
+use Rattle.vme_trace.specs.Judged.{Stretch}
 use Rattle.vme_trace.specs.Tenures.{grant_falls, last_before}
 use Rattle.vme_trace.proofs.Ranges.{fails-any, any-holds}
 use Rattle.vme_chains.specs.GrantMemory.{is_in}
@@ -23,7 +23,7 @@ any_suc p f n from = ap (λ b. any p f n || (b && p n)) (from_holds f n from)
 any_one : (p : ℕ → Bool) (n : ℕ) → any p n (suc n) ≡ p n
 any_one p n = any_suc p n n (omega arith) ∙ ap (λ b. b || p n) (fails-any p n n (λ i a b. absurd (omega arith)))
 
-module _ (t : Trace) (span : Span) where
+module _ (t : Trace) (span : Stretch) where
   -- the level was requested since the last grant up to n, or the start, that instant included
   abbrev pub requested_since : ℕ → ℕ → Bool
   requested_since n l = any (low t (BR l)) (last_before t span (grant_falls t) (suc n)) (suc n)

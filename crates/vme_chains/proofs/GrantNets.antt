@@ -8,7 +8,7 @@ use Rattle.vme_trace.specs.Levels.{Levels, is_low}
 use Rattle.vme_trace.specs.Trace.{Trace, levels_at, changed}
 use Rattle.vme_trace.specs.WellFormed.{are_changes}
 use Rattle.vme_trace.specs.Signals.{near, low, high, falls, rises}
-use Rattle.vme_trace.specs.Judged.{Span, is_judged}
+use Rattle.vme_trace.specs.Judged.{Stretch, is_judged}
 use Rattle.vme_trace.specs.Rules.{breaks, is_broken}
 use Rattle.vme_trace.specs.declared.rule.Rule.TheVariants.{G1, G2, G3, G4}
 use Rattle.vme_trace.specs.declared.step.Change.{Change}
@@ -34,7 +34,7 @@ middle_false : (a b c : Bool) → b ≡ false → (a && b && c) ≡ false
 middle_false true b c h = rw h refl
 middle_false false b c h = refl
 
-module _ (t : Trace) (span : Span) (few : t.opening.slots ≤ 21) (n : ℕ) (from : span.start ≤ n) (before : suc n < span.end) where
+module _ (t : Trace) (span : Stretch) (few : t.opening.slots ≤ 21) (n : ℕ) (from : span.start ≤ n) (before : suc n < span.end) where
   abbrev pub old : Levels
   old = levels_at t n
 

@@ -3,7 +3,7 @@ use Rattle.std.proofs.Common.{◌≡◌, ℕ, zero, suc, ◌+◌, ◌<◌, ◌�
 use Rattle.std.specs.Prelude.{None, Some, nat_le}
 use Rattle.std.proofs.lemmas.Bool.Decides.{nat_tests}
 use Rattle.vme_trace.specs.Instants.{greatest}
-use Rattle.vme_trace.specs.Judged.{Span}
+use Rattle.vme_trace.specs.Judged.{Stretch}
 use Rattle.vme_trace.specs.Tenures.{last_before}
 use Rattle.vme_trace.specs.Trace.{Trace}
 use Rattle.vme_chains.proofs.GrantTests.{start_or_after}
@@ -52,7 +52,7 @@ greatest-alike p q f zero alike = refl
 greatest-alike p q f (suc n) alike =
     rw (both_alike p q f n (λ a. alike n a (omega arith)), greatest-alike p q f n (λ i a b. alike i a (omega arith))) refl
 
-module _ (t : Trace) (span : Span) (p : ℕ → Bool) where
+module _ (t : Trace) (span : Stretch) (p : ℕ → Bool) where
   -- at the start there is none
   pub last-start : last_before t span p (suc span.start) ≡ span.start
   unfolding last_before

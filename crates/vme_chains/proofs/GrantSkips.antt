@@ -6,13 +6,13 @@ use Rattle.vme_trace.specs.LineNumbers.{BBSY, BR, grant, is_grant}
 use Rattle.vme_trace.specs.Changes.{is_changed}
 use Rattle.vme_trace.specs.Levels.{Levels}
 use Rattle.vme_trace.specs.Trace.{Trace, levels_at, changed}
-use Rattle.vme_trace.specs.Judged.{Span}
+use Rattle.vme_trace.specs.Judged.{Stretch}
 use Rattle.vme_trace.specs.WellFormed.{are_changes}
 use Rattle.vme_trace.specs.declared.rule.Rule.TheVariants.{G1, G2, G3, G4}
 use Rattle.vme_trace.specs.declared.step.Change.{Change}
 use Rattle.vme_trace.proofs.Ranges.{fails-any, clash}
 use Rattle.vme_monitor.specs.declared.mark.Fault.{Fault}
-use Rattle.vme_monitor.specs.declared.mark.Taken.{Taken}
+use Rattle.vme_monitor.specs.declared.mark.BusGrant.{BusGrant}
 use Rattle.vme_chains.specs.GrantLevels.{is_arbitration, touches_arbitration, first_changed, is_net_broken, grant_begins, falls_between, rises_between}
 use Rattle.vme_chains.specs.GrantSpec.{nets_fault, step_fault}
 use Rattle.vme_chains.specs.declared.grant_memory.LevelSet.{LevelSet}
@@ -57,7 +57,7 @@ net_arbitration n h = grind (arith, nat_tests)
 pub request_arbitration : (n : ℕ) → n < 4 → is_arbitration (BR n) ≡ true
 request_arbitration n h = grind (arith, nat_tests)
 
-module _ (t : Trace) (span : Span) (few : t.opening.slots ≤ 21) (n : ℕ) (from : span.start ≤ n) (before : suc n < span.end) (cs : List Change) (step : levels_at t (suc n) ≡ changed (levels_at t n) cs) (fit : are_changes (levels_at t n) 0 cs ≡ true) (h : touches_arbitration cs ≡ false) where
+module _ (t : Trace) (span : Stretch) (few : t.opening.slots ≤ 21) (n : ℕ) (from : span.start ≤ n) (before : suc n < span.end) (cs : List Change) (step : levels_at t (suc n) ≡ changed (levels_at t n) cs) (fit : are_changes (levels_at t n) 0 cs ≡ true) (h : touches_arbitration cs ≡ false) where
   pub grants-none : grant_begins (levels_at t n) (levels_at t (suc n)) ≡ false
   grants-none = fails-any _ 0 4 (λ i a b. falls-kept t span few n from before cs step fit (grant i 0) (untouched cs (grant i 0) h (net_arbitration i b)))
 
@@ -68,7 +68,7 @@ module _ (t : Trace) (span : Span) (few : t.opening.slots ≤ 21) (n : ℕ) (fro
   ends-none = rises-kept t span few n from before cs step fit BBSY (untouched cs BBSY h refl)
 
 -- then nothing is broken
-pub fault-none : (v w : Levels) (requests now : LevelSet) (granted : Bool) (nets : Option Fault) (grants takes ungranted ends unowned : Bool) (taken : Option Taken)
+pub fault-none : (v w : Levels) (requests now : LevelSet) (granted : Bool) (nets : Option Fault) (grants takes ungranted ends unowned : Bool) (taken : Option BusGrant)
     → nets ≡ None → grants ≡ false → takes ≡ false → unowned ≡ false
     → step_fault v w requests granted (record { nets = nets; requests = now; grants = grants; takes = takes; ungranted = takes && ungranted; tenure = cond takes taken None; ends = ends; unowned = unowned }) ≡ None
 fault-none v w requests now granted nets grants takes ungranted ends unowned taken a b c d = rw (a, b, c, d) refl

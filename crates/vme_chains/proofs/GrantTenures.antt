@@ -6,14 +6,14 @@ use Rattle.vme_trace.specs.Instants.{any, none, least, greatest}
 use Rattle.vme_trace.specs.LineNumbers.{line_count, AS, BBSY, has_line}
 use Rattle.vme_trace.specs.Trace.{Trace, levels_at}
 use Rattle.vme_trace.specs.Signals.{near, low, falls}
-use Rattle.vme_trace.specs.Judged.{Span, is_judged}
+use Rattle.vme_trace.specs.Judged.{Stretch, is_judged}
 use Rattle.vme_trace.specs.Rules.{breaks, is_broken, is_option_equal}
 use Rattle.vme_trace.specs.Tenures.{is_granting, grant_falls, tenure_level, tenure_slot, has_reached, taken_grant, last_before}
 use Rattle.vme_trace.specs.declared.rule.Rule.TheVariants.{B1, B2, B3, B4}
 use Rattle.vme_trace.proofs.Ranges.{fails-any, least-is, least-none}
 use Rattle.vme_trace.proofs.OpenTransfers.{is_judged-holds}
 use Rattle.vme_trace.proofs.SpanEnds.{slots_at}
-use Rattle.vme_monitor.specs.declared.mark.Taken.{Taken}
+use Rattle.vme_monitor.specs.declared.mark.BusGrant.{BusGrant}
 use Rattle.vme_chains.specs.GrantLevels.{falls_between, low_near, grant_begins, taken_at, taken_between, is_ungranted, is_cycle_unowned}
 use Rattle.vme_chains.specs.GrantSpec.{line_if, slot_of}
 use Rattle.vme_chains.specs.declared.grant_memory.Arbitration.{Arbitration}
@@ -45,11 +45,11 @@ slot_of-taken (Some n) f = by_slot (f n)
     by_slot None = refl
     by_slot (Some k) = refl
 
-when_falls : (falls : Bool) (o : Option Taken) (n : ℕ) → (falls && is_option_equal (slot_of o) n) ≡ is_option_equal (slot_of (cond falls o None)) n
+when_falls : (falls : Bool) (o : Option BusGrant) (n : ℕ) → (falls && is_option_equal (slot_of o) n) ≡ is_option_equal (slot_of (cond falls o None)) n
 when_falls true o n = refl
 when_falls false o n = refl
 
-module _ (t : Trace) (span : Span) (few : t.opening.slots ≤ 21) (n : ℕ) (from : span.start ≤ n) (before : suc n < span.end) where
+module _ (t : Trace) (span : Stretch) (few : t.opening.slots ≤ 21) (n : ℕ) (from : span.start ≤ n) (before : suc n < span.end) where
   judged : is_judged span (suc n) ≡ true
   judged = is_judged-holds span (suc n) (omega arith) before
 

@@ -7,19 +7,19 @@ use Rattle.vme_trace.specs.Edges.{answer_between, falls_between, low_near, strob
 use Rattle.vme_trace.specs.LineNumbers.{AS, DS0, DS1, DTACK, is_slot_iack, input_of, has_line}
 use Rattle.vme_trace.specs.Levels.{Levels, level_at, is_low, is_high}
 use Rattle.vme_trace.specs.Trace.{Trace}
-use Rattle.vme_trace.specs.Judged.{Span}
+use Rattle.vme_trace.specs.Judged.{Stretch}
 use Rattle.vme_trace.specs.declared.step.Change.{Change}
 use Rattle.vme_trace.specs.declared.rule.Rule.{Rule}
 use Rattle.vme_trace.specs.declared.rule.Rule.TheVariants.{I1, I2, I3}
 use Rattle.vme_monitor.specs.Run.{nothing}
 use Rattle.vme_monitor.specs.Tracking.{entered, tracked, is_unanswered}
 use Rattle.vme_monitor.specs.declared.mark.Fault.{Fault}
-use Rattle.vme_monitor.specs.declared.mark.Kinds.{Kinds}
+use Rattle.vme_monitor.specs.declared.mark.StepMarks.{StepMarks}
 use Rattle.vme_monitor.specs.declared.mark.Next.{Next}
 use Rattle.vme_monitor.specs.declared.tracking.Pending.{Pending}
 use Rattle.vme_monitor.specs.declared.tracking.Pending.TheVariants.{Closed, Reading, Writing, Answered}
 use Rattle.vme_chains.specs.declared.acknowledge.Acknowledgement.{Acknowledgement}
-use Rattle.vme_chains.specs.declared.acknowledge.Passing.{Passing}
+use Rattle.vme_chains.specs.declared.acknowledge.PassingSlots.{PassingSlots}
 
 abbrev pub acknowledge_rules : List Rule
 acknowledge_rules = I1 ∷ I2 ∷ I3 ∷ []
@@ -101,13 +101,13 @@ fault_among m v w None first = fault_of_first m v w first
 abbrev pub acknowledge_begin : Levels → Acknowledgement
 acknowledge_begin v = record { transfer = Closed; acknowledged = false }
 
-abbrev pub acknowledge_opens : Levels → Kinds
+abbrev pub acknowledge_opens : Levels → StepMarks
 acknowledge_opens v = nothing
 
 abbrev pub acknowledge_ends : ℕ → Option Fault
 acknowledge_ends l = None
 
-abbrev pub acknowledge_sight : Levels → Levels → List Change → Option Passing
+abbrev pub acknowledge_sight : Levels → Levels → List Change → Option PassingSlots
 acknowledge_sight v w cs =
     if is_some (first_changed (passes_on v w) cs)
     || changes_memory v w then Some (record {
@@ -116,7 +116,7 @@ acknowledge_sight v w cs =
           (passes_unasked v w) cs;
     }) else None
 
-abbrev pub acknowledge_next : Acknowledgement → Levels → Levels → Passing → Next Acknowledgement
+abbrev pub acknowledge_next : Acknowledgement → Levels → Levels → PassingSlots → Next Acknowledgement
 acknowledge_next m v w seen = record {
   memory = memory_after m v w;
   fault = fault_among m v w seen.unasked seen.first;
@@ -124,7 +124,7 @@ acknowledge_next m v w seen = record {
 }
 
 -- an acknowledge isn't shown
-abbrev pub acknowledge_shown : Trace → Span → ℕ → Kinds
+abbrev pub acknowledge_shown : Trace → Stretch → ℕ → StepMarks
 acknowledge_shown t span j = nothing
 
 pub acknowledgement_placed : (m : Acknowledgement) → acknowledgement_place m < 8

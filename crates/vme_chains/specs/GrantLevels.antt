@@ -10,7 +10,7 @@ use Rattle.vme_trace.specs.declared.level.Level.TheVariants.{Unknown}
 use Rattle.vme_trace.specs.declared.rule.Rule.{Rule}
 use Rattle.vme_trace.specs.declared.rule.Rule.TheVariants.{G1, G2, G3, G4}
 use Rattle.vme_trace.specs.declared.step.Change.{Change}
-use Rattle.vme_monitor.specs.declared.mark.Taken.{Taken}
+use Rattle.vme_monitor.specs.declared.mark.BusGrant.{BusGrant}
 use Rattle.vme_chains.specs.declared.grant_memory.LevelSet.{LevelSet}
 
 -- the level of a line, and nothing known of a line that the backplane hasn't
@@ -67,17 +67,17 @@ reached_slot v = option_map (λ k. 1 + k) (option_and_then (λ n. greatest (reac
     (granted_level v))
 
 -- a grant by its level and slot
-abbrev pub taken_at : Option ℕ → Option ℕ → Option Taken
+abbrev pub taken_at : Option ℕ → Option ℕ → Option BusGrant
 taken_at None slot = None
 taken_at (Some n) None = None
 taken_at (Some n) (Some s) = Some (record { level = n; slot = s })
 
-abbrev pub taken_in : Levels → Option Taken
+abbrev pub taken_in : Levels → Option BusGrant
 taken_in v = taken_at (granted_level v) (reached_slot v)
 
 -- the grant that a tenure takes which starts with the step: one that is there after it, or else one that was there
 -- before it
-abbrev pub taken_between : Levels → Levels → Option Taken
+abbrev pub taken_between : Levels → Levels → Option BusGrant
 taken_between v w = if is_some (granted_level w) then taken_in w else taken_in v
 
 -- no level is granted, neither before the step nor after it

@@ -2,15 +2,15 @@
 use Rattle.std.specs.Prelude.{ℕ, Bool, ◌==◌, ◌&&◌, Option, None, if◌then◌else◌}
 use Rattle.vme_trace.specs.LineNumbers.{BBSY}
 use Rattle.vme_trace.specs.Signals.{low, rises}
-use Rattle.vme_trace.specs.Judged.{Span, is_judged}
+use Rattle.vme_trace.specs.Judged.{Stretch, is_judged}
 use Rattle.vme_trace.specs.Tenures.{tenure_level, tenure_slot, tenure_starts}
 use Rattle.vme_trace.specs.Trace.{Trace}
 use Rattle.vme_monitor.specs.Run.{nothing}
-use Rattle.vme_monitor.specs.declared.mark.Kinds.{Kinds}
-use Rattle.vme_monitor.specs.declared.mark.Taken.{Taken}
+use Rattle.vme_monitor.specs.declared.mark.StepMarks.{StepMarks}
+use Rattle.vme_monitor.specs.declared.mark.BusGrant.{BusGrant}
 use Rattle.vme_chains.specs.GrantLevels.{taken_at}
 
-module _ (t : Trace) (span : Span) where
+module _ (t : Trace) (span : Stretch) where
   -- the tenure that is open ends: the busy line rises at a judged instant
   abbrev pub tenure_ends : ℕ → Bool
   tenure_ends j = is_judged span j && rises t BBSY j
@@ -21,11 +21,11 @@ module _ (t : Trace) (span : Span) where
 
   -- the grant that the tenure takes which starts at j, if one does; where the bus becomes busy with no grant, B1 is
   -- broken there, and no tenure is shown
-  abbrev pub tenure_at : ℕ → Option Taken
+  abbrev pub tenure_at : ℕ → Option BusGrant
   tenure_at j = if tenure_starts t span j then taken_at (tenure_level t j) (tenure_slot t j) else None
 
 -- tenures at an instant: one that is open at the start, one that starts, by its level and slot, and an end
-abbrev pub tenures_shown : Trace → Span → ℕ → Kinds
+abbrev pub tenures_shown : Trace → Stretch → ℕ → StepMarks
 tenures_shown t span j = record nothing {
   opened = is_tenure_open t span j;
   tenure = tenure_at t span j;

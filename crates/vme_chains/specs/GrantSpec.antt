@@ -11,9 +11,9 @@ use Rattle.vme_trace.specs.declared.rule.Rule.{Rule}
 use Rattle.vme_trace.specs.declared.rule.Rule.TheVariants.{G1, G2, G3, G4, G5, B1, B2, B3, B4}
 use Rattle.vme_monitor.specs.Run.{nothing}
 use Rattle.vme_monitor.specs.declared.mark.Fault.{Fault}
-use Rattle.vme_monitor.specs.declared.mark.Kinds.{Kinds}
+use Rattle.vme_monitor.specs.declared.mark.StepMarks.{StepMarks}
 use Rattle.vme_monitor.specs.declared.mark.Next.{Next}
-use Rattle.vme_monitor.specs.declared.mark.Taken.{Taken}
+use Rattle.vme_monitor.specs.declared.mark.BusGrant.{BusGrant}
 use Rattle.vme_chains.specs.GrantLevels.{falls_between, rises_between, is_low_in, first_changed, is_net_broken}
 use Rattle.vme_chains.specs.GrantLevels.{grant_begins, requested_in, taken_between, is_ungranted, touches_arbitration}
 use Rattle.vme_chains.specs.GrantLevels.{is_cycle_unowned}
@@ -57,7 +57,7 @@ seen_between v w cs =
       unowned = is_cycle_unowned v w;
     }
 
-abbrev pub slot_of : Option Taken → Option ℕ
+abbrev pub slot_of : Option BusGrant → Option ℕ
 slot_of o = option_map (λ x. x.slot) o
 
 -- what a step breaks, after these requests since the last grant, and with or without a grant since the bus became busy
@@ -73,7 +73,7 @@ step_fault v w requests granted seen =
 abbrev pub grant_begin : Levels → Arbitration
 grant_begin v = record { requests = requested_in v; granted = false }
 
-abbrev pub grant_opens : Levels → Kinds
+abbrev pub grant_opens : Levels → StepMarks
 grant_opens v = record nothing { opened = is_low_in v BBSY }
 
 abbrev pub grant_ends : ℕ → Option Fault

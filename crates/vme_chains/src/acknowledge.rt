@@ -13,10 +13,10 @@ ghost use Rattle.vme_chains.specs.AcknowledgeSpec.{is_acknowledged, is_addressed
 ghost use Rattle.vme_chains.specs.AcknowledgeSpec.{is_strobed as strobed_near, memory_after};
 ghost use Rattle.vme_chains.specs.AcknowledgeSpec.{passes_on as passes, passes_unasked, pending_nth, pending_place};
 
-use vme_monitor::machine::{Places, Small};
-use vme_monitor::mark::{Fault, Kinds, NOTHING, Next};
+use vme_monitor::machine::{Enumerable, Small};
+use vme_monitor::mark::{Fault, NOTHING, Next, StepMarks};
 use vme_monitor::monitor::Monitor;
-use vme_monitor::spanned::{Rules, Within};
+use vme_monitor::over_stretches::{RuleMonitor, Rules};
 use vme_monitor::tracking::Pending;
 use vme_trace::edges::{answer_falls, falls, has_strobe_low, has_strobes_high, is_low_near};
 use vme_trace::{Change, Line, Lines, Rule};
@@ -54,7 +54,7 @@ fn nth_transfer(k: usize) -> Pending
     }
 }
 
-impl Places for Acknowledgement {
+impl Enumerable for Acknowledgement {
     ghost use Rattle.vme_chains.specs.AcknowledgeSpec.{acknowledgement_found, acknowledgement_nth};
     ghost use Rattle.vme_chains.specs.AcknowledgeSpec.{acknowledgement_place, acknowledgement_placed};
 
@@ -112,7 +112,7 @@ impl Acknowledgement {
 
 /// The slots that pass an acknowledge on at a step, by their outputs.
 #[derive(Drop)]
-pub struct Passing {
+pub struct PassingSlots {
     /// The first of them.
     pub first: Option<Line>,
     /// The first whose input isn't low.
@@ -185,7 +185,7 @@ fn first_unasked(before: &Lines, after: &Lines, changes: &[Change]) -> Option<Li
 
 /// The slots that pass an acknowledge on, by the changes of a step.
 #[inline(always)]
-fn outputs_passing(before: &Lines, after: &Lines, changes: &[Change]) -> Passing
+fn outputs_passing(before: &Lines, after: &Lines, changes: &[Change]) -> PassingSlots
     ensures first { result.first ≡ first_changed (passes before.now after.now) changes.now }
     ensures unasked { result.unasked ≡ first_changed (passes_unasked before.now after.now) changes.now }
 {
@@ -195,7 +195,7 @@ fn outputs_passing(before: &Lines, after: &Lines, changes: &[Change]) -> Passing
     } else {
         None
     };
-    Passing { first, unasked }
+    PassingSlots { first, unasked }
 }
 
 /// Whether a transfer starts, or none is open any more.
@@ -245,7 +245,12 @@ fn acknowledges(transfer: Pending, before: &Lines, after: &Lines) -> bool
 
 /// The first rule that is broken, on its first line.
 #[inline(always)]
-fn fault_of(memory: Acknowledgement, before: &Lines, after: &Lines, seen: &Passing) -> Option<Fault>
+fn fault_of(
+    memory: Acknowledgement,
+    before: &Lines,
+    after: &Lines,
+    seen: &PassingSlots,
+) -> Option<Fault>
     ensures { result ≡ fault_among memory before.now after.now seen.now.unasked seen.now.first }
 {
     match (seen.unasked, seen.first) {
@@ -282,7 +287,7 @@ impl Rules for AcknowledgeRules {
 
     type Memory = Acknowledgement;
 
-    type Seen = Passing;
+    type Observation = PassingSlots;
 
     ghost begin = { acknowledge_begin };
 
@@ -292,7 +297,7 @@ impl Rules for AcknowledgeRules {
 
     ghost ends = { acknowledge_ends };
 
-    ghost sight = { acknowledge_sight };
+    ghost observation = { acknowledge_sight };
 
     ghost next = { acknowledge_next };
 
@@ -303,11 +308,11 @@ impl Rules for AcknowledgeRules {
         }
     }
 
-    fn shown_at_start(_lines: &Lines) -> Kinds {
+    fn shown_at_start(_lines: &Lines) -> StepMarks {
         NOTHING
     }
 
-    fn shown_at_reset() -> Kinds {
+    fn shown_at_reset() -> StepMarks {
         NOTHING
     }
 
@@ -316,7 +321,7 @@ impl Rules for AcknowledgeRules {
     }
 
     #[inline(always)]
-    fn see(before: &Lines, after: &Lines, changes: &[Change]) -> Option<Passing> {
+    fn observe(before: &Lines, after: &Lines, changes: &[Change]) -> Option<PassingSlots> {
         let seen = outputs_passing(before, after, changes);
         if seen.first.is_some() || changes_memory(before, after) {
             Some(seen)
@@ -330,7 +335,7 @@ impl Rules for AcknowledgeRules {
         memory: Acknowledgement,
         before: &Lines,
         after: &Lines,
-        seen: &Passing,
+        seen: &PassingSlots,
     ) -> Next<Acknowledgement> {
         Next {
             memory: memory.after(before, after),
@@ -342,7 +347,7 @@ impl Rules for AcknowledgeRules {
 
 /// The monitor of the rules on interrupt acknowledge: IACKOUT* of a slot falls while its input isn't low (I1), while
 /// AS* isn't low or neither data strobe is (I2), or after DTACK* answered in the cycle (I3).
-pub type Iack = Within<AcknowledgeRules>;
+pub type Iack = RuleMonitor<AcknowledgeRules>;
 
 /// Over a whole capture, the event is the least break of I1, I2 and I3, and there are no marks.
 pub fn acknowledge_over_captures()

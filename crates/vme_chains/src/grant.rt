@@ -15,9 +15,9 @@ use crate::grant_levels::{
     taken_between, touches_arbitration, touches_nets,
 };
 use crate::grant_memory::{Arbitration, LevelSet};
-use vme_monitor::mark::{Fault, Kinds, NOTHING, Next, Taken};
+use vme_monitor::mark::{BusGrant, Fault, NOTHING, Next, StepMarks};
 use vme_monitor::monitor::Monitor;
-use vme_monitor::spanned::{Rules, Within};
+use vme_monitor::over_stretches::{RuleMonitor, Rules};
 use vme_trace::{Change, Line, Lines, Rule};
 
 /// What a step shows of grants and tenures, whatever is remembered.
@@ -34,7 +34,7 @@ pub struct Arbitrated {
     /// BBSY* falls, and no level is granted before the step or after it.
     pub ungranted: bool,
     /// The grant that the fall of BBSY* takes.
-    pub tenure: Option<Taken>,
+    pub tenure: Option<BusGrant>,
     /// BBSY* rises.
     pub ends: bool,
     /// A cycle starts while the bus isn't busy.
@@ -158,7 +158,7 @@ impl Rules for GrantRules {
 
     type Memory = Arbitration;
 
-    type Seen = Arbitrated;
+    type Observation = Arbitrated;
 
     ghost begin = { grant_begin };
 
@@ -168,7 +168,7 @@ impl Rules for GrantRules {
 
     ghost ends = { grant_ends };
 
-    ghost sight = { grant_sight };
+    ghost observation = { grant_sight };
 
     ghost next = { grant_next };
 
@@ -179,14 +179,14 @@ impl Rules for GrantRules {
         }
     }
 
-    fn shown_at_start(lines: &Lines) -> Kinds {
-        Kinds {
+    fn shown_at_start(lines: &Lines) -> StepMarks {
+        StepMarks {
             opened: is_low(lines, Line::BBSY),
             ..NOTHING
         }
     }
 
-    fn shown_at_reset() -> Kinds {
+    fn shown_at_reset() -> StepMarks {
         NOTHING
     }
 
@@ -195,7 +195,7 @@ impl Rules for GrantRules {
     }
 
     #[inline(always)]
-    fn see(before: &Lines, after: &Lines, changes: &[Change]) -> Option<Arbitrated> {
+    fn observe(before: &Lines, after: &Lines, changes: &[Change]) -> Option<Arbitrated> {
         if touches_arbitration(changes) || is_cycle_unowned(before, after) {
             Some(seen_between(before, after, changes))
         } else {
@@ -218,7 +218,7 @@ impl Rules for GrantRules {
                 granted: !seen.takes && granted,
             },
             fault: seen.fault(before, after, requests, granted),
-            kinds: Kinds {
+            kinds: StepMarks {
                 tenure: seen.tenure,
                 tenure_end: seen.ends,
                 ..NOTHING
@@ -228,7 +228,7 @@ impl Rules for GrantRules {
 }
 
 /// The monitor of grants and tenures.
-pub type Grant = Within<GrantRules>;
+pub type Grant = RuleMonitor<GrantRules>;
 
 /// Over a whole capture, the event is the least break of the rules G1 to G5 and B1 to B4, and the marks are the
 /// tenures: an open one at the start, each start with its level and slot, and each end.

@@ -14,7 +14,7 @@ ghost use Rattle.vme_chains.specs.GrantLevels.{rises_between, shown as shown_of,
 ghost use Rattle.vme_chains.specs.GrantLevels.{taken_in as taken_in_of, touches_arbitration as touches_arbitration_of};
 
 use crate::grant_memory::LevelSet;
-use vme_monitor::mark::Taken;
+use vme_monitor::mark::BusGrant;
 use vme_trace::{Change, Level, Line, Lines, Rule};
 
 /// The level of a line, and nothing known of a line that the backplane hasn't.
@@ -135,11 +135,11 @@ fn reached_net(lines: &Lines, level: u8) -> u8
 }
 
 /// The grant of the least level that is granted, with the slot that it has come to.
-fn taken(lines: &Lines) -> Option<Taken>
+fn taken(lines: &Lines) -> Option<BusGrant>
     ensures { result ≡ taken_in_of lines.now }
 {
     match granted_level(lines) {
-        Some(level) => Some(Taken {
+        Some(level) => Some(BusGrant {
             level,
             slot: 1 + reached_net(lines, level),
         }),
@@ -148,7 +148,7 @@ fn taken(lines: &Lines) -> Option<Taken>
 }
 
 /// The grant that a tenure takes which starts with the step.
-pub(crate) fn taken_between(before: &Lines, after: &Lines) -> Option<Taken>
+pub(crate) fn taken_between(before: &Lines, after: &Lines) -> Option<BusGrant>
     ensures { result ≡ taken_between_of before.now after.now }
 {
     if granted_level(after).is_some() {

@@ -4,7 +4,7 @@ ghost use Rattle.std.specs.Prelude.{◌≡◌};
 ghost use Rattle.vme_chains.specs.GrantMemory.{arbitration_nth, arbitration_place, bit_of, is_in};
 ghost use Rattle.vme_chains.specs.GrantMemory.{is_odd as is_odd_number, set_nth, set_place, union as union_of};
 
-use vme_monitor::machine::{Places, Small};
+use vme_monitor::machine::{Enumerable, Small};
 
 /// Some of the four levels of bus requests and grants.
 #[derive(Clone, Copy, PartialEq, Eq, Debug)]
@@ -82,7 +82,7 @@ pub struct Arbitration {
     pub granted: bool,
 }
 
-impl Places for Arbitration {
+impl Enumerable for Arbitration {
     ghost use Rattle.vme_chains.specs.GrantMemory.{arbitration_found, arbitration_placed};
 
     ghost COUNT = { 32 };

@@ -4,7 +4,7 @@ use std::process::Abort;
 use std::test::Fail;
 use vme_chains::grant::Grant;
 use vme_monitor::finite::Finite;
-use vme_monitor::mark::{Kind, Mark};
+use vme_monitor::mark::{Mark, MarkKind};
 use vme_monitor::monitor::{Monitor, join, none};
 use vme_trace::{Block, Break, Capture, Change, Changes, Level, Line, Lines, Rule, Step};
 
@@ -211,23 +211,27 @@ const RESET: [Row; 7] = [
     &[(BBSY, HIGH)],
 ];
 
-fn mark(instant: u32, kind: Kind) -> Mark {
+fn mark(instant: u32, kind: MarkKind) -> Mark {
     Mark { instant, kind }
 }
 
 fn tenure(instant: u32, level: u8, slot: u8) -> Mark {
-    mark(instant, Kind::Tenure { level, slot })
+    mark(instant, MarkKind::Tenure { level, slot })
 }
 
 #[test]
 fn judges_a_tenure(rt: HostRuntime) -> Result<(), Fail> {
-    let shown = [tenure(5, 3, 2), mark(14, Kind::TenureEnd)];
+    let shown = [tenure(5, 3, 2), mark(14, MarkKind::TenureEnd)];
     assert_judged(&rt, rt.alloc(), &TENURE, None, &shown)
 }
 
 #[test]
 fn a_grant_is_taken_once(rt: HostRuntime) -> Result<(), Fail> {
-    let shown = [tenure(6, 3, 3), mark(7, Kind::TenureEnd), tenure(8, 3, 3)];
+    let shown = [
+        tenure(6, 3, 3),
+        mark(7, MarkKind::TenureEnd),
+        tenure(8, 3, 3),
+    ];
     assert_judged(&rt, rt.alloc(), &TWICE, Some((8, Rule::B2, BBSY)), &shown)
 }
 
@@ -242,8 +246,8 @@ fn a_grant_goes_past_the_last_slot(rt: HostRuntime) -> Result<(), Fail> {
 fn a_tenure_is_open_after_a_reset(rt: HostRuntime) -> Result<(), Fail> {
     let shown = [
         tenure(4, 3, 1),
-        mark(7, Kind::Open),
-        mark(8, Kind::TenureEnd),
+        mark(7, MarkKind::Open),
+        mark(8, MarkKind::TenureEnd),
     ];
     assert_judged(&rt, rt.alloc(), &RESET, None, &shown)
 }

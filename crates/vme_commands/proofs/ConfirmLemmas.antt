@@ -12,7 +12,7 @@ use Rattle.vme_listing.specs.declared.fault.ListFault.{ListFault}
 use Rattle.vme_listing.specs.declared.fault.ListFault.TheVariants as list
 use Rattle.vme_cert.specs.declared.compare.Answer.{Answer as Confirmation}
 use Rattle.vme_cert.specs.declared.compare.Answer.TheVariants.{Yes, No}
-use Rattle.vme_answer.specs.Answers.{Answer, Gives, binding_read, dump_read, recorded_by}
+use Rattle.vme_answer.specs.Answers.{CommandAnswer, AnswerGives, binding_read, dump_read, recorded_by}
 use Rattle.vme_commands.specs.Confirmations.{Confirms, GivesConfirmation, GivesRows, IsConfirmation, IsFound, IsListing, compared, compared_with, confirmation_answer_by, confirmation_status, listing_text, TellsConfirmation}
 use Rattle.vme_answer.specs.Ends.{Tells, Ends}
 use Rattle.vme_stream.specs.Inputs.{IsInTime, IsReading, TellsWhole, longest_input}
@@ -28,7 +28,7 @@ use Rattle.vme_stream.proofs.InputLemmas.{in_time}
 use Rattle.vme_trace.specs.Streams.{Reading, Writing}
 
 pub binding_lacks : (binding : Result BoundLines Refusal) (dump : Result Contents Refusal) (listing : Result Listed Refusal) (r : Refusal)
-    → Gives (λ (b : BoundLines). b) (Err r) binding → GivesConfirmation (Err r) (compared binding dump listing)
+    → AnswerGives (λ (b : BoundLines). b) (Err r) binding → GivesConfirmation (Err r) (compared binding dump listing)
 binding_lacks binding dump listing Memory is = tt
 binding_lacks binding dump listing r is = ap (λ (w : Result BoundLines Refusal). compared w dump listing) is
 
@@ -49,7 +49,7 @@ dump_recorded bound dump listing recorded found is given =
     subst (GivesConfirmation found) (sym same) given
 
 pub dump_lacks : (bound : BoundLines) (dump : Result Contents Refusal) (listing : Result Listed Refusal) (r : Refusal)
-    → Gives (λ (recorded : Result Trace BindFault). recorded) (Err r) (recorded_by bound dump) → GivesConfirmation (Err r) (compared (Ok bound) dump listing)
+    → AnswerGives (λ (recorded : Result Trace BindFault). recorded) (Err r) (recorded_by bound dump) → GivesConfirmation (Err r) (compared (Ok bound) dump listing)
 dump_lacks bound dump listing Memory is = tt
 dump_lacks bound dump listing r is = compared_is bound dump listing ∙ ap (λ (w : Result (Result Trace BindFault) Refusal). w >>= with_listing listing) is
 
@@ -121,7 +121,7 @@ is_confirmation (Ok bound) (Ok contents) text given found memory rows is =
     λ lacks. memory (refused_alike found Memory (subst (λ (g : Result Listed Refusal). IsFound found (compared (Ok bound) (Ok contents) g)) lacks said)) in
     (given, none, is_listing text given none rows, said)
 
-was_told : (answer : Answer) (out err : Writing × Writing) (status : ℕ) → Ends answer out err status → out.1.failures ≡ out.0.failures → Tells answer out err status
+was_told : (answer : CommandAnswer) (out err : Writing × Writing) (status : ℕ) → Ends answer out err status → out.1.failures ≡ out.0.failures → Tells answer out err status
 was_told answer out err status (inl told) same = told
 was_told answer out err status (inr failed) same = absurd (not_both out.1.failures out.0.failures same failed.out_is.1)
 

@@ -7,9 +7,9 @@ use Rattle.vme_trace.specs.Blocks.{block_count}
 use Rattle.vme_trace.specs.Trace.{Trace}
 use Rattle.vme_trace.specs.Verdict.{rules_in_force, verdict_by}
 use Rattle.vme_trace.specs.WellFormed.{capture_limit}
-use Rattle.vme_summary.specs.declared.watch.NoVerdict.{NoVerdict}
-use Rattle.vme_summary.specs.declared.watch.NoVerdict.TheVariants.{TooManySteps, TooManyBlocks, Memory}
-use Rattle.vme_answer.specs.Answers.{Gives, judgement_of, or_bad_binding, recording_read, verdict_in_blocks}
+use Rattle.vme_summary.specs.declared.stream_judge.NoVerdict.{NoVerdict}
+use Rattle.vme_summary.specs.declared.stream_judge.NoVerdict.TheVariants.{TooManySteps, TooManyBlocks, Memory}
+use Rattle.vme_answer.specs.Answers.{AnswerGives, judgement_of, or_bad_binding, recording_read, verdict_in_blocks}
 use Rattle.vme_answer.specs.Refusals.{judging_refusal}
 use Rattle.vme_answer.specs.declared.refusal.Refusal.{Refusal}
 use Rattle.vme_answer.specs.declared.refusal.Refusal.TheVariants as refusal
@@ -30,7 +30,7 @@ module _ {X : Type 0} (t : Trace) (block : ℕ) (r : Result X NoVerdict)
       rw (le-ltb capture_limit (length t.steps) short) (rw (le-ltb 4096 (block_count block t) few) refl)
 
   -- and why one isn't
-  pub judged-refused : (why : NoVerdict) → r ≡ Err why → Gives (λ (t : Trace). t) (Err (judging_refusal why)) (limited_in_blocks block t)
+  pub judged-refused : (why : NoVerdict) → r ≡ Err why → AnswerGives (λ (t : Trace). t) (Err (judging_refusal why)) (limited_in_blocks block t)
   judged-refused TooManySteps is = rw (lt-ltb capture_limit (length t.steps) (long.0 is)) refl
   judged-refused TooManyBlocks is =
       let (short, over) = many.0 is in

@@ -5,7 +5,7 @@ use Rattle.std.specs.Prelude.{Option, Some, None, Result, Ok, Err, flat_map, sli
 use Rattle.std.specs.List.{last_or}
 use Rattle.std.specs.Option.{option_map_or}
 use Rattle.vcd_read.specs.Header.{◌>>=◌}
-use Rattle.vme_trace.specs.Judged.{Span, judged_spans}
+use Rattle.vme_trace.specs.Judged.{Stretch, judged_spans}
 use Rattle.vme_trace.specs.Trace.{Trace}
 use Rattle.vme_trace.specs.Rules.{all_rules, is_unreadable}
 use Rattle.vme_trace.specs.Verdict.{rules_in_force, least_of, judge, verdict_by, verdict_on}
@@ -14,12 +14,12 @@ use Rattle.vme_trace.specs.declared.verdict.Verdict.TheVariants as verdict
 use Rattle.vme_listing.specs.Listed.{Listed}
 use Rattle.vme_listing.specs.RowText.{text_of}
 use Rattle.vme_listing.specs.Recorded.{listing_by, listing_of, listing_of_spans, listed_end, outcome_of, rows_of_span}
-use Rattle.vme_listing.specs.declared.row.Outcome.TheVariants as outcome
+use Rattle.vme_listing.specs.declared.row.ListedVerdict.TheVariants as outcome
 use Rattle.vme_listing.specs.declared.row.Row.{Row}
 use Rattle.vme_listing.specs.declared.row.Row.TheVariants.{Verdict}
 use Rattle.vme_answer.specs.declared.refusal.Refusal.{Refusal}
 use Rattle.vme_answer.specs.declared.refusal.Refusal.TheVariants.{Memory}
-use Rattle.vme_answer.specs.Answers.{Gives, capture_read, recording_read}
+use Rattle.vme_answer.specs.Answers.{AnswerGives, capture_read, recording_read}
 use Rattle.vme_answer.specs.Ends.{Tells}
 use Rattle.vme_answer.specs.Texts.{verdict_status}
 use Rattle.vme_answer.proofs.AnswerLemmas.{capture_read-recorded}
@@ -29,7 +29,7 @@ use Rattle.vme_stream.specs.Inputs.{TellsWhole}
 use Rattle.vme_trace.specs.Streams.{Reading, Writing}
 use Rattle.vme_stream.proofs.OutputLemmas.{front_is}
 use Rattle.vme_commands.specs.Judged.{in_blocks, limited_in_blocks}
-use Rattle.vme_commands.specs.Listings.{GivesListing, Lists, listing_answer_by, listing_answer_of, listing_status, outcome_status, recording_of, row_status, rows_status}
+use Rattle.vme_commands.specs.Listings.{GivesListing, WritesListing, listing_answer_by, listing_answer_of, listing_status, outcome_status, recording_of, row_status, rows_status}
 
 -- ---- the status
 
@@ -61,7 +61,7 @@ status_on (Some b) = status_by b (is_unreadable b.rule)
 abbrev pub status_of_last : Option Row → ℕ
 status_of_last row = option_map_or row_status row 2
 
-status_over : (t : Trace) (spans : List Span)
+status_over : (t : Trace) (spans : List Stretch)
     → rows_status (listing_of_spans all_rules t spans) ≡ verdict_status (judge rules_in_force t spans)
 status_over t [] = refl
 status_over t (span ∷ spans) =
@@ -76,7 +76,7 @@ listing_status-is t = status_over t (judged_spans t)
 
 -- ---- what is given
 
-pub recording_of-refused : (binding dump : Option (List ℕ)) (block : ℕ) (r : Refusal) → Gives (λ (t : Trace). t) (Err r) (capture_read binding dump)
+pub recording_of-refused : (binding dump : Option (List ℕ)) (block : ℕ) (r : Refusal) → AnswerGives (λ (t : Trace). t) (Err r) (capture_read binding dump)
     → GivesListing (Err r) (recording_of binding dump block)
 unfolding recording_of
 recording_of-refused binding dump block Memory is = tt
@@ -87,11 +87,11 @@ pub recording_of-recorded : (binding dump : Option (List ℕ)) (block : ℕ) (t 
 unfolding recording_of
 recording_of-recorded binding dump block t is = ap (λ (w : Result Trace Refusal). w >>= in_blocks block) (capture_read-recorded binding dump t is)
 
-pub refused_listing : (r : Refusal) (recording : Result Trace Refusal) → Gives (λ (t : Trace). t) (Err r) recording → GivesListing (Err r) recording
+pub refused_listing : (r : Refusal) (recording : Result Trace Refusal) → AnswerGives (λ (t : Trace). t) (Err r) recording → GivesListing (Err r) recording
 refused_listing Memory recording given = tt
 refused_listing r recording given = given
 
-pub given_refusal : (r : Refusal) (recording : Result Trace Refusal) → GivesListing (Err r) recording → Gives (λ (t : Trace). t) (Err r) recording
+pub given_refusal : (r : Refusal) (recording : Result Trace Refusal) → GivesListing (Err r) recording → AnswerGives (λ (t : Trace). t) (Err r) recording
 given_refusal Memory recording given = tt
 given_refusal r recording given = given
 
@@ -118,16 +118,16 @@ listing_answer_by-small (Ok t) = verdict_status-small (verdict_by rules_in_force
 listing_answer_by-small (Err r) = refusal_status-small r
 
 abbrev MayList : ℕ → Option (List ℕ) → Option (List ℕ) → Result Trace Refusal → Type 0
-MayList block b d recording = Gives (λ (t : Trace). t) recording (recording_of b d block)
+MayList block b d recording = AnswerGives (λ (t : Trace). t) recording (recording_of b d block)
 
-pub Lists-unwritten : (binding dump : Reading × Reading) (block : ℕ) (out err : Writing × Writing) (status : ℕ) → Lists binding dump block out err status
+pub WritesListing-unwritten : (binding dump : Reading × Reading) (block : ℕ) (out err : Writing × Writing) (status : ℕ) → WritesListing binding dump block out err status
     → (status ≡ 5) ↔ (out.1.failures ≡ suc out.0.failures)
-Lists-unwritten binding dump block out err status = Does-unwritten listing_answer_by listing_answer_by-small (MayList block) binding dump out err status
+WritesListing-unwritten binding dump block out err status = Does-unwritten listing_answer_by listing_answer_by-small (MayList block) binding dump out err status
 
-pub Lists-exact : (binding dump : Reading × Reading) (block : ℕ) (out err : Writing × Writing) (status : ℕ) → Lists binding dump block out err status
+pub WritesListing-exact : (binding dump : Reading × Reading) (block : ℕ) (out err : Writing × Writing) (status : ℕ) → WritesListing binding dump block out err status
     → (b d : List ℕ) → TellsWhole binding.0 binding.1 b → TellsWhole dump.0 dump.1 d
     → out.1.failures ≡ out.0.failures → (status ≡ 4 → ⊥)
     → Tells (listing_answer_of (Some b) (Some d) block) out err status
-Lists-exact binding dump block out err status lists b d =
+WritesListing-exact binding dump block out err status lists b d =
     Does-exact listing_answer_by listing_answer_by-small (MayList block) binding dump out err status lists b d (listing_answer_of (Some b) (Some d) block)
     (λ found. given_is listing_answer_by refl found (recording_of (Some b) (Some d) block))

@@ -14,7 +14,7 @@ use Rattle.vme_bind.specs.declared.fault.CaptureFault.{CaptureFault}
 use Rattle.vme_bind.specs.declared.fault.CaptureFault.TheVariants.{Dump, Binding}
 use Rattle.vme_bind.specs.Binding.{BoundLines}
 use Rattle.vme_bind.specs.Made.{made_change, made_instant}
-use Rattle.vme_bind.specs.TextCapture.{BindingFails, DumpFails, FailsBy, recording_of_text}
+use Rattle.vme_bind.specs.TextCapture.{BindingFails, DumpFails, CaptureFailsBy, recording_of_text}
 use Rattle.vme_bind.specs.TextPieces.{TextReached, outcome, outcome_ahead}
 use Rattle.vme_commands.specs.Wants.{is_want}
 
@@ -54,7 +54,7 @@ read-on t t2 piece line line2 is ends leads rest =
     ∙ ahead-from t2 (line_behind line piece) line2 rest is
 
 -- a fault that is no want of memory is the answer
-pub told-is : (fault : CaptureFault) (answer : Result Trace CaptureFault) → is_want fault ≡ false → FailsBy fault answer → answer ≡ Err fault
+pub told-is : (fault : CaptureFault) (answer : Result Trace CaptureFault) → is_want fault ≡ false → CaptureFailsBy fault answer → answer ≡ Err fault
 told-is (Dump fault) answer told fails = by_kind fault.line fault.kind told fails
   where
     by_kind : (line : ℕ) (kind : FaultKind) → is_want (Dump (record { line = line; kind = kind })) ≡ false → DumpFails line kind answer → answer ≡ Err (Dump (record { line = line; kind = kind }))
@@ -67,7 +67,7 @@ told-is (Binding fault) answer told fails = by_kind fault.line fault.kind told f
     by_kind line kind told fails = fails
 
 -- a fault that is the answer is told as it is
-pub is-told : (fault : CaptureFault) (answer : Result Trace CaptureFault) → is_want fault ≡ false → answer ≡ Err fault → FailsBy fault answer
+pub is-told : (fault : CaptureFault) (answer : Result Trace CaptureFault) → is_want fault ≡ false → answer ≡ Err fault → CaptureFailsBy fault answer
 is-told (Dump fault) answer told is = by_kind fault.line fault.kind told is
   where
     by_kind : (line : ℕ) (kind : FaultKind) → is_want (Dump (record { line = line; kind = kind })) ≡ false → answer ≡ Err (Dump (record { line = line; kind = kind })) → DumpFails line kind answer
@@ -82,7 +82,7 @@ is-told (Binding fault) answer told is = by_kind fault.line fault.kind told is
 -- a fault of a piece of the body is that of the text
 pub failed-on : (t : TextReached) (piece : List ℕ) (line : ℕ) (fault : CaptureFault)
     → EndsThere piece → is_want fault ≡ false
-    → ((more : List Token) → FailsBy fault (outcome_ahead t (tokens_from line piece) more))
+    → ((more : List Token) → CaptureFailsBy fault (outcome_ahead t (tokens_from line piece) more))
     → (rest : List ℕ) → outcome_ahead t (tokens_from line (piece ++ rest)) [] ≡ Err fault
 failed-on t piece line fault ends told fails rest =
     let more = tokens_from (line_behind line piece) rest in
@@ -91,7 +91,7 @@ failed-on t piece line fault ends told fails rest =
 
 -- a fault of a front of the text is that of the text
 pub failed-at-front : (b : BoundLines) (front : List ℕ) (fault : CaptureFault) → EndsThere front → is_want fault ≡ false
-    → ((whole : List ℕ) (more : List Token) → tokens whole ≡ tokens front ++ more → FailsBy fault (recording_of_text b whole))
+    → ((whole : List ℕ) (more : List Token) → tokens whole ≡ tokens front ++ more → CaptureFailsBy fault (recording_of_text b whole))
     → (rest : List ℕ) → recording_of_text b (front ++ rest) ≡ Err fault
 failed-at-front b front fault ends told fails rest =
     told-is fault (recording_of_text b (front ++ rest)) told (fails (front ++ rest) (tokens_from (line_behind 1 front) rest) (ends 1 rest))

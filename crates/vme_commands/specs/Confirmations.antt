@@ -13,10 +13,10 @@ use Rattle.vme_listing.specs.Reading.{IsFirstFault, IsNoListing}
 use Rattle.vme_listing.specs.Recorded.{recorded_rows, rows_in}
 use Rattle.vme_listing.specs.RowText.{text_of}
 use Rattle.vme_listing.specs.declared.fault.ListFault.{ListFault}
-use Rattle.vme_cert.specs.Agreement.{Settles}
+use Rattle.vme_cert.specs.Agreement.{DecidesListing}
 use Rattle.vme_cert.specs.declared.compare.Answer.{Answer as Confirmation}
 use Rattle.vme_cert.specs.declared.compare.Answer.TheVariants.{Yes, No}
-use Rattle.vme_answer.specs.Answers.{Answer, binding_read, dump_read, or_bad_binding, refusal_answer, whole}
+use Rattle.vme_answer.specs.Answers.{CommandAnswer, binding_read, dump_read, or_bad_binding, refusal_answer, whole}
 use Rattle.vme_answer.specs.Ends.{Ends, Tells}
 use Rattle.vme_stream.specs.Inputs.{IsReading}
 use Rattle.vme_answer.specs.Refusals.{listing_refusal}
@@ -63,7 +63,7 @@ compared_with recorded listing = do
 -- differs; or why there is no answer
 abbrev pub IsFound : Result Confirmation Refusal → Result (Listed × Trace) Refusal → Type 0
 IsFound (Ok found) said = (given : Listed) × (t : Trace) × (said ≡ Ok (given, t))
-    × Settles given.rows (rows_in given.version (recorded_rows t)) found
+    × DecidesListing given.rows (rows_in given.version (recorded_rows t)) found
 IsFound (Err refusal) said = said ≡ Err refusal
 
 -- the same, unless there was no memory
@@ -92,7 +92,7 @@ abbrev pub confirmation_status : Confirmation → ℕ
 confirmation_status Yes = 0
 confirmation_status (No row) = 1
 
-abbrev pub confirmation_answer_by : Result Confirmation Refusal → Answer
+abbrev pub confirmation_answer_by : Result Confirmation Refusal → CommandAnswer
 confirmation_answer_by (Ok found) =
     record { out = line_of (confirmation_text found); error = []; status = confirmation_status found }
 confirmation_answer_by (Err refusal) = refusal_answer refusal

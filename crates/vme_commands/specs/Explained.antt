@@ -7,11 +7,11 @@ use Rattle.vme_trace.specs.Streams.{Reading, Writing}
 use Rattle.vme_trace.specs.declared.verdict.Verdict.{Verdict}
 use Rattle.vme_commands.specs.declared.explain.Explained.{Explained}
 use Rattle.vme_answer.specs.declared.refusal.Refusal.{Refusal}
-use Rattle.vme_answer.specs.Answers.{Answer, Gives, capture_by, judgement_of, refusal_answer, verdict_in_blocks}
+use Rattle.vme_answer.specs.Answers.{CommandAnswer, AnswerGives, capture_by, judgement_of, refusal_answer, verdict_in_blocks}
 use Rattle.vme_answer.specs.Ends.{Ends}
 use Rattle.vme_stream.specs.Inputs.{IsReading}
 use Rattle.vme_answer.specs.Texts.{line_of, verdict_status, verdict_text}
-use Rattle.vme_commands.specs.Told.{text_answer}
+use Rattle.vme_commands.specs.TextAnswers.{text_answer}
 
 -- the verdict on the recording that a binding makes of what reading the dump gave
 abbrev pub judged_by : BoundLines → Result Contents Refusal → Result Verdict Refusal
@@ -27,7 +27,7 @@ abbrev pub BeginsWithVerdict : Result Explained Refusal → Type 0
 BeginsWithVerdict (Ok told) = BeginsWithLine told
 BeginsWithVerdict (Err refusal) = Unit {0}
 
-abbrev pub explained_answer_by : Result Explained Refusal → Answer
+abbrev pub explained_answer_by : Result Explained Refusal → CommandAnswer
 explained_answer_by (Ok told) = text_answer (verdict_status told.verdict) told.text
 explained_answer_by (Err refusal) = refusal_answer refusal
 
@@ -38,6 +38,6 @@ Explains binding dump out err status =
     (binding_bytes dump_bytes : Option (List ℕ)) × (told : Result Explained Refusal)
     × IsReading binding.0 binding.1 binding_bytes
     × IsReading dump.0 dump.1 dump_bytes
-    × Gives (λ (e : Explained). e.verdict) told (judgement_of binding_bytes dump_bytes 16384)
+    × AnswerGives (λ (e : Explained). e.verdict) told (judgement_of binding_bytes dump_bytes 16384)
     × BeginsWithVerdict told
     × Ends (explained_answer_by told) out err status

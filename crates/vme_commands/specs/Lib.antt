@@ -2,7 +2,7 @@ pub mod Confirmations
 pub mod Explained
 pub mod Judged
 pub mod Listings
-pub mod Told
-pub mod Underway
+pub mod TextAnswers
+pub mod DumpJudge
 pub mod Wants
 pub mod Words

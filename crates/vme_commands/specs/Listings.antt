@@ -9,14 +9,14 @@ use Rattle.vme_trace.specs.Verdict.{verdict_by, rules_in_force}
 use Rattle.vme_listing.specs.Listed.{Listed}
 use Rattle.vme_listing.specs.Recorded.{listing_of}
 use Rattle.vme_listing.specs.RowText.{text_of}
-use Rattle.vme_answer.specs.Answers.{Answer, Gives, capture_read, refusal_answer}
+use Rattle.vme_answer.specs.Answers.{CommandAnswer, AnswerGives, capture_read, refusal_answer}
 use Rattle.vme_answer.specs.Ends.{Does}
 use Rattle.vme_answer.specs.Texts.{verdict_status}
 use Rattle.vme_answer.specs.declared.refusal.Refusal.{Refusal}
 use Rattle.vme_answer.specs.declared.refusal.Refusal.TheVariants.{Memory}
 use Rattle.vme_commands.specs.Judged.{in_blocks}
-use Rattle.vme_listing.specs.declared.row.Outcome.{Outcome}
-use Rattle.vme_listing.specs.declared.row.Outcome.TheVariants.{Conforming, NeverIdle, Broken, Unreadable}
+use Rattle.vme_listing.specs.declared.row.ListedVerdict.{ListedVerdict}
+use Rattle.vme_listing.specs.declared.row.ListedVerdict.TheVariants.{Conforming, NeverIdle, Broken, Unreadable}
 use Rattle.vme_listing.specs.declared.row.Row.{Row}
 use Rattle.vme_listing.specs.declared.row.Row.TheVariants.{Start, Reset, OpenTenure, Tenure, AddressedCycle}
 use Rattle.vme_listing.specs.declared.row.Row.TheVariants.{FreeCycle, InterruptCycle, Transfer, PendingTransfer}
@@ -38,7 +38,7 @@ GivesListing (Err refusal) recording = recording ≡ Err refusal
 
 -- ---- the exit status that a listing has by its last row
 
-abbrev pub outcome_status : Outcome → ℕ
+abbrev pub outcome_status : ListedVerdict → ℕ
 outcome_status Conforming = 0
 outcome_status NeverIdle = 2
 outcome_status (Broken rule instant line) = 1
@@ -66,17 +66,17 @@ listing_status listing = rows_status listing.rows
 -- ---- the answer
 
 -- a listing is told with the status of the verdict
-abbrev pub listing_answer_by : Result Trace Refusal → Answer
+abbrev pub listing_answer_by : Result Trace Refusal → CommandAnswer
 listing_answer_by (Ok t) =
     record { out = text_of (listing_of t); error = []; status = verdict_status (verdict_by rules_in_force t) }
 listing_answer_by (Err refusal) = refusal_answer refusal
 
 -- the answer to a binding and a dump that are to be listed, each by its bytes or unreadable
-abbrev pub listing_answer_of : Option (List ℕ) → Option (List ℕ) → ℕ → Answer
+abbrev pub listing_answer_of : Option (List ℕ) → Option (List ℕ) → ℕ → CommandAnswer
 listing_answer_of binding dump block = listing_answer_by (recording_of binding dump block)
 
 -- what the inputs say is listed, unless there was no memory
-abbrev pub Lists : Reading × Reading → Reading × Reading → ℕ → Writing × Writing → Writing × Writing → ℕ → Type 0
-Lists binding dump block out err status =
-    Does listing_answer_by (λ b d recording. Gives (λ t. t) recording (recording_of b d block))
+abbrev pub WritesListing : Reading × Reading → Reading × Reading → ℕ → Writing × Writing → Writing × Writing → ℕ → Type 0
+WritesListing binding dump block out err status =
+    Does listing_answer_by (λ b d recording. AnswerGives (λ t. t) recording (recording_of b d block))
     binding dump out err status

@@ -5,7 +5,7 @@ ghost use Rattle.vcd_read.specs.Meaning.{dump_of};
 ghost use Rattle.vme_answer.specs.Answers.{dump_read, or_bad_dump};
 ghost use Rattle.vme_answer.specs.Ends.{Ends};
 ghost use Rattle.vme_stream.specs.Inputs.{IsReading};
-ghost use Rattle.vme_commands.specs.Told.{IsBindingFor, text_answer_by};
+ghost use Rattle.vme_commands.specs.TextAnswers.{IsBindingFor, text_answer_by};
 ghost use Rattle.vme_answer.specs.declared.refusal.Refusal.{Refusal};
 
 use crate::telling::tell_text;

@@ -1,13 +1,13 @@
 //! The check of one recording.
 
 ghost use Rattle.std.specs.Prelude.{◌≡◌, ◌≢◌, ◌≤◌, ◌↔◌, ℕ, suc, List, Option, Some, None};
-ghost use Rattle.vme_answer.specs.Answers.{Gives, answer_of, judgement_of};
+ghost use Rattle.vme_answer.specs.Answers.{AnswerGives, answer_of, judgement_of};
 ghost use Rattle.vme_answer.specs.Ends.{Checks, Tells};
 ghost use Rattle.vme_stream.specs.Inputs.{IsReading, TellsWhole};
 ghost use Rattle.vme_trace.specs.WellFormed.{malformed_step};
 ghost use Rattle.vme_commands.specs.Judged.{judged_in_blocks};
 
-use crate::followed::followed;
+use crate::judged_dump::judged_dump;
 use crate::workers::Workers;
 use std::alloc::Global;
 use std::thread::Threads;
@@ -94,9 +94,9 @@ fn judge<R: Threads + Sync, B: Source, D: Source>(
     ensures { (binding_bytes dump_bytes : Option (List ℕ))
         × IsReading (B.reading binding.old) (B.reading binding.new) binding_bytes
         × IsReading (D.reading dump.old) (D.reading dump.new) dump_bytes
-        × Gives (λ verdict. verdict) result (judgement_of binding_bytes dump_bytes block) }
+        × AnswerGives (λ verdict. verdict) result (judgement_of binding_bytes dump_bytes block) }
 {
-    match followed(alloc, workers, binding, dump) {
+    match judged_dump(alloc, workers, binding, dump) {
         Ok(judge) => verdict_of(alloc, judge, block),
         Err(refusal) => Err(refusal),
     }
@@ -105,7 +105,7 @@ fn judge<R: Threads + Sync, B: Source, D: Source>(
 /// The verdict on a recording whose steps were judged.
 fn verdict_of(alloc: Global, judge: Judge, block: u32) -> Result<Verdict, Refusal>
     requires { (1 ≤ block) × (block ≤ 65536) }
-    ensures { malformed_step judge ≡ None → Gives (λ verdict. verdict) result (judged_in_blocks block judge) }
+    ensures { malformed_step judge ≡ None → AnswerGives (λ verdict. verdict) result (judged_in_blocks block judge) }
 {
     match judge.verdict(alloc, block) {
         Ok(verdict) => Ok(verdict),

@@ -3,7 +3,7 @@
 ghost use Rattle.std.specs.Prelude.{◌≡◌, ◌++◌, ℕ, List, Option, IfOk, Result};
 ghost use Rattle.vcd_read.specs.Meaning.{dump_of};
 ghost use Rattle.vme_bind.specs.Binding.{binding_of};
-ghost use Rattle.vme_answer.specs.Answers.{Gives, binding_read, dump_read, judgement_of, or_bad_binding, or_bad_dump};
+ghost use Rattle.vme_answer.specs.Answers.{AnswerGives, binding_read, dump_read, judgement_of, or_bad_binding, or_bad_dump};
 ghost use Rattle.vme_answer.specs.Answers.{verdict_in_blocks};
 ghost use Rattle.vme_commands.specs.Explained.{BeginsWithLine, BeginsWithVerdict, Explains, judged_by};
 ghost use Rattle.vme_stream.specs.Inputs.{IsReading};
@@ -79,7 +79,7 @@ fn explained_from<B: Source, D: Source>(
     ensures read { (binding_bytes dump_bytes : Option (List ℕ))
         × IsReading (B.reading binding.old) (B.reading binding.new) binding_bytes
         × IsReading (D.reading dump.old) (D.reading dump.new) dump_bytes
-        × Gives (λ told. told.verdict) result (judgement_of binding_bytes dump_bytes 16384) }
+        × AnswerGives (λ told. told.verdict) result (judgement_of binding_bytes dump_bytes 16384) }
     ensures begins { BeginsWithVerdict result }
 {
     match read_all(alloc, binding) {
@@ -98,7 +98,7 @@ fn explained_bound<D: Source>(
     ensures read { (bytes : Option (List ℕ))
         × IsReading (D.reading dump.old) (D.reading dump.new) bytes
         × ((b : Option (List ℕ)) → binding_read b ≡ or_bad_binding (binding_of binding.now)
-        → Gives (λ told. told.verdict) result (judgement_of b bytes 16384)) }
+        → AnswerGives (λ told. told.verdict) result (judgement_of b bytes 16384)) }
     ensures begins { BeginsWithVerdict result }
 {
     match binding_in(alloc, binding) {
@@ -117,7 +117,7 @@ fn explained_by<D: Source>(
 ) -> Result<Explained, Refusal>
     ensures read { (bytes : Option (List ℕ))
         × IsReading (D.reading dump.old) (D.reading dump.new) bytes
-        × Gives (λ told. told.verdict) result (judged_by bound.now (dump_read bytes)) }
+        × AnswerGives (λ told. told.verdict) result (judged_by bound.now (dump_read bytes)) }
     ensures begins { BeginsWithVerdict result }
 {
     match read_all(alloc, dump) {
@@ -134,7 +134,7 @@ fn explained_in(
     dump: &[u8],
     name: &[u8],
 ) -> Result<Explained, Refusal>
-    ensures read { Gives (λ told. told.verdict) result (judged_by bound.now (or_bad_dump (dump_of dump.now))) }
+    ensures read { AnswerGives (λ told. told.verdict) result (judged_by bound.now (or_bad_dump (dump_of dump.now))) }
     ensures begins { BeginsWithVerdict result }
 {
     match captured_in(alloc, bound, dump) {
@@ -151,7 +151,7 @@ fn explained_of(
     dump: &[u8],
     name: &[u8],
 ) -> Result<Explained, Refusal>
-    ensures read { Gives (λ told. told.verdict) result (verdict_in_blocks 16384 capture.now) }
+    ensures read { AnswerGives (λ told. told.verdict) result (verdict_in_blocks 16384 capture.now) }
     ensures begins { BeginsWithVerdict result }
 {
     match verdict_on(alloc, capture, BLOCK) {

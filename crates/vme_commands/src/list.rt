@@ -7,15 +7,15 @@ ghost use Rattle.vme_trace.specs.WellFormed.{malformed_step};
 ghost use Rattle.vme_answer.specs.Ends.{Ends, Tells};
 ghost use Rattle.vme_stream.specs.Inputs.{IsReading, TellsWhole};
 ghost use Rattle.vme_commands.specs.Judged.{limited_in_blocks};
-ghost use Rattle.vme_commands.specs.Listings.{GivesListing, Lists, listing_answer_by, listing_answer_of, recording_of};
+ghost use Rattle.vme_commands.specs.Listings.{GivesListing, WritesListing, listing_answer_by, listing_answer_of, recording_of};
 ghost use Rattle.vme_commands.specs.Listings.{listing_status, outcome_status, row_status};
 
-use crate::followed::followed;
+use crate::judged_dump::judged_dump;
 use crate::workers::Workers;
 use std::alloc::Global;
 use std::thread::Threads;
 use vme_answer::{Refusal, cannot_write_line, refusal_line};
-use vme_listing::{Listing, Outcome, Row, write_listing};
+use vme_listing::{ListedVerdict, Listing, Row, write_listing};
 use vme_stream::complain;
 use vme_summary::Lister;
 use vme_trace::{Sink, Source};
@@ -40,7 +40,7 @@ pub fn list<R: Threads + Sync, B: Source, D: Source, O: Sink, E: Sink>(
 ) -> u8
     requires block { (1 ≤ block) × (block ≤ 65536) }
     requires workers { (1 ≤ workers) × (workers ≤ 64) }
-    ensures answer { Lists
+    ensures answer { WritesListing
         (B.reading binding.old, B.reading binding.new) (D.reading dump.old, D.reading dump.new) block
         (O.writing out.old, O.writing out.new) (E.writing err.old, E.writing err.new) result }
     ensures unwritten { (result ≡ 5) ↔ ((O.writing out.new).failures ≡ suc (O.writing out.old).failures) }
@@ -74,7 +74,7 @@ pub fn list_by<R: Threads + Sync, B: Source, D: Source, O: Sink, E: Sink>(
     err: &mut E,
 ) -> u8
     requires { (1 ≤ block) × (block ≤ 65536) }
-    ensures { Lists
+    ensures { WritesListing
         (B.reading binding.old, B.reading binding.new) (D.reading dump.old, D.reading dump.new) block
         (O.writing out.old, O.writing out.new) (E.writing err.old, E.writing err.new) result }
 {
@@ -120,13 +120,13 @@ fn row_code(row: &Row) -> u8
     }
 }
 
-fn outcome_code(outcome: Outcome) -> u8
+fn outcome_code(outcome: ListedVerdict) -> u8
     ensures { result ≡ outcome_status outcome }
 {
     match outcome {
-        Outcome::Conforming => 0,
-        Outcome::Broken(..) => 1,
-        Outcome::Unreadable(..) | Outcome::NeverIdle => 2,
+        ListedVerdict::Conforming => 0,
+        ListedVerdict::Broken(..) => 1,
+        ListedVerdict::Unreadable(..) | ListedVerdict::NeverIdle => 2,
     }
 }
 
@@ -144,7 +144,7 @@ fn listing<R: Threads + Sync, B: Source, D: Source>(
         × IsReading (D.reading dump.old) (D.reading dump.new) dump_bytes
         × GivesListing result (recording_of binding_bytes dump_bytes block) }
 {
-    match followed(alloc, workers, binding, dump) {
+    match judged_dump(alloc, workers, binding, dump) {
         Ok(lister) => listing_of_steps(alloc, lister, block),
         Err(refusal) => Err(refusal),
     }

@@ -2,7 +2,7 @@
 
 ghost use Rattle.std.specs.Prelude.{ℕ, List, Result};
 ghost use Rattle.vme_answer.specs.Ends.{Ends};
-ghost use Rattle.vme_commands.specs.Told.{IsText, text_answer_by};
+ghost use Rattle.vme_commands.specs.TextAnswers.{IsText, text_answer_by};
 ghost use Rattle.vme_answer.specs.declared.refusal.Refusal.{Refusal};
 
 use crate::telling::tell_text;

@@ -2,7 +2,7 @@
 
 ghost use Rattle.std.specs.Prelude.{[]};
 ghost use Rattle.vme_answer.specs.Ends.{Ends};
-ghost use Rattle.vme_commands.specs.Told.{text_answer, text_answer_by};
+ghost use Rattle.vme_commands.specs.TextAnswers.{text_answer, text_answer_by};
 
 use vme_answer::{Refusal, cannot_write_line, refusal_line};
 use vme_stream::{complain, write_all};

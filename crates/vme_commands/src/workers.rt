@@ -3,15 +3,15 @@
 ghost use Rattle.std.specs.Prelude.{◌≡◌, ◌≤◌, [], IfOk};
 ghost use Rattle.vcd_read.specs.Reading.{line_behind};
 ghost use Rattle.vcd_read.specs.Tokens.{tokens_from};
-ghost use Rattle.vme_bind.specs.TextPieces.{LeadsTo, outcome_ahead, text_reached};
+ghost use Rattle.vme_bind.specs.TextPieces.{TextContinuesAs, outcome_ahead, text_reached};
 ghost use Rattle.vme_stream.specs.Inputs.{longest_input};
 
 use std::alloc::Global;
 use std::thread::Threads;
 use vme_bind::{CaptureFault, TextPieces};
-use vme_summary::advance::Advance;
-use vme_summary::watch::Watch;
-use vme_waves::{Guess, read_by_workers};
+use vme_summary::chunk_judge::ChunkJudge;
+use vme_summary::stream_judge::StreamJudge;
+use vme_waves::{Speculation, read_by_workers};
 
 /// How many bytes of a dump one worker looks at together, where that is enough for its definitions and its longest
 /// word.
@@ -33,7 +33,7 @@ pub struct Workers<'r, R: Threads + Sync> {
     /// How many each of several workers gets at once.
     share: usize,
     /// Whether the levels before the pieces of several workers were guessed wrong.
-    guess: Guess,
+    speculation: Speculation,
     ghost piece_in_range: { (1 ≤ piece) × (piece ≤ longest_input) },
 }
 
@@ -53,7 +53,7 @@ impl<'r, R: Threads + Sync> Workers<'r, R> {
             count,
             piece,
             share,
-            guess: Guess::new(),
+            speculation: Speculation::new(),
         }
     }
 
@@ -70,17 +70,17 @@ impl<'r, R: Threads + Sync> Workers<'r, R> {
     }
 
     /// Takes the next piece of a dump, which ends behind a space, or where the dump does.
-    pub fn read<J: Advance + Send>(
+    pub fn read<J: ChunkJudge + Send>(
         &self,
         alloc: Global,
-        text: TextPieces<Watch<J>>,
+        text: TextPieces<StreamJudge<J>>,
         piece: &[u8],
-    ) -> Result<TextPieces<Watch<J>>, CaptureFault>
+    ) -> Result<TextPieces<StreamJudge<J>>, CaptureFault>
         ensures line { IfOk result (λ next. (text_reached next).body.line
             ≡ line_behind (text_reached text).body.line piece.now) }
-        ensures rest { LeadsTo (λ next. outcome_ahead (text_reached next) []) result
+        ensures rest { TextContinuesAs (λ next. outcome_ahead (text_reached next) []) result
             (outcome_ahead (text_reached text) (tokens_from (text_reached text).body.line piece.now)) }
     {
-        read_by_workers(self.rt, alloc, text, piece, self.count, &self.guess)
+        read_by_workers(self.rt, alloc, text, piece, self.count, &self.speculation)
     }
 }

@@ -6,8 +6,8 @@ use Rattle.vme_trace.specs.declared.block.Block.{Block}
 use Rattle.vme_core.specs.declared.view.View.{View}
 use Rattle.vme_core.specs.Counting.{occurrences, sum_below, numbers, HasPair, missing_at}
 use Rattle.vme_core.specs.Views.{empty_view, kept_view, split_view, joint_view, after_claim, after_filing, after_take, after_draw}
-use Rattle.vme_core.specs.Rule.{Rule}
-use Rattle.vme_core.specs.Shares.{IsWhole}
+use Rattle.vme_core.specs.Rule.{StepRule}
+use Rattle.vme_core.specs.Shares.{IsWholeShare}
 use Rattle.std.specs.Prelude.{sum_by}
 use Rattle.vme_core.proofs.ShareSums.{alone}
 use Rattle.vme_core.proofs.Sums.{at_most_sum, occurrences_here, occurrences_else, occurrences-append, numbers-append, HasPair-append, each}
@@ -16,9 +16,9 @@ use Rattle.vme_core.proofs.SumsBelow.{pigeonhole, length-numbers, none_else, sum
 
 -- the rule reads the words by their bits alone
 pub rule_alike : (limit : ℕ) (D D' C C' F F' T T' : ℕ → ℕ) (K : ℕ → Option Block) (E : ℕ → Type 0) (H : ℕ → Block → Type 0) (vs : List View) → ((n : ℕ) → D' n ≡ D n) → ((n : ℕ) → C' n ≡ C n) → ((n : ℕ) → F' n ≡ F n) → ((n : ℕ) → T' n ≡ T n)
-    → Rule limit D C F T K E H vs → Rule limit D' C' F' T' K E H vs
+    → StepRule limit D C F T K E H vs → StepRule limit D' C' F' T' K E H vs
 rule_alike limit D D' C C' F F' T T' K E H vs d c f t r =
-    subst (λ (z : (ℕ → ℕ) × (ℕ → ℕ) × (ℕ → ℕ) × (ℕ → ℕ)). Rule limit z.0 z.1 z.2 z.3 K E H vs) (λ i. ((λ n. sym (d n) i), (λ n. sym (c n) i), (λ n. sym (f n) i), λ n. sym (t n) i)) r
+    subst (λ (z : (ℕ → ℕ) × (ℕ → ℕ) × (ℕ → ℕ) × (ℕ → ℕ)). StepRule limit z.0 z.1 z.2 z.3 K E H vs) (λ i. ((λ n. sym (d n) i), (λ n. sym (c n) i), (λ n. sym (f n) i), λ n. sym (t n) i)) r
 
 both_none : {A : Type 0} {xs ys : List A} → xs ≡ [] → ys ≡ [] → xs ++ ys ≡ []
 both_none a b i = a i ++ b i
@@ -30,10 +30,10 @@ one_content k b c p q = cc
 pub none_some : (b : Block) → ◌≡◌ {A = Option Block} None (Some b) → ⊥
 none_some b e = cc
 
-module _ (limit : ℕ) (D C F T : ℕ → ℕ) (K : ℕ → Option Block) (E : ℕ → Type 0) (H : ℕ → Block → Type 0) (vs : List View) (r : Rule limit D C F T K E H vs) where
+module _ (limit : ℕ) (D C F T : ℕ → ℕ) (K : ℕ → Option Block) (E : ℕ → Type 0) (H : ℕ → Block → Type 0) (vs : List View) (r : StepRule limit D C F T K E H vs) where
   -- an emptied slot of a taken number goes home
   pub rule_gives : (E' : ℕ → Type 0) (H' : ℕ → Block → Type 0) (n : ℕ) → T n ≡ 1 → ((m : ℕ) → m ≢ n → E m → E' m) → ((m : ℕ) (x : Block) → m ≢ n → H m x → H' m x) → ((m : ℕ) (x : Block) → m ≢ n → H' m x → H m x) → ((x : Block) → H' n x → ⊥)
-      → Rule limit D C F T K E' H' vs
+      → StepRule limit D C F T K E' H' vs
   rule_gives E' H' n t1 e_else h_else h_back bare = let o = r.stages.taken_is_filed n in let p = r.stages.pending_once n in record {
     draws = r.draws;
     shares = r.shares;
@@ -57,7 +57,7 @@ module _ (limit : ℕ) (D C F T : ℕ → ℕ) (K : ℕ → Option Block) (E : �
 
     -- the seat saw more, and nothing else happened
     pub rule_saw : (fo cl fi ta : List ℕ) → ((d : ℕ) → 0 < occurrences d fo → D d ≡ 1) → ((n : ℕ) → 0 < occurrences n cl → C n ≡ 1) → ((n : ℕ) → 0 < occurrences n fi → F n ≡ 1) → ((n : ℕ) → 0 < occurrences n ta → T n ≡ 1)
-        → Rule limit D C F T K E H (set vs i (record v { found = fo; claimed = cl; filed = fi; taken = ta }))
+        → StepRule limit D C F T K E H (set vs i (record v { found = fo; claimed = cl; filed = fi; taken = ta }))
     rule_saw fo cl fi ta a b c d = let w : View = record v { found = fo; claimed = cl; filed = fi; taken = ta } in record {
       draws = draws_set D vs r.draws D i v w e r.draws.bit (λ d. le_refl _) (λ d. refl) a;
       shares = shares_set vs r.shares i v w e refl (λ z. let h = r.shares.poor i v e z in record { list = h.list; takes = h.takes; draws = h.draws; pending = h.pending });
@@ -65,7 +65,7 @@ module _ (limit : ℕ) (D C F T : ℕ → ℕ) (K : ℕ → Option Block) (E : �
       contents = contents_look C F T K E H vs r.contents i w (record { listed = held.listed; took = held.took });
     }
 
-    pub rule_gets : v.share ≢ [] → (D' : ℕ → ℕ) (d : ℕ) → D d ≡ 0 → D' d ≡ 1 → ((m : ℕ) → m ≢ d → D' m ≡ D m) → Rule limit D' C F T K E H (set vs i (after_draw v d))
+    pub rule_gets : v.share ≢ [] → (D' : ℕ → ℕ) (d : ℕ) → D d ≡ 0 → D' d ≡ 1 → ((m : ℕ) → m ≢ d → D' m ≡ D m) → StepRule limit D' C F T K E H (set vs i (after_draw v d))
     rule_gets rich D' d d0 d1 d_else =
         let w : View = after_draw v d in
         let bit : (m : ℕ) → D' m ≤ 1 = each d (λ m. D' m ≤ 1) (omega (arith, d1)) (λ m ne. omega (arith, d_else m ne, r.draws.bit m)) in let more : (m : ℕ) → D m ≤ D' m = each d (λ m. D m ≤ D' m) (omega (arith, d0)) (λ m ne. omega (arith, d_else m ne)) in record {
@@ -93,7 +93,7 @@ module _ (limit : ℕ) (D C F T : ℕ → ℕ) (K : ℕ → Option Block) (E : �
     is_taken n is = omega (arith, at_most_sum (λ (u : View). occurrences n (numbers u.takes)) vs i v e, r.stages.taken_once n, r.stages.taken_is_filed n, r.stages.pending_once n, r.stages.bit n, is)
 
     pub rule_wins : v.share ≢ [] → (C' : ℕ → ℕ) (E' : ℕ → Type 0) (H' : ℕ → Block → Type 0) (n : ℕ) → v.pending ≡ [] → n < limit → C n ≡ 0 → C' n ≡ 1 → ((m : ℕ) → m ≢ n → C' m ≡ C m) → ((m : ℕ) → m ≢ n → E m → E' m)
-        → ((m : ℕ) (x : Block) → m ≢ n → H m x → H' m x) → ((m : ℕ) (x : Block) → m ≢ n → H' m x → H m x) → ((x : Block) → H' n x → ⊥) → Rule limit D C' F T K E' H' (set vs i (after_claim v n))
+        → ((m : ℕ) (x : Block) → m ≢ n → H m x → H' m x) → ((m : ℕ) (x : Block) → m ≢ n → H' m x → H m x) → ((x : Block) → H' n x → ⊥) → StepRule limit D C' F T K E' H' (set vs i (after_claim v n))
     rule_wins rich C' E' H' n none low c0 c1 c_else e_else h_else h_back bare =
         let w : View = after_claim v n in let p0 = λ (m : ℕ). let g : occurrences m v.pending ≡ 0 = ap (occurrences m) none in g in let pend = r.stages.pending_once n in let f0 : F n ≡ 0 = omega (arith, c0, pend) in
         let bit : (m : ℕ) → C' m ≤ 1 = each n (λ m. C' m ≤ 1) (omega (arith, c1)) (λ m ne. omega (arith, c_else m ne, r.stages.bit m)) in
@@ -117,7 +117,7 @@ module _ (limit : ℕ) (D C F T : ℕ → ℕ) (K : ℕ → Option Block) (E : �
         (omega (arith, p1, owned, pend, small), omega (arith, p1, owned, pend, small))
 
     pub rule_files : (F' : ℕ → ℕ) (K' : ℕ → Option Block) (E' : ℕ → Type 0) (H' : ℕ → Block → Type 0) (n : ℕ) (b : Block) → v.pending ≡ n ∷ [] → F' n ≡ 1 → ((m : ℕ) → m ≢ n → F' m ≡ F m) → K' n ≡ Some b → ((m : ℕ) → m ≢ n → K' m ≡ K m)
-        → ((m : ℕ) → m ≢ n → E m → E' m) → ((m : ℕ) (x : Block) → m ≢ n → H m x → H' m x) → ((m : ℕ) (x : Block) → m ≢ n → H' m x → H m x) → H' n b → ((x : Block) → H' n x → x ≡ b) → Rule limit D C F' T K' E' H' (set vs i (after_filing v n b))
+        → ((m : ℕ) → m ≢ n → E m → E' m) → ((m : ℕ) (x : Block) → m ≢ n → H m x → H' m x) → ((m : ℕ) (x : Block) → m ≢ n → H' m x → H m x) → H' n b → ((x : Block) → H' n x → x ≡ b) → StepRule limit D C F' T K' E' H' (set vs i (after_filing v n b))
     rule_files F' K' E' H' n b one f1 f_else k1 k_else e_else h_else h_back here alone =
         let w : View = after_filing v n b in let was = is_pending n one in let c0 = was.0 in let f0 = was.1 in
         let p1 : occurrences n v.pending ≡ 1 = ap (occurrences n) one ∙ occurrences_here n [] in let p_else = λ (m : ℕ) (ne : m ≢ n). let g : occurrences m v.pending ≡ 0 = ap (occurrences m) one ∙ occurrences_else m n [] ne in g in
@@ -142,7 +142,7 @@ module _ (limit : ℕ) (D C F T : ℕ → ℕ) (K : ℕ → Option Block) (E : �
         }
 
     pub rule_takes : v.share ≢ [] → (T' : ℕ → ℕ) (E' : ℕ → Type 0) (H' : ℕ → Block → Type 0) (n : ℕ) (b : Block) → F n ≡ 1 → T n ≡ 0 → T' n ≡ 1 → ((m : ℕ) → m ≢ n → T' m ≡ T m) → K n ≡ Some b
-        → ((m : ℕ) → m ≢ n → E m → E' m) → ((m : ℕ) (x : Block) → m ≢ n → H m x → H' m x) → ((m : ℕ) (x : Block) → m ≢ n → H' m x → H m x) → ((x : Block) → H' n x → ⊥) → Rule limit D C F T' K E' H' (set vs i (after_take v n b))
+        → ((m : ℕ) → m ≢ n → E m → E' m) → ((m : ℕ) (x : Block) → m ≢ n → H m x → H' m x) → ((m : ℕ) (x : Block) → m ≢ n → H' m x → H m x) → ((x : Block) → H' n x → ⊥) → StepRule limit D C F T' K E' H' (set vs i (after_take v n b))
     rule_takes rich T' E' H' n b f1 t0 t1 t_else kb e_else h_else h_back bare =
         let w : View = after_take v n b in let c1 : C n ≡ 1 = omega (arith, f1, r.stages.pending_once n, r.stages.bit n) in
         let more : (m : ℕ) → T m ≤ T' m = each n (λ m. T m ≤ T' m) (omega (arith, t0)) (λ m ne. omega (arith, t_else m ne)) in record {
@@ -163,7 +163,7 @@ module _ (limit : ℕ) (D C F T : ℕ → ℕ) (K : ℕ → Option Block) (E : �
           });
         }
 
-    pub rule_splits : Rule limit D C F T K E H (set vs i (kept_view v) ++ split_view v ∷ [])
+    pub rule_splits : StepRule limit D C F T K E H (set vs i (kept_view v) ++ split_view v ∷ [])
     rule_splits = let w : View = kept_view v in let ws : List View = set vs i w in record {
       draws = draws_append D ws (draws_set D vs r.draws D i v w e r.draws.bit (λ d. le_refl _) (λ d. refl) (r.draws.found i v e)) (split_view v) (λ _. refl) (r.draws.found i v e);
       shares = shares_split vs r.shares i v e;
@@ -171,7 +171,7 @@ module _ (limit : ℕ) (D C F T : ℕ → ℕ) (K : ℕ → Option Block) (E : �
       contents = contents_append C F T K E H ws (contents_look C F T K E H vs r.contents i w (record { listed = held.listed; took = held.took })) (split_view v) (record { listed = λ _ _ h. absurd h; took = λ _ _ h. absurd h });
     }
 
-    pub rule_joins : (j : ℕ) (w : View) → j ≢ i → get_elem? vs j ≡ some w → Rule limit D C F T K E H (set (set vs i (joint_view v w)) j empty_view)
+    pub rule_joins : (j : ℕ) (w : View) → j ≢ i → get_elem? vs j ≡ some w → StepRule limit D C F T K E H (set (set vs i (joint_view v w)) j empty_view)
     rule_joins j w ne f = let theirs = sighted limit C F T vs r.stages j w f in let has = holding C F T K E H vs r.contents j w f in record {
       draws = draws_two D vs r.draws i j v w (joint_view v w) empty_view e ne f (λ d. omega (arith, occurrences-append d v.draws w.draws)) (saw_both D v.found w.found (r.draws.found i v e) (r.draws.found j w f)) (λ _ h. absurd (omega arith));
       shares = shares_two vs r.shares i j v w (joint_view v w) empty_view e ne f refl refl (record { list = refl; takes = refl; draws = refl; pending = refl })
@@ -225,7 +225,7 @@ module _ (limit : ℕ) (D C F T : ℕ → ℕ) (K : ℕ → Option Block) (E : �
 
     -- who has the whole share has done all that was done: each draw won, each number filed or taken is its own, and no
     -- other has a number pending
-    module _ (all : IsWhole v.share) where
+    module _ (all : IsWholeShare v.share) where
       own : (g : View → ℕ) → ((u : View) → u.list ≡ [] → u.takes ≡ [] → u.draws ≡ [] → u.pending ≡ [] → g u ≡ 0) → sum_by g vs ≡ g v
       own g none = alone (λ (u : View). u.share) r.shares.k vs (r.shares.fit, r.shares.whole) i v e all g (λ j u at z. let h = r.shares.poor j u at z in none u h.list h.takes h.draws h.pending)
 

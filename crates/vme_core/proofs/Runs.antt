@@ -9,7 +9,7 @@ use Rattle.vme_core.specs.declared.stage.Stage.{Stage}
 use Rattle.vme_core.specs.declared.stage.Stage.TheVariants.{Free, Claimed, Filed, Taken}
 use Rattle.vme_core.specs.Stages.{claimed_bit, filed_bit, taken_bit}
 use Rattle.vme_core.specs.Views.{empty_view, with_claimed, with_filed, with_taken, after_claim, after_filing, after_take}
-use Rattle.vme_core.specs.Machine.{Slot, empty, away, filled, Progress, Core, Row, claimed_row, filed_row, taken_row, Event, make, split, join, claim, put, file, look, draw, take, lift, give, load, with_views, after_claim_step, after_file_step, after_draw_step, after_take_step, after_look, Happens, IsRun, start}
+use Rattle.vme_core.specs.Machine.{Slot, empty, away, filled, BenchProgress, Core, WordRow, claimed_row, filed_row, taken_row, Event, make, split, join, claim, put, file, look, draw, take, lift, give, load, with_views, after_claim_step, after_file_step, after_draw_step, after_take_step, after_look, Happens, IsRun, start}
 use Rattle.vme_core.specs.Rule.{Invariant}
 use Rattle.vme_core.proofs.Sums.{update_here, update_else, each}
 use Rattle.vme_core.proofs.SetBits.{set_bits_are}
@@ -71,7 +71,7 @@ module _ (limit : ℕ) (s : Core) (r : Invariant limit s) where
     sees_3 ns t = rule_saw limit s.drawn C F T s.content E H s.views r i v e v.found (ns ++ v.claimed) (ns ++ v.filed) (ns ++ v.taken) (r.draws.found i v e)
         (saw_both C ns v.claimed (λ n h. filed_claimed n (taken_filed n (t n h))) saw.claimed) (saw_both F ns v.filed (λ n h. taken_filed n (t n h)) saw.filed) (saw_both T ns v.taken t saw.taken)
 
-    keeps_look : (row : Row) (g : ℕ) → Invariant limit (with_views s (set s.views i (after_look s v row g)))
+    keeps_look : (row : WordRow) (g : ℕ) → Invariant limit (with_views s (set s.views i (after_look s v row g)))
     keeps_look claimed_row g = sees_1 (set_bits (64 * g) (λ k. C (64 * g + k)) 64) (set_bits_are C g)
     keeps_look filed_row g = sees_2 (set_bits (64 * g) (λ k. F (64 * g + k)) 64) (set_bits_are F g)
     keeps_look taken_row g = sees_3 (set_bits (64 * g) (λ k. T (64 * g + k)) 64) (set_bits_are T g)
@@ -122,7 +122,7 @@ module _ (limit : ℕ) (s : Core) (r : Invariant limit s) where
         (rule_takes limit s.drawn C F T s.content E H s.views r i v e rich T' (λ m. home' m ≡ empty) (λ m x. home' m ≡ filled x) n b f1 is (ap taken_bit (update_here s.stage n Taken)) (λ m ne. ap taken_bit (stage_else m ne)) has
         (λ m ne h. home_else m ne ∙ h) (λ m x ne h. home_else m ne ∙ h) (λ m x ne h. sym (home_else m ne) ∙ h) (λ x h. let here = update_here s.home n away in away_not x (sym here ∙ h)))
 
-    keeps_give : (n : ℕ) (h : ℕ → Progress) → 0 < occurrences n (numbers v.takes) → Invariant limit (record s { home = update s.home n empty; progress = h })
+    keeps_give : (n : ℕ) (h : ℕ → BenchProgress) → 0 < occurrences n (numbers v.takes) → Invariant limit (record s { home = update s.home n empty; progress = h })
     keeps_give n h mine =
         let home' : ℕ → Slot = update s.home n empty in let home_else = λ (m : ℕ) (ne : m ≢ n). let g : home' m ≡ s.home m = update_else s.home n empty m ne in g in
         rule_gives limit s.drawn C F T s.content E H s.views r (λ m. home' m ≡ empty) (λ m x. home' m ≡ filled x) n (is_taken limit s.drawn C F T s.content E H s.views r i v e n mine)
@@ -147,7 +147,7 @@ module _ (limit : ℕ) (s : Core) (r : Invariant limit s) where
   keeps_event draws (draw i d) t (v, _, e, rich, is) = subst (Invariant limit) (sym is) (keeps_draw i v e rich d (s.drawn d) refl)
   keeps_event draws (take i n) t (v, e, rich, saw_it, is) = subst (Invariant limit) (sym is) (keeps_take i v e rich n saw_it (T n) (s.content n) refl refl)
   keeps_event draws (lift i n) t (v, b, _, _, is) = subst (Invariant limit) (sym is) (record { draws = r.draws; shares = r.shares; stages = r.stages; contents = r.contents })
-  keeps_event draws (give i n) t (v, b, e, mine, _, is) = subst (Invariant limit) (sym is) (keeps_give i v e n (update s.progress i Progress.idle) mine)
+  keeps_event draws (give i n) t (v, b, e, mine, _, is) = subst (Invariant limit) (sym is) (keeps_give i v e n (update s.progress i BenchProgress.idle) mine)
   keeps_event draws (load i) t (v, _, is) = subst (Invariant limit) (sym is) r
 
 pub keeps_run : (limit draws : ℕ) (es : List Event) (s t : Core) → Invariant limit s → IsRun limit draws s es t → Invariant limit t

@@ -4,7 +4,7 @@ use mathlib.Core.Option.{some, some-injective, some-ne-none}
 use lib.ListN.{get_elem?}
 use Rattle.std.specs.Prelude.{sum_by}
 use Rattle.std.proofs.lemmas.List.Sums.{sum_by-cons}
-use Rattle.vme_core.specs.Shares.{weight, FitsIn, IsWhole, kept_share, split_share}
+use Rattle.vme_core.specs.Shares.{weight, FitsIn, IsWholeShare, kept_share, split_share}
 use Rattle.vme_core.proofs.Sums.{at_most_sum}
 
 twice : (k e : ℕ) → e ≤ k → 2 ^ (suc k - e) ≡ 2 ^ (k - e) + 2 ^ (k - e)
@@ -84,7 +84,7 @@ module _ {V : Type 0} (share : V → List ℕ) where
   one_whole k v f is = (one_fits k v f, omega (arith, is, sum_by-cons (λ u. weight k (share u)) v []))
 
   -- where one has the whole, a sum over all is its own, if those without a part have nothing
-  pub alone : (k : ℕ) (vs : List V) → AllWhole k vs → (i : ℕ) (v : V) → get_elem? vs i ≡ some v → IsWhole (share v)
+  pub alone : (k : ℕ) (vs : List V) → AllWhole k vs → (i : ℕ) (v : V) → get_elem? vs i ≡ some v → IsWholeShare (share v)
       → (g : V → ℕ) → ((j : ℕ) (u : V) → get_elem? vs j ≡ some u → share u ≡ [] → g u ≡ 0) → sum_by g vs ≡ g v
   alone k vs w i v e (m, f, is) g none =
       let a = whole_by m k vs w in let b = whole_by k m (v ∷ []) (one_whole m v f is) in let n : ℕ = m + k in let same : k + m ≡ n = omega arith in
@@ -101,13 +101,13 @@ fits_right : (k : ℕ) (xs ys : List ℕ) → FitsIn k (xs ++ ys) → FitsIn k y
 fits_right k [] ys f = f
 fits_right k (x ∷ xs) ys f = fits_right k xs ys f.1
 
-pub whole_first : IsWhole (0 ∷ [])
+pub whole_first : IsWholeShare (0 ∷ [])
 whole_first = (0, (omega arith, tt), refl)
 
-pub whole_swapped : (xs ys : List ℕ) → IsWhole (xs ++ ys) → IsWhole (ys ++ xs)
+pub whole_swapped : (xs ys : List ℕ) → IsWholeShare (xs ++ ys) → IsWholeShare (ys ++ xs)
 whole_swapped xs ys (k, f, is) = (k, fits-append k ys xs (fits_right k xs ys f) (fits_left k xs ys f), (let a = weight-append k xs ys in let b = weight-append k ys xs in let g : weight k (ys ++ xs) ≡ 2 ^ k = omega (arith, is, a, b) in g))
 
-pub whole_halved : (xs ys : List ℕ) → IsWhole (xs ++ ys) → IsWhole (kept_share xs ++ (split_share xs ++ ys))
+pub whole_halved : (xs ys : List ℕ) → IsWholeShare (xs ++ ys) → IsWholeShare (kept_share xs ++ (split_share xs ++ ys))
 whole_halved xs ys (k, f, is) =
     let l = fits_left k xs ys f in let r = fits_right k xs ys f in let n : ℕ = suc k in let rest : List ℕ = split_share xs ++ ys in
     let fit : FitsIn n (kept_share xs ++ rest) = fits-append n (kept_share xs) rest (fits_kept k xs l) (fits-append n (split_share xs) ys (fits_split k xs l) (fits_more k ys r)) in

@@ -5,7 +5,7 @@ use Rattle.vme_core.specs.declared.stage.Stage.TheVariants.{Filed}
 use Rattle.vme_core.specs.declared.view.View.{View}
 use Rattle.vme_core.specs.Counting.{occurrences, numbers, HasPair}
 use Rattle.vme_core.specs.Stages.{rank, seen, claimed_bit, filed_bit, taken_bit}
-use Rattle.vme_core.specs.Shares.{IsWhole}
+use Rattle.vme_core.specs.Shares.{IsWholeShare}
 use Rattle.vme_core.specs.Machine.{Core, Event, filled, start, HasView, Happens, IsRun}
 
 -- some events of benches of a board of so many numbers and draws lead from s to t
@@ -42,7 +42,7 @@ pub record IsLawful (s : Core) : Type 0 where
   pub filed_is_home : (n : ℕ) → s.stage n ≡ Filed → (b : Block) × (s.content n ≡ Some b) × (s.home n ≡ filled b)
   pub won_once : (d : ℕ) → sum_by (λ v. occurrences d v.draws) s.views ≡ s.drawn d
   -- who has the whole share has done all that was done
-  pub alone : (i : ℕ) (v : View) → HasView s i v → IsWhole v.share → HasDoneAll s v
+  pub alone : (i : ℕ) (v : View) → HasView s i v → IsWholeShare v.share → HasDoneAll s v
   -- nobody has seen more than there is
   pub seen_is_so : (i : ℕ) (v : View) → HasView s i v → (n : ℕ) → rank (seen v n) ≤ rank (s.stage n)
   pub found_is_drawn : (i : ℕ) (v : View) → HasView s i v → (d : ℕ) → 0 < occurrences d v.found → s.drawn d ≡ 1

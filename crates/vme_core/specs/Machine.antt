@@ -19,12 +19,12 @@ pub data Slot : Type 0 where
   filled : Block → Slot
 
 -- how far a bench is between a claim and its filing, or between a take and the return of the slot
-pub data Progress : Type 0 where
-  idle : Progress
-  has_claimed : ℕ → Block → Progress
-  has_put : ℕ → Block → Progress
-  has_taken : ℕ → Block → Progress
-  has_lifted : ℕ → Block → Progress
+pub data BenchProgress : Type 0 where
+  idle : BenchProgress
+  has_claimed : ℕ → Block → BenchProgress
+  has_put : ℕ → Block → BenchProgress
+  has_taken : ℕ → Block → BenchProgress
+  has_lifted : ℕ → Block → BenchProgress
 
 -- Benches are numbered in the order in which they were made, and so are their views.
 pub record Core : Type 0 where
@@ -32,14 +32,14 @@ pub record Core : Type 0 where
   pub content : ℕ → Option Block
   pub home : ℕ → Slot
   pub drawn : ℕ → ℕ
-  pub progress : ℕ → Progress
+  pub progress : ℕ → BenchProgress
   pub views : List View
 
 -- which bits of 64 numbers a word has
-pub data Row : Type 0 where
-  claimed_row : Row
-  filed_row : Row
-  taken_row : Row
+pub data WordRow : Type 0 where
+  claimed_row : WordRow
+  filed_row : WordRow
+  taken_row : WordRow
 
 -- The first number of an event is the bench that takes the step.
 pub data Event : Type 0 where
@@ -50,7 +50,7 @@ pub data Event : Type 0 where
   put : ℕ → ℕ → Block → Event
   file : ℕ → ℕ → Block → Event
   -- the word of a row that has the bits of 64 numbers from 64 times the last number on
-  look : ℕ → Row → ℕ → Event
+  look : ℕ → WordRow → ℕ → Event
   draw : ℕ → ℕ → Event
   take : ℕ → ℕ → Event
   lift : ℕ → ℕ → Event
@@ -125,7 +125,7 @@ after_take_step s i n v zero None = s
 after_take_step s i n v (suc k) c = with_views s (slice_set s.views i (with_taken v (n ∷ [])))
 
 -- what a bench has seen after it looked at the word g of a row
-abbrev pub after_look : Core → View → Row → ℕ → View
+abbrev pub after_look : Core → View → WordRow → ℕ → View
 after_look s v claimed_row g = with_claimed v (set_bits (64 * g) (λ k. claimed_bit (s.stage (64 * g + k))) 64)
 after_look s v filed_row g = with_filed v (set_bits (64 * g) (λ k. filed_bit (s.stage (64 * g + k))) 64)
 after_look s v taken_row g = with_taken v (set_bits (64 * g) (λ k. taken_bit (s.stage (64 * g + k))) 64)

@@ -59,7 +59,7 @@ pub record ShareRule (views : List View) : Type 0 where
   pub whole : sum_by (λ v. weight k v.share) views ≡ 2 ^ k
   pub poor : (i : ℕ) (v : View) → get_elem? views i ≡ some v → v.share ≡ [] → HasNothing v
 
-pub record Rule (limit : ℕ) (drawn claimed filed taken : ℕ → ℕ) (content : ℕ → Option Block)
+pub record StepRule (limit : ℕ) (drawn claimed filed taken : ℕ → ℕ) (content : ℕ → Option Block)
     (IsEmpty : ℕ → Type 0) (IsFilled : ℕ → Block → Type 0) (views : List View) : Type 0 where
   pub draws : DrawRule drawn views
   pub shares : ShareRule views
@@ -69,5 +69,5 @@ pub record Rule (limit : ℕ) (drawn claimed filed taken : ℕ → ℕ) (content
 -- the rule, read off a state of the machine
 abbrev pub Invariant : ℕ → Core → Type 0
 Invariant limit s =
-    Rule limit s.drawn (λ n. claimed_bit (s.stage n)) (λ n. filed_bit (s.stage n)) (λ n. taken_bit (s.stage n))
+    StepRule limit s.drawn (λ n. claimed_bit (s.stage n)) (λ n. filed_bit (s.stage n)) (λ n. taken_bit (s.stage n))
     s.content (λ n. s.home n ≡ empty) (λ n b. s.home n ≡ filled b) s.views

@@ -13,8 +13,8 @@ FitsIn k [] = Unit {0}
 FitsIn k (e ∷ es) = (e ≤ k) × FitsIn k es
 
 -- the share is the whole
-abbrev pub IsWhole : List ℕ → Type 0
-IsWhole es = (k : ℕ) × FitsIn k es × (weight k es ≡ 2 ^ k)
+abbrev pub IsWholeShare : List ℕ → Type 0
+IsWholeShare es = (k : ℕ) × FitsIn k es × (weight k es ≡ 2 ^ k)
 
 -- what is left of a share after a split: its first part is halved
 abbrev pub kept_share : List ℕ → List ℕ

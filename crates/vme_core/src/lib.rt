@@ -19,7 +19,7 @@
 ghost use Rattle.std.specs.Prelude.{ℕ, List, [], ◌∷◌, ◌++◌};
 ghost use Rattle.vme_core.specs.Law.{IsReachable, StepsTo, LeadsTo, IsLawful, IsRightStep, OnlyGrows};
 ghost use Rattle.vme_core.specs.Machine.{Core};
-ghost use Rattle.vme_core.specs.Shares.{IsWhole, kept_share, split_share};
+ghost use Rattle.vme_core.specs.Shares.{IsWholeShare, kept_share, split_share};
 
 pub mod stage;
 pub mod view;
@@ -40,7 +40,7 @@ pub fn every_run()
 /// The first bench has the whole share. Shares that are the whole together are so in any order, and after one of them
 /// was split into its two halves.
 pub fn shares_stay_whole()
-    ensures first { IsWhole (0 ∷ []) }
-    ensures swapped { (s t : List ℕ) → IsWhole (s ++ t) → IsWhole (t ++ s) }
-    ensures halved { (s t : List ℕ) → IsWhole (s ++ t) → IsWhole (kept_share s ++ (split_share s ++ t)) }
+    ensures first { IsWholeShare (0 ∷ []) }
+    ensures swapped { (s t : List ℕ) → IsWholeShare (s ++ t) → IsWholeShare (t ++ s) }
+    ensures halved { (s t : List ℕ) → IsWholeShare (s ++ t) → IsWholeShare (kept_share s ++ (split_share s ++ t)) }
 {}

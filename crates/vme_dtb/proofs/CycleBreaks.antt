@@ -5,7 +5,7 @@ use Rattle.vme_trace.specs.Edges.{falls_between}
 use Rattle.vme_trace.specs.LineNumbers.{AS, DTACK, BERR, is_answer_line, has_line}
 use Rattle.vme_trace.specs.Trace.{Trace, time_at}
 use Rattle.vme_trace.specs.Signals.{falls}
-use Rattle.vme_trace.specs.Judged.{Span, is_judged}
+use Rattle.vme_trace.specs.Judged.{Stretch, is_judged}
 use Rattle.vme_trace.specs.Transfers.{is_answer, answers_write}
 use Rattle.vme_trace.specs.Cycles.{cycle_starts, class_at, in_cycle, answers_of}
 use Rattle.vme_trace.specs.Rules.{breaks, is_broken, is_single, is_block_class, is_interrupt, is_later, spoils_pair, turns}
@@ -23,7 +23,7 @@ use Rattle.vme_dtb.specs.Edge.{asked_of, edges_between}
 use Rattle.vme_dtb.specs.Machine.{answer_in, broken, cycle_faults, cycle_rules}
 use Rattle.vme_dtb.specs.declared.cycle.Cycle.{Cycle}
 use Rattle.vme_dtb.specs.declared.edges.Edges.{Edges}
-use Rattle.vme_dtb.specs.declared.memory.Memory.{Memory}
+use Rattle.vme_dtb.specs.declared.memory.HandshakeMemory.{HandshakeMemory}
 use Rattle.vme_dtb.proofs.Faults.{AreOf}
 use Rattle.vme_dtb.proofs.CycleMemory.{before_is, cycle_before, in_acknowledge, in_acknowledged, in_spoiled, in_turned}
 use Rattle.vme_dtb.proofs.HandshakeBreaks.{answer_is}
@@ -58,7 +58,7 @@ by_write Writing false (Some l) = refl
 by_write Answered true o = refl
 by_write Answered false o = refl
 
-module _ (t : Trace) (span : Span) (reads : ReadsStrobes t span) (n : ℕ) (from : span.start ≤ n) (before : suc n < span.end) (m : Memory) (holds : Holds t span n m) where
+module _ (t : Trace) (span : Stretch) (reads : ReadsStrobes t span) (n : ℕ) (from : span.start ≤ n) (before : suc n < span.end) (m : HandshakeMemory) (holds : Holds t span n m) where
   abbrev seen : Edges
   seen = edges_between (old t n) (new t n)
 

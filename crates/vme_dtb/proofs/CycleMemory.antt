@@ -4,7 +4,7 @@ use Rattle.std.specs.Option.{option_map_or}
 use Rattle.std.proofs.lemmas.List.{append-nil}
 use Rattle.vme_trace.specs.Instants.{greatest}
 use Rattle.vme_trace.specs.Trace.{Trace, levels_at}
-use Rattle.vme_trace.specs.Judged.{Span}
+use Rattle.vme_trace.specs.Judged.{Stretch}
 use Rattle.vme_trace.specs.Transfers.{is_answer, answers_write}
 use Rattle.vme_trace.specs.Cycles.{cycle_starts, class_at, cycle_of, in_cycle, answers_of}
 use Rattle.vme_trace.specs.Rules.{is_single, is_block_class, is_interrupt, is_later, spoils_pair, turns, differ}
@@ -16,7 +16,7 @@ use Rattle.vme_dtb.specs.declared.cycle.Cycle.{Cycle}
 use Rattle.vme_dtb.specs.declared.cycle.Cycle.TheVariants.{Free, Single, SingleRead, SingleDone, Block, BlockReading, BlockWriting, Interrupt, InterruptDone}
 use Rattle.vme_dtb.proofs.Searches.{greatest_more, greatest_before, greatest_within, those_before, those_more}
 
-module _ (t : Trace) (span : Span) where
+module _ (t : Trace) (span : Stretch) where
   -- a cycle of the class with these answers
   abbrev pub told : Class → List ℕ → Cycle
   told class.F rs = Free

@@ -5,7 +5,7 @@ use Rattle.vme_trace.specs.Instants.{any, none, greatest}
 use Rattle.vme_trace.specs.Levels.{level_at, is_low, is_high, is_known}
 use Rattle.vme_trace.specs.Trace.{Trace, levels_at}
 use Rattle.vme_trace.specs.Signals.{level, low, high, known, falls, rises}
-use Rattle.vme_trace.specs.Judged.{Span}
+use Rattle.vme_trace.specs.Judged.{Stretch}
 use Rattle.vme_trace.specs.Transfers.{strobe_rises}
 use Rattle.vme_trace.specs.Tenures.{last_before}
 use Rattle.vme_trace.specs.declared.level.Level.{Level}
@@ -14,7 +14,7 @@ use Rattle.vme_trace.proofs.Ranges.{fails-any}
 use Rattle.vme_trace.proofs.OpenTransfers.{suc-sub-one}
 use Rattle.vme_dtb.proofs.Searches.{any_more, greatest_more, greatest_within}
 
-module _ (t : Trace) (span : Span) where
+module _ (t : Trace) (span : Stretch) where
   -- the line is low, and a strobe rose from its last fall on
   abbrev pub freed_at : ℕ → ℕ → Bool
   freed_at l n = low t l n && any (strobe_rises t) (last_before t span (falls t l) (suc n)) (suc n)

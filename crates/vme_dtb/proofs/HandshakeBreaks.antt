@@ -6,7 +6,7 @@ use Rattle.vme_trace.specs.Instants.{none}
 use Rattle.vme_trace.specs.LineNumbers.{AS, DTACK, BERR, is_answer_line, is_strobe, has_line}
 use Rattle.vme_trace.specs.Trace.{Trace, time_at}
 use Rattle.vme_trace.specs.Signals.{near, falls, rises, high, low}
-use Rattle.vme_trace.specs.Judged.{Span, is_judged}
+use Rattle.vme_trace.specs.Judged.{Stretch, is_judged}
 use Rattle.vme_trace.specs.Tenures.{last_before}
 use Rattle.vme_trace.specs.Transfers.{strobe_rises, transfer_starts, is_answered, answers, in_transfer, is_answer}
 use Rattle.vme_trace.specs.Rules.{breaks, is_broken}
@@ -20,7 +20,7 @@ use Rattle.vme_monitor.proofs.TrackedTransfers.{in_transfer_is, is_answer_is}
 use Rattle.vme_dtb.specs.Edge.{edges_between}
 use Rattle.vme_dtb.specs.Machine.{answer_in, broken, dropped, freed, is_doubled, is_replied, is_unserved, strobe_faults, strobe_rules}
 use Rattle.vme_dtb.specs.declared.edges.Edges.{Edges}
-use Rattle.vme_dtb.specs.declared.memory.Memory.{Memory}
+use Rattle.vme_dtb.specs.declared.memory.HandshakeMemory.{HandshakeMemory}
 use Rattle.vme_dtb.proofs.Faults.{AreOf}
 use Rattle.vme_dtb.proofs.FreedAnswers.{freed_at, held_is}
 use Rattle.vme_dtb.proofs.Held.{Holds}
@@ -50,7 +50,7 @@ answered_on false true (Some l) = refl
 answered_on false false None = refl
 answered_on false false (Some l) = refl
 
-module _ (t : Trace) (span : Span) (reads : ReadsStrobes t span) (n : ℕ) (from : span.start ≤ n) (before : suc n < span.end) (m : Memory) (holds : Holds t span n m) where
+module _ (t : Trace) (span : Stretch) (reads : ReadsStrobes t span) (n : ℕ) (from : span.start ≤ n) (before : suc n < span.end) (m : HandshakeMemory) (holds : Holds t span n m) where
   abbrev seen : Edges
   seen = edges_between (old t n) (new t n)
 

@@ -2,14 +2,14 @@
 use Rattle.std.proofs.Common.{◌≡◌, ℕ}
 use Rattle.vme_trace.specs.LineNumbers.{DTACK, BERR}
 use Rattle.vme_trace.specs.Trace.{Trace}
-use Rattle.vme_trace.specs.Judged.{Span}
-use Rattle.vme_monitor.specs.Tracked.{Says}
-use Rattle.vme_dtb.specs.declared.memory.Memory.{Memory}
+use Rattle.vme_trace.specs.Judged.{Stretch}
+use Rattle.vme_monitor.specs.Tracked.{SaysPending}
+use Rattle.vme_dtb.specs.declared.memory.HandshakeMemory.{HandshakeMemory}
 use Rattle.vme_dtb.proofs.CycleMemory.{cycle_after}
 use Rattle.vme_dtb.proofs.FreedAnswers.{freed_at}
 
-pub record Holds (t : Trace) (span : Span) (n : ℕ) (m : Memory) : Type 0 where
-  pub transfer : Says t span n m.pending
+pub record Holds (t : Trace) (span : Stretch) (n : ℕ) (m : HandshakeMemory) : Type 0 where
+  pub transfer : SaysPending t span n m.pending
   pub cycle : m.cycle ≡ cycle_after t span n
   pub dtack : m.dtack_freed ≡ freed_at t span DTACK n
   pub berr : m.berr_freed ≡ freed_at t span BERR n

@@ -5,7 +5,7 @@ use Rattle.vme_trace.specs.LineNumbers.{line_count, DTACK, BERR}
 use Rattle.vme_trace.specs.Levels.{Levels, level_at, is_low, is_known, is_idle, is_idle_on}
 use Rattle.vme_trace.specs.Trace.{Trace, levels_at}
 use Rattle.vme_trace.specs.Signals.{low}
-use Rattle.vme_trace.specs.Judged.{Span}
+use Rattle.vme_trace.specs.Judged.{Stretch}
 use Rattle.vme_trace.specs.Transfers.{strobe_rises, is_answer, answers_write}
 use Rattle.vme_trace.proofs.Ranges.{any-fails}
 use Rattle.vme_monitor.specs.Along.{changes_of, memory_from}
@@ -21,7 +21,7 @@ use Rattle.vme_dtb.specs.Edge.{edges_between}
 use Rattle.vme_dtb.specs.Machine.{answer_in, dtb_begin, dtb_sight, dtb_step, freed, memory_after}
 use Rattle.vme_dtb.specs.declared.cycle.Cycle.{Cycle}
 use Rattle.vme_dtb.specs.declared.edges.Edges.{Edges}
-use Rattle.vme_dtb.specs.declared.memory.Memory.{Memory}
+use Rattle.vme_dtb.specs.declared.memory.HandshakeMemory.{HandshakeMemory}
 use Rattle.vme_dtb.proofs.CycleBreaks.{here_is, write_is}
 use Rattle.vme_dtb.proofs.CycleMemory.{after_is, cycle_after, cycle_before, cycle_start}
 use Rattle.vme_dtb.proofs.FreedAnswers.{freed_at, freed_start, freed_suc}
@@ -54,7 +54,7 @@ counted false w o c = refl
 start_or_after : (s n : ℕ) → s ≤ suc n → (s ≡ suc n) ⊎ (s ≤ n)
 start_or_after s n h = grind arith
 
-module _ (t : Trace) (span : Span) (facts : IsSpan t span) where
+module _ (t : Trace) (span : Stretch) (facts : IsSpan t span) where
   pub holds_start : Holds t span span.start (dtb_begin (levels_at t span.start))
   holds_start =
       record {
@@ -64,7 +64,7 @@ module _ (t : Trace) (span : Span) (facts : IsSpan t span) where
         berr = freed_start t span BERR span.start (idle_line (levels_at t span.start) 4 (lit< tt) facts.idle);
       }
 
-  module _ (n : ℕ) (from : span.start ≤ n) (before : suc n < span.end) (m : Memory) (holds : Holds t span n m) where
+  module _ (n : ℕ) (from : span.start ≤ n) (before : suc n < span.end) (m : HandshakeMemory) (holds : Holds t span n m) where
     abbrev seen : Edges
     seen = edges_between (old t n) (new t n)
 
@@ -103,7 +103,7 @@ module _ (t : Trace) (span : Span) (facts : IsSpan t span) where
           berr = freed_next BERR m.berr_freed holds.berr (facts.known n 4 from (omega (arith, before)) (lit< tt) refl);
         }
 
-  abbrev pub memory_at : ℕ → Memory
+  abbrev pub memory_at : ℕ → HandshakeMemory
   memory_at k = memory_from (noticed dtb_sight dtb_step) t (dtb_begin (levels_at t span.start)) span.start k
 
   held_start : Holds t span span.start (memory_at span.start)
@@ -117,5 +117,5 @@ module _ (t : Trace) (span : Span) (facts : IsSpan t span) where
         | inr earlier ↦
             let so_far = holds_at n earlier (omega arith) in
             rw (lt_fails n span.start earlier)
-            (subst (Holds t span (suc n)) (ap (λ (x : Next Memory). x.memory) (sym (noticed_is t span n (memory_at n) so_far (changes_of (slice_get t.steps n))))) (holds_next n earlier before (memory_at n) so_far))
+            (subst (Holds t span (suc n)) (ap (λ (x : Next HandshakeMemory). x.memory) (sym (noticed_is t span n (memory_at n) so_far (changes_of (slice_get t.steps n))))) (holds_next n earlier before (memory_at n) so_far))
       ]

@@ -9,7 +9,7 @@ use Rattle.vme_trace.specs.Lanes.{lanes_at}
 use Rattle.vme_trace.specs.Levels.{level_at, is_low}
 use Rattle.vme_trace.specs.Trace.{Trace, levels_at, time_at}
 use Rattle.vme_trace.specs.Signals.{falls, rises, low, high}
-use Rattle.vme_trace.specs.Judged.{Span, is_judged}
+use Rattle.vme_trace.specs.Judged.{Stretch, is_judged}
 use Rattle.vme_trace.specs.Transfers.{strobes_high, transfer_starts, lasts, in_transfer, answers, is_answer, is_write, answers_write, data_at}
 use Rattle.vme_trace.specs.Cycles.{cycle_starts}
 use Rattle.vme_trace.specs.Verdict.{break_at as rules_break_at, rule_break}
@@ -19,12 +19,12 @@ use Rattle.vme_trace.proofs.OpenTransfers.{suc-sub-one}
 use Rattle.vme_trace.proofs.Ranges.{fails-any}
 use Rattle.vme_monitor.specs.Along.{changes_of, next_at}
 use Rattle.vme_monitor.specs.Run.{break_at, noticed, nothing, run_of}
-use Rattle.vme_monitor.specs.Spanned.{noted, spanned, start_in}
-use Rattle.vme_monitor.specs.Tracked.{Says}
+use Rattle.vme_monitor.specs.OverStretches.{noted, spanned, start_in}
+use Rattle.vme_monitor.specs.Tracked.{SaysPending}
 use Rattle.vme_monitor.specs.Tracking.{entered, is_unanswered, is_within, is_writing}
 use Rattle.vme_monitor.specs.Whole.{FindsLeast, ShowsAll}
-use Rattle.vme_monitor.specs.declared.mark.Answered.{Answered as Answer}
-use Rattle.vme_monitor.specs.declared.mark.Asked.{Asked}
+use Rattle.vme_monitor.specs.declared.mark.TransferAnswer.{TransferAnswer as Answer}
+use Rattle.vme_monitor.specs.declared.mark.CycleStart.{CycleStart}
 use Rattle.vme_monitor.specs.declared.mark.Fault.{Fault}
 use Rattle.vme_monitor.specs.declared.mark.Next.{Next}
 use Rattle.vme_monitor.specs.declared.tracking.Pending.{Pending}
@@ -38,7 +38,7 @@ use Rattle.vme_dtb.specs.declared.cycle.Cycle.{Cycle}
 use Rattle.vme_dtb.specs.CycleState.{cycle_entered}
 use Rattle.vme_dtb.specs.Shown.{answer_line, answered, closes, handshake_shown}
 use Rattle.vme_dtb.specs.declared.edges.Edges.{Edges}
-use Rattle.vme_dtb.specs.declared.memory.Memory.{Memory}
+use Rattle.vme_dtb.specs.declared.memory.HandshakeMemory.{HandshakeMemory}
 use Rattle.vme_dtb.proofs.CycleBreaks.{cycle_starts_is, cycles-broken, write_is}
 use Rattle.vme_dtb.proofs.Faults.{both-first}
 use Rattle.vme_dtb.proofs.HandshakeBreaks.{answer_is, strobes-broken}
@@ -65,7 +65,7 @@ told_by_write Writing None d = refl
 told_by_write Writing (Some l) d = refl
 told_by_write Answered o d = refl
 
-module _ (t : Trace) (span : Span) (facts : IsSpan t span) (n : ℕ) (from : span.start ≤ n) (before : suc n < span.end) (m : Memory) (holds : Holds t span n m) where
+module _ (t : Trace) (span : Stretch) (facts : IsSpan t span) (n : ℕ) (from : span.start ≤ n) (before : suc n < span.end) (m : HandshakeMemory) (holds : Holds t span n m) where
   abbrev seen : Edges
   seen = edges_between (old t n) (new t n)
 
@@ -83,7 +83,7 @@ module _ (t : Trace) (span : Span) (facts : IsSpan t span) (n : ℕ) (from : spa
       (strobes-broken t span facts.reads n from before m holds) (cycles-broken t span facts.reads n from before m holds)
 
   pub dtb_inside : option_map (break_at (suc n) (time_at t (suc n))) (next_at (noticed dtb_sight dtb_step) t m n).fault ≡ rules_break_at t span handshake_rules (suc n)
-  dtb_inside = ap (λ (x : Next Memory). option_map (break_at (suc n) (time_at t (suc n))) x.fault) (noticed_is t span n m holds (changes_of (slice_get t.steps n))) ∙ breaks_are
+  dtb_inside = ap (λ (x : Next HandshakeMemory). option_map (break_at (suc n) (time_at t (suc n))) x.fault) (noticed_is t span n m holds (changes_of (slice_get t.steps n))) ∙ breaks_are
 
   least_fall : least (λ l. is_answer_line l && falls t l (suc n)) 0 line_count ≡ seen.answer_fall
   least_fall = least_answer (λ l. is_answer_line l && falls t l (suc n)) (λ l h. rw h refl) ∙ answer_fall_is t n
@@ -115,7 +115,7 @@ module _ (t : Trace) (span : Span) (facts : IsSpan t span) (n : ℕ) (from : spa
       same_told : (a b : Bool) (d e : Lanes) (o q : Option ℕ) → a ≡ b → d ≡ e → o ≡ q → told (cond a (Some d) None) o ≡ told (cond b (Some e) None) q
       same_told a b d e o q x y z = rw (x, y, z) refl
 
-  open_unless : (p : Pending) → Says t span n p → is_within p ≡ not (strobes_high t n)
+  open_unless : (p : Pending) → SaysPending t span n p → is_within p ≡ not (strobes_high t n)
   open_unless Closed h = rw h refl
   open_unless Reading o = rw (o.1.still n o.1.within (omega arith)) refl
   open_unless Writing o = rw (o.1.still n o.1.within (omega arith)) refl
@@ -135,7 +135,7 @@ module _ (t : Trace) (span : Span) (facts : IsSpan t span) (n : ℕ) (from : spa
   cycle_is : cond (cycle_starts t span (suc n)) (Some (asked_of (new t n))) None ≡ cond (falls_between (old t n) (new t n) AS) (Some (asked_of (new t n))) None
   cycle_is = ap (λ b. cond b (Some (asked_of (new t n))) None) (cycle_starts_is t span facts.reads n from before m holds)
 
-  same_kinds : (a b : Option Asked) (c d : Bool) (e f : Option Bool) (g h : Option Answer) (i j : Bool) → a ≡ b → c ≡ d → e ≡ f → g ≡ h → i ≡ j
+  same_kinds : (a b : Option CycleStart) (c d : Bool) (e f : Option Bool) (g h : Option Answer) (i j : Bool) → a ≡ b → c ≡ d → e ≡ f → g ≡ h → i ≡ j
       → record nothing { cycle = a; cycle_end = c; transfer = e; answer = g; close = i } ≡ record nothing { cycle = b; cycle_end = d; transfer = f; answer = h; close = j }
   same_kinds a b c d e f g h i j x y z u v = rw (x, y, z, u, v) refl
 
@@ -143,9 +143,9 @@ module _ (t : Trace) (span : Span) (facts : IsSpan t span) (n : ℕ) (from : spa
   kinds_are = same_kinds _ _ _ _ _ _ _ _ _ _ (sym cycle_is) (sym cycle_end_is) (sym transfer_is) (sym answered_is) (sym closes_is)
 
   pub dtb_kinds : (next_at (noticed dtb_sight dtb_step) t m n).kinds ≡ handshake_shown t span (suc n)
-  dtb_kinds = ap (λ (x : Next Memory). x.kinds) (noticed_is t span n m holds (changes_of (slice_get t.steps n))) ∙ kinds_are
+  dtb_kinds = ap (λ (x : Next HandshakeMemory). x.kinds) (noticed_is t span n m holds (changes_of (slice_get t.steps n))) ∙ kinds_are
 
-module _ (t : Trace) (span : Span) where
+module _ (t : Trace) (span : Stretch) where
   unjudged : is_judged span span.start ≡ false
   unjudged = rw (lt_fails span.start span.start (omega arith)) refl
 

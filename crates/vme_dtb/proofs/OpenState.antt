@@ -5,11 +5,11 @@ use Rattle.vme_trace.specs.Instants.{any}
 use Rattle.vme_trace.specs.LineNumbers.{DTACK, BERR}
 use Rattle.vme_trace.specs.Trace.{Trace}
 use Rattle.vme_trace.specs.Signals.{falls}
-use Rattle.vme_trace.specs.Judged.{Span}
+use Rattle.vme_trace.specs.Judged.{Stretch}
 use Rattle.vme_trace.specs.Transfers.{strobes_high, answer_falls, transfer_starts, lasts, is_answered, answers, in_transfer}
 use Rattle.vme_trace.proofs.Ranges.{any-fails, fails-any, clash}
 use Rattle.vme_trace.proofs.OpenTransfers.{suc-sub-one, is_judged-holds, ReadsStrobes, in_transfer-is, in_transfer-levels}
-use Rattle.vme_monitor.specs.Tracked.{StaysOpen, Says}
+use Rattle.vme_monitor.specs.Tracked.{StaysOpen, SaysPending}
 use Rattle.vme_monitor.specs.Tracking.{is_unanswered, is_within}
 use Rattle.vme_monitor.specs.declared.tracking.Pending.{Pending}
 use Rattle.vme_monitor.specs.declared.tracking.Pending.TheVariants.{Closed, Reading, Writing, Answered}
@@ -32,7 +32,7 @@ both_alone true false = refl
 both_alone false true = refl
 both_alone false false = refl
 
-module _ (t : Trace) (span : Span) (reads : ReadsStrobes t span) (n : ℕ) (from : span.start ≤ n) (before : suc n < span.end) where
+module _ (t : Trace) (span : Stretch) (reads : ReadsStrobes t span) (n : ℕ) (from : span.start ≤ n) (before : suc n < span.end) where
   lasts_now : (i : ℕ) (w a : Bool) → StaysOpen t span n i w a → lasts t span i (suc n) ≡ true
   unfolding lasts
   lasts_now i w a o =
@@ -80,21 +80,21 @@ module _ (t : Trace) (span : Span) (reads : ReadsStrobes t span) (n : ℕ) (from
   not_yet b = rw (lt_fails (suc n) (suc n) (omega arith)) refl
 
   -- a transfer that started before stays without an answer
-  pub unserved_is : (m : Pending) → Says t span n m → in_transfer t span (λ i. nat_lt i (suc n) && not (is_answered t span i (suc n + 1))) (suc n) ≡ (is_unanswered m && not (answer_falls t (suc n)))
+  pub unserved_is : (m : Pending) → SaysPending t span n m → in_transfer t span (λ i. nat_lt i (suc n) && not (is_answered t span i (suc n + 1))) (suc n) ≡ (is_unanswered m && not (answer_falls t (suc n)))
   unserved_is Closed high_before = closed_is (λ i. nat_lt i (suc n) && not (is_answered t span i (suc n + 1))) high_before (not_yet (not (is_answered t span (suc n) (suc n + 1))))
   unserved_is Reading o = open_is (λ i. nat_lt i (suc n) && not (is_answered t span i (suc n + 1))) o.0 false false o.1 ∙ rw (lt_holds o.0 (suc n) (omega (arith, o.1.within)), open_answered o.0 false false o.1) refl
   unserved_is Writing o = open_is (λ i. nat_lt i (suc n) && not (is_answered t span i (suc n + 1))) o.0 true false o.1 ∙ rw (lt_holds o.0 (suc n) (omega (arith, o.1.within)), open_answered o.0 true false o.1) refl
   unserved_is Answered o = open_is (λ i. nat_lt i (suc n) && not (is_answered t span i (suc n + 1))) o.0 o.1 true o.2 ∙ rw (lt_holds o.0 (suc n) (omega (arith, o.2.within)), open_answered o.0 o.1 true o.2) refl
 
   -- a transfer that started before has its answer
-  pub replied_is : (m : Pending) → Says t span n m → in_transfer t span (λ i. nat_lt i (suc n) && is_answered t span i (suc n)) (suc n) ≡ is_replied m
+  pub replied_is : (m : Pending) → SaysPending t span n m → in_transfer t span (λ i. nat_lt i (suc n) && is_answered t span i (suc n)) (suc n) ≡ is_replied m
   replied_is Closed high_before = closed_is (λ i. nat_lt i (suc n) && is_answered t span i (suc n)) high_before (not_yet (is_answered t span (suc n) (suc n)))
   replied_is Reading o = open_is (λ i. nat_lt i (suc n) && is_answered t span i (suc n)) o.0 false false o.1 ∙ rw (lt_holds o.0 (suc n) (omega (arith, o.1.within)), o.1.reply) refl
   replied_is Writing o = open_is (λ i. nat_lt i (suc n) && is_answered t span i (suc n)) o.0 true false o.1 ∙ rw (lt_holds o.0 (suc n) (omega (arith, o.1.within)), o.1.reply) refl
   replied_is Answered o = open_is (λ i. nat_lt i (suc n) && is_answered t span i (suc n)) o.0 o.1 true o.2 ∙ rw (lt_holds o.0 (suc n) (omega (arith, o.2.within)), o.2.reply) refl
 
   -- a transfer that started before is open
-  pub started_is : (m : Pending) → Says t span n m → in_transfer t span (λ i. nat_lt i (suc n)) (suc n) ≡ is_within m
+  pub started_is : (m : Pending) → SaysPending t span n m → in_transfer t span (λ i. nat_lt i (suc n)) (suc n) ≡ is_within m
   started_is Closed high_before = closed_is (λ i. nat_lt i (suc n)) high_before (lt_fails (suc n) (suc n) (omega arith))
   started_is Reading o = open_is (λ i. nat_lt i (suc n)) o.0 false false o.1 ∙ lt_holds o.0 (suc n) (omega (arith, o.1.within))
   started_is Writing o = open_is (λ i. nat_lt i (suc n)) o.0 true false o.1 ∙ lt_holds o.0 (suc n) (omega (arith, o.1.within))
@@ -114,5 +114,5 @@ module _ (t : Trace) (span : Span) (reads : ReadsStrobes t span) (n : ℕ) (from
   doubled_by Answered o = in_one answered_twice o.0 o.1 true o.2 ∙ rw o.2.reply refl
 
   -- it is answered again, or by both lines
-  pub doubled_is : (m : Pending) → Says t span n m → let e = entered m (levels_at t n) (levels_at t (suc n)) in in_transfer t span answered_twice (suc n) ≡ (is_replied e || (is_unanswered e && (falls t DTACK (suc n) && falls t BERR (suc n))))
+  pub doubled_is : (m : Pending) → SaysPending t span n m → let e = entered m (levels_at t n) (levels_at t (suc n)) in in_transfer t span answered_twice (suc n) ≡ (is_replied e || (is_unanswered e && (falls t DTACK (suc n) && falls t BERR (suc n))))
   doubled_is m says = doubled_by (entered m (levels_at t n) (levels_at t (suc n))) (entered_is t span reads n from before m says)

@@ -8,7 +8,7 @@ use Rattle.vme_trace.specs.LineNumbers.{line_count, AS, DS0, DS1, DTACK, BERR, i
 use Rattle.vme_trace.specs.Levels.{Levels, level_at, is_low}
 use Rattle.vme_trace.specs.Trace.{Trace, levels_at, time_at}
 use Rattle.vme_trace.specs.Signals.{near, falls, rises, high, low}
-use Rattle.vme_trace.specs.Judged.{Span, is_judged}
+use Rattle.vme_trace.specs.Judged.{Stretch, is_judged}
 use Rattle.vme_trace.specs.Transfers.{strobe_rises, answer_falls, transfer_starts}
 use Rattle.vme_trace.specs.Rules.{breaks}
 use Rattle.vme_trace.specs.Verdict.{rule_break}
@@ -113,7 +113,7 @@ module _ (t : Trace) (n : ℕ) where
   pub answer_fall_is : first_of (falls t DTACK (suc n)) DTACK (falls t BERR (suc n)) BERR ≡ first_of (falls_between old new DTACK) DTACK (falls_between old new BERR) BERR
   answer_fall_is = same_first _ _ _ _ DTACK BERR (falls_is DTACK) (falls_is BERR)
 
-  module _ (span : Span) (from : span.start ≤ n) (before : suc n < span.end) where
+  module _ (span : Stretch) (from : span.start ≤ n) (before : suc n < span.end) where
     pub judged : is_judged span (suc n) ≡ true
     judged = is_judged-holds span (suc n) (omega arith) before
 

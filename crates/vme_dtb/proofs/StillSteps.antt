@@ -8,16 +8,16 @@ use Rattle.vme_trace.specs.LineNumbers.{AS, DS0, DS1, DTACK, BERR, WRITE}
 use Rattle.vme_trace.specs.Levels.{Levels, level_at, is_low, is_high, same_level}
 use Rattle.vme_trace.specs.Trace.{Trace}
 use Rattle.vme_trace.specs.Signals.{low, high}
-use Rattle.vme_trace.specs.Judged.{Span}
+use Rattle.vme_trace.specs.Judged.{Stretch}
 use Rattle.vme_trace.specs.declared.level.Level.{Level}
 use Rattle.vme_trace.specs.declared.level.Level.TheVariants.{Low, High, Unknown}
 use Rattle.vme_trace.specs.declared.rule.Rule.TheVariants.{H2, H3, H4, H5, H7, H8}
 use Rattle.vme_trace.specs.declared.step.Change.{Change}
 use Rattle.vme_monitor.specs.Run.{noticed, nothing, quiet}
-use Rattle.vme_monitor.specs.Tracked.{Says}
+use Rattle.vme_monitor.specs.Tracked.{SaysPending}
 use Rattle.vme_monitor.specs.Tracking.{answered_by, entered, is_unanswered, is_within, is_writing, tracked}
-use Rattle.vme_monitor.specs.declared.mark.Answered.{Answered as Answer}
-use Rattle.vme_monitor.specs.declared.mark.Asked.{Asked}
+use Rattle.vme_monitor.specs.declared.mark.TransferAnswer.{TransferAnswer as Answer}
+use Rattle.vme_monitor.specs.declared.mark.CycleStart.{CycleStart}
 use Rattle.vme_monitor.specs.declared.mark.Fault.{Fault}
 use Rattle.vme_monitor.specs.declared.tracking.Pending.{Pending}
 use Rattle.vme_monitor.specs.declared.tracking.Pending.TheVariants.{Closed, Reading, Writing, Answered}
@@ -26,7 +26,7 @@ use Rattle.vme_dtb.specs.Edge.{asked_of, edges_between, first_of, is_still, is_u
 use Rattle.vme_dtb.specs.Machine.{answer_in, answered_in, broken, cycle_fault, data_in, dtb_next, dtb_sight, dtb_step, handshake_fault, is_doubled, is_replied, is_unserved, memory_after, strobe_faults}
 use Rattle.vme_dtb.specs.declared.cycle.Cycle.{Cycle}
 use Rattle.vme_dtb.specs.declared.edges.Edges.{Edges}
-use Rattle.vme_dtb.specs.declared.memory.Memory.{Memory}
+use Rattle.vme_dtb.specs.declared.memory.HandshakeMemory.{HandshakeMemory}
 use Rattle.vme_dtb.proofs.Faults.{none-first, not_applied, unanswered, unnamed}
 use Rattle.vme_dtb.proofs.Held.{Holds}
 use Rattle.vme_dtb.proofs.StepFacts.{old, new}
@@ -83,7 +83,7 @@ neither : (a b : Option Fault) → a ≡ None → b ≡ None → option_or a b �
 neither a b e f = rw (e, f) refl
 
 -- the edges of a step, by the tests that they rest on
-abbrev pub built : (as_falls as_rises starts closes rise0 rise1 fall0 fall1 dtack_falls berr_falls dtack_rises berr_rises unaddressed : Bool) → Asked → Bool → Option ℕ → Edges
+abbrev pub built : (as_falls as_rises starts closes rise0 rise1 fall0 fall1 dtack_falls berr_falls dtack_rises berr_rises unaddressed : Bool) → CycleStart → Bool → Option ℕ → Edges
 built as_falls as_rises starts closes rise0 rise1 fall0 fall1 dtack_falls berr_falls dtack_rises berr_rises unaddressed asked write unready =
     record {
       shown = record nothing { cycle = cond as_falls (Some asked) None; cycle_end = as_rises; transfer = cond starts (Some write) None; close = closes };
@@ -101,7 +101,7 @@ built as_falls as_rises starts closes rise0 rise1 fall0 fall1 dtack_falls berr_f
 abbrev silent : Bool → Edges
 silent u = record { shown = nothing; unready = None; strobe_rise = None; strobe_fall = None; answer_fall = None; both_fall = false; dtack_rises = false; berr_rises = false; unaddressed = u }
 
-same_silent : (a b s c r0 r1 f0 f1 d e g h u : Bool) (x : Asked) (y : Bool) (o : Option ℕ) → a ≡ false → b ≡ false → s ≡ false → c ≡ false → r0 ≡ false → r1 ≡ false → f0 ≡ false → f1 ≡ false → d ≡ false → e ≡ false → g ≡ false → h ≡ false
+same_silent : (a b s c r0 r1 f0 f1 d e g h u : Bool) (x : CycleStart) (y : Bool) (o : Option ℕ) → a ≡ false → b ≡ false → s ≡ false → c ≡ false → r0 ≡ false → r1 ≡ false → f0 ≡ false → f1 ≡ false → d ≡ false → e ≡ false → g ≡ false → h ≡ false
     → built a b s c r0 r1 f0 f1 d e g h u x y o ≡ silent u
 same_silent a b s c r0 r1 f0 f1 d e g h u x y o pa pb ps pc p0 p1 q0 q1 pd pe pg ph = rw (pa, pb, ps, pc, p0, p1, q0, q1, pd, pe, pg, ph) refl
 
@@ -150,8 +150,8 @@ module _ (v w : Levels) (still : is_still v w ≡ true) where
   tracked_still : (p : Pending) → tracked p v w ≡ cond (strobes_high_in v) Closed p
   tracked_still p = same_tracked (strobes_high_in w) (answer_between v w) (starts_between v w) (strobes_high_in v) p (cond (is_low (level_at w WRITE)) Writing Reading) high_kept no_answer no_start
 
-module _ (t : Trace) (span : Span) (n : ℕ) (m : Memory) (holds : Holds t span n m) where
-  pending_kept : (p : Pending) → Says t span n p → cond (strobes_high_in (old t n)) Closed p ≡ p
+module _ (t : Trace) (span : Stretch) (n : ℕ) (m : HandshakeMemory) (holds : Holds t span n m) where
+  pending_kept : (p : Pending) → SaysPending t span n p → cond (strobes_high_in (old t n)) Closed p ≡ p
   unfolding high
   pending_kept Closed h = rw h refl
   pending_kept Reading o = rw (o.1.still n o.1.within (omega arith)) refl
@@ -166,7 +166,7 @@ module _ (t : Trace) (span : Span) (n : ℕ) (m : Memory) (holds : Holds t span 
       by_level true false = refl
       by_level false b = refl
 
-  same_next : (k : Memory) (f : Option Fault) (a : Option Answer) → k ≡ m → f ≡ None → a ≡ None → record { memory = k; fault = f; kinds = record nothing { answer = a } } ≡ quiet m
+  same_next : (k : HandshakeMemory) (f : Option Fault) (a : Option Answer) → k ≡ m → f ≡ None → a ≡ None → record { memory = k; fault = f; kinds = record nothing { answer = a } } ≡ quiet m
   same_next k f a x y z = rw (x, y, z) refl
 
   same_memory : (p : Pending) (c : Cycle) (a b : Bool) → p ≡ m.pending → c ≡ m.cycle → a ≡ m.dtack_freed → b ≡ m.berr_freed → record { pending = p; cycle = c; dtack_freed = a; berr_freed = b } ≡ m

@@ -6,7 +6,7 @@ use Rattle.vme_trace.specs.Levels.{Levels, level_at, is_low, is_high}
 use Rattle.vme_trace.specs.declared.level.Level.{Level}
 use Rattle.vme_trace.specs.declared.level.Level.TheVariants.{Low, High, Unknown}
 use Rattle.vme_monitor.specs.Run.{nothing}
-use Rattle.vme_monitor.specs.declared.mark.Asked.{Asked}
+use Rattle.vme_monitor.specs.declared.mark.CycleStart.{CycleStart}
 use Rattle.vme_dtb.specs.Edge.{asked_of, edges_between, closes_between, first_of, is_addressed, is_unready, stays_on}
 use Rattle.vme_dtb.specs.UsualSteps.{is_answer_alone, is_start_alone, is_strobes_alone}
 use Rattle.vme_dtb.specs.declared.edges.Edges.{Edges}
@@ -17,7 +17,7 @@ abbrev no_edges : Edges
 no_edges = record { shown = nothing; unready = None; strobe_rise = None; strobe_fall = None; answer_fall = None; both_fall = false; dtack_rises = false; berr_rises = false; unaddressed = false }
 
 -- AS* alone falls
-abbrev pub start_edges : Asked → Edges
+abbrev pub start_edges : CycleStart → Edges
 start_edges asked = record no_edges { shown = record nothing { cycle = Some asked } }
 
 -- DTACK* alone falls while AS* is low
@@ -69,19 +69,19 @@ readied true true true b c k l h = refl
 readied true true false b c k l h = absurd (cc)
 readied true false y b c k l h = absurd (cc)
 
-answer_built : (a b s c r0 r1 f0 f1 d e g h u : Bool) (x : Asked) (y : Bool) (o : Option ℕ) → a ≡ false → b ≡ false → s ≡ false → c ≡ false → r0 ≡ false → r1 ≡ false → f0 ≡ false → f1 ≡ false → d ≡ true → e ≡ false → g ≡ false → h ≡ false → u ≡ false
+answer_built : (a b s c r0 r1 f0 f1 d e g h u : Bool) (x : CycleStart) (y : Bool) (o : Option ℕ) → a ≡ false → b ≡ false → s ≡ false → c ≡ false → r0 ≡ false → r1 ≡ false → f0 ≡ false → f1 ≡ false → d ≡ true → e ≡ false → g ≡ false → h ≡ false → u ≡ false
     → answer_edges ≡ built a b s c r0 r1 f0 f1 d e g h u x y o
 answer_built a b s c r0 r1 f0 f1 d e g h u x y o pa pb ps pc p0 p1 q0 q1 pd pe pg ph pu = rw (pa, pb, ps, pc, p0, p1, q0, q1, pd, pe, pg, ph, pu) refl
 
-ready_built : (a b s c r0 r1 f0 f1 d e g h u : Bool) (x : Asked) (y : Bool) (o : Option ℕ) → a ≡ false → b ≡ false → s ≡ false → c ≡ false → r0 ≡ false → r1 ≡ false → f0 ≡ false → f1 ≡ false → d ≡ false → e ≡ false → g ≡ true → h ≡ false
+ready_built : (a b s c r0 r1 f0 f1 d e g h u : Bool) (x : CycleStart) (y : Bool) (o : Option ℕ) → a ≡ false → b ≡ false → s ≡ false → c ≡ false → r0 ≡ false → r1 ≡ false → f0 ≡ false → f1 ≡ false → d ≡ false → e ≡ false → g ≡ true → h ≡ false
     → ready_edges u ≡ built a b s c r0 r1 f0 f1 d e g h u x y o
 ready_built a b s c r0 r1 f0 f1 d e g h u x y o pa pb ps pc p0 p1 q0 q1 pd pe pg ph = rw (pa, pb, ps, pc, p0, p1, q0, q1, pd, pe, pg, ph) refl
 
-start_built : (a b s c r0 r1 f0 f1 d e g h u : Bool) (x : Asked) (y : Bool) (o : Option ℕ) → a ≡ true → b ≡ false → s ≡ false → c ≡ false → r0 ≡ false → r1 ≡ false → f0 ≡ false → f1 ≡ false → d ≡ false → e ≡ false → g ≡ false → h ≡ false → u ≡ false
+start_built : (a b s c r0 r1 f0 f1 d e g h u : Bool) (x : CycleStart) (y : Bool) (o : Option ℕ) → a ≡ true → b ≡ false → s ≡ false → c ≡ false → r0 ≡ false → r1 ≡ false → f0 ≡ false → f1 ≡ false → d ≡ false → e ≡ false → g ≡ false → h ≡ false → u ≡ false
     → start_edges x ≡ built a b s c r0 r1 f0 f1 d e g h u x y o
 start_built a b s c r0 r1 f0 f1 d e g h u x y o pa pb ps pc p0 p1 q0 q1 pd pe pg ph pu = rw (pa, pb, ps, pc, p0, p1, q0, q1, pd, pe, pg, ph, pu) refl
 
-strobes_built : (a b s c r0 r1 f0 f1 d e g h u : Bool) (x : Asked) (y : Bool) (o : Option ℕ) → a ≡ false → cond s o None ≡ None → d ≡ false → e ≡ false → g ≡ false → h ≡ false → u ≡ false
+strobes_built : (a b s c r0 r1 f0 f1 d e g h u : Bool) (x : CycleStart) (y : Bool) (o : Option ℕ) → a ≡ false → cond s o None ≡ None → d ≡ false → e ≡ false → g ≡ false → h ≡ false → u ≡ false
     → strobes_edges (first_of r0 DS0 r1 DS1) (first_of f0 DS0 f1 DS1) (cond s (Some y) None) c b ≡ built a b s c r0 r1 f0 f1 d e g h u x y o
 strobes_built a b s c r0 r1 f0 f1 d e g h u x y o pa po pd pe pg ph pu = rw (pa, po, pd, pe, pg, ph, pu) refl
 

@@ -12,9 +12,9 @@ use Rattle.vme_trace.specs.declared.rule.Rule.{Rule}
 use Rattle.vme_trace.specs.declared.rule.Rule.TheVariants.{H2, H3, H4, H5, H7, H8}
 use Rattle.vme_monitor.specs.Run.{nothing, quiet}
 use Rattle.vme_monitor.specs.Tracking.{answered_by, entered, is_unanswered, is_within, is_writing, tracked}
-use Rattle.vme_monitor.specs.declared.mark.Answered.{Answered as Answer}
+use Rattle.vme_monitor.specs.declared.mark.TransferAnswer.{TransferAnswer as Answer}
 use Rattle.vme_monitor.specs.declared.mark.Fault.{Fault}
-use Rattle.vme_monitor.specs.declared.mark.Kinds.{Kinds}
+use Rattle.vme_monitor.specs.declared.mark.StepMarks.{StepMarks}
 use Rattle.vme_monitor.specs.declared.mark.Next.{Next}
 use Rattle.vme_monitor.specs.declared.tracking.Pending.{Pending}
 use Rattle.vme_monitor.specs.declared.tracking.Pending.TheVariants.{Closed, Reading, Writing, Answered}
@@ -23,13 +23,13 @@ use Rattle.vme_dtb.specs.Machine.{broken, cycle_fault, data_in, dtb_next, handsh
 use Rattle.vme_dtb.specs.Edge.{asked_of, closes_between, edges_between, first_of, is_addressed, stays_on}
 use Rattle.vme_dtb.specs.UsualSteps.{is_answer_alone, is_hasty, is_start_alone, is_strobes_alone, memory_left}
 use Rattle.vme_dtb.specs.declared.cycle.Cycle.{Cycle}
-use Rattle.vme_dtb.specs.declared.memory.Memory.{Memory}
+use Rattle.vme_dtb.specs.declared.memory.HandshakeMemory.{HandshakeMemory}
 use Rattle.vme_dtb.proofs.Faults.{none-first, not_applied, unanswered, unnamed}
 use Rattle.vme_dtb.proofs.StillSteps.{all_five}
 use Rattle.vme_dtb.proofs.UsualEdges.{all_four, answer_edges, answer_is, no_fall, no_start, ready_edges, ready_is, rises_alone, start_edges, start_is, strobes_are, strobes_here}
 
-same_next : (p l : Pending) (k : Kinds) (c d : Cycle) (x y : Bool) (h q r : Option Fault) (a b : Option Answer) → p ≡ l → c ≡ d → h ≡ None → q ≡ r → a ≡ b
-    → ◌≡◌ {A = Next Memory} (record { memory = record { pending = p; cycle = c; dtack_freed = x; berr_freed = y }; fault = option_or h q; kinds = record k { answer = a } })
+same_next : (p l : Pending) (k : StepMarks) (c d : Cycle) (x y : Bool) (h q r : Option Fault) (a b : Option Answer) → p ≡ l → c ≡ d → h ≡ None → q ≡ r → a ≡ b
+    → ◌≡◌ {A = Next HandshakeMemory} (record { memory = record { pending = p; cycle = c; dtack_freed = x; berr_freed = y }; fault = option_or h q; kinds = record k { answer = a } })
     (record { memory = record { pending = l; cycle = d; dtack_freed = x; berr_freed = y }; fault = r; kinds = record k { answer = b } })
 same_next p l k c d x y h q r a b o e f g i = rw (o, e, f, g, i) refl
 
@@ -85,7 +85,7 @@ pub closed_twice : (h : Bool) (p : Pending) → cond h Closed (cond h Closed p) 
 closed_twice true p = refl
 closed_twice false p = refl
 
-module _ (m : Memory) (v w : Levels) where
+module _ (m : HandshakeMemory) (v w : Levels) where
   abbrev within : Pending
   within = entered m.pending v w
 
@@ -161,7 +161,7 @@ module _ (m : Memory) (v w : Levels) where
       (unanswered_here m.cycle) no_mark)
       ∙ ap (dtb_next m v w) (strobes_are v w alone)
     where
-      by_rise : Memory → Next Memory
+      by_rise : HandshakeMemory → Next HandshakeMemory
       by_rise left = record { memory = left; fault = None; kinds = record nothing { cycle_end = rises_between v w AS; transfer = cond (starts_between v w) (Some (is_low (level_at w WRITE))) None; close = closes_between v w } }
 
   pub answer_next : is_answer_alone v w ≡ true → falls_between v w DTACK ≡ true → is_addressed v w ≡ true → is_unanswered m.pending ≡ true

@@ -2,7 +2,7 @@
 use Rattle.std.specs.Prelude.{Bool, true, false, not, Option, None, Some}
 use Rattle.vme_trace.specs.declared.class.Class.{Class}
 use Rattle.vme_trace.specs.declared.class.Class.TheVariants as class
-use Rattle.vme_monitor.specs.declared.mark.Asked.{Asked}
+use Rattle.vme_monitor.specs.declared.mark.CycleStart.{CycleStart}
 use Rattle.vme_dtb.specs.declared.cycle.Cycle.{Cycle}
 use Rattle.vme_dtb.specs.declared.cycle.Cycle.TheVariants.{Free, Single, SingleRead, SingleDone, Block, BlockReading}
 use Rattle.vme_dtb.specs.declared.cycle.Cycle.TheVariants.{BlockWriting, Interrupt, InterruptDone}
@@ -15,7 +15,7 @@ unanswered_of class.I = Interrupt
 unanswered_of class.F = Free
 
 -- the cycle in which an instant is, where another may start
-abbrev pub cycle_entered : Cycle → Option Asked → Cycle
+abbrev pub cycle_entered : Cycle → Option CycleStart → Cycle
 cycle_entered c None = c
 cycle_entered c (Some asked) = unanswered_of asked.class
 

@@ -5,8 +5,8 @@ use Rattle.vme_trace.specs.LineNumbers.{AS, DS0, DS1, DTACK, BERR, WRITE, A}
 use Rattle.vme_trace.specs.Levels.{Levels, level_at, is_low, is_high, is_high_on, same_level}
 use Rattle.vme_trace.specs.Cycle.{class_of, modifier_of}
 use Rattle.vme_monitor.specs.Run.{nothing}
-use Rattle.vme_monitor.specs.declared.mark.Asked.{Asked}
-use Rattle.vme_monitor.specs.declared.mark.Kinds.{Kinds}
+use Rattle.vme_monitor.specs.declared.mark.CycleStart.{CycleStart}
+use Rattle.vme_monitor.specs.declared.mark.StepMarks.{StepMarks}
 use Rattle.vme_dtb.specs.declared.edges.Edges.{Edges}
 
 -- the address by its lines below a number, bit n being of the weight 2 ^ n and a high line being 1
@@ -19,7 +19,7 @@ abbrev pub address_of : Levels → ℕ
 address_of v = address_below v 32
 
 -- what the lines say as a cycle starts
-abbrev pub asked_of : Levels → Asked
+abbrev pub asked_of : Levels → CycleStart
 asked_of v = record { class = class_of v; modifier = modifier_of v; address = address_of v }
 
 -- the first of two lines of which something holds
@@ -47,7 +47,7 @@ module _ (v w : Levels) where
   is_unready l = not (is_high (level_at v l) || is_high (level_at w l))
 
   -- the marks of the step, but for the answer
-  abbrev pub shown_between : Kinds
+  abbrev pub shown_between : StepMarks
   shown_between =
       record nothing {
         cycle = (if falls_between v w AS then Some (asked_of w) else None);

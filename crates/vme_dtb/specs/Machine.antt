@@ -12,9 +12,9 @@ use Rattle.vme_trace.specs.declared.rule.Rule.TheVariants.{H1, H2, H3, H4, H5, H
 use Rattle.vme_trace.specs.declared.step.Change.{Change}
 use Rattle.vme_monitor.specs.Run.{nothing}
 use Rattle.vme_monitor.specs.Tracking.{entered, is_unanswered, is_within, is_writing, tracked}
-use Rattle.vme_monitor.specs.declared.mark.Answered.{Answered as Answer}
+use Rattle.vme_monitor.specs.declared.mark.TransferAnswer.{TransferAnswer as Answer}
 use Rattle.vme_monitor.specs.declared.mark.Fault.{Fault}
-use Rattle.vme_monitor.specs.declared.mark.Kinds.{Kinds}
+use Rattle.vme_monitor.specs.declared.mark.StepMarks.{StepMarks}
 use Rattle.vme_monitor.specs.declared.mark.Next.{Next}
 use Rattle.vme_monitor.specs.declared.tracking.Pending.{Pending}
 use Rattle.vme_monitor.specs.declared.tracking.Pending.TheVariants.{Closed, Answered}
@@ -24,8 +24,8 @@ use Rattle.vme_dtb.specs.Edge.{edges_between, first_of, is_still}
 use Rattle.vme_dtb.specs.declared.cycle.Cycle.{Cycle}
 use Rattle.vme_dtb.specs.declared.cycle.Cycle.TheVariants.{Free}
 use Rattle.vme_dtb.specs.declared.edges.Edges.{Edges}
-use Rattle.vme_dtb.specs.declared.handshake.Moved.{Moved}
-use Rattle.vme_dtb.specs.declared.memory.Memory.{Memory}
+use Rattle.vme_dtb.specs.declared.handshake.HandshakeEdge.{HandshakeEdge}
+use Rattle.vme_dtb.specs.declared.memory.HandshakeMemory.{HandshakeMemory}
 
 abbrev pub is_replied : Pending → Bool
 is_replied Answered = true
@@ -61,7 +61,7 @@ abbrev pub is_doubled : Pending → Edges → Bool
 is_doubled e s = is_replied e || (is_unanswered e && s.both_fall)
 
 -- the first answer line that rises while no strobe has risen since it fell
-abbrev pub dropped : Memory → Edges → Option ℕ
+abbrev pub dropped : HandshakeMemory → Edges → Option ℕ
 dropped m s = first_of (s.dtack_rises && not (freed m.dtack_freed s)) DTACK
     (s.berr_rises && not (freed m.berr_freed s)) BERR
 
@@ -77,7 +77,7 @@ first_of_faults = or_first None
 abbrev pub strobe_rules : List Rule
 strobe_rules = H1 ∷ H2 ∷ H3 ∷ H4 ∷ H5 ∷ H6 ∷ H7 ∷ H8 ∷ []
 
-abbrev pub strobe_faults : Memory → Pending → Edges → List (Option Fault)
+abbrev pub strobe_faults : HandshakeMemory → Pending → Edges → List (Option Fault)
 strobe_faults m e s =
     broken H1 true s.unready
     ∷ broken H2 (is_unserved m.pending s) s.strobe_rise
@@ -104,13 +104,13 @@ cycle_faults c w answer =
 abbrev pub handshake_rules : List Rule
 handshake_rules = strobe_rules ++ cycle_rules
 
-abbrev pub handshake_fault : Memory → Pending → Edges → Option Fault
+abbrev pub handshake_fault : HandshakeMemory → Pending → Edges → Option Fault
 handshake_fault m e s = first_of_faults (strobe_faults m e s)
 
 abbrev pub cycle_fault : Cycle → Bool → Option ℕ → Option Fault
 cycle_fault c w answer = first_of_faults (cycle_faults c w answer)
 
-abbrev pub memory_after : Memory → Levels → Levels → Edges → Memory
+abbrev pub memory_after : HandshakeMemory → Levels → Levels → Edges → HandshakeMemory
 memory_after m v w s =
     let e = entered m.pending v w in
     let c = cycle_entered m.cycle s.shown.cycle in
@@ -121,25 +121,25 @@ memory_after m v w s =
       berr_freed = (is_low (level_at w BERR) && freed m.berr_freed s);
     }
 
-abbrev pub fault_in : Memory → Levels → Levels → Edges → Option Fault
+abbrev pub fault_in : HandshakeMemory → Levels → Levels → Edges → Option Fault
 fault_in m v w s =
     let e = entered m.pending v w in
     option_or (handshake_fault m e s) (cycle_fault (cycle_entered m.cycle s.shown.cycle) (is_writing e) (answer_in e s))
 
-abbrev pub dtb_begin : Levels → Memory
+abbrev pub dtb_begin : Levels → HandshakeMemory
 dtb_begin v = record { pending = Closed; cycle = Free; dtack_freed = false; berr_freed = false }
 
-abbrev pub dtb_opens : Levels → Kinds
+abbrev pub dtb_opens : Levels → StepMarks
 dtb_opens v = nothing
 
 abbrev pub dtb_ends : ℕ → Option Fault
 dtb_ends l = None
 
-abbrev pub dtb_sight : Levels → Levels → List Change → Option Moved
+abbrev pub dtb_sight : Levels → Levels → List Change → Option HandshakeEdge
 dtb_sight v w cs = if is_still v w then None else Some (record {})
 
 -- what follows from the edges of a step
-abbrev pub dtb_next : Memory → Levels → Levels → Edges → Next Memory
+abbrev pub dtb_next : HandshakeMemory → Levels → Levels → Edges → Next HandshakeMemory
 dtb_next m v w s =
     record {
       memory = memory_after m v w s;
@@ -147,5 +147,5 @@ dtb_next m v w s =
       kinds = record s.shown { answer = answered_in (entered m.pending v w) v w s };
     }
 
-abbrev pub dtb_step : Memory → Levels → Levels → Moved → Next Memory
+abbrev pub dtb_step : HandshakeMemory → Levels → Levels → HandshakeEdge → Next HandshakeMemory
 dtb_step m v w moved = dtb_next m v w (edges_between v w)

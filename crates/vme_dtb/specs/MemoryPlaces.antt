@@ -6,7 +6,7 @@ use Rattle.vme_monitor.specs.declared.tracking.Pending.TheVariants.{Closed, Read
 use Rattle.vme_dtb.specs.declared.cycle.Cycle.{Cycle}
 use Rattle.vme_dtb.specs.declared.cycle.Cycle.TheVariants.{Free, Single, SingleRead, SingleDone, Block, BlockReading}
 use Rattle.vme_dtb.specs.declared.cycle.Cycle.TheVariants.{BlockWriting, Interrupt, InterruptDone}
-use Rattle.vme_dtb.specs.declared.memory.Memory.{Memory}
+use Rattle.vme_dtb.specs.declared.memory.HandshakeMemory.{HandshakeMemory}
 
 abbrev pub pending_place : Pending → ℕ
 pending_place Closed = 0
@@ -38,10 +38,10 @@ abbrev pub bit : Bool → ℕ
 bit true = 1
 bit false = 0
 
-abbrev pub memory_place : Memory → ℕ
+abbrev pub memory_place : HandshakeMemory → ℕ
 memory_place m = 36 * pending_place m.pending + 4 * cycle_place m.cycle + 2 * bit m.dtack_freed + bit m.berr_freed
 
-abbrev pub memory_nth : ℕ → Memory
+abbrev pub memory_nth : ℕ → HandshakeMemory
 memory_nth k = record {
   pending = pending_nth (k / 36);
   cycle = cycle_nth ((k / 4) % 9);
@@ -74,7 +74,7 @@ bit_below false = omega arith
 all_below : (p c a b : ℕ) → p < 4 → c < 9 → a < 2 → b < 2 → 36 * p + 4 * c + 2 * a + b < 144
 all_below p c a b hp hc ha hb = omega arith
 
-pub memory_placed : (m : Memory) → memory_place m < 144
+pub memory_placed : (m : HandshakeMemory) → memory_place m < 144
 memory_placed m = all_below (pending_place m.pending) (cycle_place m.cycle) (bit m.dtack_freed) (bit m.berr_freed)
     (pending_below m.pending) (cycle_below m.cycle) (bit_below m.dtack_freed) (bit_below m.berr_freed)
 
@@ -111,11 +111,11 @@ third_part p c a b ha hb = omega arith
 fourth_part : (p c a b : ℕ) → b < 2 → (36 * p + 4 * c + 2 * a + b) % 2 ≡ b
 fourth_part p c a b hb = omega arith
 
-same_memory : (m : Memory) (p : Pending) (c : Cycle) (a b : Bool) → p ≡ m.pending → c ≡ m.cycle → a ≡ m.dtack_freed
+same_memory : (m : HandshakeMemory) (p : Pending) (c : Cycle) (a b : Bool) → p ≡ m.pending → c ≡ m.cycle → a ≡ m.dtack_freed
     → b ≡ m.berr_freed → record { pending = p; cycle = c; dtack_freed = a; berr_freed = b } ≡ m
 same_memory m p c a b hp hc ha hb = rw (hp, hc, ha, hb) refl
 
-pub memory_found : (m : Memory) → memory_nth (memory_place m) ≡ m
+pub memory_found : (m : HandshakeMemory) → memory_nth (memory_place m) ≡ m
 memory_found m =
     let p = pending_place m.pending in
     let c = cycle_place m.cycle in

@@ -4,16 +4,16 @@ use Rattle.vme_trace.specs.Instants.{least}
 use Rattle.vme_trace.specs.LineNumbers.{line_count, AS, is_answer_line}
 use Rattle.vme_trace.specs.Trace.{Trace, levels_at}
 use Rattle.vme_trace.specs.Signals.{falls, rises}
-use Rattle.vme_trace.specs.Judged.{Span, is_judged}
+use Rattle.vme_trace.specs.Judged.{Stretch, is_judged}
 use Rattle.vme_trace.specs.Transfers.{strobes_high, transfer_starts, in_transfer, is_answer, is_write}
 use Rattle.vme_trace.specs.Transfers.{answers_write, data_at}
 use Rattle.vme_trace.specs.Cycles.{cycle_starts}
 use Rattle.vme_monitor.specs.Run.{nothing}
-use Rattle.vme_monitor.specs.declared.mark.Answered.{Answered}
-use Rattle.vme_monitor.specs.declared.mark.Kinds.{Kinds}
+use Rattle.vme_monitor.specs.declared.mark.TransferAnswer.{TransferAnswer}
+use Rattle.vme_monitor.specs.declared.mark.StepMarks.{StepMarks}
 use Rattle.vme_dtb.specs.Edge.{asked_of}
 
-module _ (t : Trace) (span : Span) where
+module _ (t : Trace) (span : Stretch) where
   -- a transfer closes: the first instant after its start at which both strobes are high
   unfoldable pub closes : ℕ → Bool
   closes j = strobes_high t j && in_transfer t span (λ i. nat_lt i j) j
@@ -23,13 +23,13 @@ module _ (t : Trace) (span : Span) where
   answer_line j = if is_answer t span j then least (λ l. is_answer_line l && falls t l j) 0 line_count else None
 
   -- the answer of a transfer, which takes data if the transfer is a write
-  unfoldable pub answered : ℕ → Option Answered
+  unfoldable pub answered : ℕ → Option TransferAnswer
   answered j =
       let lanes = if answers_write t span j then Some (data_at t span j) else None in
       option_map (λ l. record { line = l; lanes = lanes }) (answer_line j)
 
 -- cycles that start and end, and transfers that start, are answered and close
-abbrev pub handshake_shown : Trace → Span → ℕ → Kinds
+abbrev pub handshake_shown : Trace → Stretch → ℕ → StepMarks
 handshake_shown t span j =
     record nothing {
       cycle = (if cycle_starts t span j then Some (asked_of (levels_at t j)) else None);

@@ -7,7 +7,7 @@ use Rattle.vme_monitor.specs.declared.tracking.Pending.{Pending}
 use Rattle.vme_monitor.specs.declared.tracking.Pending.TheVariants.{Closed, Reading, Writing, Answered}
 use Rattle.vme_dtb.specs.Edge.{stays_on}
 use Rattle.vme_dtb.specs.declared.cycle.Cycle.{Cycle}
-use Rattle.vme_dtb.specs.declared.memory.Memory.{Memory}
+use Rattle.vme_dtb.specs.declared.memory.HandshakeMemory.{HandshakeMemory}
 
 module _ (v w : Levels) where
   -- the address strobe, the strobes and BERR* stay as they are
@@ -26,7 +26,7 @@ module _ (v w : Levels) where
 
 -- the memory after a step to the levels w in which no answer line falls, or where p has its answer: in the cycle c, the
 -- transfer being p unless it closes, and a strobe rises or none does
-abbrev pub memory_left : Memory → Levels → Pending → Cycle → Bool → Memory
+abbrev pub memory_left : HandshakeMemory → Levels → Pending → Cycle → Bool → HandshakeMemory
 memory_left m w p c rises =
     record {
       pending = (if strobes_high_in w then Closed else p);

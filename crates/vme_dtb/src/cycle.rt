@@ -5,7 +5,7 @@ ghost use Rattle.vme_dtb.specs.CycleState.{after_answer, cycle_entered, is_ackno
 ghost use Rattle.vme_dtb.specs.CycleState.{is_pair_spoiled, is_turned, unanswered_of};
 ghost use Rattle.vme_dtb.specs.MemoryPlaces.{cycle_nth, cycle_place};
 
-use vme_monitor::mark::Asked;
+use vme_monitor::mark::CycleStart;
 use vme_trace::Class;
 
 /// The cycle that started last, as far as its class and the answers so far say which answers may follow.
@@ -45,7 +45,7 @@ impl Cycle {
     }
 
     /// The cycle in which an instant is: this one, unless another starts there.
-    pub(crate) fn entered(self, asked: Option<Asked>) -> Cycle
+    pub(crate) fn entered(self, asked: Option<CycleStart>) -> Cycle
         ensures { result ≡ cycle_entered self asked }
     {
         match asked {

@@ -9,7 +9,7 @@ ghost use Rattle.vme_dtb.specs.Edge.{is_addressed, is_still, is_unready, shown_b
 ghost use Rattle.vme_dtb.specs.Edge.{stays_on};
 ghost use Rattle.vme_dtb.specs.UsualSteps.{is_answer_alone, is_start_alone, is_strobes_alone};
 
-use vme_monitor::mark::{Asked, Kinds, NOTHING};
+use vme_monitor::mark::{CycleStart, NOTHING, StepMarks};
 use vme_trace::edges::{falls, has_strobes_high, rises, starts_transfer};
 use vme_trace::{Line, Lines, am_class, am_code};
 
@@ -17,7 +17,7 @@ use vme_trace::{Line, Lines, am_class, am_code};
 #[derive(Clone, Copy, PartialEq, Eq, Debug)]
 pub struct Edges {
     /// What happens, but for the answer of a transfer.
-    pub shown: Kinds,
+    pub shown: StepMarks,
     /// A transfer starts, and this answer line is the first that isn't high before or after the step.
     pub unready: Option<Line>,
     /// The first strobe that rises.
@@ -145,10 +145,10 @@ fn address(lines: &Lines) -> u32
 
 /// What the lines say where a cycle starts.
 #[inline(always)]
-pub(crate) fn asked(lines: &Lines) -> Asked
+pub(crate) fn asked(lines: &Lines) -> CycleStart
     ensures { result ≡ asked_of lines.now }
 {
-    Asked {
+    CycleStart {
         class: am_class(lines),
         modifier: am_code(lines),
         address: address(lines),
@@ -183,7 +183,7 @@ fn is_unready(before: &Lines, after: &Lines, line: Line) -> bool
 }
 
 /// What happens, but for the answer of a transfer.
-fn shown(before: &Lines, after: &Lines) -> Kinds
+fn shown(before: &Lines, after: &Lines) -> StepMarks
     ensures { result ≡ shown_between before.now after.now }
 {
     let cycle = if falls(before, after, Line::AS) {
@@ -191,7 +191,7 @@ fn shown(before: &Lines, after: &Lines) -> Kinds
     } else {
         None
     };
-    Kinds {
+    StepMarks {
         cycle,
         cycle_end: rises(before, after, Line::AS),
         transfer: transfer_started(before, after),

@@ -25,10 +25,10 @@ use crate::edges::{
     Edges, asked, closes, first_answer, is_addressed, is_answer_alone, is_handshake_still,
     is_start_alone, is_strobes_alone, transfer_started,
 };
-use crate::memory::Memory;
-use vme_monitor::mark::{Answered, Fault, Kinds, NOTHING, Next, quiet};
+use crate::memory::HandshakeMemory;
+use vme_monitor::mark::{Fault, NOTHING, Next, StepMarks, TransferAnswer, quiet};
 use vme_monitor::monitor::Monitor;
-use vme_monitor::spanned::{Rules, Within};
+use vme_monitor::over_stretches::{RuleMonitor, Rules};
 use vme_monitor::tracking::Pending;
 use vme_trace::edges::{
     falls, has_strobes_high, rises, starts_transfer, strobe_falls, strobe_rises,
@@ -40,7 +40,7 @@ pub struct HandshakeRules;
 
 /// That AS*, a strobe or an answer line moves.
 #[derive(Clone, Copy, PartialEq, Eq, Debug, Drop)]
-pub struct Moved;
+pub struct HandshakeEdge;
 
 /// Whether a transfer is open and has no answer.
 fn is_unanswered(pending: Pending) -> bool
@@ -111,11 +111,11 @@ fn data_of(entered: Pending, before: &Lines, after: &Lines) -> Option<Lanes>
 }
 
 /// The answer of the transfer in which a step ends, if any.
-fn answered(entered: Pending, before: &Lines, after: &Lines, seen: &Edges) -> Option<Answered>
+fn answered(entered: Pending, before: &Lines, after: &Lines, seen: &Edges) -> Option<TransferAnswer>
     ensures { result ≡ answered_in entered before.now after.now seen.now }
 {
     match answer_of(entered, seen) {
-        Some(line) => Some(Answered {
+        Some(line) => Some(TransferAnswer {
             line,
             lanes: data_of(entered, before, after),
         }),
@@ -137,7 +137,7 @@ fn freed(was: bool, seen: &Edges) -> bool
     was || seen.strobe_rise.is_some()
 }
 
-impl Memory {
+impl HandshakeMemory {
     /// Whether the transfer that was open before the step stays without an answer.
     fn is_unserved(self, seen: &Edges) -> bool
         ensures { result ≡ is_unserved self.pending seen.now }
@@ -186,12 +186,12 @@ fn cycle_fault(cycle: Cycle, write: bool, answer: Option<Line>) -> Option<Fault>
     }
 }
 
-impl Memory {
+impl HandshakeMemory {
     /// What follows from any edges, which few steps come to.
     #[cold]
     #[inline(never)]
     #[tactic(auto, using(crate::proofs::UsualNexts::closed_twice))]
-    fn at_edges(self, before: &Lines, after: &Lines) -> Next<Memory>
+    fn at_edges(self, before: &Lines, after: &Lines) -> Next<HandshakeMemory>
         ensures { result ≡ dtb_next self before.now after.now (edges_between before.now after.now) }
     {
         let seen = Edges::between(before, after);
@@ -211,7 +211,7 @@ impl Memory {
         Next {
             memory: self.left(after, pending, cycle, seen.strobe_rise.is_some()),
             fault,
-            kinds: Kinds {
+            kinds: StepMarks {
                 answer: answered(entered, before, after, &seen),
                 ..seen.shown
             },
@@ -220,7 +220,7 @@ impl Memory {
 
     /// The same, taken apart and put together again: so what follows from the usual edges stays in registers.
     #[inline(always)]
-    fn at_any(self, before: &Lines, after: &Lines) -> Next<Memory>
+    fn at_any(self, before: &Lines, after: &Lines) -> Next<HandshakeMemory>
         ensures { result ≡ dtb_next self before.now after.now (edges_between before.now after.now) }
     {
         let Next {
@@ -237,10 +237,10 @@ impl Memory {
 
     /// What is remembered after a step, by the transfer and the cycle that it leaves and whether a strobe rises.
     #[inline(always)]
-    fn left(self, after: &Lines, pending: Pending, cycle: Cycle, rises: bool) -> Memory
+    fn left(self, after: &Lines, pending: Pending, cycle: Cycle, rises: bool) -> HandshakeMemory
         ensures { result ≡ memory_left self after.now pending cycle rises }
     {
-        Memory {
+        HandshakeMemory {
             pending: if has_strobes_high(after) {
                 Pending::Closed
             } else {
@@ -254,7 +254,7 @@ impl Memory {
 
     /// What follows where AS* alone falls.
     #[inline(always)]
-    fn at_cycle_start(self, before: &Lines, after: &Lines) -> Next<Memory>
+    fn at_cycle_start(self, before: &Lines, after: &Lines) -> Next<HandshakeMemory>
         requires { is_start_alone before.now after.now ≡ true }
         ensures { result ≡ dtb_next self before.now after.now (edges_between before.now after.now) }
     {
@@ -262,7 +262,7 @@ impl Memory {
         Next {
             memory: self.left(after, self.pending, Cycle::of_class(asked.class), false),
             fault: None,
-            kinds: Kinds {
+            kinds: StepMarks {
                 cycle: Some(asked),
                 ..NOTHING
             },
@@ -282,7 +282,7 @@ impl Memory {
 
     /// What follows where strobes move and the answer lines stay.
     #[inline(always)]
-    fn at_strobes(self, before: &Lines, after: &Lines) -> Next<Memory>
+    fn at_strobes(self, before: &Lines, after: &Lines) -> Next<HandshakeMemory>
         requires { is_strobes_alone before.now after.now ≡ true }
         ensures { result ≡ dtb_next self before.now after.now (edges_between before.now after.now) }
     {
@@ -295,7 +295,7 @@ impl Memory {
         Next {
             memory: self.left(after, entered, self.cycle, strobe_rises),
             fault: None,
-            kinds: Kinds {
+            kinds: StepMarks {
                 cycle_end,
                 transfer: transfer_started(before, after),
                 close: closes(before, after),
@@ -306,7 +306,7 @@ impl Memory {
 
     /// What follows where DTACK* alone falls while AS* is low.
     #[inline(always)]
-    fn at_answer(self, before: &Lines, after: &Lines) -> Next<Memory>
+    fn at_answer(self, before: &Lines, after: &Lines) -> Next<HandshakeMemory>
         requires alone { is_answer_alone before.now after.now ≡ true }
         requires falls { falls_between before.now after.now DTACK ≡ true }
         requires addressed { is_addressed before.now after.now ≡ true }
@@ -319,8 +319,8 @@ impl Memory {
         Next {
             memory: self.left(after, Pending::Answered, self.cycle.answered(write), false),
             fault: cycle_fault(self.cycle, write, Some(Line::DTACK)),
-            kinds: Kinds {
-                answer: Some(Answered {
+            kinds: StepMarks {
+                answer: Some(TransferAnswer {
                     line: Line::DTACK,
                     lanes: taken(write, before),
                 }),
@@ -331,7 +331,7 @@ impl Memory {
 
     /// What follows where DTACK* alone rises.
     #[inline(always)]
-    fn at_ready(self, before: &Lines, after: &Lines) -> Next<Memory>
+    fn at_ready(self, before: &Lines, after: &Lines) -> Next<HandshakeMemory>
         requires alone { is_answer_alone before.now after.now ≡ true }
         requires rises { rises_between before.now after.now DTACK ≡ true }
         ensures { result ≡ dtb_next self before.now after.now (edges_between before.now after.now) }
@@ -344,7 +344,7 @@ impl Memory {
 
     /// What follows where neither AS*, the strobes nor BERR* move.
     #[inline(always)]
-    fn at_dtack(self, before: &Lines, after: &Lines) -> Next<Memory>
+    fn at_dtack(self, before: &Lines, after: &Lines) -> Next<HandshakeMemory>
         requires { is_answer_alone before.now after.now ≡ true }
         ensures { result ≡ dtb_next self before.now after.now (edges_between before.now after.now) }
     {
@@ -362,9 +362,9 @@ impl Rules for HandshakeRules {
     ghost use Rattle.vme_monitor.specs.Run.{nothing};
     ghost use Rattle.vme_dtb.specs.Machine.{dtb_begin, dtb_ends, dtb_opens, dtb_sight, dtb_step};
 
-    type Memory = Memory;
+    type Memory = HandshakeMemory;
 
-    type Seen = Moved;
+    type Observation = HandshakeEdge;
 
     ghost begin = { dtb_begin };
 
@@ -374,12 +374,12 @@ impl Rules for HandshakeRules {
 
     ghost ends = { dtb_ends };
 
-    ghost sight = { dtb_sight };
+    ghost observation = { dtb_sight };
 
     ghost next = { dtb_step };
 
-    fn at_start(_lines: &Lines) -> Memory {
-        Memory {
+    fn at_start(_lines: &Lines) -> HandshakeMemory {
+        HandshakeMemory {
             pending: Pending::Closed,
             cycle: Cycle::Free,
             dtack_freed: false,
@@ -387,11 +387,11 @@ impl Rules for HandshakeRules {
         }
     }
 
-    fn shown_at_start(_lines: &Lines) -> Kinds {
+    fn shown_at_start(_lines: &Lines) -> StepMarks {
         NOTHING
     }
 
-    fn shown_at_reset() -> Kinds {
+    fn shown_at_reset() -> StepMarks {
         NOTHING
     }
 
@@ -400,16 +400,21 @@ impl Rules for HandshakeRules {
     }
 
     #[inline(always)]
-    fn see(before: &Lines, after: &Lines, _changes: &[Change]) -> Option<Moved> {
+    fn observe(before: &Lines, after: &Lines, _changes: &[Change]) -> Option<HandshakeEdge> {
         if is_handshake_still(before, after) {
             None
         } else {
-            Some(Moved)
+            Some(HandshakeEdge)
         }
     }
 
     #[inline(always)]
-    fn step(memory: Memory, before: &Lines, after: &Lines, _seen: &Moved) -> Next<Memory> {
+    fn step(
+        memory: HandshakeMemory,
+        before: &Lines,
+        after: &Lines,
+        _seen: &HandshakeEdge,
+    ) -> Next<HandshakeMemory> {
         if is_answer_alone(before, after) {
             memory.at_dtack(before, after)
         } else if is_start_alone(before, after) {
@@ -426,7 +431,7 @@ impl Rules for HandshakeRules {
 ///
 /// Over a whole capture its event is the least break of the rules H1 to H8, C1, C2, I4 and I5;
 /// [`handshake_over_captures`] says so.
-pub type Dtb = Within<HandshakeRules>;
+pub type Dtb = RuleMonitor<HandshakeRules>;
 
 /// Over a whole capture, the event is the least break of H1 to H8, C1, C2, I4 and I5, and the marks are the starts and
 /// ends of cycles, and the starts, answers and closes of transfers.

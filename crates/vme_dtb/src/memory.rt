@@ -4,12 +4,12 @@ ghost use Rattle.std.specs.Prelude.{◌≡◌, ◌<◌};
 ghost use Rattle.vme_dtb.specs.MemoryPlaces.{bit, pending_nth, pending_place};
 
 use crate::cycle::Cycle;
-use vme_monitor::machine::{Places, Small};
+use vme_monitor::machine::{Enumerable, Small};
 use vme_monitor::tracking::Pending;
 
 /// What the levels before a step don't show of the handshake.
 #[derive(Clone, Copy, PartialEq, Eq, Debug)]
-pub struct Memory {
+pub struct HandshakeMemory {
     /// What the transfer is doing.
     pub pending: Pending,
     /// The cycle that started last.
@@ -53,7 +53,7 @@ fn bit_of(truth: bool) -> usize
     if truth { 1 } else { 0 }
 }
 
-impl Places for Memory {
+impl Enumerable for HandshakeMemory {
     ghost use Rattle.vme_dtb.specs.MemoryPlaces.{memory_found, memory_nth, memory_place, memory_placed};
 
     ghost COUNT = { 144 };
@@ -75,8 +75,8 @@ impl Places for Memory {
             + bit_of(self.berr_freed)
     }
 
-    fn nth(k: usize) -> Memory {
-        Memory {
+    fn nth(k: usize) -> HandshakeMemory {
+        HandshakeMemory {
             pending: pending_at(k / 36),
             cycle: Cycle::nth(k / 4 % 9),
             dtack_freed: k / 2 % 2 == 1,
@@ -85,7 +85,7 @@ impl Places for Memory {
     }
 }
 
-impl Small for Memory {
+impl Small for HandshakeMemory {
     ghost use Rattle.vme_dtb.specs.MemoryPlaces.{memories_few};
 
     ghost small = { memories_few };

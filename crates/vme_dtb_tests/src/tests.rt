@@ -4,10 +4,11 @@ use std::process::Abort;
 use std::test::Fail;
 use vme_dtb::handshake::Dtb;
 use vme_monitor::finite::Finite;
-use vme_monitor::mark::{Kind, Mark};
+use vme_monitor::mark::{Mark, MarkKind};
 use vme_monitor::monitor::{Monitor, join, none};
 use vme_trace::{
-    Block, Break, Capture, Change, Changes, Class, Lanes, Level, Line, Lines, Moved, Rule, Step,
+    Block, Break, Capture, Change, Changes, Class, Lanes, Level, Line, Lines, MovedBytes, Rule,
+    Step,
 };
 
 /// The numbers of the lines that change at a step, with their new levels.
@@ -186,7 +187,7 @@ const PIPELINED: [Row; 13] = [
 fn cycle(instant: u32, address: u32) -> Mark {
     Mark {
         instant,
-        kind: Kind::Cycle {
+        kind: MarkKind::Cycle {
             class: Class::S,
             am: 0x39,
             address,
@@ -194,14 +195,14 @@ fn cycle(instant: u32, address: u32) -> Mark {
     }
 }
 
-fn mark(instant: u32, kind: Kind) -> Mark {
+fn mark(instant: u32, kind: MarkKind) -> Mark {
     Mark { instant, kind }
 }
 
 fn answer(rt: &impl Abort, instant: u32) -> Mark {
     Mark {
         instant,
-        kind: Kind::Answer {
+        kind: MarkKind::Answer {
             line: line_of(rt, DTACK),
         },
     }
@@ -211,7 +212,7 @@ fn answer(rt: &impl Abort, instant: u32) -> Mark {
 fn answer_with(rt: &impl Abort, instant: u32, lanes: Lanes) -> Mark {
     Mark {
         instant,
-        kind: Kind::WriteAnswer {
+        kind: MarkKind::WriteAnswer {
             line: line_of(rt, DTACK),
             moved: lanes.moved,
             unknown: lanes.unknown,
@@ -225,15 +226,15 @@ fn answer_with(rt: &impl Abort, instant: u32, lanes: Lanes) -> Mark {
 fn cycles_and_transfers_are_marked(rt: HostRuntime) -> Result<(), Fail> {
     let want = [
         cycle(9, 0xFFFFDE),
-        mark(10, Kind::Transfer { write: false }),
+        mark(10, MarkKind::Transfer { write: false }),
         answer(&rt, 11),
-        mark(12, Kind::CycleEnd),
+        mark(12, MarkKind::CycleEnd),
         cycle(14, 0xFFFFFE),
-        mark(15, Kind::Close),
-        mark(17, Kind::Transfer { write: false }),
+        mark(15, MarkKind::Close),
+        mark(17, MarkKind::Transfer { write: false }),
         answer(&rt, 18),
-        mark(19, Kind::CycleEnd),
-        mark(19, Kind::Close),
+        mark(19, MarkKind::CycleEnd),
+        mark(19, MarkKind::Close),
     ];
     for size in [1, 1000] {
         let all = whole(&rt, rt.alloc(), &PIPELINED, size)?;
@@ -269,7 +270,12 @@ fn an_answer_falls_in_a_transfer(rt: HostRuntime) -> Result<(), Fail> {
 fn answers_of(rt: &impl Abort, alloc: Global, rows: &[Row]) -> Result<Vec<Mark>, Fail> {
     let all = whole(rt, alloc, rows, 1000)?;
     let mut marks = Dtb::marks(alloc, &all, start(rt))?;
-    marks.retain(|mark| { matches!(mark.kind, Kind::Answer { .. } | Kind::WriteAnswer { .. }) });
+    marks.retain(|mark| {
+        matches!(
+            mark.kind,
+            MarkKind::Answer { .. } | MarkKind::WriteAnswer { .. }
+        )
+    });
     Ok(marks)
 }
 
@@ -298,7 +304,7 @@ const READ_AND_WRITE: [Row; 11] = [
 #[test]
 fn the_answer_of_a_write_has_its_data(rt: HostRuntime) -> Result<(), Fail> {
     let byte = Lanes {
-        moved: Moved::OddByte,
+        moved: MovedBytes::OddByte,
         value: 0xA9,
         unknown: 0,
     };
@@ -328,7 +334,7 @@ const AT_ONCE: [Row; 4] = [
 #[test]
 fn the_data_of_a_write_may_be_unknown(rt: HostRuntime) -> Result<(), Fail> {
     let word = Lanes {
-        moved: Moved::Word,
+        moved: MovedBytes::Word,
         value: 0x1,
         unknown: 0b1110,
     };

@@ -8,8 +8,8 @@ use Rattle.vme_listing.specs.declared.row.Row.{Row}
 use Rattle.vme_listing.specs.declared.row.Row.TheVariants as row
 use Rattle.vme_trace.specs.declared.class.Class.{Class}
 use Rattle.vme_trace.specs.declared.class.Class.TheVariants.{S, K, I, F}
-use Rattle.vme_explain.specs.declared.rows.Kind.{Kind}
-use Rattle.vme_explain.specs.declared.rows.Kind.TheVariants as kind
+use Rattle.vme_explain.specs.declared.rows.RowKind.{RowKind}
+use Rattle.vme_explain.specs.declared.rows.RowKind.TheVariants as kind
 use Rattle.vme_explain.specs.declared.rows.Part.{Part}
 use Rattle.vme_explain.specs.declared.rows.Part.TheVariants as part
 
@@ -67,7 +67,7 @@ is_reset (row.Reset instant) = true
 is_reset r = false
 
 -- a row is of a kind
-abbrev pub is_of : Kind → Row → Bool
+abbrev pub is_of : RowKind → Row → Bool
 is_of kind.OpenTenures r = is_open_tenure_row r
 is_of (kind.Tenures level slot) r = is_tenure_of level slot r
 is_of kind.Singles r = is_cycle_of S r

@@ -4,11 +4,11 @@ use vme_trace::{Capture, Change, LINE_COUNT, Level, Line, Lines};
 
 /// A mark for each line, by its number.
 #[derive(Clone, Copy)]
-pub(crate) struct Marked {
+pub(crate) struct MarkedLines {
     lines: [bool; LINE_COUNT as usize],
 }
 
-impl Marked {
+impl MarkedLines {
     fn mark(&mut self, line: Line) {
         if let Some(marked) = self.lines.get_mut(usize::from(line.number())) {
             *marked = true;
@@ -49,7 +49,7 @@ fn is_fit(line: Line, level: Level) -> bool {
     }
 }
 
-fn mark_fit(marked: &mut Marked, changes: &[Change]) {
+fn mark_fit(marked: &mut MarkedLines, changes: &[Change]) {
     for change in changes {
         if is_fit(change.line, change.level) {
             marked.mark(change.line);
@@ -58,8 +58,8 @@ fn mark_fit(marked: &mut Marked, changes: &[Change]) {
 }
 
 /// The lines that show at some instant what an idle bus asks of them.
-pub(crate) fn fit_lines(capture: &Capture) -> Marked {
-    let mut marked = Marked {
+pub(crate) fn fit_lines(capture: &Capture) -> MarkedLines {
+    let mut marked = MarkedLines {
         lines: [false; LINE_COUNT as usize],
     };
     let opening = capture.opening();
@@ -82,8 +82,8 @@ pub(crate) fn is_fit_in(lines: &Lines, line: Line) -> bool {
 }
 
 /// The lines that change behind an instant.
-pub(crate) fn moved_lines(capture: &Capture, from: u32) -> Marked {
-    let mut marked = Marked {
+pub(crate) fn moved_lines(capture: &Capture, from: u32) -> MarkedLines {
+    let mut marked = MarkedLines {
         lines: [false; LINE_COUNT as usize],
     };
     let steps = capture.steps();

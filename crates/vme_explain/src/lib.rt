@@ -17,5 +17,5 @@ mod viewer;
 
 pub use excerpt::{levels_from, marks_of, time_at};
 pub use page::{Subject, explanation};
-pub use rows::{Kind, Part, count_of, open_row};
+pub use rows::{Part, RowKind, count_of, open_row};
 pub use viewer::save_file;

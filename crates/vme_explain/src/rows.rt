@@ -10,7 +10,7 @@ use vme_trace::Class;
 
 /// A kind of rows that are counted.
 #[derive(Clone, Copy, Debug, PartialEq, Eq)]
-pub enum Kind {
+pub enum RowKind {
     /// A tenure of the bus that was open at the start.
     OpenTenures,
     /// A tenure by the grant of a level, 0 to 3, in a slot, 1 to 21.
@@ -54,22 +54,22 @@ pub enum Part {
 }
 
 /// Whether a row is of a kind.
-fn is_of(kind: Kind, row: &Row) -> bool
+fn is_of(kind: RowKind, row: &Row) -> bool
     ensures { result ≡ is_of kind row.now }
 {
     match kind {
-        Kind::OpenTenures => matches!(row, Row::OpenTenure { .. }),
-        Kind::Tenures { level, slot } => is_tenure_of(row, level, slot),
-        Kind::Singles => is_cycle_of(row, Class::S),
-        Kind::Blocks => is_cycle_of(row, Class::K),
-        Kind::Frees => matches!(row, Row::FreeCycle { .. }),
-        Kind::Acknowledges => matches!(row, Row::InterruptCycle { .. }),
-        Kind::Reads => is_transfer_in(row, Direction::Read),
-        Kind::Writes => is_transfer_in(row, Direction::Write),
-        Kind::Done => is_answered_by(row, AnswerLine::Dtack),
-        Kind::Errors => is_answered_by(row, AnswerLine::Berr),
-        Kind::Pending => matches!(row, Row::PendingTransfer { .. }),
-        Kind::Resets => is_reset(row),
+        RowKind::OpenTenures => matches!(row, Row::OpenTenure { .. }),
+        RowKind::Tenures { level, slot } => is_tenure_of(row, level, slot),
+        RowKind::Singles => is_cycle_of(row, Class::S),
+        RowKind::Blocks => is_cycle_of(row, Class::K),
+        RowKind::Frees => matches!(row, Row::FreeCycle { .. }),
+        RowKind::Acknowledges => matches!(row, Row::InterruptCycle { .. }),
+        RowKind::Reads => is_transfer_in(row, Direction::Read),
+        RowKind::Writes => is_transfer_in(row, Direction::Write),
+        RowKind::Done => is_answered_by(row, AnswerLine::Dtack),
+        RowKind::Errors => is_answered_by(row, AnswerLine::Berr),
+        RowKind::Pending => matches!(row, Row::PendingTransfer { .. }),
+        RowKind::Resets => is_reset(row),
     }
 }
 
@@ -120,7 +120,7 @@ fn is_answered_by(row: &Row, line: AnswerLine) -> bool
 }
 
 /// How many rows of a listing are of a kind.
-pub fn count_of(kind: Kind, rows: &[Row]) -> usize
+pub fn count_of(kind: RowKind, rows: &[Row]) -> usize
     ensures { result ≡ count_by (is_of kind) rows.now }
 {
     rows.iter().filter(|row| is_of(kind, row)).count()

@@ -3,7 +3,7 @@
 use crate::excerpt::levels_from;
 use crate::idle::{control_line, fit_lines, is_fit_in, moved_lines, rests_high};
 use crate::page::{Subject, push_instant, push_open};
-use crate::rows::{Kind, Part, count_of, last_reset, open_row};
+use crate::rows::{Part, RowKind, count_of, last_reset, open_row};
 use crate::sources::bound_to;
 use std::alloc::{AllocError, Global};
 use vme_listing::Row;
@@ -30,10 +30,10 @@ pub(crate) fn push_summary(
         subject.rows,
         "cycles: ",
         &[
-            (Kind::Singles, " single, "),
-            (Kind::Blocks, " block transfer, "),
-            (Kind::Frees, " with a free code, "),
-            (Kind::Acknowledges, " interrupt acknowledge\n"),
+            (RowKind::Singles, " single, "),
+            (RowKind::Blocks, " block transfer, "),
+            (RowKind::Frees, " with a free code, "),
+            (RowKind::Acknowledges, " interrupt acknowledge\n"),
         ],
     )?;
     push_counts(
@@ -42,11 +42,11 @@ pub(crate) fn push_summary(
         subject.rows,
         "transfers: ",
         &[
-            (Kind::Reads, " read, "),
-            (Kind::Writes, " write; "),
-            (Kind::Done, " answered by DTACK, "),
-            (Kind::Errors, " by BERR, "),
-            (Kind::Pending, " not answered\n"),
+            (RowKind::Reads, " read, "),
+            (RowKind::Writes, " write; "),
+            (RowKind::Done, " answered by DTACK, "),
+            (RowKind::Errors, " by BERR, "),
+            (RowKind::Pending, " not answered\n"),
         ],
     )?;
     push_pending(text, alloc, subject)?;
@@ -80,7 +80,7 @@ fn push_resets(text: &mut Text, alloc: Global, subject: &Subject<'_>) -> Result<
         return Ok(());
     };
     text.push(b"resets: ")?;
-    text.push_decimal(alloc, count_of(Kind::Resets, subject.rows) as u64)?;
+    text.push_decimal(alloc, count_of(RowKind::Resets, subject.rows) as u64)?;
     text.push(b", the last at instant ")?;
     push_instant(text, alloc, subject.capture, instant)?;
     text.push(b"\n")
@@ -91,7 +91,7 @@ fn push_counts(
     alloc: Global,
     rows: &[Row],
     name: &str,
-    kinds: &[(Kind, &str)],
+    kinds: &[(RowKind, &str)],
 ) -> Result<(), AllocError> {
     text.push(name.as_bytes())?;
     for (kind, behind) in kinds {
@@ -104,11 +104,11 @@ fn push_counts(
 /// Appends how many tenures there are, by level and slot.
 fn push_tenures(text: &mut Text, alloc: Global, subject: &Subject<'_>) -> Result<(), AllocError> {
     text.push(b"tenures: ")?;
-    text.push_decimal(alloc, count_of(Kind::OpenTenures, subject.rows) as u64)?;
+    text.push_decimal(alloc, count_of(RowKind::OpenTenures, subject.rows) as u64)?;
     text.push(b" open before judging starts")?;
     for level in 0..4 {
         for slot in 1..MOST_SLOTS + 1 {
-            let count = count_of(Kind::Tenures { level, slot }, subject.rows) as u64;
+            let count = count_of(RowKind::Tenures { level, slot }, subject.rows) as u64;
             if count > 0 {
                 text.push(b", ")?;
                 text.push_decimal(alloc, count)?;

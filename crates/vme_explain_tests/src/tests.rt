@@ -1,6 +1,6 @@
 use std::test::Fail;
 use vcd_read::{Variables, read_definitions};
-use vme_explain::{Kind, Part, Subject, count_of, open_row, save_file};
+use vme_explain::{Part, RowKind, Subject, count_of, open_row, save_file};
 use vme_listing::{AnswerLine, Direction, Row};
 use vme_trace::{Break, Capture, Line, Lines, Rule, Verdict};
 
@@ -30,11 +30,11 @@ const ROWS: [Row; 4] = [
 
 #[test]
 fn rows_are_counted(rt: HostRuntime) -> Result<(), Fail> {
-    assert_eq!(rt; count_of(Kind::Tenures { level: 3, slot: 2 }, &ROWS), 1);
-    assert_eq!(rt; count_of(Kind::Tenures { level: 3, slot: 1 }, &ROWS), 0);
-    assert_eq!(rt; count_of(Kind::Reads, &ROWS), 1);
-    assert_eq!(rt; count_of(Kind::Writes, &ROWS), 0);
-    assert_eq!(rt; count_of(Kind::Pending, &ROWS), 1);
+    assert_eq!(rt; count_of(RowKind::Tenures { level: 3, slot: 2 }, &ROWS), 1);
+    assert_eq!(rt; count_of(RowKind::Tenures { level: 3, slot: 1 }, &ROWS), 0);
+    assert_eq!(rt; count_of(RowKind::Reads, &ROWS), 1);
+    assert_eq!(rt; count_of(RowKind::Writes, &ROWS), 0);
+    assert_eq!(rt; count_of(RowKind::Pending, &ROWS), 1);
     Ok(())
 }
 
@@ -50,8 +50,8 @@ fn what_was_open_at_a_reset_is_over(rt: HostRuntime) -> Result<(), Fail> {
     assert!(rt; open_row(Part::Tenure, &rows).is_none());
     assert!(rt; open_row(Part::Transfer, &rows) == Some(ROWS[3]));
     assert!(rt; open_row(Part::Transfer, &rows[..3]).is_none());
-    assert_eq!(rt; count_of(Kind::Resets, &rows), 1);
-    assert_eq!(rt; count_of(Kind::Resets, &ROWS), 0);
+    assert_eq!(rt; count_of(RowKind::Resets, &rows), 1);
+    assert_eq!(rt; count_of(RowKind::Resets, &ROWS), 0);
     Ok(())
 }
 

@@ -2,13 +2,13 @@
 use Rattle.std.proofs.Common.{◌≡◌, ℕ, List, refl, sym, ap, ◌∙◌}
 use Rattle.std.specs.Prelude.{Result, Ok, Err}
 use Rattle.vcd_read.specs.Contents.{Contents}
-use Rattle.vcd_read.specs.Meaning.{dump_of, Fails, FailsAs}
+use Rattle.vcd_read.specs.Meaning.{dump_of, ReadFails, ReadFailsAs}
 use Rattle.vcd_read.specs.declared.fault.VcdFault.{VcdFault}
 use Rattle.vcd_read.specs.declared.fault.FaultKind.{FaultKind}
 use Rattle.vcd_read.specs.declared.fault.FaultKind.TheVariants.{Memory}
 use Rattle.vme_bind.specs.Binding.{BoundLines}
 use Rattle.vme_bind.specs.Capture.{capture_of}
-use Rattle.vme_bind.specs.TextCapture.{DumpFails, FailsBy, capture_of_text, capture_read, or_binding}
+use Rattle.vme_bind.specs.TextCapture.{DumpFails, CaptureFailsBy, capture_of_text, capture_read, or_binding}
 use Rattle.vme_bind.specs.declared.fault.BindFault.{BindFault}
 use Rattle.vme_bind.specs.declared.fault.CaptureFault.{CaptureFault}
 use Rattle.vme_bind.specs.declared.fault.CaptureFault.TheVariants.{Dump, Binding}
@@ -27,10 +27,10 @@ of_text : (b : BoundLines) (text : List ℕ) (fault : VcdFault) → capture_of_t
 unfolding capture_of_text
 of_text b text fault e = of_dump b (dump_of text) fault e
 
-of_kind : (b : BoundLines) (text : List ℕ) (line : ℕ) (kind : FaultKind) → DumpFails line kind (capture_of_text b text) → FailsAs line kind (dump_of text)
+of_kind : (b : BoundLines) (text : List ℕ) (line : ℕ) (kind : FaultKind) → DumpFails line kind (capture_of_text b text) → ReadFailsAs line kind (dump_of text)
 of_kind b text line Memory h = h
 of_kind b text line kind h = of_text b text (record { line = line; kind = kind }) h
 
-pub dump_fault : (b : BoundLines) (text : List ℕ) (fault : CaptureFault) → FailsBy fault (capture_of_text b text) → IsDumpFault text fault
+pub dump_fault : (b : BoundLines) (text : List ℕ) (fault : CaptureFault) → CaptureFailsBy fault (capture_of_text b text) → IsDumpFault text fault
 dump_fault b text (Dump fault) h = of_kind b text fault.line fault.kind h
 dump_fault b text (Binding fault) h = tt

@@ -1,7 +1,7 @@
 -- What a binding that is written for a dump has to be.
 use Rattle.std.specs.Prelude.{◌≡◌, ℕ, List, Result, Ok}
 use Rattle.vcd_read.specs.Contents.{Contents}
-use Rattle.vcd_read.specs.Meaning.{dump_of, Fails}
+use Rattle.vcd_read.specs.Meaning.{dump_of, ReadFails}
 use Rattle.vcd_read.specs.declared.fault.VcdFault.{VcdFault}
 use Rattle.vcd_read.specs.declared.fault.FaultKind.TheVariants.{Memory}
 use Rattle.vme_bind.specs.Binding.{BoundLines, binding_of}
@@ -25,7 +25,7 @@ IsDump text = (contents : Contents) × (dump_of text ≡ Ok contents)
 
 -- a fault that the dump is said to have is its first, unless memory ran out
 abbrev pub IsDumpFault : List ℕ → CaptureFault → Type 0
-IsDumpFault dump (Dump fault) = Fails fault (dump_of dump)
+IsDumpFault dump (Dump fault) = ReadFails fault (dump_of dump)
 IsDumpFault dump (Binding fault) = Unit {0}
 
 abbrev pub IsNoMemory : CaptureFault → Type 0

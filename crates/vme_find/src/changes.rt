@@ -5,16 +5,16 @@ ghost use Rattle.vme_find.specs.Counts.{counted, ended};
 
 use std::alloc::{AllocError, Global};
 use std::marker::Model;
-use vcd_read::Taker;
+use vcd_read::ChangeVisitor;
 
 /// How many changes each net has so far, and the time of the last instant.
 #[derive(Drop)]
-pub(crate) struct Changes {
+pub(crate) struct ChangeCounts {
     counts: Vec<u64>,
     last: u64,
 }
 
-impl Model for Changes {
+impl Model for ChangeCounts {
     ghost use Rattle.vme_find.specs.Counts.{Counts};
 
     ghost Value = { Counts };
@@ -22,12 +22,12 @@ impl Model for Changes {
     ghost view = { λ c. record { counts = c.counts.items; last = c.last } };
 }
 
-impl Changes {
+impl ChangeCounts {
     /// No change of so many nets.
-    pub(crate) fn none(alloc: Global, nets: usize) -> Result<Changes, AllocError> {
+    pub(crate) fn none(alloc: Global, nets: usize) -> Result<ChangeCounts, AllocError> {
         let mut counts = Vec::new(alloc);
         counts.resize(nets, 0)?;
-        Ok(Changes { counts, last: 0 })
+        Ok(ChangeCounts { counts, last: 0 })
     }
 
     /// How many changes a net has.
@@ -41,7 +41,7 @@ impl Changes {
     }
 }
 
-impl Taker for Changes {
+impl ChangeVisitor for ChangeCounts {
     ghost use Rattle.vme_find.specs.Counts.{Counts};
 
     ghost Taken = { Counts };

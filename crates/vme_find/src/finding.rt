@@ -10,7 +10,7 @@ const MOST_BITS: u32 = 64;
 
 /// A bit of a variable.
 #[derive(Clone, Copy, Debug, PartialEq, Eq)]
-pub(crate) struct Tap {
+pub(crate) struct VariableBit {
     /// The place of the variable in the order of declaration.
     pub variable: usize,
     /// The place of the bit, from the left.
@@ -19,7 +19,7 @@ pub(crate) struct Tap {
 
 /// A variable whose name means something.
 #[derive(Clone, Copy)]
-struct Candidate {
+struct NamedVariable {
     variable: usize,
     named: Named,
     fit: Fit,
@@ -42,18 +42,18 @@ impl<'a> Scope<'a> {
 
 /// What was found for the lines of a backplane.
 #[derive(Drop)]
-pub(crate) struct Found<'a> {
+pub(crate) struct Findings<'a> {
     /// A bit of a variable for each line, by the line's number.
-    taps: [Option<Tap>; LINE_COUNT as usize],
+    taps: [Option<VariableBit>; LINE_COUNT as usize],
     /// The scope in which they all stand.
     pub scope: &'a [u8],
     /// Other scopes that hold at least half as many of the names.
     pub others: Vec<&'a [u8]>,
 }
 
-impl<'a> Found<'a> {
+impl<'a> Findings<'a> {
     /// The bit that was found for a line.
-    pub(crate) fn tap(&self, line: Line) -> Option<Tap> {
+    pub(crate) fn tap(&self, line: Line) -> Option<VariableBit> {
         self.taps.get(usize::from(line.number())).copied().flatten()
     }
 
@@ -71,11 +71,11 @@ impl<'a> Found<'a> {
 }
 
 /// The variables whose names mean something.
-fn candidates(alloc: Global, variables: &[Variable]) -> Result<Vec<Candidate>, AllocError> {
+fn candidates(alloc: Global, variables: &[Variable]) -> Result<Vec<NamedVariable>, AllocError> {
     let mut found = Vec::new(alloc);
     for (variable, declared) in variables.iter().enumerate() {
         if let Some((named, fit)) = meaning(declared) {
-            found.push(Candidate {
+            found.push(NamedVariable {
                 variable,
                 named,
                 fit,
@@ -106,7 +106,7 @@ fn note_line(lines: &mut [bool; LINE_COUNT as usize], line: Line) {
 fn scopes<'a>(
     alloc: Global,
     variables: &'a [Variable],
-    candidates: &[Candidate],
+    candidates: &[NamedVariable],
 ) -> Result<Vec<Scope<'a>>, AllocError> {
     let mut scopes: Vec<Scope<'a>> = Vec::new(alloc);
     for candidate in candidates {
@@ -132,16 +132,16 @@ fn scopes<'a>(
 
 /// Takes a variable's bits for the lines that have none yet.
 fn take_bits(
-    taps: &mut [Option<Tap>; LINE_COUNT as usize],
+    taps: &mut [Option<VariableBit>; LINE_COUNT as usize],
     variables: &[Variable],
-    candidate: Candidate,
+    candidate: NamedVariable,
 ) {
     let Some(declared) = variables.get(candidate.variable) else {
         return;
     };
     for place in 0..declared.size.min(MOST_BITS) {
         if let Some(line) = candidate.named.line_at(declared, place) {
-            let tap = Tap {
+            let tap = VariableBit {
                 variable: candidate.variable,
                 place,
             };
@@ -151,7 +151,7 @@ fn take_bits(
 }
 
 /// Takes a bit for a line, if it has none yet.
-fn take_bit(taps: &mut [Option<Tap>; LINE_COUNT as usize], line: Line, tap: Tap) {
+fn take_bit(taps: &mut [Option<VariableBit>; LINE_COUNT as usize], line: Line, tap: VariableBit) {
     if let Some(taken) = taps.get_mut(usize::from(line.number())) {
         if taken.is_none() {
             *taken = Some(tap);
@@ -161,9 +161,9 @@ fn take_bit(taps: &mut [Option<Tap>; LINE_COUNT as usize], line: Line, tap: Tap)
 
 /// Takes the bits of the candidates of a scope, those that fit best first.
 fn take_scope(
-    taps: &mut [Option<Tap>; LINE_COUNT as usize],
+    taps: &mut [Option<VariableBit>; LINE_COUNT as usize],
     variables: &[Variable],
-    candidates: &[Candidate],
+    candidates: &[NamedVariable],
     scope: &[u8],
 ) {
     for fit in [Fit::Marked, Fit::Plain, Fit::Synonym] {
@@ -180,7 +180,10 @@ fn take_scope(
 }
 
 /// Finds the lines of a backplane among the variables: in the scope that holds most of them, and the first of several.
-pub(crate) fn find<'a>(alloc: Global, variables: &'a [Variable]) -> Result<Found<'a>, AllocError> {
+pub(crate) fn find<'a>(
+    alloc: Global,
+    variables: &'a [Variable],
+) -> Result<Findings<'a>, AllocError> {
     let candidates = candidates(alloc, variables)?;
     let scopes = scopes(alloc, variables, &candidates)?;
     let most = scopes.iter().map(|s| s.line_count()).max().unwrap_or(0);
@@ -196,7 +199,7 @@ pub(crate) fn find<'a>(alloc: Global, variables: &'a [Variable]) -> Result<Found
     }
     let mut taps = [None; LINE_COUNT as usize];
     take_scope(&mut taps, variables, &candidates, scope);
-    Ok(Found {
+    Ok(Findings {
         taps,
         scope,
         others,

@@ -1,6 +1,6 @@
 //! The text of a binding for what was found.
 
-use crate::finding::{Found, Tap};
+use crate::finding::{Findings, VariableBit};
 use crate::names::bit_number;
 use std::alloc::{AllocError, Global};
 use vcd_read::Variable;
@@ -140,12 +140,16 @@ pub(crate) struct Proposal<'a> {
     alloc: Global,
     text: Text,
     variables: &'a [Variable],
-    found: Found<'a>,
+    found: Findings<'a>,
 }
 
 impl<'a> Proposal<'a> {
     /// Nothing is written yet.
-    pub(crate) fn new(alloc: Global, variables: &'a [Variable], found: Found<'a>) -> Proposal<'a> {
+    pub(crate) fn new(
+        alloc: Global,
+        variables: &'a [Variable],
+        found: Findings<'a>,
+    ) -> Proposal<'a> {
         Proposal {
             alloc,
             text: Text::new(alloc),
@@ -263,7 +267,7 @@ impl<'a> Proposal<'a> {
     }
 
     /// How the format can name so many bits of a variable from this one on.
-    fn naming(&self, tap: Tap, count: u32) -> Naming {
+    fn naming(&self, tap: VariableBit, count: u32) -> Naming {
         let Some(variable) = self.variables.get(tap.variable) else {
             return Naming::Unnumbered;
         };
@@ -327,17 +331,17 @@ impl<'a> Proposal<'a> {
     }
 
     /// The bit that was found for a line, by how far its number is below a first one.
-    fn tap(&self, first: u8, place: u8) -> Option<Tap> {
+    fn tap(&self, first: u8, place: u8) -> Option<VariableBit> {
         let line = Line::from_number(first.checked_sub(place)?)?;
         self.found.tap(line)
     }
 
     /// The first bit of some lines, if they are bits of one variable from there on to the right.
-    fn run(&self, first: u8, count: u8) -> Option<Tap> {
+    fn run(&self, first: u8, count: u8) -> Option<VariableBit> {
         let start = self.tap(first, 0)?;
         let follows = (0..count).all(|place| {
             self.tap(first, place)
-                == Some(Tap {
+                == Some(VariableBit {
                     variable: start.variable,
                     place: start.place.saturating_add(u32::from(place)),
                 })
@@ -346,7 +350,12 @@ impl<'a> Proposal<'a> {
     }
 
     /// Writes that a name is so many bits of a variable from this one on, if the format can say it.
-    fn push_source(&mut self, name: &[u8], tap: Tap, count: u32) -> Result<bool, AllocError> {
+    fn push_source(
+        &mut self,
+        name: &[u8],
+        tap: VariableBit,
+        count: u32,
+    ) -> Result<bool, AllocError> {
         let Some(variable) = self.variables.get(tap.variable) else {
             return Ok(false);
         };

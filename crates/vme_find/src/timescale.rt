@@ -7,7 +7,7 @@ use vme_text::Text;
 
 /// In which section of the definitions a token stands.
 #[derive(Clone, Copy, PartialEq, Eq)]
-enum Section {
+enum TimescaleSection {
     None,
     Timescale,
     Other,
@@ -20,17 +20,19 @@ fn is_blank(byte: u8) -> bool {
 
 /// Appends the tokens of the first `$timescale` section of a dump, joined without space; nothing where it has none.
 pub(crate) fn push_timescale(text: &mut Text, dump: &[u8]) -> Result<(), AllocError> {
-    let mut section = Section::None;
+    let mut section = TimescaleSection::None;
     for token in dump.split(|byte| is_blank(*byte)) {
         match section {
             _ if token.is_empty() => {}
-            Section::None if token == b"$enddefinitions".as_slice() => return Ok(()),
-            Section::None if token == b"$timescale".as_slice() => section = Section::Timescale,
-            Section::None => section = Section::Other,
-            Section::Timescale if token == b"$end".as_slice() => return Ok(()),
-            Section::Timescale => text.push(token)?,
-            Section::Other if token == b"$end".as_slice() => section = Section::None,
-            Section::Other => {}
+            TimescaleSection::None if token == b"$enddefinitions".as_slice() => return Ok(()),
+            TimescaleSection::None if token == b"$timescale".as_slice() => section =
+                TimescaleSection::Timescale,
+            TimescaleSection::None => section = TimescaleSection::Other,
+            TimescaleSection::Timescale if token == b"$end".as_slice() => return Ok(()),
+            TimescaleSection::Timescale => text.push(token)?,
+            TimescaleSection::Other if token == b"$end".as_slice() => section =
+                TimescaleSection::None,
+            TimescaleSection::Other => {}
         }
     }
     Ok(())

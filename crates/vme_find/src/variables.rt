@@ -1,12 +1,12 @@
 //! The variables of a dump as text.
 
 ghost use Rattle.std.specs.Prelude.{◌≡◌, List, IfErr, Ok, OnOk};
-ghost use Rattle.vcd_read.specs.Meaning.{Fails, dump_of, instants_from};
+ghost use Rattle.vcd_read.specs.Meaning.{ReadFails, dump_of, instants_from};
 ghost use Rattle.vcd_read.specs.declared.dump.Instant.{Instant};
 ghost use Rattle.vcd_read.specs.declared.fault.FaultKind.TheVariants.{Memory};
 ghost use Rattle.vme_find.specs.Recordings.{IsDump};
 
-use crate::changes::Changes;
+use crate::changes::ChangeCounts;
 use crate::timescale::push_timescale;
 use std::alloc::{AllocError, Global};
 use vcd_read::{FaultKind, Head, Variable, Variables, VcdFault, read_definitions};
@@ -19,7 +19,7 @@ use vme_text::Text;
 /// A text comes only of a dump without a fault. A fault is the dump's first one; at line 0 it is want of memory.
 pub fn variables_text(alloc: Global, dump: &[u8]) -> Result<Text, VcdFault>
     ensures ok { OnOk result (IsDump dump.now) }
-    ensures err { IfErr result (λ fault. Fails fault (dump_of dump.now)) }
+    ensures err { IfErr result (λ fault. ReadFails fault (dump_of dump.now)) }
 {
     match read_definitions(alloc, dump, Variables::new(alloc)) {
         Ok((head, variables)) => variables_behind(alloc, dump, &head, variables.as_slice()),
@@ -35,7 +35,7 @@ fn variables_behind(
     variables: &[Variable],
 ) -> Result<Text, VcdFault>
     ensures ok { OnOk result ((instants : List Instant) × instants_from head.now.nets head.now.body ≡ Ok instants) }
-    ensures err { IfErr result (λ fault. Fails fault (instants_from head.now.nets head.now.body)) }
+    ensures err { IfErr result (λ fault. ReadFails fault (instants_from head.now.nets head.now.body)) }
 {
     match changes_in(alloc, head) {
         Ok(changes) => match written(alloc, dump, variables, &changes) {
@@ -47,11 +47,11 @@ fn variables_behind(
 }
 
 /// How often each net changes in the body behind some definitions.
-fn changes_in(alloc: Global, head: &Head<'_>) -> Result<Changes, VcdFault>
+fn changes_in(alloc: Global, head: &Head<'_>) -> Result<ChangeCounts, VcdFault>
     ensures ok { OnOk result ((instants : List Instant) × instants_from head.now.nets head.now.body ≡ Ok instants) }
-    ensures err { IfErr result (λ fault. Fails fault (instants_from head.now.nets head.now.body)) }
+    ensures err { IfErr result (λ fault. ReadFails fault (instants_from head.now.nets head.now.body)) }
 {
-    match Changes::none(alloc, head.net_count()) {
+    match ChangeCounts::none(alloc, head.net_count()) {
         Ok(none) => head.read_body(alloc, none),
         Err(_) => Err(no_memory()),
     }
@@ -70,7 +70,7 @@ fn written(
     alloc: Global,
     dump: &[u8],
     variables: &[Variable],
-    changes: &Changes,
+    changes: &ChangeCounts,
 ) -> Result<Text, AllocError> {
     let mut text = Text::new(alloc);
     let mut scale = Text::new(alloc);

@@ -8,9 +8,9 @@ use Rattle.vme_trace.specs.Verdict.{rules_in_force, verdict_by}
 use Rattle.vme_trace.specs.declared.block.Block.{Block}
 use Rattle.vme_summary.specs.Joins.{BlocksJoin, joined_trace}
 use Rattle.vme_floor.specs.Answering.{IsFiledNumber}
-use Rattle.vme_floor.specs.Claims.{Answered, AreAnswered, InRange, IsContent, IsFault, IsLeastMissing, IsRecorded}
+use Rattle.vme_floor.specs.Claims.{HasAnswers, AreAnswered, InRange, IsContent, IsFault, IsLeastUnfiled, IsRecorded}
 use Rattle.vme_floor.specs.Cuts.{AreDeliveriesOf, IsCutOf, IsOutcomeOf, LacksMemory}
-use Rattle.vme_floor.specs.Orders.{IsLeastTorn}
+use Rattle.vme_floor.specs.Orders.{IsLeastTornBlock}
 use Rattle.vme_floor.specs.declared.answer.Answer.{Answer}
 use Rattle.vme_floor.specs.declared.answer.Answer.TheVariants as answer
 use Rattle.vme_floor.specs.declared.report.Report.{Report}
@@ -29,7 +29,7 @@ same_lists (x ∷ xs) (y ∷ ys) e h = let head : x ≡ y = sym (same_Some y x (
 first_join : (k : ℕ) (xs : List Block) → BlocksJoin xs → BlocksJoin (take k xs)
 first_join k xs j = record { follow = λ before after a b is. j.follow before (after ++ drop k xs) a b (sym (take-append-drop k xs) ∙ (ap (λ (l : List Block). l ++ drop k xs) is ∙ append_assoc before (a ∷ b ∷ after) (drop k xs))) }
 
-pub not_torn : (bs : List Block) (n : ℕ) → BlocksJoin bs → IsLeastTorn bs n → ⊥
+pub not_torn : (bs : List Block) (n : ℕ) → BlocksJoin bs → IsLeastTornBlock bs n → ⊥
 not_torn bs n j t = t.torn (first_join (n + 1) bs j)
 
 pub out_of_range : (n most : ℕ) → 0 < n → n ≤ most → (n ≡ 0) ⊎ (most < n) → ⊥
@@ -48,7 +48,7 @@ module _ (t : Trace) (total workers : ℕ) (blocks deliveries : List Block) (cut
       same_Some report.capture t (sym r.capture_is ∙ (ap joined_trace same ∙ cut.joined))
 
   -- the answer to a delivery of a number that is missing is that there was no memory
-  answer_is : (n d : ℕ) (b : Block) (answers : List Answer) (a : Answer) → Answered total deliveries answers → IsLeastMissing total deliveries answers n → slice_get blocks n ≡ Some b → slice_get deliveries d ≡ Some b
+  answer_is : (n d : ℕ) (b : Block) (answers : List Answer) (a : Answer) → HasAnswers total deliveries answers → IsLeastUnfiled total deliveries answers n → slice_get blocks n ≡ Some b → slice_get deliveries d ≡ Some b
       → slice_get answers d ≡ Some a → LacksMemory deliveries answers n
   answer_is n d b answers answer.Filed told missing at there is = absurd (missing.missing (b, cut.numbered n b at, (d, (is, there))))
   answer_is n d b answers answer.Stranger told missing at there is = absurd (none-some answer.Stranger (sym (cut.accepted n b at) ∙ told.right d answer.Stranger b is there))
@@ -57,7 +57,7 @@ module _ (t : Trace) (total workers : ℕ) (blocks deliveries : List Block) (cut
   answer_is n d b answers answer.Doubled told missing at there is = absurd (missing.missing (subst (λ (k : ℕ). IsFiledNumber deliveries answers k) (cut.numbered n b at) (told.doubled d b is there)))
   answer_is n d b answers answer.Memory told missing at there is = (d, b, there, cut.numbered n b at, is)
 
-  lacks_memory : (n : ℕ) (answers : List Answer) → Answered total deliveries answers → IsLeastMissing total deliveries answers n → LacksMemory deliveries answers n
+  lacks_memory : (n : ℕ) (answers : List Answer) → HasAnswers total deliveries answers → IsLeastUnfiled total deliveries answers n → LacksMemory deliveries answers n
   lacks_memory n answers told missing =
       let block = get_within blocks n (let low = missing.within in let long = cut.count in omega (arith, low, long)) in
       let at : slice_get blocks n ≡ Some block.0 = block.1 in

@@ -12,7 +12,7 @@ use Rattle.vme_core.specs.Stages.{HasSeen}
 use Rattle.vme_core.specs.declared.stage.Stage.TheVariants.{Claimed}
 use Rattle.vme_board.specs.declared.board.Closed.{Closed}
 use Rattle.vme_floor.specs.Answering.{Suits, FiledAs, IsFiled, IsFiledNumber}
-use Rattle.vme_floor.specs.Claims.{Answered, IsContent, IsRecorded, IsLeastMissing, IsTorn}
+use Rattle.vme_floor.specs.Claims.{HasAnswers, IsContent, IsRecorded, IsLeastUnfiled, IsTorn}
 use Rattle.vme_floor.specs.Collecting.{HasTakenOwn}
 use Rattle.vme_floor.specs.Settling.{reply_of, AreReplies, IsAccount, IsClosed, IsUnion}
 use Rattle.vme_floor.specs.declared.collector.Collection.{Collection}
@@ -89,7 +89,7 @@ module _ (total : ℕ) (ds : List Block) (v : View) (replies : List Reply) (answ
       let one = did.list b.number (subst (λ (m : ℕ). HasSeen v m Claimed) n_is saw) in let filed = w.filed b.number in told_filed b.number (omega (arith, one, filed))
 
   -- the first claim
-  pub answered : DidAll v → Answered total ds answers
+  pub answered : DidAll v → HasAnswers total ds answers
   answered did = record {
     count = count;
     right = λ d a b at here. (right_at d a b at here).0;
@@ -120,7 +120,7 @@ module _ (total : ℕ) (ds : List Block) (v : View) (replies : List Reply) (answ
     }
 
     -- the third claim
-    pub least_missing : (n : ℕ) → Inserted.IsLeastMissing contents n → IsLeastMissing total ds answers n
+    pub least_missing : (n : ℕ) → Inserted.IsLeastUnfiled contents n → IsLeastUnfiled total ds answers n
     least_missing n e = record {
       within = let c = is_closed.count in let l = e.within in omega (arith, c, l);
       missing = λ f. some_none f.0 (same_Some (Some f.0) no_block (sym (ap (slice_get contents) (sym f.1) ∙ is_closed.listed f.0.number f.0 (listed_of f.2.0 f.0 f.2.1)) ∙ place_of contents n no_block e.within e.missing));

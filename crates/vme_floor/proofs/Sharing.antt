@@ -1,6 +1,6 @@
 -- The shares of the calling thread's bench, after some of the others were folded into it.
 use Rattle.std.proofs.Common.{◌≡◌, ℕ, zero, suc, ◌+◌, ◌*◌, ◌-◌, ◌^◌, ◌≤◌, List, [], ◌∷◌, ◌++◌, ap, arith, le_refl, pow-suc}
-use Rattle.vme_core.specs.Shares.{weight, FitsIn, IsWhole}
+use Rattle.vme_core.specs.Shares.{weight, FitsIn, IsWholeShare}
 use Rattle.vme_core.proofs.ShareSums.{fits-append, weight-append}
 
 -- the shares of the first t workers beside the calling thread
@@ -22,5 +22,5 @@ weight_upto m (suc t) low =
     let g : weight m (upto t ++ suc t ∷ []) + 2 ^ (m - suc t) ≡ 2 ^ m = omega (arith, a, b, e, p) in g
 
 -- the calling thread halved its share m times, and has all the others'
-pub whole_upto : (m : ℕ) → IsWhole (m ∷ upto m)
+pub whole_upto : (m : ℕ) → IsWholeShare (m ∷ upto m)
 whole_upto m = (m, (le_refl m, fits_upto m m (le_refl m)), (let a = weight_upto m m (le_refl m) in let g : 2 ^ (m - m) + weight m (upto m) ≡ 2 ^ m = omega (arith, a) in g))

@@ -8,7 +8,7 @@ use Rattle.vme_board.specs.Contents.{HasBlock}
 use Rattle.vme_book.specs.Inserted.{RefusesBlock}
 use Rattle.vme_book.specs.declared.book.InsertFault.{InsertFault}
 use Rattle.vme_book.specs.declared.book.InsertFault.TheVariants as insert_fault
-use Rattle.vme_floor.specs.Settling.{AreApart, IsUnionBelow}
+use Rattle.vme_floor.specs.Settling.{ShareNoNumber, IsUnionBelow}
 use Rattle.vme_floor.proofs.Collecting.{place_of}
 use Rattle.vme_floor.proofs.Places.{get_here, get_else}
 
@@ -63,7 +63,7 @@ module _ (xs ys : Blocks) (i : ℕ) (zs rest more : Blocks) (x : Option Block) (
     counted = count_more;
   }
 
-  module _ (b : Block) (some : x ≡ Some b) (apart : AreApart xs ys) where
+  module _ (b : Block) (some : x ≡ Some b) (apart : ShareNoNumber xs ys) where
     pub at_i : slice_get ys i ≡ Some (Some b)
     at_i = next_place ∙ ap (λ (y : Option Block). Some y) some
 

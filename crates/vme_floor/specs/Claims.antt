@@ -6,7 +6,7 @@ use Rattle.vme_summary.specs.Joins.{BlocksJoin, joined_trace}
 use Rattle.vme_summary.specs.Stands.{SpanStandsFor, first_number}
 use Rattle.vme_summary.specs.declared.span.Span.{Span}
 use Rattle.vme_floor.specs.Answering.{Suits, FiledAs, IsFiled, IsFiledNumber}
-use Rattle.vme_floor.specs.Orders.{IsLeastTorn}
+use Rattle.vme_floor.specs.Orders.{IsLeastTornBlock}
 use Rattle.vme_floor.specs.declared.answer.Answer.{Answer}
 use Rattle.vme_floor.specs.declared.answer.Answer.TheVariants.{Doubled}
 use Rattle.vme_floor.specs.declared.report.Report.{Report}
@@ -23,7 +23,7 @@ pub record InRange (total : ℕ) (deliveries : List Block) (workers : ℕ) : Typ
 
 -- one answer for each delivery, each the right one; of no number are two deliveries filed, and of a doubled one
 -- another is
-pub record Answered (total : ℕ) (deliveries : List Block) (answers : List Answer) : Type 0 where
+pub record HasAnswers (total : ℕ) (deliveries : List Block) (answers : List Answer) : Type 0 where
   pub count : length answers ≡ length deliveries
   pub right :
       (d : ℕ) (a : Answer) (b : Block) → slice_get answers d ≡ Some a → slice_get deliveries d ≡ Some b
@@ -37,9 +37,9 @@ pub record Answered (total : ℕ) (deliveries : List Block) (answers : List Answ
 
 -- the first claim: the answers that come with a report, or with a number that is missing or torn
 abbrev pub AreAnswered : ℕ → List Block → Result Report RunFault → Type 0
-AreAnswered total deliveries (Ok report) = Answered total deliveries report.answers
-AreAnswered total deliveries (Err (fault.Missing n answers)) = Answered total deliveries answers
-AreAnswered total deliveries (Err (fault.Torn n answers)) = Answered total deliveries answers
+AreAnswered total deliveries (Ok report) = HasAnswers total deliveries report.answers
+AreAnswered total deliveries (Err (fault.Missing n answers)) = HasAnswers total deliveries answers
+AreAnswered total deliveries (Err (fault.Torn n answers)) = HasAnswers total deliveries answers
 AreAnswered total deliveries (Err f) = Unit {0}
 
 -- the blocks are those filed: one for each number below the total, in the order of their numbers
@@ -64,7 +64,7 @@ pub record IsEarly (total workers early : ℕ) : Type 0 where
   pub alone : workers ≡ 1 → early ≡ total
 
 -- no delivery of the number was filed, and of each smaller one some was
-pub record IsLeastMissing (total : ℕ) (deliveries : List Block) (answers : List Answer) (n : ℕ) : Type 0 where
+pub record IsLeastUnfiled (total : ℕ) (deliveries : List Block) (answers : List Answer) (n : ℕ) : Type 0 where
   pub within : n < total
   pub missing : ¬ IsFiledNumber deliveries answers n
   pub least : (k : ℕ) → k < n → IsFiledNumber deliveries answers k
@@ -73,7 +73,7 @@ pub record IsLeastMissing (total : ℕ) (deliveries : List Block) (answers : Lis
 pub record IsTorn (total : ℕ) (deliveries : List Block) (answers : List Answer) (n : ℕ) : Type 0 where
   pub blocks : List Block
   pub content : IsContent total deliveries answers blocks
-  pub torn : IsLeastTorn blocks n
+  pub torn : IsLeastTornBlock blocks n
 
 -- the third claim: when each refusal comes. One that is not named before it didn't
 abbrev pub IsFault : ℕ → List Block → ℕ → RunFault → Type 0
@@ -85,7 +85,7 @@ IsFault total deliveries workers fault.Memory = InRange total deliveries workers
 IsFault total deliveries workers fault.NoWorker = InRange total deliveries workers × (1 < workers)
 IsFault total deliveries workers fault.Stray = ⊥
 IsFault total deliveries workers (fault.Missing n answers) =
-    InRange total deliveries workers × IsLeastMissing total deliveries answers n
+    InRange total deliveries workers × IsLeastUnfiled total deliveries answers n
 IsFault total deliveries workers (fault.Torn n answers) =
     InRange total deliveries workers × IsTorn total deliveries answers n
 
@@ -97,5 +97,5 @@ IsLate total deliveries fault.BadWorkers = ⊥
 IsLate total deliveries fault.Memory = Unit {0}
 IsLate total deliveries fault.NoWorker = ⊥
 IsLate total deliveries fault.Stray = ⊥
-IsLate total deliveries (fault.Missing n answers) = IsLeastMissing total deliveries answers n
+IsLate total deliveries (fault.Missing n answers) = IsLeastUnfiled total deliveries answers n
 IsLate total deliveries (fault.Torn n answers) = IsTorn total deliveries answers n

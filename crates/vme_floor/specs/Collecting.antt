@@ -10,7 +10,7 @@ use Rattle.vme_board.specs.Views.{AllFound}
 use Rattle.vme_board.specs.declared.board.Board.{Board}
 use Rattle.vme_floor.specs.Works.{IsWorkOf}
 use Rattle.vme_floor.specs.declared.collector.Collection.{Collection}
-use Rattle.vme_floor.specs.declared.collector.Collector.{Collector}
+use Rattle.vme_floor.specs.declared.collector.CollectingWorker.{CollectingWorker}
 
 -- how many blocks there are
 abbrev pub block_count : List (Option Block) → ℕ
@@ -45,7 +45,7 @@ pub record TakesOnly (old new : View) : Type 0 where
   pub sees : SeesMore old new
 
 -- the work of a bench of the board that has found each draw won, and the book of what it took
-pub record IsCollectedOf (board : Board) (deliveries : List Block) (c : Collector) : Type 0 where
+pub record IsCollectedOf (board : Board) (deliveries : List Block) (c : CollectingWorker) : Type 0 where
   pub work : IsWorkOf board deliveries c.work
   pub found : AllFound (view_of c.work.bench) (length deliveries)
   pub collected : IsCollected (total_of board) (view_of c.work.bench) c.collection

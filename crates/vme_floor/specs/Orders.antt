@@ -4,7 +4,7 @@ use Rattle.vme_trace.specs.declared.block.Block.{Block}
 use Rattle.vme_summary.specs.Joins.{BlocksJoin}
 
 -- the block at n is the first that doesn't join those before it
-pub record IsLeastTorn (blocks : List Block) (n : ℕ) : Type 0 where
+pub record IsLeastTornBlock (blocks : List Block) (n : ℕ) : Type 0 where
   pub within : n < length blocks
   pub joins : BlocksJoin (take n blocks)
   pub torn : ¬ BlocksJoin (take (n + 1) blocks)

@@ -69,8 +69,8 @@ pub record IsClosed (total : ℕ) (v : View) (contents : List (Option Block)) : 
   pub only : HasOnlyList v contents
 
 -- no place has a block in both
-abbrev pub AreApart : List (Option Block) → List (Option Block) → Type 0
-AreApart xs ys = (n : ℕ) (b c : Block) → HasBlock xs n b → HasBlock ys n c → ⊥
+abbrev pub ShareNoNumber : List (Option Block) → List (Option Block) → Type 0
+ShareNoNumber xs ys = (n : ℕ) (b c : Block) → HasBlock xs n b → HasBlock ys n c → ⊥
 
 -- the third has the blocks of the first, and those of the second below a limit
 pub record IsUnionBelow (xs ys : List (Option Block)) (limit : ℕ) (zs : List (Option Block)) : Type 0 where

@@ -111,7 +111,7 @@ impl Collection {
 
 /// The calling thread's work, and what it collected.
 #[derive(Drop)]
-pub(crate) struct Collector {
+pub(crate) struct CollectingWorker {
     pub(crate) work: Work,
     pub(crate) collection: Collection,
 }
@@ -124,7 +124,7 @@ pub(crate) fn deliver_and_collect<G: Gate>(
     gate: &G,
     bench: Bench,
     collection: Collection,
-) -> Result<Collector, AllocError>
+) -> Result<CollectingWorker, AllocError>
     requires new { IsNew board.now deliveries.now bench }
     requires collected { IsCollected (total_of board.now) (view_of bench) collection }
     ensures collected { IfOk result (λ all. IsCollectedOf board.now deliveries.now all) }
@@ -140,5 +140,5 @@ pub(crate) fn deliver_and_collect<G: Gate>(
         let number = deliveries[reply.delivery as usize].number;
         collection.collect_after(alloc, board, &mut work.bench, number, reply.answer)?;
     }
-    Ok(Collector { work, collection })
+    Ok(CollectingWorker { work, collection })
 }

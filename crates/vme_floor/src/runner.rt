@@ -8,7 +8,7 @@ ghost use Rattle.vme_floor.specs.Claims.{AreAnswered, InRange, IsEarly, IsFault,
 ghost use Rattle.vme_floor.specs.Cuts.{JudgesCuts};
 ghost use Rattle.vme_floor.specs.declared.report.RunFault.TheVariants.{Stray};
 
-use crate::collector::{Collection, Collector};
+use crate::collector::{CollectingWorker, Collection};
 use crate::gate::Gate;
 use crate::report::{Report, RunFault};
 use crate::settle::settle;
@@ -111,7 +111,7 @@ fn run_deliveries<R: Threads + Wait + Sync, G: Gate + Sync>(
         rt, alloc, &board, deliveries, gate, workers, bench, collection,
     ) {
         Ok(all) => {
-            let Collector { work, collection } = all;
+            let CollectingWorker { work, collection } = all;
             let Work { bench, replies } = work;
             match board.close(alloc, bench) {
                 Ok(closed) => settle(alloc, deliveries, total, replies, collection, closed),

@@ -5,7 +5,7 @@ ghost use Rattle.vme_trace.specs.Verdict.{rules_in_force, verdict_by};
 ghost use Rattle.vme_core.specs.declared.view.View.{View};
 ghost use Rattle.vme_floor.specs.Claims.{AreAnswered, IsLate, IsRecorded};
 ghost use Rattle.vme_board.specs.Contents.{AreNumbered};
-ghost use Rattle.vme_floor.specs.Settling.{AreApart, IsAccount, IsOwnEarly, IsUnion};
+ghost use Rattle.vme_floor.specs.Settling.{ShareNoNumber, IsAccount, IsOwnEarly, IsUnion};
 
 use crate::answer::Reply;
 use crate::answers::{Unanswered, answers_in_order};
@@ -63,7 +63,7 @@ pub(crate) fn settle(
 fn insert_all(alloc: Global, book: Book, contents: Vec<Option<Judged>>) -> Result<Book, AllocError>
     requires long { length contents.items ≡ length book }
     requires numbered { AreNumbered contents.items }
-    requires apart { AreApart book contents.items }
+    requires apart { ShareNoNumber book contents.items }
     ensures { IfOk result (λ all. IsUnion book contents.items all) }
 {
     let mut book = book;

@@ -1,13 +1,13 @@
 //! The workers side by side: the calling thread is worker 0, each other one has a scoped thread.
 
 ghost use Rattle.std.specs.Prelude.{◌≡◌, ◌<◌, ℕ, List, [], ◌∷◌, ◌++◌, IfOk, IfErr};
-ghost use Rattle.vme_core.specs.Shares.{IsWhole};
+ghost use Rattle.vme_core.specs.Shares.{IsWholeShare};
 ghost use Rattle.vme_board.specs.Benches.{total_of, view_of};
 ghost use Rattle.vme_floor.specs.Collecting.{HasTakenOwn, IsCollected, IsCollectedOf};
 ghost use Rattle.vme_floor.specs.declared.threads.ThreadFault.TheVariants.{NoWorker};
 ghost use Rattle.vme_floor.specs.Works.{IsNew, IsOtherWorkOf, IsWorkBy};
 
-use crate::collector::{Collection, Collector, deliver_and_collect};
+use crate::collector::{CollectingWorker, Collection, deliver_and_collect};
 use crate::gate::Gate;
 use crate::worker::{Work, deliver_drawn};
 use std::alloc::{AllocError, Global};
@@ -28,13 +28,13 @@ pub(crate) enum ThreadFault {
 
 /// What a thread's work is on. Its promise is that what it gives back is work on that.
 #[derive(Clone, Copy)]
-struct Assignment<'a> {
+struct WorkContext<'a> {
     board: &'a Board,
     deliveries: &'a [Block],
     worker: u32,
 }
 
-impl<'a> Promise<Result<Work, AllocError>> for Assignment<'a> {
+impl<'a> Promise<Result<Work, AllocError>> for WorkContext<'a> {
     ghost kept_by = { λ p r. IfOk r (IsWorkBy p.board.now p.deliveries.now p.worker) };
 }
 
@@ -48,25 +48,25 @@ pub(crate) fn work_together<R: Threads + Wait + Sync, G: Gate + Sync>(
     workers: u32,
     bench: Bench,
     collection: Collection,
-) -> Result<Collector, ThreadFault>
+) -> Result<CollectingWorker, ThreadFault>
     requires new { IsNew board.now deliveries.now bench }
     requires share { (view_of bench).share ≡ 0 ∷ [] }
     requires collected { IsCollected (total_of board.now) (view_of bench) collection }
     ensures collected { IfOk result (λ all. IsCollectedOf board.now deliveries.now all) }
     ensures own { IfOk result (λ all. workers ≡ 1 → HasTakenOwn (view_of all.work.bench)) }
-    ensures whole { IfOk result (λ all. IsWhole (view_of all.work.bench).share) }
+    ensures whole { IfOk result (λ all. IsWholeShare (view_of all.work.bench).share) }
     ensures alone { IfErr result (λ fault. fault ≡ NoWorker → 1 < workers) }
 {
     thread::scope(
         thread::scope_env(),
         rt,
-        |scope| -> Result<Collector, ThreadFault>
+        |scope| -> Result<CollectingWorker, ThreadFault>
             requires new { IsNew board.now deliveries.now bench }
             requires share { (view_of bench).share ≡ 0 ∷ [] }
             requires collected { IsCollected (total_of board.now) (view_of bench) collection }
             ensures collected { IfOk result (λ all. IsCollectedOf board.entry.now deliveries.entry.now all) }
             ensures own { IfOk result (λ all. workers ≡ 1 → HasTakenOwn (view_of all.work.bench)) }
-            ensures whole { IfOk result (λ all. IsWhole (view_of all.work.bench).share) }
+            ensures whole { IfOk result (λ all. IsWholeShare (view_of all.work.bench).share) }
             ensures alone { IfErr result (λ fault. fault ≡ NoWorker → 1 < workers) }
         {
             work_in_scope(
@@ -88,17 +88,17 @@ fn work_in_scope<'s, E, R: Threads + Wait + Sync, G: Gate + Sync>(
     workers: u32,
     bench: Bench,
     collection: Collection,
-) -> Result<Collector, ThreadFault>
+) -> Result<CollectingWorker, ThreadFault>
     requires new { IsNew board.now deliveries.now bench }
     requires share { (view_of bench).share ≡ 0 ∷ [] }
     requires collected { IsCollected (total_of board.now) (view_of bench) collection }
     ensures collected { IfOk result (λ all. IsCollectedOf board.now deliveries.now all) }
     ensures own { IfOk result (λ all. workers ≡ 1 → HasTakenOwn (view_of all.work.bench)) }
-    ensures whole { IfOk result (λ all. IsWhole (view_of all.work.bench).share) }
+    ensures whole { IfOk result (λ all. IsWholeShare (view_of all.work.bench).share) }
     ensures alone { IfErr result (λ fault. fault ≡ NoWorker → 1 < workers) }
 {
     let mut bench = bench;
-    let mut handles: Vec<PromisedHandle<Result<Work, AllocError>, Assignment<'s>>> = Vec::new(
+    let mut handles: Vec<PromisedHandle<Result<Work, AllocError>, WorkContext<'s>>> = Vec::new(
         alloc,
     );
     let mut fault = None;
@@ -109,7 +109,7 @@ fn work_in_scope<'s, E, R: Threads + Wait + Sync, G: Gate + Sync>(
         }
         let own = bench.split(board);
         match scope.spawn_with(
-            Assignment {
+            WorkContext {
                 board,
                 deliveries,
                 worker,
@@ -144,9 +144,9 @@ fn work_in_scope<'s, E, R: Threads + Wait + Sync, G: Gate + Sync>(
 fn with_other(
     board: &Board,
     deliveries: &[Block],
-    first: Result<Collector, AllocError>,
+    first: Result<CollectingWorker, AllocError>,
     other: Result<Work, AllocError>,
-) -> Result<Collector, AllocError>
+) -> Result<CollectingWorker, AllocError>
     requires first { IfOk first (λ all. IsCollectedOf board.now deliveries.now all) }
     requires other { IfOk other (λ work. IsOtherWorkOf board.now deliveries.now work) }
     ensures collected { IfOk result (λ all. IsCollectedOf board.now deliveries.now all) }
@@ -154,7 +154,7 @@ fn with_other(
         → IfOk other (λ work. (view_of work.bench).share ≡ t)
         → IfOk result (λ all. (view_of all.work.bench).share ≡ s ++ t) }
 {
-    let Collector { work, collection } = first?;
+    let CollectingWorker { work, collection } = first?;
     let Work {
         bench: other_bench,
         replies: mut other_replies,
@@ -162,7 +162,7 @@ fn with_other(
     let Work { bench, mut replies } = work;
     replies.append(&mut other_replies)?;
     let bench = bench.fold(other_bench, board);
-    Ok(Collector {
+    Ok(CollectingWorker {
         work: Work { bench, replies },
         collection,
     })

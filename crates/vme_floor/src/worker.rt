@@ -12,7 +12,7 @@ ghost use Rattle.vme_floor.specs.Works.{IsNew, IsNext, IsOtherWorkOf, IsWorkOf, 
 use crate::answer::{Answer, Reply};
 use crate::gate::Gate;
 use std::alloc::{AllocError, Global};
-use vme_board::{Bench, Board, Refusal};
+use vme_board::{Bench, Board, DeliveryRefusal};
 use vme_trace::Block;
 
 /// What a worker did: its bench, and a reply to each delivery that it drew.
@@ -94,11 +94,11 @@ fn deliver_copy(alloc: Global, board: &Board, block: &Block, bench: &mut Bench) 
     match bench.deliver(alloc, board, copy) {
         Ok(_) => Answer::Filed,
         Err(refused) => match refused.why {
-            Refusal::Stranger => Answer::Stranger,
-            Refusal::TooLong => Answer::TooLong,
-            Refusal::Malformed { step } => Answer::Malformed { step },
-            Refusal::Doubled => Answer::Doubled,
-            Refusal::Memory => Answer::Memory,
+            DeliveryRefusal::Stranger => Answer::Stranger,
+            DeliveryRefusal::TooLong => Answer::TooLong,
+            DeliveryRefusal::Malformed { step } => Answer::Malformed { step },
+            DeliveryRefusal::Doubled => Answer::Doubled,
+            DeliveryRefusal::Memory => Answer::Memory,
         },
     }
 }

@@ -19,8 +19,8 @@ use Rattle.vme_listing.specs.declared.row.AnswerLine.{AnswerLine}
 use Rattle.vme_listing.specs.declared.row.AnswerLine.TheVariants.{Dtack, Berr}
 use Rattle.vme_listing.specs.declared.row.Direction.{Direction}
 use Rattle.vme_listing.specs.declared.row.Direction.TheVariants.{Read, Write}
-use Rattle.vme_listing.specs.declared.row.Outcome.{Outcome}
-use Rattle.vme_listing.specs.declared.row.Outcome.TheVariants.{Conforming, NeverIdle, Broken, Unreadable}
+use Rattle.vme_listing.specs.declared.row.ListedVerdict.{ListedVerdict}
+use Rattle.vme_listing.specs.declared.row.ListedVerdict.TheVariants.{Conforming, NeverIdle, Broken, Unreadable}
 use Rattle.vme_listing.specs.declared.row.Version.{Version}
 use Rattle.vme_listing.specs.declared.row.Row.{Row}
 use Rattle.vme_listing.specs.declared.row.Row.TheVariants.{Start, Reset, OpenTenure, Tenure, AddressedCycle, FreeCycle, InterruptCycle, Transfer, PendingTransfer, Verdict}
@@ -244,7 +244,7 @@ unreadable_read rule instant line h l =
     (break_plain (codes "unreadable") rule instant line refl h l)
     (rw (rule_named-is rule (rule_name rule) refl, line_named-is line (line_name line) l refl, number_read instant h) refl)
 
-verdict_read : (outcome : Outcome) → is_outcome outcome ≡ true → IsRead (Verdict outcome)
+verdict_read : (outcome : ListedVerdict) → is_outcome outcome ≡ true → IsRead (Verdict outcome)
 unfolding row_of outcome_of row_text words
 verdict_read Conforming h = refl
 verdict_read NeverIdle h = refl

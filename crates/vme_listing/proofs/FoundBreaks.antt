@@ -8,7 +8,7 @@ use Rattle.vme_trace.specs.Instants.{least}
 use Rattle.vme_trace.specs.LineNumbers.{has_line, line_count}
 use Rattle.vme_trace.specs.Levels.{is_lost}
 use Rattle.vme_trace.specs.Trace.{Trace, levels_at, time_at, last_instant}
-use Rattle.vme_trace.specs.Judged.{Span, is_judged}
+use Rattle.vme_trace.specs.Judged.{Stretch, is_judged}
 use Rattle.vme_trace.specs.Rules.{breaks, is_broken, ends_span}
 use Rattle.vme_trace.specs.Verdict.{break_at, break_before, least_break, rule_break}
 use Rattle.vme_trace.specs.declared.rule.Rule.{Rule}
@@ -22,16 +22,16 @@ only_u1 U1 h = refl
 only_u1 r h = absurd (cc)
 
 -- what is broken is broken within the span, or at its end
-abbrev pub IsWithin : Span → ℕ → Type 0
+abbrev pub IsWithin : Stretch → ℕ → Type 0
 IsWithin span j = (span.start < j) × (j ≤ span.end)
 
-judged_there : (span : Span) (j : ℕ) → span.start < span.end → is_judged span j ≡ true → IsWithin span j
+judged_there : (span : Stretch) (j : ℕ) → span.start < span.end → is_judged span j ≡ true → IsWithin span j
 judged_there span j whole h = (grind (arith, nat_tests), grind (arith, nat_tests))
 
-at_end : (span : Span) (j : ℕ) (a b : Bool) → span.start < span.end → ((j == span.end) && a && b) ≡ true → IsWithin span j
+at_end : (span : Stretch) (j : ℕ) (a b : Bool) → span.start < span.end → ((j == span.end) && a && b) ≡ true → IsWithin span j
 at_end span j a b whole h = let here : (j == span.end) ≡ true = (and_parts (j == span.end) a (and_parts ((j == span.end) && a) b h).0).0 in (grind (arith, nat_tests), grind (arith, nat_tests))
 
-breaks-within : (t : Trace) (span : Span) (r : Rule) (j l : ℕ) → span.start < span.end → breaks t span r j l ≡ true → IsWithin span j
+breaks-within : (t : Trace) (span : Stretch) (r : Rule) (j l : ℕ) → span.start < span.end → breaks t span r j l ≡ true → IsWithin span j
 unfolding breaks is_broken
 breaks-within t span r j l whole h =
     let parts = and_parts ((ends_span r || is_judged span j) && has_line t.opening.slots l) (is_broken t span r j l) h in
@@ -45,7 +45,7 @@ breaks-within t span r j l whole h =
     one_of false b e = inr e
 
 -- a break at this instant, on one of the lines
-record IsAt (span : Span) (b : Break) (j : ℕ) : Type 0 where
+record IsAt (span : Stretch) (b : Break) (j : ℕ) : Type 0 where
   instant : b.instant ≡ j
   line : b.line < line_count
   within : span.start < span.end → IsWithin span b.instant
@@ -58,7 +58,7 @@ pub neither : (o p : Option Break) → option_or o p ≡ None → (o ≡ None) �
 neither None p e = (refl, e)
 neither (Some a) p e = absurd (cc)
 
-module _ (t : Trace) (span : Span) where
+module _ (t : Trace) (span : Stretch) where
   rule_break-at : (r : Rule) (j : ℕ) (b : Break) → rule_break t span j r ≡ Some b → IsAt span b j
   unfolding rule_break
   rule_break-at r j b e = named (least (breaks t span r j) 0 line_count) refl e

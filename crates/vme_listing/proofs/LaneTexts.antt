@@ -6,8 +6,8 @@ use Rattle.std.specs.List.{list_all}
 use Rattle.std.proofs.lemmas.Bool.{and_from, and_parts, ltb-true, ne_eqb}
 use Rattle.vme_trace.specs.Lanes.{has_digit}
 use Rattle.vme_trace.specs.declared.data.Lanes.{Lanes}
-use Rattle.vme_trace.specs.declared.data.Moved.{Moved}
-use Rattle.vme_trace.specs.declared.data.Moved.TheVariants.{Nothing, OddByte, EvenByte, Word, LongWord}
+use Rattle.vme_trace.specs.declared.data.MovedBytes.{MovedBytes}
+use Rattle.vme_trace.specs.declared.data.MovedBytes.TheVariants.{Nothing, OddByte, EvenByte, Word, LongWord}
 use Rattle.vme_listing.specs.LaneDigits.{is_moved_in, digit_in, flag_in}
 use Rattle.vme_listing.specs.Places.{is_digit_in, are_digits_from, is_lanes}
 use Rattle.vme_listing.specs.RowText.{digit_text, digit_text_in, lanes_text}
@@ -116,7 +116,7 @@ unfolding moved_of lanes_text
 moved_read a =
     rw (shown-text (is_moved_in a 7) (digit_in a 7) (flag_in a 7), shown-text (is_moved_in a 2) (digit_in a 2) (flag_in a 2), shown-text (is_moved_in a 0) (digit_in a 0) (flag_in a 0)) (by_bytes a.moved)
   where
-    by_bytes : (m : Moved) → cond (has_digit m 7) LongWord (cond (has_digit m 2) (cond (has_digit m 0) Word EvenByte) (cond (has_digit m 0) OddByte Nothing)) ≡ m
+    by_bytes : (m : MovedBytes) → cond (has_digit m 7) LongWord (cond (has_digit m 2) (cond (has_digit m 0) Word EvenByte) (cond (has_digit m 0) OddByte Nothing)) ≡ m
     by_bytes Nothing = refl
     by_bytes OddByte = refl
     by_bytes EvenByte = refl

@@ -26,8 +26,8 @@ use Rattle.vme_listing.specs.declared.row.AnswerLine.{AnswerLine}
 use Rattle.vme_listing.specs.declared.row.AnswerLine.TheVariants.{Dtack, Berr}
 use Rattle.vme_listing.specs.declared.row.Direction.{Direction}
 use Rattle.vme_listing.specs.declared.row.Direction.TheVariants.{Read, Write}
-use Rattle.vme_listing.specs.declared.row.Outcome.{Outcome}
-use Rattle.vme_listing.specs.declared.row.Outcome.TheVariants.{Conforming, NeverIdle, Broken, Unreadable}
+use Rattle.vme_listing.specs.declared.row.ListedVerdict.{ListedVerdict}
+use Rattle.vme_listing.specs.declared.row.ListedVerdict.TheVariants.{Conforming, NeverIdle, Broken, Unreadable}
 use Rattle.vme_listing.specs.declared.row.Version.{Version}
 use Rattle.vme_listing.specs.declared.row.Row.{Row}
 use Rattle.vme_listing.specs.declared.row.Row.TheVariants.{Start, Reset, OpenTenure, Tenure, AddressedCycle, FreeCycle, InterruptCycle, Transfer, PendingTransfer, Verdict}
@@ -119,7 +119,7 @@ five true true false d e h = absurd (cc)
 five true false c d e h = absurd (cc)
 five false b c d e h = absurd (cc)
 
-outcome-inside : (outcome : Outcome) → is_outcome outcome ≡ true → is_inside (row_text (Verdict outcome)) ≡ true
+outcome-inside : (outcome : ListedVerdict) → is_outcome outcome ≡ true → is_inside (row_text (Verdict outcome)) ≡ true
 unfolding row_text
 outcome-inside Conforming h = refl
 outcome-inside NeverIdle h = refl

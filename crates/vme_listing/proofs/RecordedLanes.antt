@@ -6,8 +6,8 @@ use Rattle.vme_trace.specs.Data.{is_odd_byte, is_even_byte, is_selected}
 use Rattle.vme_trace.specs.Lanes.{has_digit, moved_at, is_digit_moved, is_digit_known, weight_at, digit_at, flag_at, lanes_at}
 use Rattle.vme_trace.specs.Levels.{Levels, level_at, is_high, is_low}
 use Rattle.vme_trace.specs.LineNumbers.{A, D, DS0, DS1, LWORD, is_data}
-use Rattle.vme_trace.specs.declared.data.Moved.{Moved}
-use Rattle.vme_trace.specs.declared.data.Moved.TheVariants.{Nothing, OddByte, EvenByte, Word, LongWord}
+use Rattle.vme_trace.specs.declared.data.MovedBytes.{MovedBytes}
+use Rattle.vme_trace.specs.declared.data.MovedBytes.TheVariants.{Nothing, OddByte, EvenByte, Word, LongWord}
 use Rattle.vme_trace.specs.declared.level.Level.{Level}
 use Rattle.vme_trace.specs.declared.level.Level.TheVariants.{Low, High, Unknown}
 use Rattle.vme_listing.specs.Places.{is_digit, is_lanes}
@@ -18,7 +18,7 @@ abbrev selected_by : Level → Bool → Bool → Bool → ℕ → Bool
 selected_by word address odd even l =
     (is_high word && ((odd && is_odd_byte l) || (even && is_even_byte l))) || (is_low word && address && odd && even && is_data l)
 
-abbrev moved_by : Level → Bool → Bool → Bool → Moved
+abbrev moved_by : Level → Bool → Bool → Bool → MovedBytes
 moved_by word address odd even =
     cond (selected_by word address odd even (D 16)) LongWord
     (cond (selected_by word address odd even (D 0) && selected_by word address odd even (D 8)) Word

@@ -8,7 +8,7 @@ use Rattle.vme_trace.specs.Levels.{Levels, is_known_on}
 use Rattle.vme_trace.specs.Cycle.{class_of, has_known_modifier, is_modifier_bit_known, is_needed, is_within, needs_of}
 use Rattle.vme_trace.specs.Trace.{Trace, levels_at}
 use Rattle.vme_trace.specs.Signals.{falls, known, low, rises}
-use Rattle.vme_trace.specs.Judged.{Span, is_judged}
+use Rattle.vme_trace.specs.Judged.{Stretch, is_judged}
 use Rattle.vme_trace.specs.Transfers.{answers, data_at, is_write, strobes_high, transfer_starts}
 use Rattle.vme_trace.specs.Cycles.{cycle_of, cycle_starts}
 use Rattle.vme_trace.specs.Tenures.{has_reached, taken_grant, tenure_level, tenure_slot, tenure_starts}
@@ -64,7 +64,7 @@ not_past true false past h e = absurd (cc)
 not_past false falls past h e = absurd (cc)
 
 -- a tenure that breaks no rule by its slot has one of the backplane
-slot_exists : (t : Trace) (span : Span) (i : ℕ) → tenure_starts t span i ≡ true → breaks t span B4 i BBSY ≡ false → is_option_equal (tenure_slot t i) (t.opening.slots + 1) ≡ false
+slot_exists : (t : Trace) (span : Stretch) (i : ℕ) → tenure_starts t span i ≡ true → breaks t span B4 i BBSY ≡ false → is_option_equal (tenure_slot t i) (t.opening.slots + 1) ≡ false
 unfolding breaks is_broken tenure_starts
 slot_exists t span i starts unbroken = not_past (is_judged span i) (falls t BBSY i) (is_option_equal (tenure_slot t i) (t.opening.slots + 1)) starts unbroken
 
@@ -86,7 +86,7 @@ lacking : (judged starts has needed known : Bool) → (judged && starts) ≡ tru
 lacking judged starts has needed known s h n k e = grind (arith, nat_tests)
 
 -- a cycle that breaks no rule by a line that it needs, and is of class F, has a code whose bits are known
-code_known : (t : Trace) (span : Span) (i : ℕ) → cycle_starts t span i ≡ true → ((l : ℕ) → l < line_count → breaks t span U2 i l ≡ false) → class_of (levels_at t i) ≡ class.F → has_known_modifier (levels_at t i) ≡ false → ⊥
+code_known : (t : Trace) (span : Stretch) (i : ℕ) → cycle_starts t span i ≡ true → ((l : ℕ) → l < line_count → breaks t span U2 i l ≡ false) → class_of (levels_at t i) ≡ class.F → has_known_modifier (levels_at t i) ≡ false → ⊥
 unfolding breaks is_broken cycle_starts known
 code_known t span i starts unbroken free unknown =
     let v = levels_at t i in
@@ -105,11 +105,11 @@ data_by true lanes h = h
 data_by false lanes h = refl
 
 -- the data of a transfer is what the row of its direction has
-data_form : (t : Trace) (span : Span) (end i r : ℕ) → has_data Three (direction_of t span end i) (data_of t span end i r) ≡ true
+data_form : (t : Trace) (span : Stretch) (end i r : ℕ) → has_data Three (direction_of t span end i) (data_of t span end i r) ≡ true
 unfolding data_at
 data_form t span end i r = data_by (is_write t span i) (data_at t span r) (lanes_form (levels_at t (if transfer_starts t span r then r else r - 1)))
 
-module _ (t : Trace) (span : Span) (end : ℕ) (few : end ≤ 2 ^ 32) (i : ℕ) (listed : i < end) where
+module _ (t : Trace) (span : Stretch) (end : ℕ) (few : end ≤ 2 ^ 32) (i : ℕ) (listed : i < end) where
   pub tenure_one : t.opening.slots ≤ 21 → breaks t span B4 i BBSY ≡ false → AtMostOne i 2 (tenure_rows t span end i)
   unfolding tenure_rows is_row
   tenure_one slots unbroken = by_tests ((i == span.start) && low t BBSY i) (tenure_starts t span i) refl

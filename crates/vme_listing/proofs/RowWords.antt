@@ -9,7 +9,7 @@ use Rattle.vme_trace.specs.declared.data.Lanes.{Lanes}
 use Rattle.vme_trace.specs.declared.rule.Rule.{Rule}
 use Rattle.vme_listing.specs.declared.row.AnswerLine.{AnswerLine}
 use Rattle.vme_listing.specs.declared.row.Direction.{Direction}
-use Rattle.vme_listing.specs.declared.row.Outcome.TheVariants.{Broken, Unreadable}
+use Rattle.vme_listing.specs.declared.row.ListedVerdict.TheVariants.{Broken, Unreadable}
 use Rattle.vme_listing.specs.declared.row.Row.{Row}
 use Rattle.vme_listing.specs.declared.row.Row.TheVariants.{Start, Reset, OpenTenure, Tenure, AddressedCycle, FreeCycle, InterruptCycle, Transfer, PendingTransfer, Verdict}
 use Rattle.vme_listing.specs.RowText.{edge_text, hexadecimal, address_digits, class_text, direction_text, answer_text, lanes_text, row_text}

@@ -5,7 +5,7 @@ use Rattle.std.proofs.Math.Nat.{min-le_right, min-eq_left}
 use Rattle.std.proofs.lemmas.Bool.Decides.{nat_tests}
 use Rattle.vme_trace.specs.LineNumbers.{BBSY, line_count}
 use Rattle.vme_trace.specs.Trace.{Trace, last_instant}
-use Rattle.vme_trace.specs.Judged.{Span, IsSpanOf, is_judged, is_reset_at, judged_spans}
+use Rattle.vme_trace.specs.Judged.{Stretch, IsSpanOf, is_judged, is_reset_at, judged_spans}
 use Rattle.vme_trace.specs.Transfers.{transfer_starts}
 use Rattle.vme_trace.specs.Cycles.{cycle_starts}
 use Rattle.vme_trace.specs.Tenures.{tenure_starts}
@@ -131,7 +131,7 @@ last_or_before : (i s : ℕ) → s < suc i → (s ≡ i) ⊎ (s < i)
 last_or_before i s h = grind arith
 
 module _ (t : Trace) (slots : t.opening.slots ≤ 21) (few : length t.steps < 2 ^ 32) where
-  module _ (span : Span) (end : ℕ) (within : end ≤ 2 ^ 32) where
+  module _ (span : Stretch) (end : ℕ) (within : end ≤ 2 ^ 32) where
     -- nothing begins before the start, and no cycle and no transfer at it
     early : (i : ℕ) → i ≤ span.start → is_judged span i ≡ false
     early i h = grind (arith, nat_tests)
@@ -196,12 +196,12 @@ module _ (t : Trace) (slots : t.opening.slots ≤ 21) (few : length t.steps < 2 
     below : b.instant < last_instant t + 1
     line : b.line < line_count
 
-  by_first : (span : Span) (spans : List Span) (b : Break) → IsSpanOf t span → least_break t span all_rules ≡ Some b → IsNamed span.start b
+  by_first : (span : Stretch) (spans : List Stretch) (b : Break) → IsSpanOf t span → least_break t span all_rules ≡ Some b → IsNamed span.start b
   by_first span spans b is e =
       let there = least_break-within t span all_rules b e in
       record { after = (least_break-judged t span all_rules b (starts_before_end t span is) e).0; below = there.0; line = there.1 }
 
-  named : (span : Span) (spans : List Span) (b : Break) → AreInOrder t (span ∷ spans) → least_of all_rules t (span ∷ spans) ≡ Some b → IsNamed span.start b
+  named : (span : Stretch) (spans : List Stretch) (b : Break) → AreInOrder t (span ∷ spans) → least_of all_rules t (span ∷ spans) ≡ Some b → IsNamed span.start b
   named span [] b order e = by_first span [] b order e
   named span (next ∷ spans) b order e =
       elim (either (least_break t span all_rules) (least_of all_rules t (next ∷ spans)) b e) [
@@ -211,7 +211,7 @@ module _ (t : Trace) (slots : t.opening.slots ≤ 21) (few : length t.steps < 2 
             record { after = omega (arith, starts_before_end t span order.0, order.2, is.after); below = is.below; line = is.line }
       ]
 
-  outcome_form : (span : Span) (spans : List Span) → AreInOrder t (span ∷ spans) → (found : Option Break) → least_of all_rules t (span ∷ spans) ≡ found → is_outcome (outcome_of found) ≡ true
+  outcome_form : (span : Stretch) (spans : List Stretch) → AreInOrder t (span ∷ spans) → (found : Option Break) → least_of all_rules t (span ∷ spans) ≡ found → is_outcome (outcome_of found) ≡ true
   outcome_form span spans order None e = refl
   outcome_form span spans order (Some b) e =
       let is = named span spans b order e in
@@ -222,40 +222,40 @@ module _ (t : Trace) (slots : t.opening.slots ≤ 21) (few : length t.steps < 2 
       by_rule false h n l = rw (h, h, n, l) refl
 
   -- listed is the start of the first span, and no more than there is
-  record IsLimit (span : Span) (limit : ℕ) : Type 0 where
+  record IsLimit (span : Stretch) (limit : ℕ) : Type 0 where
     after : span.start < limit
     most : limit ≤ last_instant t + 1
 
-  limit_form : (span : Span) (spans : List Span) → AreInOrder t (span ∷ spans) → (found : Option Break) → least_of all_rules t (span ∷ spans) ≡ found → IsLimit span (listed_end t found)
+  limit_form : (span : Stretch) (spans : List Stretch) → AreInOrder t (span ∷ spans) → (found : Option Break) → least_of all_rules t (span ∷ spans) ≡ found → IsLimit span (listed_end t found)
   limit_form span spans order None e = record { after = omega (arith, (first spans order).within); most = omega arith }
     where
-      first : (spans : List Span) → AreInOrder t (span ∷ spans) → IsSpanOf t span
+      first : (spans : List Stretch) → AreInOrder t (span ∷ spans) → IsSpanOf t span
       first [] order = order
       first (next ∷ spans) order = order.0
   limit_form span spans order (Some b) e = let is = named span spans b order e in record { after = is.after; most = omega (arith, is.below) }
 
   -- at each listed instant a cycle has what it needs, and a tenure is one of a slot
-  abbrev IsUnbroken : ℕ → Span → Type 0
+  abbrev IsUnbroken : ℕ → Stretch → Type 0
   IsUnbroken limit span = (i l : ℕ) → span.start < limit → i < limit → l < line_count → (breaks t span U2 i l ≡ false) × (breaks t span B4 i l ≡ false)
 
-  abbrev AreUnbroken : ℕ → List Span → Type 0
+  abbrev AreUnbroken : ℕ → List Stretch → Type 0
   AreUnbroken limit [] = Unit {0}
   AreUnbroken limit (span ∷ spans) = IsUnbroken limit span × AreUnbroken limit spans
 
-  past_limit : (limit : ℕ) (span : Span) (spans : List Span) → AreInOrder t (span ∷ spans) → limit ≤ span.start → AreUnbroken limit (span ∷ spans)
+  past_limit : (limit : ℕ) (span : Stretch) (spans : List Stretch) → AreInOrder t (span ∷ spans) → limit ≤ span.start → AreUnbroken limit (span ∷ spans)
   past_limit limit span [] order h = (λ i l first. absurd (omega arith), tt)
   past_limit limit span (next ∷ spans) order h =
       (λ i l first. absurd (omega arith), past_limit limit next spans order.3 (omega (arith, starts_before_end t span order.0, order.2)))
 
-  held_always : (span : Span) → least_break t span all_rules ≡ None → (limit : ℕ) → limit ≤ last_instant t + 1 → IsUnbroken limit span
+  held_always : (span : Stretch) → least_break t span all_rules ≡ None → (limit : ℕ) → limit ≤ last_instant t + 1 → IsUnbroken limit span
   held_always span e limit most i l first below there =
       (unbroken_always t span (till U2) (behind U2) U2 i l e (omega arith) there, unbroken_always t span (till B4) (behind B4) B4 i l e (omega arith) there)
 
-  held_before : (span : Span) (b : Break) → least_break t span all_rules ≡ Some b → IsUnbroken b.instant span
+  held_before : (span : Stretch) (b : Break) → least_break t span all_rules ≡ Some b → IsUnbroken b.instant span
   held_before span b e i l first below there =
       (unbroken_before t span (till U2) (behind U2) U2 b i l e below there, unbroken_before t span (till B4) (behind B4) B4 b i l e below there)
 
-  unbroken : (span : Span) (spans : List Span) → AreInOrder t (span ∷ spans) → (found : Option Break) → least_of all_rules t (span ∷ spans) ≡ found → AreUnbroken (listed_end t found) (span ∷ spans)
+  unbroken : (span : Stretch) (spans : List Stretch) → AreInOrder t (span ∷ spans) → (found : Option Break) → least_of all_rules t (span ∷ spans) ≡ found → AreUnbroken (listed_end t found) (span ∷ spans)
   unbroken span [] order None e = (held_always span e (last_instant t + 1) (omega arith), tt)
   unbroken span [] order (Some b) e = (held_before span b e, tt)
   unbroken span (next ∷ spans) order None e =
@@ -273,22 +273,22 @@ module _ (t : Trace) (slots : t.opening.slots ≤ 21) (few : length t.steps < 2 
 
   module _ (limit : ℕ) (most : limit ≤ last_instant t + 1) where
     -- no row is of a span that starts at the limit or later
-    none_of : (span : Span) → limit ≤ span.start → rows_of_span t limit span ≡ []
+    none_of : (span : Stretch) → limit ≤ span.start → rows_of_span t limit span ≡ []
     unfolding rows_of_span
     none_of span h = rw (not_less span.start limit h) refl
       where
         not_less : (m n : ℕ) → n ≤ m → nat_lt m n ≡ false
         not_less m n h = grind (arith, nat_tests)
 
-    unlisted : (span : Span) (spans : List Span) → AreInOrder t (span ∷ spans) → limit ≤ span.start → flat_map (rows_of_span t limit) (span ∷ spans) ≡ []
+    unlisted : (span : Stretch) (spans : List Stretch) → AreInOrder t (span ∷ spans) → limit ≤ span.start → flat_map (rows_of_span t limit) (span ∷ spans) ≡ []
     unlisted span [] order h = rw (none_of span h) refl
     unlisted span (next ∷ spans) order h = rw (none_of span h) (unlisted next spans order.3 (omega (arith, starts_before_end t span order.0, order.2)))
 
     -- the rows of a span whose start is listed, behind that start
-    abbrev rows_behind : Span → List Row
+    abbrev rows_behind : Stretch → List Row
     rows_behind span = rows_before t span (min span.end limit) (min span.end limit) ++ reset_rows t limit span
 
-    all_of : (span : Span) → span.start < limit → rows_of_span t limit span ≡ Start span.start ∷ rows_behind span
+    all_of : (span : Stretch) → span.start < limit → rows_of_span t limit span ≡ Start span.start ∷ rows_behind span
     unfolding rows_of_span
     all_of span h = rw (is_less span.start limit h) refl
 
@@ -309,16 +309,16 @@ module _ (t : Trace) (slots : t.opening.slots ≤ 21) (few : length t.steps < 2 
       verdict = Verdict (outcome_of found) ∷ []
 
       -- the rows of spans that follow one another, and the verdict
-      abbrev rows_of : List Span → List Row
+      abbrev rows_of : List Stretch → List Row
       rows_of spans = flat_map (rows_of_span t limit) spans ++ verdict
 
-      rows_split : (span : Span) (spans : List Span) → span.start < limit → rows_of (span ∷ spans) ≡ Start span.start ∷ rows_behind span ++ rows_of spans
+      rows_split : (span : Stretch) (spans : List Stretch) → span.start < limit → rows_of (span ∷ spans) ≡ Start span.start ∷ rows_behind span ++ rows_of spans
       rows_split span spans h =
           ap (λ rows. (rows ++ flat_map (rows_of_span t limit) spans) ++ verdict) (all_of span h)
           ∙ ap (λ rows. Start span.start ∷ rows) (append_assoc (rows_behind span) (flat_map (rows_of_span t limit) spans) verdict)
 
       -- where the reset of a span isn't listed, no later span is
-      only_verdict : (span : Span) (spans : List Span) → AreInOrder t (span ∷ spans) → (is_reset_at t span.end && nat_lt span.end limit) ≡ false → rows_of spans ≡ verdict
+      only_verdict : (span : Stretch) (spans : List Stretch) → AreInOrder t (span ∷ spans) → (is_reset_at t span.end && nat_lt span.end limit) ≡ false → rows_of spans ≡ verdict
       only_verdict span [] order e = refl
       only_verdict span (next ∷ spans) order e =
           ap (λ rows. rows ++ verdict) (unlisted next spans order.3 (omega (arith, order.2, past (is_reset_at t span.end) span.end order.1 e)))
@@ -327,7 +327,7 @@ module _ (t : Trace) (slots : t.opening.slots ≤ 21) (few : length t.steps < 2 
           past b n h e = grind (arith, nat_tests)
 
       -- behind the start of a span stand its rows, and what may stand behind its reset, where that is listed
-      span_placed : (span : Span) (spans : List Span) → AreInOrder t (span ∷ spans) → IsUnbroken limit span → span.start < span.end → span.start < limit
+      span_placed : (span : Stretch) (spans : List Stretch) → AreInOrder t (span ∷ spans) → IsUnbroken limit span → span.start < span.end → span.start < limit
           → ((is_reset_at t span.end && nat_lt span.end limit) ≡ true → is_rest Three (Some (Reset span.end)) (rows_of spans) ≡ true)
           → is_rest Three (Some (Start span.start)) (rows_behind span ++ rows_of spans) ≡ true
       unfolding is_rest
@@ -354,7 +354,7 @@ module _ (t : Trace) (slots : t.opening.slots ≤ 21) (few : length t.steps < 2 
           by_reset row p false e = subst (λ rows. is_rest Three (Some row) rows ≡ true) (sym (only_verdict span spans order e)) (last_is row found is p.unfinished)
 
       -- behind the start of a span stand its rows, those of the spans after it, and the verdict
-      behind_start : (span : Span) (spans : List Span) → AreInOrder t (span ∷ spans) → AreUnbroken limit (span ∷ spans) → span.start < limit → is_rest Three (Some (Start span.start)) (rows_behind span ++ rows_of spans) ≡ true
+      behind_start : (span : Stretch) (spans : List Stretch) → AreInOrder t (span ∷ spans) → AreUnbroken limit (span ∷ spans) → span.start < limit → is_rest Three (Some (Start span.start)) (rows_behind span ++ rows_of spans) ≡ true
       unfolding is_rest
       behind_start span [] order held listed =
           span_placed span [] order held.0 (starts_before_end t span order) listed (λ reset. last_is (Reset span.end) found is refl)
@@ -373,7 +373,7 @@ module _ (t : Trace) (slots : t.opening.slots ≤ 21) (few : length t.steps < 2 
           by_limit : (n : ℕ) → (n < limit) ⊎ (limit ≤ n)
           by_limit n = grind arith
 
-  all_placed : (span : Span) (spans : List Span) → AreInOrder t (span ∷ spans) → (found : Option Break) → least_of all_rules t (span ∷ spans) ≡ found → is_rest Three None (listing_before t (span ∷ spans) found) ≡ true
+  all_placed : (span : Stretch) (spans : List Stretch) → AreInOrder t (span ∷ spans) → (found : Option Break) → least_of all_rules t (span ∷ spans) ≡ found → is_rest Three None (listing_before t (span ∷ spans) found) ≡ true
   unfolding is_rest follows is_row
   all_placed span spans order found e =
       let limit = listed_end t found in
@@ -388,6 +388,6 @@ pub listing_placed : (t : Trace) → t.opening.slots ≤ 21 → length t.steps <
 unfolding listing_by is_rest follows is_row
 listing_placed t slots few = by_spans (judged_spans t) (spans_in_order t)
   where
-    by_spans : (spans : List Span) → AreInOrder t spans → is_rest Three None (listing_of_spans all_rules t spans) ≡ true
+    by_spans : (spans : List Stretch) → AreInOrder t spans → is_rest Three None (listing_of_spans all_rules t spans) ≡ true
     by_spans [] order = refl
     by_spans (span ∷ spans) order = all_placed t slots few span spans order (least_of all_rules t (span ∷ spans)) refl

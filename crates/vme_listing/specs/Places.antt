@@ -14,8 +14,8 @@ use Rattle.vme_listing.specs.Listed.{Listed, tells_data, tells_resets}
 use Rattle.vme_listing.specs.declared.row.Direction.{Direction}
 use Rattle.vme_listing.specs.declared.row.Direction.TheVariants.{Read, Write}
 use Rattle.vme_listing.specs.declared.row.Version.{Version}
-use Rattle.vme_listing.specs.declared.row.Outcome.{Outcome}
-use Rattle.vme_listing.specs.declared.row.Outcome.TheVariants.{Conforming, NeverIdle, Broken, Unreadable}
+use Rattle.vme_listing.specs.declared.row.ListedVerdict.{ListedVerdict}
+use Rattle.vme_listing.specs.declared.row.ListedVerdict.TheVariants.{Conforming, NeverIdle, Broken, Unreadable}
 use Rattle.vme_listing.specs.declared.row.Row.{Row}
 use Rattle.vme_listing.specs.declared.row.Row.TheVariants.{Start, Reset, OpenTenure, Tenure, AddressedCycle}
 use Rattle.vme_listing.specs.declared.row.Row.TheVariants.{FreeCycle, InterruptCycle, Transfer, PendingTransfer}
@@ -41,7 +41,7 @@ abbrev pub is_address : ℕ → ℕ → Bool
 is_address modifier address = not (highest_address modifier == 0)
     && nat_lt address (2 ^ (highest_address modifier + 1)) && (address % 2 == 0)
 
-abbrev pub is_outcome : Outcome → Bool
+abbrev pub is_outcome : ListedVerdict → Bool
 is_outcome Conforming = true
 is_outcome NeverIdle = true
 is_outcome (Broken rule instant line) = not (is_unreadable rule) && is_number instant && nat_lt line line_count
@@ -125,7 +125,7 @@ is_verdict (Transfer direction line start cycle answer close lanes) = false
 is_verdict (PendingTransfer start direction) = false
 is_verdict (Verdict outcome) = true
 
-abbrev pub never_idles : Outcome → Bool
+abbrev pub never_idles : ListedVerdict → Bool
 never_idles Conforming = false
 never_idles NeverIdle = true
 never_idles (Broken rule instant line) = false

@@ -8,7 +8,7 @@ use Rattle.vme_trace.specs.Levels.{Levels, level_at, is_high}
 use Rattle.vme_trace.specs.Cycle.{modifier_of, highest_address, class_of}
 use Rattle.vme_trace.specs.Trace.{Trace, levels_at, last_instant}
 use Rattle.vme_trace.specs.Signals.{low, falls, rises}
-use Rattle.vme_trace.specs.Judged.{Span, is_reset_at, judged_spans}
+use Rattle.vme_trace.specs.Judged.{Stretch, is_reset_at, judged_spans}
 use Rattle.vme_trace.specs.Transfers.{strobes_high, transfer_starts, answers, is_write, data_at}
 use Rattle.vme_trace.specs.Cycles.{cycle_starts, cycle_of}
 use Rattle.vme_trace.specs.Tenures.{tenure_starts, tenure_level, tenure_slot}
@@ -23,8 +23,8 @@ use Rattle.vme_listing.specs.declared.row.AnswerLine.{AnswerLine}
 use Rattle.vme_listing.specs.declared.row.AnswerLine.TheVariants.{Dtack, Berr}
 use Rattle.vme_listing.specs.declared.row.Direction.{Direction}
 use Rattle.vme_listing.specs.declared.row.Direction.TheVariants.{Read, Write}
-use Rattle.vme_listing.specs.declared.row.Outcome.{Outcome}
-use Rattle.vme_listing.specs.declared.row.Outcome.TheVariants.{Conforming, NeverIdle, Broken, Unreadable}
+use Rattle.vme_listing.specs.declared.row.ListedVerdict.{ListedVerdict}
+use Rattle.vme_listing.specs.declared.row.ListedVerdict.TheVariants.{Conforming, NeverIdle, Broken, Unreadable}
 use Rattle.vme_listing.specs.Listed.{Listed, in_newest_version, tells_data}
 use Rattle.vme_listing.specs.declared.row.Version.{Version}
 use Rattle.vme_listing.specs.declared.row.Row.{Row}
@@ -56,7 +56,7 @@ tenure_row i (Some level) None end = []
 tenure_row i (Some level) (Some slot) end = Tenure i level slot end ∷ []
 
 -- end: the first instant that isn't listed
-module _ (t : Trace) (span : Span) (end : ℕ) where
+module _ (t : Trace) (span : Stretch) (end : ℕ) where
   -- a tenure starts where the bus becomes busy, and is open at the start of the span where the bus is busy there; it
   -- ends where the bus is next free
   unfoldable pub tenure_rows : ℕ → List Row
@@ -99,7 +99,7 @@ module _ (t : Trace) (span : Span) (end : ℕ) where
   rows_before (suc i) = rows_before i ++ tenure_rows i ++ cycle_rows i ++ transfer_rows i
 
 -- limit: the first instant of the recording that isn't listed
-module _ (t : Trace) (limit : ℕ) (span : Span) where
+module _ (t : Trace) (limit : ℕ) (span : Stretch) where
   -- the first instant of the span that isn't listed, or its end
   abbrev pub limit_in : ℕ
   limit_in = min span.end limit
@@ -118,17 +118,17 @@ abbrev pub listed_end : Trace → Option Break → ℕ
 listed_end t None = last_instant t + 1
 listed_end t (Some b) = b.instant
 
-abbrev pub outcome_of : Option Break → Outcome
+abbrev pub outcome_of : Option Break → ListedVerdict
 outcome_of None = Conforming
 outcome_of (Some b) = if is_unreadable b.rule then Unreadable b.rule b.instant b.line
     else Broken b.rule b.instant b.line
 
 -- the rows of spans that follow one another, where this is their least break
-abbrev pub listing_before : Trace → List Span → Option Break → List Row
+abbrev pub listing_before : Trace → List Stretch → Option Break → List Row
 listing_before t spans found =
     flat_map (rows_of_span t (listed_end t found)) spans ++ Verdict (outcome_of found) ∷ []
 
-abbrev pub listing_of_spans : List Rule → Trace → List Span → List Row
+abbrev pub listing_of_spans : List Rule → Trace → List Stretch → List Row
 listing_of_spans rules t [] = Verdict NeverIdle ∷ []
 listing_of_spans rules t (span ∷ spans) = listing_before t (span ∷ spans) (least_of rules t (span ∷ spans))
 

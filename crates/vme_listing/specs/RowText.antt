@@ -16,8 +16,8 @@ use Rattle.vme_listing.specs.declared.row.AnswerLine.{AnswerLine}
 use Rattle.vme_listing.specs.declared.row.AnswerLine.TheVariants.{Dtack, Berr}
 use Rattle.vme_listing.specs.declared.row.Direction.{Direction}
 use Rattle.vme_listing.specs.declared.row.Direction.TheVariants.{Read, Write}
-use Rattle.vme_listing.specs.declared.row.Outcome.{Outcome}
-use Rattle.vme_listing.specs.declared.row.Outcome.TheVariants.{Conforming, NeverIdle, Broken, Unreadable}
+use Rattle.vme_listing.specs.declared.row.ListedVerdict.{ListedVerdict}
+use Rattle.vme_listing.specs.declared.row.ListedVerdict.TheVariants.{Conforming, NeverIdle, Broken, Unreadable}
 use Rattle.vme_listing.specs.declared.row.Version.{Version}
 use Rattle.vme_listing.specs.declared.row.Version.TheVariants.{One, Two, Three}
 use Rattle.vme_listing.specs.declared.row.Row.{Row}
@@ -75,7 +75,7 @@ data_text (Some a) = codes " data " ++ lanes_text a
 abbrev pub break_text : Rule → ℕ → ℕ → List ℕ
 break_text rule instant line = rule_name rule ++ codes " " ++ decimal instant ++ codes " " ++ line_name line
 
-abbrev pub verdict_text : Outcome → List ℕ
+abbrev pub verdict_text : ListedVerdict → List ℕ
 verdict_text Conforming = codes "verdict conforming"
 verdict_text NeverIdle = codes "verdict never-idle"
 verdict_text (Broken rule instant line) = codes "verdict broken " ++ break_text rule instant line

@@ -5,8 +5,8 @@ use Rattle.std.specs.Prelude.{codes, bytes_eq, nat_le, slice_index_or, if◌then
 use Rattle.std.specs.List.{slice_split}
 use Rattle.vme_trace.specs.Names.{line_named, rule_named}
 use Rattle.vme_trace.specs.declared.data.Lanes.{Lanes}
-use Rattle.vme_trace.specs.declared.data.Moved.{Moved}
-use Rattle.vme_trace.specs.declared.data.Moved.TheVariants.{Nothing, OddByte, EvenByte, Word, LongWord}
+use Rattle.vme_trace.specs.declared.data.MovedBytes.{MovedBytes}
+use Rattle.vme_trace.specs.declared.data.MovedBytes.TheVariants.{Nothing, OddByte, EvenByte, Word, LongWord}
 use Rattle.vme_trace.specs.declared.rule.Rule.{Rule}
 use Rattle.vme_trace.specs.declared.class.Class.{Class}
 use Rattle.vme_trace.specs.declared.class.Class.TheVariants as class
@@ -14,8 +14,8 @@ use Rattle.vme_listing.specs.declared.row.AnswerLine.{AnswerLine}
 use Rattle.vme_listing.specs.declared.row.AnswerLine.TheVariants.{Dtack, Berr}
 use Rattle.vme_listing.specs.declared.row.Direction.{Direction}
 use Rattle.vme_listing.specs.declared.row.Direction.TheVariants.{Read, Write}
-use Rattle.vme_listing.specs.declared.row.Outcome.{Outcome}
-use Rattle.vme_listing.specs.declared.row.Outcome.TheVariants.{Conforming, NeverIdle, Broken, Unreadable}
+use Rattle.vme_listing.specs.declared.row.ListedVerdict.{ListedVerdict}
+use Rattle.vme_listing.specs.declared.row.ListedVerdict.TheVariants.{Conforming, NeverIdle, Broken, Unreadable}
 use Rattle.vme_listing.specs.declared.row.Row.{Row}
 use Rattle.vme_listing.specs.declared.row.Row.TheVariants.{Start, Reset, OpenTenure, Tenure, AddressedCycle}
 use Rattle.vme_listing.specs.declared.row.Row.TheVariants.{FreeCycle, InterruptCycle, Transfer, PendingTransfer}
@@ -77,7 +77,7 @@ abbrev pub is_shown : List ℕ → ℕ → Bool
 is_shown word place = not (slice_index_or word place 45 == 45)
 
 -- the bytes of the data bus that the digits of a word show
-unfoldable pub moved_of : List ℕ → Moved
+unfoldable pub moved_of : List ℕ → MovedBytes
 moved_of word =
     if is_shown word 0 then LongWord
     else if is_shown word 5 then (if is_shown word 7 then Word else EvenByte)
@@ -116,19 +116,19 @@ transfer_of ws =
     else PendingTransfer (number_of 10 (word_at ws 1)) (direction_of (word_at ws 2))
 
 -- what the words say after broken, or another word
-abbrev pub break_of : List ℕ → Option Rule → ℕ → Option ℕ → Option Outcome
+abbrev pub break_of : List ℕ → Option Rule → ℕ → Option ℕ → Option ListedVerdict
 break_of kind None instant line = None
 break_of kind (Some rule) instant None = None
 break_of kind (Some rule) instant (Some line) = if bytes_eq kind (codes "broken") then Some
     (Broken rule instant line) else Some (Unreadable rule instant line)
 
-unfoldable pub outcome_of : List (List ℕ) → Option Outcome
+unfoldable pub outcome_of : List (List ℕ) → Option ListedVerdict
 outcome_of ws =
     if bytes_eq (word_at ws 1) (codes "conforming") then Some Conforming
     else if bytes_eq (word_at ws 1) (codes "never-idle") then Some NeverIdle
     else break_of (word_at ws 1) (rule_named (word_at ws 2)) (number_of 10 (word_at ws 3)) (line_named (word_at ws 4))
 
-abbrev pub verdict_of : Option Outcome → Option Row
+abbrev pub verdict_of : Option ListedVerdict → Option Row
 verdict_of None = None
 verdict_of (Some outcome) = Some (Verdict outcome)
 

@@ -16,6 +16,6 @@ pub use fault::ListFault;
 pub use listing::{Listing, listings_are_well_placed};
 pub use listing_text::ListingText;
 pub use read::read_listing;
-pub use row::{AnswerLine, Direction, Outcome, Row, Version};
+pub use row::{AnswerLine, Direction, ListedVerdict, Row, Version};
 pub use text::data_digits;
 pub use write::{Write, write_listing};

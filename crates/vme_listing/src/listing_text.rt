@@ -8,7 +8,7 @@ ghost use Rattle.vme_listing.specs.declared.fault.ListFault.TheVariants.{BadHead
 
 use crate::read::front_header;
 use crate::row::{Row, Version};
-use crate::text::Text;
+use crate::text::RowBuffer;
 use std::marker::Model;
 
 /// The text of a listing behind its header and the rows that were taken from its front. It lets a listing be compared
@@ -18,7 +18,7 @@ pub struct ListingText<'a> {
     version: Version,
     rest: &'a [u8],
     /// For the line of a row.
-    buffer: Text,
+    buffer: RowBuffer,
 }
 
 impl<'a> Model for ListingText<'a> {
@@ -36,7 +36,7 @@ impl<'a> ListingText<'a> {
         ensures none { result ≡ None → IsFirstFault text.now BadHeader }
     {
         let (version, rest) = front_header(text)?;
-        let buffer = Text::new();
+        let buffer = RowBuffer::new();
         Some(ListingText {
             version,
             rest,

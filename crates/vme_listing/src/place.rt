@@ -6,7 +6,7 @@ ghost use Rattle.vme_listing.specs.Places.{has_class, is_address, is_outcome, is
 ghost use Rattle.vme_listing.specs.Places.{has_data, is_row, is_start, is_reset, is_verdict, is_never_idle, place_of};
 ghost use Rattle.vme_listing.specs.Places.{may_follow, ascends};
 
-use crate::row::{Direction, Outcome, Row, Version};
+use crate::row::{Direction, ListedVerdict, Row, Version};
 use vme_trace::{Class, Lanes, MOST_SLOTS, Space, is_block};
 
 /// Whether cycles of the class have an address, and this code of the address modifier.
@@ -33,15 +33,15 @@ fn is_address(modifier: u8, address: u32) -> bool
     fits && address % 2 == 0
 }
 
-impl Outcome {
+impl ListedVerdict {
     /// Whether it is one that its form allows.
     fn is_outcome(self) -> bool
         ensures { result ≡ is_outcome self }
     {
         match self {
-            Outcome::Conforming | Outcome::NeverIdle => true,
-            Outcome::Broken(rule, _, _) => !rule.is_unreadable(),
-            Outcome::Unreadable(rule, _, _) => rule.is_unreadable(),
+            ListedVerdict::Conforming | ListedVerdict::NeverIdle => true,
+            ListedVerdict::Broken(rule, _, _) => !rule.is_unreadable(),
+            ListedVerdict::Unreadable(rule, _, _) => rule.is_unreadable(),
         }
     }
 }
@@ -158,7 +158,7 @@ impl Row {
     fn is_never_idle(&self) -> bool
         ensures { result ≡ is_never_idle self.now }
     {
-        matches!(self, Row::Verdict(Outcome::NeverIdle))
+        matches!(self, Row::Verdict(ListedVerdict::NeverIdle))
     }
 
     /// The first instant and the order of the kind of a row before the verdict; of a start only where the version tells

@@ -11,7 +11,7 @@ ghost use Rattle.vme_listing.specs.declared.row.Version.{Version};
 use crate::fault::ListFault;
 use crate::listing::Listing;
 use crate::row::{Row, Version};
-use crate::text::Text;
+use crate::text::RowBuffer;
 use crate::words::read_row;
 use memchr::memchr;
 use std::alloc::Global;
@@ -33,7 +33,11 @@ pub(crate) fn front_header(text: &[u8]) -> Option<(Version, &[u8])>
 
 /// The row of the version whose line is at the front of the text, and what follows the line. Nothing may follow a
 /// verdict. The buffer is for the text of the row.
-fn front_row<'a>(version: Version, text: &'a [u8], buffer: &mut Text) -> Option<(Row, &'a [u8])>
+fn front_row<'a>(
+    version: Version,
+    text: &'a [u8],
+    buffer: &mut RowBuffer,
+) -> Option<(Row, &'a [u8])>
     ensures named { IfSome result (λ front. (is_row version front.0 ≡ true) × IsFront text.now front.0 front.1.now) }
     ensures found { (row : Row) (more : List ℕ) → is_row version row ≡ true → IsFront text.now row more
         → IsSomeAnd result (λ front. (front.0 ≡ row) × (front.1.now ≡ more)) }
@@ -70,7 +74,7 @@ fn next_row<'a>(
     version: Version,
     rows: &[Row],
     rest: &'a [u8],
-    buffer: &mut Text,
+    buffer: &mut RowBuffer,
 ) -> Result<(Row, &'a [u8]), ListFault>
     ensures placed { IfOk result
         (λ next. (follows version (last_of None rows.now) next.0 ≡ true) × IsFront rest.now next.0 next.1.now) }
@@ -104,7 +108,7 @@ pub fn read_listing(alloc: Global, text: &[u8]) -> Result<Listing, ListFault>
         return Err(ListFault::BadHeader);
     };
     let mut rest = behind;
-    let mut buffer = Text::new();
+    let mut buffer = RowBuffer::new();
     let mut rows: Vec<Row> = Vec::new(alloc);
     while !is_end(rows.as_slice(), rest) {
         match next_row(version, rows.as_slice(), rest, &mut buffer) {

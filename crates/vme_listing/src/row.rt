@@ -57,7 +57,7 @@ pub enum AnswerLine {
 
 /// What a listing says of the rules, in its last row.
 #[derive(Clone, Copy, Debug, PartialEq, Eq)]
-pub enum Outcome {
+pub enum ListedVerdict {
     /// No rule is broken.
     Conforming,
     /// The bus is idle at no instant, so nothing was judged.
@@ -156,7 +156,7 @@ pub enum Row {
         direction: Direction,
     },
     /// What the rules say.
-    Verdict(Outcome),
+    Verdict(ListedVerdict),
 }
 
 impl Row {

@@ -9,7 +9,7 @@ ghost use Rattle.vme_listing.specs.RowText.{header, line_of};
 ghost use Rattle.vme_listing.specs.declared.row.Row.TheVariants.{OpenTenure, Tenure, AddressedCycle, FreeCycle};
 ghost use Rattle.vme_listing.specs.declared.row.Row.TheVariants.{InterruptCycle, Transfer, PendingTransfer, Verdict};
 
-use crate::row::{AnswerLine, Direction, Outcome, Row, Version};
+use crate::row::{AnswerLine, Direction, ListedVerdict, Row, Version};
 use std::marker::Model;
 use vme_trace::{Class, Lanes, Line, Rule, Space};
 
@@ -35,12 +35,12 @@ impl Version {
 
 /// Text of a listing: at most 4,096 bytes of ASCII.
 #[derive(Drop)]
-pub(crate) struct Text {
+pub(crate) struct RowBuffer {
     bytes: [u8; 4096],
     len: usize,
 }
 
-impl Model for Text {
+impl Model for RowBuffer {
     ghost use Rattle.std.specs.Prelude.{ℕ, ◌≤◌, List, take};
 
     ghost Value = { List ℕ };
@@ -50,11 +50,11 @@ impl Model for Text {
     ghost invariant = { λ a. a.len ≤ 4096 };
 }
 
-impl Text {
-    pub(crate) fn new() -> Text
+impl RowBuffer {
+    pub(crate) fn new() -> RowBuffer
         ensures { result ≡ [] }
     {
-        Text {
+        RowBuffer {
             bytes: [0; 4096],
             len: 0,
         }
@@ -213,7 +213,7 @@ impl Text {
 }
 
 /// The rows of each kind.
-impl Text {
+impl RowBuffer {
     fn push_open_tenure(&mut self, start: u32, end: Option<u32>)
         requires { length self.old + 95 ≤ MOST }
         ensures text { self.new ≡ self.old ++ row_text (OpenTenure start end) }
@@ -331,19 +331,19 @@ impl Text {
         self.extend(b" pending");
     }
 
-    fn push_verdict(&mut self, outcome: Outcome)
+    fn push_verdict(&mut self, outcome: ListedVerdict)
         requires { length self.old + 95 ≤ MOST }
         ensures text { self.new ≡ self.old ++ row_text (Verdict outcome) }
         ensures length { length self.new ≤ length self.old + 95 }
     {
         match outcome {
-            Outcome::Conforming => self.extend(b"verdict conforming"),
-            Outcome::NeverIdle => self.extend(b"verdict never-idle"),
-            Outcome::Broken(rule, instant, line) => {
+            ListedVerdict::Conforming => self.extend(b"verdict conforming"),
+            ListedVerdict::NeverIdle => self.extend(b"verdict never-idle"),
+            ListedVerdict::Broken(rule, instant, line) => {
                 self.extend(b"verdict broken ");
                 self.push_break(rule, instant, line);
             }
-            Outcome::Unreadable(rule, instant, line) => {
+            ListedVerdict::Unreadable(rule, instant, line) => {
                 self.extend(b"verdict unreadable ");
                 self.push_break(rule, instant, line);
             }

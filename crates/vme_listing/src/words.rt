@@ -10,19 +10,19 @@ ghost use Rattle.vme_listing.specs.Words.{words, word_at, digit_of, number_of, s
 ghost use Rattle.vme_listing.specs.Words.{answer_of, class_of, flag_of, flags_of, is_shown, moved_of, lanes_of};
 ghost use Rattle.vme_listing.specs.Words.{tenure_of, cycle_of, transfer_of, outcome_of, row_of};
 
-use crate::row::{AnswerLine, Direction, Outcome, Row, Version};
-use crate::text::Text;
+use crate::row::{AnswerLine, Direction, ListedVerdict, Row, Version};
+use crate::text::RowBuffer;
 use memchr::memchr;
 use std::marker::Model;
-use vme_trace::{Class, Lanes, Line, Moved, Rule};
+use vme_trace::{Class, Lanes, Line, MovedBytes, Rule};
 
 /// The first eleven words of a line: no row has more. Past the last they have no bytes.
 #[derive(Drop)]
-struct Words<'a> {
+struct RowWords<'a> {
     words: [&'a [u8]; 11],
 }
 
-impl<'a> Model for Words<'a> {
+impl<'a> Model for RowWords<'a> {
     ghost use Rattle.std.specs.Prelude.{ℕ, List, map};
 
     ghost Value = { List (List ℕ) };
@@ -30,8 +30,8 @@ impl<'a> Model for Words<'a> {
     ghost view = { λ a. map (λ word. word.now) a.words };
 }
 
-impl<'a> Words<'a> {
-    fn of(line: &'a [u8]) -> Words<'a>
+impl<'a> RowWords<'a> {
+    fn of(line: &'a [u8]) -> RowWords<'a>
         ensures { (place : ℕ) → place < 11 → word_at result place ≡ word_at (words line.now) place }
     {
         let mut words = [b"".as_slice(); 11];
@@ -43,7 +43,7 @@ impl<'a> Words<'a> {
             rest = more;
             place += 1;
         }
-        Words { words }
+        RowWords { words }
     }
 
     /// The word at a place, from 0.
@@ -169,21 +169,21 @@ fn is_shown(word: &[u8], place: usize) -> bool
 
 /// The bytes of the data bus that the digits of a word show.
 #[tactic(auto, unfolding(crate::specs::Words::moved_of))]
-fn moved(word: &[u8]) -> Moved
+fn moved(word: &[u8]) -> MovedBytes
     ensures { result ≡ moved_of word.now }
 {
     if is_shown(word, 0) {
-        Moved::LongWord
+        MovedBytes::LongWord
     } else if is_shown(word, 5) {
         if is_shown(word, 7) {
-            Moved::Word
+            MovedBytes::Word
         } else {
-            Moved::EvenByte
+            MovedBytes::EvenByte
         }
     } else if is_shown(word, 7) {
-        Moved::OddByte
+        MovedBytes::OddByte
     } else {
-        Moved::Nothing
+        MovedBytes::Nothing
     }
 }
 
@@ -204,7 +204,7 @@ fn lanes(kind: &[u8], word: &[u8]) -> Option<Lanes>
 }
 
 #[tactic(auto, unfolding(crate::specs::Words::tenure_of))]
-fn tenure(words: &Words) -> Row
+fn tenure(words: &RowWords) -> Row
     ensures { result ≡ tenure_of words.now }
 {
     let start = number(10, words.at(1));
@@ -224,7 +224,7 @@ fn tenure(words: &Words) -> Row
 }
 
 #[tactic(auto, unfolding(crate::specs::Words::cycle_of))]
-fn cycle(words: &Words) -> Row
+fn cycle(words: &RowWords) -> Row
     ensures { result ≡ cycle_of words.now }
 {
     let start = number(10, words.at(1));
@@ -250,7 +250,7 @@ fn cycle(words: &Words) -> Row
 }
 
 #[tactic(auto, unfolding(crate::specs::Words::transfer_of))]
-fn transfer(words: &Words) -> Row
+fn transfer(words: &RowWords) -> Row
     ensures { result ≡ transfer_of words.now }
 {
     let start = number(10, words.at(1));
@@ -274,29 +274,29 @@ fn transfer(words: &Words) -> Row
 }
 
 #[tactic(auto, unfolding(crate::specs::Words::outcome_of))]
-fn outcome(words: &Words) -> Option<Outcome>
+fn outcome(words: &RowWords) -> Option<ListedVerdict>
     ensures { result ≡ outcome_of words.now }
 {
     let kind = words.at(1);
     if kind == b"conforming".as_slice() {
-        return Some(Outcome::Conforming);
+        return Some(ListedVerdict::Conforming);
     }
     if kind == b"never-idle".as_slice() {
-        return Some(Outcome::NeverIdle);
+        return Some(ListedVerdict::NeverIdle);
     }
     let rule = Rule::from_name(words.at(2))?;
     let instant = number(10, words.at(3));
     let named = Line::from_name(words.at(4))?;
     if kind == b"broken".as_slice() {
-        Some(Outcome::Broken(rule, instant, named))
+        Some(ListedVerdict::Broken(rule, instant, named))
     } else {
-        Some(Outcome::Unreadable(rule, instant, named))
+        Some(ListedVerdict::Unreadable(rule, instant, named))
     }
 }
 
 /// The only row whose text a line of these words may be.
 #[tactic(auto, unfolding(crate::specs::Words::row_of))]
-fn candidate(words: &Words) -> Option<Row>
+fn candidate(words: &RowWords) -> Option<Row>
     ensures { result ≡ row_of words.now }
 {
     let kind = words.at(0);
@@ -322,7 +322,7 @@ fn candidate(words: &Words) -> Option<Row>
 }
 
 /// Whether the line is the row's text. That text is written into the buffer, in place of what it held.
-fn is_text(row: &Row, line: &[u8], buffer: &mut Text) -> bool
+fn is_text(row: &Row, line: &[u8], buffer: &mut RowBuffer) -> bool
     ensures { IsTrue result ↔ (row_text row.now ≡ line.now) }
 {
     buffer.clear();
@@ -332,11 +332,11 @@ fn is_text(row: &Row, line: &[u8], buffer: &mut Text) -> bool
 
 /// The row of the version whose text the line is, without its line feed; rows differ in their text. The buffer is for
 /// that text.
-pub(crate) fn read_row(version: Version, line: &[u8], buffer: &mut Text) -> Option<Row>
+pub(crate) fn read_row(version: Version, line: &[u8], buffer: &mut RowBuffer) -> Option<Row>
     ensures named { IfSome result (λ row. (is_row version row ≡ true) × (row_text row ≡ line.now)) }
     ensures found { (row : Row) → is_row version row ≡ true → row_text row ≡ line.now → result ≡ Some row }
 {
-    let row = candidate(&Words::of(line))?;
+    let row = candidate(&RowWords::of(line))?;
     if row.is_row(version) && is_text(&row, line, buffer) {
         Some(row)
     } else {

@@ -7,7 +7,7 @@ ghost use Rattle.vme_listing.specs.RowText.{text_of};
 ghost use Rattle.vme_listing.specs.Written.{AppendsFront, Moves};
 
 use crate::listing::Listing;
-use crate::text::{LONGEST_LINE, MOST, Text};
+use crate::text::{LONGEST_LINE, MOST, RowBuffer};
 use vme_trace::Sink;
 
 /// A write failed.
@@ -31,7 +31,7 @@ fn put<W: Sink>(sink: &mut W, bytes: &[u8]) -> Result<(), Write>
 }
 
 /// Makes room for one more line: the lines that are held are written, where there is none.
-fn make_room<W: Sink>(sink: &mut W, held: &mut Text) -> Result<(), Write>
+fn make_room<W: Sink>(sink: &mut W, held: &mut RowBuffer) -> Result<(), Write>
     ensures room { OnOk result (length held.new + LONGEST_LINE < MOST) }
     ensures moves { OnOk result (Moves (W.writing sink.old).taken (W.writing sink.new).taken held.old held.new) }
     ensures front { OnErr result (AppendsFront (W.writing sink.old).taken (W.writing sink.new).taken held.old) }
@@ -52,7 +52,7 @@ pub fn write_listing<W: Sink>(listing: &Listing, sink: &mut W) -> Result<(), Wri
         (AppendsFront (W.writing sink.old).taken (W.writing sink.new).taken (text_of listing.now)) }
     ensures failures { CountsFailure (W.writing sink.old).failures (W.writing sink.new).failures result }
 {
-    let mut piece = Text::new();
+    let mut piece = RowBuffer::new();
     piece.push_header(listing.version());
     let rows = listing.rows();
     for row in rows {

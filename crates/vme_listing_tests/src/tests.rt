@@ -1,10 +1,10 @@
 use std::alloc::Global;
 use std::test::Fail;
 use vme_listing::{
-    AnswerLine, Direction, ListFault, Listing, ListingText, Outcome, Row, Version, Write,
+    AnswerLine, Direction, ListFault, ListedVerdict, Listing, ListingText, Row, Version, Write,
     data_digits, read_listing, write_listing,
 };
-use vme_trace::{Class, Failed, Lanes, Line, Moved, Rule, Sink};
+use vme_trace::{Class, Failed, Lanes, Line, MovedBytes, Rule, Sink};
 
 /// A sink that takes at most 50 bytes a write, and none once it has so many.
 #[derive(Drop)]
@@ -64,7 +64,7 @@ fn is_written(alloc: Global, listing: &Listing, text: &[u8]) -> Result<bool, Fai
 
 const START: Row = Row::Start { instant: 1 };
 
-const CONFORMING: Row = Row::Verdict(Outcome::Conforming);
+const CONFORMING: Row = Row::Verdict(ListedVerdict::Conforming);
 
 fn tenure(start: u32, slot: u8, end: Option<u32>) -> Row {
     Row::Tenure {
@@ -235,27 +235,27 @@ fn transfers(rt: HostRuntime) -> Result<(), Fail> {
 fn writes(rt: HostRuntime) -> Result<(), Fail> {
     let alloc = rt.alloc();
     let long = Lanes {
-        moved: Moved::LongWord,
+        moved: MovedBytes::LongWord,
         value: 0x7FFFFFFF,
         unknown: 0,
     };
     let word = Lanes {
-        moved: Moved::Word,
+        moved: MovedBytes::Word,
         value: 0xFFFF,
         unknown: 0,
     };
     let even = Lanes {
-        moved: Moved::EvenByte,
+        moved: MovedBytes::EvenByte,
         value: 0xA00,
         unknown: 8,
     };
     let odd = Lanes {
-        moved: Moved::OddByte,
+        moved: MovedBytes::OddByte,
         value: 0,
         unknown: 2,
     };
     let nothing = Lanes {
-        moved: Moved::Nothing,
+        moved: MovedBytes::Nothing,
         value: 0,
         unknown: 0,
     };
@@ -313,7 +313,7 @@ fn resets(rt: HostRuntime) -> Result<(), Fail> {
 #[test]
 fn versions(rt: HostRuntime) {
     let word = Lanes {
-        moved: Moved::Word,
+        moved: MovedBytes::Word,
         value: 0xFFFF,
         unknown: 0,
     };
@@ -332,13 +332,13 @@ fn versions(rt: HostRuntime) {
 #[test]
 fn digits_of_data(rt: HostRuntime) {
     let word = Lanes {
-        moved: Moved::Word,
+        moved: MovedBytes::Word,
         value: 0x1034,
         unknown: 4,
     };
     assert!(rt; data_digits(word) == *b"----1X34");
     let nothing = Lanes {
-        moved: Moved::Nothing,
+        moved: MovedBytes::Nothing,
         value: 0,
         unknown: 0,
     };
@@ -349,9 +349,9 @@ fn digits_of_data(rt: HostRuntime) {
 #[test]
 fn verdicts(rt: HostRuntime) -> Result<(), Fail> {
     let alloc = rt.alloc();
-    let answered = Row::Verdict(Outcome::Broken(Rule::H4, 10, Line::DTACK));
+    let answered = Row::Verdict(ListedVerdict::Broken(Rule::H4, 10, Line::DTACK));
     assert!(rt; is_text(alloc, &[answered], b"verdict broken H4 10 DTACK\n")?);
-    let taken = Row::Verdict(Outcome::Broken(Rule::B2, 8, Line::BBSY));
+    let taken = Row::Verdict(ListedVerdict::Broken(Rule::B2, 8, Line::BBSY));
     assert!(rt;
         is_text(
             alloc,
@@ -359,12 +359,12 @@ fn verdicts(rt: HostRuntime) -> Result<(), Fail> {
             b"start 1\ntenure 6 level 3 slot 3 end 7\nverdict broken B2 8 BBSY\n"
         )?
     );
-    let lost = Row::Verdict(Outcome::Unreadable(Rule::U1, 2, Line::AS));
+    let lost = Row::Verdict(ListedVerdict::Unreadable(Rule::U1, 2, Line::AS));
     assert!(rt; is_text(alloc, &[lost], b"verdict unreadable U1 2 AS\n")?);
     assert!(rt;
         is_text(
             alloc,
-            &[Row::Verdict(Outcome::NeverIdle)],
+            &[Row::Verdict(ListedVerdict::NeverIdle)],
             b"verdict never-idle\n"
         )?
     );
@@ -462,7 +462,7 @@ fn read_data(rt: HostRuntime) -> Result<(), Fail> {
             answer: 20,
             close: Some(21),
             lanes: Some(Lanes {
-                moved: Moved::OddByte,
+                moved: MovedBytes::OddByte,
                 value: 0,
                 unknown: 2,
             }),

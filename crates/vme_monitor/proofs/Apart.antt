@@ -12,11 +12,11 @@ use Rattle.vme_trace.specs.Levels.{Levels}
 use Rattle.vme_trace.specs.Trace.{changed, levels_after}
 use Rattle.vme_trace.specs.declared.step.Change.{Change}
 use Rattle.vme_trace.specs.declared.step.Step.{Step}
-use Rattle.vme_monitor.specs.Meeting.{AreAmong, HaveNotMet, KeepApart, is_left, marks_of, memories_in, row_marks, shown_after, shown_apart, shown_by}
+use Rattle.vme_monitor.specs.Meeting.{AreAmong, AreDistinct, KeepApart, is_left, marks_of, memories_in, row_marks, shown_after, shown_apart, shown_by}
 use Rattle.vme_monitor.specs.Outcome.{Outcome}
 use Rattle.vme_monitor.specs.Run.{advanced, kinds_of, mark_at, noticed, run_of}
 use Rattle.vme_monitor.specs.Runs.{run_more, unnoticed}
-use Rattle.vme_monitor.specs.Walk.{Hop}
+use Rattle.vme_monitor.specs.Walk.{LinkValue}
 use Rattle.vme_monitor.specs.declared.mark.Next.{Next}
 use Rattle.vme_monitor.proofs.Seats.{no_value, same_value}
 
@@ -63,7 +63,7 @@ sum_agree f g (x ∷ xs) same = omega (arith, sum_by-cons f x xs, sum_by-cons g 
 
 module _ {P : Type 0} (place : P → ℕ) (count : ℕ) (placed : (p : P) → place p < count) where
   -- of memories at different places no two count one number
-  pub sum_apart : (h : ℕ → ℕ) (ms : List P) → HaveNotMet place ms → sum_by (λ m. h (place m)) ms ≤ sum_by h (range_with_len 0 count)
+  pub sum_apart : (h : ℕ → ℕ) (ms : List P) → AreDistinct place ms → sum_by (λ m. h (place m)) ms ≤ sum_by h (range_with_len 0 count)
   sum_apart h [] apart = omega arith
   sum_apart h (m ∷ ms) apart =
       let others : sum_by (λ p. h (place p)) ms ≡ sum_by (λ p. without h (place m) (place p)) ms = sum_agree (λ p. h (place p)) (λ p. without h (place m) (place p)) ms (λ i p e. sym (without_else h (place m) (place p) (λ same. omega (arith, apart (suc i) 0 p m e refl same)))) in
@@ -103,7 +103,7 @@ module _ {P : Type 0} (next : P → Levels → Levels → List Change → Next P
         ap length (append-nil (map (mark_at 1) kinds)) ∙ length-map kinds (mark_at 1) ∙ ap (λ l. added l (changed l s.changes) s.changes p) (sym b) ∙ ap (λ l. added before l s.changes p) (sym a)
 
     -- rows in different memories that the steps leave
-    rows_add : (rows : List (Outcome P)) → HaveNotMet place (memories_in rows) → ((i : ℕ) (p : P) → slice_get (memories_in rows) i ≡ Some p → (q : P) × ((run_of next q o x).leaving ≡ p))
+    rows_add : (rows : List (Outcome P)) → AreDistinct place (memories_in rows) → ((i : ℕ) (p : P) → slice_get (memories_in rows) i ≡ Some p → (q : P) × ((run_of next q o x).leaving ≡ p))
         → sum_by (λ r. added before after s.changes r.leaving) rows ≤ shown_by (run_of next) count place nth o x s
     rows_add rows apart left =
         let test = is_left (run_of next) count place nth o x in
@@ -143,9 +143,9 @@ module _ {P : Type 0} (next : P → Levels → Levels → List Change → Next P
     left_advanced n time (r ∷ rows) left (suc i) p e = left_advanced n time rows (λ j. left (suc j)) i p e
 
     -- rows a step further, of which those that met were joined
-    pub keep_apart : (n time : ℕ) (ls ls' : List (List Hop)) (rows mid rows' : List (Outcome P))
+    pub keep_apart : (n time : ℕ) (ls ls' : List (List LinkValue)) (rows mid rows' : List (Outcome P))
         → mid ≡ map (advanced next before after s.changes n time) rows
-        → HaveNotMet place (memories_in rows') → AreAmong (memories_in rows') (memories_in mid) → marks_of ls' rows' ≡ marks_of ls mid
+        → AreDistinct place (memories_in rows') → AreAmong (memories_in rows') (memories_in mid) → marks_of ls' rows' ≡ marks_of ls mid
         → KeepApart (run_of next) count place nth ls rows o x → KeepApart (run_of next) count place nth ls' rows' o (x ++ s ∷ [])
     keep_apart n time ls ls' rows mid rows' stepped apart among marks g =
         record {
@@ -157,7 +157,7 @@ module _ {P : Type 0} (next : P → Levels → Levels → List Change → Next P
         }
 
   -- a step in which nothing is seen
-  pub keep_unseen : (s : Step) (o : Levels) (x : List Step) (ls : List (List Hop)) (rows : List (Outcome P)) → ((p : P) → (run_of next p o (x ++ s ∷ [])).leaving ≡ (run_of next p o x).leaving)
+  pub keep_unseen : (s : Step) (o : Levels) (x : List Step) (ls : List (List LinkValue)) (rows : List (Outcome P)) → ((p : P) → (run_of next p o (x ++ s ∷ [])).leaving ≡ (run_of next p o x).leaving)
       → KeepApart (run_of next) count place nth ls rows o x → KeepApart (run_of next) count place nth ls rows o (x ++ s ∷ [])
   keep_unseen s o x ls rows same g =
       record {
@@ -167,17 +167,17 @@ module _ {P : Type 0} (next : P → Levels → Levels → List Change → Next P
       }
 
 -- a machine that sees nothing in a step
-pub unseen_apart : {P S : Type 0} (sight : Levels → Levels → List Change → Option S) (next : P → Levels → Levels → S → Next P) (count : ℕ) (place : P → ℕ) (nth : ℕ → P) (placed : (p : P) → place p < count) (found : (p : P) → nth (place p) ≡ p)
-    (before after : Levels) (s : Step) (o : Levels) (x : List Step) → before ≡ levels_after o x → after ≡ changed before s.changes → sight before after s.changes ≡ None → (ls : List (List Hop)) (rows : List (Outcome P))
-    → KeepApart (run_of (noticed sight next)) count place nth ls rows o x → KeepApart (run_of (noticed sight next)) count place nth ls rows o (x ++ s ∷ [])
-unseen_apart sight next count place nth placed found before after s o x b a none ls rows g =
-    keep_unseen (noticed sight next) count place nth placed found s o x ls rows
-    (λ p. ap (λ (r : Outcome _). r.leaving) (run_more (noticed sight next) x s p o before after b a ∙ unnoticed sight next before after s.changes (length x + 1) s.time (run_of (noticed sight next) p o x) none))
+pub unseen_apart : {P S : Type 0} (observation : Levels → Levels → List Change → Option S) (next : P → Levels → Levels → S → Next P) (count : ℕ) (place : P → ℕ) (nth : ℕ → P) (placed : (p : P) → place p < count) (found : (p : P) → nth (place p) ≡ p)
+    (before after : Levels) (s : Step) (o : Levels) (x : List Step) → before ≡ levels_after o x → after ≡ changed before s.changes → observation before after s.changes ≡ None → (ls : List (List LinkValue)) (rows : List (Outcome P))
+    → KeepApart (run_of (noticed observation next)) count place nth ls rows o x → KeepApart (run_of (noticed observation next)) count place nth ls rows o (x ++ s ∷ [])
+unseen_apart observation next count place nth placed found before after s o x b a none ls rows g =
+    keep_unseen (noticed observation next) count place nth placed found s o x ls rows
+    (λ p. ap (λ (r : Outcome _). r.leaving) (run_more (noticed observation next) x s p o before after b a ∙ unnoticed observation next before after s.changes (length x + 1) s.time (run_of (noticed observation next) p o x) none))
     g
 
 -- rows of no steps, each in a memory of its own
-pub fresh_apart : {P : Type 0} (next : P → Levels → Levels → List Change → Next P) (count : ℕ) (place : P → ℕ) (nth : ℕ → P) (ls : List (List Hop)) (rows : List (Outcome P)) (o : Levels)
-    → HaveNotMet place (memories_in rows) → marks_of ls rows ≡ 0 → KeepApart (run_of next) count place nth ls rows o []
+pub fresh_apart : {P : Type 0} (next : P → Levels → Levels → List Change → Next P) (count : ℕ) (place : P → ℕ) (nth : ℕ → P) (ls : List (List LinkValue)) (rows : List (Outcome P)) (o : Levels)
+    → AreDistinct place (memories_in rows) → marks_of ls rows ≡ 0 → KeepApart (run_of next) count place nth ls rows o []
 fresh_apart next count place nth ls rows o apart none = record {
   apart = apart;
   left = λ i p e. (p, refl);

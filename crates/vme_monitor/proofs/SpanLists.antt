@@ -5,7 +5,7 @@ use Rattle.std.specs.Option.{option_or}
 use Rattle.std.proofs.lemmas.Bool.Decides.{nat_tests}
 use Rattle.vme_trace.specs.Instants.{those}
 use Rattle.vme_trace.specs.Trace.{Trace, last_instant}
-use Rattle.vme_trace.specs.Judged.{Span, judged_spans, span_from, span_starts}
+use Rattle.vme_trace.specs.Judged.{Stretch, judged_spans, span_from, span_starts}
 use Rattle.vme_trace.specs.Verdict.{break_at as rules_break_at, break_before, least_break, least_of}
 use Rattle.vme_trace.specs.declared.rule.Rule.{Rule}
 use Rattle.vme_trace.specs.declared.verdict.Break.{Break}
@@ -14,12 +14,12 @@ use Rattle.vme_monitor.specs.Outcome.{earlier}
 use Rattle.vme_monitor.specs.Run.{mark_at, kinds_of}
 use Rattle.vme_monitor.specs.Shows.{marks_on, marks_until, marks_within, marks_over}
 use Rattle.vme_monitor.specs.Whole.{has_span}
-use Rattle.vme_monitor.specs.declared.mark.Kinds.{Kinds}
+use Rattle.vme_monitor.specs.declared.mark.StepMarks.{StepMarks}
 use Rattle.vme_monitor.specs.declared.mark.Mark.{Mark}
 use Rattle.vme_monitor.proofs.Unbroken.{unbroken_after, unbroken_before}
 
 -- the spans that have started at an instant or before
-abbrev pub started : Trace → ℕ → List Span
+abbrev pub started : Trace → ℕ → List Stretch
 started t n = spans_before t (suc n)
 
 none_before : (t : Trace) → spans_before t 0 ≡ []
@@ -33,25 +33,25 @@ pub started_one : (t : Trace) → span_starts t 0 ≡ true → started t 0 ≡ s
 started_one t h = spans_more t 0 h ∙ ap (λ spans. spans ++ span_from t 0 ∷ []) (none_before t)
 
 -- each span of a list has ended at an instant or before
-abbrev pub AreOver : ℕ → List Span → Type 0
+abbrev pub AreOver : ℕ → List Stretch → Type 0
 AreOver n [] = Unit {0}
 AreOver n (span ∷ spans) = (span.end ≤ n) × AreOver n spans
 
-pub over_later : (n : ℕ) (spans : List Span) → AreOver n spans → AreOver (suc n) spans
+pub over_later : (n : ℕ) (spans : List Stretch) → AreOver n spans → AreOver (suc n) spans
 over_later n [] h = tt
 over_later n (span ∷ spans) h = (omega (arith, h.0), over_later n spans h.1)
 
-pub over_both : (n : ℕ) (spans : List Span) (span : Span) → AreOver n spans → span.end ≤ n → AreOver n (spans ++ span ∷ [])
+pub over_both : (n : ℕ) (spans : List Stretch) (span : Stretch) → AreOver n spans → span.end ≤ n → AreOver n (spans ++ span ∷ [])
 over_both n [] span h e = (e, tt)
 over_both n (x ∷ spans) span h e = (h.0, over_both n spans span h.1 e)
 
 -- the first break before an instant, over spans
-abbrev pub breaks_to : Trace → List Rule → ℕ → List Span → Option Break
+abbrev pub breaks_to : Trace → List Rule → ℕ → List Stretch → Option Break
 breaks_to t rules n [] = None
 breaks_to t rules n (span ∷ spans) = option_or (break_before t span rules n) (breaks_to t rules n spans)
 
 -- the marks before an instant, over spans
-abbrev pub marks_to : (Span → ℕ → Kinds) → ℕ → List Span → List Mark
+abbrev pub marks_to : (Stretch → ℕ → StepMarks) → ℕ → List Stretch → List Mark
 marks_to shown n [] = []
 marks_to shown n (span ∷ spans) = marks_until span (shown span) n ++ marks_to shown n spans
 
@@ -73,7 +73,7 @@ then_first None None c d h = h refl
 then_first None (Some b) c d h = refl
 then_first (Some a) b c d h = refl
 
-pub has_some : (spans : List Span) (span : Span) → has_span (spans ++ span ∷ []) ≡ true
+pub has_some : (spans : List Stretch) (span : Stretch) → has_span (spans ++ span ∷ []) ≡ true
 has_some [] span = refl
 has_some (x ∷ spans) span = refl
 
@@ -81,21 +81,21 @@ pub spans_started : (t : Trace) → judged_spans t ≡ started t (last_instant t
 spans_started t = spans_all t ∙ ap (spans_before t) (add-one (last_instant t))
 
 module _ (t : Trace) (rules : List Rule) where
-  pub least_is : (spans : List Span) → least_of rules t spans ≡ breaks_to t rules (last_instant t + 1) spans
+  pub least_is : (spans : List Stretch) → least_of rules t spans ≡ breaks_to t rules (last_instant t + 1) spans
   unfolding least_break
   least_is [] = refl
   least_is (span ∷ []) = sym (or_none (break_before t span rules (last_instant t + 1)))
   least_is (span ∷ x ∷ spans) = ap (option_or (break_before t span rules (last_instant t + 1))) (least_is (x ∷ spans))
 
-  pub breaks_both : (n : ℕ) (spans : List Span) (span : Span) → breaks_to t rules n (spans ++ span ∷ []) ≡ option_or (breaks_to t rules n spans) (break_before t span rules n)
+  pub breaks_both : (n : ℕ) (spans : List Stretch) (span : Stretch) → breaks_to t rules n (spans ++ span ∷ []) ≡ option_or (breaks_to t rules n spans) (break_before t span rules n)
   breaks_both n [] span = or_none (break_before t span rules n)
   breaks_both n (x ∷ spans) span = rw (breaks_both n spans span) (sym (or_apart (break_before t x rules n) (breaks_to t rules n spans) (break_before t span rules n)))
 
-  pub before_next : (span : Span) (n : ℕ) → break_before t span rules (suc n) ≡ option_or (break_before t span rules n) (rules_break_at t span rules n)
+  pub before_next : (span : Stretch) (n : ℕ) → break_before t span rules (suc n) ≡ option_or (break_before t span rules n) (rules_break_at t span rules n)
   unfolding break_before
   before_next span n = refl
 
-  before_first : (span : Span) → break_before t span rules 0 ≡ None
+  before_first : (span : Stretch) → break_before t span rules 0 ≡ None
   unfolding break_before
   before_first span = refl
 
@@ -107,17 +107,17 @@ module _ (t : Trace) (rules : List Rule) where
       ∙ rw (before_start s n within (omega arith), unbroken_before t (span_from t s) rules n (end-after t s within) (omega arith)) refl
 
   -- spans that are over have no more
-  pub breaks_over : (n : ℕ) (spans : List Span) → AreOver n spans → breaks_to t rules (suc (suc n)) spans ≡ breaks_to t rules (suc n) spans
+  pub breaks_over : (n : ℕ) (spans : List Stretch) → AreOver n spans → breaks_to t rules (suc (suc n)) spans ≡ breaks_to t rules (suc n) spans
   breaks_over n [] over = refl
   breaks_over n (span ∷ spans) over =
       rw (breaks_over n spans over.1, before_next span (suc n), unbroken_after t span rules (suc n) (omega (arith, over.0)), or_none (break_before t span rules (suc n))) refl
 
-module _ (shown : Span → ℕ → Kinds) where
-  pub marks_are : (t : Trace) (spans : List Span) → marks_over shown t spans ≡ marks_to shown (last_instant t + 1) spans
+module _ (shown : Stretch → ℕ → StepMarks) where
+  pub marks_are : (t : Trace) (spans : List Stretch) → marks_over shown t spans ≡ marks_to shown (last_instant t + 1) spans
   marks_are t [] = refl
   marks_are t (span ∷ spans) = ap (λ ms. marks_within t span (shown span) ++ ms) (marks_are t spans)
 
-  pub marks_both : (n : ℕ) (spans : List Span) (span : Span) → marks_to shown n (spans ++ span ∷ []) ≡ marks_to shown n spans ++ marks_until span (shown span) n
+  pub marks_both : (n : ℕ) (spans : List Stretch) (span : Stretch) → marks_to shown n (spans ++ span ∷ []) ≡ marks_to shown n spans ++ marks_until span (shown span) n
   marks_both n [] span = append-nil (marks_until span (shown span) n)
   marks_both n (x ∷ spans) span = rw (marks_both n spans span) (sym (append_assoc (marks_until x (shown x) n) (marks_to shown n spans) (marks_until span (shown span) n)))
 
@@ -130,20 +130,20 @@ module _ (shown : Span → ℕ → Kinds) where
   on_test : (j s e : ℕ) → 0 < j → s ≤ j → j ≤ e → (nat_lt 0 j && nat_le s j && nat_le j e) ≡ true
   on_test j s e a b c = grind (arith, nat_tests)
 
-  pub on_span : (span : Span) (n : ℕ) → span.start ≤ suc n → suc n ≤ span.end → marks_on span (shown span) (suc n) ≡ map (mark_at (suc n)) (kinds_of (shown span (suc n)))
+  pub on_span : (span : Stretch) (n : ℕ) → span.start ≤ suc n → suc n ≤ span.end → marks_on span (shown span) (suc n) ≡ map (mark_at (suc n)) (kinds_of (shown span (suc n)))
   on_span span n from to = rw (on_test (suc n) span.start span.end (omega arith) from to) refl
 
   -- up to its start a span has no marks
-  pub until_start : (span : Span) (n : ℕ) → n ≤ span.start → marks_until span (shown span) n ≡ []
+  pub until_start : (span : Stretch) (n : ℕ) → n ≤ span.start → marks_until span (shown span) n ≡ []
   until_start span zero h = refl
   until_start span (suc n) h = rw (until_start span n (omega arith), off_before n span.start span.end (omega arith)) refl
 
-  pub marks_first : (spans : List Span) → marks_to shown 1 spans ≡ []
+  pub marks_first : (spans : List Stretch) → marks_to shown 1 spans ≡ []
   marks_first [] = refl
   marks_first (span ∷ spans) = marks_first spans
 
   -- spans that are over have no more
-  pub marks_no_more : (n : ℕ) (spans : List Span) → AreOver n spans → marks_to shown (suc (suc n)) spans ≡ marks_to shown (suc n) spans
+  pub marks_no_more : (n : ℕ) (spans : List Stretch) → AreOver n spans → marks_to shown (suc (suc n)) spans ≡ marks_to shown (suc n) spans
   marks_no_more n [] over = refl
   marks_no_more n (span ∷ spans) over =
       rw (marks_no_more n spans over.1, off_after (suc n) span.start span.end (omega (arith, over.0)), append-nil (marks_until span (shown span) (suc n))) refl

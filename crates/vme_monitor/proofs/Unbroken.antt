@@ -5,7 +5,7 @@ use Rattle.std.proofs.lemmas.Bool.Decides.{nat_tests}
 use Rattle.vme_trace.specs.LineNumbers.{has_line, line_count}
 use Rattle.vme_trace.specs.Levels.{is_lost}
 use Rattle.vme_trace.specs.Trace.{Trace, last_instant, levels_at}
-use Rattle.vme_trace.specs.Judged.{Span, is_judged, is_reset_at}
+use Rattle.vme_trace.specs.Judged.{Stretch, is_judged, is_reset_at}
 use Rattle.vme_trace.specs.Rules.{breaks, ends_span, is_broken}
 use Rattle.vme_trace.specs.Verdict.{break_at, rule_break}
 use Rattle.vme_trace.specs.declared.rule.Rule.{Rule}
@@ -17,7 +17,7 @@ ends_alone : (r : Rule) → (ends_span r ≡ false) ⊎ (r ≡ U1)
 ends_alone U1 = inr refl
 ends_alone r = inl refl
 
-module _ (t : Trace) (span : Span) (j : ℕ) (unjudged : is_judged span j ≡ false)
+module _ (t : Trace) (span : Stretch) (j : ℕ) (unjudged : is_judged span j ≡ false)
     (kept : (l : ℕ) → ((j == span.end) && nat_le j (last_instant t) && is_lost (levels_at t j) l) ≡ false) where
   never : (r : Rule) (l : ℕ) → breaks t span r j l ≡ false
   unfolding breaks is_broken
@@ -36,7 +36,7 @@ module _ (t : Trace) (span : Span) (j : ℕ) (unjudged : is_judged span j ≡ fa
   unbroken [] = refl
   unbroken (r ∷ rs) = rw (rule_unbroken r, unbroken rs) refl
 
-module _ (t : Trace) (span : Span) (rules : List Rule) where
+module _ (t : Trace) (span : Stretch) (rules : List Rule) where
   off_before : (j s e : ℕ) → j ≤ s → (nat_lt s j && nat_lt j e) ≡ false
   off_before j s e h = grind (arith, nat_tests)
 

@@ -5,20 +5,20 @@ use Rattle.vme_trace.specs.Levels.{Levels}
 use Rattle.vme_trace.specs.Trace.{levels_after}
 use Rattle.vme_trace.specs.declared.step.Step.{Step}
 use Rattle.vme_monitor.specs.Outcome.{Outcome}
-use Rattle.vme_monitor.specs.Walk.{Hop}
+use Rattle.vme_monitor.specs.Walk.{LinkValue}
 
 -- how many marks a link, a layer of links and a row have
-abbrev pub hop_marks : Hop → ℕ
-hop_marks hop = length hop.marks
+abbrev pub link_marks : LinkValue → ℕ
+link_marks link = length link.marks
 
-abbrev pub layer_marks : List Hop → ℕ
-layer_marks layer = sum_by hop_marks layer
+abbrev pub layer_marks : List LinkValue → ℕ
+layer_marks layer = sum_by link_marks layer
 
 abbrev pub row_marks : {P : Type 0} → Outcome P → ℕ
 row_marks row = length row.marks
 
 -- how many marks all lists of a table have
-abbrev pub marks_of : {P : Type 0} → List (List Hop) → List (Outcome P) → ℕ
+abbrev pub marks_of : {P : Type 0} → List (List LinkValue) → List (Outcome P) → ℕ
 marks_of layers rows = sum_by layer_marks layers + sum_by row_marks rows
 
 -- the memories that rows are in
@@ -26,8 +26,8 @@ abbrev pub memories_in : {P : Type 0} → List (Outcome P) → List P
 memories_in rows = map (λ row. row.leaving) rows
 
 -- no two memories stand at one place
-abbrev pub HaveNotMet : {P : Type 0} → (P → ℕ) → List P → Type 0
-HaveNotMet {P} place ms = (i j : ℕ) (p q : P) → slice_get ms i ≡ Some p → slice_get ms j ≡ Some q → place p ≡ place q
+abbrev pub AreDistinct : {P : Type 0} → (P → ℕ) → List P → Type 0
+AreDistinct {P} place ms = (i j : ℕ) (p q : P) → slice_get ms i ≡ Some p → slice_get ms j ≡ Some q → place p ≡ place q
     → i ≡ j
 
 -- each memory of a list is one of another
@@ -35,8 +35,8 @@ abbrev pub AreAmong : {P : Type 0} → List P → List P → Type 0
 AreAmong {P} ms others = (i : ℕ) (p : P) → slice_get ms i ≡ Some p → (j : ℕ) × (slice_get others j ≡ Some p)
 
 -- the seat of each memory's place says where the memory is in a list
-abbrev pub AreSeated : {P : Type 0} → (P → ℕ) → List P → List ℕ → Type 0
-AreSeated {P} place ms seats = (i : ℕ) (p : P) → slice_get ms i ≡ Some p → slice_get seats (place p) ≡ Some i
+abbrev pub AreLastSeen : {P : Type 0} → (P → ℕ) → List P → List ℕ → Type 0
+AreLastSeen {P} place ms last_seen = (i : ℕ) (p : P) → slice_get ms i ≡ Some p → slice_get last_seen (place p) ≡ Some i
 
 module _ {P : Type 0} (run : P → Levels → List Step → Outcome P) (count : ℕ) (place : P → ℕ) (nth : ℕ → P) where
   -- whether steps after an opening leave the memory of a place, whatever memory enters
@@ -60,7 +60,7 @@ module _ {P : Type 0} (run : P → Levels → List Step → Outcome P) (count : 
 -- the rows of a table of steps are in different memories that the steps leave, and the table has no more marks than the
 -- steps show, each step from each of the memories that those before it leave, once
 pub record KeepApart {P : Type 0} (run : P → Levels → List Step → Outcome P) (count : ℕ) (place : P → ℕ) (nth : ℕ → P)
-    (layers : List (List Hop)) (rows : List (Outcome P)) (o : Levels) (x : List Step) : Type 0 where
-  pub apart : HaveNotMet place (memories_in rows)
+    (layers : List (List LinkValue)) (rows : List (Outcome P)) (o : Levels) (x : List Step) : Type 0 where
+  pub apart : AreDistinct place (memories_in rows)
   pub left : (i : ℕ) (p : P) → slice_get (memories_in rows) i ≡ Some p → (q : P) × ((run q o x).leaving ≡ p)
   pub few : marks_of layers rows ≤ shown_apart run count place nth o x

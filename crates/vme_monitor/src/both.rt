@@ -3,39 +3,39 @@
 ghost use Rattle.std.specs.Prelude.{◌≡◌, ◌≤◌, ◌∷◌, ◌++◌, [], ℕ, IfOk, List, drop, false, length, slice_get, take};
 ghost use Rattle.vme_trace.specs.declared.rule.Rule.{Rule};
 ghost use Rattle.vme_trace.specs.Trace.{Trace};
-ghost use Rattle.vme_trace.specs.Judged.{Span};
+ghost use Rattle.vme_trace.specs.Judged.{Stretch};
 ghost use Rattle.vme_monitor.specs.Joined.{AreApart, AreJoined, together};
-ghost use Rattle.vme_monitor.specs.declared.mark.Kinds.{Kinds};
+ghost use Rattle.vme_monitor.specs.declared.mark.StepMarks.{StepMarks};
 ghost use Rattle.vme_monitor.specs.Whole.{FindsLeast, ShowsAll};
 ghost use Rattle.std.specs.Option.{option_map_or};
-ghost use Rattle.vme_monitor.specs.BothSpec.{fault_lt as fault_before, front, rest};
+ghost use Rattle.vme_monitor.specs.BothSpec.{breaks_before as fault_before, front, rest};
 ghost use Rattle.vme_monitor.specs.BothSpec.{kind_number as kind_place, least as least_of, mark_lt as mark_before};
 ghost use Rattle.vme_monitor.specs.BothSpec.{merged, sooner as sooner_than};
 
-use crate::mark::{Kind, Mark};
+use crate::mark::{Mark, MarkKind};
 use crate::monitor::Monitor;
 use std::alloc::{AllocError, Global};
 use std::marker::PhantomData;
 use vme_trace::{Break, Lines, Step};
 
-fn kind_number(kind: Kind) -> u8
+fn kind_number(kind: MarkKind) -> u8
     ensures { result ≡ kind_place kind }
 {
     match kind {
-        Kind::Reset => 0,
-        Kind::Start => 1,
-        Kind::Open => 2,
-        Kind::Tenure { .. } => 3,
-        Kind::TenureEnd => 4,
-        Kind::Cycle { .. } => 5,
-        Kind::CycleEnd => 6,
-        Kind::Transfer { .. } => 7,
-        Kind::Answer { .. } | Kind::WriteAnswer { .. } => 8,
-        Kind::Close => 9,
+        MarkKind::Reset => 0,
+        MarkKind::Start => 1,
+        MarkKind::Open => 2,
+        MarkKind::Tenure { .. } => 3,
+        MarkKind::TenureEnd => 4,
+        MarkKind::Cycle { .. } => 5,
+        MarkKind::CycleEnd => 6,
+        MarkKind::Transfer { .. } => 7,
+        MarkKind::Answer { .. } | MarkKind::WriteAnswer { .. } => 8,
+        MarkKind::Close => 9,
     }
 }
 
-fn fault_lt(f: &Break, g: &Break) -> bool
+fn breaks_before(f: &Break, g: &Break) -> bool
     ensures { result ≡ fault_before f.now g.now }
 {
     let a = f.rule.number();
@@ -46,7 +46,7 @@ fn fault_lt(f: &Break, g: &Break) -> bool
 fn sooner(a: &Break, b: &Break) -> bool
     ensures { result ≡ sooner_than a.now b.now }
 {
-    let less = fault_lt(a, b);
+    let less = breaks_before(a, b);
     a.instant < b.instant || (a.instant == b.instant && less)
 }
 
@@ -289,8 +289,8 @@ impl<M: Monitor, N: Monitor> Monitor for Both<M, N> {
 pub fn both_over_captures<M: Monitor, N: Monitor>()
     ensures event { (rs qs all : List Rule) → AreJoined rs qs all → FindsLeast M.run M.begin rs
         → FindsLeast N.run N.begin qs → FindsLeast ⟦<Both<M, N> as Monitor>⟧.run ⟦<Both<M, N> as Monitor>⟧.begin all }
-    ensures marks { (a b : Kinds) (f g : Trace → Span → ℕ → Kinds) → AreApart a b
-        → ((t : Trace) (span : Span) (j : ℕ) → AreApart (f t span j) (g t span j))
+    ensures marks { (a b : StepMarks) (f g : Trace → Stretch → ℕ → StepMarks) → AreApart a b
+        → ((t : Trace) (span : Stretch) (j : ℕ) → AreApart (f t span j) (g t span j))
         → ShowsAll M.run M.begin a f → ShowsAll N.run N.begin b g
         → ShowsAll ⟦<Both<M, N> as Monitor>⟧.run ⟦<Both<M, N> as Monitor>⟧.begin (together a b)
         (λ t span j. together (f t span j) (g t span j)) }

@@ -3,17 +3,17 @@
 ghost use Rattle.std.specs.Prelude.{◌≡◌, ◌≤◌, ◌-◌, ◌^◌, [], ◌++◌, map, min, IfOk, OnOk, vec_len, vec_capacity};
 ghost use Rattle.std.specs.List.{sum_by};
 ghost use Rattle.std.specs.Option.{option_map, option_to_list};
-ghost use Rattle.vme_monitor.specs.Meeting.{hop_marks, row_marks};
-ghost use Rattle.vme_monitor.specs.Outcome.{unmoved};
+ghost use Rattle.vme_monitor.specs.Meeting.{link_marks, row_marks};
+ghost use Rattle.vme_monitor.specs.Outcome.{nothing_shown};
 ghost use Rattle.vme_monitor.specs.Run.{answer_kind as answer_kind_of, answered_kind as answered_kind_of, break_at};
 ghost use Rattle.vme_monitor.specs.Run.{cycle_kind as cycle_kind_of, extended, kinds_of, mark_at, outcome_at};
 ghost use Rattle.vme_monitor.specs.Run.{tenure_kind as tenure_kind_of, when as when_shown};
-ghost use Rattle.vme_monitor.specs.declared.mark.Kind.TheVariants.{Transfer};
-ghost use Rattle.vme_monitor.specs.Walk.{bridge_of, hop_of, later_break as later_break_of, later_hop, later_mark};
+ghost use Rattle.vme_monitor.specs.declared.mark.MarkKind.TheVariants.{Transfer};
+ghost use Rattle.vme_monitor.specs.Walk.{link_to_place, link_value, later_break as later_break_of, later_link_value, later_mark};
 ghost use Rattle.vme_monitor.specs.Walk.{later_outcome, outcome_of};
 
-use crate::machine::Places;
-use crate::mark::{Answered, Asked, Fault, Kind, Kinds, Mark, Next, Taken};
+use crate::machine::Enumerable;
+use crate::mark::{BusGrant, CycleStart, Fault, Mark, MarkKind, Next, StepMarks, TransferAnswer};
 use std::alloc::{AllocError, Global};
 use vme_trace::{Break, Lanes, Line};
 
@@ -27,7 +27,7 @@ pub struct Link {
 
 /// What runs show up to now, and the memory that they are in.
 #[derive(Debug, Drop)]
-pub struct Row<P> {
+pub struct TableRow<P> {
     pub memory: P,
     pub event: Option<Break>,
     pub marks: Vec<Mark>,
@@ -74,7 +74,7 @@ pub fn later_marks(alloc: Global, marks: &[Mark], by: u32) -> Result<Vec<Mark>, 
 }
 
 pub fn later_links(alloc: Global, links: &[Link], by: u32) -> Result<Vec<Link>, AllocError>
-    ensures { IfOk result (λ v. map hop_of v.items ≡ map (later_hop by) (map hop_of links.now)) }
+    ensures { IfOk result (λ v. map link_value v.items ≡ map (later_link_value by) (map link_value links.now)) }
 {
     let mut all = Vec::with_capacity(alloc, links.len())?;
     for link in links {
@@ -90,15 +90,15 @@ pub fn later_links(alloc: Global, links: &[Link], by: u32) -> Result<Vec<Link>, 
 
 pub fn later_rows<P: Copy>(
     alloc: Global,
-    rows: &[Row<P>],
+    rows: &[TableRow<P>],
     by: u32,
-) -> Result<Vec<Row<P>>, AllocError>
+) -> Result<Vec<TableRow<P>>, AllocError>
     ensures { IfOk result (λ v. map outcome_of v.items ≡ map (later_outcome by) (map outcome_of rows.now)) }
 {
     let mut all = Vec::new(alloc);
     for row in rows {
         let marks = later_marks(alloc, row.marks.as_slice(), by)?;
-        all.push(Row {
+        all.push(TableRow {
             memory: row.memory,
             event: later_break(row.event, by),
             marks,
@@ -108,9 +108,13 @@ pub fn later_rows<P: Copy>(
 }
 
 /// A link from each row to the place of its memory.
-pub fn bridges<P: Places>(alloc: Global, rows: &[Row<P>], by: u32) -> Result<Vec<Link>, AllocError>
-    ensures { IfOk result (λ v. map hop_of v.items
-        ≡ map (bridge_of P.place_of) (map (later_outcome by) (map outcome_of rows.now))) }
+pub fn links_to_places<P: Enumerable>(
+    alloc: Global,
+    rows: &[TableRow<P>],
+    by: u32,
+) -> Result<Vec<Link>, AllocError>
+    ensures { IfOk result (λ v. map link_value v.items
+        ≡ map (link_to_place P.place_of) (map (later_outcome by) (map outcome_of rows.now))) }
 {
     let mut all = Vec::new(alloc);
     for row in rows {
@@ -127,7 +131,7 @@ pub fn bridges<P: Places>(alloc: Global, rows: &[Row<P>], by: u32) -> Result<Vec
 impl Link {
     /// Counts the instants from a start that is some instants earlier.
     fn delay(&mut self, by: u32)
-        ensures { hop_of self.new ≡ later_hop by (hop_of self.old) }
+        ensures { link_value self.new ≡ later_link_value by (link_value self.old) }
     {
         self.event = later_break(self.event, by);
         delay_marks(self.marks.as_mut_slice(), by);
@@ -136,14 +140,14 @@ impl Link {
 
 /// Counts the instants of links from a start that is some instants earlier.
 pub fn delay_links(links: &mut [Link], by: u32)
-    ensures { map hop_of links.new ≡ map (later_hop by) (map hop_of links.old) }
+    ensures { map link_value links.new ≡ map (later_link_value by) (map link_value links.old) }
 {
     for link in links.iter_mut() {
         link.delay(by);
     }
 }
 
-impl<P: Copy> Row<P> {
+impl<P: Copy> TableRow<P> {
     /// Counts the instants from a start that is some instants earlier.
     fn delay(&mut self, by: u32)
         ensures { outcome_of self.new ≡ later_outcome by (outcome_of self.old) }
@@ -154,7 +158,7 @@ impl<P: Copy> Row<P> {
 }
 
 /// Counts the instants of rows from a start that is some instants earlier.
-pub fn delay_rows<P: Copy>(rows: &mut [Row<P>], by: u32)
+pub fn delay_rows<P: Copy>(rows: &mut [TableRow<P>], by: u32)
     ensures { map outcome_of rows.new ≡ map (later_outcome by) (map outcome_of rows.old) }
 {
     for row in rows.iter_mut() {
@@ -163,10 +167,10 @@ pub fn delay_rows<P: Copy>(rows: &mut [Row<P>], by: u32)
 }
 
 /// Rows as links to the places of their memories, in room that is there.
-pub fn links_in<P: Places>(room: Vec<Link>, rows: Vec<Row<P>>) -> Vec<Link>
+pub fn links_in<P: Enumerable>(room: Vec<Link>, rows: Vec<TableRow<P>>) -> Vec<Link>
     requires empty { room.items ≡ [] }
     requires fits { vec_len rows ≤ vec_capacity room }
-    ensures { map hop_of result.items ≡ map (bridge_of P.place_of) (map outcome_of rows.items) }
+    ensures { map link_value result.items ≡ map (link_to_place P.place_of) (map outcome_of rows.items) }
 {
     let mut rows = rows;
     let mut links = room;
@@ -182,12 +186,12 @@ pub fn links_in<P: Places>(room: Vec<Link>, rows: Vec<Row<P>>) -> Vec<Link>
 }
 
 /// A row for each memory, with nothing shown yet.
-pub fn fresh_rows<P: Copy>(alloc: Global, memories: &[P]) -> Result<Vec<Row<P>>, AllocError>
-    ensures { IfOk result (λ v. map outcome_of v.items ≡ map unmoved memories.now) }
+pub fn fresh_rows<P: Copy>(alloc: Global, memories: &[P]) -> Result<Vec<TableRow<P>>, AllocError>
+    ensures { IfOk result (λ v. map outcome_of v.items ≡ map nothing_shown memories.now) }
 {
     let mut rows = Vec::new(alloc);
     for memory in memories {
-        rows.push(Row {
+        rows.push(TableRow {
             memory: *memory,
             event: None,
             marks: Vec::new(alloc),
@@ -198,7 +202,7 @@ pub fn fresh_rows<P: Copy>(alloc: Global, memories: &[P]) -> Result<Vec<Row<P>>,
 
 /// How many marks links hold together, or the greatest number.
 pub fn marks_in_links(links: &[Link]) -> u64
-    ensures { result ≡ min (sum_by hop_marks (map hop_of links.now)) (2 ^ 64 - 1) }
+    ensures { result ≡ min (sum_by link_marks (map link_value links.now)) (2 ^ 64 - 1) }
 {
     let mut count = 0u64;
     for link in links {
@@ -208,7 +212,7 @@ pub fn marks_in_links(links: &[Link]) -> u64
 }
 
 /// How many marks rows hold together, or the greatest number.
-pub fn marks_in_rows<P: Copy>(rows: &[Row<P>]) -> u64
+pub fn marks_in_rows<P: Copy>(rows: &[TableRow<P>]) -> u64
     ensures { result ≡ min (sum_by row_marks (map outcome_of rows.now)) (2 ^ 64 - 1) }
 {
     let mut count = 0u64;
@@ -219,7 +223,7 @@ pub fn marks_in_rows<P: Copy>(rows: &[Row<P>]) -> u64
 }
 
 /// A kind, if it is shown.
-fn when(shown: bool, kind: Kind) -> Option<Kind>
+fn when(shown: bool, kind: MarkKind) -> Option<MarkKind>
     ensures { result ≡ when_shown shown kind }
 {
     if shown { Some(kind) } else { None }
@@ -228,7 +232,7 @@ fn when(shown: bool, kind: Kind) -> Option<Kind>
 /// Adds a mark, if a kind is shown. Room grows fourfold: many marks then mostly move into memory of their own, which
 /// the system gets back when they are dropped.
 #[inline(always)]
-fn show(marks: &mut Vec<Mark>, instant: u32, kind: Option<Kind>) -> Result<(), AllocError>
+fn show(marks: &mut Vec<Mark>, instant: u32, kind: Option<MarkKind>) -> Result<(), AllocError>
     ensures { OnOk result (marks.new.items ≡ marks.old.items ++ map (mark_at instant) (option_to_list kind)) }
 {
     if let Some(kind) = kind {
@@ -240,11 +244,11 @@ fn show(marks: &mut Vec<Mark>, instant: u32, kind: Option<Kind>) -> Result<(), A
     Ok(())
 }
 
-fn tenure_kind(shown: Option<Taken>) -> Option<Kind>
+fn tenure_kind(shown: Option<BusGrant>) -> Option<MarkKind>
     ensures { result ≡ option_map tenure_kind_of shown }
 {
     match shown {
-        Some(taken) => Some(Kind::Tenure {
+        Some(taken) => Some(MarkKind::Tenure {
             level: taken.level,
             slot: taken.slot,
         }),
@@ -252,11 +256,11 @@ fn tenure_kind(shown: Option<Taken>) -> Option<Kind>
     }
 }
 
-fn cycle_kind(shown: Option<Asked>) -> Option<Kind>
+fn cycle_kind(shown: Option<CycleStart>) -> Option<MarkKind>
     ensures { result ≡ option_map cycle_kind_of shown }
 {
     match shown {
-        Some(asked) => Some(Kind::Cycle {
+        Some(asked) => Some(MarkKind::Cycle {
             class: asked.class,
             am: asked.modifier,
             address: asked.address,
@@ -265,21 +269,21 @@ fn cycle_kind(shown: Option<Asked>) -> Option<Kind>
     }
 }
 
-fn transfer_kind(shown: Option<bool>) -> Option<Kind>
+fn transfer_kind(shown: Option<bool>) -> Option<MarkKind>
     ensures { result ≡ option_map Transfer shown }
 {
     match shown {
-        Some(write) => Some(Kind::Transfer { write }),
+        Some(write) => Some(MarkKind::Transfer { write }),
         None => None,
     }
 }
 
-fn answer_kind(line: Line, lanes: Option<Lanes>) -> Kind
+fn answer_kind(line: Line, lanes: Option<Lanes>) -> MarkKind
     ensures { result ≡ answer_kind_of line lanes }
 {
     match lanes {
-        None => Kind::Answer { line },
-        Some(lanes) => Kind::WriteAnswer {
+        None => MarkKind::Answer { line },
+        Some(lanes) => MarkKind::WriteAnswer {
             line,
             moved: lanes.moved,
             unknown: lanes.unknown,
@@ -288,7 +292,7 @@ fn answer_kind(line: Line, lanes: Option<Lanes>) -> Kind
     }
 }
 
-fn answered_kind(shown: Option<Answered>) -> Option<Kind>
+fn answered_kind(shown: Option<TransferAnswer>) -> Option<MarkKind>
     ensures { result ≡ option_map answered_kind_of shown }
 {
     match shown {
@@ -299,19 +303,19 @@ fn answered_kind(shown: Option<Answered>) -> Option<Kind>
 
 /// Adds what a step shows. Where it is part of a monitor, the kinds that the monitor never shows cost nothing.
 #[inline(always)]
-fn show_all(marks: &mut Vec<Mark>, instant: u32, kinds: Kinds) -> Result<(), AllocError>
+fn show_all(marks: &mut Vec<Mark>, instant: u32, kinds: StepMarks) -> Result<(), AllocError>
     ensures { OnOk result (marks.new.items ≡ marks.old.items ++ map (mark_at instant) (kinds_of kinds)) }
 {
-    show(marks, instant, when(kinds.reset, Kind::Reset))?;
-    show(marks, instant, when(kinds.start, Kind::Start))?;
-    show(marks, instant, when(kinds.opened, Kind::Open))?;
+    show(marks, instant, when(kinds.reset, MarkKind::Reset))?;
+    show(marks, instant, when(kinds.start, MarkKind::Start))?;
+    show(marks, instant, when(kinds.opened, MarkKind::Open))?;
     show(marks, instant, tenure_kind(kinds.tenure))?;
-    show(marks, instant, when(kinds.tenure_end, Kind::TenureEnd))?;
+    show(marks, instant, when(kinds.tenure_end, MarkKind::TenureEnd))?;
     show(marks, instant, cycle_kind(kinds.cycle))?;
-    show(marks, instant, when(kinds.cycle_end, Kind::CycleEnd))?;
+    show(marks, instant, when(kinds.cycle_end, MarkKind::CycleEnd))?;
     show(marks, instant, transfer_kind(kinds.transfer))?;
     show(marks, instant, answered_kind(kinds.answer))?;
-    show(marks, instant, when(kinds.close, Kind::Close))
+    show(marks, instant, when(kinds.close, MarkKind::Close))
 }
 
 fn break_of(fault: Fault, instant: u32, time: u64) -> Break
@@ -325,7 +329,7 @@ fn break_of(fault: Fault, instant: u32, time: u64) -> Break
     }
 }
 
-impl<P: Copy> Row<P> {
+impl<P: Copy> TableRow<P> {
     /// One step further.
     #[inline(always)]
     pub fn extend(&mut self, next: Next<P>, instant: u32, time: u64) -> Result<(), AllocError>

@@ -7,32 +7,32 @@ ghost use Rattle.vme_trace.specs.Trace.{levels_after};
 ghost use Rattle.vme_trace.specs.WellFormed.{malformed_step};
 ghost use Rattle.vme_trace.specs.Levels.{Levels};
 ghost use Rattle.vme_trace.specs.declared.step.Step.{Step};
-ghost use Rattle.vme_monitor.specs.Meeting.{AreAmong, HaveNotMet, KeepApart, marks_of, memories_in, shown_apart};
-ghost use Rattle.vme_monitor.specs.Outcome.{IsWithin, inside-prop, StandsFor, followed, unmoved};
+ghost use Rattle.vme_monitor.specs.Meeting.{AreAmong, AreDistinct, KeepApart, marks_of, memories_in, shown_apart};
+ghost use Rattle.vme_monitor.specs.Outcome.{IsWithin, inside-prop, StandsFor, followed, nothing_shown};
 ghost use Rattle.vme_monitor.specs.Run.{noticed, run_of};
-ghost use Rattle.vme_monitor.specs.Walk.{hops, later_hop, outcome_of, reach};
+ghost use Rattle.vme_monitor.specs.Walk.{link_values, later_link_value, outcome_of, reach};
 ghost use Rattle.vme_monitor.specs.Tables.{HasRoomFor, outcome};
 ghost use Rattle.vme_monitor.specs.Underway.{GiveRuns, seen_in};
 
 use crate::link::{
-    Link, Row, bridges, delay_links, delay_rows, fresh_rows, later_links, later_rows, links_in,
-    marks_in_links, marks_in_rows,
+    Link, TableRow, delay_links, delay_rows, fresh_rows, later_links, later_rows, links_in,
+    links_to_places, marks_in_links, marks_in_rows,
 };
-use crate::machine::{Machine, Places};
+use crate::machine::{Enumerable, Machine};
 use crate::mark::Mark;
-use crate::merge::{advance, are_apart, have_met, memories, merge, most_alert};
-use crate::view::View;
+use crate::merge::{advance, are_apart, have_merged, memories, merge, most_sensitive};
+use crate::view::StepView;
 use std::alloc::{AllocError, Global};
 use vme_trace::{Break, Lines, Step};
 
 /// What steps say to a monitor, whatever memory enters: runs that have met go on as one row, and each layer of links
 /// says which row of the next one a run goes on in.
 #[derive(Debug, Drop)]
-pub struct Table<P: Places> {
+pub struct Table<P: Enumerable> {
     steps: u32,
     layers: Vec<Vec<Link>>,
-    rows: Vec<Row<P>>,
-    ghost full: { (p : P) → IsTrue (is_some (reach (hops layers.items) (map outcome_of rows.items) (P.place_of p))) },
+    rows: Vec<TableRow<P>>,
+    ghost full: { (p : P) → IsTrue (is_some (reach (link_values layers.items) (map outcome_of rows.items) (P.place_of p))) },
     ghost inside: { (p : P) → IsWithin steps (outcome layers.items rows.items p
         (P.place_of p)) } by { inside-prop steps (λ (p : P). outcome layers.items rows.items p (P.place_of p)) },
 }
@@ -40,33 +40,33 @@ pub struct Table<P: Places> {
 /// Rows whose runs have met go on as one, in a layer of their own.
 /// The answer is how alert the rows are at most, by what they were before: it is asked again only where that may be
 /// less.
-fn settle<M: Machine>(
+fn merge_rows<M: Machine>(
     alloc: Global,
     layers: &mut Vec<Vec<Link>>,
-    rows: &mut Vec<Row<M::Memory>>,
-    seats: &mut [u32],
+    rows: &mut Vec<TableRow<M::Memory>>,
+    last_seen: &mut [u32],
     stamp: u32,
     most: u8,
 ) -> Result<u8, AllocError>
     ensures reached { OnOk result
-        ((k : ℕ) → reach (hops layers.new.items) (map outcome_of rows.new.items) k
-        ≡ reach (hops layers.old.items) (map outcome_of rows.old.items) k) }
+        ((k : ℕ) → reach (link_values layers.new.items) (map outcome_of rows.new.items) k
+        ≡ reach (link_values layers.old.items) (map outcome_of rows.old.items) k) }
     ensures alert { IfOk result
-        (λ highest. All (λ row. M.alertness_of row.memory ≤ most) rows.old.items
-        → All (λ row. M.alertness_of row.memory ≤ highest) rows.new.items) }
-    ensures apart { OnOk result (HaveNotMet M.Memory.place_of (memories_in (map outcome_of rows.new.items))) }
+        (λ highest. All (λ row. M.sensitivity_of row.memory ≤ most) rows.old.items
+        → All (λ row. M.sensitivity_of row.memory ≤ highest) rows.new.items) }
+    ensures apart { OnOk result (AreDistinct M.Memory.place_of (memories_in (map outcome_of rows.new.items))) }
     ensures among { OnOk result
         (AreAmong (memories_in (map outcome_of rows.new.items)) (memories_in (map outcome_of rows.old.items))) }
     ensures marks { OnOk result
-        (marks_of (hops layers.new.items) (map outcome_of rows.new.items)
-        ≡ marks_of (hops layers.old.items) (map outcome_of rows.old.items)) }
+        (marks_of (link_values layers.new.items) (map outcome_of rows.new.items)
+        ≡ marks_of (link_values layers.old.items) (map outcome_of rows.old.items)) }
 {
-    if have_met(rows.as_slice(), seats, stamp) {
+    if have_merged(rows.as_slice(), last_seen, stamp) {
         let links = merge(alloc, rows)?;
         layers.push(links)?;
-        Ok(most_alert::<M>(rows.as_slice()))
+        Ok(most_sensitive::<M>(rows.as_slice()))
     } else if most > 1 {
-        Ok(most_alert::<M>(rows.as_slice()))
+        Ok(most_sensitive::<M>(rows.as_slice()))
     } else {
         Ok(most)
     }
@@ -76,9 +76,9 @@ fn settle<M: Machine>(
 #[derive(Drop)]
 pub struct Unfinished<M: Machine> {
     layers: Vec<Vec<Link>>,
-    rows: Vec<Row<M::Memory>>,
+    rows: Vec<TableRow<M::Memory>>,
     /// The instant at which a row was last met in the memory of each place.
-    seats: Vec<u32>,
+    last_seen: Vec<u32>,
     /// How alert the rows are at most.
     most: u8,
 }
@@ -87,22 +87,29 @@ impl<M: Machine> Unfinished<M> {
     /// The table of no steps.
     pub fn new(alloc: Global) -> Result<Unfinished<M>, AllocError>
         ensures runs { IfOk result
-            (λ t. (o : Levels) → GiveRuns (run_of (noticed M.sight M.next)) M.Memory.place_of M.alertness_of
+            (λ t. (o : Levels) → GiveRuns (run_of (noticed M.observation M.next)) M.Memory.place_of M.sensitivity_of
             t.layers.items t.rows.items t.most o []) }
         ensures apart { IfOk result
-            (λ t. (o : Levels) → KeepApart (run_of (noticed M.sight M.next)) M.Memory.COUNT M.Memory.place_of
-            M.Memory.nth_of (hops t.layers.items) (map outcome_of t.rows.items) o []) }
+            (λ t. (o : Levels) → KeepApart (run_of (noticed M.observation M.next)) M.Memory.COUNT M.Memory.place_of
+            M.Memory.nth_of (link_values t.layers.items) (map outcome_of t.rows.items) o []) }
     {
         let all = memories::<M::Memory>(alloc)?;
         let mut rows = fresh_rows(alloc, all.as_slice())?;
-        let mut seats = vec![in alloc; u32::MAX; rows.len()]?;
+        let mut last_seen = vec![in alloc; u32::MAX; rows.len()]?;
         let mut layers = Vec::new(alloc);
-        let most = most_alert::<M>(rows.as_slice());
-        let most = settle::<M>(alloc, &mut layers, &mut rows, seats.as_mut_slice(), 0, most)?;
+        let most = most_sensitive::<M>(rows.as_slice());
+        let most = merge_rows::<M>(
+            alloc,
+            &mut layers,
+            &mut rows,
+            last_seen.as_mut_slice(),
+            0,
+            most,
+        )?;
         Ok(Unfinished {
             layers,
             rows,
-            seats,
+            last_seen,
             most,
         })
     }
@@ -111,36 +118,36 @@ impl<M: Machine> Unfinished<M> {
     fn extend_all(
         &mut self,
         alloc: Global,
-        view: &View,
+        view: &StepView,
         step: &Step,
         instant: u32,
-        seen: &M::Seen,
+        seen: &M::Observation,
     ) -> Result<(), AllocError>
         requires view { view.now ≡ seen_in view.now.before step.now.changes }
-        requires seen { M.sight view.now.before view.now.after step.now.changes ≡ Some seen.now }
+        requires seen { M.observation view.now.before view.now.after step.now.changes ≡ Some seen.now }
         ensures runs { OnOk result
             ((o : Levels) (x : List Step) → view.now.before ≡ levels_after o x → instant ≡ length x + 1
-            → GiveRuns (run_of (noticed M.sight M.next)) M.Memory.place_of M.alertness_of
+            → GiveRuns (run_of (noticed M.observation M.next)) M.Memory.place_of M.sensitivity_of
             self.old.layers.items self.old.rows.items self.old.most o x
-            → GiveRuns (run_of (noticed M.sight M.next)) M.Memory.place_of M.alertness_of
+            → GiveRuns (run_of (noticed M.observation M.next)) M.Memory.place_of M.sensitivity_of
             self.new.layers.items self.new.rows.items self.new.most o (x ++ step.now ∷ [])) }
         ensures apart { OnOk result
             ((o : Levels) (x : List Step) → view.now.before ≡ levels_after o x → instant ≡ length x + 1
-            → GiveRuns (run_of (noticed M.sight M.next)) M.Memory.place_of M.alertness_of
+            → GiveRuns (run_of (noticed M.observation M.next)) M.Memory.place_of M.sensitivity_of
             self.old.layers.items self.old.rows.items self.old.most o x
-            → KeepApart (run_of (noticed M.sight M.next)) M.Memory.COUNT M.Memory.place_of M.Memory.nth_of
-            (hops self.old.layers.items) (map outcome_of self.old.rows.items) o x
-            → KeepApart (run_of (noticed M.sight M.next)) M.Memory.COUNT M.Memory.place_of M.Memory.nth_of
-            (hops self.new.layers.items) (map outcome_of self.new.rows.items) o (x ++ step.now ∷ [])) }
+            → KeepApart (run_of (noticed M.observation M.next)) M.Memory.COUNT M.Memory.place_of M.Memory.nth_of
+            (link_values self.old.layers.items) (map outcome_of self.old.rows.items) o x
+            → KeepApart (run_of (noticed M.observation M.next)) M.Memory.COUNT M.Memory.place_of M.Memory.nth_of
+            (link_values self.new.layers.items) (map outcome_of self.new.rows.items) o (x ++ step.now ∷ [])) }
     {
         let rows = self.rows.as_mut_slice();
         advance::<M>(rows, &view.before, &view.after, seen, step, instant)?;
-        let most = most_alert::<M>(self.rows.as_slice());
-        self.most = settle::<M>(
+        let most = most_sensitive::<M>(self.rows.as_slice());
+        self.most = merge_rows::<M>(
             alloc,
             &mut self.layers,
             &mut self.rows,
-            self.seats.as_mut_slice(),
+            self.last_seen.as_mut_slice(),
             instant,
             most,
         )?;
@@ -152,34 +159,34 @@ impl<M: Machine> Unfinished<M> {
     pub fn extend(
         &mut self,
         alloc: Global,
-        view: &View,
+        view: &StepView,
         step: &Step,
         instant: u32,
     ) -> Result<(), AllocError>
         requires { view.now ≡ seen_in view.now.before step.now.changes }
         ensures runs { OnOk result
             ((o : Levels) (x : List Step) → view.now.before ≡ levels_after o x → instant ≡ length x + 1
-            → GiveRuns (run_of (noticed M.sight M.next)) M.Memory.place_of M.alertness_of
+            → GiveRuns (run_of (noticed M.observation M.next)) M.Memory.place_of M.sensitivity_of
             self.old.layers.items self.old.rows.items self.old.most o x
-            → GiveRuns (run_of (noticed M.sight M.next)) M.Memory.place_of M.alertness_of
+            → GiveRuns (run_of (noticed M.observation M.next)) M.Memory.place_of M.sensitivity_of
             self.new.layers.items self.new.rows.items self.new.most o (x ++ step.now ∷ [])) }
         ensures apart { OnOk result
             ((o : Levels) (x : List Step) → view.now.before ≡ levels_after o x → instant ≡ length x + 1
-            → GiveRuns (run_of (noticed M.sight M.next)) M.Memory.place_of M.alertness_of
+            → GiveRuns (run_of (noticed M.observation M.next)) M.Memory.place_of M.sensitivity_of
             self.old.layers.items self.old.rows.items self.old.most o x
-            → KeepApart (run_of (noticed M.sight M.next)) M.Memory.COUNT M.Memory.place_of M.Memory.nth_of
-            (hops self.old.layers.items) (map outcome_of self.old.rows.items) o x
-            → KeepApart (run_of (noticed M.sight M.next)) M.Memory.COUNT M.Memory.place_of M.Memory.nth_of
-            (hops self.new.layers.items) (map outcome_of self.new.rows.items) o (x ++ step.now ∷ [])) }
+            → KeepApart (run_of (noticed M.observation M.next)) M.Memory.COUNT M.Memory.place_of M.Memory.nth_of
+            (link_values self.old.layers.items) (map outcome_of self.old.rows.items) o x
+            → KeepApart (run_of (noticed M.observation M.next)) M.Memory.COUNT M.Memory.place_of M.Memory.nth_of
+            (link_values self.new.layers.items) (map outcome_of self.new.rows.items) o (x ++ step.now ∷ [])) }
     {
-        let Some(seen) = M::notice(view, step.changes.as_slice()) else {
+        let Some(seen) = M::observe_step(view, step.changes.as_slice()) else {
             return Ok(());
         };
-        let faintness = M::faintness(&seen);
-        if faintness == 0 {
+        let threshold = M::threshold(&seen);
+        if threshold == 0 {
             return self.extend_all(alloc, view, step, instant, &seen);
         }
-        if self.most < faintness {
+        if self.most < threshold {
             return Ok(());
         }
         let rows = self.rows.as_mut_slice();
@@ -188,11 +195,11 @@ impl<M: Machine> Unfinished<M> {
         if self.most <= 1 && are_apart::<M>(self.rows.as_slice()) {
             return Ok(());
         }
-        self.most = settle::<M>(
+        self.most = merge_rows::<M>(
             alloc,
             &mut self.layers,
             &mut self.rows,
-            self.seats.as_mut_slice(),
+            self.last_seen.as_mut_slice(),
             instant,
             self.most,
         )?;
@@ -202,20 +209,20 @@ impl<M: Machine> Unfinished<M> {
     /// The table of the steps, as many as that.
     pub fn finish(self, steps: u32) -> Table<M::Memory>
         requires { (o : Levels) × (x : List Step) × (steps ≡ length x)
-            × GiveRuns (run_of (noticed M.sight M.next)) M.Memory.place_of M.alertness_of
+            × GiveRuns (run_of (noticed M.observation M.next)) M.Memory.place_of M.sensitivity_of
             self.layers.items self.rows.items self.most o x }
         ensures stands { (o : Levels) (x : List Step) → steps ≡ length x
-            → GiveRuns (run_of (noticed M.sight M.next)) M.Memory.place_of M.alertness_of
+            → GiveRuns (run_of (noticed M.observation M.next)) M.Memory.place_of M.sensitivity_of
             self.layers.items self.rows.items self.most o x
-            → StandsFor (run_of (noticed M.sight M.next))
+            → StandsFor (run_of (noticed M.observation M.next))
             (λ p. outcome result.layers.items result.rows.items p (M.Memory.place_of p)) result.steps o x }
-        ensures marks { marks_of (hops result.layers.items) (map outcome_of result.rows.items)
-            ≡ marks_of (hops self.layers.items) (map outcome_of self.rows.items) }
+        ensures marks { marks_of (link_values result.layers.items) (map outcome_of result.rows.items)
+            ≡ marks_of (link_values self.layers.items) (map outcome_of self.rows.items) }
     {
         let Unfinished {
             layers,
             rows,
-            seats: _,
+            last_seen: _,
             most: _,
         } = self;
         Table {
@@ -235,15 +242,15 @@ pub fn summarise<M: Machine>(
     requires accepted { malformed_step (record { opening = opening.now; steps = steps.now }) ≡ None }
     requires few { length steps.now ≤ 268435456 }
     ensures stands { IfOk result
-        (λ t. StandsFor (run_of (noticed M.sight M.next))
+        (λ t. StandsFor (run_of (noticed M.observation M.next))
         (λ p. outcome t.layers.items t.rows.items p (M.Memory.place_of p)) t.steps opening.now steps.now) }
     ensures marks { IfOk result
-        (λ t. marks_of (hops t.layers.items) (map outcome_of t.rows.items)
-        ≤ shown_apart (run_of (noticed M.sight M.next)) M.Memory.COUNT M.Memory.place_of M.Memory.nth_of
+        (λ t. marks_of (link_values t.layers.items) (map outcome_of t.rows.items)
+        ≤ shown_apart (run_of (noticed M.observation M.next)) M.Memory.COUNT M.Memory.place_of M.Memory.nth_of
         opening.now steps.now) }
 {
     let mut table = Unfinished::<M>::new(alloc)?;
-    let mut view = View::new(opening);
+    let mut view = StepView::new(opening);
     let mut instant = 0;
     for step in steps {
         let changes = step.changes.as_slice();
@@ -262,7 +269,7 @@ fn later_layers(
     layers: &[Vec<Link>],
     by: u32,
 ) -> Result<(), AllocError>
-    ensures { OnOk result (hops all.new.items ≡ hops all.old.items ++ map (map (later_hop by)) (hops layers.now)) }
+    ensures { OnOk result (link_values all.new.items ≡ link_values all.old.items ++ map (map (later_link_value by)) (link_values layers.now)) }
 {
     for layer in layers {
         let links = later_links(alloc, layer.as_slice(), by)?;
@@ -273,20 +280,20 @@ fn later_layers(
 
 /// Counts the instants of layers from a start that is some instants earlier.
 fn delay_layers(layers: &mut [Vec<Link>], by: u32)
-    ensures { hops layers.new ≡ map (map (later_hop by)) (hops layers.old) }
+    ensures { link_values layers.new ≡ map (map (later_link_value by)) (link_values layers.old) }
 {
     for layer in layers.iter_mut() {
         delay_links(layer.as_mut_slice(), by);
     }
 }
 
-impl<P: Places> Table<P> {
+impl<P: Enumerable> Table<P> {
     /// The table of no steps.
     pub fn unit(alloc: Global) -> Result<Table<P>, AllocError>
         ensures outcomes { IfOk result (λ t. (p : P)
-            → outcome t.layers.items t.rows.items p (P.place_of p) ≡ unmoved p) }
+            → outcome t.layers.items t.rows.items p (P.place_of p) ≡ nothing_shown p) }
         ensures counted { IfOk result (λ t. t.steps ≡ 0) }
-        ensures marks { IfOk result (λ t. marks_of (hops t.layers.items) (map outcome_of t.rows.items) ≡ 0) }
+        ensures marks { IfOk result (λ t. marks_of (link_values t.layers.items) (map outcome_of t.rows.items) ≡ 0) }
     {
         let all = memories::<P>(alloc)?;
         let rows = fresh_rows(alloc, all.as_slice())?;
@@ -311,13 +318,13 @@ impl<P: Places> Table<P> {
             (P.place_of a.leaving))) }
         ensures counted { IfOk result (λ t. t.steps ≡ first.now.steps + second.now.steps) }
         ensures marks { IfOk result
-            (λ t. marks_of (hops t.layers.items) (map outcome_of t.rows.items)
-            ≤ marks_of (hops first.now.layers.items) (map outcome_of first.now.rows.items)
-            + marks_of (hops second.now.layers.items) (map outcome_of second.now.rows.items)) }
+            (λ t. marks_of (link_values t.layers.items) (map outcome_of t.rows.items)
+            ≤ marks_of (link_values first.now.layers.items) (map outcome_of first.now.rows.items)
+            + marks_of (link_values second.now.layers.items) (map outcome_of second.now.rows.items)) }
     {
         let mut layers = Vec::new(alloc);
         later_layers(alloc, &mut layers, first.layers.as_slice(), 0)?;
-        let links = bridges(alloc, first.rows.as_slice(), 0)?;
+        let links = links_to_places(alloc, first.rows.as_slice(), 0)?;
         layers.push(links)?;
         later_layers(alloc, &mut layers, second.layers.as_slice(), first.steps)?;
         let rows = later_rows(alloc, second.rows.as_slice(), first.steps)?;
@@ -350,9 +357,9 @@ impl<P: Places> Table<P> {
             (P.place_of p) in outcome result.layers.items result.rows.items p (P.place_of p)
             ≡ followed self.steps a (outcome second.layers.items second.rows.items a.leaving (P.place_of a.leaving)) }
         ensures counted { result.steps ≡ self.steps + second.steps }
-        ensures marks { marks_of (hops result.layers.items) (map outcome_of result.rows.items)
-            ≡ marks_of (hops self.layers.items) (map outcome_of self.rows.items)
-            + marks_of (hops second.layers.items) (map outcome_of second.rows.items) }
+        ensures marks { marks_of (link_values result.layers.items) (map outcome_of result.rows.items)
+            ≡ marks_of (link_values self.layers.items) (map outcome_of self.rows.items)
+            + marks_of (link_values second.layers.items) (map outcome_of second.rows.items) }
     {
         let Table {
             steps,
@@ -380,7 +387,7 @@ impl<P: Places> Table<P> {
 
     /// How many marks its lists hold together, or the greatest number.
     pub fn stored(&self) -> u64
-        ensures { result ≡ min (marks_of (hops self.now.layers.items) (map outcome_of self.now.rows.items))
+        ensures { result ≡ min (marks_of (link_values self.now.layers.items) (map outcome_of self.now.rows.items))
             (2 ^ 64 - 1) }
     {
         let mut count = 0u64;

@@ -5,9 +5,9 @@ use std::test::Fail;
 use vme_monitor::both::Both;
 use vme_monitor::finite::Finite;
 use vme_monitor::known::{Known, KnownRules};
-use vme_monitor::mark::{Kind, Mark};
+use vme_monitor::mark::{Mark, MarkKind};
 use vme_monitor::monitor::{Monitor, join, none};
-use vme_monitor::silent::BreaksOf;
+use vme_monitor::without_marks::BreakMonitor;
 use vme_trace::{
     Block, Break, Capture, Change, Changes, LINE_COUNT, Level, Line, Lines, Rule, Step,
 };
@@ -202,10 +202,10 @@ fn break_of(instant: u32, rule: Rule, line: Line) -> Option<Break> {
 /// The start of judging, at the first step.
 const START: Mark = Mark {
     instant: 1,
-    kind: Kind::Start,
+    kind: MarkKind::Start,
 };
 
-fn mark_at(instant: u32, kind: Kind) -> Mark {
+fn mark_at(instant: u32, kind: MarkKind) -> Mark {
     Mark { instant, kind }
 }
 
@@ -220,7 +220,11 @@ fn judges_whatever_the_cut(rt: HostRuntime) -> Result<(), Fail> {
 #[test]
 fn judges_again_after_a_reset(rt: HostRuntime) -> Result<(), Fail> {
     let unknown = break_of(8, Rule::U1, Line::SYSRESET);
-    let marks = [START, mark_at(3, Kind::Reset), mark_at(6, Kind::Start)];
+    let marks = [
+        START,
+        mark_at(3, MarkKind::Reset),
+        mark_at(6, MarkKind::Start),
+    ];
     assert_judged::<Known>(&rt, rt.alloc(), RESET, unknown, &marks)?;
     let lost = break_of(2, Rule::U1, Line::AS);
     assert_judged::<Known>(&rt, rt.alloc(), LATE_RESET, lost, &[START])?;
@@ -236,10 +240,10 @@ fn two_show_what_each_shows(rt: HostRuntime) -> Result<(), Fail> {
 #[test]
 fn in_silence_breaks_alone_are_found(rt: HostRuntime) -> Result<(), Fail> {
     let lost = break_of(2, Rule::U1, Line::AS);
-    assert_judged::<BreaksOf<KnownRules>>(&rt, rt.alloc(), READ, None, &[])?;
-    assert_judged::<BreaksOf<KnownRules>>(&rt, rt.alloc(), LOST_STROBE, lost, &[])?;
+    assert_judged::<BreakMonitor<KnownRules>>(&rt, rt.alloc(), READ, None, &[])?;
+    assert_judged::<BreakMonitor<KnownRules>>(&rt, rt.alloc(), LOST_STROBE, lost, &[])?;
     let unknown = break_of(8, Rule::U1, Line::SYSRESET);
-    assert_judged::<BreaksOf<KnownRules>>(&rt, rt.alloc(), RESET, unknown, &[])
+    assert_judged::<BreakMonitor<KnownRules>>(&rt, rt.alloc(), RESET, unknown, &[])
 }
 
 /// Whether judging starts in a recording.

@@ -17,7 +17,7 @@ use Rattle.vme_floor.specs.declared.report.Report.{Report}
 use Rattle.vme_floor.specs.declared.report.RunFault.{RunFault}
 use Rattle.vme_floor.specs.declared.report.RunFault.TheVariants as fault
 use Rattle.vme_floor.proofs.Cutting.{same_lists, not_torn, out_of_range}
-use Rattle.vme_pods.specs.Deliveries.{AreDeliveries, AreOf}
+use Rattle.vme_pods.specs.Deliveries.{AreDeliveries, AreTakenFrom}
 use Rattle.vme_pods.specs.Outcomes.{MayCome}
 use Rattle.vme_pods.specs.Judgements.{NeedsThreads}
 use Rattle.vme_pods.specs.declared.unjudged.Unjudged.{Unjudged}
@@ -30,7 +30,7 @@ all_at P (y ∷ ys) zero x all at = subst P (same_Some y x at) (all zero y (omeg
 all_at P (y ∷ ys) (suc k) x all at = all_at P ys k x (λ j d l. all (suc j) d (omega (arith, l))) at
 
 -- the content of deliveries of some blocks is those blocks
-pub content_is : (blocks deliveries : List Block) (answers : List Answer) (content : List Block) (total : ℕ) → total ≡ length blocks → AreOf blocks deliveries → IsContent total deliveries answers content → content ≡ blocks
+pub content_is : (blocks deliveries : List Block) (answers : List Answer) (content : List Block) (total : ℕ) → total ≡ length blocks → AreTakenFrom blocks deliveries → IsContent total deliveries answers content → content ≡ blocks
 content_is blocks deliveries answers content total count of c = same_lists content blocks (c.count ∙ count) (λ n b at.
     let f = c.filed n b at in let own : slice_get blocks b.number ≡ Some b = all_at (λ (x : Block). slice_get blocks x.number ≡ Some x) deliveries f.0 b of f.1.1 in
     ap (λ (k : ℕ). slice_get blocks k) (sym (c.numbered n b at)) ∙ own)
@@ -42,7 +42,7 @@ numbered : (t : Trace) (size : ℕ) (k : ℕ) (d : Block) → k < block_count si
 numbered t size k d low = get_or-map-range_with_len (block_at size t) 0 (block_count size t) k k d low (omega arith)
 
 -- each block of a cut stands at its number
-pub cut_numbered : (t : Trace) (size : ℕ) → AreOf (blocks_of size t) (blocks_of size t)
+pub cut_numbered : (t : Trace) (size : ℕ) → AreTakenFrom (blocks_of size t) (blocks_of size t)
 cut_numbered t size k d low =
     let long : length (blocks_of size t) ≡ block_count size t = length-map-range_with_len (block_at size t) 0 (block_count size t) in
     let is = numbered t size k d (omega (arith, low, long)) in
@@ -54,7 +54,7 @@ capture_is : (blocks : List Block) (t made : Trace) (content : List Block) → c
 capture_is blocks t made content is joined content_joined = same_Some made t (sym content_joined ∙ (ap joined_trace is ∙ joined))
 
 -- of deliveries of blocks that join, a report has the verdict on their recording
-pub report_verdict : (blocks deliveries : List Block) (total : ℕ) (outcome : Result Report RunFault) (t : Trace) → total ≡ length blocks → AreOf blocks deliveries → joined_trace blocks ≡ Some t
+pub report_verdict : (blocks deliveries : List Block) (total : ℕ) (outcome : Result Report RunFault) (t : Trace) → total ≡ length blocks → AreTakenFrom blocks deliveries → joined_trace blocks ≡ Some t
     → IfOk outcome (λ r. IsRecorded total deliveries r.answers r.capture r.span) → IfOk outcome (λ r. r.verdict ≡ verdict_by rules_in_force r.capture)
     → IfOk outcome (λ r. r.verdict ≡ verdict_by rules_in_force t)
 report_verdict blocks deliveries total (Ok r) t count of joined recorded verdict =

@@ -6,14 +6,14 @@ use Rattle.std.specs.Prelude.{IsPermutation, Some, slice_get}
 use Rattle.std.proofs.lemmas.List.Elements.{All-contains_itself, Contains-append_left}
 use Rattle.std.proofs.lemmas.List.Sorted.{All-permutation, Contains-permutation, length_permutation}
 use Rattle.vme_trace.specs.declared.block.Block.{Block}
-use Rattle.vme_pods.specs.Deliveries.{AreDeliveries, AreOf}
+use Rattle.vme_pods.specs.Deliveries.{AreDeliveries, AreTakenFrom}
 
 -- the blocks themselves are deliveries of them
-pub themselves : (blocks : List Block) → AreOf blocks blocks → AreDeliveries blocks blocks
+pub themselves : (blocks : List Block) → AreTakenFrom blocks blocks → AreDeliveries blocks blocks
 themselves blocks of = record { of = of; all = All-contains_itself blocks; count = omega arith }
 
 -- so are the blocks and some of them behind
-pub with_more : (blocks deliveries again : List Block) → deliveries ≡ blocks ++ again → AreOf blocks deliveries → length deliveries ≤ 2 * length blocks → AreDeliveries blocks deliveries
+pub with_more : (blocks deliveries again : List Block) → deliveries ≡ blocks ++ again → AreTakenFrom blocks deliveries → length deliveries ≤ 2 * length blocks → AreDeliveries blocks deliveries
 with_more blocks deliveries again is of count = record {
   of = of;
   all = λ k d low. rw is (Contains-append_left blocks again _ (All-contains_itself blocks k d low));

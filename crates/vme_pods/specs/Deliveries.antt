@@ -3,11 +3,11 @@ use Rattle.std.specs.Prelude.{◌≡◌, ◌*◌, ◌≤◌, List, All, Contains
 use Rattle.vme_trace.specs.declared.block.Block.{Block}
 
 -- each delivery is the block of its number
-abbrev pub AreOf : List Block → List Block → Type 0
-AreOf blocks deliveries = All (λ b. slice_get blocks b.number ≡ Some b) deliveries
+abbrev pub AreTakenFrom : List Block → List Block → Type 0
+AreTakenFrom blocks deliveries = All (λ b. slice_get blocks b.number ≡ Some b) deliveries
 
 -- the deliveries are of these blocks, each of which is among them, and on average at most twice
 pub record AreDeliveries (blocks deliveries : List Block) : Type 0 where
-  pub of : AreOf blocks deliveries
+  pub of : AreTakenFrom blocks deliveries
   pub all : All (λ b. Contains deliveries b) blocks
   pub count : length deliveries ≤ 2 * length blocks

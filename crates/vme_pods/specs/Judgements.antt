@@ -1,6 +1,6 @@
 -- What workers find of a recording, and how it is told.
 use Rattle.std.specs.Prelude.{◌≡◌, ◌<◌, ℕ, [], List, codes, IfErr, Result, Ok, Err}
-use Rattle.vme_answer.specs.Answers.{Answer, Gives, answer_by, judgement_of}
+use Rattle.vme_answer.specs.Answers.{CommandAnswer, AnswerGives, answer_by, judgement_of}
 use Rattle.vme_answer.specs.Ends.{Does}
 use Rattle.vme_answer.specs.Texts.{line_of, refusal_status, refusal_text}
 use Rattle.vme_answer.specs.declared.refusal.Refusal.{Refusal}
@@ -14,7 +14,7 @@ use Rattle.vme_trace.specs.declared.verdict.Verdict.{Verdict}
 -- ever stray
 abbrev pub Finds : Result Verdict Unjudged → Result Verdict Refusal → Type 0
 Finds (Ok verdict) there = there ≡ Ok verdict
-Finds (Err (Refused refusal)) there = Gives (λ (v : Verdict). v) (Err refusal) there
+Finds (Err (Refused refusal)) there = AnswerGives (λ (v : Verdict). v) (Err refusal) there
 Finds (Err NoWorker) there = Unit {0}
 Finds (Err Stray) there = ⊥
 
@@ -41,7 +41,7 @@ unjudged_status (Refused refusal) = refusal_status refusal
 unjudged_status NoWorker = 4
 unjudged_status Stray = 4
 
-abbrev pub pods_answer_by : Result Verdict Unjudged → Answer
+abbrev pub pods_answer_by : Result Verdict Unjudged → CommandAnswer
 pods_answer_by (Ok verdict) = answer_by (Ok verdict)
 pods_answer_by (Err unjudged) =
     record { out = []; error = line_of (unjudged_text unjudged); status = unjudged_status unjudged }

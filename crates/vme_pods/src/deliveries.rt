@@ -1,7 +1,7 @@
 //! What the pods deliver: the blocks of a recording, in some order, and some of them again.
 
 ghost use Rattle.std.specs.Prelude.{◌≡◌, ◌*◌, ◌+◌, ◌<◌, ◌≤◌, IfOk, IsPermutation, length, None, OnOk};
-ghost use Rattle.vme_pods.specs.Deliveries.{AreDeliveries, AreOf};
+ghost use Rattle.vme_pods.specs.Deliveries.{AreDeliveries, AreTakenFrom};
 
 use std::alloc::{AllocError, Global};
 use vme_trace::Block;
@@ -31,7 +31,7 @@ pub fn deliveries_of(
     blocks: Vec<Block>,
     seed: Option<u64>,
 ) -> Result<Vec<Block>, AllocError>
-    requires { AreOf blocks.items blocks.items }
+    requires { AreTakenFrom blocks.items blocks.items }
     ensures delivered { IfOk result (λ deliveries. AreDeliveries blocks.items deliveries.items) }
     ensures in_order { IfOk result (λ deliveries. seed ≡ None → deliveries.items ≡ blocks.items) }
 {
@@ -50,7 +50,7 @@ fn some_again(
     blocks: Vec<Block>,
     draws: &mut Draws,
 ) -> Result<Vec<Block>, AllocError>
-    requires { AreOf blocks.items blocks.items }
+    requires { AreTakenFrom blocks.items blocks.items }
     ensures { IfOk result (λ deliveries. AreDeliveries blocks.items deliveries.items) }
 {
     let mut deliveries = blocks;

@@ -5,7 +5,7 @@ ghost use Rattle.vme_trace.specs.Trace.{Trace};
 ghost use Rattle.vme_trace.specs.Verdict.{rules_in_force, verdict_by};
 ghost use Rattle.vme_summary.specs.Joins.{BlocksJoin, joined_trace};
 ghost use Rattle.vme_answer.specs.Answers.{verdict_in_blocks};
-ghost use Rattle.vme_pods.specs.Deliveries.{AreOf};
+ghost use Rattle.vme_pods.specs.Deliveries.{AreTakenFrom};
 ghost use Rattle.vme_pods.specs.Judgements.{Finds, IsPassing, NeedsThreads};
 ghost use Rattle.vme_pods.specs.Outcomes.{MayCome};
 ghost use Rattle.vme_pods.specs.declared.unjudged.Unjudged.TheVariants.{NoWorker};
@@ -61,7 +61,7 @@ fn verdict_on_blocks<R: Threads + Wait + Sync>(
     blocks: Vec<Block>,
     plan: Plan,
 ) -> Result<Verdict, Unjudged>
-    requires numbered { AreOf blocks.items blocks.items }
+    requires numbered { AreTakenFrom blocks.items blocks.items }
     requires join { BlocksJoin blocks.items }
     requires count { (1 ≤ length blocks.items) × (length blocks.items ≤ 4096) }
     requires workers { (1 ≤ plan.workers) × (plan.workers ≤ 64) }

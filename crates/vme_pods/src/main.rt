@@ -28,7 +28,7 @@ use std::thread::Threads;
 use std::{env, io};
 use vme_answer::{Input, Refusal, refusal_line};
 use vme_stream::{Io, complain};
-use words::{Order, no_text, order_of};
+use words::{PodsOrder, no_text, order_of};
 
 fn main(rt: HostRuntime) -> ExitCode {
     ExitCode::from(work(&rt, &rt))
@@ -52,7 +52,7 @@ fn work<R: Threads + Wait + Sync>(rt: &HostRuntime, threads: &R) -> u8 {
 }
 
 /// The order of the command line.
-fn ordered(rt: &HostRuntime) -> Result<Option<Order>, clap::Error>
+fn ordered(rt: &HostRuntime) -> Result<Option<PodsOrder>, clap::Error>
     ensures block { IfOk result (λ o. IfSome o (λ order. (1 ≤ order.plan.block) × (order.plan.block ≤ 65536))) }
     ensures workers { IfOk result (λ o. IfSome o (λ order. (1 ≤ order.plan.workers) × (order.plan.workers ≤ 64))) }
 {
@@ -65,7 +65,7 @@ fn ordered(rt: &HostRuntime) -> Result<Option<Order>, clap::Error>
 }
 
 /// Checks the recording of the files that an order names. Both are opened before one is read.
-fn check_order<R: Threads + Wait + Sync>(rt: &HostRuntime, threads: &R, order: &Order) -> u8
+fn check_order<R: Threads + Wait + Sync>(rt: &HostRuntime, threads: &R, order: &PodsOrder) -> u8
     requires block { (1 ≤ order.now.plan.block) × (order.now.plan.block ≤ 65536) }
     requires workers { (1 ≤ order.now.plan.workers) × (order.now.plan.workers ≤ 64) }
 {
@@ -84,7 +84,7 @@ fn check_order<R: Threads + Wait + Sync>(rt: &HostRuntime, threads: &R, order: &
 }
 
 /// The binding and the dump of an order, opened.
-fn open_both(rt: &HostRuntime, order: &Order) -> Result<(Io<File>, Io<File>), Refusal> {
+fn open_both(rt: &HostRuntime, order: &PodsOrder) -> Result<(Io<File>, Io<File>), Refusal> {
     let binding = open(rt, order.binding.as_str(), Input::Binding)?;
     let dump = open(rt, order.dump.as_str(), Input::Dump)?;
     Ok((binding, dump))

@@ -9,7 +9,7 @@ use std::alloc::{AllocError, Global};
 
 /// What the words ask for: the files, and how their recording is delivered.
 #[derive(Debug, Drop)]
-pub struct Order {
+pub struct PodsOrder {
     /// The file of the binding.
     pub binding: String,
     /// The file of the dump.
@@ -19,7 +19,7 @@ pub struct Order {
 }
 
 /// Reads the words, the program's name first. None is a fault of clap's own.
-pub fn order_of(alloc: Global, words: &[String]) -> Result<Option<Order>, clap::Error>
+pub fn order_of(alloc: Global, words: &[String]) -> Result<Option<PodsOrder>, clap::Error>
     ensures block { IfOk result (λ o. IfSome o (λ order. (1 ≤ order.plan.block) × (order.plan.block ≤ 65536))) }
     ensures workers { IfOk result (λ o. IfSome o (λ order. (1 ≤ order.plan.workers) × (order.plan.workers ≤ 64))) }
 {
@@ -34,7 +34,7 @@ pub fn order_of(alloc: Global, words: &[String]) -> Result<Option<Order>, clap::
         return Ok(None);
     };
     let seed = matches.get_one::<u64>("seed");
-    Ok(Some(Order {
+    Ok(Some(PodsOrder {
         binding: String::from_str(alloc, binding)?,
         dump: String::from_str(alloc, dump)?,
         plan: Plan {

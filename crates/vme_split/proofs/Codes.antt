@@ -9,7 +9,7 @@ use Rattle.vme_trace.specs.Cycle.{class_of, has_known_modifier, is_modifier_bit_
 use Rattle.vme_trace.specs.Levels.{Levels, is_low, is_high, is_known, is_high_on, level_at}
 use Rattle.vme_trace.specs.Trace.{Trace, levels_at}
 use Rattle.vme_trace.specs.Signals.{level, low, high, known, rises}
-use Rattle.vme_trace.specs.Judged.{Span}
+use Rattle.vme_trace.specs.Judged.{Stretch}
 use Rattle.vme_trace.specs.Transfers.{answers}
 use Rattle.vme_trace.specs.Cycles.{cycle_starts, cycle_of}
 use Rattle.vme_trace.specs.Rules.{is_broken}
@@ -193,7 +193,7 @@ code_of_free v k h = let found = by (is_low (level_at v IACK)) (has_known_modifi
 
 -- ---- the rows
 
-module _ (t : Trace) (span : Span) (end : ℕ) (most : end ≤ span.end) (unbroken : IsUnbroken t span end) where
+module _ (t : Trace) (span : Stretch) (end : ℕ) (most : end ≤ span.end) (unbroken : IsUnbroken t span end) where
   cycle_judged : (i : ℕ) → cycle_starts t span i ≡ true → span.start < i
   unfolding cycle_starts
   cycle_judged i e = grind (arith, nat_tests)

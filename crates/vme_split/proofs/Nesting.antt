@@ -8,7 +8,7 @@ use Rattle.vme_trace.specs.LineNumbers.{AS, BBSY, grant}
 use Rattle.vme_trace.specs.Levels.{Levels}
 use Rattle.vme_trace.specs.Trace.{Trace, levels_at}
 use Rattle.vme_trace.specs.Signals.{near, low, falls, rises}
-use Rattle.vme_trace.specs.Judged.{Span, IsSpanOf, is_judged}
+use Rattle.vme_trace.specs.Judged.{Stretch, IsSpanOf, is_judged}
 use Rattle.vme_trace.specs.Transfers.{strobes_high, answer_falls, transfer_starts, lasts, is_answered, answers, in_transfer}
 use Rattle.vme_trace.specs.Cycles.{cycle_starts, cycle_of}
 use Rattle.vme_trace.specs.Tenures.{is_granting, has_reached, taken_grant, tenure_level, tenure_slot, tenure_starts}
@@ -81,7 +81,7 @@ if_some : (o : Option ℕ) (P : ℕ → Type 0) → ((e : ℕ) → o ≡ Some e 
 if_some None P h = tt
 if_some (Some e) P h = h e refl
 
-module _ (t : Trace) (span : Span) (is : IsSpanOf t span) (end : ℕ) (within : span.start < end) (most : end ≤ span.end) (unbroken : IsUnbroken t span end) where
+module _ (t : Trace) (span : Stretch) (is : IsSpanOf t span) (end : ℕ) (within : span.start < end) (most : end ≤ span.end) (unbroken : IsUnbroken t span end) where
   -- tenures
   of_a_slot : (i : ℕ) → i < end → tenure_starts t span i ≡ true → (level slot : ℕ) → tenure_level t i ≡ Some level → tenure_slot t i ≡ Some slot → (level < 4) × (1 ≤ slot) × (slot ≤ t.opening.slots)
   unfolding is_broken

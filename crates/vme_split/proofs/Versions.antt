@@ -5,7 +5,7 @@ use Rattle.std.proofs.lemmas.List.{map-append}
 use Rattle.std.proofs.lemmas.List.Elements.{All-nil, All-cons}
 use Rattle.vme_trace.specs.Trace.{Trace}
 use Rattle.vme_trace.specs.Verdict.{verdict}
-use Rattle.vme_trace.specs.Judged.{Span, is_reset_at}
+use Rattle.vme_trace.specs.Judged.{Stretch, is_reset_at}
 use Rattle.vme_trace.specs.declared.data.Lanes.{Lanes}
 use Rattle.vme_trace.specs.declared.class.Class.TheVariants as class
 use Rattle.vme_trace.specs.declared.verdict.Verdict.{Verdict}
@@ -16,7 +16,7 @@ use Rattle.vme_listing.specs.declared.row.AnswerLine.{AnswerLine}
 use Rattle.vme_listing.specs.declared.row.AnswerLine.TheVariants.{Dtack, Berr}
 use Rattle.vme_listing.specs.declared.row.Direction.{Direction}
 use Rattle.vme_listing.specs.declared.row.Direction.TheVariants.{Read, Write}
-use Rattle.vme_listing.specs.declared.row.Outcome.{Outcome}
+use Rattle.vme_listing.specs.declared.row.ListedVerdict.{ListedVerdict}
 use Rattle.vme_listing.specs.declared.row.Version.{Version}
 use Rattle.vme_listing.specs.declared.row.Row.{Row}
 use Rattle.vme_listing.specs.declared.row.Row.TheVariants.{Start, Reset, OpenTenure, Tenure, AddressedCycle, FreeCycle, InterruptCycle, Transfer, PendingTransfer}
@@ -158,7 +158,7 @@ bare_reset : (b : Bool) (i : ℕ) → bare (if b then Reset i ∷ [] else []) �
 bare_reset true i = refl
 bare_reset false i = refl
 
-recording_kept : (t : Trace) (limit : ℕ) (end : Outcome) (spans : List Span) (rows : List Row) → SplitsRecording t limit end spans rows → SplitsRecording t limit end spans (bare rows)
+recording_kept : (t : Trace) (limit : ℕ) (end : ListedVerdict) (spans : List Stretch) (rows : List Row) → SplitsRecording t limit end spans rows → SplitsRecording t limit end spans (bare rows)
 recording_kept t limit end [] rows h = ap (λ (xs : List Row). bare xs) h
 recording_kept t limit end (span ∷ spans) rows h =
     let here : List Row = h.0 in let later : List Row = h.1 in let reset : List Row = reset_row t limit span in

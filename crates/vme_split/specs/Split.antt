@@ -8,7 +8,7 @@ use Rattle.vme_trace.specs.Cycle.{highest_address, is_block}
 use Rattle.vme_trace.specs.LineNumbers.{AS, DTACK, BERR, IACK, AM, WRITE, A, BBSY, grant}
 use Rattle.vme_trace.specs.Trace.{Trace, last_instant}
 use Rattle.vme_trace.specs.Signals.{low, high, falls, rises}
-use Rattle.vme_trace.specs.Judged.{Span, is_idle_at, is_reset_at, judged_spans}
+use Rattle.vme_trace.specs.Judged.{Stretch, is_idle_at, is_reset_at, judged_spans}
 use Rattle.vme_trace.specs.Transfers.{strobes_high}
 use Rattle.vme_listing.specs.declared.row.AnswerLine.TheVariants.{Dtack, Berr}
 use Rattle.vme_trace.specs.declared.class.Class.TheVariants as class
@@ -16,8 +16,8 @@ use Rattle.vme_listing.specs.declared.row.Direction.{Direction}
 use Rattle.vme_listing.specs.declared.row.Direction.TheVariants.{Read, Write}
 use Rattle.vme_trace.specs.declared.verdict.Verdict.{Verdict}
 use Rattle.vme_trace.specs.declared.verdict.Verdict.TheVariants as said
-use Rattle.vme_listing.specs.declared.row.Outcome.{Outcome}
-use Rattle.vme_listing.specs.declared.row.Outcome.TheVariants as outcome
+use Rattle.vme_listing.specs.declared.row.ListedVerdict.{ListedVerdict}
+use Rattle.vme_listing.specs.declared.row.ListedVerdict.TheVariants as outcome
 use Rattle.vme_listing.specs.declared.row.Row.{Row}
 use Rattle.vme_listing.specs.declared.row.Row.TheVariants.{Start, Reset, OpenTenure, Tenure, AddressedCycle}
 use Rattle.vme_listing.specs.declared.row.Row.TheVariants.{FreeCycle, InterruptCycle, Transfer, PendingTransfer}
@@ -292,18 +292,18 @@ module _ (t : Trace) (first end : ℕ) where
 -- limit: the first instant that isn't listed
 module _ (t : Trace) (limit : ℕ) where
   -- the reset that ends a stretch
-  abbrev pub reset_row : Span → List Row
+  abbrev pub reset_row : Stretch → List Row
   reset_row span = if is_reset_at t span.end && nat_lt span.end limit then Reset span.end ∷ [] else []
 
   -- a listing tells of each stretch in turn its start, what splits its edges, and its reset; the verdict comes last
-  abbrev pub SplitsRecording : Outcome → List Span → List Row → Type 0
+  abbrev pub SplitsRecording : ListedVerdict → List Stretch → List Row → Type 0
   SplitsRecording end [] rows = rows ≡ row.Verdict end ∷ []
   SplitsRecording end (span ∷ spans) rows =
       (here : List Row) × (later : List Row) × (rows ≡ Start span.start ∷ here ++ reset_row span ++ later)
       × SplitsStretch t span.start (min span.end limit) here × SplitsRecording end spans later
 
   -- the stretches whose start is listed
-  abbrev pub listed_spans : List Span
+  abbrev pub listed_spans : List Stretch
   listed_spans = filter (λ span. nat_lt span.start limit) (judged_spans t)
 
 -- the rows of a listing split what is judged of a recording with this verdict: all of it, or what is before the break.

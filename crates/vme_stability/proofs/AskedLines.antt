@@ -9,7 +9,7 @@ use Rattle.vme_trace.specs.Cycle.{is_needed, is_within, needs_of}
 use Rattle.vme_trace.specs.Levels.{Levels, is_known_on}
 use Rattle.vme_trace.specs.Trace.{Trace, levels_at}
 use Rattle.vme_trace.specs.Signals.{known}
-use Rattle.vme_trace.specs.Judged.{Span, is_judged}
+use Rattle.vme_trace.specs.Judged.{Stretch, is_judged}
 use Rattle.vme_trace.specs.Transfers.{transfer_starts}
 use Rattle.vme_trace.specs.Cycles.{cycle_starts}
 use Rattle.vme_trace.specs.Rules.{breaks, is_broken}
@@ -59,7 +59,7 @@ off_line j h e a b x = grind (arith, nat_tests)
 on_line : (j a b : Bool) → j ≡ true → (j && true && (true && a && b)) ≡ (a && b)
 on_line j a b x = rw x refl
 
-module _ (t : Trace) (span : Span) (reads : ReadsStrobes t span) (n : ℕ) (from : span.start ≤ n) (before : suc n < span.end) where
+module _ (t : Trace) (span : Stretch) (reads : ReadsStrobes t span) (n : ℕ) (from : span.start ≤ n) (before : suc n < span.end) where
   abbrev old : Levels
   old = levels_at t n
 

@@ -9,7 +9,7 @@ use Rattle.vme_trace.specs.Cycle.{is_needed, is_within, needs_of}
 use Rattle.vme_trace.specs.Levels.{Levels, level_at, is_low, is_high, is_known, same_level}
 use Rattle.vme_trace.specs.Trace.{Trace, levels_at, changed, time_at}
 use Rattle.vme_trace.specs.Signals.{low, high, falls, rises, has_edge}
-use Rattle.vme_trace.specs.Judged.{Span, is_judged}
+use Rattle.vme_trace.specs.Judged.{Stretch, is_judged}
 use Rattle.vme_trace.specs.Transfers.{is_answer}
 use Rattle.vme_trace.specs.Cycles.{cycle_starts, cycle_runs}
 use Rattle.vme_trace.specs.Changes.{is_changed}
@@ -79,7 +79,7 @@ known_within xs l h =
     unknown : false ≡ true → ⊥
     unknown h = cc
 
-module _ (t : Trace) (span : Span) where
+module _ (t : Trace) (span : Stretch) where
   no_break : (n k : ℕ) → break_before t span stability_rules (suc n) ≡ None → k ≤ n → break_at t span stability_rules k ≡ None
   unfolding break_before
   no_break zero k h order = let e : k ≡ 0 = omega arith in subst (λ j. break_at t span stability_rules j ≡ None) (sym e) (or_none (break_before t span stability_rules 0) (break_at t span stability_rules 0) h).1

@@ -10,7 +10,7 @@ use Rattle.vme_trace.specs.Levels.{Levels, level_at, is_low, is_high, is_known_o
 use Rattle.vme_trace.specs.Data.{is_selected}
 use Rattle.vme_trace.specs.Trace.{Trace, levels_at, changed}
 use Rattle.vme_trace.specs.Signals.{known, high, has_edge}
-use Rattle.vme_trace.specs.Judged.{Span, is_judged}
+use Rattle.vme_trace.specs.Judged.{Stretch, is_judged}
 use Rattle.vme_trace.specs.Transfers.{strobes_high, strobe_rises, strobe_falls, answer_falls, transfer_starts, lasts, is_answered, is_write, in_transfer}
 use Rattle.vme_trace.specs.Rules.{breaks, is_broken}
 use Rattle.vme_trace.specs.Verdict.{break_before}
@@ -116,7 +116,7 @@ moved j h s e q k d jt qk kd = rw (jt, qk, kd) (by_tests h s e)
 not_held : (j h s e q : Bool) → q ≡ false → (j && h && (s && e && q)) ≡ false
 not_held j h s e q x = grind (arith, nat_tests)
 
-module _ (t : Trace) (span : Span) (reads : ReadsStrobes t span) (n : ℕ) (from : span.start ≤ n) (before : suc n < span.end) (m : Holding) (holds : Holds t span n m)
+module _ (t : Trace) (span : Stretch) (reads : ReadsStrobes t span) (n : ℕ) (from : span.start ≤ n) (before : suc n < span.end) (m : Holding) (holds : Holds t span n m)
     (unbroken : break_before t span stability_rules (suc n) ≡ None) where
   abbrev old : Levels
   old = levels_at t n

@@ -7,7 +7,7 @@ use Rattle.vme_trace.specs.LineNumbers.{line_count, WRITE, has_line}
 use Rattle.vme_trace.specs.Levels.{Levels}
 use Rattle.vme_trace.specs.Trace.{Trace, levels_at}
 use Rattle.vme_trace.specs.Signals.{has_edge}
-use Rattle.vme_trace.specs.Judged.{Span, is_judged}
+use Rattle.vme_trace.specs.Judged.{Stretch, is_judged}
 use Rattle.vme_trace.specs.Rules.{breaks, is_broken}
 use Rattle.vme_trace.specs.declared.rule.Rule.TheVariants.{S2}
 use Rattle.vme_trace.specs.declared.step.Change.{Change}
@@ -29,7 +29,7 @@ on_line j a b c d x y z = rw (x, y, z) (turn d c)
     turn false true = refl
     turn false false = refl
 
-module _ (t : Trace) (span : Span) (reads : ReadsStrobes t span) (n : ℕ) (from : span.start ≤ n) (before : suc n < span.end) (m : Holding) (holds : Holds t span n m) where
+module _ (t : Trace) (span : Stretch) (reads : ReadsStrobes t span) (n : ℕ) (from : span.start ≤ n) (before : suc n < span.end) (m : Holding) (holds : Holds t span n m) where
   abbrev old : Levels
   old = levels_at t n
 

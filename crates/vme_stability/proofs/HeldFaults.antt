@@ -7,7 +7,7 @@ use Rattle.vme_trace.specs.Levels.{Levels}
 use Rattle.vme_trace.specs.declared.rule.Rule.TheVariants.{S1, S2}
 use Rattle.vme_stability.specs.StabilitySpec.{fault_on, held_fault, keeps_address, keeps_direction, moved_fault, turned_fault}
 use Rattle.vme_stability.specs.declared.holding.Holding.{Holding}
-use Rattle.vme_stability.specs.declared.sight.Sight.{Sight}
+use Rattle.vme_stability.specs.declared.observation.HoldingObservation.{HoldingObservation}
 
 none_or_none : (b : Bool) (o : Option ℕ) → is_some o ≡ false → (if b then o else None) ≡ None
 none_or_none true None h = refl
@@ -18,7 +18,7 @@ never : (a : Bool) → (a && false) ≡ false
 never true = refl
 never false = refl
 
-module _ (m : Holding) (v w : Levels) (seen : Sight) where
+module _ (m : Holding) (v w : Levels) (seen : HoldingObservation) where
   pub unmoved : is_some seen.moved ≡ false → moved_fault m v w seen ≡ None
   unmoved h = none_or_none (keeps_address m v w) seen.moved h
 

@@ -9,7 +9,7 @@ use Rattle.vme_trace.specs.LineNumbers.{AS, DS0, DS1, WRITE}
 use Rattle.vme_trace.specs.Levels.{Levels, level_at, is_low, is_high, is_known}
 use Rattle.vme_trace.specs.Trace.{Trace, levels_at}
 use Rattle.vme_trace.specs.Signals.{low, high, falls, rises}
-use Rattle.vme_trace.specs.Judged.{Span, is_judged}
+use Rattle.vme_trace.specs.Judged.{Stretch, is_judged}
 use Rattle.vme_trace.specs.Transfers.{strobe_rises, strobes_high, transfer_starts, is_answer}
 use Rattle.vme_trace.specs.Verdict.{break_before}
 use Rattle.vme_trace.specs.Cycles.{cycle_starts, cycle_runs}
@@ -17,7 +17,7 @@ use Rattle.vme_trace.specs.declared.level.Level.{Level}
 use Rattle.vme_trace.specs.declared.level.Level.TheVariants.{Low, High, Unknown}
 use Rattle.vme_trace.proofs.OpenTransfers.{suc-sub-one, is_judged-holds, ReadsStrobes}
 use Rattle.vme_trace.proofs.Ranges.{any-step, clash, fails-any}
-use Rattle.vme_monitor.specs.Tracked.{Says}
+use Rattle.vme_monitor.specs.Tracked.{SaysPending}
 use Rattle.vme_monitor.specs.Tracking.{answered_by, is_unanswered, is_writing, tracked}
 use Rattle.vme_monitor.specs.declared.tracking.Pending.{Pending}
 use Rattle.vme_monitor.specs.declared.tracking.Pending.TheVariants.{Closed, Reading, Writing, Answered}
@@ -102,7 +102,7 @@ unturned_next false false l true false fresh still low back = refl
 unturned_next false false l false true fresh still low back = refl
 unturned_next false false l false false fresh still low back = refl
 
-module _ (t : Trace) (span : Span) where
+module _ (t : Trace) (span : Stretch) where
   -- a cycle that started at i runs at n, and has had no answer
   abbrev pub holds_address : ℕ → ℕ → Bool
   holds_address n i = cycle_starts t span i && cycle_runs t span i n && none (is_answer t span) i (n + 1)
@@ -113,7 +113,7 @@ module _ (t : Trace) (span : Span) where
 
   pub record Holds (n : ℕ) (m : Holding) : Type 0 where
     pub state : Pending
-    pub says : Says t span n state
+    pub says : SaysPending t span n state
     pub transfer : is_answered_state state ≡ was_answered m.transfer
     pub closed : strobes_high_in (levels_at t n) ≡ true → has_risen m.transfer ≡ false
     pub fresh : (i : ℕ) → i ≤ n → transfer_starts t span i ≡ true → ((r : ℕ) → i ≤ r → r ≤ n → strobes_high t r ≡ false) → none (strobe_rises t) (i + 1) (n + 1) ≡ not (has_risen m.transfer)
@@ -172,7 +172,7 @@ module _ (t : Trace) (span : Span) where
     cycle_starts_is = rw (judged, falls_is AS) refl
 
     -- both strobes are high where no transfer is open
-    pub high_is : (p : Pending) → Says t span n p → strobes_high_in old ≡ is_closed p
+    pub high_is : (p : Pending) → SaysPending t span n p → strobes_high_in old ≡ is_closed p
     unfolding high
     high_is Closed says = says
     high_is Reading says = says.1.still n says.1.within (omega arith)

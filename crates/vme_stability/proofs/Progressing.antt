@@ -7,8 +7,8 @@ use Rattle.vme_monitor.specs.declared.tracking.Pending.{Pending}
 use Rattle.vme_monitor.specs.declared.tracking.Pending.TheVariants as pending
 use Rattle.vme_stability.specs.HoldingPlaces.{has_risen, passed, was_answered, writes_of}
 use Rattle.vme_stability.specs.StabilitySpec.{kept}
-use Rattle.vme_stability.specs.declared.holding.Progress.{Progress}
-use Rattle.vme_stability.specs.declared.holding.Progress.TheVariants.{Fresh, RisenInRead, RisenInWrite, Answered, Over}
+use Rattle.vme_stability.specs.declared.holding.TransferState.{TransferState}
+use Rattle.vme_stability.specs.declared.holding.TransferState.TheVariants.{Fresh, RisenInRead, RisenInWrite, Answered, Over}
 
 abbrev pub is_answered_state : Pending → Bool
 is_answered_state pending.Answered = true
@@ -42,7 +42,7 @@ risen_passed false true false = refl
 risen_passed false false true = refl
 risen_passed false false false = refl
 
-pub passed_same : (x : Progress) (d : Bool) → passed (was_answered x) (has_risen x) (writes_of x d) ≡ x
+pub passed_same : (x : TransferState) (d : Bool) → passed (was_answered x) (has_risen x) (writes_of x d) ≡ x
 passed_same Fresh d = refl
 passed_same RisenInRead d = refl
 passed_same RisenInWrite d = refl
@@ -62,7 +62,7 @@ fresh_here true r s h j = refl
 fresh_here false r s h j = rw (h, j) refl
 
 -- a write that has had no answer, by what the memory and the levels say, from one instant to the next
-pub directed_next : (p : Pending) (x : Progress) (a s d e : Bool) → is_answered_state p ≡ was_answered x
+pub directed_next : (p : Pending) (x : TransferState) (a s d e : Bool) → is_answered_state p ≡ was_answered x
     → (is_closed p ≡ true → has_risen x ≡ false) → (is_closed p ≡ true → s ≡ false) → (is_closed p ≡ false → writes_of x d ≡ is_writing p)
     → (((not (is_closed p) && not (has_risen x)) && not s) ≡ true → e ≡ d)
     → writes_of (passed (was_answered x || a) (has_risen x || s) (writes_of x d)) e ≡ is_writing (answered_by a (cond (is_closed p) (cond e pending.Writing pending.Reading) p))
@@ -105,14 +105,14 @@ directed_next pending.Answered Answered false false d e h r j w t = refl
 directed_next pending.Answered Over true s d e h r j w t = refl
 directed_next pending.Answered Over false s d e h r j w t = refl
 
-closed_unanswered : (p : Pending) (x : Progress) → true ≡ is_closed p → is_answered_state p ≡ was_answered x → false ≡ was_answered x
+closed_unanswered : (p : Pending) (x : TransferState) → true ≡ is_closed p → is_answered_state p ≡ was_answered x → false ≡ was_answered x
 closed_unanswered pending.Closed x c h = h
 closed_unanswered pending.Reading x c h = absurd (cc)
 closed_unanswered pending.Writing x c h = absurd (cc)
 closed_unanswered pending.Answered x c h = absurd (cc)
 
 -- the same as the levels say it, where the strobes aren't both high after the step
-pub directed_by : (p : Pending) (x : Progress) (h l k a s d e : Bool) → h ≡ is_closed p → l ≡ not k → k ≡ false → is_answered_state p ≡ was_answered x
+pub directed_by : (p : Pending) (x : TransferState) (h l k a s d e : Bool) → h ≡ is_closed p → l ≡ not k → k ≡ false → is_answered_state p ≡ was_answered x
     → (h ≡ true → has_risen x ≡ false) → (h ≡ true → s ≡ false) → (h ≡ false → writes_of x d ≡ is_writing p)
     → (((not h && not (has_risen x)) && not s) ≡ true → e ≡ d)
     → writes_of (passed (not k && (was_answered x || a)) (not k && (has_risen x || s)) (writes_of x d)) e ≡ is_writing (cond k pending.Closed (answered_by a (cond (h && l) (cond e pending.Writing pending.Reading) p)))
@@ -150,7 +150,7 @@ writes_entered pending.Answered true l e z c d = absurd (cc)
 writes_entered pending.Answered false l e z c d = sym (d refl)
 
 -- the data of an open write are held where nothing has come of it
-pub held_data : (x : Progress) (a s d : Bool) → (writes_of x d && not a && (not (has_risen x) && not s)) ≡ ((((true && not (has_risen x)) && not s) && not (was_answered x) && not a) && d)
+pub held_data : (x : TransferState) (a s d : Bool) → (writes_of x d && not a && (not (has_risen x) && not s)) ≡ ((((true && not (has_risen x)) && not s) && not (was_answered x) && not a) && d)
 held_data Fresh true true true = refl
 held_data Fresh true true false = refl
 held_data Fresh true false true = refl

@@ -7,7 +7,7 @@ use Rattle.vme_trace.specs.LineNumbers.{line_count, AS, WRITE, is_control}
 use Rattle.vme_trace.specs.Levels.{Levels, level_at, is_low, is_high, is_idle, is_idle_on, same_level}
 use Rattle.vme_trace.specs.Trace.{Trace, levels_at, time_at}
 use Rattle.vme_trace.specs.WellFormed.{malformed_step}
-use Rattle.vme_trace.specs.Judged.{Span}
+use Rattle.vme_trace.specs.Judged.{Stretch}
 use Rattle.vme_trace.specs.Verdict.{break_at as rules_break_at, break_before, rule_break}
 use Rattle.vme_trace.specs.declared.level.Level.{Level}
 use Rattle.vme_trace.specs.declared.level.Level.TheVariants.{Low, High, Unknown}
@@ -16,7 +16,7 @@ use Rattle.vme_trace.specs.declared.step.Change.{Change}
 use Rattle.vme_trace.proofs.Ranges.{any-fails}
 use Rattle.vme_monitor.specs.Along.{changes_of, memory_from, next_at}
 use Rattle.vme_monitor.specs.Run.{break_at, nothing, noticed, quiet, run_of}
-use Rattle.vme_monitor.specs.Spanned.{noted, spanned, start_in}
+use Rattle.vme_monitor.specs.OverStretches.{noted, spanned, start_in}
 use Rattle.vme_monitor.specs.Whole.{FindsLeast, ShowsAll}
 use Rattle.vme_monitor.specs.declared.mark.Next.{Next}
 use Rattle.vme_monitor.proofs.OwnRules.{own_event, own_marks}
@@ -24,7 +24,7 @@ use Rattle.vme_monitor.proofs.SpanFacts.{IsSpan}
 use Rattle.vme_monitor.proofs.Alongside.{changes_fit, levels_step, memory_early}
 use Rattle.vme_stability.specs.StabilitySpec.{fault_on, is_noticed, shifted_fault, undriven_fault, keeps_direction, direction_turned, moved_fault, sight_of, stability_begin, stability_ends, stability_next, stability_opens, stability_rules, stability_shown, stability_sight, turned_fault, unknown_address, unknown_direction}
 use Rattle.vme_stability.specs.declared.holding.Holding.{Holding}
-use Rattle.vme_stability.specs.declared.sight.Sight.{Sight}
+use Rattle.vme_stability.specs.declared.observation.HoldingObservation.{HoldingObservation}
 use Rattle.vme_stability.proofs.AskedLines.{address_least, direction_least}
 use Rattle.vme_stability.proofs.Edges.{false_of_not}
 use Rattle.vme_stability.proofs.HeldAddress.{S2_least, before_last, moved_least, no_fault}
@@ -48,7 +48,7 @@ first_fault n time None None None None (Some l) f = refl
 first_fault n time None None None None None (Some l) = refl
 first_fault n time None None None None None None = refl
 
-module _ (t : Trace) (span : Span) (ok : malformed_step t ≡ None) (facts : IsSpan t span) where
+module _ (t : Trace) (span : Stretch) (ok : malformed_step t ≡ None) (facts : IsSpan t span) where
   abbrev memory_at : ℕ → Holding
   memory_at n = memory_from step t (stability_begin (levels_at t span.start)) span.start n
 
@@ -162,6 +162,6 @@ stability_marks =
       inside = λ n from before within. by_sight (stability_sight (levels_at t n) (levels_at t (suc n)) (changes_of (slice_get t.steps n))) (memory_from step t (stability_begin (levels_at t span.start)) span.start n) (levels_at t n) (levels_at t (suc n));
     })
   where
-    by_sight : (o : Option Sight) (m : Holding) (v w : Levels) → (option_map_or (stability_next m v w) o (quiet m)).kinds ≡ nothing
+    by_sight : (o : Option HoldingObservation) (m : Holding) (v w : Levels) → (option_map_or (stability_next m v w) o (quiet m)).kinds ≡ nothing
     by_sight None m v w = refl
     by_sight (Some seen) m v w = refl

@@ -6,7 +6,7 @@ use Rattle.vme_trace.specs.Edges.{answer_between, rises_between, strobe_low_in, 
 use Rattle.vme_trace.specs.LineNumbers.{AS, DS0, DS1, WRITE}
 use Rattle.vme_trace.specs.Levels.{Levels, level_at, is_low, is_high, is_known}
 use Rattle.vme_trace.specs.Trace.{Trace, levels_at}
-use Rattle.vme_trace.specs.Judged.{Span}
+use Rattle.vme_trace.specs.Judged.{Stretch}
 use Rattle.vme_trace.specs.declared.level.Level.{Level}
 use Rattle.vme_trace.specs.declared.level.Level.TheVariants.{Low, High, Unknown}
 use Rattle.vme_trace.specs.declared.rule.Rule.TheVariants.{S1, S2}
@@ -64,7 +64,7 @@ none_held v w m cs moved turned = rw (moved, turned) (by_tests (keeps_address m 
     by_tests false true = refl
     by_tests false false = refl
 
-module _ (t : Trace) (span : Span) (facts : IsSpan t span) (n : ℕ) (from : span.start ≤ n) (before : suc n < span.end) where
+module _ (t : Trace) (span : Stretch) (facts : IsSpan t span) (n : ℕ) (from : span.start ≤ n) (before : suc n < span.end) where
   abbrev old : Levels
   old = levels_at t n
 

@@ -2,11 +2,11 @@
 use Rattle.std.proofs.Common.{◌≡◌, refl, ℕ, ◌+◌, ◌<◌, Bool, true, false, lit<}
 use Rattle.std.specs.Prelude.{◌/◌, ◌%◌, ◌==◌, if◌then◌else◌}
 use Rattle.vme_stability.specs.declared.holding.Holding.{Holding}
-use Rattle.vme_stability.specs.declared.holding.Progress.{Progress}
-use Rattle.vme_stability.specs.declared.holding.Progress.TheVariants.{Fresh, RisenInRead, RisenInWrite, Answered, Over}
+use Rattle.vme_stability.specs.declared.holding.TransferState.{TransferState}
+use Rattle.vme_stability.specs.declared.holding.TransferState.TheVariants.{Fresh, RisenInRead, RisenInWrite, Answered, Over}
 
 -- an answer has come
-abbrev pub was_answered : Progress → Bool
+abbrev pub was_answered : TransferState → Bool
 was_answered Fresh = false
 was_answered RisenInRead = false
 was_answered RisenInWrite = false
@@ -14,7 +14,7 @@ was_answered Answered = true
 was_answered Over = true
 
 -- a data strobe has risen
-abbrev pub has_risen : Progress → Bool
+abbrev pub has_risen : TransferState → Bool
 has_risen Fresh = false
 has_risen RisenInRead = true
 has_risen RisenInWrite = true
@@ -22,7 +22,7 @@ has_risen Answered = false
 has_risen Over = true
 
 -- it is a write that has had no answer, by what WRITE* shows
-abbrev pub writes_of : Progress → Bool → Bool
+abbrev pub writes_of : TransferState → Bool → Bool
 writes_of Fresh low = low
 writes_of RisenInRead low = false
 writes_of RisenInWrite low = true
@@ -30,21 +30,21 @@ writes_of Answered low = false
 writes_of Over low = false
 
 -- an answer has come, a strobe has risen, it is a write
-abbrev pub passed : Bool → Bool → Bool → Progress
+abbrev pub passed : Bool → Bool → Bool → TransferState
 passed true true w = Over
 passed true false w = Answered
 passed false true true = RisenInWrite
 passed false true false = RisenInRead
 passed false false w = Fresh
 
-abbrev pub progress_place : Progress → ℕ
+abbrev pub progress_place : TransferState → ℕ
 progress_place Fresh = 0
 progress_place RisenInRead = 1
 progress_place RisenInWrite = 2
 progress_place Answered = 3
 progress_place Over = 4
 
-abbrev pub progress_nth : ℕ → Progress
+abbrev pub progress_nth : ℕ → TransferState
 progress_nth k = if k == 0 then Fresh else if k == 1 then RisenInRead else if k == 2 then RisenInWrite
     else if k == 3 then Answered else Over
 
@@ -54,7 +54,7 @@ holding_place m = progress_place m.transfer + (if m.cycle_answered then 5 else 0
 abbrev pub holding_nth : ℕ → Holding
 holding_nth k = record { transfer = progress_nth (k % 5); cycle_answered = k / 5 == 1 }
 
-placed_at : (a : Progress) (b : Bool) → progress_place a + (if b then 5 else 0) < 10
+placed_at : (a : TransferState) (b : Bool) → progress_place a + (if b then 5 else 0) < 10
 placed_at Fresh true = lit< tt
 placed_at Fresh false = lit< tt
 placed_at RisenInRead true = lit< tt
@@ -69,7 +69,7 @@ placed_at Over false = lit< tt
 pub holding_placed : (m : Holding) → holding_place m < 10
 holding_placed m = placed_at m.transfer m.cycle_answered
 
-found_at : (a : Progress) (b : Bool) → holding_nth (progress_place a + (if b then 5 else 0))
+found_at : (a : TransferState) (b : Bool) → holding_nth (progress_place a + (if b then 5 else 0))
     ≡ record { transfer = a; cycle_answered = b }
 found_at Fresh true = refl
 found_at Fresh false = refl

@@ -8,20 +8,20 @@ use Rattle.vme_trace.specs.LineNumbers.{line_count, AS, WRITE, has_line}
 use Rattle.vme_trace.specs.Levels.{Levels, level_at, is_low, is_known_on, same_level}
 use Rattle.vme_trace.specs.Data.{is_selected}
 use Rattle.vme_trace.specs.Cycle.{Needs, is_needed, is_within, needs_of}
-use Rattle.vme_trace.specs.Judged.{Span}
+use Rattle.vme_trace.specs.Judged.{Stretch}
 use Rattle.vme_trace.specs.Trace.{Trace}
 use Rattle.vme_trace.specs.declared.step.Change.{Change}
 use Rattle.vme_trace.specs.declared.rule.Rule.{Rule}
 use Rattle.vme_trace.specs.declared.rule.Rule.TheVariants.{U2, U3, U4, S1, S2, S3}
 use Rattle.vme_monitor.specs.Run.{nothing}
 use Rattle.vme_monitor.specs.declared.mark.Fault.{Fault}
-use Rattle.vme_monitor.specs.declared.mark.Kinds.{Kinds}
+use Rattle.vme_monitor.specs.declared.mark.StepMarks.{StepMarks}
 use Rattle.vme_monitor.specs.declared.mark.Next.{Next}
 use Rattle.vme_stability.specs.HoldingPlaces.{has_risen, passed, was_answered, writes_of}
 use Rattle.vme_stability.specs.declared.holding.Holding.{Holding}
-use Rattle.vme_stability.specs.declared.holding.Progress.{Progress}
-use Rattle.vme_stability.specs.declared.holding.Progress.TheVariants.{Fresh}
-use Rattle.vme_stability.specs.declared.sight.Sight.{Sight}
+use Rattle.vme_stability.specs.declared.holding.TransferState.{TransferState}
+use Rattle.vme_stability.specs.declared.holding.TransferState.TheVariants.{Fresh}
+use Rattle.vme_stability.specs.declared.observation.HoldingObservation.{HoldingObservation}
 
 abbrev pub stability_rules : List Rule
 stability_rules = U2 ∷ U3 ∷ U4 ∷ S1 ∷ S2 ∷ S3 ∷ []
@@ -91,7 +91,7 @@ direction_turned v w = not (same_level (level_at v WRITE) (level_at w WRITE))
 abbrev pub changes_holding : Levels → Levels → Bool
 changes_holding v w = answer_between v w || strobe_rises_between v w || rises_between v w AS
 
-abbrev pub sight_of : Levels → Levels → List Change → Sight
+abbrev pub sight_of : Levels → Levels → List Change → HoldingObservation
 sight_of v w cs = record {
   unknown = faults_unknown v w;
   undriven = undriven_line v w;
@@ -105,7 +105,7 @@ abbrev pub is_noticed : Levels → Levels → List Change → Bool
 is_noticed v w cs = is_some (faults_unknown v w) || is_some (address_moved v cs) || direction_turned v w
     || changes_holding v w || is_some (undriven_line v w) || is_some (shifted_line v w cs)
 
-abbrev pub stability_sight : Levels → Levels → List Change → Option Sight
+abbrev pub stability_sight : Levels → Levels → List Change → Option HoldingObservation
 stability_sight v w cs = if is_noticed v w cs then Some (sight_of v w cs) else None
 
 -- the answer of a transfer comes
@@ -138,7 +138,7 @@ writes_now m v w = if strobes_high_in v then strobe_low_in w
     && is_low (level_at w WRITE) else writes_of m.transfer (is_low (level_at v WRITE))
 
 -- what has come of the transfer after a step
-abbrev pub passed_in : Holding → Levels → Levels → Progress
+abbrev pub passed_in : Holding → Levels → Levels → TransferState
 passed_in m v w =
     passed (not (strobes_high_in w) && (was_answered m.transfer || answer_between v w))
     (not (strobes_high_in w) && (has_risen m.transfer || strobe_rises_between v w))
@@ -151,14 +151,14 @@ stepped m v w =
       cycle_answered = is_low (level_at w AS) && (m.cycle_answered || answers_in m v w);
     }
 
-abbrev pub moved_fault : Holding → Levels → Levels → Sight → Option ℕ
+abbrev pub moved_fault : Holding → Levels → Levels → HoldingObservation → Option ℕ
 moved_fault m v w seen = if keeps_address m v w then seen.moved else None
 
-abbrev pub turned_fault : Holding → Levels → Levels → Sight → Option ℕ
+abbrev pub turned_fault : Holding → Levels → Levels → HoldingObservation → Option ℕ
 turned_fault m v w seen = if keeps_direction m v w && seen.turned then Some WRITE else None
 
 -- the first rule that a change of a held line breaks
-abbrev pub held_fault : Holding → Levels → Levels → Sight → Option Fault
+abbrev pub held_fault : Holding → Levels → Levels → HoldingObservation → Option Fault
 held_fault m v w seen = option_or (fault_on S1 (moved_fault m v w seen)) (fault_on S2 (turned_fault m v w seen))
 
 -- a line, where a test holds
@@ -166,14 +166,14 @@ abbrev pub kept : Bool → Option ℕ → Option ℕ
 kept b None = None
 kept b (Some l) = if b then Some l else None
 
-abbrev pub undriven_fault : Holding → Levels → Levels → Sight → Option ℕ
+abbrev pub undriven_fault : Holding → Levels → Levels → HoldingObservation → Option ℕ
 undriven_fault m v w seen = kept (writes_now m v w) seen.undriven
 
-abbrev pub shifted_fault : Holding → Levels → Levels → Sight → Option ℕ
+abbrev pub shifted_fault : Holding → Levels → Levels → HoldingObservation → Option ℕ
 shifted_fault m v w seen = kept (keeps_data m v w) seen.shifted
 
 -- the first rule that the step breaks
-abbrev pub fault_in : Holding → Levels → Levels → Sight → Option Fault
+abbrev pub fault_in : Holding → Levels → Levels → HoldingObservation → Option Fault
 fault_in m v w seen =
     option_or seen.unknown
     (option_or (fault_on U4 (undriven_fault m v w seen))
@@ -182,15 +182,15 @@ fault_in m v w seen =
 abbrev pub stability_begin : Levels → Holding
 stability_begin v = record { transfer = Fresh; cycle_answered = false }
 
-abbrev pub stability_opens : Levels → Kinds
+abbrev pub stability_opens : Levels → StepMarks
 stability_opens v = nothing
 
 abbrev pub stability_ends : ℕ → Option Fault
 stability_ends l = None
 
-abbrev pub stability_next : Holding → Levels → Levels → Sight → Next Holding
+abbrev pub stability_next : Holding → Levels → Levels → HoldingObservation → Next Holding
 stability_next m v w seen = record { memory = stepped m v w; fault = fault_in m v w seen; kinds = nothing }
 
 -- nothing is shown
-abbrev pub stability_shown : Trace → Span → ℕ → Kinds
+abbrev pub stability_shown : Trace → Stretch → ℕ → StepMarks
 stability_shown t span j = nothing

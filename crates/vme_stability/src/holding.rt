@@ -4,11 +4,11 @@ ghost use Rattle.std.specs.Prelude.{◌≡◌};
 ghost use Rattle.vme_stability.specs.HoldingPlaces.{has_risen as risen_of, passed, progress_nth, progress_place};
 ghost use Rattle.vme_stability.specs.HoldingPlaces.{was_answered as answered_of, writes_of};
 
-use vme_monitor::machine::{Places, Small};
+use vme_monitor::machine::{Enumerable, Small};
 
 /// What has come of a transfer, so whether it is held, and for which direction.
 #[derive(Clone, Copy, PartialEq, Eq, Debug)]
-pub enum Progress {
+pub enum TransferState {
     /// No transfer is open, or nothing has come of it, so its direction is the one that WRITE* shows.
     Fresh,
     /// A data strobe has risen in a read that has had no answer.
@@ -21,17 +21,17 @@ pub enum Progress {
     Over,
 }
 
-impl Progress {
+impl TransferState {
     /// What has come of an open transfer.
-    pub(crate) fn of(answered: bool, risen: bool, writes: bool) -> Progress
+    pub(crate) fn of(answered: bool, risen: bool, writes: bool) -> TransferState
         ensures { result ≡ passed answered risen writes }
     {
         match (answered, risen, writes) {
-            (true, true, _) => Progress::Over,
-            (true, false, _) => Progress::Answered,
-            (false, true, true) => Progress::RisenInWrite,
-            (false, true, false) => Progress::RisenInRead,
-            (false, false, _) => Progress::Fresh,
+            (true, true, _) => TransferState::Over,
+            (true, false, _) => TransferState::Answered,
+            (false, true, true) => TransferState::RisenInWrite,
+            (false, true, false) => TransferState::RisenInRead,
+            (false, false, _) => TransferState::Fresh,
         }
     }
 
@@ -39,7 +39,7 @@ impl Progress {
     pub(crate) fn was_answered(self) -> bool
         ensures { result ≡ answered_of self }
     {
-        matches!(self, Progress::Answered | Progress::Over)
+        matches!(self, TransferState::Answered | TransferState::Over)
     }
 
     /// A data strobe has risen, so WRITE* isn't held any more.
@@ -48,7 +48,7 @@ impl Progress {
     {
         matches!(
             self,
-            Progress::RisenInRead | Progress::RisenInWrite | Progress::Over
+            TransferState::RisenInRead | TransferState::RisenInWrite | TransferState::Over
         )
     }
 
@@ -57,9 +57,9 @@ impl Progress {
         ensures { result ≡ writes_of self low }
     {
         match self {
-            Progress::Fresh => low,
-            Progress::RisenInWrite => true,
-            Progress::RisenInRead | Progress::Answered | Progress::Over => false,
+            TransferState::Fresh => low,
+            TransferState::RisenInWrite => true,
+            TransferState::RisenInRead | TransferState::Answered | TransferState::Over => false,
         }
     }
 
@@ -67,23 +67,23 @@ impl Progress {
         ensures { result ≡ progress_place self }
     {
         match self {
-            Progress::Fresh => 0,
-            Progress::RisenInRead => 1,
-            Progress::RisenInWrite => 2,
-            Progress::Answered => 3,
-            Progress::Over => 4,
+            TransferState::Fresh => 0,
+            TransferState::RisenInRead => 1,
+            TransferState::RisenInWrite => 2,
+            TransferState::Answered => 3,
+            TransferState::Over => 4,
         }
     }
 
-    fn nth(k: usize) -> Progress
+    fn nth(k: usize) -> TransferState
         ensures { result ≡ progress_nth k }
     {
         match k {
-            0 => Progress::Fresh,
-            1 => Progress::RisenInRead,
-            2 => Progress::RisenInWrite,
-            3 => Progress::Answered,
-            _ => Progress::Over,
+            0 => TransferState::Fresh,
+            1 => TransferState::RisenInRead,
+            2 => TransferState::RisenInWrite,
+            3 => TransferState::Answered,
+            _ => TransferState::Over,
         }
     }
 }
@@ -92,12 +92,12 @@ impl Progress {
 #[derive(Clone, Copy, PartialEq, Eq, Debug)]
 pub struct Holding {
     /// What has come of the transfer.
-    pub transfer: Progress,
+    pub transfer: TransferState,
     /// A cycle runs, and was answered, so the lines that it needs aren't held any more.
     pub cycle_answered: bool,
 }
 
-impl Places for Holding {
+impl Enumerable for Holding {
     ghost use Rattle.vme_stability.specs.HoldingPlaces.{holding_nth, holding_place, holding_found, holding_placed};
 
     ghost COUNT = { 10 };
@@ -119,7 +119,7 @@ impl Places for Holding {
 
     fn nth(k: usize) -> Holding {
         Holding {
-            transfer: Progress::nth(k % 5),
+            transfer: TransferState::nth(k % 5),
             cycle_answered: k / 5 == 1,
         }
     }

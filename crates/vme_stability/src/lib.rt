@@ -3,7 +3,7 @@
 #![tactic(auto)]
 
 pub mod holding;
-pub mod sight;
+pub mod observation;
 pub mod stability;
 
 pub use stability::Stability;

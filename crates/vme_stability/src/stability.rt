@@ -8,11 +8,11 @@ ghost use Rattle.vme_stability.specs.StabilitySpec.{answers_in, fault_in, fault_
 ghost use Rattle.vme_stability.specs.StabilitySpec.{keeps_data as keeps_data_in, shifted_fault, stability_rules};
 ghost use Rattle.vme_stability.specs.StabilitySpec.{passed_in, stability_shown, stepped, undriven_fault, writes_now};
 
-use crate::holding::{Holding, Progress};
-use crate::sight::{Sight, fault_on};
-use vme_monitor::mark::{Fault, Kinds, NOTHING, Next};
+use crate::holding::{Holding, TransferState};
+use crate::observation::{HoldingObservation, fault_on};
+use vme_monitor::mark::{Fault, NOTHING, Next, StepMarks};
 use vme_monitor::monitor::Monitor;
-use vme_monitor::spanned::{Rules, Within};
+use vme_monitor::over_stretches::{RuleMonitor, Rules};
 use vme_trace::edges::{answer_falls, has_strobe_low, has_strobes_high, rises, strobe_rises};
 use vme_trace::{Change, Line, Lines, Rule};
 
@@ -58,18 +58,18 @@ impl Holding {
     /// What has come of the transfer after a step: mostly no more than before.
     #[inline(always)]
     #[tactic(auto, using(crate::proofs::Passing::passed_same))]
-    fn passed(self, before: &Lines, after: &Lines) -> Progress
+    fn passed(self, before: &Lines, after: &Lines) -> TransferState
         ensures { result ≡ passed_in self before.now after.now }
     {
         if has_strobes_high(after) {
-            return Progress::Fresh;
+            return TransferState::Fresh;
         }
         let answers = answer_falls(before, after);
         let rises = strobe_rises(before, after);
         if !answers && !rises {
             return self.transfer;
         }
-        Progress::of(
+        TransferState::of(
             self.transfer.was_answered() || answers,
             self.transfer.has_risen() || rises,
             self.transfer.writes(before.level(Line::WRITE).is_low()),
@@ -90,7 +90,7 @@ impl Holding {
 
     /// The first rule that is broken by a change of what is held.
     #[inline(always)]
-    fn broken(self, before: &Lines, after: &Lines, seen: &Sight) -> Option<Fault>
+    fn broken(self, before: &Lines, after: &Lines, seen: &HoldingObservation) -> Option<Fault>
         ensures { result ≡ held_fault self before.now after.now seen.now }
     {
         if seen.moved.is_some() && self.keeps_address(before, after) {
@@ -126,7 +126,7 @@ impl Holding {
 
     /// The data line of a write that isn't known as a strobe falls.
     #[inline(always)]
-    fn undriven(self, before: &Lines, after: &Lines, seen: &Sight) -> Option<Fault>
+    fn undriven(self, before: &Lines, after: &Lines, seen: &HoldingObservation) -> Option<Fault>
         ensures { result ≡ fault_on_line U4 (undriven_fault self before.now after.now seen.now) }
     {
         match seen.undriven {
@@ -146,7 +146,7 @@ impl Holding {
 
     /// The data line of a write that changes while it is held.
     #[inline(always)]
-    fn shifted(self, before: &Lines, after: &Lines, seen: &Sight) -> Option<Fault>
+    fn shifted(self, before: &Lines, after: &Lines, seen: &HoldingObservation) -> Option<Fault>
         ensures { result ≡ fault_on_line S3 (shifted_fault self before.now after.now seen.now) }
     {
         match seen.shifted {
@@ -168,7 +168,7 @@ impl Holding {
     /// registers wherever this isn't called.
     #[cold]
     #[inline(never)]
-    fn any_fault(self, before: &Lines, after: &Lines, seen: Sight) -> Option<Fault>
+    fn any_fault(self, before: &Lines, after: &Lines, seen: HoldingObservation) -> Option<Fault>
         ensures { result ≡ fault_in self before.now after.now seen }
     {
         match seen.unknown {
@@ -185,7 +185,7 @@ impl Holding {
 
     /// The same; most steps show nothing unknown, undriven or shifted.
     #[inline(always)]
-    fn fault(self, before: &Lines, after: &Lines, seen: &Sight) -> Option<Fault>
+    fn fault(self, before: &Lines, after: &Lines, seen: &HoldingObservation) -> Option<Fault>
         ensures { result ≡ fault_in self before.now after.now seen.now }
     {
         match (seen.unknown, seen.undriven, seen.shifted) {
@@ -202,7 +202,7 @@ impl Rules for StabilityRules {
 
     type Memory = Holding;
 
-    type Seen = Sight;
+    type Observation = HoldingObservation;
 
     ghost begin = { stability_begin };
 
@@ -212,22 +212,22 @@ impl Rules for StabilityRules {
 
     ghost ends = { stability_ends };
 
-    ghost sight = { stability_sight };
+    ghost observation = { stability_sight };
 
     ghost next = { stability_next };
 
     fn at_start(_lines: &Lines) -> Holding {
         Holding {
-            transfer: Progress::Fresh,
+            transfer: TransferState::Fresh,
             cycle_answered: false,
         }
     }
 
-    fn shown_at_start(_lines: &Lines) -> Kinds {
+    fn shown_at_start(_lines: &Lines) -> StepMarks {
         NOTHING
     }
 
-    fn shown_at_reset() -> Kinds {
+    fn shown_at_reset() -> StepMarks {
         NOTHING
     }
 
@@ -236,12 +236,17 @@ impl Rules for StabilityRules {
     }
 
     #[inline(always)]
-    fn see(before: &Lines, after: &Lines, changes: &[Change]) -> Option<Sight> {
-        Sight::of(before, after, changes)
+    fn observe(before: &Lines, after: &Lines, changes: &[Change]) -> Option<HoldingObservation> {
+        HoldingObservation::of(before, after, changes)
     }
 
     #[inline(always)]
-    fn step(memory: Holding, before: &Lines, after: &Lines, seen: &Sight) -> Next<Holding> {
+    fn step(
+        memory: Holding,
+        before: &Lines,
+        after: &Lines,
+        seen: &HoldingObservation,
+    ) -> Next<Holding> {
         Next {
             memory: memory.after_step(before, after),
             fault: memory.fault(before, after, seen),
@@ -254,7 +259,7 @@ impl Rules for StabilityRules {
 /// starts), U4 (a data line that a write moves is unknown as a data strobe falls), S1 (a line that a cycle needs
 /// changes before the first answer of the cycle), S2 (WRITE* changes in a transfer before a data strobe rises) and S3
 /// (a data line that a write moves changes before the answer and before a data strobe rises).
-pub type Stability = Within<StabilityRules>;
+pub type Stability = RuleMonitor<StabilityRules>;
 
 /// Over a whole capture, the event is the least break of U2, U3, U4, S1, S2 and S3, and there are no marks.
 pub fn stability_over_captures()

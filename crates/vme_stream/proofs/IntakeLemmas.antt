@@ -8,7 +8,7 @@ use Rattle.std.proofs.lemmas.List.Edits.{take-paste}
 use Rattle.std.specs.Io.KnownBytes.{Consumes, IsAtEnd}
 use Rattle.std.proofs.KnownBytes.{Consumes-trans}
 use Rattle.vme_stream.specs.Inputs.{IsReading, longest_input, most_reads}
-use Rattle.vme_stream.specs.Intakes.{Passes}
+use Rattle.vme_stream.specs.ByteConsumers.{ContinuesAs}
 use Rattle.vme_stream.proofs.InputLemmas.{gives_more, reads_more, read_to_end}
 use Rattle.vme_trace.specs.Streams.{Reading}
 
@@ -22,9 +22,9 @@ pub record IsUnderway {O : Type 0} (old now : Reading) (first here : List ℕ �
   pub read : Consumes old.left now.left (done ++ take filled buffer)
   pub reads_are : now.reads ≡ old.reads + reads
   pub failures : now.failures ≡ old.failures
-  pub passes : Passes first here done
+  pub passes : ContinuesAs first here done
 
-passes-on : {O : Type 0} (first here next : List ℕ → O) (xs ys : List ℕ) → Passes first here xs → Passes here next ys → Passes first next (xs ++ ys)
+passes-on : {O : Type 0} (first here next : List ℕ → O) (xs ys : List ℕ) → ContinuesAs first here xs → ContinuesAs here next ys → ContinuesAs first next (xs ++ ys)
 passes-on first here next xs ys one two rest = ap first (append_assoc xs ys rest) ∙ one (ys ++ rest) ∙ two rest
 
 module _ {O : Type 0} (old now : Reading) (first here : List ℕ → O) (buffer done : List ℕ) (taken filled reads : ℕ) (u : IsUnderway old now first here buffer done taken filled reads) where
@@ -40,7 +40,7 @@ module _ {O : Type 0} (old now : Reading) (first here : List ℕ → O) (buffer 
 
   -- some of what is held is taken
   module _ (limit : taken + filled ≤ longest_input) (next : List ℕ → O) (after : List ℕ) (count : ℕ) (within : count ≤ filled) (room : filled - count < length after)
-      (left : take (filled - count) after ≡ drop count (take filled buffer)) (passed : Passes here next (take count buffer)) where
+      (left : take (filled - count) after ≡ drop count (take filled buffer)) (passed : ContinuesAs here next (take count buffer)) where
     same_read : all_read ≡ (done ++ take count buffer) ++ take (filled - count) after
     same_read =
         ap (λ (xs : List ℕ). done ++ xs) (sym (take-append-drop count (take filled buffer)) ∙ ap (λ (xs : List ℕ). xs ++ drop count (take filled buffer)) (take-take count filled buffer within) ∙ ap (λ (xs : List ℕ). take count buffer ++ xs) (sym left))

@@ -5,7 +5,7 @@ use Rattle.vme_stream.specs.declared.input.InFault.{InFault}
 use Rattle.vme_stream.specs.declared.input.InFault.TheVariants.{Read, TooLong, Memory}
 
 -- it failed, or there was no memory for it
-abbrev pub FailsBy : Reading → Reading → InFault → Type 0
-FailsBy old new Read = new.failures ≡ suc old.failures
-FailsBy old new TooLong = ⊥
-FailsBy old new Memory = new.failures ≡ old.failures
+abbrev pub InputFailsBy : Reading → Reading → InFault → Type 0
+InputFailsBy old new Read = new.failures ≡ suc old.failures
+InputFailsBy old new TooLong = ⊥
+InputFailsBy old new Memory = new.failures ≡ old.failures

@@ -1,4 +1,4 @@
 pub mod InFaults
 pub mod Inputs
-pub mod Intakes
+pub mod ByteConsumers
 pub mod Outputs

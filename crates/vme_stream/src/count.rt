@@ -7,26 +7,26 @@ use std::marker::Model;
 
 /// A natural number, as large as it gets. Clauses read it; in the program it is nothing.
 #[derive(Drop)]
-pub struct Count {
+pub struct GhostCount {
     pub ghost number: { ℕ },
 }
 
-impl Model for Count {
+impl Model for GhostCount {
     ghost also_owns = { λ _. ftrue };
 }
 
-impl Count {
+impl GhostCount {
     /// Nothing was counted.
-    pub fn new() -> Count
+    pub fn new() -> GhostCount
         ensures { result.number ≡ 0 }
     {
-        Count {}
+        GhostCount {}
     }
 
     /// One more was counted.
-    pub fn next(&self) -> Count
+    pub fn next(&self) -> GhostCount
         ensures { result.number ≡ suc self.now.number }
     {
-        Count {}
+        GhostCount {}
     }
 }

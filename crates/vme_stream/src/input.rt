@@ -5,7 +5,7 @@ ghost use Rattle.std.specs.Prelude.{OnOk, vec_len};
 ghost use Rattle.std.specs.Io.KnownBytes.{Consumes, IsAtEnd};
 ghost use Rattle.vme_stream.specs.declared.input.InFault.TheVariants.{Memory};
 ghost use Rattle.vme_stream.specs.Inputs.{IsInTime, IsReading, longest_input, most_reads};
-ghost use Rattle.vme_stream.specs.InFaults.{FailsBy};
+ghost use Rattle.vme_stream.specs.InFaults.{InputFailsBy};
 ghost use Rattle.vme_trace.specs.Streams.{CountsFailure, CountsRead};
 
 use std::alloc::{AllocError, Global};
@@ -91,7 +91,7 @@ fn read_chunk<R: Source>(
     ensures end { IfOk result (λ n. n ≡ 0 → IsAtEnd (R.reading source.new).left) }
     ensures reads { CountsRead (R.reading source.old).reads (R.reading source.new).reads result }
     ensures ok { OnOk result ((R.reading source.new).failures ≡ (R.reading source.old).failures) }
-    ensures err { IfErr result (FailsBy (R.reading source.old) (R.reading source.new)) }
+    ensures err { IfErr result (InputFailsBy (R.reading source.old) (R.reading source.new)) }
 {
     make_room(bytes, filled)?;
     read_behind(source, bytes, filled)
@@ -111,7 +111,7 @@ pub(crate) fn read_behind<R: Source>(
     ensures end { IfOk result (λ n. n ≡ 0 → IsAtEnd (R.reading source.new).left) }
     ensures reads { CountsRead (R.reading source.old).reads (R.reading source.new).reads result }
     ensures ok { OnOk result ((R.reading source.new).failures ≡ (R.reading source.old).failures) }
-    ensures err { IfErr result (FailsBy (R.reading source.old) (R.reading source.new)) }
+    ensures err { IfErr result (InputFailsBy (R.reading source.old) (R.reading source.new)) }
 {
     read_at(source, bytes.as_mut_slice(), filled).map_err(|_| InFault::Read)
 }

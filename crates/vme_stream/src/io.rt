@@ -4,7 +4,7 @@ ghost use Rattle.std.specs.Prelude.{◌≡◌, ◌<◌, length, take, Some, IfOk
 ghost use Rattle.std.specs.Io.{ReadsAtMost, WritesAtMost};
 ghost use Rattle.std.specs.Io.KnownBytes.{Appends, Consumes, IsAtEnd, Keeps};
 
-use crate::count::Count;
+use crate::count::GhostCount;
 use std::io::{ErrorKind, Read, Write};
 use vme_trace::{Failed, Sink, Source};
 
@@ -17,8 +17,8 @@ const MOST_TRIES: u32 = 1_000_000;
 #[derive(Drop)]
 pub struct Io<T> {
     inner: T,
-    reads: Count,
-    failures: Count,
+    reads: GhostCount,
+    failures: GhostCount,
 }
 
 impl<T> Io<T> {
@@ -30,8 +30,8 @@ impl<T> Io<T> {
     {
         Io {
             inner,
-            reads: Count::new(),
-            failures: Count::new(),
+            reads: GhostCount::new(),
+            failures: GhostCount::new(),
         }
     }
 }
@@ -118,7 +118,7 @@ fn write_retrying<W: Write>(writer: &mut W, bytes: &[u8]) -> Result<usize, Faile
 #[derive(Drop)]
 pub struct Bytes<'a> {
     left: &'a [u8],
-    reads: Count,
+    reads: GhostCount,
 }
 
 impl<'a> Bytes<'a> {
@@ -129,7 +129,7 @@ impl<'a> Bytes<'a> {
     {
         Bytes {
             left: bytes,
-            reads: Count::new(),
+            reads: GhostCount::new(),
         }
     }
 }

@@ -6,15 +6,15 @@
 //! calls failed. Start reading at `specs/Inputs` and `specs/Outputs`.
 #![tactic(auto)]
 
+mod byte_consumer;
 mod count;
 mod input;
-mod intake;
 mod io;
 mod message;
 mod output;
 
+pub use byte_consumer::{ByteConsumer, read_by};
 pub use input::{InFault, read_all};
-pub use intake::{Intake, read_by};
 pub use io::{Bytes, Io};
 pub use message::Message;
 pub use output::{complain, write_all, write_message};

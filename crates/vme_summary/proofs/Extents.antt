@@ -13,7 +13,7 @@ use Rattle.vme_summary.specs.Summaries.{SummaryStandsFor, SummaryStandsForBoth}
 use Rattle.vme_summary.specs.Stands.{IsExtent, Meets, SpanStandsFor, joined_extent}
 use Rattle.vme_summary.specs.declared.extent.Extent.{Extent}
 use Rattle.vme_summary.specs.declared.span.Span.{Span}
-use Rattle.vme_summary.specs.declared.summary.Summary.{Summary}
+use Rattle.vme_summary.specs.declared.summary.MonitorSummaries.{MonitorSummaries}
 use Rattle.vme_summary.proofs.Times.{first_time-append, last_or-append, last_time-append}
 use Rattle.vme_summary.proofs.Chains.{Boundary, chain_joins, chain_of, joins_apart, joins_together, last_left, last_number, left_after, left_by_all, number_after, steps-append}
 
@@ -98,7 +98,7 @@ pub one_sound : (b : Block) → malformed_step (trace_of b) ≡ None → All (λ
 one_sound b e zero d below = e
 one_sound b e (suc k) d below = absurd (omega arith)
 
-pub spans_joined : (s t : Span) (e : Extent) (r : Summary) → e ≡ joined_extent s.extent t.extent → Meets s.extent t.extent
+pub spans_joined : (s t : Span) (e : Extent) (r : MonitorSummaries) → e ≡ joined_extent s.extent t.extent → Meets s.extent t.extent
     → SummaryStandsForBoth s.summary t.summary r
     → (x y : List Block) → SpanStandsFor s x → SpanStandsFor t y → SpanStandsFor (record { extent = e; summary = r }) (x ++ y)
 spans_joined s t e r same m both x y p q =

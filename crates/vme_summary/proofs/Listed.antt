@@ -15,9 +15,9 @@ use Rattle.vme_summary.specs.MarkedRows.{listed}
 use Rattle.vme_summary.specs.Stands.{IsListingOf, StandsForBlocks}
 use Rattle.vme_summary.specs.Progressed.{HasFoundAll}
 use Rattle.vme_summary.specs.Summaries.{StandsForAll, first_break, summary_steps}
-use Rattle.vme_summary.specs.declared.found.Found.{Found}
+use Rattle.vme_summary.specs.declared.monitor_states.MonitorStates.{MonitorStates}
 use Rattle.vme_summary.specs.declared.span.Span.{Span}
-use Rattle.vme_summary.specs.declared.summary.Summary.{Summary}
+use Rattle.vme_summary.specs.declared.summary.MonitorSummaries.{MonitorSummaries}
 use Rattle.vme_summary.proofs.MarkedListing.{marked_is_listed}
 use Rattle.vme_summary.proofs.Whole.{FindsFrom, found_all, span_of_all}
 
@@ -27,8 +27,8 @@ listing_at t judged event opening marks started first opens seen =
     cc
 
 -- it is made of what is found from the opening on, and of the marks
-pub listing_found : (s : Summary) (o : Levels) (t : Trace) → StandsForAll s o t
-    → (f : Found) → FindsFrom s o f
+pub listing_found : (s : MonitorSummaries) (o : Levels) (t : Trace) → StandsForAll s o t
+    → (f : MonitorStates) → FindsFrom s o f
     → (judged : Bool) → ((t : Trace) → HasFoundAll f t → judged ≡ has_span (judged_spans t))
     → (event : Option Break) → ((t : Trace) → HasFoundAll f t → event ≡ first_break t)
     → (marks : List Mark) → ((t : Trace) → StandsForAll s o t → marks ≡ all_marks t) → listing_of t ≡ in_newest_version (listed o judged event marks)
@@ -37,7 +37,7 @@ listing_found s o t all f finds judged started event first marks seen =
     ap in_newest_version (listing_at t judged event o marks (started t found) (first t found) all.opens (seen t all))
 
 -- a law of the listings of recordings holds of it
-pub placed_found : (s : Summary) (o : Levels) (t : Trace) → StandsForAll s o t → summary_steps s < 2 ^ 32
+pub placed_found : (s : MonitorSummaries) (o : Levels) (t : Trace) → StandsForAll s o t → summary_steps s < 2 ^ 32
     → ((t : Trace) → t.opening.slots ≤ 21 → length t.steps < 2 ^ 32 → is_well_placed (listing_of t) ≡ true) → is_well_placed (listing_of t) ≡ true
 placed_found s o t all counted law = law t all.few (omega (arith, all.stands.known.counted, counted))
 

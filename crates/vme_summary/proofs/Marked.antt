@@ -5,10 +5,10 @@ use Rattle.vme_trace.specs.Trace.{levels_after}
 use Rattle.vme_trace.specs.declared.step.Step.{Step}
 use Rattle.vme_monitor.specs.Runs.{levels_after-append}
 use Rattle.vme_summary.specs.Progressed.{HasMarked, IsMarkedOf, StandsSoFar}
-use Rattle.vme_summary.specs.declared.judgement.Judgement.{Judgement}
-use Rattle.vme_summary.specs.declared.summary.Summary.{Summary}
+use Rattle.vme_summary.specs.declared.chunk_summary.ChunkSummary.{ChunkSummary}
+use Rattle.vme_summary.specs.declared.summary.MonitorSummaries.{MonitorSummaries}
 
 -- what goes on past further steps knows the lines that they leave
-pub marked_on : (j : Judgement) (s : Option Summary) (o : Levels) (x y : List Step)
+pub marked_on : (j : ChunkSummary) (s : Option MonitorSummaries) (o : Levels) (x y : List Step)
     → StandsSoFar s o (x ++ y) → IsMarkedOf j (levels_after o x) y → HasMarked (record { left = j.left; summary = s }) o (x ++ y)
 marked_on j s o x y stands made = record { left = made.left ∙ sym (levels_after-append x y o); stands = stands }

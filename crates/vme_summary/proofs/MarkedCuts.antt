@@ -2,11 +2,11 @@
 use Rattle.std.proofs.Common.{◌≡◌, ℕ, zero, suc, ◌+◌, ◌-◌, ◌<◌, ◌≤◌, Bool, true, false, ◌&&◌, List, [], ◌∷◌, ◌++◌, map, refl, sym, ◌∙◌, ap, arith, cond, append_assoc, append-nil}
 use Rattle.std.specs.Prelude.{nat_lt, nat_le}
 use Rattle.std.proofs.lemmas.Bool.Decides.{nat_tests}
-use Rattle.vme_trace.specs.Judged.{Span}
+use Rattle.vme_trace.specs.Judged.{Stretch}
 use Rattle.vme_monitor.specs.Run.{mark_at, kinds_of}
 use Rattle.vme_monitor.specs.Shows.{marks_on, marks_until}
-use Rattle.vme_monitor.specs.declared.mark.Kind.{Kind}
-use Rattle.vme_monitor.specs.declared.mark.Kinds.{Kinds}
+use Rattle.vme_monitor.specs.declared.mark.MarkKind.{MarkKind}
+use Rattle.vme_monitor.specs.declared.mark.StepMarks.{StepMarks}
 use Rattle.vme_monitor.specs.declared.mark.Mark.{Mark}
 use Rattle.vme_dtb.proofs.Searches.{lt_fails, lt_holds}
 use Rattle.vme_summary.specs.MarkedRows.{marks_before}
@@ -25,12 +25,12 @@ third_fails true false c e = refl
 third_fails false b c e = refl
 
 -- marks of an instant before the end are kept
-cut_kept : (end j : ℕ) (ks : List Kind) (ms : List Mark) → j < end → marks_before end (map (mark_at j) ks ++ ms) ≡ map (mark_at j) ks ++ marks_before end ms
+cut_kept : (end j : ℕ) (ks : List MarkKind) (ms : List Mark) → j < end → marks_before end (map (mark_at j) ks ++ ms) ≡ map (mark_at j) ks ++ marks_before end ms
 cut_kept end j [] ms h = refl
 cut_kept end j (k ∷ ks) ms h = rw (lt_holds j end h) (ap (λ x. mark_at j k ∷ x) (cut_kept end j ks ms h))
 
 -- and those of one from the end on aren't
-cut_none : (end j : ℕ) (ks : List Kind) → end ≤ j → marks_before end (map (mark_at j) ks) ≡ []
+cut_none : (end j : ℕ) (ks : List MarkKind) → end ≤ j → marks_before end (map (mark_at j) ks) ≡ []
 cut_none end j [] h = refl
 cut_none end j (k ∷ ks) h = rw (lt_fails j end h) refl
 
@@ -39,7 +39,7 @@ pub cut_first : (end : ℕ) (xs ys : List Mark) → marks_before end ys ≡ [] �
 cut_first end [] ys h = h
 cut_first end (x ∷ xs) ys h = ap (λ r. cond (nat_lt x.instant end) (x ∷ r) []) (cut_first end xs ys h)
 
-module _ (span : Span) (shown : ℕ → Kinds) where
+module _ (span : Stretch) (shown : ℕ → StepMarks) where
   on_kept : (end j : ℕ) (c : Bool) (ms : List Mark) → j < end → marks_before end (cond c (map (mark_at j) (kinds_of (shown j))) [] ++ ms) ≡ cond c (map (mark_at j) (kinds_of (shown j))) [] ++ marks_before end ms
   on_kept end j true ms h = cut_kept end j (kinds_of (shown j)) ms h
   on_kept end j false ms h = refl
@@ -112,7 +112,7 @@ module _ (span : Span) (shown : ℕ → Kinds) where
       whole = omega arith
 
 -- marks that are the same at each instant
-pub until_alike : (span : Span) (a b : ℕ → Kinds) (n : ℕ) → ((j : ℕ) → j < n → a j ≡ b j) → marks_until span a n ≡ marks_until span b n
+pub until_alike : (span : Stretch) (a b : ℕ → StepMarks) (n : ℕ) → ((j : ℕ) → j < n → a j ≡ b j) → marks_until span a n ≡ marks_until span b n
 until_alike span a b zero alike = refl
 until_alike span a b (suc n) alike =
     ap (λ xs. xs ++ marks_on span a n) (until_alike span a b n (λ j h. alike j (omega arith)))

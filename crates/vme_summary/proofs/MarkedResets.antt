@@ -4,8 +4,8 @@ use Rattle.std.specs.Option.{option_map_or, option_to_list}
 use Rattle.vme_listing.specs.declared.row.Direction.{Direction}
 use Rattle.vme_listing.specs.declared.row.Row.TheVariants as row
 use Rattle.vme_monitor.specs.Run.{mark_at}
-use Rattle.vme_monitor.specs.declared.mark.Kind.{Kind}
-use Rattle.vme_monitor.specs.declared.mark.Kind.TheVariants as kind
+use Rattle.vme_monitor.specs.declared.mark.MarkKind.{MarkKind}
+use Rattle.vme_monitor.specs.declared.mark.MarkKind.TheVariants as kind
 use Rattle.vme_monitor.specs.declared.mark.Mark.{Mark}
 use Rattle.vme_summary.specs.MarkedRows.{answer_of, cycle_after, first_instant, is_close, is_cycle_end, is_reset, is_tenure_end, is_transfer, marked_answer, marked_cycle, marked_direction, marked_transfer, row_of, rows_of}
 
@@ -14,7 +14,7 @@ module _ (w : ℕ) (rest : List Mark) where
   abbrev with_reset : List Mark → List Mark
   with_reset ms = ms ++ mark_at w kind.Reset ∷ rest
 
-  instant_is : (is : Kind → Bool) → is kind.Reset ≡ false → (ms : List Mark) → first_instant is (with_reset ms) ≡ first_instant is ms
+  instant_is : (is : MarkKind → Bool) → is kind.Reset ≡ false → (ms : List Mark) → first_instant is (with_reset ms) ≡ first_instant is ms
   instant_is is h [] = rw h refl
   instant_is is h (m ∷ ms) = ap (λ o. cond (is m.kind) (Some m.instant) (cond (is_reset m.kind) None o)) (instant_is is h ms)
 
@@ -24,7 +24,7 @@ module _ (w : ℕ) (rest : List Mark) where
       ap (λ r. option_map_or (marked_answer i d close m.instant latest) (answer_of m.kind) (cond (is_transfer m.kind || is_reset m.kind) (row.PendingTransfer i d) r))
       (transfer_is i d close (cycle_after latest m) ms)
 
-  row_is : (latest : Option ℕ) (i : ℕ) (ms : List Mark) (k : Kind) → row_of latest i (with_reset ms) k ≡ row_of latest i ms k
+  row_is : (latest : Option ℕ) (i : ℕ) (ms : List Mark) (k : MarkKind) → row_of latest i (with_reset ms) k ≡ row_of latest i ms k
   row_is latest i ms kind.Open = ap (λ o. Some (row.OpenTenure i o)) (instant_is is_tenure_end refl ms)
   row_is latest i ms (kind.Tenure level slot) = ap (λ o. Some (row.Tenure i level slot o)) (instant_is is_tenure_end refl ms)
   row_is latest i ms (kind.Cycle c modifier address) = ap (λ o. Some (marked_cycle i modifier address o c)) (instant_is is_cycle_end refl ms)

@@ -6,15 +6,15 @@ use Rattle.vme_trace.specs.LineNumbers.{BBSY}
 use Rattle.vme_trace.specs.Levels.{is_idle, is_low, level_at}
 use Rattle.vme_trace.specs.Trace.{Trace, levels_at}
 use Rattle.vme_trace.specs.Signals.{low}
-use Rattle.vme_trace.specs.Judged.{Span, is_reset_at}
+use Rattle.vme_trace.specs.Judged.{Stretch, is_reset_at}
 use Rattle.vme_trace.specs.Cycles.{cycle_starts}
 use Rattle.vme_listing.specs.Recorded.{cycle_rows, rows_before, tenure_rows, transfer_rows}
 use Rattle.vme_listing.specs.declared.row.Row.{Row}
 use Rattle.vme_listing.specs.declared.row.Row.TheVariants as row
 use Rattle.vme_monitor.specs.Run.{mark_at, kinds_of, nothing}
 use Rattle.vme_monitor.specs.Shows.{marks_on, marks_until}
-use Rattle.vme_monitor.specs.declared.mark.Kind.TheVariants as kind
-use Rattle.vme_monitor.specs.declared.mark.Kinds.{Kinds}
+use Rattle.vme_monitor.specs.declared.mark.MarkKind.TheVariants as kind
+use Rattle.vme_monitor.specs.declared.mark.StepMarks.{StepMarks}
 use Rattle.vme_monitor.specs.declared.mark.Mark.{Mark}
 use Rattle.vme_dtb.proofs.Searches.{greatest_before, le_holds, lt_holds}
 use Rattle.vme_monitor.specs.KnownSpec.{known_resets}
@@ -36,10 +36,10 @@ before_or_from : (i s : ℕ) → (i < s) ⊎ (s ≤ i)
 before_or_from i s = grind arith
 
 -- the marks of one instant
-abbrev pub pieces : (ℕ → Kinds) → ℕ → List Mark
+abbrev pub pieces : (ℕ → StepMarks) → ℕ → List Mark
 pieces shown j = map (mark_at j) (kinds_of (shown j))
 
-module _ (shown : ℕ → Kinds) (unreset : (j : ℕ) → (shown j).reset ≡ false) where
+module _ (shown : ℕ → StepMarks) (unreset : (j : ℕ) → (shown j).reset ≡ false) where
   put_more : (i : ℕ) (xs ys : List Mark) → all_put i (shown i) (xs ++ ys) ≡ all_put i (shown i) xs ++ ys
   put_more i xs ys =
       sym (all_put_is i (shown i) (xs ++ ys) (unreset i))
@@ -60,7 +60,7 @@ module _ (shown : ℕ → Kinds) (unreset : (j : ℕ) → (shown j).reset ≡ fa
       more : suc i + n ≡ i + suc n
       more = omega arith
 
-module _ (t : Trace) (span : Span) where
+module _ (t : Trace) (span : Stretch) where
   -- what is shown at the opening
   opening_by : (b c : Bool) → cond b (mark_at 0 kind.Start ∷ cond c (mark_at 0 kind.Open ∷ []) []) [] ≡ map (mark_at 0) (kinds_of (record nothing { start = b; opened = b && c }))
   opening_by true true = refl

@@ -12,27 +12,27 @@ use Rattle.vme_trace.specs.declared.step.Step.{Step}
 use Rattle.vme_monitor.specs.Outcome.{Outcome, earlier, shifted_break}
 use Rattle.vme_monitor.specs.Run.{run_of}
 use Rattle.vme_monitor.specs.Runs.{levels_after-append, run_joined}
-use Rattle.vme_monitor.specs.Silence.{FindsFor}
+use Rattle.vme_monitor.specs.WithoutMarks.{FindsFor}
 use Rattle.vme_monitor.specs.declared.mark.Next.{Next}
 use Rattle.vme_summary.specs.Summaries.{SummaryStandsFor, stands_finds_all, summary_steps}
 use Rattle.vme_summary.specs.Joins.{BlocksJoin}
 use Rattle.vme_summary.specs.Stands.{IsExtent, Meets, SpanStandsFor, first_number, joined_extent, recorded, step_count}
-use Rattle.vme_summary.specs.Progressed.{FoundAfter, HasCome, HasFound, HasFoundAll, HasJudged, HasSeen, IsFoundOf, judged_steps}
+use Rattle.vme_summary.specs.Progressed.{FoundAfter, HasCome, HasFound, HasFoundAll, HasJudged, HasMonitorState, IsFoundOf, judged_steps}
 use Rattle.vme_summary.specs.declared.extent.Extent.{Extent}
-use Rattle.vme_summary.specs.declared.found.Found.{Found}
-use Rattle.vme_summary.specs.declared.progress.Progress.{Progress}
-use Rattle.vme_summary.specs.declared.found.Seen.{Seen}
-use Rattle.vme_summary.specs.declared.judgement.Judgement.{Judgement}
-use Rattle.vme_summary.specs.declared.judging.Judging.{Judging}
+use Rattle.vme_summary.specs.declared.monitor_states.MonitorStates.{MonitorStates}
+use Rattle.vme_summary.specs.declared.running_verdict.RunningVerdict.{RunningVerdict}
+use Rattle.vme_summary.specs.declared.monitor_states.MonitorState.{MonitorState}
+use Rattle.vme_summary.specs.declared.chunk_summary.ChunkSummary.{ChunkSummary}
+use Rattle.vme_summary.specs.declared.verdict_state.VerdictState.{VerdictState}
 use Rattle.vme_summary.specs.declared.span.Span.{Span}
 use Rattle.vme_summary.proofs.Chains.{steps-append}
 use Rattle.vme_summary.proofs.Extents.{extent_joined, left_by_steps}
 use Rattle.vme_summary.proofs.Whole.{joined_sound}
 
 -- what a monitor sees of further steps from the memory that it is in
-pub seen_after : {P : Type 0} (next : P → Levels → Levels → List Change → Next P) (begin : Levels → P) (says : P → Outcome P) (count n : ℕ) (a b : Seen P) (o : Levels) (x y : List Step)
+pub seen_after : {P : Type 0} (next : P → Levels → Levels → List Change → Next P) (begin : Levels → P) (says : P → Outcome P) (count n : ℕ) (a b : MonitorState P) (o : Levels) (x y : List Step)
     → b.memory ≡ (says a.memory).leaving → b.event ≡ earlier a.event (option_map (shifted_break n) (says a.memory).event) → n ≡ length x
-    → HasSeen (run_of next) begin a o x → FindsFor (run_of next) says count (levels_after o x) y → HasSeen (run_of next) begin b o (x ++ y)
+    → HasMonitorState (run_of next) begin a o x → FindsFor (run_of next) says count (levels_after o x) y → HasMonitorState (run_of next) begin b o (x ++ y)
 seen_after {P} next begin says count n a b o x y m e long seen finds =
     let after = levels_after o x in
     let so_far = run_of next (begin o) o x in
@@ -48,7 +48,7 @@ seen_after {P} next begin says count n a b o x y m e long seen finds =
           ∙ sym (ap (λ (r : Outcome P). r.event) whole);
     }
 
-pub come_after : (p : Progress) (s : Span) (e : Extent) (n : ℕ) (f : Found) → e ≡ joined_extent p.extent s.extent → n ≡ p.steps + summary_steps s.summary → Meets p.extent s.extent
+pub come_after : (p : RunningVerdict) (s : Span) (e : Extent) (n : ℕ) (f : MonitorStates) → e ≡ joined_extent p.extent s.extent → n ≡ p.steps + summary_steps s.summary → Meets p.extent s.extent
     → FoundAfter p.found p.steps s.summary f
     → (x y : List Block) → HasCome p x → SpanStandsFor s y → HasCome (record { extent = e; steps = n; found = f }) (x ++ y)
 come_after p s e n f same count m found x y c q =
@@ -63,7 +63,7 @@ come_after p s e n f same count m found x y c q =
       found = subst (λ (k : Extent). HasFound f k.opening (joined_steps (x ++ y))) (sym same) (subst (λ (steps : List Step). HasFound f p.extent.opening steps) (sym steps) whole);
     }
 
-pub past_recording : (p : Progress) → p.extent.opening.slots ≤ 21 → (v : Verdict) → ((t : Trace) → HasFoundAll p.found t → verdict_by rules_in_force t ≡ v) → (blocks : List Block) → HasCome p blocks → recorded (verdict_by rules_in_force) blocks ≡ Some v
+pub past_recording : (p : RunningVerdict) → p.extent.opening.slots ≤ 21 → (v : Verdict) → ((t : Trace) → HasFoundAll p.found t → verdict_by rules_in_force t ≡ v) → (blocks : List Block) → HasCome p blocks → recorded (verdict_by rules_in_force) blocks ≡ Some v
 past_recording p few v found [] c = let none : None ≡ Some p.extent.first = c.extent.first in absurd (cc)
 past_recording p few v found (b ∷ bs) c =
     let opens : Some b.opening ≡ Some p.extent.opening = c.extent.opening in
@@ -77,7 +77,7 @@ past_recording p few v found (b ∷ bs) c =
     }))
 
 -- how many steps there are
-pub come_steps : (p : Progress) (blocks : List Block) → HasCome p blocks → judged_steps p ≡ length (joined_steps blocks)
+pub come_steps : (p : RunningVerdict) (blocks : List Block) → HasCome p blocks → judged_steps p ≡ length (joined_steps blocks)
 come_steps p blocks c = c.steps
 
 pub span_steps : (s : Span) (blocks : List Block) → SpanStandsFor s blocks → step_count s ≡ length (joined_steps blocks)
@@ -88,11 +88,11 @@ pub span_first : (s : Span) (b : Block) (bs : List Block) → SpanStandsFor s (b
 span_first s b bs p = let first : Some b.number ≡ Some s.extent.first = p.extent.first in cc
 
 -- blocks that judging has come past join
-pub come_join : (p : Progress) (blocks : List Block) → HasCome p blocks → BlocksJoin blocks
+pub come_join : (p : RunningVerdict) (blocks : List Block) → HasCome p blocks → BlocksJoin blocks
 come_join p blocks c = c.extent.join
 
 -- judging goes on past further steps
-pub judged_on : (j : Judging) (m : Judgement) (n : ℕ) (f : Found) → n ≡ j.steps + summary_steps m.summary → FoundAfter j.found j.steps m.summary f
+pub judged_on : (j : VerdictState) (m : ChunkSummary) (n : ℕ) (f : MonitorStates) → n ≡ j.steps + summary_steps m.summary → FoundAfter j.found j.steps m.summary f
     → (o : Levels) (x y : List Step) → HasJudged j o x → IsFoundOf m (levels_after o x) y → HasJudged (record { left = m.left; steps = n; found = f }) o (x ++ y)
 judged_on j m n f count found o x y h made =
     let long : summary_steps m.summary ≡ length y = made.finds.known.counted in

@@ -7,7 +7,7 @@ use Rattle.vme_trace.specs.Trace.{Trace}
 use Rattle.vme_trace.specs.Block.{trace_of}
 use Rattle.vme_trace.specs.Blocks.{joined_steps}
 use Rattle.vme_trace.specs.WellFormed.{malformed_step}
-use Rattle.vme_trace.specs.Judged.{Span as Stretch, judged_spans}
+use Rattle.vme_trace.specs.Judged.{Stretch as Stretch, judged_spans}
 use Rattle.vme_trace.specs.Verdict.{judge, rules_in_force, verdict_by, verdict_on, least_of}
 use Rattle.vme_trace.specs.declared.block.Block.{Block}
 use Rattle.vme_trace.specs.declared.step.Step.{Step}
@@ -19,9 +19,9 @@ use Rattle.vme_summary.specs.Joins.{BlocksJoin, first_time, is_later, joined_tra
 use Rattle.vme_summary.specs.Progressed.{HasFound, HasFoundAll}
 use Rattle.vme_summary.specs.Summaries.{StandsForAll, SummaryFindsFor, SummaryStandsFor, first_break, stands_finds_all}
 use Rattle.vme_summary.specs.Stands.{IsVerdictOf, SpanStandsFor}
-use Rattle.vme_summary.specs.declared.found.Found.{Found}
+use Rattle.vme_summary.specs.declared.monitor_states.MonitorStates.{MonitorStates}
 use Rattle.vme_summary.specs.declared.span.Span.{Span}
-use Rattle.vme_summary.specs.declared.summary.Summary.{Summary}
+use Rattle.vme_summary.specs.declared.summary.MonitorSummaries.{MonitorSummaries}
 use Rattle.vme_summary.proofs.Chains.{GoOn, chain_of, untimed}
 use Rattle.vme_summary.proofs.Sound.{sound_together, stands_sound}
 
@@ -103,16 +103,16 @@ unfolding verdict_by
 waiting_verdict t judged started off = judged_none (judged_spans t) t (sym started ∙ off)
 
 -- what monitors that begin at an opening find of all steps of a summary
-abbrev pub FindsFrom : Summary → Levels → Found → Type 0
+abbrev pub FindsFrom : MonitorSummaries → Levels → MonitorStates → Type 0
 FindsFrom s o f = (x : List Step) → SummaryFindsFor s o x → HasFound f o x
 
-pub found_all : (s : Summary) (o : Levels) (f : Found) (t : Trace) → FindsFrom s o f → StandsForAll s o t → HasFoundAll f t
+pub found_all : (s : MonitorSummaries) (o : Levels) (f : MonitorStates) (t : Trace) → FindsFrom s o f → StandsForAll s o t → HasFoundAll f t
 found_all s o f t finds all =
     let same = all.opens in
     let stands : SummaryStandsFor s o t.steps = subst (λ (v : Levels). SummaryStandsFor s v t.steps) (sym same) all.stands in
     record { sound = all.sound; few = all.few; found_there = subst (λ (v : Levels). HasFound f v t.steps) same (finds t.steps (stands_finds_all stands)) }
 
-pub verdict_found : (s : Span) → s.extent.opening.slots ≤ 21 → (f : Found) → FindsFrom s.summary s.extent.opening f → (v : Verdict) → ((t : Trace) → HasFoundAll f t → verdict_by rules_in_force t ≡ v) → IsVerdictOf s v
+pub verdict_found : (s : Span) → s.extent.opening.slots ≤ 21 → (f : MonitorStates) → FindsFrom s.summary s.extent.opening f → (v : Verdict) → ((t : Trace) → HasFoundAll f t → verdict_by rules_in_force t ≡ v) → IsVerdictOf s v
 verdict_found s few f finds v found [] stands = let none : None ≡ Some s.extent.first = stands.extent.first in absurd (cc)
 verdict_found s few f finds v found (b ∷ bs) stands =
     let t : Trace = record { opening = b.opening; steps = joined_steps (b ∷ bs) } in

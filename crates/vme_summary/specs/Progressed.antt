@@ -7,7 +7,7 @@ use Rattle.vme_trace.specs.Blocks.{joined_steps}
 use Rattle.vme_trace.specs.declared.block.Block.{Block}
 use Rattle.vme_trace.specs.declared.step.Step.{Step}
 use Rattle.vme_monitor.specs.Outcome.{Outcome}
-use Rattle.vme_monitor.specs.Spanned.{start_in}
+use Rattle.vme_monitor.specs.OverStretches.{start_in}
 use Rattle.vme_monitor.specs.KnownSpec.{known_begin}
 use Rattle.vme_dtb.specs.Machine.{dtb_begin}
 use Rattle.vme_stability.specs.StabilitySpec.{stability_begin}
@@ -16,81 +16,81 @@ use Rattle.vme_chains.specs.AcknowledgeSpec.{acknowledge_begin}
 use Rattle.vme_summary.specs.Runs.{known_run, handshake_run, stability_run, grant_run, acknowledge_run}
 use Rattle.vme_summary.specs.Summaries.{SummaryFindsFor, SummaryStandsFor}
 use Rattle.vme_summary.specs.Stands.{IsExtent, SpanStandsFor}
-use Rattle.vme_summary.specs.declared.found.Found.{Found}
-use Rattle.vme_summary.specs.declared.judgement.Judgement.{Judgement}
-use Rattle.vme_summary.specs.declared.judging.Judging.{Judging}
-use Rattle.vme_summary.specs.declared.marking.Marking.{Marking}
-use Rattle.vme_summary.specs.declared.progress.Progress.{Progress}
+use Rattle.vme_summary.specs.declared.monitor_states.MonitorStates.{MonitorStates}
+use Rattle.vme_summary.specs.declared.chunk_summary.ChunkSummary.{ChunkSummary}
+use Rattle.vme_summary.specs.declared.verdict_state.VerdictState.{VerdictState}
+use Rattle.vme_summary.specs.declared.listing_state.ListingState.{ListingState}
+use Rattle.vme_summary.specs.declared.running_verdict.RunningVerdict.{RunningVerdict}
 use Rattle.vme_summary.specs.declared.span.Span.{Span}
-use Rattle.vme_summary.specs.declared.summary.Summary.{Summary}
-use Rattle.vme_summary.specs.declared.found.Seen.{Seen}
+use Rattle.vme_summary.specs.declared.summary.MonitorSummaries.{MonitorSummaries}
+use Rattle.vme_summary.specs.declared.monitor_states.MonitorState.{MonitorState}
 
 -- a monitor that began at an opening is, after some steps, in this memory, and has found this break first
-pub record HasSeen {P : Type 0}
-    (run : P → Levels → List Step → Outcome P) (begin : Levels → P) (seen : Seen P) (o : Levels)
+pub record HasMonitorState {P : Type 0}
+    (run : P → Levels → List Step → Outcome P) (begin : Levels → P) (seen : MonitorState P) (o : Levels)
     (x : List Step) : Type 0 where
   pub memory : seen.memory ≡ (run (begin o) o x).leaving
   pub event : seen.event ≡ (run (begin o) o x).event
 
 -- and so for each monitor
-pub record HasFound (found : Found) (o : Levels) (x : List Step) : Type 0 where
-  pub known : HasSeen known_run (start_in known_begin) found.known o x
-  pub handshake : HasSeen handshake_run (start_in dtb_begin) found.handshake o x
-  pub stability : HasSeen stability_run (start_in stability_begin) found.stability o x
-  pub grant : HasSeen grant_run (start_in grant_begin) found.grant o x
-  pub acknowledge : HasSeen acknowledge_run (start_in acknowledge_begin) found.acknowledge o x
+pub record HasFound (found : MonitorStates) (o : Levels) (x : List Step) : Type 0 where
+  pub known : HasMonitorState known_run (start_in known_begin) found.known o x
+  pub handshake : HasMonitorState handshake_run (start_in dtb_begin) found.handshake o x
+  pub stability : HasMonitorState stability_run (start_in stability_begin) found.stability o x
+  pub grant : HasMonitorState grant_run (start_in grant_begin) found.grant o x
+  pub acknowledge : HasMonitorState acknowledge_run (start_in acknowledge_begin) found.acknowledge o x
 
 -- and of all steps of a well-formed recording
-pub record HasFoundAll (found : Found) (t : Trace) : Type 0 where
+pub record HasFoundAll (found : MonitorStates) (t : Trace) : Type 0 where
   pub sound : malformed_step t ≡ None
   pub few : t.opening.slots ≤ 21
   pub found_there : HasFound found t.opening t.steps
 
 -- where monitors had come past so many steps, and a summary finds what those that follow do, they have come past both
-abbrev pub FoundAfter : Found → ℕ → Summary → Found → Type 0
+abbrev pub FoundAfter : MonitorStates → ℕ → MonitorSummaries → MonitorStates → Type 0
 FoundAfter before steps s found =
     (o : Levels) (x y : List Step)
     → steps ≡ length x → HasFound before o x → SummaryFindsFor s (levels_after o x) y → HasFound found o (x ++ y)
 
 -- judging has come past these steps after this opening: it knows the lines that they leave, how many they are, and
 -- what is found of them
-pub record HasJudged (j : Judging) (o : Levels) (x : List Step) : Type 0 where
+pub record HasJudged (j : VerdictState) (o : Levels) (x : List Step) : Type 0 where
   pub left : j.left ≡ levels_after o x
   pub counted : j.steps ≡ length x
   pub found : HasFound j.found o x
 
 -- steps that follow this opening were judged by themselves: this is found of them, and they leave these lines
-pub record IsFoundOf (j : Judgement) (o : Levels) (y : List Step) : Type 0 where
+pub record IsFoundOf (j : ChunkSummary) (o : Levels) (y : List Step) : Type 0 where
   pub finds : SummaryFindsFor j.summary o y
   pub left : j.left ≡ levels_after o y
 
 -- some summary stands for these steps after this opening, or there is none yet of none
-abbrev pub StandsSoFar : Option Summary → Levels → List Step → Type 0
+abbrev pub StandsSoFar : Option MonitorSummaries → Levels → List Step → Type 0
 StandsSoFar None o x = x ≡ []
 StandsSoFar (Some s) o x = SummaryStandsFor s o x
 
 -- and so with the marks: it knows the lines that they leave, and has one summary of them
-pub record HasMarked (m : Marking) (o : Levels) (x : List Step) : Type 0 where
+pub record HasMarked (m : ListingState) (o : Levels) (x : List Step) : Type 0 where
   pub left : m.left ≡ levels_after o x
   pub stands : StandsSoFar m.summary o x
 
 -- and so with the marks
-pub record IsMarkedOf (j : Judgement) (o : Levels) (y : List Step) : Type 0 where
+pub record IsMarkedOf (j : ChunkSummary) (o : Levels) (y : List Step) : Type 0 where
   pub stands : SummaryStandsFor j.summary o y
   pub left : j.left ≡ levels_after o y
 
 -- judging has come past these blocks: they have this extent, and this is found of all their steps after the first
 -- opening
-pub record HasCome (p : Progress) (blocks : List Block) : Type 0 where
+pub record HasCome (p : RunningVerdict) (blocks : List Block) : Type 0 where
   pub extent : IsExtent p.extent blocks
   pub steps : p.steps ≡ length (joined_steps blocks)
   pub found : HasFound p.found p.extent.opening (joined_steps blocks)
 
 -- how many steps were judged
-abbrev pub judged_steps : Progress → ℕ
+abbrev pub judged_steps : RunningVerdict → ℕ
 judged_steps p = p.steps
 
 -- past whatever blocks judging has come, and for whatever blocks a span stands, further judging has come past the
 -- blocks of both
-abbrev pub ComesPastBoth : Progress → Span → Progress → Type 0
+abbrev pub ComesPastBoth : RunningVerdict → Span → RunningVerdict → Type 0
 ComesPastBoth p s q = (x y : List Block) → HasCome p x → SpanStandsFor s y → HasCome q (x ++ y)

@@ -8,14 +8,14 @@ use Rattle.vme_trace.specs.WellFormed.{malformed_step}
 use Rattle.vme_trace.specs.declared.step.Step.{Step}
 use Rattle.vme_trace.specs.declared.verdict.Break.{Break}
 use Rattle.vme_monitor.specs.Outcome.{Outcome, StandsFor}
-use Rattle.vme_monitor.specs.Silence.{FindsFor, stands_finds}
+use Rattle.vme_monitor.specs.WithoutMarks.{FindsFor, stands_finds}
 use Rattle.vme_monitor.specs.Tables.{outcome}
-use Rattle.vme_monitor.specs.Spanned.{phase_place}
+use Rattle.vme_monitor.specs.OverStretches.{phase_place}
 use Rattle.vme_monitor.specs.KnownSpec.{nil_place}
-use Rattle.vme_monitor.specs.declared.known.Nil.{Nil}
-use Rattle.vme_monitor.specs.declared.spanned.Phase.{Phase}
+use Rattle.vme_monitor.specs.declared.known.Stateless.{Stateless}
+use Rattle.vme_monitor.specs.declared.over_stretches.StretchPhase.{StretchPhase}
 use Rattle.vme_dtb.specs.MemoryPlaces.{memory_place}
-use Rattle.vme_dtb.specs.declared.memory.Memory.{Memory}
+use Rattle.vme_dtb.specs.declared.memory.HandshakeMemory.{HandshakeMemory}
 use Rattle.vme_stability.specs.HoldingPlaces.{holding_place}
 use Rattle.vme_stability.specs.declared.holding.Holding.{Holding}
 use Rattle.vme_chains.specs.GrantMemory.{arbitration_place}
@@ -23,28 +23,28 @@ use Rattle.vme_chains.specs.declared.grant_memory.Arbitration.{Arbitration}
 use Rattle.vme_chains.specs.AcknowledgeSpec.{acknowledgement_place}
 use Rattle.vme_chains.specs.declared.acknowledge.Acknowledgement.{Acknowledgement}
 use Rattle.vme_summary.specs.Runs.{known_run, handshake_run, stability_run, grant_run, acknowledge_run}
-use Rattle.vme_summary.specs.declared.summary.Summary.{Summary}
+use Rattle.vme_summary.specs.declared.summary.MonitorSummaries.{MonitorSummaries}
 
 -- the outcome of each monitor, by its table
-abbrev pub known_outcome : Summary → Phase Nil → Outcome (Phase Nil)
+abbrev pub known_outcome : MonitorSummaries → StretchPhase Stateless → Outcome (StretchPhase Stateless)
 known_outcome s p = outcome s.known.layers.items s.known.rows.items p (phase_place nil_place p)
 
-abbrev pub handshake_outcome : Summary → Phase Memory → Outcome (Phase Memory)
+abbrev pub handshake_outcome : MonitorSummaries → StretchPhase HandshakeMemory → Outcome (StretchPhase HandshakeMemory)
 handshake_outcome s p = outcome s.handshake.layers.items s.handshake.rows.items p (phase_place memory_place p)
 
-abbrev pub stability_outcome : Summary → Phase Holding → Outcome (Phase Holding)
+abbrev pub stability_outcome : MonitorSummaries → StretchPhase Holding → Outcome (StretchPhase Holding)
 stability_outcome s p = outcome s.stability.layers.items s.stability.rows.items p (phase_place holding_place p)
 
-abbrev pub grant_outcome : Summary → Phase Arbitration → Outcome (Phase Arbitration)
+abbrev pub grant_outcome : MonitorSummaries → StretchPhase Arbitration → Outcome (StretchPhase Arbitration)
 grant_outcome s p = outcome s.grant.layers.items s.grant.rows.items p (phase_place arbitration_place p)
 
-abbrev pub acknowledge_outcome : Summary → Phase Acknowledgement → Outcome (Phase Acknowledgement)
+abbrev pub acknowledge_outcome : MonitorSummaries → StretchPhase Acknowledgement → Outcome (StretchPhase Acknowledgement)
 acknowledge_outcome s p =
     outcome s.acknowledge.layers.items s.acknowledge.rows.items p (phase_place acknowledgement_place p)
 
 -- it stands for these steps after that opening: from each memory that enters, each table gives what its monitor's run
 -- gives
-pub record SummaryStandsFor (s : Summary) (o : Levels) (x : List Step) : Type 0 where
+pub record SummaryStandsFor (s : MonitorSummaries) (o : Levels) (x : List Step) : Type 0 where
   pub known : StandsFor known_run (known_outcome s) s.known.steps o x
   pub handshake : StandsFor handshake_run (handshake_outcome s) s.handshake.steps o x
   pub stability : StandsFor stability_run (stability_outcome s) s.stability.steps o x
@@ -53,7 +53,7 @@ pub record SummaryStandsFor (s : Summary) (o : Levels) (x : List Step) : Type 0 
 
 -- it finds what these steps after that opening do: from each memory that enters, each table gives the memory that is
 -- left and the first break of its monitor's run
-pub record SummaryFindsFor (s : Summary) (o : Levels) (x : List Step) : Type 0 where
+pub record SummaryFindsFor (s : MonitorSummaries) (o : Levels) (x : List Step) : Type 0 where
   pub known : FindsFor known_run (known_outcome s) s.known.steps o x
   pub handshake : FindsFor handshake_run (handshake_outcome s) s.handshake.steps o x
   pub stability : FindsFor stability_run (stability_outcome s) s.stability.steps o x
@@ -61,7 +61,7 @@ pub record SummaryFindsFor (s : Summary) (o : Levels) (x : List Step) : Type 0 w
   pub acknowledge : FindsFor acknowledge_run (acknowledge_outcome s) s.acknowledge.steps o x
 
 -- one that stands for steps finds what they do
-pub stands_finds_all : {s : Summary} {o : Levels} {x : List Step} → SummaryStandsFor s o x → SummaryFindsFor s o x
+pub stands_finds_all : {s : MonitorSummaries} {o : Levels} {x : List Step} → SummaryStandsFor s o x → SummaryFindsFor s o x
 stands_finds_all p =
     record {
       known = stands_finds p.known;
@@ -72,21 +72,21 @@ stands_finds_all p =
     }
 
 -- of how many steps it is
-abbrev pub summary_steps : Summary → ℕ
+abbrev pub summary_steps : MonitorSummaries → ℕ
 summary_steps s = s.known.steps
 
 -- two stand for the same steps
-abbrev pub StandAlike : Summary → Summary → Type 0
+abbrev pub StandAlike : MonitorSummaries → MonitorSummaries → Type 0
 StandAlike s r = (o : Levels) (x : List Step) → (SummaryStandsFor s o x ↔ SummaryStandsFor r o x)
 
 -- where two stand for steps that follow one another, a third stands for those of both
-abbrev pub SummaryStandsForBoth : Summary → Summary → Summary → Type 0
+abbrev pub SummaryStandsForBoth : MonitorSummaries → MonitorSummaries → MonitorSummaries → Type 0
 SummaryStandsForBoth s t r =
     (o : Levels) (x y : List Step)
     → SummaryStandsFor s o x → SummaryStandsFor t (levels_after o x) y → SummaryStandsFor r o (x ++ y)
 
 -- it stands for all steps of a well-formed recording, which has this opening
-pub record StandsForAll (s : Summary) (opening : Levels) (t : Trace) : Type 0 where
+pub record StandsForAll (s : MonitorSummaries) (opening : Levels) (t : Trace) : Type 0 where
   pub sound : malformed_step t ≡ None
   pub few : t.opening.slots ≤ 21
   pub opens : opening ≡ t.opening

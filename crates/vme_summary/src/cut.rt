@@ -7,9 +7,9 @@ ghost use Rattle.vme_listing.specs.Places.{is_well_placed};
 ghost use Rattle.vme_listing.specs.Recorded.{listing_of};
 ghost use Rattle.vme_summary.specs.CutFaults.{HasTooManyBlocks, IsBadSize};
 
-use crate::advance::{Advance, go_on};
-use crate::judging::Judging;
-use crate::marking::Marking;
+use crate::chunk_judge::{ChunkJudge, go_on};
+use crate::listing_state::ListingState;
+use crate::verdict_state::VerdictState;
 use std::alloc::Global;
 use vme_listing::Listing;
 use vme_trace::{Capture, CutFault, Verdict};
@@ -36,7 +36,11 @@ fn check_size(capture: &Capture, size: u32) -> Result<(), CutFault>
 
 /// What judged all steps of a capture, block by block: each is judged by itself, and judging goes on past one after the
 /// other.
-fn judged_by_blocks<J: Advance>(alloc: Global, capture: &Capture, size: u32) -> Result<J, CutFault>
+fn judged_by_blocks<J: ChunkJudge>(
+    alloc: Global,
+    capture: &Capture,
+    size: u32,
+) -> Result<J, CutFault>
     ensures bad_size { (result ≡ Err CutFault.BadSize) ↔ IsBadSize size }
     ensures too_many { (result ≡ Err CutFault.TooManyBlocks) ↔ HasTooManyBlocks size capture.now }
     ensures past { IfOk result (λ judging. J.is_past judging capture.now.opening capture.now.steps) }
@@ -62,7 +66,7 @@ pub fn verdict_by_blocks(alloc: Global, capture: &Capture, size: u32) -> Result<
     ensures verdict { IfOk result (λ verdict. verdict ≡ verdict_by rules_in_force capture.now) }
 {
     prove!(capture.opening().slots() <= 21);
-    match judged_by_blocks::<Judging>(alloc, capture, size) {
+    match judged_by_blocks::<VerdictState>(alloc, capture, size) {
         Ok(judging) => Ok(judging.verdict()),
         Err(fault) => Err(fault),
     }
@@ -78,7 +82,7 @@ pub fn listing_by_blocks(alloc: Global, capture: &Capture, size: u32) -> Result<
 {
     let opening = capture.opening();
     prove!(opening.slots() <= 21);
-    match judged_by_blocks::<Marking>(alloc, capture, size) {
+    match judged_by_blocks::<ListingState>(alloc, capture, size) {
         Ok(marking) => match marking.listing(alloc, opening) {
             Ok(listing) => Ok(listing),
             Err(_) => Err(CutFault::Memory),

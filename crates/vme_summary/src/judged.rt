@@ -8,7 +8,7 @@ ghost use Rattle.vme_summary.specs.Stands.{SpanStandsFor, first_number, step_cou
 
 use crate::extent::Extent;
 use crate::span::Span;
-use crate::summary::Summary;
+use crate::summary::MonitorSummaries;
 use std::alloc::{AllocError, Global};
 use std::marker::Model;
 use vme_trace::{Block, Lines, Step};
@@ -98,7 +98,7 @@ fn span_of_steps(
     requires short { length steps.now ≤ 65536 }
     ensures { IfOk result (λ s. SpanStandsFor s (block_of number opening.now steps.now ∷ [])) }
 {
-    let (summary, left) = Summary::of_steps(alloc, opening, steps)?;
+    let (summary, left) = MonitorSummaries::of_steps(alloc, opening, steps)?;
     Ok(Span {
         extent: Extent::around(number, opening, steps, left),
         summary,

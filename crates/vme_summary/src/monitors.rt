@@ -15,8 +15,8 @@ ghost use Rattle.vme_summary.specs.Progressed.{FoundAfter, HasFound, HasFoundAll
 ghost use Rattle.vme_summary.specs.Summaries.{first_break as first_break_of, StandAlike, StandsForAll, SummaryFindsFor};
 ghost use Rattle.vme_summary.specs.Summaries.{SummaryStandsFor, SummaryStandsForBoth, summary_steps};
 
-use crate::found::{Found, Seen};
-use crate::summary::{Room, Summary};
+use crate::monitor_states::{MonitorState, MonitorStates};
+use crate::summary::{MonitorSummaries, Room};
 use std::alloc::{AllocError, Global};
 use vme_chains::acknowledge::{AcknowledgeRules, Iack, acknowledge_over_captures};
 use vme_chains::grant::{Grant, GrantRules, grants_over_captures};
@@ -25,39 +25,39 @@ use vme_monitor::both::{least, marks_together};
 use vme_monitor::known::{Known, KnownRules, known_over_captures};
 use vme_monitor::mark::Mark;
 use vme_monitor::monitor::Monitor;
-use vme_monitor::silent::BreaksOf;
 use vme_monitor::stepping::Stepping;
 use vme_monitor::table::Table;
-use vme_monitor::view::View;
+use vme_monitor::view::StepView;
+use vme_monitor::without_marks::BreakMonitor;
 use vme_stability::stability::{Stability, StabilityRules, stability_over_captures};
 use vme_trace::{Break, Lines, Step};
 
 /// Something of each of five monitors.
 #[derive(Drop)]
 struct Five<A: Drop, B: Drop, C: Drop, D: Drop, E: Drop> {
-    first: A,
-    second: B,
-    third: C,
-    fourth: D,
-    fifth: E,
+    known: A,
+    handshake: B,
+    stability: C,
+    grant: D,
+    acknowledge: E,
 }
 
 /// What five monitors know of no steps.
 fn begin_five<A: Stepping, B: Stepping, C: Stepping, D: Stepping, E: Stepping>(
     alloc: Global,
 ) -> Result<Five<A::Progress, B::Progress, C::Progress, D::Progress, E::Progress>, AllocError>
-    ensures first { IfOk result (λ all. (o : Levels) → A.tells_of all.first o []) }
-    ensures second { IfOk result (λ all. (o : Levels) → B.tells_of all.second o []) }
-    ensures third { IfOk result (λ all. (o : Levels) → C.tells_of all.third o []) }
-    ensures fourth { IfOk result (λ all. (o : Levels) → D.tells_of all.fourth o []) }
-    ensures fifth { IfOk result (λ all. (o : Levels) → E.tells_of all.fifth o []) }
+    ensures known { IfOk result (λ all. (o : Levels) → A.tells_of all.known o []) }
+    ensures handshake { IfOk result (λ all. (o : Levels) → B.tells_of all.handshake o []) }
+    ensures stability { IfOk result (λ all. (o : Levels) → C.tells_of all.stability o []) }
+    ensures grant { IfOk result (λ all. (o : Levels) → D.tells_of all.grant o []) }
+    ensures acknowledge { IfOk result (λ all. (o : Levels) → E.tells_of all.acknowledge o []) }
 {
     Ok(Five {
-        first: A::begin(alloc)?,
-        second: B::begin(alloc)?,
-        third: C::begin(alloc)?,
-        fourth: D::begin(alloc)?,
-        fifth: E::begin(alloc)?,
+        known: A::begin(alloc)?,
+        handshake: B::begin(alloc)?,
+        stability: C::begin(alloc)?,
+        grant: D::begin(alloc)?,
+        acknowledge: E::begin(alloc)?,
     })
 }
 
@@ -66,27 +66,27 @@ fn begin_five<A: Stepping, B: Stepping, C: Stepping, D: Stepping, E: Stepping>(
 fn lead_five<A: Stepping, B: Stepping, C: Stepping, D: Stepping, E: Stepping>(
     alloc: Global,
     all: &mut Five<A::Progress, B::Progress, C::Progress, D::Progress, E::Progress>,
-    view: &View,
+    view: &StepView,
     step: &Step,
     instant: u32,
 ) -> Result<(), AllocError>
     requires { view.now ≡ seen_in view.now.before step.now.changes }
-    ensures first { OnOk result ((o : Levels) (x : List Step) → IsLed o x view.now.before instant
-        → A.tells_of all.old.first o x → A.tells_of all.new.first o (x ++ step.now ∷ [])) }
-    ensures second { OnOk result ((o : Levels) (x : List Step) → IsLed o x view.now.before instant
-        → B.tells_of all.old.second o x → B.tells_of all.new.second o (x ++ step.now ∷ [])) }
-    ensures third { OnOk result ((o : Levels) (x : List Step) → IsLed o x view.now.before instant
-        → C.tells_of all.old.third o x → C.tells_of all.new.third o (x ++ step.now ∷ [])) }
-    ensures fourth { OnOk result ((o : Levels) (x : List Step) → IsLed o x view.now.before instant
-        → D.tells_of all.old.fourth o x → D.tells_of all.new.fourth o (x ++ step.now ∷ [])) }
-    ensures fifth { OnOk result ((o : Levels) (x : List Step) → IsLed o x view.now.before instant
-        → E.tells_of all.old.fifth o x → E.tells_of all.new.fifth o (x ++ step.now ∷ [])) }
+    ensures known { OnOk result ((o : Levels) (x : List Step) → IsLed o x view.now.before instant
+        → A.tells_of all.old.known o x → A.tells_of all.new.known o (x ++ step.now ∷ [])) }
+    ensures handshake { OnOk result ((o : Levels) (x : List Step) → IsLed o x view.now.before instant
+        → B.tells_of all.old.handshake o x → B.tells_of all.new.handshake o (x ++ step.now ∷ [])) }
+    ensures stability { OnOk result ((o : Levels) (x : List Step) → IsLed o x view.now.before instant
+        → C.tells_of all.old.stability o x → C.tells_of all.new.stability o (x ++ step.now ∷ [])) }
+    ensures grant { OnOk result ((o : Levels) (x : List Step) → IsLed o x view.now.before instant
+        → D.tells_of all.old.grant o x → D.tells_of all.new.grant o (x ++ step.now ∷ [])) }
+    ensures acknowledge { OnOk result ((o : Levels) (x : List Step) → IsLed o x view.now.before instant
+        → E.tells_of all.old.acknowledge o x → E.tells_of all.new.acknowledge o (x ++ step.now ∷ [])) }
 {
-    A::go_on(alloc, &mut all.first, view, step, instant)?;
-    B::go_on(alloc, &mut all.second, view, step, instant)?;
-    C::go_on(alloc, &mut all.third, view, step, instant)?;
-    D::go_on(alloc, &mut all.fourth, view, step, instant)?;
-    E::go_on(alloc, &mut all.fifth, view, step, instant)
+    A::go_on(alloc, &mut all.known, view, step, instant)?;
+    B::go_on(alloc, &mut all.handshake, view, step, instant)?;
+    C::go_on(alloc, &mut all.stability, view, step, instant)?;
+    D::go_on(alloc, &mut all.grant, view, step, instant)?;
+    E::go_on(alloc, &mut all.acknowledge, view, step, instant)
 }
 
 /// Leads five monitors along the steps after an opening at once: the summary of each, and the lines that the last step
@@ -107,15 +107,15 @@ fn walk_with_five<A: Stepping, B: Stepping, C: Stepping, D: Stepping, E: Steppin
     AllocError,
 >
     requires few { length steps.now ≤ 268435456 }
-    ensures first { IfOk result (λ all. StandsFor A.run (A.outcome all.0) (A.count all.0) opening.now steps.now) }
-    ensures second { IfOk result (λ all. StandsFor B.run (B.outcome all.1) (B.count all.1) opening.now steps.now) }
-    ensures third { IfOk result (λ all. StandsFor C.run (C.outcome all.2) (C.count all.2) opening.now steps.now) }
-    ensures fourth { IfOk result (λ all. StandsFor D.run (D.outcome all.3) (D.count all.3) opening.now steps.now) }
-    ensures fifth { IfOk result (λ all. StandsFor E.run (E.outcome all.4) (E.count all.4) opening.now steps.now) }
+    ensures known { IfOk result (λ all. StandsFor A.run (A.outcome all.0) (A.count all.0) opening.now steps.now) }
+    ensures handshake { IfOk result (λ all. StandsFor B.run (B.outcome all.1) (B.count all.1) opening.now steps.now) }
+    ensures stability { IfOk result (λ all. StandsFor C.run (C.outcome all.2) (C.count all.2) opening.now steps.now) }
+    ensures grant { IfOk result (λ all. StandsFor D.run (D.outcome all.3) (D.count all.3) opening.now steps.now) }
+    ensures acknowledge { IfOk result (λ all. StandsFor E.run (E.outcome all.4) (E.count all.4) opening.now steps.now) }
     ensures left { IfOk result (λ all. all.5 ≡ levels_after opening.now steps.now) }
 {
     let mut all = begin_five::<A, B, C, D, E>(alloc)?;
-    let mut view = View::new(opening);
+    let mut view = StepView::new(opening);
     let mut instant = 0;
     for step in steps {
         let changes = step.changes.as_slice();
@@ -125,22 +125,22 @@ fn walk_with_five<A: Stepping, B: Stepping, C: Stepping, D: Stepping, E: Steppin
         view.go_past(changes);
     }
     Ok((
-        A::finish(all.first, instant),
-        B::finish(all.second, instant),
-        C::finish(all.third, instant),
-        D::finish(all.fourth, instant),
-        E::finish(all.fifth, instant),
+        A::finish(all.known, instant),
+        B::finish(all.handshake, instant),
+        C::finish(all.stability, instant),
+        D::finish(all.grant, instant),
+        E::finish(all.acknowledge, instant),
         view.before,
     ))
 }
 
-impl Summary {
+impl MonitorSummaries {
     /// The summary of steps after an opening, and the lines that the last one leaves.
     pub(crate) fn of_steps(
         alloc: Global,
         opening: &Lines,
         steps: &[Step],
-    ) -> Result<(Summary, Lines), AllocError>
+    ) -> Result<(MonitorSummaries, Lines), AllocError>
         requires few { length steps.now ≤ 268435456 }
         ensures stands { IfOk result (λ made. SummaryStandsFor made.0 opening.now steps.now) }
         ensures left { IfOk result (λ made. made.1 ≡ levels_after opening.now steps.now) }
@@ -153,7 +153,7 @@ impl Summary {
             Iack,
         >(alloc, opening, steps)?;
         Ok((
-            Summary {
+            MonitorSummaries {
                 known,
                 handshake,
                 stability,
@@ -169,20 +169,20 @@ impl Summary {
         alloc: Global,
         opening: &Lines,
         steps: &[Step],
-    ) -> Result<(Summary, Lines), AllocError>
+    ) -> Result<(MonitorSummaries, Lines), AllocError>
         requires few { length steps.now ≤ 268435456 }
         ensures finds { IfOk result (λ made. SummaryFindsFor made.0 opening.now steps.now) }
         ensures left { IfOk result (λ made. made.1 ≡ levels_after opening.now steps.now) }
     {
         let (known, handshake, stability, grant, acknowledge, left) = walk_with_five::<
-            BreaksOf<KnownRules>,
-            BreaksOf<HandshakeRules>,
-            BreaksOf<StabilityRules>,
-            BreaksOf<GrantRules>,
-            BreaksOf<AcknowledgeRules>,
+            BreakMonitor<KnownRules>,
+            BreakMonitor<HandshakeRules>,
+            BreakMonitor<StabilityRules>,
+            BreakMonitor<GrantRules>,
+            BreakMonitor<AcknowledgeRules>,
         >(alloc, opening, steps)?;
         Ok((
-            Summary {
+            MonitorSummaries {
                 known,
                 handshake,
                 stability,
@@ -203,9 +203,9 @@ impl Summary {
     /// The summary of the steps of one and then those of another.
     pub(crate) fn compose(
         alloc: Global,
-        first: &Summary,
-        second: &Summary,
-    ) -> Result<Summary, AllocError>
+        first: &MonitorSummaries,
+        second: &MonitorSummaries,
+    ) -> Result<MonitorSummaries, AllocError>
         requires { summary_steps first.now + summary_steps second.now ≤ 268435456 }
         ensures steps { IfOk result (λ s. summary_steps s ≡ summary_steps first.now + summary_steps second.now) }
         ensures stands { IfOk result (SummaryStandsForBoth first.now second.now) }
@@ -215,7 +215,7 @@ impl Summary {
         let stability = Table::compose(alloc, &first.stability, &second.stability)?;
         let grant = Table::compose(alloc, &first.grant, &second.grant)?;
         let acknowledge = Table::compose(alloc, &first.acknowledge, &second.acknowledge)?;
-        Ok(Summary {
+        Ok(MonitorSummaries {
             known,
             handshake,
             stability,
@@ -225,7 +225,11 @@ impl Summary {
     }
 
     /// Takes all the memory that it needs to take over another summary. After an error it stands for what it stood for.
-    pub(crate) fn make_room(&mut self, alloc: Global, second: &Summary) -> Result<Room, AllocError>
+    pub(crate) fn make_room(
+        &mut self,
+        alloc: Global,
+        second: &MonitorSummaries,
+    ) -> Result<Room, AllocError>
         ensures stands { StandAlike self.old self.new }
         ensures steps { summary_steps self.new ≡ summary_steps self.old }
         ensures room { IfOk result (λ room. HasRoom room self.new second.now) }
@@ -246,13 +250,13 @@ impl Summary {
 
     /// The summary of the steps of one and then those of another, where both are given away: their tables are taken
     /// over, not copied. Takes no memory.
-    pub(crate) fn append_in(self, room: Room, second: Summary) -> Summary
+    pub(crate) fn append_in(self, room: Room, second: MonitorSummaries) -> MonitorSummaries
         requires few { summary_steps self + summary_steps second ≤ 268435456 }
         requires room { HasRoom room self second }
         ensures steps { summary_steps result ≡ summary_steps self + summary_steps second }
         ensures stands { SummaryStandsForBoth self second result }
     {
-        Summary {
+        MonitorSummaries {
             known: self.known.append_in(room.known, second.known),
             handshake: self.handshake.append_in(room.handshake, second.handshake),
             stability: self.stability.append_in(room.stability, second.stability),
@@ -264,19 +268,19 @@ impl Summary {
     }
 
     /// What the monitors that begin at this opening have come to after the steps.
-    pub(crate) fn found_from(&self, opening: &Lines) -> Found
+    pub(crate) fn found_from(&self, opening: &Lines) -> MonitorStates
         ensures { (x : List Step) → SummaryFindsFor self.now opening.now x → HasFound result opening.now x }
     {
         prove!(self.steps() <= u32::MAX);
-        self.found_after(&Found::at(opening), 0)
+        self.found_after(&MonitorStates::at(opening), 0)
     }
 
     /// What they have come to where so many steps were before these.
-    pub(crate) fn found_after(&self, before: &Found, steps: u32) -> Found
+    pub(crate) fn found_after(&self, before: &MonitorStates, steps: u32) -> MonitorStates
         requires { steps + summary_steps self.now < 2 ^ 32 }
         ensures { FoundAfter before.now steps self.now result }
     {
-        Found {
+        MonitorStates {
             known: before.known.after(&self.known, steps),
             handshake: before.handshake.after(&self.handshake, steps),
             stability: before.stability.after(&self.stability, steps),
@@ -306,17 +310,17 @@ impl Summary {
     }
 }
 
-impl Found {
+impl MonitorStates {
     /// What the monitors that begin at this opening have come to before any step.
-    pub(crate) fn at(opening: &Lines) -> Found
+    pub(crate) fn at(opening: &Lines) -> MonitorStates
         ensures { HasFound result opening.now [] }
     {
-        Found {
-            known: Seen::at(Known::start(opening)),
-            handshake: Seen::at(Dtb::start(opening)),
-            stability: Seen::at(Stability::start(opening)),
-            grant: Seen::at(Grant::start(opening)),
-            acknowledge: Seen::at(Iack::start(opening)),
+        MonitorStates {
+            known: MonitorState::at(Known::start(opening)),
+            handshake: MonitorState::at(Dtb::start(opening)),
+            stability: MonitorState::at(Stability::start(opening)),
+            grant: MonitorState::at(Grant::start(opening)),
+            acknowledge: MonitorState::at(Iack::start(opening)),
         }
     }
 

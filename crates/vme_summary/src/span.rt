@@ -10,7 +10,7 @@ ghost use Rattle.vme_summary.specs.Stands.{IsListingOf, IsVerdictOf, SaysTorn, S
 ghost use Rattle.vme_summary.specs.Stands.{StandsForBoth, first_number, step_count};
 
 use crate::extent::Extent;
-use crate::summary::Summary;
+use crate::summary::MonitorSummaries;
 use std::alloc::{AllocError, Global};
 use vme_listing::Listing;
 use vme_trace::{Lines, Verdict};
@@ -30,7 +30,7 @@ pub enum JoinFault {
 #[derive(Drop)]
 pub struct Span {
     pub(crate) extent: Extent,
-    pub(crate) summary: Summary,
+    pub(crate) summary: MonitorSummaries,
 }
 
 impl Span {
@@ -97,7 +97,7 @@ pub fn join(alloc: Global, first: &Span, second: &Span) -> Result<Span, JoinFaul
     if !first.extent.meets(&second.extent) {
         return Err(JoinFault::Torn);
     }
-    let Ok(summary) = Summary::compose(alloc, &first.summary, &second.summary) else {
+    let Ok(summary) = MonitorSummaries::compose(alloc, &first.summary, &second.summary) else {
         return Err(JoinFault::Memory);
     };
     Ok(Span {

@@ -5,21 +5,21 @@ ghost use Rattle.vme_summary.specs.SameSteps.{SameSteps};
 
 use vme_chains::acknowledge::Acknowledgement;
 use vme_chains::grant_memory::Arbitration;
-use vme_dtb::memory::Memory;
-use vme_monitor::known::Nil;
+use vme_dtb::memory::HandshakeMemory;
+use vme_monitor::known::Stateless;
 use vme_monitor::link::Link;
-use vme_monitor::spanned::Phase;
+use vme_monitor::over_stretches::StretchPhase;
 use vme_monitor::table::Table;
 use vme_stability::holding::Holding;
 
 /// What steps say to all monitors, whatever stood before them: a table for each.
 #[derive(Drop)]
-pub(crate) struct Summary {
-    pub(crate) known: Table<Phase<Nil>>,
-    pub(crate) handshake: Table<Phase<Memory>>,
-    pub(crate) stability: Table<Phase<Holding>>,
-    pub(crate) grant: Table<Phase<Arbitration>>,
-    pub(crate) acknowledge: Table<Phase<Acknowledgement>>,
+pub(crate) struct MonitorSummaries {
+    pub(crate) known: Table<StretchPhase<Stateless>>,
+    pub(crate) handshake: Table<StretchPhase<HandshakeMemory>>,
+    pub(crate) stability: Table<StretchPhase<Holding>>,
+    pub(crate) grant: Table<StretchPhase<Arbitration>>,
+    pub(crate) acknowledge: Table<StretchPhase<Acknowledgement>>,
     ghost same: { SameSteps known.steps handshake.steps stability.steps grant.steps acknowledge.steps },
 }
 

@@ -7,10 +7,10 @@ use crate::tests::{Worked, capture_of, cycles, resets, verdict_of};
 use std::alloc::Global;
 use std::process::Abort;
 use std::test::Fail;
-use vme_summary::advance::Advance;
-use vme_summary::watch::Watch;
-use vme_summary::{Judge, JudgedPart, Lister};
-use vme_trace::{Block, Follower, Lines, Verdict};
+use vme_summary::chunk_judge::ChunkJudge;
+use vme_summary::stream_judge::StreamJudge;
+use vme_summary::{Judge, JudgedChunk, Lister};
+use vme_trace::{Block, Lines, StepVisitor, Verdict};
 
 /// Which blocks of a cut are taken step by step.
 #[derive(Clone, Copy)]
@@ -37,13 +37,13 @@ fn left_by(block: &Block) -> Lines {
 }
 
 /// Passes a block, which is judged by itself, to what leaves the lines that it opens with.
-fn pass_block<J: Advance + Send>(
+fn pass_block<J: ChunkJudge + Send>(
     rt: &impl Abort,
     alloc: Global,
-    watch: &mut Watch<J>,
+    watch: &mut StreamJudge<J>,
     block: &Block,
 ) -> Result<(), Fail> {
-    let part = sent(JudgedPart::<J>::of(alloc, &block.opening, block.steps.as_slice())?);
+    let part = sent(JudgedChunk::<J>::of(alloc, &block.opening, block.steps.as_slice())?);
     let follows = watch.leaves(alloc, &block.opening)?;
     assert!(rt; follows);
     assert!(rt; *part.left() == left_by(block));
@@ -52,10 +52,10 @@ fn pass_block<J: Advance + Send>(
 }
 
 /// Passes a block, or its steps one after the other.
-fn take_block<J: Advance + Send>(
+fn take_block<J: ChunkJudge + Send>(
     rt: &impl Abort,
     alloc: Global,
-    watch: &mut Watch<J>,
+    watch: &mut StreamJudge<J>,
     block: &Block,
     by_step: ByStep,
 ) -> Result<(), Fail> {
@@ -74,14 +74,14 @@ fn take_block<J: Advance + Send>(
 }
 
 /// What took a recording that is cut into blocks.
-fn taken_in_blocks<J: Advance + Send>(
+fn taken_in_blocks<J: ChunkJudge + Send>(
     rt: &impl Abort,
     alloc: Global,
     opening: &Lines,
     blocks: &[Block],
     by_step: ByStep,
-) -> Result<Watch<J>, Fail> {
-    let mut watch = Watch::new(alloc, &Lines::new(1).ok_or("no such backplane")?);
+) -> Result<StreamJudge<J>, Fail> {
+    let mut watch = StreamJudge::new(alloc, &Lines::new(1).ok_or("no such backplane")?);
     watch.open(opening);
     for block in blocks {
         take_block(rt, alloc, &mut watch, block, by_step)?;

@@ -7,8 +7,8 @@ use vme_summary::judged::{Judged, judge_block};
 use vme_summary::span::{JoinFault, Span, join};
 use vme_summary::{Judge, verdict_by_blocks};
 use vme_trace::{
-    Block, Break, Capture, Change, Changes, CutFault, Follower, LINE_COUNT, Level, Line, Lines,
-    Rule, Step, Verdict,
+    Block, Break, Capture, Change, Changes, CutFault, LINE_COUNT, Level, Line, Lines, Rule, Step,
+    StepVisitor, Verdict,
 };
 
 /// How a recording starts: its slots, the levels of its opening, and its first steps. A step is the lines that change,
@@ -532,17 +532,17 @@ fn verdict_in(alloc: Global, capture: &Capture, size: u32) -> Result<Verdict, Cu
 }
 
 /// What took the steps of a capture one after the other.
-pub(crate) fn followed<F: Follower>(
+pub(crate) fn followed<F: StepVisitor>(
     alloc: Global,
     capture: &Capture,
-    follower: F,
+    visitor: F,
 ) -> Result<F, Fail> {
-    let mut follower = follower;
-    follower.open(capture.opening());
+    let mut visitor = visitor;
+    visitor.open(capture.opening());
     for step in capture.steps() {
-        follower.step(alloc, step.copy(alloc)?)?;
+        visitor.step(alloc, step.copy(alloc)?)?;
     }
-    Ok(follower)
+    Ok(visitor)
 }
 
 /// The verdict on a recording whose steps come one after the other.

@@ -5,7 +5,7 @@ use Rattle.vme_trace.specs.Levels.{is_low, is_high}
 use Rattle.vme_trace.specs.Lanes.{lanes_at}
 use Rattle.vme_trace.specs.Trace.{Trace, levels_at}
 use Rattle.vme_trace.specs.Signals.{level, low, high}
-use Rattle.vme_trace.specs.Judged.{Span}
+use Rattle.vme_trace.specs.Judged.{Stretch}
 use Rattle.vme_trace.specs.Transfers.{strobes_high, transfer_starts, lasts, answers, data_at}
 use Rattle.vme_trace.specs.declared.level.Level.{Level}
 use Rattle.vme_trace.specs.declared.level.Level.TheVariants.{Low, High, Unknown}
@@ -44,7 +44,7 @@ before_next i r h = omega arith
 not_zero : (i r k : ℕ) → i < r → k ≡ r - 1 → i < k → k < r
 not_zero i r k h e f = omega arith
 
-module _ (t : Trace) (span : Span) where
+module _ (t : Trace) (span : Stretch) where
   -- a strobe is low where a transfer starts
   open_at_start : (i : ℕ) → transfer_starts t span i ≡ true → strobes_high t i ≡ false
   unfolding transfer_starts low high

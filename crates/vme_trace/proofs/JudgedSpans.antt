@@ -5,7 +5,7 @@ use Rattle.std.proofs.lemmas.Bool.Decides.{nat_tests}
 use Rattle.std.proofs.lemmas.List.{map-append}
 use Rattle.vme_trace.specs.Instants.{any, least, greatest, those}
 use Rattle.vme_trace.specs.Trace.{Trace, levels_at, last_instant}
-use Rattle.vme_trace.specs.Judged.{Span, IsSpanOf, span_from, span_end, is_idle_at, is_reset_at, loses_control_at, stops_at, last_reset, was_idle, is_cut_off, span_starts, judged_spans}
+use Rattle.vme_trace.specs.Judged.{Stretch, IsSpanOf, span_from, span_end, is_idle_at, is_reset_at, loses_control_at, stops_at, last_reset, was_idle, is_cut_off, span_starts, judged_spans}
 use Rattle.vme_trace.proofs.Changing.{idle-holds, idle-runs, reset-holds}
 use Rattle.vme_trace.proofs.OpenTransfers.{ReadsStrobes, bool_cases}
 use Rattle.vme_trace.proofs.Ranges.{any-fails, fails-any, any-least, least-found, those-none, those-more, those-same, those-next, those-split, clash}
@@ -327,42 +327,42 @@ module _ (t : Trace) where
       ]
 
   -- what is known of a stretch
-  span-is : (span : Span) → IsSpanOf t span → span ≡ span_from t span.start
+  span-is : (span : Stretch) → IsSpanOf t span → span ≡ span_from t span.start
   span-is span is = ap (λ end. from_to span.start end) is.ends
     where
-      from_to : ℕ → ℕ → Span
+      from_to : ℕ → ℕ → Stretch
       from_to start end = record { start = start; end = end }
 
-  in_span : (span : Span) (n : ℕ) → IsSpanOf t span → span.start ≤ n → n < span.end → IsIn span.start n
+  in_span : (span : Stretch) (n : ℕ) → IsSpanOf t span → span.start ≤ n → n < span.end → IsIn span.start n
   in_span span n is from before = record { starts = is.starts; from = from; before = omega (arith, is.ends) }
 
-  pub starts_idle : (span : Span) → IsSpanOf t span → is_idle_at t span.start ≡ true
+  pub starts_idle : (span : Stretch) → IsSpanOf t span → is_idle_at t span.start ≡ true
   starts_idle span is = starts-idle span.start is.starts
 
-  pub starts_before_end : (span : Span) → IsSpanOf t span → span.start < span.end
+  pub starts_before_end : (span : Stretch) → IsSpanOf t span → span.start < span.end
   starts_before_end span is = omega (arith, is.ends, end-after span.start is.within)
 
-  pub ends_within : (span : Span) → IsSpanOf t span → span.end ≤ last_instant t + 1
+  pub ends_within : (span : Stretch) → IsSpanOf t span → span.end ≤ last_instant t + 1
   ends_within span is = omega (arith, is.ends, end-within span.start)
 
   -- from its start on and before its end nothing is lost, and the bus isn't reset
-  pub span_holds : (span : Span) (n : ℕ) → IsSpanOf t span → span.start ≤ n → n < span.end → loses_control_at t n ≡ false
+  pub span_holds : (span : Stretch) (n : ℕ) → IsSpanOf t span → span.start ≤ n → n < span.end → loses_control_at t n ≡ false
   span_holds span n is from before = in-held span.start n (in_span span n is from before)
 
-  pub span_runs : (span : Span) (n : ℕ) → IsSpanOf t span → span.start ≤ n → n < span.end → is_reset_at t n ≡ false
+  pub span_runs : (span : Stretch) (n : ℕ) → IsSpanOf t span → span.start ≤ n → n < span.end → is_reset_at t n ≡ false
   span_runs span n is from before = in-unreset span.start n (in_span span n is from before)
 
-  pub span_reads : (span : Span) → IsSpanOf t span → ReadsStrobes t span
+  pub span_reads : (span : Stretch) → IsSpanOf t span → ReadsStrobes t span
   span_reads span is = subst (ReadsStrobes t) (sym (span-is span is)) (reads_strobes t span.start (starts_idle span is))
 
-  pub span_stops : (span : Span) → IsSpanOf t span → span.end ≤ last_instant t → stops_at t span.end ≡ true
+  pub span_stops : (span : Stretch) → IsSpanOf t span → span.end ≤ last_instant t → stops_at t span.end ≡ true
   span_stops span is within = ap (stops_at t) is.ends ∙ end-stops span.start (omega (arith, is.ends))
 
   -- where it doesn't end by a reset, control is lost there
-  pub span_lost : (span : Span) → IsSpanOf t span → span.end ≤ last_instant t → is_reset_at t span.end ≡ false → loses_control_at t span.end ≡ true
+  pub span_lost : (span : Stretch) → IsSpanOf t span → span.end ≤ last_instant t → is_reset_at t span.end ≡ false → loses_control_at t span.end ≡ true
   span_lost span is within unreset = second_of _ _ unreset (span_stops span is within)
 
-  last_of : (span : Span) → IsSpanOf t span → (n : ℕ) × (span.end ≡ suc n) × IsIn span.start n
+  last_of : (span : Stretch) → IsSpanOf t span → (n : ℕ) × (span.end ≡ suc n) × IsIn span.start n
   last_of span is = by_end span.end refl
     where
       by_end : (end : ℕ) → span.end ≡ end → (n : ℕ) × (span.end ≡ suc n) × IsIn span.start n
@@ -370,7 +370,7 @@ module _ (t : Trace) where
       by_end (suc n) e = (n, e, in_span span n is (omega (arith, e, starts_before_end span is)) (omega (arith, e)))
 
   -- and no other starts then or later
-  pub span_final : (span : Span) (j : ℕ) → IsSpanOf t span → span.end ≤ last_instant t → is_reset_at t span.end ≡ false → span.end ≤ j → span_starts t j ≡ false
+  pub span_final : (span : Stretch) (j : ℕ) → IsSpanOf t span → span.end ≤ last_instant t → is_reset_at t span.end ≡ false → span.end ≤ j → span_starts t j ≡ false
   span_final span j is within unreset from =
       let last = last_of span is in
       let lost = ap (loses_control_at t) (sym last.1) ∙ span_lost span is within unreset in
@@ -380,18 +380,18 @@ module _ (t : Trace) where
       ]
 
   -- where it ends by a reset, the next is awaited after it
-  pub span_reset : (span : Span) → IsSpanOf t span → is_reset_at t span.end ≡ true → Awaits (suc span.end)
+  pub span_reset : (span : Stretch) → IsSpanOf t span → is_reset_at t span.end ≡ true → Awaits (suc span.end)
   span_reset span is reset =
       let last = last_of span is in
       subst (λ n. Awaits (suc n)) (sym last.1) (in-reset span.start last.0 last.2 (ap (is_reset_at t) (sym last.1) ∙ reset))
 
   -- no other starts within it, nor at its end
-  pub span_alone : (span : Span) (j : ℕ) → IsSpanOf t span → span.start < j → j ≤ span.end → span_starts t j ≡ false
+  pub span_alone : (span : Stretch) (j : ℕ) → IsSpanOf t span → span.start < j → j ≤ span.end → span_starts t j ≡ false
   span_alone span zero is after upto = absurd (omega arith)
   span_alone span (suc n) is after upto = in-no_start span.start n (in_span span n is (omega arith) (omega arith))
 
   -- a later one starts only after it ended by a reset
-  pub spans_apart : (span next : Span) → IsSpanOf t span → IsSpanOf t next → span.start < next.start → (is_reset_at t span.end ≡ true) × (span.end < next.start)
+  pub spans_apart : (span next : Stretch) → IsSpanOf t span → IsSpanOf t next → span.start < next.start → (is_reset_at t span.end ≡ true) × (span.end < next.start)
   spans_apart span next is is_next order =
       elim (before_or_after next.start span.end) [
         | inl within ↦ absurd (clash _ is_next.starts (span_alone span next.start is order within))
@@ -406,11 +406,11 @@ module _ (t : Trace) where
       by_test false e past = absurd (clash _ is_next.starts (span_final span next.start is (omega (arith, is_next.within)) e (omega arith)))
 
   -- those of one start are one
-  pub spans_same : (span other : Span) → IsSpanOf t span → IsSpanOf t other → span.start ≡ other.start → span ≡ other
+  pub spans_same : (span other : Stretch) → IsSpanOf t span → IsSpanOf t other → span.start ≡ other.start → span ≡ other
   spans_same span other is is_other e = span-is span is ∙ (ap (span_from t) e ∙ sym (span-is other is_other))
 
   -- and an instant is in one at most
-  pub spans_one : (span other : Span) (n : ℕ) → IsSpanOf t span → IsSpanOf t other → span.start ≤ n → n < span.end → other.start ≤ n → n < other.end → span ≡ other
+  pub spans_one : (span other : Stretch) (n : ℕ) → IsSpanOf t span → IsSpanOf t other → span.start ≤ n → n < span.end → other.start ≤ n → n < other.end → span ≡ other
   spans_one span other n is is_other from before from_other before_other =
       elim (three span.start other.start) [
         | inl order ↦ absurd (omega (arith, (spans_apart span other is is_other order).1))
@@ -422,10 +422,10 @@ module _ (t : Trace) where
       ]
 
   -- the stretches that start before an instant, and those that start there or later
-  abbrev pub spans_before : ℕ → List Span
+  abbrev pub spans_before : ℕ → List Stretch
   spans_before n = map (span_from t) (those (span_starts t) 0 n)
 
-  abbrev pub spans_after : ℕ → List Span
+  abbrev pub spans_after : ℕ → List Stretch
   spans_after n = map (span_from t) (those (span_starts t) n (last_instant t + 1))
 
   pub spans_all : judged_spans t ≡ spans_before (last_instant t + 1)
@@ -464,7 +464,7 @@ module _ (t : Trace) where
       within_or_past m last = grind arith
 
   -- the next stretch starts past the end of one
-  starts_past : (span : Span) → IsSpanOf t span → spans_after (span.start + 1) ≡ spans_after (span.end + 1)
+  starts_past : (span : Stretch) → IsSpanOf t span → spans_after (span.start + 1) ≡ spans_after (span.end + 1)
   starts_past span is =
       ap (map (span_from t)) (same_starts (span.start + 1) (span.end + 1) (omega (arith, starts_before_end span is)) (λ j a b. span_alone span j is (omega arith) (omega arith)))
 
@@ -487,14 +487,14 @@ module _ (t : Trace) where
       )
 
   -- none comes after one that doesn't end by a reset
-  pub spans_final : (span : Span) → IsSpanOf t span → (span.end ≤ last_instant t → is_reset_at t span.end ≡ false) → spans_after (span.end + 1) ≡ []
+  pub spans_final : (span : Stretch) → IsSpanOf t span → (span.end ≤ last_instant t → is_reset_at t span.end ≡ false) → spans_after (span.end + 1) ≡ []
   spans_final span is unreset =
       ap (map (span_from t))
       (those-none (span_starts t) (span.end + 1) (last_instant t + 1)
       (fails-any (span_starts t) (span.end + 1) (last_instant t + 1) (λ j a b. span_final span j is (omega arith) (unreset (omega arith)) (omega arith))))
 
   -- each is in the list, with those that start before it and after it
-  pub span_listed : (span : Span) → IsSpanOf t span → judged_spans t ≡ spans_before span.start ++ span ∷ spans_after (span.end + 1)
+  pub span_listed : (span : Stretch) → IsSpanOf t span → judged_spans t ≡ spans_before span.start ++ span ∷ spans_after (span.end + 1)
   span_listed span is =
       spans_all
       ∙ (ap (map (span_from t)) (those-split (span_starts t) 0 span.start (last_instant t + 1) (omega arith) (omega (arith, is.within)))
@@ -502,7 +502,7 @@ module _ (t : Trace) where
       ∙ ap (λ spans. spans_before span.start ++ spans) (starts_here span.start is.within is.starts ∙ (ap (λ first. first ∷ spans_after (span.start + 1)) (sym (span-is span is)) ∙ ap (λ spans. span ∷ spans) (starts_past span is)))))
 
 -- stretches in order: each but the last ends by a reset, before the next one starts
-abbrev pub AreInOrder : Trace → List Span → Type 0
+abbrev pub AreInOrder : Trace → List Stretch → Type 0
 AreInOrder t [] = Unit {0}
 AreInOrder t (span ∷ []) = IsSpanOf t span
 AreInOrder t (span ∷ next ∷ spans) = IsSpanOf t span × (is_reset_at t span.end ≡ true) × (span.end < next.start) × AreInOrder t (next ∷ spans)
@@ -540,7 +540,7 @@ module _ (t : Trace) where
   spans_in_order = subst (AreInOrder t) (sym (spans_from_first t)) (ordered_from (last_instant t + 1) 0 (omega arith))
 
   -- between a reset that ends one and the start of the next no instant is idle
-  pub busy_between : (span next : Span) (n : ℕ) → IsSpanOf t span → IsSpanOf t next → span.start < next.start → ((j : ℕ) → span.start < j → j < next.start → span_starts t j ≡ false) → span.end ≤ n → n < next.start → is_idle_at t n ≡ false
+  pub busy_between : (span next : Stretch) (n : ℕ) → IsSpanOf t span → IsSpanOf t next → span.start < next.start → ((j : ℕ) → span.start < j → j < next.start → span_starts t j ≡ false) → span.end ≤ n → n < next.start → is_idle_at t n ≡ false
   busy_between span next n is is_next order none from before =
       elim (same_or_after span.end n from) [
         | inl e ↦ ap (is_idle_at t) (sym e) ∙ reset-busy_at t span.end apart.0

@@ -7,7 +7,7 @@ use Rattle.vme_trace.specs.LineNumbers.{line_count, has_line}
 use Rattle.vme_trace.specs.Levels.{Levels, is_idle, is_idle_on, is_lost, loses_control}
 use Rattle.vme_trace.specs.Trace.{Trace, levels_at, after, last_instant}
 use Rattle.vme_trace.specs.Signals.{high, known}
-use Rattle.vme_trace.specs.Judged.{Span, span_from, span_end, is_idle_at, is_reset_at, loses_control_at, stops_at}
+use Rattle.vme_trace.specs.Judged.{Stretch, span_from, span_end, is_idle_at, is_reset_at, loses_control_at, stops_at}
 use Rattle.vme_trace.specs.Rules.{breaks, is_broken}
 use Rattle.vme_trace.specs.Verdict.{break_before}
 use Rattle.vme_trace.specs.declared.step.Step.{Step}
@@ -131,7 +131,7 @@ last_or_before : (j k : ℕ) → j ≤ suc k → (j ≡ suc k) ⊎ (j ≤ k)
 last_or_before j k h = grind arith
 
 -- a break stays the least, whatever comes later
-pub break_before-stays : (t : Trace) (span : Span) (rules : List Rule) (b : Break) (j k : ℕ) → break_before t span rules j ≡ Some b → j ≤ k → break_before t span rules k ≡ Some b
+pub break_before-stays : (t : Trace) (span : Stretch) (rules : List Rule) (b : Break) (j k : ℕ) → break_before t span rules j ≡ Some b → j ≤ k → break_before t span rules k ≡ Some b
 unfolding break_before
 break_before-stays t span rules b j zero first order = let e : j ≡ 0 = omega arith in rw e at first
 break_before-stays t span rules b j (suc k) first order =

@@ -5,11 +5,11 @@ use Rattle.vme_trace.specs.Levels.{is_idle, is_reset, loses_control}
 use Rattle.vme_trace.specs.Trace.{Trace, levels_at, last_instant}
 
 -- a stretch of instants that is judged as one: those after its start and before its end
-pub record Span : Type 0 where
+pub record Stretch : Type 0 where
   pub start : ℕ
   pub end : ℕ
 
-abbrev pub is_judged : Span → ℕ → Bool
+abbrev pub is_judged : Stretch → ℕ → Bool
 is_judged span i = nat_lt span.start i && nat_lt i span.end
 
 unfoldable pub is_idle_at : Trace → ℕ → Bool
@@ -29,7 +29,7 @@ stops_at t i = is_reset_at t i || loses_control_at t i
 unfoldable pub span_end : Trace → ℕ → ℕ
 span_end t s = unwrap_or (least (stops_at t) (s + 1) (last_instant t + 1)) (last_instant t + 1)
 
-abbrev pub span_from : Trace → ℕ → Span
+abbrev pub span_from : Trace → ℕ → Stretch
 span_from t s = record { start = s; end = span_end t s }
 
 -- the last reset before an instant, or the opening where there is none
@@ -49,11 +49,11 @@ unfoldable pub span_starts : Trace → ℕ → Bool
 span_starts t i = is_idle_at t i && not (was_idle t i) && none (is_cut_off t) 0 i
 
 -- every stretch that is judged, in order
-unfoldable pub judged_spans : Trace → List Span
+unfoldable pub judged_spans : Trace → List Stretch
 judged_spans t = map (span_from t) (those (span_starts t) 0 (last_instant t + 1))
 
 -- this is one of them
-pub record IsSpanOf (t : Trace) (span : Span) : Type 0 where
+pub record IsSpanOf (t : Trace) (span : Stretch) : Type 0 where
   pub within : span.start ≤ last_instant t
   pub starts : span_starts t span.start ≡ true
   pub ends : span.end ≡ span_end t span.start

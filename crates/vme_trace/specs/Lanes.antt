@@ -3,12 +3,12 @@ use Rattle.std.specs.Prelude.{ℕ, Bool, false, not, ◌+◌, ◌*◌, ◌&&◌,
 use Rattle.vme_trace.specs.LineNumbers.{D}
 use Rattle.vme_trace.specs.Levels.{Levels, level_at, is_high, is_known}
 use Rattle.vme_trace.specs.Data.{is_selected}
-use Rattle.vme_trace.specs.declared.data.Moved.{Moved}
-use Rattle.vme_trace.specs.declared.data.Moved.TheVariants.{Nothing, OddByte, EvenByte, Word, LongWord}
+use Rattle.vme_trace.specs.declared.data.MovedBytes.{MovedBytes}
+use Rattle.vme_trace.specs.declared.data.MovedBytes.TheVariants.{Nothing, OddByte, EvenByte, Word, LongWord}
 use Rattle.vme_trace.specs.declared.data.Lanes.{Lanes}
 
 -- the digit at a place, 0 that of D00 to D03 and 7 that of D28 to D31, is among the bytes
-abbrev pub has_digit : Moved → ℕ → Bool
+abbrev pub has_digit : MovedBytes → ℕ → Bool
 has_digit Nothing k = false
 has_digit OddByte k = nat_lt k 2
 has_digit EvenByte k = nat_le 2 k && nat_lt k 4
@@ -17,7 +17,7 @@ has_digit LongWord k = nat_lt k 8
 
 module _ (v : Levels) where
   -- the bytes of which the lines are selected
-  unfoldable pub moved_at : Moved
+  unfoldable pub moved_at : MovedBytes
   moved_at =
       if is_selected v (D 16) then LongWord
       else if is_selected v (D 0) && is_selected v (D 8) then Word

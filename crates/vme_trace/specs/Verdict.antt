@@ -5,7 +5,7 @@ use Rattle.std.specs.Option.{option_or}
 use Rattle.vme_trace.specs.Instants.{least}
 use Rattle.vme_trace.specs.LineNumbers.{line_count}
 use Rattle.vme_trace.specs.Trace.{Trace, time_at, last_instant}
-use Rattle.vme_trace.specs.Judged.{Span, judged_spans}
+use Rattle.vme_trace.specs.Judged.{Stretch, judged_spans}
 use Rattle.vme_trace.specs.Rules.{all_rules, breaks, is_unreadable}
 use Rattle.vme_trace.specs.declared.rule.Rule.{Rule}
 use Rattle.vme_trace.specs.declared.verdict.Break.{Break}
@@ -20,7 +20,7 @@ rule_count = length all_rules
 abbrev pub rules_in_force : List Rule
 rules_in_force = all_rules
 
-module _ (t : Trace) (span : Span) where
+module _ (t : Trace) (span : Stretch) where
   -- the least line on which a rule is broken at an instant
   unfoldable pub rule_break : ℕ → Rule → Option Break
   rule_break j r = option_map (λ l. record { instant = j; time = time_at t j; rule = r; line = l })
@@ -45,12 +45,12 @@ verdict_on None = Conforming
 verdict_on (Some b) = if is_unreadable b.rule then Unreadable b else Broken b
 
 -- the least break of some rules in stretches that follow one another
-abbrev pub least_of : List Rule → Trace → List Span → Option Break
+abbrev pub least_of : List Rule → Trace → List Stretch → Option Break
 least_of rules t [] = None
 least_of rules t (span ∷ []) = least_break t span rules
 least_of rules t (span ∷ next ∷ spans) = option_or (least_break t span rules) (least_of rules t (next ∷ spans))
 
-abbrev pub judge : List Rule → Trace → List Span → Verdict
+abbrev pub judge : List Rule → Trace → List Stretch → Verdict
 judge rules t [] = NeverIdle
 judge rules t (span ∷ spans) = verdict_on (least_of rules t (span ∷ spans))
 

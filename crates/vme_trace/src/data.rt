@@ -11,7 +11,7 @@ use crate::lines::Lines;
 
 /// Which bytes of the data bus a transfer moves.
 #[derive(Clone, Copy, Debug, PartialEq, Eq)]
-pub enum Moved {
+pub enum MovedBytes {
     /// None.
     Nothing,
     /// The odd byte, D00 to D07.
@@ -29,24 +29,24 @@ pub enum Moved {
 #[derive(Clone, Copy, Debug, PartialEq, Eq)]
 pub struct Lanes {
     /// Which bytes are moved.
-    pub moved: Moved,
+    pub moved: MovedBytes,
     /// Bit k is 1 where the digit at place k is moved, and one of its lines is unknown.
     pub unknown: u8,
     /// The digits that are moved and known, a high line being 1; any other digit is 0.
     pub value: u32,
 }
 
-impl Moved {
+impl MovedBytes {
     /// Whether the digit at a place, 0 that of D00 to D03, is among the bytes.
     pub fn has_digit(self, place: u8) -> bool
         ensures { result ≡ has_digit self place }
     {
         match self {
-            Moved::Nothing => false,
-            Moved::OddByte => place < 2,
-            Moved::EvenByte => 2 <= place && place < 4,
-            Moved::Word => place < 4,
-            Moved::LongWord => place < 8,
+            MovedBytes::Nothing => false,
+            MovedBytes::OddByte => place < 2,
+            MovedBytes::EvenByte => 2 <= place && place < 4,
+            MovedBytes::Word => place < 4,
+            MovedBytes::LongWord => place < 8,
         }
     }
 }
@@ -72,21 +72,21 @@ pub fn is_selected(lines: &Lines, line: Line) -> bool
 
 /// Which bytes a transfer at these levels moves.
 #[tactic(auto, unfolding(crate::specs::Lanes::moved_at))]
-fn moved_bytes(lines: &Lines) -> Moved
+fn moved_bytes(lines: &Lines) -> MovedBytes
     ensures { result ≡ moved_at lines.now }
 {
     let odd = is_selected(lines, Line::data(0));
     let even = is_selected(lines, Line::data(8));
     if is_selected(lines, Line::data(16)) {
-        Moved::LongWord
+        MovedBytes::LongWord
     } else if odd && even {
-        Moved::Word
+        MovedBytes::Word
     } else if odd {
-        Moved::OddByte
+        MovedBytes::OddByte
     } else if even {
-        Moved::EvenByte
+        MovedBytes::EvenByte
     } else {
-        Moved::Nothing
+        MovedBytes::Nothing
     }
 }
 

@@ -13,14 +13,14 @@ use Rattle.vcd_read.specs.Reading.{line_behind}
 use Rattle.vcd_read.specs.Taking.{at_end, state_at, steps}
 use Rattle.vcd_read.specs.Tokens.{Token, tokens_from}
 use Rattle.vme_bind.specs.Made.{made_change, made_instant}
-use Rattle.vme_bind.specs.TextCapture.{FailsBy}
+use Rattle.vme_bind.specs.TextCapture.{CaptureFailsBy}
 use Rattle.vme_bind.specs.TextPieces.{TextReached, outcome, outcome_ahead}
-use Rattle.vme_bind.specs.TextWaves.{IsJoined, ReadAhead, WaveReached, with_recording}
+use Rattle.vme_bind.specs.SpeculativeReading.{IsJoined, ReadSpeculatively, WaveReached, with_recording}
 use Rattle.vme_bind.specs.declared.fault.CaptureFault.{CaptureFault}
-use Rattle.vme_bind.specs.declared.taps.Taps.{Taps}
+use Rattle.vme_bind.specs.declared.net_lines.NetLines.{NetLines}
 use Rattle.vme_waves.specs.Cuts.{lines_behind, tokens_of}
 use Rattle.vme_waves.specs.Waves.{AreAhead, AreTaken, IsAheadAt, IsJudgedAhead, IsNextOf}
-use Rattle.vme_waves.specs.declared.cut.Piece.{Piece}
+use Rattle.vme_waves.specs.declared.cut.DumpPiece.{DumpPiece}
 
 -- ---- what comes of tokens, and of others behind them
 
@@ -31,15 +31,15 @@ ahead-append t first then' more =
 
 -- ---- the pieces that are left
 
-pub left-more : (pieces : List Piece) (count : ℕ) (d : Piece) → count < length pieces → drop count pieces ≡ get_or pieces count d ∷ drop (count + 1) pieces
+pub left-more : (pieces : List DumpPiece) (count : ℕ) (d : DumpPiece) → count < length pieces → drop count pieces ≡ get_or pieces count d ∷ drop (count + 1) pieces
 left-more pieces count d lt = rw add-one (drop-cons pieces count d lt)
 
 -- ---- pieces that are read in order
 
-pub taken-none : (pieces : List Piece) (t : TextReached) → AreTaken pieces t t pieces
+pub taken-none : (pieces : List DumpPiece) (t : TextReached) → AreTaken pieces t t pieces
 taken-none pieces t = record { lines = refl; leads = λ more. refl }
 
-module _ (pieces : List Piece) (t u : TextReached) (piece : Piece) (left : List Piece) (so : AreTaken pieces t u (piece ∷ left)) where
+module _ (pieces : List DumpPiece) (t u : TextReached) (piece : DumpPiece) (left : List DumpPiece) (so : AreTaken pieces t u (piece ∷ left)) where
   -- what comes of the pieces is what comes of the next one, and of those behind it
   next-first : (more : List Token)
       → outcome_ahead t (tokens_of t.body.line pieces) more
@@ -56,55 +56,55 @@ module _ (pieces : List Piece) (t u : TextReached) (piece : Piece) (left : List 
         ∙ ap (λ (l : ℕ). outcome_ahead v (tokens_of l left) more) (sym line);
   }
 
-  pub taken-fails : (fault : CaptureFault) → ((more : List Token) → FailsBy fault (outcome_ahead u (tokens_from u.body.line piece.bytes.now) more))
-      → (more : List Token) → FailsBy fault (outcome_ahead t (tokens_of t.body.line pieces) more)
+  pub taken-fails : (fault : CaptureFault) → ((more : List Token) → CaptureFailsBy fault (outcome_ahead u (tokens_from u.body.line piece.bytes.now) more))
+      → (more : List Token) → CaptureFailsBy fault (outcome_ahead t (tokens_of t.body.line pieces) more)
   taken-fails fault fails more =
-      subst (FailsBy fault) (sym (next-first more)) (fails (tokens_of (line_behind u.body.line piece.bytes.now) left ++ more))
+      subst (CaptureFailsBy fault) (sym (next-first more)) (fails (tokens_of (line_behind u.body.line piece.bytes.now) left ++ more))
 
 -- ---- pieces that were read ahead
 
-pub are-ahead : (w : WaveReached) (pieces : List Piece) (all : List (Option (ReadAhead × Trace)))
+pub are-ahead : (w : WaveReached) (pieces : List DumpPiece) (all : List (Option (ReadSpeculatively × Trace)))
     → ((place : ℕ) → place < length pieces → IsAheadAt w pieces place (get_or all place None)) → AreAhead w.body.nets w.taps pieces all
 are-ahead w [] all h = tt
 are-ahead w (piece ∷ pieces) [] h = tt
 are-ahead w (piece ∷ pieces) (one ∷ all) h =
     (h 0 (omega arith) piece refl, are-ahead w pieces all (λ place lt p at. h (suc place) (omega arith) p at))
 
-module _ (nets : List Net) (taps : Taps) (pieces left : List Piece) (piece : Piece) (all rest : List (Option (ReadAhead × Trace))) (one : Option (ReadAhead × Trace))
+module _ (nets : List Net) (taps : NetLines) (pieces left : List DumpPiece) (piece : DumpPiece) (all rest : List (Option (ReadSpeculatively × Trace))) (one : Option (ReadSpeculatively × Trace))
     (are : AreAhead nets taps pieces all) (at : pieces ≡ piece ∷ left) (of : all ≡ one ∷ rest) where
   both : AreAhead nets taps (piece ∷ left) (one ∷ rest)
-  both = subst (λ (ps : List Piece). AreAhead nets taps ps (one ∷ rest)) at (subst (AreAhead nets taps pieces) of are)
+  both = subst (λ (ps : List DumpPiece). AreAhead nets taps ps (one ∷ rest)) at (subst (AreAhead nets taps pieces) of are)
 
   pub one-ahead : IfSome one (λ a. IsJudgedAhead nets taps piece.bytes.now a.1 a.0)
   one-ahead = both.0
 
   pub rest-ahead : (w : WaveReached) → w.body.nets ≡ nets → w.taps ≡ taps → AreAhead w.body.nets w.taps left rest
   rest-ahead w same-nets same-taps =
-      subst (λ (n : List Net). AreAhead n w.taps left rest) (sym same-nets) (subst (λ (t : Taps). AreAhead nets t left rest) (sym same-taps) both.1)
+      subst (λ (n : List Net). AreAhead n w.taps left rest) (sym same-nets) (subst (λ (t : NetLines). AreAhead nets t left rest) (sym same-taps) both.1)
 
 -- nothing was read
-pub none-ahead : (nets : List Net) (taps : Taps) (pieces : List Piece) → AreAhead nets taps pieces []
+pub none-ahead : (nets : List Net) (taps : NetLines) (pieces : List DumpPiece) → AreAhead nets taps pieces []
 none-ahead nets taps [] = tt
 none-ahead nets taps (piece ∷ pieces) = tt
 
 -- the next of those that were read again, and the others
-pub next-ahead : (nets : List Net) (taps : Taps) (pieces left : List Piece) (piece : Piece) (all rest : List (Option (ReadAhead × Trace))) (next : Option (ReadAhead × Trace))
+pub next-ahead : (nets : List Net) (taps : NetLines) (pieces left : List DumpPiece) (piece : DumpPiece) (all rest : List (Option (ReadSpeculatively × Trace))) (next : Option (ReadSpeculatively × Trace))
     → AreAhead nets taps pieces all → pieces ≡ piece ∷ left → IsNextOf all rest next
     → IfSome next (λ a. IsJudgedAhead nets taps piece.bytes.now a.1 a.0) × AreAhead nets taps left rest
 next-ahead nets taps pieces left piece [] rest next are at (none, empty) = (
-  subst (λ (o : Option (ReadAhead × Trace)). IfSome o (λ a. IsJudgedAhead nets taps piece.bytes.now a.1 a.0)) (sym empty) tt,
+  subst (λ (o : Option (ReadSpeculatively × Trace)). IfSome o (λ a. IsJudgedAhead nets taps piece.bytes.now a.1 a.0)) (sym empty) tt,
   subst (AreAhead nets taps left) (sym none) (none-ahead nets taps left),
 )
 next-ahead nets taps pieces left piece (one ∷ all) rest next are at (same, is) =
-    let both : AreAhead nets taps (piece ∷ left) (one ∷ all) = subst (λ (ps : List Piece). AreAhead nets taps ps (one ∷ all)) at are in (
-      subst (λ (o : Option (ReadAhead × Trace)). IfSome o (λ a. IsJudgedAhead nets taps piece.bytes.now a.1 a.0)) (sym is) both.0,
+    let both : AreAhead nets taps (piece ∷ left) (one ∷ all) = subst (λ (ps : List DumpPiece). AreAhead nets taps ps (one ∷ all)) at are in (
+      subst (λ (o : Option (ReadSpeculatively × Trace)). IfSome o (λ a. IsJudgedAhead nets taps piece.bytes.now a.1 a.0)) (sym is) both.0,
       subst (AreAhead nets taps left) (sym same) both.1,
     )
 
-pub same-nets : (nets nets2 : List Net) (taps taps2 : Taps) (pieces : List Piece) (all : List (Option (ReadAhead × Trace)))
+pub same-nets : (nets nets2 : List Net) (taps taps2 : NetLines) (pieces : List DumpPiece) (all : List (Option (ReadSpeculatively × Trace)))
     → nets2 ≡ nets → taps2 ≡ taps → AreAhead nets taps pieces all → AreAhead nets2 taps2 pieces all
 same-nets nets nets2 taps taps2 pieces all e f are =
-    subst (λ (n : List Net). AreAhead n taps2 pieces all) (sym e) (subst (λ (t : Taps). AreAhead nets t pieces all) (sym f) are)
+    subst (λ (n : List Net). AreAhead n taps2 pieces all) (sym e) (subst (λ (t : NetLines). AreAhead nets t pieces all) (sym f) are)
 
 -- ---- a piece that is joined, and whose steps are passed
 
@@ -118,7 +118,7 @@ module _ (bytes : List ℕ) (recorded : Trace) (levels : Levels) (w v : WaveReac
       ∙ sym (levels_after-append watch.opening watch.steps ended)
       ∙ ap (λ (t : Trace). levels_after t.opening t.steps) (sym past)
 
-  pub joined-taken : (pieces left : List Piece) (piece : Piece) (t : TextReached) (end : Trace) → piece.bytes.now ≡ bytes
+  pub joined-taken : (pieces left : List DumpPiece) (piece : DumpPiece) (t : TextReached) (end : Trace) → piece.bytes.now ≡ bytes
       → AreTaken pieces t (with_recording watch w) (piece ∷ left) → end ≡ with_steps passed recorded.steps
       → AreTaken pieces t (with_recording end v) left
   joined-taken pieces left piece t end of so done =

@@ -3,7 +3,7 @@ use Rattle.std.proofs.Common.{◌≡◌, ℕ, List, [], ◌++◌, Result, Ok, Er
 use Rattle.std.specs.Prelude.{IfOk}
 use Rattle.vcd_read.specs.Reading.{line_behind}
 use Rattle.vcd_read.specs.Tokens.{Token, tokens_from}
-use Rattle.vme_bind.specs.TextPieces.{LeadsTo, TextReached, outcome_ahead}
+use Rattle.vme_bind.specs.TextPieces.{TextContinuesAs, TextReached, outcome_ahead}
 use Rattle.vme_bind.specs.declared.fault.CaptureFault.{CaptureFault}
 use Rattle.vme_bind.proofs.TextPieceLemmas.{leads-same}
 use Rattle.vme_waves.specs.Cuts.{IsCutIn}
@@ -22,8 +22,8 @@ module _ (whole front behind : List ℕ) (cut : IsCutIn whole front behind) (t u
 
   -- and so it is what that is read to
   pub both-lead : {X : Type 0} (reach : X → TextReached) (r : Result X CaptureFault)
-      → LeadsTo (λ x. outcome_ahead (reach x) []) r (outcome_ahead u (tokens_from u.body.line behind))
-      → LeadsTo (λ x. outcome_ahead (reach x) []) r (outcome_ahead t (tokens_from t.body.line whole))
+      → TextContinuesAs (λ x. outcome_ahead (reach x) []) r (outcome_ahead u (tokens_from u.body.line behind))
+      → TextContinuesAs (λ x. outcome_ahead (reach x) []) r (outcome_ahead t (tokens_from t.body.line whole))
   both-lead reach r leads =
       leads-same (λ x. outcome_ahead (reach x) []) r (outcome_ahead t (tokens_from t.body.line whole)) (outcome_ahead u (tokens_from u.body.line behind)) front-read leads
 

@@ -1,3 +1,3 @@
 pub mod Cuts
-pub mod Runs
+pub mod Chunks
 pub mod Waves

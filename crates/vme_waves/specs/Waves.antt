@@ -6,33 +6,33 @@ use Rattle.vme_trace.specs.Trace.{Trace}
 use Rattle.vcd_read.specs.Header.{Net}
 use Rattle.vcd_read.specs.Tokens.{Token}
 use Rattle.vme_bind.specs.TextPieces.{TextReached, outcome_ahead}
-use Rattle.vme_bind.specs.TextWaves.{IsReadAhead, ReadAhead, WaveReached}
-use Rattle.vme_bind.specs.declared.taps.Taps.{Taps}
+use Rattle.vme_bind.specs.SpeculativeReading.{IsReadSpeculatively, ReadSpeculatively, WaveReached}
+use Rattle.vme_bind.specs.declared.net_lines.NetLines.{NetLines}
 use Rattle.vme_waves.specs.Cuts.{lines_behind, tokens_of}
-use Rattle.vme_waves.specs.declared.cut.Piece.{Piece}
+use Rattle.vme_waves.specs.declared.cut.DumpPiece.{DumpPiece}
 
 -- these bytes were read ahead, and their steps, of which this recording is made, were judged behind the levels that
 -- they were read from
 pub record IsJudgedAhead
-    (nets : List Net) (taps : Taps) (bytes : List ℕ) (recorded : Trace) (ahead : ReadAhead) : Type 0 where
+    (nets : List Net) (taps : NetLines) (bytes : List ℕ) (recorded : Trace) (ahead : ReadSpeculatively) : Type 0 where
   pub opening : recorded.opening ≡ ahead.from
-  pub read : IsReadAhead nets taps bytes recorded ahead
+  pub read : IsReadSpeculatively nets taps bytes recorded ahead
 
 -- what was read ahead, if anything was, is of these pieces, in their order
-abbrev pub AreAhead : List Net → Taps → List Piece → List (Option (ReadAhead × Trace)) → Type 0
+abbrev pub AreAhead : List Net → NetLines → List DumpPiece → List (Option (ReadSpeculatively × Trace)) → Type 0
 AreAhead nets taps [] all = Unit {0}
 AreAhead nets taps (piece ∷ pieces) [] = Unit {0}
 AreAhead nets taps (piece ∷ pieces) (one ∷ all) =
     IfSome one (λ a. IsJudgedAhead nets taps piece.bytes.now a.1 a.0) × AreAhead nets taps pieces all
 
 -- the same of the piece at this place
-abbrev pub IsAheadAt : WaveReached → List Piece → ℕ → Option (ReadAhead × Trace) → Type 0
+abbrev pub IsAheadAt : WaveReached → List DumpPiece → ℕ → Option (ReadSpeculatively × Trace) → Type 0
 IsAheadAt wave pieces place one =
-    (piece : Piece) → slice_get pieces place ≡ Some piece
+    (piece : DumpPiece) → slice_get pieces place ≡ Some piece
     → IfSome one (λ a. IsJudgedAhead wave.body.nets wave.taps piece.bytes.now a.1 a.0)
 
 -- some pieces are taken, up to those that are left: what comes of all the pieces is what comes of those
-pub record AreTaken (pieces : List Piece) (before after : TextReached) (left : List Piece) : Type 0 where
+pub record AreTaken (pieces : List DumpPiece) (before after : TextReached) (left : List DumpPiece) : Type 0 where
   pub lines : lines_behind before.body.line pieces ≡ lines_behind after.body.line left
   pub leads : (more : List Token)
       → outcome_ahead before (tokens_of before.body.line pieces) more

@@ -1,7 +1,7 @@
 //! A text that is cut into pieces where they can be read apart.
 
 ghost use Rattle.std.specs.Prelude.{◌≡◌, ◌≤◌, ◌<◌, length, IfOk, IfSome};
-ghost use Rattle.vme_waves.specs.Cuts.{AreOf, IsCutIn};
+ghost use Rattle.vme_waves.specs.Cuts.{ArePiecesOf, IsCutIn};
 
 use memchr::{memchr, memrchr};
 use std::alloc::{AllocError, Global};
@@ -9,7 +9,7 @@ use vcd_read::{line_feeds, whole_tokens};
 
 /// A piece of a text, and the line that it begins on.
 #[derive(Clone, Copy)]
-pub(crate) struct Piece<'t> {
+pub(crate) struct DumpPiece<'t> {
     pub bytes: &'t [u8],
     pub line: u64,
 }
@@ -73,8 +73,8 @@ pub(crate) fn cut<'t>(
     text: &'t [u8],
     line: u64,
     most: u32,
-) -> Result<Vec<Piece<'t>>, AllocError>
-    ensures { IfOk result (λ pieces. AreOf text.now pieces.items) }
+) -> Result<Vec<DumpPiece<'t>>, AllocError>
+    ensures { IfOk result (λ pieces. ArePiecesOf text.now pieces.items) }
 {
     let size = text.len() / (most as usize).max(1);
     let mut pieces = Vec::new(alloc);
@@ -84,10 +84,10 @@ pub(crate) fn cut<'t>(
         let Some((bytes, behind)) = cut_at_time(left, size) else {
             break;
         };
-        pieces.push(Piece { bytes, line })?;
+        pieces.push(DumpPiece { bytes, line })?;
         line = line.saturating_add(line_feeds(bytes));
         left = behind;
     }
-    pieces.push(Piece { bytes: left, line })?;
+    pieces.push(DumpPiece { bytes: left, line })?;
     Ok(pieces)
 }

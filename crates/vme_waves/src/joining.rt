@@ -4,41 +4,41 @@ ghost use Rattle.std.specs.Prelude.{◌≡◌, ◌≤◌, drop, length, IfOk, If
 ghost use Rattle.std.specs.Vec.Iter.{into_iter_items};
 ghost use Rattle.vme_trace.specs.Followed.{with_steps};
 ghost use Rattle.vme_bind.specs.Recording.{step_in};
-ghost use Rattle.vme_bind.specs.TextWaves.{FitsAhead, with_recording};
+ghost use Rattle.vme_bind.specs.SpeculativeReading.{MayFollowLevels, with_recording};
 ghost use Rattle.vme_waves.specs.Waves.{AreAhead, AreTaken, IsJudgedAhead, IsNextOf};
 
-use crate::ahead::read_ahead;
-use crate::cut::Piece;
-use crate::runs::JudgedRuns;
+use crate::chunks::JudgedChunks;
+use crate::cut::DumpPiece;
+use crate::speculative::read_ahead;
 use std::alloc::{AllocError, Global};
 use std::vec::IntoIter;
-use vme_bind::{Ahead, TextWave};
-use vme_summary::advance::Advance;
-use vme_summary::watch::Watch;
-use vme_trace::{Follower, Step};
+use vme_bind::{SpeculativeChunk, SpeculativeReader};
+use vme_summary::chunk_judge::ChunkJudge;
+use vme_summary::stream_judge::StreamJudge;
+use vme_trace::{Step, StepVisitor};
 
 /// What some pieces lead to, of which the first were joined.
 #[derive(Drop)]
-pub(crate) struct Joined<J: Advance> {
+pub(crate) struct JoinedPieces<J: ChunkJudge> {
     /// How far the recording is made behind those.
-    pub wave: TextWave,
+    pub wave: SpeculativeReader,
     /// What judged it.
-    pub watch: Watch<J>,
+    pub watch: StreamJudge<J>,
     /// How many were joined.
     pub count: usize,
 }
 
 /// A piece, if it was read and fits.
-fn if_fits<J: Advance>(
-    wave: &TextWave,
-    ahead: Option<(Ahead, JudgedRuns<J>)>,
-) -> Option<(Ahead, JudgedRuns<J>)>
+fn if_fits<J: ChunkJudge>(
+    wave: &SpeculativeReader,
+    ahead: Option<(SpeculativeChunk, JudgedChunks<J>)>,
+) -> Option<(SpeculativeChunk, JudgedChunks<J>)>
     ensures same { IfSome result (λ a. ahead ≡ Some a) }
-    ensures fits { IfSome result (λ a. FitsAhead wave.now a.0) }
+    ensures fits { IfSome result (λ a. MayFollowLevels wave.now a.0) }
 {
-    let (ahead, runs) = ahead?;
+    let (ahead, chunks) = ahead?;
     if wave.may_join(&ahead) {
-        Some((ahead, runs))
+        Some((ahead, chunks))
     } else {
         None
     }
@@ -46,18 +46,18 @@ fn if_fits<J: Advance>(
 
 /// The piece as it was read ahead, or again, if it fits so, or else as it is read from the levels that really stand
 /// before it, if it fits then.
-fn fitting<J: Advance>(
+fn fitting<J: ChunkJudge>(
     alloc: Global,
-    wave: &TextWave,
-    piece: Piece<'_>,
-    ahead: Option<(Ahead, JudgedRuns<J>)>,
-    again: Option<(Ahead, JudgedRuns<J>)>,
-) -> Option<(Ahead, JudgedRuns<J>)>
+    wave: &SpeculativeReader,
+    piece: DumpPiece<'_>,
+    ahead: Option<(SpeculativeChunk, JudgedChunks<J>)>,
+    again: Option<(SpeculativeChunk, JudgedChunks<J>)>,
+) -> Option<(SpeculativeChunk, JudgedChunks<J>)>
     requires ahead { IfSome ahead (λ a. IsJudgedAhead wave.now.body.nets wave.now.taps piece.bytes.now a.1 a.0) }
     requires again { IfSome again (λ a. IsJudgedAhead wave.now.body.nets wave.now.taps piece.bytes.now a.1 a.0) }
     ensures read { IfSome result (λ a.
         IsJudgedAhead wave.now.body.nets wave.now.taps piece.entry.bytes.now a.1 a.0) }
-    ensures fits { IfSome result (λ a. FitsAhead wave.now a.0) }
+    ensures fits { IfSome result (λ a. MayFollowLevels wave.now a.0) }
 {
     if let Some(fit) = if_fits(wave, ahead) {
         return Some(fit);
@@ -69,11 +69,11 @@ fn fitting<J: Advance>(
 }
 
 /// Goes past a step, if there is one. The only error is want of memory.
-fn past_step<J: Advance>(
+fn past_step<J: ChunkJudge>(
     alloc: Global,
-    watch: Watch<J>,
+    watch: StreamJudge<J>,
     step: Option<Step>,
-) -> Result<Watch<J>, AllocError>
+) -> Result<StreamJudge<J>, AllocError>
     ensures { IfOk result (λ passed. passed ≡ with_steps watch (step_in step)) }
 {
     let mut watch = watch;
@@ -95,14 +95,14 @@ fn next_of<X: Drop>(pieces: &mut IntoIter<Option<X>>) -> Option<X>
 
 /// Joins the pieces in order, up to the first that doesn't fit, and judges their steps. Some were read again. The only
 /// error is want of memory.
-pub(crate) fn join_in_order<J: Advance>(
+pub(crate) fn join_in_order<J: ChunkJudge>(
     alloc: Global,
-    wave: TextWave,
-    watch: Watch<J>,
-    pieces: &[Piece<'_>],
-    all: Vec<Option<(Ahead, JudgedRuns<J>)>>,
-    again: Vec<Option<(Ahead, JudgedRuns<J>)>>,
-) -> Result<Joined<J>, AllocError>
+    wave: SpeculativeReader,
+    watch: StreamJudge<J>,
+    pieces: &[DumpPiece<'_>],
+    all: Vec<Option<(SpeculativeChunk, JudgedChunks<J>)>>,
+    again: Vec<Option<(SpeculativeChunk, JudgedChunks<J>)>>,
+) -> Result<JoinedPieces<J>, AllocError>
     requires all { AreAhead wave.body.nets wave.taps pieces.now all.items }
     requires again { AreAhead wave.body.nets wave.taps pieces.now again.items }
     ensures count { IfOk result (λ joined. joined.count ≤ length pieces.now) }
@@ -118,14 +118,14 @@ pub(crate) fn join_in_order<J: Advance>(
             break;
         }
         let anew = next_of(&mut again);
-        let Some((ahead, runs)) = fitting(alloc, &wave, pieces[count], ahead, anew) else {
+        let Some((ahead, chunks)) = fitting(alloc, &wave, pieces[count], ahead, anew) else {
             break;
         };
         let (behind, step) = wave.join(alloc, ahead)?;
         wave = behind;
         watch = past_step(alloc, watch, step)?;
-        watch = runs.pass(alloc, watch)?;
+        watch = chunks.pass(alloc, watch)?;
         count += 1;
     }
-    Ok(Joined { wave, watch, count })
+    Ok(JoinedPieces { wave, watch, count })
 }

@@ -2,20 +2,20 @@
 //!
 //! [`read_by_workers`] does with a piece what `TextPieces::read` does. What stands before its first time and behind its
 //! last is read in order. The rest is cut where times begin (`cut`); each part of it is read ahead of those before it,
-//! from the levels that likely stand there, and judged as it is read (`ahead`, `runs`), in a thread of its own
-//! (`apart`). Once these were guessed wrong (`guess`), what the parts do to the lines is read first. They are joined in
+//! from the levels that likely stand there, and judged as it is read (`speculative`, `chunks`), in a thread of its own
+//! (`detached`). Once these were guessed wrong (`speculation`), what the parts do to the lines is read first. They are joined in
 //! order (`joining`): a part that was read from other levels than really stand before it is read again, from those.
 //! From the first that doesn't fit on, they are read in order (`in_order`).
 #![tactic(auto)]
 
-mod ahead;
-mod apart;
+mod chunks;
 mod cut;
-mod guess;
+mod detached;
 mod in_order;
 mod joining;
-mod runs;
+mod speculation;
+mod speculative;
 mod wave;
 
-pub use guess::Guess;
+pub use speculation::Speculation;
 pub use wave::read_by_workers;

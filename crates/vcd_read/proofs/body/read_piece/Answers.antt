@@ -17,4 +17,4 @@ returns g c =
     λ more.
     rw (c.end.ensures.taken, c.end.ensures.clock, c.end.ensures.bracket, c.end.ensures.place) (
     (rw (c.on_line.ensures.line c.args.reader.text) at c.in_ok-all.ensures.rest more)
-    ∙ nothing_behind g.T.Taker.with_change g.T.Taker.with_instant c.args.codes.now end.codes.now (state_of end.reader.text (taking (g.T.Taker.taken end.waves.taker) end.waves.clock) end.bracket) (place_of end.place) (left_at end.reader.text end.reader.at) (ap (λ (codes : Bor (List Net)). codes.now) c.in_ok-all.ensures.codes) c.in_ok-all.ensures.end more)
+    ∙ nothing_behind g.T.ChangeVisitor.with_change g.T.ChangeVisitor.with_instant c.args.codes.now end.codes.now (state_of end.reader.text (taking (g.T.ChangeVisitor.taken end.timed.visitor) end.timed.clock) end.bracket) (place_of end.place) (left_at end.reader.text end.reader.at) (ap (λ (codes : Bor (List Net)). codes.now) c.in_ok-all.ensures.codes) c.in_ok-all.ensures.end more)

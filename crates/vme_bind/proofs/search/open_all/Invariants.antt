@@ -1,5 +1,5 @@
 use Rattle.std.proofs.Common.{◌≡◌, map, take, drop}
-use Rattle.vme_bind.specs.Sought.{opened}
+use Rattle.vme_bind.specs.PathSearch.{opened}
 use Rattle.vme_bind.proofs.search.open_all.Given as goal
 
 abbrev pub invariant-loop-s : goal.invariant-loop-s

@@ -3,7 +3,7 @@ use Rattle.std.proofs.Common.{◌≡◌, ℕ, ◌+◌, ◌<◌, ◌≤◌, sym, 
 use Rattle.std.specs.Prelude.{min}
 use Rattle.std.proofs.Math.Nat.{min-eq_left, min-eq_right}
 use Rattle.vme_trace.specs.Trace.{Trace, last_instant}
-use Rattle.vme_trace.specs.Judged.{Span}
+use Rattle.vme_trace.specs.Judged.{Stretch}
 use Rattle.vme_trace.specs.Rules.{all_rules}
 use Rattle.vme_trace.specs.Verdict.{break_at, least_break}
 use Rattle.vme_cert.specs.declared.index.Index.{Index}
@@ -155,10 +155,10 @@ returns-clause-index c = c.loop-instant.invariant.index
 
 pub returns-clause-noted : goal.returns-clause-noted
 returns-clause-noted c =
-    let end = ap (λ (s : Span). s.end) c.loop-instant.invariant.span in
+    let end = ap (λ (s : Stretch). s.end) c.loop-instant.invariant.span in
     omega (arith, end, c.loop-instant.invariant.noted, c.last_instant.ensures.last, c.min-last.ensures, c.requires.within)
 
 pub returns-clause-answered : goal.returns-clause-answered
 returns-clause-answered c =
-    let end = ap (λ (s : Span). s.end) c.loop-instant.invariant.span in
+    let end = ap (λ (s : Stretch). s.end) c.loop-instant.invariant.span in
     omega (arith, end, c.loop-instant.invariant.answered, c.last_instant.ensures.last, c.min-last.ensures, c.requires.within)

@@ -5,7 +5,7 @@ use Rattle.vme_core.specs.declared.view.View.{View}
 use Rattle.vme_board.specs.Benches.{total_of, view_of}
 use Rattle.vme_floor.specs.Collecting.{IsCollectedOf}
 use Rattle.vme_floor.specs.declared.answer.Reply.{Reply}
-use Rattle.vme_floor.specs.declared.collector.Collector.{Collector}
+use Rattle.vme_floor.specs.declared.collector.CollectingWorker.{CollectingWorker}
 use Rattle.vme_floor.specs.declared.worker.Work.{Work}
 use Rattle.vme_floor.specs.Works.{IsOtherWorkOf, IsWork}
 use Rattle.vme_floor.proofs.Collecting.{collected_both}
@@ -15,9 +15,9 @@ use Rattle.vme_floor.proofs.threads.with_other.Goals as goal
 pub returns-clause-collected : goal.returns-clause-collected
 returns-clause-collected c =
     let board = c.args.board.now in let ds : List Block = c.args.deliveries.now in let total : ℕ = total_of board in
-    let P : Result Collector AllocError → Type 0 = λ r. IfOk r (λ all. IsCollectedOf board ds all) in
+    let P : Result CollectingWorker AllocError → Type 0 = λ r. IfOk r (λ all. IsCollectedOf board ds all) in
     let Q : Result Work AllocError → Type 0 = λ r. IfOk r (λ w. IsOtherWorkOf board ds w) in
-    let first : Collector = c.in_ok-work.field-0 in let other : Work = c.in_ok-other_bench.field-0 in
+    let first : CollectingWorker = c.in_ok-work.field-0 in let other : Work = c.in_ok-other_bench.field-0 in
     let a : IsCollectedOf board ds first = subst P c.in_ok-work.was c.requires.first in
     let b : IsOtherWorkOf board ds other = subst Q c.in_ok-other_bench.was c.requires.other in
     let fold = c.fold-bench.ensures in
@@ -35,6 +35,6 @@ returns-clause-collected c =
 
 pub returns-clause-share : goal.returns-clause-share
 returns-clause-share c s t a b =
-    let x : (view_of c.in_ok-work.field-0.work.bench).share ≡ s = subst (λ (r : Result Collector AllocError). IfOk r (λ all. (view_of all.work.bench).share ≡ s)) c.in_ok-work.was a in
+    let x : (view_of c.in_ok-work.field-0.work.bench).share ≡ s = subst (λ (r : Result CollectingWorker AllocError). IfOk r (λ all. (view_of all.work.bench).share ≡ s)) c.in_ok-work.was a in
     let y : (view_of c.in_ok-other_bench.field-0.bench).share ≡ t = subst (λ (r : Result Work AllocError). IfOk r (λ work. (view_of work.bench).share ≡ t)) c.in_ok-other_bench.was b in
     ap (λ (u : View). u.share) c.fold-bench.ensures.joint ∙ (λ i. x i ++ y i)

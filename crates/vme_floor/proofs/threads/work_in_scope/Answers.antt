@@ -5,21 +5,21 @@ use Rattle.std.specs.declared.thread.PromisedHandle.{PromisedHandle}
 use Rattle.vme_core.specs.declared.view.View.{View}
 use Rattle.vme_board.specs.Benches.{total_of, view_of}
 use Rattle.vme_floor.specs.Collecting.{IsCollected}
-use Rattle.vme_floor.specs.declared.threads.Assignment.{Assignment}
+use Rattle.vme_floor.specs.declared.threads.WorkContext.{WorkContext}
 use Rattle.vme_floor.specs.declared.worker.Work.{Work}
 use Rattle.vme_floor.proofs.Places.{all_more, all_more_at}
 use Rattle.vme_floor.proofs.Sharing.{upto, whole_upto}
-use Rattle.vme_core.specs.Shares.{kept_share, IsWhole}
+use Rattle.vme_core.specs.Shares.{kept_share, IsWholeShare}
 use Rattle.std.specs.Vec.Iter.{into_iter_items, into_iter_len}
 use Rattle.vme_board.specs.declared.bench.Bench.{Bench}
-use Rattle.vme_floor.specs.declared.collector.Collector.{Collector}
+use Rattle.vme_floor.specs.declared.collector.CollectingWorker.{CollectingWorker}
 use Rattle.vme_core.specs.Views.{kept_view}
 use Rattle.vme_floor.proofs.Collecting.{collected_same}
 use Rattle.vme_floor.proofs.threads.work_in_scope.Goals.{else-loop-worker-test, then-loop-worker-test+then-is_err, then-loop-worker-test+else-is_err+in-Err}
 use Rattle.vme_floor.proofs.threads.work_in_scope.Goals as goal
 
 abbrev Handle : Type 0
-Handle = PromisedHandle (Result Work AllocError) Assignment
+Handle = PromisedHandle (Result Work AllocError) WorkContext
 
 -- the share of a thread's work, by its worker's number
 one_share : (r : Result Work AllocError) (P : Work → Type 0) (m n : ℕ) → IfOk r (λ work. P work × ((view_of work.bench).share ≡ m ∷ [])) → m ≡ n → IfOk r (λ work. (view_of work.bench).share ≡ n ∷ [])
@@ -68,16 +68,16 @@ loop-worker-preserved g c =
       share = ap (λ (v : View). v.share) split.old ∙ (ap kept_share was.share ∙ ap (λ (n : ℕ). n ∷ []) more);
       count = omega (arith, was.count, more);
       workers = λ k d below. all_more_at (λ n h. h.promise.worker ≡ n + 1) held c.push_reserved.new.self.items c.in-Ok.handle (c.push_reserved.ensures.items ∙ ap (λ hs. hs ++ c.in-Ok.handle ∷ []) c.reserve.ensures.items)
-          (ap (λ (a : Assignment). a.worker) c.in-Ok.ensures.ok ∙ (was.count ∙ ap (λ (n : ℕ). n + 1) c.loop-worker.handles.ok.0))
+          (ap (λ (a : WorkContext). a.worker) c.in-Ok.ensures.ok ∙ (was.count ∙ ap (λ (n : ℕ). n + 1) c.loop-worker.handles.ok.0))
           (λ l e low. was.workers l e (let long = c.loop-worker.handles.ok.0 in omega (arith, low, long))) k d (let long = c.push_reserved.new.self.ok.0 in omega (arith, below, long));
       none = λ one. let t = c.loop-worker-test.true in let a = c.loop-worker.auto.worker in absurd (omega arith);
       assignments = λ k d below. all_more P held c.push_reserved.new.self.items c.in-Ok.handle (c.push_reserved.ensures.items ∙ ap (λ hs. hs ++ c.in-Ok.handle ∷ []) c.reserve.ensures.items)
-          (ap (λ (a : Assignment). a.board.now) c.in-Ok.ensures.ok, ap (λ (a : Assignment). a.deliveries.now) c.in-Ok.ensures.ok)
+          (ap (λ (a : WorkContext). a.board.now) c.in-Ok.ensures.ok, ap (λ (a : WorkContext). a.deliveries.now) c.in-Ok.ensures.ok)
           (λ l e low. was.assignments l e (let long = c.loop-worker.handles.ok.0 in omega (arith, low, long))) k d (let long = c.push_reserved.new.self.ok.0 in omega (arith, below, long));
     }
 
 -- the same share, told otherwise
-share_as : (r : Result Collector AllocError) (s u : List ℕ) → IfOk r (λ all. (view_of all.work.bench).share ≡ s) → s ≡ u → IfOk r (λ all. (view_of all.work.bench).share ≡ u)
+share_as : (r : Result CollectingWorker AllocError) (s u : List ℕ) → IfOk r (λ all. (view_of all.work.bench).share ≡ s) → s ≡ u → IfOk r (λ all. (view_of all.work.bench).share ≡ u)
 share_as (Ok all) s u a is = a ∙ is
 share_as (Err e) s u a is = tt
 
@@ -118,5 +118,5 @@ returns-in-Ok-all-clause-whole g c =
     ] in
     let was = c.loop-handle.invariant.shares fine in let m : ℕ = was.0 in let t : ℕ = was.1 in let none_out = c.in-None.ensures.steps.0 in
     let done : t ≡ m = let k = was.2 in omega (arith, k, none_out) in
-    let here : (view_of c.in-Ok-all.all.work.bench).share ≡ m ∷ upto t = subst (λ (r : Result Collector AllocError). IfOk r (λ all. (view_of all.work.bench).share ≡ m ∷ upto t)) c.in-Ok-all.is was.4 in
-    subst (λ (s : List ℕ). IsWhole s) (sym (here ∙ ap (λ (n : ℕ). m ∷ upto n) done)) (whole_upto m)
+    let here : (view_of c.in-Ok-all.all.work.bench).share ≡ m ∷ upto t = subst (λ (r : Result CollectingWorker AllocError). IfOk r (λ all. (view_of all.work.bench).share ≡ m ∷ upto t)) c.in-Ok-all.is was.4 in
+    subst (λ (s : List ℕ). IsWholeShare s) (sym (here ∙ ap (λ (n : ℕ). m ∷ upto n) done)) (whole_upto m)

@@ -18,7 +18,7 @@ loop-block-init g c =
       tt,
       (
         [],
-        subst (λ (o : Levels). g.J.Advance.is_past c.at-judging.result o []) c.opening.ensures.opening c.at-judging.ensures,
+        subst (λ (o : Levels). g.J.ChunkJudge.is_past c.at-judging.result o []) c.opening.ensures.opening c.at-judging.ensures,
         rw from (c.chunks-block-items.ensures.rest ∙ c.steps-steps.ensures.steps),
       ),
     )
@@ -47,4 +47,4 @@ returns-clause-past g c =
     let inv = c.loop-block.invariant in
     let none = nil_from_length _ c.in-None.ensures.steps.1.0 in
     let all = sym (append-nil inv.2.0) ∙ ap (λ x. inv.2.0 ++ x) (sym none) ∙ inv.2.2 in
-    subst (λ x. g.J.Advance.is_past c.loop-block.judging c.args.capture.now.opening x) all inv.2.1
+    subst (λ x. g.J.ChunkJudge.is_past c.loop-block.judging c.args.capture.now.opening x) all inv.2.1

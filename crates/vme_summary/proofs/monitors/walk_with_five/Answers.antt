@@ -2,7 +2,7 @@ use Rattle.std.proofs.Common.{◌≡◌, ◌<◌, ◌+◌, ◌∷◌, [], ◌++�
 use Rattle.std.proofs.lemmas.List.{length-take, take_more}
 use Rattle.vme_trace.specs.Trace.{changed, levels_after}
 use Rattle.vme_monitor.specs.Runs.{levels_after-append}
-use Rattle.vme_monitor.specs.declared.view.View.{View}
+use Rattle.vme_monitor.specs.declared.view.StepView.{StepView}
 use Rattle.vme_summary.proofs.monitors.walk_with_five.Goals as goal
 
 pub loop-step-preserved : goal.loop-step-preserved
@@ -16,14 +16,14 @@ loop-step-preserved g c =
     let inv = c.loop-step.invariant in
     let found = c.go_to.ensures.before ∙ inv.before in
     let seen = rw c.as_slice-changes.ensures at c.go_to.ensures.seen in
-    let left : c.go_to.new.self.after ≡ levels_after c.args.opening.now (done ++ s ∷ []) = rw levels_after-append (ap (λ (v : View). v.after) seen ∙ ap (λ o. changed o s.changes) found) in
+    let left : c.go_to.new.self.after ≡ levels_after c.args.opening.now (done ++ s ∷ []) = rw levels_after-append (ap (λ (v : StepView). v.after) seen ∙ ap (λ o. changed o s.changes) found) in
     record {
       counted = omega arith;
       before = rw more (c.go_past.ensures.before ∙ left);
       after = c.go_past.ensures.after ∙ sym c.go_past.ensures.before;
-      first = rw more (c.in_ok-lead_five.ensures.first c.args.opening.now done (record { levels_are = found; instant_is = omega arith }) inv.first);
-      second = rw more (c.in_ok-lead_five.ensures.second c.args.opening.now done (record { levels_are = found; instant_is = omega arith }) inv.second);
-      third = rw more (c.in_ok-lead_five.ensures.third c.args.opening.now done (record { levels_are = found; instant_is = omega arith }) inv.third);
-      fourth = rw more (c.in_ok-lead_five.ensures.fourth c.args.opening.now done (record { levels_are = found; instant_is = omega arith }) inv.fourth);
-      fifth = rw more (c.in_ok-lead_five.ensures.fifth c.args.opening.now done (record { levels_are = found; instant_is = omega arith }) inv.fifth);
+      known = rw more (c.in_ok-lead_five.ensures.known c.args.opening.now done (record { levels_are = found; instant_is = omega arith }) inv.known);
+      handshake = rw more (c.in_ok-lead_five.ensures.handshake c.args.opening.now done (record { levels_are = found; instant_is = omega arith }) inv.handshake);
+      stability = rw more (c.in_ok-lead_five.ensures.stability c.args.opening.now done (record { levels_are = found; instant_is = omega arith }) inv.stability);
+      grant = rw more (c.in_ok-lead_five.ensures.grant c.args.opening.now done (record { levels_are = found; instant_is = omega arith }) inv.grant);
+      acknowledge = rw more (c.in_ok-lead_five.ensures.acknowledge c.args.opening.now done (record { levels_are = found; instant_is = omega arith }) inv.acknowledge);
     }

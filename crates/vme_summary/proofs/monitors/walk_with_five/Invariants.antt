@@ -8,9 +8,9 @@ invariant-loop-step g l =
       counted : l.instant ≡ l.step-index;
       before : l.view.before ≡ levels_after l.fn.opening (take l.step-index l.steps);
       after : l.view.after ≡ l.view.before;
-      first : g.A.Stepping.tells_of l.all.first l.fn.opening (take l.step-index l.steps);
-      second : g.B.Stepping.tells_of l.all.second l.fn.opening (take l.step-index l.steps);
-      third : g.C.Stepping.tells_of l.all.third l.fn.opening (take l.step-index l.steps);
-      fourth : g.D.Stepping.tells_of l.all.fourth l.fn.opening (take l.step-index l.steps);
-      fifth : g.E.Stepping.tells_of l.all.fifth l.fn.opening (take l.step-index l.steps);
+      known : g.A.Stepping.tells_of l.all.known l.fn.opening (take l.step-index l.steps);
+      handshake : g.B.Stepping.tells_of l.all.handshake l.fn.opening (take l.step-index l.steps);
+      stability : g.C.Stepping.tells_of l.all.stability l.fn.opening (take l.step-index l.steps);
+      grant : g.D.Stepping.tells_of l.all.grant l.fn.opening (take l.step-index l.steps);
+      acknowledge : g.E.Stepping.tells_of l.all.acknowledge l.fn.opening (take l.step-index l.steps);
     }

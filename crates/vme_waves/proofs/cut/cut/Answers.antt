@@ -1,16 +1,16 @@
 use Rattle.std.proofs.Common.{List, sym, subst}
-use Rattle.vme_waves.specs.Cuts.{AreOf}
-use Rattle.vme_waves.specs.declared.cut.Piece.{Piece}
+use Rattle.vme_waves.specs.Cuts.{ArePiecesOf}
+use Rattle.vme_waves.specs.declared.cut.DumpPiece.{DumpPiece}
 use Rattle.vme_waves.proofs.CutLemmas.{IsCutSoFar, cut-last, cut-more}
 use Rattle.vme_waves.proofs.cut.cut.Goals as goal
 
 pub loop-preserved : goal.loop-preserved
 loop-preserved c =
-    let piece : Piece = record { bytes = c.in-Some.bytes; line = c.loop.line } in
-    subst (λ (ps : List Piece). IsCutSoFar c.args.text.now ps c.in-Some.behind.now) (sym c.in_ok-push.ensures.items)
+    let piece : DumpPiece = record { bytes = c.in-Some.bytes; line = c.loop.line } in
+    subst (λ (ps : List DumpPiece). IsCutSoFar c.args.text.now ps c.in-Some.behind.now) (sym c.in_ok-push.ensures.items)
     (cut-more c.args.text.now c.loop.pieces.items piece c.loop.left.now c.in-Some.behind.now c.loop.invariant c.in-Some.ensures)
 
 pub returns : goal.returns
 returns c =
-    let piece : Piece = record { bytes = c.loop.left; line = c.loop.line } in
-    subst (AreOf c.args.text.now) (sym c.in_ok-push-2.ensures.items) (cut-last c.args.text.now c.loop.pieces.items piece c.loop.invariant)
+    let piece : DumpPiece = record { bytes = c.loop.left; line = c.loop.line } in
+    subst (ArePiecesOf c.args.text.now) (sym c.in_ok-push-2.ensures.items) (cut-last c.args.text.now c.loop.pieces.items piece c.loop.invariant)

@@ -2,7 +2,7 @@ use Rattle.std.proofs.Common.{◌+◌, [], drop, get_or, subst}
 use Rattle.std.proofs.lemmas.List.{drop_all}
 use Rattle.vme_bind.specs.TextPieces.{TextReached, text_reached}
 use Rattle.vme_waves.specs.Waves.{AreTaken}
-use Rattle.vme_waves.specs.declared.cut.Piece.{Piece}
+use Rattle.vme_waves.specs.declared.cut.DumpPiece.{DumpPiece}
 use Rattle.vme_waves.proofs.JoinLemmas.{left-more, taken-more}
 use Rattle.vme_waves.proofs.in_order.read_in_order.Goals as goal
 
@@ -12,7 +12,7 @@ loop-piece-preserved g c =
     let at = c.loop-piece.piece-index in
     let t : TextReached = text_reached c.args.text in
     let u : TextReached = text_reached c.loop-piece.text in
-    let none : Piece = record { bytes = record { ref_ptr = (0, 0); now = [] }; line = 0 } in
+    let none : DumpPiece = record { bytes = record { ref_ptr = (0, 0); now = [] }; line = 0 } in
     let so = subst (AreTaken pieces t u) (left-more pieces at none c.loop-piece-test.true) c.loop-piece.invariant in
     taken-more pieces t u (get_or pieces at none) (drop (at + 1) pieces) so (text_reached c.in_ok-text.text) c.in_ok-text.ensures.line c.in_ok-text.ensures.rest
 

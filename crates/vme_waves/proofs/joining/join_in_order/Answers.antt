@@ -2,13 +2,13 @@ use Rattle.std.proofs.Common.{◌≡◌, ◌+◌, ◌∷◌, ◌∙◌, [], ap, 
 use Rattle.std.specs.Vec.Iter.{into_iter_items}
 use Rattle.vme_trace.specs.Trace.{Trace, levels_after}
 use Rattle.vme_bind.specs.Recording.{step_in}
-use Rattle.vme_bind.specs.TextWaves.{WaveReached, with_recording}
+use Rattle.vme_bind.specs.SpeculativeReading.{WaveReached, with_recording}
 use Rattle.vme_waves.specs.Waves.{AreAhead, AreTaken}
-use Rattle.vme_waves.specs.declared.cut.Piece.{Piece}
+use Rattle.vme_waves.specs.declared.cut.DumpPiece.{DumpPiece}
 use Rattle.vme_waves.proofs.JoinLemmas.{joined-taken, left-more, next-ahead, one-ahead, rest-ahead, same-nets, steps-follow, taken-none}
 use Rattle.vme_waves.proofs.joining.join_in_order.Goals as goal
 
-abbrev no_piece : Piece
+abbrev no_piece : DumpPiece
 no_piece = record { bytes = record { ref_ptr = (0, 0); now = [] }; line = 0 }
 
 pub loop-ahead-init : goal.loop-ahead-init
@@ -47,14 +47,14 @@ pub pass-requires : goal.pass-requires
 pass-requires g c =
     let w : WaveReached = c.loop-ahead.wave in
     let v : WaveReached = c.in_ok-behind.behind in
-    let runs : Trace = c.in-Some-fitting.runs in
+    let chunks : Trace = c.in-Some-fitting.chunks in
     let read = c.in-Some-fitting.ensures.read in
     let watch : Trace = c.leaves.new.self in
     let same : watch ≡ c.loop-ahead.watch = c.in_ok-leaves.ensures.same in
     let bytes = (get_or c.args.pieces.now c.loop-ahead.count no_piece).bytes.now in
     let leaves : levels_after watch.opening watch.steps ≡ w.body.progress.taken.shown =
     ap (λ (t : Trace). levels_after t.opening t.steps) same ∙ c.in_ok-leaves.ensures.leaves c.if-not-branch.false ∙ c.shown.ensures in
-    steps-follow bytes runs c.in-Some-fitting.ahead.from w v (step_in c.in_ok-behind.step) (c.in_ok-behind.ensures bytes runs read.read)
+    steps-follow bytes chunks c.in-Some-fitting.ahead.from w v (step_in c.in_ok-behind.step) (c.in_ok-behind.ensures bytes chunks read.read)
     watch c.in_ok-watch.watch c.in_ok-watch.ensures read.opening leaves
 
 pub loop-ahead-preserved : goal.loop-ahead-preserved
@@ -63,14 +63,14 @@ loop-ahead-preserved g c =
     let count = c.loop-ahead.count in
     let w : WaveReached = c.loop-ahead.wave in
     let v : WaveReached = c.in_ok-behind.behind in
-    let runs : Trace = c.in-Some-fitting.runs in
+    let chunks : Trace = c.in-Some-fitting.chunks in
     let read = c.in-Some-fitting.ensures.read in
     let watch : Trace = c.leaves.new.self in
     let same : watch ≡ c.loop-ahead.watch = c.in_ok-leaves.ensures.same in
     let piece = get_or pieces count no_piece in
     let left = drop (count + 1) pieces in
     let at : drop count pieces ≡ piece ∷ left = left-more pieces count no_piece (omega arith) in
-    let one = c.in_ok-behind.ensures piece.bytes.now runs read.read in
+    let one = c.in_ok-behind.ensures piece.bytes.now chunks read.read in
     let first = with_recording c.args.watch c.args.wave in
     let so : AreTaken pieces first (with_recording watch w) (piece ∷ left) =
     subst (λ (t : Trace). AreTaken pieces first (with_recording t w) (piece ∷ left)) (sym same) (subst (AreTaken pieces first (with_recording c.loop-ahead.watch w)) at c.loop-ahead.invariant.taken) in
@@ -86,6 +86,6 @@ loop-ahead-preserved g c =
           (next-ahead w.body.nets w.taps (drop count pieces) left piece (into_iter_items c.loop-ahead.again) (into_iter_items c.next_of-anew.new.pieces) c.next_of-anew.result
           c.loop-ahead.invariant.again at c.next_of-anew.ensures).1;
       taken =
-          joined-taken piece.bytes.now runs c.in-Some-fitting.ahead.from w v (step_in c.in_ok-behind.step) one watch c.in_ok-watch.watch c.in_ok-watch.ensures
+          joined-taken piece.bytes.now chunks c.in-Some-fitting.ahead.from w v (step_in c.in_ok-behind.step) one watch c.in_ok-watch.watch c.in_ok-watch.ensures
           pieces left piece first c.in_ok-watch-2.watch refl so c.in_ok-watch-2.ensures;
     }

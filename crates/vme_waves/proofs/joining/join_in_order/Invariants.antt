@@ -1,6 +1,6 @@
 use Rattle.std.proofs.Common.{◌≤◌, drop, length}
 use Rattle.std.specs.Vec.Iter.{into_iter_items}
-use Rattle.vme_bind.specs.TextWaves.{with_recording}
+use Rattle.vme_bind.specs.SpeculativeReading.{with_recording}
 use Rattle.vme_waves.specs.Waves.{AreAhead, AreTaken}
 use Rattle.vme_waves.proofs.joining.join_in_order.Given as goal
 

@@ -3,7 +3,7 @@ use Rattle.vcd_read.specs.Tokens.{Token}
 use Rattle.vcd_read.specs.Reading.{line_of, left_at, token_at}
 use Rattle.vcd_read.specs.Bodies.{place_of}
 use Rattle.vcd_read.specs.Body.{in_comment}
-use Rattle.vcd_read.specs.declared.piece.Piece.{Piece}
+use Rattle.vcd_read.specs.declared.body_piece.BodyPiece.{BodyPiece}
 use Rattle.vcd_read.specs.Taking.{taking, state_of, steps}
 use Rattle.vcd_read.proofs.BodyLemmas.{comment_end, comment_more, nothing_left, same_left}
 use Rattle.vcd_read.proofs.body.Body.comment.Goals as goal
@@ -19,8 +19,8 @@ returns-then-is_end-clause-rest g c =
     let cut = rw inv.text at c.in-Some.ensures.token in
     λ more.
     let ended = comment_end line (left_at text c.loop-word.self.reader.at ++ more) (left_at text after ++ more) t (ap (λ (ts : List Token). ts ++ more) cut) (sym c.is_end.ensures ∙ c.if-is_end.true) in
-    ap (steps g.T.Taker.with_change g.T.Taker.with_instant old.codes.now (state_of old.reader.text (taking (g.T.Taker.taken old.waves.taker) old.waves.clock) old.bracket)) (inv.rest more ∙ ended)
-    ∙ same_left g.T.Taker.with_change g.T.Taker.with_instant old.codes.now c.loop-word.self.codes.now text c.next.new.self.text (taking (g.T.Taker.taken old.waves.taker) old.waves.clock) (taking (g.T.Taker.taken c.loop-word.self.waves.taker) c.loop-word.self.waves.clock) old.bracket c.loop-word.self.bracket _ (place_of c.loop-word.self.place) after (cc) (cc) (rw inv.waves refl) inv.bracket (ap place_of (inv.place ∙ c.requires.between)) more
+    ap (steps g.T.ChangeVisitor.with_change g.T.ChangeVisitor.with_instant old.codes.now (state_of old.reader.text (taking (g.T.ChangeVisitor.taken old.timed.visitor) old.timed.clock) old.bracket)) (inv.rest more ∙ ended)
+    ∙ same_left g.T.ChangeVisitor.with_change g.T.ChangeVisitor.with_instant old.codes.now c.loop-word.self.codes.now text c.next.new.self.text (taking (g.T.ChangeVisitor.taken old.timed.visitor) old.timed.clock) (taking (g.T.ChangeVisitor.taken c.loop-word.self.timed.visitor) c.loop-word.self.timed.clock) old.bracket c.loop-word.self.bracket _ (place_of c.loop-word.self.place) after (cc) (cc) (rw inv.timed refl) inv.bracket (ap place_of (inv.place ∙ c.requires.between)) more
 
 pub loop-word-preserved : goal.loop-word-preserved
 loop-word-preserved g c =
@@ -33,7 +33,7 @@ loop-word-preserved g c =
     record {
       codes = inv.codes;
       text = c.in-Some.ensures.text ∙ inv.text;
-      waves = inv.waves;
+      timed = inv.timed;
       bracket = inv.bracket;
       forward = omega (arith, c.in-Some.ensures.forward, inv.forward);
       place = inv.place;
@@ -50,9 +50,9 @@ returns-clause-rest g c =
     let later = c.in_default.ensures.text ∙ inv.text in
     let none = rw inv.text at c.in_default.ensures.token in
     let end = rw inv.text at c.in_default.ensures.end in
-    let s = state_of text (taking (g.T.Taker.taken old.waves.taker) old.waves.clock) old.bracket in
+    let s = state_of text (taking (g.T.ChangeVisitor.taken old.timed.visitor) old.timed.clock) old.bracket in
     λ more.
-    ap (steps g.T.Taker.with_change g.T.Taker.with_instant old.codes.now s) (inv.rest more)
-    ∙ nothing_left g.T.Taker.with_change g.T.Taker.with_instant old.codes.now s place (left_at text c.loop-word.self.reader.at) (left_at text after) none end more
-    ∙ same_left g.T.Taker.with_change g.T.Taker.with_instant old.codes.now c.loop-word.self.codes.now text c.next.new.self.text (taking (g.T.Taker.taken old.waves.taker) old.waves.clock) (taking (g.T.Taker.taken c.loop-word.self.waves.taker) c.loop-word.self.waves.clock) old.bracket c.loop-word.self.bracket place (in_comment c.line.result) after (cc) later (rw inv.waves refl) inv.bracket
-    (ap in_comment (c.line.ensures ∙ ap (λ (x : Piece). line_of x c.args.start) later)) more
+    ap (steps g.T.ChangeVisitor.with_change g.T.ChangeVisitor.with_instant old.codes.now s) (inv.rest more)
+    ∙ nothing_left g.T.ChangeVisitor.with_change g.T.ChangeVisitor.with_instant old.codes.now s place (left_at text c.loop-word.self.reader.at) (left_at text after) none end more
+    ∙ same_left g.T.ChangeVisitor.with_change g.T.ChangeVisitor.with_instant old.codes.now c.loop-word.self.codes.now text c.next.new.self.text (taking (g.T.ChangeVisitor.taken old.timed.visitor) old.timed.clock) (taking (g.T.ChangeVisitor.taken c.loop-word.self.timed.visitor) c.loop-word.self.timed.clock) old.bracket c.loop-word.self.bracket place (in_comment c.line.result) after (cc) later (rw inv.timed refl) inv.bracket
+    (ap in_comment (c.line.ensures ∙ ap (λ (x : BodyPiece). line_of x c.args.start) later)) more

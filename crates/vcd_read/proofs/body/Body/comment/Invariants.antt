@@ -8,7 +8,7 @@ abbrev pub invariant-loop-word : goal.invariant-loop-word
 invariant-loop-word g l = record {
   codes : l.self.codes ≡ l.fn.self.codes;
   text : l.self.reader.text ≡ l.fn.self.reader.text;
-  waves : l.self.waves ≡ l.fn.self.waves;
+  timed : l.self.timed ≡ l.fn.self.timed;
   bracket : l.self.bracket ≡ l.fn.self.bracket;
   forward : l.fn.self.reader.at ≤ l.self.reader.at;
   place : l.self.place ≡ l.fn.self.place;

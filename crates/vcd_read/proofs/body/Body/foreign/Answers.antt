@@ -2,9 +2,9 @@ use Rattle.std.proofs.Common.{◌++◌, List, refl, ap, subst}
 use Rattle.vcd_read.specs.Tokens.{Token}
 use Rattle.vcd_read.specs.Reading.{left_at, line_of, token_at}
 use Rattle.vcd_read.specs.Body.{skipped}
-use Rattle.vcd_read.specs.Meaning.{Gives}
+use Rattle.vcd_read.specs.Meaning.{ReadGives}
 use Rattle.vcd_read.specs.Taking.{taking, state_of, step}
-use Rattle.vcd_read.specs.declared.piece.Piece.{Piece}
+use Rattle.vcd_read.specs.declared.body_piece.BodyPiece.{BodyPiece}
 use Rattle.vcd_read.proofs.BodyLemmas.{read_item, foreign_read}
 use Rattle.vcd_read.proofs.body.Body.foreign.Goals as goal
 
@@ -13,11 +13,11 @@ returns-in-Some-clause-rest g c =
     let old = c.args.self.now in
     let text = old.reader.text in
     let later = c.next.new.self.text in
-    let waves = taking (g.T.Taker.taken old.waves.taker) old.waves.clock in
+    let timed = taking (g.T.ChangeVisitor.taken old.timed.visitor) old.timed.clock in
     let line = line_of text c.args.start in
     let after = c.next.new.self.at in
     let t = token_at text c.in-Some.code.at c.in-Some.code.bytes.now in
-    let h = subst (λ (x : Piece). Gives (λ _. state_of later waves old.bracket) c.skip.result (step g.T.Taker.with_change g.T.Taker.with_instant old.codes.now (state_of x waves old.bracket) (skipped (line_of x c.args.start) t.bytes))) c.in-Some.ensures.text c.skip.ensures.step in
+    let h = subst (λ (x : BodyPiece). ReadGives (λ _. state_of later timed old.bracket) c.skip.result (step g.T.ChangeVisitor.with_change g.T.ChangeVisitor.with_instant old.codes.now (state_of x timed old.bracket) (skipped (line_of x c.args.start) t.bytes))) c.in-Some.ensures.text c.skip.ensures.step in
     let is = λ (more : List Token). foreign_read line (left_at text old.reader.at ++ more) (left_at text after ++ more) t (ap (λ (ts : List Token). ts ++ more) c.in-Some.ensures.token) in
-    read_item g.T.Taker.with_change g.T.Taker.with_instant old.codes.now old.codes.now (state_of text waves old.bracket) (state_of later waves old.bracket) text later after after old.place (skipped line t.bytes) _ c.skip.result
+    read_item g.T.ChangeVisitor.with_change g.T.ChangeVisitor.with_instant old.codes.now old.codes.now (state_of text timed old.bracket) (state_of later timed old.bracket) text later after after old.place (skipped line t.bytes) _ c.skip.result
     refl c.in-Some.ensures.text refl c.requires.between is h

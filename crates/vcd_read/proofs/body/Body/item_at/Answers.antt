@@ -17,7 +17,7 @@ returns-in-Some-clause-rest g c =
     let is : (more : List Token) → body_from ready (left_at text old.reader.at ++ more) ≡ time_item t.line digits ∷ body_from ready (left_at text after ++ more) =
     λ more. ap (λ (ts : List Token). body_from ready (ts ++ more)) c.in-Some.ensures.token ∙ shape_read t (left_at text after ++ more) (time_shape digits) refl in
     let step = rw (c.in-Some.ensures.text, c.requires.hand) at c.go_to.ensures.step digits c.in-Some.ensures.time in
-    read_item g.T.Taker.with_change g.T.Taker.with_instant old.codes.now new.codes.now (state_of old.reader.text (taking (g.T.Taker.taken old.waves.taker) old.waves.clock) old.bracket) (state_of new.reader.text (taking (g.T.Taker.taken new.waves.taker) new.waves.clock) new.bracket) text new.reader.text after new.reader.at new.place (time_item t.line digits) _ c.go_to.result
+    read_item g.T.ChangeVisitor.with_change g.T.ChangeVisitor.with_instant old.codes.now new.codes.now (state_of old.reader.text (taking (g.T.ChangeVisitor.taken old.timed.visitor) old.timed.clock) old.bracket) (state_of new.reader.text (taking (g.T.ChangeVisitor.taken new.timed.visitor) new.timed.clock) new.bracket) text new.reader.text after new.reader.at new.place (time_item t.line digits) _ c.go_to.result
     (cc) (cc) (cc) (cc) is step
 
 pub returns-in-Some-short_change-clause-rest : goal.returns-in-Some-short_change-clause-rest
@@ -33,7 +33,7 @@ returns-in-Some-short_change-clause-rest g c =
     let is : (more : List Token) → body_from ready (left_at text old.reader.at ++ more) ≡ change t.line digit code ∷ body_from ready (left_at text after ++ more) =
     λ more. ap (λ (ts : List Token). body_from ready (ts ++ more)) cut ∙ shape_read t (left_at text after ++ more) (scalar digit code) (sym c.in-Some-short_change.ensures.shape) in
     let step = rw (c.in-Some-short_change.ensures.text, c.in_default.ensures.text, c.requires.hand) at c.change.ensures.step in
-    read_item g.T.Taker.with_change g.T.Taker.with_instant old.codes.now new.codes.now (state_of old.reader.text (taking (g.T.Taker.taken old.waves.taker) old.waves.clock) old.bracket) (state_of new.reader.text (taking (g.T.Taker.taken new.waves.taker) new.waves.clock) new.bracket) text new.reader.text after new.reader.at new.place (change t.line digit code) _ c.change.result
+    read_item g.T.ChangeVisitor.with_change g.T.ChangeVisitor.with_instant old.codes.now new.codes.now (state_of old.reader.text (taking (g.T.ChangeVisitor.taken old.timed.visitor) old.timed.clock) old.bracket) (state_of new.reader.text (taking (g.T.ChangeVisitor.taken new.timed.visitor) new.timed.clock) new.bracket) text new.reader.text after new.reader.at new.place (change t.line digit code) _ c.change.result
     (cc) (cc) (cc) (cc) is step
 
 pub returns-clause-rest : goal.returns-clause-rest
@@ -42,6 +42,6 @@ returns-clause-rest g c =
     let text = old.reader.text in
     let cut = rw (c.in_default-short_change.ensures.text, c.in_default-short_change.ensures.none, c.in_default.ensures.text, c.in_default.ensures.none) at c.word-bytes.ensures.token in
     leaves_same _ _ _ c.item.result
-    (token_left g.T.Taker.with_change g.T.Taker.with_instant old.codes.now text c.word-bytes.new.self.text (taking (g.T.Taker.taken old.waves.taker) old.waves.clock) old.bracket old.reader.at c.args.at c.word-bytes.new.self.at c.word-bytes.result.now
+    (token_left g.T.ChangeVisitor.with_change g.T.ChangeVisitor.with_instant old.codes.now text c.word-bytes.new.self.text (taking (g.T.ChangeVisitor.taken old.timed.visitor) old.timed.clock) old.bracket old.reader.at c.args.at c.word-bytes.new.self.at c.word-bytes.result.now
     (c.word-bytes.ensures.text ∙ c.in_default-short_change.ensures.text ∙ c.in_default.ensures.text) c.requires.hand cut)
     c.item.ensures.rest

@@ -13,11 +13,11 @@ pub returns-in_default-clause-rest : goal.returns-in_default-clause-rest
 returns-in_default-clause-rest g c =
     let old = c.args.self.now in
     λ more.
-    rw c.in_default.ensures.text (ap (λ (ts : List Token). steps g.T.Taker.with_change g.T.Taker.with_instant old.codes.now (state_of old.reader.text (taking (g.T.Taker.taken old.waves.taker) old.waves.clock) old.bracket) (body_from (place_of old.place) (ts ++ more))) (sym c.in_default.ensures.left))
+    rw c.in_default.ensures.text (ap (λ (ts : List Token). steps g.T.ChangeVisitor.with_change g.T.ChangeVisitor.with_instant old.codes.now (state_of old.reader.text (taking (g.T.ChangeVisitor.taken old.timed.visitor) old.timed.clock) old.bracket) (body_from (place_of old.place) (ts ++ more))) (sym c.in_default.ensures.left))
 
 pub returns-clause-rest : goal.returns-clause-rest
 returns-clause-rest g c =
     let old = c.args.self.now in
     leaves_same _ _ _ c.item_at.result
-    (λ more. rw (c.requires, c.in-Some.ensures.text) (ap (λ (ts : List Token). steps g.T.Taker.with_change g.T.Taker.with_instant old.codes.now (state_of old.reader.text (taking (g.T.Taker.taken old.waves.taker) old.waves.clock) old.bracket) (body_from ready (ts ++ more))) (sym c.in-Some.ensures.left)))
+    (λ more. rw (c.requires, c.in-Some.ensures.text) (ap (λ (ts : List Token). steps g.T.ChangeVisitor.with_change g.T.ChangeVisitor.with_instant old.codes.now (state_of old.reader.text (taking (g.T.ChangeVisitor.taken old.timed.visitor) old.timed.clock) old.bracket) (body_from ready (ts ++ more))) (sym c.in-Some.ensures.left)))
     c.item_at.ensures.rest

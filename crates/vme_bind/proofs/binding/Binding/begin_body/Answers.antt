@@ -1,7 +1,7 @@
 use Rattle.std.proofs.Common.{[], List}
 use Rattle.vcd_read.specs.Tokens.{Token}
 use Rattle.vcd_read.specs.Fronts.{going_on}
-use Rattle.vme_bind.proofs.FoundLemmas.{wires_found}
+use Rattle.vme_bind.proofs.FoundLemmas.{bound_groups_found}
 use Rattle.vme_bind.proofs.TextPieceLemmas.{behind-fitting, behind-refused, leads-same, refused-is, wanting}
 use Rattle.vme_bind.proofs.binding.Binding.begin_body.Goals as goal
 
@@ -9,13 +9,13 @@ pub returns-in-Ok-clause-rest : goal.returns-in-Ok-clause-rest
 returns-in-Ok-clause-rest g c variables seen =
     let b = c.args.self.now in
     let head = c.args.front.head in
-    let wires = rw (wires_found variables b.assignments _ seen) at c.in-Ok.ensures in
-    let given = rw (c.lines.ensures.slots, c.deref.ensures.value) at c.begin_wires.ensures.rest in
-    leads-same _ c.begin_wires.result _ _ (λ (more : List Token). behind-fitting b (going_on head more) variables c.in-Ok.wires.items wires) given
+    let bound_groups = rw (bound_groups_found variables b.assignments _ seen) at c.in-Ok.ensures in
+    let given = rw (c.lines.ensures.slots, c.deref.ensures.value) at c.begin_bound_groups.ensures.rest in
+    leads-same _ c.begin_bound_groups.result _ _ (λ (more : List Token). behind-fitting b (going_on head more) variables c.in-Ok.bound_groups.items bound_groups) given
 
 pub returns-in-Memory-clause-rest : goal.returns-in-Memory-clause-rest
 returns-in-Memory-clause-rest g c variables seen =
-    let fails = rw (wires_found variables c.args.self.now.assignments _ seen) at c.in-Err.ensures in
+    let fails = rw (bound_groups_found variables c.args.self.now.assignments _ seen) at c.in-Err.ensures in
     λ more. wanting c.in-Err.fault _ _ (cc) fails
 
 pub returns-in_default-clause-rest : goal.returns-in_default-clause-rest
@@ -23,6 +23,6 @@ returns-in_default-clause-rest g c variables seen =
     let b = c.args.self.now in
     let head = c.args.front.head in
     let own = c.in-Err.fault in
-    let fails = rw (wires_found variables b.assignments _ seen) at c.in-Err.ensures in
+    let fails = rw (bound_groups_found variables b.assignments _ seen) at c.in-Err.ensures in
     let refused = refused-is own _ c.in_default.not-Memory fails in
-    leads-same _ c.begin_wires-in_default.result _ _ (λ (more : List Token). behind-refused b (going_on head more) variables [] own refused) c.begin_wires-in_default.ensures.rest
+    leads-same _ c.begin_bound_groups-in_default.result _ _ (λ (more : List Token). behind-refused b (going_on head more) variables [] own refused) c.begin_bound_groups-in_default.ensures.rest

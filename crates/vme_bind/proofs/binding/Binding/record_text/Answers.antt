@@ -1,5 +1,5 @@
 use Rattle.std.proofs.Common.{rules, map}
-use Rattle.vme_bind.specs.Sought.{seen_in, unseen}
+use Rattle.vme_bind.specs.PathSearch.{seen_in, unseen}
 use Rattle.vme_bind.proofs.TextCaptureLemmas.{text-head, text-behind, text-formed}
 use Rattle.vme_bind.proofs.binding.Binding.record_text.Goals as goal
 
@@ -12,8 +12,8 @@ returns-in-Ok-read_definitions g c =
     let text = c.args.text.now in
     let first = map unseen b.assignments in
     let head = rw (c.in-Ok.ensures.seen, c.assignments.ensures) at c.in-Ok-read_definitions.ensures in
-    let given = text-behind g.F.Follower.recorded b text c.in-Ok-read_definitions.head first (map seen_in c.in-Ok-read_definitions.search.sought.items) c.record_head.result head c.record_head.ensures in
-    record { gives = given; formed = text-formed g.F.Follower.recorded b text c.record_head.result given }
+    let given = text-behind g.F.StepVisitor.recorded b text c.in-Ok-read_definitions.head first (map seen_in c.in-Ok-read_definitions.search.sought.items) c.record_head.result head c.record_head.ensures in
+    record { gives = given; formed = text-formed g.F.StepVisitor.recorded b text c.record_head.result given }
 
 pub returns-in-Err-read_definitions : goal.returns-in-Err-read_definitions
 returns-in-Err-read_definitions g c =

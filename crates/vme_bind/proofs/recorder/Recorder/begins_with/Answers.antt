@@ -1,9 +1,9 @@
 use Rattle.std.proofs.Common.{◌≡◌, ◌∙◌, ◌↔◌, ap, subst, sym}
 use Rattle.std.specs.Prelude.{IsTrue, Option, ℕ}
 use Rattle.std.proofs.lemmas.Bool.{false≢true}
-use Rattle.vcd_read.specs.Apart.{entered}
+use Rattle.vcd_read.specs.DetachedPieces.{entered}
 use Rattle.vme_trace.specs.Levels.{Levels}
-use Rattle.vme_bind.specs.Recording.{Progress, all_of, end_of}
+use Rattle.vme_bind.specs.Recording.{RecorderLevels, all_of, end_of}
 use Rattle.vme_trace.proofs.SameLines.{lines_decide}
 use Rattle.vme_bind.proofs.recorder.Recorder.begins_with.Goals as goal
 
@@ -15,9 +15,9 @@ returns-in-Some c =
     let inside = c.self.inside in
     let v = c.args.levels.now in
     let d = lines_decide inside.now v c.eq.result c.eq.ensures in
-    subst (λ (p : Progress). IsTrue c.eq.result ↔ (entered end_of p c.args.ended ≡ all_of v)) c.self.view_is
+    subst (λ (p : RecorderLevels). IsTrue c.eq.result ↔ (entered end_of p c.args.ended ≡ all_of v)) c.self.view_is
     (subst (λ (e : Option ℕ). IsTrue c.eq.result ↔ (entered end_of (record { shown = inside.shown; now = inside.now }) e ≡ all_of v)) (sym c.in-Some.is)
-    (λ on. ap all_of (d.0 on), λ e. d.1 (ap (λ (p : Progress). p.now) e)))
+    (λ on. ap all_of (d.0 on), λ e. d.1 (ap (λ (p : RecorderLevels). p.now) e)))
 
 pub returns-then-eq : goal.returns-then-eq
 returns-then-eq c =
@@ -25,15 +25,15 @@ returns-then-eq c =
     let v = c.args.levels.now in
     let d = lines_decide inside.now v c.eq-in-None.result c.eq-in-None.ensures in
     let s = lines_decide inside.shown v c.eq-then-eq.result c.eq-then-eq.ensures in
-    subst (λ (p : Progress). IsTrue c.eq-then-eq.result ↔ (entered end_of p c.args.ended ≡ all_of v)) c.self.view_is
+    subst (λ (p : RecorderLevels). IsTrue c.eq-then-eq.result ↔ (entered end_of p c.args.ended ≡ all_of v)) c.self.view_is
     (subst (λ (e : Option ℕ). IsTrue c.eq-then-eq.result ↔ (entered end_of (record { shown = inside.shown; now = inside.now }) e ≡ all_of v)) (sym c.in-None.is)
-    (λ on. both inside.shown inside.now v (s.0 on) (d.0 c.if-eq.true), λ e. s.1 (ap (λ (p : Progress). p.shown) e)))
+    (λ on. both inside.shown inside.now v (s.0 on) (d.0 c.if-eq.true), λ e. s.1 (ap (λ (p : RecorderLevels). p.shown) e)))
 
 pub returns-else-eq : goal.returns-else-eq
 returns-else-eq c =
     let inside = c.self.inside in
     let v = c.args.levels.now in
     let d = lines_decide inside.now v c.eq-in-None.result c.eq-in-None.ensures in
-    subst (λ (p : Progress). IsTrue c.eq-in-None.result ↔ (entered end_of p c.args.ended ≡ all_of v)) c.self.view_is
+    subst (λ (p : RecorderLevels). IsTrue c.eq-in-None.result ↔ (entered end_of p c.args.ended ≡ all_of v)) c.self.view_is
     (subst (λ (e : Option ℕ). IsTrue c.eq-in-None.result ↔ (entered end_of (record { shown = inside.shown; now = inside.now }) e ≡ all_of v)) (sym c.in-None.is)
-    (λ on. absurd (false≢true (sym c.if-eq.false ∙ on)), λ e. d.1 (ap (λ (p : Progress). p.now) e)))
+    (λ on. absurd (false≢true (sym c.if-eq.false ∙ on)), λ e. d.1 (ap (λ (p : RecorderLevels). p.now) e)))

@@ -4,13 +4,13 @@ use Rattle.vme_trace.specs.Levels.{Levels}
 use Rattle.vme_trace.specs.Trace.{levels_after}
 use Rattle.vme_trace.specs.declared.step.Step.{Step}
 use Rattle.std.specs.Prelude.{List}
-use Rattle.vme_bind.specs.Recording.{Progress, step_between, step_in}
+use Rattle.vme_bind.specs.Recording.{RecorderLevels, step_between, step_in}
 use Rattle.vme_bind.proofs.WaveLemmas.{end-leads}
 use Rattle.vme_bind.proofs.recorder.Recorder.end.Goals as goal
 
-leads-ok : (v : Levels) (steps : List Step) (q r : Progress) (result : Result (Option Step) AllocError) → levels_after v steps ≡ r.shown
+leads-ok : (v : Levels) (steps : List Step) (q r : RecorderLevels) (result : Result (Option Step) AllocError) → levels_after v steps ≡ r.shown
     → IfOk result (λ step. step_in step ≡ steps) → OnOk result (q ≡ r) → IfOk result (λ step. levels_after v (step_in step) ≡ q.shown)
-leads-ok v steps q r (Ok step) leads is to = ap (levels_after v) is ∙ leads ∙ sym (ap (λ (p : Progress). p.shown) to)
+leads-ok v steps q r (Ok step) leads is to = ap (levels_after v) is ∙ leads ∙ sym (ap (λ (p : RecorderLevels). p.shown) to)
 leads-ok v steps q r (Err fault) leads is to = is
 
 pub returns-in-Some-clause-leads : goal.returns-in-Some-clause-leads

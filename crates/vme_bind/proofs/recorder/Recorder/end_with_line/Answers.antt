@@ -1,6 +1,6 @@
 use Rattle.std.proofs.Common.{◌≡◌, ◌∷◌, [], refl, sym, ap, subst, ◌∙◌, true, false, rules}
 use Rattle.vme_trace.specs.Levels.{level_at, same_level, set_level}
-use Rattle.vme_bind.specs.Recording.{AreTouched, change_to}
+use Rattle.vme_bind.specs.Recording.{ListsTouchedLines, change_to}
 use Rattle.vme_bind.proofs.RecorderLemmas.{touched-none}
 use Rattle.vme_bind.proofs.EndLemmas.{line-shown, line-ended, line-step, line-none}
 use Rattle.vme_bind.proofs.recorder.Recorder.end_with_line.Goals as goal
@@ -23,7 +23,7 @@ invariant_of-self-2 c =
     let shown : c.set.new.self ≡ inside.now =
     line-shown c.args.self.now inside.shown inside.now inside.touched.items c.args.line (search rules) c.self.invariant c.requires.exists c.requires.alone
     c.set.new.self (c.set.ensures ∙ ap (set_level inside.shown c.args.line) c.level-level.ensures) in
-    subst (AreTouched c.set.new.self inside.now) (sym c.clear.ensures.items) (touched-none c.set.new.self inside.now shown c.self.invariant.now_all)
+    subst (ListsTouchedLines c.set.new.self inside.now) (sym c.clear.ensures.items) (touched-none c.set.new.self inside.now shown c.self.invariant.now_all)
 
 pub returns-clause-shown : goal.returns-clause-shown
 returns-clause-shown c =

@@ -1,7 +1,7 @@
 use Rattle.std.proofs.Common.{sym, ◌∙◌, [], ◌∷◌, arith}
 use Rattle.std.proofs.lemmas.List.{map-append, take_more}
 use Rattle.std.proofs.lemmas.List.Elements.{All-push}
-use Rattle.vme_bind.specs.Sought.{IsBegun, seen_in, unseen}
+use Rattle.vme_bind.specs.PathSearch.{HasOpened, seen_in, unseen}
 use Rattle.vme_bind.proofs.SoughtLemmas.{begun_none}
 use Rattle.vme_bind.proofs.search.Search.new.Goals as goal
 
@@ -12,7 +12,7 @@ loop-assignment-preserved c =
     let all = c.args.assignments.now in
     record {
       seen = rw (c.push_reserved.ensures.items, map-append seen_in l.sought.items (c.new.result ∷ []), take_more all l.assignment-index a c.loop-assignment-test.true, ← c.assignment-item.is, c.new.ensures.seen, l.invariant.seen) (sym (map-append unseen _ (a ∷ [])));
-      begun = rw c.push_reserved.ensures.items (All-push (IsBegun []) l.sought.items c.new.result l.invariant.begun (begun_none c.new.result c.new.ensures.begun));
+      begun = rw c.push_reserved.ensures.items (All-push (HasOpened []) l.sought.items c.new.result l.invariant.begun (begun_none c.new.result c.new.ensures.begun));
       count = omega (arith, c.push_reserved.ensures.len, l.invariant.count);
       capacity = c.push_reserved.ensures.capacity ∙ l.invariant.capacity;
     }

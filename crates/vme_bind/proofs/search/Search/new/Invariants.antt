@@ -1,13 +1,13 @@
 use Rattle.std.proofs.Common.{◌≡◌, [], map, take, length, vec_len, vec_capacity}
 use Rattle.std.specs.List.{All}
-use Rattle.vme_bind.specs.Sought.{IsBegun, seen_in, unseen}
+use Rattle.vme_bind.specs.PathSearch.{HasOpened, seen_in, unseen}
 use Rattle.vme_bind.proofs.search.Search.new.Given as goal
 
 abbrev pub invariant-loop-assignment : goal.invariant-loop-assignment
 invariant-loop-assignment l =
     record {
       seen : map seen_in l.sought.items ≡ map unseen (take l.assignment-index l.assignments);
-      begun : All (IsBegun []) l.sought.items;
+      begun : All (HasOpened []) l.sought.items;
       count : vec_len l.sought ≡ l.assignment-index;
       capacity : vec_capacity l.sought ≡ length l.assignments;
     }

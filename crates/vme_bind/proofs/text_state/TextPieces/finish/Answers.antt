@@ -3,17 +3,17 @@ use Rattle.vcd_read.specs.Bodies.{finished, place_of}
 use Rattle.vcd_read.specs.Taking.{taking}
 use Rattle.vme_bind.specs.Made.{made_change, made_instant}
 use Rattle.vme_bind.specs.TextPieces.{outcome}
-use Rattle.vme_bind.proofs.TextPieceLemmas.{fails-whole, told-own}
+use Rattle.vme_bind.proofs.TextPieceLemmas.{fails-whole, assigned-own}
 use Rattle.vme_bind.proofs.text_state.TextPieces.finish.Goals as goal
 
 pub returns-in-None : goal.returns-in-None
 returns-in-None g c =
-    rw (c.in-None.is) (ap (outcome None) c.in-Ok.ensures ∙ ap Ok (sym c.into_follower.ensures))
+    rw (c.in-None.is) (ap (outcome None) c.in-Ok.ensures ∙ ap Ok (sym c.into_visitor.ensures))
 
 pub returns-in-Some : goal.returns-in-Some
 returns-in-Some g c =
     let other = c.args.self.own c.in-Some.fault c.in-Some.is in
-    rw (c.in-Some.is) (told-own c.in-Some.fault _ other (ap (outcome (Some c.in-Some.fault)) c.in-Ok.ensures))
+    rw (c.in-Some.is) (assigned-own c.in-Some.fault _ other (ap (outcome (Some c.in-Some.fault)) c.in-Ok.ensures))
 
 pub returns-in-Err : goal.returns-in-Err
 returns-in-Err g c =

@@ -1,5 +1,0 @@
-use Rattle.vcd_read.proofs.WavesLemmas.{none_touched}
-use Rattle.vcd_read.proofs.collector.Collector.new.Goals as goal
-
-pub invariant_of-result : goal.invariant_of-result
-invariant_of-result c = rw (c.new-2.ensures.items, c.loop.invariant) (none_touched c.loop.counter)

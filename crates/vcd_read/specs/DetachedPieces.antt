@@ -1,0 +1,99 @@
+-- A piece that is read apart from what stands before it, and where it fits.
+use Rattle.std.specs.Prelude.{◌≡◌, ℕ, ◌≤◌, false, ◌&&◌, ◌==◌, not, if◌then◌else◌, List, [], ◌∷◌, Option, Some, None, Ok}
+use Rattle.vcd_read.specs.declared.dump.Bit.{Bit}
+use Rattle.vcd_read.specs.declared.detached_piece.DetachedPiece.{DetachedPiece}
+use Rattle.vcd_read.specs.Tokens.{tokens_from}
+use Rattle.vcd_read.specs.Numbers.{number}
+use Rattle.vcd_read.specs.Reading.{line_behind}
+use Rattle.vcd_read.specs.Header.{Net}
+use Rattle.vcd_read.specs.Body.{BodyItem, time_item, ready, body_from}
+use Rattle.vcd_read.specs.Taking.{Taking, State, taking, state_at, steps}
+use Rattle.vcd_read.specs.Reached.{Reached}
+
+-- What came of a piece that was read as if between two items, outside of brackets, at the time that it begins with.
+pub record ReadApart (A : Type 0) : Type 0 where
+  -- the time that it begins with
+  pub time : ℕ
+  -- the line that it begins on
+  pub first_line : ℕ
+  pub progress : Taking A
+  -- the line of the bracket that is open behind it
+  pub bracket : Option ℕ
+  -- the line that it ends on
+  pub line : ℕ
+
+-- a piece that is read apart, by what was taken
+abbrev pub read_apart : {T A : Type 0} → (T → A) → DetachedPiece T → ReadApart A
+read_apart taken a =
+    record {
+      time = a.time;
+      first_line = a.first_line;
+      progress = taking (taken a.timed.visitor) a.timed.clock;
+      bracket = a.bracket;
+      line = a.line;
+    }
+
+-- the time that items begin with, where they begin with one
+abbrev pub time_first : List BodyItem → Option ℕ
+time_first [] = None
+time_first (time_item line digits ∷ items) = Some (number digits)
+time_first (item ∷ items) = None
+
+-- before a piece: no bracket, and no instant at the time that it begins with
+abbrev pub before_piece : {A : Type 0} → A → ℕ → State A
+before_piece before time = state_at (record { taken = before; time = time; begun = false }) None
+
+-- the items of a piece that begins on this line, between two items
+abbrev pub items_apart : ℕ → List ℕ → List BodyItem
+items_apart line bytes = body_from ready (tokens_from line bytes)
+
+-- these bytes were read apart, by a taker that had taken this before
+pub record IsReadApart {A : Type 0} (with_change : A → ℕ → List Bit → A) (with_instant : A → ℕ → A)
+    (nets : List Net) (bytes : List ℕ) (before : A) (apart : ReadApart A) : Type 0 where
+  pub begins : time_first (items_apart apart.first_line bytes) ≡ Some apart.time
+  pub whole : steps with_change with_instant nets (before_piece before apart.time)
+      (items_apart apart.first_line bytes) ≡ Ok (state_at apart.progress apart.bracket)
+  pub line : apart.line ≡ line_behind apart.first_line bytes
+
+-- what was read apart fits behind what is read so far: between two items, outside of brackets, at no later time
+pub record MayFollow {A B : Type 0} (r : Reached B) (apart : ReadApart A) : Type 0 where
+  pub place : r.place ≡ ready
+  pub bracket : r.bracket ≡ None
+  pub time : r.progress.time ≤ apart.time
+  pub line : r.line ≡ apart.first_line
+
+-- the time of the instant that a time ends, where it ends one
+abbrev pub ended_at : {A : Type 0} → Taking A → ℕ → Option ℕ
+ended_at p time = if p.begun && not (time == p.time) then Some p.time else None
+
+-- what is taken behind the end of such an instant
+abbrev pub entered : {A : Type 0} → (A → ℕ → A) → A → Option ℕ → A
+entered with_instant a None = a
+entered with_instant a (Some time) = with_instant a time
+
+-- how far the body is read behind a piece that was read apart
+abbrev pub behind_piece : {A : Type 0} → List Net → ReadApart A → Reached A
+behind_piece nets apart =
+    record { nets = nets; progress = apart.progress; bracket = apart.bracket; place = ready; line = apart.line }
+
+-- the same place, with something else taken
+abbrev pub with_taken : {A B : Type 0} → B → Reached A → Reached B
+with_taken b r =
+    record {
+      nets = r.nets;
+      progress = record { taken = b; time = r.progress.time; begun = r.progress.begun };
+      bracket = r.bracket;
+      place = r.place;
+      line = r.line;
+    }
+
+-- the same piece, with something else taken
+abbrev pub apart_with : {A B : Type 0} → B → ReadApart A → ReadApart B
+apart_with b a =
+    record {
+      time = a.time;
+      first_line = a.first_line;
+      progress = record { taken = b; time = a.progress.time; begun = a.progress.begun };
+      bracket = a.bracket;
+      line = a.line;
+    }

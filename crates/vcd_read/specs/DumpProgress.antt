@@ -1,0 +1,63 @@
+-- The instants as they come: a fold over the items of a body.
+use Rattle.std.specs.Prelude.{ℕ, ◌+◌, Bool, true, false, ◌&&◌, not, ◌==◌, if◌then◌else◌, List, [], ◌∷◌, ◌++◌, length}
+use Rattle.std.specs.Prelude.{replicate, slice_set, Option, Some, None, unwrap_or, Result, Ok}
+use Rattle.vcd_read.specs.declared.dump.Bit.{Bit}
+use Rattle.vcd_read.specs.declared.dump.Value.{Value}
+use Rattle.vcd_read.specs.declared.dump.Instant.{Instant}
+use Rattle.vcd_read.specs.declared.fault.VcdFault.{VcdFault}
+use Rattle.vcd_read.specs.Numbers.{number, extended}
+use Rattle.vcd_read.specs.Header.{◌>>=◌, Net, net_of, size_of}
+use Rattle.vcd_read.specs.Body.{BodyItem, time_item, change, Standing, stand_after}
+
+-- The instants before the current time, and the last value of each net at it.
+pub record DumpProgress : Type 0 where
+  pub done : List Instant
+  pub time : ℕ
+  -- whether there is an instant at the current time
+  pub begun : Bool
+  pub current : List (Option (List Bit))
+
+abbrev pub values_from : ℕ → List (Option (List Bit)) → List Value
+values_from net [] = []
+values_from net (None ∷ current) = values_from (net + 1) current
+values_from net (Some bits ∷ current) = record { net = net; bits = bits } ∷ values_from (net + 1) current
+
+abbrev pub flushed : DumpProgress → DumpProgress
+flushed p =
+    record p {
+      done = p.done ++ record { time = p.time; values = values_from 0 p.current } ∷ [];
+      begun = false;
+      current = replicate (length p.current) None;
+    }
+
+abbrev pub advanced : DumpProgress → ℕ → DumpProgress
+advanced p t =
+    if p.begun && not (t == p.time) then record
+    (flushed p) { time = t; begun = true } else record p { time = t; begun = true }
+
+abbrev pub changed : DumpProgress → ℕ → List Bit → DumpProgress
+changed p net bits = record p { begun = true; current = slice_set p.current net (Some bits) }
+
+abbrev pub ended : DumpProgress → List Instant
+ended p = if p.begun then (flushed p).done else p.done
+
+abbrev pub progress_after : List Net → DumpProgress → BodyItem → DumpProgress
+progress_after nets p (time_item line digits) = advanced p (number digits)
+progress_after nets p (change line digits code) =
+    let net = unwrap_or (net_of nets code) 0 in
+    changed p net (extended (size_of nets net) digits)
+progress_after nets p item = p
+
+-- ---- both together
+
+pub record DumpState : Type 0 where
+  pub standing : Standing
+  pub progress : DumpProgress
+
+abbrev pub step : List Net → DumpState → BodyItem → Result DumpState VcdFault
+step nets s item = stand_after nets s.standing item
+    >>= λ next. Ok (record { standing = next; progress = progress_after nets s.progress item })
+
+unfoldable pub steps : List Net → DumpState → List BodyItem → Result DumpState VcdFault
+steps nets s [] = Ok s
+steps nets s (item ∷ items) = step nets s item >>= λ next. steps nets next items

@@ -1,0 +1,67 @@
+//! How far a body is read, between two pieces of it.
+
+ghost use Rattle.std.specs.Prelude.{◌≡◌, false, List, None};
+ghost use Rattle.vcd_read.specs.Header.{Net};
+ghost use Rattle.vcd_read.specs.Bodies.{finished, place_of, unfinished};
+ghost use Rattle.vcd_read.specs.Taking.{taking};
+ghost use Rattle.vcd_read.specs.Meaning.{ReadGives};
+ghost use Rattle.vcd_read.specs.declared.open_item.OpenItem.TheVariants.{Ready};
+
+use crate::change_visitor::ChangeVisitor;
+use crate::fault::{FaultKind, VcdFault};
+use crate::open_item::OpenItem;
+use crate::timed_visitor::{Clock, TimedVisitor};
+use std::alloc::Global;
+
+/// How far a body is read.
+#[derive(Drop)]
+pub(crate) struct BodyState<T: ChangeVisitor> {
+    pub timed: TimedVisitor<T>,
+    /// The line of the bracket that is open.
+    pub bracket: Option<u64>,
+    pub place: OpenItem,
+}
+
+impl<T: ChangeVisitor> BodyState<T> {
+    /// Before any item.
+    pub fn new(visitor: T) -> BodyState<T>
+        ensures visitor { T.taken result.timed.visitor ≡ T.taken visitor }
+        ensures clock { result.timed.clock ≡ record { time = 0; begun = false } }
+        ensures bracket { result.bracket ≡ None }
+        ensures place { result.place ≡ Ready }
+    {
+        BodyState {
+            timed: TimedVisitor::new(visitor),
+            bracket: None,
+            place: OpenItem::Ready,
+        }
+    }
+
+    /// What took the body, of which nothing is left. An item that isn't whole and a bracket that is still open are met
+    /// here.
+    pub fn finish(self, alloc: Global) -> Result<T, VcdFault>
+        ensures { (nets : List Net) → ReadGives (λ t. T.taken t) result
+            (finished T.with_change T.with_instant nets (taking (T.taken self.timed.visitor) self.timed.clock)
+            self.bracket (place_of self.place)) }
+    {
+        if let Some(line) = self.unfinished() {
+            return Err(VcdFault {
+                line,
+                kind: FaultKind::UnfinishedSection,
+            });
+        }
+        Ok(self.timed.finish(alloc)?)
+    }
+
+    /// The line of what isn't ended: an item, or else a bracket.
+    fn unfinished(&self) -> Option<u64>
+        ensures { result ≡ unfinished self.now.place self.now.bracket }
+    {
+        match &self.place {
+            OpenItem::Ready => self.bracket,
+            OpenItem::Vector(digits) => Some(digits.line),
+            OpenItem::Foreign(line) => Some(*line),
+            OpenItem::Comment(line) => Some(*line),
+        }
+    }
+}

@@ -1,0 +1,234 @@
+//! Pieces of a body that are read apart from one another, and joined in order.
+
+ghost use Rattle.std.specs.Prelude.{◌≡◌, ◌↔◌, IsTrue, IfSome, Some};
+ghost use Rattle.vcd_read.specs.DetachedPieces.{MayFollow, IsReadApart, read_apart, time_first};
+ghost use Rattle.vcd_read.specs.DetachedPieces.{apart_with, behind_piece, ended_at, with_taken};
+ghost use Rattle.vcd_read.specs.Body.{body_from, ready};
+ghost use Rattle.vcd_read.specs.Reached.{reached};
+ghost use Rattle.vcd_read.specs.Reading.{left_at};
+
+use crate::body::read_piece;
+use crate::body_piece::{BodyPiece, Start};
+use crate::body_state::BodyState;
+use crate::change_visitor::ChangeVisitor;
+use crate::fault::FaultKind;
+use crate::number::decimal;
+use crate::open_item::OpenItem;
+use crate::pieces::Pieces;
+use crate::shape::{Shape, shape_of};
+use crate::timed_visitor::{Clock, TimedVisitor};
+use crate::token::Reader;
+use std::alloc::Global;
+
+/// A piece of a body that was read as if it stood between two items, outside of brackets, at the time that it begins
+/// with.
+#[derive(Drop)]
+pub struct DetachedPiece<T: ChangeVisitor> {
+    /// The time that it begins with.
+    time: u64,
+    /// The line that it begins on.
+    first_line: u64,
+    timed: TimedVisitor<T>,
+    /// The line of the bracket that is open behind it.
+    bracket: Option<u64>,
+    /// The line that it ends on.
+    line: u64,
+}
+
+/// The time that a piece begins with, where it begins with one.
+fn first_time(text: BodyPiece<'_>) -> Option<u64>
+    ensures { IfSome result (λ time. time_first (body_from ready (left_at text.entry 0)) ≡ Some time) }
+{
+    let mut reader = Reader { text, at: 0 };
+    let token = reader.next()?;
+    match shape_of(token.bytes) {
+        Shape::Time(digits) => match decimal(digits, u64::MAX, FaultKind::BadToken) {
+            Ok(time) => Some(time),
+            Err(_) => None,
+        },
+        _ => None,
+    }
+}
+
+impl<T: ChangeVisitor> DetachedPiece<T> {
+    /// The same piece, with another taker. The one before is handed back.
+    pub fn with_visitor<N: ChangeVisitor>(self, visitor: N) -> (DetachedPiece<N>, T)
+        ensures apart { read_apart N.taken result.0 ≡ apart_with (N.taken visitor) (read_apart T.taken self) }
+        ensures visitor { T.taken result.1 ≡ (read_apart T.taken self).progress.taken }
+    {
+        let DetachedPiece {
+            time,
+            first_line,
+            timed,
+            bracket,
+            line,
+        } = self;
+        let TimedVisitor {
+            visitor: before,
+            clock,
+        } = timed;
+        let timed = TimedVisitor { visitor, clock };
+        let apart = DetachedPiece {
+            time,
+            first_line,
+            timed,
+            bracket,
+            line,
+        };
+        (apart, before)
+    }
+}
+
+impl<T: ChangeVisitor> Pieces<T> {
+    /// Reads a piece that begins on this line and ends behind a space, or where the text does, and gives its changes to
+    /// a taker of its own. None is given of a piece that begins with no time, has a fault or ends within an item, nor
+    /// where memory runs out.
+    pub fn apart<N: ChangeVisitor>(
+        &self,
+        alloc: Global,
+        piece: &[u8],
+        line: u64,
+        visitor: N,
+    ) -> Option<DetachedPiece<N>>
+        ensures line { IfSome result (λ apart. (read_apart N.taken apart).first_line ≡ line) }
+        ensures read { IfSome result (λ apart. IsReadApart N.with_change N.with_instant
+            (reached T.taken self.now).nets piece.now (N.taken visitor) (read_apart N.taken apart)) }
+    {
+        if u64::MAX - line <= piece.len() as u64 {
+            return None;
+        }
+        let text = BodyPiece { bytes: piece, line };
+        let time = first_time(text)?;
+        let reader = Reader { text, at: 0 };
+        let behind = reader.line(Start::Here(piece.len()));
+        let clock = Clock { time, begun: false };
+        let before = BodyState {
+            timed: TimedVisitor { visitor, clock },
+            bracket: None,
+            place: OpenItem::Ready,
+        };
+        let Ok(
+            BodyState {
+                timed,
+                bracket,
+                place,
+            },
+        ) = read_piece(alloc, reader, &self.codes, before)
+        else {
+            return None;
+        };
+        match place {
+            OpenItem::Ready => Some(DetachedPiece {
+                time,
+                first_line: line,
+                timed,
+                bracket,
+                line: behind,
+            }),
+            _ => None,
+        }
+    }
+
+    /// Whether a piece that was read apart may be joined: what is read so far ends on the line that it begins on,
+    /// between two items, outside of brackets and at no later time.
+    pub fn may_join<N: ChangeVisitor>(&self, apart: &DetachedPiece<N>) -> bool
+        ensures { IsTrue result ↔ MayFollow (reached T.taken self.now) (read_apart N.taken apart.now) }
+    {
+        if !matches!(self.underway.place, OpenItem::Ready) || self.underway.bracket.is_some() {
+            return false;
+        }
+        self.underway.timed.clock.time <= apart.time && self.line == apart.first_line
+    }
+
+    /// The time of the instant that a piece ends by the time that it begins with, if it ends one.
+    pub fn ended_by<N: ChangeVisitor>(&self, apart: &DetachedPiece<N>) -> Option<u64>
+        ensures { result ≡ ended_at (reached T.taken self.now).progress (read_apart N.taken apart.now).time }
+    {
+        let clock = self.underway.timed.clock;
+        if clock.begun && apart.time != clock.time {
+            Some(clock.time)
+        } else {
+            None
+        }
+    }
+
+    /// Goes on behind a piece that was read apart, with the taker of that. The taker of what stands before it is handed
+    /// back; it was told nothing of the piece, nor of the end of an instant that the piece ends.
+    pub fn join<N: ChangeVisitor>(self, apart: DetachedPiece<N>) -> (Pieces<N>, T)
+        requires { MayFollow (reached T.taken self) (read_apart N.taken apart) }
+        ensures behind { reached N.taken result.0
+            ≡ behind_piece (reached T.taken self).nets (read_apart N.taken apart) }
+        ensures visitor { T.taken result.1 ≡ (reached T.taken self).progress.taken }
+    {
+        let Pieces {
+            codes,
+            underway,
+            line: _,
+        } = self;
+        let DetachedPiece {
+            time: _,
+            first_line: _,
+            timed,
+            bracket,
+            line,
+        } = apart;
+        let visitor = underway.timed.visitor;
+        let underway = BodyState {
+            timed,
+            bracket,
+            place: OpenItem::Ready,
+        };
+        let joined = Pieces {
+            codes,
+            underway,
+            line,
+        };
+        (joined, visitor)
+    }
+
+    /// Goes on with another taker. The one before is handed back.
+    pub fn with_visitor<N: ChangeVisitor>(self, visitor: N) -> (Pieces<N>, T)
+        ensures pieces { reached N.taken result.0 ≡ with_taken (N.taken visitor) (reached T.taken self) }
+        ensures visitor { T.taken result.1 ≡ (reached T.taken self).progress.taken }
+    {
+        let Pieces {
+            codes,
+            underway,
+            line,
+        } = self;
+        let BodyState {
+            timed,
+            bracket,
+            place,
+        } = underway;
+        let TimedVisitor {
+            visitor: before,
+            clock,
+        } = timed;
+        let underway = BodyState {
+            timed: TimedVisitor { visitor, clock },
+            bracket,
+            place,
+        };
+        let pieces = Pieces {
+            codes,
+            underway,
+            line,
+        };
+        (pieces, before)
+    }
+
+    /// What takes the changes.
+    pub fn visitor(&self) -> &T
+        ensures { T.taken result.now ≡ (reached T.taken self.now).progress.taken }
+    {
+        &self.underway.timed.visitor
+    }
+
+    /// The line that the next piece begins on, from 1.
+    pub fn line(&self) -> u64
+        ensures { result ≡ (reached T.taken self.now).line }
+    {
+        self.line
+    }
+}

@@ -1,0 +1,82 @@
+//! The times of a body, and what takes its changes.
+
+ghost use Rattle.std.specs.Prelude.{◌≡◌, ◌<◌, ◌≤◌, length, false, OnOk, IfOk};
+ghost use Rattle.vcd_read.specs.Numbers.{extended};
+
+use crate::change_visitor::ChangeVisitor;
+use std::alloc::{AllocError, Global};
+
+/// The current time.
+#[derive(Clone, Copy)]
+pub(crate) struct Clock {
+    pub time: u64,
+    /// Whether there is an instant at it.
+    pub begun: bool,
+}
+
+/// The current time, and what takes the changes.
+#[derive(Drop)]
+pub(crate) struct TimedVisitor<T: ChangeVisitor> {
+    pub visitor: T,
+    pub clock: Clock,
+}
+
+impl<T: ChangeVisitor> TimedVisitor<T> {
+    ghost use Rattle.vcd_read.specs.Taking.{taking, advanced, changed, ended};
+
+    /// Time 0, at which there is no instant yet.
+    pub fn new(visitor: T) -> TimedVisitor<T>
+        ensures visitor { T.taken result.visitor ≡ T.taken visitor }
+        ensures clock { result.clock ≡ record { time = 0; begun = false } }
+    {
+        TimedVisitor {
+            visitor,
+            clock: Clock {
+                time: 0,
+                begun: false,
+            },
+        }
+    }
+
+    /// Goes on to a time, or stays at it.
+    pub fn advance(&mut self, alloc: Global, time: u64) -> Result<(), AllocError>
+        ensures { OnOk result (taking (T.taken self.new.visitor) self.new.clock
+            ≡ advanced T.with_instant (taking (T.taken self.old.visitor) self.old.clock) time) }
+    {
+        if self.clock.begun && time != self.clock.time {
+            self.visitor.end_instant(alloc, self.clock.time)?;
+        }
+        self.clock.time = time;
+        self.clock.begun = true;
+        Ok(())
+    }
+
+    /// A change at the current time.
+    #[inline(always)]
+    pub fn change(
+        &mut self,
+        alloc: Global,
+        net: u32,
+        size: u32,
+        digits: &[u8],
+    ) -> Result<(), AllocError>
+        requires some { 0 < length digits.now }
+        requires fits { length digits.now ≤ size }
+        ensures { OnOk result (taking (T.taken self.new.visitor) self.new.clock
+            ≡ changed T.with_change (taking (T.taken self.old.visitor) self.old.clock) net (extended size digits.now)) }
+    {
+        self.visitor.change(alloc, net, size, digits)?;
+        self.clock.begun = true;
+        Ok(())
+    }
+
+    /// What took all changes, the instant at the current time being ended.
+    pub fn finish(mut self, alloc: Global) -> Result<T, AllocError>
+        ensures { IfOk result (λ visitor. T.taken visitor ≡ ended T.with_instant (taking (T.taken self.visitor) self.clock)) }
+    {
+        if self.clock.begun {
+            self.visitor.end_instant(alloc, self.clock.time)?;
+        }
+        Ok(self.visitor)
+    }
+}

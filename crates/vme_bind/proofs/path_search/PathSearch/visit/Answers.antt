@@ -1,0 +1,44 @@
+use Rattle.std.proofs.Common.{ap, sym, ◌∙◌}
+use Rattle.vcd_read.specs.Header.{variable_in, Reference}
+use Rattle.vme_bind.specs.declared.path_search.PathMatch.{PathMatch}
+use Rattle.vme_bind.specs.declared.source.LevelSource.{LevelSource}
+use Rattle.vme_bind.specs.PathSearch.{Searched, candidate_of, with_bits}
+use Rattle.vme_bind.proofs.FoundLemmas.{candidate-here, candidate-named, found-other}
+use Rattle.vme_bind.proofs.path_search.PathSearch.visit.Goals as goal
+
+pub returns-then-self-depth-clause-seen : goal.returns-then-self-depth-clause-seen
+returns-then-self-depth-clause-seen c =
+    let s = c.args.self.now in
+    let v = c.args.variable in
+    let r : Reference = record { name = v.name.now; index = v.index } in
+    ap (λ (found : PathMatch). let seen : Searched = record { assignment = s.assignment.now; found = found } in seen)
+    (found-other s.assignment.now.source s.found c.args.scopes.now v.net v.size r s.begun c.requires.name c.requires.begun (λ e. c.if-self-depth.true (e ∙ sym c.depth.ensures)))
+
+pub returns-then-eq-clause-seen : goal.returns-then-eq-clause-seen
+returns-then-eq-clause-seen c =
+    let s = c.args.self.now in
+    let v = c.args.variable in
+    let named = c.in-Variable.named in
+    let scopes = c.args.scopes.now in
+    let r : Reference = record { name = v.name.now; index = v.index } in
+    let begun = rw c.in-Variable.is at c.requires.begun in
+    let rest = rw (c.as_bytes.ensures, c.path.ensures) at c.rest_of.ensures in
+    let same = sym c.eq.ensures ∙ c.if-eq.true in
+    let here = candidate-here named scopes v.net v.size r c.requires.name s.begun c.rest_of.result.now begun (c.if-self-depth.false ∙ c.depth.ensures) rest same in
+    let is = ap (λ (source : LevelSource). candidate_of source (variable_in scopes v.net v.size r)) c.in-Variable.is in
+    ap (λ (found : PathMatch). let seen : Searched = record { assignment = s.assignment.now; found = found } in seen)
+    (c.with-self.ensures ∙ ap (with_bits s.found) (c.meant-bits.ensures ∙ here ∙ sym is))
+
+pub returns-else-eq-clause-seen : goal.returns-else-eq-clause-seen
+returns-else-eq-clause-seen c =
+    let s = c.args.self.now in
+    let v = c.args.variable in
+    let named = c.in-Variable.named in
+    let scopes = c.args.scopes.now in
+    let r : Reference = record { name = v.name.now; index = v.index } in
+    let rest = rw (c.as_bytes.ensures, c.path.ensures) at c.rest_of.ensures in
+    let other = sym c.eq.ensures ∙ c.if-eq.false in
+    let none = candidate-named named scopes v.net v.size r c.requires.name c.rest_of.result.now rest other in
+    let is = ap (λ (source : LevelSource). candidate_of source (variable_in scopes v.net v.size r)) c.in-Variable.is in
+    ap (λ (found : PathMatch). let seen : Searched = record { assignment = s.assignment.now; found = found } in seen)
+    (ap (with_bits s.found) (none ∙ sym is))

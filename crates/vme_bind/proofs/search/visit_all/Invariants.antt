@@ -1,0 +1,14 @@
+use Rattle.std.proofs.Common.{◌≡◌, map, take, drop}
+use Rattle.std.specs.List.{All}
+use Rattle.vcd_read.specs.Header.{variable_in}
+use Rattle.vme_bind.specs.PathSearch.{HasOpened, seen_in, with_candidate}
+use Rattle.vme_bind.proofs.search.visit_all.Given as goal
+
+abbrev pub invariant-loop-s : goal.invariant-loop-s
+invariant-loop-s l =
+    let variable = variable_in l.scopes l.variable.net l.variable.size (record { name = l.variable.name.now; index = l.variable.index }) in
+    record {
+      begun : All (HasOpened l.scopes) l.sought;
+      done : map seen_in (take l.s-index l.sought) ≡ map (with_candidate variable) (map seen_in (take l.s-index l.fn.sought));
+      rest : drop l.s-index l.sought ≡ drop l.s-index l.fn.sought;
+    }

@@ -1,4 +1,0 @@
-use Rattle.vme_bind.proofs.text_capture.record_wires.Goals as goal
-
-pub returns-in-Ok : goal.returns-in-Ok
-returns-in-Ok g c = c.record_body.ensures c.args.lines.now.slots c.args.wires.now c.in-Ok.ensures

@@ -1,8 +1,0 @@
-use Rattle.std.proofs.Common.{◌≡◌, drop}
-use Rattle.std.specs.List.{filter_map}
-use Rattle.vme_bind.specs.Wires.{candidate, only}
-use Rattle.vme_bind.proofs.WiresLemmas.{only_from}
-use Rattle.vme_bind.proofs.wires.BitRange.of.Given as goal
-
-abbrev pub invariant-loop-variable : goal.invariant-loop-variable
-invariant-loop-variable l = only_from l.found (filter_map (candidate l.named) (drop l.variable-index l.variables)) ≡ only (filter_map (candidate l.named) l.variables)

@@ -1,0 +1,35 @@
+-- Which lines the bits of a net are the levels of.
+use Rattle.std.specs.Prelude.{ℕ, Bool, false, ◌==◌, List, [], map, Option, Some, None, get_or}
+use Rattle.vme_trace.specs.Instants.{those}
+use Rattle.vme_bind.specs.declared.net_lines.LineBit.{LineBit}
+use Rattle.vme_bind.specs.declared.net_lines.NetLines.{NetLines}
+use Rattle.vme_bind.specs.declared.bound_groups.BoundGroup.{BoundGroup}
+use Rattle.vme_bind.specs.declared.bound_groups.LineSource.{LineSource}
+use Rattle.vme_bind.specs.declared.bound_groups.LineSource.TheVariants.{Always, Bit}
+use Rattle.vme_bind.specs.BoundGroups.{line_source}
+
+abbrev pub line_bits_of : NetLines → ℕ → List LineBit
+line_bits_of line_bits net = get_or line_bits.nets.items net []
+
+-- a bit of the net is the source
+abbrev pub is_on : ℕ → Option LineSource → Bool
+is_on net None = false
+is_on net (Some (Always level)) = false
+is_on net (Some (Bit bit)) = net == bit.net
+
+-- the place of the bit that is the source
+abbrev pub place_in : Option LineSource → ℕ
+place_in None = 0
+place_in (Some (Always level)) = 0
+place_in (Some (Bit bit)) = bit.place
+
+module _ (slots : ℕ) (bound_groups : List BoundGroup) where
+  unfoldable pub is_line_bit : ℕ → ℕ → Bool
+  is_line_bit net l = is_on net (line_source slots bound_groups l)
+
+  abbrev pub line_bit_at : ℕ → LineBit
+  line_bit_at l = record { line = l; place = place_in (line_source slots bound_groups l) }
+
+  -- the lines below this one whose bits are of the net, in their order
+  abbrev pub line_bits_below : ℕ → ℕ → List LineBit
+  line_bits_below net end = map line_bit_at (those (is_line_bit net) 0 end)

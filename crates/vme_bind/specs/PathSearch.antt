@@ -1,0 +1,109 @@
+-- What is found of the variables that a binding names, as they are declared one after the other.
+use Rattle.std.specs.Prelude.{◌≡◌, ℕ, ◌+◌, Bool, ◌&&◌, ◌==◌, if◌then◌else◌, List, [], ◌∷◌, length, map, min, take, drop}
+use Rattle.std.specs.Prelude.{bytes_eq, Option, Some, None, Result, Ok, Err}
+use Rattle.vcd_read.specs.declared.dump.Variable.{Variable}
+use Rattle.vcd_read.specs.Header.{◌>>=◌}
+use Rattle.vcd_read.specs.Scopes.{path_in}
+use Rattle.vme_bind.specs.declared.assignment.Assignment.{Assignment}
+use Rattle.vme_bind.specs.declared.fault.BindFault.{BindFault}
+use Rattle.vme_bind.specs.declared.fault.BindKind.{BindKind}
+use Rattle.vme_bind.specs.declared.fault.BindKind.TheVariants.{NoSuchPath, AmbiguousPath}
+use Rattle.vme_bind.specs.declared.source.LevelSource.{LevelSource}
+use Rattle.vme_bind.specs.declared.source.LevelSource.TheVariants.{Constant, Variable as Named}
+use Rattle.vme_bind.specs.declared.path_search.PathMatch.{PathMatch}
+use Rattle.vme_bind.specs.declared.path_search.PathMatch.TheVariants.{Nothing, Only, Several}
+use Rattle.vme_bind.specs.declared.path_search.PathSearch.{PathSearch}
+use Rattle.vme_bind.specs.declared.bound_groups.BitRange.{BitRange}
+use Rattle.vme_bind.specs.declared.bound_groups.BoundGroup.{BoundGroup}
+use Rattle.vme_bind.specs.declared.bound_groups.GroupSource.{GroupSource}
+use Rattle.vme_bind.specs.declared.bound_groups.GroupSource.TheVariants.{Fixed}
+use Rattle.vme_bind.specs.BoundGroups.{candidate, same_bits, source_by, bound_group_by}
+
+-- ---- the only candidate
+
+-- what is found, and then perhaps one candidate more
+abbrev pub with_bits : PathMatch → Option BitRange → PathMatch
+with_bits found None = found
+with_bits Nothing (Some next) = Only next
+with_bits (Only bits) (Some next) = if same_bits bits next then Only bits else Several
+with_bits Several (Some next) = Several
+
+-- the only candidate, or why there is none
+abbrev pub only_found : PathMatch → Result BitRange BindKind
+only_found Nothing = Err NoSuchPath
+only_found (Only bits) = Ok bits
+only_found Several = Err AmbiguousPath
+
+-- an assignment, and what is found of its variable
+pub record Searched : Type 0 where
+  pub assignment : Assignment
+  pub found : PathMatch
+
+abbrev pub candidate_of : LevelSource → Variable → Option BitRange
+candidate_of (Constant level) v = None
+candidate_of (Named named) v = candidate named v
+
+abbrev pub with_candidate : Variable → Searched → Searched
+with_candidate v s = record s { found = with_bits s.found (candidate_of s.assignment.source v) }
+
+-- one variable more
+abbrev pub with_variable : List Searched → Variable → List Searched
+with_variable seen v = map (with_candidate v) seen
+
+abbrev pub unseen : Assignment → Searched
+unseen a = record { assignment = a; found = Nothing }
+
+abbrev pub seen_in : PathSearch → Searched
+seen_in s = record { assignment = s.assignment.now; found = s.found }
+
+-- ---- the wires of what is found
+
+abbrev pub source_of : ℕ → PathMatch → LevelSource → Result GroupSource BindKind
+source_of count found (Constant level) = Ok (Fixed level)
+source_of count found (Named named) = source_by count (only_found found)
+
+abbrev pub bound_group_of : Searched → Result BoundGroup BindFault
+bound_group_of s = bound_group_by s.assignment (source_of s.assignment.group.count s.found s.assignment.source)
+
+-- the wires of all, or the first fault
+unfoldable pub bound_groups_of : List Searched → Result (List BoundGroup) BindFault
+bound_groups_of [] = Ok []
+bound_groups_of (s ∷ seen) = do
+  bound_group ← bound_group_of s
+  bound_groups ← bound_groups_of seen
+  Ok (bound_group ∷ bound_groups)
+
+-- ---- the open scopes that a path begins with
+
+-- a text begins with these bytes
+abbrev pub begins_with : List ℕ → List ℕ → Bool
+begins_with front text = bytes_eq (take (length front) text) front
+
+-- the path that is sought, if one is
+abbrev pub path_sought : LevelSource → List ℕ
+path_sought (Constant level) = []
+path_sought (Named named) = named.path
+
+-- with how many of the open scopes, from the outermost, a path begins
+unfoldable pub scopes_begun : List ℕ → List (List ℕ) → ℕ
+scopes_begun path [] = 0
+scopes_begun path (name ∷ scopes) = if begins_with (path_in (name ∷ scopes)) path then length scopes
+    + 1 else scopes_begun path scopes
+
+abbrev pub HasOpened : List (List ℕ) → PathSearch → Type 0
+HasOpened scopes s = s.begun ≡ scopes_begun (path_sought s.assignment.now.source) scopes
+
+-- how many, where a scope opens behind so many others: this part of the path is its own, from this place on
+abbrev pub begun_behind : ℕ → ℕ → List ℕ → List ℕ → ℕ → ℕ
+begun_behind depth start part path begun = if begun == depth
+    && begins_with part (drop start path) then depth + 1 else begun
+
+abbrev pub opened : ℕ → ℕ → List ℕ → PathSearch → PathSearch
+opened depth start part s = record s {
+  begun = begun_behind depth start part
+      (path_sought s.assignment.now.source) s.begun;
+}
+
+-- the innermost scope closes, and so many are left
+abbrev pub closed : ℕ → PathSearch → PathSearch
+closed depth s = record s { begun = min s.begun depth }

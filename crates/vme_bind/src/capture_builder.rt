@@ -1,0 +1,225 @@
+//! The recording that is made as a dump is read.
+
+ghost use Rattle.std.specs.Prelude.{◌≡◌, ℕ};
+ghost use Rattle.vme_bind.specs.Recording.{AreLines};
+ghost use Rattle.vme_bind.specs.NetLines.{line_bits_of};
+ghost use Rattle.vme_bind.specs.Made.{made_change, made_instant};
+ghost use Rattle.vme_bind.specs.AssignedLines.{ahead_change, ahead_instant, none_assigned};
+
+use crate::assigned_lines::AssignedLines;
+use crate::net_lines::NetLines;
+use crate::recorder::Recorder;
+use std::alloc::{AllocError, Global};
+use std::marker::Model;
+use vcd_read::ChangeVisitor;
+use vme_trace::StepVisitor;
+
+/// The lines of the nets and their levels, and what takes the recording so far. Changes of other nets leave them as
+/// they are.
+#[derive(Drop)]
+pub(crate) struct CaptureBuilder<F: StepVisitor> {
+    line_bits: NetLines,
+    recorder: Recorder,
+    visitor: F,
+}
+
+impl<F: StepVisitor> Model for CaptureBuilder<F> {
+    ghost use Rattle.std.specs.Prelude.{ℕ};
+    ghost use Rattle.vme_bind.specs.Made.{Made};
+    ghost use Rattle.vme_bind.specs.Recording.{AreLines};
+    ghost use Rattle.vme_bind.specs.NetLines.{line_bits_of};
+
+    ghost Value = { Made };
+
+    ghost view = { λ m. record { line_bits = m.line_bits; progress = m.recorder; recorded = F.recorded m.visitor } };
+
+    ghost invariant = { λ m. (net : ℕ) → AreLines m.recorder.now.slots (line_bits_of m.line_bits net) };
+}
+
+impl<F: StepVisitor> CaptureBuilder<F> {
+    /// What takes this recording from here on.
+    pub fn new(line_bits: NetLines, recorder: Recorder, visitor: F) -> CaptureBuilder<F>
+        requires { (net : ℕ) → AreLines recorder.now.slots (line_bits_of line_bits net) }
+        ensures { result ≡ record { line_bits = line_bits; progress = recorder; recorded = F.recorded visitor } }
+    {
+        CaptureBuilder {
+            line_bits,
+            recorder,
+            visitor,
+        }
+    }
+
+    /// The lines of the nets, their levels, and what took the recording.
+    pub fn into_parts(self) -> (NetLines, Recorder, F)
+        ensures parts { self ≡ record { line_bits = result.0; progress = result.1; recorded = F.recorded result.2 } }
+        ensures lines { (net : ℕ) → AreLines result.1.now.slots (line_bits_of result.0 net) }
+    {
+        let CaptureBuilder {
+            line_bits,
+            recorder,
+            visitor,
+        } = self;
+        (line_bits, recorder, visitor)
+    }
+
+    /// What took the recording.
+    pub fn into_visitor(self) -> F
+        ensures { F.recorded result ≡ self.recorded }
+    {
+        self.visitor
+    }
+}
+
+impl<F: StepVisitor> ChangeVisitor for CaptureBuilder<F> {
+    ghost use Rattle.vme_bind.specs.Made.{Made};
+
+    ghost Taken = { Made };
+
+    ghost taken = { λ r. r };
+
+    ghost with_change = { made_change };
+
+    ghost with_instant = { made_instant };
+
+    #[inline(always)]
+    fn change(
+        &mut self,
+        alloc: Global,
+        net: u32,
+        size: u32,
+        digits: &[u8],
+    ) -> Result<(), AllocError> {
+        let _ = alloc;
+        self.recorder
+            .set_by_digits(self.line_bits.of(net), size, digits)
+    }
+
+    #[inline(always)]
+    fn end_instant(&mut self, alloc: Global, time: u64) -> Result<(), AllocError> {
+        match self.recorder.end_instant(alloc, time)? {
+            Some(step) => self.visitor.step(alloc, step),
+            None => Ok(()),
+        }
+    }
+}
+
+/// The same of a piece that is read ahead, with the lines of the nets of the dump that it is of.
+#[derive(Drop)]
+pub(crate) struct SpeculativeBuilder<'t, F: StepVisitor> {
+    line_bits: &'t NetLines,
+    recorder: Recorder,
+    visitor: F,
+    assigned: AssignedLines,
+}
+
+impl<'t, F: StepVisitor> Model for SpeculativeBuilder<'t, F> {
+    ghost use Rattle.std.specs.Prelude.{ℕ};
+    ghost use Rattle.vme_bind.specs.Recording.{AreLines};
+    ghost use Rattle.vme_bind.specs.NetLines.{line_bits_of};
+    ghost use Rattle.vme_bind.specs.AssignedLines.{SpeculativelyMade};
+
+    ghost Value = { SpeculativelyMade };
+
+    ghost view = { λ m. record {
+      made = record { line_bits = m.line_bits.now; progress = m.recorder; recorded = F.recorded m.visitor };
+      assigned = m.assigned;
+    } };
+
+    ghost invariant = { λ m. (net : ℕ) → AreLines m.recorder.now.slots (line_bits_of m.line_bits.now net) };
+}
+
+impl<'t, F: StepVisitor> SpeculativeBuilder<'t, F> {
+    /// What takes the recording that begins with these levels.
+    pub fn new(line_bits: &'t NetLines, recorder: Recorder, visitor: F) -> SpeculativeBuilder<'t, F>
+        requires { (net : ℕ) → AreLines recorder.now.slots (line_bits_of line_bits.now net) }
+        ensures made { result.made
+            ≡ record { line_bits = line_bits.now; progress = recorder; recorded = F.recorded visitor } }
+        ensures assigned { result.assigned ≡ none_assigned }
+    {
+        SpeculativeBuilder {
+            line_bits,
+            recorder,
+            visitor,
+            assigned: AssignedLines::none(),
+        }
+    }
+
+    /// The levels of the lines, what took the recording, and of which lines a level was told.
+    pub fn into_parts(self) -> (Recorder, F, AssignedLines)
+        ensures progress { self.entry.made.progress ≡ result.0 }
+        ensures recorded { self.entry.made.recorded ≡ F.recorded result.1 }
+        ensures assigned { self.entry.assigned ≡ result.2 }
+    {
+        let SpeculativeBuilder {
+            line_bits: _,
+            recorder,
+            visitor,
+            assigned,
+        } = self;
+        (recorder, visitor, assigned)
+    }
+}
+
+impl<F: StepVisitor> ChangeVisitor for SpeculativeBuilder<'_, F> {
+    ghost use Rattle.vme_bind.specs.AssignedLines.{SpeculativelyMade};
+
+    ghost Taken = { SpeculativelyMade };
+
+    ghost taken = { λ r. r };
+
+    ghost with_change = { ahead_change };
+
+    ghost with_instant = { ahead_instant };
+
+    #[inline(always)]
+    fn change(
+        &mut self,
+        alloc: Global,
+        net: u32,
+        size: u32,
+        digits: &[u8],
+    ) -> Result<(), AllocError> {
+        let _ = alloc;
+        let line_bits = self.line_bits.of(net);
+        self.assigned.assign(line_bits);
+        self.recorder.set_by_digits(line_bits, size, digits)
+    }
+
+    #[inline(always)]
+    fn end_instant(&mut self, alloc: Global, time: u64) -> Result<(), AllocError> {
+        match self.recorder.end_instant(alloc, time)? {
+            Some(made) => self.visitor.step(alloc, made),
+            None => Ok(()),
+        }
+    }
+}
+
+/// Takes changes of which nothing is kept.
+#[derive(Clone, Copy)]
+pub(crate) struct DiscardChanges;
+
+impl ChangeVisitor for DiscardChanges {
+    ghost Taken = { Unit {0} };
+
+    ghost taken = { λ p. tt };
+
+    ghost with_change = { λ t net bits. t };
+
+    ghost with_instant = { λ t time. t };
+
+    fn change(
+        &mut self,
+        alloc: Global,
+        net: u32,
+        size: u32,
+        digits: &[u8],
+    ) -> Result<(), AllocError> {
+        let _ = (alloc, net, size, digits.len());
+        Ok(())
+    }
+
+    fn end_instant(&mut self, alloc: Global, time: u64) -> Result<(), AllocError> {
+        let _ = (alloc, time);
+        Ok(())
+    }
+}

@@ -1,0 +1,163 @@
+//! What is found of the variable that a line of a binding names.
+
+ghost use Rattle.std.specs.Prelude.{◌≡◌, ◌<◌, ◌+◌, ◌^◌, drop, length};
+ghost use Rattle.vcd_read.specs.Header.{variable_in};
+ghost use Rattle.vcd_read.specs.Scopes.{path_in};
+ghost use Rattle.vme_bind.specs.Answers.{BindGives};
+ghost use Rattle.vme_bind.specs.PathSearch.{begins_with};
+
+use crate::assignment::Assignment;
+use crate::bound_groups::{BitRange, BoundGroup, GroupSource};
+use crate::fault::{BindFault, BindKind};
+use crate::source::LevelSource;
+use vcd_read::{Declaration, Scopes};
+
+/// The candidates so far: those that are the same bits are one.
+#[derive(Clone, Copy)]
+pub(crate) enum PathMatch {
+    Nothing,
+    Only(BitRange),
+    Several,
+}
+
+/// A line of the binding's text, and what is found of its variable so far.
+#[derive(Drop)]
+pub(crate) struct PathSearch<'b> {
+    pub assignment: &'b Assignment,
+    /// With how many of the open scopes, from the outermost, its path begins.
+    pub begun: usize,
+    pub found: PathMatch,
+}
+
+impl PathMatch {
+    ghost use Rattle.vme_bind.specs.PathSearch.{with_bits};
+
+    /// With one candidate more, if this is one.
+    fn with(self, bits: Option<BitRange>) -> PathMatch
+        ensures { result ≡ with_bits self bits }
+    {
+        let Some(next) = bits else {
+            return self;
+        };
+        match self {
+            PathMatch::Nothing => PathMatch::Only(next),
+            PathMatch::Only(bits) if bits.is_same(next) => self,
+            PathMatch::Only(_) => PathMatch::Several,
+            PathMatch::Several => PathMatch::Several,
+        }
+    }
+}
+
+/// Whether a text begins with these bytes.
+fn begins_with(text: &[u8], front: &[u8]) -> bool
+    ensures { result ≡ begins_with front.now text.now }
+{
+    match text.get(..front.len()) {
+        Some(start) => start == front,
+        None => false,
+    }
+}
+
+/// What stands in a text from a place on.
+pub(crate) fn rest_of(text: &[u8], start: usize) -> &[u8]
+    ensures { result.now ≡ drop start text.now }
+{
+    if start < text.len() {
+        &text[start..]
+    } else {
+        &[]
+    }
+}
+
+impl<'b> PathSearch<'b> {
+    ghost use Rattle.vme_bind.specs.PathSearch.{closed, opened, seen_in, unseen, scopes_begun, path_sought, with_candidate};
+    ghost use Rattle.vme_bind.specs.PathSearch.{bound_group_of};
+
+    /// Nothing is found yet, and no scope is open.
+    pub fn new(assignment: &'b Assignment) -> PathSearch<'b>
+        ensures seen { seen_in result ≡ unseen assignment.now }
+        ensures begun { result.begun ≡ 0 }
+    {
+        PathSearch {
+            assignment,
+            begun: 0,
+            found: PathMatch::Nothing,
+        }
+    }
+
+    /// The path that is sought, which is empty where none is.
+    fn path(&self) -> &'b [u8]
+        ensures { result.now ≡ path_sought self.now.assignment.now.source }
+    {
+        match &self.assignment.source {
+            LevelSource::Constant(_) => &[],
+            LevelSource::Variable(named) => named.path.as_bytes(),
+        }
+    }
+
+    /// Opens a scope behind so many others: this part of the path is its own, from this place on.
+    pub fn open(&mut self, depth: usize, start: usize, part: &[u8])
+        requires { depth + 1 < 2 ^ 64 }
+        ensures { self.new ≡ opened depth start part.now self.old }
+    {
+        if self.begun == depth && begins_with(rest_of(self.path(), start), part) {
+            self.begun = depth + 1;
+        }
+    }
+
+    /// Closes the innermost scope, so that so many are left.
+    pub fn close(&mut self, depth: usize)
+        ensures { self.new ≡ closed depth self.old }
+    {
+        self.begun = self.begun.min(depth);
+    }
+
+    /// Looks at a variable that is declared in these scopes.
+    pub fn visit(&mut self, scopes: &Scopes, variable: Declaration<'_>)
+        requires begun { self.old.begun ≡ scopes_begun (path_sought self.old.assignment.now.source) scopes.now }
+        requires name { 0 < length variable.name.now }
+        ensures begun { self.new.begun ≡ self.old.begun }
+        ensures assignment { self.new.assignment ≡ self.old.assignment }
+        ensures seen { seen_in self.new ≡ with_candidate (variable_in scopes.now variable.entry.net variable.entry.size
+            (record { name = variable.entry.name.now; index = variable.entry.index })) (seen_in self.old) }
+    {
+        if self.begun != scopes.depth() {
+            return;
+        }
+        if let LevelSource::Variable(named) = &self.assignment.source {
+            if rest_of(named.path.as_bytes(), scopes.path().len()) == variable.name {
+                let bits = BitRange::meant(
+                    named.selection,
+                    variable.net,
+                    variable.size,
+                    variable.index,
+                );
+                self.found = self.found.with(bits);
+            }
+        }
+    }
+
+    /// The wire of the line.
+    pub fn bound_group(&self) -> Result<BoundGroup, BindFault>
+        ensures { BindGives (λ bound_group. bound_group) result (bound_group_of (seen_in self.now)) }
+    {
+        let assignment = self.assignment;
+        let kind = match (&assignment.source, self.found) {
+            (LevelSource::Constant(level), _) => {
+                return Ok(BoundGroup {
+                    group: assignment.group,
+                    source: GroupSource::Fixed(*level),
+                });
+            }
+            (LevelSource::Variable(_), PathMatch::Only(bits)) => return BoundGroup::of_bits(
+                assignment, bits,
+            ),
+            (LevelSource::Variable(_), PathMatch::Nothing) => BindKind::NoSuchPath,
+            (LevelSource::Variable(_), PathMatch::Several) => BindKind::AmbiguousPath,
+        };
+        Err(BindFault {
+            line: assignment.line,
+            kind,
+        })
+    }
+}

@@ -1,0 +1,250 @@
+//! The recording of a dump whose pieces are read ahead of what stands before them, and joined in order.
+
+ghost use Rattle.std.specs.Prelude.{◌≡◌, ◌↔◌, ℕ, List, [], IfOk};
+ghost use Rattle.std.specs.Prelude.{IfSome, IsTrue, length};
+ghost use Rattle.vme_trace.specs.LineNumbers.{line_count};
+ghost use Rattle.vme_trace.specs.Trace.{Trace};
+ghost use Rattle.vme_bind.specs.Recording.{step_in};
+ghost use Rattle.vme_bind.specs.TextPieces.{text_reached};
+ghost use Rattle.vme_bind.specs.SpeculativeReading.{AreLevelsBehind, MayFollowLevels, IsJoined, IsReadSpeculatively, with_recording};
+
+use crate::assigned_lines::AssignedLines;
+use crate::capture_builder::{CaptureBuilder, DiscardChanges, SpeculativeBuilder};
+use crate::fault::BindFault;
+use crate::net_lines::NetLines;
+use crate::recorder::Recorder;
+use crate::text_state::TextPieces;
+use std::alloc::{AllocError, Global};
+use std::marker::Model;
+use vcd_read::{DetachedPiece, Pieces};
+use vme_trace::{LINE_COUNT, Line, Lines, Step, StepVisitor};
+
+/// The recording of a dump, as far as some pieces of its text go, without what takes it: only its levels are known.
+#[derive(Drop)]
+pub struct SpeculativeReader {
+    pieces: Pieces<DiscardChanges>,
+    fault: Option<BindFault>,
+    line_bits: NetLines,
+    recorder: Recorder,
+}
+
+impl Model for SpeculativeReader {
+    ghost use Rattle.std.specs.Prelude.{ℕ};
+    ghost use Rattle.std.specs.Option.{ForSome};
+    ghost use Rattle.vcd_read.specs.DetachedPieces.{with_taken};
+    ghost use Rattle.vcd_read.specs.Reached.{reached};
+    ghost use Rattle.vme_bind.specs.Recording.{AreLines};
+    ghost use Rattle.vme_bind.specs.NetLines.{line_bits_of};
+    ghost use Rattle.vme_bind.specs.TextCapture.{IsOfBinding};
+    ghost use Rattle.vme_bind.specs.SpeculativeReading.{WaveReached};
+
+    ghost Value = { WaveReached };
+
+    ghost view = { λ w. record
+        { fault = w.fault; line_bits = w.line_bits; body = with_taken w.recorder (reached (λ p. tt {0}) w.pieces) } };
+
+    ghost invariant = { λ w. ForSome w.fault IsOfBinding
+        × ((net : ℕ) → AreLines w.recorder.now.slots (line_bits_of w.line_bits net)) };
+}
+
+/// A piece of a dump that was read ahead of what stands before it, as if that left these levels.
+#[derive(Drop)]
+pub struct SpeculativeChunk {
+    from: Lines,
+    apart: DetachedPiece<DiscardChanges>,
+    recorder: Recorder,
+    assigned: AssignedLines,
+}
+
+impl Model for SpeculativeChunk {
+    ghost use Rattle.std.specs.Prelude.{◌≡◌, ℕ, true};
+    ghost use Rattle.vme_bind.specs.Recording.{IsLine};
+    ghost use Rattle.vme_bind.specs.AssignedLines.{is_assigned};
+    ghost use Rattle.vcd_read.specs.DetachedPieces.{apart_with, read_apart};
+    ghost use Rattle.vme_bind.specs.SpeculativeReading.{ReadSpeculatively};
+
+    ghost Value = { ReadSpeculatively };
+
+    ghost view = { λ a. record
+        { from = a.from; apart = apart_with a.recorder (read_apart (λ p. tt {0}) a.apart); assigned = a.assigned } };
+
+    ghost invariant = { λ a. (a.recorder.now.slots ≡ a.from.slots)
+        × ((l : ℕ) → is_assigned a.assigned l ≡ true → IsLine a.from.slots l) };
+}
+
+impl<F: StepVisitor> TextPieces<F> {
+    /// Lets go of what takes the recording, so that pieces can be read apart.
+    pub fn into_wave(self) -> (SpeculativeReader, F)
+        ensures { with_recording (F.recorded result.1) result.0 ≡ text_reached self }
+    {
+        let TextPieces { pieces, fault } = self;
+        let (pieces, made) = pieces.with_visitor(DiscardChanges);
+        let (line_bits, recorder, visitor) = made.into_parts();
+        let wave = SpeculativeReader {
+            pieces,
+            fault,
+            line_bits,
+            recorder,
+        };
+        (wave, visitor)
+    }
+}
+
+impl SpeculativeReader {
+    /// Goes on with what takes the recording.
+    pub fn with_step_visitor<F: StepVisitor>(self, visitor: F) -> TextPieces<F>
+        ensures { text_reached result ≡ with_recording (F.recorded visitor) self }
+    {
+        let SpeculativeReader {
+            pieces,
+            fault,
+            line_bits,
+            recorder,
+        } = self;
+        let (pieces, _) = pieces.with_visitor(CaptureBuilder::new(line_bits, recorder, visitor));
+        TextPieces { pieces, fault }
+    }
+
+    /// The line that the next piece begins on, from 1.
+    pub fn line(&self) -> u64
+        ensures { result ≡ self.now.body.line }
+    {
+        self.pieces.line()
+    }
+
+    /// The levels after the steps so far.
+    pub fn shown(&self) -> &Lines
+        ensures { result.now ≡ self.now.body.progress.taken.shown }
+    {
+        self.recorder.shown()
+    }
+
+    /// The levels after the values so far.
+    pub fn now(&self) -> &Lines
+        ensures now { result.now ≡ self.now.body.progress.taken.now }
+        ensures all { length result.now.levels ≡ line_count }
+    {
+        self.recorder.now()
+    }
+
+    /// Reads a piece that begins on this line and ends behind a space, or where the text does, ahead of what stands
+    /// before it: as if that left these levels, of the same backplane. Its steps are given to the follower, to which
+    /// none was given before. None is given of a piece that begins with no time, has a fault or ends within an item,
+    /// for levels of another backplane, nor where memory runs out.
+    pub fn read_ahead<F: StepVisitor>(
+        &self,
+        alloc: Global,
+        piece: &[u8],
+        line: u64,
+        from: &Lines,
+        visitor: F,
+    ) -> Option<(SpeculativeChunk, F)>
+        requires levels { length from.now.levels ≡ line_count }
+        requires none { (F.recorded visitor).steps ≡ [] }
+        ensures line { IfSome result (λ made. made.0.apart.first_line ≡ line) }
+        ensures from { IfSome result (λ made. made.0.from ≡ from.now) }
+        ensures opening { IfSome result (λ made. (F.recorded made.1).opening ≡ (F.recorded visitor).opening) }
+        ensures read { IfSome result (λ made.
+            IsReadSpeculatively self.now.body.nets self.now.line_bits piece.now (F.recorded made.1) made.0) }
+    {
+        if from.slots() != self.recorder.now().slots() {
+            return None;
+        }
+        let builder = SpeculativeBuilder::new(
+            &self.line_bits,
+            Recorder::new(alloc, *from),
+            visitor,
+        );
+        let apart = self.pieces.apart(alloc, piece, line, builder)?;
+        let (apart, builder) = apart.with_visitor(DiscardChanges);
+        let (recorder, visitor, assigned) = builder.into_parts();
+        let ahead = SpeculativeChunk {
+            from: *from,
+            apart,
+            recorder,
+            assigned,
+        };
+        Some((ahead, visitor))
+    }
+
+    /// Whether a piece that was read ahead may be joined: what is read so far ends on the line that it begins on,
+    /// between two items, outside of brackets and at no later time, and leaves the levels that it was read from.
+    pub fn may_join(&self, ahead: &SpeculativeChunk) -> bool
+        ensures { IsTrue result ↔ MayFollowLevels self.now ahead.now }
+    {
+        if !self.pieces.may_join(&ahead.apart) {
+            return false;
+        }
+        let ended = self.pieces.ended_by(&ahead.apart);
+        self.recorder.begins_with(ended, &ahead.from)
+    }
+
+    /// Goes on behind a piece that was read ahead. The step that ends the instant before it is given, if there is one:
+    /// those of the piece follow it. The only error is want of memory.
+    pub fn join(
+        self,
+        alloc: Global,
+        ahead: SpeculativeChunk,
+    ) -> Result<(SpeculativeReader, Option<Step>), AllocError>
+        requires { MayFollowLevels self ahead }
+        ensures { IfOk result (λ joined. (bytes : List ℕ) (recorded : Trace)
+            → IsReadSpeculatively self.body.nets self.line_bits bytes recorded ahead
+            → IsJoined bytes recorded ahead.from self joined.0 (step_in joined.1)) }
+    {
+        let SpeculativeReader {
+            pieces,
+            fault,
+            line_bits,
+            mut recorder,
+        } = self;
+        let SpeculativeChunk {
+            from: _,
+            apart,
+            recorder: behind,
+            assigned: _,
+        } = ahead;
+        let step = recorder.end(alloc, pieces.ended_by(&apart))?;
+        let (pieces, _) = pieces.join(apart);
+        let wave = SpeculativeReader {
+            pieces,
+            fault,
+            line_bits,
+            recorder: behind,
+        };
+        Ok((wave, step))
+    }
+}
+
+impl SpeculativeChunk {
+    /// The levels that it was read from.
+    pub fn from(&self) -> &Lines
+        ensures { result.now ≡ self.now.from }
+    {
+        &self.from
+    }
+
+    /// The levels that it leaves where these stand before it: its own on each line of which it tells a level.
+    pub fn levels_behind(&self, levels: &Lines) -> Lines
+        requires slots { levels.now.slots ≡ self.now.from.slots }
+        requires all { length levels.now.levels ≡ line_count }
+        ensures { AreLevelsBehind self.now levels.now result }
+    {
+        let now = self.recorder.now();
+        let mut behind = *levels;
+        for number in 0..LINE_COUNT {
+            let line = Line::from_number(number).unwrap();
+            if self.assigned.has(line) {
+                behind.set(line, now.level(line));
+            }
+        }
+        behind
+    }
+
+    /// The levels behind it.
+    pub fn levels(&self) -> &Lines
+        ensures now { result.now ≡ self.now.apart.progress.taken.now }
+        ensures all { length result.now.levels ≡ line_count }
+    {
+        self.recorder.now()
+    }
+}

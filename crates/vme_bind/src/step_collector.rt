@@ -1,0 +1,26 @@
+//! A recording that is kept as it is made.
+
+use std::alloc::{AllocError, Global};
+use vme_trace::{Lines, Step, StepVisitor};
+
+/// The opening and the steps of a recording, which are kept.
+#[derive(Drop)]
+pub(crate) struct StepCollector {
+    pub(crate) opening: Lines,
+    pub(crate) steps: Vec<Step>,
+}
+
+impl StepVisitor for StepCollector {
+    ghost recorded = { λ kept. record { opening = kept.opening; steps = kept.steps.items } };
+
+    fn open(&mut self, opening: &Lines) {
+        self.opening = *opening;
+        self.steps.clear();
+    }
+
+    fn step(&mut self, alloc: Global, step: Step) -> Result<(), AllocError> {
+        let _ = alloc;
+        self.steps.push(step)?;
+        Ok(())
+    }
+}

@@ -1,0 +1,23 @@
+use Rattle.std.proofs.lemmas.List.{append_assoc}
+use Rattle.vme_listing.specs.RowText.{row_text}
+use Rattle.vme_listing.proofs.text.RowBuffer.push_transfer.Goals as goal
+
+pub returns-clause-text : goal.returns-clause-text
+unfolding row_text
+returns-clause-text c =
+    rw (
+      c.push_data.ensures.text,
+      c.push_edge.ensures.text,
+      c.extend-3.ensures.text,
+      c.push_decimal-3.ensures.text,
+      c.push-3.ensures.text,
+      c.push_answer.ensures.text,
+      c.push-2.ensures.text,
+      c.push_direction.ensures.text,
+      c.push.ensures.text,
+      c.push_decimal-2.ensures.text,
+      c.extend-2.ensures.text,
+      c.push_decimal.ensures.text,
+      c.extend.ensures.text,
+    )
+    (simp append_assoc)

@@ -1,0 +1,90 @@
+-- A machine that waits for an idle instant, then judges by an inner machine, until a control line is lost, or the bus
+-- is reset, after which it waits again.
+use Rattle.std.specs.Prelude.{ℕ, zero, suc, Bool, true, false, ◌||◌, List, Option, None, Some, if◌then◌else◌}
+use Rattle.std.specs.Option.{option_map_or, is_some}
+use Rattle.vme_trace.specs.Levels.{Levels, is_idle}
+use Rattle.vme_trace.specs.Changes.{touches_control}
+use Rattle.vme_trace.specs.declared.step.Change.{Change}
+use Rattle.vme_monitor.specs.Ends.{end_among}
+use Rattle.vme_monitor.specs.Run.{quiet, nothing}
+use Rattle.vme_monitor.specs.declared.mark.Fault.{Fault}
+use Rattle.vme_monitor.specs.declared.mark.StepMarks.{StepMarks}
+use Rattle.vme_monitor.specs.declared.mark.Next.{Next}
+use Rattle.vme_monitor.specs.declared.over_stretches.StretchPhase.{StretchPhase}
+use Rattle.vme_monitor.specs.declared.over_stretches.StretchPhase.TheVariants.{Waiting, Judging, Reset, Ended}
+use Rattle.vme_monitor.specs.declared.over_stretches.StretchObservation.{StretchObservation}
+use Rattle.vme_monitor.specs.declared.view.End.{End}
+use Rattle.vme_monitor.specs.declared.view.End.TheVariants as end
+
+abbrev pub phase_place : {P : Type 0} → (P → ℕ) → StretchPhase P → ℕ
+phase_place place Waiting = 0
+phase_place place Reset = 1
+phase_place place Ended = 2
+phase_place place (Judging p) = suc (suc (suc (place p)))
+
+abbrev pub phase_nth : {P : Type 0} → (ℕ → P) → ℕ → StretchPhase P
+phase_nth nth zero = Waiting
+phase_nth nth (suc zero) = Reset
+phase_nth nth (suc (suc zero)) = Ended
+phase_nth nth (suc (suc (suc k))) = Judging (nth k)
+
+abbrev pub start_in : {P : Type 0} → (Levels → P) → Levels → StretchPhase P
+start_in begin o = if is_idle o then Judging (begin o) else Waiting
+
+-- a span has started
+abbrev pub has_started : {P : Type 0} → StretchPhase P → Bool
+has_started Waiting = false
+has_started (Judging p) = true
+has_started Reset = true
+has_started Ended = true
+
+-- what the inner machine does, in the memory of the outer one
+abbrev pub inner : {P : Type 0} → Next P → Next (StretchPhase P)
+inner n = record { memory = Judging n.memory; fault = n.fault; kinds = n.kinds }
+
+abbrev pub noted : {S : Type 0} → (Levels → Levels → List Change → Option S)
+    → Levels → Levels → List Change → Option (StretchObservation S)
+noted observation before after cs =
+    if touches_control after.slots cs || is_some (observation before after cs)
+    then Some (record { end = end_among after cs; inner = observation before after cs })
+    else None
+
+-- who waits notices each change of a control line, who judges what the rules see, and all what ends a span
+abbrev pub phase_alertness : {P : Type 0} → StretchPhase P → ℕ
+phase_alertness Waiting = 2
+phase_alertness (Judging p) = 1
+phase_alertness Reset = 3
+phase_alertness Ended = 0
+
+-- what ends a span is noticed by all: where it is a reset, who judged waits again
+abbrev pub faintness_by : {S : Type 0} → Option End → Option S → ℕ
+faintness_by (Some ends) seen = 0
+faintness_by None (Some s) = 1
+faintness_by None None = 2
+
+abbrev pub noted_faintness : {S : Type 0} → StretchObservation S → ℕ
+noted_faintness seen = faintness_by seen.end seen.inner
+
+module _ {P S : Type 0} (begin : Levels → P) (opens : Levels → StepMarks) (resets : StepMarks) (ends : ℕ → Option Fault)
+    (next : P → Levels → Levels → S → Next P) where
+  -- in the memory of one who waits
+  abbrev pub waiting : StretchPhase P → Levels → Next (StretchPhase P)
+  waiting m after =
+      if is_idle after then record { memory = Judging (begin after); fault = None; kinds = opens after } else quiet m
+
+  abbrev pub resetting : Next (StretchPhase P)
+  resetting = record { memory = Reset; fault = None; kinds = resets }
+
+  abbrev pub ending : ℕ → Next (StretchPhase P)
+  ending l = record { memory = Ended; fault = ends l; kinds = nothing }
+
+  abbrev pub judging : P → Levels → Levels → Option End → Option S → Next (StretchPhase P)
+  judging p before after (Some end.Reset) s = resetting
+  judging p before after (Some (end.Lost l)) s = ending l
+  judging p before after None s = inner (option_map_or (next p before after) s (quiet p))
+
+  abbrev pub spanned : StretchPhase P → Levels → Levels → StretchObservation S → Next (StretchPhase P)
+  spanned Waiting before after seen = waiting Waiting after
+  spanned (Judging p) before after seen = judging p before after seen.end seen.inner
+  spanned Reset before after seen = waiting Reset after
+  spanned Ended before after seen = quiet Ended

@@ -1,0 +1,275 @@
+//! Judging starts at an idle instant, and ends where the bus is reset or a control line is lost. After a reset it
+//! starts again.
+
+ghost use Rattle.std.specs.Prelude.{◌≡◌, ℕ, ◌<◌, ◌≤◌, List, Option, None, length, take};
+ghost use Rattle.vme_trace.specs.Trace.{Trace, levels_at};
+ghost use Rattle.vme_trace.specs.WellFormed.{malformed_step};
+ghost use Rattle.vme_trace.specs.Judged.{IsSpanOf, Stretch, judged_spans};
+ghost use Rattle.vme_trace.specs.Verdict.{least_of};
+ghost use Rattle.vme_trace.specs.declared.rule.Rule.{Rule};
+ghost use Rattle.vme_monitor.specs.Judges.{Judges};
+ghost use Rattle.vme_monitor.specs.Shows.{Shows, marks_over, over_span};
+ghost use Rattle.vme_monitor.specs.Whole.{has_span, run_whole};
+ghost use Rattle.vme_monitor.specs.Along.{memory_from};
+ghost use Rattle.vme_monitor.specs.declared.over_stretches.StretchPhase.TheVariants.{Judging};
+ghost use Rattle.vme_monitor.specs.Run.{noticed};
+ghost use Rattle.vme_trace.specs.Levels.{Levels};
+ghost use Rattle.vme_trace.specs.declared.step.Change.{Change};
+ghost use Rattle.vme_monitor.specs.declared.mark.Fault.{Fault};
+ghost use Rattle.vme_monitor.specs.declared.mark.StepMarks.{StepMarks};
+ghost use Rattle.vme_monitor.specs.declared.mark.Next.{Next};
+ghost use Rattle.vme_monitor.specs.OverStretches.{has_started};
+
+use crate::machine::{Enumerable, Machine, Small};
+use crate::mark::{Fault, NOTHING, Next, StepMarks, quiet};
+use crate::monitor::Monitor;
+use crate::table_monitor::TableMonitor;
+use crate::view::{End, StepView};
+use std::marker::PhantomData;
+use vme_trace::{Change, Line, Lines};
+
+/// What judges by some rules, from the start of a span to its end.
+pub trait Rules {
+    type Memory: Small;
+
+    type Observation: Drop;
+
+    ghost begin: { Levels → Self.Memory };
+
+    ghost opens: { Levels → StepMarks };
+
+    ghost resets: { StepMarks };
+
+    ghost ends: { ℕ → Option Fault };
+
+    ghost observation: { Levels → Levels → List Change → Option Self.Observation };
+
+    ghost next: { Self.Memory → Levels → Levels → Self.Observation → Next Self.Memory };
+
+    /// The memory at the idle instant at which a span starts.
+    fn at_start(lines: &Lines) -> Self::Memory
+        ensures { result ≡ begin lines.now };
+
+    fn shown_at_start(lines: &Lines) -> StepMarks
+        ensures { result ≡ opens lines.now };
+
+    /// What is shown where a span ends because the bus is reset.
+    fn shown_at_reset() -> StepMarks
+        ensures { result ≡ resets };
+
+    /// What is broken where a control line is lost.
+    fn fault_at_end(lost: Line) -> Option<Fault>
+        ensures { result ≡ ends lost };
+
+    fn observe(before: &Lines, after: &Lines, changes: &[Change]) -> Option<Self::Observation>
+        ensures { result ≡ observation before.now after.now changes.now };
+
+    fn step(
+        memory: Self::Memory,
+        before: &Lines,
+        after: &Lines,
+        seen: &Self::Observation,
+    ) -> Next<Self::Memory>
+        ensures { result ≡ next memory before.now after.now seen.now };
+}
+
+/// Before, within and after a span.
+#[derive(Clone, Copy, PartialEq, Eq, Debug)]
+pub enum StretchPhase<P> {
+    /// A reset has ended a span, and none has started since.
+    Reset,
+    /// No span has started.
+    Waiting,
+    Judging(P),
+    /// A lost control line has ended a span.
+    Ended,
+}
+
+impl<P: Small> Enumerable for StretchPhase<P> {
+    ghost use Rattle.std.specs.Prelude.{suc, refl};
+    ghost use Rattle.std.specs.Prelude.{◌+◌};
+    ghost use Rattle.vme_monitor.specs.OverStretches.{phase_nth, phase_place};
+    ghost use Rattle.vme_monitor.specs.OverStretchesLaws.{phase_found, phase_placed};
+
+    ghost COUNT = { P.COUNT + 3 };
+
+    ghost place_of = { phase_place P.place_of };
+
+    ghost nth_of = { phase_nth P.nth_of };
+
+    ghost placed = { phase_placed P.COUNT P.place_of P.placed };
+
+    ghost found = { phase_found P.place_of P.nth_of P.found };
+
+    const COUNT: usize = P::COUNT + 3;
+
+    fn place(self) -> usize {
+        match self {
+            StretchPhase::Waiting => 0,
+            StretchPhase::Reset => 1,
+            StretchPhase::Ended => 2,
+            StretchPhase::Judging(memory) => memory.place() + 3,
+        }
+    }
+
+    fn nth(k: usize) -> StretchPhase<P> {
+        if k == 0 {
+            StretchPhase::Waiting
+        } else if k == 1 {
+            StretchPhase::Reset
+        } else if k == 2 {
+            StretchPhase::Ended
+        } else {
+            StretchPhase::Judging(P::nth(k - 3))
+        }
+    }
+}
+
+/// What a step shows to one who judges.
+#[derive(Drop)]
+pub struct StretchObservation<S> {
+    pub end: Option<End>,
+    pub inner: Option<S>,
+}
+
+/// The machine that judges by some rules within spans.
+pub struct OverStretches<R> {
+    of: PhantomData<R>,
+}
+
+impl<R: Rules> Machine for OverStretches<R> {
+    ghost use Rattle.vme_monitor.specs.OverStretches.{noted, noted_faintness, phase_alertness, spanned, start_in};
+    ghost use Rattle.vme_monitor.specs.OverStretchesLaws.{phases_few, spanned_calm, spanned_unmoved};
+
+    type Memory = StretchPhase<R::Memory>;
+
+    type Observation = StretchObservation<R::Observation>;
+
+    ghost begin = { start_in R.begin };
+
+    ghost observation = { noted R.observation };
+
+    ghost next = { spanned R.begin R.opens R.resets R.ends R.next };
+
+    ghost sensitivity_of = { phase_alertness };
+
+    ghost threshold_of = { noted_faintness };
+
+    ghost below_threshold = { spanned_unmoved R.begin R.opens R.resets R.ends R.next };
+
+    ghost never_more_sensitive = { spanned_calm R.begin R.opens R.resets R.ends R.next };
+
+    ghost few = { phases_few R.Memory.COUNT R.Memory.small };
+
+    fn start(opening: &Lines) -> StretchPhase<R::Memory> {
+        if opening.is_idle() {
+            StretchPhase::Judging(R::at_start(opening))
+        } else {
+            StretchPhase::Waiting
+        }
+    }
+
+    #[inline(always)]
+    fn observe_step(
+        view: &StepView,
+        changes: &[Change],
+    ) -> Option<StretchObservation<R::Observation>> {
+        let inner = R::observe(&view.before, &view.after, changes);
+        if inner.is_some() || view.control {
+            Some(StretchObservation {
+                end: view.end,
+                inner,
+            })
+        } else {
+            None
+        }
+    }
+
+    #[inline(always)]
+    fn step(
+        memory: StretchPhase<R::Memory>,
+        before: &Lines,
+        after: &Lines,
+        seen: &StretchObservation<R::Observation>,
+    ) -> Next<StretchPhase<R::Memory>> {
+        match memory {
+            StretchPhase::Waiting | StretchPhase::Reset => {
+                if after.is_idle() {
+                    Next {
+                        memory: StretchPhase::Judging(R::at_start(after)),
+                        fault: None,
+                        kinds: R::shown_at_start(after),
+                    }
+                } else {
+                    quiet(memory)
+                }
+            }
+            StretchPhase::Judging(inner) => match seen.end {
+                Some(End::Reset) => Next {
+                    memory: StretchPhase::Reset,
+                    fault: None,
+                    kinds: R::shown_at_reset(),
+                },
+                Some(End::Lost(line)) => Next {
+                    memory: StretchPhase::Ended,
+                    fault: R::fault_at_end(line),
+                    kinds: NOTHING,
+                },
+                None => match &seen.inner {
+                    Some(noticed) => {
+                        let next = R::step(inner, before, after, noticed);
+                        Next {
+                            memory: StretchPhase::Judging(next.memory),
+                            fault: next.fault,
+                            kinds: next.kinds,
+                        }
+                    }
+                    None => quiet(StretchPhase::Judging(inner)),
+                },
+            },
+            StretchPhase::Ended => quiet(StretchPhase::Ended),
+        }
+    }
+
+    fn sensitivity(memory: StretchPhase<R::Memory>) -> u8 {
+        match memory {
+            StretchPhase::Reset => 3,
+            StretchPhase::Waiting => 2,
+            StretchPhase::Judging(_) => 1,
+            StretchPhase::Ended => 0,
+        }
+    }
+
+    fn threshold(seen: &StretchObservation<R::Observation>) -> u8 {
+        match seen.end {
+            Some(_) => 0,
+            None => { if seen.inner.is_some() { 1 } else { 2 } }
+        }
+    }
+}
+
+/// The monitor of some rules.
+pub type RuleMonitor<R> = TableMonitor<OverStretches<R>>;
+
+/// Over a whole capture, the event is the least break of the rules, and the marks are what happens in the spans and at
+/// the resets that end them, for rules that meet what is owed of each span (`Judges`, `Shows`). Within a span the
+/// memory is the inner machine's.
+pub fn rules_over_captures<R: Rules>()
+    ensures event { (t : Trace) (rules : List Rule) → malformed_step t ≡ None → t.opening.slots ≤ 21
+        → ((span : Stretch) → IsSpanOf t span
+        → Judges (noticed R.observation R.next) (R.begin (levels_at t span.start)) R.ends t span rules)
+        → (run_whole ⟦<RuleMonitor<R> as Monitor>⟧.run ⟦<RuleMonitor<R> as Monitor>⟧.begin t).event
+        ≡ least_of rules t (judged_spans t) }
+    ensures marks { (t : Trace) (shown : Stretch → ℕ → StepMarks) → malformed_step t ≡ None → t.opening.slots ≤ 21
+        → ((span : Stretch) → IsSpanOf t span
+        → Shows (noticed R.observation R.next) (R.begin (levels_at t span.start)) R.opens t span (shown span))
+        → (run_whole ⟦<RuleMonitor<R> as Monitor>⟧.run ⟦<RuleMonitor<R> as Monitor>⟧.begin t).marks
+        ≡ marks_over (λ span. over_span t span R.resets (shown span)) t (judged_spans t) }
+    ensures started { (t : Trace) → malformed_step t ≡ None → t.opening.slots ≤ 21
+        → has_started (run_whole ⟦<RuleMonitor<R> as Monitor>⟧.run ⟦<RuleMonitor<R> as Monitor>⟧.begin t).leaving
+        ≡ has_span (judged_spans t) }
+    ensures memory { (t : Trace) (span : Stretch) (n : ℕ) → malformed_step t ≡ None → t.opening.slots ≤ 21
+        → IsSpanOf t span → span.start ≤ n → n < span.end → n ≤ length t.steps
+        → (⟦<RuleMonitor<R> as Monitor>⟧.run (⟦<RuleMonitor<R> as Monitor>⟧.begin t.opening) t.opening (take n t.steps)).leaving
+        ≡ Judging (memory_from (noticed R.observation R.next) t (R.begin (levels_at t span.start)) span.start n) }
+{}

@@ -1,0 +1,114 @@
+//! Reading a source to its end, by what takes its bytes as they come.
+
+ghost use Rattle.std.specs.Prelude.{◌≡◌, ℕ, ◌+◌, ◌*◌, ◌-◌, ◌≤◌, ◌<◌, List, length, take, drop, Some, None, Ok, Err};
+ghost use Rattle.std.specs.Prelude.{IfOk, vec_len};
+ghost use Rattle.vme_stream.specs.Inputs.{IsInTime, IsReading, longest_input, most_reads};
+ghost use Rattle.vme_stream.specs.ByteConsumers.{ContinuesAs};
+
+use crate::input::{InFault, LONGEST, MOST_READS, read_behind};
+use std::alloc::{AllocError, Global};
+use vme_trace::Source;
+
+/// What the bytes of an input come to, as they are read.
+pub trait ByteConsumer: Drop + Sized {
+    /// What an input can come to.
+    ghost Outcome: { Type 0 };
+
+    /// What comes of these bytes, behind those that were taken.
+    ghost ahead: { Self → List ℕ → Self.Outcome };
+}
+
+/// Reads a source to its end, and has its bytes taken, `piece` of them at once, or more where none of so many can be
+/// taken: `taker` takes some of the first of those that it is given, and says how many. The others come again, with
+/// more behind them. The answer is what all of them came to, and the last bytes, which were left.
+///
+/// The answer is Read exactly where a read failed, or 16,777,216 gave bytes; else it is TooLong where there are more
+/// than 268,435,456 bytes, unless there is no memory.
+pub fn read_by<R: Source, T: ByteConsumer, M: Fn(T, &[u8]) -> Result<(T, usize), AllocError>>(
+    alloc: Global,
+    source: &mut R,
+    consumer: T,
+    piece: usize,
+    taker: &M,
+) -> Result<(T, Vec<u8>), InFault>
+    requires piece { (1 ≤ piece) × (piece ≤ longest_input) }
+    requires callable { M.IsAlwaysCallable taker.now }
+    requires takes { (t : T) (bytes : _) (made : _) → M.post taker.now t bytes (Ok made)
+        → (made.1 ≤ length bytes.now) × ContinuesAs (T.ahead t) (T.ahead made.0) (take made.1 bytes.now) }
+    ensures bytes { IfOk result (λ made. (bytes : List ℕ) × (length bytes ≤ longest_input)
+        × IsReading (R.reading source.old) (R.reading source.new) (Some bytes)
+        × (T.ahead consumer bytes ≡ T.ahead made.0 made.1.items)) }
+    ensures read { result ≡ Err InFault.Read → IsReading (R.reading source.old) (R.reading source.new) None }
+    ensures too_long { result ≡ Err InFault.TooLong
+        → (bytes : List ℕ) × (longest_input < length bytes)
+        × IsReading (R.reading source.old) (R.reading source.new) (Some bytes) }
+    ensures memory { result ≡ Err InFault.Memory → IsInTime (R.reading source.old) (R.reading source.new) }
+    ensures bound { (R.reading source.new).reads ≤ (R.reading source.old).reads + most_reads }
+{
+    let mut bytes = Vec::from_elem(alloc, 0, piece)?;
+    let mut consumer = consumer;
+    // How many bytes were taken, and how many are held behind them.
+    let mut taken = 0;
+    let mut filled = 0;
+    for _ in 0..MOST_READS {
+        if taken + filled > LONGEST {
+            return Err(InFault::TooLong);
+        }
+        let (next, count) = make_room(consumer, &mut bytes, filled, taker)?;
+        consumer = next;
+        taken += count;
+        filled -= count;
+        let count = match read_behind(source, &mut bytes, filled) {
+            Ok(count) => count,
+            Err(fault) => return Err(fault),
+        };
+        if count == 0 {
+            bytes.truncate(filled);
+            return Ok((consumer, bytes));
+        }
+        filled += count;
+    }
+    Err(InFault::Read)
+}
+
+/// Makes room behind the first `filled` bytes: where there is none, some are taken, or if none can be there is as much
+/// room again. Says how many were taken: those behind them stand at the front then.
+fn make_room<T: ByteConsumer, M: Fn(T, &[u8]) -> Result<(T, usize), AllocError>>(
+    consumer: T,
+    bytes: &mut Vec<u8>,
+    filled: usize,
+    taker: &M,
+) -> Result<(T, usize), AllocError>
+    requires callable { M.IsAlwaysCallable taker.now }
+    requires takes { (t : T) (bytes : _) (made : _) → M.post taker.now t bytes (Ok made)
+        → (made.1 ≤ length bytes.now) × ContinuesAs (T.ahead t) (T.ahead made.0) (take made.1 bytes.now) }
+    requires within { filled ≤ vec_len bytes.old }
+    requires some { 0 < vec_len bytes.old }
+    requires short { filled ≤ longest_input }
+    ensures within { IfOk result (λ made. made.1 ≤ filled) }
+    ensures room { IfOk result (λ made. filled - made.1 < vec_len bytes.new) }
+    ensures left { IfOk result (λ made.
+        take (filled - made.1) bytes.new.items ≡ drop made.1 (take filled bytes.old.items)) }
+    ensures taken { IfOk result (λ made. ContinuesAs (T.ahead consumer) (T.ahead made.0) (take made.1 bytes.old.items)) }
+{
+    if filled < bytes.len() {
+        return Ok((consumer, 0));
+    }
+    let (consumer, count) = taker(consumer, bytes.as_slice())?;
+    if count == 0 {
+        bytes.resize(2 * filled, 0)?;
+    } else {
+        move_to_front(bytes, count);
+    }
+    Ok((consumer, count))
+}
+
+/// Moves the bytes from a place on to the front. What stands behind them then is left open.
+fn move_to_front(bytes: &mut Vec<u8>, from: usize)
+    requires { from ≤ vec_len bytes.old }
+    ensures left { take (vec_len bytes.old - from) bytes.new.items ≡ drop from bytes.old.items }
+    ensures len { vec_len bytes.new ≡ vec_len bytes.old }
+{
+    let count = bytes.len();
+    bytes.as_mut_slice().copy_within(from..count, 0);
+}

@@ -1,9 +1,0 @@
--- What the steps do was found whatever stood before them.
-use Rattle.std.proofs.Common.{◌+◌, ap}
-use Rattle.vme_summary.proofs.Progressing.{judged_on}
-use Rattle.vme_summary.proofs.judging.JudgingAdvance.pass.Goals as goal
-
-pub returns-clause-past : goal.returns-clause-past
-returns-clause-past c =
-    let j = c.args.self.now in
-    judged_on j c.args.judgement _ c.found_after-self.result (ap (λ k. j.steps + k) c.steps.ensures) c.found_after-self.ensures

@@ -1,0 +1,7 @@
+-- What the steps do was kept whatever stood before them.
+use Rattle.vme_summary.proofs.Marked.{marked_on}
+use Rattle.vme_summary.proofs.listing_state.ListingStateChunkJudge.pass.Goals as goal
+
+pub returns-clause-past : goal.returns-clause-past
+returns-clause-past c =
+    λ o x y before made. marked_on c.args.chunk_summary c.append.new.self.summary o x y (c.in_ok-append.ensures.both o x y before.stands made.stands) made

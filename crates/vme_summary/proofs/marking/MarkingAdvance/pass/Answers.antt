@@ -1,7 +1,0 @@
--- What the steps do was kept whatever stood before them.
-use Rattle.vme_summary.proofs.Marked.{marked_on}
-use Rattle.vme_summary.proofs.marking.MarkingAdvance.pass.Goals as goal
-
-pub returns-clause-past : goal.returns-clause-past
-returns-clause-past c =
-    λ o x y before made. marked_on c.args.judgement c.append.new.self.summary o x y (c.in_ok-append.ensures.both o x y before.stands made.stands) made

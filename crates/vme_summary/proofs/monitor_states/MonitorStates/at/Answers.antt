@@ -1,0 +1,15 @@
+-- No steps leave each memory as it is at the opening.
+use Rattle.std.proofs.Common.{◌∙◌}
+use Rattle.vme_summary.specs.Runs.{known_run, handshake_run, stability_run, grant_run, acknowledge_run}
+use Rattle.vme_summary.proofs.monitor_states.MonitorStates.at.Goals as goal
+
+pub returns : goal.returns
+unfolding known_run handshake_run stability_run grant_run acknowledge_run
+returns c =
+    record {
+      known = record { memory = c.at.ensures.memory ∙ c.start.ensures; event = c.at.ensures.event };
+      handshake = record { memory = c.at-2.ensures.memory ∙ c.start-2.ensures; event = c.at-2.ensures.event };
+      stability = record { memory = c.at-3.ensures.memory ∙ c.start-3.ensures; event = c.at-3.ensures.event };
+      grant = record { memory = c.at-4.ensures.memory ∙ c.start-4.ensures; event = c.at-4.ensures.event };
+      acknowledge = record { memory = c.at-5.ensures.memory ∙ c.start-5.ensures; event = c.at-5.ensures.event };
+    }

@@ -1,6 +1,0 @@
-use Rattle.std.proofs.Common.{◌≡◌, drop}
-use Rattle.vme_trace.specs.Trace.{levels_after}
-use Rattle.vme_summary.proofs.part.left_by.Given as goal
-
-abbrev pub invariant-loop-step : goal.invariant-loop-step
-invariant-loop-step l = levels_after l.left (drop l.step-index l.steps) ≡ levels_after l.fn.lines l.fn.steps

@@ -1,0 +1,31 @@
+-- The same of a summary that is given away: the listing is made of what the summary finds and of its marks.
+use Rattle.std.proofs.Common.{◌≡◌, ◌<◌, ◌^◌, true, sym, ◌∙◌, ap, subst, arith}
+use Rattle.std.proofs.lemmas.Result.{IfOk-weaker}
+use Rattle.vme_listing.specs.Places.{is_well_placed}
+use Rattle.vme_listing.specs.Listed.{Listed, in_newest_version}
+use Rattle.vme_summary.specs.MarkedRows.{listed}
+use Rattle.vme_summary.specs.Summaries.{summary_steps}
+use Rattle.vme_summary.proofs.Listed.{listing_found, placed_found}
+use Rattle.vme_summary.proofs.summary.MonitorSummaries.into_listing.Goals as goal
+
+pub returns-clause-listing : goal.returns-clause-listing
+returns-clause-listing c =
+    let s = c.args.self in
+    let o = c.args.opening.now in
+    let judged = c.has_judged.result in
+    let event = c.first_break.result in
+    let marks = c.in_ok-marks.marks.items in
+    IfOk-weaker c.listing_by.result _ _
+    (λ listing e t all.
+    e ∙ ap (λ ms. in_newest_version (listed o judged event ms)) c.as_slice.ensures.value
+    ∙ sym (listing_found s o t all c.found_from-found.result c.found_from-found.ensures judged c.has_judged.ensures event c.first_break.ensures marks c.in_ok-marks.ensures))
+    c.listing_by.ensures
+
+pub returns-clause-placed : goal.returns-clause-placed
+returns-clause-placed c =
+    let s = c.args.self in
+    let counted : summary_steps s < 2 ^ 32 = omega (arith, c.steps.ensures) in
+    IfOk-weaker c.listing_by.result _ _
+    (λ listing is t all.
+    subst (λ (l : Listed). is_well_placed l ≡ true) (sym (is t all)) (placed_found s c.args.opening.now t all counted c.listings_are_well_placed.ensures.recorded))
+    (returns-clause-listing c)

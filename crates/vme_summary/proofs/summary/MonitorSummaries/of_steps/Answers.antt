@@ -1,0 +1,14 @@
+-- Each monitor has a table of the steps.
+use Rattle.vme_summary.specs.Runs.{known_run, handshake_run, stability_run, grant_run, acknowledge_run}
+use Rattle.vme_summary.proofs.summary.MonitorSummaries.of_steps.Goals as goal
+
+pub returns-clause-stands : goal.returns-clause-stands
+unfolding known_run handshake_run stability_run grant_run acknowledge_run
+returns-clause-stands c =
+    record {
+      known = c.in_ok-known.ensures.first;
+      handshake = c.in_ok-known.ensures.second;
+      stability = c.in_ok-known.ensures.third;
+      grant = c.in_ok-known.ensures.fourth;
+      acknowledge = c.in_ok-known.ensures.fifth;
+    }

@@ -1,0 +1,55 @@
+//! The steps that were taken, which proofs alone read.
+
+ghost use Rattle.std.specs.Prelude.{◌≡◌, List, [], ◌∷◌, ◌++◌};
+ghost use Rattle.std.specs.Borrow.{ftrue};
+ghost use Rattle.vme_trace.specs.declared.step.Step.{Step};
+
+use std::marker::Model;
+use vme_trace::Step;
+
+/// Steps, one after the other. Clauses read them; in the program they are nothing.
+#[derive(Drop)]
+pub(crate) struct GhostSteps {
+    pub(crate) ghost items: { List Step },
+}
+
+impl Model for GhostSteps {
+    ghost also_owns = { λ _. ftrue };
+}
+
+// It owns nothing, and so it may go to another thread.
+unsafe impl Send for GhostSteps {}
+
+impl GhostSteps {
+    /// No step was taken.
+    pub(crate) fn new() -> GhostSteps
+        ensures { result.items ≡ [] }
+    {
+        GhostSteps {}
+    }
+
+    /// One more was taken.
+    pub(crate) fn and(&self, step: &Step) -> GhostSteps
+        ensures { result.items ≡ self.now.items ++ step.now ∷ [] }
+    {
+        GhostSteps {}
+    }
+
+    /// These were taken.
+    pub(crate) fn of(steps: &[Step]) -> GhostSteps
+        ensures { result.items ≡ steps.now }
+    {
+        let mut taken = GhostSteps::new();
+        for step in steps {
+            taken = taken.and(step);
+        }
+        taken
+    }
+
+    /// And then others.
+    pub(crate) fn and_all(&self, more: &GhostSteps) -> GhostSteps
+        ensures { result.items ≡ self.now.items ++ more.now.items }
+    {
+        GhostSteps {}
+    }
+}

@@ -1,0 +1,73 @@
+//! A part of a recording that was judged by itself.
+
+ghost use Rattle.std.specs.Prelude.{◌≡◌, IfOk};
+ghost use Rattle.vme_trace.specs.Trace.{levels_after};
+
+use crate::chunk_judge::{ChunkJudge, MOST_STEPS};
+use crate::chunk_summary::ChunkSummary;
+use crate::ghost_steps::GhostSteps;
+use std::alloc::{AllocError, Global};
+use std::marker::{Model, PhantomData};
+use vme_trace::{Lines, Step};
+
+/// Steps that were judged by themselves, whatever stands before them, but for the lines that it leaves. Contracts see
+/// these lines and the steps, as the recording that they are; of the steps themselves nothing is kept.
+#[derive(Drop)]
+pub struct JudgedChunk<J: ChunkJudge> {
+    /// How many steps there are, or one over the most.
+    pub(crate) count: u32,
+    opening: Lines,
+    /// The lines that the steps leave.
+    left: Lines,
+    pub(crate) chunk_summary: ChunkSummary,
+    pub(crate) taken: GhostSteps,
+    by: PhantomData<J>,
+}
+
+impl<J: ChunkJudge> Model for JudgedChunk<J> {
+    ghost use Rattle.vme_trace.specs.Trace.{Trace};
+    ghost use Rattle.vme_summary.specs.Watched.{IsPart};
+
+    ghost Value = { Trace };
+
+    ghost view = { λ p. record { opening = p.opening; steps = p.taken.items } };
+
+    ghost invariant = { λ p. IsPart J.is_made_of p.chunk_summary p.count p.opening p.taken.items p.left };
+}
+
+/// The lines that some steps leave.
+fn left_by(lines: &Lines, steps: &[Step]) -> Lines
+    ensures { result ≡ levels_after lines.now steps.now }
+{
+    let mut left = *lines;
+    for step in steps {
+        left.apply(step.changes.as_slice());
+    }
+    left
+}
+
+impl<J: ChunkJudge> JudgedChunk<J> {
+    /// Judges steps by themselves, which follow these lines: of a recording's most, 268,435,456, the first. The only
+    /// error is want of memory.
+    pub fn of(alloc: Global, opening: &Lines, steps: &[Step]) -> Result<JudgedChunk<J>, AllocError>
+        ensures { IfOk result (λ part. part ≡ record { opening = opening.now; steps = steps.now }) }
+    {
+        let (first, rest) = steps.split_at(steps.len().min(MOST_STEPS as usize));
+        let chunk_summary = J::judge(alloc, opening, first)?;
+        Ok(JudgedChunk {
+            count: steps.len().min(MOST_STEPS as usize + 1) as u32,
+            opening: *opening,
+            left: left_by(&chunk_summary.left, rest),
+            chunk_summary,
+            taken: GhostSteps::of(steps),
+            by: PhantomData,
+        })
+    }
+
+    /// The lines that the steps leave.
+    pub fn left(&self) -> &Lines
+        ensures { result.now ≡ levels_after self.now.opening self.now.steps }
+    {
+        &self.left
+    }
+}
