@@ -27,11 +27,11 @@ use denote.Triple.Table.{entered}
 use denote.Triple.Walked.{says, stay_none_ref, Stays, walk_of, Walks, ends_at, walked, Goes-none_ref, walk_Meets}
 use Rattle.std.proofs.Common.{[], ◌∷◌, ◌++◌}
 use Rattle.vme_trace.specs.contracts.step.Step as Step
-use Rattle.vme_summary.specs.contracts.taken.Taken.and.Key.{name as key}
-use Rattle.vme_summary.specs.contracts.taken.Taken.and as f
+use Rattle.vme_summary.specs.contracts.ghost_steps.GhostSteps.and.Key.{name as key}
+use Rattle.vme_summary.specs.contracts.ghost_steps.GhostSteps.and as f
 use Rattle.vme_summary.proofs.ghost_steps.GhostSteps.and.Statement as stated
 use Rattle.vme_summary.proofs.ghost_steps.GhostSteps.and.Code as code
-use Rattle.vme_summary.specs.contracts.taken.Taken as made
+use Rattle.vme_summary.specs.contracts.ghost_steps.GhostSteps as made
 
 abbrev stayed : Stays (f.ended).signature.params (f.ended).kept
 stayed = (stay_none_ref (0 ∷ []) tt (plain (λ _. made.the_row)) yes, (stay_none_ref (1 ∷ []) tt (plain (λ _. Step.the_row)) yes, tt))

@@ -26,11 +26,11 @@ use denote.Triple.Spec.{Meets, triple_of}
 use denote.Triple.Table.{entered}
 use denote.Triple.Walked.{says, stay_none_ref, Stays, walk_of, Walks, ends_at, walked, Goes-none_ref, walk_Meets}
 use Rattle.std.proofs.Common.{[], ◌∷◌, ◌++◌}
-use Rattle.vme_summary.specs.contracts.taken.Taken.and_all.Key.{name as key}
-use Rattle.vme_summary.specs.contracts.taken.Taken.and_all as f
+use Rattle.vme_summary.specs.contracts.ghost_steps.GhostSteps.and_all.Key.{name as key}
+use Rattle.vme_summary.specs.contracts.ghost_steps.GhostSteps.and_all as f
 use Rattle.vme_summary.proofs.ghost_steps.GhostSteps.and_all.Statement as stated
 use Rattle.vme_summary.proofs.ghost_steps.GhostSteps.and_all.Code as code
-use Rattle.vme_summary.specs.contracts.taken.Taken as made
+use Rattle.vme_summary.specs.contracts.ghost_steps.GhostSteps as made
 
 abbrev stayed : Stays (f.ended).signature.params (f.ended).kept
 stayed = (stay_none_ref (0 ∷ []) tt (plain (λ _. made.the_row)) yes, (stay_none_ref (1 ∷ []) tt (plain (λ _. made.the_row)) yes, tt))

@@ -20,11 +20,11 @@ use denote.Triple.Entry.{on_entry, alive}
 use denote.Triple.Spec.{Meets, triple_of}
 use denote.Triple.Table.{entered}
 use denote.Triple.Walked.{says, Stays, walk_of, Walks, ends_at, walked, walk_Meets}
-use Rattle.vme_summary.specs.contracts.taken.Taken.new.Key.{name as key}
-use Rattle.vme_summary.specs.contracts.taken.Taken.new as f
+use Rattle.vme_summary.specs.contracts.ghost_steps.GhostSteps.new.Key.{name as key}
+use Rattle.vme_summary.specs.contracts.ghost_steps.GhostSteps.new as f
 use Rattle.vme_summary.proofs.ghost_steps.GhostSteps.new.Statement as stated
 use Rattle.vme_summary.proofs.ghost_steps.GhostSteps.new.Code as code
-use Rattle.vme_summary.specs.contracts.taken.Taken as made
+use Rattle.vme_summary.specs.contracts.ghost_steps.GhostSteps as made
 
 abbrev stayed : Stays (f.ended).signature.params (f.ended).kept
 stayed = tt
