@@ -8,7 +8,7 @@
 
 It answers what the proved program answers, on standard output and by its status, and shares nothing with it: it was
 written by the two pages alone, keeps the whole recording, and looks each thing up by its definition. Nothing of it is
-proved. It reads as docs/PROTOCOL.md does: the lines, what is judged, the rules in the order of their table, the verdict.
+proved. It reads as docs/PROTOCOL.md does: the lines, what is judged, the rules in the order of their list, the verdict.
 """
 import bisect
 import os
