@@ -15,18 +15,24 @@ import os
 import re
 import sys
 
-HELP = """Usage: vmecheck [check|list|confirm] ..
+HELP = """The second judge of vmecheck, in Python: nothing of it is proved, and it has these commands alone.
 
-  vmecheck < DUMP                                       the verdict, by the built-in binding
-  vmecheck check [--block N] [--workers N] BINDING DUMP     the verdict
-  vmecheck list [--block N] [--workers N] BINDING DUMP      the listing
-  vmecheck confirm BINDING DUMP LISTING                     whether a listing is true
+Usage: vmecheck < DUMP                                             the verdict, by a binding of its own
+       vmecheck check [--block N] [--workers N] BINDING DUMP       the verdict
+       vmecheck list [--block N] [--workers N] BINDING DUMP        the listing
+       vmecheck confirm BINDING DUMP LISTING                       whether a listing is true
 
-This is the second judge, in Python: nothing of it is proved, and it has these commands alone.
+Examples:
+  vmecheck check examples/backplane.bind examples/address_changed.vcd
+  zcat bus.vcd.gz | vmecheck check bus.bind /dev/stdin
 
-Example: vmecheck check examples/backplane.bind examples/address_changed.vcd
-Status: 0 conforming or confirmed; 1 broken or not confirmed; 2 unreadable or never idle;
-3 refused input or usage; 4 want of memory; 5 standard output can't be written.
+Exit status:
+  0  conforming or confirmed, or the text was written
+  1  broken, or not confirmed
+  2  unreadable, or never idle
+  3  an input is refused, or the words are wrong
+  4  want of memory
+  5  standard output can't be written
 """
 LONGEST = 268_435_456
 LIMIT = (1 << 32) - 1

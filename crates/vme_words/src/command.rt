@@ -13,12 +13,37 @@ use std::alloc::{AllocError, Global};
 /// letters.
 pub const VERSION: &str = "0.1.0, commit (built from a working tree, not a release)";
 
+/// What stands at the top of the program's help.
+const ABOUT: &str = "\
+Judges the recording of a VMEbus backplane, a four-state value change dump, and names the first edge
+at which a board broke the protocol. Without words it judges the dump on standard input by a binding
+of its own.";
+
+/// What stands at the end of the program's help.
+const EXAMPLES: &str = "\
+Examples:
+  vmecheck bind bus.vcd > bus.bind      a binding for a dump: look it over
+  vmecheck check bus.bind bus.vcd       the verdict
+  vmecheck explain bus.bind bus.vcd     why and where
+  vmecheck rules H4                     what a rule asks
+  zcat bus.vcd.gz | vmecheck check bus.bind /dev/stdin
+                                        the verdict on a dump that comes by a pipe
+
+Exit status:
+  0  conforming or confirmed, or the text was written
+  1  broken, or not confirmed
+  2  unreadable, or never idle
+  3  an input is refused, or the words are wrong
+  4  want of memory
+  5  standard output or a file can't be written";
+
 /// The program, with a subcommand for each task.
 pub fn vmecheck_command<'a>(alloc: Global) -> Result<Command<'a>, AllocError>
     ensures { IfOk result (λ command. app_of command ≡ vmecheck_app) }
 {
     let command = with_task(telling_commands(alloc), bind_command(alloc));
     let command = with_task(command, explain_command(alloc))?;
+    let command = command.about(ABOUT).after_help(EXAMPLES);
     Ok(command.subcommand_required(true).version(VERSION))
 }
 
