@@ -15,9 +15,9 @@ unfolding known_run handshake_run stability_run grant_run acknowledge_run
 returns-clause-finds c =
     let all = c.in_ok-known.ensures in
     record {
-      known = silent_finds (noted known_sight) (spanned known_begin known_opens known_resets known_ends known_next) _ _ _ _ all.first;
-      handshake = silent_finds (noted dtb_sight) (spanned dtb_begin dtb_opens nothing dtb_ends dtb_step) _ _ _ _ all.second;
-      stability = silent_finds (noted stability_sight) (spanned stability_begin stability_opens nothing stability_ends stability_next) _ _ _ _ all.third;
-      grant = silent_finds (noted grant_sight) (spanned grant_begin grant_opens nothing grant_ends grant_next) _ _ _ _ all.fourth;
-      acknowledge = silent_finds (noted acknowledge_sight) (spanned acknowledge_begin acknowledge_opens nothing acknowledge_ends acknowledge_next) _ _ _ _ all.fifth;
+      known = silent_finds (noted known_sight) (spanned known_begin known_opens known_resets known_ends known_next) _ _ _ _ all.known;
+      handshake = silent_finds (noted dtb_sight) (spanned dtb_begin dtb_opens nothing dtb_ends dtb_step) _ _ _ _ all.handshake;
+      stability = silent_finds (noted stability_sight) (spanned stability_begin stability_opens nothing stability_ends stability_next) _ _ _ _ all.stability;
+      grant = silent_finds (noted grant_sight) (spanned grant_begin grant_opens nothing grant_ends grant_next) _ _ _ _ all.grant;
+      acknowledge = silent_finds (noted acknowledge_sight) (spanned acknowledge_begin acknowledge_opens nothing acknowledge_ends acknowledge_next) _ _ _ _ all.acknowledge;
     }

@@ -6,9 +6,9 @@ pub returns-clause-stands : goal.returns-clause-stands
 unfolding known_run handshake_run stability_run grant_run acknowledge_run
 returns-clause-stands c =
     record {
-      known = c.in_ok-known.ensures.first;
-      handshake = c.in_ok-known.ensures.second;
-      stability = c.in_ok-known.ensures.third;
-      grant = c.in_ok-known.ensures.fourth;
-      acknowledge = c.in_ok-known.ensures.fifth;
+      known = c.in_ok-known.ensures.known;
+      handshake = c.in_ok-known.ensures.handshake;
+      stability = c.in_ok-known.ensures.stability;
+      grant = c.in_ok-known.ensures.grant;
+      acknowledge = c.in_ok-known.ensures.acknowledge;
     }
