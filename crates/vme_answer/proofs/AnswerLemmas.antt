@@ -89,16 +89,16 @@ refused_binding : {A : Type 0} (line : ℕ) (kind : BindKind) (answer : Result A
 refused_binding line bind.Memory answer is = tt
 refused_binding line kind answer is = ap by_either is
 
-refused_by : {A : Type 0} (fault : CaptureFault) (answer : Result A CaptureFault) → text.FailsBy fault answer → IsRefused (capture_refusal fault) (by_either answer)
+refused_by : {A : Type 0} (fault : CaptureFault) (answer : Result A CaptureFault) → text.CaptureFailsBy fault answer → IsRefused (capture_refusal fault) (by_either answer)
 refused_by (capture.Dump fault) answer h = refused_dump fault.line fault.kind answer h
 refused_by (capture.Binding fault) answer h = refused_binding fault.line fault.kind answer h
 
-text_refusal : (bound : BoundLines) (bytes : List ℕ) (fault : CaptureFault) → text.FailsBy fault (text.capture_of_text bound bytes)
+text_refusal : (bound : BoundLines) (bytes : List ℕ) (fault : CaptureFault) → text.CaptureFailsBy fault (text.capture_of_text bound bytes)
     → IsRefused (capture_refusal fault) (recorded_by bound (or_bad_dump (dump_of bytes)))
 text_refusal bound bytes fault h = subst (λ (w : Result (Result Trace BindFault) Refusal). IsRefused (capture_refusal fault) w) (sym (text_recorded bound bytes)) (refused_by fault (text.capture_of_text bound bytes) h)
 
 -- a fault of the binding
-pub text_recorded-kept : (bound : BoundLines) (bytes : List ℕ) (fault : CaptureFault) (kept : BindFault) → text.FailsBy fault (text.capture_of_text bound bytes)
+pub text_recorded-kept : (bound : BoundLines) (bytes : List ℕ) (fault : CaptureFault) (kept : BindFault) → text.CaptureFailsBy fault (text.capture_of_text bound bytes)
     → capture_refusal fault ≡ BadBinding kept → recorded_by bound (or_bad_dump (dump_of bytes)) ≡ Ok (Err kept)
 text_recorded-kept bound bytes fault kept h is =
     subst (λ (r : Refusal). IsRefused r (recorded_by bound (or_bad_dump (dump_of bytes)))) is (text_refusal bound bytes fault h)
@@ -109,7 +109,7 @@ told_at_once (BadBinding fault) recorded other is = absurd (other fault refl)
 told_at_once r recorded other is = is
 
 -- a fault of the text, or want of memory
-pub text_recorded-refused : (bound : BoundLines) (bytes : List ℕ) (fault : CaptureFault) → text.FailsBy fault (text.capture_of_text bound bytes)
+pub text_recorded-refused : (bound : BoundLines) (bytes : List ℕ) (fault : CaptureFault) → text.CaptureFailsBy fault (text.capture_of_text bound bytes)
     → ((kept : BindFault) → capture_refusal fault ≡ BadBinding kept → ⊥)
     → AnswerGives (λ (recorded : Result Trace BindFault). recorded) (Err (capture_refusal fault)) (recorded_by bound (or_bad_dump (dump_of bytes)))
 text_recorded-refused bound bytes fault h other = told_at_once (capture_refusal fault) (recorded_by bound (or_bad_dump (dump_of bytes))) other (text_refusal bound bytes fault h)
@@ -214,7 +214,7 @@ module _ (bound : BoundLines) (bytes : List ℕ) where
   recording_by-text t e = text_recording ∙ ap or_refused e
 
   -- a fault of the text or of the binding
-  pub recording_by-fails : (fault : CaptureFault) → text.FailsBy fault (text.recording_of_text bound bytes)
+  pub recording_by-fails : (fault : CaptureFault) → text.CaptureFailsBy fault (text.recording_of_text bound bytes)
       → AnswerGives (λ (t : Trace). t) (Err (capture_refusal fault)) (recording_by bound (or_bad_dump (dump_of bytes)))
   recording_by-fails (capture.Dump fault) h = by_kind fault.line fault.kind h
     where

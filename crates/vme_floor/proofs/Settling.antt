@@ -120,7 +120,7 @@ module _ (total : ℕ) (ds : List Block) (v : View) (replies : List Reply) (answ
     }
 
     -- the third claim
-    pub least_missing : (n : ℕ) → Inserted.IsLeastUnfiled contents n → IsLeastUnfiled total ds answers n
+    pub least_missing : (n : ℕ) → Inserted.IsLeastMissing contents n → IsLeastUnfiled total ds answers n
     least_missing n e = record {
       within = let c = is_closed.count in let l = e.within in omega (arith, c, l);
       missing = λ f. some_none f.0 (same_Some (Some f.0) no_block (sym (ap (slice_get contents) (sym f.1) ∙ is_closed.listed f.0.number f.0 (listed_of f.2.0 f.0 f.2.1)) ∙ place_of contents n no_block e.within e.missing));
