@@ -64,7 +64,7 @@ module _ (pieces : List DumpPiece) (t u : TextReached) (piece : DumpPiece) (left
 -- ---- pieces that were read ahead
 
 pub are-ahead : (w : WaveReached) (pieces : List DumpPiece) (all : List (Option (ReadSpeculatively × Trace)))
-    → ((place : ℕ) → place < length pieces → IsAheadAt w pieces place (get_or all place None)) → AreAhead w.body.nets w.taps pieces all
+    → ((place : ℕ) → place < length pieces → IsAheadAt w pieces place (get_or all place None)) → AreAhead w.body.nets w.line_bits pieces all
 are-ahead w [] all h = tt
 are-ahead w (piece ∷ pieces) [] h = tt
 are-ahead w (piece ∷ pieces) (one ∷ all) h =
@@ -78,9 +78,9 @@ module _ (nets : List Net) (taps : NetLines) (pieces left : List DumpPiece) (pie
   pub one-ahead : IfSome one (λ a. IsJudgedAhead nets taps piece.bytes.now a.1 a.0)
   one-ahead = both.0
 
-  pub rest-ahead : (w : WaveReached) → w.body.nets ≡ nets → w.taps ≡ taps → AreAhead w.body.nets w.taps left rest
+  pub rest-ahead : (w : WaveReached) → w.body.nets ≡ nets → w.line_bits ≡ taps → AreAhead w.body.nets w.line_bits left rest
   rest-ahead w same-nets same-taps =
-      subst (λ (n : List Net). AreAhead n w.taps left rest) (sym same-nets) (subst (λ (t : NetLines). AreAhead nets t left rest) (sym same-taps) both.1)
+      subst (λ (n : List Net). AreAhead n w.line_bits left rest) (sym same-nets) (subst (λ (t : NetLines). AreAhead nets t left rest) (sym same-taps) both.1)
 
 -- nothing was read
 pub none-ahead : (nets : List Net) (taps : NetLines) (pieces : List DumpPiece) → AreAhead nets taps pieces []

@@ -29,7 +29,7 @@ AreAhead nets taps (piece ∷ pieces) (one ∷ all) =
 abbrev pub IsAheadAt : WaveReached → List DumpPiece → ℕ → Option (ReadSpeculatively × Trace) → Type 0
 IsAheadAt wave pieces place one =
     (piece : DumpPiece) → slice_get pieces place ≡ Some piece
-    → IfSome one (λ a. IsJudgedAhead wave.body.nets wave.taps piece.bytes.now a.1 a.0)
+    → IfSome one (λ a. IsJudgedAhead wave.body.nets wave.line_bits piece.bytes.now a.1 a.0)
 
 -- some pieces are taken, up to those that are left: what comes of all the pieces is what comes of those
 pub record AreTaken (pieces : List DumpPiece) (before after : TextReached) (left : List DumpPiece) : Type 0 where

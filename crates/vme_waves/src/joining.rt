@@ -53,10 +53,10 @@ fn fitting<J: ChunkJudge>(
     ahead: Option<(SpeculativeChunk, JudgedChunks<J>)>,
     again: Option<(SpeculativeChunk, JudgedChunks<J>)>,
 ) -> Option<(SpeculativeChunk, JudgedChunks<J>)>
-    requires ahead { IfSome ahead (λ a. IsJudgedAhead wave.now.body.nets wave.now.taps piece.bytes.now a.1 a.0) }
-    requires again { IfSome again (λ a. IsJudgedAhead wave.now.body.nets wave.now.taps piece.bytes.now a.1 a.0) }
+    requires ahead { IfSome ahead (λ a. IsJudgedAhead wave.now.body.nets wave.now.line_bits piece.bytes.now a.1 a.0) }
+    requires again { IfSome again (λ a. IsJudgedAhead wave.now.body.nets wave.now.line_bits piece.bytes.now a.1 a.0) }
     ensures read { IfSome result (λ a.
-        IsJudgedAhead wave.now.body.nets wave.now.taps piece.entry.bytes.now a.1 a.0) }
+        IsJudgedAhead wave.now.body.nets wave.now.line_bits piece.entry.bytes.now a.1 a.0) }
     ensures fits { IfSome result (λ a. MayFollowLevels wave.now a.0) }
 {
     if let Some(fit) = if_fits(wave, ahead) {
@@ -103,8 +103,8 @@ pub(crate) fn join_in_order<J: ChunkJudge>(
     all: Vec<Option<(SpeculativeChunk, JudgedChunks<J>)>>,
     again: Vec<Option<(SpeculativeChunk, JudgedChunks<J>)>>,
 ) -> Result<JoinedPieces<J>, AllocError>
-    requires all { AreAhead wave.body.nets wave.taps pieces.now all.items }
-    requires again { AreAhead wave.body.nets wave.taps pieces.now again.items }
+    requires all { AreAhead wave.body.nets wave.line_bits pieces.now all.items }
+    requires again { AreAhead wave.body.nets wave.line_bits pieces.now again.items }
     ensures count { IfOk result (λ joined. joined.count ≤ length pieces.now) }
     ensures taken { IfOk result (λ joined. AreTaken pieces.now (with_recording watch wave)
         (with_recording joined.watch joined.wave) (drop joined.count pieces.now)) }

@@ -64,7 +64,7 @@ pub(crate) fn read_ahead<J: ChunkJudge>(
 ) -> Option<(SpeculativeChunk, JudgedChunks<J>)>
     requires { length levels.now.levels ≡ line_count }
     ensures { IfSome result (λ ahead.
-        IsJudgedAhead wave.now.body.nets wave.now.taps piece.entry.bytes.now ahead.1 ahead.0) }
+        IsJudgedAhead wave.now.body.nets wave.now.line_bits piece.entry.bytes.now ahead.1 ahead.0) }
 {
     let chunks = ChunkBuffer::new(alloc, levels);
     let (ahead, chunks) = wave.read_ahead(alloc, piece.bytes, piece.line, levels, chunks)?;
@@ -81,7 +81,7 @@ pub(crate) fn read_each_guessed<R: Threads + Sync, J: ChunkJudge + Send>(
     wave: &SpeculativeReader,
     pieces: &[DumpPiece<'_>],
 ) -> Result<Vec<Option<(SpeculativeChunk, JudgedChunks<J>)>>, AllocError>
-    ensures { IfOk result (λ all. AreAhead wave.now.body.nets wave.now.taps pieces.now all.items) }
+    ensures { IfOk result (λ all. AreAhead wave.now.body.nets wave.now.line_bits pieces.now all.items) }
 {
     let all = map_places(
         rt,
@@ -193,7 +193,7 @@ pub(crate) fn read_from<R: Threads + Sync, J: ChunkJudge + Send>(
     levels: &[Option<Lines>],
 ) -> Result<Vec<Option<(SpeculativeChunk, JudgedChunks<J>)>>, AllocError>
     requires { AreWhole levels.now }
-    ensures { IfOk result (λ all. AreAhead wave.now.body.nets wave.now.taps pieces.now all.items) }
+    ensures { IfOk result (λ all. AreAhead wave.now.body.nets wave.now.line_bits pieces.now all.items) }
 {
     if levels.iter().all(|one| one.is_none()) {
         return Ok(Vec::new(alloc));

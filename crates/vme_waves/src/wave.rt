@@ -41,7 +41,7 @@ fn read_each_ahead<R: Threads + Sync, J: ChunkJudge + Send>(
     pieces: &[DumpPiece<'_>],
     speculation: &Speculation,
 ) -> Result<Vec<Option<(SpeculativeChunk, JudgedChunks<J>)>>, AllocError>
-    ensures { IfOk result (λ all. AreAhead wave.now.body.nets wave.now.taps pieces.now all.items) }
+    ensures { IfOk result (λ all. AreAhead wave.now.body.nets wave.now.line_bits pieces.now all.items) }
 {
     if speculation.is_wrong() {
         let levels = levels_before_each(rt, alloc, wave, pieces, speculation)?;

@@ -17,10 +17,10 @@ loop-ahead-init g c = record {
   finite = tt;
   count = omega arith;
   ahead =
-      subst (AreAhead c.args.wave.body.nets c.args.wave.taps c.args.pieces.now) (sym c.into_iter-ahead-iterator.ensures.into_iter_gives.0)
+      subst (AreAhead c.args.wave.body.nets c.args.wave.line_bits c.args.pieces.now) (sym c.into_iter-ahead-iterator.ensures.into_iter_gives.0)
       c.requires.all;
   again =
-      subst (AreAhead c.args.wave.body.nets c.args.wave.taps c.args.pieces.now) (sym c.into_iter-again.ensures.rest)
+      subst (AreAhead c.args.wave.body.nets c.args.wave.line_bits c.args.pieces.now) (sym c.into_iter-again.ensures.rest)
       c.requires.again;
   taken = taken-none c.args.pieces.now (with_recording c.args.watch c.args.wave);
 }
@@ -31,7 +31,7 @@ fitting-requires-clause-ahead g c =
     let count = c.loop-ahead.count in
     let w : WaveReached = c.loop-ahead.wave in
     let at : drop count pieces ≡ get_or pieces count no_piece ∷ drop (count + 1) pieces = left-more pieces count no_piece (omega arith) in
-    one-ahead w.body.nets w.taps (drop count pieces) (drop (count + 1) pieces) (get_or pieces count no_piece) (into_iter_items c.loop-ahead.ahead-iterator)
+    one-ahead w.body.nets w.line_bits (drop count pieces) (drop (count + 1) pieces) (get_or pieces count no_piece) (into_iter_items c.loop-ahead.ahead-iterator)
     (into_iter_items c.next.new.self) c.in-Some.ahead c.loop-ahead.invariant.ahead at c.in-Some.ensures.steps.0
 
 pub fitting-requires-clause-again : goal.fitting-requires-clause-again
@@ -40,7 +40,7 @@ fitting-requires-clause-again g c =
     let count = c.loop-ahead.count in
     let w : WaveReached = c.loop-ahead.wave in
     let at : drop count pieces ≡ get_or pieces count no_piece ∷ drop (count + 1) pieces = left-more pieces count no_piece (omega arith) in
-    (next-ahead w.body.nets w.taps (drop count pieces) (drop (count + 1) pieces) (get_or pieces count no_piece) (into_iter_items c.loop-ahead.again)
+    (next-ahead w.body.nets w.line_bits (drop count pieces) (drop (count + 1) pieces) (get_or pieces count no_piece) (into_iter_items c.loop-ahead.again)
     (into_iter_items c.next_of-anew.new.pieces) c.next_of-anew.result c.loop-ahead.invariant.again at c.next_of-anew.ensures).0
 
 pub pass-requires : goal.pass-requires
@@ -79,11 +79,11 @@ loop-ahead-preserved g c =
       finite = tt;
       count = omega arith;
       ahead =
-          rest-ahead w.body.nets w.taps (drop count pieces) left piece (into_iter_items c.loop-ahead.ahead-iterator) (into_iter_items c.next.new.self) c.in-Some.ahead
-          c.loop-ahead.invariant.ahead at c.in-Some.ensures.steps.0 v one.nets one.taps;
+          rest-ahead w.body.nets w.line_bits (drop count pieces) left piece (into_iter_items c.loop-ahead.ahead-iterator) (into_iter_items c.next.new.self) c.in-Some.ahead
+          c.loop-ahead.invariant.ahead at c.in-Some.ensures.steps.0 v one.nets one.line_bits;
       again =
-          same-nets w.body.nets v.body.nets w.taps v.taps left (into_iter_items c.next_of-anew.new.pieces) one.nets one.taps
-          (next-ahead w.body.nets w.taps (drop count pieces) left piece (into_iter_items c.loop-ahead.again) (into_iter_items c.next_of-anew.new.pieces) c.next_of-anew.result
+          same-nets w.body.nets v.body.nets w.line_bits v.line_bits left (into_iter_items c.next_of-anew.new.pieces) one.nets one.line_bits
+          (next-ahead w.body.nets w.line_bits (drop count pieces) left piece (into_iter_items c.loop-ahead.again) (into_iter_items c.next_of-anew.new.pieces) c.next_of-anew.result
           c.loop-ahead.invariant.again at c.next_of-anew.ensures).1;
       taken =
           joined-taken piece.bytes.now chunks c.in-Some-fitting.ahead.from w v (step_in c.in_ok-behind.step) one watch c.in_ok-watch.watch c.in_ok-watch.ensures

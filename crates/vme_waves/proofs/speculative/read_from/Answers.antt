@@ -5,8 +5,8 @@ use Rattle.vme_waves.proofs.speculative.read_from.Goals as goal
 
 pub returns-then-all : goal.returns-then-all
 returns-then-all g c =
-    subst (AreAhead c.args.wave.now.body.nets c.args.wave.now.taps c.args.pieces.now) (sym c.new.ensures.items)
-    (none-ahead c.args.wave.now.body.nets c.args.wave.now.taps c.args.pieces.now)
+    subst (AreAhead c.args.wave.now.body.nets c.args.wave.now.line_bits c.args.pieces.now) (sym c.new.ensures.items)
+    (none-ahead c.args.wave.now.body.nets c.args.wave.now.line_bits c.args.pieces.now)
 
 pub returns : goal.returns
 returns g c =
