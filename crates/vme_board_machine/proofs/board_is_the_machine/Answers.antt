@@ -1,0 +1,16 @@
+use Rattle.vme_core.specs.Machine.{start}
+use Rattle.vme_core.proofs.Runs.{keeps_run, starts}
+use Rattle.vme_board_machine.specs.Steps.{opened}
+use Rattle.vme_board_machine.proofs.Simulation.{begins, simulates, simulates_run}
+use Rattle.vme_board_machine.proofs.board_is_the_machine.Goals as goal
+
+pub returns-clause-begins : goal.returns-clause-begins
+returns-clause-begins c = begins
+
+pub returns-clause-steps : goal.returns-clause-steps
+returns-clause-steps c total draws s t m e run shown step = simulates total draws s m shown
+    (keeps_run total draws run.0 start m (starts total) run.1) t e step
+
+pub returns-clause-runs : goal.returns-clause-runs
+returns-clause-runs c total draws width wide fits es t run = simulates_run total draws es (opened width total) t start
+    (starts total) (begins total draws width wide fits) run

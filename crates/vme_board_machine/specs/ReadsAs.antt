@@ -1,0 +1,55 @@
+-- How the state of a board is read as one of the machine.
+use Rattle.std.specs.Prelude.{◌≡◌, ℕ, ◌<◌, ◌≤◌, List, [], ◌∷◌, length, Option, Some, None}
+use mathlib.Core.Option.{none, some}
+use mathlib.Core.Option as maybe
+use lib.ListN.{get_elem?}
+use Rattle.vme_trace.specs.declared.block.Block.{Block}
+use Rattle.vme_core.specs.declared.view.View.{View}
+use Rattle.vme_core.specs.Counting.{occurrences, numbers}
+use Rattle.vme_core.specs.Stages.{claimed_bit, filed_bit, taken_bit}
+use Rattle.vme_core.specs.Machine.{Core, Slot, empty, away, filled}
+use Rattle.vme_core.specs.Machine.{BenchProgress, idle, has_claimed, has_put, has_taken, has_lifted}
+use Rattle.vme_board.specs.Words.{bit_of, IsWideFor}
+use Rattle.vme_board_machine.specs.Steps.{BoardState}
+
+-- what the table has of a slot
+abbrev pub home_of : Slot → maybe.Option (Option Block)
+home_of empty = some None
+home_of away = none
+home_of (filled b) = some (Some b)
+
+-- the numbers that a bench has claimed and not filed yet, so far in its call
+abbrev pub unfiled : BenchProgress → List ℕ
+unfiled idle = []
+unfiled (has_claimed n b) = n ∷ []
+unfiled (has_put n b) = n ∷ []
+unfiled (has_taken n b) = []
+unfiled (has_lifted n b) = []
+
+-- the number whose block a bench lifts, it has taken
+abbrev pub HasTaken : View → BenchProgress → Type 0
+HasTaken v idle = Unit {0}
+HasTaken v (has_claimed n b) = Unit {0}
+HasTaken v (has_put n b) = Unit {0}
+HasTaken v (has_taken n b) = 0 < occurrences n (numbers v.takes)
+HasTaken v (has_lifted n b) = 0 < occurrences n (numbers v.takes)
+
+-- the view of a bench so far in its call
+abbrev pub IsViewAt : View → BenchProgress → Type 0
+IsViewAt v p = (v.pending ≡ unfiled p) × HasTaken v p
+
+-- The words and the slots of a board for so many numbers and draws are those of the machine's state m: each bit of a
+-- row, each slot at home, the views of the benches and how far each is.
+pub record ReadsAs (total draws : ℕ) (s : BoardState) (m : Core) : Type 0 where
+  pub slots : length s.table.homes ≡ total
+  pub numbers_fit : IsWideFor (length s.table.words) total
+  pub draws_fit : IsWideFor (length s.table.words) draws
+  pub drawn : (d : ℕ) → m.drawn d ≡ bit_of 3 s.table.words d
+  pub claimed : (n : ℕ) → claimed_bit (m.stage n) ≡ bit_of 0 s.table.words n
+  pub filed : (n : ℕ) → filed_bit (m.stage n) ≡ bit_of 1 s.table.words n
+  pub taken : (n : ℕ) → taken_bit (m.stage n) ≡ bit_of 2 s.table.words n
+  pub homes : (n : ℕ) → n < total → get_elem? s.table.homes n ≡ some (home_of (m.home n))
+  pub views : m.views ≡ s.table.views
+  pub progress : (i : ℕ) → m.progress i ≡ s.progress i
+  pub calls : (i : ℕ) (v : View) → get_elem? s.table.views i ≡ some v → IsViewAt v (s.progress i)
+  pub unmade : (i : ℕ) → length s.table.views ≤ i → s.progress i ≡ idle

@@ -1,0 +1,143 @@
+-- The steps that benches take on a board, as the calls of vme_board make them on its table.
+use Rattle.std.specs.Prelude.{◌≡◌, ◌≢◌, ℕ, zero, suc, ◌+◌, ◌*◌, ◌/◌, ◌<◌, List, [], ◌∷◌, ◌++◌, length}
+use Rattle.std.specs.Prelude.{slice_index_or, slice_set, map, replicate, bit_or, Option, Some, None}
+use mathlib.Core.Option.{none, some}
+use lib.ListN.{get_elem?}
+use Rattle.atomic_table.specs.Table.{State, Act, Valid, step, stepped, carried_after}
+use Rattle.vme_trace.specs.declared.block.Block.{Block}
+use Rattle.vme_core.specs.declared.view.View.{View}
+use Rattle.vme_core.specs.Counting.{occurrences, update}
+use Rattle.vme_core.specs.Machine.{BenchProgress, idle, has_claimed, has_put, has_taken, has_lifted}
+use Rattle.vme_core.specs.Machine.{WordRow, claimed_row, filed_row, taken_row}
+use Rattle.vme_core.specs.Machine.{Event, make, split, join, claim, put, file, look, draw, take, lift, give, load}
+use Rattle.vme_core.specs.Views.{first_view, empty_view, kept_view, split_view, joint_view}
+use Rattle.vme_board.specs.Words.{bit_of, mask_of}
+use Rattle.vme_board.specs.Tells.{SeatState, TableStep, DrawTells, ClaimTells, FileTells, TakeTells, GiveTells}
+use Rattle.vme_board.specs.Tells.{ClaimedLookTells, FiledLookTells, TakenLookTells, CountTells}
+
+abbrev pub TableState : Type 0
+TableState = State (Option Block) View
+
+-- the table of a board, and how far each bench is in its call
+pub record BoardState : Type 0 where
+  pub table : TableState
+  pub progress : ℕ → BenchProgress
+
+-- a board as it is made: no bit is set, each slot is at home and empty, and there is one bench
+abbrev pub opened : ℕ → ℕ → BoardState
+opened width total = record {
+  table = record { words = replicate width 0; homes = map some (replicate total None); views = first_view ∷ [] };
+  progress = λ _. idle;
+}
+
+-- the slots that a bench has out, so far in its call
+abbrev pub held : BenchProgress → List (ℕ × Option Block)
+held idle = []
+held (has_claimed n b) = (n, None) ∷ []
+held (has_put n b) = (n, Some b) ∷ []
+held (has_taken n b) = (n, Some b) ∷ []
+held (has_lifted n b) = (n, None) ∷ []
+
+-- the bench i has the view v, and is so far in its call
+abbrev pub IsAt : BoardState → ℕ → View → BenchProgress → Type 0
+IsAt s i v p = (get_elem? s.table.views i ≡ some v) × (s.progress i ≡ p)
+
+-- what a step tells: of the seat before, the word found, and the seat after
+abbrev pub StepTells : Type 1
+StepTells = TableStep → SeatState → ℕ → SeatState → Type 0
+
+-- The bench i makes one atomic step on the word j, which becomes `change` of what it was: whatever new view and act the
+-- table then has for it, if they are as the step tells.
+pub record IsStep (Tells : StepTells) (change : ℕ → ℕ) (s : TableState) (i : ℕ) (seat : SeatState) (j mask : ℕ)
+    (after : SeatState) (t : TableState) : Type 0 where
+  pub act : Act (Option Block)
+  pub valid : Valid s.homes seat.1 act
+  pub slots : after.1 ≡ carried_after seat.1 act
+  pub table : t ≡ stepped s j (change (slice_index_or s.words j 0)) i seat.1 after.0 act
+  pub tells : Tells (step (length s.homes) j mask 0 none) seat (slice_index_or s.words j 0) after
+
+-- it sets the bit of n in the row k
+abbrev pub Sets : StepTells → BoardState → ℕ → View → BenchProgress → ℕ → ℕ → SeatState → TableState → Type 0
+Sets Tells s i v p k n after t =
+    IsStep Tells (λ x. bit_or x (mask_of n)) s.table i (v, held p) (4 * (n / 64) + k) (mask_of n) after t
+
+-- it loads the word j
+abbrev pub Loads : StepTells → BoardState → ℕ → View → BenchProgress → ℕ → SeatState → TableState → Type 0
+Loads Tells s i v p j after t = IsStep Tells (λ x. x) s.table i (v, held p) j 0 after t
+
+-- where a bench is after it tried to claim n for b, and found this bit
+abbrev pub after_claiming : ℕ → Block → ℕ → BenchProgress
+after_claiming n b zero = has_claimed n b
+after_claiming n b (suc found) = idle
+
+-- where it is after it tried to take n, and has these slots out
+abbrev pub after_taking : ℕ → List (ℕ × Option Block) → BenchProgress
+after_taking n [] = idle
+after_taking n ((k, None) ∷ out) = idle
+after_taking n ((k, Some b) ∷ out) = has_taken n b
+
+-- the row of a word, and what a look at it tells
+abbrev pub number_of : WordRow → ℕ
+number_of claimed_row = 0
+number_of filed_row = 1
+number_of taken_row = 2
+
+abbrev pub LookTells : WordRow → StepTells
+LookTells claimed_row = ClaimedLookTells
+LookTells filed_row = FiledLookTells
+LookTells taken_row = TakenLookTells
+
+module _ (total draws : ℕ) where
+  -- Benches of a board of so many numbers and draws take the step of this event, which leads from s to t. A call begins
+  -- where its bench is in no other. The bench has a share: it was not folded into another. All benches but the first
+  -- are split off.
+  abbrev pub Takes : BoardState → Event → BoardState → Type 0
+  Takes s make t = ⊥
+  Takes s (split i) t =
+      (v : View) × IsAt s i v idle
+      × (t ≡ record s {
+        table = record s.table { views = slice_set s.table.views i (kept_view v) ++ split_view v ∷ [] };
+      })
+  Takes s (join i j) t =
+      (v w : View) × (j ≢ i) × IsAt s i v idle × IsAt s j w idle
+      × (t ≡ record s {
+        table = record s.table { views = slice_set (slice_set s.table.views i (joint_view v w)) j empty_view };
+      })
+  Takes s (claim i n b) t =
+      (v : View) × (after : SeatState) × (n < total) × IsAt s i v idle × (v.share ≢ [])
+      × Sets ClaimTells s i v idle 0 n after t.table
+      × (t.progress ≡ update s.progress i (after_claiming n b (bit_of 0 s.table.words n)))
+  Takes s (put i n b) t =
+      (v : View) × IsAt s i v (has_claimed n b) × (t ≡ record s { progress = update s.progress i (has_put n b) })
+  Takes s (file i n b) t =
+      (v : View) × (after : SeatState) × IsAt s i v (has_put n b)
+      × Sets FileTells s i v (has_put n b) 1 n after t.table
+      × (t.progress ≡ update s.progress i idle)
+  Takes s (look i row g) t =
+      (v : View) × (after : SeatState) × IsAt s i v idle
+      × Loads (LookTells row) s i v idle (4 * g + number_of row) after t.table
+      × (t.progress ≡ s.progress)
+  Takes s (draw i d) t =
+      (v : View) × (after : SeatState) × (d < draws) × IsAt s i v idle × (v.share ≢ [])
+      × Sets DrawTells s i v idle 3 d after t.table
+      × (t.progress ≡ s.progress)
+  Takes s (take i n) t =
+      (v : View) × (after : SeatState) × (n < total) × IsAt s i v idle × (v.share ≢ []) × (0 < occurrences n v.filed)
+      × Sets TakeTells s i v idle 2 n after t.table
+      × (t.progress ≡ update s.progress i (after_taking n after.1))
+  Takes s (lift i n) t =
+      (v : View) × (b : Block) × IsAt s i v (has_taken n b)
+      × (t ≡ record s { progress = update s.progress i (has_lifted n b) })
+  Takes s (give i n) t =
+      (v : View) × (b : Block) × (after : SeatState) × IsAt s i v (has_lifted n b)
+      × Loads GiveTells s i v (has_lifted n b) 0 after t.table
+      × (t.progress ≡ update s.progress i idle)
+  Takes s (load i) t =
+      (v : View) × (after : SeatState) × IsAt s i v idle
+      × Loads CountTells s i v idle 0 after t.table
+      × (t.progress ≡ s.progress)
+
+  -- the steps of these events, one after the other, lead from s to t
+  abbrev pub IsBoardRun : BoardState → List Event → BoardState → Type 0
+  IsBoardRun s [] t = t ≡ s
+  IsBoardRun s (e ∷ es) t = (u : BoardState) × Takes s e u × IsBoardRun u es t
