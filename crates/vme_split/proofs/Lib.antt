@@ -12,10 +12,12 @@ pub mod Answers
 pub mod EachRow
 pub mod Classes
 pub mod Telling
+pub mod WrittenData
 pub mod Codes
 pub mod Nesting
 pub mod Exact
 pub mod Listings
 pub mod Placing
+pub mod RowsAlike
 pub mod Unique
 pub mod Versions

@@ -32,6 +32,7 @@ use Rattle.vme_split.proofs.Answering.{unclosed, lasts_on, reply_at, answered_is
 use Rattle.vme_split.proofs.Transfers.{after_start, CycleCovers, cycle_there, cycle_begun, low_near}
 use Rattle.vme_split.proofs.Classes.{cycles_of_classes}
 use Rattle.vme_split.proofs.Telling.{acknowledges_told, directions_told}
+use Rattle.vme_split.proofs.WrittenData.{data_told}
 use Rattle.vme_split.proofs.Codes.{codes_told, modifiers_told, addresses_told}
 use Rattle.vme_split.proofs.EachRow.{contains_told, all_told, all_before, all_tenure, all_tenure_at, all_cycle, all_transfer}
 
@@ -428,6 +429,7 @@ module _ (t : Trace) (span : Stretch) (is : IsSpanOf t span) (end : ℕ) (within
     modifiers = modifiers_told t span end most unbroken;
     addresses = addresses_told t span end most unbroken;
     directions = directions_told t span is end within most unbroken;
+    written_data = data_told t span is end within most unbroken;
     strobe_awaits = by_transfers (AwaitsAnswer t end) (λ i e. tt) (λ i level slot e. tt) no_wait awaits_answer;
     nothing_else = traffic_alone;
   }

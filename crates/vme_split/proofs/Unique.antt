@@ -5,6 +5,8 @@ use Rattle.std.proofs.lemmas.List.Elements.{All-contains}
 use Rattle.vme_trace.specs.Trace.{Trace}
 use Rattle.vme_listing.specs.declared.row.Row.{Row}
 use Rattle.vme_split.specs.Split.{Interval, interval, starts_of, ends_of, AreInTurn, SplitsStretch, TellAlike}
+use Rattle.vme_split.specs.Split.{TellsAcknowledge, TellsModifier, TellsAddress, TellsDirection, TellsData, IsOfItsCode}
+use Rattle.vme_split.proofs.RowsAlike.{cycles_alike, transfers_alike}
 use Rattle.vme_split.specs.Split.{cycle_in, transfer_in, answered_by_dtack, answered_by_berr, IsAnsweredInCycle}
 use Rattle.vme_split.proofs.Placing.{IsPlaced, all_alike, placed_dtack, placed_berr, dtack_answers, berr_answers}
 
@@ -64,4 +66,18 @@ module _ (t : Trace) (first end : ℕ) (rows others : List Row) (a : SplitsStret
         (placed_berr rows (flat_map cycle_in rows) kept)
         (λ x c. subst (λ (transfers : List Interval). IsPlaced transfers (flat_map cycle_in rows) x) (sym same_transfers) (placed_berr others (flat_map cycle_in rows) kept_others x c))
         (berr_answers rows ∙ (a.answers.berr ∙ (sym b.answers.berr ∙ sym (berr_answers others))));
+    each_cycle = λ r s c d. cycles_alike t r s
+        (All-contains (TellsAcknowledge t) rows r a.keeps.acknowledges c)
+        (All-contains (TellsAcknowledge t) others s b.keeps.acknowledges d)
+        (All-contains IsOfItsCode rows r a.keeps.codes_of_classes c)
+        (All-contains IsOfItsCode others s b.keeps.codes_of_classes d)
+        (All-contains (TellsModifier t) rows r a.keeps.modifiers c)
+        (All-contains (TellsModifier t) others s b.keeps.modifiers d)
+        (All-contains (TellsAddress t) rows r a.keeps.addresses c)
+        (All-contains (TellsAddress t) others s b.keeps.addresses d);
+    each_transfer = λ r s c d. transfers_alike t r s
+        (All-contains (TellsDirection t) rows r a.keeps.directions c)
+        (All-contains (TellsDirection t) others s b.keeps.directions d)
+        (All-contains (TellsData t) rows r a.keeps.written_data c)
+        (All-contains (TellsData t) others s b.keeps.written_data d);
   }

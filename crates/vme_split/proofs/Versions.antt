@@ -23,7 +23,7 @@ use Rattle.vme_listing.specs.declared.row.Row.TheVariants.{Start, Reset, OpenTen
 use Rattle.vme_listing.specs.declared.row.Row.TheVariants as row
 use Rattle.vme_split.specs.Split.{Interval, starts_of, ends_of, AreInTurn, tenure_in, cycle_in, transfer_in, dtack_in, berr_in, direction_in, is_traffic}
 use Rattle.vme_split.specs.Split.{StartsInOne, IsOfASlot, IsOpenAtStart, IsAnsweredInCycle, IsOfItsClass, IsSingle, IsOneWay, IsVectorRead, IsOfItsCode, AwaitsAnswer}
-use Rattle.vme_split.specs.Split.{TellsAcknowledge, TellsAddress, TellsDirection, TellsGrant, TellsModifier, KeepsRules, SplitsStretch, SplitsRecording, Splits, reset_row}
+use Rattle.vme_split.specs.Split.{TellsAcknowledge, TellsAddress, TellsData, TellsDirection, TellsGrant, TellsModifier, KeepsRules, SplitsStretch, SplitsRecording, Splits, reset_row}
 use Rattle.vme_split.proofs.Listings.{listing_splits}
 
 abbrev bare : List Row → List Row
@@ -109,6 +109,11 @@ module _ (t : Trace) (first end : ℕ) (rows : List Row) where
   direction_kept Read l s c a k x h = h
   direction_kept Write l s c a k x h = h
 
+  data_kept : (d : Direction) (l : AnswerLine) (s c a : ℕ) (k : Option ℕ) (x : Option Lanes)
+      → TellsData t (Transfer d l s c a k x) → TellsData t (Transfer d l s c a k None)
+  data_kept Read l s c a k x h = refl
+  data_kept Write l s c a k x h = tt
+
   kept : (P : Row → Type 0) → ((d : Direction) (l : AnswerLine) (s c a : ℕ) (k : Option ℕ) (x : Option Lanes) → P (Transfer d l s c a k x) → P (Transfer d l s c a k None)) → All P rows → All P (bare rows)
   kept P f h = all_bare P P (keep P f) rows h
 
@@ -129,6 +134,7 @@ module _ (t : Trace) (first end : ℕ) (rows : List Row) where
     modifiers = kept (TellsModifier t) (λ d l s c a e x h. tt) k.modifiers;
     addresses = kept (TellsAddress t) (λ d l s c a e x h. tt) k.addresses;
     directions = kept (TellsDirection t) direction_kept k.directions;
+    written_data = kept (TellsData t) data_kept k.written_data;
     strobe_awaits = kept (AwaitsAnswer t end) (λ d l s c a e x h. h) k.strobe_awaits;
     nothing_else = kept (λ told. is_traffic told ≡ true) (λ d l s c a e x h. refl) k.nothing_else;
   }

@@ -2,11 +2,13 @@
 use Rattle.std.specs.Prelude.{◌≡◌, ◌≢◌, ◌⊎◌, ◌<◌, ◌≤◌, ◌+◌, ◌-◌, ◌/◌, ◌%◌, ◌^◌, ◌==◌, ◌&&◌, not}
 use Rattle.std.specs.Prelude.{ℕ, suc, Bool, true, false}
 use Rattle.std.specs.Prelude.{List, [], ◌∷◌, ◌++◌, map, flat_map, All, Contains, filter, min, nat_lt, if◌then◌else◌}
-use Rattle.std.specs.Prelude.{Option, None, MatchOption, IfSome, option_to_list}
+use Rattle.std.specs.Prelude.{Option, None, Some, MatchOption, IfSome, option_to_list}
 use Rattle.vme_trace.specs.Instants.{those}
 use Rattle.vme_trace.specs.Cycle.{highest_address, is_block}
 use Rattle.vme_trace.specs.LineNumbers.{AS, DTACK, BERR, IACK, AM, WRITE, A, BBSY, grant}
-use Rattle.vme_trace.specs.Trace.{Trace, last_instant}
+use Rattle.vme_trace.specs.Trace.{Trace, last_instant, levels_at}
+use Rattle.vme_trace.specs.Lanes.{lanes_at}
+use Rattle.vme_trace.specs.declared.data.Lanes.{Lanes}
 use Rattle.vme_trace.specs.Signals.{low, high, falls, rises}
 use Rattle.vme_trace.specs.Judged.{Stretch, is_idle_at, is_reset_at, judged_spans}
 use Rattle.vme_trace.specs.Transfers.{strobes_high}
@@ -119,6 +121,19 @@ TellsDirection t (Transfer Write line start cycle answer close lanes) = low t WR
 TellsDirection t (PendingTransfer start Read) = high t WRITE start ≡ true
 TellsDirection t (PendingTransfer start Write) = low t WRITE start ≡ true
 TellsDirection t other = Unit {0}
+
+-- the instant at which the lines show the data of a transfer: the one before its answer, or that of its answer where
+-- the transfer starts there
+abbrev pub data_instant : ℕ → ℕ → ℕ
+data_instant start answer = if start == answer then answer else answer - 1
+
+-- the data of a write, where the row has them, are what the data lines say that the transfer moves; a read has none
+abbrev pub TellsData : Trace → Row → Type 0
+TellsData t (Transfer Read line start cycle answer close lanes) = lanes ≡ None
+TellsData t (Transfer Write line start cycle answer close None) = Unit {0}
+TellsData t (Transfer Write line start cycle answer close (Some lanes)) =
+    lanes ≡ lanes_at (levels_at t (data_instant start answer))
+TellsData t other = Unit {0}
 
 -- a cycle is an interrupt acknowledge where IACK is low as it starts, and another where it is high
 abbrev pub TellsAcknowledge : Trace → Row → Type 0
@@ -278,6 +293,7 @@ module _ (t : Trace) (first end : ℕ) where
     pub modifiers : All (TellsModifier t) rows
     pub addresses : All (TellsAddress t) rows
     pub directions : All (TellsDirection t) rows
+    pub written_data : All (TellsData t) rows
     pub strobe_awaits : All (AwaitsAnswer t end) rows
     pub nothing_else : All (λ told. is_traffic told ≡ true) rows
 
@@ -335,10 +351,38 @@ abbrev pub answered_by_berr : Row → List Answered
 answered_by_berr (Transfer direction Berr start cycle answer close lanes) = answered start cycle answer ∷ []
 answered_by_berr other = []
 
--- rows tell the same tenures, cycles and transfers, and the same answers, each of the same transfer in the same cycle
+-- rows that tell the cycle of one start are of one kind, with the same class, modifier and address, or level
+abbrev pub TellCycleAlike : Row → Row → Type 0
+TellCycleAlike (AddressedCycle start class modifier address end) (AddressedCycle began kind code place stop) =
+    start ≡ began → (class ≡ kind) × (modifier ≡ code) × (address ≡ place)
+TellCycleAlike (AddressedCycle start class modifier address end) (FreeCycle began code stop) = start ≢ began
+TellCycleAlike (AddressedCycle start class modifier address end) (InterruptCycle began line stop) = start ≢ began
+TellCycleAlike (FreeCycle start modifier end) (FreeCycle began code stop) = start ≡ began → modifier ≡ code
+TellCycleAlike (FreeCycle start modifier end) (InterruptCycle began line stop) = start ≢ began
+TellCycleAlike (InterruptCycle start level end) (InterruptCycle began line stop) = start ≡ began → level ≡ line
+TellCycleAlike told other = Unit {0}
+
+-- where both have data, these are the same
+abbrev pub HaveSameData : Option Lanes → Option Lanes → Type 0
+HaveSameData None other = Unit {0}
+HaveSameData (Some lanes) None = Unit {0}
+HaveSameData (Some lanes) (Some other) = lanes ≡ other
+
+-- rows that tell one transfer tell the same direction, and of one answer the same data, where both tell some
+abbrev pub TellTransferAlike : Row → Row → Type 0
+TellTransferAlike (Transfer direction line start cycle answer close lanes)
+    (Transfer way from began named reply stop others) =
+    start ≡ began → (direction ≡ way) × (answer ≡ reply → HaveSameData lanes others)
+TellTransferAlike (PendingTransfer start direction) (PendingTransfer began way) = start ≡ began → direction ≡ way
+TellTransferAlike told other = Unit {0}
+
+-- rows tell the same tenures, cycles and transfers, and the same answers, each of the same transfer in the same cycle;
+-- and of each cycle and transfer they tell the same
 pub record TellAlike (rows others : List Row) : Type 0 where
   pub tenures : flat_map tenure_in rows ≡ flat_map tenure_in others
   pub cycles : flat_map cycle_in rows ≡ flat_map cycle_in others
   pub transfers : flat_map transfer_in rows ≡ flat_map transfer_in others
   pub dtack : flat_map answered_by_dtack rows ≡ flat_map answered_by_dtack others
   pub berr : flat_map answered_by_berr rows ≡ flat_map answered_by_berr others
+  pub each_cycle : (told other : Row) → Contains rows told → Contains others other → TellCycleAlike told other
+  pub each_transfer : (told other : Row) → Contains rows told → Contains others other → TellTransferAlike told other

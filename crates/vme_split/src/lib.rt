@@ -26,6 +26,7 @@
 //! | `keeps.modifiers` | the modifier is what AM0 to AM5 show as the cycle starts: high for 1, low for 0, each known |
 //! | `keeps.addresses` | so do the lines of the address that the code makes meaningful, and A01 to A03 the level |
 //! | `keeps.directions` | a write starts with WRITE low, a read with it high |
+//! | `keeps.written_data` | a write has what its data lines say before its answer, or there if it starts there |
 //! | `keeps.strobe_awaits` | AS doesn't rise from the start of a transfer to its answer |
 //! | `keeps.nothing_else` | a stretch has no other rows |
 //!
@@ -33,12 +34,14 @@
 //! may lack an end. The sentences speak of lists of instants, and [`instants_are_exact`] says what these are: each
 //! instant at which something is so, once and in order. So a fall without a row, a row without a fall, and a row told
 //! twice are refused alike. [`split_is_unique`] says that nothing else splits the same edges: rows that do tell the
-//! same tenures, cycles, transfers and answers, each answer of the same transfer and in the same cycle.
+//! same tenures, cycles, transfers and answers, each answer of the same transfer and in the same cycle. Of a cycle they
+//! tell the same kind, class, modifier and address, or level; of a transfer the same direction, and the same data where
+//! both tell data.
 //!
 //! [`older_listings_split`] says the same of the listings of earlier versions.
 //!
-//! What isn't said: the data of a transfer, and the order of rows of different kinds. For these the definitions of
-//! `vme_listing` stand.
+//! What isn't said: the order of rows of different kinds, for which the definitions of `vme_listing` stand; and that
+//! each answered write has its data from version 2 on, which `listings_are_well_placed` of vme_listing says.
 #![tactic(auto)]
 
 ghost use Rattle.std.specs.Prelude.{◌≡◌, ◌<◌, ◌≤◌, ◌↔◌, ℕ, Bool, true, List, Contains};
@@ -63,7 +66,8 @@ pub fn older_listings_split()
 {}
 
 /// Nothing else splits them: rows that split the same edges tell the same tenures, cycles and transfers, and the same
-/// answers, each of the same transfer in the same cycle.
+/// answers, each of the same transfer in the same cycle; of each cycle the same kind, class, modifier and address, or
+/// level, and of each transfer the same direction and, where both tell data, the same data.
 pub fn split_is_unique()
     ensures { (t : Trace) (first end : ℕ) (rows others : List Row)
         → SplitsStretch t first end rows → SplitsStretch t first end others → TellAlike rows others }

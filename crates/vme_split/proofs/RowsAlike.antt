@@ -1,0 +1,206 @@
+-- Rows of one cycle, and of one transfer, tell the same.
+use Rattle.std.proofs.Common.{◌≡◌, ℕ, zero, suc, ◌*◌, ◌/◌, ◌%◌, ◌^◌, ◌<◌, true, refl, sym, ◌∙◌, ap}
+use Rattle.std.proofs.Common.{ap₂, subst, arith, pow-suc, inl, inr}
+use Rattle.std.specs.Prelude.{Option, None, Some}
+use Rattle.std.proofs.Math.Nat.{div-div-eq-div-mul}
+use Rattle.vme_trace.specs.Cycle.{highest_address, is_block}
+use Rattle.vme_trace.specs.Lanes.{lanes_at}
+use Rattle.vme_trace.specs.Levels.{is_low, is_high}
+use Rattle.vme_trace.specs.LineNumbers.{AM, IACK, WRITE}
+use Rattle.vme_trace.specs.Signals.{level, low, high}
+use Rattle.vme_trace.specs.Trace.{Trace, levels_at}
+use Rattle.vme_trace.specs.declared.class.Class.TheVariants as class
+use Rattle.vme_trace.specs.declared.data.Lanes.{Lanes}
+use Rattle.vme_trace.specs.declared.level.Level.{Level}
+use Rattle.vme_trace.specs.declared.level.Level.TheVariants.{Low, High, Unknown}
+use Rattle.vme_trace.proofs.Ranges.{clash}
+use Rattle.vme_listing.specs.declared.row.Direction.TheVariants.{Read, Write}
+use Rattle.vme_listing.specs.declared.row.Row.{Row}
+use Rattle.vme_listing.specs.declared.row.Row.TheVariants.{Start, Reset, OpenTenure, Tenure, AddressedCycle}
+use Rattle.vme_listing.specs.declared.row.Row.TheVariants.{FreeCycle, InterruptCycle, Transfer, PendingTransfer}
+use Rattle.vme_listing.specs.declared.row.Row.TheVariants as row
+use Rattle.vme_split.specs.Split.{bit_of, ShowsBit, ShowNumber, address_line, data_instant, HaveSameData}
+use Rattle.vme_split.specs.Split.{TellsAcknowledge, TellsModifier, TellsAddress, TellsDirection, TellsData, IsOfItsCode}
+use Rattle.vme_split.specs.Split.{TellCycleAlike, TellTransferAlike}
+
+one_level : (x : Level) → is_high x ≡ true → is_low x ≡ true → ⊥
+one_level Low h l = cc
+one_level High h l = cc
+one_level Unknown h l = cc
+
+not_both : (t : Trace) (line i : ℕ) → high t line i ≡ true → low t line i ≡ true → ⊥
+unfolding high low
+not_both t line i h l = one_level (level t line i) h l
+
+same_bit : (t : Trace) (line i a b : ℕ) → ShowsBit t line i a → ShowsBit t line i b → a ≡ b
+same_bit t line i a b (inl x) (inl y) = x.0 ∙ sym y.0
+same_bit t line i a b (inl x) (inr y) = absurd (not_both t line i x.1 y.1)
+same_bit t line i a b (inr x) (inl y) = absurd (not_both t line i y.1 x.1)
+same_bit t line i a b (inr x) (inr y) = x.0 ∙ sym y.0
+
+-- the next bit of a number is that of its half
+shifted : (x n : ℕ) → bit_of x (suc n) ≡ bit_of (x / 2) n
+shifted x n =
+    let p = pow-suc 2 n in let twice : 2 ^ suc n ≡ 2 * 2 ^ n = omega (arith, p) in
+    ap (λ (y : ℕ). x / y % 2) twice ∙ ap (λ (y : ℕ). y % 2) (sym (div-div-eq-div-mul x 2 (2 ^ n)))
+
+-- a number is told by its bits
+told_by_bits : (count x y : ℕ) → x < 2 ^ count → y < 2 ^ count → ((n : ℕ) → n < count → bit_of x n ≡ bit_of y n) → x ≡ y
+told_by_bits zero x y a b bits = let a' : x < 1 = a in let b' : y < 1 = b in omega (arith, a', b')
+told_by_bits (suc count) x y a b bits =
+    let p = pow-suc 2 count in let a' : x / 2 < 2 ^ count = omega (arith, a, p) in
+    let b' : y / 2 < 2 ^ count = omega (arith, b, p) in
+    let half : x / 2 ≡ y / 2 = told_by_bits count (x / 2) (y / 2) a' b'
+    (λ n small. sym (shifted x n) ∙ (bits (suc n) (omega (arith, small)) ∙ shifted y n)) in
+    let least : x / 1 % 2 ≡ y / 1 % 2 = bits 0 (omega arith) in omega (arith, half, least)
+
+same_number : (t : Trace) (line : ℕ → ℕ) (count i x y : ℕ) → ShowNumber t line count i x → ShowNumber t line count i y
+    → x ≡ y
+same_number t line count i x y a b = told_by_bits count x y a.0 b.0
+    (λ n small. same_bit t (line n) i (bit_of x n) (bit_of y n) (a.1 n small) (b.1 n small))
+
+same_number_at : (t : Trace) (line : ℕ → ℕ) (count i j x y : ℕ) → i ≡ j → ShowNumber t line count i x
+    → ShowNumber t line count j y → x ≡ y
+same_number_at t line count i j x y q a b =
+    same_number t line count i x y a (subst (λ (k : ℕ). ShowNumber t line count k y) (sym q) b)
+
+same_code : (t : Trace) (i j m n : ℕ) → i ≡ j → ShowNumber t (λ k. AM k) 6 i m → ShowNumber t (λ k. AM k) 6 j n → m ≡ n
+same_code t i j m n q a b = same_number_at t (λ k. AM k) 6 i j m n q a b
+
+same_place : (t : Trace) (i j m n a b : ℕ) → i ≡ j → m ≡ n
+    → (a % 2 ≡ 0) × ShowNumber t (λ k. address_line k) (highest_address m) i (a / 2)
+    → (b % 2 ≡ 0) × ShowNumber t (λ k. address_line k) (highest_address n) j (b / 2) → a ≡ b
+same_place t i j m n a b q p x y =
+    let half : a / 2 ≡ b / 2 = same_number_at t (λ k. address_line k) (highest_address m) i j (a / 2) (b / 2) q x.1
+    (subst (λ (k : ℕ). ShowNumber t (λ k. address_line k) (highest_address k) j (b / 2)) (sym p) y.1) in
+    omega (arith, half, x.0, y.0)
+
+pub cycles_alike : (t : Trace) (told other : Row) → TellsAcknowledge t told → TellsAcknowledge t other
+    → IsOfItsCode told → IsOfItsCode other → TellsModifier t told → TellsModifier t other
+    → TellsAddress t told → TellsAddress t other → TellCycleAlike told other
+cycles_alike t (Start i) other ack ack' of of' code code' place place' = tt
+cycles_alike t (Reset i) other ack ack' of of' code code' place place' = tt
+cycles_alike t (OpenTenure i e) other ack ack' of of' code code' place place' = tt
+cycles_alike t (Tenure i l s e) other ack ack' of of' code code' place place' = tt
+cycles_alike t (AddressedCycle i c m a e) (Start i') ack ack' of of' code code' place place' = tt
+cycles_alike t (AddressedCycle i c m a e) (Reset i') ack ack' of of' code code' place place' = tt
+cycles_alike t (AddressedCycle i c m a e) (OpenTenure i' e') ack ack' of of' code code' place place' = tt
+cycles_alike t (AddressedCycle i c m a e) (Tenure i' l' s' e') ack ack' of of' code code' place place' = tt
+cycles_alike t (AddressedCycle i class.S m a e) (AddressedCycle i' class.S m' a' e') ack ack' of of' code code' place
+    place' = λ q. let same = same_code t i i' m m' q code code' in
+    (refl, same, same_place t i i' m m' a a' q same place place')
+cycles_alike t (AddressedCycle i class.S m a e) (AddressedCycle i' class.K m' a' e') ack ack' of of' code code' place
+    place' = λ q. absurd (clash (is_block m) (ap is_block (same_code t i i' m m' q code code') ∙ of') of.0)
+cycles_alike t (AddressedCycle i class.S m a e) (AddressedCycle i' class.I m' a' e') ack ack' of of' code code' place
+    place' = absurd of'
+cycles_alike t (AddressedCycle i class.S m a e) (AddressedCycle i' class.F m' a' e') ack ack' of of' code code' place
+    place' = absurd of'
+cycles_alike t (AddressedCycle i class.K m a e) (AddressedCycle i' class.S m' a' e') ack ack' of of' code code' place
+    place' = λ q. absurd (clash (is_block m) of (ap is_block (same_code t i i' m m' q code code') ∙ of'.0))
+cycles_alike t (AddressedCycle i class.K m a e) (AddressedCycle i' class.K m' a' e') ack ack' of of' code code' place
+    place' = λ q. let same = same_code t i i' m m' q code code' in
+    (refl, same, same_place t i i' m m' a a' q same place place')
+cycles_alike t (AddressedCycle i class.K m a e) (AddressedCycle i' class.I m' a' e') ack ack' of of' code code' place
+    place' = absurd of'
+cycles_alike t (AddressedCycle i class.K m a e) (AddressedCycle i' class.F m' a' e') ack ack' of of' code code' place
+    place' = absurd of'
+cycles_alike t (AddressedCycle i class.I m a e) (AddressedCycle i' class.S m' a' e') ack ack' of of' code code' place
+    place' = absurd of
+cycles_alike t (AddressedCycle i class.I m a e) (AddressedCycle i' class.K m' a' e') ack ack' of of' code code' place
+    place' = absurd of
+cycles_alike t (AddressedCycle i class.I m a e) (AddressedCycle i' class.I m' a' e') ack ack' of of' code code' place
+    place' = absurd of
+cycles_alike t (AddressedCycle i class.I m a e) (AddressedCycle i' class.F m' a' e') ack ack' of of' code code' place
+    place' = absurd of
+cycles_alike t (AddressedCycle i class.F m a e) (AddressedCycle i' class.S m' a' e') ack ack' of of' code code' place
+    place' = absurd of
+cycles_alike t (AddressedCycle i class.F m a e) (AddressedCycle i' class.K m' a' e') ack ack' of of' code code' place
+    place' = absurd of
+cycles_alike t (AddressedCycle i class.F m a e) (AddressedCycle i' class.I m' a' e') ack ack' of of' code code' place
+    place' = absurd of
+cycles_alike t (AddressedCycle i class.F m a e) (AddressedCycle i' class.F m' a' e') ack ack' of of' code code' place
+    place' = absurd of
+cycles_alike t (AddressedCycle i class.S m a e) (FreeCycle i' m' e') ack ack' of of' code code' place place' = λ q. of.1
+    (ap highest_address (same_code t i i' m m' q code code') ∙ of'.1)
+cycles_alike t (AddressedCycle i class.K m a e) (FreeCycle i' m' e') ack ack' of of' code code' place place' = λ q.
+    clash (is_block m) of (ap is_block (same_code t i i' m m' q code code') ∙ of'.0)
+cycles_alike t (AddressedCycle i class.I m a e) (FreeCycle i' m' e') ack ack' of of' code code' place place' = absurd of
+cycles_alike t (AddressedCycle i class.F m a e) (FreeCycle i' m' e') ack ack' of of' code code' place place' = absurd of
+cycles_alike t (AddressedCycle i c m a e) (InterruptCycle i' l' e') ack ack' of of' code code' place place' = λ q.
+    not_both t IACK i ack (ap (low t IACK) q ∙ ack')
+cycles_alike t (AddressedCycle i c m a e) (Transfer d' l' i' c' r' k' x') ack ack' of of' code code' place place' = tt
+cycles_alike t (AddressedCycle i c m a e) (PendingTransfer i' d') ack ack' of of' code code' place place' = tt
+cycles_alike t (AddressedCycle i c m a e) (row.Verdict o') ack ack' of of' code code' place place' = tt
+cycles_alike t (FreeCycle i m e) (Start i') ack ack' of of' code code' place place' = tt
+cycles_alike t (FreeCycle i m e) (Reset i') ack ack' of of' code code' place place' = tt
+cycles_alike t (FreeCycle i m e) (OpenTenure i' e') ack ack' of of' code code' place place' = tt
+cycles_alike t (FreeCycle i m e) (Tenure i' l' s' e') ack ack' of of' code code' place place' = tt
+cycles_alike t (FreeCycle i m e) (AddressedCycle i' c' m' a' e') ack ack' of of' code code' place place' = tt
+cycles_alike t (FreeCycle i m e) (FreeCycle i' m' e') ack ack' of of' code code' place place' = λ q. same_code t i i' m
+    m' q code code'
+cycles_alike t (FreeCycle i m e) (InterruptCycle i' l' e') ack ack' of of' code code' place place' = λ q. not_both t
+    IACK i ack (ap (low t IACK) q ∙ ack')
+cycles_alike t (FreeCycle i m e) (Transfer d' l' i' c' r' k' x') ack ack' of of' code code' place place' = tt
+cycles_alike t (FreeCycle i m e) (PendingTransfer i' d') ack ack' of of' code code' place place' = tt
+cycles_alike t (FreeCycle i m e) (row.Verdict o') ack ack' of of' code code' place place' = tt
+cycles_alike t (InterruptCycle i l e) (Start i') ack ack' of of' code code' place place' = tt
+cycles_alike t (InterruptCycle i l e) (Reset i') ack ack' of of' code code' place place' = tt
+cycles_alike t (InterruptCycle i l e) (OpenTenure i' e') ack ack' of of' code code' place place' = tt
+cycles_alike t (InterruptCycle i l e) (Tenure i' l' s' e') ack ack' of of' code code' place place' = tt
+cycles_alike t (InterruptCycle i l e) (AddressedCycle i' c' m' a' e') ack ack' of of' code code' place place' = tt
+cycles_alike t (InterruptCycle i l e) (FreeCycle i' m' e') ack ack' of of' code code' place place' = tt
+cycles_alike t (InterruptCycle i l e) (InterruptCycle i' l' e') ack ack' of of' code code' place place' = λ q.
+    same_number_at t (λ k. address_line k) 3 i i' l l' q place place'
+cycles_alike t (InterruptCycle i l e) (Transfer d' l' i' c' r' k' x') ack ack' of of' code code' place place' = tt
+cycles_alike t (InterruptCycle i l e) (PendingTransfer i' d') ack ack' of of' code code' place place' = tt
+cycles_alike t (InterruptCycle i l e) (row.Verdict o') ack ack' of of' code code' place place' = tt
+cycles_alike t (Transfer d l i c r k x) other ack ack' of of' code code' place place' = tt
+cycles_alike t (PendingTransfer i d) other ack ack' of of' code code' place place' = tt
+cycles_alike t (row.Verdict o) other ack ack' of of' code code' place place' = tt
+
+pub transfers_alike : (t : Trace) (told other : Row) → TellsDirection t told → TellsDirection t other
+    → TellsData t told → TellsData t other → TellTransferAlike told other
+transfers_alike t (Start i) other way way' lanes lanes' = tt
+transfers_alike t (Reset i) other way way' lanes lanes' = tt
+transfers_alike t (OpenTenure i e) other way way' lanes lanes' = tt
+transfers_alike t (Tenure i l s e) other way way' lanes lanes' = tt
+transfers_alike t (AddressedCycle i c m a e) other way way' lanes lanes' = tt
+transfers_alike t (FreeCycle i m e) other way way' lanes lanes' = tt
+transfers_alike t (InterruptCycle i l e) other way way' lanes lanes' = tt
+transfers_alike t (Transfer d l i c r k x) (Start i') way way' lanes lanes' = tt
+transfers_alike t (Transfer d l i c r k x) (Reset i') way way' lanes lanes' = tt
+transfers_alike t (Transfer d l i c r k x) (OpenTenure i' e') way way' lanes lanes' = tt
+transfers_alike t (Transfer d l i c r k x) (Tenure i' l' s' e') way way' lanes lanes' = tt
+transfers_alike t (Transfer d l i c r k x) (AddressedCycle i' c' m' a' e') way way' lanes lanes' = tt
+transfers_alike t (Transfer d l i c r k x) (FreeCycle i' m' e') way way' lanes lanes' = tt
+transfers_alike t (Transfer d l i c r k x) (InterruptCycle i' l' e') way way' lanes lanes' = tt
+transfers_alike t (Transfer Read l i c r k x) (Transfer Read l' i' c' r' k' x') way way' lanes lanes' = λ q.
+    (refl, λ p. subst (λ (y : Option Lanes). HaveSameData y x') (sym lanes) tt)
+transfers_alike t (Transfer Read l i c r k x) (Transfer Write l' i' c' r' k' x') way way' lanes lanes' = λ q. absurd
+    (not_both t WRITE i way (ap (low t WRITE) q ∙ way'))
+transfers_alike t (Transfer Write l i c r k x) (Transfer Read l' i' c' r' k' x') way way' lanes lanes' = λ q. absurd
+    (not_both t WRITE i' way' (ap (low t WRITE) (sym q) ∙ way))
+transfers_alike t (Transfer Write l i c r k None) (Transfer Write l' i' c' r' k' x') way way' lanes lanes' = λ q.
+    (refl, λ p. tt)
+transfers_alike t (Transfer Write l i c r k (Some x)) (Transfer Write l' i' c' r' k' None) way way' lanes lanes' = λ q.
+    (refl, λ p. tt)
+transfers_alike t (Transfer Write l i c r k (Some x)) (Transfer Write l' i' c' r' k' (Some x')) way way' lanes lanes'
+    = λ q. (refl, λ p. lanes ∙ (ap₂ (λ (y z : ℕ). lanes_at (levels_at t (data_instant y z))) q p ∙ sym lanes'))
+transfers_alike t (Transfer d l i c r k x) (PendingTransfer i' d') way way' lanes lanes' = tt
+transfers_alike t (Transfer d l i c r k x) (row.Verdict o') way way' lanes lanes' = tt
+transfers_alike t (PendingTransfer i d) (Start i') way way' lanes lanes' = tt
+transfers_alike t (PendingTransfer i d) (Reset i') way way' lanes lanes' = tt
+transfers_alike t (PendingTransfer i d) (OpenTenure i' e') way way' lanes lanes' = tt
+transfers_alike t (PendingTransfer i d) (Tenure i' l' s' e') way way' lanes lanes' = tt
+transfers_alike t (PendingTransfer i d) (AddressedCycle i' c' m' a' e') way way' lanes lanes' = tt
+transfers_alike t (PendingTransfer i d) (FreeCycle i' m' e') way way' lanes lanes' = tt
+transfers_alike t (PendingTransfer i d) (InterruptCycle i' l' e') way way' lanes lanes' = tt
+transfers_alike t (PendingTransfer i d) (Transfer d' l' i' c' r' k' x') way way' lanes lanes' = tt
+transfers_alike t (PendingTransfer i Read) (PendingTransfer i' Read) way way' lanes lanes' = λ q. refl
+transfers_alike t (PendingTransfer i Read) (PendingTransfer i' Write) way way' lanes lanes' = λ q. absurd
+    (not_both t WRITE i way (ap (low t WRITE) q ∙ way'))
+transfers_alike t (PendingTransfer i Write) (PendingTransfer i' Read) way way' lanes lanes' = λ q. absurd
+    (not_both t WRITE i' way' (ap (low t WRITE) (sym q) ∙ way))
+transfers_alike t (PendingTransfer i Write) (PendingTransfer i' Write) way way' lanes lanes' = λ q. refl
+transfers_alike t (PendingTransfer i d) (row.Verdict o') way way' lanes lanes' = tt
+transfers_alike t (row.Verdict o) other way way' lanes lanes' = tt

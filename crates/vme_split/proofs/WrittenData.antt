@@ -1,0 +1,126 @@
+-- The data that the rows of writes tell.
+use Rattle.std.proofs.Common.{◌≡◌, ℕ, ◌+◌, ◌-◌, ◌<◌, ◌≤◌, Bool, true, false, ◌&&◌, not, if◌then◌else◌, refl, sym, ◌∙◌}
+use Rattle.std.proofs.Common.{ap}
+use Rattle.std.proofs.Common.{arith, All, inl, inr, ◌⊎◌}
+use Rattle.std.specs.Prelude.{Option, None, Some, ◌==◌, nat_le}
+use Rattle.std.proofs.lemmas.Bool.Decides.{nat_tests}
+use Rattle.vme_trace.specs.Instants.{any, least}
+use Rattle.vme_trace.specs.LineNumbers.{AS}
+use Rattle.vme_trace.specs.Lanes.{lanes_at}
+use Rattle.vme_trace.specs.Trace.{Trace, levels_at}
+use Rattle.vme_trace.specs.Signals.{rises}
+use Rattle.vme_trace.specs.Judged.{Stretch, IsSpanOf}
+use Rattle.vme_trace.specs.Transfers.{strobes_high, transfer_starts, lasts, answers, is_write, data_at}
+use Rattle.vme_trace.specs.Cycles.{cycle_of}
+use Rattle.vme_trace.specs.declared.class.Class.{Class}
+use Rattle.vme_trace.specs.declared.class.Class.TheVariants as class
+use Rattle.vme_trace.proofs.Ranges.{any-fails, least-found, clash}
+use Rattle.vme_listing.specs.Recorded.{answer_line, answered_row, cycle_row, rows_before, transfer_row}
+use Rattle.vme_listing.specs.declared.row.Direction.TheVariants.{Read, Write}
+use Rattle.vme_listing.specs.declared.row.Row.TheVariants.{Transfer}
+use Rattle.vme_split.specs.Split.{TellsData}
+use Rattle.vme_split.proofs.Lists.{same_or_after}
+use Rattle.vme_split.proofs.Unbroken.{IsUnbroken}
+use Rattle.vme_split.proofs.Transfers.{after_start}
+use Rattle.vme_split.proofs.Answering.{double_not, low_there}
+use Rattle.vme_split.proofs.EachRow.{all_before, all_tenure, all_cycle, all_transfer}
+
+first_of : (a b c : Bool) → (a && b && c) ≡ true → a ≡ true
+first_of true b c h = refl
+first_of false b c h = absurd (cc)
+
+second_of : (a b c : Bool) → (a && b && c) ≡ true → b ≡ true
+second_of true true c h = refl
+second_of true false c h = absurd (cc)
+second_of false b c h = absurd (cc)
+
+third_of : (a b c : Bool) → (a && b && c) ≡ true → c ≡ true
+third_of true true true h = refl
+third_of true true false h = absurd (cc)
+third_of true false c h = absurd (cc)
+third_of false b c h = absurd (cc)
+
+off_if : (b : Bool) → (b ≡ true → ⊥) → b ≡ false
+off_if true h = absurd (h refl)
+off_if false h = refl
+
+is_order : (i r : ℕ) → nat_le i r ≡ true → i ≤ r
+is_order i r h = grind (arith, nat_tests)
+
+is_same : (i r : ℕ) → i ≡ r → (i == r) ≡ true
+is_same i r h = grind (arith, nat_tests)
+
+is_later : (i r : ℕ) → i + 1 ≤ r → (i == r) ≡ false
+is_later i r h = grind (arith, nat_tests)
+
+module _ (t : Trace) (span : Stretch) (is : IsSpanOf t span) (end : ℕ) (within : span.start < end)
+    (most : end ≤ span.end)
+    (unbroken : IsUnbroken t span end) where
+  module _ (i r : ℕ) (before : i < end) (starts : transfer_starts t span i ≡ true) (there : lasts t span i r ≡ true)
+    where
+      order : i ≤ r
+      unfolding lasts
+      order = is_order i r (first_of (nat_le i r) _ _ there)
+
+      unclosed : any (strobes_high t) (i + 1) r ≡ false
+      unfolding lasts
+      unclosed = sym (double_not (any (strobes_high t) (i + 1) r)) ∙ ap not (third_of (nat_le i r) _ _ there)
+
+      high_before : transfer_starts t span r ≡ true → strobes_high t (r - 1) ≡ true
+      unfolding transfer_starts
+      high_before h = second_of _ (strobes_high t (r - 1)) _ h
+
+      -- no other transfer starts in it
+      none_later : i + 1 ≤ r → transfer_starts t span r ≡ true → ⊥
+      none_later later h = by (same_or_after i (r - 1) (omega (arith, later)))
+        where
+          by : (i ≡ r - 1) ⊎ (i + 1 ≤ r - 1) → ⊥
+          by (inl same) = clash (strobes_high t i) (ap (strobes_high t) same ∙ high_before h)
+              (low_there t span is end within most unbroken i (after_start t span i starts) starts before)
+          by (inr more) = clash (strobes_high t (r - 1)) (high_before h)
+              (any-fails (strobes_high t) (i + 1) r (r - 1) unclosed more (omega (arith, later)))
+
+      starts_alike : transfer_starts t span r ≡ (i == r)
+      starts_alike = by (same_or_after i r order)
+        where
+          by : (i ≡ r) ⊎ (i + 1 ≤ r) → transfer_starts t span r ≡ (i == r)
+          by (inl same) = ap (transfer_starts t span) (sym same) ∙ (starts ∙ sym (is_same i r same))
+          by (inr later) = off_if (transfer_starts t span r) (none_later later) ∙ sym (is_later i r later)
+
+      answered : (c : ℕ) → TellsData t (answered_row t span end i r (Some c))
+      unfolding data_at
+      answered c = by (is_write t span i)
+        where
+          by : (b : Bool) → TellsData t (Transfer (if b then Write else Read) (answer_line t span end r) i c r
+              (least (strobes_high t) (i + 1) end) (if b then Some (data_at t span r) else None))
+          by true = ap (λ (b : Bool). lanes_at (levels_at t (if b then r else r - 1))) starts_alike
+          by false = refl
+
+      of_answer : (o : Option ℕ) → TellsData t (answered_row t span end i r o)
+      of_answer None = tt
+      of_answer (Some c) = answered c
+
+  lasting : (i r : ℕ) → answers t span i r ≡ true → lasts t span i r ≡ true
+  unfolding answers
+  lasting i r h = first_of (lasts t span i r) _ _ h
+
+  of_transfer : (i : ℕ) → i < end → transfer_starts t span i ≡ true → (o : Option ℕ) → least (answers t span i) i end
+      ≡ o
+      → TellsData t (transfer_row t span end i o)
+  of_transfer i before starts None e = tt
+  of_transfer i before starts (Some r) e =
+      of_answer i r before starts (lasting i r (least-found (answers t span i) i end r e).holds) (cycle_of t span r)
+
+  pub data_told : All (TellsData t) (rows_before t span end end)
+  data_told = all_before (TellsData t) t span end
+      (λ i before. all_tenure (TellsData t) t span end i (λ e. tt) (λ starts level slot e l s. tt))
+      (λ i before. all_cycle (TellsData t) t span end i (in_cycle i))
+      (λ i before. all_transfer (TellsData t) t span end i
+      (λ starts. of_transfer i before starts (least (answers t span i) i end) refl))
+      end (omega arith)
+    where
+      in_cycle : (i : ℕ) (c : Class) → TellsData t (cycle_row i (levels_at t i) (least (rises t AS) (i + 1) end) c)
+      in_cycle i class.S = tt
+      in_cycle i class.K = tt
+      in_cycle i class.I = tt
+      in_cycle i class.F = tt
