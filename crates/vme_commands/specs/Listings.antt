@@ -5,12 +5,14 @@ use Rattle.std.specs.Option.{option_map_or}
 use Rattle.vcd_read.specs.Header.{◌>>=◌}
 use Rattle.vme_trace.specs.Streams.{Reading, Writing}
 use Rattle.vme_trace.specs.Trace.{Trace}
-use Rattle.vme_trace.specs.Verdict.{verdict_by, rules_in_force}
-use Rattle.vme_listing.specs.Listed.{Listed}
+use Rattle.vme_trace.specs.Verdict.{verdict, verdict_by, rules_in_force}
+use Rattle.vme_listing.specs.Listed.{Listed, in_newest_version}
 use Rattle.vme_listing.specs.Recorded.{listing_of}
 use Rattle.vme_listing.specs.RowText.{text_of}
 use Rattle.vme_answer.specs.Answers.{CommandAnswer, AnswerGives, capture_read, refusal_answer}
 use Rattle.vme_answer.specs.Ends.{Does}
+use Rattle.vme_stream.specs.Outputs.{Writes}
+use Rattle.vme_split.specs.Split.{Splits}
 use Rattle.vme_answer.specs.Texts.{verdict_status}
 use Rattle.vme_answer.specs.declared.refusal.Refusal.{Refusal}
 use Rattle.vme_answer.specs.declared.refusal.Refusal.TheVariants.{Memory}
@@ -80,3 +82,8 @@ abbrev pub WritesListing : Reading × Reading → Reading × Reading → ℕ →
 WritesListing binding dump block out err status =
     Does listing_answer_by (λ b d recording. AnswerGives (λ t. t) recording (recording_of b d block))
     binding dump out err status
+
+-- what was written is the text of rows that split the judged edges of the recording
+abbrev pub WritesSplit : Trace → Writing × Writing → Type 0
+WritesSplit t out =
+    (rows : List Row) × Splits t (verdict t) rows × Writes out.0 out.1 (text_of (in_newest_version rows))

@@ -8,7 +8,7 @@ ghost use Rattle.vme_answer.specs.Ends.{Ends, Tells};
 ghost use Rattle.vme_stream.specs.Inputs.{IsReading, TellsWhole};
 ghost use Rattle.vme_commands.specs.Judged.{limited_in_blocks};
 ghost use Rattle.vme_commands.specs.Listings.{GivesListing, WritesListing, listing_answer_by, listing_answer_of, recording_of};
-ghost use Rattle.vme_commands.specs.Listings.{listing_status, outcome_status, row_status};
+ghost use Rattle.vme_commands.specs.Listings.{listing_status, outcome_status, row_status, WritesSplit};
 
 use crate::judged_dump::judged_dump;
 use crate::workers::Workers;
@@ -51,6 +51,12 @@ pub fn list<R: Threads + Sync, B: Source, D: Source, O: Sink, E: Sink>(
         → (O.writing out.new).failures ≡ (O.writing out.old).failures → result ≢ 4
         → Tells (listing_answer_of (Some b) (Some d) block)
         (O.writing out.old, O.writing out.new) (E.writing err.old, E.writing err.new) result }
+
+    // Of a recording that is made of them, the judged edges split into exactly the rows whose text is written.
+    ensures split { (b d : List ℕ) (t : Trace) → TellsWhole (B.reading binding.old) (B.reading binding.new) b
+        → TellsWhole (D.reading dump.old) (D.reading dump.new) d
+        → (O.writing out.new).failures ≡ (O.writing out.old).failures → result ≢ 4
+        → recording_of (Some b) (Some d) block ≡ Ok t → WritesSplit t (O.writing out.old, O.writing out.new) }
 {
     list_by(
         alloc,
