@@ -1,0 +1,43 @@
+-- Breaks that are allowed, and which are not.
+use Rattle.std.specs.Prelude.{ℕ, Bool, true, not, ◌==◌, ◌-◌, ◌&&◌, List, filter, Option, None, Some}
+use Rattle.std.specs.Prelude.{slice_get}
+use Rattle.std.specs.Option.{option_map_or}
+use Rattle.std.specs.List.{list_any}
+use Rattle.vme_trace.specs.Names.{rule_number}
+use Rattle.vme_trace.specs.Rules.{is_unreadable}
+use Rattle.vme_trace.specs.Trace.{Trace}
+use Rattle.vme_trace.specs.declared.verdict.Break.{Break}
+use Rattle.vme_audit.specs.Parts.{breaks, cut_behind}
+use Rattle.vme_audit.specs.declared.allowance.Allowance.{Allowance}
+
+-- the allowance is of the rule that is broken, and of the line that is named, or of no line
+abbrev pub allows : Break → Allowance → Bool
+allows b a = (rule_number a.rule == rule_number b.rule) && option_map_or (λ l. l == b.line) a.line true
+
+module _ (allowances : List Allowance) where
+  -- one of the allowances allows the break
+  unfoldable pub is_allowed : Break → Bool
+  is_allowed b = list_any (allows b) allowances
+
+  abbrev pub is_fault : Break → Bool
+  is_fault b = not (is_allowed b)
+
+  -- the breaks that are not allowed
+  abbrev pub faults : List Break → List Break
+  faults bs = filter is_fault bs
+
+  -- those of them that say that the recording is wrong, and those that say that it can't be read
+  abbrev pub wrongs : List Break → List Break
+  wrongs bs = filter (λ b. not (is_unreadable b.rule)) (faults bs)
+
+  abbrev pub unreadables : List Break → List Break
+  unreadables bs = filter (λ b. is_unreadable b.rule) (faults bs)
+
+  abbrev pub cut_at : Trace → Option Break → Trace
+  cut_at t None = t
+  cut_at t (Some b) = cut_behind t b.instant
+
+  -- the recording as far as it is read where reading stops at some count of breaks that are not allowed, from 1 on: it is
+  -- cut off behind the last of these, if there are so many
+  unfoldable pub stopped_at : ℕ → Trace → Trace
+  stopped_at n t = cut_at t (slice_get (faults (breaks t)) (n - 1))

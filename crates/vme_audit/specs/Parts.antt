@@ -1,0 +1,74 @@
+-- The parts of a recording, each of which is judged anew, and all breaks of it.
+use Rattle.std.specs.Prelude.{ℕ, zero, suc, ◌+◌, List, [], ◌∷◌, drop, take, length, flat_map, Option, None, Some}
+use Rattle.std.specs.Prelude.{option_map}
+use Rattle.std.specs.Option.{option_map_or, option_to_list}
+use Rattle.vme_trace.specs.Trace.{Trace, levels_at}
+use Rattle.vme_trace.specs.Verdict.{verdict}
+use Rattle.vme_trace.specs.declared.verdict.Break.{Break}
+use Rattle.vme_trace.specs.declared.verdict.Verdict.{Verdict}
+use Rattle.vme_trace.specs.declared.verdict.Verdict.TheVariants.{Conforming, Broken, Unreadable, NeverIdle}
+
+-- the rest of a recording behind an instant: it opens with the levels of that instant, and has the steps after it, so
+-- that its instant i is instant j + i of the recording
+abbrev pub rest_behind : Trace → ℕ → Trace
+rest_behind t j = record { opening = levels_at t j; steps = drop j t.steps }
+
+-- the recording up to an instant, and that instant included
+abbrev pub cut_behind : Trace → ℕ → Trace
+cut_behind t j = record { opening = t.opening; steps = take j t.steps }
+
+-- the break that a verdict names
+abbrev pub named_break : Verdict → Option Break
+named_break Conforming = None
+named_break (Broken b) = Some b
+named_break (Unreadable b) = Some b
+named_break NeverIdle = None
+
+-- a recording in a longer one, which opens at this instant of that
+pub record Part : Type 0 where
+  pub start : ℕ
+  pub trace : Trace
+
+-- the break by which a part ends, at an instant of the part
+unfoldable pub own_break : Part → Option Break
+own_break p = named_break (verdict p.trace)
+
+-- a break of a part that opens at an instant, at its instant of the whole recording
+abbrev pub moved_by : ℕ → Break → Break
+moved_by start b = record { instant = start + b.instant; time = b.time; rule = b.rule; line = b.line }
+
+-- the break by which a part ends
+abbrev pub break_of : Part → Option Break
+break_of p = option_map (moved_by p.start) (own_break p)
+
+-- what is left of a part behind its break, if it has one: it opens with the levels at the break, and has fewer steps
+abbrev pub part_behind : Part → Break → Part
+part_behind p b = record { start = p.start + b.instant; trace = rest_behind p.trace b.instant }
+
+-- a part, and the parts behind its break, at most so many
+unfoldable pub parts_from : ℕ → Part → List Part
+parts_from zero p = p ∷ []
+parts_from (suc n) p = p ∷ option_map_or (λ b. parts_from n (part_behind p b)) (own_break p) []
+
+abbrev pub whole : Trace → Part
+whole t = record { start = 0; trace = t }
+
+-- the parts of a recording: itself, and the rest behind each of its breaks. A break is behind the opening, so there are
+-- no more of them than steps
+unfoldable pub parts : Trace → List Part
+parts t = parts_from (length t.steps) (whole t)
+
+abbrev pub last_from : Part → List Part → Part
+last_from p [] = p
+last_from p (q ∷ qs) = last_from q qs
+
+-- the part that ends by no break
+abbrev pub last_part : Trace → Part
+last_part t = last_from (whole t) (parts t)
+
+abbrev pub breaks_of : List Part → List Break
+breaks_of ps = flat_map (λ p. option_to_list (break_of p)) ps
+
+-- all breaks of a recording: in each part the least one, since judging starts anew at the first idle instant from it on
+abbrev pub breaks : Trace → List Break
+breaks t = breaks_of (parts t)

@@ -1,0 +1,10 @@
+use vme_trace::{Line, Rule};
+
+/// A known deviation: breaks of a rule, on one line or on every line, are allowed.
+#[derive(Clone, Copy, Debug, PartialEq, Eq)]
+pub struct Allowance {
+    /// The rule that may be broken.
+    pub rule: Rule,
+    /// The line on which alone it may be, or none for every line.
+    pub line: Option<Line>,
+}

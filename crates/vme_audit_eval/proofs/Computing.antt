@@ -1,0 +1,15 @@
+-- All that has to unfold for an audit to compute, beside what a verdict and a listing take.
+use Rattle.std.specs.Prelude.{ℕ}
+use Rattle.vme_audit.specs.Allowances.{is_allowed, stopped_at}
+use Rattle.vme_audit.specs.Asked.{asks, asks_in, happens, is_asked}
+use Rattle.vme_audit.specs.Counted.{counts_of_rows}
+use Rattle.vme_audit.specs.Covered.{gap, hang, is_judged_part, outcome}
+use Rattle.vme_audit.specs.Parts.{own_break, parts, parts_from}
+
+unfoldable pub audits : ℕ
+unfolding outcome gap hang is_judged_part counts_of_rows is_allowed stopped_at own_break parts parts_from
+audits = 0
+
+unfoldable pub asked : ℕ
+unfolding is_asked asks asks_in happens own_break parts parts_from
+asked = 0

@@ -1,0 +1,95 @@
+-- Each of these recordings computes.
+use Rattle.std.proofs.Common.{refl}
+use Rattle.vme_eval.proofs.Everything.{everything, rows}
+use Rattle.vme_audit_eval.proofs.Computing.{audits}
+use Rattle.vme_audit_eval.specs.Audited.{AuditAgrees, AllAudits}
+use Rattle.vme_audit_eval.specs.Coverage.{nothing_known, idle_and_nothing_wanted, idle_and_one_wanted, read_in_a_tenure, one_answer_of_two, tenure_cut_off, bus_error_to_a_write, free_cycles, acknowledged, bus_hangs, bus_hangs_and_one_wanted, hang_that_is_reset, hang_behind_a_reset, hang_behind_a_break, transfer_cut_off, broken_and_not_covered, unreadable_and_not_covered, never_idle_and_one_wanted, stopped_at_the_first, stopped_at_the_second, stopped_nowhere, coverage}
+use Rattle.vme_audit_eval.specs.Breaks.{two_stray_answers, break_in_the_last_step, nothing_judged_while_lost}
+
+pub nothing_known_agrees : AuditAgrees nothing_known
+unfolding everything rows audits nothing_known
+nothing_known_agrees = record { well_formed = refl; starts = refl; breaks = refl; counts = refl; outcome = refl }
+
+pub idle_and_nothing_wanted_agrees : AuditAgrees idle_and_nothing_wanted
+unfolding everything rows audits idle_and_nothing_wanted
+idle_and_nothing_wanted_agrees = record { well_formed = refl; starts = refl; breaks = refl; counts = refl; outcome = refl }
+
+pub idle_and_one_wanted_agrees : AuditAgrees idle_and_one_wanted
+unfolding everything rows audits idle_and_one_wanted idle_and_nothing_wanted
+idle_and_one_wanted_agrees = record { well_formed = refl; starts = refl; breaks = refl; counts = refl; outcome = refl }
+
+pub read_in_a_tenure_agrees : AuditAgrees read_in_a_tenure
+unfolding everything rows audits read_in_a_tenure
+read_in_a_tenure_agrees = record { well_formed = refl; starts = refl; breaks = refl; counts = refl; outcome = refl }
+
+pub one_answer_of_two_agrees : AuditAgrees one_answer_of_two
+unfolding everything rows audits one_answer_of_two read_in_a_tenure
+one_answer_of_two_agrees = record { well_formed = refl; starts = refl; breaks = refl; counts = refl; outcome = refl }
+
+pub tenure_cut_off_agrees : AuditAgrees tenure_cut_off
+unfolding everything rows audits tenure_cut_off
+tenure_cut_off_agrees = record { well_formed = refl; starts = refl; breaks = refl; counts = refl; outcome = refl }
+
+pub bus_error_to_a_write_agrees : AuditAgrees bus_error_to_a_write
+unfolding everything rows audits bus_error_to_a_write
+bus_error_to_a_write_agrees = record { well_formed = refl; starts = refl; breaks = refl; counts = refl; outcome = refl }
+
+pub free_cycles_agrees : AuditAgrees free_cycles
+unfolding everything rows audits free_cycles
+free_cycles_agrees = record { well_formed = refl; starts = refl; breaks = refl; counts = refl; outcome = refl }
+
+pub acknowledged_agrees : AuditAgrees acknowledged
+unfolding everything rows audits acknowledged
+acknowledged_agrees = record { well_formed = refl; starts = refl; breaks = refl; counts = refl; outcome = refl }
+
+pub bus_hangs_agrees : AuditAgrees bus_hangs
+unfolding everything rows audits bus_hangs
+bus_hangs_agrees = record { well_formed = refl; starts = refl; breaks = refl; counts = refl; outcome = refl }
+
+pub bus_hangs_and_one_wanted_agrees : AuditAgrees bus_hangs_and_one_wanted
+unfolding everything rows audits bus_hangs_and_one_wanted bus_hangs
+bus_hangs_and_one_wanted_agrees = record { well_formed = refl; starts = refl; breaks = refl; counts = refl; outcome = refl }
+
+pub hang_that_is_reset_agrees : AuditAgrees hang_that_is_reset
+unfolding everything rows audits hang_that_is_reset bus_hangs
+hang_that_is_reset_agrees = record { well_formed = refl; starts = refl; breaks = refl; counts = refl; outcome = refl }
+
+pub hang_behind_a_reset_agrees : AuditAgrees hang_behind_a_reset
+unfolding everything rows audits hang_behind_a_reset
+hang_behind_a_reset_agrees = record { well_formed = refl; starts = refl; breaks = refl; counts = refl; outcome = refl }
+
+pub hang_behind_a_break_agrees : AuditAgrees hang_behind_a_break
+unfolding everything rows audits hang_behind_a_break
+hang_behind_a_break_agrees = record { well_formed = refl; starts = refl; breaks = refl; counts = refl; outcome = refl }
+
+pub transfer_cut_off_agrees : AuditAgrees transfer_cut_off
+unfolding everything rows audits transfer_cut_off
+transfer_cut_off_agrees = record { well_formed = refl; starts = refl; breaks = refl; counts = refl; outcome = refl }
+
+pub broken_and_not_covered_agrees : AuditAgrees broken_and_not_covered
+unfolding everything rows audits broken_and_not_covered break_in_the_last_step
+broken_and_not_covered_agrees = record { well_formed = refl; starts = refl; breaks = refl; counts = refl; outcome = refl }
+
+pub unreadable_and_not_covered_agrees : AuditAgrees unreadable_and_not_covered
+unfolding everything rows audits unreadable_and_not_covered nothing_judged_while_lost
+unreadable_and_not_covered_agrees = record { well_formed = refl; starts = refl; breaks = refl; counts = refl; outcome = refl }
+
+pub never_idle_and_one_wanted_agrees : AuditAgrees never_idle_and_one_wanted
+unfolding everything rows audits never_idle_and_one_wanted break_in_the_last_step
+never_idle_and_one_wanted_agrees = record { well_formed = refl; starts = refl; breaks = refl; counts = refl; outcome = refl }
+
+pub stopped_at_the_first_agrees : AuditAgrees stopped_at_the_first
+unfolding everything rows audits stopped_at_the_first two_stray_answers
+stopped_at_the_first_agrees = record { well_formed = refl; starts = refl; breaks = refl; counts = refl; outcome = refl }
+
+pub stopped_at_the_second_agrees : AuditAgrees stopped_at_the_second
+unfolding everything rows audits stopped_at_the_second two_stray_answers
+stopped_at_the_second_agrees = record { well_formed = refl; starts = refl; breaks = refl; counts = refl; outcome = refl }
+
+pub stopped_nowhere_agrees : AuditAgrees stopped_nowhere
+unfolding everything rows audits stopped_nowhere two_stray_answers
+stopped_nowhere_agrees = record { well_formed = refl; starts = refl; breaks = refl; counts = refl; outcome = refl }
+
+pub coverage_agrees : AllAudits coverage
+coverage_agrees =
+    (nothing_known_agrees, (idle_and_nothing_wanted_agrees, (idle_and_one_wanted_agrees, (read_in_a_tenure_agrees, (one_answer_of_two_agrees, (tenure_cut_off_agrees, (bus_error_to_a_write_agrees, (free_cycles_agrees, (acknowledged_agrees, (bus_hangs_agrees, (bus_hangs_and_one_wanted_agrees, (hang_that_is_reset_agrees, (hang_behind_a_reset_agrees, (hang_behind_a_break_agrees, (transfer_cut_off_agrees, (broken_and_not_covered_agrees, (unreadable_and_not_covered_agrees, (never_idle_and_one_wanted_agrees, (stopped_at_the_first_agrees, (stopped_at_the_second_agrees, (stopped_nowhere_agrees, tt)))))))))))))))))))))

@@ -1,0 +1,4 @@
+pub mod AskingAgree
+pub mod BreaksAgree
+pub mod Computing
+pub mod CoverageAgree

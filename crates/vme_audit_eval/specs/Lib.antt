@@ -1,0 +1,4 @@
+pub mod Asking
+pub mod Audited
+pub mod Breaks
+pub mod Coverage
