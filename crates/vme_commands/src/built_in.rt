@@ -28,3 +28,7 @@ IA = 1
 
 /// How many steps a block has where no words say it.
 pub const BLOCK: u32 = 16_384;
+
+/// What is said where no words say it and standard input is a terminal.
+pub const READS_TERMINAL: &[u8] =
+    b"vmecheck: reads a dump from standard input; vmecheck --help tells of the commands\n";

@@ -21,7 +21,7 @@ mod variables;
 mod words;
 mod workers;
 
-pub use built_in::{BLOCK, BUILT_IN};
+pub use built_in::{BLOCK, BUILT_IN, READS_TERMINAL};
 pub use rules::tell_rules;
 pub use variables::tell_variables;
 pub use words::{place_of, unread_words, words_status};

@@ -10,7 +10,7 @@ ghost use Rattle.vme_answer.specs.declared.refusal.Refusal.TheVariants.{CannotOp
 
 use std::env;
 use std::fs::{self, File};
-use std::io::ErrorKind;
+use std::io::{ErrorKind, IsTerminal};
 use std::process::ExitCode;
 use std::thread::Threads;
 use vme_answer::{Input, Refusal, cannot_write_line, refusal_line};
@@ -20,7 +20,8 @@ use vme_commands::confirm::confirm_with;
 use vme_commands::explain::explain;
 use vme_commands::list::list;
 use vme_commands::{
-    BLOCK, BUILT_IN, place_of, tell_rules, tell_variables, unread_words, words_status,
+    BLOCK, BUILT_IN, READS_TERMINAL, place_of, tell_rules, tell_variables, unread_words,
+    words_status,
 };
 use vme_stream::{Bytes, Io, complain, write_all};
 use vme_trace::Rule;
@@ -60,8 +61,11 @@ fn asked(rt: &HostRuntime) -> Result<Option<Order>, OrderFault>
     Ok(Some(order(rt.alloc(), words.as_slice())?))
 }
 
-/// Checks the dump on standard input by the built-in binding.
+/// Checks the dump on standard input by the built-in binding. On a terminal it says that it reads there.
 fn check_input<R: Threads + Sync>(rt: &HostRuntime, threads: &R) -> u8 {
+    if rt.stdin().is_terminal() {
+        let _ = write_all(&mut Io::new(rt.stderr()), READS_TERMINAL);
+    }
     check(
         threads,
         rt.alloc(),
