@@ -5,9 +5,10 @@ use Rattle.vcd_read.specs.declared.fault.FaultKind.TheVariants.{Memory, BadToken
 use Rattle.vcd_read.specs.declared.fault.VcdFault.{VcdFault}
 use Rattle.vcd_read.specs.Tokens.{Token}
 use Rattle.std.specs.Result.{IsErrAnd}
-use Rattle.vcd_read.specs.Reading.{left_at, token_at}
+use Rattle.vcd_read.specs.Reading.{left_at, line_of, token_at}
 use Rattle.vcd_read.specs.declared.body_piece.BodyPiece.{BodyPiece}
 use Rattle.vcd_read.specs.declared.body_piece.Start.{Start}
+use Rattle.vcd_read.specs.declared.body_piece.Start.TheVariants.{Here}
 use Rattle.vcd_read.specs.declared.open_item.OpenItem.{OpenItem}
 use Rattle.vcd_read.specs.declared.open_item.OpenItem.TheVariants.{Ready, Vector, Foreign, Comment}
 use Rattle.vcd_read.specs.Header.{◌>>=◌, Net, is_end}
@@ -155,6 +156,16 @@ module _ {A : Type 0} (with_change : A → ℕ → List Bit → A) (with_instant
       ≡ steps with_change with_instant nets (state_of text2 timed bracket) (body_from ready (token_at text2 at2 bytes ∷ (left_at text2 after ++ more)))
   token_left nets text text2 timed bracket at at2 after bytes t a cut more =
       rw (t, a) (ap (λ (ts : List Token). steps with_change with_instant nets (state_of text timed bracket) (body_from ready (ts ++ more))) cut)
+
+  -- the digits of a vector are at hand, and then they are read
+  pub vector_left : (nets : List Net) (text text2 : BodyPiece) (timed : Taking A) (bracket : Option Start) (at at2 after : ℕ) (bytes digits : List ℕ) → text2 ≡ text → at2 ≡ at
+      → shape_of bytes ≡ vector digits → left_at text at ≡ token_at text at bytes ∷ left_at text after
+      → (more : List Token) → steps with_change with_instant nets (state_of text timed bracket) (body_from ready (left_at text at ++ more))
+      ≡ steps with_change with_instant nets (state_of text2 timed bracket) (body_from (code_of_vector (line_of text2 (Here at2)) digits) (left_at text2 after ++ more))
+  vector_left nets text text2 timed bracket at at2 after bytes digits t a shape cut more =
+      rw (t, a)
+      (ap (λ (ts : List Token). steps with_change with_instant nets (state_of text timed bracket) (body_from ready (ts ++ more))) cut
+      ∙ ap (steps with_change with_instant nets (state_of text timed bracket)) (shape_read (token_at text at bytes) (left_at text after ++ more) (vector digits) (sym shape)))
 
   -- what isn't ended is met at the end
   pub unfinished_fails : (nets : List Net) (timed : Taking A) (bracket : Option ℕ) (place : OpenItem) (line : ℕ) → unfinished place bracket ≡ Some line

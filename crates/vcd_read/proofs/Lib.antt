@@ -17,3 +17,4 @@ pub mod HeaderLemmas
 pub mod FrontLemmas
 pub mod PieceLemmas
 pub mod ApartLemmas
+pub mod RunLemmas

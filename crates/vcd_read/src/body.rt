@@ -87,6 +87,9 @@ impl<'a, 'c, T: ChangeVisitor> Body<'a, 'c, T> {
         if let Some(short) = self.reader.short_change() {
             return self.change(alloc, Start::Here(at), short.digit, short.code);
         }
+        if let Some(read) = self.reader.vector_digits() {
+            return self.vector(alloc, Start::Here(at), read.digits);
+        }
         let bytes = self.reader.word();
         self.item(alloc, Token { at, bytes })
     }
@@ -188,6 +191,7 @@ impl<'a, 'c, T: ChangeVisitor> Body<'a, 'c, T> {
     }
 
     /// Reads the code of a vector, and changes its net. The code may stand in the next piece.
+    #[inline(always)]
     fn vector(&mut self, alloc: Global, start: Start, digits: &[u8]) -> Result<bool, VcdFault>
         requires between { self.old.place ≡ Ready }
         requires start { IsStart self.old.reader.text start }

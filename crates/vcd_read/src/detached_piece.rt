@@ -1,6 +1,6 @@
 //! Pieces of a body that are read apart from one another, and joined in order.
 
-ghost use Rattle.std.specs.Prelude.{◌≡◌, ◌↔◌, IsTrue, IfSome, Some};
+ghost use Rattle.std.specs.Prelude.{◌≡◌, ◌↔◌, IsTrue, IfSome, None, Some};
 ghost use Rattle.vcd_read.specs.DetachedPieces.{MayFollow, IsReadApart, read_apart, time_first};
 ghost use Rattle.vcd_read.specs.DetachedPieces.{apart_with, behind_piece, ended_at, with_taken};
 ghost use Rattle.vcd_read.specs.Body.{body_from, ready};
@@ -129,15 +129,23 @@ impl<T: ChangeVisitor> Pieces<T> {
         }
     }
 
+    /// Whether what is read so far ends between two items, and outside of brackets. Elsewhere no piece that is read
+    /// apart may be joined.
+    pub fn is_between_items(&self) -> bool
+        ensures { IsTrue result ↔ ((reached T.taken self.now).place ≡ ready)
+            × ((reached T.taken self.now).bracket ≡ None) }
+    {
+        matches!(self.underway.place, OpenItem::Ready) && self.underway.bracket.is_none()
+    }
+
     /// Whether a piece that was read apart may be joined: what is read so far ends on the line that it begins on,
     /// between two items, outside of brackets and at no later time.
     pub fn may_join<N: ChangeVisitor>(&self, apart: &DetachedPiece<N>) -> bool
         ensures { IsTrue result ↔ MayFollow (reached T.taken self.now) (read_apart N.taken apart.now) }
     {
-        if !matches!(self.underway.place, OpenItem::Ready) || self.underway.bracket.is_some() {
-            return false;
-        }
-        self.underway.timed.clock.time <= apart.time && self.line == apart.first_line
+        self.is_between_items()
+            && self.underway.timed.clock.time <= apart.time
+            && self.line == apart.first_line
     }
 
     /// The time of the instant that a piece ends by the time that it begins with, if it ends one.

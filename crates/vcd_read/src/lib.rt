@@ -21,6 +21,7 @@ mod open_item;
 mod pieces;
 mod read;
 mod reference;
+mod runs;
 mod scopes;
 mod shape;
 mod timed_visitor;

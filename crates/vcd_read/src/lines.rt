@@ -2,6 +2,9 @@
 
 ghost use Rattle.std.specs.Prelude.{◌≡◌, ◌==◌, ◌≤◌, ◌<◌, ◌^◌, length, count_by};
 
+/// How many bytes are counted at once: as many vectors of sixteen as fit into the count of one byte.
+const AT_ONCE: usize = 240;
+
 /// How many of a few bytes are line feeds. Since one byte holds their count, a machine counts many bytes in one step.
 fn line_feeds_of_few(bytes: &[u8]) -> u8
     requires { length bytes.now ≤ 255 }
@@ -22,7 +25,7 @@ pub fn line_feeds(bytes: &[u8]) -> u64
     ensures { result ≡ count_by (λ b. b == 10) bytes.now }
 {
     let mut total: u64 = 0;
-    for few in bytes.chunks(255) {
+    for few in bytes.chunks(AT_ONCE) {
         let ended = line_feeds_of_few(few);
         total += ended as u64;
     }

@@ -1,16 +1,17 @@
 //! The tokens of a text, from the left.
 
 ghost use Rattle.std.specs.Prelude.{◌≡◌, ℕ, true, false, ◌+◌, ◌∷◌, ◌++◌, List, [], ◌<◌, ◌≤◌, length, slice_index, take};
-ghost use Rattle.std.specs.Prelude.{Ok, IfSome, IfNone, MatchOption};
+ghost use Rattle.std.specs.Prelude.{◌==◌, ◌||◌, Ok, IfSome, IfNone, MatchOption};
 ghost use Rattle.vcd_read.specs.Tokens.{is_space, tokens_from};
 ghost use Rattle.vcd_read.specs.Numbers.{time_of};
-ghost use Rattle.vcd_read.specs.Body.{shape_of, scalar};
+ghost use Rattle.vcd_read.specs.Body.{shape_of, scalar, vector};
 ghost use Rattle.vcd_read.specs.Reading.{IsStart, left_at, left_from, line_behind, line_of, token_at};
 
 use crate::body_piece::{BodyPiece, Start};
 use crate::fault::{FaultKind, VcdFault};
 use crate::lines::line_feeds;
 use crate::number::{Leading, leading_number};
+use crate::runs::{above_space_end, bits_end};
 use crate::shape::is_bit;
 
 /// A token, and the place of its first byte.
@@ -34,6 +35,13 @@ pub(crate) struct ShortChange<'a> {
     pub code: &'a [u8],
 }
 
+/// The first token of the change of a vector, and the digits in it.
+#[derive(Clone, Copy)]
+pub(crate) struct ShortVector<'a> {
+    pub bytes: &'a [u8],
+    pub digits: &'a [u8],
+}
+
 /// A piece of a text, and the place up to which it is read.
 #[derive(Drop)]
 pub(crate) struct Reader<'a> {
@@ -51,6 +59,13 @@ fn is_space(b: u8) -> bool
         return false;
     }
     matches!(b, b' ' | b'\t' | b'\n' | b'\r')
+}
+
+/// Whether a token with this first byte is to be the digits of a vector.
+fn begins_vector(b: u8) -> bool
+    ensures { result ≡ (b == 98 || b == 66) }
+{
+    matches!(b, b'b' | b'B')
 }
 
 /// How many of the first bytes of a text end behind a space, so that no token goes on behind them.
@@ -92,9 +107,9 @@ fn word_end(text: &[u8], at: usize) -> usize
     ensures word { (k : ℕ) → at ≤ k → k < result → is_space (slice_index text.now k) ≡ false }
     ensures end { result < length text.now → is_space (slice_index text.now result) ≡ true }
 {
-    let mut i = at;
+    let mut i = above_space_end(text, at);
     while i < text.len() && !is_space(text[i]) {
-        i += 1;
+        i = above_space_end(text, i + 1);
     }
     i
 }
@@ -229,6 +244,34 @@ impl<'a> Reader<'a> {
         })
     }
 
+    /// Reads the token at hand where it is the digits of a vector.
+    #[inline(always)]
+    pub fn vector_digits(&mut self) -> Option<ShortVector<'a>>
+        requires { self.old.at < length self.old.text.bytes.now }
+        ensures text { self.new.text ≡ self.old.text }
+        ensures none { IfNone result (self.new.at ≡ self.old.at) }
+        ensures token { IfSome result (λ v. left_at self.old.text self.old.at
+            ≡ token_at self.old.text self.old.at v.bytes.now ∷ left_at self.old.text self.new.at) }
+        ensures shape { IfSome result (λ v. shape_of v.bytes.now ≡ vector v.digits.now) }
+        ensures moves { IfSome result (λ v. self.old.at < self.new.at) }
+        ensures some { IfSome result (λ v. 0 < length v.digits.now) }
+    {
+        let start = self.at;
+        if !begins_vector(self.text.bytes[start]) {
+            return None;
+        }
+        let end = bits_end(self.text.bytes, start + 1);
+        if end == start + 1 || !ends_word(self.text.bytes, end) {
+            return None;
+        }
+        self.at = behind_word(self.text.bytes, end);
+        Some(ShortVector {
+            bytes: &self.text.bytes[start..end],
+            digits: &self.text.bytes[start + 1..end],
+        })
+    }
+
+    #[inline(always)]
     pub fn next(&mut self) -> Option<Token<'a>>
         ensures text { self.new.text ≡ self.old.text }
         ensures token { MatchOption result (left_at self.old.text self.old.at ≡ [])

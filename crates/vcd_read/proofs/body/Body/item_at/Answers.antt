@@ -3,7 +3,7 @@ use Rattle.vcd_read.specs.Tokens.{Token}
 use Rattle.vcd_read.specs.Reading.{left_at, token_at}
 use Rattle.vcd_read.specs.Body.{time_item, change, time_shape, scalar, ready, body_from}
 use Rattle.vcd_read.specs.Taking.{taking, state_of}
-use Rattle.vcd_read.proofs.BodyLemmas.{leaves_same, read_item, shape_read, token_left}
+use Rattle.vcd_read.proofs.BodyLemmas.{leaves_same, read_item, shape_read, token_left, vector_left}
 use Rattle.vcd_read.proofs.body.Body.item_at.Goals as goal
 
 pub returns-in-Some-clause-rest : goal.returns-in-Some-clause-rest
@@ -36,12 +36,23 @@ returns-in-Some-short_change-clause-rest g c =
     read_item g.T.ChangeVisitor.with_change g.T.ChangeVisitor.with_instant old.codes.now new.codes.now (state_of old.reader.text (taking (g.T.ChangeVisitor.taken old.timed.visitor) old.timed.clock) old.bracket) (state_of new.reader.text (taking (g.T.ChangeVisitor.taken new.timed.visitor) new.timed.clock) new.bracket) text new.reader.text after new.reader.at new.place (change t.line digit code) _ c.change.result
     (cc) (cc) (cc) (cc) is step
 
+pub returns-in-Some-vector_digits-clause-rest : goal.returns-in-Some-vector_digits-clause-rest
+returns-in-Some-vector_digits-clause-rest g c =
+    let old = c.args.self.now in
+    let text = old.reader.text in
+    let read = c.in-Some-vector_digits.read in
+    let cut = rw (c.in_default-short_change.ensures.text, c.in_default-short_change.ensures.none, c.in_default.ensures.text, c.in_default.ensures.none) at c.in-Some-vector_digits.ensures.token in
+    leaves_same _ _ _ c.vector.result
+    (vector_left g.T.ChangeVisitor.with_change g.T.ChangeVisitor.with_instant old.codes.now text c.vector_digits.new.self.text (taking (g.T.ChangeVisitor.taken old.timed.visitor) old.timed.clock) old.bracket old.reader.at c.args.at c.vector_digits.new.self.at read.bytes.now read.digits.now
+    (c.in-Some-vector_digits.ensures.text ∙ c.in_default-short_change.ensures.text ∙ c.in_default.ensures.text) c.requires.hand c.in-Some-vector_digits.ensures.shape cut)
+    c.vector.ensures.rest
+
 pub returns-clause-rest : goal.returns-clause-rest
 returns-clause-rest g c =
     let old = c.args.self.now in
     let text = old.reader.text in
-    let cut = rw (c.in_default-short_change.ensures.text, c.in_default-short_change.ensures.none, c.in_default.ensures.text, c.in_default.ensures.none) at c.word-bytes.ensures.token in
+    let cut = rw (c.in_default-vector_digits.ensures.text, c.in_default-vector_digits.ensures.none, c.in_default-short_change.ensures.text, c.in_default-short_change.ensures.none, c.in_default.ensures.text, c.in_default.ensures.none) at c.word-bytes.ensures.token in
     leaves_same _ _ _ c.item.result
     (token_left g.T.ChangeVisitor.with_change g.T.ChangeVisitor.with_instant old.codes.now text c.word-bytes.new.self.text (taking (g.T.ChangeVisitor.taken old.timed.visitor) old.timed.clock) old.bracket old.reader.at c.args.at c.word-bytes.new.self.at c.word-bytes.result.now
-    (c.word-bytes.ensures.text ∙ c.in_default-short_change.ensures.text ∙ c.in_default.ensures.text) c.requires.hand cut)
+    (c.word-bytes.ensures.text ∙ c.in_default-vector_digits.ensures.text ∙ c.in_default-short_change.ensures.text ∙ c.in_default.ensures.text) c.requires.hand cut)
     c.item.ensures.rest
