@@ -1,5 +1,5 @@
 -- The fault that a recording fails by, as the fault of the dump.
-use Rattle.std.proofs.Common.{◌≡◌, ℕ, List, refl, sym, ap, ◌∙◌}
+use Rattle.std.proofs.Common.{◌≡◌, ℕ, List}
 use Rattle.std.specs.Prelude.{Result, Ok, Err}
 use Rattle.vcd_read.specs.Contents.{Contents}
 use Rattle.vcd_read.specs.Meaning.{dump_of, ReadFails, ReadFailsAs}
@@ -10,10 +10,8 @@ use Rattle.vme_bind.specs.Binding.{BoundLines}
 use Rattle.vme_bind.specs.Capture.{capture_of}
 use Rattle.vme_bind.specs.TextCapture.{DumpFails, CaptureFailsBy, capture_of_text, capture_read, or_binding}
 use Rattle.vme_bind.specs.declared.fault.BindFault.{BindFault}
-use Rattle.vme_bind.specs.declared.fault.CaptureFault.{CaptureFault}
-use Rattle.vme_bind.specs.declared.fault.CaptureFault.TheVariants.{Dump, Binding}
+use Rattle.vme_bind.specs.declared.fault.CaptureFault.TheVariants.{Dump}
 use Rattle.vme_trace.specs.Trace.{Trace}
-use Rattle.vme_find.specs.Recordings.{IsDumpFault}
 
 no_binding : (recorded : Result Trace BindFault) (fault : VcdFault) → or_binding recorded ≡ Err (Dump fault) → ⊥
 no_binding (Ok t) fault e = cc
@@ -31,6 +29,5 @@ of_kind : (b : BoundLines) (text : List ℕ) (line : ℕ) (kind : FaultKind) →
 of_kind b text line Memory h = h
 of_kind b text line kind h = of_text b text (record { line = line; kind = kind }) h
 
-pub dump_fault : (b : BoundLines) (text : List ℕ) (fault : CaptureFault) → CaptureFailsBy fault (capture_of_text b text) → IsDumpFault text fault
-dump_fault b text (Dump fault) h = of_kind b text fault.line fault.kind h
-dump_fault b text (Binding fault) h = tt
+pub dump_fails : (b : BoundLines) (text : List ℕ) (fault : VcdFault) → CaptureFailsBy (Dump fault) (capture_of_text b text) → ReadFails fault (dump_of text)
+dump_fails b text fault h = of_kind b text fault.line fault.kind h

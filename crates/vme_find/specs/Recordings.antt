@@ -2,11 +2,8 @@
 use Rattle.std.specs.Prelude.{◌≡◌, ℕ, List, Result, Ok}
 use Rattle.vcd_read.specs.Contents.{Contents}
 use Rattle.vcd_read.specs.Meaning.{dump_of, ReadFails}
-use Rattle.vcd_read.specs.declared.fault.VcdFault.{VcdFault}
-use Rattle.vcd_read.specs.declared.fault.FaultKind.TheVariants.{Memory}
 use Rattle.vme_bind.specs.Binding.{BoundLines, binding_of}
 use Rattle.vme_bind.specs.TextCapture.{capture_of_text}
-use Rattle.vme_bind.specs.declared.fault.BindKind.TheVariants.{Memory as NoMemory}
 use Rattle.vme_bind.specs.declared.fault.CaptureFault.{CaptureFault}
 use Rattle.vme_bind.specs.declared.fault.CaptureFault.TheVariants.{Dump, Binding}
 use Rattle.vme_trace.specs.Trace.{Trace}
@@ -28,11 +25,6 @@ abbrev pub IsDumpFault : List ℕ → CaptureFault → Type 0
 IsDumpFault dump (Dump fault) = ReadFails fault (dump_of dump)
 IsDumpFault dump (Binding fault) = Unit {0}
 
-abbrev pub IsNoMemory : CaptureFault → Type 0
-IsNoMemory (Dump fault) = fault ≡ record { line = 0; kind = Memory }
-IsNoMemory (Binding fault) = Unit {0}
-
--- the fault is want of memory
-abbrev pub IsWantOfMemory : CaptureFault → Type 0
-IsWantOfMemory (Dump fault) = fault.kind ≡ Memory
-IsWantOfMemory (Binding fault) = fault.kind ≡ NoMemory
+-- the text is a binding of so many slots
+abbrev pub HasSlots : ℕ → List ℕ → Type 0
+HasSlots slots text = (bound : BoundLines) × (binding_of text ≡ Ok bound) × (bound.slots ≡ slots)

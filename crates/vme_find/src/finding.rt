@@ -1,12 +1,16 @@
 //! Which variables the lines of a backplane are, by their names.
 
-use crate::names::{Fit, Named, meaning, scope_and_name};
+use crate::affix::Direction;
+use crate::declared::{DeclaredNames, DeclaredVariable, NOWHERE};
+use crate::groups::{Groups, TELLING, count, group_of};
+use crate::levels_seen::{LevelsSeen, MOST_BITS};
+use crate::names::{NameReading, Named, push_readings};
+use crate::vote::{ScopeVote, VoteCounter};
 use std::alloc::{AllocError, Global};
-use vcd_read::Variable;
 use vme_trace::{LINE_COUNT, Line, MOST_SLOTS};
 
-/// How many bits of a variable are looked at.
-const MOST_BITS: u32 = 64;
+/// How many other scopes are named at most.
+const MOST_OTHERS: usize = 10;
 
 /// A bit of a variable.
 #[derive(Clone, Copy, Debug, PartialEq, Eq)]
@@ -17,44 +21,67 @@ pub(crate) struct VariableBit {
     pub place: u32,
 }
 
-/// A variable whose name means something.
+/// A variable whose name means something, and how well it fits: the better the less.
 #[derive(Clone, Copy)]
-struct NamedVariable {
+struct Candidate {
+    key: u64,
     variable: usize,
     named: Named,
-    fit: Fit,
-}
-
-/// A scope, and which lines its variables are named as.
-#[derive(Clone, Copy)]
-pub(crate) struct Scope<'a> {
-    /// The names of the scopes, joined by dots.
-    pub path: &'a [u8],
-    lines: [bool; LINE_COUNT as usize],
-}
-
-impl<'a> Scope<'a> {
-    /// How many lines, the data lines left out, have a variable here.
-    pub(crate) fn line_count(&self) -> usize {
-        self.lines.iter().filter(|named| **named).count()
-    }
+    direction: Direction,
 }
 
 /// What was found for the lines of a backplane.
 #[derive(Drop)]
-pub(crate) struct Findings<'a> {
+pub(crate) struct Findings {
     /// A bit of a variable for each line, by the line's number.
     taps: [Option<VariableBit>; LINE_COUNT as usize],
-    /// The scope in which they all stand.
-    pub scope: &'a [u8],
+    /// The lines whose bit moves.
+    moving: [bool; LINE_COUNT as usize],
+    /// The path of the scope in which they stand.
+    pub scope: Vec<u8>,
     /// Other scopes that hold at least half as many of the names.
-    pub others: Vec<&'a [u8]>,
+    pub others: Vec<Vec<u8>>,
+    /// The groups of which a board's output was found beside the one that is taken.
+    pub doubled: Groups,
 }
 
-impl<'a> Findings<'a> {
+impl Findings {
+    /// Nothing is found.
+    pub(crate) fn none(alloc: Global) -> Findings {
+        Findings {
+            taps: [None; LINE_COUNT as usize],
+            moving: [false; LINE_COUNT as usize],
+            scope: Vec::new(alloc),
+            others: Vec::new(alloc),
+            doubled: 0,
+        }
+    }
+
     /// The bit that was found for a line.
     pub(crate) fn tap(&self, line: Line) -> Option<VariableBit> {
         self.taps.get(usize::from(line.number())).copied().flatten()
+    }
+
+    /// Whether the bit of a line was found and moves.
+    pub(crate) fn moves(&self, line: Line) -> bool {
+        self.moving
+            .get(usize::from(line.number()))
+            .copied()
+            .unwrap_or(false)
+    }
+
+    /// Lets go of what was found for a line.
+    pub(crate) fn forget(&mut self, line: Line) {
+        if let Some(tap) = self.taps.get_mut(usize::from(line.number())) {
+            *tap = None;
+        }
+    }
+
+    /// Binds a line to a bit.
+    pub(crate) fn set(&mut self, line: Line, bit: Option<VariableBit>) {
+        if let Some(tap) = self.taps.get_mut(usize::from(line.number())) {
+            *tap = bit;
+        }
     }
 
     /// How many slots the daisy chains show: the greatest place of a net of one, 1 to 21.
@@ -68,140 +95,203 @@ impl<'a> Findings<'a> {
         }
         slots
     }
+
+    /// Whether a variable is bound to a line of another group, but for IACK and its chain.
+    fn is_used(&self, variable: usize, group: Groups) -> bool {
+        (0..LINE_COUNT).any(|number| match Line::from_number(number) {
+            Some(line) => {
+                let same = group_of(line) & group != 0;
+                match self.tap(line) {
+                    Some(tap) => !same && tap.variable == variable,
+                    None => false,
+                }
+            }
+            None => false,
+        })
+    }
+
+    /// Takes the bits of a candidate for its lines, if none of these has one yet; of IACK and its chain those that are
+    /// left.
+    fn take(&mut self, declared: &DeclaredVariable, candidate: &Candidate, levels: &LevelsSeen) {
+        let size = declared.size.min(MOST_BITS);
+        let mut groups: Groups = 0;
+        let mut is_taken = false;
+        for place in 0..size {
+            if let Some(line) = candidate.named.line_at(declared, place) {
+                groups |= group_of(line);
+                is_taken = is_taken || (self.tap(line).is_some() && line != Line::IACK);
+            }
+        }
+        if candidate.direction == Direction::Output && is_taken {
+            self.doubled |= groups;
+        }
+        if is_taken || groups == 0 || self.is_used(candidate.variable, groups) {
+            return;
+        }
+        for place in 0..size {
+            if let Some(line) = candidate.named.line_at(declared, place) {
+                if self.tap(line).is_none() {
+                    let bit = VariableBit {
+                        variable: candidate.variable,
+                        place,
+                    };
+                    self.set(line, Some(bit));
+                    let right = declared.size.saturating_sub(place).saturating_sub(1);
+                    self.note_moving(line, levels.moves(declared.net, right));
+                }
+            }
+        }
+    }
+
+    fn note_moving(&mut self, line: Line, moves: bool) {
+        if let Some(moving) = self.moving.get_mut(usize::from(line.number())) {
+            *moving = moves;
+        }
+    }
 }
 
-/// The variables whose names mean something.
-fn candidates(alloc: Global, variables: &[Variable]) -> Result<Vec<NamedVariable>, AllocError> {
-    let mut found = Vec::new(alloc);
-    for (variable, declared) in variables.iter().enumerate() {
-        if let Some((named, fit)) = meaning(declared) {
-            found.push(NamedVariable {
-                variable,
-                named,
-                fit,
-            })?;
+/// The votes of the scopes, and the place of the best among them.
+fn all_votes(
+    alloc: Global,
+    declared: &DeclaredNames,
+    levels: &LevelsSeen,
+) -> Result<(Vec<ScopeVote>, usize), AllocError> {
+    let mut counter = VoteCounter::new(alloc);
+    let mut votes: Vec<ScopeVote> = Vec::new(alloc);
+    let mut best = NOWHERE;
+    for scope in 0..declared.scopes().len() {
+        if let Some(vote) = counter.vote(declared, levels, scope)? {
+            let is_better = match votes.get(best) {
+                Some(other) => vote.merit() > other.merit(),
+                None => true,
+            };
+            if is_better {
+                best = votes.len();
+            }
+            votes.push(vote)?;
+        }
+    }
+    Ok((votes, best))
+}
+
+/// Puts what the variables of a scope are named as by a style behind other candidates, so many scopes outside.
+fn push_candidates(
+    candidates: &mut Vec<Candidate>,
+    readings: &mut Vec<NameReading>,
+    declared: &DeclaredNames,
+    vote: &ScopeVote,
+    outside: u64,
+) -> Result<(), AllocError> {
+    let variables = declared.variables();
+    let mut at = declared
+        .scopes()
+        .get(vote.scope)
+        .map_or(NOWHERE, |s| s.first);
+    for _ in 0..variables.len() {
+        let Some(variable) = variables.get(at) else {
+            break;
+        };
+        readings.clear();
+        push_readings(readings, declared.name_of(variable))?;
+        for reading in readings.iter() {
+            if let Some(rank) = rank_of(reading, vote, outside) {
+                candidates.push(Candidate {
+                    key: rank.saturating_mul(1 << 40).saturating_add(at as u64),
+                    variable: at,
+                    named: reading.named,
+                    direction: reading.affix.direction,
+                })?;
+            }
+        }
+        at = variable.next;
+    }
+    Ok(())
+}
+
+/// How well a reading fits the style of a scope, the better the less.
+fn rank_of(reading: &NameReading, vote: &ScopeVote, outside: u64) -> Option<u64> {
+    let style = u64::from(reading.affix.rank_in(&vote.style)?);
+    let direction = match reading.affix.direction {
+        Direction::Unsaid => 0,
+        Direction::Input => 10,
+        Direction::Both => 20,
+        Direction::Output => 30,
+        Direction::Register => 40,
+        Direction::Enable => 50,
+    };
+    let mark = if reading.affix.is_marked { 0 } else { 2 };
+    let word = if reading.is_standard { 0 } else { 1 };
+    let inside = style
+        .saturating_mul(100)
+        .saturating_add(direction)
+        .saturating_add(mark)
+        .saturating_add(word);
+    Some(
+        outside
+            .saturating_mul(10_000)
+            .saturating_add(inside)
+            .min(1 << 23),
+    )
+}
+
+/// The candidates of a scope, and behind them those of the scopes around it whose style fits.
+fn all_candidates(
+    alloc: Global,
+    declared: &DeclaredNames,
+    votes: &[ScopeVote],
+    best: &ScopeVote,
+) -> Result<Vec<Candidate>, AllocError> {
+    let mut candidates = Vec::new(alloc);
+    let mut readings = Vec::new(alloc);
+    push_candidates(&mut candidates, &mut readings, declared, best, 0)?;
+    let mut around: Vec<bool> = Vec::new(alloc);
+    around.resize(declared.scopes().len(), false)?;
+    let mut at = best.scope;
+    for _ in 0..declared.scopes().len() {
+        at = declared.scopes().get(at).map_or(NOWHERE, |s| s.parent);
+        match around.get_mut(at) {
+            Some(is_around) => *is_around = true,
+            None => break,
+        }
+    }
+    for vote in votes {
+        let is_around = around.get(vote.scope).copied().unwrap_or(false);
+        let fits = vote.style.rank_in(&best.style).is_some()
+            || best.style.rank_in(&vote.style).is_some();
+        if is_around && fits {
+            let outside = best.depth.saturating_sub(vote.depth) as u64;
+            push_candidates(&mut candidates, &mut readings, declared, vote, outside)?;
+        }
+    }
+    candidates.sort_unstable_by_key(|candidate| candidate.key);
+    Ok(candidates)
+}
+
+/// Finds the lines of a backplane among the variables: in the scope of the best vote.
+pub(crate) fn find(
+    alloc: Global,
+    declared: &DeclaredNames,
+    levels: &LevelsSeen,
+) -> Result<Findings, AllocError> {
+    let mut found = Findings::none(alloc);
+    let (votes, place) = all_votes(alloc, declared, levels)?;
+    let Some(best) = votes.get(place).copied() else {
+        return Ok(found);
+    };
+    found.scope = declared.path_of(alloc, best.scope)?;
+    let candidates = all_candidates(alloc, declared, &votes, &best)?;
+    for candidate in &candidates {
+        if let Some(variable) = declared.variables().get(candidate.variable) {
+            found.take(variable, candidate, levels);
+        }
+    }
+    let half = count(best.found & TELLING) / 2;
+    for other in &votes {
+        let names = count(other.found & TELLING);
+        let is_named = other.scope != best.scope && names >= half.max(2);
+        if is_named && found.others.len() < MOST_OTHERS {
+            found.others.push(declared.path_of(alloc, other.scope)?)?;
         }
     }
     Ok(found)
-}
-
-/// Notes which lines a variable is named as, the data lines left out: a memory has those too, and no bus.
-fn note_lines(lines: &mut [bool; LINE_COUNT as usize], declared: &Variable, named: &Named) {
-    for place in 0..declared.size.min(MOST_BITS) {
-        if let Some(line) = named.line_at(declared, place) {
-            if line < Line::data(0) {
-                note_line(lines, line);
-            }
-        }
-    }
-}
-
-fn note_line(lines: &mut [bool; LINE_COUNT as usize], line: Line) {
-    if let Some(noted) = lines.get_mut(usize::from(line.number())) {
-        *noted = true;
-    }
-}
-
-/// The scopes of the candidates, in the order of declaration.
-fn scopes<'a>(
-    alloc: Global,
-    variables: &'a [Variable],
-    candidates: &[NamedVariable],
-) -> Result<Vec<Scope<'a>>, AllocError> {
-    let mut scopes: Vec<Scope<'a>> = Vec::new(alloc);
-    for candidate in candidates {
-        if let Some(declared) = variables.get(candidate.variable) {
-            let (path, _) = scope_and_name(declared.path.as_bytes());
-            let at = match scopes.iter().position(|scope| scope.path == path) {
-                Some(at) => at,
-                None => {
-                    scopes.push(Scope {
-                        path,
-                        lines: [false; LINE_COUNT as usize],
-                    })?;
-                    scopes.len() - 1
-                }
-            };
-            if at < scopes.len() {
-                note_lines(&mut scopes[at].lines, declared, &candidate.named);
-            }
-        }
-    }
-    Ok(scopes)
-}
-
-/// Takes a variable's bits for the lines that have none yet.
-fn take_bits(
-    taps: &mut [Option<VariableBit>; LINE_COUNT as usize],
-    variables: &[Variable],
-    candidate: NamedVariable,
-) {
-    let Some(declared) = variables.get(candidate.variable) else {
-        return;
-    };
-    for place in 0..declared.size.min(MOST_BITS) {
-        if let Some(line) = candidate.named.line_at(declared, place) {
-            let tap = VariableBit {
-                variable: candidate.variable,
-                place,
-            };
-            take_bit(taps, line, tap);
-        }
-    }
-}
-
-/// Takes a bit for a line, if it has none yet.
-fn take_bit(taps: &mut [Option<VariableBit>; LINE_COUNT as usize], line: Line, tap: VariableBit) {
-    if let Some(taken) = taps.get_mut(usize::from(line.number())) {
-        if taken.is_none() {
-            *taken = Some(tap);
-        }
-    }
-}
-
-/// Takes the bits of the candidates of a scope, those that fit best first.
-fn take_scope(
-    taps: &mut [Option<VariableBit>; LINE_COUNT as usize],
-    variables: &[Variable],
-    candidates: &[NamedVariable],
-    scope: &[u8],
-) {
-    for fit in [Fit::Marked, Fit::Plain, Fit::Synonym] {
-        for candidate in candidates {
-            let is_there = match variables.get(candidate.variable) {
-                Some(declared) => scope_and_name(declared.path.as_bytes()).0 == scope,
-                None => false,
-            };
-            if is_there && candidate.fit == fit {
-                take_bits(taps, variables, *candidate);
-            }
-        }
-    }
-}
-
-/// Finds the lines of a backplane among the variables: in the scope that holds most of them, and the first of several.
-pub(crate) fn find<'a>(
-    alloc: Global,
-    variables: &'a [Variable],
-) -> Result<Findings<'a>, AllocError> {
-    let candidates = candidates(alloc, variables)?;
-    let scopes = scopes(alloc, variables, &candidates)?;
-    let most = scopes.iter().map(|s| s.line_count()).max().unwrap_or(0);
-    let scope = match scopes.iter().find(|s| s.line_count() == most) {
-        Some(scope) => scope.path,
-        None => b"".as_slice(),
-    };
-    let mut others = Vec::new(alloc);
-    for other in &scopes {
-        if other.path != scope && other.line_count() >= most / 2 {
-            others.push(other.path)?;
-        }
-    }
-    let mut taps = [None; LINE_COUNT as usize];
-    take_scope(&mut taps, variables, &candidates, scope);
-    Ok(Findings {
-        taps,
-        scope,
-        others,
-    })
 }

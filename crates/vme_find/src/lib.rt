@@ -7,12 +7,19 @@
 //! the name of a variable means, and go on with `finding` and `proposal`.
 #![tactic(auto)]
 
+mod affix;
 mod changes;
+mod declared;
 mod finding;
+mod fitting;
+mod groups;
+mod levels_seen;
 mod names;
+mod paths;
 mod proposal;
 mod timescale;
 mod variables;
+mod vote;
 mod writing;
 
 pub use names::bit_number;

@@ -1,21 +1,11 @@
-//! What the name of a variable means on a backplane.
+//! What the name of a variable says of a backplane: each place in it at which the name of a line or of a group stands,
+//! and what stands before and behind.
 
+use crate::affix::{Affix, Direction, affix_of};
+use crate::declared::DeclaredVariable;
+use std::alloc::AllocError;
 use vcd_read::Variable;
 use vme_trace::{CHAIN_NETS, Line, MOST_SLOTS};
-
-/// Marks of a signal that is asserted when it is Low, at the end of its name.
-const MARKS: [&[u8]; 5] = [b"_n", b"_l", b"_b", b"*", b"#"];
-
-/// How well a name fits: the better one is less.
-#[derive(Clone, Copy, Debug, PartialEq, Eq, PartialOrd, Ord)]
-pub(crate) enum Fit {
-    /// A standard name with the mark of a signal that is asserted when it is Low.
-    Marked,
-    /// A standard name.
-    Plain,
-    /// Another name that is in use.
-    Synonym,
-}
 
 /// What a name stands for.
 #[derive(Clone, Copy, Debug, PartialEq, Eq)]
@@ -34,237 +24,398 @@ pub(crate) enum Named {
     Requests,
     /// The nets of a level's grant chain.
     Grants(u8),
+    /// A net of a level's grant chain, or, of several bits, its nets.
+    Grant(u8, u8),
+    /// The net at this place of each level's grant chain.
+    GrantsAt(u8),
     /// The nets of the acknowledge chain, which are numbered from 1.
     Acknowledges,
     /// IACK, and behind it the nets of the acknowledge chain.
     AcknowledgeChain,
+    /// IACK, or, of several bits, IACK and the acknowledge chain.
+    Acknowledge,
 }
 
-/// The scopes of a path, and the name behind their dots.
-pub(crate) fn scope_and_name(path: &[u8]) -> (&[u8], &[u8]) {
-    match path.iter().rposition(|b| *b == b'.') {
-        Some(dot) => (&path[..dot], &path[dot + 1..]),
-        None => (b"", path),
+/// What a word stands for, by what stands behind it.
+#[derive(Clone, Copy)]
+enum Meaning {
+    One(Line),
+    Strobes,
+    Modifiers,
+    Addresses,
+    Data,
+    Requests,
+    Grants,
+    GrantsAt(u8),
+    Acknowledges,
+    AcknowledgeChain,
+    Acknowledge,
+}
+
+/// The words that stand for lines and groups, in lower case, where `_` stands for any separators or none; those that
+/// aren't in the standard have `false`.
+const WORDS: [(&[u8], Meaning, bool); 58] = [
+    (b"as", Meaning::One(Line::AS), true),
+    (b"addr_strobe", Meaning::One(Line::AS), false),
+    (b"address_strobe", Meaning::One(Line::AS), false),
+    (b"ds", Meaning::Strobes, true),
+    (b"data_strobe", Meaning::Strobes, false),
+    (b"d_strobe", Meaning::Strobes, false),
+    (b"dtack", Meaning::One(Line::DTACK), true),
+    (b"data_ack", Meaning::One(Line::DTACK), false),
+    (b"berr", Meaning::One(Line::BERR), true),
+    (b"bus_err", Meaning::One(Line::BERR), false),
+    (b"bus_error", Meaning::One(Line::BERR), false),
+    (b"iack", Meaning::Acknowledge, true),
+    (b"iack_in", Meaning::One(Line::IACK), false),
+    (b"int_ack", Meaning::Acknowledge, false),
+    (b"lword", Meaning::One(Line::LWORD), true),
+    (b"long_word", Meaning::One(Line::LWORD), false),
+    (b"write", Meaning::One(Line::WRITE), true),
+    (b"bbsy", Meaning::One(Line::BBSY), true),
+    (b"bus_busy", Meaning::One(Line::BBSY), false),
+    (b"sys_reset", Meaning::One(Line::SYSRESET), true),
+    (b"sys_res", Meaning::One(Line::SYSRESET), false),
+    (b"sys_rst", Meaning::One(Line::SYSRESET), false),
+    (b"system_reset", Meaning::One(Line::SYSRESET), false),
+    (b"am", Meaning::Modifiers, true),
+    (b"am_code", Meaning::Modifiers, false),
+    (b"amod", Meaning::Modifiers, false),
+    (b"addr_mod", Meaning::Modifiers, false),
+    (b"addr_modifier", Meaning::Modifiers, false),
+    (b"address_mod", Meaning::Modifiers, false),
+    (b"address_modifier", Meaning::Modifiers, false),
+    (b"a", Meaning::Addresses, true),
+    (b"addr", Meaning::Addresses, false),
+    (b"adr", Meaning::Addresses, false),
+    (b"address", Meaning::Addresses, false),
+    (b"d", Meaning::Data, true),
+    (b"data", Meaning::Data, false),
+    (b"dat", Meaning::Data, false),
+    (b"br", Meaning::Requests, true),
+    (b"breq", Meaning::Requests, false),
+    (b"bus_req", Meaning::Requests, false),
+    (b"bus_request", Meaning::Requests, false),
+    (b"bg", Meaning::Grants, true),
+    (b"bgnt", Meaning::Grants, false),
+    (b"bgrant", Meaning::Grants, false),
+    (b"bus_gnt", Meaning::Grants, false),
+    (b"bus_grant", Meaning::Grants, false),
+    (b"bg_in", Meaning::GrantsAt(0), false),
+    (b"bg_out", Meaning::GrantsAt(1), false),
+    (b"bus_grant_in", Meaning::GrantsAt(0), false),
+    (b"bus_grant_out", Meaning::GrantsAt(1), false),
+    (b"ia", Meaning::Acknowledges, true),
+    (b"iack_out", Meaning::Acknowledges, false),
+    (b"int_ack_out", Meaning::Acknowledges, false),
+    (b"iack_chain", Meaning::AcknowledgeChain, false),
+    (b"iack_daisy", Meaning::AcknowledgeChain, false),
+    (b"iack_daisy_chain", Meaning::AcknowledgeChain, false),
+    (b"acknowledge", Meaning::AcknowledgeChain, false),
+    (b"acknowledge_chain", Meaning::AcknowledgeChain, false),
+];
+
+/// One way to read a name.
+#[derive(Clone, Copy)]
+pub(crate) struct NameReading {
+    pub named: Named,
+    pub affix: Affix,
+    /// Whether the word is one of the standard.
+    pub is_standard: bool,
+}
+
+/// Whether a byte only separates the words of a name.
+pub(crate) fn is_separator(byte: u8) -> bool {
+    matches!(
+        byte,
+        b'_' | b'[' | b']' | b'(' | b')' | b'<' | b'>' | b'{' | b'}' | b'.' | b':' | b'-' | b'$'
+    )
+}
+
+/// What stands from the first byte on that separates nothing.
+fn behind_separators(text: &[u8]) -> &[u8] {
+    match text.iter().position(|byte| !is_separator(*byte)) {
+        Some(at) => text.get(at..).unwrap_or(b""),
+        None => b"",
     }
 }
 
-/// What the name of a variable stands for, and how well it fits. An escaped name, which Icarus writes with the
-/// backslash before it, is as without.
-pub(crate) fn meaning(variable: &Variable) -> Option<(Named, Fit)> {
-    let (_, written) = scope_and_name(variable.path.as_bytes());
-    let name = behind(written, b"\\").unwrap_or(written);
-    for mark in MARKS {
-        if let Some(stem) = without_end(name, mark) {
-            return stem_meaning(stem, Fit::Marked);
+/// What stands behind a word, in whichever case it is written.
+fn behind_word<'a>(text: &'a [u8], word: &[u8]) -> Option<&'a [u8]> {
+    let mut rest = text;
+    for wanted in word {
+        if *wanted == b'_' {
+            rest = behind_separators(rest);
+        } else {
+            match rest {
+                [byte, behind @ ..] if byte.to_ascii_lowercase() == *wanted => rest = behind,
+                _ => return None,
+            }
         }
     }
-    if let Some(found) = stem_meaning(name, Fit::Plain) {
-        return Some(found);
-    }
-    let stem = without_end(name, b"n")?;
-    stem_meaning(stem, Fit::Marked)
+    Some(rest)
 }
 
-/// What stands before an end, in whichever case it is written.
-fn without_end<'a>(name: &'a [u8], end: &[u8]) -> Option<&'a [u8]> {
-    let at = name.len().checked_sub(end.len())?;
-    if at > 0 && name[at..].eq_ignore_ascii_case(end) {
-        Some(&name[..at])
-    } else {
-        None
-    }
-}
-
-/// What stands behind a beginning, in whichever case it is written.
-fn behind<'a>(name: &'a [u8], beginning: &[u8]) -> Option<&'a [u8]> {
-    let count = beginning.len();
-    if count <= name.len() && name[..count].eq_ignore_ascii_case(beginning) {
-        Some(&name[count..])
-    } else {
-        None
-    }
-}
-
-/// What a name without a mark stands for.
-fn stem_meaning(stem: &[u8], fit: Fit) -> Option<(Named, Fit)> {
-    if let Some(named) = single(stem).or_else(|| grouped(stem)) {
-        return Some((named, fit));
-    }
-    let named = synonym(stem)?;
-    Some((named, Fit::Synonym))
-}
-
-/// A line with a name of its own.
-fn single(stem: &[u8]) -> Option<Named> {
-    let names: [(&[u8], Line); 10] = [
-        (b"as", Line::AS),
-        (b"ds0", Line::DS0),
-        (b"ds1", Line::DS1),
-        (b"dtack", Line::DTACK),
-        (b"berr", Line::BERR),
-        (b"iack", Line::IACK),
-        (b"lword", Line::LWORD),
-        (b"write", Line::WRITE),
-        (b"bbsy", Line::BBSY),
-        (b"sysreset", Line::SYSRESET),
-    ];
-    for (name, line) in names {
-        if stem.eq_ignore_ascii_case(name) {
-            return Some(Named::Line(line));
+/// A number of one or two digits, and what stands behind it.
+fn number(text: &[u8]) -> Option<(u8, &[u8])> {
+    match behind_separators(text) {
+        [b'0'..=b'9', b'0'..=b'9', b'0'..=b'9', ..] => None,
+        [ten @ b'0'..=b'9', digit @ b'0'..=b'9', rest @ ..] => {
+            Some(((*ten - b'0') * 10 + (*digit - b'0'), rest))
         }
-    }
-    None
-}
-
-/// A group of lines, or one of them by its number.
-fn grouped(stem: &[u8]) -> Option<Named> {
-    if stem.eq_ignore_ascii_case(b"ds") {
-        return Some(Named::Strobes);
-    }
-    if let Some(rest) = behind(stem, b"am") {
-        return modifier(rest);
-    }
-    if let Some(rest) = behind(stem, b"br") {
-        return request(rest);
-    }
-    if let Some(rest) = behind(stem, b"bg") {
-        return grant(rest);
-    }
-    if let Some(rest) = behind(stem, b"ia") {
-        return acknowledge(rest);
-    }
-    if let Some(rest) = behind(stem, b"a") {
-        return address(rest);
-    }
-    let rest = behind(stem, b"d")?;
-    data(rest)
-}
-
-/// Other names of the address lines, of the data lines, of the acknowledge chain and of the system reset.
-fn synonym(stem: &[u8]) -> Option<Named> {
-    if stem.eq_ignore_ascii_case(b"sysrst") {
-        return Some(Named::Line(Line::SYSRESET));
-    }
-    if let Some(rest) = behind(stem, b"address").or_else(|| behind(stem, b"addr")) {
-        return address(rest);
-    }
-    if let Some(rest) = behind(stem, b"data") {
-        return data(rest);
-    }
-    if let Some(rest) = behind(stem, b"iackout") {
-        return acknowledge(rest);
-    }
-    let rest = behind(stem, b"acknowledge")
-        .or_else(|| behind(stem, b"iackchain"))
-        .or_else(|| behind(stem, b"iack_chain"))?;
-    if rest.is_empty() {
-        return Some(Named::AcknowledgeChain);
-    }
-    acknowledge(rest)
-}
-
-fn modifier(rest: &[u8]) -> Option<Named> {
-    if rest.is_empty() {
-        return Some(Named::Modifiers);
-    }
-    let bit = number(rest)?;
-    if bit < 6 {
-        Some(Named::Line(Line::address_modifier(bit)))
-    } else {
-        None
+        [digit @ b'0'..=b'9', rest @ ..] => Some((*digit - b'0', rest)),
+        _ => None,
     }
 }
 
-fn request(rest: &[u8]) -> Option<Named> {
-    if rest.is_empty() {
-        return Some(Named::Requests);
-    }
-    let level = number(rest)?;
-    if level < 4 {
-        Some(Named::Line(Line::bus_request(level)))
-    } else {
-        None
-    }
-}
-
-fn address(rest: &[u8]) -> Option<Named> {
-    if rest.is_empty() {
-        return Some(Named::Addresses);
-    }
-    let bit = number(rest)?;
-    if 1 <= bit && bit <= 31 {
-        Some(Named::Line(Line::address(bit)))
-    } else {
-        None
+/// The group that a word stands for by itself.
+fn group(meaning: &Meaning) -> Option<Named> {
+    match meaning {
+        Meaning::One(line) => Some(Named::Line(*line)),
+        Meaning::Strobes => Some(Named::Strobes),
+        Meaning::Modifiers => Some(Named::Modifiers),
+        Meaning::Addresses => Some(Named::Addresses),
+        Meaning::Data => Some(Named::Data),
+        Meaning::Requests => Some(Named::Requests),
+        Meaning::Grants => None,
+        Meaning::GrantsAt(place) => Some(Named::GrantsAt(*place)),
+        Meaning::Acknowledges => Some(Named::Acknowledges),
+        Meaning::AcknowledgeChain => Some(Named::AcknowledgeChain),
+        Meaning::Acknowledge => Some(Named::Acknowledge),
     }
 }
 
-fn data(rest: &[u8]) -> Option<Named> {
-    if rest.is_empty() {
-        return Some(Named::Data);
-    }
-    let bit = number(rest)?;
-    if bit < 32 {
-        Some(Named::Line(Line::data(bit)))
-    } else {
-        None
-    }
-}
-
-/// A level, and behind it nothing, `in` for what the arbiter drives, or the place of a net.
-fn grant(rest: &[u8]) -> Option<Named> {
-    let [digit @ b'0'..=b'3', place @ ..] = rest else {
-        return None;
+/// The line of a group with this number.
+fn numbered(meaning: &Meaning, bit: u8) -> Option<Named> {
+    let line = match meaning {
+        Meaning::Strobes if bit == 0 => Line::DS0,
+        Meaning::Strobes if bit == 1 => Line::DS1,
+        Meaning::Modifiers if bit < 6 => Line::address_modifier(bit),
+        Meaning::Addresses if 1 <= bit && bit <= 31 => Line::address(bit),
+        Meaning::Data if bit < 32 => Line::data(bit),
+        Meaning::Requests if bit < 4 => Line::bus_request(bit),
+        Meaning::GrantsAt(place) if bit < 4 && *place < 2 => {
+            return Some(Named::Grant(bit, *place));
+        }
+        Meaning::AcknowledgeChain if bit == 0 => Line::IACK,
+        Meaning::Acknowledges | Meaning::AcknowledgeChain | Meaning::Acknowledge
+            if 1 <= bit && bit <= MOST_SLOTS => Line::iack(bit),
+        _ => return None,
     };
-    let level = *digit - b'0';
-    if place.is_empty() {
-        return Some(Named::Grants(level));
+    Some(Named::Line(line))
+}
+
+/// A number of one or two digits at the end of a text, and what stands before it.
+fn ending_number(text: &[u8]) -> Option<(u8, &[u8])> {
+    let last = text.iter().rposition(|byte| !is_separator(*byte))?;
+    let text = &text[..last + 1];
+    let before = text.iter().rposition(|byte| !byte.is_ascii_digit())?;
+    let (found, _) = number(&text[before + 1..])?;
+    Some((found, &text[..before + 1]))
+}
+
+/// What stands behind `in` or `out`, and which of them it is.
+fn behind_way(text: &[u8]) -> Option<(Direction, &[u8])> {
+    let (direction, rest) = match behind_word(text, b"_in") {
+        Some(rest) => (Direction::Input, rest),
+        None => (Direction::Output, behind_word(text, b"_out")?),
+    };
+    match rest {
+        [byte, ..] if byte.is_ascii_alphabetic() => None,
+        _ => Some((direction, rest)),
     }
-    if place.eq_ignore_ascii_case(b"in") {
-        return Some(Named::Line(Line::grant(level, 0)));
+}
+
+/// The direction that a word says itself.
+fn direction_of(word: &[u8]) -> Direction {
+    if word.ends_with(b"_in") {
+        Direction::Input
+    } else if word.ends_with(b"_out") {
+        Direction::Output
+    } else {
+        Direction::Unsaid
     }
-    let net = number(behind(place, b"_")?)?;
-    if net < CHAIN_NETS {
+}
+
+/// Puts all readings of a name behind others.
+pub(crate) fn push_readings(
+    readings: &mut Vec<NameReading>,
+    written: &[u8],
+) -> Result<(), AllocError> {
+    let name = match written {
+        [b'\\', rest @ ..] => rest,
+        _ => written,
+    };
+    for start in 0..name.len() {
+        let (before, text) = (&name[..start], &name[start..]);
+        if !is_separator(text[0]) {
+            push_readings_at(readings, before, text)?;
+        }
+    }
+    Ok(())
+}
+
+/// A word that was met in a name: what stands before it, and what it says itself.
+#[derive(Clone, Copy)]
+struct Met<'n> {
+    before: &'n [u8],
+    direction: Direction,
+    is_standard: bool,
+}
+
+/// Puts a reading behind others: what a word stands for, and what stands behind it.
+fn push_reading(
+    readings: &mut Vec<NameReading>,
+    met: &Met<'_>,
+    named: Option<Named>,
+    after: &[u8],
+) -> Result<(), AllocError> {
+    let Some(named) = named else {
+        return Ok(());
+    };
+    let mut affix = affix_of(met.before, after);
+    if affix.direction == Direction::Unsaid {
+        affix.direction = met.direction;
+    }
+    readings.push(NameReading {
+        named,
+        affix,
+        is_standard: met.is_standard,
+    })?;
+    Ok(())
+}
+
+/// Puts the readings of a word for a line or a group behind others, its number close behind it or at the end.
+fn push_word(
+    readings: &mut Vec<NameReading>,
+    met: &Met<'_>,
+    meaning: &Meaning,
+    behind: &[u8],
+) -> Result<(), AllocError> {
+    push_reading(readings, met, group(meaning), behind)?;
+    if let Some((bit, after)) = number(behind) {
+        push_reading(readings, met, numbered(meaning, bit), after)?;
+    }
+    if let Some((bit, after)) = ending_number(behind) {
+        push_reading(readings, met, numbered(meaning, bit), after)?;
+    }
+    Ok(())
+}
+
+/// A level of arbitration, and what stands behind it.
+fn level_behind(behind: &[u8]) -> Option<(u8, &[u8])> {
+    match behind_separators(behind) {
+        [digit @ b'0'..=b'3', rest @ ..] => Some((*digit - b'0', rest)),
+        _ => None,
+    }
+}
+
+/// Puts the readings of a grant behind others.
+fn push_grants(
+    readings: &mut Vec<NameReading>,
+    met: &Met<'_>,
+    behind: &[u8],
+) -> Result<(), AllocError> {
+    if let Some((level, rest)) = level_behind(behind) {
+        return push_level(readings, met, level, rest);
+    }
+    if let Some((level, after)) = ending_number(behind) {
+        if level < 4 {
+            push_reading(readings, met, Some(Named::Grants(level)), after)?;
+        }
+    }
+    Ok(())
+}
+
+/// Puts the readings of a grant of a level behind others: its whole chain, `in` for what the arbiter drives, `out` for
+/// what the first slot does, or the place of a net.
+fn push_level(
+    readings: &mut Vec<NameReading>,
+    met: &Met<'_>,
+    level: u8,
+    behind: &[u8],
+) -> Result<(), AllocError> {
+    push_reading(readings, met, Some(Named::Grants(level)), behind)?;
+    let Some((direction, after)) = behind_way(behind) else {
+        return push_nets(readings, met, level, behind);
+    };
+    let way = Met {
+        before: met.before,
+        direction,
+        is_standard: met.is_standard,
+    };
+    let place = if direction == Direction::Input { 0 } else { 1 };
+    push_reading(readings, &way, Some(Named::Grant(level, place)), after)?;
+    push_nets(readings, &way, level, after)
+}
+
+/// Puts the readings of a net of a level's chain behind others, its place close behind or at the end.
+fn push_nets(
+    readings: &mut Vec<NameReading>,
+    met: &Met<'_>,
+    level: u8,
+    behind: &[u8],
+) -> Result<(), AllocError> {
+    if let Some((net, after)) = number(behind) {
+        push_reading(readings, met, net_of(level, net), after)?;
+    }
+    if let Some((net, after)) = ending_number(behind) {
+        push_reading(readings, met, net_of(level, net), after)?;
+    }
+    Ok(())
+}
+
+/// A net of a level's grant chain.
+fn net_of(level: u8, net: u8) -> Option<Named> {
+    if level < 4 && net < CHAIN_NETS {
         Some(Named::Line(Line::grant(level, net)))
     } else {
         None
     }
 }
 
-fn acknowledge(rest: &[u8]) -> Option<Named> {
-    if rest.is_empty() {
-        return Some(Named::Acknowledges);
+/// Puts those readings of a name behind others whose word begins at the second part.
+fn push_readings_at(
+    readings: &mut Vec<NameReading>,
+    before: &[u8],
+    text: &[u8],
+) -> Result<(), AllocError> {
+    for place in 0..WORDS.len() {
+        let (word, meaning, is_standard) = WORDS[place];
+        if let Some(behind) = behind_word(text, word) {
+            let met = Met {
+                before,
+                direction: direction_of(word),
+                is_standard,
+            };
+            if matches!(&meaning, Meaning::Grants) {
+                push_grants(readings, &met, behind)?;
+            } else {
+                push_word(readings, &met, &meaning, behind)?;
+            }
+        }
     }
-    let slot = number(behind(rest, b"_").unwrap_or(rest))?;
-    if 1 <= slot && slot <= MOST_SLOTS {
-        Some(Named::Line(Line::iack(slot)))
-    } else {
-        None
-    }
-}
-
-/// A number of one or two digits.
-fn number(text: &[u8]) -> Option<u8> {
-    match text {
-        [digit @ b'0'..=b'9'] => Some(*digit - b'0'),
-        [ten @ b'0'..=b'9', digit @ b'0'..=b'9'] => Some((*ten - b'0') * 10 + (*digit - b'0')),
-        _ => None,
-    }
+    Ok(())
 }
 
 /// The number that a variable gives its bit at this place from the left: its index, or where it has none, as if the
 /// rightmost bit were 0.
 pub fn bit_number(variable: &Variable, place: u32) -> u32 {
-    match variable.index {
+    number_of_bit(variable.index, variable.size, place)
+}
+
+/// The same by the indices and the size of the variable.
+pub(crate) fn number_of_bit(index: Option<(u32, u32)>, size: u32, place: u32) -> u32 {
+    match index {
         Some((left, right)) if left >= right => left.saturating_sub(place),
         Some((left, _)) => left.saturating_add(place),
-        None => variable.size.saturating_sub(place).saturating_sub(1),
+        None => size.saturating_sub(place).saturating_sub(1),
     }
 }
 
 /// What is added to the number of a bit of the address: 1 where the bits are numbered from 0, though there are as many
 /// as from 1.
-fn address_shift(variable: &Variable) -> u32 {
+fn address_shift(variable: &DeclaredVariable) -> u32 {
     let lowest = match variable.index {
         Some((left, right)) => left.min(right),
         None => 0,
@@ -274,26 +425,28 @@ fn address_shift(variable: &Variable) -> u32 {
 }
 
 impl Named {
-    /// The line that a bit of a variable of this name is, by its place from the left. A `d` of one bit without an index
-    /// is no data line, but what goes into a flip-flop.
-    pub(crate) fn line_at(&self, variable: &Variable, place: u32) -> Option<Line> {
-        if let Named::Line(line) = self {
-            return if variable.size == 1 {
+    /// The line that a bit of a variable of this name is, by its place from the left. One bit without an index is no
+    /// group of lines, as a `d` is what goes into a flip-flop.
+    pub(crate) fn line_at(&self, variable: &DeclaredVariable, place: u32) -> Option<Line> {
+        let is_lone = variable.size == 1 && variable.index.is_none();
+        let shift = match self {
+            Named::Line(line) => return if variable.size == 1 {
                 Some(*line)
             } else {
                 None
-            };
-        }
-        let is_lone_bit = variable.size == 1 && variable.index.is_none();
-        if is_lone_bit && *self == Named::Data {
-            return None;
-        }
-        let shift = match self {
+            },
+            Named::Acknowledge if variable.size == 1 => return Some(Line::IACK),
+            Named::Grant(level, net) if variable.size == 1 && *level < 4 && *net < CHAIN_NETS => {
+                return Some(Line::grant(*level, *net));
+            }
+            Named::Data | Named::Modifiers | Named::Addresses | Named::Requests | Named::Strobes
+                if is_lone => return None,
             Named::Addresses => address_shift(variable),
             Named::Acknowledges if variable.index.is_none() => 1,
             _ => 0,
         };
-        let bit = u8::try_from(bit_number(variable, place).saturating_add(shift)).ok()?;
+        let number = number_of_bit(variable.index, variable.size, place);
+        let bit = u8::try_from(number.saturating_add(shift)).ok()?;
         self.line_of_number(bit)
     }
 
@@ -306,13 +459,15 @@ impl Named {
             Named::Addresses if 1 <= bit && bit <= 31 => Some(Line::address(bit)),
             Named::Data if bit < 32 => Some(Line::data(bit)),
             Named::Requests if bit < 4 => Some(Line::bus_request(bit)),
-            Named::Grants(level) if *level < 4 && bit < CHAIN_NETS => Some(Line::grant(
-                *level, bit,
-            )),
-            Named::Acknowledges | Named::AcknowledgeChain if bit == 0 => Some(Line::IACK),
-            Named::Acknowledges | Named::AcknowledgeChain if bit <= MOST_SLOTS => Some(Line::iack(
-                bit,
-            )),
+            Named::Grants(level) | Named::Grant(level, _) if *level < 4 && bit < CHAIN_NETS => {
+                Some(Line::grant(*level, bit))
+            }
+            Named::GrantsAt(net) if bit < 4 && *net < CHAIN_NETS => Some(Line::grant(bit, *net)),
+            Named::Acknowledges | Named::AcknowledgeChain | Named::Acknowledge if bit == 0 => {
+                Some(Line::IACK)
+            }
+            Named::Acknowledges | Named::AcknowledgeChain | Named::Acknowledge
+                if bit <= MOST_SLOTS => Some(Line::iack(bit)),
             _ => None,
         }
     }

@@ -1,27 +1,25 @@
 //! The text of a binding for what was found.
 
-use crate::finding::{Findings, VariableBit};
-use crate::names::bit_number;
+use crate::finding::VariableBit;
+use crate::fitting::{AtRest, Fitted};
+use crate::groups::group_of;
+use crate::paths::{Naming, Paths, selection_of};
 use std::alloc::{AllocError, Global};
-use vcd_read::Variable;
 use vme_text::Text;
 use vme_trace::{LINE_COUNT, Line, MOST_SLOTS};
 
 /// What to know of a line that wasn't found, by the beginning of its name.
-const HINTS: [(&[u8], &str); 15] = [
+const HINTS: [(&[u8], &str); 14] = [
     (
         b"AM",
-        "AM is then 3F, a block transfer of the standard space; bind the code that the masters use, bit by bit",
+        "the code fits the address lines that were found; bind the code that the masters use, bit by bit",
     ),
     (b"AS", "without AS there are no cycles to judge"),
     (
         b"A",
         "right for A24 to A31 of a bus on P1 alone; that a missing line changes isn't seen",
     ),
-    (
-        b"BBSY",
-        "bind 0 where one master keeps the bus: with 1 the first cycle breaks B3",
-    ),
+    (b"BBSY", "one master keeps the bus"),
     (
         b"BERR",
         "right where no slave and no bus timer answers by BERR; a transfer that BERR answered breaks H2 or H7 else",
@@ -32,7 +30,7 @@ const HINTS: [(&[u8], &str); 15] = [
     ),
     (
         b"BR",
-        "right for a level that isn't used; a grant of it breaks G5 else",
+        "1 is right for a level that isn't used, and 0 for one that is granted: G5 is never broken then",
     ),
     (
         b"DS",
@@ -46,12 +44,11 @@ const HINTS: [(&[u8], &str); 15] = [
         b"IACK",
         "right where no interrupt is acknowledged; such a cycle is taken for an ordinary one else",
     ),
-    (b"IA", "right where no interrupt is acknowledged"),
-    (b"LWORD", "it is only asked to be known and held"),
     (
-        b"SYSRESET",
-        "right where the bus isn't reset; a reset in the middle of a cycle is told as a break else",
+        b"IA",
+        "right where no interrupt is acknowledged; I1 to I3 are never broken else",
     ),
+    (b"LWORD", "it is only asked to be known and held"),
     (b"WRITE", "each transfer then counts as a read"),
     (
         b"D",
@@ -69,97 +66,61 @@ const NO_RESET: &str =
 /// What is said of a name of which no line was found.
 const NOT_FOUND: &str = " wasn't found: 1 is what it shows when nobody drives it";
 
+/// What is said of the address modifier where no line of it was found.
+const NO_CODE: &str = " wasn't found";
+
 /// What is said of a group of which some lines weren't found, or can't be named.
 const NOT_WHOLE: &str =
-    " wasn't found whole, or its bits have no index: the lines that are missing are 1, what they show when nobody \
-     drives them";
+    " wasn't found whole, or its bits have no index: the lines that are missing are bound to constants";
 
 /// What is said behind a path of which the dump has different variables.
 const AMBIGUOUS: &str =
-    ", which no binding tells apart: the lines that are missing are 1, what they show when nobody drives them";
+    ", which no binding tells apart: the lines that are missing are bound to constants";
 
 /// What is said where no line is bound.
 const NOTHING_BOUND: &str =
     "# NOTHING IS BOUND: no variable of the dump was found for any line of the bus.\n\
 # Each line below is a constant: a check by this binding judges nothing of the dump.\n";
 
-/// How a binding can name some bits of a variable.
-#[derive(Clone, Copy, PartialEq, Eq)]
-enum Naming {
-    /// By the path alone.
-    Whole,
-    /// By the path and their numbers.
-    Selected,
-    /// Not at all, since the variable has no index.
-    Unnumbered,
-    /// Not at all, since other bits have the same name.
-    Ambiguous,
-}
+/// What is said of BBSY, BR and the grants where arbitration isn't judged.
+const NO_BUSY: &str =
+    "# BBSY wasn't found: BBSY is 0, and BR and the grants are at rest, as if one master kept the bus\n";
 
-/// The bits that a name means if it is one of this variable: their net, the place of the first one, and their count.
-fn bits_meant(variable: &Variable, selection: Option<(u32, u32)>) -> Option<(u32, u32, u32)> {
-    let Some((first, last)) = selection else {
-        return Some((variable.net, 0, variable.size));
-    };
-    let (left, right) = variable.index?;
-    let is_inside = (first <= left && last <= first && right <= last)
-        || (left <= first && first <= last && last <= right);
-    if is_inside {
-        let count = first.abs_diff(last).saturating_add(1);
-        Some((variable.net, left.abs_diff(first), count))
-    } else {
-        None
-    }
-}
+const NO_GRANTS: &str =
+    "# Not all grants of the levels that are used were found: BBSY is 0, and BR and the grants are at rest, as if one \
+     master kept the bus\n";
 
-/// Whether a name means the same bits wherever it means some.
-fn is_unique(variables: &[Variable], named: &Variable, selection: Option<(u32, u32)>) -> bool {
-    let bits = bits_meant(named, selection);
-    let path = named.path.as_bytes();
-    variables.iter().all(|variable| {
-        let other = if variable.path.as_bytes() == path {
-            bits_meant(variable, selection)
-        } else {
-            None
-        };
-        other.is_none() || other == bits
-    })
-}
+const NEVER_GRANTED: &str =
+    "# Neither BBSY nor a grant moves: BBSY is 0, and BR and the grants are at rest, as if one master kept the bus\n";
 
-/// The numbers of the first and the last of so many bits of a variable from this place on.
-fn selection_of(variable: &Variable, place: u32, count: u32) -> (u32, u32) {
-    (
-        bit_number(variable, place),
-        bit_number(variable, place.saturating_add(count).saturating_sub(1)),
-    )
-}
+/// What is said of the chain of acknowledges where it isn't judged, though IACK moves.
+const NO_CHAIN: &str =
+    "# IA wasn't found whole: its nets are 1, and I1 to I3 say nothing, though IACK moves\n";
+
+/// What is said of a group of which a board's output was found beside what is bound.
+const DOUBLED: &str =
+    " was found as an output of a board too: what is bound shows the level of the bus, look it over\n";
 
 /// The text so far, and what it is of.
 #[derive(Drop)]
 pub(crate) struct Proposal<'a> {
     alloc: Global,
     text: Text,
-    variables: &'a [Variable],
-    found: Findings<'a>,
+    paths: &'a Paths<'a>,
+    fitted: &'a Fitted,
 }
 
 impl<'a> Proposal<'a> {
     /// Nothing is written yet.
-    pub(crate) fn new(
-        alloc: Global,
-        variables: &'a [Variable],
-        found: Findings<'a>,
-    ) -> Proposal<'a> {
+    pub(crate) fn new(alloc: Global, paths: &'a Paths<'a>, fitted: &'a Fitted) -> Proposal<'a> {
         Proposal {
             alloc,
             text: Text::new(alloc),
-            variables,
-            found,
+            paths,
+            fitted,
         }
     }
-}
 
-impl<'a> Proposal<'a> {
     /// Writes a binding of all lines of a backplane of so many slots.
     pub(crate) fn write(&mut self, slots: u8) -> Result<(), AllocError> {
         self.write_head(slots)?;
@@ -172,16 +133,45 @@ impl<'a> Proposal<'a> {
             Line::IACK,
             Line::LWORD,
             Line::WRITE,
-            Line::BBSY,
         ] {
             self.write_group(line.name().as_bytes(), line.number(), 1)?;
         }
+        self.write_rest()?;
+        self.write_group(b"BBSY", Line::BBSY.number(), 1)?;
         self.write_group(b"AM", Line::address_modifier(5).number(), 6)?;
         self.write_group(b"A", Line::address(31).number(), 31)?;
         self.write_data()?;
         self.write_reset()?;
         self.write_group(b"BR", Line::bus_request(3).number(), 4)?;
         self.write_chains(slots)
+    }
+
+    /// Says why arbitration isn't judged, if it isn't.
+    fn write_rest(&mut self) -> Result<(), AllocError> {
+        let said = match self.fitted.arbitration {
+            AtRest::Judged => return Ok(()),
+            AtRest::NoBusy => NO_BUSY,
+            AtRest::NoGrants => NO_GRANTS,
+            AtRest::NeverMoves => NEVER_GRANTED,
+        };
+        if self.is_any_named() {
+            self.text.push(said.as_bytes())
+        } else {
+            Ok(())
+        }
+    }
+
+    /// Whether nothing is to be said of a name that isn't bound, since it was said with others.
+    fn is_said(&self, name: &[u8]) -> bool {
+        let rests = self.fitted.arbitration != AtRest::Judged;
+        (rests
+            && (name == b"BBSY".as_slice() || name.starts_with(b"BR") || name.starts_with(b"BG")))
+            || (name == b"IA".as_slice() && self.is_chain_told())
+    }
+
+    /// Whether it is to be told that the acknowledge chain isn't judged.
+    fn is_chain_told(&self) -> bool {
+        !self.fitted.has_chain && self.fitted.found.moves(Line::IACK)
     }
 
     /// Writes the data lines, or why they are left out.
@@ -196,7 +186,7 @@ impl<'a> Proposal<'a> {
     /// Writes the system reset, or why it is left out.
     fn write_reset(&mut self) -> Result<(), AllocError> {
         let reset = Line::SYSRESET;
-        if self.found.tap(reset).is_none() {
+        if self.fitted.found.tap(reset).is_none() {
             return self.text.push(NO_RESET.as_bytes());
         }
         self.write_group(reset.name().as_bytes(), reset.number(), 1)
@@ -210,46 +200,39 @@ impl<'a> Proposal<'a> {
             let name = names[usize::from(level)];
             self.write_group(name, Line::grant(level, slots).number(), slots + 1)?;
         }
+        if self.is_chain_told() {
+            self.text.push(NO_CHAIN.as_bytes())?;
+        }
         self.write_group(b"IA", Line::iack(slots).number(), slots)
     }
 
     /// Writes where the lines were found, and how many slots there are.
     fn write_head(&mut self, slots: u8) -> Result<(), AllocError> {
+        let fitted = self.fitted;
         if self.is_any_named() {
             self.text.push(b"# Found by the names in the scope ")?;
-            self.push_scope(self.found.scope)?;
+            push_scope(&mut self.text, &fitted.found.scope)?;
             self.text.push(b": look each line over.\n")?;
         } else {
             self.text.push(NOTHING_BOUND.as_bytes())?;
         }
-        let count = self.found.others.len();
-        for place in 0..count {
-            if let Some(scope) = self.found.others.get(place).copied() {
-                self.text.push(b"# Names of lines stand also in ")?;
-                self.push_scope(scope)?;
-                self.text.push(b".\n")?;
-            }
+        for scope in &fitted.found.others {
+            self.text.push(b"# Names of lines stand also in ")?;
+            push_scope(&mut self.text, scope)?;
+            self.text.push(b".\n")?;
         }
         self.text.push(b"slots ")?;
         self.text.push_decimal(self.alloc, u64::from(slots))?;
         self.text.push(b"\n")
     }
 
-    fn push_scope(&mut self, scope: &[u8]) -> Result<(), AllocError> {
-        if scope.is_empty() {
-            self.text.push(b"(none)")
-        } else {
-            self.text.push(scope)
-        }
-    }
-
     /// Writes the lines of a name, so many from the one of this number down: whole, where they are bits of one variable
     /// in this order, or else one by one.
     fn write_group(&mut self, name: &[u8], first: u8, count: u8) -> Result<(), AllocError> {
         if (0..count).all(|place| self.tap(first, place).is_none()) {
-            self.write_hint(name, NOT_FOUND)?;
-            return self.write_constant(name);
+            return self.write_unfound(name, first, count);
         }
+        self.write_doubled(name, first)?;
         if let Some(tap) = self.run(first, count) {
             if self.push_source(name, tap, u32::from(count))? {
                 return Ok(());
@@ -266,31 +249,64 @@ impl<'a> Proposal<'a> {
         Ok(())
     }
 
-    /// How the format can name so many bits of a variable from this one on.
-    fn naming(&self, tap: VariableBit, count: u32) -> Naming {
-        let Some(variable) = self.variables.get(tap.variable) else {
-            return Naming::Unnumbered;
-        };
-        let is_whole = variable.size == count;
-        let is_numbered = variable.index.is_some();
-        let may_be_whole = is_whole && !(is_numbered && count == 1);
-        if may_be_whole && is_unique(self.variables, variable, None) {
-            return Naming::Whole;
+    /// Writes a name of which no line was found: whole, where its lines are bound to one constant.
+    fn write_unfound(&mut self, name: &[u8], first: u8, count: u8) -> Result<(), AllocError> {
+        let lows = self.count_low(first, count);
+        let is_mixed = 0 < lows && lows < count;
+        if !self.is_said(name) {
+            self.write_hint(
+                name,
+                if is_mixed || lows > 0 {
+                    NO_CODE
+                } else {
+                    NOT_FOUND
+                },
+            )?;
         }
-        let selection = selection_of(variable, tap.place, count);
-        if is_numbered && is_unique(self.variables, variable, Some(selection)) {
-            Naming::Selected
-        } else if is_numbered || is_whole {
-            Naming::Ambiguous
-        } else {
-            Naming::Unnumbered
+        if !is_mixed {
+            return self.write_constant(name, lows > 0);
+        }
+        for place in 0..count {
+            self.write_line(first.saturating_sub(place))?;
+        }
+        Ok(())
+    }
+
+    /// How many of some lines are bound to 0.
+    fn count_low(&self, first: u8, count: u8) -> u8 {
+        let mut lows: u8 = 0;
+        for place in 0..count {
+            if self.is_low(first.saturating_sub(place)) {
+                lows = lows.saturating_add(1);
+            }
+        }
+        lows
+    }
+
+    /// Says that a group was found as an output too.
+    fn write_doubled(&mut self, name: &[u8], first: u8) -> Result<(), AllocError> {
+        let Some(line) = Line::from_number(first) else {
+            return Ok(());
+        };
+        if self.fitted.found.doubled & group_of(line) == 0 {
+            return Ok(());
+        }
+        self.text.push(b"# ")?;
+        self.text.push(name)?;
+        self.text.push(DOUBLED.as_bytes())
+    }
+
+    fn is_low(&self, number: u8) -> bool {
+        match Line::from_number(number) {
+            Some(line) => self.fitted.is_low(line),
+            None => false,
         }
     }
 
     /// How the format can name the bit that was found for a line, by how far its number is below a first one.
     fn line_naming(&self, first: u8, place: u8) -> Option<Naming> {
         let tap = self.tap(first, place)?;
-        Some(self.naming(tap, 1))
+        Some(self.paths.naming(tap.variable, tap.place, 1))
     }
 
     /// Whether the format can name the bit that was found for a line, by how far its number is below a first one.
@@ -322,18 +338,18 @@ impl<'a> Proposal<'a> {
             return Ok(());
         };
         let name = line.name();
-        if let Some(tap) = self.found.tap(line) {
+        if let Some(tap) = self.fitted.found.tap(line) {
             if self.push_source(name.as_bytes(), tap, 1)? {
                 return Ok(());
             }
         }
-        self.write_constant(name.as_bytes())
+        self.write_constant(name.as_bytes(), self.fitted.is_low(line))
     }
 
     /// The bit that was found for a line, by how far its number is below a first one.
     fn tap(&self, first: u8, place: u8) -> Option<VariableBit> {
         let line = Line::from_number(first.checked_sub(place)?)?;
-        self.found.tap(line)
+        self.fitted.found.tap(line)
     }
 
     /// The first bit of some lines, if they are bits of one variable from there on to the right.
@@ -356,15 +372,16 @@ impl<'a> Proposal<'a> {
         tap: VariableBit,
         count: u32,
     ) -> Result<bool, AllocError> {
-        let Some(variable) = self.variables.get(tap.variable) else {
+        let paths = self.paths;
+        let Some(variable) = paths.variable(tap.variable) else {
             return Ok(false);
         };
-        let naming = self.naming(tap, count);
+        let naming = paths.naming(tap.variable, tap.place, count);
         if !matches!(naming, Naming::Whole | Naming::Selected) {
             return Ok(false);
         }
         self.push_name(name)?;
-        self.text.push(variable.path.as_bytes())?;
+        paths.push_path(&mut self.text, variable)?;
         if naming == Naming::Selected {
             self.push_selection(selection_of(variable, tap.place, count))?;
         }
@@ -388,9 +405,9 @@ impl<'a> Proposal<'a> {
         self.text.push(b" = ")
     }
 
-    fn write_constant(&mut self, name: &[u8]) -> Result<(), AllocError> {
+    fn write_constant(&mut self, name: &[u8], is_low: bool) -> Result<(), AllocError> {
         self.push_name(name)?;
-        self.text.push(b"1\n")
+        self.text.push(if is_low { b"0\n" } else { b"1\n" })
     }
 
     /// Writes what is wrong with a name, and what to know of it.
@@ -406,8 +423,9 @@ impl<'a> Proposal<'a> {
         self.text.push(b"# ")?;
         self.text.push(name)?;
         self.text.push(b" was found, but the dump has different variables of the path ")?;
-        if let Some(variable) = self.variables.get(variable) {
-            self.text.push(variable.path.as_bytes())?;
+        let paths = self.paths;
+        if let Some(variable) = paths.variable(variable) {
+            paths.push_path(&mut self.text, variable)?;
         }
         self.text.push(AMBIGUOUS.as_bytes())?;
         self.push_hint(name)
@@ -428,5 +446,14 @@ impl<'a> Proposal<'a> {
     /// The text.
     pub(crate) fn into_text(self) -> Text {
         self.text
+    }
+}
+
+/// Appends the path of a scope.
+fn push_scope(text: &mut Text, scope: &[u8]) -> Result<(), AllocError> {
+    if scope.is_empty() {
+        text.push(b"(none)")
+    } else {
+        text.push(scope)
     }
 }

@@ -1,105 +1,151 @@
 //! A binding for a dump.
 
-ghost use Rattle.std.specs.Prelude.{◌≡◌, IfOk, IfErr, Err};
-ghost use Rattle.vme_find.specs.Recordings.{IsDumpFault, IsNoMemory, IsWantOfMemory, MakesRecording};
+ghost use Rattle.std.specs.Prelude.{◌≡◌, IfOk, IfErr, IfSome, false, true};
+ghost use Rattle.vcd_read.specs.Meaning.{ReadFails, dump_of};
+ghost use Rattle.vcd_read.specs.declared.fault.FaultKind.TheVariants.{Memory};
+ghost use Rattle.vme_find.specs.Recordings.{HasSlots, IsDumpFault, MakesRecording};
 
+use crate::declared::NamesReader;
 use crate::finding::find;
+use crate::fitting::Fitted;
+use crate::levels_seen::LevelsSeen;
+use crate::paths::Paths;
 use crate::proposal::Proposal;
 use std::alloc::{AllocError, Global};
-use vcd_read::{FaultKind, Variable, Variables, VcdFault, read_definitions};
-use vme_bind::{BindKind, CaptureFault, read_binding};
+use vcd_read::{FaultKind, VcdFault, read_definitions};
+use vme_bind::{BindFault, BindKind, Binding, CaptureFault, read_binding};
 use vme_text::Text;
 
 /// Writes a binding for the text of a dump: the lines that are found by the names of its variables, and the others as
-/// what they show when nobody drives them, with a comment. The slots are those that are told, 1 to 21, or else those of
-/// the daisy chains.
+/// constants that fit these, with a comment. The slots are those that are told, or else those of the daisy chains.
 ///
-/// What it writes is a binding by the format, and it makes a recording of the dump. A fault of the dump is its first
-/// one. A fault of the binding comes only for want of memory, or if even the binding that finds nothing makes no
-/// recording.
+/// What it writes is a binding by the format, of so many slots, and it makes a recording of the dump. A fault of the
+/// dump is its first one; at line 0 it is want of memory. A fault of the binding comes only if even the binding of
+/// constants makes no recording.
 pub fn write_binding(alloc: Global, dump: &[u8], slots: Option<u8>) -> Result<Text, CaptureFault>
     ensures ok { IfOk result (λ text. MakesRecording text dump.now) }
+    ensures slots { IfOk result (λ text. IfSome slots (λ n. HasSlots n text)) }
     ensures err { IfErr result (IsDumpFault dump.now) }
 {
-    match read_definitions(alloc, dump, Variables::new(alloc)) {
-        Ok((_, variables)) => {
-            let found = made_by(alloc, variables.as_slice(), dump, slots);
-            or_constants(alloc, found, dump, slots)
-        }
+    match found_binding(alloc, dump, slots) {
+        Ok(Some(text)) => Ok(text),
+        Ok(None) => Err(CaptureFault::Binding(BindFault {
+            line: 0,
+            kind: BindKind::TooManySteps,
+        })),
         Err(fault) => Err(CaptureFault::Dump(fault)),
     }
 }
 
-/// The answer by what was found or, where that binding doesn't fit the dump, the one by no variable. Where memory ran
-/// out it stays so: constants don't stand for what could not be looked for.
-fn or_constants(
-    alloc: Global,
-    found: Result<Text, CaptureFault>,
-    dump: &[u8],
-    slots: Option<u8>,
-) -> Result<Text, CaptureFault>
-    requires ok { IfOk found (λ text. MakesRecording text dump.now) }
-    requires err { IfErr found (IsDumpFault dump.now) }
-    ensures ok { IfOk result (λ text. MakesRecording text dump.now) }
-    ensures err { IfErr result (IsDumpFault dump.now) }
-    ensures memory { IfErr found (λ fault. IsWantOfMemory fault → result ≡ Err fault) }
+/// The same, by the fault of the dump; nothing where even the binding of constants makes no recording.
+fn found_binding(alloc: Global, dump: &[u8], slots: Option<u8>) -> Result<Option<Text>, VcdFault>
+    ensures ok { IfOk result (λ o. IfSome o (λ text. MakesRecording text dump.now)) }
+    ensures slots { IfOk result (λ o. IfSome o (λ text. IfSome slots (λ n. HasSlots n text))) }
+    ensures err { IfErr result (λ fault. ReadFails fault (dump_of dump.now)) }
 {
-    match found {
-        Err(CaptureFault::Binding(fault)) => match fault.kind {
-            BindKind::Memory => Err(CaptureFault::Binding(fault)),
-            _ => made_by(alloc, &[], dump, slots),
+    match proposed(alloc, dump, slots) {
+        Ok(Some(text)) => match fits(alloc, &text, dump, slots) {
+            Ok(true) => Ok(Some(text)),
+            Ok(false) => constants(alloc, dump, slots),
+            Err(fault) => Err(fault),
         },
-        other => other,
-    }
-}
-
-/// The binding that is proposed for a dump with these variables, if it makes a recording of the dump.
-fn made_by(
-    alloc: Global,
-    variables: &[Variable],
-    dump: &[u8],
-    slots: Option<u8>,
-) -> Result<Text, CaptureFault>
-    ensures ok { IfOk result (λ text. MakesRecording text dump.now) }
-    ensures err { IfErr result (IsDumpFault dump.now) }
-{
-    match proposed(alloc, variables, slots) {
-        Ok(text) => tried(alloc, text, dump),
+        Ok(None) => constants(alloc, dump, slots),
         Err(_) => Err(no_memory()),
     }
 }
 
-fn no_memory() -> CaptureFault
-    ensures { IsNoMemory result }
+fn no_memory() -> VcdFault
+    ensures { result ≡ record { line = 0; kind = Memory } }
 {
-    CaptureFault::Dump(VcdFault {
+    VcdFault {
         line: 0,
         kind: FaultKind::Memory,
-    })
-}
-
-/// The text, if it is a binding that makes a recording of the dump.
-fn tried(alloc: Global, text: Text, dump: &[u8]) -> Result<Text, CaptureFault>
-    ensures ok { IfOk result (λ text. MakesRecording text dump.now) }
-    ensures err { IfErr result (IsDumpFault dump.now) }
-{
-    match read_binding(alloc, text.as_bytes()) {
-        Ok(binding) => match binding.capture_text(alloc, dump) {
-            Ok(_) => Ok(text),
-            Err(fault) => Err(fault),
-        },
-        Err(fault) => Err(CaptureFault::Binding(fault)),
     }
 }
 
-/// What is proposed for a dump with these variables.
-fn proposed(alloc: Global, variables: &[Variable], slots: Option<u8>) -> Result<Text, AllocError> {
-    let found = find(alloc, variables)?;
+/// Whether a text is a binding of so many slots, where they are told, that makes a recording of the dump.
+fn fits(alloc: Global, text: &Text, dump: &[u8], slots: Option<u8>) -> Result<bool, VcdFault>
+    ensures ok { IfOk result (λ fits. fits ≡ true → MakesRecording text.now dump.now) }
+    ensures slots { IfOk result (λ fits. fits ≡ true → IfSome slots (λ n. HasSlots n text.now)) }
+    ensures err { IfErr result (λ fault. ReadFails fault (dump_of dump.now)) }
+{
+    match read_binding(alloc, text.as_bytes()) {
+        Ok(binding) => match binding.capture_text(alloc, dump) {
+            Ok(_) => Ok(has_slots(&binding, slots)),
+            Err(CaptureFault::Dump(fault)) => Err(fault),
+            Err(CaptureFault::Binding(fault)) => or_memory(fault.kind),
+        },
+        Err(fault) => or_memory(fault.kind),
+    }
+}
+
+/// Whether a binding is of so many slots, where they are told.
+fn has_slots(binding: &Binding, slots: Option<u8>) -> bool
+    ensures { result ≡ true → IfSome slots (λ n. binding.now.slots ≡ n) }
+{
+    match slots {
+        Some(slots) => binding.lines().slots() == slots,
+        None => true,
+    }
+}
+
+/// That a binding doesn't fit, unless there was no memory to see it.
+fn or_memory(kind: BindKind) -> Result<bool, VcdFault>
+    ensures ok { IfOk result (λ fits. fits ≡ false) }
+    ensures err { IfErr result (λ fault. fault ≡ record { line = 0; kind = Memory }) }
+{
+    match kind {
+        BindKind::Memory => Err(no_memory()),
+        _ => Ok(false),
+    }
+}
+
+/// The binding of all lines to constants, if it makes a recording of the dump.
+fn constants(alloc: Global, dump: &[u8], slots: Option<u8>) -> Result<Option<Text>, VcdFault>
+    ensures ok { IfOk result (λ o. IfSome o (λ text. MakesRecording text dump.now)) }
+    ensures slots { IfOk result (λ o. IfSome o (λ text. IfSome slots (λ n. HasSlots n text))) }
+    ensures err { IfErr result (λ fault. ReadFails fault (dump_of dump.now)) }
+{
+    match constant_text(alloc, slots.unwrap_or(1)) {
+        Ok(text) => match fits(alloc, &text, dump, slots) {
+            Ok(true) => Ok(Some(text)),
+            Ok(false) => Ok(None),
+            Err(fault) => Err(fault),
+        },
+        Err(_) => Err(no_memory()),
+    }
+}
+
+/// The text that binds all lines of a backplane of so many slots to constants, as a bus at rest that is busy for good.
+fn constant_text(alloc: Global, slots: u8) -> Result<Text, AllocError> {
+    let mut text = Text::new(alloc);
+    text.push(b"slots ")?;
+    text.push_decimal(alloc, u64::from(slots))?;
+    text.push(
+        b"\nAS = 1\nDS0 = 1\nDS1 = 1\nDTACK = 1\nBERR = 1\nIACK = 1\nLWORD = 1\nWRITE = 1\nBBSY = 0\nAM = 1\nA = 1\nBR = 1\nBG0 = 1\nBG1 = 1\nBG2 = 1\nBG3 = 1\nIA = 1\n",
+    )?;
+    Ok(text)
+}
+
+/// What is proposed for a dump, unless the dump has a fault.
+fn proposed(alloc: Global, dump: &[u8], slots: Option<u8>) -> Result<Option<Text>, AllocError> {
+    let reader = NamesReader::new(alloc)?;
+    let Ok((head, reader)) = read_definitions(alloc, dump, reader) else {
+        return Ok(None);
+    };
+    let declared = reader.into_names();
+    let levels = LevelsSeen::none(alloc, head.net_count())?;
+    let Ok(levels) = head.read_body(alloc, levels) else {
+        return Ok(None);
+    };
+    let found = find(alloc, &declared, &levels)?;
+    let paths = Paths::new(alloc, &declared, &found.scope)?;
     let slots = match slots {
         Some(slots) => slots,
         None => found.slots(),
     };
-    let mut proposal = Proposal::new(alloc, variables, found);
+    let fitted = Fitted::new(found);
+    let mut proposal = Proposal::new(alloc, &paths, &fitted);
     proposal.write(slots)?;
-    Ok(proposal.into_text())
+    Ok(Some(proposal.into_text()))
 }

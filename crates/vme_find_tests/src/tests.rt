@@ -1,8 +1,8 @@
 use memchr::memmem;
-use std::alloc::Global;
+use std::alloc::{AllocError, Global};
 use std::test::Fail;
 use vcd_read::{FaultKind, VcdFault};
-use vme_bind::{BindFault, BindKind, CaptureFault};
+use vme_bind::CaptureFault;
 use vme_find::{time_unit, variables_text, write_binding};
 
 /// A dump of one variable under a standard name, and of one that is none.
@@ -42,17 +42,13 @@ fn each_growth_fails_once(rt: HostRuntime) -> Result<(), Fail> {
         line: 0,
         kind: FaultKind::Memory,
     };
-    let no_memory_for_binding = BindFault {
-        line: 0,
-        kind: BindKind::Memory,
-    };
     match write_binding(rt.alloc(), DUMP.as_bytes(), Some(2)) {
         Ok(text) => assert!(rt;
             text.as_bytes()
                 .starts_with(b"# Found by the names in the scope bus")
         ),
         Err(CaptureFault::Dump(fault)) => assert_eq!(rt; fault, no_memory),
-        Err(CaptureFault::Binding(fault)) => assert_eq!(rt; fault, no_memory_for_binding),
+        Err(CaptureFault::Binding(_)) => assert!(rt; false),
     }
     Ok(())
 }
@@ -88,7 +84,7 @@ fn an_ambiguous_path_alone_is_left_out(rt: HostRuntime) -> Result<(), Fail> {
         binding_has(
             rt.alloc(),
             TWICE,
-            "\nAM5 = bench.AM[5]\nAM4 = bench.AM[4]\nAM3 = 1\n"
+            "\nAM5 = bench.AM[5]\nAM4 = bench.AM[4]\nAM3 = 0\nAM2 = 0\nAM1 = 0\nAM0 = 0\n"
         )
     );
     Ok(())
@@ -155,5 +151,72 @@ fn the_system_reset_is_found_or_left_out(rt: HostRuntime) -> Result<(), Fail> {
         "$var wire 1 p AS $end\n$var wire 1 r sysrst $end\n$enddefinitions $end\n#0 1p 1r\n";
     assert!(rt; binding_has(alloc, synonym, "\nSYSRESET = sysrst\n"));
     assert!(rt; binding_has(alloc, DUMP, "\n# SYSRESET wasn't found and is left out: "));
+    Ok(())
+}
+
+/// The end of a dump in which AS, a strobe and DTACK move.
+const CYCLE: &str =
+    "$enddefinitions $end\n#0 1p 1q 1r\n#10 0p\n#20 0q\n#30 0r\n#40 1p 1q\n#50 1r\n";
+
+/// Whether the binding that is found for these definitions, in front of a cycle, has a text.
+fn cycle_has(alloc: Global, definitions: &str, part: &str) -> Result<bool, AllocError> {
+    let mut dump = String::from_str(alloc, definitions)?;
+    dump.push_str(CYCLE)?;
+    Ok(binding_has(alloc, dump.as_str(), part))
+}
+
+#[test]
+fn names_are_found_behind_a_text_and_before_another(rt: HostRuntime) -> Result<(), Fail> {
+    for (definitions, part) in [
+        (
+            "$var wire 1 p VME_AS_n $end $var wire 1 q VME_DS0_n $end $var wire 1 r VME_DTACK_n $end\n",
+            "\nAS = VME_AS_n\nDS0 = VME_DS0_n\n",
+        ),
+        (
+            "$var wire 1 p XXAS $end $var wire 1 q XXDS0 $end $var wire 1 r XXDTACK $end\n",
+            "\nDTACK = XXDTACK\n",
+        ),
+        (
+            "$var wire 1 p i_as $end $var wire 1 q i_ds0 $end $var wire 1 r i_dtack $end\n",
+            "\nDTACK = i_dtack\n",
+        ),
+        (
+            "$var wire 1 p as $end $var wire 1 q ds0 $end $var wire 1 r dtack $end $var wire 4 b bg[3] [3:0] $end\n\
+$var wire 1 y bbsy $end\n",
+            "\nBBSY = 0\n",
+        ),
+    ] {
+        assert!(rt; cycle_has(rt.alloc(), definitions, part)?);
+    }
+    Ok(())
+}
+
+/// A bus, and in a scope below it a processor with more bits and fewer lines.
+const PROCESSOR: &str =
+    "$scope module bus $end\n$var wire 1 p AS $end\n$var wire 1 q DS0 $end\n$var wire 1 r DTACK $end\n\
+$scope module cpu $end\n$var wire 32 a addr [31:0] $end\n$var wire 1 b as $end\n$upscope $end\n$upscope $end\n";
+
+#[test]
+fn names_are_counted_and_not_bits(rt: HostRuntime) -> Result<(), Fail> {
+    assert!(rt; cycle_has(rt.alloc(), PROCESSOR, "in the scope bus: ")?);
+    assert!(rt; cycle_has(rt.alloc(), PROCESSOR, "\nDS0 = bus.DS0\n")?);
+    Ok(())
+}
+
+#[test]
+fn what_is_not_found_fits_what_is(rt: HostRuntime) -> Result<(), Fail> {
+    let alloc = rt.alloc();
+    assert!(rt; cycle_has(alloc, PROCESSOR, "\nBBSY = 0\n")?);
+    assert!(rt;
+        cycle_has(
+            alloc,
+            PROCESSOR,
+            "\nAM5 = 0\nAM4 = 1\nAM3 = 0\nAM2 = 0\nAM1 = 0\nAM0 = 0\n"
+        )?
+    );
+    let granted =
+        "$var wire 1 p AS $end $var wire 1 q BBSY $end $var wire 2 r BG3 [1:0] $end $var wire 23 a A [23:1] $end\n";
+    assert!(rt; cycle_has(alloc, granted, "\nBBSY = BBSY\n")?);
+    assert!(rt; cycle_has(alloc, granted, "\nBR3 = 0\nBR2 = 1\n")?);
     Ok(())
 }
