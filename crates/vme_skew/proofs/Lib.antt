@@ -1,0 +1,4 @@
+pub mod Between
+pub mod Growing
+pub mod Laws
+pub mod WorkedAgree

@@ -1,0 +1,41 @@
+-- A recording by probes that tell one moment of the bus at several times, and what it settles to: its instants are
+-- taken in groups, of which each makes one step.
+use Rattle.std.specs.Prelude.{◌≡◌, ℕ, zero, suc, Bool, ◌+◌, ◌-◌, ◌==◌, ◌||◌, List, [], ◌++◌, length, nat_lt, None}
+use Rattle.std.specs.Prelude.{if◌then◌else◌}
+use Rattle.vme_trace.specs.LineNumbers.{line_count}
+use Rattle.vme_trace.specs.Trace.{Trace, levels_at, time_at, last_instant}
+use Rattle.vme_trace.specs.WellFormed.{malformed_step}
+use Rattle.vme_trace.specs.declared.step.Step.{Step}
+use Rattle.vme_bind.specs.Recording.{step_between}
+
+-- a recording as one is made: each line has a level at its opening, and each step may stand where it stands
+pub record IsRecording (t : Trace) : Type 0 where
+  pub whole : length t.opening.levels ≡ line_count
+  pub formed : malformed_step t ≡ None
+
+module _ (skew : ℕ) (t : Trace) where
+  -- A group begins with the instant behind instant i, whose own group begins with `start`: if i is the opening, or if
+  -- the time of that instant is more than the skew later than that of `start`.
+  abbrev pub begins_behind : ℕ → ℕ → Bool
+  begins_behind start i = (i == 0) || nat_lt (time_at t start + skew) (time_at t (suc i))
+
+  -- the instant with which the group of an instant begins
+  unfoldable pub group_start : ℕ → ℕ
+  group_start zero = zero
+  group_start (suc i) = if begins_behind (group_start i) i then suc i else group_start i
+
+  -- the step of the group of an instant, as far as that instant: at the time of the group's beginning, the lines whose
+  -- levels differ from those before the group
+  abbrev pub step_to : ℕ → List Step
+  step_to i = step_between (time_at t (group_start i)) (levels_at t (group_start i - 1)) (levels_at t i)
+
+  -- the steps of the groups before that of an instant
+  unfoldable pub steps_before : ℕ → List Step
+  steps_before zero = []
+  steps_before (suc i) =
+      if begins_behind (group_start i) i then steps_before i ++ step_to i else steps_before i
+
+-- a recording settled by a skew: the steps of all its groups
+unfoldable pub settled : ℕ → Trace → Trace
+settled skew t =
+    record t { steps = steps_before skew t (last_instant t) ++ step_to skew t (last_instant t) }

@@ -1,0 +1,119 @@
+-- Worked recordings, and what they settle to.
+use Rattle.std.specs.Prelude.{◌≡◌, ℕ, ◌-◌, ◌^◌, List, [], ◌∷◌, replicate}
+use Rattle.vme_trace.specs.LineNumbers.{line_count, AS, DS0, DTACK, BBSY, SYSRESET}
+use Rattle.vme_trace.specs.Trace.{Trace}
+use Rattle.vme_trace.specs.declared.level.Level.{Level}
+use Rattle.vme_trace.specs.declared.level.Level.TheVariants.{Low, High, Unknown}
+use Rattle.vme_trace.specs.declared.step.Change.{Change}
+use Rattle.vme_trace.specs.declared.step.Step.{Step}
+use Rattle.vme_skew.specs.Settled.{settled}
+
+-- the steps behind an opening of which every line is high, a skew, and the steps that they settle to
+pub record WorkedGroups : Type 0 where
+  pub steps : List Step
+  pub skew : ℕ
+  pub settled : List Step
+
+abbrev pub from_high : List Step → Trace
+from_high steps = record { opening = record { slots = 1; levels = replicate line_count High }; steps = steps }
+
+-- so does each of these settle
+abbrev pub AllSettle : List WorkedGroups → Type 0
+AllSettle [] = Unit {0}
+AllSettle (w ∷ ws) = (settled w.skew (from_high w.steps) ≡ from_high w.settled) × AllSettle ws
+
+abbrev to : ℕ → Level → Change
+to l x = record { line = l; level = x }
+
+abbrev low : ℕ → Change
+low l = to l Low
+
+abbrev high : ℕ → Change
+high l = to l High
+
+abbrev unknown : ℕ → Change
+unknown l = to l Unknown
+
+abbrev at : ℕ → List Change → Step
+at time changes = record { time = time; changes = changes }
+
+abbrev three_falls : List Step
+three_falls = at 10 (low DTACK ∷ []) ∷ at 13 (low AS ∷ []) ∷ at 15 (low BBSY ∷ []) ∷ []
+
+-- a step at just the skew belongs to the group, whose lines come in their order; one later than that begins another
+unfoldable pub just_within : WorkedGroups
+just_within = record {
+  steps = three_falls;
+  skew = 3;
+  settled = at 10 (low AS ∷ low DTACK ∷ []) ∷ at 15 (low BBSY ∷ []) ∷ [];
+}
+
+-- a step at one more than the skew begins a group: the skew is counted from where the group began
+unfoldable pub just_past : WorkedGroups
+just_past = record {
+  steps = three_falls;
+  skew = 2;
+  settled = at 10 (low DTACK ∷ []) ∷ at 13 (low AS ∷ low BBSY ∷ []) ∷ [];
+}
+
+-- settled by 0 all stays
+unfoldable pub by_nothing : WorkedGroups
+by_nothing = record { steps = three_falls; skew = 0; settled = three_falls }
+
+-- a skew over the length of the recording makes one step of all
+unfoldable pub over_all : WorkedGroups
+over_all = record { steps = three_falls; skew = 6; settled = at 10 (low AS ∷ low DTACK ∷ low BBSY ∷ []) ∷ [] }
+
+-- so does the greatest skew
+unfoldable pub greatest : WorkedGroups
+greatest = record {
+  steps = three_falls;
+  skew = 2 ^ 64 - 1;
+  settled = at 10 (low AS ∷ low DTACK ∷ low BBSY ∷ []) ∷ [];
+}
+
+-- a line that falls and rises in a group doesn't change; at the time of its fall the other one does
+unfoldable pub glitch : WorkedGroups
+glitch = record {
+  steps = at 4 (low AS ∷ []) ∷ at 5 (low DS0 ∷ []) ∷ at 6 (high AS ∷ []) ∷ [];
+  skew = 5;
+  settled = at 4 (low DS0 ∷ []) ∷ [];
+}
+
+-- a group that ends as it began makes no step, and the next one begins with the next step
+unfoldable pub ends_as_it_began : WorkedGroups
+ends_as_it_began = record {
+  steps =
+      at 0 (low AS ∷ low DS0 ∷ []) ∷ at 5 (high AS ∷ high DS0 ∷ []) ∷ at 6 (low DTACK ∷ [])
+      ∷ at 12 (high DTACK ∷ []) ∷ [];
+  skew = 5;
+  settled = at 6 (low DTACK ∷ []) ∷ at 12 (high DTACK ∷ []) ∷ [];
+}
+
+-- a reset and an unknown line within a group are gone
+unfoldable pub reset_and_loss_within : WorkedGroups
+reset_and_loss_within = record {
+  steps =
+      at 0 (unknown AS ∷ low SYSRESET ∷ []) ∷ at 1 (low DS0 ∷ []) ∷ at 2 (high SYSRESET ∷ []) ∷ at 3 (low AS ∷ []) ∷ [];
+  skew = 3;
+  settled = at 0 (low AS ∷ low DS0 ∷ []) ∷ [];
+}
+
+-- those that last longer than the group aren't
+unfoldable pub reset_and_loss_last : WorkedGroups
+reset_and_loss_last = record {
+  steps =
+      at 0 (low DS0 ∷ []) ∷ at 1 (unknown AS ∷ []) ∷ at 2 (low SYSRESET ∷ [])
+      ∷ at 9 (high AS ∷ high SYSRESET ∷ []) ∷ [];
+  skew = 3;
+  settled = at 0 (unknown AS ∷ low DS0 ∷ low SYSRESET ∷ []) ∷ at 9 (high AS ∷ high SYSRESET ∷ []) ∷ [];
+}
+
+-- nothing settles to nothing
+unfoldable pub nothing : WorkedGroups
+nothing = record { steps = []; skew = 3; settled = [] }
+
+abbrev pub worked : List WorkedGroups
+worked =
+    just_within ∷ just_past ∷ by_nothing ∷ over_all ∷ greatest ∷ glitch ∷ ends_as_it_began ∷ reset_and_loss_within
+    ∷ reset_and_loss_last ∷ nothing ∷ []
