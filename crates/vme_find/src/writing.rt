@@ -1,6 +1,6 @@
 //! A binding for a dump.
 
-ghost use Rattle.std.specs.Prelude.{◌≡◌, IfOk, IfErr, IfSome, false, true};
+ghost use Rattle.std.specs.Prelude.{◌≡◌, ◌≢◌, IfOk, IfErr, IfSome, OnOk, false, true};
 ghost use Rattle.vcd_read.specs.Meaning.{ReadFails, dump_of};
 ghost use Rattle.vcd_read.specs.declared.fault.FaultKind.TheVariants.{Memory};
 ghost use Rattle.vme_find.specs.Recordings.{HasSlots, IsDumpFault, MakesRecording};
@@ -127,16 +127,29 @@ fn constant_text(alloc: Global, slots: u8) -> Result<Text, AllocError> {
     Ok(text)
 }
 
+/// Nothing is proposed for a dump with a fault. Where that is want of memory it stays so: constants don't stand for what
+/// couldn't be looked for.
+fn nothing_by(fault: VcdFault) -> Result<Option<Text>, AllocError>
+    ensures { OnOk result (fault.kind ≢ Memory) }
+{
+    match fault.kind {
+        FaultKind::Memory => Err(AllocError),
+        _ => Ok(None),
+    }
+}
+
 /// What is proposed for a dump, unless the dump has a fault.
 fn proposed(alloc: Global, dump: &[u8], slots: Option<u8>) -> Result<Option<Text>, AllocError> {
     let reader = NamesReader::new(alloc)?;
-    let Ok((head, reader)) = read_definitions(alloc, dump, reader) else {
-        return Ok(None);
+    let (head, reader) = match read_definitions(alloc, dump, reader) {
+        Ok(read) => read,
+        Err(fault) => return nothing_by(fault),
     };
     let declared = reader.into_names();
     let levels = LevelsSeen::none(alloc, head.net_count())?;
-    let Ok(levels) = head.read_body(alloc, levels) else {
-        return Ok(None);
+    let levels = match head.read_body(alloc, levels) {
+        Ok(levels) => levels,
+        Err(fault) => return nothing_by(fault),
     };
     let found = find(alloc, &declared, &levels)?;
     let paths = Paths::new(alloc, &declared, &found.scope)?;
