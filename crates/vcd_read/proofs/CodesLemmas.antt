@@ -1,5 +1,6 @@
 -- The nets by their codes, and one more of them.
-use Rattle.std.proofs.Common.{◌≡◌, ℕ, zero, suc, ◌+◌, ◌^◌, ◌≤◌, ◌<◌, Bool, true, false, not, cond, eqb, ltb, List, [], ◌∷◌, ◌++◌, length, get_or, Option, Some, None, IsSome, refl, sym, ap, ◌∙◌, arith}
+use Rattle.std.proofs.Common.{◌≡◌, ℕ, zero, suc, ◌+◌, ◌^◌, ◌≤◌, ◌<◌, Bool, true, false, not, cond, eqb, ltb, List, []}
+use Rattle.std.proofs.Common.{◌∷◌, ◌++◌, length, get_or, Option, Some, None, IsSome, refl, sym, ap, ◌∙◌, arith}
 use Rattle.std.specs.Prelude.{bytes_eq, unwrap_or}
 use Rattle.std.specs.Map.{update}
 use Rattle.std.specs.List.{position, position_or_len}
@@ -24,39 +25,51 @@ size_of-at (m ∷ nets) (suc i) n lt e = size_of-at nets i n (omega (arith, lt))
 abbrev place_below : ℕ → ℕ → Option ℕ
 place_below k n = cond (ltb k n) (Some k) None
 
-place_push : (k n k2 n2 : ℕ) (b : Bool) → k ≤ n → n2 ≡ n + 1 → k2 ≡ cond (eqb k n) (n + cond b 0 1) k → place_below k2 n2 ≡ cond (ltb k n) (place_below k n) (cond b (Some n) None)
+place_push : (k n k2 n2 : ℕ) (b : Bool) → k ≤ n → n2 ≡ n + 1 → k2 ≡ cond (eqb k n) (n + cond b 0 1) k
+    → place_below k2 n2 ≡ cond (ltb k n) (place_below k n) (cond b (Some n) None)
 place_push k n k2 n2 true le e is = grind (arith, nat_tests)
 place_push k n k2 n2 false le e is = grind (arith, nat_tests)
 
-position-push : {X : Type 0} (p : X → Bool) (xs : List X) (y : X) → position p (xs ++ y ∷ []) ≡ cond (ltb (position_or_len p xs) (length xs)) (position p xs) (cond (p y) (Some (length xs)) None)
+position-push : {X : Type 0} (p : X → Bool) (xs : List X) (y : X) → position p (xs ++ y ∷ [])
+    ≡ cond (ltb (position_or_len p xs) (length xs)) (position p xs) (cond (p y) (Some (length xs)) None)
 position-push p xs y =
-    place_push (position_or_len p xs) (length xs) (position_or_len p (xs ++ y ∷ [])) (length (xs ++ y ∷ [])) (p y) (prefix_len-le-length (λ x. not (p x)) xs) (length_push xs y) (position_or_len_push p xs y)
+    place_push (position_or_len p xs) (length xs) (position_or_len p (xs ++ y ∷ [])) (length (xs ++ y ∷ [])) (p y)
+    (prefix_len-le-length (λ x. not (p x)) xs) (length_push xs y) (position_or_len_push p xs y)
 
-kept_or_new : (b c : Bool) (k n : ℕ) (o before : Option ℕ) → before ≡ cond b (Some k) None → o ≡ cond b before (cond c (Some n) None) → (c ≡ true → before ≡ None) → o ≡ cond c (Some n) before
+kept_or_new : (b c : Bool) (k n : ℕ) (o before : Option ℕ) → before ≡ cond b (Some k) None → o
+    ≡ cond b before (cond c (Some n) None) → (c ≡ true → before ≡ None) → o ≡ cond c (Some n) before
 kept_or_new true true k n o before e is h = absurd (none-some k (sym (h refl) ∙ e))
 kept_or_new true false k n o before e is h = is
 kept_or_new false true k n o before e is h = is
 kept_or_new false false k n o before e is h = is ∙ sym e
 
-net_of-push : (nets : List Net) (code : List ℕ) (size : ℕ) → net_of nets code ≡ None → (other : List ℕ) → net_of (nets ++ record { code = code; size = size } ∷ []) other ≡ update bytes_eq (net_of nets) code (Some (length nets)) other
+net_of-push : (nets : List Net) (code : List ℕ) (size : ℕ) → net_of nets code ≡ None → (other : List ℕ)
+    → net_of (nets ++ record { code = code; size = size } ∷ []) other ≡ update bytes_eq (net_of nets) code
+    (Some (length nets)) other
 net_of-push nets code size none other =
-    kept_or_new (ltb (position_or_len (has_code other) nets) (length nets)) (bytes_eq code other) (position_or_len (has_code other) nets) (length nets)
+    kept_or_new (ltb (position_or_len (has_code other) nets) (length nets)) (bytes_eq code other)
+    (position_or_len (has_code other) nets) (length nets)
     (net_of (nets ++ record { code = code; size = size } ∷ []) other) (net_of nets other)
     refl
     (position-push (has_code other) nets (record { code = code; size = size }))
     (λ same. ap (net_of nets) (sym ((bytes_eq-Decides code other).0 same)) ∙ none)
 
-within_test : (b : Bool) (k n : ℕ) → ltb k n ≡ b → IsSome (cond b (Some k) None) → unwrap_or (cond b (Some k) None) 0 < n
+within_test : (b : Bool) (k n : ℕ) → ltb k n ≡ b → IsSome (cond b (Some k) None) → unwrap_or (cond b (Some k) None) 0 <
+    n
 within_test true k n e h = ltb-true k n e
 within_test false k n e h = absurd (cc)
 
 -- the net of a code is one of the nets
-pub net_within : (nets : List Net) (code : List ℕ) → IsSome (net_of nets code) → unwrap_or (net_of nets code) 0 < length nets
-net_within nets code some = within_test (ltb (position_or_len (has_code code) nets) (length nets)) (position_or_len (has_code code) nets) (length nets) refl some
+pub net_within : (nets : List Net) (code : List ℕ) → IsSome (net_of nets code) → unwrap_or (net_of nets code) 0 < length
+    nets
+net_within nets code some = within_test (ltb (position_or_len (has_code code) nets) (length nets))
+    (position_or_len (has_code code) nets) (length nets) refl some
 
 -- one more net
-pub indexed_push : (nets : List Net) (old new : CodeIndex) (code : List ℕ) (size net : ℕ) → AreIndexed nets old → net_of nets code ≡ None → net ≡ length nets → net + 1 < 2 ^ 32
-    → ((other : List ℕ) → net_at new other ≡ update bytes_eq (net_at old) code (Some net) other) → AreIndexed (nets ++ record { code = code; size = size } ∷ []) new
+pub indexed_push : (nets : List Net) (old new : CodeIndex) (code : List ℕ) (size net : ℕ) → AreIndexed nets old
+    → net_of nets code ≡ None → net ≡ length nets → net + 1 < 2 ^ 32
+    → ((other : List ℕ) → net_at new other ≡ update bytes_eq (net_at old) code (Some net) other)
+    → AreIndexed (nets ++ record { code = code; size = size } ∷ []) new
 indexed_push nets old new code size net was none last room changed = record {
   few = omega (arith, length_push nets (record { code = code; size = size }));
   found = λ other.

@@ -1,5 +1,6 @@
 -- What comes of the variables of a header, for whatever takes them: a fold over all of them.
-use Rattle.std.proofs.Common.{◌≡◌, ℕ, Bool, true, false, cond, List, [], ◌∷◌, Result, Ok, Err, codes, refl, sym, ap, ◌∙◌}
+use Rattle.std.proofs.Common.{◌≡◌, ℕ, Bool, true, false, cond, List, [], ◌∷◌, Result, Ok, Err, codes, refl, sym, ap}
+use Rattle.std.proofs.Common.{◌∙◌}
 use Rattle.std.specs.Prelude.{bytes_eq}
 use Rattle.std.specs.List.{fold}
 use Rattle.std.proofs.lemmas.List.Sums.{fold-append}
@@ -7,7 +8,10 @@ use Rattle.vcd_read.specs.declared.dump.Variable.{Variable}
 use Rattle.vcd_read.specs.declared.fault.FaultKind.{FaultKind}
 use Rattle.vcd_read.specs.declared.fault.VcdFault.{VcdFault}
 use Rattle.vcd_read.specs.Tokens.{Token, tokens}
-use Rattle.vcd_read.specs.Header.{◌>>=◌, at_line, HeaderItem, whole, unfinished, stray, JoinedNets, net_for, net_of, VarWords, var_words, variable_in, reference_of, Declared, declare_all, declare_section, declare_var, open_scope, close_scope, nothing_declared, appended, header_from, between}
+use Rattle.vcd_read.specs.Header.{◌>>=◌, at_line, HeaderItem, whole, unfinished, stray, JoinedNets, net_for, net_of}
+use Rattle.vcd_read.specs.Header.{VarWords, var_words, variable_in, reference_of, Declared, declare_all}
+use Rattle.vcd_read.specs.Header.{declare_section, declare_var, open_scope, close_scope, nothing_declared, appended}
+use Rattle.vcd_read.specs.Header.{header_from, between}
 use Rattle.vcd_read.specs.Sections.{Defined, headed, header_of}
 use Rattle.vcd_read.specs.Meaning.{body_of}
 use Rattle.vcd_read.proofs.DumpLemmas.{whole_header}
@@ -25,28 +29,50 @@ module _ {V : Type 0} (with_variable : V → Variable → V) where
   taken_of v r = r >>= λ d. Ok (taken_in v d)
 
   same_net : (v : V) (d : Declared (List Variable)) (var : VarWords) (r : Result JoinedNets FaultKind)
-      → (r >>= λ joined. Ok (record (taken_in v d) { nets = joined.nets; variables = with_variable (taken_all v d.variables) (variable_in d.scopes joined.net var.size (reference_of var.size var.reference)) }))
-      ≡ taken_of v (r >>= λ joined. Ok (record d { nets = joined.nets; variables = appended d.variables (variable_in d.scopes joined.net var.size (reference_of var.size var.reference)) }))
+      → (r >>= λ joined. Ok (record (taken_in v d) {
+        nets = joined.nets;
+        variables = with_variable
+            (taken_all v d.variables) (variable_in d.scopes joined.net var.size (reference_of var.size var.reference));
+      }))
+      ≡ taken_of v
+      (r >>= λ joined. Ok
+      (record d {
+        nets = joined.nets;
+        variables = appended d.variables (variable_in d.scopes joined.net var.size
+            (reference_of var.size var.reference));
+      }))
   same_net v d var (Ok joined) =
       ap (λ (all : V). Ok (record { scopes = d.scopes; nets = joined.nets; variables = all }))
-      (sym (fold-append with_variable v d.variables (variable_in d.scopes joined.net var.size (reference_of var.size var.reference) ∷ [])))
+      (sym (fold-append with_variable v d.variables (variable_in d.scopes joined.net var.size
+      (reference_of var.size var.reference) ∷ [])))
   same_net v d var (Err kind) = refl
 
   same_var : (v : V) (d : Declared (List Variable)) (words : List (List ℕ)) (r : Result VarWords FaultKind)
       → (r >>= λ var. net_for d.nets var.code var.size (net_of d.nets var.code) >>= λ joined.
-      Ok (record (taken_in v d) { nets = joined.nets; variables = with_variable (taken_all v d.variables) (variable_in d.scopes joined.net var.size (reference_of var.size var.reference)) }))
+      Ok (record (taken_in v d) {
+        nets = joined.nets;
+        variables = with_variable (taken_all v d.variables)
+            (variable_in d.scopes joined.net var.size (reference_of var.size var.reference));
+      }))
       ≡ taken_of v (r >>= λ var. net_for d.nets var.code var.size (net_of d.nets var.code) >>= λ joined.
-      Ok (record d { nets = joined.nets; variables = appended d.variables (variable_in d.scopes joined.net var.size (reference_of var.size var.reference)) }))
+      Ok (record d {
+        nets = joined.nets;
+        variables = appended d.variables (variable_in d.scopes joined.net var.size
+            (reference_of var.size var.reference));
+      }))
   same_var v d words (Ok var) = same_net v d var (net_for d.nets var.code var.size (net_of d.nets var.code))
   same_var v d words (Err kind) = refl
 
-  same_close : (v : V) (d : Declared (List Variable)) (scopes : List (List ℕ)) → close_scope (taken_in v d) scopes ≡ taken_of v (close_scope d scopes)
+  same_close : (v : V) (d : Declared (List Variable)) (scopes : List (List ℕ)) → close_scope (taken_in v d) scopes
+      ≡ taken_of v (close_scope d scopes)
   same_close v d [] = refl
   same_close v d (name ∷ scopes) = refl
 
   same_section : (v : V) (d : Declared (List Variable)) (words : List (List ℕ)) (var scope upscope : Bool)
-      → cond var (declare_var with_variable (taken_in v d) words) (cond scope (Ok (open_scope (taken_in v d) words)) (cond upscope (close_scope (taken_in v d) d.scopes) (Ok (taken_in v d))))
-      ≡ taken_of v (cond var (declare_var appended d words) (cond scope (Ok (open_scope d words)) (cond upscope (close_scope d d.scopes) (Ok d))))
+      → cond var (declare_var with_variable (taken_in v d) words) (cond scope (Ok (open_scope (taken_in v d) words))
+      (cond upscope (close_scope (taken_in v d) d.scopes) (Ok (taken_in v d))))
+      ≡ taken_of v (cond var (declare_var appended d words) (cond scope (Ok (open_scope d words))
+      (cond upscope (close_scope d d.scopes) (Ok d))))
   same_section v d words true scope upscope = same_var v d words (var_words words)
   same_section v d words false true upscope = refl
   same_section v d words false false true = same_close v d d.scopes
@@ -56,17 +82,22 @@ module _ {V : Type 0} (with_variable : V → Variable → V) where
   defined_in v r = r >>= λ d. Ok (taken_in v d)
 
   same_next : (v : V) (items : List HeaderItem) (line : ℕ) (r : Result (Declared (List Variable)) FaultKind)
-      → ((d : Declared (List Variable)) → declare_all with_variable (taken_in v d) items ≡ defined_in v (declare_all appended d items))
-      → (at_line line (taken_of v r) >>= λ next. declare_all with_variable next items) ≡ defined_in v (at_line line r >>= λ next. declare_all appended next items)
+      → ((d : Declared (List Variable)) → declare_all with_variable (taken_in v d) items
+      ≡ defined_in v (declare_all appended d items))
+      → (at_line line (taken_of v r) >>= λ next. declare_all with_variable next items)
+      ≡ defined_in v (at_line line r >>= λ next. declare_all appended next items)
   same_next v items line (Ok d) rest = rest d
   same_next v items line (Err kind) rest = refl
 
-  same_all : (v : V) (items : List HeaderItem) (d : Declared (List Variable)) → declare_all with_variable (taken_in v d) items ≡ defined_in v (declare_all appended d items)
+  same_all : (v : V) (items : List HeaderItem) (d : Declared (List Variable)) → declare_all with_variable (taken_in v d)
+      items ≡ defined_in v (declare_all appended d items)
   unfolding declare_all
   same_all v [] d = refl
   same_all v (whole section ∷ items) d =
-      ap (λ (r : Result (Declared V) FaultKind). at_line section.line r >>= λ next. declare_all with_variable next items)
-      (same_section v d section.words (bytes_eq section.keyword (codes "$var")) (bytes_eq section.keyword (codes "$scope")) (bytes_eq section.keyword (codes "$upscope")))
+      ap (λ (r : Result (Declared V) FaultKind). at_line section.line r >>= λ next. declare_all with_variable next
+      items)
+      (same_section v d section.words (bytes_eq section.keyword (codes "$var"))
+      (bytes_eq section.keyword (codes "$scope")) (bytes_eq section.keyword (codes "$upscope")))
       ∙ same_next v items section.line (declare_section appended d section) (λ d. same_all v items d)
   same_all v (unfinished line ∷ items) d = refl
   same_all v (stray line ∷ items) d = refl
@@ -76,14 +107,17 @@ module _ {V : Type 0} (with_variable : V → Variable → V) where
   taken_head v d = record { head = d.head; variables = taken_all v d.variables }
 
   same_head : (v : V) (r : Result (Declared (List Variable)) VcdFault) (b : Result (List Token) VcdFault)
-      → (defined_in v r >>= λ declared. b >>= λ body. Ok (headed declared body)) ≡ ((r >>= λ declared. b >>= λ body. Ok (headed declared body)) >>= λ d. Ok (taken_head v d))
+      → (defined_in v r >>= λ declared. b >>= λ body. Ok (headed declared body))
+      ≡ ((r >>= λ declared. b >>= λ body. Ok (headed declared body)) >>= λ d. Ok (taken_head v d))
   same_head v (Ok d) (Ok body) = refl
   same_head v (Ok d) (Err fault) = refl
   same_head v (Err fault) b = refl
 
   -- reading a header gives what comes of all its variables
-  pub header_taken : (text : List ℕ) (v : V) → header_of with_variable text (nothing_declared v) (tokens text) ≡ (whole_header text >>= λ d. Ok (taken_head v d))
+  pub header_taken : (text : List ℕ) (v : V) → header_of with_variable text (nothing_declared v) (tokens text)
+      ≡ (whole_header text >>= λ d. Ok (taken_head v d))
   header_taken text v =
       let header = header_from between (tokens text) in
-      ap (λ (r : Result (Declared V) VcdFault). r >>= λ declared. body_of text header.body >>= λ body. Ok (headed declared body)) (same_all v header.items (nothing_declared []))
+      ap (λ (r : Result (Declared V) VcdFault). r >>= λ declared. body_of text header.body >>= λ body. Ok
+      (headed declared body)) (same_all v header.items (nothing_declared []))
       ∙ same_head v (declare_all appended (nothing_declared []) header.items) (body_of text header.body)

@@ -11,14 +11,16 @@ use Rattle.vcd_read.specs.Meaning.{dump_of, body_of, instants_from}
 
 -- what is read behind a header
 abbrev pub contents_behind : Defined (List Variable) → Result Contents VcdFault
-contents_behind d = instants_from d.head.nets d.head.body >>= λ instants. Ok (record { variables = d.variables; instants = instants })
+contents_behind d = instants_from d.head.nets d.head.body >>= λ instants. Ok
+    (record { variables = d.variables; instants = instants })
 
 -- the header of a text, with all of its variables
 abbrev pub whole_header : List ℕ → Result (Defined (List Variable)) VcdFault
 whole_header text = header_of appended text (nothing_declared []) (tokens text)
 
 regroup : (d : Result (Declared (List Variable)) VcdFault) (b : Result (List Token) VcdFault)
-    → (d >>= λ declared. b >>= λ body. contents_behind (headed declared body)) ≡ ((d >>= λ declared. b >>= λ body. Ok (headed declared body)) >>= contents_behind)
+    → (d >>= λ declared. b >>= λ body. contents_behind (headed declared body))
+    ≡ ((d >>= λ declared. b >>= λ body. Ok (headed declared body)) >>= contents_behind)
 regroup (Ok declared) (Ok body) = refl
 regroup (Ok declared) (Err fault) = refl
 regroup (Err fault) b = refl
@@ -32,5 +34,7 @@ dump_of-header text =
 abbrev pub with_variables : List Variable → List Instant → Result Contents VcdFault
 with_variables variables instants = Ok (record { variables = variables; instants = instants })
 
-pub dump_behind : (text : List ℕ) (d : Defined (List Variable)) → whole_header text ≡ Ok d → dump_of text ≡ (instants_from d.head.nets d.head.body >>= with_variables d.variables)
-dump_behind text d e = dump_of-header text ∙ ap (λ (r : Result (Defined (List Variable)) VcdFault). r >>= contents_behind) e
+pub dump_behind : (text : List ℕ) (d : Defined (List Variable)) → whole_header text ≡ Ok d → dump_of text
+    ≡ (instants_from d.head.nets d.head.body >>= with_variables d.variables)
+dump_behind text d e = dump_of-header text ∙ ap (λ (r : Result (Defined (List Variable)) VcdFault). r >>=
+    contents_behind) e

@@ -1,11 +1,14 @@
 -- Digits as the bits of a value.
-use Rattle.std.proofs.Common.{◌≡◌, ℕ, ◌+◌, ◌-◌, ◌<◌, ◌≤◌, List, [], ◌∷◌, ◌++◌, length, get_or, take, map, replicate, refl, ap, ◌∙◌, arith}
-use Rattle.std.proofs.lemmas.List.{get_or_append_left, get_or_past, get_or-append_right, get_or-replicate, get_or-map, length-map, length-append, length-replicate, take_more}
+use Rattle.std.proofs.Common.{◌≡◌, ℕ, ◌+◌, ◌-◌, ◌<◌, ◌≤◌, List, [], ◌∷◌, ◌++◌, length, get_or, take, map, replicate}
+use Rattle.std.proofs.Common.{refl, ap, ◌∙◌, arith}
+use Rattle.std.proofs.lemmas.List.{get_or_append_left, get_or_past, get_or-append_right, get_or-replicate, get_or-map}
+use Rattle.std.proofs.lemmas.List.{length-map, length-append, length-replicate, take_more}
 use Rattle.vcd_read.specs.declared.dump.Bit.{Bit}
 use Rattle.vcd_read.specs.declared.dump.Bit.TheVariants.{X}
 use Rattle.vcd_read.specs.Numbers.{bit_of, fill_of, fill_before, extended}
 
-fill_first : (digits : List ℕ) → 0 < length digits → fill_before (map bit_of digits) ≡ fill_of (bit_of (get_or digits 0 0))
+fill_first : (digits : List ℕ) → 0 < length digits → fill_before (map bit_of digits)
+    ≡ fill_of (bit_of (get_or digits 0 0))
 fill_first [] some = absurd (omega (arith, some))
 fill_first (d ∷ digits) some = refl
 
@@ -13,42 +16,61 @@ pub extended_size : (size : ℕ) (digits : List ℕ) → length digits ≤ size 
 extended_size size digits fits =
     let bits : List Bit = map bit_of digits in
     let len = length-map digits bit_of in
-    length-append (replicate (size - length bits) (fill_before bits)) bits ∙ (omega (arith, len, length-replicate (size - length bits) (fill_before bits), fits))
+    length-append (replicate (size - length bits) (fill_before bits)) bits
+    ∙ (omega (arith, len, length-replicate (size - length bits) (fill_before bits), fits))
 
 -- a bit on the left of the digits
-pub bit_fill : (size : ℕ) (digits : List ℕ) (place missing : ℕ) → 0 < length digits → length digits ≤ size → missing ≡ size - length digits → place < missing
+pub bit_fill : (size : ℕ) (digits : List ℕ) (place missing : ℕ) → 0 < length digits → length digits ≤ size → missing
+    ≡ size - length digits → place < missing
     → get_or (extended size digits) place X ≡ fill_of (bit_of (get_or digits 0 0))
 bit_fill size digits place missing some fits e lt =
     let bits : List Bit = map bit_of digits in
     let fill : List Bit = replicate (size - length bits) (fill_before bits) in
     let len = length-map digits bit_of in
-    let in_fill : place < length fill = omega (arith, len, e, lt, length-replicate (size - length bits) (fill_before bits)) in
-    get_or_append_left fill bits X place in_fill ∙ get_or-replicate (size - length bits) place (fill_before bits) X (omega (arith, len, e, lt)) ∙ fill_first digits some
+    let in_fill : place < length fill = omega (
+      arith,
+      len,
+      e,
+      lt,
+      length-replicate (size - length bits)
+          (fill_before bits),
+    ) in
+    get_or_append_left fill bits X place in_fill ∙ get_or-replicate (size - length bits) place (fill_before bits) X
+    (omega (arith, len, e, lt)) ∙ fill_first digits some
 
 -- a bit of a digit
-pub bit_digit : (size : ℕ) (digits : List ℕ) (place missing : ℕ) → length digits ≤ size → missing ≡ size - length digits → missing ≤ place → place < size
+pub bit_digit : (size : ℕ) (digits : List ℕ) (place missing : ℕ) → length digits ≤ size → missing ≡ size - length digits
+    → missing ≤ place → place < size
     → get_or (extended size digits) place X ≡ bit_of (get_or digits (place - missing) 0)
 bit_digit size digits place missing fits e le lt =
     let bits : List Bit = map bit_of digits in
     let fill : List Bit = replicate (size - length bits) (fill_before bits) in
     let len = length-map digits bit_of in
-    let in_fill : length fill ≡ missing = length-replicate (size - length bits) (fill_before bits) ∙ (omega (arith, len, e)) in
-    get_or-append_right fill bits missing place X in_fill le ∙ get_or-map bit_of digits (place - missing) 0 X (omega (arith, e, le, lt))
+    let in_fill : length fill ≡ missing = length-replicate (size - length bits) (fill_before bits)
+    ∙ (omega (arith, len, e)) in
+    get_or-append_right fill bits missing place X in_fill le ∙ get_or-map bit_of digits (place - missing) 0 X
+    (omega (arith, e, le, lt))
 
 -- no bit
-pub bit_past : (size : ℕ) (digits : List ℕ) (place : ℕ) → length digits ≤ size → size ≤ place → get_or (extended size digits) place X ≡ X
-bit_past size digits place fits le = get_or_past (extended size digits) place X (omega (arith, extended_size size digits fits, le))
+pub bit_past : (size : ℕ) (digits : List ℕ) (place : ℕ) → length digits ≤ size → size ≤ place
+    → get_or (extended size digits) place X ≡ X
+bit_past size digits place fits le = get_or_past (extended size digits) place X
+    (omega (arith, extended_size size digits fits, le))
 
 -- one bit more, on the left of the digits
-pub more_fill : (size : ℕ) (digits : List ℕ) (place missing : ℕ) → 0 < length digits → length digits ≤ size → missing ≡ size - length digits → place < missing
-    → take (place + 1) (extended size digits) ≡ take place (extended size digits) ++ fill_of (bit_of (get_or digits 0 0)) ∷ []
+pub more_fill : (size : ℕ) (digits : List ℕ) (place missing : ℕ) → 0 < length digits → length digits ≤ size → missing
+    ≡ size - length digits → place < missing
+    → take (place + 1) (extended size digits) ≡ take place (extended size digits)
+    ++ fill_of (bit_of (get_or digits 0 0)) ∷ []
 more_fill size digits place missing some fits e lt =
     take_more (extended size digits) place X (omega (arith, extended_size size digits fits, e, lt))
     ∙ ap (λ (b : Bit). take place (extended size digits) ++ b ∷ []) (bit_fill size digits place missing some fits e lt)
 
 -- one bit more, of a digit
-pub more_digit : (size : ℕ) (digits : List ℕ) (place missing : ℕ) → length digits ≤ size → missing ≡ size - length digits → missing ≤ place → place < size
-    → take (place + 1) (extended size digits) ≡ take place (extended size digits) ++ bit_of (get_or digits (place - missing) 0) ∷ []
+pub more_digit : (size : ℕ) (digits : List ℕ) (place missing : ℕ) → length digits ≤ size → missing
+    ≡ size - length digits → missing ≤ place → place < size
+    → take (place + 1) (extended size digits) ≡ take place (extended size digits)
+    ++ bit_of (get_or digits (place - missing) 0) ∷ []
 more_digit size digits place missing fits e le lt =
     take_more (extended size digits) place X (omega (arith, extended_size size digits fits, lt))
     ∙ ap (λ (b : Bit). take place (extended size digits) ++ b ∷ []) (bit_digit size digits place missing fits e le lt)

@@ -5,7 +5,9 @@ use Rattle.vcd_read.specs.declared.fault.FaultKind.{FaultKind}
 use Rattle.vcd_read.specs.declared.fault.FaultKind.TheVariants.{Memory, NoEndDefinitions, UnfinishedSection}
 use Rattle.vcd_read.specs.declared.fault.VcdFault.{VcdFault}
 use Rattle.vcd_read.specs.Tokens.{Token}
-use Rattle.vcd_read.specs.Header.{◌>>=◌, at_line, is_end, opens_section, ends_definitions, Section, whole, stray, Header, with_item, between, inside, opened, with_word, HeaderPlace, header_from, Declared, declare_all, declare_section}
+use Rattle.vcd_read.specs.Header.{◌>>=◌, at_line, is_end, opens_section, ends_definitions, Section, whole, stray}
+use Rattle.vcd_read.specs.Header.{Header, with_item, between, inside, opened, with_word, HeaderPlace, header_from}
+use Rattle.vcd_read.specs.Header.{Declared, declare_all, declare_section}
 use Rattle.vcd_read.specs.Sections.{Defined, defined, headed, header_of, rest_of_header}
 use Rattle.vcd_read.specs.Meaning.{ReadFailsAs, body_of}
 use Rattle.vcd_read.specs.Fronts.{going_on, IsMetAtTheEnd}
@@ -38,27 +40,47 @@ module _ {V : Type 0} (with_variable : V → Variable → V) (text longer : List
   stays line kind = refl
 
   section_step : (h h2 : Header) (r : Result (Declared V) VcdFault) → ((next : Declared V) → Both next h h2)
-      → IsFrontOf more ((r >>= λ next. declare_all with_variable next h.items) >>= λ declared. body_of text h.body >>= λ body. Ok (headed declared body))
-      ((r >>= λ next. declare_all with_variable next h2.items) >>= λ declared. body_of longer h2.body >>= λ body. Ok (headed declared body))
+      → IsFrontOf more ((r >>= λ next. declare_all with_variable next h.items) >>= λ declared. body_of text h.body >>=
+      λ body. Ok (headed declared body))
+      ((r >>= λ next. declare_all with_variable next h2.items) >>= λ declared. body_of longer h2.body >>= λ body. Ok
+      (headed declared body))
   unfolding IsFrontOf
   section_step h h2 (Ok next) both = both next
   section_step h h2 (Err fault) both = stays fault.line fault.kind
 
-  ending : (section : Section) (ts : List Token) (d : Declared V) (test : Bool) → ((next : Declared V) → Both next (header_from between ts) (header_from between (ts ++ more)))
-      → Both d (elim test as (λ _. Header) [ true ↦ record { items = []; body = Some ts } | false ↦ with_item (whole section) (header_from between ts) ])
-      (elim test as (λ _. Header) [ true ↦ record { items = []; body = Some (ts ++ more) } | false ↦ with_item (whole section) (header_from between (ts ++ more)) ])
+  ending : (section : Section) (ts : List Token) (d : Declared V) (test : Bool)
+      → ((next : Declared V) → Both next (header_from between ts) (header_from between (ts ++ more)))
+      → Both d (elim test as (λ _. Header) [
+        | true ↦ record { items = []; body = Some ts }
+        | false ↦ with_item
+            (whole section) (header_from between ts)
+      ])
+      (elim test as (λ _. Header) [
+        | true ↦ record { items = []; body = Some (ts ++ more) }
+        | false ↦ with_item
+            (whole section) (header_from between (ts ++ more))
+      ])
   unfolding IsFrontOf declare_all
   ending section ts d true both = refl
-  ending section ts d false both = section_step (header_from between ts) (header_from between (ts ++ more)) (at_line section.line (declare_section with_variable d section)) both
+  ending section ts d false both = section_step (header_from between ts) (header_from between (ts ++ more))
+      (at_line section.line (declare_section with_variable d section)) both
 
   inside_step : (section : Section) (t : Token) (ts : List Token) (d : Declared V) (end : Bool)
       → ((next : Declared V) → Both next (header_from between ts) (header_from between (ts ++ more)))
-      → Both d (header_from (inside (with_word section t.bytes)) ts) (header_from (inside (with_word section t.bytes)) (ts ++ more))
+      → Both d (header_from (inside (with_word section t.bytes)) ts) (header_from (inside (with_word section t.bytes))
+      (ts ++ more))
       → Both d (elim end as (λ _. Header) [
-        | true ↦ elim (ends_definitions section) as (λ _. Header) [ true ↦ record { items = []; body = Some ts } | false ↦ with_item (whole section) (header_from between ts) ]
+        | true ↦ elim (ends_definitions section) as (λ _. Header) [
+          | true ↦ record { items = []; body = Some ts }
+          | false ↦ with_item (whole section) (header_from between ts)
+        ]
         | false ↦ header_from (inside (with_word section t.bytes)) ts
       ]) (elim end as (λ _. Header) [
-        | true ↦ elim (ends_definitions section) as (λ _. Header) [ true ↦ record { items = []; body = Some (ts ++ more) } | false ↦ with_item (whole section) (header_from between (ts ++ more)) ]
+        | true ↦ elim (ends_definitions section) as (λ _. Header) [
+          | true ↦ record { items = []; body = Some (ts ++ more) }
+          | false ↦ with_item (whole section)
+              (header_from between (ts ++ more))
+        ]
         | false ↦ header_from (inside (with_word section t.bytes)) (ts ++ more)
       ])
   inside_step section t ts d true both goes_on = ending section ts d (ends_definitions section) both
@@ -66,36 +88,51 @@ module _ {V : Type 0} (with_variable : V → Variable → V) (text longer : List
 
   between_step : (t : Token) (ts : List Token) (d : Declared V) (opens : Bool)
       → Both d (header_from (inside (opened t)) ts) (header_from (inside (opened t)) (ts ++ more))
-      → Both d (elim opens as (λ _. Header) [ true ↦ header_from (inside (opened t)) ts | false ↦ with_item (stray t.line) (header_from between ts) ])
-      (elim opens as (λ _. Header) [ true ↦ header_from (inside (opened t)) (ts ++ more) | false ↦ with_item (stray t.line) (header_from between (ts ++ more)) ])
+      → Both d (elim opens as (λ _. Header) [
+        | true ↦ header_from (inside (opened t)) ts
+        | false ↦ with_item
+            (stray t.line) (header_from between ts)
+      ])
+      (elim opens as (λ _. Header) [
+        | true ↦ header_from (inside (opened t)) (ts ++ more)
+        | false ↦ with_item
+            (stray t.line) (header_from between (ts ++ more))
+      ])
   unfolding IsFrontOf StaysAs declare_all
   between_step t ts d true goes_on = goes_on
   between_step t ts d false goes_on = refl
 
-  front : (ts : List Token) (place : HeaderPlace) (d : Declared V) → Both d (header_from place ts) (header_from place (ts ++ more))
+  front : (ts : List Token) (place : HeaderPlace) (d : Declared V) → Both d (header_from place ts)
+      (header_from place (ts ++ more))
   unfolding IsFrontOf StaysAs header_from declare_all
   front [] between d = tt
   front [] (inside section) d = tt
   front (t ∷ ts) between d = between_step t ts d (opens_section t.bytes) (front ts (inside (opened t)) d)
-  front (t ∷ ts) (inside section) d = inside_step section t ts d (is_end t.bytes) (λ next. front ts between next) (front ts (inside (with_word section t.bytes)) d)
+  front (t ∷ ts) (inside section) d = inside_step section t ts d (is_end t.bytes) (λ next. front ts between next)
+      (front ts (inside (with_word section t.bytes)) d)
 
   -- what was found of definitions is what every text has that goes on so
-  pub found-front : (d : Declared V) (ts : List Token) (found : Defined V) → header_of with_variable text d ts ≡ Ok found
+  pub found-front : (d : Declared V) (ts : List Token) (found : Defined V) → header_of with_variable text d ts
+      ≡ Ok found
       → header_of with_variable longer d (ts ++ more) ≡ Ok (defined (going_on found.head more) found.variables)
   unfolding IsFrontOf
-  found-front d ts found is = subst (λ (r : Result (Defined V) VcdFault). IsFrontOf more r (header_of with_variable longer d (ts ++ more))) is (front ts between d)
+  found-front d ts found is = subst (λ (r : Result (Defined V) VcdFault). IsFrontOf more r
+      (header_of with_variable longer d (ts ++ more))) is (front ts between d)
 
   -- a fault that isn't met at the end is that of every text that goes on so
-  pub failed-front : (d : Declared V) (ts : List Token) (line : ℕ) (kind : FaultKind) → (IsMetAtTheEnd kind → ⊥) → ReadFailsAs line kind (header_of with_variable text d ts)
+  pub failed-front : (d : Declared V) (ts : List Token) (line : ℕ) (kind : FaultKind) → (IsMetAtTheEnd kind → ⊥)
+      → ReadFailsAs line kind (header_of with_variable text d ts)
       → ReadFailsAs line kind (header_of with_variable longer d (ts ++ more))
   unfolding IsFrontOf StaysAs
   failed-front d ts line Memory other fails = fails
   failed-front d ts line NoEndDefinitions other fails = absurd (other tt)
   failed-front d ts line UnfinishedSection other fails = absurd (other tt)
-  failed-front d ts line kind other fails = subst (λ (r : Result (Defined V) VcdFault). IsFrontOf more r (header_of with_variable longer d (ts ++ more))) fails (front ts between d)
+  failed-front d ts line kind other fails = subst (λ (r : Result (Defined V) VcdFault). IsFrontOf more r
+      (header_of with_variable longer d (ts ++ more))) fails (front ts between d)
 
 -- a fault that is none of the two
-pub goes_on-else : (kind : FaultKind) → (kind ≡ UnfinishedSection → ⊥) → (kind ≡ NoEndDefinitions → ⊥) → IsMetAtTheEnd kind → ⊥
+pub goes_on-else : (kind : FaultKind) → (kind ≡ UnfinishedSection → ⊥) → (kind ≡ NoEndDefinitions → ⊥)
+    → IsMetAtTheEnd kind → ⊥
 goes_on-else NoEndDefinitions section definitions met = definitions refl
 goes_on-else UnfinishedSection section definitions met = section refl
 goes_on-else kind section definitions met = met

@@ -1,24 +1,31 @@
 -- What reading a section does to the header that is left.
-use Rattle.std.proofs.Common.{◌≡◌, ℕ, Bool, true, false, cond, List, [], ◌∷◌, ◌++◌, length, Option, Some, None, option_map, Result, Ok, Err, codes, refl, sym, ap, subst, ◌∙◌, append_assoc, take, take_all, arith}
+use Rattle.std.proofs.Common.{◌≡◌, ℕ, Bool, true, false, cond, List, [], ◌∷◌, ◌++◌, length, Option, Some, None}
+use Rattle.std.proofs.Common.{option_map, Result, Ok, Err, codes, refl, sym, ap, subst, ◌∙◌, append_assoc, take}
+use Rattle.std.proofs.Common.{take_all, arith}
 use Rattle.std.specs.Prelude.{bytes_eq}
 use Rattle.std.proofs.lemmas.List.{append-nil}
 use Rattle.std.proofs.lemmas.Slice.Eq.{bytes_eq-Decides}
 use Rattle.vcd_read.specs.declared.dump.Variable.{Variable}
 use Rattle.vcd_read.specs.declared.fault.FaultKind.{FaultKind}
-use Rattle.vcd_read.specs.declared.fault.FaultKind.TheVariants.{BadToken, UnfinishedSection, ScopeUnderflow, NoEndDefinitions, Memory}
+use Rattle.vcd_read.specs.declared.fault.FaultKind.TheVariants.{BadToken, UnfinishedSection, ScopeUnderflow}
+use Rattle.vcd_read.specs.declared.fault.FaultKind.TheVariants.{NoEndDefinitions, Memory}
 use Rattle.vcd_read.specs.declared.fault.VcdFault.{VcdFault}
 use Rattle.vcd_read.specs.declared.header.Opening.{Opening}
 use Rattle.vcd_read.specs.declared.header.Opening.TheVariants.{Var, Scope, Upscope, EndDefinitions, Skipped, Nothing}
 use Rattle.vcd_read.specs.Tokens.{Token, line_after}
 use Rattle.vcd_read.specs.Reading.{line_behind}
-use Rattle.vcd_read.specs.Header.{◌>>=◌, at_line, is_end, opens_section, ends_definitions, Section, whole, unfinished, stray, with_word, Header, with_item, between, inside, opened, header_from, Declared, declare_all, declare_section, declare_var, open_scope, close_scope}
-use Rattle.vcd_read.specs.Sections.{Ended, after_word, ended_in, section_from, behind_section, opening_of, Defined, headed, header_of, rest_of_header}
+use Rattle.vcd_read.specs.Header.{◌>>=◌, at_line, is_end, opens_section, ends_definitions, Section, whole, unfinished}
+use Rattle.vcd_read.specs.Header.{stray, with_word, Header, with_item, between, inside, opened, header_from, Declared}
+use Rattle.vcd_read.specs.Header.{declare_all, declare_section, declare_var, open_scope, close_scope}
+use Rattle.vcd_read.specs.Sections.{Ended, after_word, ended_in, section_from, behind_section, opening_of, Defined}
+use Rattle.vcd_read.specs.Sections.{headed, header_of, rest_of_header}
 use Rattle.vcd_read.specs.Meaning.{ReadFails, ReadFailsAs, body_of}
 
 -- ---- what a token opens
 
 abbrev opening_by : Bool → Bool → Bool → Bool → Bool → Opening
-opening_by opens var scope upscope end = cond opens (cond var Var (cond scope Scope (cond upscope Upscope (cond end EndDefinitions Skipped)))) Nothing
+opening_by opens var scope upscope end = cond opens
+    (cond var Var (cond scope Scope (cond upscope Upscope (cond end EndDefinitions Skipped)))) Nothing
 
 record IsSkipped (opens var scope upscope end : Bool) : Type 0 where
   pub opens_one : opens ≡ true
@@ -35,20 +42,29 @@ Opens EndDefinitions opens var scope upscope end = (opens ≡ true) × (end ≡ 
 Opens Skipped opens var scope upscope end = IsSkipped opens var scope upscope end
 Opens Nothing opens var scope upscope end = opens ≡ false
 
-opens_by : (opens var scope upscope end : Bool) → Opens (opening_by opens var scope upscope end) opens var scope upscope end
+opens_by : (opens var scope upscope end : Bool) → Opens (opening_by opens var scope upscope end) opens var scope upscope
+    end
 unfolding Opens
 opens_by false var scope upscope end = refl
 opens_by true true scope upscope end = (refl, refl)
 opens_by true false true upscope end = (refl, refl)
 opens_by true false false true end = (refl, refl)
 opens_by true false false false true = (refl, refl)
-opens_by true false false false false = record { opens_one = refl; no_var = refl; no_scope = refl; no_upscope = refl; no_end = refl }
+opens_by true false false false false = record {
+  opens_one = refl;
+  no_var = refl;
+  no_scope = refl;
+  no_upscope = refl;
+  no_end = refl;
+}
 
 abbrev OpensAs : List ℕ → Opening → Type 0
-OpensAs word opening = Opens opening (opens_section word) (bytes_eq word (codes "$var")) (bytes_eq word (codes "$scope")) (bytes_eq word (codes "$upscope")) (bytes_eq word (codes "$enddefinitions"))
+OpensAs word opening = Opens opening (opens_section word) (bytes_eq word (codes "$var"))
+    (bytes_eq word (codes "$scope")) (bytes_eq word (codes "$upscope")) (bytes_eq word (codes "$enddefinitions"))
 
 opens_as : (word : List ℕ) (opening : Opening) → opening ≡ opening_of word → OpensAs word opening
-opens_as word opening e = subst (OpensAs word) (sym e) (opens_by (opens_section word) (bytes_eq word (codes "$var")) (bytes_eq word (codes "$scope")) (bytes_eq word (codes "$upscope")) (bytes_eq word (codes "$enddefinitions")))
+opens_as word opening e = subst (OpensAs word) (sym e) (opens_by (opens_section word) (bytes_eq word (codes "$var"))
+    (bytes_eq word (codes "$scope")) (bytes_eq word (codes "$upscope")) (bytes_eq word (codes "$enddefinitions")))
 
 -- ---- a section in the header that is left
 
@@ -63,28 +79,47 @@ header_behind section (Some ended) =
       | false ↦ with_item (whole (section_with section ended.words)) (header_from between ended.rest)
     ]
 
-word_between : (section : Section) (word : List ℕ) (ended : Option Ended) → header_behind (with_word section word) ended ≡ header_behind section (option_map (after_word word) ended)
+word_between : (section : Section) (word : List ℕ) (ended : Option Ended) → header_behind (with_word section word) ended
+    ≡ header_behind section (option_map (after_word word) ended)
 word_between section word None = refl
 word_between section word (Some ended) =
-    ap (λ (words : List (List ℕ)). elim (ends_definitions section) as (λ _. Header) [ true ↦ record { items = []; body = Some ended.rest } | false ↦ with_item (whole (record section { words = words })) (header_from between ended.rest) ])
+    ap (λ (words : List (List ℕ)). elim (ends_definitions section) as (λ _. Header) [
+      | true ↦ record { items = []; body = Some ended.rest }
+      | false ↦ with_item
+          (whole (record section { words = words })) (header_from between ended.rest)
+    ])
     (append_assoc section.words (word ∷ []) ended.words)
 
-header_step : (section : Section) (t : Token) (ts : List Token) (end : Bool) → header_from (inside (with_word section t.bytes)) ts ≡ header_behind (with_word section t.bytes) (ended_in ts)
+header_step : (section : Section) (t : Token) (ts : List Token) (end : Bool)
+    → header_from (inside (with_word section t.bytes)) ts ≡ header_behind (with_word section t.bytes) (ended_in ts)
     → elim end as (λ _. Header) [
-      | true ↦ elim (ends_definitions section) as (λ _. Header) [ true ↦ record { items = []; body = Some ts } | false ↦ with_item (whole section) (header_from between ts) ]
+      | true ↦ elim (ends_definitions section) as (λ _. Header) [
+        | true ↦ record { items = []; body = Some ts }
+        | false ↦ with_item (whole section) (header_from between ts)
+      ]
       | false ↦ header_from (inside (with_word section t.bytes)) ts
-    ] ≡ header_behind section (elim end as (λ _. Option Ended) [ true ↦ Some (record { words = []; rest = ts }) | false ↦ option_map (after_word t.bytes) (ended_in ts) ])
+    ] ≡ header_behind section (elim end as (λ _. Option Ended) [
+      | true ↦ Some (record { words = []; rest = ts })
+      | false ↦ option_map (after_word t.bytes) (ended_in ts)
+    ])
 header_step section t ts true more =
-    ap (λ (words : List (List ℕ)). elim (ends_definitions section) as (λ _. Header) [ true ↦ record { items = []; body = Some ts } | false ↦ with_item (whole (record section { words = words })) (header_from between ts) ])
+    ap (λ (words : List (List ℕ)). elim (ends_definitions section) as (λ _. Header) [
+      | true ↦ record { items = []; body = Some ts }
+      | false ↦ with_item (whole (record section { words = words }))
+          (header_from between ts)
+    ])
     (sym (append-nil section.words))
 header_step section t ts false more = more ∙ word_between section t.bytes (ended_in ts)
 
-header_inside : (ts : List Token) (section : Section) → header_from (inside section) ts ≡ header_behind section (ended_in ts)
+header_inside : (ts : List Token) (section : Section) → header_from (inside section) ts ≡ header_behind section
+    (ended_in ts)
 unfolding header_from ended_in
 header_inside [] section = refl
-header_inside (t ∷ ts) section = header_step section t ts (is_end t.bytes) (header_inside ts (with_word section t.bytes))
+header_inside (t ∷ ts) section = header_step section t ts (is_end t.bytes)
+    (header_inside ts (with_word section t.bytes))
 
-header_section : (t : Token) (ts : List Token) → opens_section t.bytes ≡ true → header_from between (t ∷ ts) ≡ header_behind (opened t) (ended_in ts)
+header_section : (t : Token) (ts : List Token) → opens_section t.bytes ≡ true → header_from between (t ∷ ts)
+    ≡ header_behind (opened t) (ended_in ts)
 unfolding header_from
 header_section t ts opens = rw (header_from, opens) (header_inside ts (opened t))
 
@@ -97,32 +132,52 @@ module _ {V : Type 0} (with_variable : V → Variable → V) where
   next_of text d t ended =
       elim (ends_definitions (opened t)) [
         | true ↦ Ok (headed d ended.rest)
-        | false ↦ at_line t.line (declare_section with_variable d (section_with (opened t) ended.words)) >>= λ next. header_of with_variable text next ended.rest
+        | false ↦ at_line t.line (declare_section with_variable d (section_with (opened t) ended.words)) >>= λ next.
+            header_of with_variable text next ended.rest
       ]
 
-  bind_assoc : {A B C : Type 0} (read : Result A VcdFault) (f : A → Result B VcdFault) (g : B → Result C VcdFault) → ((read >>= f) >>= g) ≡ (read >>= λ x. f x >>= g)
+  bind_assoc : {A B C : Type 0} (read : Result A VcdFault) (f : A → Result B VcdFault) (g : B → Result C VcdFault)
+      → ((read >>= f) >>= g) ≡ (read >>= λ x. f x >>= g)
   bind_assoc (Ok x) f g = refl
   bind_assoc (Err fault) f g = refl
 
-  bind_same : {A B : Type 0} (read : Result A VcdFault) (f g : A → Result B VcdFault) → ((x : A) → f x ≡ g x) → (read >>= f) ≡ (read >>= g)
+  bind_same : {A B : Type 0} (read : Result A VcdFault) (f g : A → Result B VcdFault) → ((x : A) → f x ≡ g x)
+      → (read >>= f) ≡ (read >>= g)
   bind_same (Ok x) f g same = same x
   bind_same (Err fault) f g same = refl
 
   section_read : (text : List ℕ) (d : Declared V) (section : Section) (rest : List Token) (end : Bool)
-      → rest_of_header with_variable text d (elim end as (λ _. Header) [ true ↦ record { items = []; body = Some rest } | false ↦ with_item (whole section) (header_from between rest) ])
-      ≡ elim end as (λ _. Reading) [ true ↦ Ok (headed d rest) | false ↦ at_line section.line (declare_section with_variable d section) >>= λ next. header_of with_variable text next rest ]
+      → rest_of_header with_variable text d (elim end as (λ _. Header) [
+        | true ↦ record { items = []; body = Some rest }
+        | false ↦ with_item (whole section) (header_from between rest)
+      ])
+      ≡ elim end as (λ _. Reading) [
+        | true ↦ Ok (headed d rest)
+        | false ↦ at_line section.line
+            (declare_section with_variable d section) >>= λ next. header_of with_variable text next rest
+      ]
   unfolding declare_all
   section_read text d section rest true = refl
   section_read text d section rest false =
-      bind_assoc (at_line section.line (declare_section with_variable d section)) (λ next. declare_all with_variable next (header_from between rest).items) (λ declared. body_of text (header_from between rest).body >>= λ body. Ok (headed declared body))
+      bind_assoc (at_line section.line (declare_section with_variable d section)) (λ next. declare_all with_variable
+      next (header_from between rest).items) (λ declared. body_of text (header_from between rest).body >>= λ body. Ok
+      (headed declared body))
 
-  behind_read : (text : List ℕ) (d : Declared V) (t : Token) (ended : Option Ended) → rest_of_header with_variable text d (header_behind (opened t) ended) ≡ (elim ended as (λ _. Result Ended VcdFault) [ None ↦ Err (record { line = t.line; kind = UnfinishedSection }) | Some e ↦ Ok e ] >>= next_of text d t)
+  behind_read : (text : List ℕ) (d : Declared V) (t : Token) (ended : Option Ended) → rest_of_header with_variable text
+      d (header_behind (opened t) ended)
+      ≡ (elim ended as (λ _. Result Ended VcdFault) [
+        | None ↦ Err (record { line = t.line; kind = UnfinishedSection })
+        | Some e ↦ Ok e
+      ] >>= next_of text d t)
   unfolding declare_all
   behind_read text d t None = refl
-  behind_read text d t (Some ended) = section_read text d (section_with (opened t) ended.words) ended.rest (ends_definitions (opened t))
+  behind_read text d t (Some ended) = section_read text d (section_with (opened t) ended.words) ended.rest
+      (ends_definitions (opened t))
 
-  header_read : (text : List ℕ) (d : Declared V) (t : Token) (ts : List Token) → opens_section t.bytes ≡ true → header_of with_variable text d (t ∷ ts) ≡ (section_from t.line ts >>= next_of text d t)
-  header_read text d t ts opens = ap (rest_of_header with_variable text d) (header_section t ts opens) ∙ behind_read text d t (ended_in ts)
+  header_read : (text : List ℕ) (d : Declared V) (t : Token) (ts : List Token) → opens_section t.bytes ≡ true
+      → header_of with_variable text d (t ∷ ts) ≡ (section_from t.line ts >>= next_of text d t)
+  header_read text d t ts opens = ap (rest_of_header with_variable text d) (header_section t ts opens)
+      ∙ behind_read text d t (ended_in ts)
 
   same_bytes : (word other : List ℕ) → bytes_eq word other ≡ true → word ≡ other
   same_bytes word other e = (bytes_eq-Decides word other).0 e
@@ -131,34 +186,42 @@ module _ {V : Type 0} (with_variable : V → Variable → V) where
   next_at text d line ended word = next_of text d (record { line = line; bytes = word }) ended
 
   -- what the words behind the first token don't matter to
-  rest_read : (read : Result Ended VcdFault) (g : List Token → Reading) → (read >>= λ ended. g ended.rest) ≡ ((read >>= λ ended. Ok ended.rest) >>= g)
+  rest_read : (read : Result Ended VcdFault) (g : List Token → Reading) → (read >>= λ ended. g ended.rest)
+      ≡ ((read >>= λ ended. Ok ended.rest) >>= g)
   rest_read (Ok ended) g = refl
   rest_read (Err fault) g = refl
 
   -- ---- the kinds of sections
 
   read_var : (text : List ℕ) (d : Declared V) (t : Token) (ts : List Token) → Var ≡ opening_of t.bytes
-      → header_of with_variable text d (t ∷ ts) ≡ (section_from t.line ts >>= λ ended. at_line t.line (declare_var with_variable d ended.words) >>= λ next. header_of with_variable text next ended.rest)
+      → header_of with_variable text d (t ∷ ts) ≡ (section_from t.line ts >>= λ ended. at_line t.line
+      (declare_var with_variable d ended.words) >>= λ next. header_of with_variable text next ended.rest)
   unfolding Opens
   read_var text d t ts e =
       let is = opens_as t.bytes Var e in
-      header_read text d t ts is.0 ∙ bind_same (section_from t.line ts) (next_of text d t) _ (λ ended. ap (next_at text d t.line ended) (same_bytes t.bytes (codes "$var") is.1))
+      header_read text d t ts is.0 ∙ bind_same (section_from t.line ts) (next_of text d t) _
+      (λ ended. ap (next_at text d t.line ended) (same_bytes t.bytes (codes "$var") is.1))
 
   read_scope : (text : List ℕ) (d : Declared V) (t : Token) (ts : List Token) → Scope ≡ opening_of t.bytes
-      → header_of with_variable text d (t ∷ ts) ≡ (section_from t.line ts >>= λ ended. header_of with_variable text (open_scope d ended.words) ended.rest)
+      → header_of with_variable text d (t ∷ ts) ≡ (section_from t.line ts >>= λ ended. header_of with_variable text
+      (open_scope d ended.words) ended.rest)
   unfolding Opens
   read_scope text d t ts e =
       let is = opens_as t.bytes Scope e in
-      header_read text d t ts is.0 ∙ bind_same (section_from t.line ts) (next_of text d t) _ (λ ended. ap (next_at text d t.line ended) (same_bytes t.bytes (codes "$scope") is.1))
+      header_read text d t ts is.0 ∙ bind_same (section_from t.line ts) (next_of text d t) _
+      (λ ended. ap (next_at text d t.line ended) (same_bytes t.bytes (codes "$scope") is.1))
 
   read_upscope : (text : List ℕ) (d : Declared V) (t : Token) (ts : List Token) → Upscope ≡ opening_of t.bytes
-      → header_of with_variable text d (t ∷ ts) ≡ (behind_section t.line ts >>= λ rest. at_line t.line (close_scope d d.scopes) >>= λ next. header_of with_variable text next rest)
+      → header_of with_variable text d (t ∷ ts) ≡ (behind_section t.line ts >>= λ rest. at_line t.line
+      (close_scope d d.scopes) >>= λ next. header_of with_variable text next rest)
   unfolding Opens
   read_upscope text d t ts e =
       let is = opens_as t.bytes Upscope e in
       header_read text d t ts is.0
-      ∙ bind_same (section_from t.line ts) (next_of text d t) _ (λ ended. ap (next_at text d t.line ended) (same_bytes t.bytes (codes "$upscope") is.1))
-      ∙ rest_read (section_from t.line ts) (λ rest. at_line t.line (close_scope d d.scopes) >>= λ next. header_of with_variable text next rest)
+      ∙ bind_same (section_from t.line ts) (next_of text d t) _ (λ ended. ap (next_at text d t.line ended)
+      (same_bytes t.bytes (codes "$upscope") is.1))
+      ∙ rest_read (section_from t.line ts) (λ rest. at_line t.line (close_scope d d.scopes) >>= λ next. header_of
+      with_variable text next rest)
 
   read_end : (text : List ℕ) (d : Declared V) (t : Token) (ts : List Token) → EndDefinitions ≡ opening_of t.bytes
       → header_of with_variable text d (t ∷ ts) ≡ (behind_section t.line ts >>= λ rest. Ok (headed d rest))
@@ -166,47 +229,60 @@ module _ {V : Type 0} (with_variable : V → Variable → V) where
   read_end text d t ts e =
       let is = opens_as t.bytes EndDefinitions e in
       header_read text d t ts is.0
-      ∙ bind_same (section_from t.line ts) (next_of text d t) _ (λ ended. ap (next_at text d t.line ended) (same_bytes t.bytes (codes "$enddefinitions") is.1))
+      ∙ bind_same (section_from t.line ts) (next_of text d t) _ (λ ended. ap (next_at text d t.line ended)
+      (same_bytes t.bytes (codes "$enddefinitions") is.1))
       ∙ rest_read (section_from t.line ts) (λ rest. Ok (headed d rest))
 
-  skipped_as : (text : List ℕ) (d : Declared V) (line : ℕ) (rest : List Token) (section : Section) (var scope upscope end : Bool) → end ≡ false → var ≡ false → scope ≡ false → upscope ≡ false
+  skipped_as : (text : List ℕ) (d : Declared V) (line : ℕ) (rest : List Token) (section : Section)
+      (var scope upscope end : Bool) → end ≡ false → var ≡ false → scope ≡ false → upscope ≡ false
       → elim end as (λ _. Reading) [
         | true ↦ Ok (headed d rest)
-        | false ↦ at_line line (cond var (declare_var with_variable d section.words) (cond scope (Ok (open_scope d section.words)) (cond upscope (close_scope d d.scopes) (Ok d)))) >>= λ next. header_of with_variable text next rest
+        | false ↦ at_line line (cond var (declare_var with_variable d section.words)
+            (cond scope (Ok (open_scope d section.words)) (cond upscope (close_scope d d.scopes) (Ok d)))) >>= λ next.
+            header_of with_variable text next rest
       ] ≡ header_of with_variable text d rest
   skipped_as text d line rest section var scope upscope end e v s u = rw (e, v, s, u) refl
 
   read_skipped : (text : List ℕ) (d : Declared V) (t : Token) (ts : List Token) → Skipped ≡ opening_of t.bytes
-      → header_of with_variable text d (t ∷ ts) ≡ (behind_section t.line ts >>= λ rest. header_of with_variable text d rest)
+      → header_of with_variable text d (t ∷ ts) ≡ (behind_section t.line ts >>= λ rest. header_of with_variable text d
+      rest)
   unfolding Opens
   read_skipped text d t ts e =
       let is = opens_as t.bytes Skipped e in
       header_read text d t ts is.opens_one
-      ∙ bind_same (section_from t.line ts) (next_of text d t) _ (λ ended. skipped_as text d t.line ended.rest (section_with (opened t) ended.words) _ _ _ _ is.no_end is.no_var is.no_scope is.no_upscope)
+      ∙ bind_same (section_from t.line ts) (next_of text d t) _ (λ ended. skipped_as text d t.line ended.rest
+      (section_with (opened t) ended.words) _ _ _ _ is.no_end is.no_var is.no_scope is.no_upscope)
       ∙ rest_read (section_from t.line ts) (λ rest. header_of with_variable text d rest)
 
-  pub read_nothing : (text : List ℕ) (d : Declared V) (t : Token) (ts : List Token) → Nothing ≡ opening_of t.bytes → header_of with_variable text d (t ∷ ts) ≡ Err (record { line = t.line; kind = BadToken })
+  pub read_nothing : (text : List ℕ) (d : Declared V) (t : Token) (ts : List Token) → Nothing ≡ opening_of t.bytes
+      → header_of with_variable text d (t ∷ ts) ≡ Err (record { line = t.line; kind = BadToken })
   unfolding Opens header_from declare_all
-  read_nothing text d t ts e = let is = opens_as t.bytes Nothing e in ap (rest_of_header with_variable text d) (stray_read t ts is)
+  read_nothing text d t ts e = let is = opens_as t.bytes Nothing e in ap (rest_of_header with_variable text d)
+      (stray_read t ts is)
     where
-      stray_read : (t : Token) (ts : List Token) → opens_section t.bytes ≡ false → header_from between (t ∷ ts) ≡ with_item (stray t.line) (header_from between ts)
+      stray_read : (t : Token) (ts : List Token) → opens_section t.bytes ≡ false → header_from between (t ∷ ts)
+          ≡ with_item (stray t.line) (header_from between ts)
       stray_read t ts none = rw (header_from, none) refl
 
   -- ---- what comes of one step
 
-  goes : {A B : Type 0} (all : Result B VcdFault) (read : Result A VcdFault) (g : A → Result B VcdFault) (x : A) → all ≡ (read >>= g) → read ≡ Ok x → all ≡ g x
+  goes : {A B : Type 0} (all : Result B VcdFault) (read : Result A VcdFault) (g : A → Result B VcdFault) (x : A) → all
+      ≡ (read >>= g) → read ≡ Ok x → all ≡ g x
   goes {A} {B} all read g x e is = e ∙ ap (λ (r : Result A VcdFault). r >>= g) is
 
-  fails_as : {A B : Type 0} (line : ℕ) (kind : FaultKind) (all : Result B VcdFault) (read : Result A VcdFault) (g : A → Result B VcdFault) → all ≡ (read >>= g) → ReadFailsAs line kind read → ReadFailsAs line kind all
+  fails_as : {A B : Type 0} (line : ℕ) (kind : FaultKind) (all : Result B VcdFault) (read : Result A VcdFault)
+      (g : A → Result B VcdFault) → all ≡ (read >>= g) → ReadFailsAs line kind read → ReadFailsAs line kind all
   fails_as line Memory all read g e h = h
   fails_as {A} line kind all read g e h = e ∙ ap (λ (r : Result A VcdFault). r >>= g) h
 
-  stops : {A B : Type 0} (fault : VcdFault) (all : Result B VcdFault) (read : Result A VcdFault) (g : A → Result B VcdFault) → all ≡ (read >>= g) → ReadFails fault read → ReadFails fault all
+  stops : {A B : Type 0} (fault : VcdFault) (all : Result B VcdFault) (read : Result A VcdFault)
+      (g : A → Result B VcdFault) → all ≡ (read >>= g) → ReadFails fault read → ReadFails fault all
   stops fault all read g e h = fails_as fault.line fault.kind all read g e h
 
   module _ (text : List ℕ) (d : Declared V) (t : Token) (ts : List Token) where
     abbrev behind_var : Ended → Reading
-    behind_var ended = at_line t.line (declare_var with_variable d ended.words) >>= λ next. header_of with_variable text next ended.rest
+    behind_var ended = at_line t.line (declare_var with_variable d ended.words) >>= λ next. header_of with_variable text
+        next ended.rest
 
     abbrev behind_scope : Ended → Reading
     behind_scope ended = header_of with_variable text (open_scope d ended.words) ended.rest
@@ -220,53 +296,88 @@ module _ {V : Type 0} (with_variable : V → Variable → V) where
     abbrev behind_skipped : List Token → Reading
     behind_skipped rest = header_of with_variable text d rest
 
-    pub var_stops : (fault : VcdFault) → Var ≡ opening_of t.bytes → ReadFails fault (section_from t.line ts) → ReadFails fault (header_of with_variable text d (t ∷ ts))
-    var_stops fault e h = stops fault (header_of with_variable text d (t ∷ ts)) (section_from t.line ts) behind_var (read_var text d t ts e) h
+    pub var_stops : (fault : VcdFault) → Var ≡ opening_of t.bytes → ReadFails fault (section_from t.line ts)
+        → ReadFails fault (header_of with_variable text d (t ∷ ts))
+    var_stops fault e h = stops fault (header_of with_variable text d (t ∷ ts)) (section_from t.line ts) behind_var
+        (read_var text d t ts e) h
 
-    pub var_refused : (fault : VcdFault) (words : List (List ℕ)) (rest : List Token) → Var ≡ opening_of t.bytes → section_from t.line ts ≡ Ok (record { words = words; rest = rest }) → ReadFails fault (at_line t.line (declare_var with_variable d words)) → ReadFails fault (header_of with_variable text d (t ∷ ts))
+    pub var_refused : (fault : VcdFault) (words : List (List ℕ)) (rest : List Token) → Var ≡ opening_of t.bytes
+        → section_from t.line ts ≡ Ok (record { words = words; rest = rest }) → ReadFails fault
+        (at_line t.line (declare_var with_variable d words)) → ReadFails fault (header_of with_variable text d (t ∷ ts))
     var_refused fault words rest e is h =
-        stops fault (header_of with_variable text d (t ∷ ts)) (at_line t.line (declare_var with_variable d words)) (λ next. header_of with_variable text next rest)
-        (goes (header_of with_variable text d (t ∷ ts)) (section_from t.line ts) behind_var (record { words = words; rest = rest }) (read_var text d t ts e) is) h
+        stops fault (header_of with_variable text d (t ∷ ts)) (at_line t.line (declare_var with_variable d words))
+        (λ next. header_of with_variable text next rest)
+        (goes (header_of with_variable text d (t ∷ ts)) (section_from t.line ts) behind_var
+        (record { words = words; rest = rest }) (read_var text d t ts e) is) h
 
-    pub var_goes : (words : List (List ℕ)) (rest : List Token) (next : Declared V) → Var ≡ opening_of t.bytes → section_from t.line ts ≡ Ok (record { words = words; rest = rest }) → at_line t.line (declare_var with_variable d words) ≡ Ok next → header_of with_variable text d (t ∷ ts) ≡ header_of with_variable text next rest
+    pub var_goes : (words : List (List ℕ)) (rest : List Token) (next : Declared V) → Var ≡ opening_of t.bytes
+        → section_from t.line ts ≡ Ok (record { words = words; rest = rest })
+        → at_line t.line (declare_var with_variable d words) ≡ Ok next → header_of with_variable text d (t ∷ ts)
+        ≡ header_of with_variable text next rest
     var_goes words rest next e is h =
-        goes (header_of with_variable text d (t ∷ ts)) (at_line t.line (declare_var with_variable d words)) (λ next. header_of with_variable text next rest) next
-        (goes (header_of with_variable text d (t ∷ ts)) (section_from t.line ts) behind_var (record { words = words; rest = rest }) (read_var text d t ts e) is) h
+        goes (header_of with_variable text d (t ∷ ts)) (at_line t.line (declare_var with_variable d words))
+        (λ next. header_of with_variable text next rest) next
+        (goes (header_of with_variable text d (t ∷ ts)) (section_from t.line ts) behind_var
+        (record { words = words; rest = rest }) (read_var text d t ts e) is) h
 
-    pub scope_stops : (fault : VcdFault) → Scope ≡ opening_of t.bytes → ReadFails fault (section_from t.line ts) → ReadFails fault (header_of with_variable text d (t ∷ ts))
-    scope_stops fault e h = stops fault (header_of with_variable text d (t ∷ ts)) (section_from t.line ts) behind_scope (read_scope text d t ts e) h
+    pub scope_stops : (fault : VcdFault) → Scope ≡ opening_of t.bytes → ReadFails fault (section_from t.line ts)
+        → ReadFails fault (header_of with_variable text d (t ∷ ts))
+    scope_stops fault e h = stops fault (header_of with_variable text d (t ∷ ts)) (section_from t.line ts) behind_scope
+        (read_scope text d t ts e) h
 
-    pub scope_goes : (words : List (List ℕ)) (rest : List Token) → Scope ≡ opening_of t.bytes → section_from t.line ts ≡ Ok (record { words = words; rest = rest }) → header_of with_variable text d (t ∷ ts) ≡ header_of with_variable text (open_scope d words) rest
-    scope_goes words rest e is = goes (header_of with_variable text d (t ∷ ts)) (section_from t.line ts) behind_scope (record { words = words; rest = rest }) (read_scope text d t ts e) is
+    pub scope_goes : (words : List (List ℕ)) (rest : List Token) → Scope ≡ opening_of t.bytes → section_from t.line ts
+        ≡ Ok (record { words = words; rest = rest }) → header_of with_variable text d (t ∷ ts) ≡ header_of with_variable
+        text (open_scope d words) rest
+    scope_goes words rest e is = goes (header_of with_variable text d (t ∷ ts)) (section_from t.line ts) behind_scope
+        (record { words = words; rest = rest }) (read_scope text d t ts e) is
 
-    pub upscope_stops : (fault : VcdFault) → Upscope ≡ opening_of t.bytes → ReadFails fault (behind_section t.line ts) → ReadFails fault (header_of with_variable text d (t ∷ ts))
-    upscope_stops fault e h = stops fault (header_of with_variable text d (t ∷ ts)) (behind_section t.line ts) behind_upscope (read_upscope text d t ts e) h
+    pub upscope_stops : (fault : VcdFault) → Upscope ≡ opening_of t.bytes → ReadFails fault (behind_section t.line ts)
+        → ReadFails fault (header_of with_variable text d (t ∷ ts))
+    upscope_stops fault e h = stops fault (header_of with_variable text d (t ∷ ts)) (behind_section t.line ts)
+        behind_upscope (read_upscope text d t ts e) h
 
-    pub upscope_refused : (rest : List Token) → Upscope ≡ opening_of t.bytes → behind_section t.line ts ≡ Ok rest → d.scopes ≡ [] → header_of with_variable text d (t ∷ ts) ≡ Err (record { line = t.line; kind = ScopeUnderflow })
+    pub upscope_refused : (rest : List Token) → Upscope ≡ opening_of t.bytes → behind_section t.line ts ≡ Ok rest
+        → d.scopes ≡ [] → header_of with_variable text d (t ∷ ts)
+        ≡ Err (record { line = t.line; kind = ScopeUnderflow })
     upscope_refused rest e is none =
-        goes (header_of with_variable text d (t ∷ ts)) (behind_section t.line ts) behind_upscope rest (read_upscope text d t ts e) is
-        ∙ ap (λ (scopes : List (List ℕ)). at_line t.line (close_scope d scopes) >>= λ next. header_of with_variable text next rest) none
+        goes (header_of with_variable text d (t ∷ ts)) (behind_section t.line ts) behind_upscope rest
+        (read_upscope text d t ts e) is
+        ∙ ap (λ (scopes : List (List ℕ)). at_line t.line (close_scope d scopes) >>= λ next. header_of with_variable text
+        next rest) none
 
-    pub upscope_goes : (rest : List Token) (name : List ℕ) (scopes : List (List ℕ)) → Upscope ≡ opening_of t.bytes → behind_section t.line ts ≡ Ok rest → d.scopes ≡ name ∷ scopes → header_of with_variable text d (t ∷ ts) ≡ header_of with_variable text (record d { scopes = scopes }) rest
+    pub upscope_goes : (rest : List Token) (name : List ℕ) (scopes : List (List ℕ)) → Upscope ≡ opening_of t.bytes
+        → behind_section t.line ts ≡ Ok rest → d.scopes ≡ name ∷ scopes → header_of with_variable text d (t ∷ ts)
+        ≡ header_of with_variable text (record d { scopes = scopes }) rest
     upscope_goes rest name scopes e is some =
-        goes (header_of with_variable text d (t ∷ ts)) (behind_section t.line ts) behind_upscope rest (read_upscope text d t ts e) is
-        ∙ ap (λ (scopes : List (List ℕ)). at_line t.line (close_scope d scopes) >>= λ next. header_of with_variable text next rest) some
+        goes (header_of with_variable text d (t ∷ ts)) (behind_section t.line ts) behind_upscope rest
+        (read_upscope text d t ts e) is
+        ∙ ap (λ (scopes : List (List ℕ)). at_line t.line (close_scope d scopes) >>= λ next. header_of with_variable text
+        next rest) some
 
-    pub end_stops : (fault : VcdFault) → EndDefinitions ≡ opening_of t.bytes → ReadFails fault (behind_section t.line ts) → ReadFails fault (header_of with_variable text d (t ∷ ts))
-    end_stops fault e h = stops fault (header_of with_variable text d (t ∷ ts)) (behind_section t.line ts) behind_end (read_end text d t ts e) h
+    pub end_stops : (fault : VcdFault) → EndDefinitions ≡ opening_of t.bytes → ReadFails fault
+        (behind_section t.line ts) → ReadFails fault (header_of with_variable text d (t ∷ ts))
+    end_stops fault e h = stops fault (header_of with_variable text d (t ∷ ts)) (behind_section t.line ts) behind_end
+        (read_end text d t ts e) h
 
-    pub end_goes : (rest : List Token) → EndDefinitions ≡ opening_of t.bytes → behind_section t.line ts ≡ Ok rest → header_of with_variable text d (t ∷ ts) ≡ Ok (headed d rest)
-    end_goes rest e is = goes (header_of with_variable text d (t ∷ ts)) (behind_section t.line ts) behind_end rest (read_end text d t ts e) is
+    pub end_goes : (rest : List Token) → EndDefinitions ≡ opening_of t.bytes → behind_section t.line ts ≡ Ok rest
+        → header_of with_variable text d (t ∷ ts) ≡ Ok (headed d rest)
+    end_goes rest e is = goes (header_of with_variable text d (t ∷ ts)) (behind_section t.line ts) behind_end rest
+        (read_end text d t ts e) is
 
-    pub skipped_stops : (fault : VcdFault) → Skipped ≡ opening_of t.bytes → ReadFails fault (behind_section t.line ts) → ReadFails fault (header_of with_variable text d (t ∷ ts))
-    skipped_stops fault e h = stops fault (header_of with_variable text d (t ∷ ts)) (behind_section t.line ts) behind_skipped (read_skipped text d t ts e) h
+    pub skipped_stops : (fault : VcdFault) → Skipped ≡ opening_of t.bytes → ReadFails fault (behind_section t.line ts)
+        → ReadFails fault (header_of with_variable text d (t ∷ ts))
+    skipped_stops fault e h = stops fault (header_of with_variable text d (t ∷ ts)) (behind_section t.line ts)
+        behind_skipped (read_skipped text d t ts e) h
 
-    pub skipped_goes : (rest : List Token) → Skipped ≡ opening_of t.bytes → behind_section t.line ts ≡ Ok rest → header_of with_variable text d (t ∷ ts) ≡ header_of with_variable text d rest
-    skipped_goes rest e is = goes (header_of with_variable text d (t ∷ ts)) (behind_section t.line ts) behind_skipped rest (read_skipped text d t ts e) is
+    pub skipped_goes : (rest : List Token) → Skipped ≡ opening_of t.bytes → behind_section t.line ts ≡ Ok rest
+        → header_of with_variable text d (t ∷ ts) ≡ header_of with_variable text d rest
+    skipped_goes rest e is = goes (header_of with_variable text d (t ∷ ts)) (behind_section t.line ts) behind_skipped
+        rest (read_skipped text d t ts e) is
 
   -- the text ends before its definitions do
   pub header_ends : (text : List ℕ) (line : ℕ) (d : Declared V) (ts : List Token) → line ≡ 1 → ts ≡ []
-      → header_of with_variable text d ts ≡ Err (record { line = line_behind line (take (length text) text); kind = NoEndDefinitions })
+      → header_of with_variable text d ts
+      ≡ Err (record { line = line_behind line (take (length text) text); kind = NoEndDefinitions })
   unfolding header_from declare_all
   header_ends text line d ts first none =
       ap (header_of with_variable text d) none

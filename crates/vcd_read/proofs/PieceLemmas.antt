@@ -1,5 +1,6 @@
 -- A text in pieces that end behind a space: its tokens are those of the pieces.
-use Rattle.std.proofs.Common.{◌≡◌, ℕ, Bool, true, false, ◌+◌, ◌<◌, cond, eqb, List, [], ◌∷◌, ◌++◌, length, get_or, take, refl, sym, ap, ◌∙◌, arith, append_assoc, zero-add}
+use Rattle.std.proofs.Common.{◌≡◌, ℕ, Bool, true, false, ◌+◌, ◌<◌, cond, eqb, List, [], ◌∷◌, ◌++◌, length, get_or, take}
+use Rattle.std.proofs.Common.{refl, sym, ap, ◌∙◌, arith, append_assoc, zero-add}
 use Rattle.std.proofs.lemmas.List.{take_more}
 use Rattle.std.specs.List.{count_by}
 use Rattle.std.proofs.lemmas.List.Sums.{sum_by-cons}
@@ -10,7 +11,8 @@ use Rattle.vcd_read.specs.Reading.{line_behind}
 abbrev behind : Cut → List Token → Cut
 behind cut more = record { run = cut.run; others = cut.others ++ more }
 
-token_of-behind : (line : ℕ) (run : List ℕ) (others more : List Token) → token_of line run (others ++ more) ≡ token_of line run others ++ more
+token_of-behind : (line : ℕ) (run : List ℕ) (others more : List Token) → token_of line run (others ++ more)
+    ≡ token_of line run others ++ more
 token_of-behind line [] others more = refl
 token_of-behind line (b ∷ run) others more = refl
 
@@ -28,7 +30,8 @@ one_more false count n line e = omega (arith, e)
 
 line_behind-cons : (line b : ℕ) (bytes : List ℕ) → line_behind line (b ∷ bytes) ≡ line_behind (next_line line b) bytes
 line_behind-cons line b bytes =
-    one_more (eqb b 10) (count_by (λ (x : ℕ). eqb x 10) (b ∷ bytes)) (count_by (λ (x : ℕ). eqb x 10) bytes) line (sum_by-cons (λ (x : ℕ). cond (eqb x 10) 1 0) b bytes)
+    one_more (eqb b 10) (count_by (λ (x : ℕ). eqb x 10) (b ∷ bytes)) (count_by (λ (x : ℕ). eqb x 10) bytes) line
+    (sum_by-cons (λ (x : ℕ). cond (eqb x 10) 1 0) b bytes)
 
 line_behind-one : (line b : ℕ) → line_behind line (b ∷ []) ≡ next_line line b
 line_behind-one line b = line_behind-cons line b [] ∙ zero-add (next_line line b)
@@ -38,30 +41,38 @@ abbrev spaced : List Token → Cut
 spaced tokens = record { run = []; others = tokens }
 
 cut_behind : (front : List ℕ) (s : ℕ) (rest : List ℕ) (line : ℕ) → is_space s ≡ true
-    → cut_from line (front ++ s ∷ rest) ≡ behind (cut_from line (front ++ s ∷ [])) (tokens_from (line_behind line (front ++ s ∷ [])) rest)
+    → cut_from line (front ++ s ∷ rest) ≡ behind (cut_from line (front ++ s ∷ []))
+    (tokens_from (line_behind line (front ++ s ∷ [])) rest)
 unfolding cut_from
 cut_behind [] s rest line e = rw e (ap (λ (l : ℕ). spaced (tokens_from l rest)) (sym (line_behind-one line s)))
 cut_behind (b ∷ front) s rest line e =
     ap (with_byte line b) (cut_behind front s rest (next_line line b) e)
-    ∙ with_byte-behind line b (cut_from (next_line line b) (front ++ s ∷ [])) (tokens_from (line_behind (next_line line b) (front ++ s ∷ [])) rest)
-    ∙ ap (λ (l : ℕ). behind (with_byte line b (cut_from (next_line line b) (front ++ s ∷ []))) (tokens_from l rest)) (sym (line_behind-cons line b (front ++ s ∷ [])))
+    ∙ with_byte-behind line b (cut_from (next_line line b) (front ++ s ∷ []))
+    (tokens_from (line_behind (next_line line b) (front ++ s ∷ [])) rest)
+    ∙ ap (λ (l : ℕ). behind (with_byte line b (cut_from (next_line line b) (front ++ s ∷ []))) (tokens_from l rest))
+    (sym (line_behind-cons line b (front ++ s ∷ [])))
 
 -- the tokens of a text are those up to a space, and those behind it
 pub tokens_behind : (front : List ℕ) (s : ℕ) (rest : List ℕ) (line : ℕ) → is_space s ≡ true
-    → tokens_from line (front ++ s ∷ rest) ≡ tokens_from line (front ++ s ∷ []) ++ tokens_from (line_behind line (front ++ s ∷ [])) rest
+    → tokens_from line (front ++ s ∷ rest) ≡ tokens_from line (front ++ s ∷ [])
+    ++ tokens_from (line_behind line (front ++ s ∷ [])) rest
 tokens_behind front s rest line e =
     let cut = cut_from line (front ++ s ∷ []) in
-    ap (all_of line) (cut_behind front s rest line e) ∙ token_of-behind line cut.run cut.others (tokens_from (line_behind line (front ++ s ∷ [])) rest)
+    ap (all_of line) (cut_behind front s rest line e) ∙ token_of-behind line cut.run cut.others
+    (tokens_from (line_behind line (front ++ s ∷ [])) rest)
 
 -- nothing, and what follows
-pub none_behind : (text rest : List ℕ) (line : ℕ) → tokens_from line (take 0 text ++ rest) ≡ tokens_from line (take 0 text) ++ tokens_from (line_behind line (take 0 text)) rest
+pub none_behind : (text rest : List ℕ) (line : ℕ) → tokens_from line (take 0 text ++ rest) ≡ tokens_from line
+    (take 0 text) ++ tokens_from (line_behind line (take 0 text)) rest
 unfolding cut_from
 none_behind text rest line = ap (λ (l : ℕ). tokens_from l rest) (sym (zero-add line))
 
 -- what ends behind a space, and what follows
 pub space_behind : (text rest : List ℕ) (end line : ℕ) → end < length text → is_space (get_or text end 0) ≡ true
-    → tokens_from line (take (end + 1) text ++ rest) ≡ tokens_from line (take (end + 1) text) ++ tokens_from (line_behind line (take (end + 1) text)) rest
+    → tokens_from line (take (end + 1) text ++ rest) ≡ tokens_from line (take (end + 1) text)
+    ++ tokens_from (line_behind line (take (end + 1) text)) rest
 space_behind text rest end line lt space =
     let front : take (end + 1) text ≡ take end text ++ get_or text end 0 ∷ [] = take_more text end 0 lt in
-    let joined : (take end text ++ get_or text end 0 ∷ []) ++ rest ≡ take end text ++ get_or text end 0 ∷ rest = append_assoc (take end text) (get_or text end 0 ∷ []) rest in
+    let joined : (take end text ++ get_or text end 0 ∷ []) ++ rest ≡ take end text ++ get_or text end 0
+    ∷ rest = append_assoc (take end text) (get_or text end 0 ∷ []) rest in
     rw (front, joined) (tokens_behind (take end text) (get_or text end 0) rest line space)

@@ -7,7 +7,8 @@ use Rattle.vcd_read.specs.declared.fault.FaultKind.TheVariants.{Memory}
 use Rattle.vcd_read.specs.declared.fault.VcdFault.{VcdFault}
 use Rattle.vcd_read.specs.Tokens.{Token}
 use Rattle.vcd_read.specs.Header.{◌>>=◌, Net}
-use Rattle.vcd_read.specs.Body.{BodyItem, Standing, ready, body_from, stand_after, stand_after_all, at_the_end, first_standing}
+use Rattle.vcd_read.specs.Body.{BodyItem, Standing, ready, body_from, stand_after, stand_after_all, at_the_end}
+use Rattle.vcd_read.specs.Body.{first_standing}
 use Rattle.vcd_read.specs.Meaning.{ReadFails, ReadFailsAs, ReadGives, instants_from, instants_of}
 use Rattle.vcd_read.specs.DumpProgress.{DumpProgress, DumpState, steps, progress_after, ended}
 use Rattle.vcd_read.specs.Contents.{TimesAscend}
@@ -22,46 +23,60 @@ with_standing progress standing = record { standing = standing; progress = progr
 
 stand_step : (nets : List Net) (items : List BodyItem) (progress : DumpProgress) (r : Result Standing VcdFault)
     → ((s : DumpState) → stand_after_all nets s.standing items ≡ (steps nets s items >>= λ end. Ok end.standing))
-    → (r >>= λ next. stand_after_all nets next items) ≡ (((r >>= λ next. Ok (with_standing progress next)) >>= λ next. steps nets next items) >>= λ end. Ok end.standing)
+    → (r >>= λ next. stand_after_all nets next items)
+    ≡ (((r >>= λ next. Ok (with_standing progress next)) >>= λ next. steps nets next items) >>= λ end. Ok
+    end.standing)
 stand_step nets items progress (Ok next) rest = rest (with_standing progress next)
 stand_step nets items progress (Err fault) rest = refl
 
 -- where the items leave a body that is read, without the values
-stands : (nets : List Net) (s : DumpState) (items : List BodyItem) → stand_after_all nets s.standing items ≡ (steps nets s items >>= λ end. Ok end.standing)
+stands : (nets : List Net) (s : DumpState) (items : List BodyItem) → stand_after_all nets s.standing items
+    ≡ (steps nets s items >>= λ end. Ok end.standing)
 unfolding stand_after_all steps
 stands nets s [] = refl
-stands nets s (item ∷ items) = stand_step nets items (progress_after nets s.progress item) (stand_after nets s.standing item) (λ s2. stands nets s2 items)
+stands nets s (item ∷ items) = stand_step nets items (progress_after nets s.progress item)
+    (stand_after nets s.standing item) (λ s2. stands nets s2 items)
 
 abbrev result_of : Result DumpState VcdFault → Result (List Instant) VcdFault
 result_of r = r >>= at_end
 
-read_by : (nets : List Net) (items : List BodyItem) (r : Result DumpState VcdFault) → steps nets (at_start nets) items ≡ r
-    → (stand_after_all nets first_standing items >>= λ end. at_the_end end >>= λ stood. Ok (instants_of nets items)) ≡ result_of r
+read_by : (nets : List Net) (items : List BodyItem) (r : Result DumpState VcdFault) → steps nets (at_start nets) items
+    ≡ r
+    → (stand_after_all nets first_standing items >>= λ end. at_the_end end >>= λ stood. Ok (instants_of nets items))
+    ≡ result_of r
 read_by nets items (Ok s) e =
-    let stand : stand_after_all nets first_standing items ≡ Ok s.standing = stands nets (at_start nets) items ∙ ap (λ (r : Result DumpState VcdFault). r >>= λ end. Ok end.standing) e in
+    let stand : stand_after_all nets first_standing items ≡ Ok s.standing = stands nets (at_start nets) items
+    ∙ ap (λ (r : Result DumpState VcdFault). r >>= λ end. Ok end.standing) e in
     let law = instants_law nets items s e in
     rw (stand, ← law) refl
 read_by nets items (Err fault) e =
-    let stand : stand_after_all nets first_standing items ≡ Err fault = stands nets (at_start nets) items ∙ ap (λ (r : Result DumpState VcdFault). r >>= λ end. Ok end.standing) e in
+    let stand : stand_after_all nets first_standing items ≡ Err fault = stands nets (at_start nets) items
+    ∙ ap (λ (r : Result DumpState VcdFault). r >>= λ end. Ok end.standing) e in
     rw stand refl
 
 -- the instants of a body are what its items come to at their end
-pub read_whole : (nets : List Net) (tokens : List Token) (s : DumpState) → s ≡ at_start nets → instants_from nets tokens ≡ (steps nets s (body_from ready tokens) >>= at_end)
-read_whole nets tokens s e = read_by nets (body_from ready tokens) _ refl ∙ ap (λ (s : DumpState). steps nets s (body_from ready tokens) >>= at_end) (sym e)
+pub read_whole : (nets : List Net) (tokens : List Token) (s : DumpState) → s ≡ at_start nets → instants_from nets tokens
+    ≡ (steps nets s (body_from ready tokens) >>= at_end)
+read_whole nets tokens s e = read_by nets (body_from ready tokens) _ refl
+    ∙ ap (λ (s : DumpState). steps nets s (body_from ready tokens) >>= at_end) (sym e)
 
-fails_then : {X Y : Type 0} (line : ℕ) (kind : FaultKind) (r : Result X VcdFault) (next : X → Result Y VcdFault) → ReadFailsAs line kind r → ReadFailsAs line kind (r >>= next)
+fails_then : {X Y : Type 0} (line : ℕ) (kind : FaultKind) (r : Result X VcdFault) (next : X → Result Y VcdFault)
+    → ReadFailsAs line kind r → ReadFailsAs line kind (r >>= next)
 fails_then line Memory r next h = h
 fails_then {X = X} {Y = Y} line kind r next h = ap (λ (r : Result X VcdFault). r >>= next) h
 
 -- what fails first, fails
-pub fails_first : {X Y : Type 0} (fault : VcdFault) (r : Result X VcdFault) (next : X → Result Y VcdFault) (whole : Result Y VcdFault) → whole ≡ (r >>= next) → ReadFails fault r → ReadFails fault whole
+pub fails_first : {X Y : Type 0} (fault : VcdFault) (r : Result X VcdFault) (next : X → Result Y VcdFault)
+    (whole : Result Y VcdFault) → whole ≡ (r >>= next) → ReadFails fault r → ReadFails fault whole
 fails_first fault r next whole e h = rw e (fails_then fault.line fault.kind r next h)
 
-pub gives_same : {X Y : Type 0} (view : X → Y) (r : Result X VcdFault) (whole read : Result Y VcdFault) → whole ≡ read → ReadGives view r read → ReadGives view r whole
+pub gives_same : {X Y : Type 0} (view : X → Y) (r : Result X VcdFault) (whole read : Result Y VcdFault) → whole ≡ read
+    → ReadGives view r read → ReadGives view r whole
 gives_same view r whole read e h = rw e h
 
 -- what a `?` returns
-pub gives_err : {X Y : Type 0} (view : X → Y) (r : Result X VcdFault) (fault : VcdFault) (read : Result Y VcdFault) → IsErrAnd r (λ e. e ≡ fault) → ReadFails fault read → ReadGives view r read
+pub gives_err : {X Y : Type 0} (view : X → Y) (r : Result X VcdFault) (fault : VcdFault) (read : Result Y VcdFault)
+    → IsErrAnd r (λ e. e ≡ fault) → ReadFails fault read → ReadGives view r read
 gives_err view (Ok x) fault read is h = absurd is
 gives_err view (Err e) fault read is h = rw is h
 
@@ -69,10 +84,14 @@ same_ok : (r : Result Standing VcdFault) (xs ys : List Instant) → (r >>= λ st
 same_ok (Ok stood) xs ys h = cc
 same_ok (Err fault) xs ys h = absurd cc
 
-rise_by : (nets : List Net) (items : List BodyItem) (r : Result DumpState VcdFault) (instants : List Instant) → steps nets (at_start nets) items ≡ r → result_of r ≡ Ok instants → TimesAscend instants
-rise_by nets items (Ok s) instants e whole = subst TimesAscend (sym (instants_law nets items s e) ∙ same_ok (at_the_end s.standing) (ended s.progress) instants whole) (instants_rise nets items s e)
+rise_by : (nets : List Net) (items : List BodyItem) (r : Result DumpState VcdFault) (instants : List Instant)
+    → steps nets (at_start nets) items ≡ r → result_of r ≡ Ok instants → TimesAscend instants
+rise_by nets items (Ok s) instants e whole = subst TimesAscend (sym (instants_law nets items s e)
+    ∙ same_ok (at_the_end s.standing) (ended s.progress) instants whole) (instants_rise nets items s e)
 rise_by nets items (Err fault) instants e whole = absurd cc
 
 -- the times of the instants of a body ascend
-pub body_rises : (nets : List Net) (tokens : List Token) (instants : List Instant) → instants_from nets tokens ≡ Ok instants → TimesAscend instants
-body_rises nets tokens instants whole = rise_by nets (body_from ready tokens) _ instants refl (sym (read_whole nets tokens (at_start nets) refl) ∙ whole)
+pub body_rises : (nets : List Net) (tokens : List Token) (instants : List Instant) → instants_from nets tokens
+    ≡ Ok instants → TimesAscend instants
+body_rises nets tokens instants whole = rise_by nets (body_from ready tokens) _ instants refl
+    (sym (read_whole nets tokens (at_start nets) refl) ∙ whole)

@@ -1,5 +1,7 @@
 -- The name and the index in a reference.
-use Rattle.std.proofs.Common.{◌≡◌, ℕ, ◌+◌, ◌-◌, ◌<◌, ◌≤◌, Bool, true, false, cond, eqb, ltb, leb, not, ◌&&◌, List, length, get_or, take, drop, Option, Some, None, option_map, Result, Ok, Err, refl, sym, ap, ◌∙◌, arith}
+use Rattle.std.proofs.Common.{◌≡◌, ℕ, ◌+◌, ◌-◌, ◌<◌, ◌≤◌, Bool, true, false, cond, eqb, ltb, leb, not, ◌&&◌, List}
+use Rattle.std.proofs.Common.{length, get_or, take, drop, Option, Some, None, option_map, Result, Ok, Err, refl, sym}
+use Rattle.std.proofs.Common.{ap, ◌∙◌, arith}
 use Rattle.std.specs.Prelude.{option_and_then}
 use Rattle.std.specs.Str.{all_ascii_digits}
 use Rattle.std.specs.List.{list_any, position_or_len, suffix_len}
@@ -25,22 +27,28 @@ refused kind = Err kind
 
 -- nine digits are below the limit
 number_short : (text : List ℕ) → is_number text ≡ true → length text ≤ 9 → number text < 1000000000
-number_short text digits short = digits_value_short (numerals_by_value (λ ds. all_ascii_digits ds ≡ true) tells_all_ascii_digits) text 9 (digits_of_number text digits) short
+number_short text digits short = digits_value_short (numerals_by_value (λ ds. all_ascii_digits ds ≡ true)
+    tells_all_ascii_digits) text 9 (digits_of_number text digits) short
 
-none_as : (text : List ℕ) (kind fault : FaultKind) (digits fits short : Bool) → (digits ≡ true → fits ≡ true) → refused kind ≡ cond digits (cond fits (Ok (number text)) (Err NumberTooLarge)) (Err fault) → no_number ≡ cond (digits && short) (Some (number text)) None
+none_as : (text : List ℕ) (kind fault : FaultKind) (digits fits short : Bool) → (digits ≡ true → fits ≡ true)
+    → refused kind ≡ cond digits (cond fits (Ok (number text)) (Err NumberTooLarge)) (Err fault) → no_number
+    ≡ cond (digits && short) (Some (number text)) None
 none_as text kind fault false fits short below e = refl
 none_as text kind fault true true short below e = absurd (cc e)
 none_as text kind fault true false short below e = absurd (false≢true (below refl))
 
 -- a short text that is no number below the limit is no number of an index
-pub index_number-none : (text : List ℕ) (kind fault : FaultKind) → length text ≤ 9 → refused kind ≡ number_below 1000000000 fault text → no_number ≡ index_number text
+pub index_number-none : (text : List ℕ) (kind fault : FaultKind) → length text ≤ 9 → refused kind
+    ≡ number_below 1000000000 fault text → no_number ≡ index_number text
 index_number-none text kind fault short e =
-    none_as text kind fault (is_number text) (ltb (number text) 1000000000) (leb (length text) 9) (λ digits. lt-ltb _ _ (number_short text digits short)) e
+    none_as text kind fault (is_number text) (ltb (number text) 1000000000) (leb (length text) 9)
+    (λ digits. lt-ltb _ _ (number_short text digits short)) e
 
 -- ---- the colon
 
 abbrev pub two_numbers : List ℕ → List ℕ → Option (ℕ × ℕ)
-two_numbers front back = option_and_then (λ (m : ℕ). option_map (λ (l : ℕ). (m, l)) (index_number back)) (index_number front)
+two_numbers front back = option_and_then (λ (m : ℕ). option_map (λ (l : ℕ). (m, l)) (index_number back))
+    (index_number front)
 
 abbrev pub one_number : List ℕ → Option (ℕ × ℕ)
 one_number text = option_map (λ (n : ℕ). (n, n)) (index_number text)
@@ -55,27 +63,33 @@ not_true : (b : Bool) → (b ≡ true → ⊥) → b ≡ false
 not_true true h = absurd (h refl)
 not_true false h = refl
 
-pub index_between-colon : (text : List ℕ) (colon : ℕ) → NoneBefore (Passes (is_byte 58) text) 0 (length text) colon → Passes (is_byte 58) text colon
+pub index_between-colon : (text : List ℕ) (colon : ℕ) → NoneBefore (Passes (is_byte 58) text) 0 (length text) colon
+    → Passes (is_byte 58) text colon
     → index_between text ≡ two_numbers (take colon text) (take (length text - (colon + 1)) (drop (colon + 1) text))
 index_between-colon text colon first here =
     let any : list_any is_colon text ≡ true = list_any_at is_colon text colon 0 first.high here in
-    let place : position_or_len is_colon text ≡ colon = position_or_len_is is_colon text colon 0 (omega (arith, first.high)) (λ k lt. not_true _ (first.before k (omega arith) lt)) (λ _. here) in
+    let place : position_or_len is_colon text ≡ colon = position_or_len_is is_colon text colon 0
+    (omega (arith, first.high)) (λ k lt. not_true _ (first.before k (omega arith) lt)) (λ _. here) in
     ap (λ (some : Bool). colon_cut text some (position_or_len is_colon text)) any
     ∙ ap (colon_cut text true) place
     ∙ ap (two_numbers (take colon text)) (sym (take_rest text (colon + 1)))
 
-pub index_between-one : (text : List ℕ) → Nowhere (Passes (is_byte 58) text) 0 (length text) → index_between text ≡ one_number text
+pub index_between-one : (text : List ℕ) → Nowhere (Passes (is_byte 58) text) 0 (length text) → index_between text
+    ≡ one_number text
 index_between-one text none =
-    let any : list_any is_colon text ≡ false = list_any_none is_colon text (λ k d lt. not_true _ (λ here. none k (omega arith) lt (ap is_colon (get_or_default text k 0 d lt) ∙ here))) in
+    let any : list_any is_colon text ≡ false = list_any_none is_colon text
+    (λ k d lt. not_true _ (λ here. none k (omega arith) lt (ap is_colon (get_or_default text k 0 d lt) ∙ here))) in
     ap (λ (some : Bool). colon_cut text some (position_or_len is_colon text)) any
 
 pub no_two : (front back : List ℕ) → no_number ≡ index_number front → two_numbers front back ≡ None
 no_two front back e = rw (← e) refl
 
-pub no_second : (front back : List ℕ) (m : ℕ) → Some m ≡ index_number front → no_number ≡ index_number back → two_numbers front back ≡ None
+pub no_second : (front back : List ℕ) (m : ℕ) → Some m ≡ index_number front → no_number ≡ index_number back
+    → two_numbers front back ≡ None
 no_second front back m e f = rw (← e, ← f) refl
 
-pub two : (front back : List ℕ) (m l : ℕ) → Some m ≡ index_number front → Some l ≡ index_number back → two_numbers front back ≡ Some (m, l)
+pub two : (front back : List ℕ) (m l : ℕ) → Some m ≡ index_number front → Some l ≡ index_number back → two_numbers front
+    back ≡ Some (m, l)
 two front back m l e f = rw (← e, ← f) refl
 
 pub no_one : (text : List ℕ) → no_number ≡ index_number text → one_number text ≡ None
@@ -90,7 +104,8 @@ abbrev opens : ℕ → Bool
 opens b = eqb b 91
 
 abbrev parts_at : List ℕ → Bool → ℕ → Option (List ℕ × List ℕ)
-parts_at front both later = cond both (Some (take (length front - later - 1) front, drop (length front - later) front)) None
+parts_at front both later = cond both (Some (take (length front - later - 1) front, drop (length front - later) front))
+    None
 
 abbrev some_parts : List ℕ → List ℕ → Option (List ℕ × List ℕ)
 some_parts name inner = Some (name, inner)
@@ -102,19 +117,31 @@ and_false false c e = refl
 abbrev front_of : List ℕ → List ℕ
 front_of text = take (length text - 1) text
 
-pub bracketed-none : (text : List ℕ) → Nowhere (Passes (is_byte 91) (front_of text)) 0 (length (front_of text)) → bracketed text ≡ None
+pub bracketed-none : (text : List ℕ) → Nowhere (Passes (is_byte 91) (front_of text)) 0 (length (front_of text))
+    → bracketed text ≡ None
 bracketed-none text none =
-    let any : list_any opens (front_of text) ≡ false = list_any_none opens (front_of text) (λ k d lt. not_true _ (λ here. none k (omega arith) lt (ap opens (get_or_default (front_of text) k 0 d lt) ∙ here))) in
-    ap (λ (b : Bool). parts_at (front_of text) b (suffix_len (λ x. not (opens x)) (front_of text))) (and_false (eqb (get_or text (length text - 1) 0) 93) (list_any opens (front_of text)) any)
+    let any : list_any opens (front_of text) ≡ false = list_any_none opens (front_of text)
+    (λ k d lt. not_true _ (λ here. none k (omega arith) lt (ap opens (get_or_default (front_of text) k 0 d lt)
+    ∙ here))) in
+    ap (λ (b : Bool). parts_at (front_of text) b (suffix_len (λ x. not (opens x)) (front_of text)))
+    (and_false (eqb (get_or text (length text - 1) 0) 93) (list_any opens (front_of text)) any)
 
-pub bracketed-some : (text : List ℕ) (place : ℕ) → get_or text (length text - 1) 0 ≡ 93 → NoneAfter (Passes (is_byte 91) (front_of text)) 0 (length (front_of text)) place → Passes (is_byte 91) (front_of text) place
-    → bracketed text ≡ Some (take place (front_of text), take (length (front_of text) - (place + 1)) (drop (place + 1) (front_of text)))
+pub bracketed-some : (text : List ℕ) (place : ℕ) → get_or text (length text - 1) 0 ≡ 93
+    → NoneAfter (Passes (is_byte 91) (front_of text)) 0 (length (front_of text)) place → Passes (is_byte 91)
+    (front_of text) place
+    → bracketed text ≡ Some (
+      take place (front_of text),
+      take (length (front_of text) - (place + 1))
+          (drop (place + 1) (front_of text)),
+    )
 bracketed-some text place closes last here =
     let front = front_of text in
     let any : list_any opens front ≡ true = list_any_at opens front place 0 last.high here in
     let back : place + 1 - 1 ≡ place = omega arith in
     let opened : not (opens (get_or front (place + 1 - 1) 0)) ≡ false = rw back (ap not here) in
-    let later : suffix_len (λ x. not (opens x)) front ≡ length front - (place + 1) = suffix_len_is (λ x. not (opens x)) front (place + 1) 0 (omega (arith, last.high)) (λ k low high. ap not (not_true _ (last.after k low high))) (λ _. opened) in
+    let later : suffix_len (λ x. not (opens x)) front ≡ length front - (place + 1) = suffix_len_is (λ x. not (opens x))
+    front (place + 1) 0 (omega (arith, last.high)) (λ k low high. ap not (not_true _ (last.after k low high)))
+    (λ _. opened) in
     let before : length front - (length front - (place + 1)) - 1 ≡ place = omega (arith, last.high) in
     let after : length front - (length front - (place + 1)) ≡ place + 1 = omega (arith, last.high) in
     ap (λ (b : ℕ). parts_at front (eqb b 93 && list_any opens front) (suffix_len (λ x. not (opens x)) front)) closes

@@ -1,7 +1,9 @@
 -- From the mask of sixteen bytes to the run that they begin with.
-use Rattle.std.proofs.Common.{◌≡◌, ℕ, ◌+◌, ◌%◌, ◌^◌, ◌<◌, ◌≤◌, eqb, Bool, true, false, not, cond, List, [], ◌∷◌, map, length, get_or, replicate, Fits, w8, refl, sym, ap, ap₂, ◌∙◌, arith}
+use Rattle.std.proofs.Common.{◌≡◌, ℕ, ◌+◌, ◌%◌, ◌^◌, ◌<◌, ◌≤◌, eqb, Bool, true, false, not, cond, List, [], ◌∷◌, map}
+use Rattle.std.proofs.Common.{length, get_or, replicate, Fits, w8, refl, sym, ap, ap₂, ◌∙◌, arith}
 use Rattle.std.proofs.lemmas.Bool.{agree_below, agree_below_at, not-true, not-false}
-use Rattle.std.proofs.lemmas.Simd.{map-map, mask_l-mod, length-chunk, first_set_mask_l, run_in_chunk_le, run_in_chunk_fails, run_in_chunk_stops}
+use Rattle.std.proofs.lemmas.Simd.{map-map, mask_l-mod, length-chunk, first_set_mask_l, run_in_chunk_le}
+use Rattle.std.proofs.lemmas.Simd.{run_in_chunk_fails, run_in_chunk_stops}
 use Rattle.std.proofs.lemmas.List.{length-map}
 use Rattle.std.specs.List.{prefix_len}
 use Rattle.std.specs.Int.{w64, trailing_zeros}
@@ -12,7 +14,8 @@ zip2-map h f g [] = refl
 zip2-map h f g (x ∷ xs) = ap (λ r. h (f x) (g x) ∷ r) (zip2-map h f g xs)
 
 -- an operation on two vectors that were computed lane by lane from v
-pub joined : (h : ℕ → ℕ → ℕ) (f g : ℕ → ℕ) (v : List ℕ) {a b : List ℕ} → a ≡ map f v → b ≡ map g v → zip2 h a b ≡ map (λ x. h (f x) (g x)) v
+pub joined : (h : ℕ → ℕ → ℕ) (f g : ℕ → ℕ) (v : List ℕ) {a b : List ℕ} → a ≡ map f v → b ≡ map g v → zip2 h a b
+    ≡ map (λ x. h (f x) (g x)) v
 joined h f g v p q = ap₂ (zip2 h) p q ∙ zip2-map h f g v
 
 pub splat_is : (v : List ℕ) (n y : ℕ) → length v ≡ n → replicate n y ≡ map (λ _. y) v
@@ -20,9 +23,12 @@ splat_is [] n y e = ap (λ k. replicate k y) (sym e)
 splat_is (x ∷ xs) n y e = ap (λ k. replicate k y) (sym e) ∙ ap (λ r. y ∷ r) (splat_is xs (length xs) y refl)
 
 -- a test fails where its lane stops, and nowhere before
-module _ (q : ℕ → Bool) (text : List ℕ) (at r : ℕ) (lanes : List ℕ) (room : at + 16 ≤ length text) (fits : (k : ℕ) → Fits w8 (get_or text k 0))
-    (found : r ≡ cond (eqb (mask_l (map (top 7) lanes) % 2 ^ 64) 0) 16 (trailing_zeros w64 (mask_l (map (top 7) lanes) % 2 ^ 64)))
-    (f : ℕ → ℕ) (computed : lanes ≡ map f (chunk at 16 text)) (all : agree_below (λ x. top 7 (f x)) (λ x. not (q x)) 256 ≡ true) where
+module _ (q : ℕ → Bool) (text : List ℕ) (at r : ℕ) (lanes : List ℕ) (room : at + 16 ≤ length text)
+    (fits : (k : ℕ) → Fits w8 (get_or text k 0))
+    (found : r ≡ cond (eqb (mask_l (map (top 7) lanes) % 2 ^ 64) 0) 16
+    (trailing_zeros w64 (mask_l (map (top 7) lanes) % 2 ^ 64)))
+    (f : ℕ → ℕ) (computed : lanes ≡ map f (chunk at 16 text)) (all : agree_below (λ x. top 7 (f x)) (λ x. not (q x)) 256
+    ≡ true) where
   abbrev stops : ℕ → Bool
   stops x = top 7 (f x)
 
@@ -30,7 +36,8 @@ module _ (q : ℕ → Bool) (text : List ℕ) (at r : ℕ) (lanes : List ℕ) (r
   counted =
       let v = chunk at 16 text in
       let long = length-chunk at 16 text room in
-      let mask = ap (λ l. mask_l l % 2 ^ 64) (ap (map (top 7)) computed ∙ map-map (top 7) f v) ∙ mask_l-mod (map stops v) 64 (omega (arith, length-map v stops, long)) in
+      let mask = ap (λ l. mask_l l % 2 ^ 64) (ap (map (top 7)) computed ∙ map-map (top 7) f v)
+      ∙ mask_l-mod (map stops v) 64 (omega (arith, length-map v stops, long)) in
       found ∙ ap (λ m. cond (eqb m 0) 16 (trailing_zeros w64 m)) mask ∙ first_set_mask_l stops v 16 long (omega arith)
 
   pub run_high : r ≤ 16
@@ -38,8 +45,10 @@ module _ (q : ℕ → Bool) (text : List ℕ) (at r : ℕ) (lanes : List ℕ) (r
 
   pub run_passes : (k : ℕ) → at ≤ k → k < at + r → q (get_or text k 0) ≡ true
   run_passes k low high =
-      not-false _ (sym (agree_below_at stops (λ x. not (q x)) 256 (get_or text k 0) all (fits k).fits) ∙ run_in_chunk_fails stops text at 16 r 0 room counted k low high)
+      not-false _ (sym (agree_below_at stops (λ x. not (q x)) 256 (get_or text k 0) all (fits k).fits)
+      ∙ run_in_chunk_fails stops text at 16 r 0 room counted k low high)
 
   pub run_stops : r < 16 → q (get_or text (at + r) 0) ≡ false
   run_stops short =
-      not-true _ (sym (agree_below_at stops (λ x. not (q x)) 256 (get_or text (at + r) 0) all (fits (at + r)).fits) ∙ run_in_chunk_stops stops text at 16 r 0 room counted short)
+      not-true _ (sym (agree_below_at stops (λ x. not (q x)) 256 (get_or text (at + r) 0) all (fits (at + r)).fits)
+      ∙ run_in_chunk_stops stops text at 16 r 0 room counted short)

@@ -1,5 +1,6 @@
 -- The open scopes and the text that they are laid out in.
-use Rattle.std.proofs.Common.{◌≡◌, ℕ, suc, ◌-◌, ◌<◌, List, [], ◌∷◌, ◌++◌, length, get_or, take, drop, refl, sym, ap, ◌∙◌, arith, reverse, append_assoc, length-append}
+use Rattle.std.proofs.Common.{◌≡◌, ℕ, suc, ◌-◌, ◌<◌, List, [], ◌∷◌, ◌++◌, length, get_or, take, drop, refl, sym, ap}
+use Rattle.std.proofs.Common.{◌∙◌, arith, reverse, append_assoc, length-append}
 use Rattle.std.specs.List.{concat, flat_map}
 use Rattle.std.proofs.lemmas.List.{take_at, drop_at, append-nil, length-reverse, reverse-append}
 use Rattle.std.proofs.lemmas.List.Folds.{flat_map-map}
@@ -9,8 +10,10 @@ use Rattle.vcd_read.specs.Header.{path_of, joined_by_dots}
 use Rattle.vcd_read.specs.Scopes.{texts, with_dot, name_in, names_at, path_in, starts_in, IsLaidOut}
 
 -- words as `concat` joins them
-pub joined_is : (words : List (Bor (List ℕ))) → flat_map (λ (word : Bor (List ℕ)). word.now) words ≡ concat (texts words)
-joined_is words = sym (concat_is (texts words) ∙ flat_map-map (λ (x : List ℕ). x) (λ (word : Bor (List ℕ)). word.now) words)
+pub joined_is : (words : List (Bor (List ℕ))) → flat_map (λ (word : Bor (List ℕ)). word.now) words
+    ≡ concat (texts words)
+joined_is words = sym (concat_is (texts words) ∙ flat_map-map (λ (x : List ℕ). x) (λ (word : Bor (List ℕ)). word.now)
+    words)
 
 pub none_laid_out : IsLaidOut [] []
 unfolding names_at path_in starts_in
@@ -22,59 +25,75 @@ none_open = refl
 
 name_in-with_dot : (name : List ℕ) → name_in (with_dot name) ≡ name
 name_in-with_dot [] = refl
-name_in-with_dot (b ∷ name) = take_at (b ∷ name) (46 ∷ []) (length (with_dot (b ∷ name)) - 1) (omega (arith, length-append (b ∷ name) (46 ∷ [])))
+name_in-with_dot (b ∷ name) = take_at (b ∷ name) (46 ∷ []) (length (with_dot (b ∷ name)) - 1)
+    (omega (arith, length-append (b ∷ name) (46 ∷ [])))
 
 -- a scope that opens puts its part behind the path
-pub names_at-open : (path name starts : List ℕ) → names_at (path ++ with_dot name) (length path ∷ starts) ≡ name ∷ names_at path starts
+pub names_at-open : (path name starts : List ℕ) → names_at (path ++ with_dot name) (length path ∷ starts) ≡ name
+    ∷ names_at path starts
 unfolding names_at
 names_at-open path name starts =
-    ap (λ (part : List ℕ). name_in part ∷ names_at (take (length path) (path ++ with_dot name)) starts) (drop_at path (with_dot name) (length path) refl)
+    ap (λ (part : List ℕ). name_in part ∷ names_at (take (length path) (path ++ with_dot name)) starts)
+    (drop_at path (with_dot name) (length path) refl)
     ∙ ap (λ (n : List ℕ). n ∷ names_at (take (length path) (path ++ with_dot name)) starts) (name_in-with_dot name)
     ∙ ap (λ (front : List ℕ). name ∷ names_at front starts) (take_at path (with_dot name) (length path) refl)
 
-pub IsLaidOut-open : (path name starts : List ℕ) → IsLaidOut path starts → IsLaidOut (path ++ with_dot name) (length path ∷ starts)
+pub IsLaidOut-open : (path name starts : List ℕ) → IsLaidOut path starts → IsLaidOut (path ++ with_dot name)
+    (length path ∷ starts)
 unfolding path_in starts_in
 IsLaidOut-open path name starts laid =
     let names = names_at-open path name starts in
     record {
       whole = ap (λ (front : List ℕ). front ++ with_dot name) laid.whole ∙ ap path_in (sym names);
-      places = ap (λ (front : List ℕ). length front ∷ starts) laid.whole ∙ ap (λ (s : List ℕ). length (path_in (names_at path starts)) ∷ s) laid.places ∙ ap starts_in (sym names);
+      places = ap (λ (front : List ℕ). length front ∷ starts) laid.whole
+          ∙ ap (λ (s : List ℕ). length (path_in (names_at path starts)) ∷ s) laid.places ∙ ap starts_in (sym names);
     }
 
 -- a scope that closes cuts the path back to where the scope began
-pub names_at-close : (path : List ℕ) (start : ℕ) (starts : List ℕ) → names_at path (start ∷ starts) ≡ name_in (drop start path) ∷ names_at (take start path) starts
+pub names_at-close : (path : List ℕ) (start : ℕ) (starts : List ℕ) → names_at path (start ∷ starts)
+    ≡ name_in (drop start path) ∷ names_at (take start path) starts
 unfolding names_at
 names_at-close path start starts = refl
 
-pub IsLaidOut-close : (path : List ℕ) (start : ℕ) (starts : List ℕ) → IsLaidOut path (start ∷ starts) → IsLaidOut (take start path) starts
+pub IsLaidOut-close : (path : List ℕ) (start : ℕ) (starts : List ℕ) → IsLaidOut path (start ∷ starts)
+    → IsLaidOut (take start path) starts
 unfolding names_at path_in starts_in
 IsLaidOut-close path start starts laid =
     let outer = names_at (take start path) starts in
     let begins : start ≡ length (path_in outer) = ap (λ (ns : List ℕ). get_or ns 0 0) laid.places in
     let others : starts ≡ starts_in outer = ap (λ (ns : List ℕ). drop 1 ns) laid.places in
-    record { whole = ap (take start) laid.whole ∙ take_at (path_in outer) (with_dot (name_in (drop start path))) start (sym begins); places = others }
+    record {
+      whole = ap (take start) laid.whole ∙ take_at (path_in outer) (with_dot (name_in (drop start path))) start
+          (sym begins);
+      places = others;
+    }
 
 with_dot-append : (b : ℕ) (name rest : List ℕ) → 0 < length rest → (b ∷ name) ++ 46 ∷ rest ≡ with_dot (b ∷ name) ++ rest
 with_dot-append b name rest some = sym (append_assoc (b ∷ name) (46 ∷ []) rest)
 
 -- a name before names whose path isn't empty
-joined_before : (name : List ℕ) (names : List (List ℕ)) (path : List ℕ) → 0 < length path → joined_by_dots names ≡ path → joined_by_dots (name ∷ names) ≡ with_dot name ++ path
+joined_before : (name : List ℕ) (names : List (List ℕ)) (path : List ℕ) → 0 < length path → joined_by_dots names ≡ path
+    → joined_by_dots (name ∷ names) ≡ with_dot name ++ path
 joined_before [] names path some e = e
 joined_before (b ∷ name) names [] some e = absurd (omega (arith, some))
 joined_before (b ∷ name) names (c ∷ path) some e = rw e (with_dot-append b name (c ∷ path) some)
 
-joined_after : (scopes names : List (List ℕ)) (path : List ℕ) → 0 < length path → joined_by_dots names ≡ path → joined_by_dots (reverse scopes ++ names) ≡ path_in scopes ++ path
+joined_after : (scopes names : List (List ℕ)) (path : List ℕ) → 0 < length path → joined_by_dots names ≡ path
+    → joined_by_dots (reverse scopes ++ names) ≡ path_in scopes ++ path
 unfolding path_in
 joined_after [] names path some e = e
 joined_after (name ∷ scopes) names path some e =
     let last : reverse (name ∷ scopes) ≡ reverse scopes ++ name ∷ [] = reverse-append (name ∷ []) scopes in
-    let back : reverse (name ∷ scopes) ++ names ≡ reverse scopes ++ (name ∷ names) = ap (λ (ns : List (List ℕ)). ns ++ names) last ∙ append_assoc (reverse scopes) (name ∷ []) names in
+    let back : reverse (name ∷ scopes) ++ names ≡ reverse scopes ++ (name ∷ names) = ap (λ (ns : List (List ℕ)). ns
+    ++ names) last ∙ append_assoc (reverse scopes) (name ∷ []) names in
     ap joined_by_dots back
-    ∙ joined_after scopes (name ∷ names) (with_dot name ++ path) (omega (arith, some, length-append (with_dot name) path)) (joined_before name names path some e)
+    ∙ joined_after scopes (name ∷ names) (with_dot name ++ path)
+    (omega (arith, some, length-append (with_dot name) path)) (joined_before name names path some e)
     ∙ sym (append_assoc (path_in scopes) (with_dot name) path)
 
 -- the path of a name that isn't empty
-pub path_of-is : (scopes : List (List ℕ)) (name : List ℕ) → 0 < length name → path_of scopes name ≡ path_in scopes ++ name
+pub path_of-is : (scopes : List (List ℕ)) (name : List ℕ) → 0 < length name → path_of scopes name ≡ path_in scopes
+    ++ name
 path_of-is scopes [] some = absurd (omega (arith, some))
 path_of-is scopes (c ∷ name) some = joined_after scopes ((c ∷ name) ∷ []) (c ∷ name) some (append-nil (c ∷ name))
 
@@ -90,7 +109,8 @@ pub part_of-none : (name : List ℕ) → length name ≡ 0 → name ≡ with_dot
 part_of-none [] none = refl
 part_of-none (b ∷ name) none = absurd (omega (arith, none))
 
-pub names_at-push : (path part name starts starts' : List ℕ) (start : ℕ) → part ≡ with_dot name → start ≡ length path → starts' ≡ starts ++ start ∷ [] → names_at (path ++ part) (reverse starts') ≡ name ∷ names_at path (reverse starts)
+pub names_at-push : (path part name starts starts' : List ℕ) (start : ℕ) → part ≡ with_dot name → start ≡ length path
+    → starts' ≡ starts ++ start ∷ [] → names_at (path ++ part) (reverse starts') ≡ name ∷ names_at path (reverse starts)
 names_at-push path part name starts starts' start e s more =
     ap (λ (ss : List ℕ). names_at (path ++ part) (reverse ss)) more
     ∙ ap (names_at (path ++ part)) (reverse-push starts start)
@@ -98,20 +118,25 @@ names_at-push path part name starts starts' start e s more =
     ∙ ap (λ (n : ℕ). names_at (path ++ with_dot name) (n ∷ reverse starts)) s
     ∙ names_at-open path name (reverse starts)
 
-pub IsLaidOut-push : (path part name starts starts' : List ℕ) (start : ℕ) → part ≡ with_dot name → start ≡ length path → starts' ≡ starts ++ start ∷ [] → IsLaidOut path (reverse starts) → IsLaidOut (path ++ part) (reverse starts')
+pub IsLaidOut-push : (path part name starts starts' : List ℕ) (start : ℕ) → part ≡ with_dot name → start ≡ length path
+    → starts' ≡ starts ++ start ∷ [] → IsLaidOut path (reverse starts) → IsLaidOut (path ++ part) (reverse starts')
 IsLaidOut-push path part name starts starts' start e s more laid =
     rw (more, reverse-push starts start, e, s) (IsLaidOut-open path name (reverse starts) laid)
 
-pub IsLaidOut-push_none : (path path' starts starts' : List ℕ) (start : ℕ) → path' ≡ path → start ≡ length path → starts' ≡ starts ++ start ∷ [] → IsLaidOut path (reverse starts) → IsLaidOut path' (reverse starts')
+pub IsLaidOut-push_none : (path path' starts starts' : List ℕ) (start : ℕ) → path' ≡ path → start ≡ length path
+    → starts' ≡ starts ++ start ∷ [] → IsLaidOut path (reverse starts) → IsLaidOut path' (reverse starts')
 IsLaidOut-push_none path path' starts starts' start same s more laid =
     rw (same, ← append-nil path) (IsLaidOut-push path [] [] starts starts' start refl s more laid)
 
-pub IsLaidOut-pop : (path starts starts' : List ℕ) (start : ℕ) → starts ≡ starts' ++ start ∷ [] → IsLaidOut path (reverse starts) → IsLaidOut (take start path) (reverse starts')
+pub IsLaidOut-pop : (path starts starts' : List ℕ) (start : ℕ) → starts ≡ starts' ++ start ∷ []
+    → IsLaidOut path (reverse starts) → IsLaidOut (take start path) (reverse starts')
 IsLaidOut-pop path starts starts' start fewer laid =
     IsLaidOut-close path start (reverse starts') (rw (fewer, reverse-push starts' start) at laid)
 
-pub names_at-pop : (path starts starts' : List ℕ) (start : ℕ) → starts ≡ starts' ++ start ∷ [] → names_at path (reverse starts) ≡ name_in (drop start path) ∷ names_at (take start path) (reverse starts')
-names_at-pop path starts starts' start fewer = ap (λ (ss : List ℕ). names_at path (reverse ss)) fewer ∙ ap (names_at path) (reverse-push starts' start) ∙ names_at-close path start (reverse starts')
+pub names_at-pop : (path starts starts' : List ℕ) (start : ℕ) → starts ≡ starts' ++ start ∷ []
+    → names_at path (reverse starts) ≡ name_in (drop start path) ∷ names_at (take start path) (reverse starts')
+names_at-pop path starts starts' start fewer = ap (λ (ss : List ℕ). names_at path (reverse ss)) fewer
+    ∙ ap (names_at path) (reverse-push starts' start) ∙ names_at-close path start (reverse starts')
 
 -- where no scope is open
 pub names_at-none : (path starts : List ℕ) → starts ≡ [] → names_at path (reverse starts) ≡ []

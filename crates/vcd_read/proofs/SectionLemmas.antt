@@ -1,5 +1,7 @@
 -- Reading the header section by section.
-use Rattle.std.proofs.Common.{◌≡◌, ℕ, ◌<◌, ◌-◌, eqb, take, drop, get_or, Bool, true, false, cond, List, [], ◌∷◌, ◌++◌, length, Option, Some, None, option_map, Result, Ok, Err, refl, sym, ap, ◌∙◌, append_assoc, arith, length-append}
+use Rattle.std.proofs.Common.{◌≡◌, ℕ, ◌<◌, ◌-◌, eqb, take, drop, get_or, Bool, true, false, cond, List, [], ◌∷◌, ◌++◌}
+use Rattle.std.proofs.Common.{length, Option, Some, None, option_map, Result, Ok, Err, refl, sym, ap, ◌∙◌, append_assoc}
+use Rattle.std.proofs.Common.{arith, length-append}
 use Rattle.std.proofs.lemmas.List.{append-nil, map-append}
 use Rattle.std.proofs.lemmas.List.Elements.{All-push}
 use Rattle.std.specs.List.{All, concat}
@@ -21,18 +23,24 @@ abbrev pub behind_words : List (List ℕ) → Result Ended VcdFault → Result E
 behind_words words read = read >>= λ ended. Ok (after_words words ended)
 
 -- the end of a section
-section_end : (line : ℕ) (t : Token) (before ts : List Token) → before ≡ t ∷ ts → is_end t.bytes ≡ true → section_from line before ≡ Ok (record { words = []; rest = ts })
+section_end : (line : ℕ) (t : Token) (before ts : List Token) → before ≡ t ∷ ts → is_end t.bytes ≡ true
+    → section_from line before ≡ Ok (record { words = []; rest = ts })
 unfolding ended_in
 section_end line t before ts cut end = ap (section_from line) cut ∙ rw (section_from, ended_in, end) refl
 
 -- a word of a section
-word_before : (line : ℕ) (word : List ℕ) (ended : Option Ended) → elim (option_map (after_word word) ended) as (λ _. Result Ended VcdFault) [ None ↦ Err (record { line = line; kind = UnfinishedSection }) | Some e ↦ Ok e ] ≡ behind_words (word ∷ []) (elim ended as (λ _. Result Ended VcdFault) [ None ↦ Err (record { line = line; kind = UnfinishedSection }) | Some e ↦ Ok e ])
+word_before : (line : ℕ) (word : List ℕ) (ended : Option Ended) → elim (option_map (after_word word) ended) as
+    (λ _. Result Ended VcdFault) [ None ↦ Err (record { line = line; kind = UnfinishedSection }) | Some e ↦ Ok e ]
+    ≡ behind_words (word ∷ []) (elim ended as (λ _. Result Ended VcdFault)
+    [ None ↦ Err (record { line = line; kind = UnfinishedSection }) | Some e ↦ Ok e ])
 word_before line word None = refl
 word_before line word (Some e) = refl
 
-section_word : (line : ℕ) (t : Token) (before ts : List Token) → before ≡ t ∷ ts → is_end t.bytes ≡ false → section_from line before ≡ behind_words (t.bytes ∷ []) (section_from line ts)
+section_word : (line : ℕ) (t : Token) (before ts : List Token) → before ≡ t ∷ ts → is_end t.bytes ≡ false
+    → section_from line before ≡ behind_words (t.bytes ∷ []) (section_from line ts)
 unfolding ended_in
-section_word line t before ts cut word = ap (section_from line) cut ∙ rw (section_from, ended_in, word) (word_before line t.bytes (ended_in ts))
+section_word line t before ts cut word = ap (section_from line) cut ∙ rw (section_from, ended_in, word)
+    (word_before line t.bytes (ended_in ts))
 
 -- a text that ends in a section
 abbrev pub unfinished_at : {Y : Type 0} → ℕ → Result Y VcdFault
@@ -45,19 +53,27 @@ section_unfinished line before cut = ap (section_from line) cut
 abbrev ended_as : List (List ℕ) → List Token → Result Ended VcdFault
 ended_as words rest = Ok (record { words = words; rest = rest })
 
-behind_both : (front back : List (List ℕ)) (read : Result Ended VcdFault) → behind_words front (behind_words back read) ≡ behind_words (front ++ back) read
+behind_both : (front back : List (List ℕ)) (read : Result Ended VcdFault) → behind_words front (behind_words back read)
+    ≡ behind_words (front ++ back) read
 behind_both front back (Err fault) = refl
-behind_both front back (Ok ended) = ap (λ (words : List (List ℕ)). ended_as words ended.rest) (sym (append_assoc front back ended.words))
+behind_both front back (Ok ended) = ap (λ (words : List (List ℕ)). ended_as words ended.rest)
+    (sym (append_assoc front back ended.words))
 
 -- the same behind the words so far
 
-pub words_end : (line : ℕ) (words : List (List ℕ)) (t : Token) (before ts : List Token) → before ≡ t ∷ ts → is_end t.bytes ≡ true → behind_words words (section_from line before) ≡ Ok (record { words = words; rest = ts })
-words_end line words t before ts cut end = ap (behind_words words) (section_end line t before ts cut end) ∙ ap (λ (ws : List (List ℕ)). ended_as ws ts) (append-nil words)
+pub words_end : (line : ℕ) (words : List (List ℕ)) (t : Token) (before ts : List Token) → before ≡ t ∷ ts
+    → is_end t.bytes ≡ true → behind_words words (section_from line before) ≡ Ok (record { words = words; rest = ts })
+words_end line words t before ts cut end = ap (behind_words words) (section_end line t before ts cut end)
+    ∙ ap (λ (ws : List (List ℕ)). ended_as ws ts) (append-nil words)
 
-pub words_word : (line : ℕ) (words : List (List ℕ)) (t : Token) (before ts : List Token) → before ≡ t ∷ ts → is_end t.bytes ≡ false → behind_words words (section_from line before) ≡ behind_words (words ++ t.bytes ∷ []) (section_from line ts)
-words_word line words t before ts cut word = ap (behind_words words) (section_word line t before ts cut word) ∙ behind_both words (t.bytes ∷ []) (section_from line ts)
+pub words_word : (line : ℕ) (words : List (List ℕ)) (t : Token) (before ts : List Token) → before ≡ t ∷ ts
+    → is_end t.bytes ≡ false → behind_words words (section_from line before) ≡ behind_words (words ++ t.bytes ∷ [])
+    (section_from line ts)
+words_word line words t before ts cut word = ap (behind_words words) (section_word line t before ts cut word)
+    ∙ behind_both words (t.bytes ∷ []) (section_from line ts)
 
-pub words_unfinished : (line : ℕ) (words : List (List ℕ)) (before : List Token) → before ≡ [] → behind_words words (section_from line before) ≡ unfinished_at line
+pub words_unfinished : (line : ℕ) (words : List (List ℕ)) (before : List Token) → before ≡ [] → behind_words words
+    (section_from line before) ≡ unfinished_at line
 words_unfinished line words before cut = ap (behind_words words) (section_unfinished line before cut)
 
 -- no words yet
@@ -70,29 +86,39 @@ words_none line ts = no_words (section_from line ts)
 
 -- where the words aren't kept
 
-same_rest : (words : List (List ℕ)) (read : Result Ended VcdFault) → (behind_words words read >>= λ ended. Ok ended.rest) ≡ (read >>= λ ended. Ok ended.rest)
+same_rest : (words : List (List ℕ)) (read : Result Ended VcdFault)
+    → (behind_words words read >>= λ ended. Ok ended.rest) ≡ (read >>= λ ended. Ok ended.rest)
 same_rest words (Err fault) = refl
 same_rest words (Ok ended) = refl
 
-pub behind_end : (line : ℕ) (t : Token) (before ts : List Token) → before ≡ t ∷ ts → is_end t.bytes ≡ true → behind_section line before ≡ Ok ts
-behind_end line t before ts cut end = ap (λ (read : Result Ended VcdFault). read >>= λ ended. Ok ended.rest) (section_end line t before ts cut end)
+pub behind_end : (line : ℕ) (t : Token) (before ts : List Token) → before ≡ t ∷ ts → is_end t.bytes ≡ true
+    → behind_section line before ≡ Ok ts
+behind_end line t before ts cut end = ap (λ (read : Result Ended VcdFault). read >>= λ ended. Ok ended.rest)
+    (section_end line t before ts cut end)
 
-pub behind_word : (line : ℕ) (t : Token) (before ts : List Token) → before ≡ t ∷ ts → is_end t.bytes ≡ false → behind_section line before ≡ behind_section line ts
-behind_word line t before ts cut word = ap (λ (read : Result Ended VcdFault). read >>= λ ended. Ok ended.rest) (section_word line t before ts cut word) ∙ same_rest (t.bytes ∷ []) (section_from line ts)
+pub behind_word : (line : ℕ) (t : Token) (before ts : List Token) → before ≡ t ∷ ts → is_end t.bytes ≡ false
+    → behind_section line before ≡ behind_section line ts
+behind_word line t before ts cut word = ap (λ (read : Result Ended VcdFault). read >>= λ ended. Ok ended.rest)
+    (section_word line t before ts cut word) ∙ same_rest (t.bytes ∷ []) (section_from line ts)
 
 pub behind_unfinished : (line : ℕ) (before : List Token) → before ≡ [] → behind_section line before ≡ unfinished_at line
-behind_unfinished line before cut = ap (λ (read : Result Ended VcdFault). read >>= λ ended. Ok ended.rest) (section_unfinished line before cut)
+behind_unfinished line before cut = ap (λ (read : Result Ended VcdFault). read >>= λ ended. Ok ended.rest)
+    (section_unfinished line before cut)
 
 -- ---- words
 
-pub texts_push : (words : List (Bor (List ℕ))) (word : Bor (List ℕ)) → texts (words ++ word ∷ []) ≡ texts words ++ word.now ∷ []
+pub texts_push : (words : List (Bor (List ℕ))) (word : Bor (List ℕ)) → texts (words ++ word ∷ []) ≡ texts words
+    ++ word.now ∷ []
 texts_push words word = map-append (λ (w : Bor (List ℕ)). w.now) words (word ∷ [])
 
-pub All-push_word : (words : List (Bor (List ℕ))) (word : Bor (List ℕ)) → All (λ w. 0 < length w.now) words → 0 < length word.now → All (λ w. 0 < length w.now) (words ++ word ∷ [])
+pub All-push_word : (words : List (Bor (List ℕ))) (word : Bor (List ℕ)) → All (λ w. 0 < length w.now) words
+    → 0 < length word.now → All (λ w. 0 < length w.now) (words ++ word ∷ [])
 All-push_word words word each some = All-push (λ (w : Bor (List ℕ)). 0 < length w.now) words word each some
 
 -- a size that is refused
-pub var_words-refused : (words : List (Bor (List ℕ))) (kind : FaultKind) (d : Bor (List ℕ)) → false ≡ eqb (length (take (length words - 3) (drop 3 words))) 0 → Err kind ≡ number_below 65537 BadVar (get_or words 1 d).now → var_words (texts words) ≡ Err kind
+pub var_words-refused : (words : List (Bor (List ℕ))) (kind : FaultKind) (d : Bor (List ℕ)) → false
+    ≡ eqb (length (take (length words - 3) (drop 3 words))) 0 → Err kind ≡ number_below 65537 BadVar
+    (get_or words 1 d).now → var_words (texts words) ≡ Err kind
 var_words-refused [] kind d some e = absurd cc
 var_words-refused (w ∷ []) kind d some e = absurd cc
 var_words-refused (w ∷ size ∷ []) kind d some e = absurd cc
@@ -101,7 +127,9 @@ var_words-refused (w ∷ size ∷ code ∷ first ∷ others) kind d some e = rw 
 
 -- the reference of a variable's section isn't empty
 
-var_by : (r : Result ℕ FaultKind) (valid : Bool) (code reference : List ℕ) (var : VarWords) → (r >>= λ n. cond valid (Ok (record { size = n; code = code; reference = reference })) (Err BadVar)) ≡ Ok var → var.reference ≡ reference
+var_by : (r : Result ℕ FaultKind) (valid : Bool) (code reference : List ℕ) (var : VarWords)
+    → (r >>= λ n. cond valid (Ok (record { size = n; code = code; reference = reference })) (Err BadVar)) ≡ Ok var
+    → var.reference ≡ reference
 var_by (Ok n) true code reference var e = ap reference_in (sym e)
   where
     reference_in : Result VarWords FaultKind → List ℕ
@@ -110,12 +138,14 @@ var_by (Ok n) true code reference var e = ap reference_in (sym e)
 var_by (Ok n) false code reference var e = absurd (cc e)
 var_by (Err kind) valid code reference var e = absurd (cc e)
 
-pub reference-some : (words : List (Bor (List ℕ))) (var : VarWords) → All (λ w. 0 < length w.now) words → var_words (texts words) ≡ Ok var → 0 < length var.reference
+pub reference-some : (words : List (Bor (List ℕ))) (var : VarWords) → All (λ w. 0 < length w.now) words
+    → var_words (texts words) ≡ Ok var → 0 < length var.reference
 reference-some [] var each e = absurd (cc e)
 reference-some (w ∷ []) var each e = absurd (cc e)
 reference-some (w ∷ size ∷ []) var each e = absurd (cc e)
 reference-some (w ∷ size ∷ code ∷ []) var each e = absurd (cc e)
 reference-some (w ∷ size ∷ code ∷ first ∷ others) var each e =
-    let is = var_by (number_below 65537 BadVar size.now) (is_code code.now) code.now (concat (first.now ∷ texts others)) var e in
+    let is = var_by (number_below 65537 BadVar size.now) (is_code code.now) code.now (concat (first.now ∷ texts others))
+    var e in
     let some : 0 < length first.now = each 3 first (omega arith) in
     omega (arith, some, ap length is, length-append first.now (concat (texts others)))

@@ -1,5 +1,6 @@
 -- What is taken of a body follows its instants, whatever takes it.
-use Rattle.std.proofs.Common.{◌≡◌, ℕ, ◌<◌, Bool, true, false, cond, ◌&&◌, List, [], ◌∷◌, ◌++◌, length, replicate, slice_set, Option, Some, None, IsSome, Result, Ok, Err, refl, sym, ap, subst}
+use Rattle.std.proofs.Common.{◌≡◌, ℕ, ◌<◌, Bool, true, false, cond, ◌&&◌, List, [], ◌∷◌, ◌++◌, length, replicate}
+use Rattle.std.proofs.Common.{slice_set, Option, Some, None, IsSome, Result, Ok, Err, refl, sym, ap, subst}
 use Rattle.std.specs.Prelude.{not, ◌==◌, unwrap_or}
 use Rattle.vcd_read.specs.declared.dump.Bit.{Bit}
 use Rattle.vcd_read.specs.declared.dump.Instant.{Instant}
@@ -9,10 +10,12 @@ use Rattle.vcd_read.specs.declared.fault.VcdFault.{VcdFault}
 use Rattle.vcd_read.specs.Tokens.{Token}
 use Rattle.vcd_read.specs.Numbers.{number, extended}
 use Rattle.vcd_read.specs.Header.{◌>>=◌, at_line, Net, net_of, size_of}
-use Rattle.vcd_read.specs.Body.{BodyItem, time_item, change, skipped, bracket_open, bracket_end, wrong, Standing, stand_after, at_the_end, fitting, ready, body_from}
+use Rattle.vcd_read.specs.Body.{BodyItem, time_item, change, skipped, bracket_open, bracket_end, wrong, Standing}
+use Rattle.vcd_read.specs.Body.{stand_after, at_the_end, fitting, ready, body_from}
 use Rattle.vcd_read.specs.Meaning.{ReadFails, ReadFailsAs, instants_from}
 use Rattle.vcd_read.specs.DumpProgress.{DumpProgress, values_from, flushed}
-use Rattle.vcd_read.specs.DumpProgress.{DumpState as Whole, ended as instants_at, steps as whole_steps, progress_after as whole_after}
+use Rattle.vcd_read.specs.DumpProgress.{DumpState as Whole, ended as instants_at, steps as whole_steps}
+use Rattle.vcd_read.specs.DumpProgress.{progress_after as whole_after}
 use Rattle.vcd_read.specs.Taking.{Taking, State, ended, at_end, at_first, progress_after, steps, taken_from}
 use Rattle.vcd_read.specs.Collected.{Collected, collected_change, collected_instant}
 use Rattle.vcd_read.proofs.InstantsLaw.{at_start}
@@ -22,12 +25,14 @@ use Rattle.vcd_read.proofs.ReadLemmas.{read_whole}
 abbrev pub Current : Type 0
 Current = List (Option (List Bit))
 
-some_net : (nets : List Net) (digits line : ℕ) (found : Option ℕ) (s next : Standing) → at_line line (fitting nets digits found >>= λ net. Ok s) ≡ Ok next → IsSome found
+some_net : (nets : List Net) (digits line : ℕ) (found : Option ℕ) (s next : Standing)
+    → at_line line (fitting nets digits found >>= λ net. Ok s) ≡ Ok next → IsSome found
 some_net nets digits line None s next h = absurd cc
 some_net nets digits line (Some net) s next h = refl
 
 -- how a result of some taker follows one of instants: the same fault, or what is taken is in a relation to them
-abbrev pub Follows : {A : Type 0} → (List Instant → A → Type 0) → Result (List Instant) VcdFault → Result A VcdFault → Type 0
+abbrev pub Follows : {A : Type 0} → (List Instant → A → Type 0) → Result (List Instant) VcdFault → Result A VcdFault
+    → Type 0
 Follows {A = A} R (Ok instants) r = (a : A) × (r ≡ Ok a) × R instants a
 Follows R (Err fault) r = r ≡ Err fault
 
@@ -44,24 +49,31 @@ err_same x y r e h = cc
 ok_or_err : {A E : Type 0} (x : A) (y : E) (r : Result A E) → r ≡ Ok x → r ≡ Err y → ⊥
 ok_or_err x y r e h = cc
 
-fails_as : {A : Type 0} (R : List Instant → A → Type 0) (w : Result (List Instant) VcdFault) (r : Result A VcdFault) (line : ℕ) (kind : FaultKind) → Follows R w r → ReadFailsAs line kind r → ReadFailsAs line kind w
+fails_as : {A : Type 0} (R : List Instant → A → Type 0) (w : Result (List Instant) VcdFault) (r : Result A VcdFault)
+    (line : ℕ) (kind : FaultKind) → Follows R w r → ReadFailsAs line kind r → ReadFailsAs line kind w
 fails_as R w r line Memory f h = h
 fails_as R (Ok instants) r line kind f h = absurd (ok_or_err f.0 _ r f.1 h)
 fails_as R (Err fault) r line kind f h = ap Err (err_same fault _ r f h)
 
 -- what fails for the taker, fails
-pub fails-followed : {A : Type 0} (R : List Instant → A → Type 0) (w : Result (List Instant) VcdFault) (r : Result A VcdFault) (fault : VcdFault) → Follows R w r → ReadFails fault r → ReadFails fault w
+pub fails-followed : {A : Type 0} (R : List Instant → A → Type 0) (w : Result (List Instant) VcdFault)
+    (r : Result A VcdFault) (fault : VcdFault) → Follows R w r → ReadFails fault r → ReadFails fault w
 fails-followed R w r fault f h = fails_as R w r fault.line fault.kind f h
 
 -- what is taken is taken of instants
-pub gives-followed : {A : Type 0} (R : List Instant → A → Type 0) (w : Result (List Instant) VcdFault) (r : Result A VcdFault) (a : A) → Follows R w r → r ≡ Ok a → (instants : List Instant) × (w ≡ Ok instants) × R instants a
+pub gives-followed : {A : Type 0} (R : List Instant → A → Type 0) (w : Result (List Instant) VcdFault)
+    (r : Result A VcdFault) (a : A) → Follows R w r → r ≡ Ok a → (instants : List Instant) × (w ≡ Ok instants)
+    × R instants a
 gives-followed R (Ok instants) r a f h = (instants, refl, subst (R instants) (ok_same f.0 a r f.1 h) f.2)
 gives-followed R (Err fault) r a f h = absurd (ok_or_err a fault r h f)
 
-module _ {A : Type 0} (with_change : A → ℕ → List Bit → A) (with_instant : A → ℕ → A) (nets : List Net) (R : List Instant → Current → A → Type 0)
-    (on_change : (done : List Instant) (current : Current) (a : A) (net : ℕ) (bits : List Bit) → net < length nets → R done current a → R done (slice_set current net (Some bits)) (with_change a net bits))
+module _ {A : Type 0} (with_change : A → ℕ → List Bit → A) (with_instant : A → ℕ → A) (nets : List Net)
+    (R : List Instant → Current → A → Type 0)
+    (on_change : (done : List Instant) (current : Current) (a : A) (net : ℕ) (bits : List Bit) → net < length nets
+    → R done current a → R done (slice_set current net (Some bits)) (with_change a net bits))
     (on_instant : (done : List Instant) (current : Current) (a : A) (time : ℕ) → R done current a
-    → R (done ++ record { time = time; values = values_from 0 current } ∷ []) (replicate (length current) None) (with_instant a time)) where
+    → R (done ++ record { time = time; values = values_from 0 current } ∷ []) (replicate (length current) None)
+    (with_instant a time)) where
   -- what is taken, where the instants are so far read
   abbrev taking_at : DumpProgress → A → Taking A
   taking_at p a = record { taken = a; time = p.time; begun = p.begun }
@@ -78,17 +90,24 @@ module _ {A : Type 0} (with_change : A → ℕ → List Bit → A) (with_instant
 
   on_time : (test : Bool) (p : DumpProgress) (a : A) (t : ℕ) → R p.done p.current a
       → Keeps (cond test (record (flushed p) { time = t; begun = true }) (record p { time = t; begun = true }))
-      (cond test (record { taken = with_instant a p.time; time = t; begun = true }) (record { taken = a; time = t; begun = true }))
+      (cond test (record { taken = with_instant a p.time; time = t; begun = true })
+      (record { taken = a; time = t; begun = true }))
   on_time true p a t r = (with_instant a p.time, refl, on_instant p.done p.current a p.time r)
   on_time false p a t r = (a, refl, r)
 
-  on_item : (item : BodyItem) (s next : Standing) (p : DumpProgress) (a : A) → stand_after nets s item ≡ Ok next → R p.done p.current a
+  on_item : (item : BodyItem) (s next : Standing) (p : DumpProgress) (a : A) → stand_after nets s item ≡ Ok next
+      → R p.done p.current a
       → Keeps (whole_after nets p item) (progress_after with_change with_instant nets (taking_at p a) item)
-  on_item (time_item line digits) s next p a ok r = on_time (p.begun && not (number digits == p.time)) p a (number digits) r
+  on_item (time_item line digits) s next p a ok r = on_time (p.begun && not (number digits == p.time)) p a
+      (number digits) r
   on_item (change line digits code) s next p a ok r =
       let net : ℕ = unwrap_or (net_of nets code) 0 in
-      let bits : List Bit = extended (size_of nets net) digits in
-      (with_change a net bits, refl, on_change p.done p.current a net bits (net_within nets code (some_net nets (length digits) line (net_of nets code) s next ok)) r)
+      let bits : List Bit = extended (size_of nets net) digits in (
+        with_change a net bits,
+        refl,
+        on_change p.done p.current a net bits
+            (net_within nets code (some_net nets (length digits) line (net_of nets code) s next ok)) r,
+      )
   on_item (skipped line code) s next p a ok r = (a, refl, r)
   on_item (bracket_open line) s next p a ok r = (a, refl, r)
   on_item (bracket_end line) s next p a ok r = (a, refl, r)
@@ -100,43 +119,64 @@ module _ {A : Type 0} (with_change : A → ℕ → List Bit → A) (with_instant
   abbrev taken_of : Taking A → Result Standing VcdFault → Result (State A) VcdFault
   taken_of t r = r >>= λ next. Ok (record { standing = next; progress = t })
 
-  step-follows : (items : List BodyItem) (item : BodyItem) (s : Whole) (a : A) (stood : Result Standing VcdFault) → stand_after nets s.standing item ≡ stood → R s.progress.done s.progress.current a
-      → ((s2 : Whole) (b : A) → R s2.progress.done s2.progress.current b → KeepsState (whole_steps nets s2 items) (steps with_change with_instant nets (state_at s2 b) items))
+  step-follows : (items : List BodyItem) (item : BodyItem) (s : Whole) (a : A) (stood : Result Standing VcdFault)
+      → stand_after nets s.standing item ≡ stood → R s.progress.done s.progress.current a
+      → ((s2 : Whole) (b : A) → R s2.progress.done s2.progress.current b → KeepsState (whole_steps nets s2 items)
+      (steps with_change with_instant nets (state_at s2 b) items))
       → KeepsState (whole_of (whole_after nets s.progress item) stood >>= λ next. whole_steps nets next items)
-      (taken_of (progress_after with_change with_instant nets (taking_at s.progress a) item) stood >>= λ next. steps with_change with_instant nets next items)
+      (taken_of (progress_after with_change with_instant nets (taking_at s.progress a) item) stood >>= λ next. steps
+      with_change with_instant nets next items)
   step-follows items item s a (Ok next) e r rest =
       let kept = on_item item s.standing next s.progress a e r in
       let after : Whole = record { standing = next; progress = whole_after nets s.progress item } in
-      subst (λ (t : Taking A). KeepsState (whole_steps nets after items) (steps with_change with_instant nets (record { standing = next; progress = t }) items)) (sym kept.1) (rest after kept.0 kept.2)
+      subst (λ (t : Taking A). KeepsState (whole_steps nets after items) (steps with_change with_instant nets
+      (record { standing = next; progress = t }) items)) (sym kept.1) (rest after kept.0 kept.2)
   step-follows items item s a (Err fault) e r rest = refl
 
-  steps-follow : (items : List BodyItem) (s : Whole) (a : A) → R s.progress.done s.progress.current a → KeepsState (whole_steps nets s items) (steps with_change with_instant nets (state_at s a) items)
+  steps-follow : (items : List BodyItem) (s : Whole) (a : A) → R s.progress.done s.progress.current a
+      → KeepsState (whole_steps nets s items) (steps with_change with_instant nets (state_at s a) items)
   unfolding whole_steps steps
   steps-follow [] s a r = (a, refl, r)
-  steps-follow (item ∷ items) s a r = step-follows items item s a (stand_after nets s.standing item) refl r (λ s2 b kept. steps-follow items s2 b kept)
+  steps-follow (item ∷ items) s a r = step-follows items item s a (stand_after nets s.standing item) refl r
+      (λ s2 b kept. steps-follow items s2 b kept)
 
   on_end : (begun : Bool) (p : DumpProgress) (a : A) → R p.done p.current a
-      → (b : A) × (cond begun (with_instant a p.time) a ≡ b) × ((current : Current) × R (cond begun (flushed p).done p.done) current b)
-  on_end true p a r = (with_instant a p.time, refl, (replicate (length p.current) None, on_instant p.done p.current a p.time r))
+      → (b : A) × (cond begun (with_instant a p.time) a ≡ b)
+      × ((current : Current) × R (cond begun (flushed p).done p.done) current b)
+  on_end true p a r = (
+    with_instant a p.time,
+    refl,
+    (
+      replicate (length p.current) None,
+      on_instant p.done p.current a
+          p.time r,
+    ),
+  )
   on_end false p a r = (a, refl, (p.current, r))
 
   end-follows : (s : Whole) (a : A) (stood : Result Standing VcdFault) → R s.progress.done s.progress.current a
-      → Follows (Ends R) (stood >>= λ end. Ok (instants_at s.progress)) (stood >>= λ end. Ok (ended with_instant (taking_at s.progress a)))
+      → Follows (Ends R) (stood >>= λ end. Ok (instants_at s.progress))
+      (stood >>= λ end. Ok (ended with_instant (taking_at s.progress a)))
   end-follows s a (Ok stood) r = let e = on_end s.progress.begun s.progress a r in (e.0, ap Ok e.1, e.2)
   end-follows s a (Err fault) r = refl
 
   ends-follow : (w : Result Whole VcdFault) (t : Result (State A) VcdFault) → KeepsState w t
-      → Follows (Ends R) (w >>= λ s. at_the_end s.standing >>= λ end. Ok (instants_at s.progress)) (t >>= at_end with_instant)
+      → Follows (Ends R) (w >>= λ s. at_the_end s.standing >>= λ end. Ok (instants_at s.progress))
+      (t >>= at_end with_instant)
   ends-follow (Ok s) t k =
-      subst (λ (t : Result (State A) VcdFault). Follows (Ends R) (at_the_end s.standing >>= λ end. Ok (instants_at s.progress)) (t >>= at_end with_instant)) (sym k.1) (end-follows s k.0 (at_the_end s.standing) k.2)
+      subst (λ (t : Result (State A) VcdFault). Follows (Ends R) (at_the_end s.standing >>= λ end. Ok
+      (instants_at s.progress)) (t >>= at_end with_instant)) (sym k.1) (end-follows s k.0 (at_the_end s.standing) k.2)
   ends-follow (Err fault) t k = ap (λ (t : Result (State A) VcdFault). t >>= at_end with_instant) k
 
   -- what is taken of a body and its instants
-  pub taken-follows : (body : List Token) (a : A) → R [] (replicate (length nets) None) a → Follows (Ends R) (instants_from nets body) (taken_from with_change with_instant nets a body)
+  pub taken-follows : (body : List Token) (a : A) → R [] (replicate (length nets) None) a → Follows (Ends R)
+      (instants_from nets body) (taken_from with_change with_instant nets a body)
   taken-follows body a r =
       let items : List BodyItem = body_from ready body in
-      subst (λ (w : Result (List Instant) VcdFault). Follows (Ends R) w (taken_from with_change with_instant nets a body)) (sym (read_whole nets body (at_start nets) refl))
-      (ends-follow (whole_steps nets (at_start nets) items) (steps with_change with_instant nets (at_first a) items) (steps-follow items (at_start nets) a r))
+      subst (λ (w : Result (List Instant) VcdFault). Follows (Ends R) w (taken_from with_change with_instant nets a
+      body)) (sym (read_whole nets body (at_start nets) refl))
+      (ends-follow (whole_steps nets (at_start nets) items) (steps with_change with_instant nets (at_first a) items)
+      (steps-follow items (at_start nets) a r))
 
 -- ---- what is collected
 
@@ -146,7 +186,8 @@ IsCollected done current c = c ≡ record { done = done; current = current }
 abbrev pub AreCollected : List Instant → Collected → Type 0
 AreCollected = Ends IsCollected
 
-pub collected-follows : (nets : List Net) (body : List Token) (c : Collected) → c ≡ record { done = []; current = replicate (length nets) None }
+pub collected-follows : (nets : List Net) (body : List Token) (c : Collected) → c
+    ≡ record { done = []; current = replicate (length nets) None }
     → Follows AreCollected (instants_from nets body) (taken_from collected_change collected_instant nets c body)
 collected-follows nets body c e =
     taken-follows collected_change collected_instant nets IsCollected

@@ -1,5 +1,6 @@
 -- The values of the nets that have one, taken in the order of the nets.
-use Rattle.std.proofs.Common.{◌≡◌, ◌≢◌, ℕ, zero, suc, ◌+◌, ◌<◌, ◌≤◌, List, [], ◌∷◌, ◌++◌, length, get_or, replicate, slice_set, Option, Some, None, IsSome, refl, sym, ap, ◌∙◌, arith, inl, inr}
+use Rattle.std.proofs.Common.{◌≡◌, ◌≢◌, ℕ, zero, suc, ◌+◌, ◌<◌, ◌≤◌, List, [], ◌∷◌, ◌++◌, length, get_or, replicate}
+use Rattle.std.proofs.Common.{slice_set, Option, Some, None, IsSome, refl, sym, ap, ◌∙◌, arith, inl, inr}
 use Rattle.std.specs.Prelude.{Contains}
 use Rattle.std.specs.List.Sorted.{IsNonDecreasing, IsPermutation}
 use Rattle.std.proofs.lemmas.List.Sorted.{All-permutation, Contains-permutation}
@@ -46,9 +47,16 @@ pub record IsMoved (touched : List ℕ) (place : ℕ) (start current : Current) 
   pub listed : (net : ℕ) → IsSome (get_or current net None) → StandsFrom touched place net
 
 stands_from : (touched : List ℕ) (net : ℕ) → Contains touched net → StandsFrom touched 0 net
-stands_from touched net h = record { at = h.0; low = omega arith; high = h.1; is = get_or_default touched h.0 0 net h.1 ∙ h.2 }
+stands_from touched net h = record {
+  at = h.0;
+  low = omega arith;
+  high = h.1;
+  is = get_or_default touched h.0 0 net h.1
+      ∙ h.2;
+}
 
-pub moved_first : (touched : List ℕ) (start : Current) → ListsTouchedNets touched start → IsMoved touched 0 start start []
+pub moved_first : (touched : List ℕ) (start : Current) → ListsTouchedNets touched start → IsMoved touched 0 start start
+    []
 moved_first touched start h = record {
   values = refl;
   room = refl;
@@ -56,15 +64,18 @@ moved_first touched start h = record {
 }
 
 -- with no value below a net, its value is the first
-values_first : (base net : ℕ) (current : Current) (bits : List Bit) → get_or current net None ≡ Some bits → ((k : ℕ) → k < net → get_or current k None ≡ no_bits)
-    → values_from base current ≡ record { net = base + net; bits = bits } ∷ values_from base (slice_set current net None)
+values_first : (base net : ℕ) (current : Current) (bits : List Bit) → get_or current net None ≡ Some bits
+    → ((k : ℕ) → k < net → get_or current k None ≡ no_bits)
+    → values_from base current ≡ record { net = base + net; bits = bits } ∷ values_from base
+    (slice_set current net None)
 values_first base net [] bits e none = absurd (cc)
 values_first base zero (Some b ∷ current) bits e none =
     let same : b ≡ bits = cc in
     let at : base + 0 ≡ base = omega arith in
     rw (at, same) refl
 values_first base zero (None ∷ current) bits e none = absurd (cc)
-values_first base (suc net) (Some b ∷ current) bits e none = let h : Some b ≡ no_bits = none 0 (omega arith) in absurd (cc)
+values_first base (suc net) (Some b ∷ current) bits e none = let h : Some b ≡ no_bits = none 0 (omega arith) in
+    absurd (cc)
 values_first base (suc net) (None ∷ current) bits e none =
     let h = values_first (base + 1) net current bits e (λ k lt. none (suc k) (omega (arith, lt))) in
     let at : (base + 1) + net ≡ base + suc net = omega arith in
@@ -91,7 +102,8 @@ taken_none (c ∷ current) zero = refl
 taken_none (c ∷ current) (suc net) = taken_none current net
 
 -- no net below the next one has a value
-below_next : (touched : List ℕ) (place : ℕ) (start current : Current) (moved : List Value) → IsNonDecreasing touched → IsMoved touched place start current moved
+below_next : (touched : List ℕ) (place : ℕ) (start current : Current) (moved : List Value) → IsNonDecreasing touched
+    → IsMoved touched place start current moved
     → (k : ℕ) → k < get_or touched place 0 → get_or current k None ≡ no_bits
 below_next touched place start current moved up h k lt =
     none_or_some (get_or current k None) (λ some.
@@ -99,35 +111,44 @@ below_next touched place start current moved up h k lt =
     let le : get_or touched place 0 ≤ get_or touched s.at 0 = up place s.at 0 s.low s.high in
     omega (arith, s.is))
 
-listed_next : (touched : List ℕ) (place : ℕ) (start current : Current) (moved : List Value) → IsMoved touched place start current moved
-    → (net : ℕ) → IsSome (get_or (slice_set current (get_or touched place 0) None) net None) → StandsFrom touched (place + 1) net
+listed_next : (touched : List ℕ) (place : ℕ) (start current : Current) (moved : List Value) → IsMoved touched place
+    start current moved
+    → (net : ℕ) → IsSome (get_or (slice_set current (get_or touched place 0) None) net None) → StandsFrom touched
+    (place + 1) net
 listed_next touched place start current moved h net some =
     elim (cases_eq net (get_or touched place 0)) [
-      | inl e ↦ absurd (some_is_none (get_or (slice_set current (get_or touched place 0) None) net None) (rw e (taken_none current (get_or touched place 0))) some)
+      | inl e ↦ absurd (some_is_none (get_or (slice_set current (get_or touched place 0) None) net None)
+          (rw e (taken_none current (get_or touched place 0))) some)
       | inr ne ↦
-          let other : get_or (slice_set current (get_or touched place 0) None) net None ≡ get_or current net None = get_or-set_other current (get_or touched place 0) net None None ne in
+          let other : get_or (slice_set current (get_or touched place 0) None) net None ≡ get_or current net None
+          = get_or-set_other current (get_or touched place 0) net None None ne in
           let s = h.listed net (rw other at some) in
           let apart : place ≢ s.at = λ e. ne (sym s.is ∙ ap (λ (i : ℕ). get_or touched i 0) (sym e)) in
           record { at = s.at; low = omega (arith, s.low, apart); high = s.high; is = s.is }
     ]
 
 -- the next net is done
-pub moved_some : (touched : List ℕ) (place : ℕ) (start current : Current) (moved : List Value) (bits : List Bit) → IsNonDecreasing touched → IsMoved touched place start current moved
+pub moved_some : (touched : List ℕ) (place : ℕ) (start current : Current) (moved : List Value) (bits : List Bit)
+    → IsNonDecreasing touched → IsMoved touched place start current moved
     → get_or current (get_or touched place 0) None ≡ Some bits
-    → IsMoved touched (place + 1) start (slice_set current (get_or touched place 0) None) (moved ++ record { net = get_or touched place 0; bits = bits } ∷ [])
+    → IsMoved touched (place + 1) start (slice_set current (get_or touched place 0) None)
+    (moved ++ record { net = get_or touched place 0; bits = bits } ∷ [])
 moved_some touched place start current moved bits up h e =
     let t : ℕ = get_or touched place 0 in
     let left : Current = slice_set current t None in
     let first = values_first 0 t current bits e (below_next touched place start current moved up h) in
     let zero_first : 0 + t ≡ t = omega arith in
-    let first2 : values_from 0 current ≡ record { net = t; bits = bits } ∷ values_from 0 left = rw zero_first at first in
+    let first2 : values_from 0 current ≡ record { net = t; bits = bits } ∷ values_from 0 left = rw zero_first at
+    first in
     record {
-      values = append_assoc moved (record { net = t; bits = bits } ∷ []) (values_from 0 left) ∙ ap (λ (xs : List Value). moved ++ xs) (sym first2) ∙ h.values;
+      values = append_assoc moved (record { net = t; bits = bits } ∷ []) (values_from 0 left)
+          ∙ ap (λ (xs : List Value). moved ++ xs) (sym first2) ∙ h.values;
       room = length-set current t None ∙ h.room;
       listed = listed_next touched place start current moved h;
     }
 
-pub moved_none : (touched : List ℕ) (place : ℕ) (start current : Current) (moved : List Value) → IsMoved touched place start current moved
+pub moved_none : (touched : List ℕ) (place : ℕ) (start current : Current) (moved : List Value) → IsMoved touched place
+    start current moved
     → get_or current (get_or touched place 0) None ≡ no_bits
     → IsMoved touched (place + 1) start (slice_set current (get_or touched place 0) None) moved
 moved_none touched place start current moved h e =
@@ -138,7 +159,8 @@ moved_none touched place start current moved h e =
       listed = listed_next touched place start current moved h;
     }
 
-all_none : (base : ℕ) (current : Current) → ((net : ℕ) → get_or current net None ≡ no_bits) → (values_from base current ≡ []) × (current ≡ replicate (length current) None)
+all_none : (base : ℕ) (current : Current) → ((net : ℕ) → get_or current net None ≡ no_bits)
+    → (values_from base current ≡ []) × (current ≡ replicate (length current) None)
 all_none base [] none = (refl, refl)
 all_none base (Some bits ∷ current) none = let h : Some bits ≡ no_bits = none 0 in absurd (cc)
 all_none base (None ∷ current) none =
@@ -146,7 +168,8 @@ all_none base (None ∷ current) none =
     (h.0, ap (λ (xs : Current). None ∷ xs) h.1)
 
 -- at the end nothing is left
-pub moved_all : (touched : List ℕ) (place : ℕ) (start current : Current) (moved : List Value) → IsMoved touched place start current moved → length touched ≤ place
+pub moved_all : (touched : List ℕ) (place : ℕ) (start current : Current) (moved : List Value) → IsMoved touched place
+    start current moved → length touched ≤ place
     → (moved ≡ values_from 0 start) × (current ≡ replicate (length start) None)
 moved_all touched place start current moved h past =
     let none : (net : ℕ) → get_or current net None ≡ no_bits =
@@ -157,7 +180,8 @@ moved_all touched place start current moved h past =
     )
 
 -- the order of the list doesn't matter
-pub touched_sorted : (xs ys : List ℕ) (current : Current) → IsPermutation xs ys → ListsTouchedNets xs current → ListsTouchedNets ys current
+pub touched_sorted : (xs ys : List ℕ) (current : Current) → IsPermutation xs ys → ListsTouchedNets xs current
+    → ListsTouchedNets ys current
 touched_sorted xs ys current same h = record {
   below = All-permutation (λ (net : ℕ). net < length current) xs ys same h.below;
   listed = λ net some. Contains-permutation xs ys net same (h.listed net some);

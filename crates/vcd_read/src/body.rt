@@ -396,7 +396,8 @@ pub(crate) fn read_piece<T: ChangeVisitor>(
     codes: &Codes,
     underway: BodyState<T>,
 ) -> Result<BodyState<T>, VcdFault>
-    ensures { BodyContinuesTo (λ u. ahead T.with_change T.with_instant codes.now (taking (T.taken u.timed.visitor) u.timed.clock)
+    ensures { BodyContinuesTo (λ u. ahead T.with_change T.with_instant codes.now
+        (taking (T.taken u.timed.visitor) u.timed.clock)
         u.bracket (place_of u.place) []) result
         (ahead T.with_change T.with_instant codes.now (taking (T.taken underway.timed.visitor) underway.timed.clock)
         underway.bracket (place_of underway.place) (left_at reader.entry.text reader.entry.at)) }

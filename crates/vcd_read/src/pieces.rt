@@ -57,7 +57,8 @@ pub fn read_front<D: DeclarationVisitor>(
 ) -> Result<Option<(Front<'_>, D)>, VcdFault>
     requires { D.scopes declarations ≡ [] }
     ensures line { IfOk result (λ found. IfSome found (λ made. made.0.line ≡ line_behind 1 front.now)) }
-    ensures header { HeaderContinuesAs D.with_variable (nothing_declared (D.taken declarations)) front.now (λ made. made.0.head)
+    ensures header { HeaderContinuesAs D.with_variable (nothing_declared (D.taken declarations)) front.now
+        (λ made. made.0.head)
         (λ made. D.taken made.1) result }
 {
     match read_definitions(alloc, front, declarations) {
@@ -76,7 +77,8 @@ impl<'a> Front<'a> {
     /// Gives the changes that the front has to a taker.
     pub fn pieces<T: ChangeVisitor>(self, alloc: Global, visitor: T) -> Result<Pieces<T>, VcdFault>
         ensures line { IfOk result (λ pieces. (reached T.taken pieces).line ≡ self.entry.line) }
-        ensures rest { BodyContinuesTo (λ pieces. rest_of T.with_change T.with_instant (reached T.taken pieces) []) result
+        ensures rest { BodyContinuesTo (λ pieces. rest_of T.with_change T.with_instant
+            (reached T.taken pieces) []) result
             (λ more. steps T.with_change T.with_instant self.entry.head.nets (at_first (T.taken visitor))
             (body_from ready (self.entry.head.body ++ more))) }
     {
@@ -97,7 +99,8 @@ impl<T: ChangeVisitor> Pieces<T> {
         ensures nets { IfOk result (λ pieces. (reached T.taken pieces).nets ≡ (reached T.taken self).nets) }
         ensures line { IfOk result (λ pieces. (reached T.taken pieces).line
             ≡ line_behind (reached T.taken self).line piece.now) }
-        ensures rest { BodyContinuesTo (λ pieces. rest_of T.with_change T.with_instant (reached T.taken pieces) []) result
+        ensures rest { BodyContinuesTo (λ pieces. rest_of T.with_change T.with_instant
+            (reached T.taken pieces) []) result
             (rest_of T.with_change T.with_instant (reached T.taken self)
             (tokens_from (reached T.taken self).line piece.now)) }
     {

@@ -72,7 +72,8 @@ impl<T: ChangeVisitor> TimedVisitor<T> {
 
     /// What took all changes, the instant at the current time being ended.
     pub fn finish(mut self, alloc: Global) -> Result<T, AllocError>
-        ensures { IfOk result (λ visitor. T.taken visitor ≡ ended T.with_instant (taking (T.taken self.visitor) self.clock)) }
+        ensures { IfOk result (λ visitor. T.taken visitor
+            ≡ ended T.with_instant (taking (T.taken self.visitor) self.clock)) }
     {
         if self.clock.begun {
             self.visitor.end_instant(alloc, self.clock.time)?;

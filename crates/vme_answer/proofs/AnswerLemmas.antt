@@ -31,7 +31,9 @@ use Rattle.vme_answer.specs.declared.refusal.Input.{Input}
 use Rattle.vme_answer.specs.declared.refusal.Input.TheVariants.{Binding, Dump}
 use Rattle.vme_answer.specs.declared.refusal.Refusal.{Refusal}
 use Rattle.vme_answer.specs.declared.refusal.Refusal.TheVariants.{TooLong, BadBinding, BadDump, TooManyBlocks, Memory}
-use Rattle.vme_answer.specs.Answers.{AnswerGives, whole, or_bad_binding, or_bad_dump, binding_read, dump_read, capture_by, capture_read, judgement_of, recorded_by, recording_by, recording_read, verdict_in_blocks}
+use Rattle.vme_answer.specs.Answers.{AnswerGives, whole, or_bad_binding, or_bad_dump, binding_read, dump_read}
+use Rattle.vme_answer.specs.Answers.{capture_by, capture_read, judgement_of, recorded_by, recording_by, recording_read}
+use Rattle.vme_answer.specs.Answers.{verdict_in_blocks}
 use Rattle.vme_stream.specs.Inputs.{IsInTime, IsReading, longest_input}
 use Rattle.vme_answer.specs.Refusals.{refused, binding_refusal, dump_refusal, capture_refusal}
 use Rattle.vme_stream.proofs.InputLemmas.{in_time}
@@ -42,12 +44,14 @@ use Rattle.vme_trace.specs.Streams.{Reading}
 pub whole_is : (input : Input) (text : List ℕ) → length text ≤ longest_input → whole input (Some text) ≡ Ok text
 whole_is input text short = rw (le-leb (length text) longest_input short) refl
 
-pub too_long_is : (input : Input) (text : List ℕ) → longest_input < length text → whole input (Some text) ≡ Err (TooLong input)
+pub too_long_is : (input : Input) (text : List ℕ) → longest_input < length text → whole input (Some text)
+    ≡ Err (TooLong input)
 too_long_is input text long = rw (lt-leb (length text) longest_input long) refl
 
 -- ---- what functions give of the faults that they meet
 
-pub or_bad_binding-gives : {Y : Type 0} (line : ℕ) (kind : BindKind) (answer : Result Y BindFault) → BindFailsAs line kind answer
+pub or_bad_binding-gives : {Y : Type 0} (line : ℕ) (kind : BindKind) (answer : Result Y BindFault) → BindFailsAs line
+    kind answer
     → AnswerGives (λ (y : Y). y) (Err (binding_refusal (record { line = line; kind = kind }))) (or_bad_binding answer)
 or_bad_binding-gives line bind.Memory answer is = tt
 or_bad_binding-gives {Y} line kind answer is = ap (λ (r : Result Y BindFault). or_bad_binding r) is
@@ -62,16 +66,19 @@ by_binding : {A : Type 0} (r : Result A BindFault) → by_either (or_binding r) 
 by_binding (Ok x) = refl
 by_binding (Err fault) = refl
 
-by_dump : (bound : BoundLines) (r : Result Contents VcdFault) → recorded_by bound (or_bad_dump r) ≡ by_either (text.capture_read bound r)
+by_dump : (bound : BoundLines) (r : Result Contents VcdFault) → recorded_by bound (or_bad_dump r)
+    ≡ by_either (text.capture_read bound r)
 by_dump bound (Ok dump) = sym (by_binding (capture_of bound dump))
 by_dump bound (Err fault) = refl
 
-text_recorded : (bound : BoundLines) (bytes : List ℕ) → recorded_by bound (or_bad_dump (dump_of bytes)) ≡ by_either (text.capture_of_text bound bytes)
+text_recorded : (bound : BoundLines) (bytes : List ℕ) → recorded_by bound (or_bad_dump (dump_of bytes))
+    ≡ by_either (text.capture_of_text bound bytes)
 unfolding text.capture_of_text
 text_recorded bound bytes = by_dump bound (dump_of bytes)
 
 -- the recording of a text
-pub text_recorded-ok : (bound : BoundLines) (bytes : List ℕ) (t : Trace) → text.capture_of_text bound bytes ≡ Ok t → recorded_by bound (or_bad_dump (dump_of bytes)) ≡ Ok (Ok t)
+pub text_recorded-ok : (bound : BoundLines) (bytes : List ℕ) (t : Trace) → text.capture_of_text bound bytes ≡ Ok t
+    → recorded_by bound (or_bad_dump (dump_of bytes)) ≡ Ok (Ok t)
 text_recorded-ok bound bytes t e = text_recorded bound bytes ∙ ap by_either e
 
 -- a refusal, where one of the binding is why it makes no recording
@@ -79,43 +86,55 @@ abbrev IsRefused : {A : Type 0} → Refusal → Result (Result A BindFault) Refu
 IsRefused (BadBinding fault) recorded = recorded ≡ Ok (Err fault)
 IsRefused {A} refusal recorded = AnswerGives (λ (r : Result A BindFault). r) (Err refusal) recorded
 
-refused_dump : {A : Type 0} (line : ℕ) (kind : FaultKind) (answer : Result A CaptureFault) → text.DumpFails line kind answer
+refused_dump : {A : Type 0} (line : ℕ) (kind : FaultKind) (answer : Result A CaptureFault) → text.DumpFails line kind
+    answer
     → IsRefused (dump_refusal (record { line = line; kind = kind })) (by_either answer)
 refused_dump line vcd.Memory answer is = tt
 refused_dump line kind answer is = ap by_either is
 
-refused_binding : {A : Type 0} (line : ℕ) (kind : BindKind) (answer : Result A CaptureFault) → text.BindingFails line kind answer
+refused_binding : {A : Type 0} (line : ℕ) (kind : BindKind) (answer : Result A CaptureFault) → text.BindingFails line
+    kind answer
     → IsRefused (binding_refusal (record { line = line; kind = kind })) (by_either answer)
 refused_binding line bind.Memory answer is = tt
 refused_binding line kind answer is = ap by_either is
 
-refused_by : {A : Type 0} (fault : CaptureFault) (answer : Result A CaptureFault) → text.CaptureFailsBy fault answer → IsRefused (capture_refusal fault) (by_either answer)
+refused_by : {A : Type 0} (fault : CaptureFault) (answer : Result A CaptureFault) → text.CaptureFailsBy fault answer
+    → IsRefused (capture_refusal fault) (by_either answer)
 refused_by (capture.Dump fault) answer h = refused_dump fault.line fault.kind answer h
 refused_by (capture.Binding fault) answer h = refused_binding fault.line fault.kind answer h
 
-text_refusal : (bound : BoundLines) (bytes : List ℕ) (fault : CaptureFault) → text.CaptureFailsBy fault (text.capture_of_text bound bytes)
+text_refusal : (bound : BoundLines) (bytes : List ℕ) (fault : CaptureFault) → text.CaptureFailsBy fault
+    (text.capture_of_text bound bytes)
     → IsRefused (capture_refusal fault) (recorded_by bound (or_bad_dump (dump_of bytes)))
-text_refusal bound bytes fault h = subst (λ (w : Result (Result Trace BindFault) Refusal). IsRefused (capture_refusal fault) w) (sym (text_recorded bound bytes)) (refused_by fault (text.capture_of_text bound bytes) h)
+text_refusal bound bytes fault h = subst (λ (w : Result (Result Trace BindFault) Refusal). IsRefused
+    (capture_refusal fault) w) (sym (text_recorded bound bytes)) (refused_by fault (text.capture_of_text bound bytes) h)
 
 -- a fault of the binding
-pub text_recorded-kept : (bound : BoundLines) (bytes : List ℕ) (fault : CaptureFault) (kept : BindFault) → text.CaptureFailsBy fault (text.capture_of_text bound bytes)
+pub text_recorded-kept : (bound : BoundLines) (bytes : List ℕ) (fault : CaptureFault) (kept : BindFault)
+    → text.CaptureFailsBy fault (text.capture_of_text bound bytes)
     → capture_refusal fault ≡ BadBinding kept → recorded_by bound (or_bad_dump (dump_of bytes)) ≡ Ok (Err kept)
 text_recorded-kept bound bytes fault kept h is =
-    subst (λ (r : Refusal). IsRefused r (recorded_by bound (or_bad_dump (dump_of bytes)))) is (text_refusal bound bytes fault h)
+    subst (λ (r : Refusal). IsRefused r (recorded_by bound (or_bad_dump (dump_of bytes)))) is
+    (text_refusal bound bytes fault h)
 
-told_at_once : {A : Type 0} (r : Refusal) (recorded : Result (Result A BindFault) Refusal) → ((kept : BindFault) → r ≡ BadBinding kept → ⊥)
+told_at_once : {A : Type 0} (r : Refusal) (recorded : Result (Result A BindFault) Refusal)
+    → ((kept : BindFault) → r ≡ BadBinding kept → ⊥)
     → IsRefused r recorded → AnswerGives (λ (x : Result A BindFault). x) (Err r) recorded
 told_at_once (BadBinding fault) recorded other is = absurd (other fault refl)
 told_at_once r recorded other is = is
 
 -- a fault of the text, or want of memory
-pub text_recorded-refused : (bound : BoundLines) (bytes : List ℕ) (fault : CaptureFault) → text.CaptureFailsBy fault (text.capture_of_text bound bytes)
+pub text_recorded-refused : (bound : BoundLines) (bytes : List ℕ) (fault : CaptureFault) → text.CaptureFailsBy fault
+    (text.capture_of_text bound bytes)
     → ((kept : BindFault) → capture_refusal fault ≡ BadBinding kept → ⊥)
-    → AnswerGives (λ (recorded : Result Trace BindFault). recorded) (Err (capture_refusal fault)) (recorded_by bound (or_bad_dump (dump_of bytes)))
-text_recorded-refused bound bytes fault h other = told_at_once (capture_refusal fault) (recorded_by bound (or_bad_dump (dump_of bytes))) other (text_refusal bound bytes fault h)
+    → AnswerGives (λ (recorded : Result Trace BindFault). recorded) (Err (capture_refusal fault))
+    (recorded_by bound (or_bad_dump (dump_of bytes)))
+text_recorded-refused bound bytes fault h other = told_at_once (capture_refusal fault)
+    (recorded_by bound (or_bad_dump (dump_of bytes))) other (text_refusal bound bytes fault h)
 
 -- a refusal passes through the next step
-pub passes_through : {X Y : Type 0} (r : Refusal) (first : Result X Refusal) (next : X → Result Y Refusal) → AnswerGives (λ (x : X). x) (Err r) first
+pub passes_through : {X Y : Type 0} (r : Refusal) (first : Result X Refusal) (next : X → Result Y Refusal)
+    → AnswerGives (λ (x : X). x) (Err r) first
     → AnswerGives (λ (y : Y). y) (Err r) (first >>= next)
 passes_through Memory first next is = tt
 passes_through {X} {Y} r first next is = ap (λ (w : Result X Refusal). w >>= next) is
@@ -125,11 +144,13 @@ passes_through {X} {Y} r first next is = ap (λ (w : Result X Refusal). w >>= ne
 abbrev bound_in : List ℕ → Result BoundLines Refusal
 bound_in text = or_bad_binding (binding_of text)
 
-pub binding_refused : {A : Type 0} (old new : Reading) (result : Result A InFault) (fault : InFault) → result ≡ Err fault
+pub binding_refused : {A : Type 0} (old new : Reading) (result : Result A InFault) (fault : InFault) → result
+    ≡ Err fault
     → (result ≡ Err read.Read → IsReading old new None)
     → (result ≡ Err read.TooLong → (bytes : List ℕ) × (longest_input < length bytes) × IsReading old new (Some bytes))
     → (result ≡ Err read.Memory → IsInTime old new)
-    → (bytes : Option (List ℕ)) × IsReading old new bytes × AnswerGives (λ (b : BoundLines). b) (Err (refused Binding fault)) (binding_read bytes)
+    → (bytes : Option (List ℕ)) × IsReading old new bytes × AnswerGives (λ (b : BoundLines). b)
+    (Err (refused Binding fault)) (binding_read bytes)
 unfolding binding_read
 binding_refused old new result read.Read is cannot long memory = (None, cannot is, refl)
 binding_refused old new result read.TooLong is cannot long memory =
@@ -139,7 +160,8 @@ binding_refused old new result read.Memory is cannot long memory =
     let left = in_time old new (memory is) in
     (left.0, left.1, tt)
 
-pub binding_read-whole : (text : List ℕ) → length text ≤ longest_input → binding_read (Some text) ≡ or_bad_binding (binding_of text)
+pub binding_read-whole : (text : List ℕ) → length text ≤ longest_input → binding_read (Some text)
+    ≡ or_bad_binding (binding_of text)
 unfolding binding_read
 binding_read-whole text short = ap (λ (w : Result (List ℕ) Refusal). w >>= bound_in) (whole_is Binding text short)
 
@@ -152,7 +174,8 @@ pub dump_refused : {A : Type 0} (old new : Reading) (result : Result A InFault) 
     → (result ≡ Err read.Read → IsReading old new None)
     → (result ≡ Err read.TooLong → (bytes : List ℕ) × (longest_input < length bytes) × IsReading old new (Some bytes))
     → (result ≡ Err read.Memory → IsInTime old new)
-    → (bytes : Option (List ℕ)) × IsReading old new bytes × AnswerGives (λ (d : Contents). d) (Err (refused Dump fault)) (dump_read bytes)
+    → (bytes : Option (List ℕ)) × IsReading old new bytes × AnswerGives (λ (d : Contents). d) (Err (refused Dump fault))
+    (dump_read bytes)
 unfolding dump_read
 dump_refused old new result read.Read is cannot long memory = (None, cannot is, refl)
 dump_refused old new result read.TooLong is cannot long memory =
@@ -168,7 +191,8 @@ dump_read-whole text short = ap (λ (w : Result (List ℕ) Refusal). w >>= dumpe
 
 -- ---- the recording
 
-pub recorded_by-refused : (bound : BoundLines) (dump : Result Contents Refusal) (r : Refusal) → AnswerGives (λ (d : Contents). d) (Err r) dump
+pub recorded_by-refused : (bound : BoundLines) (dump : Result Contents Refusal) (r : Refusal)
+    → AnswerGives (λ (d : Contents). d) (Err r) dump
     → AnswerGives (λ (recorded : Result Trace BindFault). recorded) (Err r) (recorded_by bound dump)
 recorded_by-refused bound dump Memory is = tt
 recorded_by-refused bound dump r is = ap (recorded_by bound) is
@@ -176,18 +200,23 @@ recorded_by-refused bound dump r is = ap (recorded_by bound) is
 abbrev or_kept : Result Trace BindFault → Result Trace Refusal
 or_kept recorded = or_bad_binding recorded
 
-pub capture_by-is : (bound : BoundLines) (dump : Result Contents Refusal) → capture_by bound dump ≡ (recorded_by bound dump >>= or_kept)
+pub capture_by-is : (bound : BoundLines) (dump : Result Contents Refusal) → capture_by bound dump
+    ≡ (recorded_by bound dump >>= or_kept)
 capture_by-is bound (Ok contents) = refl
 capture_by-is bound (Err r) = refl
 
-pub capture_by-recorded : (bound : BoundLines) (dump : Result Contents Refusal) (recorded : Result Trace BindFault) → recorded_by bound dump ≡ Ok recorded
+pub capture_by-recorded : (bound : BoundLines) (dump : Result Contents Refusal) (recorded : Result Trace BindFault)
+    → recorded_by bound dump ≡ Ok recorded
     → capture_by bound dump ≡ or_bad_binding recorded
-capture_by-recorded bound dump recorded is = capture_by-is bound dump ∙ ap (λ (w : Result (Result Trace BindFault) Refusal). w >>= or_kept) is
+capture_by-recorded bound dump recorded is = capture_by-is bound dump
+    ∙ ap (λ (w : Result (Result Trace BindFault) Refusal). w >>= or_kept) is
 
 pub capture_by-refused : (bound : BoundLines) (dump : Result Contents Refusal) (r : Refusal)
-    → AnswerGives (λ (recorded : Result Trace BindFault). recorded) (Err r) (recorded_by bound dump) → AnswerGives (λ (t : Trace). t) (Err r) (capture_by bound dump)
+    → AnswerGives (λ (recorded : Result Trace BindFault). recorded) (Err r) (recorded_by bound dump)
+    → AnswerGives (λ (t : Trace). t) (Err r) (capture_by bound dump)
 capture_by-refused bound dump r is =
-    subst (AnswerGives (λ (t : Trace). t) (Err r)) (sym (capture_by-is bound dump)) (passes_through r (recorded_by bound dump) or_kept is)
+    subst (AnswerGives (λ (t : Trace). t) (Err r)) (sym (capture_by-is bound dump))
+    (passes_through r (recorded_by bound dump) or_kept is)
 
 -- ---- the recording, however long it is
 
@@ -201,7 +230,8 @@ of_binding : {A : Type 0} (r : Result A BindFault) → or_bad_binding r ≡ or_r
 of_binding (Ok x) = refl
 of_binding (Err fault) = refl
 
-of_dump : (bound : BoundLines) (r : Result Contents VcdFault) → recording_by bound (or_bad_dump r) ≡ or_refused (text.recording_read bound r)
+of_dump : (bound : BoundLines) (r : Result Contents VcdFault) → recording_by bound (or_bad_dump r)
+    ≡ or_refused (text.recording_read bound r)
 of_dump bound (Ok dump) = of_binding (recording_of bound dump)
 of_dump bound (Err fault) = refl
 
@@ -210,7 +240,8 @@ module _ (bound : BoundLines) (bytes : List ℕ) where
   unfolding text.recording_of_text
   text_recording = of_dump bound (dump_of bytes)
 
-  pub recording_by-text : (t : Trace) → text.recording_of_text bound bytes ≡ Ok t → recording_by bound (or_bad_dump (dump_of bytes)) ≡ Ok t
+  pub recording_by-text : (t : Trace) → text.recording_of_text bound bytes ≡ Ok t → recording_by bound
+      (or_bad_dump (dump_of bytes)) ≡ Ok t
   recording_by-text t e = text_recording ∙ ap or_refused e
 
   -- a fault of the text or of the binding
@@ -219,24 +250,29 @@ module _ (bound : BoundLines) (bytes : List ℕ) where
   recording_by-fails (capture.Dump fault) h = by_kind fault.line fault.kind h
     where
       by_kind : (line : ℕ) (kind : FaultKind) → text.DumpFails line kind (text.recording_of_text bound bytes)
-          → AnswerGives (λ (t : Trace). t) (Err (dump_refusal (record { line = line; kind = kind }))) (recording_by bound (or_bad_dump (dump_of bytes)))
+          → AnswerGives (λ (t : Trace). t) (Err (dump_refusal (record { line = line; kind = kind })))
+          (recording_by bound (or_bad_dump (dump_of bytes)))
       by_kind line vcd.Memory h = tt
       by_kind line kind h = text_recording ∙ ap or_refused h
   recording_by-fails (capture.Binding fault) h = by_kind fault.line fault.kind h
     where
       by_kind : (line : ℕ) (kind : BindKind) → text.BindingFails line kind (text.recording_of_text bound bytes)
-          → AnswerGives (λ (t : Trace). t) (Err (binding_refusal (record { line = line; kind = kind }))) (recording_by bound (or_bad_dump (dump_of bytes)))
+          → AnswerGives (λ (t : Trace). t) (Err (binding_refusal (record { line = line; kind = kind })))
+          (recording_by bound (or_bad_dump (dump_of bytes)))
       by_kind line bind.Memory h = tt
       by_kind line kind h = text_recording ∙ ap or_refused h
 
-pub recording_by-refused : (bound : BoundLines) (dump : Result Contents Refusal) (r : Refusal) → AnswerGives (λ (d : Contents). d) (Err r) dump
+pub recording_by-refused : (bound : BoundLines) (dump : Result Contents Refusal) (r : Refusal)
+    → AnswerGives (λ (d : Contents). d) (Err r) dump
     → AnswerGives (λ (t : Trace). t) (Err r) (recording_by bound dump)
-recording_by-refused bound dump r is = passes_through r dump (λ contents. or_bad_binding (recording_of bound contents)) is
+recording_by-refused bound dump r is = passes_through r dump (λ contents. or_bad_binding (recording_of bound contents))
+    is
 
 abbrev recorded_of : Option (List ℕ) → BoundLines → Result Trace Refusal
 recorded_of dump bound = recording_by bound (dump_read dump)
 
-pub recording_read-refused : (binding dump : Option (List ℕ)) (r : Refusal) → AnswerGives (λ (b : BoundLines). b) (Err r) (binding_read binding)
+pub recording_read-refused : (binding dump : Option (List ℕ)) (r : Refusal) → AnswerGives (λ (b : BoundLines). b)
+    (Err r) (binding_read binding)
     → AnswerGives (λ (t : Trace). t) (Err r) (recording_read binding dump)
 unfolding recording_read
 recording_read-refused binding dump r is = passes_through r (binding_read binding) (recorded_of dump) is
@@ -250,40 +286,51 @@ recording_read-bound binding dump b is = ap (λ (r : Result BoundLines Refusal).
 abbrev or_too_long : Trace → Result Trace Refusal
 or_too_long t = or_bad_binding (limited t)
 
-short_in : {W : Type 0} (r : Result W BindFault) (made : W → Trace) → or_bad_binding (r >>= λ w. limited (made w)) ≡ (or_bad_binding (r >>= λ w. Ok (made w)) >>= or_too_long)
+short_in : {W : Type 0} (r : Result W BindFault) (made : W → Trace) → or_bad_binding (r >>= λ w. limited (made w))
+    ≡ (or_bad_binding (r >>= λ w. Ok (made w)) >>= or_too_long)
 short_in (Ok w) made = refl
 short_in (Err fault) made = refl
 
-short_of : (bound : BoundLines) (contents : Contents) → or_bad_binding (capture_of bound contents) ≡ (or_bad_binding (recording_of bound contents) >>= or_too_long)
+short_of : (bound : BoundLines) (contents : Contents) → or_bad_binding (capture_of bound contents)
+    ≡ (or_bad_binding (recording_of bound contents) >>= or_too_long)
 unfolding capture_of recording_of
-short_of bound contents = short_in (bound_groups_in contents.variables bound.assignments) (λ wires. recording bound.slots wires contents.instants (length contents.instants))
+short_of bound contents = short_in (bound_groups_in contents.variables bound.assignments)
+    (λ wires. recording bound.slots wires contents.instants (length contents.instants))
 
-capture_by-short : (bound : BoundLines) (dump : Result Contents Refusal) → capture_by bound dump ≡ (recording_by bound dump >>= or_too_long)
+capture_by-short : (bound : BoundLines) (dump : Result Contents Refusal) → capture_by bound dump
+    ≡ (recording_by bound dump >>= or_too_long)
 capture_by-short bound (Ok contents) = short_of bound contents
 capture_by-short bound (Err r) = refl
 
 abbrev captured_by : Option (List ℕ) → BoundLines → Result Trace Refusal
 captured_by dump bound = capture_by bound (dump_read dump)
 
-capture_read-short : (binding dump : Option (List ℕ)) → capture_read binding dump ≡ (recording_read binding dump >>= or_too_long)
+capture_read-short : (binding dump : Option (List ℕ)) → capture_read binding dump
+    ≡ (recording_read binding dump >>= or_too_long)
 unfolding capture_read recording_read
 capture_read-short binding dump = by_binding_read (binding_read binding)
   where
-    by_binding_read : (r : Result BoundLines Refusal) → (r >>= captured_by dump) ≡ ((r >>= recorded_of dump) >>= or_too_long)
+    by_binding_read : (r : Result BoundLines Refusal) → (r >>= captured_by dump)
+        ≡ ((r >>= recorded_of dump) >>= or_too_long)
     by_binding_read (Ok bound) = capture_by-short bound (dump_read dump)
     by_binding_read (Err r) = refl
 
 -- the recording that there is, however long it is, is the one that is judged where it isn't too long
-pub capture_read-recorded : (binding dump : Option (List ℕ)) (t : Trace) → recording_read binding dump ≡ Ok t → capture_read binding dump ≡ or_bad_binding (limited t)
-capture_read-recorded binding dump t is = capture_read-short binding dump ∙ ap (λ (r : Result Trace Refusal). r >>= or_too_long) is
+pub capture_read-recorded : (binding dump : Option (List ℕ)) (t : Trace) → recording_read binding dump ≡ Ok t
+    → capture_read binding dump ≡ or_bad_binding (limited t)
+capture_read-recorded binding dump t is = capture_read-short binding dump
+    ∙ ap (λ (r : Result Trace Refusal). r >>= or_too_long) is
 
 -- and where there is none, this is why
-pub capture_read-unrecorded : (binding dump : Option (List ℕ)) (r : Refusal) → AnswerGives (λ (t : Trace). t) (Err r) (recording_read binding dump)
+pub capture_read-unrecorded : (binding dump : Option (List ℕ)) (r : Refusal) → AnswerGives (λ (t : Trace). t) (Err r)
+    (recording_read binding dump)
     → AnswerGives (λ (t : Trace). t) (Err r) (capture_read binding dump)
 capture_read-unrecorded binding dump r is =
-    subst (AnswerGives (λ (t : Trace). t) (Err r)) (sym (capture_read-short binding dump)) (passes_through r (recording_read binding dump) or_too_long is)
+    subst (AnswerGives (λ (t : Trace). t) (Err r)) (sym (capture_read-short binding dump))
+    (passes_through r (recording_read binding dump) or_too_long is)
 
-pub capture_read-refused : (binding dump : Option (List ℕ)) (r : Refusal) → AnswerGives (λ (b : BoundLines). b) (Err r) (binding_read binding)
+pub capture_read-refused : (binding dump : Option (List ℕ)) (r : Refusal) → AnswerGives (λ (b : BoundLines). b) (Err r)
+    (binding_read binding)
     → AnswerGives (λ (t : Trace). t) (Err r) (capture_read binding dump)
 unfolding capture_read
 capture_read-refused binding dump r is = passes_through r (binding_read binding) (captured_by dump) is
@@ -295,7 +342,8 @@ capture_read-bound binding dump b is = ap (λ (r : Result BoundLines Refusal). r
 
 -- ---- the verdict
 
-pub judgement_of-refused : (binding dump : Option (List ℕ)) (block : ℕ) (r : Refusal) → AnswerGives (λ (t : Trace). t) (Err r) (capture_read binding dump)
+pub judgement_of-refused : (binding dump : Option (List ℕ)) (block : ℕ) (r : Refusal) → AnswerGives (λ (t : Trace). t)
+    (Err r) (capture_read binding dump)
     → AnswerGives (λ (v : Verdict). v) (Err r) (judgement_of binding dump block)
 unfolding judgement_of
 judgement_of-refused binding dump block r is = passes_through r (capture_read binding dump) (verdict_in_blocks block) is

@@ -4,7 +4,8 @@ ghost use Rattle.std.specs.Prelude.{◌≡◌, ℕ, List, Option};
 ghost use Rattle.vme_stream.specs.Inputs.{IsReading};
 ghost use Rattle.vcd_read.specs.Meaning.{dump_of};
 ghost use Rattle.vme_bind.specs.Binding.{binding_of};
-ghost use Rattle.vme_answer.specs.Answers.{AnswerGives, or_bad_binding, or_bad_dump, binding_read, dump_read, capture_by};
+ghost use Rattle.vme_answer.specs.Answers.{AnswerGives, or_bad_binding, or_bad_dump, binding_read, dump_read};
+ghost use Rattle.vme_answer.specs.Answers.{capture_by};
 ghost use Rattle.vme_answer.specs.Answers.{capture_read, recorded_by};
 
 use crate::refusal::{Input, Refusal};

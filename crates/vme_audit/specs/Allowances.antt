@@ -37,7 +37,8 @@ module _ (allowances : List Allowance) where
   cut_at t None = t
   cut_at t (Some b) = cut_behind t b.instant
 
-  -- the recording as far as it is read where reading stops at some count of breaks that are not allowed, from 1 on: it is
+  -- the recording as far as it is read where reading stops at some count of breaks that are not allowed, from 1 on: it
+  -- is
   -- cut off behind the last of these, if there are so many
   unfoldable pub stopped_at : ℕ → Trace → Trace
   stopped_at n t = cut_at t (slice_get (faults (breaks t)) (n - 1))

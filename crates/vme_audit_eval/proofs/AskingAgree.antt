@@ -3,7 +3,19 @@ use Rattle.std.proofs.Common.{refl}
 use Rattle.vme_eval.proofs.Everything.{everything}
 use Rattle.vme_audit_eval.proofs.Computing.{asked}
 use Rattle.vme_audit_eval.specs.Audited.{AskingAgrees, AllAsk}
-use Rattle.vme_audit_eval.specs.Asking.{never_idle, idle, strobe_rises_at_the_start, cycle_starts, cycle_ends, cycle_starts_with_a_reset, cycle_starts_behind_a_reset, transfer_starts, transfer_starts_by_both, write_starts, write_after_a_read_starts, strobe_rises, second_strobe_rises, second_strobe_falls, answer_falls, bus_error_falls, answer_falls_with_a_reset, answer_rises_at_the_start, cycle_starts_behind_a_break, cycle_starts_in_the_next_part, transfer_is_answered, answer_rises, bus_error_rises, two_of_a_single_cycle, two_of_a_block_cycle, two_of_a_free_cycle, two_of_an_acknowledge_cycle, one_of_a_block_cycle, one_of_an_acknowledge_cycle, unanswered_acknowledge, two_of_two_cycles, level_is_requested, level_is_granted, grant_is_passed_on, arbiter_ends_its_grant, slot_ends_its_grant, slot_grants, bus_is_taken, bus_is_let_go, slot_acknowledges, last_slot_acknowledges, acknowledge_is_asked_for, asking}
+use Rattle.vme_audit_eval.specs.Asking.{never_idle, idle, strobe_rises_at_the_start, cycle_starts, cycle_ends}
+use Rattle.vme_audit_eval.specs.Asking.{cycle_starts_with_a_reset, cycle_starts_behind_a_reset, transfer_starts}
+use Rattle.vme_audit_eval.specs.Asking.{transfer_starts_by_both, write_starts, write_after_a_read_starts, strobe_rises}
+use Rattle.vme_audit_eval.specs.Asking.{second_strobe_rises, second_strobe_falls, answer_falls, bus_error_falls}
+use Rattle.vme_audit_eval.specs.Asking.{answer_falls_with_a_reset, answer_rises_at_the_start}
+use Rattle.vme_audit_eval.specs.Asking.{cycle_starts_behind_a_break, cycle_starts_in_the_next_part}
+use Rattle.vme_audit_eval.specs.Asking.{transfer_is_answered, answer_rises, bus_error_rises, two_of_a_single_cycle}
+use Rattle.vme_audit_eval.specs.Asking.{two_of_a_block_cycle, two_of_a_free_cycle, two_of_an_acknowledge_cycle}
+use Rattle.vme_audit_eval.specs.Asking.{one_of_a_block_cycle, one_of_an_acknowledge_cycle, unanswered_acknowledge}
+use Rattle.vme_audit_eval.specs.Asking.{two_of_two_cycles, level_is_requested, level_is_granted, grant_is_passed_on}
+use Rattle.vme_audit_eval.specs.Asking.{arbiter_ends_its_grant, slot_ends_its_grant, slot_grants, bus_is_taken}
+use Rattle.vme_audit_eval.specs.Asking.{bus_is_let_go, slot_acknowledges, last_slot_acknowledges}
+use Rattle.vme_audit_eval.specs.Asking.{acknowledge_is_asked_for, asking}
 
 pub never_idle_agrees : AskingAgrees never_idle
 unfolding everything asked never_idle
@@ -174,5 +186,130 @@ unfolding everything asked acknowledge_is_asked_for
 acknowledge_is_asked_for_agrees = record { well_formed = refl; asked = refl }
 
 pub asking_agrees : AllAsk asking
-asking_agrees =
-    (never_idle_agrees, (idle_agrees, (strobe_rises_at_the_start_agrees, (cycle_starts_agrees, (cycle_ends_agrees, (cycle_starts_with_a_reset_agrees, (cycle_starts_behind_a_reset_agrees, (transfer_starts_agrees, (transfer_starts_by_both_agrees, (write_starts_agrees, (write_after_a_read_starts_agrees, (strobe_rises_agrees, (second_strobe_rises_agrees, (second_strobe_falls_agrees, (answer_falls_agrees, (bus_error_falls_agrees, (answer_falls_with_a_reset_agrees, (answer_rises_at_the_start_agrees, (cycle_starts_behind_a_break_agrees, (cycle_starts_in_the_next_part_agrees, (transfer_is_answered_agrees, (answer_rises_agrees, (bus_error_rises_agrees, (two_of_a_single_cycle_agrees, (two_of_a_block_cycle_agrees, (two_of_a_free_cycle_agrees, (two_of_an_acknowledge_cycle_agrees, (one_of_a_block_cycle_agrees, (one_of_an_acknowledge_cycle_agrees, (unanswered_acknowledge_agrees, (two_of_two_cycles_agrees, (level_is_requested_agrees, (level_is_granted_agrees, (grant_is_passed_on_agrees, (arbiter_ends_its_grant_agrees, (slot_ends_its_grant_agrees, (slot_grants_agrees, (bus_is_taken_agrees, (bus_is_let_go_agrees, (slot_acknowledges_agrees, (last_slot_acknowledges_agrees, (acknowledge_is_asked_for_agrees, tt))))))))))))))))))))))))))))))))))))))))))
+asking_agrees = (
+  never_idle_agrees,
+  (
+    idle_agrees,
+    (
+      strobe_rises_at_the_start_agrees,
+      (
+        cycle_starts_agrees,
+        (
+          cycle_ends_agrees,
+          (
+            cycle_starts_with_a_reset_agrees,
+            (
+              cycle_starts_behind_a_reset_agrees,
+              (
+                transfer_starts_agrees,
+                (
+                  transfer_starts_by_both_agrees,
+                  (
+                    write_starts_agrees,
+                    (
+                      write_after_a_read_starts_agrees,
+                      (
+                        strobe_rises_agrees,
+                        (
+                          second_strobe_rises_agrees,
+                          (
+                            second_strobe_falls_agrees,
+                            (
+                              answer_falls_agrees,
+                              (
+                                bus_error_falls_agrees,
+                                (
+                                  answer_falls_with_a_reset_agrees,
+                                  (
+                                    answer_rises_at_the_start_agrees,
+                                    (
+                                      cycle_starts_behind_a_break_agrees,
+                                      (
+                                        cycle_starts_in_the_next_part_agrees,
+                                        (
+                                          transfer_is_answered_agrees,
+                                          (
+                                            answer_rises_agrees,
+                                            (
+                                              bus_error_rises_agrees,
+                                              (
+                                                two_of_a_single_cycle_agrees,
+                                                (
+                                                  two_of_a_block_cycle_agrees,
+                                                  (
+                                                    two_of_a_free_cycle_agrees,
+                                                    (
+                                                      two_of_an_acknowledge_cycle_agrees,
+                                                      (
+                                                        one_of_a_block_cycle_agrees,
+                                                        (
+                                                          one_of_an_acknowledge_cycle_agrees,
+                                                          (
+                                                            unanswered_acknowledge_agrees,
+                                                            (
+                                                              two_of_two_cycles_agrees,
+                                                              (
+                                                                level_is_requested_agrees,
+                                                                (
+                                                                  level_is_granted_agrees,
+                                                                  (
+                                                                    grant_is_passed_on_agrees,
+                                                                    (
+                                                                      arbiter_ends_its_grant_agrees,
+                                                                      (
+                                                                        slot_ends_its_grant_agrees,
+                                                                        (
+                                                                          slot_grants_agrees,
+                                                                          (
+                                                                            bus_is_taken_agrees,
+                                                                            (
+                                                                              bus_is_let_go_agrees,
+                                                                              (
+                                                                                slot_acknowledges_agrees,
+                                                                                (
+                                                                                  last_slot_acknowledges_agrees,
+                                                                                  (
+                                                                                    acknowledge_is_asked_for_agrees,
+                                                                                    tt,
+                                                                                  ),
+                                                                                ),
+                                                                              ),
+                                                                            ),
+                                                                          ),
+                                                                        ),
+                                                                      ),
+                                                                    ),
+                                                                  ),
+                                                                ),
+                                                              ),
+                                                            ),
+                                                          ),
+                                                        ),
+                                                      ),
+                                                    ),
+                                                  ),
+                                                ),
+                                              ),
+                                            ),
+                                          ),
+                                        ),
+                                      ),
+                                    ),
+                                  ),
+                                ),
+                              ),
+                            ),
+                          ),
+                        ),
+                      ),
+                    ),
+                  ),
+                ),
+              ),
+            ),
+          ),
+        ),
+      ),
+    ),
+  ),
+)

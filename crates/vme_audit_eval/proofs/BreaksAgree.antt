@@ -3,7 +3,12 @@ use Rattle.std.proofs.Common.{refl}
 use Rattle.vme_eval.proofs.Everything.{everything, rows}
 use Rattle.vme_audit_eval.proofs.Computing.{audits}
 use Rattle.vme_audit_eval.specs.Audited.{AuditAgrees, AllAudits}
-use Rattle.vme_audit_eval.specs.Breaks.{two_stray_answers, one_of_two_allowed, both_allowed_by_line, both_allowed_by_rule, another_rule_allowed, stray_answer_before_an_idle_instant, break_at_an_idle_instant, break_at_the_next_instant, two_breaks_at_one_instant, break_after_a_lost_strobe, lost_strobe_alone, nothing_judged_while_lost, resets_between, break_in_the_last_step, idle_break_in_the_last_step, cycle_cut_off_at_its_start, several_breaks}
+use Rattle.vme_audit_eval.specs.Breaks.{two_stray_answers, one_of_two_allowed, both_allowed_by_line}
+use Rattle.vme_audit_eval.specs.Breaks.{both_allowed_by_rule, another_rule_allowed, stray_answer_before_an_idle_instant}
+use Rattle.vme_audit_eval.specs.Breaks.{break_at_an_idle_instant, break_at_the_next_instant, two_breaks_at_one_instant}
+use Rattle.vme_audit_eval.specs.Breaks.{break_after_a_lost_strobe, lost_strobe_alone, nothing_judged_while_lost}
+use Rattle.vme_audit_eval.specs.Breaks.{resets_between, break_in_the_last_step, idle_break_in_the_last_step}
+use Rattle.vme_audit_eval.specs.Breaks.{cycle_cut_off_at_its_start, several_breaks}
 
 pub two_stray_answers_agrees : AuditAgrees two_stray_answers
 unfolding everything rows audits two_stray_answers
@@ -27,23 +32,57 @@ another_rule_allowed_agrees = record { well_formed = refl; starts = refl; breaks
 
 pub stray_answer_before_an_idle_instant_agrees : AuditAgrees stray_answer_before_an_idle_instant
 unfolding everything rows audits stray_answer_before_an_idle_instant
-stray_answer_before_an_idle_instant_agrees = record { well_formed = refl; starts = refl; breaks = refl; counts = refl; outcome = refl }
+stray_answer_before_an_idle_instant_agrees = record {
+  well_formed = refl;
+  starts = refl;
+  breaks = refl;
+  counts = refl;
+  outcome = refl;
+}
 
 pub break_at_an_idle_instant_agrees : AuditAgrees break_at_an_idle_instant
 unfolding everything rows audits break_at_an_idle_instant
-break_at_an_idle_instant_agrees = record { well_formed = refl; starts = refl; breaks = refl; counts = refl; outcome = refl }
+break_at_an_idle_instant_agrees = record {
+  well_formed = refl;
+  starts = refl;
+  breaks = refl;
+  counts = refl;
+  outcome
+      = refl;
+}
 
 pub break_at_the_next_instant_agrees : AuditAgrees break_at_the_next_instant
 unfolding everything rows audits break_at_the_next_instant
-break_at_the_next_instant_agrees = record { well_formed = refl; starts = refl; breaks = refl; counts = refl; outcome = refl }
+break_at_the_next_instant_agrees = record {
+  well_formed = refl;
+  starts = refl;
+  breaks = refl;
+  counts = refl;
+  outcome
+      = refl;
+}
 
 pub two_breaks_at_one_instant_agrees : AuditAgrees two_breaks_at_one_instant
 unfolding everything rows audits two_breaks_at_one_instant
-two_breaks_at_one_instant_agrees = record { well_formed = refl; starts = refl; breaks = refl; counts = refl; outcome = refl }
+two_breaks_at_one_instant_agrees = record {
+  well_formed = refl;
+  starts = refl;
+  breaks = refl;
+  counts = refl;
+  outcome
+      = refl;
+}
 
 pub break_after_a_lost_strobe_agrees : AuditAgrees break_after_a_lost_strobe
 unfolding everything rows audits break_after_a_lost_strobe
-break_after_a_lost_strobe_agrees = record { well_formed = refl; starts = refl; breaks = refl; counts = refl; outcome = refl }
+break_after_a_lost_strobe_agrees = record {
+  well_formed = refl;
+  starts = refl;
+  breaks = refl;
+  counts = refl;
+  outcome
+      = refl;
+}
 
 pub lost_strobe_alone_agrees : AuditAgrees lost_strobe_alone
 unfolding everything rows audits lost_strobe_alone break_after_a_lost_strobe
@@ -51,7 +90,14 @@ lost_strobe_alone_agrees = record { well_formed = refl; starts = refl; breaks = 
 
 pub nothing_judged_while_lost_agrees : AuditAgrees nothing_judged_while_lost
 unfolding everything rows audits nothing_judged_while_lost
-nothing_judged_while_lost_agrees = record { well_formed = refl; starts = refl; breaks = refl; counts = refl; outcome = refl }
+nothing_judged_while_lost_agrees = record {
+  well_formed = refl;
+  starts = refl;
+  breaks = refl;
+  counts = refl;
+  outcome
+      = refl;
+}
 
 pub resets_between_agrees : AuditAgrees resets_between
 unfolding everything rows audits resets_between
@@ -59,16 +105,80 @@ resets_between_agrees = record { well_formed = refl; starts = refl; breaks = ref
 
 pub break_in_the_last_step_agrees : AuditAgrees break_in_the_last_step
 unfolding everything rows audits break_in_the_last_step
-break_in_the_last_step_agrees = record { well_formed = refl; starts = refl; breaks = refl; counts = refl; outcome = refl }
+break_in_the_last_step_agrees = record {
+  well_formed = refl;
+  starts = refl;
+  breaks = refl;
+  counts = refl;
+  outcome = refl;
+}
 
 pub idle_break_in_the_last_step_agrees : AuditAgrees idle_break_in_the_last_step
 unfolding everything rows audits idle_break_in_the_last_step
-idle_break_in_the_last_step_agrees = record { well_formed = refl; starts = refl; breaks = refl; counts = refl; outcome = refl }
+idle_break_in_the_last_step_agrees = record {
+  well_formed = refl;
+  starts = refl;
+  breaks = refl;
+  counts = refl;
+  outcome
+      = refl;
+}
 
 pub cycle_cut_off_at_its_start_agrees : AuditAgrees cycle_cut_off_at_its_start
 unfolding everything rows audits cycle_cut_off_at_its_start
-cycle_cut_off_at_its_start_agrees = record { well_formed = refl; starts = refl; breaks = refl; counts = refl; outcome = refl }
+cycle_cut_off_at_its_start_agrees = record {
+  well_formed = refl;
+  starts = refl;
+  breaks = refl;
+  counts = refl;
+  outcome
+      = refl;
+}
 
 pub several_breaks_agree : AllAudits several_breaks
-several_breaks_agree =
-    (two_stray_answers_agrees, (one_of_two_allowed_agrees, (both_allowed_by_line_agrees, (both_allowed_by_rule_agrees, (another_rule_allowed_agrees, (stray_answer_before_an_idle_instant_agrees, (break_at_an_idle_instant_agrees, (break_at_the_next_instant_agrees, (two_breaks_at_one_instant_agrees, (break_after_a_lost_strobe_agrees, (lost_strobe_alone_agrees, (nothing_judged_while_lost_agrees, (resets_between_agrees, (break_in_the_last_step_agrees, (idle_break_in_the_last_step_agrees, (cycle_cut_off_at_its_start_agrees, tt))))))))))))))))
+several_breaks_agree = (
+  two_stray_answers_agrees,
+  (
+    one_of_two_allowed_agrees,
+    (
+      both_allowed_by_line_agrees,
+      (
+        both_allowed_by_rule_agrees,
+        (
+          another_rule_allowed_agrees,
+          (
+            stray_answer_before_an_idle_instant_agrees,
+            (
+              break_at_an_idle_instant_agrees,
+              (
+                break_at_the_next_instant_agrees,
+                (
+                  two_breaks_at_one_instant_agrees,
+                  (
+                    break_after_a_lost_strobe_agrees,
+                    (
+                      lost_strobe_alone_agrees,
+                      (
+                        nothing_judged_while_lost_agrees,
+                        (
+                          resets_between_agrees,
+                          (
+                            break_in_the_last_step_agrees,
+                            (
+                              idle_break_in_the_last_step_agrees,
+                              (cycle_cut_off_at_its_start_agrees, tt),
+                            ),
+                          ),
+                        ),
+                      ),
+                    ),
+                  ),
+                ),
+              ),
+            ),
+          ),
+        ),
+      ),
+    ),
+  ),
+)

@@ -3,7 +3,12 @@ use Rattle.std.proofs.Common.{refl}
 use Rattle.vme_eval.proofs.Everything.{everything, rows}
 use Rattle.vme_audit_eval.proofs.Computing.{audits}
 use Rattle.vme_audit_eval.specs.Audited.{AuditAgrees, AllAudits}
-use Rattle.vme_audit_eval.specs.Coverage.{nothing_known, idle_and_nothing_wanted, idle_and_one_wanted, read_in_a_tenure, one_answer_of_two, tenure_cut_off, bus_error_to_a_write, free_cycles, acknowledged, bus_hangs, bus_hangs_and_one_wanted, hang_that_is_reset, hang_behind_a_reset, hang_behind_a_break, transfer_cut_off, broken_and_not_covered, unreadable_and_not_covered, never_idle_and_one_wanted, stopped_at_the_first, stopped_at_the_second, stopped_nowhere, coverage}
+use Rattle.vme_audit_eval.specs.Coverage.{nothing_known, idle_and_nothing_wanted, idle_and_one_wanted, read_in_a_tenure}
+use Rattle.vme_audit_eval.specs.Coverage.{one_answer_of_two, tenure_cut_off, bus_error_to_a_write, free_cycles}
+use Rattle.vme_audit_eval.specs.Coverage.{acknowledged, bus_hangs, bus_hangs_and_one_wanted, hang_that_is_reset}
+use Rattle.vme_audit_eval.specs.Coverage.{hang_behind_a_reset, hang_behind_a_break, transfer_cut_off}
+use Rattle.vme_audit_eval.specs.Coverage.{broken_and_not_covered, unreadable_and_not_covered, never_idle_and_one_wanted}
+use Rattle.vme_audit_eval.specs.Coverage.{stopped_at_the_first, stopped_at_the_second, stopped_nowhere, coverage}
 use Rattle.vme_audit_eval.specs.Breaks.{two_stray_answers, break_in_the_last_step, nothing_judged_while_lost}
 
 pub nothing_known_agrees : AuditAgrees nothing_known
@@ -12,7 +17,14 @@ nothing_known_agrees = record { well_formed = refl; starts = refl; breaks = refl
 
 pub idle_and_nothing_wanted_agrees : AuditAgrees idle_and_nothing_wanted
 unfolding everything rows audits idle_and_nothing_wanted
-idle_and_nothing_wanted_agrees = record { well_formed = refl; starts = refl; breaks = refl; counts = refl; outcome = refl }
+idle_and_nothing_wanted_agrees = record {
+  well_formed = refl;
+  starts = refl;
+  breaks = refl;
+  counts = refl;
+  outcome
+      = refl;
+}
 
 pub idle_and_one_wanted_agrees : AuditAgrees idle_and_one_wanted
 unfolding everything rows audits idle_and_one_wanted idle_and_nothing_wanted
@@ -48,7 +60,14 @@ bus_hangs_agrees = record { well_formed = refl; starts = refl; breaks = refl; co
 
 pub bus_hangs_and_one_wanted_agrees : AuditAgrees bus_hangs_and_one_wanted
 unfolding everything rows audits bus_hangs_and_one_wanted bus_hangs
-bus_hangs_and_one_wanted_agrees = record { well_formed = refl; starts = refl; breaks = refl; counts = refl; outcome = refl }
+bus_hangs_and_one_wanted_agrees = record {
+  well_formed = refl;
+  starts = refl;
+  breaks = refl;
+  counts = refl;
+  outcome
+      = refl;
+}
 
 pub hang_that_is_reset_agrees : AuditAgrees hang_that_is_reset
 unfolding everything rows audits hang_that_is_reset bus_hangs
@@ -68,15 +87,35 @@ transfer_cut_off_agrees = record { well_formed = refl; starts = refl; breaks = r
 
 pub broken_and_not_covered_agrees : AuditAgrees broken_and_not_covered
 unfolding everything rows audits broken_and_not_covered break_in_the_last_step
-broken_and_not_covered_agrees = record { well_formed = refl; starts = refl; breaks = refl; counts = refl; outcome = refl }
+broken_and_not_covered_agrees = record {
+  well_formed = refl;
+  starts = refl;
+  breaks = refl;
+  counts = refl;
+  outcome = refl;
+}
 
 pub unreadable_and_not_covered_agrees : AuditAgrees unreadable_and_not_covered
 unfolding everything rows audits unreadable_and_not_covered nothing_judged_while_lost
-unreadable_and_not_covered_agrees = record { well_formed = refl; starts = refl; breaks = refl; counts = refl; outcome = refl }
+unreadable_and_not_covered_agrees = record {
+  well_formed = refl;
+  starts = refl;
+  breaks = refl;
+  counts = refl;
+  outcome
+      = refl;
+}
 
 pub never_idle_and_one_wanted_agrees : AuditAgrees never_idle_and_one_wanted
 unfolding everything rows audits never_idle_and_one_wanted break_in_the_last_step
-never_idle_and_one_wanted_agrees = record { well_formed = refl; starts = refl; breaks = refl; counts = refl; outcome = refl }
+never_idle_and_one_wanted_agrees = record {
+  well_formed = refl;
+  starts = refl;
+  breaks = refl;
+  counts = refl;
+  outcome
+      = refl;
+}
 
 pub stopped_at_the_first_agrees : AuditAgrees stopped_at_the_first
 unfolding everything rows audits stopped_at_the_first two_stray_answers
@@ -84,12 +123,74 @@ stopped_at_the_first_agrees = record { well_formed = refl; starts = refl; breaks
 
 pub stopped_at_the_second_agrees : AuditAgrees stopped_at_the_second
 unfolding everything rows audits stopped_at_the_second two_stray_answers
-stopped_at_the_second_agrees = record { well_formed = refl; starts = refl; breaks = refl; counts = refl; outcome = refl }
+stopped_at_the_second_agrees = record {
+  well_formed = refl;
+  starts = refl;
+  breaks = refl;
+  counts = refl;
+  outcome = refl;
+}
 
 pub stopped_nowhere_agrees : AuditAgrees stopped_nowhere
 unfolding everything rows audits stopped_nowhere two_stray_answers
 stopped_nowhere_agrees = record { well_formed = refl; starts = refl; breaks = refl; counts = refl; outcome = refl }
 
 pub coverage_agrees : AllAudits coverage
-coverage_agrees =
-    (nothing_known_agrees, (idle_and_nothing_wanted_agrees, (idle_and_one_wanted_agrees, (read_in_a_tenure_agrees, (one_answer_of_two_agrees, (tenure_cut_off_agrees, (bus_error_to_a_write_agrees, (free_cycles_agrees, (acknowledged_agrees, (bus_hangs_agrees, (bus_hangs_and_one_wanted_agrees, (hang_that_is_reset_agrees, (hang_behind_a_reset_agrees, (hang_behind_a_break_agrees, (transfer_cut_off_agrees, (broken_and_not_covered_agrees, (unreadable_and_not_covered_agrees, (never_idle_and_one_wanted_agrees, (stopped_at_the_first_agrees, (stopped_at_the_second_agrees, (stopped_nowhere_agrees, tt)))))))))))))))))))))
+coverage_agrees = (
+  nothing_known_agrees,
+  (
+    idle_and_nothing_wanted_agrees,
+    (
+      idle_and_one_wanted_agrees,
+      (
+        read_in_a_tenure_agrees,
+        (
+          one_answer_of_two_agrees,
+          (
+            tenure_cut_off_agrees,
+            (
+              bus_error_to_a_write_agrees,
+              (
+                free_cycles_agrees,
+                (
+                  acknowledged_agrees,
+                  (
+                    bus_hangs_agrees,
+                    (
+                      bus_hangs_and_one_wanted_agrees,
+                      (
+                        hang_that_is_reset_agrees,
+                        (
+                          hang_behind_a_reset_agrees,
+                          (
+                            hang_behind_a_break_agrees,
+                            (
+                              transfer_cut_off_agrees,
+                              (
+                                broken_and_not_covered_agrees,
+                                (
+                                  unreadable_and_not_covered_agrees,
+                                  (
+                                    never_idle_and_one_wanted_agrees,
+                                    (
+                                      stopped_at_the_first_agrees,
+                                      (stopped_at_the_second_agrees, (stopped_nowhere_agrees, tt)),
+                                    ),
+                                  ),
+                                ),
+                              ),
+                            ),
+                          ),
+                        ),
+                      ),
+                    ),
+                  ),
+                ),
+              ),
+            ),
+          ),
+        ),
+      ),
+    ),
+  ),
+)

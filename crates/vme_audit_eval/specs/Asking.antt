@@ -4,7 +4,8 @@ use Rattle.vme_trace.specs.LineNumbers.{AS, DS0, DS1, DTACK, BERR, IACK, WRITE, 
 use Rattle.vme_trace.specs.Trace.{Trace}
 use Rattle.vme_trace.specs.declared.rule.Rule.{Rule}
 use Rattle.vme_trace.specs.declared.rule.Rule.TheVariants.{U1, U2, U3, U4, H1, H2, H3, H4, H5, H6, H7, H8, S1, S2, S3}
-use Rattle.vme_trace.specs.declared.rule.Rule.TheVariants.{C1, C2, G1, G2, G3, G4, G5, B1, B2, B3, B4, I1, I2, I3, I4, I5}
+use Rattle.vme_trace.specs.declared.rule.Rule.TheVariants.{C1, C2, G1, G2, G3, G4, G5, B1, B2, B3, B4, I1, I2, I3, I4}
+use Rattle.vme_trace.specs.declared.rule.Rule.TheVariants.{I5}
 use Rattle.vme_trace.specs.declared.step.Change.{Change}
 use Rattle.vme_eval.specs.Steps.{low, high, unknown_lines, steps_from, from_idle, from_idle_but}
 use Rattle.vme_audit_eval.specs.Audited.{Asking}
@@ -156,7 +157,8 @@ unfoldable pub two_of_two_cycles : Asking
 two_of_two_cycles =
     asks
     (answered (low (AM 1) ∷ [])
-    ((low DTACK ∷ []) ∷ (high AS ∷ high DS0 ∷ []) ∷ (high DTACK ∷ []) ∷ (low AS ∷ []) ∷ (low DS0 ∷ []) ∷ (low DTACK ∷ [])
+    ((low DTACK ∷ []) ∷ (high AS ∷ high DS0 ∷ []) ∷ (high DTACK ∷ []) ∷ (low AS ∷ []) ∷ (low DS0 ∷ [])
+    ∷ (low DTACK ∷ [])
     ∷ []))
     (U1 ∷ U2 ∷ U3 ∷ H1 ∷ H2 ∷ H4 ∷ H5 ∷ H6 ∷ H7 ∷ H8 ∷ S1 ∷ S2 ∷ B3 ∷ [])
 
@@ -174,7 +176,8 @@ grant_is_passed_on =
 
 unfoldable pub arbiter_ends_its_grant : Asking
 arbiter_ends_its_grant =
-    asks (from_idle ((low (BR 3) ∷ []) ∷ (low (grant 3 0) ∷ []) ∷ (low (grant 3 1) ∷ []) ∷ (high (grant 3 0) ∷ []) ∷ []))
+    asks (from_idle ((low (BR 3) ∷ []) ∷ (low (grant 3 0) ∷ []) ∷ (low (grant 3 1) ∷ []) ∷ (high (grant 3 0) ∷ [])
+    ∷ []))
     (U1 ∷ G1 ∷ G3 ∷ G4 ∷ G5 ∷ [])
 
 unfoldable pub slot_ends_its_grant : Asking
@@ -211,7 +214,8 @@ abbrev pub asking : List Asking
 asking = never_idle ∷ idle ∷ strobe_rises_at_the_start ∷ cycle_starts ∷ cycle_ends ∷ cycle_starts_with_a_reset
     ∷ cycle_starts_behind_a_reset ∷ transfer_starts ∷ transfer_starts_by_both ∷ write_starts
     ∷ write_after_a_read_starts ∷ strobe_rises ∷ second_strobe_rises ∷ second_strobe_falls ∷ answer_falls
-    ∷ bus_error_falls ∷ answer_falls_with_a_reset ∷ answer_rises_at_the_start ∷ cycle_starts_behind_a_break ∷ cycle_starts_in_the_next_part
+    ∷ bus_error_falls ∷ answer_falls_with_a_reset ∷ answer_rises_at_the_start ∷ cycle_starts_behind_a_break
+    ∷ cycle_starts_in_the_next_part
     ∷ transfer_is_answered ∷ answer_rises ∷ bus_error_rises ∷ two_of_a_single_cycle ∷ two_of_a_block_cycle
     ∷ two_of_a_free_cycle ∷ two_of_an_acknowledge_cycle ∷ one_of_a_block_cycle ∷ one_of_an_acknowledge_cycle
     ∷ unanswered_acknowledge ∷ two_of_two_cycles ∷ level_is_requested ∷ level_is_granted ∷ grant_is_passed_on

@@ -7,22 +7,27 @@ use Rattle.vme_bind.specs.declared.fault.BindKind.{BindKind}
 use Rattle.vme_bind.specs.declared.fault.BindKind.TheVariants.{Memory, SlotsFirst, Unbound}
 use Rattle.vme_bind.specs.Answers.{at_line, BindFailsAs, BindFails, BindGives}
 use Rattle.vme_bind.specs.Text.{Saying, all_said, end_line}
-use Rattle.vme_bind.specs.Binding.{BoundLines, slots_behind, bound, bound_all, all_bound, finished, least_unbound, unless_unbound, no_assignments, with_left_out, binding_from, binding_of}
+use Rattle.vme_bind.specs.Binding.{BoundLines, slots_behind, bound, bound_all, all_bound, finished, least_unbound}
+use Rattle.vme_bind.specs.Binding.{unless_unbound, no_assignments, with_left_out, binding_from, binding_of}
 
-fails_then : {X Y : Type 0} (line : ℕ) (kind : BindKind) (r : Result X BindFault) (next : X → Result Y BindFault) → BindFailsAs line kind r → BindFailsAs line kind (r >>= next)
+fails_then : {X Y : Type 0} (line : ℕ) (kind : BindKind) (r : Result X BindFault) (next : X → Result Y BindFault)
+    → BindFailsAs line kind r → BindFailsAs line kind (r >>= next)
 fails_then line Memory r next h = h
 fails_then {X = X} {Y = Y} line kind r next h = ap (λ (r : Result X BindFault). r >>= next) h
 
 -- what fails first, fails
-pub fails_first : {X Y : Type 0} (fault : BindFault) (r : Result X BindFault) (next : X → Result Y BindFault) (whole : Result Y BindFault) → whole ≡ (r >>= next) → BindFails fault r → BindFails fault whole
+pub fails_first : {X Y : Type 0} (fault : BindFault) (r : Result X BindFault) (next : X → Result Y BindFault)
+    (whole : Result Y BindFault) → whole ≡ (r >>= next) → BindFails fault r → BindFails fault whole
 fails_first fault r next whole e h = rw e (fails_then fault.line fault.kind r next h)
 
 -- what a `?` returns
-pub gives_err : {X Y : Type 0} (view : X → Y) (r : Result X BindFault) (fault : BindFault) (whole : Result Y BindFault) → IsErrAnd r (λ e. e ≡ fault) → BindFails fault whole → BindGives view r whole
+pub gives_err : {X Y : Type 0} (view : X → Y) (r : Result X BindFault) (fault : BindFault) (whole : Result Y BindFault)
+    → IsErrAnd r (λ e. e ≡ fault) → BindFails fault whole → BindGives view r whole
 gives_err view (Ok x) fault whole is h = absurd is
 gives_err view (Err e) fault whole is h = rw is h
 
-pub bound_more : (b : BoundLines) (s : Saying) (ss : List Saying) → bound_all b (s ∷ ss) ≡ (at_line s.line (bound b s) >>= λ next. bound_all next ss)
+pub bound_more : (b : BoundLines) (s : Saying) (ss : List Saying) → bound_all b (s ∷ ss)
+    ≡ (at_line s.line (bound b s) >>= λ next. bound_all next ss)
 unfolding bound_all
 bound_more b s ss = refl
 
@@ -31,7 +36,8 @@ unfolding bound_all
 bound_end b = refl
 
 -- a text that says nothing
-pub says_nothing : (text : List ℕ) (line : ℕ) → all_said text ≡ [] → line ≡ end_line text → binding_of text ≡ Err (record { line = line; kind = SlotsFirst })
+pub says_nothing : (text : List ℕ) (line : ℕ) → all_said text ≡ [] → line ≡ end_line text → binding_of text
+    ≡ Err (record { line = line; kind = SlotsFirst })
 unfolding binding_of
 says_nothing text line e h = rw (e, ← h) refl
 
@@ -39,26 +45,35 @@ abbrev pub rest_bound : List ℕ → Result BoundLines BindFault → Result Boun
 rest_bound text r = r >>= finished (end_line text)
 
 says_slots : (text : List ℕ) (s : Saying) (ss : List Saying) → all_said text ≡ s ∷ ss
-    → binding_of text ≡ (at_line s.line (slots_behind s.first s.others) >>= λ slots. bound_all (no_assignments slots) ss >>= finished (end_line text))
+    → binding_of text ≡ (at_line s.line (slots_behind s.first s.others) >>= λ slots. bound_all (no_assignments slots) ss
+    >>= finished (end_line text))
 unfolding binding_of
 says_slots text s ss e = ap (binding_from (end_line text)) e
 
-pub no_slots : (text : List ℕ) (s : Saying) (ss : List Saying) → all_said text ≡ s ∷ ss → slots_behind s.first s.others ≡ Err SlotsFirst → binding_of text ≡ Err (record { line = s.line; kind = SlotsFirst })
+pub no_slots : (text : List ℕ) (s : Saying) (ss : List Saying) → all_said text ≡ s ∷ ss → slots_behind s.first s.others
+    ≡ Err SlotsFirst → binding_of text ≡ Err (record { line = s.line; kind = SlotsFirst })
 no_slots text s ss e h = says_slots text s ss e ∙ rw h refl
 
-pub some_slots : (text : List ℕ) (s : Saying) (ss : List Saying) (slots : ℕ) → all_said text ≡ s ∷ ss → slots_behind s.first s.others ≡ Ok slots
+pub some_slots : (text : List ℕ) (s : Saying) (ss : List Saying) (slots : ℕ) → all_said text ≡ s ∷ ss
+    → slots_behind s.first s.others ≡ Ok slots
     → binding_of text ≡ (bound_all (no_assignments slots) ss >>= finished (end_line text))
 some_slots text s ss slots e h = says_slots text s ss e ∙ rw h refl
 
-pub is_whole : (line : ℕ) (r : Result BoundLines BindFault) (b whole : BoundLines) → r ≡ Ok b → whole ≡ with_left_out line b → None ≡ least_unbound whole → (r >>= finished line) ≡ Ok whole
-is_whole line r b whole e w h = ap (λ (r : Result BoundLines BindFault). r >>= finished line) e ∙ ap (all_bound line) (sym w) ∙ ap (unless_unbound line whole) (sym h)
+pub is_whole : (line : ℕ) (r : Result BoundLines BindFault) (b whole : BoundLines) → r ≡ Ok b → whole
+    ≡ with_left_out line b → None ≡ least_unbound whole → (r >>= finished line) ≡ Ok whole
+is_whole line r b whole e w h = ap (λ (r : Result BoundLines BindFault). r >>= finished line) e ∙ ap (all_bound line)
+    (sym w) ∙ ap (unless_unbound line whole) (sym h)
 
-pub lacks : (line last : ℕ) (r : Result BoundLines BindFault) (b whole : BoundLines) (l : ℕ) → r ≡ Ok b → whole ≡ with_left_out line b → Some l ≡ least_unbound whole → last ≡ line
+pub lacks : (line last : ℕ) (r : Result BoundLines BindFault) (b whole : BoundLines) (l : ℕ) → r ≡ Ok b → whole
+    ≡ with_left_out line b → Some l ≡ least_unbound whole → last ≡ line
     → (r >>= finished line) ≡ Err (record { line = last; kind = Unbound l })
 lacks line last r b whole l e w h k =
-    ap (λ (r : Result BoundLines BindFault). r >>= finished line) e ∙ ap (all_bound line) (sym w) ∙ ap (unless_unbound line whole) (sym h)
+    ap (λ (r : Result BoundLines BindFault). r >>= finished line) e ∙ ap (all_bound line) (sym w)
+    ∙ ap (unless_unbound line whole) (sym h)
     ∙ ap (λ (n : ℕ). Err (record { line = n; kind = Unbound l })) (sym k)
 
 -- a statement more is bound
-pub bound_step : (b next : BoundLines) (s : Saying) (ss : List Saying) → at_line s.line (bound b s) ≡ Ok next → bound_all b (s ∷ ss) ≡ bound_all next ss
-bound_step b next s ss h = bound_more b s ss ∙ ap (λ (r : Result BoundLines BindFault). r >>= λ next. bound_all next ss) h
+pub bound_step : (b next : BoundLines) (s : Saying) (ss : List Saying) → at_line s.line (bound b s) ≡ Ok next
+    → bound_all b (s ∷ ss) ≡ bound_all next ss
+bound_step b next s ss h = bound_more b s ss ∙ ap (λ (r : Result BoundLines BindFault). r >>= λ next. bound_all next ss)
+    h

@@ -1,5 +1,6 @@
 -- The levels after each instant of a dump, and the steps between them.
-use Rattle.std.proofs.Common.{◌≡◌, ◌≢◌, ℕ, zero, suc, ◌+◌, ◌<◌, ◌≤◌, Bool, true, false, cond, ◌&&◌, List, [], ◌∷◌, ◌++◌, length, map, refl, sym, ap, ◌∙◌, arith, add-one, inl, inr, ◌⊎◌, Option, Some, None}
+use Rattle.std.proofs.Common.{◌≡◌, ◌≢◌, ℕ, zero, suc, ◌+◌, ◌<◌, ◌≤◌, Bool, true, false, cond, ◌&&◌, List, [], ◌∷◌, ◌++◌}
+use Rattle.std.proofs.Common.{length, map, refl, sym, ap, ◌∙◌, arith, add-one, inl, inr, ◌⊎◌, Option, Some, None}
 use Rattle.std.specs.Prelude.{nat_lt, ◌==◌, slice_get, is_some, option_and_then}
 use Rattle.std.specs.List.{range_with_len}
 use Rattle.std.specs.Option.{option_or, option_map_or}
@@ -26,13 +27,15 @@ use Rattle.vme_bind.specs.declared.bound_groups.LineSource.{LineSource}
 use Rattle.vme_bind.specs.declared.bound_groups.LineSource.TheVariants.{Always, Bit as AtBit}
 use Rattle.vme_bind.specs.BoundGroups.{line_source}
 use Rattle.vme_bind.specs.NetLines.{line_bits_of, is_on, place_in, is_line_bit, line_bit_at, line_bits_below}
-use Rattle.vme_bind.specs.Capture.{level_in, last_bits, values_of, bits_at, last_change, level_by, level_after, levels_after}
+use Rattle.vme_bind.specs.Capture.{level_in, last_bits, values_of, bits_at, last_change, level_by, level_after}
+use Rattle.vme_bind.specs.Capture.{levels_after}
 use Rattle.vme_bind.specs.Recording.{tapped, valued}
 use Rattle.vme_bind.proofs.RecorderLemmas.{map-more, same_levels, set_other, set_same, those-no, those-yes, zero_le}
 
 -- ---- changes to those of a range
 
-pub changed-more : (v : Levels) (cs : List Change) (c : Change) → changed v (cs ++ c ∷ []) ≡ set_level (changed v cs) c.line c.level
+pub changed-more : (v : Levels) (cs : List Change) (c : Change) → changed v (cs ++ c ∷ []) ≡ set_level (changed v cs)
+    c.line c.level
 unfolding changed
 changed-more v [] c = refl
 changed-more v (d ∷ cs) c = changed-more (set_level v d.line d.level) cs c
@@ -67,13 +70,16 @@ both_true a b e h = rw (e, h) refl
 
 tests_alike : (p : ℕ → Bool) (l n : ℕ) → (l ≢ n) ⊎ (p l ≡ false) → (nat_lt l n && p l) ≡ (nat_lt l (n + 1) && p l)
 tests_alike p l n (inl ne) = ap (λ (b : Bool). b && p l) (lt_next l n ne)
-tests_alike p l n (inr off) = ap (λ (b : Bool). nat_lt l n && b) off ∙ and_false (nat_lt l n) ∙ sym (and_false (nat_lt l (n + 1))) ∙ ap (λ (b : Bool). nat_lt l (n + 1) && b) (sym off)
+tests_alike p l n (inr off) = ap (λ (b : Bool). nat_lt l n && b) off ∙ and_false (nat_lt l n)
+    ∙ sym (and_false (nat_lt l (n + 1))) ∙ ap (λ (b : Bool). nat_lt l (n + 1) && b) (sym off)
 
 abbrev at_those : (ℕ → Level) → Levels → ℕ → List ℕ → Level
 at_those g v l xs = level_at (changed v (map (to_level g) xs)) l
 
-at_more : (g : ℕ → Level) (v : Levels) (l n : ℕ) (xs : List ℕ) → at_those g v l (xs ++ n ∷ []) ≡ level_at (set_level (changed v (map (to_level g) xs)) n (g n)) l
-at_more g v l n xs = ap (λ (cs : List Change). level_at (changed v cs) l) (map-more (to_level g) xs n) ∙ ap (λ (w : Levels). level_at w l) (changed-more v (map (to_level g) xs) (to_level g n))
+at_more : (g : ℕ → Level) (v : Levels) (l n : ℕ) (xs : List ℕ) → at_those g v l (xs ++ n ∷ [])
+    ≡ level_at (set_level (changed v (map (to_level g) xs)) n (g n)) l
+at_more g v l n xs = ap (λ (cs : List Change). level_at (changed v cs) l) (map-more (to_level g) xs n)
+    ∙ ap (λ (w : Levels). level_at w l) (changed-more v (map (to_level g) xs) (to_level g n))
 
 one_those : (p : ℕ → Bool) (g : ℕ → Level) (v : Levels) (n l : ℕ) (b : Bool) → p n ≡ b → n < length v.levels
     → at_those g v l (those p 0 n) ≡ cond (nat_lt l n && p l) (g l) (level_at v l)
@@ -83,22 +89,26 @@ one_those p g v n l true e lt so_far =
     ∙ elim (cases_eq l n) [
       | inl same ↦
           ap (level_at (set_level (changed v (map (to_level g) (those p 0 n))) n (g n))) same
-          ∙ set_same (changed v (map (to_level g) (those p 0 n))) n (g n) (omega (arith, length-changed v (map (to_level g) (those p 0 n)), lt))
-          ∙ ap g (sym same) ∙ yes_cond (nat_lt l (n + 1) && p l) (g l) (level_at v l) (both_true _ _ (lt_itself l n same) (ap p same ∙ e))
+          ∙ set_same (changed v (map (to_level g) (those p 0 n))) n (g n)
+          (omega (arith, length-changed v (map (to_level g) (those p 0 n)), lt))
+          ∙ ap g (sym same) ∙ yes_cond (nat_lt l (n + 1) && p l) (g l) (level_at v l)
+          (both_true _ _ (lt_itself l n same) (ap p same ∙ e))
       | inr ne ↦
           set_other (changed v (map (to_level g) (those p 0 n))) n l (g n) ne ∙ so_far
           ∙ ap (λ (b : Bool). cond b (g l) (level_at v l)) (tests_alike p l n (inl ne))
     ]
 one_those p g v n l false e lt so_far =
     ap (at_those g v l) (those-no p n e) ∙ so_far
-    ∙ ap (λ (b : Bool). cond b (g l) (level_at v l)) (tests_alike p l n (elim (cases_eq l n) [ inl same ↦ inr (ap p same ∙ e) | inr ne ↦ inl ne ]))
+    ∙ ap (λ (b : Bool). cond b (g l) (level_at v l))
+    (tests_alike p l n (elim (cases_eq l n) [ inl same ↦ inr (ap p same ∙ e) | inr ne ↦ inl ne ]))
 
 none_below : (l : ℕ) → nat_lt l 0 ≡ false
 none_below l = grind (arith, nat_tests)
 
 -- those below n get new levels
 pub changed-those : (p : ℕ → Bool) (g : ℕ → Level) (v : Levels) (n : ℕ) → n ≤ length v.levels → (l : ℕ)
-    → level_at (changed v (map (λ k. record { line = k; level = g k }) (those p 0 n))) l ≡ cond (nat_lt l n && p l) (g l) (level_at v l)
+    → level_at (changed v (map (λ k. record { line = k; level = g k }) (those p 0 n))) l ≡ cond (nat_lt l n && p l)
+    (g l) (level_at v l)
 unfolding changed those
 changed-those p g v zero le l = ap (λ (b : Bool). cond (b && p l) (g l) (level_at v l)) (sym (none_below l))
 changed-those p g v (suc n) le l =
@@ -119,13 +129,15 @@ abbrev pub line_bit_level : ℕ → Option LineSource → List Bit → Level
 line_bit_level l source bits = level_in l (place_in source) bits
 
 one_value : (l : ℕ) (source : Option LineSource) (v : Value) (values : List Value) (base : Level)
-    → by_values l source values (cond (is_on v.net source) (line_bit_level l source v.bits) base) ≡ by_values l source (v ∷ values) base
+    → by_values l source values (cond (is_on v.net source) (line_bit_level l source v.bits) base) ≡ by_values l source
+    (v ∷ values) base
 one_value l None v values base = refl
 one_value l (Some (Always level)) v values base = refl
 one_value l (Some (AtBit bit)) v values base = by_last (last_bits bit.net values) (v.net == bit.net)
   where
     by_last : (later : Option (List Bit)) (here : Bool)
-        → option_map_or (level_in l bit.place) later (cond here (level_in l bit.place v.bits) base) ≡ option_map_or (level_in l bit.place) (option_or later (cond here (Some v.bits) None)) base
+        → option_map_or (level_in l bit.place) later (cond here (level_in l bit.place v.bits) base)
+        ≡ option_map_or (level_in l bit.place) (option_or later (cond here (Some v.bits) None)) base
     by_last None true = refl
     by_last None false = refl
     by_last (Some bits) here = refl
@@ -137,38 +149,56 @@ nothing_said l (Some (AtBit bit)) base = refl
 
 -- the taps are those of some wires
 abbrev pub AreTaps : ℕ → List BoundGroup → NetLines → Type 0
-AreTaps slots bound_groups line_bits = (net : ℕ) → line_bits_of line_bits net ≡ line_bits_below slots bound_groups net line_count
+AreTaps slots bound_groups line_bits = (net : ℕ) → line_bits_of line_bits net ≡ line_bits_below slots bound_groups net
+    line_count
 
-tapped_twice : (slots : ℕ) (bound_groups : List BoundGroup) (bits : List Bit) (xs : List ℕ) → map (tapped bits) (map (line_bit_at slots bound_groups) xs) ≡ map (to_level (λ l. line_bit_level l (line_source slots bound_groups l) bits)) xs
+tapped_twice : (slots : ℕ) (bound_groups : List BoundGroup) (bits : List Bit) (xs : List ℕ) → map (tapped bits)
+    (map (line_bit_at slots bound_groups) xs)
+    ≡ map (to_level (λ l. line_bit_level l (line_source slots bound_groups l) bits)) xs
 tapped_twice slots bound_groups bits [] = refl
-tapped_twice slots bound_groups bits (x ∷ xs) = ap (λ (cs : List Change). to_level (λ l. line_bit_level l (line_source slots bound_groups l) bits) x ∷ cs) (tapped_twice slots bound_groups bits xs)
+tapped_twice slots bound_groups bits (x ∷ xs) = ap
+    (λ (cs : List Change). to_level (λ l. line_bit_level l (line_source slots bound_groups l) bits) x ∷ cs)
+    (tapped_twice slots bound_groups bits xs)
 
 abbrev pub one_valued : NetLines → Value → Levels → Levels
 one_valued line_bits v now = changed now (map (tapped v.bits) (line_bits_of line_bits v.net))
 
-pub one_valued-at : (slots : ℕ) (bound_groups : List BoundGroup) (line_bits : NetLines) → AreTaps slots bound_groups line_bits → (v : Value) (now : Levels) → length now.levels ≡ line_count → (l : ℕ) → l < line_count
-    → level_at (one_valued line_bits v now) l ≡ cond (is_on v.net (line_source slots bound_groups l)) (line_bit_level l (line_source slots bound_groups l) v.bits) (level_at now l)
+pub one_valued-at : (slots : ℕ) (bound_groups : List BoundGroup) (line_bits : NetLines) → AreTaps slots bound_groups
+    line_bits → (v : Value) (now : Levels) → length now.levels ≡ line_count → (l : ℕ) → l < line_count
+    → level_at (one_valued line_bits v now) l ≡ cond (is_on v.net (line_source slots bound_groups l))
+    (line_bit_level l (line_source slots bound_groups l) v.bits) (level_at now l)
 unfolding is_line_bit
 one_valued-at slots bound_groups line_bits all v now e l lt =
     ap (λ (ts : List LineBit). level_at (changed now (map (tapped v.bits) ts)) l) (all v.net)
-    ∙ ap (λ (cs : List Change). level_at (changed now cs) l) (tapped_twice slots bound_groups v.bits (those (is_line_bit slots bound_groups v.net) 0 line_count))
-    ∙ changed-those (is_line_bit slots bound_groups v.net) (λ k. line_bit_level k (line_source slots bound_groups k) v.bits) now line_count (omega (arith, e)) l
-    ∙ ap (λ (b : Bool). cond (b && is_line_bit slots bound_groups v.net l) (line_bit_level l (line_source slots bound_groups l) v.bits) (level_at now l)) (is_below l line_count lt)
+    ∙ ap (λ (cs : List Change). level_at (changed now cs) l) (tapped_twice slots bound_groups v.bits
+    (those (is_line_bit slots bound_groups v.net) 0 line_count))
+    ∙ changed-those (is_line_bit slots bound_groups v.net) (λ k. line_bit_level k (line_source slots bound_groups k)
+    v.bits) now line_count (omega (arith, e)) l
+    ∙ ap (λ (b : Bool). cond (b && is_line_bit slots bound_groups v.net l)
+    (line_bit_level l (line_source slots bound_groups l) v.bits) (level_at now l)) (is_below l line_count lt)
 
-pub length-valued : (line_bits : NetLines) (values : List Value) (now : Levels) → length (valued line_bits values now).levels ≡ length now.levels
+pub length-valued : (line_bits : NetLines) (values : List Value) (now : Levels)
+    → length (valued line_bits values now).levels ≡ length now.levels
 length-valued line_bits [] now = refl
-length-valued line_bits (v ∷ values) now = length-valued line_bits values (one_valued line_bits v now) ∙ length-changed now (map (tapped v.bits) (line_bits_of line_bits v.net))
+length-valued line_bits (v ∷ values) now = length-valued line_bits values (one_valued line_bits v now)
+    ∙ length-changed now (map (tapped v.bits) (line_bits_of line_bits v.net))
 
-pub slots-valued : (line_bits : NetLines) (values : List Value) (now : Levels) → (valued line_bits values now).slots ≡ now.slots
+pub slots-valued : (line_bits : NetLines) (values : List Value) (now : Levels) → (valued line_bits values now).slots
+    ≡ now.slots
 slots-valued line_bits [] now = refl
-slots-valued line_bits (v ∷ values) now = slots-valued line_bits values (one_valued line_bits v now) ∙ slots-kept now (map (tapped v.bits) (line_bits_of line_bits v.net))
+slots-valued line_bits (v ∷ values) now = slots-valued line_bits values (one_valued line_bits v now)
+    ∙ slots-kept now (map (tapped v.bits) (line_bits_of line_bits v.net))
 
-pub valued-at : (slots : ℕ) (bound_groups : List BoundGroup) (line_bits : NetLines) → AreTaps slots bound_groups line_bits → (values : List Value) (now : Levels) → length now.levels ≡ line_count → (l : ℕ) → l < line_count
+pub valued-at : (slots : ℕ) (bound_groups : List BoundGroup) (line_bits : NetLines) → AreTaps slots bound_groups
+    line_bits → (values : List Value) (now : Levels) → length now.levels ≡ line_count → (l : ℕ) → l < line_count
     → level_at (valued line_bits values now) l ≡ by_values l (line_source slots bound_groups l) values (level_at now l)
-valued-at slots bound_groups line_bits all [] now e l lt = sym (nothing_said l (line_source slots bound_groups l) (level_at now l))
+valued-at slots bound_groups line_bits all [] now e l lt = sym (nothing_said l (line_source slots bound_groups l)
+    (level_at now l))
 valued-at slots bound_groups line_bits all (v ∷ values) now e l lt =
-    valued-at slots bound_groups line_bits all values (one_valued line_bits v now) (length-changed now (map (tapped v.bits) (line_bits_of line_bits v.net)) ∙ e) l lt
-    ∙ ap (by_values l (line_source slots bound_groups l) values) (one_valued-at slots bound_groups line_bits all v now e l lt)
+    valued-at slots bound_groups line_bits all values (one_valued line_bits v now)
+    (length-changed now (map (tapped v.bits) (line_bits_of line_bits v.net)) ∙ e) l lt
+    ∙ ap (by_values l (line_source slots bound_groups l) values) (one_valued-at slots bound_groups line_bits all v now e
+    l lt)
     ∙ one_value l (line_source slots bound_groups l) v values (level_at now l)
 
 -- ---- one instant more
@@ -183,26 +213,37 @@ greatest-no p n h = rw (add-one, zero_le n, h) refl
 
 module _ (slots : ℕ) (bound_groups : List BoundGroup) (instants : List Instant) where
   bit_more : (n l net place : ℕ) (here : Option (List Bit)) → bits_at slots bound_groups instants net n ≡ here
-      → option_map_or (level_in l place) (option_and_then (bits_at slots bound_groups instants net) (last_change slots bound_groups instants net (n + 1))) Unknown
-      ≡ option_map_or (level_in l place) here (option_map_or (level_in l place) (option_and_then (bits_at slots bound_groups instants net) (last_change slots bound_groups instants net n)) Unknown)
+      → option_map_or (level_in l place) (option_and_then (bits_at slots bound_groups instants net)
+      (last_change slots bound_groups instants net (n + 1))) Unknown
+      ≡ option_map_or (level_in l place) here
+      (option_map_or (level_in l place) (option_and_then (bits_at slots bound_groups instants net)
+      (last_change slots bound_groups instants net n)) Unknown)
   bit_more n l net place None e =
-      ap (λ (o : Option ℕ). option_map_or (level_in l place) (option_and_then (bits_at slots bound_groups instants net) o) Unknown) (greatest-no (λ i. is_some (bits_at slots bound_groups instants net i)) n (ap is_some e))
+      ap (λ (o : Option ℕ). option_map_or (level_in l place) (option_and_then (bits_at slots bound_groups instants net)
+      o) Unknown) (greatest-no (λ i. is_some (bits_at slots bound_groups instants net i)) n (ap is_some e))
   bit_more n l net place (Some bits) e =
-      ap (λ (o : Option ℕ). option_map_or (level_in l place) (option_and_then (bits_at slots bound_groups instants net) o) Unknown) (greatest-yes (λ i. is_some (bits_at slots bound_groups instants net i)) n (ap is_some e))
+      ap (λ (o : Option ℕ). option_map_or (level_in l place) (option_and_then (bits_at slots bound_groups instants net)
+      o) Unknown) (greatest-yes (λ i. is_some (bits_at slots bound_groups instants net i)) n (ap is_some e))
       ∙ ap (λ (o : Option (List Bit)). option_map_or (level_in l place) o Unknown) e
 
-  by_source : (n l : ℕ) (source : Option LineSource) → level_by slots bound_groups instants (n + 1) l source ≡ by_values l source (values_of (slice_get instants n)) (level_by slots bound_groups instants n l source)
+  by_source : (n l : ℕ) (source : Option LineSource) → level_by slots bound_groups instants (n + 1) l source
+      ≡ by_values l source (values_of (slice_get instants n)) (level_by slots bound_groups instants n l source)
   by_source n l None = refl
   by_source n l (Some (Always level)) = refl
   by_source n l (Some (AtBit bit)) = bit_more n l bit.net bit.place (bits_at slots bound_groups instants bit.net n) refl
 
-  pub after-more : (n l : ℕ) → level_after slots bound_groups instants (n + 1) l ≡ by_values l (line_source slots bound_groups l) (values_of (slice_get instants n)) (level_after slots bound_groups instants n l)
+  pub after-more : (n l : ℕ) → level_after slots bound_groups instants (n + 1) l
+      ≡ by_values l (line_source slots bound_groups l) (values_of (slice_get instants n))
+      (level_after slots bound_groups instants n l)
   unfolding level_after
   after-more n l = by_source n l (line_source slots bound_groups l)
 
-  pub levels-at : (n l : ℕ) → l < line_count → level_at (levels_after slots bound_groups instants n) l ≡ level_after slots bound_groups instants n l
+  pub levels-at : (n l : ℕ) → l < line_count → level_at (levels_after slots bound_groups instants n) l
+      ≡ level_after slots bound_groups instants n l
   unfolding levels_after
-  levels-at n l lt = unwrap_or-slice_get (map (level_after slots bound_groups instants n) (range_with_len 0 line_count)) l Unknown ∙ get_or-map-range_with_len (level_after slots bound_groups instants n) 0 line_count l l Unknown lt (omega arith)
+  levels-at n l lt = unwrap_or-slice_get (map (level_after slots bound_groups instants n) (range_with_len 0 line_count))
+      l Unknown ∙ get_or-map-range_with_len (level_after slots bound_groups instants n) 0 line_count l l Unknown lt
+      (omega arith)
 
   pub levels-all : (n : ℕ) → length (levels_after slots bound_groups instants n).levels ≡ line_count
   unfolding levels_after
@@ -213,14 +254,19 @@ module _ (slots : ℕ) (bound_groups : List BoundGroup) (instants : List Instant
   levels-slots n = refl
 
   -- the values of an instant lead from the levels before it to those after it
-  pub valued-more : (line_bits : NetLines) → AreTaps slots bound_groups line_bits → (n : ℕ) (values : List Value) → values ≡ values_of (slice_get instants n)
-      → valued line_bits values (levels_after slots bound_groups instants n) ≡ levels_after slots bound_groups instants (n + 1)
+  pub valued-more : (line_bits : NetLines) → AreTaps slots bound_groups line_bits → (n : ℕ) (values : List Value)
+      → values ≡ values_of (slice_get instants n)
+      → valued line_bits values (levels_after slots bound_groups instants n) ≡ levels_after slots bound_groups instants
+      (n + 1)
   valued-more line_bits all n values e =
-      same_levels (valued line_bits values (levels_after slots bound_groups instants n)) (levels_after slots bound_groups instants (n + 1))
-      (slots-valued line_bits values (levels_after slots bound_groups instants n) ∙ levels-slots n ∙ sym (levels-slots (n + 1)))
+      same_levels (valued line_bits values (levels_after slots bound_groups instants n))
+      (levels_after slots bound_groups instants (n + 1))
+      (slots-valued line_bits values (levels_after slots bound_groups instants n) ∙ levels-slots n
+      ∙ sym (levels-slots (n + 1)))
       (length-valued line_bits values (levels_after slots bound_groups instants n) ∙ levels-all n) (levels-all (n + 1))
       (λ l lt.
       valued-at slots bound_groups line_bits all values (levels_after slots bound_groups instants n) (levels-all n) l lt
-      ∙ ap (λ (vs : List Value). by_values l (line_source slots bound_groups l) vs (level_at (levels_after slots bound_groups instants n) l)) e
+      ∙ ap (λ (vs : List Value). by_values l (line_source slots bound_groups l) vs
+      (level_at (levels_after slots bound_groups instants n) l)) e
       ∙ ap (by_values l (line_source slots bound_groups l) (values_of (slice_get instants n))) (levels-at n l lt)
       ∙ sym (after-more n l) ∙ sym (levels-at (n + 1) l lt))

@@ -1,5 +1,6 @@
 -- The end of an instant: a step, or none.
-use Rattle.std.proofs.Common.{◌≡◌, ◌≢◌, ℕ, ◌+◌, ◌<◌, Bool, true, false, cond, not, List, [], ◌∷◌, ◌++◌, length, map, refl, sym, ap, ◌∙◌, subst, arith, inl, inr}
+use Rattle.std.proofs.Common.{◌≡◌, ◌≢◌, ℕ, ◌+◌, ◌<◌, Bool, true, false, cond, not, List, [], ◌∷◌, ◌++◌, length, map}
+use Rattle.std.proofs.Common.{refl, sym, ap, ◌∙◌, subst, arith, inl, inr}
 use Rattle.std.specs.Prelude.{◌==◌}
 use Rattle.std.proofs.lemmas.Bool.Decides.{nat_tests}
 use Rattle.std.proofs.lemmas.Bool.{cases_eq, false≢true}
@@ -10,8 +11,10 @@ use Rattle.vme_trace.specs.LineNumbers.{line_count}
 use Rattle.vme_trace.specs.declared.step.Change.{Change}
 use Rattle.vme_trace.specs.declared.step.Step.{Step}
 use Rattle.vme_trace.proofs.Ranges.{any-fails}
-use Rattle.vme_bind.specs.Recording.{RecorderLevels, IsLine, differs, ListsTouchedLines, change_to, changes_between, step_between}
-use Rattle.vme_bind.proofs.RecorderLemmas.{those-yes, those-skip, bool_cases, alike, same_levels, set_same, set_other, set_all}
+use Rattle.vme_bind.specs.Recording.{RecorderLevels, IsLine, differs, ListsTouchedLines, change_to, changes_between}
+use Rattle.vme_bind.specs.Recording.{step_between}
+use Rattle.vme_bind.proofs.RecorderLemmas.{those-yes, those-skip, bool_cases, alike, same_levels, set_same, set_other}
+use Rattle.vme_bind.proofs.RecorderLemmas.{set_all}
 use Rattle.vme_bind.proofs.StepsLemmas.{some_of}
 
 none_those : (p : ℕ → Bool) (n : ℕ) → any p 0 n ≡ false → those p 0 n ≡ []
@@ -28,33 +31,51 @@ is_some : (n : ℕ) → 0 < n → (n == 0) ≡ false
 is_some n lt = grind (arith, nat_tests)
 
 -- where some line changes, there is a step
-pub step-some : (time : ℕ) (a b : Levels) (cs : List Change) → cs ≡ changes_between a b → (length cs == 0) ≡ false → one_step time cs ≡ step_between time a b
+pub step-some : (time : ℕ) (a b : Levels) (cs : List Change) → cs ≡ changes_between a b → (length cs == 0) ≡ false
+    → one_step time cs ≡ step_between time a b
 step-some time a b cs e h = ap (one_step time) e ∙ by_any (any (differs a b) 0 line_count) refl
   where
-    by_any : (t : Bool) → any (differs a b) 0 line_count ≡ t → one_step time (changes_between a b) ≡ cond t (one_step time (changes_between a b)) []
+    by_any : (t : Bool) → any (differs a b) 0 line_count ≡ t → one_step time (changes_between a b)
+        ≡ cond t (one_step time (changes_between a b)) []
     by_any true k = refl
-    by_any false k = absurd (false≢true (sym h ∙ is_none (length cs) (ap length (e ∙ ap (map (change_to b)) (none_those (differs a b) line_count k)))))
+    by_any false k = absurd
+        (false≢true
+        (sym h ∙ is_none (length cs) (ap length (e ∙ ap (map (change_to b)) (none_those (differs a b) line_count k)))))
 
 -- where no line changes, there is none
-pub step-none : (time : ℕ) (a b : Levels) (cs : List Change) → cs ≡ changes_between a b → (length cs == 0) ≡ true → step_between time a b ≡ []
+pub step-none : (time : ℕ) (a b : Levels) (cs : List Change) → cs ≡ changes_between a b → (length cs == 0) ≡ true
+    → step_between time a b ≡ []
 step-none time a b cs e h = by_any (any (differs a b) 0 line_count) refl
   where
     by_any : (t : Bool) → any (differs a b) 0 line_count ≡ t → cond t (one_step time (changes_between a b)) [] ≡ []
-    by_any true k = absurd (false≢true (sym (is_some (length cs) (omega (arith, ap length e, length-map (those (differs a b) 0 line_count) (change_to b), some_of (differs a b) line_count k))) ∙ h))
+    by_any true k = absurd
+        (false≢true
+        (sym (is_some (length cs) (omega (
+          arith,
+          ap length e,
+          length-map (those (differs a b) 0 line_count) (change_to b),
+          some_of (differs a b) line_count k,
+        ))) ∙ h))
     by_any false k = refl
 
 -- where no line differs, all is shown
-pub all-shown : (shown now : Levels) (touched : List ℕ) → ListsTouchedLines shown now touched → ((l : ℕ) → differs shown now l ≡ false) → shown ≡ now
-all-shown shown now touched h same = same_levels shown now (sym h.slots) h.shown_all h.now_all (λ l lt. alike shown now l (same l))
+pub all-shown : (shown now : Levels) (touched : List ℕ) → ListsTouchedLines shown now touched
+    → ((l : ℕ) → differs shown now l ≡ false) → shown ≡ now
+all-shown shown now touched h same = same_levels shown now (sym h.slots) h.shown_all h.now_all
+    (λ l lt. alike shown now l (same l))
 
 -- where no line differs, there is no step
-pub step-same : (time : ℕ) (shown now : Levels) → ((l : ℕ) → differs shown now l ≡ false) → [] ≡ step_between time shown now
+pub step-same : (time : ℕ) (shown now : Levels) → ((l : ℕ) → differs shown now l ≡ false) → [] ≡ step_between time shown
+    now
 unfolding those
 step-same time shown now same =
-    sym (step-none time shown now [] (ap (map (change_to now)) (sym (those-skip (differs shown now) 0 line_count (omega arith) (λ l low lt. same l)))) refl)
+    sym (step-none time shown now []
+    (ap (map (change_to now)) (sym (those-skip (differs shown now) 0 line_count (omega arith) (λ l low lt. same l))))
+    refl)
 
 -- where no line is listed, none differs
-pub none_differs : (shown now : Levels) (touched : List ℕ) → length touched ≡ 0 → ListsTouchedLines shown now touched → (l : ℕ) → differs shown now l ≡ false
+pub none_differs : (shown now : Levels) (touched : List ℕ) → length touched ≡ 0 → ListsTouchedLines shown now touched
+    → (l : ℕ) → differs shown now l ≡ false
 none_differs shown now touched none h l =
     elim (bool_cases (differs shown now l)) [
       | inl d ↦ let here = h.listed l d in absurd (omega (arith, here.1, none))
@@ -65,40 +86,53 @@ abbrev pub progress : Levels → Levels → RecorderLevels
 progress shown now = record { shown = shown; now = now }
 
 -- the step, by what is shown
-pub step-at : (time : ℕ) (p : RecorderLevels) (shown now : Levels) → p ≡ progress shown now → step_between time shown now ≡ step_between time p.shown p.now
+pub step-at : (time : ℕ) (p : RecorderLevels) (shown now : Levels) → p ≡ progress shown now → step_between time shown
+    now ≡ step_between time p.shown p.now
 step-at time p shown now e = ap (λ (q : RecorderLevels). step_between time q.shown q.now) (sym e)
 
 -- all is shown at the end
-pub ended : (p : RecorderLevels) (shown now after : Levels) → p ≡ progress shown now → after ≡ now → progress after now ≡ progress p.now p.now
-ended p shown now after e is = ap (λ (v : Levels). progress v now) is ∙ ap (λ (q : RecorderLevels). progress q.now q.now) (sym e)
+pub ended : (p : RecorderLevels) (shown now after : Levels) → p ≡ progress shown now → after ≡ now → progress after now
+    ≡ progress p.now p.now
+ended p shown now after e is = ap (λ (v : Levels). progress v now) is
+    ∙ ap (λ (q : RecorderLevels). progress q.now q.now) (sym e)
 
 -- where nothing is listed, nothing ends
-pub none-ended : (p : RecorderLevels) (shown now : Levels) (touched : List ℕ) → p ≡ progress shown now → ListsTouchedLines shown now touched → length touched ≡ 0 → p ≡ progress p.now p.now
-none-ended p shown now touched e h none = e ∙ ended p shown now shown e (all-shown shown now touched h (none_differs shown now touched none h))
+pub none-ended : (p : RecorderLevels) (shown now : Levels) (touched : List ℕ) → p ≡ progress shown now
+    → ListsTouchedLines shown now touched → length touched ≡ 0 → p ≡ progress p.now p.now
+none-ended p shown now touched e h none = e ∙ ended p shown now shown e
+    (all-shown shown now touched h (none_differs shown now touched none h))
 
-pub none-step : (time : ℕ) (p : RecorderLevels) (shown now : Levels) (touched : List ℕ) → p ≡ progress shown now → ListsTouchedLines shown now touched → length touched ≡ 0 → [] ≡ step_between time p.shown p.now
-none-step time p shown now touched e h none = step-same time shown now (none_differs shown now touched none h) ∙ step-at time p shown now e
+pub none-step : (time : ℕ) (p : RecorderLevels) (shown now : Levels) (touched : List ℕ) → p ≡ progress shown now
+    → ListsTouchedLines shown now touched → length touched ≡ 0 → [] ≡ step_between time p.shown p.now
+none-step time p shown now touched e h none = step-same time shown now (none_differs shown now touched none h)
+    ∙ step-at time p shown now e
 
 -- ---- one line that differs
 
-module _ (shown now : Levels) (touched : List ℕ) (line : ℕ) (h : ListsTouchedLines shown now touched) (is : IsLine shown.slots line) (alone : (l : ℕ) → l ≢ line → differs shown now l ≡ false) where
+module _ (shown now : Levels) (touched : List ℕ) (line : ℕ) (h : ListsTouchedLines shown now touched)
+    (is : IsLine shown.slots line) (alone : (l : ℕ) → l ≢ line → differs shown now l ≡ false) where
   -- it is shown
   pub lone-shown : set_level shown line (level_at now line) ≡ now
   lone-shown =
-      same_levels (set_level shown line (level_at now line)) now (sym h.slots) (set_all shown line (level_at now line) h.shown_all) h.now_all
+      same_levels (set_level shown line (level_at now line)) now (sym h.slots) (set_all shown line (level_at now line)
+      h.shown_all) h.now_all
       (λ l lt. elim (cases_eq l line) [
-        | inl e ↦ ap (level_at (set_level shown line (level_at now line))) e ∙ set_same shown line (level_at now line) (omega (arith, is.below, h.shown_all)) ∙ ap (level_at now) (sym e)
+        | inl e ↦ ap (level_at (set_level shown line (level_at now line))) e ∙ set_same shown line (level_at now line)
+            (omega (arith, is.below, h.shown_all)) ∙ ap (level_at now) (sym e)
         | inr ne ↦ set_other shown line l (level_at now line) ne ∙ alike shown now l (alone l ne)
       ])
 
   -- it is the change
-  pub lone-change : same_level (level_at shown line) (level_at now line) ≡ false → change_to now line ∷ [] ≡ changes_between shown now
+  pub lone-change : same_level (level_at shown line) (level_at now line) ≡ false → change_to now line ∷ []
+      ≡ changes_between shown now
   unfolding those
   lone-change other =
       ap (map (change_to now)) (sym (
-      those-skip (differs shown now) (line + 1) line_count (omega (arith, is.below)) (λ l low lt. let ne : l ≢ line = omega (arith, low) in alone l ne)
+      those-skip (differs shown now) (line + 1) line_count (omega (arith, is.below))
+      (λ l low lt. let ne : l ≢ line = omega (arith, low) in alone l ne)
       ∙ those-yes (differs shown now) line (ap not other)
-      ∙ ap (λ (xs : List ℕ). xs ++ line ∷ []) (those-skip (differs shown now) 0 line (omega arith) (λ l low lt. let ne : l ≢ line = omega (arith, lt) in alone l ne))))
+      ∙ ap (λ (xs : List ℕ). xs ++ line ∷ []) (those-skip (differs shown now) 0 line (omega arith)
+      (λ l low lt. let ne : l ≢ line = omega (arith, lt) in alone l ne))))
 
   -- where it has the level that is shown, no line differs
   pub lone-same : same_level (level_at shown line) (level_at now line) ≡ true → (l : ℕ) → differs shown now l ≡ false
@@ -108,7 +142,8 @@ module _ (shown now : Levels) (touched : List ℕ) (line : ℕ) (h : ListsTouche
   ]
 
 -- the end of an instant at which no line but one may differ
-module _ (p : RecorderLevels) (shown now : Levels) (touched : List ℕ) (line : ℕ) (view : p ≡ progress shown now) (h : ListsTouchedLines shown now touched)
+module _ (p : RecorderLevels) (shown now : Levels) (touched : List ℕ) (line : ℕ) (view : p ≡ progress shown now)
+    (h : ListsTouchedLines shown now touched)
     (exists : IsLine p.now.slots line) (alone : (l : ℕ) → l ≢ line → differs p.shown p.now l ≡ false) where
   line_exists : IsLine shown.slots line
   line_exists = subst (λ (s : ℕ). IsLine s line) (ap (λ (q : RecorderLevels). q.now.slots) view ∙ h.slots) exists
@@ -119,16 +154,21 @@ module _ (p : RecorderLevels) (shown now : Levels) (touched : List ℕ) (line : 
   pub line-shown : (after : Levels) → after ≡ set_level shown line (level_at now line) → after ≡ now
   line-shown after set = set ∙ lone-shown shown now touched line h line_exists is_alone
 
-  pub line-ended : (after : Levels) → after ≡ set_level shown line (level_at now line) → progress after now ≡ progress p.now p.now
+  pub line-ended : (after : Levels) → after ≡ set_level shown line (level_at now line) → progress after now
+      ≡ progress p.now p.now
   line-ended after set = ended p shown now after view (line-shown after set)
 
-  pub line-step : (time : ℕ) (changes : List Change) → changes ≡ change_to now line ∷ [] → same_level (level_at shown line) (level_at now line) ≡ false
+  pub line-step : (time : ℕ) (changes : List Change) → changes ≡ change_to now line ∷ []
+      → same_level (level_at shown line) (level_at now line) ≡ false
       → one_step time changes ≡ step_between time p.shown p.now
   line-step time changes is other =
       ap (one_step time) is
-      ∙ step-some time shown now (change_to now line ∷ []) (lone-change shown now touched line h line_exists is_alone other) refl
+      ∙ step-some time shown now (change_to now line ∷ []) (lone-change shown now touched line h line_exists is_alone
+      other) refl
       ∙ step-at time p shown now view
 
-  pub line-none : (time : ℕ) → same_level (level_at shown line) (level_at now line) ≡ true → [] ≡ step_between time p.shown p.now
+  pub line-none : (time : ℕ) → same_level (level_at shown line) (level_at now line) ≡ true → [] ≡ step_between time
+      p.shown p.now
   line-none time same =
-      step-same time shown now (lone-same shown now touched line h line_exists is_alone same) ∙ step-at time p shown now view
+      step-same time shown now (lone-same shown now touched line h line_exists is_alone same) ∙ step-at time p shown now
+      view

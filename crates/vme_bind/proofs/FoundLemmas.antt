@@ -1,5 +1,6 @@
 -- What is found, once all variables are looked at, and the wires of it.
-use Rattle.std.proofs.Common.{◌≡◌, ℕ, ◌<◌, eqb, Bool, true, false, cond, ◌&&◌, List, [], ◌∷◌, map, drop, get_or, length, ◌+◌, ◌≤◌, ◌++◌, Option, Some, None, Result, Ok, Err, refl, sym, ap, ◌∙◌, arith}
+use Rattle.std.proofs.Common.{◌≡◌, ℕ, ◌<◌, eqb, Bool, true, false, cond, ◌&&◌, List, [], ◌∷◌, map, drop, get_or, length}
+use Rattle.std.proofs.Common.{◌+◌, ◌≤◌, ◌++◌, Option, Some, None, Result, Ok, Err, refl, sym, ap, ◌∙◌, arith}
 use Rattle.std.specs.Prelude.{bytes_eq}
 use Rattle.std.proofs.lemmas.Bool.{eq-eqb}
 use Rattle.std.proofs.lemmas.Bool.Decides.{nat_tests}
@@ -21,8 +22,11 @@ use Rattle.vme_bind.specs.declared.path_search.PathMatch.{PathMatch}
 use Rattle.vme_bind.specs.declared.path_search.PathMatch.TheVariants.{Nothing, Only, Several}
 use Rattle.vme_bind.specs.declared.bound_groups.BitRange.{BitRange}
 use Rattle.vme_bind.specs.declared.bound_groups.BoundGroup.{BoundGroup}
-use Rattle.vme_bind.specs.PathSearch.{Searched, with_bits, only_found, path_sought, scopes_begun, candidate_of, with_candidate, with_variable, seen_in, unseen, source_of, bound_group_of, bound_groups_of}
-use Rattle.vme_bind.specs.BoundGroups.{bits_meant, candidate, same_bits, only, source_by, source_in, bound_group_by, bound_group_in, bound_groups_in}
+use Rattle.vme_bind.specs.PathSearch.{Searched, with_bits, only_found, path_sought, scopes_begun, candidate_of}
+use Rattle.vme_bind.specs.PathSearch.{with_candidate, with_variable, seen_in, unseen, source_of, bound_group_of}
+use Rattle.vme_bind.specs.PathSearch.{bound_groups_of}
+use Rattle.vme_bind.specs.BoundGroups.{bits_meant, candidate, same_bits, only, source_by, source_in, bound_group_by}
+use Rattle.vme_bind.specs.BoundGroups.{bound_group_in, bound_groups_in}
 use Rattle.vme_bind.proofs.SoughtLemmas.{path_test}
 use Rattle.vme_bind.proofs.WiresLemmas.{behind_bound_groups, push_in, from_place}
 use Rattle.std.proofs.Math.ListN.{drop_of_length-le}
@@ -37,27 +41,32 @@ only_behind (Only bits) others = cond (list_all (same_bits bits) others) (Ok bit
 only_behind Several others = Err AmbiguousPath
 
 abbrev found_all : LevelSource → PathMatch → List Variable → PathMatch
-found_all source found variables = fold (λ (f : PathMatch) (v : Variable). with_bits f (candidate_of source v)) found variables
+found_all source found variables = fold (λ (f : PathMatch) (v : Variable). with_bits f (candidate_of source v)) found
+    variables
 
 abbrev behind : Option BitRange → List BitRange → List BitRange
 behind None others = others
 behind (Some bits) others = bits ∷ others
 
-behind_one : (found : PathMatch) (next : Option BitRange) (others : List BitRange) → only_behind (with_bits found next) others ≡ only_behind found (behind next others)
+behind_one : (found : PathMatch) (next : Option BitRange) (others : List BitRange) → only_behind (with_bits found next)
+    others ≡ only_behind found (behind next others)
 behind_one found None others = refl
 behind_one Nothing (Some next) others = refl
 behind_one (Only bits) (Some next) others = by_same (same_bits bits next)
   where
-    by_same : (b : Bool) → only_behind (cond b (Only bits) Several) others ≡ cond (b && list_all (same_bits bits) others) (Ok bits) (Err AmbiguousPath)
+    by_same : (b : Bool) → only_behind (cond b (Only bits) Several) others
+        ≡ cond (b && list_all (same_bits bits) others) (Ok bits) (Err AmbiguousPath)
     by_same true = refl
     by_same false = refl
 behind_one Several (Some next) others = refl
 
-more_candidates : (named : VariableSelector) (v : Variable) (vs : List Variable) (next : Option BitRange) → candidate named v ≡ next → filter_map (candidate named) (v ∷ vs) ≡ behind next (filter_map (candidate named) vs)
+more_candidates : (named : VariableSelector) (v : Variable) (vs : List Variable) (next : Option BitRange)
+    → candidate named v ≡ next → filter_map (candidate named) (v ∷ vs) ≡ behind next (filter_map (candidate named) vs)
 more_candidates named v vs None e = rw e refl
 more_candidates named v vs (Some bits) e = rw e refl
 
-found_only : (named : VariableSelector) (vs : List Variable) (found : PathMatch) → only_found (found_all (Named named) found vs) ≡ only_behind found (filter_map (candidate named) vs)
+found_only : (named : VariableSelector) (vs : List Variable) (found : PathMatch)
+    → only_found (found_all (Named named) found vs) ≡ only_behind found (filter_map (candidate named) vs)
 found_only named [] Nothing = refl
 found_only named [] (Only bits) = refl
 found_only named [] Several = refl
@@ -66,9 +75,11 @@ found_only named (v ∷ vs) found =
     ∙ behind_one found (candidate named v) (filter_map (candidate named) vs)
     ∙ ap (only_behind found) (sym (more_candidates named v vs (candidate named v) refl))
 
-found_source : (count : ℕ) (source : LevelSource) (vs : List Variable) → source_of count (found_all source Nothing vs) source ≡ source_in vs count source
+found_source : (count : ℕ) (source : LevelSource) (vs : List Variable) → source_of count (found_all source Nothing vs)
+    source ≡ source_in vs count source
 found_source count (Constant level) vs = refl
-found_source count (Named named) vs = ap (λ (r : Result BitRange BindKind). source_by count r) (found_only named vs Nothing)
+found_source count (Named named) vs = ap (λ (r : Result BitRange BindKind). source_by count r)
+    (found_only named vs Nothing)
 
 -- ---- all assignments
 
@@ -79,72 +90,98 @@ seen_each : (vs : List Variable) (seen : List Searched) → fold with_variable s
 seen_each [] seen = sym (map-id seen)
 seen_each (v ∷ vs) seen = seen_each vs (map (with_candidate v) seen) ∙ map-map (seen_all vs) (with_candidate v) seen
 
-bound_groups_each : (vs : List Variable) (as' : List Assignment) → bound_groups_of (map (seen_all vs) (map unseen as')) ≡ bound_groups_in vs as'
+bound_groups_each : (vs : List Variable) (as' : List Assignment) → bound_groups_of (map (seen_all vs) (map unseen as'))
+    ≡ bound_groups_in vs as'
 unfolding bound_groups_of bound_groups_in
 bound_groups_each vs [] = refl
 bound_groups_each vs (a ∷ as') =
-    ap (λ (r : Result BoundGroup BindFault). r >>= λ bound_group. bound_groups_of (map (seen_all vs) (map unseen as')) >>= λ bound_groups. Ok (bound_group ∷ bound_groups)) (ap (bound_group_by a) (found_source a.group.count a.source vs))
-    ∙ ap (λ (r : Result (List BoundGroup) BindFault). bound_group_in vs a >>= λ bound_group. r >>= λ bound_groups. Ok (bound_group ∷ bound_groups)) (bound_groups_each vs as')
+    ap (λ (r : Result BoundGroup BindFault). r >>= λ bound_group. bound_groups_of (map (seen_all vs) (map unseen as'))
+    >>= λ bound_groups. Ok (bound_group ∷ bound_groups))
+    (ap (bound_group_by a) (found_source a.group.count a.source vs))
+    ∙ ap (λ (r : Result (List BoundGroup) BindFault). bound_group_in vs a >>= λ bound_group. r >>= λ bound_groups. Ok
+    (bound_group ∷ bound_groups)) (bound_groups_each vs as')
 
 -- the wires of what is found are those of the variables
-pub bound_groups_found : (vs : List Variable) (as' : List Assignment) (seen : List Searched) → seen ≡ fold with_variable (map unseen as') vs → bound_groups_of seen ≡ bound_groups_in vs as'
+pub bound_groups_found : (vs : List Variable) (as' : List Assignment) (seen : List Searched) → seen ≡ fold with_variable
+    (map unseen as') vs → bound_groups_of seen ≡ bound_groups_in vs as'
 bound_groups_found vs as' seen e = ap bound_groups_of (e ∙ seen_each vs (map unseen as')) ∙ bound_groups_each vs as'
 
 -- ---- a variable in the open scopes
 
-module _ (named : VariableSelector) (scopes : List (List ℕ)) (net size : ℕ) (r : Reference) (some : 0 < length r.name) where
-  candidate_by : candidate named (variable_in scopes net size r)
-      ≡ cond (eqb (scopes_begun named.path scopes) (length scopes) && bytes_eq (drop (length (path_in scopes)) named.path) r.name) (bits_meant named.selection net size r.index) None
-  candidate_by = ap (λ (b : Bool). cond b (bits_meant named.selection net size r.index) None) (path_test named.path r.name scopes some)
+module _ (named : VariableSelector) (scopes : List (List ℕ)) (net size : ℕ) (r : Reference) (some : 0 < length r.name)
+  where
+    candidate_by : candidate named (variable_in scopes net size r)
+        ≡ cond (eqb (scopes_begun named.path scopes) (length scopes)
+        && bytes_eq (drop (length (path_in scopes)) named.path) r.name) (bits_meant named.selection net size r.index)
+        None
+    candidate_by = ap (λ (b : Bool). cond b (bits_meant named.selection net size r.index) None)
+        (path_test named.path r.name scopes some)
 
-  -- it has the path
-  pub candidate-here : (begun : ℕ) (rest : List ℕ) → begun ≡ scopes_begun named.path scopes → begun ≡ length scopes → rest ≡ drop (length (path_in scopes)) named.path → bytes_eq rest r.name ≡ true
-      → bits_meant named.selection net size r.index ≡ candidate named (variable_in scopes net size r)
-  candidate-here begun rest is all e same =
-      sym (candidate_by ∙ ap (λ (b : Bool). cond b (bits_meant named.selection net size r.index) None) (both (eq-eqb (scopes_begun named.path scopes) (length scopes) (sym is ∙ all)) (rw e at same)))
-    where
-      both : {a b : Bool} → a ≡ true → b ≡ true → (a && b) ≡ true
-      both p q = rw (p, q) refl
+    -- it has the path
+    pub candidate-here : (begun : ℕ) (rest : List ℕ) → begun ≡ scopes_begun named.path scopes → begun ≡ length scopes
+        → rest ≡ drop (length (path_in scopes)) named.path → bytes_eq rest r.name ≡ true
+        → bits_meant named.selection net size r.index ≡ candidate named (variable_in scopes net size r)
+    candidate-here begun rest is all e same =
+        sym (candidate_by ∙ ap (λ (b : Bool). cond b (bits_meant named.selection net size r.index) None)
+        (both (eq-eqb (scopes_begun named.path scopes) (length scopes) (sym is ∙ all)) (rw e at same)))
+      where
+        both : {a b : Bool} → a ≡ true → b ≡ true → (a && b) ≡ true
+        both p q = rw (p, q) refl
 
-  -- it has another name
-  pub candidate-named : (rest : List ℕ) → rest ≡ drop (length (path_in scopes)) named.path → bytes_eq rest r.name ≡ false → None ≡ candidate named (variable_in scopes net size r)
-  candidate-named rest e other =
-      sym (candidate_by ∙ ap (λ (b : Bool). cond b (bits_meant named.selection net size r.index) None) (second (eqb (scopes_begun named.path scopes) (length scopes)) (rw e at other)))
-    where
-      second : (a : Bool) {b : Bool} → b ≡ false → (a && b) ≡ false
-      second true q = q
-      second false q = refl
+    -- it has another name
+    pub candidate-named : (rest : List ℕ) → rest ≡ drop (length (path_in scopes)) named.path → bytes_eq rest r.name
+        ≡ false → None ≡ candidate named (variable_in scopes net size r)
+    candidate-named rest e other =
+        sym (candidate_by ∙ ap (λ (b : Bool). cond b (bits_meant named.selection net size r.index) None)
+        (second (eqb (scopes_begun named.path scopes) (length scopes)) (rw e at other)))
+      where
+        second : (a : Bool) {b : Bool} → b ≡ false → (a && b) ≡ false
+        second true q = q
+        second false q = refl
 
-  -- it stands in other scopes
-  candidate-other : (begun : ℕ) → begun ≡ scopes_begun named.path scopes → (begun ≡ length scopes → ⊥) → None ≡ candidate named (variable_in scopes net size r)
-  candidate-other begun is other =
-      sym (candidate_by ∙ ap (λ (b : Bool). cond (b && bytes_eq (drop (length (path_in scopes)) named.path) r.name) (bits_meant named.selection net size r.index) None) none)
-    where
-      none : eqb (scopes_begun named.path scopes) (length scopes) ≡ false
-      none = grind (arith, nat_tests, is, other)
+    -- it stands in other scopes
+    candidate-other : (begun : ℕ) → begun ≡ scopes_begun named.path scopes → (begun ≡ length scopes → ⊥) → None
+        ≡ candidate named (variable_in scopes net size r)
+    candidate-other begun is other =
+        sym (candidate_by ∙ ap (λ (b : Bool). cond (b && bytes_eq (drop (length (path_in scopes)) named.path) r.name)
+        (bits_meant named.selection net size r.index) None) none)
+      where
+        none : eqb (scopes_begun named.path scopes) (length scopes) ≡ false
+        none = grind (arith, nat_tests, is, other)
 
 -- what is sought in other scopes is found no more of
-pub found-other : (source : LevelSource) (found : PathMatch) (scopes : List (List ℕ)) (net size : ℕ) (r : Reference) (begun : ℕ) → 0 < length r.name → begun ≡ scopes_begun (path_sought source) scopes → (begun ≡ length scopes → ⊥)
+pub found-other : (source : LevelSource) (found : PathMatch) (scopes : List (List ℕ)) (net size : ℕ) (r : Reference)
+    (begun : ℕ) → 0 < length r.name → begun ≡ scopes_begun (path_sought source) scopes → (begun ≡ length scopes → ⊥)
     → found ≡ with_bits found (candidate_of source (variable_in scopes net size r))
 found-other (Constant level) found scopes net size r begun some is other = refl
-found-other (Named named) found scopes net size r begun some is other = ap (with_bits found) (candidate-other named scopes net size r some begun is other)
+found-other (Named named) found scopes net size r begun some is other = ap (with_bits found)
+    (candidate-other named scopes net size r some begun is other)
 
 -- ---- the wires one after the other
 
-pub bound_groups-first : (bound_groups : List BoundGroup) (sought : List PathSearch) (i : ℕ) (s : PathSearch) → i < length sought → s ≡ get_or sought i s
-    → behind_bound_groups bound_groups (bound_groups_of (map seen_in (drop i sought))) ≡ (bound_group_of (seen_in s) >>= λ bound_group. behind_bound_groups (bound_groups ++ bound_group ∷ []) (bound_groups_of (map seen_in (drop (i + 1) sought))))
+pub bound_groups-first : (bound_groups : List BoundGroup) (sought : List PathSearch) (i : ℕ) (s : PathSearch)
+    → i < length sought → s ≡ get_or sought i s
+    → behind_bound_groups bound_groups (bound_groups_of (map seen_in (drop i sought)))
+    ≡ (bound_group_of (seen_in s) >>= λ bound_group. behind_bound_groups (bound_groups ++ bound_group ∷ [])
+    (bound_groups_of (map seen_in (drop (i + 1) sought))))
 unfolding bound_groups_of
 bound_groups-first bound_groups sought i s lt e =
-    ap (λ (rest : List PathSearch). behind_bound_groups bound_groups (bound_groups_of (map seen_in rest))) (from_place sought i s lt e)
+    ap (λ (rest : List PathSearch). behind_bound_groups bound_groups (bound_groups_of (map seen_in rest)))
+    (from_place sought i s lt e)
     ∙ push_in bound_groups (bound_group_of (seen_in s)) (bound_groups_of (map seen_in (drop (i + 1) sought)))
 
-pub bound_groups-step : (bound_groups : List BoundGroup) (sought : List PathSearch) (i : ℕ) (s : PathSearch) (bound_group : BoundGroup) → i < length sought → s ≡ get_or sought i s → bound_group_of (seen_in s) ≡ Ok bound_group
-    → behind_bound_groups bound_groups (bound_groups_of (map seen_in (drop i sought))) ≡ behind_bound_groups (bound_groups ++ bound_group ∷ []) (bound_groups_of (map seen_in (drop (i + 1) sought)))
+pub bound_groups-step : (bound_groups : List BoundGroup) (sought : List PathSearch) (i : ℕ) (s : PathSearch)
+    (bound_group : BoundGroup) → i < length sought → s ≡ get_or sought i s → bound_group_of (seen_in s) ≡ Ok bound_group
+    → behind_bound_groups bound_groups (bound_groups_of (map seen_in (drop i sought))) ≡ behind_bound_groups
+    (bound_groups ++ bound_group ∷ []) (bound_groups_of (map seen_in (drop (i + 1) sought)))
 bound_groups-step bound_groups sought i s bound_group lt e is =
     bound_groups-first bound_groups sought i s lt e
-    ∙ ap (λ (r : Result BoundGroup BindFault). r >>= λ bound_group. behind_bound_groups (bound_groups ++ bound_group ∷ []) (bound_groups_of (map seen_in (drop (i + 1) sought)))) is
+    ∙ ap (λ (r : Result BoundGroup BindFault). r >>= λ bound_group. behind_bound_groups (bound_groups ++ bound_group
+    ∷ []) (bound_groups_of (map seen_in (drop (i + 1) sought)))) is
 
-pub bound_groups-end : (bound_groups : List BoundGroup) (sought : List PathSearch) (i : ℕ) → length sought ≤ i → behind_bound_groups bound_groups (bound_groups_of (map seen_in (drop i sought))) ≡ Ok bound_groups
+pub bound_groups-end : (bound_groups : List BoundGroup) (sought : List PathSearch) (i : ℕ) → length sought ≤ i
+    → behind_bound_groups bound_groups (bound_groups_of (map seen_in (drop i sought))) ≡ Ok bound_groups
 unfolding bound_groups_of
 bound_groups-end bound_groups sought i le =
-    ap (λ (rest : List PathSearch). behind_bound_groups bound_groups (bound_groups_of (map seen_in rest))) (drop_of_length-le sought le) ∙ ap Ok (append-nil bound_groups)
+    ap (λ (rest : List PathSearch). behind_bound_groups bound_groups (bound_groups_of (map seen_in rest)))
+    (drop_of_length-le sought le) ∙ ap Ok (append-nil bound_groups)

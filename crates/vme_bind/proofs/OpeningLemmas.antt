@@ -1,5 +1,7 @@
 -- The levels before any change, and the recording from one instant to the next.
-use Rattle.std.proofs.Common.{◌≡◌, ◌≢◌, ℕ, zero, suc, ◌+◌, ◌<◌, ◌≤◌, Bool, true, false, cond, List, [], ◌∷◌, ◌++◌, length, get_or, refl, sym, ap, ◌∙◌, subst, arith, inl, inr, Option, Some, None, Result, Ok, Err}
+use Rattle.std.proofs.Common.{◌≡◌, ◌≢◌, ℕ, zero, suc, ◌+◌, ◌<◌, ◌≤◌, Bool, true, false, cond, List, [], ◌∷◌, ◌++◌}
+use Rattle.std.proofs.Common.{length, get_or, refl, sym, ap, ◌∙◌, subst, arith, inl, inr, Option, Some, None, Result}
+use Rattle.std.proofs.Common.{Ok, Err}
 use Rattle.std.specs.Prelude.{nat_lt, replicate, slice_get}
 use Rattle.std.proofs.lemmas.Bool.{cases_lt, cases_eq}
 use Rattle.std.proofs.lemmas.List.{length-replicate}
@@ -26,7 +28,8 @@ use Rattle.vme_bind.specs.Answers.{BindGives}
 use Rattle.vme_bind.specs.Binding.{BoundLines}
 use Rattle.vme_bind.specs.BoundGroups.{bound_groups_in, line_source}
 use Rattle.vme_bind.specs.NetLines.{line_bits_of}
-use Rattle.vme_bind.specs.Capture.{values_of, time_of, level_by, level_after, levels_after, recording, recording_of, limited, capture_of}
+use Rattle.vme_bind.specs.Capture.{values_of, time_of, level_by, level_after, levels_after, recording, recording_of}
+use Rattle.vme_bind.specs.Capture.{limited, capture_of}
 use Rattle.vme_bind.specs.Recording.{RecorderLevels, AreLines, valued, step_between}
 use Rattle.vme_bind.proofs.RecorderLemmas.{set_same, set_other, set_all, same_levels}
 use Rattle.vme_bind.proofs.CaptureLemmas.{AreTaps, levels-at, levels-all, levels-slots, valued-more}
@@ -53,54 +56,68 @@ pub record IsOpened (slots : ℕ) (bound_groups : List BoundGroup) (n : ℕ) (v 
   pub below : (l : ℕ) → l < n → level_at v l ≡ first_level (line_source slots bound_groups l)
   pub above : (l : ℕ) → n ≤ l → level_at v l ≡ Unknown
 
-pub opened-first : (bound_groups : List BoundGroup) (v : Levels) → v.levels ≡ replicate line_count Unknown → IsOpened v.slots bound_groups 0 v
+pub opened-first : (bound_groups : List BoundGroup) (v : Levels) → v.levels ≡ replicate line_count Unknown
+    → IsOpened v.slots bound_groups 0 v
 opened-first bound_groups v e = record {
   same_slots = refl;
   all = ap length e ∙ length-replicate line_count Unknown;
   below = λ l lt. absurd (omega (arith, lt));
-  above = λ l le. unwrap_or-slice_get v.levels l Unknown ∙ ap (λ (xs : List Level). get_or xs l Unknown) e ∙ unknown_at line_count l;
+  above = λ l le. unwrap_or-slice_get v.levels l Unknown ∙ ap (λ (xs : List Level). get_or xs l Unknown) e
+      ∙ unknown_at line_count l;
 }
 
-pub opened-same : (slots : ℕ) (bound_groups : List BoundGroup) (n : ℕ) (v : Levels) → Unknown ≡ first_level (line_source slots bound_groups n) → IsOpened slots bound_groups n v → IsOpened slots bound_groups (n + 1) v
+pub opened-same : (slots : ℕ) (bound_groups : List BoundGroup) (n : ℕ) (v : Levels) → Unknown
+    ≡ first_level (line_source slots bound_groups n) → IsOpened slots bound_groups n v → IsOpened slots bound_groups
+    (n + 1) v
 opened-same slots bound_groups n v e h = record {
   same_slots = h.same_slots;
   all = h.all;
   below = λ l lt. elim (cases_lt l n) [
     | inl less ↦ h.below l less
-    | inr more ↦ let is : n ≡ l = omega (arith, lt, more) in h.above l more ∙ e ∙ ap (λ (k : ℕ). first_level (line_source slots bound_groups k)) is
+    | inr more ↦ let is : n ≡ l = omega (arith, lt, more) in
+        h.above l more ∙ e ∙ ap (λ (k : ℕ). first_level (line_source slots bound_groups k)) is
   ];
   above = λ l le. h.above l (omega (arith, le));
 }
 
-pub opened-set : (slots : ℕ) (bound_groups : List BoundGroup) (n : ℕ) (v : Levels) (x : Level) → n < line_count → x ≡ first_level (line_source slots bound_groups n) → IsOpened slots bound_groups n v → IsOpened slots bound_groups (n + 1) (set_level v n x)
+pub opened-set : (slots : ℕ) (bound_groups : List BoundGroup) (n : ℕ) (v : Levels) (x : Level) → n < line_count → x
+    ≡ first_level (line_source slots bound_groups n) → IsOpened slots bound_groups n v → IsOpened slots bound_groups
+    (n + 1) (set_level v n x)
 opened-set slots bound_groups n v x in' e h = record {
   same_slots = h.same_slots;
   all = set_all v n x h.all;
   below = λ l lt. elim (cases_eq l n) [
-    | inl is ↦ ap (level_at (set_level v n x)) is ∙ set_same v n x (omega (arith, in', h.all)) ∙ e ∙ ap (λ (k : ℕ). first_level (line_source slots bound_groups k)) (sym is)
+    | inl is ↦ ap (level_at (set_level v n x)) is ∙ set_same v n x (omega (arith, in', h.all)) ∙ e
+        ∙ ap (λ (k : ℕ). first_level (line_source slots bound_groups k)) (sym is)
     | inr ne ↦ set_other v n l x ne ∙ h.below l (omega (arith, lt, ne))
   ];
   above = λ l le. let ne : l ≢ n = omega (arith, le) in set_other v n l x ne ∙ h.above l (omega (arith, le));
 }
 
-first_is : (slots : ℕ) (bound_groups : List BoundGroup) (instants : List Instant) (l : ℕ) (source : Option LineSource) → first_level source ≡ level_by slots bound_groups instants 0 l source
+first_is : (slots : ℕ) (bound_groups : List BoundGroup) (instants : List Instant) (l : ℕ) (source : Option LineSource)
+    → first_level source ≡ level_by slots bound_groups instants 0 l source
 unfolding greatest
 first_is slots bound_groups instants l None = refl
 first_is slots bound_groups instants l (Some (Always level)) = refl
 first_is slots bound_groups instants l (Some (Bit bit)) = refl
 
-first_after : (slots : ℕ) (bound_groups : List BoundGroup) (instants : List Instant) (l : ℕ) → first_level (line_source slots bound_groups l) ≡ level_after slots bound_groups instants 0 l
+first_after : (slots : ℕ) (bound_groups : List BoundGroup) (instants : List Instant) (l : ℕ)
+    → first_level (line_source slots bound_groups l) ≡ level_after slots bound_groups instants 0 l
 unfolding level_after
 first_after slots bound_groups instants l = first_is slots bound_groups instants l (line_source slots bound_groups l)
 
-pub opened-all : (slots : ℕ) (bound_groups : List BoundGroup) (n : ℕ) (v : Levels) → n ≡ line_count → IsOpened slots bound_groups n v → (instants : List Instant) → v ≡ levels_after slots bound_groups instants 0
+pub opened-all : (slots : ℕ) (bound_groups : List BoundGroup) (n : ℕ) (v : Levels) → n ≡ line_count
+    → IsOpened slots bound_groups n v → (instants : List Instant) → v ≡ levels_after slots bound_groups instants 0
 opened-all slots bound_groups n v e h instants =
-    same_levels v (levels_after slots bound_groups instants 0) (h.same_slots ∙ sym (levels-slots slots bound_groups instants 0)) h.all (levels-all slots bound_groups instants 0)
-    (λ l lt. h.below l (omega (arith, lt, e)) ∙ first_after slots bound_groups instants l ∙ sym (levels-at slots bound_groups instants 0 l lt))
+    same_levels v (levels_after slots bound_groups instants 0)
+    (h.same_slots ∙ sym (levels-slots slots bound_groups instants 0)) h.all (levels-all slots bound_groups instants 0)
+    (λ l lt. h.below l (omega (arith, lt, e)) ∙ first_after slots bound_groups instants l
+    ∙ sym (levels-at slots bound_groups instants 0 l lt))
 
 -- ---- one instant more
 
-get-in : (instants : List Instant) (i : ℕ) (x : Instant) → i < length instants → x ≡ get_or instants i x → slice_get instants i ≡ Some x
+get-in : (instants : List Instant) (i : ℕ) (x : Instant) → i < length instants → x ≡ get_or instants i x
+    → slice_get instants i ≡ Some x
 get-in [] i x lt e = absurd (omega (arith, lt))
 get-in (y ∷ instants) zero x lt e = ap Some (sym e)
 get-in (y ∷ instants) (suc i) x lt e = get-in instants i x (omega (arith, lt)) e
@@ -108,81 +125,124 @@ get-in (y ∷ instants) (suc i) x lt e = get-in instants i x (omega (arith, lt))
 module _ (slots : ℕ) (bound_groups : List BoundGroup) (instants : List Instant) where
   -- what is shown after the first instants
   abbrev pub shown_after : ℕ → RecorderLevels
-  shown_after n = record { shown = levels_after slots bound_groups instants n; now = levels_after slots bound_groups instants n }
+  shown_after n = record {
+    shown = levels_after slots bound_groups instants n;
+    now = levels_after slots bound_groups
+        instants n;
+  }
 
-  pub shown-first : (p : RecorderLevels) (opening : Levels) → opening ≡ levels_after slots bound_groups instants 0 → p ≡ record { shown = opening; now = opening } → p ≡ shown_after 0
+  pub shown-first : (p : RecorderLevels) (opening : Levels) → opening ≡ levels_after slots bound_groups instants 0 → p
+      ≡ record { shown = opening; now = opening } → p ≡ shown_after 0
   shown-first p opening e h = h ∙ ap (λ (v : Levels). record { shown = v; now = v }) e
 
-  module _ (line_bits : NetLines) (all : AreTaps slots bound_groups line_bits) (i : ℕ) (x : Instant) (lt : i < length instants) (e : x ≡ get_or instants i x) where
-    values-lead : valued line_bits x.values (levels_after slots bound_groups instants i) ≡ levels_after slots bound_groups instants (i + 1)
-    values-lead = valued-more slots bound_groups instants line_bits all i x.values (sym (ap values_of (get-in instants i x lt e)))
+  module _ (line_bits : NetLines) (all : AreTaps slots bound_groups line_bits) (i : ℕ) (x : Instant)
+      (lt : i < length instants) (e : x ≡ get_or instants i x) where
+    values-lead : valued line_bits x.values (levels_after slots bound_groups instants i) ≡ levels_after slots
+        bound_groups instants (i + 1)
+    values-lead = valued-more slots bound_groups instants line_bits all i x.values
+        (sym (ap values_of (get-in instants i x lt e)))
 
-    pub shown-more : (p next : RecorderLevels) → p ≡ shown_after i → next ≡ record { shown = valued line_bits x.values p.now; now = valued line_bits x.values p.now } → next ≡ shown_after (i + 1)
+    pub shown-more : (p next : RecorderLevels) → p ≡ shown_after i → next
+        ≡ record { shown = valued line_bits x.values p.now; now = valued line_bits x.values p.now } → next
+        ≡ shown_after (i + 1)
     shown-more p next is h =
-        h ∙ ap (λ (q : RecorderLevels). record { shown = valued line_bits x.values q.now; now = valued line_bits x.values q.now }) is
+        h ∙ ap (λ (q : RecorderLevels). record {
+          shown = valued line_bits x.values q.now;
+          now = valued line_bits
+              x.values q.now;
+        }) is
         ∙ ap (λ (v : Levels). record { shown = v; now = v }) values-lead
 
     -- the steps at one instant more
-    pub recorded-more : (p : RecorderLevels) (steps more : List Step) → p ≡ shown_after i → steps ≡ (recording slots bound_groups instants i).steps → more ≡ step_between x.time p.shown (valued line_bits x.values p.now)
+    pub recorded-more : (p : RecorderLevels) (steps more : List Step) → p ≡ shown_after i → steps
+        ≡ (recording slots bound_groups instants i).steps → more ≡ step_between x.time p.shown
+        (valued line_bits x.values p.now)
         → steps ++ more ≡ (recording slots bound_groups instants (i + 1)).steps
     recorded-more p steps more is before h =
         ap (λ (ss : List Step). ss ++ more) before
         ∙ ap (λ (ss : List Step). (recording slots bound_groups instants i).steps ++ ss)
-        (h ∙ ap (λ (q : RecorderLevels). step_between x.time q.shown (valued line_bits x.values q.now)) is ∙ ap (step_between x.time (levels_after slots bound_groups instants i)) values-lead)
+        (h ∙ ap (λ (q : RecorderLevels). step_between x.time q.shown (valued line_bits x.values q.now)) is
+        ∙ ap (step_between x.time (levels_after slots bound_groups instants i)) values-lead)
         ∙ sym (steps-more slots bound_groups instants i x.time (sym (ap time_of (get-in instants i x lt e))))
 
-  pub recorded-lines : (line_bits : NetLines) → AreTaps slots bound_groups line_bits → (i : ℕ) (p : RecorderLevels) → p ≡ shown_after i → (net : ℕ) → AreLines p.now.slots (line_bits_of line_bits net)
+  pub recorded-lines : (line_bits : NetLines) → AreTaps slots bound_groups line_bits → (i : ℕ) (p : RecorderLevels) → p
+      ≡ shown_after i → (net : ℕ) → AreLines p.now.slots (line_bits_of line_bits net)
   recorded-lines line_bits all i p is net =
-      subst (λ (s : ℕ). AreLines s (line_bits_of line_bits net)) (sym (ap (λ (q : RecorderLevels). q.now.slots) is ∙ levels-slots slots bound_groups instants i)) (line_bits-lines slots bound_groups line_bits all net)
+      subst (λ (s : ℕ). AreLines s (line_bits_of line_bits net))
+      (sym (ap (λ (q : RecorderLevels). q.now.slots) is ∙ levels-slots slots bound_groups instants i))
+      (line_bits-lines slots bound_groups line_bits all net)
 
 -- ---- the whole recording
 
-pub capture_of-is : (b : BoundLines) (dump : Contents) → capture_of b dump ≡ (bound_groups_in dump.variables b.assignments >>= λ bound_groups. limited (recording b.slots bound_groups dump.instants (length dump.instants)))
+pub capture_of-is : (b : BoundLines) (dump : Contents) → capture_of b dump
+    ≡ (bound_groups_in dump.variables b.assignments >>= λ bound_groups. limited
+    (recording b.slots bound_groups dump.instants (length dump.instants)))
 unfolding capture_of
 capture_of-is b dump = refl
 
-pub recording_of-is : (b : BoundLines) (dump : Contents) → recording_of b dump ≡ (bound_groups_in dump.variables b.assignments >>= λ bound_groups. Ok (recording b.slots bound_groups dump.instants (length dump.instants)))
+pub recording_of-is : (b : BoundLines) (dump : Contents) → recording_of b dump
+    ≡ (bound_groups_in dump.variables b.assignments >>= λ bound_groups. Ok (recording b.slots bound_groups dump.instants
+    (length dump.instants)))
 unfolding recording_of
 recording_of-is b dump = refl
 
-pub recording-is : (slots : ℕ) (bound_groups : List BoundGroup) (instants : List Instant) (n : ℕ) (opening : Levels) (steps : List Step) → opening ≡ levels_after slots bound_groups instants 0 → steps ≡ (recording slots bound_groups instants n).steps → recording slots bound_groups instants n ≡ record { opening = opening; steps = steps }
+pub recording-is : (slots : ℕ) (bound_groups : List BoundGroup) (instants : List Instant) (n : ℕ) (opening : Levels)
+    (steps : List Step) → opening ≡ levels_after slots bound_groups instants 0 → steps
+    ≡ (recording slots bound_groups instants n).steps → recording slots bound_groups instants n
+    ≡ record { opening = opening; steps = steps }
 unfolding recording
 recording-is slots bound_groups instants n opening steps e h =
-    ap (λ (v : Levels). with_both v (recording slots bound_groups instants n).steps) (sym e) ∙ ap (with_both opening) (sym h)
+    ap (λ (v : Levels). with_both v (recording slots bound_groups instants n).steps) (sym e) ∙ ap (with_both opening)
+    (sym h)
   where
     with_both : Levels → List Step → Trace
     with_both v ss = record { opening = v; steps = ss }
 
-opening_is : (slots : ℕ) (bound_groups : List BoundGroup) (instants : List Instant) (n : ℕ) → (recording slots bound_groups instants n).opening ≡ levels_after slots bound_groups instants 0
+opening_is : (slots : ℕ) (bound_groups : List BoundGroup) (instants : List Instant) (n : ℕ)
+    → (recording slots bound_groups instants n).opening ≡ levels_after slots bound_groups instants 0
 unfolding recording
 opening_is slots bound_groups instants n = refl
 
 -- the recording of one instant more
-pub recording-more : (slots : ℕ) (bound_groups : List BoundGroup) (instants : List Instant) (n time : ℕ) → time ≡ time_of (slice_get instants n)
-    → with_steps (recording slots bound_groups instants n) (step_between time (levels_after slots bound_groups instants n) (levels_after slots bound_groups instants (n + 1))) ≡ recording slots bound_groups instants (n + 1)
+pub recording-more : (slots : ℕ) (bound_groups : List BoundGroup) (instants : List Instant) (n time : ℕ) → time
+    ≡ time_of (slice_get instants n)
+    → with_steps (recording slots bound_groups instants n)
+    (step_between time (levels_after slots bound_groups instants n) (levels_after slots bound_groups instants
+    (n + 1))) ≡ recording slots bound_groups instants (n + 1)
 recording-more slots bound_groups instants n time e =
-    sym (recording-is slots bound_groups instants (n + 1) (recording slots bound_groups instants n).opening _ (opening_is slots bound_groups instants n) (sym (steps-more slots bound_groups instants n time e)))
+    sym (recording-is slots bound_groups instants (n + 1) (recording slots bound_groups instants n).opening _
+    (opening_is slots bound_groups instants n) (sym (steps-more slots bound_groups instants n time e)))
 
 -- the recording of no instant
-pub none_recorded : (slots : ℕ) (bound_groups : List BoundGroup) (instants : List Instant) → [] ≡ (recording slots bound_groups instants 0).steps
+pub none_recorded : (slots : ℕ) (bound_groups : List BoundGroup) (instants : List Instant) → []
+    ≡ (recording slots bound_groups instants 0).steps
 unfolding recording those
 none_recorded slots bound_groups instants = refl
 
-pub recording-first : (slots : ℕ) (bound_groups : List BoundGroup) (instants : List Instant) (t : Trace) → t.opening ≡ levels_after slots bound_groups instants 0 → t.steps ≡ [] → t ≡ recording slots bound_groups instants 0
-recording-first slots bound_groups instants t e none = sym (recording-is slots bound_groups instants 0 t.opening t.steps e (none ∙ none_recorded slots bound_groups instants))
+pub recording-first : (slots : ℕ) (bound_groups : List BoundGroup) (instants : List Instant) (t : Trace) → t.opening
+    ≡ levels_after slots bound_groups instants 0 → t.steps ≡ [] → t ≡ recording slots bound_groups instants 0
+recording-first slots bound_groups instants t e none = sym (recording-is slots bound_groups instants 0 t.opening t.steps
+    e (none ∙ none_recorded slots bound_groups instants))
 
 -- what wires make of the instants of a dump
-pub whole-is : (b : BoundLines) (dump : Contents) (bound_groups : List BoundGroup) (made : Trace) → bound_groups_in dump.variables b.assignments ≡ Ok bound_groups → recording b.slots bound_groups dump.instants (length dump.instants) ≡ made
+pub whole-is : (b : BoundLines) (dump : Contents) (bound_groups : List BoundGroup) (made : Trace) → bound_groups_in
+    dump.variables b.assignments ≡ Ok bound_groups → recording b.slots bound_groups dump.instants (length dump.instants)
+    ≡ made
     → capture_of b dump ≡ limited made
 whole-is b dump bound_groups made e is =
-    capture_of-is b dump ∙ ap (λ (r : Result (List BoundGroup) BindFault). r >>= λ bound_groups. limited (recording b.slots bound_groups dump.instants (length dump.instants))) e ∙ ap limited is
+    capture_of-is b dump ∙ ap (λ (r : Result (List BoundGroup) BindFault). r >>= λ bound_groups. limited
+    (recording b.slots bound_groups dump.instants (length dump.instants))) e ∙ ap limited is
 
 -- they follow one another
-pub whole-formed : (slots : ℕ) (bound_groups : List BoundGroup) (instants : List Instant) (made : Trace) → TimesAscend instants → recording slots bound_groups instants (length instants) ≡ made → malformed_step made ≡ None
-whole-formed slots bound_groups instants made up is = sym (ap malformed_step is) ∙ well_formed slots bound_groups instants up
+pub whole-formed : (slots : ℕ) (bound_groups : List BoundGroup) (instants : List Instant) (made : Trace)
+    → TimesAscend instants → recording slots bound_groups instants (length instants) ≡ made → malformed_step made ≡ None
+whole-formed slots bound_groups instants made up is = sym (ap malformed_step is) ∙ well_formed slots bound_groups
+    instants up
 
-pub gives_limited : (t : Trace) (r answer : Result Trace BindFault) → r ≡ limited t → answer ≡ limited t → BindGives (λ (t : Trace). t) r answer
-gives_limited t r answer e h = subst (λ (r : Result Trace BindFault). BindGives (λ (t : Trace). t) r answer) (sym e) (by_test (nat_lt capture_limit (length t.steps)) h)
+pub gives_limited : (t : Trace) (r answer : Result Trace BindFault) → r ≡ limited t → answer ≡ limited t
+    → BindGives (λ (t : Trace). t) r answer
+gives_limited t r answer e h = subst (λ (r : Result Trace BindFault). BindGives (λ (t : Trace). t) r answer) (sym e)
+    (by_test (nat_lt capture_limit (length t.steps)) h)
   where
     limited_by : Bool → Result Trace BindFault
     limited_by b = cond b (Err (record { line = 0; kind = TooManySteps })) (Ok t)

@@ -1,10 +1,12 @@
 -- How levels change from one instant to the next, line by line.
-use Rattle.std.proofs.Common.{◌≡◌, ◌≢◌, ℕ, zero, suc, ◌+◌, ◌-◌, ◌<◌, ◌≤◌, Bool, true, false, not, List, [], ◌∷◌, ◌++◌, length, map, get_or, refl, sym, ap, ◌∙◌, subst, arith, add-one, inl, inr, ◌⊎◌}
+use Rattle.std.proofs.Common.{◌≡◌, ◌≢◌, ℕ, zero, suc, ◌+◌, ◌-◌, ◌<◌, ◌≤◌, Bool, true, false, not, List, [], ◌∷◌, ◌++◌}
+use Rattle.std.proofs.Common.{length, map, get_or, refl, sym, ap, ◌∙◌, subst, arith, add-one, inl, inr, ◌⊎◌}
 use Rattle.std.specs.Prelude.{nat_le, slice_set, All, Contains}
 use Rattle.std.specs.List.Sorted.{IsNonDecreasing, IsPermutation}
 use Rattle.std.proofs.lemmas.Bool.{cases_lt, cases_eq, false≢true}
 use Rattle.std.proofs.lemmas.Bool.Decides.{nat_tests}
-use Rattle.std.proofs.lemmas.List.{get_or-set_same, get_or-set_other, get_or_default, same_lists, append-nil, length-set}
+use Rattle.std.proofs.lemmas.List.{get_or-set_same, get_or-set_other, get_or_default, same_lists, append-nil}
+use Rattle.std.proofs.lemmas.List.{length-set}
 use Rattle.std.proofs.lemmas.List.Elements.{All-append, All-cons, All-nil, Contains-append_left, Contains-append_right}
 use Rattle.std.proofs.lemmas.List.Sorted.{All-permutation, Contains-permutation}
 use Rattle.std.proofs.lemmas.Option.{unwrap_or-slice_get}
@@ -57,13 +59,16 @@ pub set_same : (v : Levels) (l : ℕ) (x : Level) → l < length v.levels → le
 set_same v l x lt = unwrap_or-slice_get (slice_set v.levels l x) l Unknown ∙ get_or-set_same v.levels l x Unknown lt
 
 pub set_other : (v : Levels) (m l : ℕ) (x : Level) → l ≢ m → level_at (set_level v m x) l ≡ level_at v l
-set_other v m l x ne = unwrap_or-slice_get (slice_set v.levels m x) l Unknown ∙ (get_or-set_other v.levels m l x Unknown ne ∙ sym (unwrap_or-slice_get v.levels l Unknown))
+set_other v m l x ne = unwrap_or-slice_get (slice_set v.levels m x) l Unknown
+    ∙ (get_or-set_other v.levels m l x Unknown ne ∙ sym (unwrap_or-slice_get v.levels l Unknown))
 
-pub set_all : (v : Levels) (l : ℕ) (x : Level) → length v.levels ≡ line_count → length (set_level v l x).levels ≡ line_count
+pub set_all : (v : Levels) (l : ℕ) (x : Level) → length v.levels ≡ line_count → length (set_level v l x).levels
+    ≡ line_count
 set_all v l x e = length-set v.levels l x ∙ e
 
 -- levels of one backplane with the same level on each line are the same
-pub same_levels : (a b : Levels) → a.slots ≡ b.slots → length a.levels ≡ line_count → length b.levels ≡ line_count → ((l : ℕ) → l < line_count → level_at a l ≡ level_at b l) → a ≡ b
+pub same_levels : (a b : Levels) → a.slots ≡ b.slots → length a.levels ≡ line_count → length b.levels ≡ line_count
+    → ((l : ℕ) → l < line_count → level_at a l ≡ level_at b l) → a ≡ b
 same_levels a b slots e f h =
     both slots (same_lists a.levels b.levels (e ∙ sym f) (λ k d lt.
     get_or_default a.levels k d Unknown lt ∙ sym (unwrap_or-slice_get a.levels k Unknown) ∙ h k (omega (arith, e, lt))
@@ -77,7 +82,8 @@ same_levels a b slots e f h =
 
 -- ---- the lines that were touched
 
-pub touched_listed : (a b c : Levels) (m l : ℕ) → (l ≡ m → differs a c l ≡ true → ⊥) → (l ≢ m → level_at c l ≡ level_at b l) → differs a c l ≡ true → differs a b l ≡ true
+pub touched_listed : (a b c : Levels) (m l : ℕ) → (l ≡ m → differs a c l ≡ true → ⊥)
+    → (l ≢ m → level_at c l ≡ level_at b l) → differs a c l ≡ true → differs a b l ≡ true
 touched_listed a b c m l same other h =
     elim (cases_eq l m) [
       | inl e ↦ absurd (same e h)
@@ -85,31 +91,39 @@ touched_listed a b c m l same other h =
     ]
 
 -- a line gets the level that is shown
-pub touched-same : (shown now : Levels) (touched : List ℕ) (m : ℕ) (x : Level) → ListsTouchedLines shown now touched → IsLine shown.slots m → same_level (level_at shown m) x ≡ true → ListsTouchedLines shown (set_level now m x) touched
+pub touched-same : (shown now : Levels) (touched : List ℕ) (m : ℕ) (x : Level) → ListsTouchedLines shown now touched
+    → IsLine shown.slots m → same_level (level_at shown m) x ≡ true → ListsTouchedLines shown (set_level now m x)
+    touched
 touched-same shown now touched m x h line same = record {
   slots = h.slots;
   shown_all = h.shown_all;
   now_all = set_all now m x h.now_all;
   lines = h.lines;
   listed = λ l d. h.listed l (touched_listed shown now (set_level now m x) m l
-      (λ e k. false≢true (sym (alike_differs shown (set_level now m x) l (ap (level_at shown) e ∙ same-is (level_at shown m) x same ∙ sym (ap (level_at (set_level now m x)) e ∙ set_same now m x (omega (arith, line.below, h.now_all))))) ∙ k))
+      (λ e k. false≢true
+      (sym (alike_differs shown (set_level now m x) l (ap (level_at shown) e ∙ same-is (level_at shown m) x same
+      ∙ sym (ap (level_at (set_level now m x)) e ∙ set_same now m x (omega (arith, line.below, h.now_all))))) ∙ k))
       (λ ne. set_other now m l x ne) d);
 }
 
 -- a line gets any level, and is listed
-pub touched-more : (shown now : Levels) (touched : List ℕ) (m : ℕ) (x : Level) → ListsTouchedLines shown now touched → IsLine shown.slots m → ListsTouchedLines shown (set_level now m x) (touched ++ m ∷ [])
+pub touched-more : (shown now : Levels) (touched : List ℕ) (m : ℕ) (x : Level) → ListsTouchedLines shown now touched
+    → IsLine shown.slots m → ListsTouchedLines shown (set_level now m x) (touched ++ m ∷ [])
 touched-more shown now touched m x h line = record {
   slots = h.slots;
   shown_all = h.shown_all;
   now_all = set_all now m x h.now_all;
-  lines = All-append (IsLine shown.slots) touched (m ∷ []) h.lines (All-cons (IsLine shown.slots) m [] line (All-nil (IsLine shown.slots)));
+  lines = All-append (IsLine shown.slots) touched (m ∷ []) h.lines (All-cons (IsLine shown.slots) m [] line
+      (All-nil (IsLine shown.slots)));
   listed = λ l d. elim (cases_eq l m) [
     | inl e ↦ Contains-append_right touched (m ∷ []) l (subst (Contains (m ∷ [])) (sym e) (0, omega arith, refl))
-    | inr ne ↦ Contains-append_left touched (m ∷ []) l (h.listed l (ap (λ (y : Level). not (same_level (level_at shown l) y)) (sym (set_other now m l x ne)) ∙ d))
+    | inr ne ↦ Contains-append_left touched (m ∷ []) l
+        (h.listed l (ap (λ (y : Level). not (same_level (level_at shown l) y)) (sym (set_other now m l x ne)) ∙ d))
   ];
 }
 
-pub touched-permuted : (shown now : Levels) (touched others : List ℕ) → ListsTouchedLines shown now touched → IsPermutation touched others → ListsTouchedLines shown now others
+pub touched-permuted : (shown now : Levels) (touched others : List ℕ) → ListsTouchedLines shown now touched
+    → IsPermutation touched others → ListsTouchedLines shown now others
 touched-permuted shown now touched others h p = record {
   slots = h.slots;
   shown_all = h.shown_all;
@@ -145,7 +159,8 @@ those-past : (p : ℕ → Bool) (m d : ℕ) → ((l : ℕ) → m ≤ l → l < m
 those-past p m zero none = let e : m + 0 ≡ m = omega arith in ap (those p 0) e
 those-past p m (suc d) none =
     let e : m + suc d ≡ (m + d) + 1 = omega arith in
-    ap (those p 0) e ∙ those-no p (m + d) (none (m + d) (omega arith) (omega arith)) ∙ those-past p m d (λ l low high. none l low (omega arith))
+    ap (those p 0) e ∙ those-no p (m + d) (none (m + d) (omega arith) (omega arith)) ∙ those-past p m d
+    (λ l low high. none l low (omega arith))
 
 pub those-skip : (p : ℕ → Bool) (m n : ℕ) → m ≤ n → ((l : ℕ) → m ≤ l → l < n → p l ≡ false) → those p 0 n ≡ those p 0 m
 those-skip p m n le none =
@@ -168,8 +183,15 @@ pub record AreShown (touched : List ℕ) (i : ℕ) (before now shown : Levels) (
   pub above : (l : ℕ) → bound touched i ≤ l → level_at shown l ≡ level_at before l
 
 -- a touched line is either before place i, and then below the bound, or at least the line at i
-place_cases : (touched : List ℕ) (i k l : ℕ) → IsNonDecreasing touched → k < length touched → get_or touched k l ≡ l → i < length touched → (l < bound touched i) ⊎ (get_or touched i 0 ≤ l)
-place_cases touched zero k l sorted lt e here = inr (omega (arith, sorted 0 k 0 (omega arith) lt, get_or_default touched k 0 l lt, e))
+place_cases : (touched : List ℕ) (i k l : ℕ) → IsNonDecreasing touched → k < length touched → get_or touched k l ≡ l
+    → i < length touched → (l < bound touched i) ⊎ (get_or touched i 0 ≤ l)
+place_cases touched zero k l sorted lt e here = inr (omega (
+  arith,
+  sorted 0 k 0 (omega arith) lt,
+  get_or_default touched
+      k 0 l lt,
+  e,
+))
 place_cases touched (suc i) k l sorted lt e here =
     elim (cases_lt k (suc i)) [
       | inl less ↦ inl (omega (arith, sorted k i 0 (omega arith) (omega arith), get_or_default touched k 0 l lt, e))
@@ -177,16 +199,21 @@ place_cases touched (suc i) k l sorted lt e here =
     ]
 
 -- between the bound and the next touched line no line differs
-quiet_before : (before now : Levels) (touched : List ℕ) (i l : ℕ) → IsNonDecreasing touched → ListsTouchedLines before now touched → i < length touched → bound touched i ≤ l → l < get_or touched i 0 → differs before now l ≡ false
+quiet_before : (before now : Levels) (touched : List ℕ) (i l : ℕ) → IsNonDecreasing touched → ListsTouchedLines before
+    now touched → i < length touched → bound touched i ≤ l → l < get_or touched i 0 → differs before now l ≡ false
 quiet_before before now touched i l sorted h here low high =
     elim (bool_cases (differs before now l)) [
       | inl d ↦
           let in' = h.listed l d in
-          elim (place_cases touched i in'.0 l sorted in'.1 in'.2 here) [ inl less ↦ absurd (omega arith) | inr more ↦ absurd (omega arith) ]
+          elim (place_cases touched i in'.0 l sorted in'.1 in'.2 here) [
+            | inl less ↦ absurd (omega arith)
+            | inr more ↦ absurd (omega arith)
+          ]
       | inr none ↦ none
     ]
 
-bound_low : (touched : List ℕ) (i : ℕ) → IsNonDecreasing touched → i < length touched → bound touched i ≤ get_or touched i 0 + 1
+bound_low : (touched : List ℕ) (i : ℕ) → IsNonDecreasing touched → i < length touched → bound touched i ≤ get_or touched
+    i 0 + 1
 bound_low touched zero sorted here = omega arith
 bound_low touched (suc i) sorted here = omega (arith, sorted i (suc i) 0 (omega arith) here)
 
@@ -194,18 +221,27 @@ bound_next : (touched : List ℕ) (i : ℕ) → bound touched (i + 1) ≡ get_or
 bound_next touched i = let more : i + 1 ≡ suc i = omega arith in ap (bound touched) more
 
 -- behind the last touched line no line differs
-quiet_after : (before now : Levels) (touched : List ℕ) (i l : ℕ) → IsNonDecreasing touched → ListsTouchedLines before now touched → length touched ≤ i → i ≤ length touched → bound touched i ≤ l → differs before now l ≡ false
+quiet_after : (before now : Levels) (touched : List ℕ) (i l : ℕ) → IsNonDecreasing touched → ListsTouchedLines before
+    now touched → length touched ≤ i → i ≤ length touched → bound touched i ≤ l → differs before now l ≡ false
 quiet_after before now touched i l sorted h past le low =
     elim (bool_cases (differs before now l)) [
       | inl d ↦ let in' = h.listed l d in absurd (at_end i le past low in'.0 in'.1 in'.2)
       | inr none ↦ none
     ]
   where
-    at_end : (i : ℕ) → i ≤ length touched → length touched ≤ i → bound touched i ≤ l → (k : ℕ) → k < length touched → get_or touched k l ≡ l → ⊥
+    at_end : (i : ℕ) → i ≤ length touched → length touched ≤ i → bound touched i ≤ l → (k : ℕ) → k < length touched
+        → get_or touched k l ≡ l → ⊥
     at_end zero le past low k lt e = omega arith
-    at_end (suc i) le past low k lt e = omega (arith, sorted k i 0 (omega arith) (omega arith), get_or_default touched k 0 l lt, e)
+    at_end (suc i) le past low k lt e = omega (
+      arith,
+      sorted k i 0 (omega arith) (omega arith),
+      get_or_default touched k
+          0 l lt,
+      e,
+    )
 
-pub shown-first : (touched : List ℕ) (before now : Levels) → ListsTouchedLines before now touched → AreShown touched 0 before now before []
+pub shown-first : (touched : List ℕ) (before now : Levels) → ListsTouchedLines before now touched → AreShown touched 0
+    before now before []
 unfolding those
 shown-first touched before now h = record {
   slots = h.slots;
@@ -216,7 +252,8 @@ shown-first touched before now h = record {
 }
 
 -- the line at place i is shown as it is: it needs no change
-pub shown-same : (touched : List ℕ) (i : ℕ) (before now shown : Levels) (changes : List Change) → IsNonDecreasing touched → ListsTouchedLines before now touched → i < length touched
+pub shown-same : (touched : List ℕ) (i : ℕ) (before now shown : Levels) (changes : List Change) → IsNonDecreasing
+    touched → ListsTouchedLines before now touched → i < length touched
     → same_level (level_at shown (get_or touched i 0)) (level_at now (get_or touched i 0)) ≡ true
     → AreShown touched i before now shown changes → AreShown touched (i + 1) before now shown changes
 shown-same touched i before now shown changes sorted t here same h =
@@ -234,7 +271,9 @@ shown-same touched i before now shown changes sorted t here same h =
     record {
       slots = h.slots;
       shown_all = h.shown_all;
-      changes_are = h.changes_are ∙ ap (map (change_to now)) (sym (those-skip (differs before now) (bound touched i) (get_or touched i 0 + 1) low quiet) ∙ ap (those (differs before now) 0) (sym next));
+      changes_are = h.changes_are ∙ ap (map (change_to now))
+          (sym (those-skip (differs before now) (bound touched i) (get_or touched i 0 + 1) low quiet)
+          ∙ ap (those (differs before now) 0) (sym next));
       below = λ l lt. elim (cases_lt l (bound touched i)) [
         | inl less ↦ h.below l less
         | inr more ↦ h.above l more ∙ alike before now l (quiet l more (omega (arith, lt, next)))
@@ -247,59 +286,79 @@ map-more f [] x = refl
 map-more {X = X} f (y ∷ xs) x = ap (λ (ys : List X). f y ∷ ys) (map-more f xs x)
 
 -- the line at place i has another level than is shown: it changes
-pub shown-more : (touched : List ℕ) (i : ℕ) (before now shown : Levels) (changes : List Change) → IsNonDecreasing touched → ListsTouchedLines before now touched → i < length touched
+pub shown-more : (touched : List ℕ) (i : ℕ) (before now shown : Levels) (changes : List Change) → IsNonDecreasing
+    touched → ListsTouchedLines before now touched → i < length touched
     → same_level (level_at shown (get_or touched i 0)) (level_at now (get_or touched i 0)) ≡ false
     → AreShown touched i before now shown changes
-    → AreShown touched (i + 1) before now (set_level shown (get_or touched i 0) (level_at now (get_or touched i 0))) (changes ++ change_to now (get_or touched i 0) ∷ [])
+    → AreShown touched (i + 1) before now (set_level shown (get_or touched i 0) (level_at now (get_or touched i 0)))
+    (changes ++ change_to now (get_or touched i 0) ∷ [])
 shown-more touched i before now shown changes sorted t here other h =
     let low : bound touched i ≤ get_or touched i 0 =
     elim (cases_lt (get_or touched i 0) (bound touched i)) [
-      | inl less ↦ absurd (false≢true (sym other ∙ ap (λ (y : Level). same_level y (level_at now (get_or touched i 0))) (h.below _ less) ∙ same_self (level_at now (get_or touched i 0))))
+      | inl less ↦ absurd (false≢true (sym other ∙ ap (λ (y : Level). same_level y (level_at now (get_or touched i 0)))
+          (h.below _ less) ∙ same_self (level_at now (get_or touched i 0))))
       | inr more ↦ more
     ] in
     let next : bound touched (i + 1) ≡ get_or touched i 0 + 1 = bound_next touched i in
     let line = t.lines i 0 here in
-    let d : differs before now (get_or touched i 0) ≡ true = not_true _ (ap (λ (y : Level). same_level y (level_at now (get_or touched i 0))) (sym (h.above _ low)) ∙ other) in
-    let quiet = λ (l : ℕ) (le : bound touched i ≤ l) (lt : l < get_or touched i 0). quiet_before before now touched i l sorted t here le lt in
+    let d : differs before now (get_or touched i 0) ≡ true = not_true _
+    (ap (λ (y : Level). same_level y (level_at now (get_or touched i 0))) (sym (h.above _ low)) ∙ other) in
+    let quiet = λ (l : ℕ) (le : bound touched i ≤ l) (lt : l < get_or touched i 0). quiet_before before now touched i l
+    sorted t here le lt in
     record {
       slots = h.slots;
       shown_all = set_all shown (get_or touched i 0) (level_at now (get_or touched i 0)) h.shown_all;
       changes_are =
-          ap (λ (cs : List Change). cs ++ change_to now (get_or touched i 0) ∷ []) (h.changes_are ∙ ap (map (change_to now)) (sym (those-skip (differs before now) (bound touched i) (get_or touched i 0) low quiet)))
+          ap (λ (cs : List Change). cs ++ change_to now (get_or touched i 0) ∷ [])
+          (h.changes_are ∙ ap (map (change_to now))
+          (sym (those-skip (differs before now) (bound touched i) (get_or touched i 0) low quiet)))
           ∙ sym (map-more (change_to now) (those (differs before now) 0 (get_or touched i 0)) (get_or touched i 0))
-          ∙ ap (map (change_to now)) (sym (those-yes (differs before now) (get_or touched i 0) d) ∙ ap (those (differs before now) 0) (sym next));
+          ∙ ap (map (change_to now)) (sym (those-yes (differs before now) (get_or touched i 0) d)
+          ∙ ap (those (differs before now) 0) (sym next));
       below = λ l lt. elim (cases_eq l (get_or touched i 0)) [
-        | inl e ↦ ap (level_at (set_level shown (get_or touched i 0) (level_at now (get_or touched i 0)))) e ∙ set_same shown (get_or touched i 0) _ (omega (arith, line.below, h.shown_all)) ∙ ap (level_at now) (sym e)
+        | inl e ↦ ap (level_at (set_level shown (get_or touched i 0) (level_at now (get_or touched i 0)))) e
+            ∙ set_same shown (get_or touched i 0) _ (omega (arith, line.below, h.shown_all)) ∙ ap (level_at now) (sym e)
         | inr ne ↦ set_other shown (get_or touched i 0) l _ ne ∙ elim (cases_lt l (bound touched i)) [
           | inl less ↦ h.below l less
           | inr more ↦ h.above l more ∙ alike before now l (quiet l more (omega (arith, lt, next, ne)))
         ]
       ];
-      above = λ l le. let ne : l ≢ get_or touched i 0 = omega (arith, le, next) in set_other shown (get_or touched i 0) l _ ne ∙ h.above l (omega (arith, le, next, low));
+      above = λ l le. let ne : l ≢ get_or touched i 0 = omega (arith, le, next) in
+          set_other shown (get_or touched i 0) l _ ne ∙ h.above l (omega (arith, le, next, low));
     }
 
 -- as far as lines are shown, those that differ are still listed
-pub shown-touched : (touched : List ℕ) (i : ℕ) (before now shown : Levels) (changes : List Change) → ListsTouchedLines before now touched → AreShown touched i before now shown changes → ListsTouchedLines shown now touched
+pub shown-touched : (touched : List ℕ) (i : ℕ) (before now shown : Levels) (changes : List Change) → ListsTouchedLines
+    before now touched → AreShown touched i before now shown changes → ListsTouchedLines shown now touched
 shown-touched touched i before now shown changes t h = record {
   slots = h.slots;
   shown_all = h.shown_all;
   now_all = t.now_all;
-  lines = let e : before.slots ≡ shown.slots = sym t.slots ∙ h.slots in subst (λ (s : ℕ). All (IsLine s) touched) e t.lines;
+  lines = let e : before.slots ≡ shown.slots = sym t.slots ∙ h.slots in subst (λ (s : ℕ). All (IsLine s) touched) e
+      t.lines;
   listed = λ l d. elim (cases_lt l (bound touched i)) [
     | inl less ↦ absurd (false≢true (sym (alike_differs shown now l (h.below l less)) ∙ d))
     | inr more ↦ t.listed l (ap (λ (y : Level). not (same_level y (level_at now l))) (sym (h.above l more)) ∙ d)
   ];
 }
 
-bound_most : (before now : Levels) (touched : List ℕ) (i : ℕ) → ListsTouchedLines before now touched → i ≤ length touched → bound touched i ≤ line_count
+bound_most : (before now : Levels) (touched : List ℕ) (i : ℕ) → ListsTouchedLines before now touched
+    → i ≤ length touched → bound touched i ≤ line_count
 bound_most before now touched zero t le = omega arith
 bound_most before now touched (suc i) t le = omega (arith, (t.lines i 0 (omega arith)).below)
 
-pub shown-changes : (touched : List ℕ) (i : ℕ) (before now shown : Levels) (changes : List Change) → IsNonDecreasing touched → ListsTouchedLines before now touched → length touched ≤ i → i ≤ length touched → AreShown touched i before now shown changes → changes ≡ changes_between before now
+pub shown-changes : (touched : List ℕ) (i : ℕ) (before now shown : Levels) (changes : List Change) → IsNonDecreasing
+    touched → ListsTouchedLines before now touched → length touched ≤ i → i ≤ length touched → AreShown touched i before
+    now shown changes → changes ≡ changes_between before now
 shown-changes touched i before now shown changes sorted t past le h =
-    h.changes_are ∙ ap (map (change_to now)) (sym (those-skip (differs before now) (bound touched i) line_count (bound_most before now touched i t le) (λ l low high. quiet_after before now touched i l sorted t past le low)))
+    h.changes_are ∙ ap (map (change_to now))
+    (sym (those-skip (differs before now) (bound touched i) line_count (bound_most before now touched i t le)
+    (λ l low high. quiet_after before now touched i l sorted t past le low)))
 
-pub shown-all : (touched : List ℕ) (i : ℕ) (before now shown : Levels) (changes : List Change) → IsNonDecreasing touched → ListsTouchedLines before now touched → length touched ≤ i → i ≤ length touched → AreShown touched i before now shown changes → shown ≡ now
+pub shown-all : (touched : List ℕ) (i : ℕ) (before now shown : Levels) (changes : List Change) → IsNonDecreasing touched
+    → ListsTouchedLines before now touched → length touched ≤ i → i ≤ length touched → AreShown touched i before now
+    shown
+    changes → shown ≡ now
 shown-all touched i before now shown changes sorted t past le h =
     same_levels shown now (sym h.slots) h.shown_all t.now_all (λ l lt. elim (cases_lt l (bound touched i)) [
       | inl less ↦ h.below l less
@@ -311,18 +370,25 @@ shown-all touched i before now shown changes sorted t past le h =
 line_at : (touched : List ℕ) (i x : ℕ) → i < length touched → x ≡ get_or touched i x → x ≡ get_or touched i 0
 line_at touched i x lt e = e ∙ get_or_default touched i x 0 lt
 
-pub line-same : (touched : List ℕ) (i : ℕ) (before now shown : Levels) (changes : List Change) (x : ℕ) → IsNonDecreasing touched → ListsTouchedLines before now touched → i < length touched → x ≡ get_or touched i x
-    → same_level (level_at shown x) (level_at now x) ≡ true → AreShown touched i before now shown changes → AreShown touched (i + 1) before now shown changes
+pub line-same : (touched : List ℕ) (i : ℕ) (before now shown : Levels) (changes : List Change) (x : ℕ) → IsNonDecreasing
+    touched → ListsTouchedLines before now touched → i < length touched → x ≡ get_or touched i x
+    → same_level (level_at shown x) (level_at now x) ≡ true → AreShown touched i before now shown changes
+    → AreShown touched (i + 1) before now shown changes
 line-same touched i before now shown changes x sorted t here e same h =
-    shown-same touched i before now shown changes sorted t here (subst (λ (y : ℕ). same_level (level_at shown y) (level_at now y) ≡ true) (line_at touched i x here e) same) h
+    shown-same touched i before now shown changes sorted t here
+    (subst (λ (y : ℕ). same_level (level_at shown y) (level_at now y) ≡ true) (line_at touched i x here e) same) h
 
-pub line-more : (touched : List ℕ) (i : ℕ) (before now shown : Levels) (changes : List Change) (x : ℕ) → IsNonDecreasing touched → ListsTouchedLines before now touched → i < length touched → x ≡ get_or touched i x
+pub line-more : (touched : List ℕ) (i : ℕ) (before now shown : Levels) (changes : List Change) (x : ℕ) → IsNonDecreasing
+    touched → ListsTouchedLines before now touched → i < length touched → x ≡ get_or touched i x
     → same_level (level_at shown x) (level_at now x) ≡ false → AreShown touched i before now shown changes
     → AreShown touched (i + 1) before now (set_level shown x (level_at now x)) (changes ++ change_to now x ∷ [])
 line-more touched i before now shown changes x sorted t here e other h =
     let is = line_at touched i x here e in
-    subst (λ (y : ℕ). AreShown touched (i + 1) before now (set_level shown y (level_at now y)) (changes ++ change_to now y ∷ [])) (sym is)
-    (shown-more touched i before now shown changes sorted t here (subst (λ (y : ℕ). same_level (level_at shown y) (level_at now y) ≡ false) is other) h)
+    subst (λ (y : ℕ). AreShown touched (i + 1) before now (set_level shown y (level_at now y))
+    (changes ++ change_to now y ∷ [])) (sym is)
+    (shown-more touched i before now shown changes sorted t here
+    (subst (λ (y : ℕ). same_level (level_at shown y) (level_at now y) ≡ false) is other) h)
 
-pub line-exists : (before now : Levels) (touched : List ℕ) (i x : ℕ) → ListsTouchedLines before now touched → i < length touched → x ≡ get_or touched i x → IsLine before.slots x
+pub line-exists : (before now : Levels) (touched : List ℕ) (i x : ℕ) → ListsTouchedLines before now touched
+    → i < length touched → x ≡ get_or touched i x → IsLine before.slots x
 line-exists before now touched i x t here e = subst (IsLine before.slots) (sym e) (t.lines i x here)

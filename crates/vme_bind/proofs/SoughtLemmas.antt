@@ -1,12 +1,14 @@
 -- With how many of the open scopes a path begins, and what that says of the variables in them.
-use Rattle.std.proofs.Common.{◌≡◌, ℕ, ◌+◌, ◌<◌, ◌≤◌, eqb, Bool, true, false, cond, ◌&&◌, List, [], ◌∷◌, ◌++◌, length, get_or, take, drop, map, refl, sym, ap, ◌∙◌, add-zero, arith, append_assoc, length-append}
+use Rattle.std.proofs.Common.{◌≡◌, ℕ, ◌+◌, ◌<◌, ◌≤◌, eqb, Bool, true, false, cond, ◌&&◌, List, [], ◌∷◌, ◌++◌, length}
+use Rattle.std.proofs.Common.{get_or, take, drop, map, refl, sym, ap, ◌∙◌, add-zero, arith, append_assoc, length-append}
 use Rattle.std.specs.Prelude.{bytes_eq, min}
 use Rattle.std.specs.Bool.{Decides}
 use Rattle.std.specs.List.{All}
 use Rattle.std.proofs.lemmas.Bool.Decides.{Decides-and, same_from_decides, nat_tests}
 use Rattle.std.proofs.Math.ListN.{set}
 use Rattle.std.proofs.lemmas.Grind.{drop_more_same}
-use Rattle.std.proofs.lemmas.List.{length-map, take_at, drop_at, take-append-drop, take_more, take_more_set, map-append, get_or-drop, drop-set-lt}
+use Rattle.std.proofs.lemmas.List.{length-map, take_at, drop_at, take-append-drop, take_more, take_more_set, map-append}
+use Rattle.std.proofs.lemmas.List.{get_or-drop, drop-set-lt}
 use Rattle.std.proofs.lemmas.List.Elements.{All-map}
 use Rattle.std.proofs.lemmas.Simd.{map-map}
 use Rattle.std.proofs.lemmas.Slice.Eq.{bytes_eq-Decides}
@@ -16,7 +18,8 @@ use Rattle.vcd_read.proofs.ScopesLemmas.{path_of-is}
 use denote.Ref.{Bor}
 use Rattle.vme_bind.specs.declared.assignment.Assignment.{Assignment}
 use Rattle.vme_bind.specs.declared.path_search.PathSearch.{PathSearch}
-use Rattle.vme_bind.specs.PathSearch.{begins_with, scopes_begun, begun_behind, path_sought, HasOpened, opened, closed, Searched, seen_in}
+use Rattle.vme_bind.specs.PathSearch.{begins_with, scopes_begun, begun_behind, path_sought, HasOpened, opened, closed}
+use Rattle.vme_bind.specs.PathSearch.{Searched, seen_in}
 
 -- ---- the front of a text
 
@@ -27,24 +30,42 @@ Begins front text = (rest : List ℕ) × (text ≡ front ++ rest)
 begins-Decides : (front text : List ℕ) → Decides (begins_with front text) (Begins front text)
 begins-Decides front text =
     let same = bytes_eq-Decides (take (length front) text) front in (
-      λ e. (drop (length front) text, sym (take-append-drop (length front) text) ∙ ap (λ (xs : List ℕ). xs ++ drop (length front) text) (same.0 e)),
+      λ e. (
+        drop (length front) text,
+        sym (take-append-drop (length front) text)
+            ∙ ap (λ (xs : List ℕ). xs ++ drop (length front) text) (same.0 e),
+      ),
       λ h. same.1 (ap (take (length front)) h.1 ∙ take_at front h.0 (length front) refl),
     )
 
 -- a front that is longer
-begins_more-Decides : (front part text : List ℕ) → Decides (begins_with front text && begins_with part (drop (length front) text)) (Begins (front ++ part) text)
+begins_more-Decides : (front part text : List ℕ) → Decides (begins_with front text && begins_with part
+    (drop (length front) text)) (Begins (front ++ part) text)
 begins_more-Decides front part text =
-    let both = Decides-and {P = Begins front text} {Q = Begins part (drop (length front) text)} (begins_with front text) (begins_with part (drop (length front) text)) (begins-Decides front text) (begins-Decides part (drop (length front) text)) in (
+    let both = Decides-and {P = Begins front text} {Q = Begins part (drop (length front) text)} (begins_with front text)
+    (begins_with part (drop (length front) text)) (begins-Decides front text)
+    (begins-Decides part (drop (length front) text)) in (
       λ e. let h = both.0 e in
-          let behind : h.0.0 ≡ part ++ h.1.0 = sym (ap (drop (length front)) h.0.1 ∙ drop_at front h.0.0 (length front) refl) ∙ h.1.1 in
+          let behind : h.0.0 ≡ part ++ h.1.0 = sym (ap (drop (length front)) h.0.1 ∙ drop_at front h.0.0 (length front)
+          refl) ∙ h.1.1 in
           (h.1.0, h.0.1 ∙ ap (λ (rest : List ℕ). front ++ rest) behind ∙ sym (append_assoc front part h.1.0)),
       λ h.
           let whole : text ≡ front ++ (part ++ h.0) = h.1 ∙ append_assoc front part h.0 in
-          both.1 ((part ++ h.0, whole), (h.0, ap (drop (length front)) whole ∙ drop_at front (part ++ h.0) (length front) refl)),
+          both.1 (
+            (part ++ h.0, whole),
+            (
+              h.0,
+              ap (drop (length front)) whole ∙ drop_at front (part ++ h.0)
+                  (length front) refl,
+            ),
+          ),
     )
 
-pub begins_with-append : (front part text : List ℕ) → begins_with (front ++ part) text ≡ (begins_with front text && begins_with part (drop (length front) text))
-begins_with-append front part text = same_from_decides (begins_with (front ++ part) text) (begins_with front text && begins_with part (drop (length front) text)) (begins-Decides (front ++ part) text) (begins_more-Decides front part text)
+pub begins_with-append : (front part text : List ℕ) → begins_with (front ++ part) text
+    ≡ (begins_with front text && begins_with part (drop (length front) text))
+begins_with-append front part text = same_from_decides (begins_with (front ++ part) text) (begins_with front text
+    && begins_with part (drop (length front) text)) (begins-Decides (front ++ part) text)
+    (begins_more-Decides front part text)
 
 -- a text that is shorter doesn't begin so
 pub begins_with-short : (front text : List ℕ) → length text < length front → begins_with front text ≡ false
@@ -52,14 +73,19 @@ begins_with-short front text lt = by_test (begins_with front text) (begins-Decid
   where
     by_test : (b : Bool) → Decides b (Begins front text) → b ≡ false
     by_test false d = refl
-    by_test true d = let h = d.0 refl in absurd (omega (arith, lt, ap (λ (xs : List ℕ). length xs) h.1, length-append front h.0))
+    by_test true d = let h = d.0 refl in
+        absurd (omega (arith, lt, ap (λ (xs : List ℕ). length xs) h.1, length-append front h.0))
 
 -- a text is a front and a rest
-behind-Decides : (front name text : List ℕ) → Decides (begins_with front text && bytes_eq (drop (length front) text) name) (front ++ name ≡ text)
+behind-Decides : (front name text : List ℕ) → Decides (begins_with front text && bytes_eq (drop (length front) text)
+    name) (front ++ name ≡ text)
 behind-Decides front name text =
-    let both = Decides-and {P = Begins front text} {Q = drop (length front) text ≡ name} (begins_with front text) (bytes_eq (drop (length front) text) name) (begins-Decides front text) (bytes_eq-Decides (drop (length front) text) name) in (
+    let both = Decides-and {P = Begins front text} {Q = drop (length front) text ≡ name} (begins_with front text)
+    (bytes_eq (drop (length front) text) name) (begins-Decides front text)
+    (bytes_eq-Decides (drop (length front) text) name) in (
       λ e. let h = both.0 e in
-          let behind : h.0.0 ≡ name = sym (ap (drop (length front)) h.0.1 ∙ drop_at front h.0.0 (length front) refl) ∙ h.1 in
+          let behind : h.0.0 ≡ name = sym (ap (drop (length front)) h.0.1 ∙ drop_at front h.0.0 (length front) refl)
+          ∙ h.1 in
           sym (h.0.1 ∙ ap (λ (rest : List ℕ). front ++ rest) behind),
       λ h. both.1 ((name, sym h), ap (drop (length front)) (sym h) ∙ drop_at front name (length front) refl),
     )
@@ -72,35 +98,45 @@ unfolding scopes_begun
 begun-at_most path [] = omega arith
 begun-at_most path (name ∷ scopes) = by_test (begins_with (path_in (name ∷ scopes)) path) (begun-at_most path scopes)
   where
-    by_test : (b : Bool) → scopes_begun path scopes ≤ length scopes → cond b (length scopes + 1) (scopes_begun path scopes) ≤ length (name ∷ scopes)
+    by_test : (b : Bool) → scopes_begun path scopes ≤ length scopes → cond b (length scopes + 1)
+        (scopes_begun path scopes) ≤ length (name ∷ scopes)
     by_test true le = omega arith
     by_test false le = omega (arith, le)
 
 -- it begins with all of them exactly where it begins with their path
-pub begun-all : (path : List ℕ) (scopes : List (List ℕ)) → eqb (scopes_begun path scopes) (length scopes) ≡ begins_with (path_in scopes) path
+pub begun-all : (path : List ℕ) (scopes : List (List ℕ)) → eqb (scopes_begun path scopes) (length scopes)
+    ≡ begins_with (path_in scopes) path
 unfolding scopes_begun path_in
 begun-all path [] = refl
-begun-all path (name ∷ scopes) = by_test (begins_with (path_in scopes ++ with_dot name) path) (begun-at_most path scopes)
+begun-all path (name ∷ scopes) = by_test (begins_with (path_in scopes ++ with_dot name) path)
+    (begun-at_most path scopes)
   where
-    by_test : (b : Bool) → scopes_begun path scopes ≤ length scopes → eqb (cond b (length scopes + 1) (scopes_begun path scopes)) (length (name ∷ scopes)) ≡ b
+    by_test : (b : Bool) → scopes_begun path scopes ≤ length scopes
+        → eqb (cond b (length scopes + 1) (scopes_begun path scopes)) (length (name ∷ scopes)) ≡ b
     by_test true le = grind (arith, nat_tests)
     by_test false le = grind (arith, nat_tests)
 
 -- a scope opens
-pub begun-open : (path name : List ℕ) (scopes : List (List ℕ)) → begun_behind (length scopes) (length (path_in scopes)) (with_dot name) path (scopes_begun path scopes) ≡ scopes_begun path (name ∷ scopes)
+pub begun-open : (path name : List ℕ) (scopes : List (List ℕ)) → begun_behind (length scopes) (length (path_in scopes))
+    (with_dot name) path (scopes_begun path scopes) ≡ scopes_begun path (name ∷ scopes)
 unfolding scopes_begun path_in
 begun-open path name scopes =
-    ap (λ (b : Bool). cond (b && begins_with (with_dot name) (drop (length (path_in scopes)) path)) (length scopes + 1) (scopes_begun path scopes)) (begun-all path scopes)
-    ∙ ap (λ (b : Bool). cond b (length scopes + 1) (scopes_begun path scopes)) (sym (begins_with-append (path_in scopes) (with_dot name) path))
+    ap (λ (b : Bool). cond (b && begins_with (with_dot name) (drop (length (path_in scopes)) path)) (length scopes + 1)
+    (scopes_begun path scopes)) (begun-all path scopes)
+    ∙ ap (λ (b : Bool). cond b (length scopes + 1) (scopes_begun path scopes))
+    (sym (begins_with-append (path_in scopes) (with_dot name) path))
 
 -- a scope closes
-pub begun-close : (path name : List ℕ) (scopes : List (List ℕ)) → min (scopes_begun path (name ∷ scopes)) (length scopes) ≡ scopes_begun path scopes
+pub begun-close : (path name : List ℕ) (scopes : List (List ℕ)) → min (scopes_begun path (name ∷ scopes))
+    (length scopes) ≡ scopes_begun path scopes
 unfolding scopes_begun path_in
 begun-close path name scopes =
-    by_tests (begins_with (path_in scopes ++ with_dot name) path) (begins_with (path_in scopes) path) (begins_with (with_dot name) (drop (length (path_in scopes)) path))
+    by_tests (begins_with (path_in scopes ++ with_dot name) path) (begins_with (path_in scopes) path)
+    (begins_with (with_dot name) (drop (length (path_in scopes)) path))
     (begins_with-append (path_in scopes) (with_dot name) path) (begun-all path scopes) (begun-at_most path scopes)
   where
-    by_tests : (b outer own : Bool) → b ≡ (outer && own) → eqb (scopes_begun path scopes) (length scopes) ≡ outer → scopes_begun path scopes ≤ length scopes
+    by_tests : (b outer own : Bool) → b ≡ (outer && own) → eqb (scopes_begun path scopes) (length scopes) ≡ outer
+        → scopes_begun path scopes ≤ length scopes
         → min (cond b (length scopes + 1) (scopes_begun path scopes)) (length scopes) ≡ scopes_begun path scopes
     by_tests true true own both all le = grind (arith, nat_tests)
     by_tests true false own both all le = absurd (cc both)
@@ -108,10 +144,13 @@ begun-close path name scopes =
 
 -- a variable in the open scopes has the path
 pub path_test : (path name : List ℕ) (scopes : List (List ℕ)) → 0 < length name
-    → bytes_eq (path_of scopes name) path ≡ (eqb (scopes_begun path scopes) (length scopes) && bytes_eq (drop (length (path_in scopes)) path) name)
+    → bytes_eq (path_of scopes name) path ≡ (eqb (scopes_begun path scopes) (length scopes)
+    && bytes_eq (drop (length (path_in scopes)) path) name)
 path_test path name scopes some =
     ap (λ (p : List ℕ). bytes_eq p path) (path_of-is scopes name some)
-    ∙ same_from_decides (bytes_eq (path_in scopes ++ name) path) (begins_with (path_in scopes) path && bytes_eq (drop (length (path_in scopes)) path) name) (bytes_eq-Decides (path_in scopes ++ name) path) (behind-Decides (path_in scopes) name path)
+    ∙ same_from_decides (bytes_eq (path_in scopes ++ name) path) (begins_with (path_in scopes) path
+    && bytes_eq (drop (length (path_in scopes)) path) name) (bytes_eq-Decides (path_in scopes ++ name) path)
+    (behind-Decides (path_in scopes) name path)
     ∙ ap (λ (b : Bool). b && bytes_eq (drop (length (path_in scopes)) path) name) (sym (begun-all path scopes))
 
 -- ---- all that is sought
@@ -120,27 +159,37 @@ pub begun_none : (s : PathSearch) → s.begun ≡ 0 → HasOpened [] s
 unfolding scopes_begun
 begun_none s e = e
 
-opened-one : (name : List ℕ) (scopes : List (List ℕ)) (s : PathSearch) → HasOpened scopes s → HasOpened (name ∷ scopes) (opened (length scopes) (length (path_in scopes)) (with_dot name) s)
+opened-one : (name : List ℕ) (scopes : List (List ℕ)) (s : PathSearch) → HasOpened scopes s → HasOpened (name ∷ scopes)
+    (opened (length scopes) (length (path_in scopes)) (with_dot name) s)
 opened-one name scopes s begun =
     let path : List ℕ = path_sought s.assignment.now.source in
     ap (begun_behind (length scopes) (length (path_in scopes)) (with_dot name) path) begun ∙ begun-open path name scopes
 
-pub same_begun : (scopes : List (List ℕ)) (s s' : PathSearch) → s'.begun ≡ s.begun → s'.assignment ≡ s.assignment → HasOpened scopes s → HasOpened scopes s'
-same_begun scopes s s' begun same is = begun ∙ is ∙ sym (ap (λ (a : Bor Assignment). scopes_begun (path_sought a.now.source) scopes) same)
+pub same_begun : (scopes : List (List ℕ)) (s s' : PathSearch) → s'.begun ≡ s.begun → s'.assignment ≡ s.assignment
+    → HasOpened scopes s → HasOpened scopes s'
+same_begun scopes s s' begun same is = begun ∙ is
+    ∙ sym (ap (λ (a : Bor Assignment). scopes_begun (path_sought a.now.source) scopes) same)
 
-pub opened-all : (name : List ℕ) (scopes : List (List ℕ)) (sought : List PathSearch) → All (HasOpened scopes) sought → All (HasOpened (name ∷ scopes)) (map (opened (length scopes) (length (path_in scopes)) (with_dot name)) sought)
+pub opened-all : (name : List ℕ) (scopes : List (List ℕ)) (sought : List PathSearch) → All (HasOpened scopes) sought
+    → All (HasOpened (name ∷ scopes)) (map (opened (length scopes) (length (path_in scopes)) (with_dot name)) sought)
 opened-all name scopes sought all =
-    All-map (HasOpened (name ∷ scopes)) (opened (length scopes) (length (path_in scopes)) (with_dot name)) sought (λ k s at. opened-one name scopes (get_or sought k s) (all k s at))
+    All-map (HasOpened (name ∷ scopes)) (opened (length scopes) (length (path_in scopes)) (with_dot name)) sought
+    (λ k s at. opened-one name scopes (get_or sought k s) (all k s at))
 
-closed-one : (name : List ℕ) (scopes : List (List ℕ)) (s : PathSearch) → HasOpened (name ∷ scopes) s → HasOpened scopes (closed (length scopes) s)
-closed-one name scopes s begun = ap (λ (n : ℕ). min n (length scopes)) begun ∙ begun-close (path_sought s.assignment.now.source) name scopes
+closed-one : (name : List ℕ) (scopes : List (List ℕ)) (s : PathSearch) → HasOpened (name ∷ scopes) s → HasOpened scopes
+    (closed (length scopes) s)
+closed-one name scopes s begun = ap (λ (n : ℕ). min n (length scopes)) begun
+    ∙ begun-close (path_sought s.assignment.now.source) name scopes
 
-pub closed-all : (name : List ℕ) (scopes : List (List ℕ)) (sought : List PathSearch) → All (HasOpened (name ∷ scopes)) sought → All (HasOpened scopes) (map (closed (length scopes)) sought)
+pub closed-all : (name : List ℕ) (scopes : List (List ℕ)) (sought : List PathSearch) → All (HasOpened (name ∷ scopes))
+    sought → All (HasOpened scopes) (map (closed (length scopes)) sought)
 closed-all name scopes sought all =
-    All-map (HasOpened scopes) (closed (length scopes)) sought (λ k s at. closed-one name scopes (get_or sought k s) (all k s at))
+    All-map (HasOpened scopes) (closed (length scopes)) sought (λ k s at. closed-one name scopes (get_or sought k s)
+    (all k s at))
 
 -- the part of the path that a scope adds
-pub part_behind : (name : List ℕ) (scopes : List (List ℕ)) → drop (length (path_in scopes)) (path_in (name ∷ scopes)) ≡ with_dot name
+pub part_behind : (name : List ℕ) (scopes : List (List ℕ)) → drop (length (path_in scopes)) (path_in (name ∷ scopes))
+    ≡ with_dot name
 unfolding path_in
 part_behind name scopes = drop_at (path_in scopes) (with_dot name) (length (path_in scopes)) refl
 
@@ -148,57 +197,89 @@ part_behind name scopes = drop_at (path_in scopes) (with_dot name) (length (path
 
 -- what is left starts with the same element
 same_at : {A : Type 0} (xs ys : List A) (i : ℕ) (d : A) → drop i xs ≡ drop i ys → get_or ys i d ≡ get_or xs i d
-same_at {A} xs ys i d e = rw add-zero at (sym (get_or-drop i ys 0 d) ∙ (sym (ap (λ (l : List A). get_or l 0 d) e) ∙ get_or-drop i xs 0 d))
+same_at {A} xs ys i d e = rw add-zero at (sym (get_or-drop i ys 0 d) ∙ (sym (ap (λ (l : List A). get_or l 0 d) e)
+    ∙ get_or-drop i xs 0 d))
 
 -- one element more is changed, of which f is seen
-pub stepped_by : {A B : Type 0} (f : A → B) (g : B → B) (xs ys : List A) (i : ℕ) (x y : A) → i < length xs → length xs ≡ length ys → x ≡ get_or xs i x → f y ≡ g (f x)
-    → map f (take i xs) ≡ map g (map f (take i ys)) → drop i xs ≡ drop i ys → map f (take (i + 1) (set xs i y)) ≡ map g (map f (take (i + 1) ys))
+pub stepped_by : {A B : Type 0} (f : A → B) (g : B → B) (xs ys : List A) (i : ℕ) (x y : A) → i < length xs → length xs
+    ≡ length ys → x ≡ get_or xs i x → f y ≡ g (f x)
+    → map f (take i xs) ≡ map g (map f (take i ys)) → drop i xs ≡ drop i ys → map f (take (i + 1) (set xs i y))
+    ≡ map g (map f (take (i + 1) ys))
 stepped_by f g xs ys i x y h n r e done rest =
     let k : i < length ys = rw (← n) h in
     let s : get_or ys i x ≡ x = same_at xs ys i x rest ∙ sym r in
-    rw (take_more_set xs i y h, take_more ys i x k, s, map-append f (take i xs) (y ∷ []), map-append f (take i ys) (x ∷ []), map-append g (map f (take i ys)) (f x ∷ []), done, e) refl
+    rw (
+      take_more_set xs i y h,
+      take_more ys i x k,
+      s,
+      map-append f (take i xs) (y ∷ []),
+      map-append f (take i ys)
+          (x ∷ []),
+      map-append g (map f (take i ys)) (f x ∷ []),
+      done,
+      e,
+    ) refl
 
 -- one element more is changed
-pub stepped : {A : Type 0} (g : A → A) (xs ys : List A) (i : ℕ) (x y : A) → i < length xs → length xs ≡ length ys → x ≡ get_or xs i x → y ≡ g x
+pub stepped : {A : Type 0} (g : A → A) (xs ys : List A) (i : ℕ) (x y : A) → i < length xs → length xs ≡ length ys → x
+    ≡ get_or xs i x → y ≡ g x
     → take i xs ≡ map g (take i ys) → drop i xs ≡ drop i ys → take (i + 1) (set xs i y) ≡ map g (take (i + 1) ys)
 stepped g xs ys i x y h n r e done rest =
     let k : i < length ys = rw (← n) h in
     let s : get_or ys i x ≡ x = same_at xs ys i x rest ∙ sym r in
     rw (take_more_set xs i y h, take_more ys i x k, s, map-append g (take i ys) (x ∷ []), done, e) refl
 
-pub stepped_rest : {A : Type 0} (xs ys : List A) (i : ℕ) (y : A) → drop i xs ≡ drop i ys → drop (i + 1) (set xs i y) ≡ drop (i + 1) ys
+pub stepped_rest : {A : Type 0} (xs ys : List A) (i : ℕ) (y : A) → drop i xs ≡ drop i ys → drop (i + 1) (set xs i y)
+    ≡ drop (i + 1) ys
 stepped_rest xs ys i y e = drop-set-lt (i + 1) xs i y (omega arith) ∙ drop_more_same xs ys i e
 
 -- ---- what is lent as a slice and given back
 
-given_back : (sought new : List PathSearch) (len : ℕ) → len ≡ length sought → length new ≡ length sought → take len (new ++ drop (length new) sought) ≡ new
+given_back : (sought new : List PathSearch) (len : ℕ) → len ≡ length sought → length new ≡ length sought
+    → take len (new ++ drop (length new) sought) ≡ new
 given_back sought new len e n = take_at new (drop (length new) sought) len (n ∙ sym e)
 
-same_count : (f : PathSearch → PathSearch) (sought lent new : List PathSearch) → lent ≡ sought → new ≡ map f lent → length new ≡ length sought
-same_count f sought lent new e is = ap (λ (xs : List PathSearch). length xs) is ∙ length-map lent f ∙ ap (λ (xs : List PathSearch). length xs) e
+same_count : (f : PathSearch → PathSearch) (sought lent new : List PathSearch) → lent ≡ sought → new ≡ map f lent
+    → length new ≡ length sought
+same_count f sought lent new e is = ap (λ (xs : List PathSearch). length xs) is ∙ length-map lent f
+    ∙ ap (λ (xs : List PathSearch). length xs) e
 
-pub opened-back : (name : List ℕ) (scopes now : List (List ℕ)) (sought lent new : List PathSearch) (len depth start : ℕ) (part : List ℕ) → All (HasOpened scopes) sought → now ≡ name ∷ scopes → len ≡ length sought → lent ≡ sought
-    → new ≡ map (opened depth start part) lent → depth ≡ length scopes → start ≡ length (path_in scopes) → part ≡ drop start (path_in now) → All (HasOpened now) (take len (new ++ drop (length new) sought))
+pub opened-back : (name : List ℕ) (scopes now : List (List ℕ)) (sought lent new : List PathSearch) (len depth start : ℕ)
+    (part : List ℕ) → All (HasOpened scopes) sought → now ≡ name ∷ scopes → len ≡ length sought → lent ≡ sought
+    → new ≡ map (opened depth start part) lent → depth ≡ length scopes → start ≡ length (path_in scopes) → part
+    ≡ drop start (path_in now) → All (HasOpened now) (take len (new ++ drop (length new) sought))
 opened-back name scopes now sought lent new len depth start part all names e same is d s p =
-    let own : part ≡ with_dot name = p ∙ ap (λ (n : ℕ). drop n (path_in now)) s ∙ ap (λ (ns : List (List ℕ)). drop (length (path_in scopes)) (path_in ns)) names ∙ part_behind name scopes in
+    let own : part ≡ with_dot name = p ∙ ap (λ (n : ℕ). drop n (path_in now)) s
+    ∙ ap (λ (ns : List (List ℕ)). drop (length (path_in scopes)) (path_in ns)) names ∙ part_behind name scopes in
     let mapped : new ≡ map (opened (length scopes) (length (path_in scopes)) (with_dot name)) sought =
     is ∙ ap (λ (xs : List PathSearch). map (opened depth start part) xs) same
-    ∙ ap (λ (n : ℕ). map (opened n start part) sought) d ∙ ap (λ (n : ℕ). map (opened (length scopes) n part) sought) s ∙ ap (λ (b : List ℕ). map (opened (length scopes) (length (path_in scopes)) b) sought) own in
-    rw (given_back sought new len e (same_count (opened depth start part) sought lent new same is), mapped, names) (opened-all name scopes sought all)
+    ∙ ap (λ (n : ℕ). map (opened n start part) sought) d ∙ ap (λ (n : ℕ). map (opened (length scopes) n part) sought) s
+    ∙ ap (λ (b : List ℕ). map (opened (length scopes) (length (path_in scopes)) b) sought) own in
+    rw (given_back sought new len e (same_count (opened depth start part) sought lent new same is), mapped, names)
+    (opened-all name scopes sought all)
 
-pub closed-back : (name : List ℕ) (scopes now : List (List ℕ)) (sought lent new : List PathSearch) (len depth : ℕ) → All (HasOpened scopes) sought → scopes ≡ name ∷ now → len ≡ length sought → lent ≡ sought
-    → new ≡ map (closed depth) lent → depth ≡ length now → All (HasOpened now) (take len (new ++ drop (length new) sought))
+pub closed-back : (name : List ℕ) (scopes now : List (List ℕ)) (sought lent new : List PathSearch) (len depth : ℕ)
+    → All (HasOpened scopes) sought → scopes ≡ name ∷ now → len ≡ length sought → lent ≡ sought
+    → new ≡ map (closed depth) lent → depth ≡ length now → All (HasOpened now)
+    (take len (new ++ drop (length new) sought))
 closed-back name scopes now sought lent new len depth all names e same is d =
-    let mapped : new ≡ map (closed (length now)) sought = is ∙ ap (λ (xs : List PathSearch). map (closed depth) xs) same ∙ ap (λ (n : ℕ). map (closed n) sought) d in
+    let mapped : new ≡ map (closed (length now)) sought = is ∙ ap (λ (xs : List PathSearch). map (closed depth) xs) same
+    ∙ ap (λ (n : ℕ). map (closed n) sought) d in
     let before : All (HasOpened (name ∷ now)) sought = rw names at all in
-    rw (given_back sought new len e (same_count (closed depth) sought lent new same is), mapped) (closed-all name now sought before)
+    rw (given_back sought new len e (same_count (closed depth) sought lent new same is), mapped)
+    (closed-all name now sought before)
 
 -- what is seen stays as it was
-pub seen-back : (f : PathSearch → PathSearch) (sought lent new : List PathSearch) (len : ℕ) → ((s : PathSearch) → seen_in (f s) ≡ seen_in s) → len ≡ length sought → lent ≡ sought → new ≡ map f lent → map seen_in (take len (new ++ drop (length new) sought)) ≡ map seen_in sought
+pub seen-back : (f : PathSearch → PathSearch) (sought lent new : List PathSearch) (len : ℕ)
+    → ((s : PathSearch) → seen_in (f s) ≡ seen_in s) → len ≡ length sought → lent ≡ sought → new ≡ map f lent
+    → map seen_in (take len (new ++ drop (length new) sought)) ≡ map seen_in sought
 seen-back f sought lent new len kept e same is =
-    ap (λ (xs : List PathSearch). map seen_in xs) (given_back sought new len e (same_count f sought lent new same is) ∙ is ∙ ap (λ (xs : List PathSearch). map f xs) same)
+    ap (λ (xs : List PathSearch). map seen_in xs) (given_back sought new len e (same_count f sought lent new same is)
+    ∙ is ∙ ap (λ (xs : List PathSearch). map f xs) same)
     ∙ map-map seen_in f sought ∙ map-same (λ s. seen_in (f s)) seen_in sought kept
   where
-    map-same : (g h : PathSearch → Searched) (xs : List PathSearch) → ((s : PathSearch) → g s ≡ h s) → map g xs ≡ map h xs
+    map-same : (g h : PathSearch → Searched) (xs : List PathSearch) → ((s : PathSearch) → g s ≡ h s) → map g xs
+        ≡ map h xs
     map-same g h [] k = refl
-    map-same g h (x ∷ xs) k = ap (λ (y : Searched). y ∷ map g xs) (k x) ∙ ap (λ (ys : List Searched). h x ∷ ys) (map-same g h xs k)
+    map-same g h (x ∷ xs) k = ap (λ (y : Searched). y ∷ map g xs) (k x) ∙ ap (λ (ys : List Searched). h x ∷ ys)
+        (map-same g h xs k)

@@ -1,5 +1,6 @@
 -- The recording that a binding makes of the text of a dump, from what is read of it.
-use Rattle.std.proofs.Common.{◌≡◌, ℕ, Bool, true, false, cond, List, [], length, refl, sym, ap, ◌∙◌, subst, Option, Some, None, Result, Ok, Err}
+use Rattle.std.proofs.Common.{◌≡◌, ℕ, Bool, true, false, cond, List, [], length, refl, sym, ap, ◌∙◌, subst, Option}
+use Rattle.std.proofs.Common.{Some, None, Result, Ok, Err}
 use Rattle.std.specs.Prelude.{nat_lt, IfOk}
 use Rattle.std.specs.List.{fold}
 use Rattle.std.proofs.lemmas.List.{append-nil}
@@ -33,7 +34,9 @@ use Rattle.vme_bind.specs.PathSearch.{Searched, with_variable}
 use Rattle.vme_bind.specs.BoundGroups.{bound_groups_in}
 use Rattle.vme_bind.specs.Capture.{recording, recording_of, limited}
 use Rattle.vme_bind.specs.Made.{Made, IsBegun, made_change, made_instant}
-use Rattle.vme_bind.specs.TextCapture.{or_binding, or_dump, body_recording, capture_of_text, capture_read, recording_read, recording_behind, recording_of_text, DumpFails, BindingFails, CaptureFailsBy, GivesBy}
+use Rattle.vme_bind.specs.TextCapture.{or_binding, or_dump, body_recording, capture_of_text, capture_read}
+use Rattle.vme_bind.specs.TextCapture.{recording_read, recording_behind, recording_of_text, DumpFails, BindingFails}
+use Rattle.vme_bind.specs.TextCapture.{CaptureFailsBy, GivesBy}
 use Rattle.vme_bind.specs.TextPieces.{body_outcome, outcome}
 use Rattle.vme_bind.proofs.OpeningLemmas.{capture_of-is, recording_of-is, whole-formed}
 use Rattle.vme_bind.proofs.MakingLemmas.{Makes, makes-first, makes-change, makes-instant}
@@ -59,79 +62,102 @@ module _ (slots : ℕ) (bound_groups : List BoundGroup) (h : Headed) where
   abbrev IsMadeOf : List Instant → Current → Made → Type 0
   IsMadeOf = Makes slots bound_groups (length h.nets) (instants_in (instants_from h.nets h.body))
 
-  builder-follows : (m : Made) → IsBegun slots bound_groups m → Follows (Ends IsMadeOf) (instants_from h.nets h.body) (taken_from made_change made_instant h.nets m h.body)
+  builder-follows : (m : Made) → IsBegun slots bound_groups m → Follows (Ends IsMadeOf) (instants_from h.nets h.body)
+      (taken_from made_change made_instant h.nets m h.body)
   builder-follows m begun =
       let all : List Instant = instants_in (instants_from h.nets h.body) in
       taken-follows made_change made_instant h.nets IsMadeOf
-      (λ done current a net bits lt made. makes-change slots bound_groups (length h.nets) all done current a net bits lt made)
+      (λ done current a net bits lt made. makes-change slots bound_groups (length h.nets) all done current a net bits lt
+      made)
       (λ done current a time made. makes-instant slots bound_groups (length h.nets) all done current a time made)
       h.body m (makes-first slots bound_groups (length h.nets) all m begun)
 
   -- a fault of the body, met by what makes the recording
   pub body-fails : (m : Made) (fault : VcdFault) → IsBegun slots bound_groups m
-      → ReadFails fault (taken_from made_change made_instant h.nets m h.body) → CaptureFailsBy (Dump fault) (body_recording slots bound_groups h)
+      → ReadFails fault (taken_from made_change made_instant h.nets m h.body) → CaptureFailsBy (Dump fault)
+      (body_recording slots bound_groups h)
   body-fails m fault begun fails =
-      dump_fails fault.line fault.kind (fails-followed (Ends IsMadeOf) (instants_from h.nets h.body) _ fault (builder-follows m begun) fails)
+      dump_fails fault.line fault.kind (fails-followed (Ends IsMadeOf) (instants_from h.nets h.body) _ fault
+      (builder-follows m begun) fails)
     where
-      dump_fails : (line : ℕ) (kind : FaultKind) → ReadFails (record { line = line; kind = kind }) (instants_from h.nets h.body) → DumpFails line kind (body_recording slots bound_groups h)
+      dump_fails : (line : ℕ) (kind : FaultKind) → ReadFails (record { line = line; kind = kind })
+          (instants_from h.nets h.body) → DumpFails line kind (body_recording slots bound_groups h)
       dump_fails line Memory e = e
-      dump_fails line kind e = ap (λ (r : Result (List Instant) VcdFault). or_dump r >>= λ instants. Ok (recording slots bound_groups instants (length instants))) e
+      dump_fails line kind e = ap (λ (r : Result (List Instant) VcdFault). or_dump r >>= λ instants. Ok
+          (recording slots bound_groups instants (length instants))) e
 
   -- what is made of the whole body
-  pub body-recorded : (m end : Made) → IsBegun slots bound_groups m → taken_from made_change made_instant h.nets m h.body ≡ Ok end → body_recording slots bound_groups h ≡ Ok end.recorded
+  pub body-recorded : (m end : Made) → IsBegun slots bound_groups m → taken_from made_change made_instant h.nets m
+      h.body ≡ Ok end → body_recording slots bound_groups h ≡ Ok end.recorded
   body-recorded m end begun ok =
       let gives = gives-followed (Ends IsMadeOf) (instants_from h.nets h.body) _ end (builder-follows m begun) ok in
       let instants : List Instant = gives.0 in
       let all : instants_in (instants_from h.nets h.body) ≡ instants = ap instants_in gives.1 in
       let made = gives.2.1 [] (all ∙ sym (append-nil instants)) in
-      ap (λ (r : Result (List Instant) VcdFault). or_dump r >>= λ instants. Ok (recording slots bound_groups instants (length instants))) gives.1
-      ∙ ap (λ (xs : List Instant). ok_trace (recording slots bound_groups xs (length instants))) (sym all) ∙ ap ok_trace (sym made.recorded)
+      ap (λ (r : Result (List Instant) VcdFault). or_dump r >>= λ instants. Ok (recording slots bound_groups instants
+      (length instants))) gives.1
+      ∙ ap (λ (xs : List Instant). ok_trace (recording slots bound_groups xs (length instants))) (sym all)
+      ∙ ap ok_trace (sym made.recorded)
 
   -- ---- what a body comes to
 
-  follow_err : (instants : Result (List Instant) VcdFault) (taken : Result Made VcdFault) (fault : VcdFault) → Follows (Ends IsMadeOf) instants taken → taken ≡ Err fault → instants ≡ Err fault
+  follow_err : (instants : Result (List Instant) VcdFault) (taken : Result Made VcdFault) (fault : VcdFault)
+      → Follows (Ends IsMadeOf) instants taken → taken ≡ Err fault → instants ≡ Err fault
   follow_err (Ok xs) taken fault follows e = absurd (cc (follows.1, e))
-  follow_err (Err first) taken fault follows e = let same : first ≡ fault = cc (follows, e) in ap (λ (f : VcdFault). Err f) same
+  follow_err (Err first) taken fault follows e = let same : first ≡ fault = cc (follows, e) in
+      ap (λ (f : VcdFault). Err f) same
 
   -- a body comes to what is made of it, or to its fault, or to that of the binding
-  pub body-outcome : (fault : Option BindFault) (m : Made) → IsBegun slots bound_groups m → body_outcome fault slots bound_groups h ≡ outcome fault (taken_from made_change made_instant h.nets m h.body)
+  pub body-outcome : (fault : Option BindFault) (m : Made) → IsBegun slots bound_groups m → body_outcome fault slots
+      bound_groups h ≡ outcome fault (taken_from made_change made_instant h.nets m h.body)
   body-outcome fault m begun = by_taken fault (taken_from made_change made_instant h.nets m h.body) refl
     where
-      by_taken : (fault : Option BindFault) (taken : Result Made VcdFault) → taken_from made_change made_instant h.nets m h.body ≡ taken → body_outcome fault slots bound_groups h ≡ outcome fault taken
+      by_taken : (fault : Option BindFault) (taken : Result Made VcdFault) → taken_from made_change made_instant h.nets
+          m h.body ≡ taken → body_outcome fault slots bound_groups h ≡ outcome fault taken
       by_taken None (Ok end) e = body-recorded m end begun e
       by_taken (Some own) (Ok end) e =
-          ap (λ (r : Result (List Instant) VcdFault). refused own r) (gives-followed (Ends IsMadeOf) (instants_from h.nets h.body) _ end (builder-follows m begun) e).1
+          ap (λ (r : Result (List Instant) VcdFault). refused own r)
+          (gives-followed (Ends IsMadeOf) (instants_from h.nets h.body) _ end (builder-follows m begun) e).1
       by_taken None (Err first) e =
-          ap (λ (r : Result (List Instant) VcdFault). or_dump r >>= λ instants. Ok (recording slots bound_groups instants (length instants)))
+          ap (λ (r : Result (List Instant) VcdFault). or_dump r >>= λ instants. Ok
+          (recording slots bound_groups instants (length instants)))
           (follow_err (instants_from h.nets h.body) _ first (builder-follows m begun) e)
       by_taken (Some own) (Err first) e =
-          ap (λ (r : Result (List Instant) VcdFault). refused own r) (follow_err (instants_from h.nets h.body) _ first (builder-follows m begun) e)
+          ap (λ (r : Result (List Instant) VcdFault). refused own r) (follow_err (instants_from h.nets h.body) _ first
+          (builder-follows m begun) e)
 
 -- ---- a text
 
-pub text-dump : (b : BoundLines) (text : List ℕ) (fault : VcdFault) → ReadFails fault (dump_of text) → CaptureFailsBy (Dump fault) (recording_of_text b text)
+pub text-dump : (b : BoundLines) (text : List ℕ) (fault : VcdFault) → ReadFails fault (dump_of text)
+    → CaptureFailsBy (Dump fault) (recording_of_text b text)
 unfolding recording_of_text
 text-dump b text fault h = by_kind fault.line fault.kind h
   where
-    by_kind : (line : ℕ) (kind : FaultKind) → ReadFails (record { line = line; kind = kind }) (dump_of text) → DumpFails line kind (recording_of_text b text)
+    by_kind : (line : ℕ) (kind : FaultKind) → ReadFails (record { line = line; kind = kind }) (dump_of text)
+        → DumpFails line kind (recording_of_text b text)
     by_kind line Memory e = e
     by_kind line kind e = ap (recording_read b) e
 
 -- a fault that stays, whatever comes of what is read
-fails_back : {X Y : Type 0} (line : ℕ) (kind : FaultKind) (r : Result X VcdFault) (f : X → Y) → ReadFailsAs line kind (r >>= λ x. Ok (f x)) → ReadFailsAs line kind r
+fails_back : {X Y : Type 0} (line : ℕ) (kind : FaultKind) (r : Result X VcdFault) (f : X → Y) → ReadFailsAs line kind
+    (r >>= λ x. Ok (f x)) → ReadFailsAs line kind r
 fails_back line Memory r f h = h
 fails_back line kind (Ok x) f h = absurd (cc h)
 fails_back line kind (Err fault) f h = let same : fault ≡ record { line = line; kind = kind } = cc h in ap Err same
 
 -- the fault of the definitions
-pub text-head : (b : BoundLines) (text : List ℕ) (seen : List Searched) (fault : VcdFault) → ReadFails fault (header_of with_variable text (nothing_declared seen) (tokens text)) → CaptureFailsBy (Dump fault) (recording_of_text b text)
+pub text-head : (b : BoundLines) (text : List ℕ) (seen : List Searched) (fault : VcdFault) → ReadFails fault
+    (header_of with_variable text (nothing_declared seen) (tokens text)) → CaptureFailsBy (Dump fault)
+    (recording_of_text b text)
 text-head b text seen fault h =
-    let whole = fails_back fault.line fault.kind (whole_header text) (taken_head with_variable seen) (rw (header_taken with_variable text seen) at h) in
+    let whole = fails_back fault.line fault.kind (whole_header text) (taken_head with_variable seen)
+    (rw (header_taken with_variable text seen) at h) in
     text-dump b text fault (fails_first fault (whole_header text) contents_behind _ (dump_of-header text) whole)
 
 -- a header whose variables were looked at
 abbrev IsWhole : List ℕ → Headed → List Searched → List Searched → Type 0
-IsWhole text h first seen = (variables : List Variable) × (whole_header text ≡ Ok (defined h variables)) × (seen ≡ fold with_variable first variables)
+IsWhole text h first seen = (variables : List Variable) × (whole_header text ≡ Ok (defined h variables))
+    × (seen ≡ fold with_variable first variables)
 
 abbrev ok_defined : Defined (List Searched) → Result (Defined (List Searched)) VcdFault
 ok_defined d = Ok d
@@ -139,50 +165,71 @@ ok_defined d = Ok d
 ok_same : (x y : Defined (List Searched)) → ok_defined x ≡ ok_defined y → x ≡ y
 ok_same x y e = cc
 
-whole_from : (text : List ℕ) (h : Headed) (first seen : List Searched) (r : Result (Defined (List Variable)) VcdFault) → whole_header text ≡ r → (r >>= λ d. Ok (taken_head with_variable first d)) ≡ Ok (defined h seen) → IsWhole text h first seen
+whole_from : (text : List ℕ) (h : Headed) (first seen : List Searched) (r : Result (Defined (List Variable)) VcdFault)
+    → whole_header text ≡ r → (r >>= λ d. Ok (taken_head with_variable first d)) ≡ Ok (defined h seen)
+    → IsWhole text h first seen
 whole_from text h first seen (Ok d) e is =
-    let same = ok_same (taken_head with_variable first d) (defined h seen) is in
-    (d.variables, e ∙ ap (λ (x : Defined (List Searched)). Ok (defined x.head d.variables)) same, sym (ap (λ (x : Defined (List Searched)). x.variables) same))
+    let same = ok_same (taken_head with_variable first d) (defined h seen) is in (
+      d.variables,
+      e ∙ ap (λ (x : Defined (List Searched)). Ok (defined x.head d.variables)) same,
+      sym (ap (λ (x : Defined (List Searched)). x.variables) same),
+    )
 whole_from text h first seen (Err fault) e is = absurd (cc is)
 
-pub whole-of : (text : List ℕ) (h : Headed) (first seen : List Searched) → header_of with_variable text (nothing_declared first) (tokens text) ≡ Ok (defined h seen) → IsWhole text h first seen
-whole-of text h first seen e = whole_from text h first seen (whole_header text) refl (sym (header_taken with_variable text first) ∙ e)
+pub whole-of : (text : List ℕ) (h : Headed) (first seen : List Searched) → header_of with_variable text
+    (nothing_declared first) (tokens text) ≡ Ok (defined h seen) → IsWhole text h first seen
+whole-of text h first seen e = whole_from text h first seen (whole_header text) refl
+    (sym (header_taken with_variable text first) ∙ e)
 
 -- the body behind the definitions
-pub text-behind : {X : Type 0} (view : X → Trace) (b : BoundLines) (text : List ℕ) (h : Headed) (first seen : List Searched) (r : Result X CaptureFault) → header_of with_variable text (nothing_declared first) (tokens text) ≡ Ok (defined h seen)
-    → ((variables : List Variable) → seen ≡ fold with_variable first variables → GivesBy view r (recording_behind b (defined h variables))) → GivesBy view r (recording_of_text b text)
+pub text-behind : {X : Type 0} (view : X → Trace) (b : BoundLines) (text : List ℕ) (h : Headed)
+    (first seen : List Searched) (r : Result X CaptureFault) → header_of with_variable text (nothing_declared first)
+    (tokens text) ≡ Ok (defined h seen)
+    → ((variables : List Variable) → seen ≡ fold with_variable first variables
+    → GivesBy view r (recording_behind b (defined h variables))) → GivesBy view r (recording_of_text b text)
 unfolding recording_of_text
 text-behind view b text h first seen r head given =
     let whole = whole-of text h first seen head in
-    subst (λ (d : Result Contents VcdFault). GivesBy view r (recording_read b d)) (sym (dump_behind text (defined h whole.0) whole.1)) (given whole.0 whole.2)
+    subst (λ (d : Result Contents VcdFault). GivesBy view r (recording_read b d))
+    (sym (dump_behind text (defined h whole.0) whole.1)) (given whole.0 whole.2)
 
 -- the recording of a text is that of the body behind its definitions
-pub text-is : (b : BoundLines) (text : List ℕ) (h : Headed) (first seen : List Searched) → header_of with_variable text (nothing_declared first) (tokens text) ≡ Ok (defined h seen)
-    → (variables : List Variable) × (seen ≡ fold with_variable first variables) × (recording_of_text b text ≡ recording_behind b (defined h variables))
+pub text-is : (b : BoundLines) (text : List ℕ) (h : Headed) (first seen : List Searched) → header_of with_variable text
+    (nothing_declared first) (tokens text) ≡ Ok (defined h seen)
+    → (variables : List Variable) × (seen ≡ fold with_variable first variables)
+    × (recording_of_text b text ≡ recording_behind b (defined h variables))
 unfolding recording_of_text
 text-is b text h first seen head =
     let whole = whole-of text h first seen head in
     (whole.0, whole.2, ap (recording_read b) (dump_behind text (defined h whole.0) whole.1))
 
 -- what wires make of the instants
-pub by_instants : (b : BoundLines) (variables : List Variable) (bound_groups : List BoundGroup) (r : Result (List Instant) VcdFault) → bound_groups_in variables b.assignments ≡ Ok bound_groups
-    → recording_read b (r >>= with_variables variables) ≡ (or_dump r >>= λ instants. Ok (recording b.slots bound_groups instants (length instants)))
+pub by_instants : (b : BoundLines) (variables : List Variable) (bound_groups : List BoundGroup)
+    (r : Result (List Instant) VcdFault) → bound_groups_in variables b.assignments ≡ Ok bound_groups
+    → recording_read b (r >>= with_variables variables)
+    ≡ (or_dump r >>= λ instants. Ok (recording b.slots bound_groups instants (length instants)))
 by_instants b variables bound_groups (Ok instants) e =
     let dump : Contents = record { variables = variables; instants = instants } in
-    ap or_binding (recording_of-is b dump ∙ ap (λ (r : Result (List BoundGroup) BindFault). r >>= λ bound_groups. Ok (recording b.slots bound_groups instants (length instants))) e)
+    ap or_binding (recording_of-is b dump ∙ ap (λ (r : Result (List BoundGroup) BindFault). r >>= λ bound_groups. Ok
+    (recording b.slots bound_groups instants (length instants))) e)
 by_instants b variables bound_groups (Err fault) e = refl
 
 -- what comes of the instants where the binding doesn't fit
-pub by_refusal : (b : BoundLines) (variables : List Variable) (own : BindFault) (r : Result (List Instant) VcdFault) → bound_groups_in variables b.assignments ≡ Err own
+pub by_refusal : (b : BoundLines) (variables : List Variable) (own : BindFault) (r : Result (List Instant) VcdFault)
+    → bound_groups_in variables b.assignments ≡ Err own
     → recording_read b (r >>= with_variables variables) ≡ (or_dump r >>= λ instants. Err (Binding own))
 by_refusal b variables own (Ok instants) e =
     let dump : Contents = record { variables = variables; instants = instants } in
-    ap or_binding (recording_of-is b dump ∙ ap (λ (r : Result (List BoundGroup) BindFault). r >>= λ bound_groups. Ok (recording b.slots bound_groups instants (length instants))) e)
+    ap or_binding (recording_of-is b dump ∙ ap (λ (r : Result (List BoundGroup) BindFault). r >>= λ bound_groups. Ok
+    (recording b.slots bound_groups instants (length instants))) e)
 by_refusal b variables own (Err fault) e = refl
 
-pub behind-body : {X : Type 0} (view : X → Trace) (b : BoundLines) (h : Headed) (variables : List Variable) (bound_groups : List BoundGroup) (r : Result X CaptureFault) → bound_groups_in variables b.assignments ≡ Ok bound_groups
+pub behind-body : {X : Type 0} (view : X → Trace) (b : BoundLines) (h : Headed) (variables : List Variable)
+    (bound_groups : List BoundGroup) (r : Result X CaptureFault) → bound_groups_in variables b.assignments
+    ≡ Ok bound_groups
     → GivesBy view r (body_recording b.slots bound_groups h) → GivesBy view r (recording_behind b (defined h variables))
-behind-body view b h variables bound_groups r e given = subst (GivesBy view r) (sym (by_instants b variables bound_groups (instants_from h.nets h.body) e)) given
+behind-body view b h variables bound_groups r e given = subst (GivesBy view r)
+    (sym (by_instants b variables bound_groups (instants_from h.nets h.body) e)) given
 
 -- ---- a binding that doesn't fit
 
@@ -195,31 +242,42 @@ passed_instant u time = u
 abbrev Passes : List Instant → Current → Unit {0} → Type 0
 Passes done current u = Unit {0}
 
-passing-follows : (h : Headed) (u : Unit {0}) → Follows (Ends Passes) (instants_from h.nets h.body) (taken_from passed_change passed_instant h.nets u h.body)
-passing-follows h u = taken-follows passed_change passed_instant h.nets Passes (λ done current a net bits lt made. tt) (λ done current a time made. tt) h.body u tt
+passing-follows : (h : Headed) (u : Unit {0}) → Follows (Ends Passes) (instants_from h.nets h.body)
+    (taken_from passed_change passed_instant h.nets u h.body)
+passing-follows h u = taken-follows passed_change passed_instant h.nets Passes (λ done current a net bits lt made. tt)
+    (λ done current a time made. tt) h.body u tt
 
-behind_dump : (b : BoundLines) (h : Headed) (variables : List Variable) (line : ℕ) (kind : FaultKind) → ReadFailsAs line kind (instants_from h.nets h.body) → DumpFails line kind (recording_behind b (defined h variables))
+behind_dump : (b : BoundLines) (h : Headed) (variables : List Variable) (line : ℕ) (kind : FaultKind) → ReadFailsAs line
+    kind (instants_from h.nets h.body) → DumpFails line kind (recording_behind b (defined h variables))
 behind_dump b h variables line Memory e = e
-behind_dump b h variables line kind e = ap (λ (r : Result (List Instant) VcdFault). recording_read b (r >>= with_variables variables)) e
+behind_dump b h variables line kind e = ap (λ (r : Result (List Instant) VcdFault). recording_read b
+    (r >>= with_variables variables)) e
 
 -- a fault of the body comes first
-pub behind-first : (b : BoundLines) (h : Headed) (variables : List Variable) (u : Unit {0}) (fault : VcdFault) → ReadFails fault (taken_from passed_change passed_instant h.nets u h.body)
+pub behind-first : (b : BoundLines) (h : Headed) (variables : List Variable) (u : Unit {0}) (fault : VcdFault)
+    → ReadFails fault (taken_from passed_change passed_instant h.nets u h.body)
     → CaptureFailsBy (Dump fault) (recording_behind b (defined h variables))
-behind-first b h variables u fault fails = behind_dump b h variables fault.line fault.kind (fails-followed (Ends Passes) (instants_from h.nets h.body) _ fault (passing-follows h u) fails)
+behind-first b h variables u fault fails = behind_dump b h variables fault.line fault.kind
+    (fails-followed (Ends Passes) (instants_from h.nets h.body) _ fault (passing-follows h u) fails)
 
-by_binding : (line : ℕ) (kind : BindKind) (b : BoundLines) (dump : Contents) (answer : Result Trace CaptureFault) → answer ≡ or_binding (recording_of b dump)
+by_binding : (line : ℕ) (kind : BindKind) (b : BoundLines) (dump : Contents) (answer : Result Trace CaptureFault)
+    → answer ≡ or_binding (recording_of b dump)
     → BindFailsAs line kind (bound_groups_in dump.variables b.assignments) → BindingFails line kind answer
 by_binding line NoMemory b dump answer is e = e
 by_binding line kind b dump answer is e =
-    is ∙ ap or_binding (recording_of-is b dump ∙ ap (λ (r : Result (List BoundGroup) BindFault). r >>= λ bound_groups. Ok (recording b.slots bound_groups dump.instants (length dump.instants))) e)
+    is ∙ ap or_binding (recording_of-is b dump ∙ ap (λ (r : Result (List BoundGroup) BindFault). r >>= λ bound_groups.
+    Ok (recording b.slots bound_groups dump.instants (length dump.instants))) e)
 
 -- the binding's own fault, where the body has none
-pub behind-binding : (b : BoundLines) (h : Headed) (variables : List Variable) (u end : Unit {0}) (fault : BindFault) → taken_from passed_change passed_instant h.nets u h.body ≡ Ok end
-    → BindFails fault (bound_groups_in variables b.assignments) → CaptureFailsBy (Binding fault) (recording_behind b (defined h variables))
+pub behind-binding : (b : BoundLines) (h : Headed) (variables : List Variable) (u end : Unit {0}) (fault : BindFault)
+    → taken_from passed_change passed_instant h.nets u h.body ≡ Ok end
+    → BindFails fault (bound_groups_in variables b.assignments) → CaptureFailsBy (Binding fault)
+    (recording_behind b (defined h variables))
 behind-binding b h variables u end fault ok fails =
     let gives = gives-followed (Ends Passes) (instants_from h.nets h.body) _ end (passing-follows h u) ok in
     let dump : Contents = record { variables = variables; instants = gives.0 } in
-    let is : (instants_from h.nets h.body >>= with_variables variables) ≡ Ok dump = ap (λ (r : Result (List Instant) VcdFault). r >>= with_variables variables) gives.1 in
+    let is : (instants_from h.nets h.body >>= with_variables variables)
+    ≡ Ok dump = ap (λ (r : Result (List Instant) VcdFault). r >>= with_variables variables) gives.1 in
     by_binding fault.line fault.kind b dump (recording_behind b (defined h variables)) (ap (recording_read b) is) fails
 
 -- ---- the recording, and whether it is too long
@@ -233,31 +291,38 @@ unfolding capture_of_text recording_of_text
 capture-recorded b text = by_dump (dump_of text)
   where
     by_bound_groups : (dump : Contents) (r : Result (List BoundGroup) BindFault)
-        → or_binding (r >>= λ bound_groups. limited (recording b.slots bound_groups dump.instants (length dump.instants)))
-        ≡ in_limit (or_binding (r >>= λ bound_groups. Ok (recording b.slots bound_groups dump.instants (length dump.instants))))
+        → or_binding (r >>= λ bound_groups. limited (recording b.slots bound_groups dump.instants
+        (length dump.instants)))
+        ≡ in_limit (or_binding (r >>= λ bound_groups. Ok (recording b.slots bound_groups dump.instants
+        (length dump.instants))))
     by_bound_groups dump (Ok bound_groups) = refl
     by_bound_groups dump (Err fault) = refl
 
     by_dump : (r : Result Contents VcdFault) → capture_read b r ≡ in_limit (recording_read b r)
     by_dump (Ok dump) =
-        ap or_binding (capture_of-is b dump) ∙ by_bound_groups dump (bound_groups_in dump.variables b.assignments) ∙ sym (ap (λ (r : Result Trace BindFault). in_limit (or_binding r)) (recording_of-is b dump))
+        ap or_binding (capture_of-is b dump) ∙ by_bound_groups dump (bound_groups_in dump.variables b.assignments)
+        ∙ sym (ap (λ (r : Result Trace BindFault). in_limit (or_binding r)) (recording_of-is b dump))
     by_dump (Err fault) = refl
 
 -- why there is no recording
-pub fails-captured : (b : BoundLines) (text : List ℕ) (fault : CaptureFault) → CaptureFailsBy fault (recording_of_text b text) → CaptureFailsBy fault (capture_of_text b text)
+pub fails-captured : (b : BoundLines) (text : List ℕ) (fault : CaptureFault) → CaptureFailsBy fault
+    (recording_of_text b text) → CaptureFailsBy fault (capture_of_text b text)
 fails-captured b text (Dump fault) h = by_kind fault.line fault.kind h
   where
-    by_kind : (line : ℕ) (kind : FaultKind) → DumpFails line kind (recording_of_text b text) → DumpFails line kind (capture_of_text b text)
+    by_kind : (line : ℕ) (kind : FaultKind) → DumpFails line kind (recording_of_text b text) → DumpFails line kind
+        (capture_of_text b text)
     by_kind line Memory e = e
     by_kind line kind e = capture-recorded b text ∙ ap in_limit e
 fails-captured b text (Binding fault) h = by_kind fault.line fault.kind h
   where
-    by_kind : (line : ℕ) (kind : BindKind) → BindingFails line kind (recording_of_text b text) → BindingFails line kind (capture_of_text b text)
+    by_kind : (line : ℕ) (kind : BindKind) → BindingFails line kind (recording_of_text b text) → BindingFails line kind
+        (capture_of_text b text)
     by_kind line NoMemory e = e
     by_kind line kind e = capture-recorded b text ∙ ap in_limit e
 
 -- the capture of a recording
-pub captured-by : (b : BoundLines) (text : List ℕ) (t : Trace) (r : Result Trace BindFault) → recording_of_text b text ≡ Ok t → r ≡ limited t → GivesBy (λ (t : Trace). t) (or_binding r) (capture_of_text b text)
+pub captured-by : (b : BoundLines) (text : List ℕ) (t : Trace) (r : Result Trace BindFault) → recording_of_text b text
+    ≡ Ok t → r ≡ limited t → GivesBy (λ (t : Trace). t) (or_binding r) (capture_of_text b text)
 captured-by b text t r e is =
     subst (λ (r : Result Trace BindFault). GivesBy (λ (t : Trace). t) (or_binding r) (capture_of_text b text)) (sym is)
     (by_test (nat_lt capture_limit (length t.steps)) (capture-recorded b text ∙ ap in_limit e))
@@ -265,7 +330,8 @@ captured-by b text t r e is =
     limited_by : Bool → Result Trace CaptureFault
     limited_by b = or_binding (cond b (Err (record { line = 0; kind = TooManySteps })) (Ok t))
 
-    by_test : (test : Bool) → capture_of_text b text ≡ limited_by test → GivesBy (λ (t : Trace). t) (limited_by test) (capture_of_text b text)
+    by_test : (test : Bool) → capture_of_text b text ≡ limited_by test → GivesBy (λ (t : Trace). t) (limited_by test)
+        (capture_of_text b text)
     by_test true h = h
     by_test false h = h
 
@@ -274,28 +340,35 @@ captured-by b text t r e is =
 same_ok : {A E : Type 0} (x y : A) → ok_of {A = A} {E = E} x ≡ ok_of y → x ≡ y
 same_ok x y e = cc
 
-pub recorded-formed : (b : BoundLines) (text : List ℕ) (t : Trace) → recording_of_text b text ≡ Ok t → malformed_step t ≡ None
+pub recorded-formed : (b : BoundLines) (text : List ℕ) (t : Trace) → recording_of_text b text ≡ Ok t → malformed_step t
+    ≡ None
 unfolding recording_of_text
 recorded-formed b text t e = by_dump (dump_of text) refl e
   where
-    rises_in : (dump : Contents) (r : Result (Defined (List Variable)) VcdFault) → (r >>= contents_behind) ≡ Ok dump → TimesAscend dump.instants
+    rises_in : (dump : Contents) (r : Result (Defined (List Variable)) VcdFault) → (r >>= contents_behind) ≡ Ok dump
+        → TimesAscend dump.instants
     rises_in dump (Err fault) e = absurd (cc e)
     rises_in dump (Ok d) e = by_instants (instants_from d.head.nets d.head.body) refl e
       where
-        by_instants : (r : Result (List Instant) VcdFault) → instants_from d.head.nets d.head.body ≡ r → (r >>= with_variables d.variables) ≡ Ok dump → TimesAscend dump.instants
+        by_instants : (r : Result (List Instant) VcdFault) → instants_from d.head.nets d.head.body ≡ r
+            → (r >>= with_variables d.variables) ≡ Ok dump → TimesAscend dump.instants
         by_instants (Err fault) is e = absurd (cc e)
-        by_instants (Ok instants) is e = subst (λ (c : Contents). TimesAscend c.instants) (same_ok _ _ e) (body_rises d.head.nets d.head.body instants is)
+        by_instants (Ok instants) is e = subst (λ (c : Contents). TimesAscend c.instants) (same_ok _ _ e)
+            (body_rises d.head.nets d.head.body instants is)
 
     by_bound_groups : (dump : Contents) → TimesAscend dump.instants → (r : Result (List BoundGroup) BindFault)
-        → or_binding (r >>= λ bound_groups. Ok (recording b.slots bound_groups dump.instants (length dump.instants))) ≡ Ok t → malformed_step t ≡ None
+        → or_binding (r >>= λ bound_groups. Ok (recording b.slots bound_groups dump.instants (length dump.instants)))
+        ≡ Ok t → malformed_step t ≡ None
     by_bound_groups dump up (Err fault) e = absurd (cc e)
     by_bound_groups dump up (Ok bound_groups) e = whole-formed b.slots bound_groups dump.instants t up (same_ok _ _ e)
 
     by_dump : (r : Result Contents VcdFault) → dump_of text ≡ r → recording_read b r ≡ Ok t → malformed_step t ≡ None
     by_dump (Err fault) is e = absurd (cc e)
     by_dump (Ok dump) is e =
-        by_bound_groups dump (rises_in dump (whole_header text) (sym (dump_of-header text) ∙ is)) (bound_groups_in dump.variables b.assignments) (sym (ap or_binding (recording_of-is b dump)) ∙ e)
+        by_bound_groups dump (rises_in dump (whole_header text) (sym (dump_of-header text) ∙ is))
+        (bound_groups_in dump.variables b.assignments) (sym (ap or_binding (recording_of-is b dump)) ∙ e)
 
-pub text-formed : {X : Type 0} (view : X → Trace) (b : BoundLines) (text : List ℕ) (r : Result X CaptureFault) → GivesBy view r (recording_of_text b text) → IfOk r (λ x. malformed_step (view x) ≡ None)
+pub text-formed : {X : Type 0} (view : X → Trace) (b : BoundLines) (text : List ℕ) (r : Result X CaptureFault)
+    → GivesBy view r (recording_of_text b text) → IfOk r (λ x. malformed_step (view x) ≡ None)
 text-formed view b text (Ok x) given = recorded-formed b text (view x) given
 text-formed view b text (Err fault) given = tt

@@ -1,5 +1,6 @@
 -- How a text is cut into lines, and a line into words.
-use Rattle.std.proofs.Common.{◌≡◌, ℕ, ◌+◌, ◌-◌, ◌<◌, Bool, true, false, not, List, [], ◌∷◌, ◌++◌, length, take, drop, refl, sym, ap, ◌∙◌, arith}
+use Rattle.std.proofs.Common.{◌≡◌, ℕ, ◌+◌, ◌-◌, ◌<◌, Bool, true, false, not, List, [], ◌∷◌, ◌++◌, length, take, drop}
+use Rattle.std.proofs.Common.{refl, sym, ap, ◌∙◌, arith}
 use Rattle.std.specs.Prelude.{filter, count_by}
 use Rattle.std.specs.List.{slice_split, position_or_len}
 use Rattle.std.proofs.lemmas.List.{append-nil, take_rest, get_or_default}
@@ -22,16 +23,19 @@ behind-is : (xs : List ℕ) (i : ℕ) → drop (i + 1) xs ≡ behind xs i
 behind-is xs i = sym (take_rest xs (i + 1))
 
 -- the parts where the first byte that passes is at place i
-pub split_at : (p : ℕ → Bool) (xs : List ℕ) (i : ℕ) → NoneBefore (Passes p xs) 0 (length xs) i → Passes p xs i → slice_split p xs ≡ take i xs ∷ slice_split p (behind xs i)
+pub split_at : (p : ℕ → Bool) (xs : List ℕ) (i : ℕ) → NoneBefore (Passes p xs) 0 (length xs) i → Passes p xs i
+    → slice_split p xs ≡ take i xs ∷ slice_split p (behind xs i)
 split_at p xs i first here =
-    let place : position_or_len p xs ≡ i = position_or_len_is p xs i 0 (omega (arith, first.high)) (λ k lt. not_true _ (first.before k (omega arith) lt)) (λ _. here) in
+    let place : position_or_len p xs ≡ i = position_or_len_is p xs i 0 (omega (arith, first.high))
+    (λ k lt. not_true _ (first.before k (omega arith) lt)) (λ _. here) in
     slice_split_first p xs 0 (omega (arith, place, first.high))
     ∙ ap (λ (n : ℕ). take n xs ∷ slice_split p (drop (n + 1) xs)) place
     ∙ ap (λ (rest : List ℕ). take i xs ∷ slice_split p rest) (behind-is xs i)
 
 pub split_nowhere : (p : ℕ → Bool) (xs : List ℕ) → Nowhere (Passes p xs) 0 (length xs) → slice_split p xs ≡ xs ∷ []
 split_nowhere p xs none =
-    slice_split_none p xs (λ k d lt. not_true _ (λ here. none k (omega arith) lt (ap p (get_or_default xs k 0 d lt) ∙ here)))
+    slice_split_none p xs (λ k d lt. not_true _ (λ here. none k (omega arith) lt (ap p (get_or_default xs k 0 d lt)
+    ∙ here)))
 
 -- nothing stands behind the end
 abbrev pub at_end : List ℕ → List ℕ
@@ -42,35 +46,44 @@ at_end-is xs = let none : length xs - length xs ≡ 0 = omega arith in ap (λ (n
 
 -- ---- words
 
-word_before : (word : List ℕ) (parts : List (List ℕ)) → filter (λ w. not (is_empty w)) (word ∷ parts) ≡ with_word word (filter (λ w. not (is_empty w)) parts)
+word_before : (word : List ℕ) (parts : List (List ℕ)) → filter (λ w. not (is_empty w)) (word ∷ parts)
+    ≡ with_word word (filter (λ w. not (is_empty w)) parts)
 word_before [] parts = refl
 word_before (b ∷ word) parts = refl
 
-pub words-at : (line : List ℕ) (i : ℕ) → NoneBefore (Passes is_blank line) 0 (length line) i → Passes is_blank line i → words line ≡ with_word (take i line) (words (behind line i))
+pub words-at : (line : List ℕ) (i : ℕ) → NoneBefore (Passes is_blank line) 0 (length line) i → Passes is_blank line i
+    → words line ≡ with_word (take i line) (words (behind line i))
 words-at line i first here =
-    ap (λ (parts : List (List ℕ)). filter (λ w. not (is_empty w)) parts) (split_at is_blank line i first here) ∙ word_before (take i line) (slice_split is_blank (behind line i))
+    ap (λ (parts : List (List ℕ)). filter (λ w. not (is_empty w)) parts) (split_at is_blank line i first here)
+    ∙ word_before (take i line) (slice_split is_blank (behind line i))
 
-pub words-nowhere : (line : List ℕ) → Nowhere (Passes is_blank line) 0 (length line) → words line ≡ with_word line (words (at_end line))
+pub words-nowhere : (line : List ℕ) → Nowhere (Passes is_blank line) 0 (length line) → words line
+    ≡ with_word line (words (at_end line))
 words-nowhere line none =
     ap (λ (parts : List (List ℕ)). filter (λ w. not (is_empty w)) parts) (split_nowhere is_blank line none)
     ∙ word_before line [] ∙ ap (λ (rest : List ℕ). with_word line (words rest)) (sym (at_end-is line))
 
 -- ---- lines
 
-said_more : (line : ℕ) (part : List ℕ) (parts : List (List ℕ)) → 0 < length parts → said_from line (part ∷ parts) ≡ said line (words (without_return part)) ++ said_from (line + 1) parts
+said_more : (line : ℕ) (part : List ℕ) (parts : List (List ℕ)) → 0 < length parts → said_from line (part ∷ parts)
+    ≡ said line (words (without_return part)) ++ said_from (line + 1) parts
 unfolding said_from
 said_more line part [] some = absurd (omega (arith, some))
 said_more line part (next ∷ parts) some = refl
 
-pub said_at : (line : ℕ) (rest : List ℕ) (i : ℕ) (part : List ℕ) → part ≡ without_return (take i rest) → NoneBefore (Passes is_feed rest) 0 (length rest) i → Passes is_feed rest i
-    → said_from line (slice_split is_feed rest) ≡ said line (words part) ++ said_from (line + 1) (slice_split is_feed (behind rest i))
+pub said_at : (line : ℕ) (rest : List ℕ) (i : ℕ) (part : List ℕ) → part ≡ without_return (take i rest)
+    → NoneBefore (Passes is_feed rest) 0 (length rest) i → Passes is_feed rest i
+    → said_from line (slice_split is_feed rest) ≡ said line (words part) ++ said_from (line + 1)
+    (slice_split is_feed (behind rest i))
 said_at line rest i part e first here =
     ap (said_from line) (split_at is_feed rest i first here)
-    ∙ said_more line (take i rest) (slice_split is_feed (behind rest i)) (omega (arith, length-slice_split is_feed (behind rest i)))
+    ∙ said_more line (take i rest) (slice_split is_feed (behind rest i))
+    (omega (arith, length-slice_split is_feed (behind rest i)))
     ∙ ap (λ (w : List ℕ). said line (words w) ++ said_from (line + 1) (slice_split is_feed (behind rest i))) (sym e)
 
 pub said_last : (line : ℕ) (rest : List ℕ) → Nowhere (Passes is_feed rest) 0 (length rest)
-    → said_from line (slice_split is_feed rest) ≡ said line (words rest) ++ said_from line (slice_split is_feed (at_end rest))
+    → said_from line (slice_split is_feed rest) ≡ said line (words rest) ++ said_from line
+    (slice_split is_feed (at_end rest))
 unfolding said_from
 said_last line rest none =
     ap (said_from line) (split_nowhere is_feed rest none) ∙ sym (append-nil (said line (words rest)))
@@ -81,13 +94,27 @@ unfolding said_from
 said_nothing line [] e = refl
 said_nothing line (b ∷ rest) e = absurd (omega (arith, e))
 
-pub feeds_at : (rest : List ℕ) (i : ℕ) → NoneBefore (Passes is_feed rest) 0 (length rest) i → Passes is_feed rest i → count_by is_feed rest ≡ 1 + count_by is_feed (behind rest i)
+pub feeds_at : (rest : List ℕ) (i : ℕ) → NoneBefore (Passes is_feed rest) 0 (length rest) i → Passes is_feed rest i
+    → count_by is_feed rest ≡ 1 + count_by is_feed (behind rest i)
 feeds_at rest i first here =
-    omega (arith, ap length (split_at is_feed rest i first here), length-slice_split is_feed rest, length-slice_split is_feed (behind rest i))
+    omega (
+      arith,
+      ap length (split_at is_feed rest i first here),
+      length-slice_split is_feed rest,
+      length-slice_split
+          is_feed (behind rest i),
+    )
 
-pub feeds_nowhere : (rest : List ℕ) → Nowhere (Passes is_feed rest) 0 (length rest) → count_by is_feed rest ≡ count_by is_feed (at_end rest)
+pub feeds_nowhere : (rest : List ℕ) → Nowhere (Passes is_feed rest) 0 (length rest) → count_by is_feed rest
+    ≡ count_by is_feed (at_end rest)
 feeds_nowhere rest none =
-    omega (arith, ap length (split_nowhere is_feed rest none), length-slice_split is_feed rest, ap (count_by is_feed) (at_end-is rest))
+    omega (
+      arith,
+      ap length (split_nowhere is_feed rest none),
+      length-slice_split is_feed rest,
+      ap (count_by is_feed)
+          (at_end-is rest),
+    )
 
 pub feeds_nothing : (rest : List ℕ) → length rest ≡ 0 → count_by is_feed rest ≡ 0
 feeds_nothing [] e = refl

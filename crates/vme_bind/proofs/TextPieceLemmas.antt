@@ -22,87 +22,111 @@ use Rattle.vme_bind.specs.Answers.{BindFails as BindFails, BindFailsAs as BindFa
 use Rattle.vme_bind.specs.Binding.{BoundLines}
 use Rattle.vme_bind.specs.PathSearch.{Searched, with_variable}
 use Rattle.vme_bind.specs.BoundGroups.{bound_groups_in}
-use Rattle.vme_bind.specs.TextCapture.{CaptureFailsBy, DumpFails, BindingFails, IsOfBinding, recording_behind, recording_of_text}
+use Rattle.vme_bind.specs.TextCapture.{CaptureFailsBy, DumpFails, BindingFails, IsOfBinding, recording_behind}
+use Rattle.vme_bind.specs.TextCapture.{recording_of_text}
 use Rattle.vme_bind.specs.TextPieces.{TextContinuesAs, body_outcome, outcome}
 use Rattle.vme_bind.proofs.TextCaptureLemmas.{by_instants, by_refusal, text-head}
 
 -- a fault of the dump comes first, whatever the binding has
-dump_fails : (own : Option BindFault) (line : ℕ) (kind : FaultKind) (read : Result (State Made) VcdFault) → ReadFailsAs line kind read → DumpFails line kind (outcome own (read >>= at_end made_instant))
+dump_fails : (own : Option BindFault) (line : ℕ) (kind : FaultKind) (read : Result (State Made) VcdFault)
+    → ReadFailsAs line kind read → DumpFails line kind (outcome own (read >>= at_end made_instant))
 dump_fails own line Memory read h = h
 dump_fails None line kind read h = ap (λ (r : Result (State Made) VcdFault). outcome None (r >>= at_end made_instant)) h
-dump_fails (Some fault) line kind read h = ap (λ (r : Result (State Made) VcdFault). outcome (Some fault) (r >>= at_end made_instant)) h
+dump_fails (Some fault) line kind read h = ap (λ (r : Result (State Made) VcdFault). outcome (Some fault)
+    (r >>= at_end made_instant)) h
 
-same_fails : (line : ℕ) (kind : FaultKind) (a b : Result Trace CaptureFault) → a ≡ b → DumpFails line kind b → DumpFails line kind a
+same_fails : (line : ℕ) (kind : FaultKind) (a b : Result Trace CaptureFault) → a ≡ b → DumpFails line kind b
+    → DumpFails line kind a
 same_fails line Memory a b e h = h
 same_fails line kind a b e h = e ∙ h
 
 -- what is read of a dump leads to what comes of it
-pub leads-outcome : {X : Type 0} (own : Option BindFault) (view : X → List Token → Result (State Made) VcdFault) (x : X) (before : List Token → Result Trace CaptureFault) (read : List Token → Result (State Made) VcdFault)
-    → ((more : List Token) → before more ≡ outcome own (read more >>= at_end made_instant)) → ((more : List Token) → read more ≡ view x more)
+pub leads-outcome : {X : Type 0} (own : Option BindFault) (view : X → List Token → Result (State Made) VcdFault) (x : X)
+    (before : List Token → Result Trace CaptureFault) (read : List Token → Result (State Made) VcdFault)
+    → ((more : List Token) → before more ≡ outcome own (read more >>= at_end made_instant))
+    → ((more : List Token) → read more ≡ view x more)
     → (more : List Token) → before more ≡ outcome own (view x more >>= at_end made_instant)
-leads-outcome own view x before read is leads more = is more ∙ ap (λ (r : Result (State Made) VcdFault). outcome own (r >>= at_end made_instant)) (leads more)
+leads-outcome own view x before read is leads more = is more ∙ ap (λ (r : Result (State Made) VcdFault). outcome own
+    (r >>= at_end made_instant)) (leads more)
 
-pub fails-outcome : (own : Option BindFault) (fault : VcdFault) (before : List Token → Result Trace CaptureFault) (read : List Token → Result (State Made) VcdFault)
-    → ((more : List Token) → before more ≡ outcome own (read more >>= at_end made_instant)) → ((more : List Token) → ReadFails fault (read more))
+pub fails-outcome : (own : Option BindFault) (fault : VcdFault) (before : List Token → Result Trace CaptureFault)
+    (read : List Token → Result (State Made) VcdFault)
+    → ((more : List Token) → before more ≡ outcome own (read more >>= at_end made_instant))
+    → ((more : List Token) → ReadFails fault (read more))
     → (more : List Token) → CaptureFailsBy (Dump fault) (before more)
-fails-outcome own fault before read is fails more = same_fails fault.line fault.kind (before more) _ (is more) (dump_fails own fault.line fault.kind (read more) (fails more))
+fails-outcome own fault before read is fails more = same_fails fault.line fault.kind (before more) _ (is more)
+    (dump_fails own fault.line fault.kind (read more) (fails more))
 
 -- what it leads to where what comes of the text is the same
-pub leads-same : {X : Type 0} (view : X → List Token → Result Trace CaptureFault) (r : Result X CaptureFault) (before before2 : List Token → Result Trace CaptureFault)
-    → ((more : List Token) → before more ≡ before2 more) → TextContinuesAs view r before2 → TextContinuesAs view r before
+pub leads-same : {X : Type 0} (view : X → List Token → Result Trace CaptureFault) (r : Result X CaptureFault)
+    (before before2 : List Token → Result Trace CaptureFault)
+    → ((more : List Token) → before more ≡ before2 more) → TextContinuesAs view r before2 → TextContinuesAs view r
+    before
 leads-same view (Ok x) before before2 e h = λ more. e more ∙ h more
 leads-same view (Err fault) before before2 e h = λ more. subst (CaptureFailsBy fault) (sym (e more)) (h more)
 
 -- ---- a body whose binding fits, and one whose doesn't
 
-pub behind-fitting : (b : BoundLines) (h : Headed) (variables : List Variable) (bound_groups : List BoundGroup) → bound_groups_in variables b.assignments ≡ Ok bound_groups
+pub behind-fitting : (b : BoundLines) (h : Headed) (variables : List Variable) (bound_groups : List BoundGroup)
+    → bound_groups_in variables b.assignments ≡ Ok bound_groups
     → recording_behind b (defined h variables) ≡ body_outcome None b.slots bound_groups h
 behind-fitting b h variables bound_groups e = by_instants b variables bound_groups (instants_from h.nets h.body) e
 
-pub behind-refused : (b : BoundLines) (h : Headed) (variables : List Variable) (bound_groups : List BoundGroup) (own : BindFault) → bound_groups_in variables b.assignments ≡ Err own
+pub behind-refused : (b : BoundLines) (h : Headed) (variables : List Variable) (bound_groups : List BoundGroup)
+    (own : BindFault) → bound_groups_in variables b.assignments ≡ Err own
     → recording_behind b (defined h variables) ≡ body_outcome (Some own) b.slots bound_groups h
 behind-refused b h variables bound_groups own e = by_refusal b variables own (instants_from h.nets h.body) e
 
 -- a fault of the binding that isn't want of memory is the answer
-pub refused-is : {Y : Type 0} (own : BindFault) (answer : Result Y BindFault) → IsOfBinding own → BindFails own answer → answer ≡ Err own
+pub refused-is : {Y : Type 0} (own : BindFault) (answer : Result Y BindFault) → IsOfBinding own → BindFails own answer
+    → answer ≡ Err own
 refused-is own answer other fails = by_kind own.line own.kind other fails
   where
-    by_kind : (line : ℕ) (kind : BindKind) → (kind ≡ NoMemory → ⊥) → BindFailsAs line kind answer → answer ≡ Err (record { line = line; kind = kind })
+    by_kind : (line : ℕ) (kind : BindKind) → (kind ≡ NoMemory → ⊥) → BindFailsAs line kind answer → answer
+        ≡ Err (record { line = line; kind = kind })
     by_kind line NoMemory other fails = absurd (other refl)
     by_kind line kind other fails = fails
 
 -- want of memory is told of any answer
-pub wanting : {Y : Type 0} (own : BindFault) (answer : Result Y BindFault) (assigned : Result Trace CaptureFault) → own.kind ≡ NoMemory → BindFails own answer → CaptureFailsBy (Binding own) assigned
+pub wanting : {Y : Type 0} (own : BindFault) (answer : Result Y BindFault) (assigned : Result Trace CaptureFault)
+    → own.kind ≡ NoMemory → BindFails own answer → CaptureFailsBy (Binding own) assigned
 wanting own answer assigned is fails = by_kind own.line own.kind is fails
   where
-    by_kind : (line : ℕ) (kind : BindKind) → kind ≡ NoMemory → BindFailsAs line kind answer → BindingFails line kind assigned
+    by_kind : (line : ℕ) (kind : BindKind) → kind ≡ NoMemory → BindFailsAs line kind answer → BindingFails line kind
+        assigned
     by_kind line NoMemory is fails = fails
     by_kind line kind is fails = absurd (cc is)
 
 -- the binding's fault is told at the end
-pub assigned-own : (own : BindFault) (answer : Result Trace CaptureFault) → IsOfBinding own → answer ≡ Err (Binding own) → CaptureFailsBy (Binding own) answer
+pub assigned-own : (own : BindFault) (answer : Result Trace CaptureFault) → IsOfBinding own → answer ≡ Err (Binding own)
+    → CaptureFailsBy (Binding own) answer
 assigned-own own answer other is = by_kind own.line own.kind other is
   where
-    by_kind : (line : ℕ) (kind : BindKind) → (kind ≡ NoMemory → ⊥) → answer ≡ Err (Binding (record { line = line; kind = kind })) → BindingFails line kind answer
+    by_kind : (line : ℕ) (kind : BindKind) → (kind ≡ NoMemory → ⊥) → answer
+        ≡ Err (Binding (record { line = line; kind = kind })) → BindingFails line kind answer
     by_kind line NoMemory other is = absurd (other refl)
     by_kind line kind other is = is
 
 -- a fault that is met at the end of the dump comes first
-pub fails-whole : (own : Option BindFault) (fault : VcdFault) (read : Result Made VcdFault) → ReadFails fault read → CaptureFailsBy (Dump fault) (outcome own read)
+pub fails-whole : (own : Option BindFault) (fault : VcdFault) (read : Result Made VcdFault) → ReadFails fault read
+    → CaptureFailsBy (Dump fault) (outcome own read)
 fails-whole own fault read fails = by_kind own fault.line fault.kind fails
   where
-    by_kind : (own : Option BindFault) (line : ℕ) (kind : FaultKind) → ReadFailsAs line kind read → DumpFails line kind (outcome own read)
+    by_kind : (own : Option BindFault) (line : ℕ) (kind : FaultKind) → ReadFailsAs line kind read → DumpFails line kind
+        (outcome own read)
     by_kind own line Memory fails = fails
     by_kind None line kind fails = ap (outcome None) fails
     by_kind (Some fault) line kind fails = ap (outcome (Some fault)) fails
 
 -- ---- a front whose definitions don't end
 
-pub unfinished-front : (b : BoundLines) (front : List ℕ) (seen : List Searched) (fault : VcdFault) → header_of with_variable front (nothing_declared seen) (tokens front) ≡ Err fault
+pub unfinished-front : (b : BoundLines) (front : List ℕ) (seen : List Searched) (fault : VcdFault)
+    → header_of with_variable front (nothing_declared seen) (tokens front) ≡ Err fault
     → IsMetAtTheEnd fault.kind → recording_of_text b front ≡ Err (Dump fault)
 unfinished-front b front seen fault is met = by_kind fault.line fault.kind is met
   where
-    by_kind : (line : ℕ) (kind : FaultKind) → header_of with_variable front (nothing_declared seen) (tokens front) ≡ Err (record { line = line; kind = kind })
+    by_kind : (line : ℕ) (kind : FaultKind) → header_of with_variable front (nothing_declared seen) (tokens front)
+        ≡ Err (record { line = line; kind = kind })
         → IsMetAtTheEnd kind → recording_of_text b front ≡ Err (Dump (record { line = line; kind = kind }))
     by_kind line NoEndDefinitions is met = text-head b front seen (record { line = line; kind = NoEndDefinitions }) is
     by_kind line UnfinishedSection is met = text-head b front seen (record { line = line; kind = UnfinishedSection }) is

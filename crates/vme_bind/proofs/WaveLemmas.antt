@@ -1,5 +1,6 @@
 -- What comes of a dump whose pieces are read ahead of what stands before them, and joined in order.
-use Rattle.std.proofs.Common.{◌≡◌, ℕ, Bool, true, false, cond, ◌&&◌, List, [], ◌∷◌, ◌++◌, Option, Some, None, Result, refl, sym, ap, ◌∙◌, subst, append_assoc, arith}
+use Rattle.std.proofs.Common.{◌≡◌, ℕ, Bool, true, false, cond, ◌&&◌, List, [], ◌∷◌, ◌++◌, Option, Some, None, Result}
+use Rattle.std.proofs.Common.{refl, sym, ap, ◌∙◌, subst, append_assoc, arith}
 use Rattle.std.proofs.lemmas.List.{append-nil}
 use Rattle.vme_trace.specs.Followed.{with_steps}
 use Rattle.vme_trace.specs.Instants.{any}
@@ -9,7 +10,8 @@ use Rattle.vme_trace.specs.Trace.{Trace, changed, levels_after}
 use Rattle.vme_trace.specs.declared.step.Step.{Step}
 use Rattle.vme_trace.proofs.Changing.{slots-kept}
 use Rattle.vme_trace.proofs.Ranges.{any-fails}
-use Rattle.vcd_read.specs.DetachedPieces.{IsReadApart, ReadApart, apart_with, behind_piece, ended_at, entered, with_taken}
+use Rattle.vcd_read.specs.DetachedPieces.{IsReadApart, ReadApart, apart_with, behind_piece, ended_at, entered}
+use Rattle.vcd_read.specs.DetachedPieces.{with_taken}
 use Rattle.vcd_read.specs.Header.{◌>>=◌, Net}
 use Rattle.vcd_read.specs.Reached.{Reached, rest_of}
 use Rattle.vcd_read.specs.Reading.{line_behind}
@@ -19,9 +21,11 @@ use Rattle.vcd_read.specs.declared.dump.Bit.{Bit}
 use Rattle.vcd_read.specs.declared.fault.VcdFault.{VcdFault}
 use Rattle.vcd_read.proofs.ApartLemmas.{joined-leads, kept-apart}
 use Rattle.vme_bind.specs.Made.{Made, made_change, made_instant}
-use Rattle.vme_bind.specs.Recording.{ListsTouchedLines, RecorderLevels, all_of, changes_between, differs, end_of, ended_steps, step_between}
+use Rattle.vme_bind.specs.Recording.{ListsTouchedLines, RecorderLevels, all_of, changes_between, differs, end_of}
+use Rattle.vme_bind.specs.Recording.{ended_steps, step_between}
 use Rattle.vme_bind.specs.TextPieces.{outcome, outcome_ahead}
-use Rattle.vme_bind.specs.SpeculativeReading.{MayFollowLevels, IsJoined, IsReadSpeculatively, ReadSpeculatively, DeterminesLines, WaveReached, made_ahead, made_behind, with_recording}
+use Rattle.vme_bind.specs.SpeculativeReading.{MayFollowLevels, IsJoined, IsReadSpeculatively, ReadSpeculatively}
+use Rattle.vme_bind.specs.SpeculativeReading.{DeterminesLines, WaveReached, made_ahead, made_behind, with_recording}
 use Rattle.vme_bind.specs.declared.fault.BindFault.{BindFault}
 use Rattle.vme_bind.specs.declared.net_lines.NetLines.{NetLines}
 use Rattle.vme_bind.proofs.CaptureLemmas.{changed-those, is_below, length-changed}
@@ -29,69 +33,97 @@ use Rattle.vme_bind.proofs.RecorderLemmas.{alike, same_levels}
 
 -- ---- the levels behind the step that ends an instant
 
-changes-lead : (shown now : Levels) (touched : List ℕ) → ListsTouchedLines shown now touched → changed shown (changes_between shown now) ≡ now
+changes-lead : (shown now : Levels) (touched : List ℕ) → ListsTouchedLines shown now touched
+    → changed shown (changes_between shown now) ≡ now
 changes-lead shown now touched h =
-    same_levels (changed shown (changes_between shown now)) now (slots-kept shown (changes_between shown now) ∙ sym h.slots)
+    same_levels (changed shown (changes_between shown now)) now (slots-kept shown (changes_between shown now)
+    ∙ sym h.slots)
     (length-changed shown (changes_between shown now) ∙ h.shown_all) h.now_all
     (λ l lt. changed-those (differs shown now) (level_at now) shown line_count (omega (arith, h.shown_all)) l
-    ∙ ap (λ (b : Bool). cond (b && differs shown now l) (level_at now l) (level_at shown l)) (is_below l line_count lt) ∙ by_test l (differs shown now l) refl)
+    ∙ ap (λ (b : Bool). cond (b && differs shown now l) (level_at now l) (level_at shown l)) (is_below l line_count lt)
+    ∙ by_test l (differs shown now l) refl)
   where
-    by_test : (l : ℕ) (b : Bool) → differs shown now l ≡ b → cond (true && b) (level_at now l) (level_at shown l) ≡ level_at now l
+    by_test : (l : ℕ) (b : Bool) → differs shown now l ≡ b → cond (true && b) (level_at now l) (level_at shown l)
+        ≡ level_at now l
     by_test l true e = refl
     by_test l false e = alike shown now l e
 
-step-leads : (time : ℕ) (shown now : Levels) (touched : List ℕ) → ListsTouchedLines shown now touched → levels_after shown (step_between time shown now) ≡ now
+step-leads : (time : ℕ) (shown now : Levels) (touched : List ℕ) → ListsTouchedLines shown now touched
+    → levels_after shown (step_between time shown now) ≡ now
 step-leads time shown now touched h = by_any (any (differs shown now) 0 line_count) refl
   where
     by_any : (b : Bool) → any (differs shown now) 0 line_count ≡ b
         → levels_after shown (cond b (record { time = time; changes = changes_between shown now } ∷ []) []) ≡ now
     by_any true e = changes-lead shown now touched h
-    by_any false e = same_levels shown now (sym h.slots) h.shown_all h.now_all (λ l lt. alike shown now l (any-fails (differs shown now) 0 line_count l e (omega arith) lt))
+    by_any false e = same_levels shown now (sym h.slots) h.shown_all h.now_all
+        (λ l lt. alike shown now l (any-fails (differs shown now) 0 line_count l e (omega arith) lt))
 
 -- the step that ends the instant at hand, if one ends, leads to the levels that are shown then
-pub end-leads : (p : RecorderLevels) (shown now : Levels) (touched : List ℕ) (e : Option ℕ) → p ≡ record { shown = shown; now = now } → ListsTouchedLines shown now touched
+pub end-leads : (p : RecorderLevels) (shown now : Levels) (touched : List ℕ) (e : Option ℕ) → p
+    ≡ record { shown = shown; now = now } → ListsTouchedLines shown now touched
     → levels_after p.shown (ended_steps p e) ≡ (entered end_of p e).shown
 end-leads p shown now touched None is h = refl
 end-leads p shown now touched (Some time) is h =
-    subst (λ (q : RecorderLevels). levels_after q.shown (step_between time q.shown q.now) ≡ q.now) (sym is) (step-leads time shown now touched h)
+    subst (λ (q : RecorderLevels). levels_after q.shown (step_between time q.shown q.now) ≡ q.now) (sym is)
+    (step-leads time shown now touched h)
 
 -- ---- what is made behind another recording
 
 abbrev behind : Trace → Made → Made
 behind t m = record m { recorded = with_steps t m.recorded.steps }
 
-behind-change : (t : Trace) (m : Made) (net : ℕ) (bits : List Bit) → behind t (made_change m net bits) ≡ made_change (behind t m) net bits
+behind-change : (t : Trace) (m : Made) (net : ℕ) (bits : List Bit) → behind t (made_change m net bits)
+    ≡ made_change (behind t m) net bits
 behind-change t m net bits = refl
 
 behind-instant : (t : Trace) (m : Made) (time : ℕ) → behind t (made_instant m time) ≡ made_instant (behind t m) time
 behind-instant t m time =
     let step : List Step = step_between time m.progress.shown m.progress.now in
-    ap (λ (ss : List Step). record (made_instant m time) { recorded = record t { steps = ss } }) (sym (append_assoc t.steps m.recorded.steps step))
+    ap (λ (ss : List Step). record (made_instant m time) { recorded = record t { steps = ss } })
+    (sym (append_assoc t.steps m.recorded.steps step))
 
 -- behind the end of an instant
 entered-made : (m : Made) (e : Option ℕ)
-    → entered made_instant m e ≡ record m { progress = entered end_of m.progress e; recorded = with_steps m.recorded (ended_steps m.progress e) }
-entered-made m None = ap (λ (ss : List Step). record m { recorded = record m.recorded { steps = ss } }) (sym (append-nil m.recorded.steps))
+    → entered made_instant m e ≡ record m {
+      progress = entered end_of m.progress e;
+      recorded = with_steps m.recorded
+          (ended_steps m.progress e);
+    }
+entered-made m None = ap (λ (ss : List Step). record m { recorded = record m.recorded { steps = ss } })
+    (sym (append-nil m.recorded.steps))
 entered-made m (Some time) = refl
 
 -- ---- a piece that is joined
 
-module _ (bytes : List ℕ) (recorded : Trace) (w : WaveReached) (a : ReadSpeculatively) (is : IsReadSpeculatively w.body.nets w.line_bits bytes recorded a) (fits : MayFollowLevels w a) where
+module _ (bytes : List ℕ) (recorded : Trace) (w : WaveReached) (a : ReadSpeculatively)
+    (is : IsReadSpeculatively w.body.nets w.line_bits bytes recorded a) (fits : MayFollowLevels w a) where
   abbrev ended : List Step
   ended = ended_steps w.body.progress.taken (ended_at w.body.progress a.apart.time)
 
   abbrev after : WaveReached
-  after = record { fault = w.fault; line_bits = w.line_bits; body = with_taken a.apart.progress.taken (behind_piece w.body.nets a.apart) }
+  after = record {
+    fault = w.fault;
+    line_bits = w.line_bits;
+    body = with_taken a.apart.progress.taken
+        (behind_piece w.body.nets a.apart);
+  }
 
   abbrev none_made : Made
   none_made = made_behind w.line_bits a.from (record { opening = recorded.opening; steps = [] })
 
   first-made : (t : Trace) → behind (with_steps t ended) none_made
-      ≡ entered made_instant (record { line_bits = w.line_bits; progress = w.body.progress.taken; recorded = t }) (ended_at w.body.progress a.apart.time)
+      ≡ entered made_instant (record { line_bits = w.line_bits; progress = w.body.progress.taken; recorded = t })
+      (ended_at w.body.progress a.apart.time)
   first-made t =
       let m : Made = record { line_bits = w.line_bits; progress = w.body.progress.taken; recorded = t } in
-      ap (λ (ss : List Step). record { line_bits = w.line_bits; progress = all_of a.from; recorded = record t { steps = ss } }) (append-nil (t.steps ++ ended))
-      ∙ ap (λ (p : RecorderLevels). record { line_bits = w.line_bits; progress = p; recorded = with_steps t ended }) (sym fits.levels)
+      ap (λ (ss : List Step). record {
+        line_bits = w.line_bits;
+        progress = all_of a.from;
+        recorded = record t
+            { steps = ss };
+      }) (append-nil (t.steps ++ ended))
+      ∙ ap (λ (p : RecorderLevels). record { line_bits = w.line_bits; progress = p; recorded = with_steps t ended })
+      (sym fits.levels)
       ∙ sym (entered-made m (ended_at w.body.progress a.apart.time))
 
   joined-rest : (t : Trace) (more : List Token)
@@ -102,10 +134,21 @@ module _ (bytes : List ℕ) (recorded : Trace) (w : WaveReached) (a : ReadSpecul
       let r : Reached Made = with_taken m w.body in
       let u : Trace = with_steps t ended in
       ap (λ (r : Result (State Made) VcdFault). outcome w.fault (r >>= at_end made_instant))
-      (joined-leads made_change made_instant made_change made_instant (behind u) (behind-change u) (behind-instant u) r bytes none_made (made_ahead w.line_bits recorded a.apart) is.read
-      (record { place = fits.place.place; bracket = fits.place.bracket; time = fits.place.time; line = fits.place.line }) (first-made t) more
+      (joined-leads made_change made_instant made_change made_instant (behind u) (behind-change u) (behind-instant u) r
+      bytes none_made (made_ahead w.line_bits recorded a.apart) is.read
+      (record {
+        place = fits.place.place;
+        bracket = fits.place.bracket;
+        time = fits.place.time;
+        line = fits.place.line;
+      }) (first-made t) more
       ∙ ap (λ (ss : List Step). rest_of made_change made_instant
-      (with_taken (record { line_bits = w.line_bits; progress = a.apart.progress.taken; recorded = record t { steps = ss } }) (behind_piece w.body.nets a.apart)) [] more)
+      (with_taken (record {
+        line_bits = w.line_bits;
+        progress = a.apart.progress.taken;
+        recorded = record t
+            { steps = ss };
+      }) (behind_piece w.body.nets a.apart)) [] more)
       (append_assoc t.steps ended recorded.steps))
 
   joined-as : levels_after w.body.progress.taken.shown ended ≡ a.from → IsJoined bytes recorded a.from w after ended
@@ -119,12 +162,14 @@ module _ (bytes : List ℕ) (recorded : Trace) (w : WaveReached) (a : ReadSpecul
   }
 
   pub joined-is : (there : WaveReached) (step : List Step) → there ≡ after → step ≡ ended
-      → levels_after w.body.progress.taken.shown step ≡ (entered end_of w.body.progress.taken (ended_at w.body.progress a.apart.time)).shown
+      → levels_after w.body.progress.taken.shown step
+      ≡ (entered end_of w.body.progress.taken (ended_at w.body.progress a.apart.time)).shown
       → IsJoined bytes recorded a.from w there step
   joined-is there step at same leads =
       subst (λ (v : WaveReached). IsJoined bytes recorded a.from w v step) (sym at)
       (subst (λ (ss : List Step). IsJoined bytes recorded a.from w after ss) (sym same)
-      (joined-as (subst (λ (ss : List Step). levels_after w.body.progress.taken.shown ss ≡ a.from) same (leads ∙ ap (λ (p : RecorderLevels). p.shown) fits.levels))))
+      (joined-as (subst (λ (ss : List Step). levels_after w.body.progress.taken.shown ss ≡ a.from) same
+      (leads ∙ ap (λ (p : RecorderLevels). p.shown) fits.levels))))
 
 -- ---- a wave, and a piece, by their fields
 
@@ -136,52 +181,77 @@ ahead_of from p a assigned = record { from = from; apart = apart_with p a; assig
 
 -- ---- what is kept as a piece is read
 
-module _ (nets : List Net) (bytes : List ℕ) (m : Made) (a : ReadApart Made) (is : IsReadApart made_change made_instant nets bytes m a) where
+module _ (nets : List Net) (bytes : List ℕ) (m : Made) (a : ReadApart Made) (is : IsReadApart made_change made_instant
+    nets bytes m a) where
   pub line_bits-kept : a.progress.taken.line_bits ≡ m.line_bits
-  line_bits-kept = kept-apart made_change made_instant nets (λ (n : Made). n.line_bits ≡ m.line_bits) (λ n net bits h. h) (λ n time h. h) bytes m a is refl
+  line_bits-kept = kept-apart made_change made_instant nets (λ (n : Made). n.line_bits ≡ m.line_bits)
+      (λ n net bits h. h) (λ n time h. h) bytes m a is refl
 
   pub opening-kept : a.progress.taken.recorded.opening ≡ m.recorded.opening
-  opening-kept = kept-apart made_change made_instant nets (λ (n : Made). n.recorded.opening ≡ m.recorded.opening) (λ n net bits h. h) (λ n time h. h) bytes m a is refl
+  opening-kept = kept-apart made_change made_instant nets (λ (n : Made). n.recorded.opening ≡ m.recorded.opening)
+      (λ n net bits h. h) (λ n time h. h) bytes m a is refl
 
   pub slots-are : a.progress.taken.progress.now.slots ≡ m.progress.now.slots
   slots-are = kept-apart made_change made_instant nets (λ (n : Made). n.progress.now.slots ≡ m.progress.now.slots)
       (λ n net bits h. slots-kept n.progress.now _ ∙ h) (λ n time h. h) bytes m a is refl
 
 -- what was read ahead, by its fields
-pub ahead-read : (nets : List Net) (line_bits : NetLines) (bytes : List ℕ) (from : Levels) (first : Trace) (m : Made) (a : ReadApart Made)
+pub ahead-read : (nets : List Net) (line_bits : NetLines) (bytes : List ℕ) (from : Levels) (first : Trace) (m : Made)
+    (a : ReadApart Made)
     → m ≡ made_behind line_bits from first → first.steps ≡ [] → IsReadApart made_change made_instant nets bytes m a
-    → (u : ReadApart (Unit {0})) (q : RecorderLevels) (t : Trace) → u ≡ apart_with (tt {0}) a → q ≡ a.progress.taken.progress → t ≡ a.progress.taken.recorded
-    → (assigned : List Bool) → DeterminesLines nets line_bits bytes (ahead_of from q u assigned) → IsReadSpeculatively nets line_bits bytes t (ahead_of from q u assigned)
+    → (u : ReadApart (Unit {0})) (q : RecorderLevels) (t : Trace) → u ≡ apart_with (tt {0}) a → q
+    ≡ a.progress.taken.progress → t ≡ a.progress.taken.recorded
+    → (assigned : List Bool) → DeterminesLines nets line_bits bytes (ahead_of from q u assigned) → IsReadSpeculatively
+    nets line_bits bytes t (ahead_of from q u assigned)
 ahead-read nets line_bits bytes from first m a begun none is u q t ue qe te assigned tells =
-    let opening : first.opening ≡ t.opening = ap (λ (n : Made). n.recorded.opening) (sym begun) ∙ sym (opening-kept nets bytes m a is) ∙ ap (λ (r : Trace). r.opening) (sym te) in
+    let opening : first.opening ≡ t.opening = ap (λ (n : Made). n.recorded.opening) (sym begun)
+    ∙ sym (opening-kept nets bytes m a is) ∙ ap (λ (r : Trace). r.opening) (sym te) in
     let before : m ≡ made_behind line_bits from (record { opening = t.opening; steps = [] }) =
     begun ∙ ap (λ (ss : List Step). made_behind line_bits from (record { opening = first.opening; steps = ss })) none
     ∙ ap (λ (v : Levels). made_behind line_bits from (record { opening = v; steps = [] })) opening in
     let made : record { line_bits = line_bits; progress = q; recorded = t } ≡ a.progress.taken =
-    ap (λ (s : NetLines). record { line_bits = s; progress = q; recorded = t }) (ap (λ (n : Made). n.line_bits) (sym begun) ∙ sym (line_bits-kept nets bytes m a is))
+    ap (λ (s : NetLines). record { line_bits = s; progress = q; recorded = t })
+    (ap (λ (n : Made). n.line_bits) (sym begun) ∙ sym (line_bits-kept nets bytes m a is))
     ∙ ap (λ (p : RecorderLevels). record { line_bits = a.progress.taken.line_bits; progress = p; recorded = t }) qe
-    ∙ ap (λ (r : Trace). record { line_bits = a.progress.taken.line_bits; progress = a.progress.taken.progress; recorded = r }) te in
+    ∙ ap (λ (r : Trace). record {
+      line_bits = a.progress.taken.line_bits;
+      progress = a.progress.taken.progress;
+      recorded
+          = r;
+    }) te in
     record {
       read =
-          subst (λ (v : ReadApart (Unit {0})). IsReadApart made_change made_instant nets bytes (made_behind line_bits from (record { opening = t.opening; steps = [] })) (made_ahead line_bits t (apart_with q v))) (sym ue)
-          (subst (λ (n : Made). IsReadApart made_change made_instant nets bytes n (apart_with (record { line_bits = line_bits; progress = q; recorded = t }) a)) before
+          subst (λ (v : ReadApart (Unit {0})). IsReadApart made_change made_instant nets bytes
+          (made_behind line_bits from (record { opening = t.opening; steps = [] }))
+          (made_ahead line_bits t (apart_with q v))) (sym ue)
+          (subst (λ (n : Made). IsReadApart made_change made_instant nets bytes n
+          (apart_with (record { line_bits = line_bits; progress = q; recorded = t }) a)) before
           (subst (λ (n : Made). IsReadApart made_change made_instant nets bytes m (apart_with n a)) (sym made) is));
       assigned = tells;
     }
 
 -- a piece that is joined, by the fields of the wave and of the piece
-pub wave-joined : (bytes : List ℕ) (recorded : Trace) (w : WaveReached) (a : ReadSpeculatively) (fault : Option BindFault) (line_bits : NetLines) (p q : RecorderLevels) (r behind : Reached (Unit {0})) (from : Levels) (u : ReadApart (Unit {0})) (assigned : List Bool)
-    → w ≡ wave_of fault line_bits p r → a ≡ ahead_of from q u assigned → IsReadSpeculatively w.body.nets w.line_bits bytes recorded a → MayFollowLevels w a
-    → (e : Option ℕ) (step : List Step) (there : RecorderLevels) → e ≡ ended_at r.progress u.time → behind ≡ behind_piece r.nets u
+pub wave-joined : (bytes : List ℕ) (recorded : Trace) (w : WaveReached) (a : ReadSpeculatively)
+    (fault : Option BindFault) (line_bits : NetLines) (p q : RecorderLevels) (r behind : Reached (Unit {0}))
+    (from : Levels) (u : ReadApart (Unit {0})) (assigned : List Bool)
+    → w ≡ wave_of fault line_bits p r → a ≡ ahead_of from q u assigned → IsReadSpeculatively w.body.nets w.line_bits
+    bytes recorded a → MayFollowLevels w a
+    → (e : Option ℕ) (step : List Step) (there : RecorderLevels) → e ≡ ended_at r.progress u.time → behind
+    ≡ behind_piece r.nets u
     → step ≡ ended_steps p e → there ≡ entered end_of p e → levels_after p.shown step ≡ there.shown
     → IsJoined bytes recorded a.from w (wave_of fault line_bits q behind) step
-wave-joined bytes recorded w a fault line_bits p q r behind from u assigned view seen is fits e step there at left same to leads =
+wave-joined bytes recorded w a fault line_bits p q r behind from u assigned view seen is fits e step there at left same
+    to leads =
     let v : WaveReached = wave_of fault line_bits p r in
     let b : ReadSpeculatively = ahead_of from q u assigned in
     let is2 : IsReadSpeculatively v.body.nets v.line_bits bytes recorded b =
-    subst (λ (x : WaveReached). IsReadSpeculatively x.body.nets x.line_bits bytes recorded b) view (subst (λ (y : ReadSpeculatively). IsReadSpeculatively w.body.nets w.line_bits bytes recorded y) seen is) in
-    let fits2 : MayFollowLevels v b = subst (λ (x : WaveReached). MayFollowLevels x b) view (subst (λ (y : ReadSpeculatively). MayFollowLevels w y) seen fits) in
+    subst (λ (x : WaveReached). IsReadSpeculatively x.body.nets x.line_bits bytes recorded b) view
+    (subst (λ (y : ReadSpeculatively). IsReadSpeculatively w.body.nets w.line_bits bytes recorded y) seen is) in
+    let fits2 : MayFollowLevels v b = subst (λ (x : WaveReached). MayFollowLevels x b) view
+    (subst (λ (y : ReadSpeculatively). MayFollowLevels w y) seen fits) in
     subst (λ (x : WaveReached). IsJoined bytes recorded a.from x (wave_of fault line_bits q behind) step) (sym view)
-    (subst (λ (y : ReadSpeculatively). IsJoined bytes recorded y.from v (wave_of fault line_bits q behind) step) (sym seen)
-    (joined-is bytes recorded v b is2 fits2 (wave_of fault line_bits q behind) step (ap (wave_of fault line_bits q) left)
+    (subst (λ (y : ReadSpeculatively). IsJoined bytes recorded y.from v (wave_of fault line_bits q behind) step)
+    (sym seen)
+    (joined-is bytes recorded v b is2 fits2 (wave_of fault line_bits q behind) step
+    (ap (wave_of fault line_bits q) left)
     (same ∙ ap (ended_steps p) at) (leads ∙ ap (λ (x : RecorderLevels). x.shown) (to ∙ ap (entered end_of p) at))))

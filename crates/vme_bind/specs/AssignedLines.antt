@@ -27,7 +27,10 @@ assigned_too (line_bit ∷ line_bits) assigned = assigned_too line_bits (slice_s
 -- a net gets these bits
 abbrev pub ahead_change : SpeculativelyMade → ℕ → List Bit → SpeculativelyMade
 ahead_change m net bits =
-    record { made = made_change m.made net bits; assigned = assigned_too (line_bits_of m.made.line_bits net) m.assigned }
+    record {
+      made = made_change m.made net bits;
+      assigned = assigned_too (line_bits_of m.made.line_bits net) m.assigned;
+    }
 
 -- an instant ends
 abbrev pub ahead_instant : SpeculativelyMade → ℕ → SpeculativelyMade

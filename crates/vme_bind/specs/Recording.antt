@@ -57,7 +57,8 @@ tapped bits line_bit = record { line = line_bit.line; level = level_in line_bit.
 -- what some values do to the levels
 abbrev pub valued : NetLines → List Value → Levels → Levels
 valued line_bits [] now = now
-valued line_bits (v ∷ values) now = valued line_bits values (changed now (map (tapped v.bits) (line_bits_of line_bits v.net)))
+valued line_bits (v ∷ values) now = valued line_bits values
+    (changed now (map (tapped v.bits) (line_bits_of line_bits v.net)))
 
 -- the lines of all taps are the backplane's
 abbrev pub AreLines : ℕ → List LineBit → Type 0

@@ -42,7 +42,8 @@ pub record AreLevelsBehind (a : ReadSpeculatively) (before after : Levels) : Typ
   pub slots : after.slots ≡ before.slots
   pub all : length after.levels ≡ line_count
   pub levels : (l : ℕ) → l < line_count
-      → level_at after l ≡ (if is_assigned a.assigned l then level_at a.apart.progress.taken.now l else level_at before l)
+      → level_at after l ≡ (if is_assigned a.assigned l then level_at a.apart.progress.taken.now l else level_at before
+      l)
 
 -- what is made behind these levels, and this recording
 abbrev pub made_behind : NetLines → Levels → Trace → Made
@@ -69,7 +70,8 @@ DeterminesLines nets line_bits bytes a =
 pub record IsReadSpeculatively
     (nets : List Net) (line_bits : NetLines) (bytes : List ℕ) (recorded : Trace) (a : ReadSpeculatively) : Type 0 where
   pub read : IsReadApart made_change made_instant nets bytes
-      (made_behind line_bits a.from (record { opening = recorded.opening; steps = [] })) (made_ahead line_bits recorded a.apart)
+      (made_behind line_bits a.from (record { opening = recorded.opening; steps = [] }))
+      (made_ahead line_bits recorded a.apart)
   pub assigned : DeterminesLines nets line_bits bytes a
 
 -- a piece that was read ahead fits behind what is read so far, which leaves the levels that it was read from

@@ -22,7 +22,8 @@ use Rattle.vme_bind.specs.declared.bound_groups.BoundGroup.{BoundGroup}
 -- what a body comes to by its definition: its own fault, or else that of the binding, or else the recording
 abbrev pub body_outcome : Option BindFault → ℕ → List BoundGroup → Headed → Result Trace CaptureFault
 body_outcome None slots bound_groups h = body_recording slots bound_groups h
-body_outcome (Some fault) slots bound_groups h = or_dump (instants_from h.nets h.body) >>= λ instants. Err (Binding fault)
+body_outcome (Some fault) slots bound_groups h = or_dump (instants_from h.nets h.body) >>= λ instants. Err
+    (Binding fault)
 
 -- the same by what was made of it
 abbrev pub outcome : Option BindFault → Result Made VcdFault → Result Trace CaptureFault

@@ -4,7 +4,8 @@ ghost use Rattle.std.specs.Prelude.{◌≡◌};
 ghost use Rattle.std.specs.List.{filter_map};
 ghost use Rattle.vme_bind.specs.Answers.{BindGives, at_line};
 ghost use Rattle.vme_bind.specs.BoundGroups.{same_bits, selected, selects, bits_meant, candidate, only, as_wide_as};
-ghost use Rattle.vme_bind.specs.BoundGroups.{source_by, bound_group_by, bound_group_in, bound_groups_in, source_on, bound_group_source};
+ghost use Rattle.vme_bind.specs.BoundGroups.{source_by, bound_group_by, bound_group_in, bound_groups_in, source_on};
+ghost use Rattle.vme_bind.specs.BoundGroups.{bound_group_source};
 
 use crate::assignment::Assignment;
 use crate::fault::{BindFault, BindKind};
@@ -123,7 +124,8 @@ impl BitRange {
         named: &VariableSelector,
         variables: &[Variable],
     ) -> Result<BitRange, BindFault>
-        ensures { BindGives (λ bits. bits) result (at_line line (only (filter_map (candidate named.now) variables.now))) }
+        ensures { BindGives (λ bits. bits) result
+            (at_line line (only (filter_map (candidate named.now) variables.now))) }
     {
         let mut found: Option<BitRange> = None;
         for variable in variables {
@@ -193,7 +195,8 @@ impl BoundGroup {
         assignments: &[Assignment],
         variables: &[Variable],
     ) -> Result<Vec<BoundGroup>, BindFault>
-        ensures { BindGives (λ bound_groups. bound_groups.items) result (bound_groups_in variables.now assignments.now) }
+        ensures { BindGives (λ bound_groups. bound_groups.items) result
+            (bound_groups_in variables.now assignments.now) }
     {
         let mut bound_groups = Vec::with_capacity(alloc, assignments.len())?;
         for assignment in assignments {

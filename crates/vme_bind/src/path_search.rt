@@ -70,7 +70,8 @@ pub(crate) fn rest_of(text: &[u8], start: usize) -> &[u8]
 }
 
 impl<'b> PathSearch<'b> {
-    ghost use Rattle.vme_bind.specs.PathSearch.{closed, opened, seen_in, unseen, scopes_begun, path_sought, with_candidate};
+    ghost use Rattle.vme_bind.specs.PathSearch.{closed, opened, seen_in, unseen, scopes_begun, path_sought};
+    ghost use Rattle.vme_bind.specs.PathSearch.{with_candidate};
     ghost use Rattle.vme_bind.specs.PathSearch.{bound_group_of};
 
     /// Nothing is found yet, and no scope is open.

@@ -4,7 +4,8 @@ ghost use Rattle.std.specs.Prelude.{◌≡◌, ◌<◌, ◌+◌, ◌^◌, ℕ, [
 ghost use Rattle.std.specs.List.{All};
 ghost use Rattle.vcd_read.specs.Header.{variable_in};
 ghost use Rattle.vme_bind.specs.Answers.{BindGives};
-ghost use Rattle.vme_bind.specs.PathSearch.{HasOpened, closed, opened, seen_in, unseen, with_candidate, bound_groups_of};
+ghost use Rattle.vme_bind.specs.PathSearch.{HasOpened, closed, opened, seen_in, unseen, with_candidate};
+ghost use Rattle.vme_bind.specs.PathSearch.{bound_groups_of};
 
 use crate::assignment::Assignment;
 use crate::bound_groups::BoundGroup;
@@ -73,7 +74,8 @@ impl<'b> Search<'b> {
 
     /// The wires of all lines of the binding.
     pub fn bound_groups(&self, alloc: Global) -> Result<Vec<BoundGroup>, BindFault>
-        ensures { BindGives (λ bound_groups. bound_groups.items) result (bound_groups_of (map seen_in self.now.sought.items)) }
+        ensures { BindGives (λ bound_groups. bound_groups.items) result
+            (bound_groups_of (map seen_in self.now.sought.items)) }
     {
         let mut bound_groups = Vec::with_capacity(alloc, self.sought.len())?;
         for sought in &self.sought {

@@ -6,7 +6,8 @@ ghost use Rattle.vme_trace.specs.LineNumbers.{line_count};
 ghost use Rattle.vme_trace.specs.Trace.{Trace};
 ghost use Rattle.vme_bind.specs.Recording.{step_in};
 ghost use Rattle.vme_bind.specs.TextPieces.{text_reached};
-ghost use Rattle.vme_bind.specs.SpeculativeReading.{AreLevelsBehind, MayFollowLevels, IsJoined, IsReadSpeculatively, with_recording};
+ghost use Rattle.vme_bind.specs.SpeculativeReading.{AreLevelsBehind, MayFollowLevels, IsJoined, IsReadSpeculatively};
+ghost use Rattle.vme_bind.specs.SpeculativeReading.{with_recording};
 
 use crate::assigned_lines::AssignedLines;
 use crate::capture_builder::{CaptureBuilder, DiscardChanges, SpeculativeBuilder};

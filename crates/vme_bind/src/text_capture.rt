@@ -14,7 +14,8 @@ ghost use Rattle.vme_bind.specs.declared.bound_groups.BoundGroup.{BoundGroup};
 ghost use Rattle.vme_bind.specs.Made.{IsBegun};
 ghost use Rattle.vcd_read.specs.declared.dump.Variable.{Variable};
 ghost use Rattle.vcd_read.specs.Sections.{defined};
-ghost use Rattle.vme_bind.specs.TextCapture.{CaptureFailsBy, GivesBy, body_recording, capture_of_text, recording_behind};
+ghost use Rattle.vme_bind.specs.TextCapture.{CaptureFailsBy, GivesBy, body_recording, capture_of_text};
+ghost use Rattle.vme_bind.specs.TextCapture.{recording_behind};
 ghost use Rattle.vme_bind.specs.TextCapture.{recording_of_text};
 
 use crate::binding::Binding;

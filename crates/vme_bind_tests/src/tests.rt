@@ -103,8 +103,8 @@ $enddefinitions $end
 #6 bzzz0zzzz d b01xz u bz g
 ";
 
-/// What the binding of the bus has behind its lines, what the dump declares behind AS, its changes, and the steps of the
-/// recording.
+/// What the binding of the bus has behind its lines, what the dump declares behind AS, its changes, and the steps of
+/// the recording.
 const OF_BUS: [(&str, &str, &str, &str); 5] = [
     ("", "", READ, READ_STEPS),
     (

@@ -1,5 +1,6 @@
 -- A bit of a row of words, after one of them was or-ed with a mask of one bit.
-use Rattle.std.proofs.Common.{◌≡◌, ℕ, zero, suc, ◌+◌, ◌*◌, ◌/◌, ◌%◌, ◌<◌, ◌≤◌, ◌≢◌, List, length, get_or, set, sym, refl, ap, ◌∙◌, subst, arith, bit_or, w64, get_or-set_other, get_or-set_same, replicate}
+use Rattle.std.proofs.Common.{◌≡◌, ℕ, zero, suc, ◌+◌, ◌*◌, ◌/◌, ◌%◌, ◌<◌, ◌≤◌, ◌≢◌, List, length, get_or, set, sym}
+use Rattle.std.proofs.Common.{refl, ap, ◌∙◌, subst, arith, bit_or, w64, get_or-set_other, get_or-set_same, replicate}
 use mathlib.Core.Logic.{dite}
 use native.Mathlib.Decide.{ℕ_discrete}
 use Rattle.std.specs.Int.{bit_at}
@@ -15,20 +16,25 @@ bit_small k ws n = omega arith
 -- a word and a mask name one number
 pub one_number : (k n m : ℕ) → 4 * (n / 64) + k ≡ 4 * (m / 64) + k → mask_of n ≡ mask_of m → n ≡ m
 one_number k n m a b = dite (ℕ_discrete (m % 64) (n % 64)) (λ e. omega (arith, a, e))
-    (λ ne. let z : bit_at (bit_or 0 (mask_of n)) (m % 64) ≡ 0 = bit_at_set_other w64 0 (n % 64) (low n) (m % 64) ne ∙ bit_at-zero (m % 64) in
+    (λ ne. let z : bit_at (bit_or 0 (mask_of n)) (m % 64) ≡ 0 = bit_at_set_other w64 0 (n % 64) (low n) (m % 64) ne
+    ∙ bit_at-zero (m % 64) in
     let o : bit_at (bit_or 0 (mask_of m)) (m % 64) ≡ 1 = bit_at_set_same w64 0 (m % 64) (low m) in
-    let c : bit_at (bit_or 0 (mask_of n)) (m % 64) ≡ bit_at (bit_or 0 (mask_of m)) (m % 64) = ap (λ (y : ℕ). bit_at (bit_or 0 y) (m % 64)) b in absurd (omega (arith, z, o, c)))
+    let c : bit_at (bit_or 0 (mask_of n)) (m % 64) ≡ bit_at (bit_or 0 (mask_of m)) (m % 64) = ap
+    (λ (y : ℕ). bit_at (bit_or 0 y) (m % 64)) b in absurd (omega (arith, z, o, c)))
 
 abbrev pub marked : ℕ → List ℕ → ℕ → List ℕ
 marked k ws n = set ws (4 * (n / 64) + k) (bit_or (get_or ws (4 * (n / 64) + k) 0) (mask_of n))
 
 module _ (k : ℕ) (ws : List ℕ) (n : ℕ) (within : 4 * (n / 64) + k < length ws) where
   pub bit_here : bit_of k (marked k ws n) n ≡ 1
-  bit_here = ap (λ (y : ℕ). bit_at y (n % 64)) (get_or-set_same ws (4 * (n / 64) + k) (bit_or (get_or ws (4 * (n / 64) + k) 0) (mask_of n)) 0 within) ∙ bit_at_set_same w64 (get_or ws (4 * (n / 64) + k) 0) (n % 64) (low n)
+  bit_here = ap (λ (y : ℕ). bit_at y (n % 64)) (get_or-set_same ws (4 * (n / 64) + k)
+      (bit_or (get_or ws (4 * (n / 64) + k) 0) (mask_of n)) 0 within) ∙ bit_at_set_same w64
+      (get_or ws (4 * (n / 64) + k) 0) (n % 64) (low n)
 
   -- a bit of another word
   pub bit_apart : (k' m : ℕ) → 4 * (m / 64) + k' ≢ 4 * (n / 64) + k → bit_of k' (marked k ws n) m ≡ bit_of k' ws m
-  bit_apart k' m ne = ap (λ (y : ℕ). bit_at y (m % 64)) (get_or-set_other ws (4 * (n / 64) + k) (4 * (m / 64) + k') (bit_or (get_or ws (4 * (n / 64) + k) 0) (mask_of n)) 0 ne)
+  bit_apart k' m ne = ap (λ (y : ℕ). bit_at y (m % 64)) (get_or-set_other ws (4 * (n / 64) + k) (4 * (m / 64) + k')
+      (bit_or (get_or ws (4 * (n / 64) + k) 0) (mask_of n)) 0 ne)
 
   -- another row
   pub bit_row : (k' : ℕ) → k < 4 → k' < 4 → k' ≢ k → (m : ℕ) → bit_of k' (marked k ws n) m ≡ bit_of k' ws m
@@ -36,14 +42,18 @@ module _ (k : ℕ) (ws : List ℕ) (n : ℕ) (within : 4 * (n / 64) + k < length
 
   pub bit_else : (m : ℕ) → m ≢ n → bit_of k (marked k ws n) m ≡ bit_of k ws m
   bit_else m ne = dite (ℕ_discrete (m / 64) (n / 64))
-      (λ e. let i : ℕ = 4 * (n / 64) + k in let same : 4 * (m / 64) + k ≡ 4 * (n / 64) + k = omega (arith, e) in let apart : m % 64 ≢ n % 64 = λ f. ne (omega (arith, e, f)) in
-      ap (λ (y : ℕ). bit_at (get_or (marked k ws n) y 0) (m % 64)) same ∙ (ap (λ (y : ℕ). bit_at y (m % 64)) (get_or-set_same ws i (bit_or (get_or ws i 0) (mask_of n)) 0 within)
-      ∙ (bit_at_set_other w64 (get_or ws i 0) (n % 64) (low n) (m % 64) apart ∙ ap (λ (y : ℕ). bit_at (get_or ws y 0) (m % 64)) (sym same))))
+      (λ e. let i : ℕ = 4 * (n / 64) + k in let same : 4 * (m / 64) + k ≡ 4 * (n / 64) + k = omega (arith, e) in
+      let apart : m % 64 ≢ n % 64 = λ f. ne (omega (arith, e, f)) in
+      ap (λ (y : ℕ). bit_at (get_or (marked k ws n) y 0) (m % 64)) same
+      ∙ (ap (λ (y : ℕ). bit_at y (m % 64)) (get_or-set_same ws i (bit_or (get_or ws i 0) (mask_of n)) 0 within)
+      ∙ (bit_at_set_other w64 (get_or ws i 0) (n % 64) (low n) (m % 64) apart
+      ∙ ap (λ (y : ℕ). bit_at (get_or ws y 0) (m % 64)) (sym same))))
       (λ e. bit_apart k m (λ f. e (omega (arith, f))))
 
   -- nothing changed where the bit was there
   pub bit_again : bit_of k ws n ≡ 1 → (m : ℕ) → bit_of k (marked k ws n) m ≡ bit_of k ws m
-  bit_again is m = dite (ℕ_discrete m n) (λ e. subst (λ (y : ℕ). bit_of k (marked k ws n) y ≡ bit_of k ws y) (sym e) (bit_here ∙ sym is)) (λ ne. bit_else m ne)
+  bit_again is m = dite (ℕ_discrete m n) (λ e. subst (λ (y : ℕ). bit_of k (marked k ws n) y ≡ bit_of k ws y) (sym e)
+      (bit_here ∙ sym is)) (λ ne. bit_else m ne)
 
 abbrev zeros : ℕ → List ℕ
 zeros n = replicate n 0
@@ -57,7 +67,8 @@ pub no_bit : (k n m : ℕ) → bit_of k (zeros n) m ≡ 0
 no_bit k n m = ap (λ (y : ℕ). bit_at y (m % 64)) (get_zeros n (4 * (m / 64) + k)) ∙ bit_at-zero (m % 64)
 
 -- the word of a number below the limit, where the words have a bit in each row for each of these
-pub word_within : (width limit n k : ℕ) → n < limit → limit ≤ 16 * width → width ≡ 4 * (width / 4) → k < 4 → 4 * (n / 64) + k < width
+pub word_within : (width limit n k : ℕ) → n < limit → limit ≤ 16 * width → width ≡ 4 * (width / 4) → k < 4
+    → 4 * (n / 64) + k < width
 word_within width limit n k low wide whole small = omega (arith, low, wide, whole, small)
 
 -- a bit that isn't 1

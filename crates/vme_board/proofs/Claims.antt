@@ -1,5 +1,6 @@
 -- What a seat has after a delivery was claimed, put and filed, and after a block was taken and lifted.
-use Rattle.std.proofs.Common.{◌≡◌, ℕ, ◌+◌, ◌*◌, ◌/◌, ◌%◌, ◌<◌, List, [], ◌∷◌, length, ◌∙◌, refl, sym, ap, subst, arith, Option, Some, None}
+use Rattle.std.proofs.Common.{◌≡◌, ℕ, ◌+◌, ◌*◌, ◌/◌, ◌%◌, ◌<◌, List, [], ◌∷◌, length, ◌∙◌, refl, sym, ap, subst, arith}
+use Rattle.std.proofs.Common.{Option, Some, None}
 use Rattle.std.specs.Int.{bit_at}
 use mathlib.Core.Option.{none}
 use Rattle.atomic_table.specs.Table.{step, rest}
@@ -18,26 +19,39 @@ pub record IsFiled (slots n : ℕ) (b : Block) (before last : SeatState) : Type 
   pub same_blocks : SameBlocks last.0
 
 -- the seat after the claim was won and the block put
-pub put_seat : (before won put : SeatState) (n : ℕ) (b : Block) → before.1 ≡ [] → won ≡ (after_claim before.0 n, (n, None) ∷ before.1) → put ≡ (won.0, (n, Some b) ∷ rest won.1) → put ≡ (after_claim before.0 n, (n, Some b) ∷ [])
-put_seat before won put n b none_out a e = e ∙ ap (λ (m : SeatState). let x : SeatState = (m.0, (n, Some b) ∷ rest m.1) in x) a ∙ ap (λ (cs : List (ℕ × Option Block)). let x : SeatState = (after_claim before.0 n, (n, Some b) ∷ cs) in x) none_out
+pub put_seat : (before won put : SeatState) (n : ℕ) (b : Block) → before.1 ≡ [] → won
+    ≡ (after_claim before.0 n, (n, None) ∷ before.1) → put ≡ (won.0, (n, Some b) ∷ rest won.1) → put
+    ≡ (after_claim before.0 n, (n, Some b) ∷ [])
+put_seat before won put n b none_out a e = e ∙ ap (λ (m : SeatState). let x : SeatState = (m.0, (n, Some b) ∷ rest m.1)
+    in x) a ∙ ap (λ (cs : List (ℕ × Option Block)). let x : SeatState = (after_claim before.0 n, (n, Some b) ∷ cs) in
+    x) none_out
 
 -- the word and the mask of a number are those of another that is equal
-pub at_equal : (slots k i m n j : ℕ) → i ≡ 4 * (n / 64) + k → m ≡ mask_of n → n ≡ j → IsAtBit (step slots i m 0 none) k j
-at_equal slots k i m n j is same e = record { word = is ∙ ap (λ (y : ℕ). 4 * (y / 64) + k) e; mask = same ∙ ap mask_of e }
+pub at_equal : (slots k i m n j : ℕ) → i ≡ 4 * (n / 64) + k → m ≡ mask_of n → n ≡ j → IsAtBit (step slots i m 0 none) k
+    j
+at_equal slots k i m n j is same e = record {
+  word = is ∙ ap (λ (y : ℕ). 4 * (y / 64) + k) e;
+  mask = same
+      ∙ ap mask_of e;
+}
 
 module _ (slots n i m i' m' : ℕ) (b : Block) (before won put last : SeatState) (found found' : ℕ)
-    (claim : ClaimTells (step slots i m 0 none) before found won) (at_claim : IsAtBit (step slots i m 0 none) 0 n) (free : bit_at found (n % 64) ≡ 0)
+    (claim : ClaimTells (step slots i m 0 none) before found won) (at_claim : IsAtBit (step slots i m 0 none) 0 n)
+    (free : bit_at found (n % 64) ≡ 0)
     (none_out : before.1 ≡ []) (exchange : put ≡ (won.0, (n, Some b) ∷ rest won.1)) where
   pub after_put : put ≡ (after_claim before.0 n, (n, Some b) ∷ [])
   after_put = put_seat before won put n b none_out ((claim n at_claim).0 free).1 exchange
 
-  pub after_file : FileTells (step slots i' m' 0 none) put found' last → IsAtBit (step slots i' m' 0 none) 1 n → IsFiled slots n b before last
-  after_file file at_file = let told = file n at_file b (ap (λ (x : SeatState). x.1) after_put) in let few = told.2 in record {
-    new = ((claim n at_claim).0 free).0;
-    seat = told.1 ∙ ap (λ (x : SeatState). let y : SeatState = (after_filing x.0 n b, []) in y) after_put;
-    few = let same : length put.0.list ≡ length before.0.list = ap (λ (x : SeatState). length x.0.list) after_put in omega (arith, few, same);
-    same_blocks = told.3;
-  }
+  pub after_file : FileTells (step slots i' m' 0 none) put found' last → IsAtBit (step slots i' m' 0 none) 1 n
+      → IsFiled slots n b before last
+  after_file file at_file = let told = file n at_file b (ap (λ (x : SeatState). x.1) after_put) in let few = told.2 in
+      record {
+        new = ((claim n at_claim).0 free).0;
+        seat = told.1 ∙ ap (λ (x : SeatState). let y : SeatState = (after_filing x.0 n b, []) in y) after_put;
+        few = let same : length put.0.list ≡ length before.0.list = ap (λ (x : SeatState). length x.0.list) after_put in
+            omega (arith, few, same);
+        same_blocks = told.3;
+      }
 
 -- a block was taken, and its slot given back
 pub record IsTaken (slots n : ℕ) (b : Block) (before last : SeatState) : Type 0 where
@@ -53,16 +67,22 @@ top [] = None
 top (x ∷ xs) = x.1
 
 -- the seat after the take was won
-pub won_seat : (before won : SeatState) (n : ℕ) (b : Block) → before.1 ≡ [] → won ≡ (after_take before.0 n b, (n, Some b) ∷ before.1) → won ≡ (after_take before.0 n b, (n, Some b) ∷ [])
-won_seat before won n b none_out e = e ∙ ap (λ (cs : List (ℕ × Option Block)). let x : SeatState = (after_take before.0 n b, (n, Some b) ∷ cs) in x) none_out
+pub won_seat : (before won : SeatState) (n : ℕ) (b : Block) → before.1 ≡ [] → won
+    ≡ (after_take before.0 n b, (n, Some b) ∷ before.1) → won ≡ (after_take before.0 n b, (n, Some b) ∷ [])
+won_seat before won n b none_out e = e ∙ ap (λ (cs : List (ℕ × Option Block)). let x : SeatState
+    = (after_take before.0 n b, (n, Some b) ∷ cs) in x) none_out
 
-pub has_slot : (before won : SeatState) (n : ℕ) (b : Block) → won ≡ (after_take before.0 n b, (n, Some b) ∷ []) → won.1 ≡ (n, Some b) ∷ rest won.1
-has_slot before won n b e = subst (λ (cs : List (ℕ × Option Block)). cs ≡ (n, Some b) ∷ rest cs) (sym (ap (λ (m : SeatState). m.1) e)) refl
+pub has_slot : (before won : SeatState) (n : ℕ) (b : Block) → won ≡ (after_take before.0 n b, (n, Some b) ∷ []) → won.1
+    ≡ (n, Some b) ∷ rest won.1
+has_slot before won n b e = subst (λ (cs : List (ℕ × Option Block)). cs ≡ (n, Some b) ∷ rest cs)
+    (sym (ap (λ (m : SeatState). m.1) e)) refl
 
 -- what the exchange gave
-pub lifted : (before won : SeatState) (n : ℕ) (b : Block) (x : Option Block) → won ≡ (after_take before.0 n b, (n, Some b) ∷ []) → won.1 ≡ (n, x) ∷ rest won.1 → x ≡ Some b
+pub lifted : (before won : SeatState) (n : ℕ) (b : Block) (x : Option Block) → won
+    ≡ (after_take before.0 n b, (n, Some b) ∷ []) → won.1 ≡ (n, x) ∷ rest won.1 → x ≡ Some b
 lifted before won n b x e f = ap top (sym f ∙ ap (λ (m : SeatState). m.1) e)
 
 -- and what the seat has after it
-pub emptied_seat : (before won put : SeatState) (n : ℕ) (b : Block) → won ≡ (after_take before.0 n b, (n, Some b) ∷ []) → put ≡ (won.0, (n, None) ∷ rest won.1) → put ≡ (after_take before.0 n b, (n, None) ∷ [])
+pub emptied_seat : (before won put : SeatState) (n : ℕ) (b : Block) → won ≡ (after_take before.0 n b, (n, Some b) ∷ [])
+    → put ≡ (won.0, (n, None) ∷ rest won.1) → put ≡ (after_take before.0 n b, (n, None) ∷ [])
 emptied_seat before won put n b e f = f ∙ ap (λ (m : SeatState). let x : SeatState = (m.0, (n, None) ∷ rest m.1) in x) e

@@ -1,5 +1,6 @@
 -- What a look at a word shows of one number.
-use Rattle.std.proofs.Common.{◌≡◌, ℕ, ◌+◌, ◌*◌, ◌/◌, ◌%◌, ◌<◌, ◌≢◌, List, ◌++◌, ◌∙◌, Bool, true, false, sym, refl, ap, arith, subst, le_refl}
+use Rattle.std.proofs.Common.{◌≡◌, ℕ, ◌+◌, ◌*◌, ◌/◌, ◌%◌, ◌<◌, ◌≢◌, List, ◌++◌, ◌∙◌, Bool, true, false, sym, refl, ap}
+use Rattle.std.proofs.Common.{arith, subst, le_refl}
 use mathlib.Core.Logic.{dite}
 use native.Mathlib.Decide.{ℕ_discrete}
 use Rattle.std.specs.Prelude.{nat_eq}
@@ -39,56 +40,91 @@ module _ (i n k found : ℕ) (is : i ≡ 4 * (n / 64) + k) (small : k < 4) where
 
   is_shown : (xs : List ℕ) → bit_at found (n % 64) ≡ 1 → 0 < occurrences n (shown ++ xs)
   is_shown xs one = let m = set_bits_all (64 * (i / 4)) (bit_at found) 64 (n % 64) (omega arith) one in
-      let same : 64 * (i / 4) + n % 64 ≡ n = omega (arith, is, small) in let here : 0 < occurrences n shown = subst (λ (y : ℕ). 0 < occurrences y shown) same m in omega (arith, here, occurrences-append n shown xs)
+      let same : 64 * (i / 4) + n % 64 ≡ n = omega (arith, is, small) in let here : 0 < occurrences n shown = subst
+      (λ (y : ℕ). 0 < occurrences y shown) same m in omega (arith, here, occurrences-append n shown xs)
 
   not_shown : bit_at found (n % 64) ≡ 0 → occurrences n shown ≡ 0
   not_shown zero_bit = dite (ℕ_discrete (occurrences n shown) 0) (λ e. e)
-      (λ ne. let t = set_bits_true (64 * (i / 4)) (bit_at found) 64 n (omega (arith, ne)) in let l = t.1 in let a = t.2 in let same : t.0 ≡ n % 64 = omega (arith, is, small, l, a) in let one : bit_at found (n % 64) ≡ 1 = ap (bit_at found) (sym same) ∙ t.3 in absurd (omega (arith, one, zero_bit)))
+      (λ ne. let t = set_bits_true (64 * (i / 4)) (bit_at found) 64 n (omega (arith, ne)) in let l = t.1 in
+      let a = t.2 in let same : t.0 ≡ n % 64 = omega (arith, is, small, l, a) in let one : bit_at found (n % 64)
+      ≡ 1 = ap (bit_at found) (sym same) ∙ t.3 in absurd (omega (arith, one, zero_bit)))
 
   -- where what was seen before would be shown
-  is_absent : (xs : List ℕ) → (0 < occurrences n xs → bit_at found (n % 64) ≡ 1) → bit_at found (n % 64) ≡ 0 → (occurrences n xs ≡ 0) × (occurrences n (shown ++ xs) ≡ 0)
-  is_absent xs there zero_bit = dite (ℕ_discrete (occurrences n xs) 0) (λ e. (e, omega (arith, e, not_shown zero_bit, occurrences-append n shown xs))) (λ ne. absurd (omega (arith, there (omega (arith, ne)), zero_bit)))
+  is_absent : (xs : List ℕ) → (0 < occurrences n xs → bit_at found (n % 64) ≡ 1) → bit_at found (n % 64) ≡ 0
+      → (occurrences n xs ≡ 0) × (occurrences n (shown ++ xs) ≡ 0)
+  is_absent xs there zero_bit = dite (ℕ_discrete (occurrences n xs) 0)
+      (λ e. (e, omega (arith, e, not_shown zero_bit, occurrences-append n shown xs)))
+      (λ ne. absurd (omega (arith, there (omega (arith, ne)), zero_bit)))
 
 module _ (slots i n : ℕ) (before : SeatState) (found : ℕ) (after : SeatState) where
   -- a look at the taken bits
   module _ (told : TakenLookTells (step slots i 0 0 none) before found after) (is : i ≡ 4 * (n / 64) + 2) where
     pub taken_shown : bit_at found (n % 64) ≡ 1 → 0 < occurrences n after.0.taken
-    taken_shown one = subst (λ (m : SeatState). 0 < occurrences n m.0.taken) (sym told.0) (is_shown i n 2 found is (omega arith) before.0.taken one)
+    taken_shown one = subst (λ (m : SeatState). 0 < occurrences n m.0.taken) (sym told.0)
+        (is_shown i n 2 found is (omega arith) before.0.taken one)
 
     pub taken_absent : bit_at found (n % 64) ≡ 0 → occurrences n after.0.taken ≡ 0
-    taken_absent none_set = subst (λ (m : SeatState). occurrences n m.0.taken ≡ 0) (sym told.0) (is_absent i n 2 found is (omega arith) before.0.taken (told.1 n is) none_set).1
+    taken_absent none_set = subst (λ (m : SeatState). occurrences n m.0.taken ≡ 0) (sym told.0)
+        (is_absent i n 2 found is (omega arith) before.0.taken (told.1 n is) none_set).1
 
   -- a look at the filed bits
   module _ (told : FiledLookTells (step slots i 0 0 none) before found after) (is : i ≡ 4 * (n / 64) + 1) where
     pub filed_shown : bit_at found (n % 64) ≡ 1 → 0 < occurrences n after.0.filed
-    filed_shown one = subst (λ (m : SeatState). 0 < occurrences n m.0.filed) (sym told.0) (is_shown i n 1 found is (omega arith) before.0.filed one)
+    filed_shown one = subst (λ (m : SeatState). 0 < occurrences n m.0.filed) (sym told.0)
+        (is_shown i n 1 found is (omega arith) before.0.filed one)
 
     pub filed_absent : bit_at found (n % 64) ≡ 0 → occurrences n after.0.filed ≡ 0
-    filed_absent none_set = subst (λ (m : SeatState). occurrences n m.0.filed ≡ 0) (sym told.0) (is_absent i n 1 found is (omega arith) before.0.filed (told.1 n is) none_set).1
+    filed_absent none_set = subst (λ (m : SeatState). occurrences n m.0.filed ≡ 0) (sym told.0)
+        (is_absent i n 1 found is (omega arith) before.0.filed (told.1 n is) none_set).1
 
     -- neither was it seen before
-    pub filed_never : bit_at found (n % 64) ≡ 0 → (occurrences n before.0.filed ≡ 0) × (occurrences n before.0.taken ≡ 0)
-    filed_never none_set = ((is_absent i n 1 found is (omega arith) before.0.filed (told.1 n is) none_set).0, (is_absent i n 1 found is (omega arith) before.0.taken (told.2 n is) none_set).0)
+    pub filed_never : bit_at found (n % 64) ≡ 0 → (occurrences n before.0.filed ≡ 0)
+        × (occurrences n before.0.taken ≡ 0)
+    filed_never none_set = (
+      (is_absent i n 1 found is (omega arith) before.0.filed (told.1 n is) none_set).0,
+      (is_absent i n 1 found is (omega arith) before.0.taken (told.2 n is) none_set).0,
+    )
 
   -- a look at the claimed bits
   module _ (told : ClaimedLookTells (step slots i 0 0 none) before found after) (is : i ≡ 4 * (n / 64) + 0) where
     pub claimed_shown : bit_at found (n % 64) ≡ 1 → 0 < occurrences n after.0.claimed
-    claimed_shown one = subst (λ (m : SeatState). 0 < occurrences n m.0.claimed) (sym told.0) (is_shown i n 0 found is (omega arith) before.0.claimed one)
+    claimed_shown one = subst (λ (m : SeatState). 0 < occurrences n m.0.claimed) (sym told.0)
+        (is_shown i n 0 found is (omega arith) before.0.claimed one)
 
     pub claimed_absent : bit_at found (n % 64) ≡ 0 → occurrences n after.0.claimed ≡ 0
-    claimed_absent none_set = subst (λ (m : SeatState). occurrences n m.0.claimed ≡ 0) (sym told.0) (is_absent i n 0 found is (omega arith) before.0.claimed (told.1 n is) none_set).1
+    claimed_absent none_set = subst (λ (m : SeatState). occurrences n m.0.claimed ≡ 0) (sym told.0)
+        (is_absent i n 0 found is (omega arith) before.0.claimed (told.1 n is) none_set).1
 
 -- what a bench saw, it goes on seeing
 pub grows_claimed : (a b : SeatState) (ns : List ℕ) → b ≡ (with_claimed a.0 ns, a.1) → SeesMore a.0 b.0
-grows_claimed a b ns e = subst (λ (m : SeatState). SeesMore a.0 m.0) (sym e) (record { found = λ d. le_refl _; claimed = λ n. omega (arith, occurrences-append n ns a.0.claimed); filed = λ n. le_refl _; taken = λ n. le_refl _ })
+grows_claimed a b ns e = subst (λ (m : SeatState). SeesMore a.0 m.0) (sym e)
+    (record {
+      found = λ d. le_refl _;
+      claimed = λ n. omega (arith, occurrences-append n ns a.0.claimed);
+      filed = λ n.
+          le_refl _;
+      taken = λ n. le_refl _;
+    })
 
 pub grows_filed : (a b : SeatState) (ns : List ℕ) → b ≡ (with_filed a.0 ns, a.1) → SeesMore a.0 b.0
 grows_filed a b ns e = subst (λ (m : SeatState). SeesMore a.0 m.0) (sym e)
-    (record { found = λ d. le_refl _; claimed = λ n. omega (arith, occurrences-append n ns a.0.claimed); filed = λ n. omega (arith, occurrences-append n ns a.0.filed); taken = λ n. le_refl _ })
+    (record {
+      found = λ d. le_refl _;
+      claimed = λ n. omega (arith, occurrences-append n ns a.0.claimed);
+      filed = λ n.
+          omega (arith, occurrences-append n ns a.0.filed);
+      taken = λ n. le_refl _;
+    })
 
 pub grows_taken : (a b : SeatState) (ns : List ℕ) → b ≡ (with_taken a.0 ns, a.1) → SeesMore a.0 b.0
 grows_taken a b ns e = subst (λ (m : SeatState). SeesMore a.0 m.0) (sym e)
-    (record { found = λ d. le_refl _; claimed = λ n. omega (arith, occurrences-append n ns a.0.claimed); filed = λ n. omega (arith, occurrences-append n ns a.0.filed); taken = λ n. omega (arith, occurrences-append n ns a.0.taken) })
+    (record {
+      found = λ d. le_refl _;
+      claimed = λ n. omega (arith, occurrences-append n ns a.0.claimed);
+      filed = λ n.
+          omega (arith, occurrences-append n ns a.0.filed);
+      taken = λ n. omega (arith, occurrences-append n ns a.0.taken);
+    })
 
 pub grows_then : (u v w : View) → SeesMore u v → SeesMore v w → SeesMore u w
 grows_then u v w a b = record {
@@ -99,7 +135,19 @@ grows_then u v w a b = record {
 }
 
 pub grows_filing : (v : View) (n : ℕ) (b : Block) → SeesMore v (after_filing (after_claim v n) n b)
-grows_filing v n b = record { found = λ d. le_refl _; claimed = λ m. omega arith; filed = λ m. omega arith; taken = λ m. le_refl _ }
+grows_filing v n b = record {
+  found = λ d. le_refl _;
+  claimed = λ m. omega arith;
+  filed = λ m. omega arith;
+  taken = λ m.
+      le_refl _;
+}
 
 pub grows_taking : (v : View) (n : ℕ) (b : Block) → SeesMore v (after_take v n b)
-grows_taking v n b = record { found = λ d. le_refl _; claimed = λ m. omega arith; filed = λ m. omega arith; taken = λ m. omega arith }
+grows_taking v n b = record {
+  found = λ d. le_refl _;
+  claimed = λ m. omega arith;
+  filed = λ m. omega arith;
+  taken = λ m.
+      omega arith;
+}

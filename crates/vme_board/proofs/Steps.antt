@@ -1,26 +1,32 @@
 -- Each step keeps the rule, and tells what its play says.
-use Rattle.std.proofs.Common.{◌≡◌, ℕ, zero, suc, ◌+◌, ◌*◌, ◌/◌, ◌%◌, ◌<◌, ◌≢◌, List, [], ◌∷◌, ◌++◌, length, get_or, set, sym, refl, ap, ◌∙◌, subst, arith, bit_or, length-set, Option, Some, None, replicate, map}
+use Rattle.std.proofs.Common.{◌≡◌, ℕ, zero, suc, ◌+◌, ◌*◌, ◌/◌, ◌%◌, ◌<◌, ◌≢◌, List, [], ◌∷◌, ◌++◌, length, get_or, set}
+use Rattle.std.proofs.Common.{sym, refl, ap, ◌∙◌, subst, arith, bit_or, length-set, Option, Some, None, replicate, map}
 use mathlib.Core.Option as maybe
 use mathlib.Core.Option.{none, some, some-injective, some-ne-none}
 use lib.ListN.{get_elem?}
 use mathlib.Core.Logic.{dite}
 use native.Mathlib.Decide.{ℕ_discrete}
 use Rattle.std.specs.Int.{bit_at}
-use Rattle.atomic_table.specs.Table.{State, step, Act, keeps, takes, gives, Valid, stepped, carried_after, rest, Allows, Splits, Joins}
+use Rattle.atomic_table.specs.Table.{State, step, Act, keeps, takes, gives, Valid, stepped, carried_after, rest, Allows}
+use Rattle.atomic_table.specs.Table.{Splits, Joins}
 use Rattle.atomic_table.proofs.Lists.{set_again, set_else, set_here, at_index}
 use Rattle.vme_trace.specs.declared.block.Block.{Block}
 use Rattle.vme_core.specs.declared.view.View.{View}
 use Rattle.vme_core.specs.Counting.{occurrences, numbers, HasPair, set_bits, update}
-use Rattle.vme_core.specs.Views.{after_draw, with_found, after_claim, after_filing, after_take, with_claimed, with_filed, with_taken, kept_view, split_view, joint_view, empty_view, first_view}
+use Rattle.vme_core.specs.Views.{after_draw, with_found, after_claim, after_filing, after_take, with_claimed}
+use Rattle.vme_core.specs.Views.{with_filed, with_taken, kept_view, split_view, joint_view, empty_view, first_view}
 use Rattle.vme_core.specs.Rule.{StepRule}
 use Rattle.vme_core.proofs.Sums.{update_here, update_else, each}
 use Rattle.vme_core.proofs.ViewChanges.{saw_one, saw_both, from_fresh, shares_first}
 use Rattle.vme_core.proofs.SetBits.{set_bits_true}
 use Rattle.vme_core.proofs.SumsBelow.{sum_below_limit}
-use Rattle.vme_core.proofs.RuleSteps.{rule_alike, rule_saw, rule_gets, undrawn, unlisted, untaken, is_taken, rule_wins, is_pending, rule_files, rule_takes, rule_gives, rule_splits, rule_joins, rule_once, rule_agrees, few_listed, few_taken, one_content, none_some}
+use Rattle.vme_core.proofs.RuleSteps.{rule_alike, rule_saw, rule_gets, undrawn, unlisted, untaken, is_taken, rule_wins}
+use Rattle.vme_core.proofs.RuleSteps.{is_pending, rule_files, rule_takes, rule_gives, rule_splits, rule_joins}
+use Rattle.vme_core.proofs.RuleSteps.{rule_once, rule_agrees, few_listed, few_taken, one_content, none_some}
 use Rattle.vme_board.specs.Words.{bit_of, mask_of, Homes, IsEmpty, IsFilled, Reads, IsNumbered, Holds}
 use Rattle.vme_board.specs.Views.{SameBlocks}
-use Rattle.vme_board.specs.Tells.{SeatState, TableStep, IsAtBit, DrawTells, ClaimTells, FileTells, TakeTells, GiveTells, ClaimedLookTells, FiledLookTells, TakenLookTells, CountTells}
+use Rattle.vme_board.specs.Tells.{SeatState, TableStep, IsAtBit, DrawTells, ClaimTells, FileTells, TakeTells, GiveTells}
+use Rattle.vme_board.specs.Tells.{ClaimedLookTells, FiledLookTells, TakenLookTells, CountTells}
 use Rattle.vme_board.proofs.Bits.{bit_small, one_number, marked, bit_here, bit_row, bit_else, bit_again, no_bit}
 
 abbrev St : Type 0
@@ -33,12 +39,16 @@ has_any : {es : List ℕ} → 0 < length es → es ≢ []
 has_any h z = omega (arith, h, ap length z)
 
 -- the rule with as many slots
-resized : (K : Contents_of) (a b : ℕ) (D C F T : ℕ → ℕ) (E : ℕ → Type 0) (H : ℕ → Block → Type 0) (vs : List View) → b ≡ a → StepRule a D C F T K E H vs → StepRule b D C F T K E H vs
+resized : (K : Contents_of) (a b : ℕ) (D C F T : ℕ → ℕ) (E : ℕ → Type 0) (H : ℕ → Block → Type 0) (vs : List View) → b
+    ≡ a → StepRule a D C F T K E H vs → StepRule b D C F T K E H vs
 resized K a b D C F T E H vs is r = subst (λ (y : ℕ). StepRule y D C F T K E H vs) (sym is) r
 
 -- a bit was set that was set before
-again : (k : ℕ) (ws : List ℕ) (n : ℕ) → k < 4 → 4 * (n / 64) + k < length ws → bit_of k ws n ≡ 1 → (k' : ℕ) → k' < 4 → (m : ℕ) → bit_of k' (marked k ws n) m ≡ bit_of k' ws m
-again k ws n small near is k' small' m = dite (ℕ_discrete k' k) (λ e. subst (λ (y : ℕ). bit_of y (marked k ws n) m ≡ bit_of y ws m) (sym e) (bit_again k ws n near is m)) (λ ne. bit_row k ws n near k' small small' ne m)
+again : (k : ℕ) (ws : List ℕ) (n : ℕ) → k < 4 → 4 * (n / 64) + k < length ws → bit_of k ws n ≡ 1 → (k' : ℕ) → k' < 4
+    → (m : ℕ) → bit_of k' (marked k ws n) m ≡ bit_of k' ws m
+again k ws n small near is k' small' m = dite (ℕ_discrete k' k)
+    (λ e. subst (λ (y : ℕ). bit_of y (marked k ws n) m ≡ bit_of y ws m) (sym e) (bit_again k ws n near is m))
+    (λ ne. bit_row k ws n near k' small small' ne m)
 
 at_within : {A : Type 0} (l : List A) (i : ℕ) (a : A) → get_elem? l i ≡ some a → i < length l
 at_within [] i a e = absurd (some-ne-none a (sym e))
@@ -52,238 +62,380 @@ one_block x b e = cc
 none_full : (o : maybe.Option (Option Block)) (x : Block) → o ≡ none → some o ≡ some (some (Some x)) → ⊥
 none_full o x e h = cc
 
-empty_full : (x : Block) → ◌≡◌ {A = maybe.Option (maybe.Option (Option Block))} (some (some None)) (some (some (Some x))) → ⊥
+empty_full : (x : Block) → ◌≡◌ {A = maybe.Option (maybe.Option (Option Block))} (some (some None))
+    (some (some (Some x))) → ⊥
 empty_full x h = cc
 
-module _ (width : ℕ) (s : St) (h : Holds width s) (id : ℕ) (seat : SeatState) (e : get_elem? s.views id ≡ some seat.0) where
-  abbrev Goes : (i new : ℕ) (then : SeatState → Type 0) → Type 0
-  Goes i new then = (w : View) × (a : Act (Option Block)) × Valid s.homes seat.1 a × Holds width (stepped s i new id seat.1 w a) × then (w, carried_after seat.1 a)
+module _ (width : ℕ) (s : St) (h : Holds width s) (id : ℕ) (seat : SeatState) (e : get_elem? s.views id ≡ some seat.0)
+  where
+    abbrev Goes : (i new : ℕ) (then : SeatState → Type 0) → Type 0
+    Goes i new then = (w : View) × (a : Act (Option Block)) × Valid s.homes seat.1 a
+        × Holds width (stepped s i new id seat.1 w a) × then (w, carried_after seat.1 a)
 
-  abbrev K : Contents_of
-  K = h.1.0
+    abbrev K : Contents_of
+    K = h.1.0
 
-  abbrev r : Reads K s.words s.homes s.views
-  r = h.1.1
+    abbrev r : Reads K s.words s.homes s.views
+    r = h.1.1
 
-  abbrev D : ℕ → ℕ
-  D = bit_of 3 s.words
+    abbrev D : ℕ → ℕ
+    D = bit_of 3 s.words
 
-  abbrev C : ℕ → ℕ
-  C = bit_of 0 s.words
+    abbrev C : ℕ → ℕ
+    C = bit_of 0 s.words
 
-  abbrev F : ℕ → ℕ
-  F = bit_of 1 s.words
+    abbrev F : ℕ → ℕ
+    F = bit_of 1 s.words
 
-  abbrev T : ℕ → ℕ
-  T = bit_of 2 s.words
+    abbrev T : ℕ → ℕ
+    T = bit_of 2 s.words
 
-  abbrev E : ℕ → Type 0
-  E = IsEmpty s.homes
+    abbrev E : ℕ → Type 0
+    E = IsEmpty s.homes
 
-  abbrev H : ℕ → Block → Type 0
-  H = IsFilled s.homes
+    abbrev H : ℕ → Block → Type 0
+    H = IsFilled s.homes
 
-  inside : (i : ℕ) → i < width → i < length s.words
-  inside i small = let same = h.0 in omega (arith, same, small)
+    inside : (i : ℕ) → i < width → i < length s.words
+    inside i small = let same = h.0 in omega (arith, same, small)
 
-  -- a step that sets a bit again, and sees more
-  stands : (k n : ℕ) → k < 4 → 4 * (n / 64) + k < length s.words → bit_of k s.words n ≡ 1 → (w : View) → Reads K s.words s.homes (set s.views id w)
-      → Holds width (stepped s (4 * (n / 64) + k) (bit_or (get_or s.words (4 * (n / 64) + k) 0) (mask_of n)) id seat.1 w keeps)
-  stands k n small near is w q = let a = again k s.words n small near is in let ws' : List ℕ = marked k s.words n in (
-    length-set s.words (4 * (n / 64) + k) _ ∙ h.0,
-    (K, rule_alike (length s.homes) D (bit_of 3 ws') C (bit_of 0 ws') F (bit_of 1 ws') T (bit_of 2 ws') K E H (set s.views id w) (a 3 (omega arith)) (a 0 (omega arith)) (a 1 (omega arith)) (a 2 (omega arith)) q, h.1.2),
-  )
+    -- a step that sets a bit again, and sees more
+    stands : (k n : ℕ) → k < 4 → 4 * (n / 64) + k < length s.words → bit_of k s.words n ≡ 1 → (w : View)
+        → Reads K s.words
+        s.homes (set s.views id w)
+        → Holds width (stepped s (4 * (n / 64) + k) (bit_or (get_or s.words (4 * (n / 64) + k) 0) (mask_of n)) id seat.1
+        w
+        keeps)
+    stands k n small near is w q = let a = again k s.words n small near is in let ws' : List ℕ = marked k s.words n in (
+      length-set s.words (4 * (n / 64) + k) _ ∙ h.0,
+      (
+        K,
+        rule_alike (length s.homes) D (bit_of 3 ws') C (bit_of 0 ws') F (bit_of 1 ws') T (bit_of 2 ws') K E H
+            (set s.views id w) (a 3 (omega arith)) (a 0 (omega arith)) (a 1 (omega arith)) (a 2 (omega arith)) q,
+        h.1.2,
+      ),
+    )
 
-  saw : (fo cl fi ta : List ℕ) → ((d : ℕ) → 0 < occurrences d fo → D d ≡ 1) → ((n : ℕ) → 0 < occurrences n cl → C n ≡ 1) → ((n : ℕ) → 0 < occurrences n fi → F n ≡ 1) → ((n : ℕ) → 0 < occurrences n ta → T n ≡ 1)
-      → Reads K s.words s.homes (set s.views id (record seat.0 { found = fo; claimed = cl; filed = fi; taken = ta }))
-  saw = rule_saw (length s.homes) D C F T K E H s.views r id seat.0 e
+    saw : (fo cl fi ta : List ℕ) → ((d : ℕ) → 0 < occurrences d fo → D d ≡ 1) → ((n : ℕ) → 0 < occurrences n cl → C n
+        ≡ 1)
+        → ((n : ℕ) → 0 < occurrences n fi → F n ≡ 1) → ((n : ℕ) → 0 < occurrences n ta → T n ≡ 1)
+        → Reads K s.words s.homes (set s.views id (record seat.0 { found = fo; claimed = cl; filed = fi; taken = ta }))
+    saw = rule_saw (length s.homes) D C F T K E H s.views r id seat.0 e
 
-  found : (d : ℕ) → 0 < occurrences d seat.0.found → D d ≡ 1
-  found = r.draws.found id seat.0 e
+    found : (d : ℕ) → 0 < occurrences d seat.0.found → D d ≡ 1
+    found = r.draws.found id seat.0 e
 
-  claims : (n : ℕ) → 0 < occurrences n seat.0.claimed → C n ≡ 1
-  claims = r.stages.saw_claimed id seat.0 e
+    claims : (n : ℕ) → 0 < occurrences n seat.0.claimed → C n ≡ 1
+    claims = r.stages.saw_claimed id seat.0 e
 
-  filings : (n : ℕ) → 0 < occurrences n seat.0.filed → F n ≡ 1
-  filings = r.stages.saw_filed id seat.0 e
+    filings : (n : ℕ) → 0 < occurrences n seat.0.filed → F n ≡ 1
+    filings = r.stages.saw_filed id seat.0 e
 
-  takings : (n : ℕ) → 0 < occurrences n seat.0.taken → T n ≡ 1
-  takings = r.stages.saw_taken id seat.0 e
+    takings : (n : ℕ) → 0 < occurrences n seat.0.taken → T n ≡ 1
+    takings = r.stages.saw_taken id seat.0 e
 
-  filed_claimed : (n : ℕ) → F n ≡ 1 → C n ≡ 1
-  filed_claimed n f = omega (arith, f, r.stages.pending_once n, r.stages.bit n)
+    filed_claimed : (n : ℕ) → F n ≡ 1 → C n ≡ 1
+    filed_claimed n f = omega (arith, f, r.stages.pending_once n, r.stages.bit n)
 
-  taken_filed : (n : ℕ) → T n ≡ 1 → F n ≡ 1
-  taken_filed n t = omega (arith, t, r.stages.taken_is_filed n, r.stages.pending_once n, r.stages.bit n)
+    taken_filed : (n : ℕ) → T n ≡ 1 → F n ≡ 1
+    taken_filed n t = omega (arith, t, r.stages.taken_is_filed n, r.stages.pending_once n, r.stages.bit n)
 
-  -- these numbers are seen
-  sees_1 : (ns : List ℕ) → ((n : ℕ) → 0 < occurrences n ns → C n ≡ 1) → Reads K s.words s.homes (set s.views id (with_claimed seat.0 ns))
-  sees_1 ns c = saw seat.0.found (ns ++ seat.0.claimed) seat.0.filed seat.0.taken found (saw_both C ns seat.0.claimed c claims) filings takings
+    -- these numbers are seen
+    sees_1 : (ns : List ℕ) → ((n : ℕ) → 0 < occurrences n ns → C n ≡ 1) → Reads K s.words s.homes
+        (set s.views id (with_claimed seat.0 ns))
+    sees_1 ns c = saw seat.0.found (ns ++ seat.0.claimed) seat.0.filed seat.0.taken found
+        (saw_both C ns seat.0.claimed c claims) filings takings
 
-  sees_2 : (ns : List ℕ) → ((n : ℕ) → 0 < occurrences n ns → F n ≡ 1) → Reads K s.words s.homes (set s.views id (with_filed seat.0 ns))
-  sees_2 ns f = saw seat.0.found (ns ++ seat.0.claimed) (ns ++ seat.0.filed) seat.0.taken found (saw_both C ns seat.0.claimed (λ n z. filed_claimed n (f n z)) claims) (saw_both F ns seat.0.filed f filings) takings
+    sees_2 : (ns : List ℕ) → ((n : ℕ) → 0 < occurrences n ns → F n ≡ 1) → Reads K s.words s.homes
+        (set s.views id (with_filed seat.0 ns))
+    sees_2 ns f = saw seat.0.found (ns ++ seat.0.claimed) (ns ++ seat.0.filed) seat.0.taken found
+        (saw_both C ns seat.0.claimed (λ n z. filed_claimed n (f n z)) claims) (saw_both F ns seat.0.filed f filings)
+        takings
 
-  sees_3 : (ns : List ℕ) → ((n : ℕ) → 0 < occurrences n ns → T n ≡ 1) → Reads K s.words s.homes (set s.views id (with_taken seat.0 ns))
-  sees_3 ns t = saw seat.0.found (ns ++ seat.0.claimed) (ns ++ seat.0.filed) (ns ++ seat.0.taken) found (saw_both C ns seat.0.claimed (λ n z. filed_claimed n (taken_filed n (t n z))) claims) (saw_both F ns seat.0.filed (λ n z. taken_filed n (t n z)) filings) (saw_both T ns seat.0.taken t takings)
+    sees_3 : (ns : List ℕ) → ((n : ℕ) → 0 < occurrences n ns → T n ≡ 1) → Reads K s.words s.homes
+        (set s.views id (with_taken seat.0 ns))
+    sees_3 ns t = saw seat.0.found (ns ++ seat.0.claimed) (ns ++ seat.0.filed) (ns ++ seat.0.taken) found
+        (saw_both C ns seat.0.claimed (λ n z. filed_claimed n (taken_filed n (t n z))) claims)
+        (saw_both F ns seat.0.filed (λ n z. taken_filed n (t n z)) filings) (saw_both T ns seat.0.taken t takings)
 
-  only_here : (c : ℕ → ℕ) (n m : ℕ) → c n ≡ 1 → 0 < occurrences m (n ∷ []) → c m ≡ 1
-  only_here c n m is = saw_one c n [] is (λ k z. absurd (omega (arith, z))) m
+    only_here : (c : ℕ → ℕ) (n m : ℕ) → c n ≡ 1 → 0 < occurrences m (n ∷ []) → c m ≡ 1
+    only_here c n m is = saw_one c n [] is (λ k z. absurd (omega (arith, z))) m
 
-  -- where the view is w
-  there : (w : View) → get_elem? (set s.views id w) id ≡ some w
-  there w = set_here s.views id w (at_within s.views id seat.0 e)
+    -- where the view is w
+    there : (w : View) → get_elem? (set s.views id w) id ≡ some w
+    there w = set_here s.views id w (at_within s.views id seat.0 e)
 
-  draw_by : 0 < length seat.0.share → (d : ℕ) → 4 * (d / 64) + 3 < width → (x : ℕ) → D d ≡ x → Goes (4 * (d / 64) + 3) (bit_or (get_or s.words (4 * (d / 64) + 3) 0) (mask_of d))
-      (λ after. (x ≡ 0 → (occurrences d seat.0.draws ≡ 0) × (occurrences d seat.0.found ≡ 0) × (after ≡ (after_draw seat.0 d, seat.1))) × (x ≡ 1 → after ≡ (with_found seat.0 d, seat.1)))
-  draw_by rich d small zero is =
-      let near : 4 * (d / 64) + 3 < length s.words = inside (4 * (d / 64) + 3) small in let ws' : List ℕ = marked 3 s.words d in let D' : ℕ → ℕ = bit_of 3 ws' in
-      let unfound : occurrences d seat.0.found ≡ 0 = dite (ℕ_discrete (occurrences d seat.0.found) 0) (λ z. z) (λ ne. absurd (omega (arith, is, found d (omega (arith, ne))))) in (
-        after_draw seat.0 d,
-        keeps,
-        tt,
-        (
-          length-set s.words (4 * (d / 64) + 3) _ ∙ h.0,
+    draw_by : 0 < length seat.0.share → (d : ℕ) → 4 * (d / 64) + 3 < width → (x : ℕ) → D d ≡ x → Goes (4 * (d / 64) + 3)
+        (bit_or (get_or s.words (4 * (d / 64) + 3) 0) (mask_of d))
+        (λ after. (x ≡ 0 → (occurrences d seat.0.draws ≡ 0) × (occurrences d seat.0.found ≡ 0)
+        × (after ≡ (after_draw seat.0 d, seat.1))) × (x ≡ 1 → after ≡ (with_found seat.0 d, seat.1)))
+    draw_by rich d small zero is =
+        let near : 4 * (d / 64) + 3 < length s.words = inside (4 * (d / 64) + 3) small in
+        let ws' : List ℕ = marked 3 s.words d in let D' : ℕ → ℕ = bit_of 3 ws' in
+        let unfound : occurrences d seat.0.found ≡ 0 = dite (ℕ_discrete (occurrences d seat.0.found) 0) (λ z. z)
+        (λ ne. absurd (omega (arith, is, found d (omega (arith, ne))))) in (
+          after_draw seat.0 d,
+          keeps,
+          tt,
           (
-            K,
-            rule_alike (length s.homes) D' D' C (bit_of 0 ws') F (bit_of 1 ws') T (bit_of 2 ws') K E H (set s.views id (after_draw seat.0 d)) (λ _. refl) (bit_row 3 s.words d near 0 (omega arith) (omega arith) (λ z. omega arith)) (bit_row 3 s.words d near 1 (omega arith) (omega arith) (λ z. omega arith)) (bit_row 3 s.words d near 2 (omega arith) (omega arith) (λ z. omega arith))
-                (rule_gets (length s.homes) D C F T K E H s.views r id seat.0 e (has_any rich) D' d is (bit_here 3 s.words d near) (bit_else 3 s.words d near)),
-            h.1.2,
+            length-set s.words (4 * (d / 64) + 3) _ ∙ h.0,
+            (
+              K,
+              rule_alike (length s.homes) D' D' C (bit_of 0 ws') F (bit_of 1 ws') T (bit_of 2 ws') K E H
+                  (set s.views id (after_draw seat.0 d)) (λ _. refl) (bit_row 3 s.words d near 0 (omega arith)
+                  (omega arith)
+                  (λ z. omega arith)) (bit_row 3 s.words d near 1 (omega arith) (omega arith) (λ z. omega arith))
+                  (bit_row 3 s.words d near 2 (omega arith) (omega arith) (λ z. omega arith))
+                  (rule_gets (length s.homes) D C F T K E H s.views r id seat.0 e (has_any rich) D' d is
+                  (bit_here 3 s.words d near) (bit_else 3 s.words d near)),
+              h.1.2,
+            ),
           ),
-        ),
-        ((λ _. (undrawn (length s.homes) D C F T K E H s.views r id seat.0 e d is, unfound, refl)), λ z. absurd (omega (arith, z))),
-      )
-  draw_by rich d small (suc zero) is = let near : 4 * (d / 64) + 3 < length s.words = inside (4 * (d / 64) + 3) small in (
-    with_found seat.0 d,
-    keeps,
-    tt,
-    stands 3 d (omega arith) near is (with_found seat.0 d) (saw (d ∷ seat.0.found) seat.0.claimed seat.0.filed seat.0.taken (saw_one D d seat.0.found is found) claims filings takings),
-    ((λ z. absurd (omega (arith, z))), λ _. refl),
-  )
-  draw_by rich d small (suc (suc k)) is = absurd (omega (arith, is, bit_small 3 s.words d))
-
-  claim_by : 0 < length seat.0.share → (n : ℕ) → n < length s.homes → 4 * (n / 64) + 0 < width → seat.0.pending ≡ [] → (x : ℕ) → C n ≡ x → Goes (4 * (n / 64) + 0) (bit_or (get_or s.words (4 * (n / 64) + 0) 0) (mask_of n))
-      (λ after. (x ≡ 0 → (occurrences n (numbers seat.0.list) ≡ 0) × (after ≡ (after_claim seat.0 n, (n, None) ∷ seat.1))) × (x ≡ 1 → after ≡ (with_claimed seat.0 (n ∷ []), seat.1)))
-  claim_by rich n low small free zero is =
-      let near : 4 * (n / 64) + 0 < length s.words = inside (4 * (n / 64) + 0) small in let ws' : List ℕ = marked 0 s.words n in
-      let homes' : Homes = set s.homes n none in let vs' : List View = set s.views id (after_claim seat.0 n) in
-      let unfiled : F n ≡ 0 = let p = r.stages.pending_once n in omega (arith, p, is) in
-      let rule : StepRule (length s.homes) D (bit_of 0 ws') F T K (IsEmpty homes') (IsFilled homes') vs' = rule_wins (length s.homes) D C F T K E H s.views r id seat.0 e (has_any rich) (bit_of 0 ws') (IsEmpty homes') (IsFilled homes') n free low is (bit_here 0 s.words n near) (bit_else 0 s.words n near)
-      (λ m ne empty l. set_else s.homes n m none ne ∙ empty (subst (λ (y : ℕ). m < y) (length-set s.homes n none) l)) (λ m x ne full. set_else s.homes n m none ne ∙ full) (λ m x ne full. sym (set_else s.homes n m none ne) ∙ full)
-      (λ x full. none_full none x refl (sym (set_here s.homes n none low) ∙ full)) in (
-        after_claim seat.0 n,
-        takes n None,
-        r.contents.free_is_empty n is low,
-        (
-          length-set s.words (4 * (n / 64) + 0) _ ∙ h.0,
           (
-            K,
-            resized K (length s.homes) (length homes') (bit_of 3 ws') (bit_of 0 ws') (bit_of 1 ws') (bit_of 2 ws') (IsEmpty homes') (IsFilled homes') vs' (length-set s.homes n none)
-                (rule_alike (length s.homes) D (bit_of 3 ws') (bit_of 0 ws') (bit_of 0 ws') F (bit_of 1 ws') T (bit_of 2 ws') K (IsEmpty homes') (IsFilled homes') vs' (bit_row 0 s.words n near 3 (omega arith) (omega arith) (λ z. omega arith)) (λ _. refl) (bit_row 0 s.words n near 1 (omega arith) (omega arith) (λ z. omega arith)) (bit_row 0 s.words n near 2 (omega arith) (omega arith) (λ z. omega arith)) rule),
-            h.1.2,
+            (λ _. (undrawn (length s.homes) D C F T K E H s.views r id seat.0 e d is, unfound, refl)),
+            λ z. absurd (omega (arith, z)),
           ),
-        ),
-        ((λ _. (unlisted (length s.homes) D C F T K E H s.views r id seat.0 e n unfiled, refl)), λ z. absurd (omega (arith, z))),
-      )
-  claim_by rich n low small free (suc zero) is = let near : 4 * (n / 64) + 0 < length s.words = inside (4 * (n / 64) + 0) small in (
-    with_claimed seat.0 (n ∷ []),
-    keeps,
-    tt,
-    stands 0 n (omega arith) near is (with_claimed seat.0 (n ∷ [])) (sees_1 (n ∷ []) (λ m. only_here C n m is)),
-    ((λ z. absurd (omega (arith, z))), λ _. refl),
-  )
-  claim_by rich n low small free (suc (suc k)) is = absurd (omega (arith, is, bit_small 0 s.words n))
+        )
+    draw_by rich d small (suc zero) is = let near : 4 * (d / 64) + 3 < length s.words = inside (4 * (d / 64) + 3)
+        small in (
+          with_found seat.0 d,
+          keeps,
+          tt,
+          stands 3 d (omega arith) near is (with_found seat.0 d) (saw (d ∷ seat.0.found) seat.0.claimed seat.0.filed
+              seat.0.taken (saw_one D d seat.0.found is found) claims filings takings),
+          ((λ z. absurd (omega (arith, z))), λ _. refl),
+        )
+    draw_by rich d small (suc (suc k)) is = absurd (omega (arith, is, bit_small 3 s.words d))
 
-  file_by : (n : ℕ) (b : Block) → b.number ≡ n → n < length s.homes → 4 * (n / 64) + 1 < width → seat.0.pending ≡ n ∷ [] → seat.1 ≡ (n, Some b) ∷ [] → Goes (4 * (n / 64) + 1) (bit_or (get_or s.words (4 * (n / 64) + 1) 0) (mask_of n))
-      (λ after. (occurrences n (numbers seat.0.list) ≡ 0) × (after ≡ (after_filing seat.0 n b, [])) × (length seat.0.list < length s.homes) × SameBlocks after.0)
-  file_by n b own low small one has =
-      let near : 4 * (n / 64) + 1 < length s.words = inside (4 * (n / 64) + 1) small in let ws' : List ℕ = marked 1 s.words n in
-      let here : Option Block = Some b in let homes' : Homes = set s.homes n (some here) in let w : View = after_filing seat.0 n b in let vs' : List View = set s.views id w in let K' : Contents_of = update K n (Some b) in let F' : ℕ → ℕ = bit_of 1 ws' in
-      let numbered : IsNumbered K' = each n (λ m. (x : Block) → update K n (Some b) m ≡ Some x → x.number ≡ m) (λ x z. let same : b ≡ x = one_content (update K n (Some b) n) b x (update_here K n (Some b)) z in subst (λ (y : Block). y.number ≡ n) same own) (λ m ne x z. h.1.2 m x (sym (update_else K n (Some b) m ne) ∙ z)) in
-      let was = is_pending (length s.homes) D C F T K E H s.views r id seat.0 e n one in
-      let rule : StepRule (length s.homes) D C F' T K' (IsEmpty homes') (IsFilled homes') vs' = rule_files (length s.homes) D C F T K E H s.views r id seat.0 e F' K' (IsEmpty homes') (IsFilled homes') n b one (bit_here 1 s.words n near) (bit_else 1 s.words n near) (update_here K n (Some b)) (update_else K n (Some b))
-      (λ m ne empty l. set_else s.homes n m (some here) ne ∙ empty (subst (λ (y : ℕ). m < y) (length-set s.homes n (some here)) l)) (λ m x ne full. set_else s.homes n m (some here) ne ∙ full) (λ m x ne full. sym (set_else s.homes n m (some here) ne) ∙ full)
-      (set_here s.homes n (some here) low) (λ x full. one_block x b (sym full ∙ set_here s.homes n (some here) low)) in
-      let kept : Holds width (record { words = ws'; homes = homes'; views = vs' }) = (
-        length-set s.words (4 * (n / 64) + 1) _ ∙ h.0,
-        (
-          K',
-          resized K' (length s.homes) (length homes') (bit_of 3 ws') (bit_of 0 ws') (bit_of 1 ws') (bit_of 2 ws') (IsEmpty homes') (IsFilled homes') vs' (length-set s.homes n (some here))
-              (rule_alike (length s.homes) D (bit_of 3 ws') C (bit_of 0 ws') F' F' T (bit_of 2 ws') K' (IsEmpty homes') (IsFilled homes') vs' (bit_row 1 s.words n near 3 (omega arith) (omega arith) (λ z. omega arith)) (bit_row 1 s.words n near 0 (omega arith) (omega arith) (λ z. omega arith)) (λ _. refl) (bit_row 1 s.words n near 2 (omega arith) (omega arith) (λ z. omega arith)) rule),
-          numbered,
-        ),
-      ) in
-      let most = few_listed (length s.homes) D C F' T K' (IsEmpty homes') (IsFilled homes') vs' rule id w (there w) in
-      let least = sum_below_limit F' (length s.homes) (bit_small 1 ws') in (
-        w,
-        gives,
-        tt,
-        subst (λ (cs : List (ℕ × Option Block)). Holds width (stepped s (4 * (n / 64) + 1) (bit_or (get_or s.words (4 * (n / 64) + 1) 0) (mask_of n)) id cs w gives)) (sym has) kept,
-        (unlisted (length s.homes) D C F T K E H s.views r id seat.0 e n was.1, (λ i. (w, rest (has i))), omega (arith, most, least), rule_agrees (length s.homes) D C F' T K' (IsEmpty homes') (IsFilled homes') vs' rule id w (there w)),
-      )
-
-  take_by : 0 < length seat.0.share → (n : ℕ) → n < length s.homes → 4 * (n / 64) + 2 < width → 0 < occurrences n seat.0.filed → (x : ℕ) → T n ≡ x → Goes (4 * (n / 64) + 2) (bit_or (get_or s.words (4 * (n / 64) + 2) 0) (mask_of n))
-      (λ after. (x ≡ 0 → (b : Block) × (b.number ≡ n) × (occurrences n (numbers seat.0.takes) ≡ 0) × (after ≡ (after_take seat.0 n b, (n, Some b) ∷ seat.1)) × (length seat.0.takes < length s.homes) × SameBlocks after.0)
-      × (x ≡ 1 → after ≡ (with_taken seat.0 (n ∷ []), seat.1)))
-  take_by rich n low small saw_it zero is =
-      let near : 4 * (n / 64) + 2 < length s.words = inside (4 * (n / 64) + 2) small in let ws' : List ℕ = marked 2 s.words n in
-      let f1 : F n ≡ 1 = filings n saw_it in let full = r.contents.filed_is_home n f1 is in let b : Block = full.0 in
-      let homes' : Homes = set s.homes n none in let w : View = after_take seat.0 n b in let vs' : List View = set s.views id w in let T' : ℕ → ℕ = bit_of 2 ws' in
-      let rule : StepRule (length s.homes) D C F T' K (IsEmpty homes') (IsFilled homes') vs' = rule_takes (length s.homes) D C F T K E H s.views r id seat.0 e (has_any rich) T' (IsEmpty homes') (IsFilled homes') n b f1 is (bit_here 2 s.words n near) (bit_else 2 s.words n near) full.1
-      (λ m ne empty l. set_else s.homes n m none ne ∙ empty (subst (λ (y : ℕ). m < y) (length-set s.homes n none) l)) (λ m x ne full. set_else s.homes n m none ne ∙ full) (λ m x ne full. sym (set_else s.homes n m none ne) ∙ full)
-      (λ x full. none_full none x refl (sym (set_here s.homes n none low) ∙ full)) in
-      let most = few_taken (length s.homes) D C F T' K (IsEmpty homes') (IsFilled homes') vs' rule id w (there w) in
-      let least = sum_below_limit T' (length s.homes) (bit_small 2 ws') in (
-        w,
-        takes n (Some b),
-        full.2,
-        (
-          length-set s.words (4 * (n / 64) + 2) _ ∙ h.0,
+    claim_by : 0 < length seat.0.share → (n : ℕ) → n < length s.homes → 4 * (n / 64) + 0 < width → seat.0.pending ≡ []
+        → (x : ℕ) → C n ≡ x → Goes (4 * (n / 64) + 0) (bit_or (get_or s.words (4 * (n / 64) + 0) 0) (mask_of n))
+        (λ after. (x ≡ 0 → (occurrences n (numbers seat.0.list) ≡ 0)
+        × (after ≡ (after_claim seat.0 n, (n, None) ∷ seat.1)))
+        × (x ≡ 1 → after ≡ (with_claimed seat.0 (n ∷ []), seat.1)))
+    claim_by rich n low small free zero is =
+        let near : 4 * (n / 64) + 0 < length s.words = inside (4 * (n / 64) + 0) small in
+        let ws' : List ℕ = marked 0 s.words n in
+        let homes' : Homes = set s.homes n none in let vs' : List View = set s.views id (after_claim seat.0 n) in
+        let unfiled : F n ≡ 0 = let p = r.stages.pending_once n in omega (arith, p, is) in
+        let rule : StepRule (length s.homes) D (bit_of 0 ws') F T K (IsEmpty homes') (IsFilled homes') vs' = rule_wins
+        (length s.homes) D C F T K E H s.views r id seat.0 e (has_any rich) (bit_of 0 ws') (IsEmpty homes')
+        (IsFilled homes') n free low is (bit_here 0 s.words n near) (bit_else 0 s.words n near)
+        (λ m ne empty l. set_else s.homes n m none ne ∙ empty (subst (λ (y : ℕ). m < y) (length-set s.homes n none) l))
+        (λ m x ne full. set_else s.homes n m none ne ∙ full) (λ m x ne full. sym (set_else s.homes n m none ne) ∙ full)
+        (λ x full. none_full none x refl (sym (set_here s.homes n none low) ∙ full)) in (
+          after_claim seat.0 n,
+          takes n None,
+          r.contents.free_is_empty n is low,
           (
-            K,
-            resized K (length s.homes) (length homes') (bit_of 3 ws') (bit_of 0 ws') (bit_of 1 ws') (bit_of 2 ws') (IsEmpty homes') (IsFilled homes') vs' (length-set s.homes n none)
-                (rule_alike (length s.homes) D (bit_of 3 ws') C (bit_of 0 ws') F (bit_of 1 ws') T' T' K (IsEmpty homes') (IsFilled homes') vs' (bit_row 2 s.words n near 3 (omega arith) (omega arith) (λ z. omega arith)) (bit_row 2 s.words n near 0 (omega arith) (omega arith) (λ z. omega arith)) (bit_row 2 s.words n near 1 (omega arith) (omega arith) (λ z. omega arith)) (λ _. refl) rule),
-            h.1.2,
+            length-set s.words (4 * (n / 64) + 0) _ ∙ h.0,
+            (
+              K,
+              resized K (length s.homes) (length homes') (bit_of 3 ws') (bit_of 0 ws') (bit_of 1 ws') (bit_of 2 ws')
+                  (IsEmpty homes') (IsFilled homes') vs' (length-set s.homes n none)
+                  (rule_alike (length s.homes) D (bit_of 3 ws') (bit_of 0 ws') (bit_of 0 ws') F (bit_of 1 ws') T
+                  (bit_of 2 ws') K (IsEmpty homes') (IsFilled homes') vs' (bit_row 0 s.words n near 3 (omega arith)
+                  (omega arith) (λ z. omega arith)) (λ _. refl) (bit_row 0 s.words n near 1 (omega arith) (omega arith)
+                  (λ z. omega arith)) (bit_row 0 s.words n near 2 (omega arith) (omega arith) (λ z. omega arith)) rule),
+              h.1.2,
+            ),
           ),
-        ),
-        ((λ _. (b, h.1.2 n b full.1, untaken (length s.homes) D C F T K E H s.views r id seat.0 e n is, refl, omega (arith, most, least), rule_agrees (length s.homes) D C F T' K (IsEmpty homes') (IsFilled homes') vs' rule id w (there w))), λ z. absurd (omega (arith, z))),
-      )
-  take_by rich n low small saw_it (suc zero) is = let near : 4 * (n / 64) + 2 < length s.words = inside (4 * (n / 64) + 2) small in (
-    with_taken seat.0 (n ∷ []),
-    keeps,
-    tt,
-    stands 2 n (omega arith) near is (with_taken seat.0 (n ∷ [])) (sees_3 (n ∷ []) (λ m. only_here T n m is)),
-    ((λ z. absurd (omega (arith, z))), λ _. refl),
-  )
-  take_by rich n low small saw_it (suc (suc k)) is = absurd (omega (arith, is, bit_small 2 s.words n))
+          (
+            (λ _. (unlisted (length s.homes) D C F T K E H s.views r id seat.0 e n unfiled, refl)),
+            λ z. absurd (omega (arith, z)),
+          ),
+        )
+    claim_by rich n low small free (suc zero) is = let near : 4 * (n / 64) + 0 < length s.words = inside
+        (4 * (n / 64) + 0) small in (
+          with_claimed seat.0 (n ∷ []),
+          keeps,
+          tt,
+          stands 0 n (omega arith) near is (with_claimed seat.0 (n ∷ [])) (sees_1 (n ∷ []) (λ m. only_here C n m is)),
+          ((λ z. absurd (omega (arith, z))), λ _. refl),
+        )
+    claim_by rich n low small free (suc (suc k)) is = absurd (omega (arith, is, bit_small 0 s.words n))
+
+    file_by : (n : ℕ) (b : Block) → b.number ≡ n → n < length s.homes → 4 * (n / 64) + 1 < width → seat.0.pending ≡ n
+        ∷ []
+        → seat.1 ≡ (n, Some b) ∷ [] → Goes (4 * (n / 64) + 1) (bit_or (get_or s.words (4 * (n / 64) + 1) 0) (mask_of n))
+        (λ after. (occurrences n (numbers seat.0.list) ≡ 0) × (after ≡ (after_filing seat.0 n b, []))
+        × (length seat.0.list < length s.homes) × SameBlocks after.0)
+    file_by n b own low small one has =
+        let near : 4 * (n / 64) + 1 < length s.words = inside (4 * (n / 64) + 1) small in
+        let ws' : List ℕ = marked 1 s.words n in
+        let here : Option Block = Some b in let homes' : Homes = set s.homes n (some here) in
+        let w : View = after_filing seat.0 n b in let vs' : List View = set s.views id w in
+        let K' : Contents_of = update K n (Some b) in let F' : ℕ → ℕ = bit_of 1 ws' in
+        let numbered : IsNumbered K' = each n (λ m. (x : Block) → update K n (Some b) m ≡ Some x → x.number ≡ m)
+        (λ x z. let same : b ≡ x = one_content (update K n (Some b) n) b x (update_here K n (Some b)) z in
+        subst (λ (y : Block). y.number ≡ n) same own) (λ m ne x z. h.1.2 m x (sym (update_else K n (Some b) m ne) ∙ z))
+        in
+        let was = is_pending (length s.homes) D C F T K E H s.views r id seat.0 e n one in
+        let rule : StepRule (length s.homes) D C F' T K' (IsEmpty homes') (IsFilled homes') vs' = rule_files
+        (length s.homes) D C F T K E H s.views r id seat.0 e F' K' (IsEmpty homes') (IsFilled homes') n b one
+        (bit_here 1 s.words n near) (bit_else 1 s.words n near) (update_here K n (Some b)) (update_else K n (Some b))
+        (λ m ne empty l. set_else s.homes n m (some here) ne
+        ∙ empty (subst (λ (y : ℕ). m < y) (length-set s.homes n (some here)) l)) (λ m x ne full. set_else s.homes n m
+        (some here) ne ∙ full) (λ m x ne full. sym (set_else s.homes n m (some here) ne) ∙ full)
+        (set_here s.homes n (some here) low) (λ x full. one_block x b (sym full ∙ set_here s.homes n (some here) low))
+        in
+        let kept : Holds width (record { words = ws'; homes = homes'; views = vs' }) = (
+          length-set s.words (4 * (n / 64) + 1) _ ∙ h.0,
+          (
+            K',
+            resized K' (length s.homes) (length homes') (bit_of 3 ws') (bit_of 0 ws') (bit_of 1 ws') (bit_of 2 ws')
+                (IsEmpty homes') (IsFilled homes') vs' (length-set s.homes n (some here))
+                (rule_alike (length s.homes) D (bit_of 3 ws') C (bit_of 0 ws') F' F' T (bit_of 2 ws') K'
+                (IsEmpty homes')
+                (IsFilled homes') vs' (bit_row 1 s.words n near 3 (omega arith) (omega arith) (λ z. omega arith))
+                (bit_row 1 s.words n near 0 (omega arith) (omega arith) (λ z. omega arith)) (λ _. refl)
+                (bit_row 1 s.words n near 2 (omega arith) (omega arith) (λ z. omega arith)) rule),
+            numbered,
+          ),
+        ) in
+        let most = few_listed (length s.homes) D C F' T K' (IsEmpty homes') (IsFilled homes') vs' rule id w (there w) in
+        let least = sum_below_limit F' (length s.homes) (bit_small 1 ws') in (
+          w,
+          gives,
+          tt,
+          subst (λ (cs : List (ℕ × Option Block)). Holds width
+              (stepped s (4 * (n / 64) + 1) (bit_or (get_or s.words (4 * (n / 64) + 1) 0) (mask_of n)) id cs w gives))
+              (sym has) kept,
+          (
+            unlisted (length s.homes) D C F T K E H s.views r id seat.0 e n was.1,
+            (λ i. (w, rest (has i))),
+            omega (arith, most, least),
+            rule_agrees (length s.homes) D C F' T K' (IsEmpty homes') (IsFilled homes') vs'
+                rule id w (there w),
+          ),
+        )
+
+    take_by : 0 < length seat.0.share → (n : ℕ) → n < length s.homes → 4 * (n / 64) + 2 < width → 0 < occurrences n
+        seat.0.filed → (x : ℕ) → T n ≡ x → Goes (4 * (n / 64) + 2) (bit_or (get_or s.words (4 * (n / 64) + 2) 0)
+        (mask_of n))
+        (λ after. (x ≡ 0 → (b : Block) × (b.number ≡ n) × (occurrences n (numbers seat.0.takes) ≡ 0)
+        × (after ≡ (after_take seat.0 n b, (n, Some b) ∷ seat.1)) × (length seat.0.takes < length s.homes)
+        × SameBlocks after.0)
+        × (x ≡ 1 → after ≡ (with_taken seat.0 (n ∷ []), seat.1)))
+    take_by rich n low small saw_it zero is =
+        let near : 4 * (n / 64) + 2 < length s.words = inside (4 * (n / 64) + 2) small in
+        let ws' : List ℕ = marked 2 s.words n in
+        let f1 : F n ≡ 1 = filings n saw_it in let full = r.contents.filed_is_home n f1 is in let b : Block = full.0 in
+        let homes' : Homes = set s.homes n none in let w : View = after_take seat.0 n b in
+        let vs' : List View = set s.views id w in let T' : ℕ → ℕ = bit_of 2 ws' in
+        let rule : StepRule (length s.homes) D C F T' K (IsEmpty homes') (IsFilled homes') vs' = rule_takes
+        (length s.homes) D C F T K E H s.views r id seat.0 e (has_any rich) T' (IsEmpty homes') (IsFilled homes') n b f1
+        is (bit_here 2 s.words n near) (bit_else 2 s.words n near) full.1
+        (λ m ne empty l. set_else s.homes n m none ne ∙ empty (subst (λ (y : ℕ). m < y) (length-set s.homes n none) l))
+        (λ m x ne full. set_else s.homes n m none ne ∙ full) (λ m x ne full. sym (set_else s.homes n m none ne) ∙ full)
+        (λ x full. none_full none x refl (sym (set_here s.homes n none low) ∙ full)) in
+        let most = few_taken (length s.homes) D C F T' K (IsEmpty homes') (IsFilled homes') vs' rule id w (there w) in
+        let least = sum_below_limit T' (length s.homes) (bit_small 2 ws') in (
+          w,
+          takes n (Some b),
+          full.2,
+          (
+            length-set s.words (4 * (n / 64) + 2) _ ∙ h.0,
+            (
+              K,
+              resized K (length s.homes) (length homes') (bit_of 3 ws') (bit_of 0 ws') (bit_of 1 ws') (bit_of 2 ws')
+                  (IsEmpty homes') (IsFilled homes') vs' (length-set s.homes n none)
+                  (rule_alike (length s.homes) D (bit_of 3 ws') C (bit_of 0 ws') F (bit_of 1 ws') T' T' K
+                  (IsEmpty homes')
+                  (IsFilled homes') vs' (bit_row 2 s.words n near 3 (omega arith) (omega arith) (λ z. omega arith))
+                  (bit_row 2 s.words n near 0 (omega arith) (omega arith) (λ z. omega arith))
+                  (bit_row 2 s.words n near 1 (omega arith) (omega arith) (λ z. omega arith)) (λ _. refl) rule),
+              h.1.2,
+            ),
+          ),
+          (
+            (λ _. (
+              b,
+              h.1.2 n b full.1,
+              untaken (length s.homes) D C F T K E H s.views r id seat.0 e n is,
+              refl,
+              omega (arith, most, least),
+              rule_agrees (length s.homes) D C F T' K (IsEmpty homes') (IsFilled homes') vs'
+                  rule id w (there w),
+            )),
+            λ z. absurd (omega (arith, z)),
+          ),
+        )
+    take_by rich n low small saw_it (suc zero) is = let near : 4 * (n / 64) + 2 < length s.words = inside
+        (4 * (n / 64) + 2) small in (
+          with_taken seat.0 (n ∷ []),
+          keeps,
+          tt,
+          stands 2 n (omega arith) near is (with_taken seat.0 (n ∷ [])) (sees_3 (n ∷ []) (λ m. only_here T n m is)),
+          ((λ z. absurd (omega (arith, z))), λ _. refl),
+        )
+    take_by rich n low small saw_it (suc (suc k)) is = absurd (omega (arith, is, bit_small 2 s.words n))
 
 -- a word and a mask that were computed
-pub at_word : (Tells : TableStep → SeatState → ℕ → SeatState → Type 0) (width slots id : ℕ) (seat : SeatState) (i j m k : ℕ) → i ≡ j → m ≡ k
-    → Allows (Holds width) slots id seat j (λ x. bit_or x k) (Tells (step slots j k 0 none) seat) → Allows (Holds width) slots id seat i (λ x. bit_or x m) (Tells (step slots i m 0 none) seat)
+pub at_word : (Tells : TableStep → SeatState → ℕ → SeatState → Type 0) (width slots id : ℕ) (seat : SeatState)
+    (i j m k : ℕ) → i ≡ j → m ≡ k
+    → Allows (Holds width) slots id seat j (λ x. bit_or x k) (Tells (step slots j k 0 none) seat) → Allows (Holds width)
+    slots id seat i (λ x. bit_or x m) (Tells (step slots i m 0 none) seat)
 at_word Tells width slots id seat i j m k is same allowed =
-    subst (λ (z : ℕ × ℕ). Allows (Holds width) slots id seat z.0 (λ x. bit_or x z.1) (Tells (step slots z.0 z.1 0 none) seat)) (λ t. (sym is t, sym same t)) allowed
+    subst (λ (z : ℕ × ℕ). Allows (Holds width) slots id seat z.0 (λ x. bit_or x z.1) (Tells (step slots z.0 z.1 0 none)
+    seat)) (λ t. (sym is t, sym same t)) allowed
 
 -- at the number that the step names, whatever a caller reads off it
-told : (slots k d : ℕ) (F : ℕ → Type 0) → F d → (n : ℕ) → IsAtBit (step slots (4 * (d / 64) + k) (mask_of d) 0 none) k n → F n
+told : (slots k d : ℕ) (F : ℕ → Type 0) → F d → (n : ℕ) → IsAtBit (step slots (4 * (d / 64) + k) (mask_of d) 0 none) k n
+    → F n
 told slots k d F f n a = subst F (one_number k d n a.word a.mask) f
 
-pub draws_allowed : (width slots id : ℕ) (seat : SeatState) → 0 < length seat.0.share → (d : ℕ) → 4 * (d / 64) + 3 < width → Allows (Holds width) slots id seat (4 * (d / 64) + 3) (λ n. bit_or n (mask_of d)) (DrawTells (step slots (4 * (d / 64) + 3) (mask_of d) 0 none) seat)
-draws_allowed width slots id seat rich d small s h wide e fits = let g = draw_by width s h id seat e rich d small (bit_of 3 s.words d) refl in
-    (g.0, g.1, g.2, g.3, told slots 3 d (λ n. (bit_at (get_or s.words (4 * (d / 64) + 3) 0) (n % 64) ≡ 0 → (occurrences n seat.0.draws ≡ 0) × (occurrences n seat.0.found ≡ 0) × ((g.0, carried_after seat.1 g.1) ≡ (after_draw seat.0 n, seat.1))) × (bit_at (get_or s.words (4 * (d / 64) + 3) 0) (n % 64) ≡ 1 → (g.0, carried_after seat.1 g.1) ≡ (with_found seat.0 n, seat.1))) g.4)
+pub draws_allowed : (width slots id : ℕ) (seat : SeatState) → 0 < length seat.0.share → (d : ℕ) → 4 * (d / 64) + 3 <
+    width → Allows (Holds width) slots id seat (4 * (d / 64) + 3) (λ n. bit_or n (mask_of d))
+    (DrawTells (step slots (4 * (d / 64) + 3) (mask_of d) 0 none) seat)
+draws_allowed width slots id seat rich d small s h wide e fits = let g = draw_by width s h id seat e rich d small
+    (bit_of 3 s.words d) refl in (
+      g.0,
+      g.1,
+      g.2,
+      g.3,
+      told slots 3 d (λ n. (bit_at (get_or s.words (4 * (d / 64) + 3) 0) (n % 64) ≡ 0
+          → (occurrences n seat.0.draws ≡ 0) × (occurrences n seat.0.found ≡ 0) × ((g.0, carried_after seat.1 g.1)
+          ≡ (after_draw seat.0 n, seat.1))) × (bit_at (get_or s.words (4 * (d / 64) + 3) 0) (n % 64) ≡ 1
+          → (g.0, carried_after seat.1 g.1) ≡ (with_found seat.0 n, seat.1))) g.4,
+    )
 
-pub claims_allowed : (width slots id : ℕ) (seat : SeatState) → 0 < length seat.0.share → (n : ℕ) → n < slots → 4 * (n / 64) + 0 < width → seat.0.pending ≡ [] → Allows (Holds width) slots id seat (4 * (n / 64) + 0) (λ x. bit_or x (mask_of n)) (ClaimTells (step slots (4 * (n / 64) + 0) (mask_of n) 0 none) seat)
-claims_allowed width slots id seat rich n low small free s h wide e fits = let g = claim_by width s h id seat e rich n (omega (arith, low, wide)) small free (bit_of 0 s.words n) refl in
-    (g.0, g.1, g.2, g.3, told slots 0 n (λ m. (bit_at (get_or s.words (4 * (n / 64) + 0) 0) (m % 64) ≡ 0 → (occurrences m (numbers seat.0.list) ≡ 0) × ((g.0, carried_after seat.1 g.1) ≡ (after_claim seat.0 m, (m, None) ∷ seat.1))) × (bit_at (get_or s.words (4 * (n / 64) + 0) 0) (m % 64) ≡ 1 → (g.0, carried_after seat.1 g.1) ≡ (with_claimed seat.0 (m ∷ []), seat.1))) g.4)
+pub claims_allowed : (width slots id : ℕ) (seat : SeatState) → 0 < length seat.0.share → (n : ℕ) → n < slots
+    → 4 * (n / 64) + 0 < width → seat.0.pending ≡ [] → Allows (Holds width) slots id seat (4 * (n / 64) + 0)
+    (λ x. bit_or x (mask_of n)) (ClaimTells (step slots (4 * (n / 64) + 0) (mask_of n) 0 none) seat)
+claims_allowed width slots id seat rich n low small free s h wide e fits = let g = claim_by width s h id seat e rich n
+    (omega (arith, low, wide)) small free (bit_of 0 s.words n) refl in (
+      g.0,
+      g.1,
+      g.2,
+      g.3,
+      told slots 0 n (λ m. (bit_at (get_or s.words (4 * (n / 64) + 0) 0) (m % 64) ≡ 0
+          → (occurrences m (numbers seat.0.list) ≡ 0) × ((g.0, carried_after seat.1 g.1) ≡ (
+            after_claim seat.0 m,
+            (m, None)
+                ∷ seat.1,
+          ))) × (bit_at (get_or s.words (4 * (n / 64) + 0) 0) (m % 64) ≡ 1 → (g.0, carried_after seat.1 g.1)
+          ≡ (with_claimed seat.0 (m ∷ []), seat.1))) g.4,
+    )
 
-pub takes_allowed : (width slots id : ℕ) (seat : SeatState) → 0 < length seat.0.share → (n : ℕ) → n < slots → 4 * (n / 64) + 2 < width → 0 < occurrences n seat.0.filed → Allows (Holds width) slots id seat (4 * (n / 64) + 2) (λ x. bit_or x (mask_of n)) (TakeTells (step slots (4 * (n / 64) + 2) (mask_of n) 0 none) seat)
-takes_allowed width slots id seat rich n low small saw_it s h wide e fits = let g = take_by width s h id seat e rich n (omega (arith, low, wide)) small saw_it (bit_of 2 s.words n) refl in let after : SeatState = (g.0, carried_after seat.1 g.1) in (
-  g.0,
-  g.1,
-  g.2,
-  g.3,
-  told slots 2 n (λ m. (bit_at (get_or s.words (4 * (n / 64) + 2) 0) (m % 64) ≡ 0 → (b : Block) × (b.number ≡ m) × (occurrences m (numbers seat.0.takes) ≡ 0) × (after ≡ (after_take seat.0 m b, (m, Some b) ∷ seat.1)) × (length seat.0.takes < slots) × SameBlocks after.0)
-      × (bit_at (get_or s.words (4 * (n / 64) + 2) 0) (m % 64) ≡ 1 → after ≡ (with_taken seat.0 (m ∷ []), seat.1)))
-      ((λ z. let t = g.4.0 z in (t.0, t.1, t.2, t.3, subst (λ (y : ℕ). length seat.0.takes < y) wide t.4, t.5)), g.4.1),
-)
+pub takes_allowed : (width slots id : ℕ) (seat : SeatState) → 0 < length seat.0.share → (n : ℕ) → n < slots
+    → 4 * (n / 64) + 2 < width → 0 < occurrences n seat.0.filed → Allows (Holds width) slots id seat (4 * (n / 64) + 2)
+    (λ x. bit_or x (mask_of n)) (TakeTells (step slots (4 * (n / 64) + 2) (mask_of n) 0 none) seat)
+takes_allowed width slots id seat rich n low small saw_it s h wide e fits = let g = take_by width s h id seat e rich n
+    (omega (arith, low, wide)) small saw_it (bit_of 2 s.words n) refl in
+    let after : SeatState = (g.0, carried_after seat.1 g.1) in (
+      g.0,
+      g.1,
+      g.2,
+      g.3,
+      told slots 2 n (λ m. (bit_at (get_or s.words (4 * (n / 64) + 2) 0) (m % 64) ≡ 0 → (b : Block) × (b.number ≡ m)
+          × (occurrences m (numbers seat.0.takes) ≡ 0) × (after ≡ (after_take seat.0 m b, (m, Some b) ∷ seat.1))
+          × (length seat.0.takes < slots) × SameBlocks after.0)
+          × (bit_at (get_or s.words (4 * (n / 64) + 2) 0) (m % 64) ≡ 1
+          → after ≡ (with_taken seat.0 (m ∷ []), seat.1))) (
+            (λ z. let t = g.4.0 z in (t.0, t.1, t.2, t.3, subst (λ (y : ℕ). length seat.0.takes < y) wide t.4, t.5)),
+            g.4.1,
+          ),
+    )
 
 abbrev content_of : Block → Option Block → Block
 content_of b None = b
@@ -294,15 +446,32 @@ block_in b [] = b
 block_in b (x ∷ xs) = content_of b x.1
 
 abbrev FiledAs : ℕ → SeatState → SeatState → ℕ → Block → Type 0
-FiledAs slots seat after n b = (occurrences n (numbers seat.0.list) ≡ 0) × (after ≡ (after_filing seat.0 n b, [])) × (length seat.0.list < slots) × SameBlocks after.0
+FiledAs slots seat after n b = (occurrences n (numbers seat.0.list) ≡ 0) × (after ≡ (after_filing seat.0 n b, []))
+    × (length seat.0.list < slots) × SameBlocks after.0
 
-pub files_allowed : (width slots id : ℕ) (seat : SeatState) (n : ℕ) (b : Block) → b.number ≡ n → n < slots → 4 * (n / 64) + 1 < width → seat.0.pending ≡ n ∷ [] → seat.1 ≡ (n, Some b) ∷ []
-    → Allows (Holds width) slots id seat (4 * (n / 64) + 1) (λ x. bit_or x (mask_of n)) (FileTells (step slots (4 * (n / 64) + 1) (mask_of n) 0 none) seat)
-files_allowed width slots id seat n b own low small one has s h wide e fits = let g = file_by width s h id seat e n b own (omega (arith, low, wide)) small one has in
+pub files_allowed : (width slots id : ℕ) (seat : SeatState) (n : ℕ) (b : Block) → b.number ≡ n → n < slots
+    → 4 * (n / 64) + 1 < width → seat.0.pending ≡ n ∷ [] → seat.1 ≡ (n, Some b) ∷ []
+    → Allows (Holds width) slots id seat (4 * (n / 64) + 1) (λ x. bit_or x (mask_of n))
+    (FileTells (step slots (4 * (n / 64) + 1) (mask_of n) 0 none) seat)
+files_allowed width slots id seat n b own low small one has s h wide e fits = let g = file_by width s h id seat e n b
+    own (omega (arith, low, wide)) small one has in
     let after : SeatState = (g.0, carried_after seat.1 g.1) in
-    let here : FiledAs slots seat after n b = (g.4.0, g.4.1, subst (λ (y : ℕ). length seat.0.list < y) wide g.4.2, g.4.3) in
-    let there : (m : ℕ) → m ≡ n → (b' : Block) → b' ≡ b → FiledAs slots seat after m b' = λ m is b' same. subst (λ (z : ℕ). FiledAs slots seat after z b') (sym is) (subst (λ (y : Block). FiledAs slots seat after n y) (sym same) here) in
-    (g.0, g.1, g.2, g.3, λ m a b' has'. there m (sym (one_number 1 n m a.word a.mask)) b' (ap (block_in b) (sym has' ∙ has)))
+    let here : FiledAs slots seat after n b = (
+      g.4.0,
+      g.4.1,
+      subst (λ (y : ℕ). length seat.0.list < y) wide g.4.2,
+      g.4.3,
+    ) in
+    let there : (m : ℕ) → m ≡ n → (b' : Block) → b' ≡ b → FiledAs slots seat after m b' = λ m is b' same. subst
+    (λ (z : ℕ). FiledAs slots seat after z b') (sym is) (subst (λ (y : Block). FiledAs slots seat after n y)
+    (sym same) here) in (
+      g.0,
+      g.1,
+      g.2,
+      g.3,
+      λ m a b' has'. there m (sym (one_number 1 n m a.word a.mask)) b'
+          (ap (block_in b) (sym has' ∙ has)),
+    )
 
 get_any : (l : List ℕ) (i a b : ℕ) → i < length l → get_or l i a ≡ get_or l i b
 get_any [] i a b h = absurd (omega arith)
@@ -310,72 +479,143 @@ get_any (x ∷ xs) zero a b h = refl
 get_any (x ∷ xs) (suc i) a b h = get_any xs i a b (omega arith)
 
 -- a load leaves the words
-module _ (width : ℕ) (s : St) (h : Holds width s) (id : ℕ) (seat : SeatState) (e : get_elem? s.views id ≡ some seat.0) (i : ℕ) (near : i < width) where
+module _ (width : ℕ) (s : St) (h : Holds width s) (id : ℕ) (seat : SeatState) (e : get_elem? s.views id ≡ some seat.0)
+    (i : ℕ) (near : i < width) where
   words_same : set s.words i (get_or s.words i 0) ≡ s.words
-  words_same = set_again s.words i (get_or s.words i 0) (at_index s.words i (get_or s.words i 0) (let same = h.0 in omega (arith, near, same)) (get_any s.words i 0 (get_or s.words i 0) (let same = h.0 in omega (arith, near, same))))
+  words_same = set_again s.words i (get_or s.words i 0) (at_index s.words i (get_or s.words i 0) (let same = h.0 in
+      omega (arith, near, same)) (get_any s.words i 0 (get_or s.words i 0) (let same = h.0 in
+      omega (arith, near, same))))
 
-  loads : (w : View) → Reads (h.1.0) s.words s.homes (set s.views id w) → Holds width (stepped s i (get_or s.words i 0) id seat.1 w keeps)
-  loads w q = subst (λ (ws : List ℕ). Holds width (record { words = ws; homes = s.homes; views = set s.views id w })) (sym words_same) (h.0, (h.1.0, q, h.1.2))
+  loads : (w : View) → Reads (h.1.0) s.words s.homes (set s.views id w)
+      → Holds width (stepped s i (get_or s.words i 0) id seat.1 w keeps)
+  loads w q = subst (λ (ws : List ℕ). Holds width (record { words = ws; homes = s.homes; views = set s.views id w }))
+      (sym words_same) (h.0, (h.1.0, q, h.1.2))
 
 -- what the word i, of the row k, shows is so
-shown_at : (k g i : ℕ) (ws : List ℕ) → i ≡ 4 * g + k → k < 4 → (m : ℕ) → 0 < occurrences m (set_bits (64 * (i / 4)) (bit_at (get_or ws i 0)) 64) → bit_of k ws m ≡ 1
+shown_at : (k g i : ℕ) (ws : List ℕ) → i ≡ 4 * g + k → k < 4 → (m : ℕ) → 0 < occurrences m
+    (set_bits (64 * (i / 4)) (bit_at (get_or ws i 0)) 64) → bit_of k ws m ≡ 1
 shown_at k g i ws is small m h =
-    let t = set_bits_true (64 * (i / 4)) (bit_at (get_or ws i 0)) 64 m h in let j : ℕ = t.0 in let l : j < 64 = t.1 in let at : m ≡ 64 * (i / 4) + j = t.2 in
+    let t = set_bits_true (64 * (i / 4)) (bit_at (get_or ws i 0)) 64 m h in let j : ℕ = t.0 in let l : j < 64 = t.1 in
+    let at : m ≡ 64 * (i / 4) + j = t.2 in
     let a : 4 * (m / 64) + k ≡ i = omega (arith, is, small, at, l) in let b : m % 64 ≡ j = omega (arith, at, l) in
     ap (λ (y : ℕ). bit_at (get_or ws y 0) (m % 64)) a ∙ (ap (λ (y : ℕ). bit_at (get_or ws i 0) y) b ∙ t.3)
 
-pub looks_claimed : (width slots id : ℕ) (seat : SeatState) (i g : ℕ) → i ≡ 4 * g + 0 → i < width → Allows (Holds width) slots id seat i (λ x. x) (ClaimedLookTells (step slots i 0 0 none) seat)
-looks_claimed width slots id seat i g is near s h wide e fits = let ms : List ℕ = set_bits (64 * (i / 4)) (bit_at (get_or s.words i 0)) 64 in (
-  with_claimed seat.0 ms,
-  keeps,
-  tt,
-  loads width s h id seat e i near (with_claimed seat.0 ms) (sees_1 width s h id seat e ms (shown_at 0 g i s.words is (omega arith))),
-  (refl, λ n same t. subst (λ (y : ℕ). bit_at (get_or s.words y 0) (n % 64) ≡ 1) (sym same) (claims width s h id seat e n t)),
-)
+pub looks_claimed : (width slots id : ℕ) (seat : SeatState) (i g : ℕ) → i ≡ 4 * g + 0 → i < width → Allows (Holds width)
+    slots id seat i (λ x. x) (ClaimedLookTells (step slots i 0 0 none) seat)
+looks_claimed width slots id seat i g is near s h wide e fits = let ms : List ℕ = set_bits (64 * (i / 4))
+    (bit_at (get_or s.words i 0)) 64 in (
+      with_claimed seat.0 ms,
+      keeps,
+      tt,
+      loads width s h id seat e i near (with_claimed seat.0 ms)
+          (sees_1 width s h id seat e ms (shown_at 0 g i s.words is (omega arith))),
+      (
+        refl,
+        λ n same t. subst (λ (y : ℕ). bit_at (get_or s.words y 0) (n % 64) ≡ 1) (sym same)
+            (claims width s h id seat e n t),
+      ),
+    )
 
-pub looks_filed : (width slots id : ℕ) (seat : SeatState) (i g : ℕ) → i ≡ 4 * g + 1 → i < width → Allows (Holds width) slots id seat i (λ x. x) (FiledLookTells (step slots i 0 0 none) seat)
-looks_filed width slots id seat i g is near s h wide e fits = let ms : List ℕ = set_bits (64 * (i / 4)) (bit_at (get_or s.words i 0)) 64 in (
-  with_filed seat.0 ms,
-  keeps,
-  tt,
-  loads width s h id seat e i near (with_filed seat.0 ms) (sees_2 width s h id seat e ms (shown_at 1 g i s.words is (omega arith))),
-  (refl, (λ n same t. subst (λ (y : ℕ). bit_at (get_or s.words y 0) (n % 64) ≡ 1) (sym same) (filings width s h id seat e n t)), λ n same t. subst (λ (y : ℕ). bit_at (get_or s.words y 0) (n % 64) ≡ 1) (sym same) (taken_filed width s h id seat e n (takings width s h id seat e n t))),
-)
+pub looks_filed : (width slots id : ℕ) (seat : SeatState) (i g : ℕ) → i ≡ 4 * g + 1 → i < width → Allows (Holds width)
+    slots id seat i (λ x. x) (FiledLookTells (step slots i 0 0 none) seat)
+looks_filed width slots id seat i g is near s h wide e fits = let ms : List ℕ = set_bits (64 * (i / 4))
+    (bit_at (get_or s.words i 0)) 64 in (
+      with_filed seat.0 ms,
+      keeps,
+      tt,
+      loads width s h id seat e i near (with_filed seat.0 ms)
+          (sees_2 width s h id seat e ms (shown_at 1 g i s.words is (omega arith))),
+      (
+        refl,
+        (λ n same t. subst (λ (y : ℕ). bit_at (get_or s.words y 0) (n % 64) ≡ 1) (sym same)
+            (filings width s h id seat e n t)),
+        λ n same t. subst (λ (y : ℕ). bit_at (get_or s.words y 0) (n % 64) ≡ 1)
+            (sym same) (taken_filed width s h id seat e n (takings width s h id seat e n t)),
+      ),
+    )
 
-pub looks_taken : (width slots id : ℕ) (seat : SeatState) (i g : ℕ) → i ≡ 4 * g + 2 → i < width → Allows (Holds width) slots id seat i (λ x. x) (TakenLookTells (step slots i 0 0 none) seat)
-looks_taken width slots id seat i g is near s h wide e fits = let ms : List ℕ = set_bits (64 * (i / 4)) (bit_at (get_or s.words i 0)) 64 in (
-  with_taken seat.0 ms,
-  keeps,
-  tt,
-  loads width s h id seat e i near (with_taken seat.0 ms) (sees_3 width s h id seat e ms (shown_at 2 g i s.words is (omega arith))),
-  (refl, λ n same t. subst (λ (y : ℕ). bit_at (get_or s.words y 0) (n % 64) ≡ 1) (sym same) (takings width s h id seat e n t)),
-)
+pub looks_taken : (width slots id : ℕ) (seat : SeatState) (i g : ℕ) → i ≡ 4 * g + 2 → i < width → Allows (Holds width)
+    slots id seat i (λ x. x) (TakenLookTells (step slots i 0 0 none) seat)
+looks_taken width slots id seat i g is near s h wide e fits = let ms : List ℕ = set_bits (64 * (i / 4))
+    (bit_at (get_or s.words i 0)) 64 in (
+      with_taken seat.0 ms,
+      keeps,
+      tt,
+      loads width s h id seat e i near (with_taken seat.0 ms)
+          (sees_3 width s h id seat e ms (shown_at 2 g i s.words is (omega arith))),
+      (
+        refl,
+        λ n same t. subst (λ (y : ℕ). bit_at (get_or s.words y 0) (n % 64) ≡ 1) (sym same)
+            (takings width s h id seat e n t),
+      ),
+    )
 
-pub counts : (width slots id : ℕ) (seat : SeatState) → 0 < width → Allows (Holds width) slots id seat 0 (λ x. x) (CountTells (step slots 0 0 0 none) seat)
+pub counts : (width slots id : ℕ) (seat : SeatState) → 0 < width → Allows (Holds width) slots id seat 0 (λ x. x)
+    (CountTells (step slots 0 0 0 none) seat)
 counts width slots id seat near s h wide e fits =
-    let q = h.1.1 in let L : ℕ = length s.homes in let once = rule_once L (bit_of 3 s.words) (bit_of 0 s.words) (bit_of 1 s.words) (bit_of 2 s.words) (h.1.0) (IsEmpty s.homes) (IsFilled s.homes) s.views q id seat.0 e in
-    let a = few_listed L (bit_of 3 s.words) (bit_of 0 s.words) (bit_of 1 s.words) (bit_of 2 s.words) (h.1.0) (IsEmpty s.homes) (IsFilled s.homes) s.views q id seat.0 e in let b = few_taken L (bit_of 3 s.words) (bit_of 0 s.words) (bit_of 1 s.words) (bit_of 2 s.words) (h.1.0) (IsEmpty s.homes) (IsFilled s.homes) s.views q id seat.0 e in
-    let x = sum_below_limit (bit_of 1 s.words) L (bit_small 1 s.words) in let y = sum_below_limit (bit_of 2 s.words) L (bit_small 2 s.words) in (
+    let q = h.1.1 in let L : ℕ = length s.homes in let once = rule_once L (bit_of 3 s.words) (bit_of 0 s.words)
+    (bit_of 1 s.words) (bit_of 2 s.words) (h.1.0) (IsEmpty s.homes) (IsFilled s.homes) s.views q id seat.0 e in
+    let a = few_listed L (bit_of 3 s.words) (bit_of 0 s.words) (bit_of 1 s.words) (bit_of 2 s.words) (h.1.0)
+    (IsEmpty s.homes) (IsFilled s.homes) s.views q id seat.0 e in
+    let b = few_taken L (bit_of 3 s.words) (bit_of 0 s.words) (bit_of 1 s.words) (bit_of 2 s.words) (h.1.0)
+    (IsEmpty s.homes) (IsFilled s.homes) s.views q id seat.0 e in
+    let x = sum_below_limit (bit_of 1 s.words) L (bit_small 1 s.words) in let y = sum_below_limit (bit_of 2 s.words) L
+    (bit_small 2 s.words) in (
       seat.0,
       keeps,
       tt,
-      loads width s h id seat e 0 near seat.0 (subst (λ (vs : List View). Reads (h.1.0) s.words s.homes vs) (sym (set_again s.views id seat.0 e)) q),
-      (refl, once.0, once.1, once.2, omega (arith, a, x, wide), omega (arith, b, y, wide), rule_agrees L (bit_of 3 s.words) (bit_of 0 s.words) (bit_of 1 s.words) (bit_of 2 s.words) (h.1.0) (IsEmpty s.homes) (IsFilled s.homes) s.views q id seat.0 e),
+      loads width s h id seat e 0 near seat.0 (subst (λ (vs : List View). Reads (h.1.0) s.words s.homes vs)
+          (sym (set_again s.views id seat.0 e)) q),
+      (
+        refl,
+        once.0,
+        once.1,
+        once.2,
+        omega (arith, a, x, wide),
+        omega (arith, b, y, wide),
+        rule_agrees L (bit_of 3 s.words) (bit_of 0 s.words) (bit_of 1 s.words) (bit_of 2 s.words) (h.1.0)
+            (IsEmpty s.homes) (IsFilled s.homes) s.views q id seat.0 e,
+      ),
     )
 
 -- the emptied slot of a number that the seat took goes home
-pub gives_allowed : (width slots id : ℕ) (seat : SeatState) (n : ℕ) → 0 < width → n < slots → 0 < occurrences n (numbers seat.0.takes) → seat.1 ≡ (n, None) ∷ [] → Allows (Holds width) slots id seat 0 (λ x. x) (GiveTells (step slots 0 0 0 none) seat)
+pub gives_allowed : (width slots id : ℕ) (seat : SeatState) (n : ℕ) → 0 < width → n < slots → 0 < occurrences n
+    (numbers seat.0.takes) → seat.1 ≡ (n, None) ∷ [] → Allows (Holds width) slots id seat 0 (λ x. x)
+    (GiveTells (step slots 0 0 0 none) seat)
 gives_allowed width slots id seat n wide_enough low mine has s h wide e fits =
-    let q = h.1.1 in let K : Contents_of = h.1.0 in let L : ℕ = length s.homes in let out : Option Block = None in let homes' : Homes = set s.homes n (some out) in let near : n < length s.homes = omega (arith, low, wide) in
-    let t1 = is_taken L (bit_of 3 s.words) (bit_of 0 s.words) (bit_of 1 s.words) (bit_of 2 s.words) K (IsEmpty s.homes) (IsFilled s.homes) s.views q id seat.0 e n mine in
-    let rule : StepRule L (bit_of 3 s.words) (bit_of 0 s.words) (bit_of 1 s.words) (bit_of 2 s.words) K (IsEmpty homes') (IsFilled homes') s.views = rule_gives L (bit_of 3 s.words) (bit_of 0 s.words) (bit_of 1 s.words) (bit_of 2 s.words) K (IsEmpty s.homes) (IsFilled s.homes) s.views q (IsEmpty homes') (IsFilled homes') n t1
-    (λ m ne empty l. set_else s.homes n m (some out) ne ∙ empty (subst (λ (y : ℕ). m < y) (length-set s.homes n (some out)) l)) (λ m x ne full. set_else s.homes n m (some out) ne ∙ full) (λ m x ne full. sym (set_else s.homes n m (some out) ne) ∙ full)
+    let q = h.1.1 in let K : Contents_of = h.1.0 in let L : ℕ = length s.homes in let out : Option Block = None in
+    let homes' : Homes = set s.homes n (some out) in let near : n < length s.homes = omega (arith, low, wide) in
+    let t1 = is_taken L (bit_of 3 s.words) (bit_of 0 s.words) (bit_of 1 s.words) (bit_of 2 s.words) K (IsEmpty s.homes)
+    (IsFilled s.homes) s.views q id seat.0 e n mine in
+    let rule : StepRule L (bit_of 3 s.words) (bit_of 0 s.words) (bit_of 1 s.words) (bit_of 2 s.words) K (IsEmpty homes')
+    (IsFilled homes') s.views = rule_gives L (bit_of 3 s.words) (bit_of 0 s.words) (bit_of 1 s.words)
+    (bit_of 2 s.words) K (IsEmpty s.homes) (IsFilled s.homes) s.views q (IsEmpty homes') (IsFilled homes') n t1
+    (λ m ne empty l. set_else s.homes n m (some out) ne
+    ∙ empty (subst (λ (y : ℕ). m < y) (length-set s.homes n (some out)) l)) (λ m x ne full. set_else s.homes n m
+    (some out) ne ∙ full) (λ m x ne full. sym (set_else s.homes n m (some out) ne) ∙ full)
     (λ x full. empty_full x (sym (set_here s.homes n (some out) near) ∙ full)) in
-    let sized : Reads K s.words homes' s.views = resized K L (length homes') (bit_of 3 s.words) (bit_of 0 s.words) (bit_of 1 s.words) (bit_of 2 s.words) (IsEmpty homes') (IsFilled homes') s.views (length-set s.homes n (some out)) rule in
+    let sized : Reads K s.words homes' s.views = resized K L (length homes') (bit_of 3 s.words) (bit_of 0 s.words)
+    (bit_of 1 s.words) (bit_of 2 s.words) (IsEmpty homes') (IsFilled homes') s.views (length-set s.homes n (some out))
+    rule in
     let held : Holds width (record { words = s.words; homes = homes'; views = s.views }) = (h.0, (K, sized, h.1.2)) in
-    let at_views : Holds width (record { words = s.words; homes = homes'; views = set s.views id seat.0 }) = subst (λ (vs : List View). Holds width (record { words = s.words; homes = homes'; views = vs })) (sym (set_again s.views id seat.0 e)) held in
-    let at_words : Holds width (record { words = set s.words 0 (get_or s.words 0 0); homes = homes'; views = set s.views id seat.0 }) = subst (λ (ws : List ℕ). Holds width (record { words = ws; homes = homes'; views = set s.views id seat.0 })) (sym (words_same width s h id seat e 0 wide_enough)) at_views in
-    (seat.0, gives, tt, subst (λ (cs : List (ℕ × Option Block)). Holds width (stepped s 0 (get_or s.words 0 0) id cs seat.0 gives)) (sym has) at_words, refl)
+    let at_views : Holds width (record { words = s.words; homes = homes'; views = set s.views id seat.0 }) = subst
+    (λ (vs : List View). Holds width (record { words = s.words; homes = homes'; views = vs }))
+    (sym (set_again s.views id seat.0 e)) held in
+    let at_words : Holds width (record {
+      words = set s.words 0 (get_or s.words 0 0);
+      homes = homes';
+      views = set s.views
+          id seat.0;
+    }) = subst
+    (λ (ws : List ℕ). Holds width (record { words = ws; homes = homes'; views = set s.views id seat.0 }))
+    (sym (words_same width s h id seat e 0 wide_enough)) at_views in (
+      seat.0,
+      gives,
+      tt,
+      subst (λ (cs : List (ℕ × Option Block)). Holds width (stepped s 0 (get_or s.words 0 0) id cs
+          seat.0 gives)) (sym has) at_words,
+      refl,
+    )
 
 abbrev vacant : ℕ → Homes
 vacant n = map some (replicate n None)
@@ -397,40 +637,71 @@ unfilled (suc n) (suc i) b e = unfilled n i b e
 abbrev nothing : Contents_of
 nothing n = None
 
-pub opens : (width total : ℕ) (ws : List ℕ) → ws ≡ replicate width 0 → length ws ≡ width → Holds width (record { words = ws; homes = vacant total; views = first_view ∷ [] })
-opens width total ws is long = let blank : (k m : ℕ) → bit_of k ws m ≡ 0 = λ k m. ap (λ (y : List ℕ). bit_of k y m) is ∙ no_bit k width m in (
-  long,
-  (
-    nothing,
-    record {
-      draws = record { bit = bit_small 3 ws; won_once = λ d. sym (blank 3 d); found = from_fresh (λ v. (d : ℕ) → 0 < occurrences d v.found → bit_of 3 ws d ≡ 1) (λ d h. absurd (omega arith)) };
-      shares = shares_first;
-      stages = record {
-        bit = bit_small 0 ws;
-        in_range = λ m h. absurd (omega (arith, h, blank 0 m));
-        taken_is_filed = λ m. omega (arith, blank 2 m);
-        pending_once = λ m. omega (arith, blank 0 m, blank 1 m);
-        filed_once = λ m. sym (blank 1 m);
-        taken_once = λ m. sym (blank 2 m);
-        saw_claimed = from_fresh (λ v. (n : ℕ) → 0 < occurrences n v.claimed → bit_of 0 ws n ≡ 1) (λ d h. absurd (omega arith));
-        saw_filed = from_fresh (λ v. (n : ℕ) → 0 < occurrences n v.filed → bit_of 1 ws n ≡ 1) (λ d h. absurd (omega arith));
-        saw_taken = from_fresh (λ v. (n : ℕ) → 0 < occurrences n v.taken → bit_of 2 ws n ≡ 1) (λ d h. absurd (omega arith));
-      };
-      contents = record {
-        free_is_empty = λ m _ l. vacant_at total m (omega (arith, l, vacant_length total));
-        unfiled_is_none = λ m _. refl;
-        filed_is_home = λ m z. absurd (omega (arith, z, blank 1 m));
-        home_is_filed = λ m b t. absurd (unfilled total m b t);
-        listed = from_fresh (λ v. (n : ℕ) (b : Block) → HasPair v.list n b → nothing n ≡ Some b) (λ n b h. absurd h);
-        took = from_fresh (λ v. (n : ℕ) (b : Block) → HasPair v.takes n b → nothing n ≡ Some b) (λ n b h. absurd h);
-      };
-    },
-    λ n b none. absurd (none_some b none),
-  ),
-)
+pub opens : (width total : ℕ) (ws : List ℕ) → ws ≡ replicate width 0 → length ws ≡ width
+    → Holds width (record { words = ws; homes = vacant total; views = first_view ∷ [] })
+opens width total ws is long = let blank : (k m : ℕ) → bit_of k ws m ≡ 0 = λ k m. ap (λ (y : List ℕ). bit_of k y m) is
+    ∙ no_bit k width m in (
+      long,
+      (
+        nothing,
+        record {
+          draws = record {
+            bit = bit_small 3 ws;
+            won_once = λ d. sym (blank 3 d);
+            found = from_fresh
+                (λ v. (d : ℕ) → 0 < occurrences d v.found → bit_of 3 ws d ≡ 1) (λ d h. absurd (omega arith));
+          };
+          shares = shares_first;
+          stages = record {
+            bit = bit_small 0 ws;
+            in_range = λ m h. absurd (omega (arith, h, blank 0 m));
+            taken_is_filed = λ m. omega (arith, blank 2 m);
+            pending_once = λ m. omega (arith, blank 0 m, blank 1 m);
+            filed_once = λ m. sym (blank 1 m);
+            taken_once = λ m. sym (blank 2 m);
+            saw_claimed = from_fresh (λ v. (n : ℕ) → 0 < occurrences n v.claimed → bit_of 0 ws n ≡ 1)
+                (λ d h. absurd (omega arith));
+            saw_filed = from_fresh (λ v. (n : ℕ) → 0 < occurrences n v.filed → bit_of 1 ws n ≡ 1)
+                (λ d h. absurd (omega arith));
+            saw_taken = from_fresh (λ v. (n : ℕ) → 0 < occurrences n v.taken → bit_of 2 ws n ≡ 1)
+                (λ d h. absurd (omega arith));
+          };
+          contents = record {
+            free_is_empty = λ m _ l. vacant_at total m (omega (arith, l, vacant_length total));
+            unfiled_is_none = λ m _. refl;
+            filed_is_home = λ m z. absurd (omega (arith, z, blank 1 m));
+            home_is_filed = λ m b t. absurd (unfilled total m b t);
+            listed = from_fresh (λ v. (n : ℕ) (b : Block) → HasPair v.list n b → nothing n ≡ Some b)
+                (λ n b h. absurd h);
+            took = from_fresh (λ v. (n : ℕ) (b : Block) → HasPair v.takes n b → nothing n ≡ Some b) (λ n b h. absurd h);
+          };
+        },
+        λ n b none. absurd (none_some b none),
+      ),
+    )
 
 pub splits : (width id : ℕ) (v : View) → Splits (Holds width) id v (kept_view v) (split_view v)
-splits width id v s (wide, (k, q, own)) e = (wide, (k, rule_splits (length s.homes) (bit_of 3 s.words) (bit_of 0 s.words) (bit_of 1 s.words) (bit_of 2 s.words) k (IsEmpty s.homes) (IsFilled s.homes) s.views q id v e, own))
+splits width id v s (wide, (k, q, own)) e
+    = (
+      wide,
+      (
+        k,
+        rule_splits (length s.homes) (bit_of 3 s.words) (bit_of 0 s.words) (bit_of 1 s.words) (bit_of 2 s.words)
+            k (IsEmpty s.homes) (IsFilled s.homes) s.views q id v e,
+        own,
+      ),
+    )
 
 pub joins : (width id other : ℕ) (v w : View) → Joins (Holds width) id v other w (joint_view v w) empty_view
-joins width id other v w s (wide, (k, q, own)) e ne f = (wide, (k, rule_joins (length s.homes) (bit_of 3 s.words) (bit_of 0 s.words) (bit_of 1 s.words) (bit_of 2 s.words) k (IsEmpty s.homes) (IsFilled s.homes) s.views q id v e other w ne (sym (set_else s.views id other (joint_view v w) ne) ∙ f), own))
+joins width id other v w s (wide, (k, q, own)) e ne f
+    = (
+      wide,
+      (
+        k,
+        rule_joins (length s.homes) (bit_of 3 s.words) (bit_of 0 s.words) (bit_of 1 s.words) (bit_of 2 s.words) k
+            (IsEmpty s.homes) (IsFilled s.homes) s.views q id v e other w ne
+            (sym (set_else s.views id other (joint_view v w) ne)
+            ∙ f),
+        own,
+      ),
+    )

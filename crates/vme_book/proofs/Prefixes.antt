@@ -1,11 +1,14 @@
 -- The blocks from number 0 on.
-use Rattle.std.proofs.Common.{◌≡◌, ℕ, zero, suc, ◌+◌, ◌*◌, ◌<◌, ◌≤◌, List, [], ◌∷◌, ◌++◌, length, length-append, map, take, get_or, set, replicate, Bool, true, false, Option, Some, None, Result, Ok, Err, append-nil, append_assoc, refl, sym, ◌∙◌, ap, subst, arith, inl, inr, ◌⊎◌, ◌≢◌}
+use Rattle.std.proofs.Common.{◌≡◌, ℕ, zero, suc, ◌+◌, ◌*◌, ◌<◌, ◌≤◌, List, [], ◌∷◌, ◌++◌, length, length-append, map}
+use Rattle.std.proofs.Common.{take, get_or, set, replicate, Bool, true, false, Option, Some, None, Result, Ok, Err}
+use Rattle.std.proofs.Common.{append-nil, append_assoc, refl, sym, ◌∙◌, ap, subst, arith, inl, inr, ◌⊎◌, ◌≢◌}
 use Rattle.std.specs.Prelude.{OnOk}
 use Rattle.std.specs.Option.{is_some}
 use Rattle.std.specs.Result.{is_err}
 use Rattle.std.specs.Global.{Vec}
 use Rattle.std.proofs.Math.ListN.{get_or-eq_default}
-use Rattle.std.proofs.lemmas.List.{get_or_default, get_or-set_other, get_or-set_same, length-replicate, length-set, length-take, set-get_or, take_all, take-set-le}
+use Rattle.std.proofs.lemmas.List.{get_or_default, get_or-set_other, get_or-set_same, length-replicate, length-set}
+use Rattle.std.proofs.lemmas.List.{length-take, set-get_or, take_all, take-set-le}
 use Rattle.std.proofs.Math.Seq.{take-append_seam}
 use Rattle.std.proofs.lemmas.Option.{none-some, same_Some}
 use Rattle.vme_trace.specs.Blocks.{joined_steps}
@@ -19,7 +22,8 @@ use Rattle.vme_summary.specs.declared.running_verdict.RunningVerdict.{RunningVer
 use Rattle.vme_summary.specs.declared.span.Span.{Span}
 use Rattle.vme_summary.proofs.Chains.{not_empty, steps-append}
 use Rattle.vme_summary.proofs.Progressing.{come_join, span_first}
-use Rattle.vme_book.specs.Kept.{AreJoinedTo, ArePlaced, ComeTo, HaveSpans, IsEnd, IsBlockNumbered, IsPast, Keeps, StandsForSome}
+use Rattle.vme_book.specs.BookState.{AreJoinedTo, ArePlaced, ComeTo, HaveSpans, IsEnd, IsBlockNumbered, IsPast, Keeps}
+use Rattle.vme_book.specs.BookState.{StandsForSome}
 use Rattle.vme_book.specs.declared.joined.JoinedPrefix.{JoinedPrefix}
 use Rattle.vme_book.specs.declared.places.BookSlots.{BookSlots}
 
@@ -28,23 +32,27 @@ some_of None e = absurd (cc)
 some_of (Some a) e = (a, refl)
 
 -- what was read at a number within the list stands there
-pub found_at : {A : Type 0} (places : List (Option A)) (n : ℕ) (x : Option A) (a : A) → n < length places → x ≡ get_or places n x → x ≡ Some a → get_or places n None ≡ Some a
+pub found_at : {A : Type 0} (places : List (Option A)) (n : ℕ) (x : Option A) (a : A) → n < length places → x
+    ≡ get_or places n x → x ≡ Some a → get_or places n None ≡ Some a
 found_at places n x a below is e = get_or_default places n None x below ∙ sym is ∙ e
 
-pub read_at : {A : Type 0} (places : List (Option A)) (n : ℕ) (x : Option A) (a : A) → n < length places → x ≡ get_or places n x → get_or places n None ≡ Some a → x ≡ Some a
+pub read_at : {A : Type 0} (places : List (Option A)) (n : ℕ) (x : Option A) (a : A) → n < length places → x
+    ≡ get_or places n x → get_or places n None ≡ Some a → x ≡ Some a
 read_at places n x a below is e = is ∙ get_or_default places n x None below ∙ e
 
 less_or_more : (m n : ℕ) → (m ≤ n) ⊎ (n < m)
 less_or_more m n = grind arith
 
-pub within_places : {A : Type 0} (places : List (Option A)) (n : ℕ) (a : A) → get_or places n None ≡ Some a → n < length places
+pub within_places : {A : Type 0} (places : List (Option A)) (n : ℕ) (a : A) → get_or places n None ≡ Some a
+    → n < length places
 within_places places n a e = elim (less_or_more (length places) n) [
   | inl past ↦ let none : get_or places n None ≡ None = get_or-eq_default places None past in absurd (cc)
   | inr below ↦ below
 ]
 
 -- of two lists from number 0 on the longer begins with the shorter
-pub front_of : {A : Type 0} (places : List (Option A)) (xs ys : List A) → take (length xs) places ≡ map Some xs → take (length ys) places ≡ map Some ys → length xs ≤ length ys
+pub front_of : {A : Type 0} (places : List (Option A)) (xs ys : List A) → take (length xs) places ≡ map Some xs
+    → take (length ys) places ≡ map Some ys → length xs ≤ length ys
     → (rest : List A) × (ys ≡ xs ++ rest)
 front_of places [] ys e f le = (ys, refl)
 front_of [] (x ∷ xs) ys e f le = absurd (cc)
@@ -59,7 +67,8 @@ front_of (p ∷ places) (x ∷ xs) (y ∷ ys) e f le =
     (r.0, ap (λ h. h ∷ ys) same ∙ ap (λ l. x ∷ l) r.1)
 
 -- each of them stands at its number
-pub next_of : {A : Type 0} (places : List (Option A)) (xs : List A) (n : ℕ) → take (length xs) places ≡ map Some xs → n < length xs → (x : A) × (get_or places n None ≡ Some x)
+pub next_of : {A : Type 0} (places : List (Option A)) (xs : List A) (n : ℕ) → take (length xs) places ≡ map Some xs
+    → n < length xs → (x : A) × (get_or places n None ≡ Some x)
 next_of places [] n e below = absurd (omega arith)
 next_of [] (x ∷ xs) n e below = absurd (cc)
 next_of (p ∷ places) (x ∷ xs) zero e below =
@@ -71,7 +80,8 @@ next_of (p ∷ places) (x ∷ xs) (suc n) e below =
     next_of places xs n rest (omega arith)
 
 -- and one more
-pub one_more : {A : Type 0} (places : List (Option A)) (xs : List A) (x : A) → take (length xs) places ≡ map Some xs → get_or places (length xs) None ≡ Some x
+pub one_more : {A : Type 0} (places : List (Option A)) (xs : List A) (x : A) → take (length xs) places ≡ map Some xs
+    → get_or places (length xs) None ≡ Some x
     → take (length (xs ++ x ∷ [])) places ≡ map Some (xs ++ x ∷ [])
 one_more [] [] x e f = absurd (cc)
 one_more (p ∷ places) [] x e f = let first : p ≡ Some x = f in ap (λ h. h ∷ []) first
@@ -85,15 +95,20 @@ one_more (p ∷ places) (y ∷ xs) x e f =
 
 -- the first of blocks that join join
 pub join_front : (xs ys : List Block) → BlocksJoin (xs ++ ys) → BlocksJoin xs
-join_front xs ys j = record { follow = λ before after a b e. j.follow before (after ++ ys) a b (ap (λ l. l ++ ys) e ∙ append_assoc before (a ∷ b ∷ after) ys) }
+join_front xs ys j = record {
+  follow = λ before after a b e. j.follow before (after ++ ys) a b (ap (λ l. l ++ ys) e
+      ∙ append_assoc before (a ∷ b ∷ after) ys);
+}
 
-pub shorter_joins : (inserted : List (Option Block)) (xs ys : List Block) → take (length xs) inserted ≡ map Some xs → IsJoinedPrefix inserted ys → length xs ≤ length ys → BlocksJoin xs
+pub shorter_joins : (inserted : List (Option Block)) (xs ys : List Block) → take (length xs) inserted ≡ map Some xs
+    → IsJoinedPrefix inserted ys → length xs ≤ length ys → BlocksJoin xs
 shorter_joins inserted xs ys e p le =
     let f = front_of inserted xs ys e p.there le in
     join_front xs f.0 (subst BlocksJoin f.1 p.join)
 
 -- blocks that no further block joins are the most that join
-pub longest_of : (inserted : List (Option Block)) (bs : List Block) → IsJoinedPrefix inserted bs → IsEnd inserted (length bs) bs → IsLongestPrefix inserted bs
+pub longest_of : (inserted : List (Option Block)) (bs : List Block) → IsJoinedPrefix inserted bs
+    → IsEnd inserted (length bs) bs → IsLongestPrefix inserted bs
 longest_of inserted bs p end =
     record {
       prefix = p;
@@ -102,12 +117,14 @@ longest_of inserted bs p end =
         | inr more ↦
             let x = next_of inserted cs (length bs) q.there more in
             let one : length (bs ++ x.0 ∷ []) ≤ length cs = omega (arith, length-append bs (x.0 ∷ [])) in
-            absurd (end.torn x.0 x.1 (shorter_joins inserted (bs ++ x.0 ∷ []) cs (one_more inserted bs x.0 p.there x.1) q one))
+            absurd (end.torn x.0 x.1 (shorter_joins inserted (bs ++ x.0 ∷ []) cs (one_more inserted bs x.0 p.there x.1)
+            q one))
       ];
     }
 
 -- where something stands at each number, it is all of these
-pub all_of : {A : Type 0} (places : List (Option A)) → ((n : ℕ) → n < length places → (x : A) × (get_or places n None ≡ Some x)) → (xs : List A) × (places ≡ map Some xs)
+pub all_of : {A : Type 0} (places : List (Option A)) → ((n : ℕ) → n < length places → (x : A)
+    × (get_or places n None ≡ Some x)) → (xs : List A) × (places ≡ map Some xs)
 all_of [] each = ([], refl)
 all_of (p ∷ places) each =
     let first = each zero (omega arith) in
@@ -123,14 +140,18 @@ pub as_many : {A : Type 0} (places : List (Option A)) (xs : List A) → places �
 as_many places xs e = ap length e ∙ map_length xs
 
 -- all of them, from number 0 on
-pub all_there : {A : Type 0} (places : List (Option A)) (xs : List A) → places ≡ map Some xs → take (length xs) places ≡ map Some xs
+pub all_there : {A : Type 0} (places : List (Option A)) (xs : List A) → places ≡ map Some xs → take (length xs) places
+    ≡ map Some xs
 all_there places xs e = let n = as_many places xs e in take_all (length xs) places (omega arith) ∙ e
 
-pub there_all : {A : Type 0} (places : List (Option A)) (xs : List A) → take (length xs) places ≡ map Some xs → length xs ≡ length places → places ≡ map Some xs
+pub there_all : {A : Type 0} (places : List (Option A)) (xs : List A) → take (length xs) places ≡ map Some xs
+    → length xs ≡ length places → places ≡ map Some xs
 there_all places xs e n = sym (take_all (length xs) places (omega arith)) ∙ e
 
 -- where not all join, the first that doesn't
-pub least_torn : (inserted : List (Option Block)) (bs all : List Block) (n : ℕ) → inserted ≡ map Some all → IsJoinedPrefix inserted bs → IsEnd inserted n bs → length bs ≡ n → n < length inserted → IsLeastTorn inserted n all
+pub least_torn : (inserted : List (Option Block)) (bs all : List Block) (n : ℕ) → inserted ≡ map Some all
+    → IsJoinedPrefix inserted bs → IsEnd inserted n bs → length bs ≡ n → n < length inserted → IsLeastTorn inserted n
+    all
 least_torn inserted bs all n whole p end count below =
     let long = as_many inserted all whole in
     let each = all_there inserted all whole in
@@ -140,8 +161,10 @@ least_torn inserted bs all n whole p end count below =
     let f = front_of inserted bs all p.there each (omega arith) in
     let one : length (bs ++ next.0 ∷ []) ≡ n + 1 = omega (arith, length-append bs (next.0 ∷ [])) in
     let g = front_of inserted (bs ++ next.0 ∷ []) all more each (omega arith) in
-    let first : take n all ≡ bs = ap (λ (k : ℕ). take k all) (sym count) ∙ ap (take (length bs)) f.1 ∙ take-append_seam bs f.0 in
-    let second : take (n + 1) all ≡ bs ++ next.0 ∷ [] = ap (λ (k : ℕ). take k all) (sym one) ∙ ap (take (length (bs ++ next.0 ∷ []))) g.1 ∙ take-append_seam (bs ++ next.0 ∷ []) g.0 in
+    let first : take n all ≡ bs = ap (λ (k : ℕ). take k all) (sym count) ∙ ap (take (length bs)) f.1 ∙ take-append_seam
+    bs f.0 in
+    let second : take (n + 1) all ≡ bs ++ next.0 ∷ [] = ap (λ (k : ℕ). take k all) (sym one)
+    ∙ ap (take (length (bs ++ next.0 ∷ []))) g.1 ∙ take-append_seam (bs ++ next.0 ∷ []) g.0 in
     record {
       all = whole;
       within = omega arith;
@@ -150,7 +173,9 @@ least_torn inserted bs all n whole p end count below =
     }
 
 -- they have few steps
-many_steps : (inserted : List (Option Block)) (bs : List Block) → take (length bs) inserted ≡ map Some bs → ((n : ℕ) (b : Block) → stored inserted n ≡ Some b → length b.steps ≤ 65536) → length (joined_steps bs) ≤ 65536 * length bs
+many_steps : (inserted : List (Option Block)) (bs : List Block) → take (length bs) inserted ≡ map Some bs
+    → ((n : ℕ) (b : Block) → stored inserted n ≡ Some b → length b.steps ≤ 65536) → length (joined_steps bs) ≤ 65536 *
+    length bs
 many_steps inserted [] e short = omega arith
 many_steps [] (b ∷ bs) e short = absurd (cc)
 many_steps (p ∷ inserted) (b ∷ bs) e short =
@@ -161,10 +186,13 @@ many_steps (p ∷ inserted) (b ∷ bs) e short =
     let others = many_steps inserted bs rest (λ n c f. short (suc n) c f) in
     omega (arith, here, others, length-append b.steps (joined_steps bs))
 
-pub few_steps : (inserted : List (Option Block)) (bs : List Block) → ArePlaced inserted → take (length bs) inserted ≡ map Some bs → length bs ≤ 4096 → length (joined_steps bs) ≤ 268435456
-few_steps inserted bs placed e few = let k = many_steps inserted bs e (λ n b f. (placed.each n b f).short) in omega (arith, k, few)
+pub few_steps : (inserted : List (Option Block)) (bs : List Block) → ArePlaced inserted → take (length bs) inserted
+    ≡ map Some bs → length bs ≤ 4096 → length (joined_steps bs) ≤ 268435456
+few_steps inserted bs placed e few = let k = many_steps inserted bs e (λ n b f. (placed.each n b f).short) in
+    omega (arith, k, few)
 
-pub steps_fit : (inserted : List (Option Block)) (bs : List Block) (b : Block) (m n : ℕ) → ArePlaced inserted → take (length bs) inserted ≡ map Some bs → stored inserted (length bs) ≡ Some b
+pub steps_fit : (inserted : List (Option Block)) (bs : List Block) (b : Block) (m n : ℕ) → ArePlaced inserted
+    → take (length bs) inserted ≡ map Some bs → stored inserted (length bs) ≡ Some b
     → m ≡ length (joined_steps bs) → n ≡ length (joined_steps (b ∷ [])) → m + n ≤ 268435456
 steps_fit inserted bs b m n placed e f p q =
     let below = within_places inserted (length bs) b f in
@@ -175,7 +203,8 @@ steps_fit inserted bs b m n placed e f p q =
     omega (arith, k, whole, p, q)
 
 -- a span that is taken out, and one that is put back
-pub spans_after : (inserted : List (Option Block)) (spans : List (Option Span)) (n from : ℕ) (y : Option Span) → HaveSpans inserted spans n → from ≡ n + 1 → HaveSpans inserted (set spans n y) from
+pub spans_after : (inserted : List (Option Block)) (spans : List (Option Span)) (n from : ℕ) (y : Option Span)
+    → HaveSpans inserted spans n → from ≡ n + 1 → HaveSpans inserted (set spans n y) from
 spans_after inserted spans n from y h e =
     record {
       as_many = length-set spans n y ∙ h.as_many;
@@ -184,15 +213,19 @@ spans_after inserted spans n from y h e =
           (s.0, get_or-set_other spans n m y None (λ same. omega arith) ∙ s.1, s.2);
     }
 
-pub put_back : (inserted : List (Option Block)) (spans : List (Option Span)) (n from : ℕ) (y : Option Span) (s : Span) → HaveSpans inserted spans from → get_or spans n None ≡ Some s → HaveSpans inserted (set (set spans n y) n (Some s)) from
-put_back inserted spans n from y s h there = subst (λ (l : List (Option Span)). HaveSpans inserted l from) (sym (set_again spans n y (Some s) ∙ (ap (set spans n) (sym there) ∙ set-get_or spans n None))) h
+pub put_back : (inserted : List (Option Block)) (spans : List (Option Span)) (n from : ℕ) (y : Option Span) (s : Span)
+    → HaveSpans inserted spans from → get_or spans n None ≡ Some s → HaveSpans inserted (set (set spans n y) n (Some s))
+    from
+put_back inserted spans n from y s h there = subst (λ (l : List (Option Span)). HaveSpans inserted l from)
+    (sym (set_again spans n y (Some s) ∙ (ap (set spans n) (sym there) ∙ set-get_or spans n None))) h
   where
     set_again : {A : Type 0} (xs : List A) (n : ℕ) (y z : A) → set (set xs n y) n z ≡ set xs n z
     set_again [] n y z = refl
     set_again (x ∷ xs) zero y z = refl
     set_again (x ∷ xs) (suc n) y z = ap (λ l. x ∷ l) (set_again xs n y z)
 
-pub joined_after : (inserted : List (Option Block)) (old new : JoinedPrefix) (xs : List Block) (b : Block) → AreJoinedTo inserted old xs → stored inserted old.count ≡ Some b → new.count ≡ old.count + 1
+pub joined_after : (inserted : List (Option Block)) (old new : JoinedPrefix) (xs : List Block) (b : Block)
+    → AreJoinedTo inserted old xs → stored inserted old.count ≡ Some b → new.count ≡ old.count + 1
     → StandsForSome new.span (xs ++ b ∷ []) → AreJoinedTo inserted new (xs ++ b ∷ [])
 joined_after inserted old new xs b a there more stands =
     record {
@@ -202,17 +235,24 @@ joined_after inserted old new xs b a there more stands =
     }
 
 -- judging goes on past one block more
-pub past_one_more : (inserted : List (Option Block)) (progress : Option RunningVerdict) (p : RunningVerdict) (n : ℕ) (bs : List Block) (b : Block) {before : Option RunningVerdict} → IsPast inserted before n bs → stored inserted (length bs) ≡ Some b
+pub past_one_more : (inserted : List (Option Block)) (progress : Option RunningVerdict) (p : RunningVerdict) (n : ℕ)
+    (bs : List Block) (b : Block) {before : Option RunningVerdict} → IsPast inserted before n bs → stored inserted
+    (length bs) ≡ Some b
     → progress ≡ Some p → HasCome p (bs ++ b ∷ []) → IsPast inserted progress (n + 1) (bs ++ b ∷ [])
 past_one_more inserted progress p n bs b past there e come =
     record {
-      prefix = record { there = one_more inserted bs b past.prefix.there there; join = come_join p (bs ++ b ∷ []) come };
+      prefix = record {
+        there = one_more inserted bs b past.prefix.there there;
+        join = come_join p (bs ++ b ∷ []) come;
+      };
       count = length-append bs (b ∷ []) ∙ ap (λ (k : ℕ). k + 1) past.count;
       come = subst (λ (q : Option RunningVerdict). ComeTo q (bs ++ b ∷ [])) (sym e) come;
     }
 
 -- the span that is read at the number of a block stands for that block
-pub own_span : (inserted : List (Option Block)) (spans : List (Option Span)) (from n : ℕ) (b : Block) (x : Option Span) (s : Span) → HaveSpans inserted spans from → from ≤ n → stored inserted n ≡ Some b → x ≡ get_or spans n x → x ≡ Some s
+pub own_span : (inserted : List (Option Block)) (spans : List (Option Span)) (from n : ℕ) (b : Block) (x : Option Span)
+    (s : Span) → HaveSpans inserted spans from → from ≤ n → stored inserted n ≡ Some b → x ≡ get_or spans n x → x
+    ≡ Some s
     → SpanStandsFor s (b ∷ [])
 own_span inserted spans from n b x s h le there is e =
     let own = h.each n b le there in
@@ -222,7 +262,8 @@ own_span inserted spans from n b x s h le there is e =
     let same : own.0 ≡ s = same_Some own.0 s (sym read ∙ e) in
     subst (λ t. SpanStandsFor t (b ∷ [])) same own.2
 
-pub no_span : (inserted : List (Option Block)) (spans : List (Option Span)) (from n : ℕ) (b : Block) (x : Option Span) → HaveSpans inserted spans from → from ≤ n → stored inserted n ≡ Some b → x ≡ get_or spans n x → x ≡ None → ⊥
+pub no_span : (inserted : List (Option Block)) (spans : List (Option Span)) (from n : ℕ) (b : Block) (x : Option Span)
+    → HaveSpans inserted spans from → from ≤ n → stored inserted n ≡ Some b → x ≡ get_or spans n x → x ≡ None → ⊥
 no_span inserted spans from n b x h le there is e =
     let own = h.each n b le there in
     let long = h.as_many in
@@ -236,10 +277,13 @@ nothing_there (suc total) zero = refl
 nothing_there (suc total) (suc n) = nothing_there total n
 
 -- a book with nothing inserted
-pub keeps_nothing : (places : BookSlots) (start : JoinedPrefix) (total : ℕ) → 0 < total → total ≤ 4096 → places.blocks.items ≡ replicate total None → places.spans.items ≡ replicate total None → start.count ≡ 0 → start.span ≡ None
+pub keeps_nothing : (places : BookSlots) (start : JoinedPrefix) (total : ℕ) → 0 < total → total ≤ 4096
+    → places.blocks.items ≡ replicate total None → places.spans.items ≡ replicate total None → start.count ≡ 0
+    → start.span ≡ None
     → Keeps places None 0 start [] []
 keeps_nothing places start total some few blocks spans count span =
-    let none : (n : ℕ) (b : Block) → stored places.blocks.items n ≡ Some b → ⊥ = λ n b e. none-some b (sym (nothing_there total n) ∙ ap (λ (l : List (Option Block)). get_or l n None) (sym blocks) ∙ e) in
+    let none : (n : ℕ) (b : Block) → stored places.blocks.items n ≡ Some b → ⊥ = λ n b e. none-some b
+    (sym (nothing_there total n) ∙ ap (λ (l : List (Option Block)). get_or l n None) (sym blocks) ∙ e) in
     let long : length places.blocks.items ≡ total = ap length blocks ∙ length-replicate total None in
     let long' : length places.spans.items ≡ total = ap length spans ∙ length-replicate total None in
     record {
@@ -247,12 +291,23 @@ keeps_nothing places start total some few blocks spans count span =
       placed = record { few = omega arith; each = λ n b e. absurd (none n b e) };
       waiting = record { as_many = long' ∙ sym long; each = λ n b le e. absurd (none n b e) };
       past = record {
-        prefix = record { there = refl; join = record { follow = λ before after a b e. absurd (not_empty before after a b e) } };
+        prefix = record {
+          there = refl;
+          join = record {
+            follow = λ before after a b e. absurd
+                (not_empty before after a b e);
+          };
+        };
         count = refl;
         come = refl;
       };
       ended = record { torn = λ b e j. none 0 b e };
-      joined = record { there = refl; count = sym count; stands = subst (λ (o : Option Span). StandsForSome o []) (sym span) refl };
+      joined = record {
+        there = refl;
+        count = sym count;
+        stands = subst (λ (o : Option Span). StandsForSome o [])
+            (sym span) refl;
+      };
       within = omega arith;
     }
 
@@ -269,13 +324,16 @@ module _ (inserted : List (Option Block)) (n : ℕ) (b : Block) (below : n < len
         few = omega arith;
         each = λ m c e. elim (same_or_other m n) [
           | inl same ↦
-              let here : Some b ≡ Some c = sym (get_or-set_same inserted n (Some b) None below) ∙ ap (λ (k : ℕ). get_or (set inserted n (Some b)) k None) (sym same) ∙ e in
-              subst (λ (c : Block). IsBlockNumbered m c) (same_Some b c here) (record { number = number ∙ sym same; short = short })
+              let here : Some b ≡ Some c = sym (get_or-set_same inserted n (Some b) None below)
+              ∙ ap (λ (k : ℕ). get_or (set inserted n (Some b)) k None) (sym same) ∙ e in
+              subst (λ (c : Block). IsBlockNumbered m c) (same_Some b c here)
+              (record { number = number ∙ sym same; short = short })
           | inr other ↦ p.each m c (sym (get_or-set_other inserted n m (Some b) None other) ∙ e)
         ];
       }
 
-  pub spans_set : (spans : List (Option Span)) (from : ℕ) (s : Span) → HaveSpans inserted spans from → SpanStandsFor s (b ∷ []) → HaveSpans (set inserted n (Some b)) (set spans n (Some s)) from
+  pub spans_set : (spans : List (Option Span)) (from : ℕ) (s : Span) → HaveSpans inserted spans from → SpanStandsFor s
+      (b ∷ []) → HaveSpans (set inserted n (Some b)) (set spans n (Some s)) from
   spans_set spans from s h stands =
       let long = h.as_many in
       let below' : n < length spans = omega arith in
@@ -283,34 +341,50 @@ module _ (inserted : List (Option Block)) (n : ℕ) (b : Block) (below : n < len
         as_many = length-set spans n (Some s) ∙ h.as_many ∙ sym (length-set inserted n (Some b));
         each = λ m c le e. elim (same_or_other m n) [
           | inl same ↦
-              let here : Some b ≡ Some c = sym (get_or-set_same inserted n (Some b) None below) ∙ ap (λ (k : ℕ). get_or (set inserted n (Some b)) k None) (sym same) ∙ e in
-              (s, ap (λ (k : ℕ). get_or (set spans n (Some s)) k None) same ∙ get_or-set_same spans n (Some s) None below', subst (λ (c : Block). SpanStandsFor s (c ∷ [])) (same_Some b c here) stands)
+              let here : Some b ≡ Some c = sym (get_or-set_same inserted n (Some b) None below)
+              ∙ ap (λ (k : ℕ). get_or (set inserted n (Some b)) k None) (sym same) ∙ e in (
+                s,
+                ap (λ (k : ℕ). get_or (set spans n (Some s)) k None) same ∙ get_or-set_same spans n (Some s) None
+                    below',
+                subst (λ (c : Block). SpanStandsFor s (c ∷ [])) (same_Some b c here) stands,
+              )
           | inr other ↦
               let own = h.each m c le (sym (get_or-set_other inserted n m (Some b) None other) ∙ e) in
               (own.0, get_or-set_other spans n m (Some s) None other ∙ own.1, own.2)
         ];
       }
 
-  there_set : (bs : List Block) → stored inserted n ≡ None → take (length bs) inserted ≡ map Some bs → take (length bs) (set inserted n (Some b)) ≡ map Some bs
+  there_set : (bs : List Block) → stored inserted n ≡ None → take (length bs) inserted ≡ map Some bs → take (length bs)
+      (set inserted n (Some b)) ≡ map Some bs
   there_set bs free e = elim (less_or_more (length bs) n) [
     | inl le ↦ take-set-le (length bs) inserted n (Some b) le ∙ e
     | inr more ↦ let x = next_of inserted bs n e more in absurd (none-some x.0 (sym free ∙ x.1))
   ]
 
-  pub past_set : (progress : Option RunningVerdict) (m : ℕ) (bs : List Block) → stored inserted n ≡ None → IsPast inserted progress m bs → IsPast (set inserted n (Some b)) progress m bs
-  past_set progress m bs free p = record { prefix = record { there = there_set bs free p.prefix.there; join = p.prefix.join }; count = p.count; come = p.come }
+  pub past_set : (progress : Option RunningVerdict) (m : ℕ) (bs : List Block) → stored inserted n ≡ None
+      → IsPast inserted progress m bs → IsPast (set inserted n (Some b)) progress m bs
+  past_set progress m bs free p = record {
+    prefix = record { there = there_set bs free p.prefix.there; join = p.prefix.join };
+    count = p.count;
+    come = p.come;
+  }
 
-  pub joined_set : (start : JoinedPrefix) (xs : List Block) → stored inserted n ≡ None → AreJoinedTo inserted start xs → AreJoinedTo (set inserted n (Some b)) start xs
+  pub joined_set : (start : JoinedPrefix) (xs : List Block) → stored inserted n ≡ None → AreJoinedTo inserted start xs
+      → AreJoinedTo (set inserted n (Some b)) start xs
   joined_set start xs free a = record { there = there_set xs free a.there; count = a.count; stands = a.stands }
 
-pub spans_later : (inserted : List (Option Block)) (spans : List (Option Span)) (from to : ℕ) → HaveSpans inserted spans from → from ≤ to → HaveSpans inserted spans to
+pub spans_later : (inserted : List (Option Block)) (spans : List (Option Span)) (from to : ℕ) → HaveSpans inserted spans
+    from → from ≤ to → HaveSpans inserted spans to
 spans_later inserted spans from to h le = record { as_many = h.as_many; each = λ n b m e. h.each n b (omega arith) e }
 
-pub longest_at : (inserted : List (Option Block)) (progress : Option RunningVerdict) (n : ℕ) (bs : List Block) → IsPast inserted progress n bs → IsEnd inserted n bs → IsLongestPrefix inserted bs
-longest_at inserted progress n bs past end = longest_of inserted bs past.prefix (subst (λ (k : ℕ). IsEnd inserted k bs) (sym past.count) end)
+pub longest_at : (inserted : List (Option Block)) (progress : Option RunningVerdict) (n : ℕ) (bs : List Block)
+    → IsPast inserted progress n bs → IsEnd inserted n bs → IsLongestPrefix inserted bs
+longest_at inserted progress n bs past end = longest_of inserted bs past.prefix (subst (λ (k : ℕ). IsEnd inserted k bs)
+    (sym past.count) end)
 
 -- a book with one block more, before judging goes on
-pub record IsReady (inserted : List (Option Block)) (spans : List (Option Span)) (progress : Option RunningVerdict) (reached : ℕ) (start : JoinedPrefix) (bs xs : List Block) : Type 0 where
+pub record IsReady (inserted : List (Option Block)) (spans : List (Option Span)) (progress : Option RunningVerdict)
+    (reached : ℕ) (start : JoinedPrefix) (bs xs : List Block) : Type 0 where
   pub some : 0 < length inserted
   pub placed : ArePlaced inserted
   pub waiting : HaveSpans inserted spans start.count
@@ -322,13 +396,18 @@ pub none_of : {A : Type 0} (o : Option A) → is_some o ≡ false → o ≡ None
 none_of None e = refl
 none_of (Some a) e = absurd (cc)
 
-pub free_at : {A : Type 0} (places : List (Option A)) (n : ℕ) (x : Option A) → n < length places → x ≡ get_or places n x → x ≡ None → get_or places n None ≡ None
+pub free_at : {A : Type 0} (places : List (Option A)) (n : ℕ) (x : Option A) → n < length places → x ≡ get_or places n x
+    → x ≡ None → get_or places n None ≡ None
 free_at places n x below is e = get_or_default places n None x below ∙ sym is ∙ e
 
-pub ready_after : (old : BookSlots) (progress : Option RunningVerdict) (reached : ℕ) (before start : JoinedPrefix) (bs xs ys : List Block) (blocks : Vec (Option Block)) (spans : List (Option Span)) (n : ℕ) (b : Block) (s : Span)
-    → Keeps old progress reached before bs xs → blocks ≡ old.blocks → HaveSpans old.blocks.items spans start.count → AreJoinedTo old.blocks.items start ys → start.count ≤ reached → n < length old.blocks.items
-    → stored old.blocks.items n ≡ None → b.number ≡ n → length b.steps ≤ 65536 → SpanStandsFor s (b ∷ []) → IsReady (set blocks.items n (Some b)) (set spans n (Some s)) progress reached start bs ys
-ready_after old progress reached before start bs xs ys blocks spans n b s kept same waiting joined le below free number short stands =
+pub ready_after : (old : BookSlots) (progress : Option RunningVerdict) (reached : ℕ) (before start : JoinedPrefix)
+    (bs xs ys : List Block) (blocks : Vec (Option Block)) (spans : List (Option Span)) (n : ℕ) (b : Block) (s : Span)
+    → Keeps old progress reached before bs xs → blocks ≡ old.blocks → HaveSpans old.blocks.items spans start.count
+    → AreJoinedTo old.blocks.items start ys → start.count ≤ reached → n < length old.blocks.items
+    → stored old.blocks.items n ≡ None → b.number ≡ n → length b.steps ≤ 65536 → SpanStandsFor s (b ∷ [])
+    → IsReady (set blocks.items n (Some b)) (set spans n (Some s)) progress reached start bs ys
+ready_after old progress reached before start bs xs ys blocks spans n b s kept same waiting joined le below free number
+    short stands =
     let inserted = old.blocks.items in
     let long = length-set inserted n (Some b) in
     let ready : IsReady (set inserted n (Some b)) (set spans n (Some s)) progress reached start bs ys = record {
@@ -339,16 +418,31 @@ ready_after old progress reached before start bs xs ys blocks spans n b s kept s
       joined = joined_set inserted n b below start ys free joined;
       within = le;
     } in
-    subst (λ (v : Vec (Option Block)). IsReady (set v.items n (Some b)) (set spans n (Some s)) progress reached start bs ys) (sym same) ready
+    subst (λ (v : Vec (Option Block)). IsReady (set v.items n (Some b)) (set spans n (Some s)) progress reached start bs
+    ys) (sym same) ready
 
-pub keeps_after : (places : BookSlots) (progress further : Option RunningVerdict) (reached end : ℕ) (start : JoinedPrefix) (bs cs xs : List Block) → IsReady places.blocks.items places.spans.items progress reached start bs xs → reached ≤ end
-    → IsPast places.blocks.items further end cs → IsEnd places.blocks.items end cs → Keeps places further end start cs xs
+pub keeps_after : (places : BookSlots) (progress further : Option RunningVerdict) (reached end : ℕ)
+    (start : JoinedPrefix) (bs cs xs : List Block) → IsReady places.blocks.items places.spans.items progress reached
+    start
+    bs xs → reached ≤ end
+    → IsPast places.blocks.items further end cs → IsEnd places.blocks.items end cs → Keeps places further end start cs
+    xs
 keeps_after places progress further reached end start bs cs xs ready le past ended =
     let within = ready.within in
-    record { some = ready.some; placed = ready.placed; waiting = ready.waiting; past = past; ended = ended; joined = ready.joined; within = omega arith }
+    record {
+      some = ready.some;
+      placed = ready.placed;
+      waiting = ready.waiting;
+      past = past;
+      ended = ended;
+      joined
+          = ready.joined;
+      within = omega arith;
+    }
 
 -- two lists from number 0 on that are as long
-pub same_front : {A : Type 0} (places : List (Option A)) (xs ys : List A) → take (length xs) places ≡ map Some xs → take (length ys) places ≡ map Some ys → length xs ≡ length ys → xs ≡ ys
+pub same_front : {A : Type 0} (places : List (Option A)) (xs ys : List A) → take (length xs) places ≡ map Some xs
+    → take (length ys) places ≡ map Some ys → length xs ≡ length ys → xs ≡ ys
 same_front places xs ys e f n =
     let r = front_of places xs ys e f (omega arith) in
     let whole = ap length r.1 ∙ length-append xs r.0 in
@@ -360,37 +454,50 @@ same_front places xs ys e f n =
     no_length (x ∷ l) e = absurd (omega arith)
 
 -- a span of all blocks starts at number 0
-pub starts_at_zero : (inserted : List (Option Block)) (s : Span) (bs : List Block) → ArePlaced inserted → inserted ≡ map Some bs → 0 < length inserted → SpanStandsFor s bs → first_number s ≡ 0
+pub starts_at_zero : (inserted : List (Option Block)) (s : Span) (bs : List Block) → ArePlaced inserted → inserted
+    ≡ map Some bs → 0 < length inserted → SpanStandsFor s bs → first_number s ≡ 0
 starts_at_zero inserted s [] placed e some stands = let none = ap length e in absurd (omega arith)
 starts_at_zero inserted s (b ∷ bs) placed e some stands =
     let here : stored inserted 0 ≡ Some b = ap (λ (l : List (Option Block)). get_or l 0 None) e in
     span_first s b bs stands ∙ (placed.each 0 b here).number
 
 -- the recording of all blocks
-pub trace_is : (items : List (Option Block)) (bs : List Block) (first : Block) (steps : List Step) → items ≡ map Some bs → stored items 0 ≡ Some first → steps ≡ joined_steps bs
+pub trace_is : (items : List (Option Block)) (bs : List Block) (first : Block) (steps : List Step) → items ≡ map Some bs
+    → stored items 0 ≡ Some first → steps ≡ joined_steps bs
     → joined_trace bs ≡ Some (record { opening = first.opening; steps = steps })
-trace_is items [] first steps e f s = let here : stored items 0 ≡ None = ap (λ (l : List (Option Block)). get_or l 0 None) e in absurd (none-some first (sym here ∙ f))
+trace_is items [] first steps e f s = let here : stored items 0 ≡ None = ap (λ (l : List (Option Block)). get_or l 0
+    None) e in absurd (none-some first (sym here ∙ f))
 trace_is items (b ∷ bs) first steps e f s =
     let here : stored items 0 ≡ Some b = ap (λ (l : List (Option Block)). get_or l 0 None) e in
     let same : b ≡ first = same_Some b first (sym here ∙ f) in
     rw (s, same) refl
 
-pub next_part : (items rest : List (Option Block)) (place : Option Block) (block : Block) (steps further own all : List Step) → items ≡ place ∷ rest → place ≡ Some block → own ≡ block.steps → further ≡ steps ++ own
-    → (bs : List Block) → items ≡ map Some bs → steps ++ joined_steps bs ≡ all → (cs : List Block) × (rest ≡ map Some cs) × (further ++ joined_steps cs ≡ all)
-next_part items rest place block steps further own all e p o f [] m s = let none : place ∷ rest ≡ [] = sym e ∙ m in absurd (cc)
+pub next_part : (items rest : List (Option Block)) (place : Option Block) (block : Block)
+    (steps further own all : List Step) → items ≡ place ∷ rest → place ≡ Some block → own ≡ block.steps → further
+    ≡ steps
+    ++ own
+    → (bs : List Block) → items ≡ map Some bs → steps ++ joined_steps bs ≡ all → (cs : List Block)
+    × (rest ≡ map Some cs) × (further ++ joined_steps cs ≡ all)
+next_part items rest place block steps further own all e p o f [] m s = let none : place ∷ rest ≡ [] = sym e ∙ m in
+    absurd (cc)
 next_part items rest place block steps further own all e p o f (b ∷ bs) m s =
     let whole : place ∷ rest ≡ Some b ∷ map Some bs = sym e ∙ m in
     let first : place ≡ Some b = cc in
     let others : rest ≡ map Some bs = cc in
     let same : block ≡ b = same_Some block b (sym p ∙ first) in
-    let own' : own ≡ b.steps = o ∙ ap (λ (c : Block). c.steps) same in
-    (bs, others, ap (λ (l : List Step). l ++ joined_steps bs) (f ∙ ap (λ l. steps ++ l) own') ∙ append_assoc steps b.steps (joined_steps bs) ∙ s)
+    let own' : own ≡ b.steps = o ∙ ap (λ (c : Block). c.steps) same in (
+      bs,
+      others,
+      ap (λ (l : List Step). l ++ joined_steps bs) (f ∙ ap (λ l. steps ++ l) own') ∙ append_assoc steps
+          b.steps (joined_steps bs) ∙ s,
+    )
 
 pub settled : {A E : Type 0} {P : Type 0} (r : Result A E) → is_err r ≡ false → OnOk r P → P
 settled (Ok a) e p = p
 settled (Err fault) e p = absurd (cc)
 
-pub no_longer : {A : Type 0} (places : List (Option A)) (xs : List A) → take (length xs) places ≡ map Some xs → length xs ≤ length places
+pub no_longer : {A : Type 0} (places : List (Option A)) (xs : List A) → take (length xs) places ≡ map Some xs
+    → length xs ≤ length places
 no_longer places xs e =
     let a = map_length xs in
     let b = length-take (length xs) places in

@@ -1,2 +1,2 @@
 pub mod Inserted
-pub mod Kept
+pub mod BookState

@@ -74,7 +74,7 @@ impl Model for Book {
 
     ghost Value = { List (Option Block) };
 
-    ghost use Rattle.vme_book.specs.Kept.{KeepsSome};
+    ghost use Rattle.vme_book.specs.BookState.{KeepsSome};
 
     ghost view = { λ a. a.places.blocks.items };
 

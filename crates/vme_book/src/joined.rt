@@ -1,8 +1,8 @@
 //! The first blocks, joined to one span.
 
 ghost use Rattle.std.specs.Prelude.{◌≡◌, ◌+◌, ◌<◌, ◌≤◌, None, OnOk, OnErr, IfErr};
-ghost use Rattle.vme_book.specs.Kept.{AreSomeJoined, ArePlaced, FirstJoin, FitsAfter, HaveSpans, IsJoinedTo};
-ghost use Rattle.vme_book.specs.Kept.{JoinsAfter, StandsAsBefore};
+ghost use Rattle.vme_book.specs.BookState.{AreSomeJoined, ArePlaced, FirstJoin, FitsAfter, HaveSpans, IsJoinedTo};
+ghost use Rattle.vme_book.specs.BookState.{JoinsAfter, StandsAsBefore};
 
 use crate::places::BookSlots;
 use std::alloc::{AllocError, Global};

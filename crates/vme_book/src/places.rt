@@ -2,7 +2,7 @@
 
 ghost use Rattle.std.specs.Prelude.{◌≡◌, ◌≤◌, replicate, IfOk, IfSome, None, MatchOption};
 ghost use Rattle.vme_book.specs.Inserted.{AllThere, IsLeastMissing};
-ghost use Rattle.vme_book.specs.Kept.{ArePlaced, HaveSpans, IsPastMost, IsPastSome};
+ghost use Rattle.vme_book.specs.BookState.{ArePlaced, HaveSpans, IsPastMost, IsPastSome};
 
 use std::alloc::{AllocError, Global};
 use vme_summary::{RunningVerdict, Span};

@@ -3,7 +3,7 @@
 ghost use Rattle.std.specs.Prelude.{◌≡◌, ◌<◌, List, [], length, map, Some, vec_capacity};
 ghost use Rattle.vme_trace.specs.declared.block.Block.{Block as Stored};
 ghost use Rattle.vme_summary.specs.Joins.{joined_trace};
-ghost use Rattle.vme_book.specs.Kept.{ArePlaced, CanRecord};
+ghost use Rattle.vme_book.specs.BookState.{ArePlaced, CanRecord};
 
 use vme_trace::{Block, Capture, Step};
 

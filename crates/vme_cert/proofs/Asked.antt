@@ -18,8 +18,10 @@ use Rattle.vme_cert.proofs.Those.{any-first}
 
 module _ (t : Trace) (span : Stretch) (j start : ℕ) (answer : Option ℕ) (h : IsTransferFrom t span j start answer) where
   -- it started before, and isn't answered
-  pub unanswered-is : in_transfer t span (λ i. nat_lt i j && not (is_answered t span i (j + 1))) j ≡ (nat_lt start j && not (is_some answer))
-  unanswered-is = h.is (λ i. nat_lt i j && not (is_answered t span i (j + 1))) ∙ rw (answered-by t span start j h.order answer h.answer_is) refl
+  pub unanswered-is : in_transfer t span (λ i. nat_lt i j && not (is_answered t span i (j + 1))) j
+      ≡ (nat_lt start j && not (is_some answer))
+  unanswered-is = h.is (λ i. nat_lt i j && not (is_answered t span i (j + 1)))
+      ∙ rw (answered-by t span start j h.order answer h.answer_is) refl
 
   earlier : is_answered t span start j ≡ nat_lt (unwrap_or answer j) j
   earlier = answered-before t span start j h.order answer h.answer_is ∙ by_answer answer
@@ -41,16 +43,19 @@ module _ (t : Trace) (span : Stretch) (j start : ℕ) (answer : Option ℕ) (h :
       by_order-now : start ≤ j → (nat_lt start j && nat_lt j j) ≡ nat_lt j j
       by_order-now order = grind (arith, nat_tests)
 
-      by_answer : (o : Option ℕ) → o ≡ least (answers t span start) start (j + 1) → (nat_lt start j && nat_lt (unwrap_or o j) j) ≡ nat_lt (unwrap_or o j) j
+      by_answer : (o : Option ℕ) → o ≡ least (answers t span start) start (j + 1)
+          → (nat_lt start j && nat_lt (unwrap_or o j) j) ≡ nat_lt (unwrap_or o j) j
       by_answer None e = by_order-now h.order
       by_answer (Some r) e = by_order r (least-found (answers t span start) start (j + 1) r (sym e)).first
 
   -- or both answers fall
-  pub answered-twice : in_transfer t span (λ i. is_answered t span i j || (answers t span i j && falls t DTACK j && falls t BERR j)) j ≡ (nat_lt (unwrap_or answer j) j || (falls t DTACK j && falls t BERR j))
+  pub answered-twice : in_transfer t span (λ i. is_answered t span i j || (answers t span i j && falls t DTACK j
+      && falls t BERR j)) j ≡ (nat_lt (unwrap_or answer j) j || (falls t DTACK j && falls t BERR j))
   unfolding answers
   answered-twice =
       h.is (λ i. is_answered t span i j || (answers t span i j && falls t DTACK j && falls t BERR j))
-      ∙ (by_falls (lasts t span start j) (is_answered t span start j) (falls t DTACK j) (falls t BERR j) h.last ∙ ap (λ b. b || (falls t DTACK j && falls t BERR j)) earlier)
+      ∙ (by_falls (lasts t span start j) (is_answered t span start j) (falls t DTACK j) (falls t BERR j) h.last
+      ∙ ap (λ b. b || (falls t DTACK j && falls t BERR j)) earlier)
     where
       by_falls : (l a d b : Bool) → l ≡ true → (a || ((l && (d || b) && not a) && d && b)) ≡ (a || (d && b))
       by_falls l true d b e = refl
@@ -65,10 +70,12 @@ module _ (t : Trace) (span : Stretch) (j start : ℕ) (answer : Option ℕ) (h :
   open-write = h.is (λ i. is_write t span i && not (is_answered t span i j)) ∙ rw earlier refl
 
   -- it is one that started before and isn't answered, and no strobe rose
-  pub held-write : is_held_write t span j ≡ (nat_lt start j && low t WRITE start && not (is_some answer) && none (strobe_rises t) (start + 1) (j + 1))
+  pub held-write : is_held_write t span j ≡ (nat_lt start j && low t WRITE start && not (is_some answer)
+      && none (strobe_rises t) (start + 1) (j + 1))
   unfolding is_write
   held-write =
-      h.is (λ i. nat_lt i j && is_write t span i && not (is_answered t span i (j + 1)) && none (strobe_rises t) (i + 1) (j + 1))
+      h.is (λ i. nat_lt i j && is_write t span i && not (is_answered t span i (j + 1)) && none (strobe_rises t) (i + 1)
+      (j + 1))
       ∙ rw (answered-by t span start j h.order answer h.answer_is) refl
 
 granting-is : (t : Trace) (i : ℕ) → any (λ n. low t (grant n 0) i) 0 4 ≡ is_granting t i
@@ -86,7 +93,8 @@ taken-before t j e = rw e refl
 -- a tenure has a level where one is granted
 pub granted-near : (t : Trace) (j : ℕ) → is_some (tenure_level t j) ≡ near (is_granting t) j
 unfolding tenure_level
-granted-near t j = any-first (λ n. low t (grant n 0) (taken_grant t j)) 0 4 ∙ (granting-is t (taken_grant t j) ∙ by_now (is_granting t j) refl)
+granted-near t j = any-first (λ n. low t (grant n 0) (taken_grant t j)) 0 4 ∙ (granting-is t (taken_grant t j)
+    ∙ by_now (is_granting t j) refl)
   where
     or_true : (a : Bool) → true ≡ (a || true)
     or_true true = refl
@@ -96,6 +104,7 @@ granted-near t j = any-first (λ n. low t (grant n 0) (taken_grant t j)) 0 4 ∙
     or_false true = refl
     or_false false = refl
 
-    by_now : (b : Bool) → is_granting t j ≡ b → is_granting t (taken_grant t j) ≡ (is_granting t (j - 1) || is_granting t j)
+    by_now : (b : Bool) → is_granting t j ≡ b → is_granting t (taken_grant t j)
+        ≡ (is_granting t (j - 1) || is_granting t j)
     by_now true e = rw (taken-now t j e, e) (or_true (is_granting t (j - 1)))
     by_now false e = rw (taken-before t j e, e) (or_false (is_granting t (j - 1)))

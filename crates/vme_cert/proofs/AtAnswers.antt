@@ -37,7 +37,8 @@ module _ (t : Trace) (span : Stretch) (at : ℕ) where
 
     pub answers_write-here : answers_write t span at ≡ (option_map_or (λ r. r == at) o false && low t WRITE start)
     unfolding answers_write is_write
-    answers_write-here = from.is (λ i. answers t span i at && is_write t span i) ∙ ap (λ b. b && low t WRITE start) (answers-here t span start at from.order o from.answer_is)
+    answers_write-here = from.is (λ i. answers t span i at && is_write t span i) ∙ ap (λ b. b && low t WRITE start)
+        (answers-here t span start at from.order o from.answer_is)
 
   -- without a transfer there is none
   module _ (none : (p : ℕ → Bool) → in_transfer t span p at ≡ false) where
@@ -51,16 +52,21 @@ module _ (t : Trace) (span : Stretch) (at : ℕ) where
 
 pub no-answer : (t : Trace) (span : Stretch) (r : ℕ) → answer_falls t r ≡ false → is_answer t span r ≡ false
 unfolding is_answer in_transfer answers
-no-answer t span r h = fails-any _ (span.start + 1) (r + 1) (λ i a b. second_fails _ _ (first_fails _ _ (second_fails _ _ h)))
+no-answer t span r h = fails-any _ (span.start + 1) (r + 1)
+    (λ i a b. second_fails _ _ (first_fails _ _ (second_fails _ _ h)))
 
 eq_or_not : (i j : ℕ) (b : Bool) → (i ≡ j → ⊥) → (i == j) ≡ ((i == j) && b)
 eq_or_not i j b h = grind (arith, nat_tests)
 
-pub write-asked : (o : Option ℕ) (answer at : ℕ) (b : Bool) → o ≡ Some answer → answer ≡ at → b ≡ (option_map_or (λ r. r == at) o false && b)
-write-asked o answer at b e h = ap (λ c. c && b) (sym (eq_holds answer at h)) ∙ ap (λ x. option_map_or (λ r. r == at) x false && b) (sym e)
+pub write-asked : (o : Option ℕ) (answer at : ℕ) (b : Bool) → o ≡ Some answer → answer ≡ at → b
+    ≡ (option_map_or (λ r. r == at) o false && b)
+write-asked o answer at b e h = ap (λ c. c && b) (sym (eq_holds answer at h))
+    ∙ ap (λ x. option_map_or (λ r. r == at) x false && b) (sym e)
 
-pub write-elsewhere : (o : Option ℕ) (answer at : ℕ) (b : Bool) → o ≡ Some answer → (answer ≡ at → ⊥) → (answer == at) ≡ (option_map_or (λ r. r == at) o false && b)
-write-elsewhere o answer at b e h = eq_or_not answer at b h ∙ ap (λ x. option_map_or (λ r. r == at) x false && b) (sym e)
+pub write-elsewhere : (o : Option ℕ) (answer at : ℕ) (b : Bool) → o ≡ Some answer → (answer ≡ at → ⊥) → (answer == at)
+    ≡ (option_map_or (λ r. r == at) o false && b)
+write-elsewhere o answer at b e h = eq_or_not answer at b h ∙ ap (λ x. option_map_or (λ r. r == at) x false && b)
+    (sym e)
 
 pub write-never : (o : Option ℕ) (at : ℕ) (b : Bool) → o ≡ None → false ≡ (option_map_or (λ r. r == at) o false && b)
 write-never o at b e = ap (λ x. option_map_or (λ r. r == at) x false && b) (sym e)
@@ -73,8 +79,10 @@ cycle-after t span i h =
     omega (arith, lt_of span.start i judged.0)
 
 -- the class and the needs of a cycle stand at the place of its start
-pub cycle-there : (t : Trace) (p : ℕ → Bool) (cycles : List (Class × Needs)) (n k i : ℕ) → cycles ≡ map (cycle_at t) (those p 0 n) → k ≡ length (those p 0 i) → i < n → p i ≡ true → slice_get cycles k ≡ Some (cycle_at t i)
+pub cycle-there : (t : Trace) (p : ℕ → Bool) (cycles : List (Class × Needs)) (n k i : ℕ) → cycles ≡ map (cycle_at t)
+    (those p 0 n) → k ≡ length (those p 0 i) → i < n → p i ≡ true → slice_get cycles k ≡ Some (cycle_at t i)
 cycle-there t p cycles n k i is place within starts =
     let first = least-is p i n i (omega arith) within starts (any-start p i i (omega arith)) in
     ap (λ xs. slice_get xs k) is
-    ∙ (slice_get-map (cycle_at t) (those p 0 n) k ∙ ap (λ o. option_map (cycle_at t) o) (ap (slice_get (those p 0 n)) place ∙ (those-next p i n (omega arith) ∙ first)))
+    ∙ (slice_get-map (cycle_at t) (those p 0 n) k ∙ ap (λ o. option_map (cycle_at t) o)
+    (ap (slice_get (those p 0 n)) place ∙ (those-next p i n (omega arith) ∙ first)))

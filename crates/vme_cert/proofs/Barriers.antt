@@ -28,31 +28,44 @@ any_later : (p : ℕ → Bool) (f m n : ℕ) → f ≤ m → any p f m ≡ false
 any_later p f m n order none = sym (any-first p f n) ∙ (ap is_some (least-later p f m n order none) ∙ any-first p m n)
 
 -- what started with no barrier since is looked for from the last barrier on
-pub since-barrier : (p q : ℕ → Bool) (f j : ℕ) → any (λ i. p i && none q (i + 1) (j + 1)) f j ≡ any p (unwrap_or (greatest q f (j + 1)) f) j
-since-barrier p q f j = elim (below_or_from j f) [ inl empty ↦ nowhere empty | inr order ↦ by_last order (greatest q f (j + 1)) refl ]
+pub since-barrier : (p q : ℕ → Bool) (f j : ℕ) → any (λ i. p i && none q (i + 1) (j + 1)) f j
+    ≡ any p (unwrap_or (greatest q f (j + 1)) f) j
+since-barrier p q f j = elim (below_or_from j f) [
+  | inl empty ↦ nowhere empty
+  | inr order ↦ by_last order
+      (greatest q f (j + 1)) refl
+]
   where
     nowhere : j < f → any (λ i. p i && none q (i + 1) (j + 1)) f j ≡ any p (unwrap_or (greatest q f (j + 1)) f) j
-    nowhere empty = rw (greatest-none q f (j + 1) (omega arith)) (any-start (λ i. p i && none q (i + 1) (j + 1)) f j (omega arith) ∙ sym (any-start p f j (omega arith)))
+    nowhere empty = rw (greatest-none q f (j + 1) (omega arith)) (any-start (λ i. p i && none q (i + 1) (j + 1)) f j
+        (omega arith) ∙ sym (any-start p f j (omega arith)))
 
-    by_last : f ≤ j → (o : Option ℕ) → greatest q f (j + 1) ≡ o → any (λ i. p i && none q (i + 1) (j + 1)) f j ≡ any p (unwrap_or (greatest q f (j + 1)) f) j
+    by_last : f ≤ j → (o : Option ℕ) → greatest q f (j + 1) ≡ o → any (λ i. p i && none q (i + 1) (j + 1)) f j
+        ≡ any p (unwrap_or (greatest q f (j + 1)) f) j
     by_last order None e =
         rw e
-        (any-alike (λ i. p i && none q (i + 1) (j + 1)) p f j (λ i a b. last_holds (p i) (any q (i + 1) (j + 1)) (none-later q f (i + 1) (j + 1) (omega arith) (greatest-none-any q f (j + 1) e))))
+        (any-alike (λ i. p i && none q (i + 1) (j + 1)) p f j (λ i a b. last_holds (p i) (any q (i + 1) (j + 1))
+        (none-later q f (i + 1) (j + 1) (omega arith) (greatest-none-any q f (j + 1) e))))
     by_last order (Some r) e =
         let found = greatest-found q f (j + 1) r e in
         let from = found.from in
         let before = found.before in
         rw e
-        (any_later (λ i. p i && none q (i + 1) (j + 1)) f r j from (fails-any (λ i. p i && none q (i + 1) (j + 1)) f r (λ i a b. last_fails (p i) (any q (i + 1) (j + 1)) (any-holds q (i + 1) (j + 1) r (omega arith) before found.holds)))
-        ∙ any-alike (λ i. p i && none q (i + 1) (j + 1)) p r j (λ i a b. last_holds (p i) (any q (i + 1) (j + 1)) (none-later q (r + 1) (i + 1) (j + 1) (omega arith) found.last)))
+        (any_later (λ i. p i && none q (i + 1) (j + 1)) f r j from (fails-any (λ i. p i && none q (i + 1) (j + 1)) f r
+        (λ i a b. last_fails (p i) (any q (i + 1) (j + 1)) (any-holds q (i + 1) (j + 1) r (omega arith) before
+        found.holds)))
+        ∙ any-alike (λ i. p i && none q (i + 1) (j + 1)) p r j (λ i a b. last_holds (p i) (any q (i + 1) (j + 1))
+        (none-later q (r + 1) (i + 1) (j + 1) (omega arith) found.last)))
 
 -- one of some meets a test: the first of them does, or another later
 module _ (p q : ℕ → Bool) (f n : ℕ) where
   pub any-both : (i : ℕ) → least p f n ≡ Some i → q i ≡ true → any (λ k. p k && q k) f n ≡ true
   any-both i e h = sym (any-first (λ k. p k && q k) f n) ∙ ap is_some (least-both p q f n i e h)
 
-  pub any-skips : (i : ℕ) → least p f n ≡ Some i → q i ≡ false → any (λ k. p k && q k) f n ≡ any (λ k. p k && q k) (i + 1) n
-  any-skips i e h = sym (any-first (λ k. p k && q k) f n) ∙ (ap is_some (least-skips p q f n i e h) ∙ any-first (λ k. p k && q k) (i + 1) n)
+  pub any-skips : (i : ℕ) → least p f n ≡ Some i → q i ≡ false → any (λ k. p k && q k) f n ≡ any (λ k. p k && q k)
+      (i + 1) n
+  any-skips i e h = sym (any-first (λ k. p k && q k) f n) ∙ (ap is_some (least-skips p q f n i e h)
+      ∙ any-first (λ k. p k && q k) (i + 1) n)
 
   pub any-neither : least p f n ≡ None → any (λ k. p k && q k) f n ≡ false
   any-neither e = sym (any-first (λ k. p k && q k) f n) ∙ ap is_some (least-neither p q f n e)
@@ -75,10 +88,12 @@ module _ (t : Trace) (span : Stretch) (j l : ℕ) where
   waits i = none (is_answer t span) i (j + 1) && is_needed (levels_at t i) l
 
   -- a cycle that runs started where the address strobe hasn't risen since
-  pub held-since : is_held t span j l ≡ any (λ i. cycle_starts t span i && waits i) (unwrap_or (greatest (rises t AS) (span.start + 1) (j + 1)) (span.start + 1)) j
+  pub held-since : is_held t span j l ≡ any (λ i. cycle_starts t span i && waits i)
+      (unwrap_or (greatest (rises t AS) (span.start + 1) (j + 1)) (span.start + 1)) j
   unfolding cycle_runs
   held-since =
-      any-alike _ _ (span.start + 1) j (λ i a b. last_three (cycle_starts t span i) (none (rises t AS) (i + 1) (j + 1)) (none (is_answer t span) i (j + 1)) (is_needed (levels_at t i) l))
+      any-alike _ _ (span.start + 1) j (λ i a b. last_three (cycle_starts t span i) (none (rises t AS) (i + 1) (j + 1))
+      (none (is_answer t span) i (j + 1)) (is_needed (levels_at t i) l))
       ∙ since-barrier (λ i. cycle_starts t span i && waits i) (rises t AS) (span.start + 1) j
 
   -- one that was answered before doesn't wait, nor one that doesn't need the line
@@ -101,14 +116,17 @@ module _ (t : Trace) (span : Stretch) (j l : ℕ) where
   -- none waits on through an answer
   pub answered-ends : (f : ℕ) → is_answer t span j ≡ true → any (λ i. cycle_starts t span i && waits i) f j ≡ false
   answered-ends f h =
-      fails-any (λ i. cycle_starts t span i && waits i) f j (λ i a b. second (cycle_starts t span i) (any (is_answer t span) i (j + 1)) (is_needed (levels_at t i) l) (any-holds (is_answer t span) i (j + 1) j (omega arith) (omega arith) h))
+      fails-any (λ i. cycle_starts t span i && waits i) f j (λ i a b. second (cycle_starts t span i)
+      (any (is_answer t span) i (j + 1)) (is_needed (levels_at t i) l) (any-holds (is_answer t span) i (j + 1) j
+      (omega arith) (omega arith) h))
     where
       second : (a b c : Bool) → b ≡ true → (a && (not b && c)) ≡ false
       second true b c h = rw h refl
       second false b c h = refl
 
   -- the first that needs the line and wasn't answered before waits, where this isn't its answer; and then none does
-  pub waits-last : (f i : ℕ) → least (cycle_starts t span) f j ≡ Some i → is_needed (levels_at t i) l ≡ true → any (is_answer t span) i j ≡ false → any (λ k. cycle_starts t span k && waits k) f j ≡ not (is_answer t span j)
+  pub waits-last : (f i : ℕ) → least (cycle_starts t span) f j ≡ Some i → is_needed (levels_at t i) l ≡ true
+      → any (is_answer t span) i j ≡ false → any (λ k. cycle_starts t span k && waits k) f j ≡ not (is_answer t span j)
   waits-last f i first needed none = by_answer (is_answer t span j) refl
     where
       still : is_answer t span j ≡ false → waits i ≡ true

@@ -1,5 +1,6 @@
 -- What the greatest of a range is.
-use Rattle.std.proofs.Common.{◌≡◌, ℕ, zero, suc, ◌+◌, ◌<◌, ◌≤◌, Bool, true, false, ◌&&◌, ◌||◌, refl, sym, ◌∙◌, ap, arith, inl, inr, ◌⊎◌, cond}
+use Rattle.std.proofs.Common.{◌≡◌, ℕ, zero, suc, ◌+◌, ◌<◌, ◌≤◌, Bool, true, false, ◌&&◌, ◌||◌, refl, sym, ◌∙◌, ap}
+use Rattle.std.proofs.Common.{arith, inl, inr, ◌⊎◌, cond}
 use Rattle.std.specs.Prelude.{Option, None, Some, nat_le, unwrap_or}
 use Rattle.vme_trace.specs.Instants.{any, greatest}
 use Rattle.vme_trace.proofs.Ranges.{any-fails, fails-any, clash}
@@ -49,13 +50,26 @@ greatest-found p f (suc n) i e =
           let same : n ≡ i = same_value n i here.1 in
           let both = and_true (nat_le f n) (p n) here.0 in
           let from : f ≤ n = le_of f n both.0 in
-          record { from = omega arith; before = omega arith; holds = ap p (sym same) ∙ both.1; last = fails-any p (i + 1) (suc n) (λ k a b. absurd (omega arith)) }
+          record {
+            from = omega arith;
+            before = omega arith;
+            holds = ap p (sym same) ∙ both.1;
+            last = fails-any p
+                (i + 1) (suc n) (λ k a b. absurd (omega arith));
+          }
       | inr earlier ↦
           let found = greatest-found p f n i earlier.1 in
-          record { from = found.from; before = omega (arith, found.before); holds = found.holds; last = one_more found.last (not_here found.from found.before earlier.0) }
+          record {
+            from = found.from;
+            before = omega (arith, found.before);
+            holds = found.holds;
+            last = one_more
+                found.last (not_here found.from found.before earlier.0);
+          }
     ]
   where
-    one_more : any p (i + 1) n ≡ false → (nat_le (i + 1) n && p n) ≡ false → (any p (i + 1) n || (nat_le (i + 1) n && p n)) ≡ false
+    one_more : any p (i + 1) n ≡ false → (nat_le (i + 1) n && p n) ≡ false
+        → (any p (i + 1) n || (nat_le (i + 1) n && p n)) ≡ false
     one_more h k = rw (h, k) refl
 
     fails_here : (a b c : Bool) → (b && c) ≡ false → b ≡ true → (a && c) ≡ false
@@ -67,7 +81,8 @@ greatest-found p f (suc n) i e =
     not_here a b h = fails_here (nat_le (i + 1) n) (nat_le f n) (p n) h (le_holds f n (omega arith))
 
 -- the greatest is found where none after it holds
-pub greatest-is : (p : ℕ → Bool) (f n i : ℕ) → f ≤ i → i < n → p i ≡ true → any p (i + 1) n ≡ false → greatest p f n ≡ Some i
+pub greatest-is : (p : ℕ → Bool) (f n i : ℕ) → f ≤ i → i < n → p i ≡ true → any p (i + 1) n ≡ false → greatest p f n
+    ≡ Some i
 greatest-is p f n i from before holds last = by_greatest (greatest p f n) refl
   where
     by_greatest : (o : Option ℕ) → greatest p f n ≡ o → greatest p f n ≡ Some i
@@ -79,7 +94,8 @@ greatest-is p f n i from before holds last = by_greatest (greatest p f n) refl
 
         same : IsGreatest p f n k → (k < i) ⊎ (i < k) ⊎ (k ≡ i) → k ≡ i
         same found (inl less) = absurd (clash (p i) holds (any-fails p (k + 1) n i found.last (omega arith) before))
-        same found (inr (inl more)) = absurd (clash (p k) found.holds (any-fails p (i + 1) n k last (omega arith) found.before))
+        same found (inr (inl more)) = absurd (clash (p k) found.holds (any-fails p (i + 1) n k last (omega arith)
+            found.before))
         same found (inr (inr is)) = is
 
 -- the greatest of a range, or else its first, is no earlier

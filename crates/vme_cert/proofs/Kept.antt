@@ -1,5 +1,6 @@
 -- What the changes at an instant do, and what stays where a line shows what it did before.
-use Rattle.std.proofs.Common.{◌≡◌, ℕ, zero, suc, ◌-◌, ◌<◌, Bool, true, false, ◌&&◌, not, List, [], refl, sym, ◌∙◌, ap, subst, arith, length, get_or, inl, inr, ◌⊎◌}
+use Rattle.std.proofs.Common.{◌≡◌, ℕ, zero, suc, ◌-◌, ◌<◌, Bool, true, false, ◌&&◌, not, List, [], refl, sym, ◌∙◌, ap}
+use Rattle.std.proofs.Common.{subst, arith, length, get_or, inl, inr, ◌⊎◌}
 use Rattle.std.specs.Prelude.{None, Some, slice_get}
 use Rattle.std.proofs.lemmas.Option.{slice_get_past, slice_get_read, slice_get_within}
 use Rattle.vme_trace.specs.LineNumbers.{has_line}
@@ -14,11 +15,14 @@ use Rattle.vme_trace.proofs.Ranges.{any-fails, least-none-any}
 use Rattle.vme_trace.proofs.SpanEnds.{slots_at}
 
 -- the step that was read at a place
-pub step_at : (t : Trace) (steps : List Step) (i : ℕ) (step : Step) → steps ≡ t.steps → i < length t.steps → step ≡ get_or steps i step → slice_get t.steps i ≡ Some step
-step_at t steps i step e below is = ap (λ xs. slice_get xs i) (sym e) ∙ slice_get_read steps (length steps) i step refl (subst (λ xs. i < length xs) (sym e) below) is
+pub step_at : (t : Trace) (steps : List Step) (i : ℕ) (step : Step) → steps ≡ t.steps → i < length t.steps → step
+    ≡ get_or steps i step → slice_get t.steps i ≡ Some step
+step_at t steps i step e below is = ap (λ xs. slice_get xs i) (sym e) ∙ slice_get_read steps (length steps) i step refl
+    (subst (λ xs. i < length xs) (sym e) below) is
 
 -- its changes make the levels of its instant, and past the last they stay
-pub made : (t : Trace) (i : ℕ) (step : Step) → 0 < i → slice_get t.steps (i - 1) ≡ Some step → levels_at t i ≡ changed (levels_at t (i - 1)) step.changes
+pub made : (t : Trace) (i : ℕ) (step : Step) → 0 < i → slice_get t.steps (i - 1) ≡ Some step → levels_at t i
+    ≡ changed (levels_at t (i - 1)) step.changes
 unfolding levels_at
 made t zero step h found = absurd (omega arith)
 made t (suc n) step h found =
@@ -29,7 +33,8 @@ pub none_made : (t : Trace) (i : ℕ) → (i ≡ 0) ⊎ (length t.steps < i) →
 unfolding levels_at changed
 none_made t zero h = refl
 none_made t (suc n) (inl e) = absurd (omega arith)
-none_made t (suc n) (inr h) = let e : suc n - 1 ≡ n = omega arith in rw e (rw (slice_get_past t.steps n (omega arith)) refl)
+none_made t (suc n) (inr h) = let e : suc n - 1 ≡ n = omega arith in
+    rw e (rw (slice_get_past t.steps n (omega arith)) refl)
 
 low_or_high : (x y : Level) → y ≡ x → (is_high x && is_low y) ≡ false
 low_or_high x y e = rw e (by_level x)
@@ -68,14 +73,17 @@ unfolding has_edge
 no_edge t l i e = same (level t l (i - 1)) (level t l i) e
 
 -- the backplane has the same lines at each instant
-pub has_at : (t : Trace) (v : Levels) (i l : ℕ) → v ≡ levels_at t i → has_line t.opening.slots l ≡ true → has_line v.slots l ≡ true
+pub has_at : (t : Trace) (v : Levels) (i l : ℕ) → v ≡ levels_at t i → has_line t.opening.slots l ≡ true
+    → has_line v.slots l ≡ true
 has_at t v i l e h = ap (λ (w : Levels). has_line w.slots l) e ∙ (ap (λ slots. has_line slots l) (slots_at t i) ∙ h)
 
 -- the step before an instant changes lines that exist and ascend, and has its time
-pub sound-step : (t : Trace) (i : ℕ) (step : Step) → malformed_step t ≡ None → 0 < i → slice_get t.steps (i - 1) ≡ Some step → are_changes (levels_at t (i - 1)) 0 step.changes ≡ true
+pub sound-step : (t : Trace) (i : ℕ) (step : Step) → malformed_step t ≡ None → 0 < i → slice_get t.steps (i - 1)
+    ≡ Some step → are_changes (levels_at t (i - 1)) 0 step.changes ≡ true
 unfolding malformed_step is_step
 sound-step t i step well above found =
-    let fits_here : not (is_step t (i - 1)) ≡ false = any-fails (λ n. not (is_step t n)) 0 (length t.steps) (i - 1) (least-none-any _ _ _ well) (omega arith) (slice_get_within t.steps (i - 1) step found) in
+    let fits_here : not (is_step t (i - 1)) ≡ false = any-fails (λ n. not (is_step t n)) 0 (length t.steps) (i - 1)
+    (least-none-any _ _ _ well) (omega arith) (slice_get_within t.steps (i - 1) step found) in
     last_of _ _ (rw found at (true_of_not (is_step t (i - 1)) fits_here))
   where
     true_of_not : (b : Bool) → not b ≡ false → b ≡ true
@@ -95,5 +103,6 @@ none_timed t zero h = refl
 none_timed t (suc n) (inl e) = absurd (omega arith)
 none_timed t (suc n) (inr h) = rw (slice_get_past t.steps n (omega arith)) refl
 
-pub same_lines : (t : Trace) (v : Levels) (i l : ℕ) → v ≡ levels_at t i → has_line v.slots l ≡ has_line t.opening.slots l
+pub same_lines : (t : Trace) (v : Levels) (i l : ℕ) → v ≡ levels_at t i → has_line v.slots l ≡ has_line t.opening.slots
+    l
 same_lines t v i l e = ap (λ (w : Levels). has_line w.slots l) e ∙ ap (λ slots. has_line slots l) (slots_at t i)

@@ -35,14 +35,21 @@ module _ (t : Trace) (span : Stretch) (j : ℕ) (r : Rule) (edge : asks_for_edge
   unknown-shown U3 e l h = unknown _ h
   unknown-shown U4 e l h = unknown _ h
   unknown-shown H1 e l h = absurd (other e)
-  unknown-shown q e l h = absurd (let asks : asks_for_edge q ≡ false = subst (λ s. asks_for_edge s ≡ false) e edge in cc)
+  unknown-shown q e l h = absurd (let asks : asks_for_edge q ≡ false = subst (λ s. asks_for_edge s ≡ false) e edge in
+      cc)
 
-  pub known-kept : every (is_known_on (levels_at t j)) (lines_of r).0 (lines_of r).1 ≡ true → least (breaks t span r j) 0 line_count ≡ None
+  pub known-kept : every (is_known_on (levels_at t j)) (lines_of r).0 (lines_of r).1 ≡ true → least (breaks t span r j)
+      0 line_count ≡ None
   known-kept h =
       least-outside (is_known_on (levels_at t j)) (breaks t span r j) (lines_of r).0 (lines_of r).1 line_count h
       (λ l below e.
-      let s = within (lines_of r).0 (lines_of r).1 l (met (breaks t span r j l) (speaks_of r l) (breaks-unspoken t span j l below r) e) in
-      (s.0, s.1, unknown-shown r refl l (met (breaks t span r j l) (shows t r l j) (breaks-unshown t span j l below r) e)))
+      let s = within (lines_of r).0 (lines_of r).1 l (met (breaks t span r j l) (speaks_of r l)
+      (breaks-unspoken t span j l below r) e) in (
+        s.0,
+        s.1,
+        unknown-shown r refl l (met (breaks t span r j l) (shows t r l j) (breaks-unshown t span j l below r)
+            e),
+      ))
 
 -- there are such lines
 pub some-lines : (r : Rule) → asks_for_edge r ≡ false → (lines_of r).1 - 1 + 1 ≡ (lines_of r).1

@@ -1,4 +1,5 @@
--- Where what is judged stops: where the bus is reset, or one of the changes loses a control line. Where the bus is idle it goes on.
+-- Where what is judged stops: where the bus is reset, or one of the changes loses a control line. Where the bus is idle
+-- it goes on.
 use Rattle.std.proofs.Common.{◌≡◌, ℕ, ◌-◌, ◌≤◌, Bool, true, false, ◌||◌, List, refl, sym, ◌∙◌, ap}
 use Rattle.std.specs.Prelude.{is_some}
 use Rattle.vme_trace.specs.LineNumbers.{line_count}
@@ -29,7 +30,9 @@ module _ (t : Trace) (now : Levels) (j : ℕ) (here : now ≡ levels_at t j) whe
   stops-reset h = ap (λ b. b || loses_control_at t j) (sym reset-is ∙ h)
 
   -- where it isn't reset, a control line among the changes tells
-  pub stops-lost : (cs : List Change) → t.opening.slots ≤ 21 → levels_at t j ≡ changed (levels_at t (j - 1)) cs → are_changes (levels_at t (j - 1)) 0 cs ≡ true → stops_at t (j - 1) ≡ false → is_reset now ≡ false → stops_at t j ≡ is_some (lost_among now cs)
+  pub stops-lost : (cs : List Change) → t.opening.slots ≤ 21 → levels_at t j ≡ changed (levels_at t (j - 1)) cs
+      → are_changes (levels_at t (j - 1)) 0 cs ≡ true → stops_at t (j - 1) ≡ false → is_reset now ≡ false → stops_at t j
+      ≡ is_some (lost_among now cs)
   unfolding loses_control_at loses_control is_reset_at
   stops-lost cs few made sound before h =
       let v = levels_at t (j - 1) in
@@ -38,9 +41,12 @@ module _ (t : Trace) (now : Levels) (j : ℕ) (here : now ≡ levels_at t j) whe
       sym
       (ap (λ (w : Levels). is_some (lost_among w cs)) (here ∙ made)
       ∙ (ap is_some (lost-least v cs slots sound held.1 held.0)
-      ∙ (any-first (is_lost (changed v cs)) 0 line_count ∙ (ap (λ (w : Levels). loses_control w) (sym made) ∙ sym (ap (λ b. b || loses_control_at t j) (sym reset-is ∙ h))))))
+      ∙ (any-first (is_lost (changed v cs)) 0 line_count ∙ (ap (λ (w : Levels). loses_control w) (sym made)
+      ∙ sym (ap (λ b. b || loses_control_at t j) (sym reset-is ∙ h))))))
 
 -- whether the bus is idle, by the levels there
-pub idle-here : (t u : Trace) (v : Levels) (i start : ℕ) (b : Bool) → u ≡ t → i ≡ start → v ≡ levels_at u i → b ≡ is_idle v → is_idle_at t start ≡ b
+pub idle-here : (t u : Trace) (v : Levels) (i start : ℕ) (b : Bool) → u ≡ t → i ≡ start → v ≡ levels_at u i → b
+    ≡ is_idle v → is_idle_at t start ≡ b
 unfolding is_idle_at
-idle-here t u v i start b same at is answer = ap (is_idle_at t) (sym at) ∙ (ap (λ (w : Trace). is_idle_at w i) (sym same) ∙ (ap is_idle (sym is) ∙ sym answer))
+idle-here t u v i start b same at is answer = ap (is_idle_at t) (sym at)
+    ∙ (ap (λ (w : Trace). is_idle_at w i) (sym same) ∙ (ap is_idle (sym is) ∙ sym answer))

@@ -1,5 +1,6 @@
 -- Outside of a span nothing is answered, nothing begins, and no rule is broken but at its end.
-use Rattle.std.proofs.Common.{◌≡◌, ℕ, zero, suc, ◌+◌, ◌<◌, ◌≤◌, Bool, true, false, ◌||◌, List, [], ◌∷◌, refl, sym, ◌∙◌, arith, inl, inr, ◌⊎◌}
+use Rattle.std.proofs.Common.{◌≡◌, ℕ, zero, suc, ◌+◌, ◌<◌, ◌≤◌, Bool, true, false, ◌||◌, List, [], ◌∷◌, refl, sym, ◌∙◌}
+use Rattle.std.proofs.Common.{arith, inl, inr, ◌⊎◌}
 use Rattle.std.specs.Prelude.{None, ◌==◌}
 use Rattle.std.proofs.lemmas.Bool.Decides.{nat_tests}
 use Rattle.std.proofs.lemmas.List.{append-nil}
@@ -53,7 +54,8 @@ module _ (t : Trace) (span : Stretch) where
   answers-outside = sym (those-none _ 0 span.start (fails-any _ 0 span.start (λ r a b. unanswered r (omega arith))))
 
   pub acknowledges-outside : [] ≡ those (is_acknowledged t span) 0 span.start
-  acknowledges-outside = sym (those-none _ 0 span.start (fails-any _ 0 span.start (λ r a b. first_fails _ _ (unanswered r (omega arith)))))
+  acknowledges-outside = sym
+      (those-none _ 0 span.start (fails-any _ 0 span.start (λ r a b. first_fails _ _ (unanswered r (omega arith)))))
 
   -- no rule is broken outside
   module _ (j : ℕ) (out : is_judged span j ≡ false) (inside : (j == span.end) ≡ false) where
@@ -68,10 +70,12 @@ module _ (t : Trace) (span : Stretch) where
     pub break_at-outside : (rules : List Rule) → break_at t span rules j ≡ None
     break_at-outside [] = break_at-empty t span j
     break_at-outside (r ∷ rs) =
-        break_at-next t span r rs j (least-none (breaks t span r j) 0 line_count (fails-any (breaks t span r j) 0 line_count (λ l a b. kept r l b)))
+        break_at-next t span r rs j (least-none (breaks t span r j) 0 line_count
+        (fails-any (breaks t span r j) 0 line_count (λ l a b. kept r l b)))
         ∙ break_at-outside rs
 
-  pub unbroken-before : (rules : List Rule) (n : ℕ) → n ≤ span.start → span.start < span.end → break_before t span rules n ≡ None
+  pub unbroken-before : (rules : List Rule) (n : ℕ) → n ≤ span.start → span.start < span.end → break_before t span rules
+      n ≡ None
   unfolding break_before
   unbroken-before rules zero h order = refl
   unbroken-before rules (suc n) h order =
@@ -79,7 +83,8 @@ module _ (t : Trace) (span : Stretch) where
       (break_at-outside n (before_start span n (omega arith)) (other n span.end (inl (omega arith))) rules)
 
   -- nor past the end: none is broken by an instant where none is by one past the end, or by this very one
-  pub unbroken-by : (rules : List Rule) (m n : ℕ) → m ≤ n → (n ≤ m) ⊎ (span.end < m) → break_before t span rules m ≡ None → break_before t span rules n ≡ None
+  pub unbroken-by : (rules : List Rule) (m n : ℕ) → m ≤ n → (n ≤ m) ⊎ (span.end < m) → break_before t span rules m
+      ≡ None → break_before t span rules n ≡ None
   unfolding break_before
   unbroken-by rules m zero order past none = let e : m ≡ 0 = omega arith in rw e at none
   unbroken-by rules m (suc n) order past none =
@@ -87,7 +92,8 @@ module _ (t : Trace) (span : Stretch) where
         | inl e ↦ rw e at none
         | inr before ↦
             rw (unbroken-by rules m n before (inr (ended m n before past)) none)
-            (break_at-outside n (past_end span n (omega (arith, before, ended m n before past))) (other n span.end (inr (omega (arith, before, ended m n before past)))) rules)
+            (break_at-outside n (past_end span n (omega (arith, before, ended m n before past)))
+            (other n span.end (inr (omega (arith, before, ended m n before past)))) rules)
       ]
     where
       ended : (m n : ℕ) → m ≤ n → (suc n ≤ m) ⊎ (span.end < m) → span.end < m
@@ -103,11 +109,13 @@ module _ (t : Trace) (span : Stretch) where
   rows-none : (end i : ℕ) → row_starts t span i ≡ false → rows_before t span end (suc i) ≡ rows_before t span end i
   unfolding rows_before tenure_rows cycle_rows transfer_rows
   rows-none end i none =
-      let are = none_of (i == span.start) (tenure_starts t span i) (cycle_starts t span i) (transfer_starts t span i) none in
+      let are = none_of (i == span.start) (tenure_starts t span i) (cycle_starts t span i) (transfer_starts t span i)
+      none in
       let rows = append-nil (rows_before t span end i) in
       rw (are.0, are.1, are.2, are.3) (rw (rows, rows, rows) refl)
 
-  pub rows-between : (end m n : ℕ) → m ≤ n → any (row_starts t span) m n ≡ false → rows_before t span end n ≡ rows_before t span end m
+  pub rows-between : (end m n : ℕ) → m ≤ n → any (row_starts t span) m n ≡ false → rows_before t span end n
+      ≡ rows_before t span end m
   rows-between end m zero order none = let e : m ≡ 0 = omega arith in rw e refl
   rows-between end m (suc n) order none =
       elim (last_or_earlier m n order) [
@@ -119,4 +127,5 @@ module _ (t : Trace) (span : Stretch) where
 
   pub rows-outside : (end : ℕ) → rows_before t span end span.start ≡ []
   unfolding rows_before
-  rows-outside end = rows-between end 0 span.start (omega arith) (fails-any (row_starts t span) 0 span.start (λ i a b. starts-outside i b))
+  rows-outside end = rows-between end 0 span.start (omega arith) (fails-any (row_starts t span) 0 span.start
+      (λ i a b. starts-outside i b))

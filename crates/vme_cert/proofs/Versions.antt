@@ -24,7 +24,8 @@ rows_in-one One row = refl
 rows_in-one Two row = refl
 rows_in-one Three row = refl
 
-pub rows_in-more : (v : Version) (xs : List Row) (row : Row) → rows_in v (xs ++ row ∷ []) ≡ rows_in v xs ++ row_in v row ∷ []
+pub rows_in-more : (v : Version) (xs : List Row) (row : Row) → rows_in v (xs ++ row ∷ []) ≡ rows_in v xs ++ row_in v row
+    ∷ []
 rows_in-more v xs row = rows_in-append v xs (row ∷ []) ∙ ap (λ (zs : List Row). rows_in v xs ++ zs) (rows_in-one v row)
 
 pub rows_in-length : (v : Version) (xs : List Row) → length (rows_in v xs) ≡ length xs

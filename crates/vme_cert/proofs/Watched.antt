@@ -1,23 +1,30 @@
--- A rule is broken where it speaks of the line, the line shows what it asks first, and the rest of it is so. So apart from U1,
+-- A rule is broken where it speaks of the line, the line shows what it asks first, and the rest of it is so. So apart
+-- from U1,
 -- U2, U3, U4 and H1 it is broken only on a line that changes.
-use Rattle.std.proofs.Common.{◌≡◌, ℕ, ◌+◌, ◌-◌, ◌<◌, ◌≤◌, Bool, true, false, ◌&&◌, ◌||◌, refl, sym, ◌∙◌, ap, arith, inl, inr, ◌⊎◌}
+use Rattle.std.proofs.Common.{◌≡◌, ℕ, ◌+◌, ◌-◌, ◌<◌, ◌≤◌, Bool, true, false, ◌&&◌, ◌||◌, refl, sym, ◌∙◌, ap, arith, inl}
+use Rattle.std.proofs.Common.{inr, ◌⊎◌}
 use Rattle.std.specs.Prelude.{◌==◌, nat_le, nat_lt, Some, None, if◌then◌else◌}
 use Rattle.std.proofs.lemmas.Bool.Decides.{nat_tests}
-use Rattle.vme_trace.specs.Cycle.{needs_of, is_needed, class_of, modifier_of, highest_address, is_extended, is_standard, is_short}
+use Rattle.vme_trace.specs.Cycle.{needs_of, is_needed, class_of, modifier_of, highest_address, is_extended, is_standard}
+use Rattle.vme_trace.specs.Cycle.{is_short}
 use Rattle.vme_trace.specs.Data.{is_selected}
 use Rattle.vme_trace.specs.declared.class.Class.{Class}
 use Rattle.vme_trace.specs.declared.class.Class.TheVariants as class
 use Rattle.vme_trace.specs.Levels.{Levels, level_at, is_low, is_high}
-use Rattle.vme_trace.specs.LineNumbers.{DS0, DS1, LWORD, A, line_count, has_line, is_strobe, is_answer_line, is_grant, is_slot_iack}
+use Rattle.vme_trace.specs.LineNumbers.{DS0, DS1, LWORD, A, line_count, has_line, is_strobe, is_answer_line, is_grant}
+use Rattle.vme_trace.specs.LineNumbers.{is_slot_iack}
 use Rattle.vme_trace.specs.Trace.{Trace, levels_at}
 use Rattle.vme_trace.specs.Signals.{level, known}
 use Rattle.vme_trace.specs.Judged.{Stretch, is_judged}
 use Rattle.vme_trace.specs.Rules.{is_broken, breaks, ends_span}
 use Rattle.vme_trace.specs.declared.rule.Rule.{Rule}
-use Rattle.vme_trace.specs.declared.rule.Rule.TheVariants.{U1, U2, U3, U4, H1, H2, H3, H4, H5, H6, H7, H8, S1, S2, S3, C1, C2, G1, G2, G3, G4, G5, B1, B2, B3, B4, I1, I2, I3, I4, I5}
+use Rattle.vme_trace.specs.declared.rule.Rule.TheVariants.{U1, U2, U3, U4, H1, H2, H3, H4, H5, H6, H7, H8, S1, S2, S3}
+use Rattle.vme_trace.specs.declared.rule.Rule.TheVariants.{C1, C2, G1, G2, G3, G4, G5, B1, B2, B3, B4, I1, I2, I3, I4}
+use Rattle.vme_trace.specs.declared.rule.Rule.TheVariants.{I5}
 use Rattle.vme_trace.specs.Instants.{any, least}
 use Rattle.vme_trace.proofs.Ranges.{any-fails, fails-any, least-is, least-none}
-use Rattle.vme_cert.specs.Watching.{lines_of, speaks_of, shows, asks, asks_for_edge, starts, is_any, is_held, is_held_write}
+use Rattle.vme_cert.specs.Watching.{lines_of, speaks_of, shows, asks, asks_for_edge, starts, is_any, is_held}
+use Rattle.vme_cert.specs.Watching.{is_held_write}
 use Rattle.vme_cert.proofs.Kept.{no_fall, no_rise, no_edge}
 
 off : (a : Bool) → (a && false) ≡ false
@@ -59,7 +66,8 @@ needs_31 v = by_class (class_of v) refl
     by_class class.I e = rw e (omega arith)
     by_class class.F e = rw e (omega arith)
 
-outside : (l k : ℕ) (m : Bool) → k ≤ 31 → (nat_le 5 l && nat_lt l 45) ≡ false → ((l == 5) || (m && ((nat_le 6 l && nat_le l 11) || (l == 12))) || (nat_le 14 l && nat_le l (13 + k))) ≡ false
+outside : (l k : ℕ) (m : Bool) → k ≤ 31 → (nat_le 5 l && nat_lt l 45) ≡ false
+    → ((l == 5) || (m && ((nat_le 6 l && nat_le l 11) || (l == 12))) || (nat_le 14 l && nat_le l (13 + k))) ≡ false
 outside l k m most h = grind (arith, nat_tests)
 
 -- no cycle needs other lines
@@ -67,14 +75,17 @@ not_needed : (v : Levels) (l : ℕ) → (nat_le 5 l && nat_lt l 45) ≡ false �
 unfolding is_needed
 not_needed v l h = outside l (needs_of v).highest (needs_of v).modifier (needs_31 v) h
 
-apart : (l : ℕ) (w x y u v : Bool) → (nat_le 159 l && nat_lt l 191) ≡ false → ((w && ((x && (nat_le 159 l && nat_le l 166)) || (y && (nat_le 167 l && nat_le l 174)))) || (u && v && x && y && (nat_le 159 l && nat_le l 190))) ≡ false
+apart : (l : ℕ) (w x y u v : Bool) → (nat_le 159 l && nat_lt l 191) ≡ false
+    → ((w && ((x && (nat_le 159 l && nat_le l 166)) || (y && (nat_le 167 l && nat_le l 174)))) || (u && v && x && y
+    && (nat_le 159 l && nat_le l 190))) ≡ false
 apart l w x y u v h = grind (arith, nat_tests)
 
 -- a transfer moves no other lines than those of data
 not_selected : (v : Levels) (l : ℕ) → (nat_le 159 l && nat_lt l 191) ≡ false → is_selected v l ≡ false
 unfolding is_selected
 not_selected v l h =
-    apart l (is_high (level_at v LWORD)) (is_low (level_at v DS0)) (is_low (level_at v DS1)) (is_low (level_at v LWORD)) (is_low (level_at v (A 1))) h
+    apart l (is_high (level_at v LWORD)) (is_low (level_at v DS0)) (is_low (level_at v DS1)) (is_low (level_at v LWORD))
+    (is_low (level_at v (A 1))) h
 
 -- the names of lines, by their numbers
 only : (k l : ℕ) → (l == k) ≡ (nat_le k l && nat_lt l (k + 1))
@@ -203,25 +214,32 @@ module _ (t : Trace) (span : Stretch) (j l : ℕ) (below : l < line_count) where
   broken-is I5 = then_two _ _ _ (answer_line l) _ _
 
   module _ (r : Rule) where
-    breaks-is : breaks t span r j l ≡ ((ends_span r || is_judged span j) && has_line t.opening.slots l && (speaks_of r l && shows t r l j && asks t span r j l))
+    breaks-is : breaks t span r j l ≡ ((ends_span r || is_judged span j) && has_line t.opening.slots l
+        && (speaks_of r l && shows t r l j && asks t span r j l))
     unfolding breaks
     breaks-is = ap (λ b. (ends_span r || is_judged span j) && has_line t.opening.slots l && b) (broken-is r)
 
     pub breaks-unspoken : speaks_of r l ≡ false → breaks t span r j l ≡ false
-    breaks-unspoken h = breaks-is ∙ unspoken (ends_span r || is_judged span j) (has_line t.opening.slots l) (speaks_of r l) (shows t r l j) (asks t span r j l) h
+    breaks-unspoken h = breaks-is ∙ unspoken (ends_span r || is_judged span j) (has_line t.opening.slots l)
+        (speaks_of r l) (shows t r l j) (asks t span r j l) h
 
     pub breaks-unshown : shows t r l j ≡ false → breaks t span r j l ≡ false
-    breaks-unshown h = breaks-is ∙ unshown (ends_span r || is_judged span j) (has_line t.opening.slots l) (speaks_of r l) (shows t r l j) (asks t span r j l) h
+    breaks-unshown h = breaks-is ∙ unshown (ends_span r || is_judged span j) (has_line t.opening.slots l)
+        (speaks_of r l) (shows t r l j) (asks t span r j l) h
 
     -- nor on a line that the backplane hasn't
     pub breaks-absent : has_line t.opening.slots l ≡ false → breaks t span r j l ≡ false
-    breaks-absent h = breaks-is ∙ absent (ends_span r || is_judged span j) (has_line t.opening.slots l) (speaks_of r l) (shows t r l j) (asks t span r j l) h
+    breaks-absent h = breaks-is ∙ absent (ends_span r || is_judged span j) (has_line t.opening.slots l) (speaks_of r l)
+        (shows t r l j) (asks t span r j l) h
 
-    pub breaks-asked : speaks_of r l ≡ true → has_line t.opening.slots l ≡ true → shows t r l j ≡ true → breaks t span r j l ≡ ((ends_span r || is_judged span j) && asks t span r j l)
-    breaks-asked s has k = breaks-is ∙ asked (ends_span r || is_judged span j) (has_line t.opening.slots l) (speaks_of r l) (shows t r l j) (asks t span r j l) s has k
+    pub breaks-asked : speaks_of r l ≡ true → has_line t.opening.slots l ≡ true → shows t r l j ≡ true → breaks t span r
+        j l ≡ ((ends_span r || is_judged span j) && asks t span r j l)
+    breaks-asked s has k = breaks-is ∙ asked (ends_span r || is_judged span j) (has_line t.opening.slots l)
+        (speaks_of r l) (shows t r l j) (asks t span r j l) s has k
 
     breaks-unasked : asks t span r j l ≡ false → breaks t span r j l ≡ false
-    breaks-unasked h = breaks-is ∙ unasked (ends_span r || is_judged span j) (has_line t.opening.slots l) (speaks_of r l) (shows t r l j) (asks t span r j l) h
+    breaks-unasked h = breaks-is ∙ unasked (ends_span r || is_judged span j) (has_line t.opening.slots l)
+        (speaks_of r l) (shows t r l j) (asks t span r j l) h
 
   -- a line that stays shows no edge
   stays : level t l j ≡ level t l (j - 1) → (r : Rule) → asks_for_edge r ≡ true → shows t r l j ≡ false
@@ -277,7 +295,8 @@ early_or_not l f = grind arith
 
 module _ (t : Trace) (span : Stretch) (j : ℕ) (r : Rule) (e : asks_for_edge r ≡ false) where
   -- the lines before one are kept, if those of which the rule speaks are
-  none-before : (l : ℕ) → l ≤ line_count → ((k : ℕ) → (lines_of r).0 ≤ k → k < l → k < (lines_of r).1 → breaks t span r j k ≡ false) → any (breaks t span r j) 0 l ≡ false
+  none-before : (l : ℕ) → l ≤ line_count → ((k : ℕ) → (lines_of r).0 ≤ k → k < l → k < (lines_of r).1 → breaks t span r
+      j k ≡ false) → any (breaks t span r j) 0 l ≡ false
   none-before l within kept =
       fails-any (breaks t span r j) 0 l
       (λ k a b. elim (early_or_not k (lines_of r).0) [
@@ -288,19 +307,23 @@ module _ (t : Trace) (span : Stretch) (j : ℕ) (r : Rule) (e : asks_for_edge r 
         ]
       ])
 
-  pub least-start : (l : ℕ) → l < (lines_of r).1 → any (breaks t span r j) (lines_of r).0 l ≡ false → breaks t span r j l ≡ true → Some l ≡ least (breaks t span r j) 0 line_count
+  pub least-start : (l : ℕ) → l < (lines_of r).1 → any (breaks t span r j) (lines_of r).0 l ≡ false → breaks t span r j
+      l ≡ true → Some l ≡ least (breaks t span r j) 0 line_count
   least-start l below none holds =
       let end = start_lines r e in
       sym (least-is (breaks t span r j) 0 line_count l (omega arith) (omega (arith, end)) holds
       (none-before l (omega (arith, end)) (λ k from b c. any-fails (breaks t span r j) (lines_of r).0 l k none from b)))
 
-  pub least-never : (n : ℕ) → (lines_of r).1 ≤ n → any (breaks t span r j) (lines_of r).0 n ≡ false → None ≡ least (breaks t span r j) 0 line_count
+  pub least-never : (n : ℕ) → (lines_of r).1 ≤ n → any (breaks t span r j) (lines_of r).0 n ≡ false → None
+      ≡ least (breaks t span r j) 0 line_count
   least-never n all none =
       sym (least-none (breaks t span r j) 0 line_count
-      (none-before line_count (omega arith) (λ k from b c. any-fails (breaks t span r j) (lines_of r).0 n k none from (omega arith))))
+      (none-before line_count (omega arith) (λ k from b c. any-fails (breaks t span r j) (lines_of r).0 n k none from
+      (omega arith))))
 
   pub least-unstarted : starts t span r j ≡ false → None ≡ least (breaks t span r j) 0 line_count
-  least-unstarted h = sym (least-none (breaks t span r j) 0 line_count (fails-any (breaks t span r j) 0 line_count (λ l a b. breaks-unstarted t span j l b r e h)))
+  least-unstarted h = sym (least-none (breaks t span r j) 0 line_count (fails-any (breaks t span r j) 0 line_count
+      (λ l a b. breaks-unstarted t span j l b r e h)))
 
 one : (a b : Bool) → (a || b) ≡ false → a ≡ false
 one true b h = absurd (cc)
@@ -321,25 +344,65 @@ module _ (p : Rule → Bool) (l : ℕ) (kept : is_any p l ≡ false) where
   on_address f e end s = let e_is : is_any p l ≡ (p H7 || p B3) = rw (under f e l 1 end s) refl in sym e_is ∙ kept
 
   on_strobe : (f e : ℕ) → 1 ≤ f → e ≤ 3 → (nat_le f l && nat_lt l e) ≡ true → (p H2 || p H3) ≡ false
-  on_strobe f e from end s = let e_is : is_any p l ≡ (p H2 || p H3) = rw (over f e l 1 from s, under f e l 3 end s) refl in sym e_is ∙ kept
+  on_strobe f e from end s = let e_is : is_any p l ≡ (p H2 || p H3) = rw (over f e l 1 from s, under f e l 3 end s)
+      refl in sym e_is ∙ kept
 
-  on_answer : (f e : ℕ) → 3 ≤ f → e ≤ 5 → (nat_le f l && nat_lt l e) ≡ true → (p H4 || p H5 || p H6 || p H8 || p C1 || p C2 || p I4 || p I5) ≡ false
-  on_answer f e from end s = let e_is : is_any p l ≡ (p H4 || p H5 || p H6 || p H8 || p C1 || p C2 || p I4 || p I5) = rw (over f e l 1 (omega (arith, from)) s, over f e l 3 from s, under f e l 5 end s) refl in sym e_is ∙ kept
+  on_answer : (f e : ℕ) → 3 ≤ f → e ≤ 5 → (nat_le f l && nat_lt l e) ≡ true
+      → (p H4 || p H5 || p H6 || p H8 || p C1 || p C2 || p I4 || p I5) ≡ false
+  on_answer f e from end s = let e_is : is_any p l ≡ (p H4 || p H5 || p H6 || p H8 || p C1 || p C2 || p I4 || p I5) = rw
+      (over f e l 1 (omega (arith, from)) s, over f e l 3 from s, under f e l 5 end s) refl in sym e_is ∙ kept
 
   on_needed : (f e : ℕ) → 5 ≤ f → e ≤ 45 → (nat_le f l && nat_lt l e) ≡ true → (p S1 || p S2) ≡ false
-  on_needed f e from end s = let e_is : is_any p l ≡ (p S1 || p S2) = rw (over f e l 1 (omega (arith, from)) s, over f e l 3 (omega (arith, from)) s, over f e l 5 from s, under f e l 45 end s) refl in sym e_is ∙ kept
+  on_needed f e from end s = let e_is : is_any p l ≡ (p S1 || p S2) = rw (
+    over f e l 1 (omega (arith, from)) s,
+    over f e l 3 (omega (arith, from)) s,
+    over f e l 5 from s,
+    under f e l 45 end s,
+  ) refl in sym e_is ∙ kept
 
   on_busy : (f e : ℕ) → 45 ≤ f → e ≤ 50 → (nat_le f l && nat_lt l e) ≡ true → (p B1 || p B2 || p B4) ≡ false
-  on_busy f e from end s = let e_is : is_any p l ≡ (p B1 || p B2 || p B4) = rw (over f e l 1 (omega (arith, from)) s, over f e l 3 (omega (arith, from)) s, over f e l 5 (omega (arith, from)) s, over f e l 45 from s, under f e l 50 end s) refl in sym e_is ∙ kept
+  on_busy f e from end s = let e_is : is_any p l ≡ (p B1 || p B2 || p B4) = rw (
+    over f e l 1 (omega (arith, from)) s,
+    over f e l 3 (omega (arith, from)) s,
+    over f e l 5 (omega (arith, from)) s,
+    over f e l 45 from s,
+    under f e l 50 end
+        s,
+  ) refl in sym e_is ∙ kept
 
-  on_grant : (f e : ℕ) → 50 ≤ f → e ≤ 138 → (nat_le f l && nat_lt l e) ≡ true → (p G1 || p G2 || p G3 || p G4 || p G5) ≡ false
-  on_grant f e from end s = let e_is : is_any p l ≡ (p G1 || p G2 || p G3 || p G4 || p G5) = rw (over f e l 1 (omega (arith, from)) s, over f e l 3 (omega (arith, from)) s, over f e l 5 (omega (arith, from)) s, over f e l 45 (omega (arith, from)) s, over f e l 50 from s, under f e l 138 end s) refl in sym e_is ∙ kept
+  on_grant : (f e : ℕ) → 50 ≤ f → e ≤ 138 → (nat_le f l && nat_lt l e) ≡ true → (p G1 || p G2 || p G3 || p G4 || p G5)
+      ≡ false
+  on_grant f e from end s = let e_is : is_any p l ≡ (p G1 || p G2 || p G3 || p G4 || p G5) = rw (
+    over f e l 1 (omega (arith, from)) s,
+    over f e l 3 (omega (arith, from)) s,
+    over f e l 5 (omega (arith, from)) s,
+    over f e l 45 (omega (arith, from)) s,
+    over f e l 50 from s,
+    under f e l 138 end s,
+  ) refl in sym e_is ∙ kept
 
   on_chain : (f e : ℕ) → 138 ≤ f → e ≤ 159 → (nat_le f l && nat_lt l e) ≡ true → (p I1 || p I2 || p I3) ≡ false
-  on_chain f e from end s = let e_is : is_any p l ≡ (p I1 || p I2 || p I3) = rw (over f e l 1 (omega (arith, from)) s, over f e l 3 (omega (arith, from)) s, over f e l 5 (omega (arith, from)) s, over f e l 45 (omega (arith, from)) s, over f e l 50 (omega (arith, from)) s, over f e l 138 from s, under f e l 159 end s) refl in sym e_is ∙ kept
+  on_chain f e from end s = let e_is : is_any p l ≡ (p I1 || p I2 || p I3) = rw (
+    over f e l 1 (omega (arith, from)) s,
+    over f e l 3 (omega (arith, from)) s,
+    over f e l 5 (omega (arith, from)) s,
+    over f e l 45 (omega (arith, from)) s,
+    over f e l 50 (omega (arith, from)) s,
+    over f e l 138 from s,
+    under f e l 159 end s,
+  ) refl in sym e_is ∙ kept
 
   on_data : (f e : ℕ) → 159 ≤ f → (nat_le f l && nat_lt l e) ≡ true → p S3 ≡ false
-  on_data f e from s = let e_is : is_any p l ≡ p S3 = rw (over f e l 1 (omega (arith, from)) s, over f e l 3 (omega (arith, from)) s, over f e l 5 (omega (arith, from)) s, over f e l 45 (omega (arith, from)) s, over f e l 50 (omega (arith, from)) s, over f e l 138 (omega (arith, from)) s, over f e l 159 from s) refl in sym e_is ∙ kept
+  on_data f e from s = let e_is : is_any p l ≡ p S3 = rw (
+    over f e l 1 (omega (arith, from)) s,
+    over f e l 3 (omega (arith, from)) s,
+    over f e l 5 (omega (arith, from)) s,
+    over f e l 45 (omega (arith, from)) s,
+    over f e l 50 (omega (arith, from)) s,
+    over f e l 138 (omega (arith, from)) s,
+    over f e l 159 from s,
+  ) refl in
+      sym e_is ∙ kept
 
   -- where it speaks of the line, it is one of those
   pub edge-among : (r : Rule) → asks_for_edge r ≡ true → speaks_of r l ≡ true → p r ≡ false
@@ -350,9 +413,12 @@ module _ (p : Rule → Bool) (l : ℕ) (kept : is_any p l ≡ false) where
   edge-among H1 e s = absurd (cc)
   edge-among H2 e s = one _ _ (on_strobe 1 3 (omega arith) (omega arith) s)
   edge-among H3 e s = more _ _ (on_strobe 1 3 (omega arith) (omega arith) s)
-  edge-among H4 e s = one _ _ (one _ _ (one _ _ (one _ _ (one _ _ (one _ _ (one _ _ (on_answer 3 5 (omega arith) (omega arith) s)))))))
-  edge-among H5 e s = more _ _ (one _ _ (one _ _ (one _ _ (one _ _ (one _ _ (one _ _ (on_answer 3 5 (omega arith) (omega arith) s)))))))
-  edge-among H6 e s = more _ _ (one _ _ (one _ _ (one _ _ (one _ _ (one _ _ (on_answer 3 5 (omega arith) (omega arith) s))))))
+  edge-among H4 e s = one _ _
+      (one _ _ (one _ _ (one _ _ (one _ _ (one _ _ (one _ _ (on_answer 3 5 (omega arith) (omega arith) s)))))))
+  edge-among H5 e s = more _ _
+      (one _ _ (one _ _ (one _ _ (one _ _ (one _ _ (one _ _ (on_answer 3 5 (omega arith) (omega arith) s)))))))
+  edge-among H6 e s = more _ _
+      (one _ _ (one _ _ (one _ _ (one _ _ (one _ _ (on_answer 3 5 (omega arith) (omega arith) s))))))
   edge-among H7 e s = one _ _ (on_address 0 1 (omega arith) s)
   edge-among H8 e s = more _ _ (one _ _ (one _ _ (one _ _ (one _ _ (on_answer 3 5 (omega arith) (omega arith) s)))))
   edge-among S1 e s = one _ _ (on_needed 5 45 (omega arith) (omega arith) s)

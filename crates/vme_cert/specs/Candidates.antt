@@ -47,7 +47,8 @@ Departs candidate right count rest =
 -- the right rows are those that are given, or this is the first that differs
 abbrev pub Decides : Candidate → List Row → Answer → Type 0
 Decides candidate right Yes = (rest : Candidate) × AreNext candidate right rest × IsEmptyCandidate rest
-Decides candidate right (No row) = (count : ℕ) × (rest : Candidate) × (row ≡ count + 1) × Departs candidate right count rest
+Decides candidate right (No row) = (count : ℕ) × (rest : Candidate) × (row ≡ count + 1) × Departs candidate right count
+    rest
 
 -- there are right ones that aren't given
 abbrev pub DepartsWithin : Candidate → List Row → ℕ → Candidate → Type 0

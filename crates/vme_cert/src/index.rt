@@ -17,7 +17,7 @@ use crate::search::any;
 use std::alloc::{AllocError, Global};
 use std::cell::Cell;
 use std::marker::Model;
-use vme_trace::{Class, Line, LineSet, am_class, needed};
+use vme_trace::{Class, Line, NeededLines, am_class, needed};
 
 /// The instants, from the opening on and before an end, at which something happens, in order. What is asked of them
 /// holds of whatever happens at these and no others before that end.
@@ -377,7 +377,7 @@ impl EventLists {
 pub(crate) struct Index {
     pub(crate) span: StretchBounds,
     pub(crate) lists: EventLists,
-    pub(crate) cycles: Vec<(Class, LineSet)>,
+    pub(crate) cycles: Vec<(Class, NeededLines)>,
     pub(crate) answers: Instants,
     pub(crate) acknowledges: Instants,
     /// Before which instant events are noted, and before which answers.

@@ -13,7 +13,7 @@ use crate::index::BusEvent::{
     self, AnswerFall, CycleStart, StrobesHigh, TransferStart, WriteStart,
 };
 use crate::index::Index;
-use vme_trace::{Class, Lanes, LineSet, moved_data};
+use vme_trace::{Class, Lanes, NeededLines, moved_data};
 
 /// A recording at an instant, and what happens up to there and perhaps later.
 #[derive(Clone, Copy)]
@@ -164,7 +164,7 @@ impl InstantView<'_> {
     }
 
     /// The class of a cycle, and what it needs.
-    pub(crate) fn cycle(&self, start: u32) -> (Class, LineSet)
+    pub(crate) fn cycle(&self, start: u32) -> (Class, NeededLines)
         requires starts { cycle_starts (trace self.now) (span self.now) start ≡ true }
         requires within { start < noted self.now }
         ensures class { result.0 ≡ class_at (trace self.now) (span self.now) start }

@@ -4,9 +4,9 @@
 //! # What is claimed
 //!
 //! [`confirm`] says yes exactly where the rows, the verdict's included, are those of the recording (`listing_of`), and
-//! else names the first row that differs: its contract is `DecidesListing`, in `specs/Agreement.antt`. [`confirm_text`] says
-//! the same of a text (`DecidesText`), or names its first fault. No monitor and no summary has a part in them or in
-//! their proofs.
+//! else names the first row that differs: its contract is `DecidesListing`, in `specs/Agreement.antt`. [`confirm_text`]
+//! says the same of a text (`DecidesText`), or names its first fault. No monitor and no summary has a part in them or
+//! in their proofs.
 //!
 //! # What has to be trusted
 //!

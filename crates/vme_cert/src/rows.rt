@@ -9,11 +9,11 @@ ghost use Rattle.vme_cert.specs.Words.{last_instant};
 use crate::index::BusEvent::{AcknowledgeFall, AddressRise, BusyRise, StrobesHigh};
 use crate::instant_view::InstantView;
 use vme_listing::{AnswerLine, Direction, Row};
-use vme_trace::{Class, Lanes, Line, LineSet, Lines, am_code};
+use vme_trace::{Class, Lanes, Line, Lines, NeededLines, am_code};
 
 /// The address on the address lines that a cycle needs which starts at these levels, a high line being 1 and any other
 /// 0.
-fn address_on(lines: &Lines, needs: LineSet) -> u32
+fn address_on(lines: &Lines, needs: NeededLines) -> u32
     requires { needs ≡ needs_of lines.now }
     ensures { result ≡ address_to lines.now (needs_of lines.now).highest }
 {
@@ -31,7 +31,7 @@ fn address_on(lines: &Lines, needs: LineSet) -> u32
 }
 
 /// The row of a cycle of a class and with its needs, which starts at these levels.
-fn cycle_row(start: u32, lines: &Lines, cycle: (Class, LineSet), end: Option<u32>) -> Row
+fn cycle_row(start: u32, lines: &Lines, cycle: (Class, NeededLines), end: Option<u32>) -> Row
     requires class { cycle.0 ≡ class_of lines.now }
     requires needs { cycle.1 ≡ needs_of lines.now }
     ensures { result ≡ cycle_row start lines.now end (class_of lines.now) }

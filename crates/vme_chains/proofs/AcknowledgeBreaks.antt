@@ -25,7 +25,8 @@ and_twice true false falls more = refl
 and_twice false true falls more = refl
 and_twice false false falls more = refl
 
-and_four : (has slot falls a b c : Bool) → (has && (slot && falls && a && b && c)) ≡ ((slot && has && has && falls) && (a && b && c))
+and_four : (has slot falls a b c : Bool) → (has && (slot && falls && a && b && c))
+    ≡ ((slot && has && has && falls) && (a && b && c))
 and_four true true true a b c = refl
 and_four true true false a b c = refl
 and_four true false falls a b c = refl
@@ -44,29 +45,41 @@ module _ (t : Trace) (span : Stretch) (n : ℕ) (from : span.start ≤ n) (befor
 
   pub on_input : (l : ℕ) → breaks t span I1 (suc n) l ≡ passes_unasked old new l
   unfolding breaks is_broken falls high low
-  on_input l = rw (suc-sub-one n, judged, slots_at t n, slots_at t (suc n)) (and_twice (has_line t.opening.slots l) (is_slot_iack l) (falls_between old new l) (not (low_near old new (input_of l))))
+  on_input l = rw (suc-sub-one n, judged, slots_at t n, slots_at t (suc n)) (and_twice (has_line t.opening.slots l)
+      (is_slot_iack l) (falls_between old new l) (not (low_near old new (input_of l))))
 
   pub on_strobes : (l : ℕ) → breaks t span I2 (suc n) l ≡ (passes_on old new l && not (is_strobed old new))
   unfolding breaks is_broken falls high low
-  on_strobes l = rw (suc-sub-one n, judged, slots_at t n, slots_at t (suc n)) (and_twice (has_line t.opening.slots l) (is_slot_iack l) (falls_between old new l) (not (is_strobed old new)))
+  on_strobes l = rw (suc-sub-one n, judged, slots_at t n, slots_at t (suc n)) (and_twice (has_line t.opening.slots l)
+      (is_slot_iack l) (falls_between old new l) (not (is_strobed old new)))
 
-  in_cycle_alike : (m : Acknowledgement) → Holds t span n m → (b : Bool) → low t AS n ≡ b → (b && is_low (level_at new AS) && in_cycle t span (λ i. any (acknowledges t span) i (suc n)) n) ≡ (b && is_low (level_at new AS) && m.acknowledged)
+  in_cycle_alike : (m : Acknowledgement) → Holds t span n m → (b : Bool) → low t AS n ≡ b
+      → (b && is_low (level_at new AS) && in_cycle t span (λ i. any (acknowledges t span) i (suc n)) n)
+      ≡ (b && is_low (level_at new AS) && m.acknowledged)
   in_cycle_alike m h true e = ap (λ c. is_low (level_at new AS) && c) (in_cycle_is t span n m h e)
   in_cycle_alike m h false e = refl
 
-  pub on_answer : (m : Acknowledgement) → Holds t span n m → (l : ℕ) → breaks t span I3 (suc n) l ≡ (passes_on old new l && (is_addressed old new && m.acknowledged))
+  pub on_answer : (m : Acknowledgement) → Holds t span n m → (l : ℕ) → breaks t span I3 (suc n) l
+      ≡ (passes_on old new l && (is_addressed old new && m.acknowledged))
   unfolding breaks is_broken falls high low
   on_answer m h l =
       rw (suc-sub-one n, judged, slots_at t n, slots_at t (suc n))
-      (and_four (has_line t.opening.slots l) (is_slot_iack l) (falls_between old new l) (is_low (level_at old AS)) (is_low (level_at new AS)) (in_cycle t span (λ i. any (acknowledges t span) i (suc n)) n)
-      ∙ ap (λ c. (is_slot_iack l && has_line t.opening.slots l && has_line t.opening.slots l && falls_between old new l) && c) (in_cycle_alike m h (is_low (level_at old AS)) refl))
+      (and_four (has_line t.opening.slots l) (is_slot_iack l) (falls_between old new l) (is_low (level_at old AS))
+      (is_low (level_at new AS)) (in_cycle t span (λ i. any (acknowledges t span) i (suc n)) n)
+      ∙ ap (λ c. (is_slot_iack l && has_line t.opening.slots l && has_line t.opening.slots l && falls_between old new l)
+      && c) (in_cycle_alike m h (is_low (level_at old AS)) refl))
 
   -- the least lines
   pub least_input : least (breaks t span I1 (suc n)) 0 line_count ≡ least (passes_unasked old new) 0 line_count
   least_input = least-alike (breaks t span I1 (suc n)) (passes_unasked old new) 0 line_count (λ l a b. on_input l)
 
-  pub least_strobes : least (breaks t span I2 (suc n)) 0 line_count ≡ cond (not (is_strobed old new)) (least (passes_on old new) 0 line_count) None
-  least_strobes = least-alike (breaks t span I2 (suc n)) (λ l. passes_on old new l && not (is_strobed old new)) 0 line_count (λ l a b. on_strobes l) ∙ least-when (passes_on old new) (not (is_strobed old new)) line_count
+  pub least_strobes : least (breaks t span I2 (suc n)) 0 line_count ≡ cond (not (is_strobed old new))
+      (least (passes_on old new) 0 line_count) None
+  least_strobes = least-alike (breaks t span I2 (suc n)) (λ l. passes_on old new l && not (is_strobed old new)) 0
+      line_count (λ l a b. on_strobes l) ∙ least-when (passes_on old new) (not (is_strobed old new)) line_count
 
-  pub least_answer : (m : Acknowledgement) → Holds t span n m → least (breaks t span I3 (suc n)) 0 line_count ≡ cond (is_addressed old new && m.acknowledged) (least (passes_on old new) 0 line_count) None
-  least_answer m h = least-alike (breaks t span I3 (suc n)) (λ l. passes_on old new l && (is_addressed old new && m.acknowledged)) 0 line_count (λ l a b. on_answer m h l) ∙ least-when (passes_on old new) (is_addressed old new && m.acknowledged) line_count
+  pub least_answer : (m : Acknowledgement) → Holds t span n m → least (breaks t span I3 (suc n)) 0 line_count
+      ≡ cond (is_addressed old new && m.acknowledged) (least (passes_on old new) 0 line_count) None
+  least_answer m h = least-alike (breaks t span I3 (suc n)) (λ l. passes_on old new l
+      && (is_addressed old new && m.acknowledged)) 0 line_count (λ l a b. on_answer m h l)
+      ∙ least-when (passes_on old new) (is_addressed old new && m.acknowledged) line_count

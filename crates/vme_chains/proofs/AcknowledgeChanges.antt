@@ -1,5 +1,6 @@
 -- What the changes of a step say of the lines that are watched.
-use Rattle.std.proofs.Common.{◌≡◌, ℕ, ◌+◌, ◌<◌, ◌≤◌, Bool, true, false, ◌||◌, ◌&&◌, not, List, [], ◌∷◌, refl, sym, ◌∙◌, ap, arith, cond}
+use Rattle.std.proofs.Common.{◌≡◌, ℕ, ◌+◌, ◌<◌, ◌≤◌, Bool, true, false, ◌||◌, ◌&&◌, not, List, [], ◌∷◌, refl, sym, ◌∙◌}
+use Rattle.std.proofs.Common.{ap, arith, cond}
 use Rattle.std.specs.Prelude.{Option, None, Some, ◌==◌, nat_le}
 use Rattle.std.specs.Option.{is_some}
 use Rattle.std.proofs.lemmas.Bool.Decides.{nat_tests}
@@ -36,7 +37,8 @@ equal : (a b : ℕ) → (a == b) ≡ true → a ≡ b
 equal a b h = grind (arith, nat_tests)
 
 -- no change stands before the least that may
-below_changes : (v : Levels) (lowest l : ℕ) (cs : List Change) → are_changes v lowest cs ≡ true → l < lowest → is_changed cs l ≡ false
+below_changes : (v : Levels) (lowest l : ℕ) (cs : List Change) → are_changes v lowest cs ≡ true → l < lowest
+    → is_changed cs l ≡ false
 unfolding are_changes
 below_changes v lowest l [] h b = refl
 below_changes v lowest l (c ∷ cs) h b =
@@ -55,7 +57,8 @@ exists_below slots l few h = grind (arith, nat_tests)
 
 -- the first changed line that has a property is the least that has it, if changed lines alone have it
 module _ (v : Levels) (p : ℕ → Bool) (few : v.slots ≤ 21) where
-  here_or_later : (c : Change) (cs : List Change) (b : Bool) → p c.line ≡ b → c.line < line_count → any p 0 c.line ≡ false → (b ≡ false → first_changed p cs ≡ least p 0 line_count)
+  here_or_later : (c : Change) (cs : List Change) (b : Bool) → p c.line ≡ b → c.line < line_count → any p 0 c.line
+      ≡ false → (b ≡ false → first_changed p cs ≡ least p 0 line_count)
       → cond b (Some c.line) (first_changed p cs) ≡ least p 0 line_count
   here_or_later c cs true e below before rest = sym (least-is p 0 line_count c.line (omega arith) below e before)
   here_or_later c cs false e below before rest = rest refl
@@ -66,21 +69,25 @@ module _ (v : Levels) (p : ℕ → Bool) (few : v.slots ≤ 21) where
   past_first : (l k : ℕ) → l < k → l < k + 1
   past_first l k h = omega arith
 
-  kept_else : (c : Change) (cs : List Change) → ((l : ℕ) → is_changed (c ∷ cs) l ≡ false → p l ≡ false) → p c.line ≡ false → (l : ℕ) → is_changed cs l ≡ false → p l ≡ false
+  kept_else : (c : Change) (cs : List Change) → ((l : ℕ) → is_changed (c ∷ cs) l ≡ false → p l ≡ false) → p c.line
+      ≡ false → (l : ℕ) → is_changed cs l ≡ false → p l ≡ false
   kept_else c cs kept here l h = by_line (c.line == l) refl
     where
       by_line : (b : Bool) → (c.line == l) ≡ b → p l ≡ false
       by_line true e = ap p (sym (equal c.line l e)) ∙ here
       by_line false e = kept l (rw (e, h) refl)
 
-  pub first-least : (lowest : ℕ) (cs : List Change) → are_changes v lowest cs ≡ true → ((l : ℕ) → is_changed cs l ≡ false → p l ≡ false) → first_changed p cs ≡ least p 0 line_count
+  pub first-least : (lowest : ℕ) (cs : List Change) → are_changes v lowest cs ≡ true
+      → ((l : ℕ) → is_changed cs l ≡ false → p l ≡ false) → first_changed p cs ≡ least p 0 line_count
   unfolding are_changes
   first-least lowest [] h kept = sym (least-none p 0 line_count (fails-any p 0 line_count (λ l a b. kept l refl)))
   first-least lowest (c ∷ cs) h kept =
       let parts = and_true _ _ h in
       let exists = (and_true _ _ (and_true _ _ parts.0).0).1 in
       here_or_later c cs (p c.line) refl (exists_below v.slots c.line few exists)
-      (fails-any p 0 c.line (λ l a b. kept l (rw (unlike c.line l b, below_changes v (c.line + 1) l cs parts.1 (past_first l c.line b)) refl)))
+      (fails-any p 0 c.line
+      (λ l a b. kept l (rw (unlike c.line l b, below_changes v (c.line + 1) l cs parts.1 (past_first l c.line b))
+      refl)))
       (λ e. first-least (c.line + 1) cs parts.1 (kept_else c cs kept e))
 
 -- the least line of those that have a property, where something else is so too
@@ -90,7 +97,8 @@ least-when p true n = least-alike (λ l. p l && true) p 0 n (λ l from to. true_
     true_last : (a : Bool) → (a && true) ≡ a
     true_last true = refl
     true_last false = refl
-least-when p false n = least-none (λ l. p l && false) 0 n (fails-any (λ l. p l && false) 0 n (λ l from to. none_last (p l)))
+least-when p false n = least-none (λ l. p l && false) 0 n (fails-any (λ l. p l && false) 0 n
+    (λ l from to. none_last (p l)))
 
 pub still_level : (x : Level) → (is_high x && is_low x) ≡ false
 still_level Low = refl
@@ -101,10 +109,12 @@ still_level Unknown = refl
 pub falls_not : (v w : Levels) (l : ℕ) → level_at w l ≡ level_at v l → falls_between v w l ≡ false
 falls_not v w l e = rw e (still_level (level_at v l))
 
-pub passes_not : (v : Levels) (cs : List Change) (l : ℕ) → is_changed cs l ≡ false → passes_on v (changed v cs) l ≡ false
+pub passes_not : (v : Levels) (cs : List Change) (l : ℕ) → is_changed cs l ≡ false → passes_on v (changed v cs) l
+    ≡ false
 passes_not v cs l h = rw (falls_not v (changed v cs) l (level-kept v cs l h)) (none_last _)
 
-pub unasked_not : (v : Levels) (cs : List Change) (l : ℕ) → is_changed cs l ≡ false → passes_unasked v (changed v cs) l ≡ false
+pub unasked_not : (v : Levels) (cs : List Change) (l : ℕ) → is_changed cs l ≡ false → passes_unasked v (changed v cs) l
+    ≡ false
 unasked_not v cs l h = and_none (passes_on v (changed v cs) l) _ (passes_not v cs l h)
 
 pub none_of : {A : Type 0} (o : Option A) → is_some o ≡ false → o ≡ None
@@ -112,11 +122,14 @@ none_of None h = refl
 none_of (Some x) h = absurd (cc)
 
 -- where no slot passes an acknowledge on, none does unasked
-pub unasked_none : (v w : Levels) (cs : List Change) → is_some (first_changed (passes_on v w) cs) ≡ false → first_changed (passes_unasked v w) cs ≡ None
+pub unasked_none : (v w : Levels) (cs : List Change) → is_some (first_changed (passes_on v w) cs) ≡ false
+    → first_changed (passes_unasked v w) cs ≡ None
 unasked_none v w [] h = refl
 unasked_none v w (c ∷ cs) h = past_first (passes_on v w c.line) refl h (unasked_none v w cs)
   where
-    past_first : (b : Bool) → passes_on v w c.line ≡ b → is_some (cond b (Some c.line) (first_changed (passes_on v w) cs)) ≡ false
-        → (is_some (first_changed (passes_on v w) cs) ≡ false → first_changed (passes_unasked v w) cs ≡ None) → first_changed (passes_unasked v w) (c ∷ cs) ≡ None
+    past_first : (b : Bool) → passes_on v w c.line ≡ b
+        → is_some (cond b (Some c.line) (first_changed (passes_on v w) cs)) ≡ false
+        → (is_some (first_changed (passes_on v w) cs) ≡ false → first_changed (passes_unasked v w) cs ≡ None)
+        → first_changed (passes_unasked v w) (c ∷ cs) ≡ None
     past_first true e h rest = absurd (cc)
     past_first false e h rest = rw (and_none (passes_on v w c.line) (not (low_near v w (input_of c.line))) e) (rest h)

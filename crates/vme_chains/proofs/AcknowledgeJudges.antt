@@ -1,5 +1,6 @@
 -- The machine's memory means what it should at each instant of the span, so its faults are the least breaks.
-use Rattle.std.proofs.Common.{◌≡◌, ℕ, zero, suc, ◌<◌, ◌≤◌, Bool, true, false, ◌&&◌, ◌||◌, not, List, refl, sym, ◌∙◌, ap, arith, cond, length, subst, inl, inr, ◌⊎◌, Option, Some, None}
+use Rattle.std.proofs.Common.{◌≡◌, ℕ, zero, suc, ◌<◌, ◌≤◌, Bool, true, false, ◌&&◌, ◌||◌, not, List, refl, sym, ◌∙◌, ap}
+use Rattle.std.proofs.Common.{arith, cond, length, subst, inl, inr, ◌⊎◌, Option, Some, None}
 use Rattle.std.specs.Prelude.{option_map, slice_get, nat_lt}
 use Rattle.std.specs.Option.{is_some, option_or, option_map_or}
 use Rattle.std.proofs.lemmas.Bool.Decides.{nat_tests}
@@ -21,14 +22,18 @@ use Rattle.vme_monitor.specs.declared.mark.Next.{Next}
 use Rattle.vme_monitor.proofs.OwnRules.{own_event, own_marks}
 use Rattle.vme_monitor.proofs.SpanFacts.{IsSpan}
 use Rattle.vme_monitor.proofs.Alongside.{levels_step, changes_fit, memory_early}
-use Rattle.vme_chains.specs.AcknowledgeSpec.{acknowledge_begin, acknowledge_ends, acknowledge_next, acknowledge_opens, acknowledge_rules, acknowledge_shown, acknowledge_sight, fault_among, fault_on, changes_memory, first_changed, memory_after, passes_on, passes_unasked, is_strobed, is_addressed}
+use Rattle.vme_chains.specs.AcknowledgeSpec.{acknowledge_begin, acknowledge_ends, acknowledge_next, acknowledge_opens}
+use Rattle.vme_chains.specs.AcknowledgeSpec.{acknowledge_rules, acknowledge_shown, acknowledge_sight, fault_among}
+use Rattle.vme_chains.specs.AcknowledgeSpec.{fault_on, changes_memory, first_changed, memory_after, passes_on}
+use Rattle.vme_chains.specs.AcknowledgeSpec.{passes_unasked, is_strobed, is_addressed}
 use Rattle.vme_chains.specs.declared.acknowledge.Acknowledgement.{Acknowledgement}
 use Rattle.vme_chains.specs.declared.acknowledge.PassingSlots.{PassingSlots}
 use Rattle.vme_chains.proofs.AcknowledgeBreaks.{least_input, least_strobes, least_answer}
 use Rattle.vme_chains.proofs.AcknowledgeChanges.{first-least, none_of, or_false, passes_not, unasked_none, unasked_not}
 use Rattle.vme_chains.proofs.AcknowledgeMemory.{Holds, holds_start, holds_next, memory_same}
 
-module _ (t : Trace) (span : Stretch) (ok : malformed_step t ≡ None) (few : t.opening.slots ≤ 21) (facts : IsSpan t span) where
+module _ (t : Trace) (span : Stretch) (ok : malformed_step t ≡ None) (few : t.opening.slots ≤ 21)
+    (facts : IsSpan t span) where
   abbrev step : Acknowledgement → Levels → Levels → List Change → Next Acknowledgement
   step = noticed acknowledge_sight acknowledge_next
 
@@ -51,50 +56,87 @@ module _ (t : Trace) (span : Stretch) (ok : malformed_step t ≡ None) (few : t.
 
     first_is : first_changed (passes_on old new) cs ≡ least (passes_on old new) 0 line_count
     first_is =
-        subst (λ (w : Levels). first_changed (passes_on old w) cs ≡ least (passes_on old w) 0 line_count) (sym (levels_step t n within))
-        (first-least old (passes_on old (changed old cs)) few_slots 0 cs (changes_fit t n ok within) (passes_not old cs))
+        subst (λ (w : Levels). first_changed (passes_on old w) cs ≡ least (passes_on old w) 0 line_count)
+        (sym (levels_step t n within))
+        (first-least old (passes_on old (changed old cs)) few_slots 0 cs (changes_fit t n ok within)
+        (passes_not old cs))
 
     unasked_is : first_changed (passes_unasked old new) cs ≡ least (passes_unasked old new) 0 line_count
     unasked_is =
-        subst (λ (w : Levels). first_changed (passes_unasked old w) cs ≡ least (passes_unasked old w) 0 line_count) (sym (levels_step t n within))
-        (first-least old (passes_unasked old (changed old cs)) few_slots 0 cs (changes_fit t n ok within) (unasked_not old cs))
+        subst (λ (w : Levels). first_changed (passes_unasked old w) cs ≡ least (passes_unasked old w) 0 line_count)
+        (sym (levels_step t n within))
+        (first-least old (passes_unasked old (changed old cs)) few_slots 0 cs (changes_fit t n ok within)
+        (unasked_not old cs))
 
     -- the step, seen or not
     next_is : (m : Acknowledgement) → Holds t span n m
-        → next_at step t m n ≡ record { memory = memory_after m old new; fault = fault_among m old new (first_changed (passes_unasked old new) cs) (first_changed (passes_on old new) cs); kinds = nothing }
+        → next_at step t m n ≡ record {
+          memory = memory_after m old new;
+          fault = fault_among m old new
+              (first_changed (passes_unasked old new) cs) (first_changed (passes_on old new) cs);
+          kinds = nothing;
+        }
     next_is m h = by_sight (is_some (first_changed (passes_on old new) cs) || changes_memory old new) refl
       where
         by_sight : (b : Bool) → (is_some (first_changed (passes_on old new) cs) || changes_memory old new) ≡ b
-            → option_map_or (acknowledge_next m old new) (cond b (Some (record { first = first_changed (passes_on old new) cs; unasked = first_changed (passes_unasked old new) cs })) None) (record { memory = m; fault = None; kinds = nothing })
-            ≡ record { memory = memory_after m old new; fault = fault_among m old new (first_changed (passes_unasked old new) cs) (first_changed (passes_on old new) cs); kinds = nothing }
+            → option_map_or (acknowledge_next m old new)
+            (cond b (Some (record {
+              first = first_changed (passes_on old new) cs;
+              unasked = first_changed
+                  (passes_unasked old new) cs;
+            })) None) (record { memory = m; fault = None; kinds = nothing })
+            ≡ record {
+              memory = memory_after m old new;
+              fault = fault_among m old new
+                  (first_changed (passes_unasked old new) cs) (first_changed (passes_on old new) cs);
+              kinds = nothing;
+            }
         by_sight true e = refl
         by_sight false e =
             let still = or_false (is_some (first_changed (passes_on old new) cs)) (changes_memory old new) e in
-            rw (unasked_none old new cs still.0, none_of (first_changed (passes_on old new) cs) still.0, memory_same t span facts n from before m h still.1) refl
+            rw (
+              unasked_none old new cs still.0,
+              none_of (first_changed (passes_on old new) cs) still.0,
+              memory_same t span facts n from before m h still.1,
+            ) refl
 
     holds_after : (m : Acknowledgement) → Holds t span n m → Holds t span (suc n) (next_at step t m n).memory
-    holds_after m h = subst (λ (x : Next Acknowledgement). Holds t span (suc n) x.memory) (sym (next_is m h)) (holds_next t span facts n from before m h)
+    holds_after m h = subst (λ (x : Next Acknowledgement). Holds t span (suc n) x.memory) (sym (next_is m h))
+        (holds_next t span facts n from before m h)
 
     -- the first of the rules that is broken
-    fault_is : (m : Acknowledgement) → Holds t span n m → option_map (break_at (suc n) (time_at t (suc n))) (next_at step t m n).fault ≡ rules_break_at t span acknowledge_rules (suc n)
+    fault_is : (m : Acknowledgement) → Holds t span n m → option_map (break_at (suc n) (time_at t (suc n)))
+        (next_at step t m n).fault ≡ rules_break_at t span acknowledge_rules (suc n)
     unfolding rules_break_at rule_break
     fault_is m h =
         ap (λ (x : Next Acknowledgement). option_map (break_at (suc n) (time_at t (suc n))) x.fault) (next_is m h)
-        ∙ rw (least_input t span n from before, least_strobes t span n from before, least_answer t span n from before m h, unasked_is, first_is)
+        ∙ rw (
+          least_input t span n from before,
+          least_strobes t span n from before,
+          least_answer t span n from before m
+              h,
+          unasked_is,
+          first_is,
+        )
         (by_lines (least (passes_unasked old new) 0 line_count) (least (passes_on old new) 0 line_count))
       where
         by_tests : (l : ℕ) (strobed late : Bool)
-            → option_map (break_at (suc n) (time_at t (suc n))) (cond (not strobed) (Some (fault_on I2 l)) (cond late (Some (fault_on I3 l)) None))
-            ≡ option_or (option_map (λ l. record { instant = suc n; time = time_at t (suc n); rule = I2; line = l }) (cond (not strobed) (Some l) None))
-            (option_or (option_map (λ l. record { instant = suc n; time = time_at t (suc n); rule = I3; line = l }) (cond late (Some l) None)) None)
+            → option_map (break_at (suc n) (time_at t (suc n))) (cond (not strobed) (Some (fault_on I2 l))
+            (cond late (Some (fault_on I3 l)) None))
+            ≡ option_or (option_map (λ l. record { instant = suc n; time = time_at t (suc n); rule = I2; line = l })
+            (cond (not strobed) (Some l) None))
+            (option_or (option_map (λ l. record { instant = suc n; time = time_at t (suc n); rule = I3; line = l })
+            (cond late (Some l) None)) None)
         by_tests l false late = refl
         by_tests l true true = refl
         by_tests l true false = refl
 
         none_left : (strobed late : Bool)
             → option_map (break_at (suc n) (time_at t (suc n))) None
-            ≡ option_or (option_map (λ l. record { instant = suc n; time = time_at t (suc n); rule = I2; line = l }) (cond (not strobed) None None))
-            (option_or (option_map (λ l. record { instant = suc n; time = time_at t (suc n); rule = I3; line = l }) (cond late None None)) None)
+            ≡ option_or (option_map (λ l. record { instant = suc n; time = time_at t (suc n); rule = I2; line = l })
+            (cond (not strobed) None None))
+            (option_or (option_map (λ l. record { instant = suc n; time = time_at t (suc n); rule = I3; line = l })
+            (cond late None None)) None)
         none_left false true = refl
         none_left false false = refl
         none_left true true = refl
@@ -102,9 +144,12 @@ module _ (t : Trace) (span : Stretch) (ok : malformed_step t ≡ None) (few : t.
 
         by_lines : (unasked first : Option ℕ)
             → option_map (break_at (suc n) (time_at t (suc n))) (fault_among m old new unasked first)
-            ≡ option_or (option_map (λ l. record { instant = suc n; time = time_at t (suc n); rule = I1; line = l }) unasked)
-            (option_or (option_map (λ l. record { instant = suc n; time = time_at t (suc n); rule = I2; line = l }) (cond (not (is_strobed old new)) first None))
-            (option_or (option_map (λ l. record { instant = suc n; time = time_at t (suc n); rule = I3; line = l }) (cond (is_addressed old new && m.acknowledged) first None)) None))
+            ≡ option_or (option_map (λ l. record { instant = suc n; time = time_at t (suc n); rule = I1; line = l })
+            unasked)
+            (option_or (option_map (λ l. record { instant = suc n; time = time_at t (suc n); rule = I2; line = l })
+            (cond (not (is_strobed old new)) first None))
+            (option_or (option_map (λ l. record { instant = suc n; time = time_at t (suc n); rule = I3; line = l })
+            (cond (is_addressed old new && m.acknowledged) first None)) None))
         by_lines (Some l) first = refl
         by_lines None (Some l) = by_tests l (is_strobed old new) (is_addressed old new && m.acknowledged)
         by_lines None None = none_left (is_strobed old new) (is_addressed old new && m.acknowledged)
@@ -117,29 +162,45 @@ module _ (t : Trace) (span : Stretch) (ok : malformed_step t ≡ None) (few : t.
 
   -- the memory means what it should from the start of the span on
   holds_at : (n : ℕ) → span.start ≤ n → n < span.end → n ≤ length t.steps → Holds t span n (memory_at n)
-  holds_at zero from before within = let e : span.start ≡ 0 = omega arith in subst (λ k. Holds t span k (acknowledge_begin (levels_at t span.start))) e (holds_start t span facts)
+  holds_at zero from before within = let e : span.start ≡ 0 = omega arith in
+      subst (λ k. Holds t span k (acknowledge_begin (levels_at t span.start))) e (holds_start t span facts)
   holds_at (suc n) from before within =
       elim (first_or_later span.start n from) [
         | inl first ↦
             let e : span.start ≡ suc n = omega arith in
-            rw (memory_early step t (acknowledge_begin (levels_at t span.start)) span.start (suc n) first) (subst (λ k. Holds t span k (acknowledge_begin (levels_at t span.start))) e (holds_start t span facts))
-        | inr later ↦ rw (after_test n span.start later) (holds_after n later before (omega arith) (memory_at n) (holds_at n later (omega arith) (omega arith)))
+            rw (memory_early step t (acknowledge_begin (levels_at t span.start)) span.start (suc n) first)
+            (subst (λ k. Holds t span k (acknowledge_begin (levels_at t span.start))) e (holds_start t span facts))
+        | inr later ↦ rw (after_test n span.start later) (holds_after n later before (omega arith) (memory_at n)
+            (holds_at n later (omega arith) (omega arith)))
       ]
 
-  pub acknowledge_inside : (n : ℕ) → span.start ≤ n → suc n < span.end → n < length t.steps → option_map (break_at (suc n) (time_at t (suc n))) (next_at step t (memory_at n) n).fault ≡ rules_break_at t span acknowledge_rules (suc n)
-  acknowledge_inside n from before within = fault_is n from before within (memory_at n) (holds_at n from (omega arith) (omega arith))
+  pub acknowledge_inside : (n : ℕ) → span.start ≤ n → suc n < span.end → n < length t.steps
+      → option_map (break_at (suc n) (time_at t (suc n))) (next_at step t (memory_at n) n).fault ≡ rules_break_at t span
+      acknowledge_rules (suc n)
+  acknowledge_inside n from before within = fault_is n from before within (memory_at n)
+      (holds_at n from (omega arith) (omega arith))
 
-pub acknowledge_event : FindsLeast (run_of (noticed (noted acknowledge_sight) (spanned acknowledge_begin acknowledge_opens nothing (λ l. None) acknowledge_next))) (start_in acknowledge_begin) acknowledge_rules
-acknowledge_event = own_event acknowledge_begin acknowledge_opens acknowledge_sight acknowledge_next acknowledge_rules refl (λ t span ok few facts n from before within unbroken. acknowledge_inside t span ok few facts n from before within)
+pub acknowledge_event : FindsLeast
+    (run_of (noticed (noted acknowledge_sight) (spanned acknowledge_begin acknowledge_opens nothing (λ l. None)
+    acknowledge_next))) (start_in acknowledge_begin) acknowledge_rules
+acknowledge_event = own_event acknowledge_begin acknowledge_opens acknowledge_sight acknowledge_next acknowledge_rules
+    refl (λ t span ok few facts n from before within unbroken. acknowledge_inside t span ok few facts n from before
+    within)
 
-pub acknowledge_marks : ShowsAll (run_of (noticed (noted acknowledge_sight) (spanned acknowledge_begin acknowledge_opens nothing acknowledge_ends acknowledge_next))) (start_in acknowledge_begin) nothing acknowledge_shown
+pub acknowledge_marks : ShowsAll
+    (run_of (noticed (noted acknowledge_sight) (spanned acknowledge_begin acknowledge_opens nothing acknowledge_ends
+    acknowledge_next))) (start_in acknowledge_begin) nothing acknowledge_shown
 acknowledge_marks =
     own_marks acknowledge_begin acknowledge_opens acknowledge_sight acknowledge_next acknowledge_ends acknowledge_shown
     (λ t span ok few facts. record {
       at_start = refl;
-      inside = λ n from before within. by_sight (acknowledge_sight (levels_at t n) (levels_at t (suc n)) (changes_of (slice_get t.steps n))) (memory_from (noticed acknowledge_sight acknowledge_next) t (acknowledge_begin (levels_at t span.start)) span.start n) (levels_at t n) (levels_at t (suc n));
+      inside = λ n from before within. by_sight (acknowledge_sight (levels_at t n) (levels_at t (suc n))
+          (changes_of (slice_get t.steps n))) (memory_from (noticed acknowledge_sight acknowledge_next) t
+          (acknowledge_begin (levels_at t span.start)) span.start n) (levels_at t n) (levels_at t (suc n));
     })
   where
-    by_sight : (o : Option PassingSlots) (m : Acknowledgement) (v w : Levels) → (option_map_or (acknowledge_next m v w) o (record { memory = m; fault = None; kinds = nothing })).kinds ≡ nothing
+    by_sight : (o : Option PassingSlots) (m : Acknowledgement) (v w : Levels)
+        → (option_map_or (acknowledge_next m v w) o (record { memory = m; fault = None; kinds = nothing })).kinds
+        ≡ nothing
     by_sight None m v w = refl
     by_sight (Some seen) m v w = refl

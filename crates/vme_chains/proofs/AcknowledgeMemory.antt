@@ -1,5 +1,6 @@
 -- What the memory means at an instant, and that it means the same at the next.
-use Rattle.std.proofs.Common.{◌≡◌, ℕ, zero, suc, ◌+◌, ◌<◌, ◌≤◌, Bool, true, false, ◌||◌, ◌&&◌, not, refl, sym, ◌∙◌, ap, arith, cond, add-one, lit<}
+use Rattle.std.proofs.Common.{◌≡◌, ℕ, zero, suc, ◌+◌, ◌<◌, ◌≤◌, Bool, true, false, ◌||◌, ◌&&◌, not, refl, sym, ◌∙◌, ap}
+use Rattle.std.proofs.Common.{arith, cond, add-one, lit<}
 use Rattle.std.specs.Prelude.{Option, Some, nat_le}
 use Rattle.std.proofs.lemmas.Bool.Decides.{nat_tests}
 use Rattle.vme_trace.specs.Edges.{answer_between, falls_between, strobe_low_in, strobes_high_in}
@@ -21,7 +22,8 @@ use Rattle.vme_monitor.specs.declared.tracking.Pending.{Pending}
 use Rattle.vme_monitor.specs.declared.tracking.Pending.TheVariants.{Closed, Reading, Writing, Answered}
 use Rattle.vme_monitor.proofs.SpanFacts.{IsSpan}
 use Rattle.vme_monitor.proofs.TrackedTransfers.{says_start, tracked_is, is_answer_is}
-use Rattle.vme_chains.specs.AcknowledgeSpec.{acknowledge_begin, acknowledged_after, changes_memory, changes_strobes, is_acknowledged, memory_after}
+use Rattle.vme_chains.specs.AcknowledgeSpec.{acknowledge_begin, acknowledged_after, changes_memory, changes_strobes}
+use Rattle.vme_chains.specs.AcknowledgeSpec.{is_acknowledged, memory_after}
 use Rattle.vme_chains.specs.declared.acknowledge.Acknowledgement.{Acknowledgement}
 use Rattle.vme_chains.proofs.AcknowledgeChanges.{or_false}
 
@@ -38,7 +40,8 @@ chosen n i false o rest e = let below : i < n = rest e in omega arith
 greatest-below : (p : ℕ → Bool) (f n i : ℕ) → greatest p f n ≡ Some i → i < n
 unfolding greatest
 greatest-below p f zero i e = absurd (cc)
-greatest-below p f (suc n) i e = chosen n i (nat_le f n && p n) (greatest p f n) (λ found. greatest-below p f n i found) e
+greatest-below p f (suc n) i e = chosen n i (nat_le f n && p n) (greatest p f n) (λ found. greatest-below p f n i found)
+    e
 
 any_suc : (p : ℕ → Bool) (f n : ℕ) → any p f (suc n) ≡ (any p f n || (nat_le f n && p n))
 unfolding any
@@ -62,15 +65,18 @@ module _ (t : Trace) (span : Stretch) where
     pub cycle : low t AS n ≡ true → IsOn n m.acknowledged
 
   -- so it says of the cycle what is asked
-  pub in_cycle_is : (n : ℕ) (m : Acknowledgement) → Holds n m → low t AS n ≡ true → in_cycle t span (λ i. any acknowledges i (suc n)) n ≡ m.acknowledged
+  pub in_cycle_is : (n : ℕ) (m : Acknowledgement) → Holds n m → low t AS n ≡ true → in_cycle t span
+      (λ i. any acknowledges i (suc n)) n ≡ m.acknowledged
   unfolding in_cycle
   in_cycle_is n m h on = let o = h.cycle on in rw (o.last) o.reply
 
-  start_after : (n : ℕ) → cycle_of t span (suc n) ≡ cond (nat_le (span.start + 1) (suc n) && cycle_starts t span (suc n)) (Some (suc n)) (cycle_of t span n)
+  start_after : (n : ℕ) → cycle_of t span (suc n) ≡ cond (nat_le (span.start + 1) (suc n) && cycle_starts t span
+      (suc n)) (Some (suc n)) (cycle_of t span n)
   unfolding cycle_of
   start_after n =
       greatest-step (cycle_starts t span) (span.start + 1) (suc n)
-      ∙ ap (cond (nat_le (span.start + 1) (suc n) && cycle_starts t span (suc n)) (Some (suc n))) (ap (greatest (cycle_starts t span) (span.start + 1)) (more n))
+      ∙ ap (cond (nat_le (span.start + 1) (suc n) && cycle_starts t span (suc n)) (Some (suc n)))
+      (ap (greatest (cycle_starts t span) (span.start + 1)) (more n))
     where
       more : (n : ℕ) → suc n ≡ n + 1
       more n = omega arith
@@ -82,7 +88,8 @@ module _ (t : Trace) (span : Stretch) where
   module _ (facts : IsSpan t span) where
     idle_address : is_high (level_at (levels_at t span.start) AS) ≡ true
     unfolding is_idle
-    idle_address = true_of_not _ (any-fails (λ k. not (is_idle_on (levels_at t span.start) k)) 0 line_count AS (false_of_not _ facts.idle) (omega arith) (lit< tt))
+    idle_address = true_of_not _ (any-fails (λ k. not (is_idle_on (levels_at t span.start) k)) 0 line_count AS
+        (false_of_not _ facts.idle) (omega arith) (lit< tt))
       where
         true_of_not : (b : Bool) → not b ≡ false → b ≡ true
         true_of_not true h = refl
@@ -100,7 +107,12 @@ module _ (t : Trace) (span : Stretch) where
     -- at the start of a span nothing is open
     pub holds_start : Holds span.start (acknowledge_begin (levels_at t span.start))
     unfolding low
-    holds_start = record { transfer = says_start t span facts.reads; idle = λ off. refl; cycle = λ on. absurd (high_not_low (level_at (levels_at t span.start) AS) idle_address on) }
+    holds_start = record {
+      transfer = says_start t span facts.reads;
+      idle = λ off. refl;
+      cycle = λ on. absurd
+          (high_not_low (level_at (levels_at t span.start) AS) idle_address on);
+    }
 
     -- the step to suc n
     module _ (n : ℕ) (from : span.start ≤ n) (before : suc n < span.end) where
@@ -115,7 +127,8 @@ module _ (t : Trace) (span : Stretch) where
       falls_is l = rw (suc-sub-one n) refl
 
       acknowledges_is : (m : Pending) → SaysPending t span n m → acknowledges (suc n) ≡ is_acknowledged m old new
-      acknowledges_is m says = rw (is_answer_is t span facts.reads n from before m says, falls_is DTACK) (by_tests (is_unanswered (entered m old new)) (falls_between old new DTACK) (falls_between old new BERR))
+      acknowledges_is m says = rw (is_answer_is t span facts.reads n from before m says, falls_is DTACK)
+          (by_tests (is_unanswered (entered m old new)) (falls_between old new DTACK) (falls_between old new BERR))
         where
           by_tests : (u d b : Bool) → ((u && (d || b)) && d) ≡ (u && d)
           by_tests true true b = refl
@@ -134,7 +147,8 @@ module _ (t : Trace) (span : Stretch) where
       next_cycle = start_after n ∙ rw (in_range, starts_is) refl
 
       -- the cycle of n goes on
-      goes_on : (m : Acknowledgement) → Holds n m → falls_between old new AS ≡ false → low t AS n ≡ true → is_low (level_at new AS) ≡ true → IsOn (suc n) (acknowledged_after m old new)
+      goes_on : (m : Acknowledgement) → Holds n m → falls_between old new AS ≡ false → low t AS n ≡ true
+          → is_low (level_at new AS) ≡ true → IsOn (suc n) (acknowledged_after m old new)
       goes_on m h no_fall on stays =
           let o = h.cycle on in
           record {
@@ -142,16 +156,23 @@ module _ (t : Trace) (span : Stretch) where
             last = next_cycle ∙ rw no_fall o.last;
             reply =
                 any_suc acknowledges o.start (suc n)
-                ∙ rw (o.reply, within o.start n (start_within n o.start o.last), acknowledges_is m.transfer h.transfer, stays) refl;
+                ∙ rw (
+                  o.reply,
+                  within o.start n (start_within n o.start o.last),
+                  acknowledges_is m.transfer h.transfer,
+                  stays,
+                ) refl;
           }
         where
           within : (i n : ℕ) → i < n + 1 → nat_le i (suc n) ≡ true
           within i n h = grind (arith, nat_tests)
 
       -- another starts
-      starts_here : (m : Acknowledgement) → SaysPending t span n m.transfer → m.acknowledged ≡ false → falls_between old new AS ≡ true → is_low (level_at new AS) ≡ true → IsOn (suc n) (acknowledged_after m old new)
+      starts_here : (m : Acknowledgement) → SaysPending t span n m.transfer → m.acknowledged ≡ false → falls_between old
+          new AS ≡ true → is_low (level_at new AS) ≡ true → IsOn (suc n) (acknowledged_after m old new)
       starts_here m says fresh fall on =
-          let empty : any acknowledges (suc n) (suc n) ≡ false = fails-any acknowledges (suc n) (suc n) (λ i a b. absurd (omega arith)) in
+          let empty : any acknowledges (suc n) (suc n) ≡ false = fails-any acknowledges (suc n) (suc n)
+          (λ i a b. absurd (omega arith)) in
           record {
             start = suc n;
             last = next_cycle ∙ rw fall refl;
@@ -176,13 +197,15 @@ module _ (t : Trace) (span : Stretch) where
       address_known : is_known (level_at old AS) ≡ true
       address_known = facts.known n AS from (omega arith) (lit< tt) refl
 
-      cycle_next : (m : Acknowledgement) → Holds n m → low t AS (suc n) ≡ true → IsOn (suc n) (acknowledged_after m old new)
+      cycle_next : (m : Acknowledgement) → Holds n m → low t AS (suc n) ≡ true
+          → IsOn (suc n) (acknowledged_after m old new)
       unfolding low
       cycle_next m h on = by_level (is_low (level_at old AS)) refl
         where
           by_level : (b : Bool) → is_low (level_at old AS) ≡ b → IsOn (suc n) (acknowledged_after m old new)
           by_level true e = goes_on m h (held (level_at old AS) (level_at new AS) e) e on
-          by_level false e = starts_here m h.transfer (h.idle e) (fell (level_at old AS) (level_at new AS) address_known e on) on
+          by_level false e = starts_here m h.transfer (h.idle e) (fell (level_at old AS) (level_at new AS) address_known
+              e on) on
 
       idle_next : (m : Acknowledgement) → low t AS (suc n) ≡ false → acknowledged_after m old new ≡ false
       unfolding low
@@ -190,7 +213,12 @@ module _ (t : Trace) (span : Stretch) where
 
       -- so the memory means the same one instant later
       pub holds_next : (m : Acknowledgement) → Holds n m → Holds (suc n) (memory_after m old new)
-      holds_next m h = record { transfer = tracked_is t span facts.reads n from before m.transfer h.transfer; idle = idle_next m; cycle = cycle_next m h }
+      holds_next m h = record {
+        transfer = tracked_is t span facts.reads n from before m.transfer h.transfer;
+        idle
+            = idle_next m;
+        cycle = cycle_next m h;
+      }
 
       -- no transfer is open where both strobes are high
       closed_there : (p : Pending) → SaysPending t span n p → strobes_high_in old ≡ true → p ≡ Closed
@@ -200,15 +228,18 @@ module _ (t : Trace) (span : Stretch) where
       closed_there Writing says h = absurd (clash (strobes_high t n) h (says.1.still n says.1.within (omega arith)))
       closed_there Answered says h = absurd (clash (strobes_high t n) h (says.2.still n says.2.within (omega arith)))
 
-      same_transfer : (p q : Pending) (b l h a : Bool) → (b ≡ true → p ≡ Closed) → cond b l h ≡ false → a ≡ false → cond h Closed (answered_by a (cond (b && l) q p)) ≡ p
-      same_transfer p q true l h a closed still none = let off : l ≡ false = still in rw (off, none) (either h (closed refl))
+      same_transfer : (p q : Pending) (b l h a : Bool) → (b ≡ true → p ≡ Closed) → cond b l h ≡ false → a ≡ false
+          → cond h Closed (answered_by a (cond (b && l) q p)) ≡ p
+      same_transfer p q true l h a closed still none = let off : l ≡ false = still in
+          rw (off, none) (either h (closed refl))
         where
           either : (h : Bool) → p ≡ Closed → cond h Closed p ≡ p
           either true e = sym e
           either false e = refl
       same_transfer p q false l h a closed still none = let off : h ≡ false = still in rw (off, none) refl
 
-      same_acknowledged : (x y : Level) (a u : Bool) → is_known y ≡ true → (is_low x ≡ false → a ≡ false) → (is_low x && is_high y) ≡ false → (is_low y && (a || (u && false))) ≡ a
+      same_acknowledged : (x y : Level) (a u : Bool) → is_known y ≡ true → (is_low x ≡ false → a ≡ false)
+          → (is_low x && is_high y) ≡ false → (is_low y && (a || (u && false))) ≡ a
       same_acknowledged x Unknown a u k idle r = absurd (cc)
       same_acknowledged x High false u k idle r = refl
       same_acknowledged x Low false true k idle r = refl
@@ -222,12 +253,18 @@ module _ (t : Trace) (span : Stretch) where
       pub memory_same : (m : Acknowledgement) → Holds n m → changes_memory old new ≡ false → memory_after m old new ≡ m
       unfolding low
       memory_same m h still =
-          let address = or_false (changes_strobes old new || answer_between old new) (is_low (level_at old AS) && is_high (level_at new AS)) still in
+          let address = or_false (changes_strobes old new || answer_between old new) (is_low (level_at old AS)
+          && is_high (level_at new AS)) still in
           let answer = or_false (changes_strobes old new) (answer_between old new) address.0 in
           let done = or_false (falls_between old new DTACK) (falls_between old new BERR) answer.1 in
           rw (
-            same_transfer m.transfer (cond (is_low (level_at new WRITE)) Writing Reading) (strobes_high_in old) (strobe_low_in new) (strobes_high_in new) (answer_between old new) (closed_there m.transfer h.transfer) answer.0 answer.1,
+            same_transfer m.transfer (cond (is_low (level_at new WRITE)) Writing Reading) (strobes_high_in old)
+                (strobe_low_in new) (strobes_high_in new) (answer_between old new) (closed_there m.transfer h.transfer)
+                answer.0 answer.1,
             done.0,
-            same_acknowledged (level_at old AS) (level_at new AS) m.acknowledged (is_unanswered (entered m.transfer old new)) (facts.known (suc n) AS (omega arith) before (lit< tt) refl) h.idle address.1,
+            same_acknowledged (level_at old AS) (level_at new AS) m.acknowledged
+                (is_unanswered (entered m.transfer old new)) (facts.known (suc n) AS (omega arith) before (lit< tt)
+                refl)
+                h.idle address.1,
           )
           refl

@@ -1,5 +1,6 @@
 -- The rule on requests, G5: the least line is the net of the least level that is granted without a request.
-use Rattle.std.proofs.Common.{◌≡◌, ℕ, zero, suc, ◌+◌, ◌<◌, ◌≤◌, Bool, true, false, ◌&&◌, ◌||◌, not, refl, sym, ◌∙◌, ap, arith, Option, Some, None, cond}
+use Rattle.std.proofs.Common.{◌≡◌, ℕ, zero, suc, ◌+◌, ◌<◌, ◌≤◌, Bool, true, false, ◌&&◌, ◌||◌, not, refl, sym, ◌∙◌, ap}
+use Rattle.std.proofs.Common.{arith, Option, Some, None, cond}
 use Rattle.std.specs.Prelude.{option_map}
 use Rattle.std.proofs.lemmas.Bool.Decides.{nat_tests}
 use Rattle.vme_trace.specs.Instants.{any, none, least}
@@ -10,7 +11,8 @@ use Rattle.vme_trace.specs.Judged.{Stretch, is_judged}
 use Rattle.vme_trace.specs.Rules.{breaks, is_broken}
 use Rattle.vme_trace.specs.Tenures.{grant_falls, last_before}
 use Rattle.vme_trace.specs.declared.rule.Rule.TheVariants.{G5}
-use Rattle.vme_trace.proofs.Ranges.{any-fails, fails-any, least-alike, least-found, least-is, least-none, least-none-any}
+use Rattle.vme_trace.proofs.Ranges.{any-fails, fails-any, least-alike, least-found, least-is, least-none}
+use Rattle.vme_trace.proofs.Ranges.{least-none-any}
 use Rattle.vme_trace.proofs.OpenTransfers.{is_judged-holds}
 use Rattle.vme_chains.specs.GrantLevels.{falls_between, requested_in, grant_begins}
 use Rattle.vme_chains.specs.GrantMemory.{is_in, union}
@@ -41,23 +43,29 @@ net_below : (n : ℕ) → n < 4 → grant n 0 < line_count
 net_below n h = omega arith
 
 -- a rule on the nets that the arbiter drives
-least_arbiter : (p : ℕ → Bool) → ((l : ℕ) → is_arbiter_grant l ≡ false → p l ≡ false) → least p 0 line_count ≡ option_map (λ n. grant n 0) (least (λ n. p (grant n 0)) 0 4)
+least_arbiter : (p : ℕ → Bool) → ((l : ℕ) → is_arbiter_grant l ≡ false → p l ≡ false) → least p 0 line_count
+    ≡ option_map (λ n. grant n 0) (least (λ n. p (grant n 0)) 0 4)
 least_arbiter p elsewhere = by_least (least (λ n. p (grant n 0)) 0 4) refl
   where
-    fails_on : (l k : ℕ) → ((n : ℕ) → n < k → p (grant n 0) ≡ false) → (is_arbiter_grant l ≡ true → grant_level l < k) → (b : Bool) → is_arbiter_grant l ≡ b → p l ≡ false
+    fails_on : (l k : ℕ) → ((n : ℕ) → n < k → p (grant n 0) ≡ false) → (is_arbiter_grant l ≡ true → grant_level l < k)
+        → (b : Bool) → is_arbiter_grant l ≡ b → p l ≡ false
     fails_on l k fails below true e = ap p (arbiter_line l e) ∙ fails (grant_level l) (below e)
     fails_on l k fails below false e = elsewhere l e
 
-    by_least : (o : Option ℕ) → least (λ n. p (grant n 0)) 0 4 ≡ o → least p 0 line_count ≡ option_map (λ n. grant n 0) o
+    by_least : (o : Option ℕ) → least (λ n. p (grant n 0)) 0 4 ≡ o → least p 0 line_count ≡ option_map (λ n. grant n 0)
+        o
     by_least None e =
         let nowhere = least-none-any (λ n. p (grant n 0)) 0 4 e in
-        least-none p 0 line_count (fails-any p 0 line_count (λ l a b. fails_on l 4 (λ n h. any-fails (λ n. p (grant n 0)) 0 4 n nowhere (omega arith) h) (arbiter_level l) (is_arbiter_grant l) refl))
+        least-none p 0 line_count
+        (fails-any p 0 line_count (λ l a b. fails_on l 4 (λ n h. any-fails (λ n. p (grant n 0)) 0 4 n nowhere
+        (omega arith) h) (arbiter_level l) (is_arbiter_grant l) refl))
     by_least (Some n) e =
         let found = least-found (λ n. p (grant n 0)) 0 4 n e in
         least-is p 0 line_count (grant n 0) (omega arith) (net_below n found.below) found.holds
         (fails-any p 0 (grant n 0)
         (λ l a b.
-        fails_on l n (λ m h. any-fails (λ n. p (grant n 0)) 0 n m found.least (omega arith) h) (λ arbiter. lower_level (grant_level l) n l (arbiter_line l arbiter) b) (is_arbiter_grant l) refl))
+        fails_on l n (λ m h. any-fails (λ n. p (grant n 0)) 0 n m found.least (omega arith) h)
+        (λ arbiter. lower_level (grant_level l) n l (arbiter_line l arbiter) b) (is_arbiter_grant l) refl))
 
 pub in_union : (a b : LevelSet) (l : ℕ) → l < 4 → is_in (union a b) l ≡ (is_in a l || is_in b l)
 in_union a b zero h = refl
@@ -66,8 +74,10 @@ in_union a b (suc (suc zero)) h = refl
 in_union a b (suc (suc (suc zero))) h = refl
 in_union a b (suc (suc (suc (suc l)))) h = absurd (omega arith)
 
-module _ (t : Trace) (span : Stretch) (few : t.opening.slots ≤ 21) (n : ℕ) (from : span.start ≤ n) (before : suc n < span.end) (m : Arbitration) (held : Holds t span n m) where
-  requests_are : (l : ℕ) → l < 4 → is_in (union m.requests (requested_in (levels_at t (suc n)))) l ≡ any (low t (BR l)) (last_before t span (grant_falls t) (suc n)) (suc n + 1)
+module _ (t : Trace) (span : Stretch) (few : t.opening.slots ≤ 21) (n : ℕ) (from : span.start ≤ n)
+    (before : suc n < span.end) (m : Arbitration) (held : Holds t span n m) where
+  requests_are : (l : ℕ) → l < 4 → is_in (union m.requests (requested_in (levels_at t (suc n)))) l ≡ any (low t (BR l))
+      (last_before t span (grant_falls t) (suc n)) (suc n + 1)
   requests_are l h =
       in_union m.requests (requested_in (levels_at t (suc n))) l h
       ∙ rw (held.requests l h, requested-is t (suc n) l h) (sym (requested-more t span n l from))
@@ -77,25 +87,37 @@ module _ (t : Trace) (span : Stretch) (few : t.opening.slots ≤ 21) (n : ℕ) (
   unfolding breaks is_broken
   elsewhere l h = off_kind _ (has_line t.opening.slots l) (is_arbiter_grant l) (falls t l (suc n)) _ h
 
-  g5_on : (i : ℕ) → i < 4 → breaks t span G5 (suc n) (grant i 0) ≡ (falls_between (levels_at t n) (levels_at t (suc n)) (grant i 0) && not (is_in (union m.requests (requested_in (levels_at t (suc n)))) i))
+  g5_on : (i : ℕ) → i < 4 → breaks t span G5 (suc n) (grant i 0) ≡ (falls_between (levels_at t n) (levels_at t (suc n))
+      (grant i 0) && not (is_in (union m.requests (requested_in (levels_at t (suc n)))) i))
   unfolding breaks is_broken
   g5_on i h =
       let exists = net_exists t.opening.slots i 0 h (omega arith) few in
-      on_kind (is_judged span (suc n)) (has_line t.opening.slots (grant i 0)) (is_arbiter_grant (grant i 0)) (falls t (grant i 0) (suc n)) (falls_between (levels_at t n) (levels_at t (suc n)) (grant i 0))
-      (none (low t (BR (grant_level (grant i 0)))) (last_before t span (grant_falls t) (suc n)) (suc n + 1)) (not (is_in (union m.requests (requested_in (levels_at t (suc n)))) i))
+      on_kind (is_judged span (suc n)) (has_line t.opening.slots (grant i 0)) (is_arbiter_grant (grant i 0))
+      (falls t (grant i 0) (suc n)) (falls_between (levels_at t n) (levels_at t (suc n)) (grant i 0))
+      (none (low t (BR (grant_level (grant i 0)))) (last_before t span (grant_falls t) (suc n)) (suc n + 1))
+      (not (is_in (union m.requests (requested_in (levels_at t (suc n)))) i))
       (is_judged-holds span (suc n) (omega arith) before) exists (arbiter_net i h) (falls-is t n (grant i 0) exists)
-      (ap not (requests_are i h) ∙ ap (λ l. none (low t (BR l)) (last_before t span (grant_falls t) (suc n)) (suc n + 1)) (sym (level_of_net i h)))
+      (ap not (requests_are i h) ∙ ap (λ l. none (low t (BR l)) (last_before t span (grant_falls t) (suc n))
+      (suc n + 1)) (sym (level_of_net i h)))
 
-  g5_least : least (breaks t span G5 (suc n)) 0 line_count ≡ option_map (λ n. grant n 0) (unrequested (levels_at t n) (levels_at t (suc n)) (union m.requests (requested_in (levels_at t (suc n)))))
-  g5_least = least_arbiter (breaks t span G5 (suc n)) elsewhere ∙ ap (option_map (λ n. grant n 0)) (least-alike _ _ 0 4 (λ i a b. g5_on i b))
+  g5_least : least (breaks t span G5 (suc n)) 0 line_count ≡ option_map (λ n. grant n 0)
+      (unrequested (levels_at t n) (levels_at t (suc n)) (union m.requests (requested_in (levels_at t (suc n)))))
+  g5_least = least_arbiter (breaks t span G5 (suc n)) elsewhere ∙ ap (option_map (λ n. grant n 0))
+      (least-alike _ _ 0 4 (λ i a b. g5_on i b))
 
   by_begin : (b : Bool) → grant_begins (levels_at t n) (levels_at t (suc n)) ≡ b → (requests : LevelSet)
-      → option_map (λ n. grant n 0) (unrequested (levels_at t n) (levels_at t (suc n)) requests) ≡ cond b (option_map (λ n. grant n 0) (unrequested (levels_at t n) (levels_at t (suc n)) requests)) None
+      → option_map (λ n. grant n 0) (unrequested (levels_at t n) (levels_at t (suc n)) requests)
+      ≡ cond b (option_map (λ n. grant n 0) (unrequested (levels_at t n) (levels_at t (suc n)) requests)) None
   by_begin true e requests = refl
   by_begin false e requests =
       ap (option_map (λ n. grant n 0))
-      (least-none _ 0 4 (fails-any _ 0 4 (λ i a b. first_false (falls_between (levels_at t n) (levels_at t (suc n)) (grant i 0)) _ (any-fails (λ n'. falls_between (levels_at t n) (levels_at t (suc n)) (grant n' 0)) 0 4 i e a b))))
+      (least-none _ 0 4
+      (fails-any _ 0 4 (λ i a b. first_false (falls_between (levels_at t n) (levels_at t (suc n)) (grant i 0)) _
+      (any-fails (λ n'. falls_between (levels_at t n) (levels_at t (suc n)) (grant n' 0)) 0 4 i e a b))))
 
   pub g5-is : least (breaks t span G5 (suc n)) 0 line_count
-      ≡ cond (grant_begins (levels_at t n) (levels_at t (suc n))) (option_map (λ n. grant n 0) (unrequested (levels_at t n) (levels_at t (suc n)) (union m.requests (requested_in (levels_at t (suc n)))))) None
-  g5-is = g5_least ∙ by_begin (grant_begins (levels_at t n) (levels_at t (suc n))) refl (union m.requests (requested_in (levels_at t (suc n))))
+      ≡ cond (grant_begins (levels_at t n) (levels_at t (suc n)))
+      (option_map (λ n. grant n 0) (unrequested (levels_at t n) (levels_at t (suc n))
+      (union m.requests (requested_in (levels_at t (suc n)))))) None
+  g5-is = g5_least ∙ by_begin (grant_begins (levels_at t n) (levels_at t (suc n))) refl
+      (union m.requests (requested_in (levels_at t (suc n))))

@@ -12,14 +12,18 @@ module _ (v : Levels) (n : ℕ) where
   first_low h = every-more (λ net. is_low_in v (grant n net)) 0 0 (every-empty (λ net. is_low_in v (grant n net)) 0) h
 
   -- it has come as far as the net before the first that isn't low
-  pub reached-before : (place : ℕ) → 1 ≤ place → place ≤ v.slots → every (λ net. is_low_in v (grant n net)) 0 place ≡ true → is_low_in v (grant n place) ≡ false → greatest (reaches v n) 0 (v.slots + 1) ≡ Some (place - 1)
+  pub reached-before : (place : ℕ) → 1 ≤ place → place ≤ v.slots → every (λ net. is_low_in v (grant n net)) 0 place
+      ≡ true → is_low_in v (grant n place) ≡ false → greatest (reaches v n) 0 (v.slots + 1) ≡ Some (place - 1)
   reached-before place first within low here =
-      greatest-is (reaches v n) 0 (v.slots + 1) (place - 1) (omega arith) (omega arith) (ap (every (λ net. is_low_in v (grant n net)) 0) (one_less place first) ∙ low)
+      greatest-is (reaches v n) 0 (v.slots + 1) (place - 1) (omega arith) (omega arith)
+      (ap (every (λ net. is_low_in v (grant n net)) 0) (one_less place first) ∙ low)
       (λ k a b. every-fails (λ net. is_low_in v (grant n net)) 0 (k + 1) place (omega arith) (omega arith) here)
     where
       one_less : (k : ℕ) → 1 ≤ k → k - 1 + 1 ≡ k
       one_less k h = omega arith
 
   -- or to the last
-  pub reached-last : every (λ net. is_low_in v (grant n net)) 0 (v.slots + 1) ≡ true → greatest (reaches v n) 0 (v.slots + 1) ≡ Some v.slots
-  reached-last low = greatest-is (reaches v n) 0 (v.slots + 1) v.slots (omega arith) (omega arith) low (λ k a b. absurd (omega arith))
+  pub reached-last : every (λ net. is_low_in v (grant n net)) 0 (v.slots + 1) ≡ true → greatest (reaches v n) 0
+      (v.slots + 1) ≡ Some v.slots
+  reached-last low = greatest-is (reaches v n) 0 (v.slots + 1) v.slots (omega arith) (omega arith) low
+      (λ k a b. absurd (omega arith))

@@ -1,5 +1,6 @@
 -- What a step breaks is what the rules of grants and tenures say.
-use Rattle.std.proofs.Common.{◌≡◌, ℕ, suc, ◌+◌, ◌<◌, ◌≤◌, true, ◌&&◌, ◌||◌, not, List, refl, sym, ◌∙◌, Option, Some, None, cond}
+use Rattle.std.proofs.Common.{◌≡◌, ℕ, suc, ◌+◌, ◌<◌, ◌≤◌, true, ◌&&◌, ◌||◌, not, List, refl, sym, ◌∙◌, Option, Some}
+use Rattle.std.proofs.Common.{None, cond}
 use Rattle.std.specs.Prelude.{option_map}
 use Rattle.std.specs.Option.{option_or}
 use Rattle.vme_trace.specs.Instants.{least}
@@ -15,7 +16,8 @@ use Rattle.vme_trace.specs.declared.rule.Rule.TheVariants.{G1, G2, G3, G4, G5, B
 use Rattle.vme_trace.specs.declared.step.Change.{Change}
 use Rattle.vme_trace.specs.declared.verdict.Break.{Break}
 use Rattle.vme_monitor.specs.Run.{break_at}
-use Rattle.vme_chains.specs.GrantLevels.{falls_between, first_changed, is_net_broken, grant_begins, requested_in, taken_between, is_ungranted, is_cycle_unowned}
+use Rattle.vme_chains.specs.GrantLevels.{falls_between, first_changed, is_net_broken, grant_begins, requested_in}
+use Rattle.vme_chains.specs.GrantLevels.{taken_between, is_ungranted, is_cycle_unowned}
 use Rattle.vme_chains.specs.GrantMemory.{union}
 use Rattle.vme_chains.specs.GrantSpec.{grant_rules, fault_on, line_if, unrequested, seen_between, slot_of, step_fault}
 use Rattle.vme_chains.specs.declared.grant_memory.Arbitration.{Arbitration}
@@ -29,18 +31,22 @@ abbrev pub broken_on : ℕ → ℕ → Rule → Option ℕ → Option Break
 broken_on j time r lines = option_map (λ l. record { instant = j; time = time; rule = r; line = l }) lines
 
 -- the first of nine
-abbrev pub first_broken : ℕ → ℕ → Option ℕ → Option ℕ → Option ℕ → Option ℕ → Option ℕ → Option ℕ → Option ℕ → Option ℕ → Option ℕ → Option Break
+abbrev pub first_broken : ℕ → ℕ → Option ℕ → Option ℕ → Option ℕ → Option ℕ → Option ℕ → Option ℕ → Option ℕ → Option ℕ
+    → Option ℕ → Option Break
 first_broken j time g1 g2 g3 g4 g5 b1 b2 b3 b4 =
     option_or (broken_on j time G1 g1)
     (option_or (broken_on j time G2 g2)
     (option_or (broken_on j time G3 g3)
     (option_or (broken_on j time G4 g4)
     (option_or (broken_on j time G5 g5)
-    (option_or (broken_on j time B1 b1) (option_or (broken_on j time B2 b2) (option_or (broken_on j time B3 b3) (option_or (broken_on j time B4 b4) None))))))))
+    (option_or (broken_on j time B1 b1) (option_or (broken_on j time B2 b2) (option_or (broken_on j time B3 b3)
+    (option_or (broken_on j time B4 b4) None))))))))
 
 first_of_nine : (j time : ℕ) (g1 g2 g3 g4 g5 b1 b2 b3 b4 : Option ℕ)
-    → option_map (break_at j time) (option_or (option_or (fault_on G1 g1) (option_or (fault_on G2 g2) (option_or (fault_on G3 g3) (fault_on G4 g4))))
-    (option_or (fault_on G5 g5) (option_or (fault_on B1 b1) (option_or (fault_on B2 b2) (option_or (fault_on B3 b3) (fault_on B4 b4))))))
+    → option_map (break_at j time)
+    (option_or (option_or (fault_on G1 g1) (option_or (fault_on G2 g2) (option_or (fault_on G3 g3) (fault_on G4 g4))))
+    (option_or (fault_on G5 g5)
+    (option_or (fault_on B1 b1) (option_or (fault_on B2 b2) (option_or (fault_on B3 b3) (fault_on B4 b4))))))
     ≡ first_broken j time g1 g2 g3 g4 g5 b1 b2 b3 b4
 first_of_nine j time (Some l) g2 g3 g4 g5 b1 b2 b3 b4 = refl
 first_of_nine j time None (Some l) g3 g4 g5 b1 b2 b3 b4 = refl
@@ -55,14 +61,18 @@ first_of_nine j time None None None None None None None None None = refl
 
 module _ (t : Trace) (span : Stretch) where
   rules_first : (j : ℕ) (g1 g2 g3 g4 g5 b1 b2 b3 b4 : Option ℕ)
-      → least (breaks t span G1 j) 0 line_count ≡ g1 → least (breaks t span G2 j) 0 line_count ≡ g2 → least (breaks t span G3 j) 0 line_count ≡ g3 → least (breaks t span G4 j) 0 line_count ≡ g4
-      → least (breaks t span G5 j) 0 line_count ≡ g5 → least (breaks t span B1 j) 0 line_count ≡ b1 → least (breaks t span B2 j) 0 line_count ≡ b2 → least (breaks t span B3 j) 0 line_count ≡ b3
+      → least (breaks t span G1 j) 0 line_count ≡ g1 → least (breaks t span G2 j) 0 line_count ≡ g2
+      → least (breaks t span G3 j) 0 line_count ≡ g3 → least (breaks t span G4 j) 0 line_count ≡ g4
+      → least (breaks t span G5 j) 0 line_count ≡ g5 → least (breaks t span B1 j) 0 line_count ≡ b1
+      → least (breaks t span B2 j) 0 line_count ≡ b2 → least (breaks t span B3 j) 0 line_count ≡ b3
       → least (breaks t span B4 j) 0 line_count ≡ b4
       → rules_break_at t span grant_rules j ≡ first_broken j (time_at t j) g1 g2 g3 g4 g5 b1 b2 b3 b4
   unfolding rules_break_at rule_break
   rules_first j g1 g2 g3 g4 g5 b1 b2 b3 b4 e1 e2 e3 e4 e5 f1 f2 f3 f4 = rw (e1, e2, e3, e4, e5, f1, f2, f3, f4) refl
 
-  module _ (few : t.opening.slots ≤ 21) (n : ℕ) (from : span.start ≤ n) (before : suc n < span.end) (cs : List Change) (step : levels_at t (suc n) ≡ changed (levels_at t n) cs) (fit : are_changes (levels_at t n) 0 cs ≡ true) (m : Arbitration) (held : Holds t span n m) where
+  module _ (few : t.opening.slots ≤ 21) (n : ℕ) (from : span.start ≤ n) (before : suc n < span.end) (cs : List Change)
+      (step : levels_at t (suc n) ≡ changed (levels_at t n) cs) (fit : are_changes (levels_at t n) 0 cs ≡ true)
+      (m : Arbitration) (held : Holds t span n m) where
     abbrev old : Levels
     old = levels_at t n
 
@@ -70,13 +80,24 @@ module _ (t : Trace) (span : Stretch) where
     new = levels_at t (suc n)
 
     abbrev requests : Option ℕ
-    requests = cond (grant_begins old new) (option_map (λ n. grant n 0) (unrequested old new (union m.requests (requested_in new)))) None
+    requests = cond (grant_begins old new)
+        (option_map (λ n. grant n 0) (unrequested old new (union m.requests (requested_in new)))) None
 
-    pub fault-is : option_map (break_at (suc n) (time_at t (suc n))) (step_fault old new (union m.requests (requested_in new)) (m.granted || grant_begins old new) (seen_between old new cs)) ≡ rules_break_at t span grant_rules (suc n)
+    pub fault-is : option_map (break_at (suc n) (time_at t (suc n)))
+        (step_fault old new (union m.requests (requested_in new)) (m.granted || grant_begins old new)
+        (seen_between old new cs)) ≡ rules_break_at t span grant_rules (suc n)
     fault-is =
-        first_of_nine (suc n) (time_at t (suc n)) (first_changed (is_net_broken G1 old new) cs) (first_changed (is_net_broken G2 old new) cs) (first_changed (is_net_broken G3 old new) cs) (first_changed (is_net_broken G4 old new) cs)
-        requests (line_if (falls_between old new BBSY && is_ungranted old new) BBSY) (line_if (falls_between old new BBSY && not (m.granted || grant_begins old new)) BBSY) (line_if (is_cycle_unowned old new) AS)
-        (line_if (is_option_equal (slot_of (cond (falls_between old new BBSY) (taken_between old new) None)) (new.slots + 1)) BBSY)
+        first_of_nine (suc n) (time_at t (suc n)) (first_changed (is_net_broken G1 old new) cs)
+        (first_changed (is_net_broken G2 old new) cs) (first_changed (is_net_broken G3 old new) cs)
+        (first_changed (is_net_broken G4 old new) cs)
+        requests (line_if (falls_between old new BBSY && is_ungranted old new) BBSY)
+        (line_if (falls_between old new BBSY && not (m.granted || grant_begins old new)) BBSY)
+        (line_if (is_cycle_unowned old new) AS)
+        (line_if (is_option_equal (slot_of (cond (falls_between old new BBSY) (taken_between old new) None))
+        (new.slots + 1)) BBSY)
         ∙ sym
-        (rules_first (suc n) _ _ _ _ _ _ _ _ _ (g1-is t span few n from before cs step fit) (g2-is t span few n from before cs step fit) (g3-is t span few n from before cs step fit) (g4-is t span few n from before cs step fit)
-        (g5-is t span few n from before m held) (b1-is t span few n from before) (b2-is t span few n from before m held) (b3-is t span few n from before) (b4-is t span few n from before))
+        (rules_first (suc n) _ _ _ _ _ _ _ _ _ (g1-is t span few n from before cs step fit)
+        (g2-is t span few n from before cs step fit) (g3-is t span few n from before cs step fit)
+        (g4-is t span few n from before cs step fit)
+        (g5-is t span few n from before m held) (b1-is t span few n from before) (b2-is t span few n from before m held)
+        (b3-is t span few n from before) (b4-is t span few n from before))

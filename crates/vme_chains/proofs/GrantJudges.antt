@@ -1,5 +1,6 @@
 -- Over every recording the grant monitor finds the least break of its rules, and shows the tenures.
-use Rattle.std.proofs.Common.{◌≡◌, ℕ, zero, suc, ◌<◌, ◌≤◌, Bool, true, false, ◌&&◌, ◌||◌, not, List, refl, sym, ◌∙◌, ap, arith, Option, Some, None, cond, length, inl, inr, subst}
+use Rattle.std.proofs.Common.{◌≡◌, ℕ, zero, suc, ◌<◌, ◌≤◌, Bool, true, false, ◌&&◌, ◌||◌, not, List, refl, sym, ◌∙◌, ap}
+use Rattle.std.proofs.Common.{arith, Option, Some, None, cond, length, inl, inr, subst}
 use Rattle.std.specs.Prelude.{◌==◌, nat_lt, option_map, slice_get}
 use Rattle.std.specs.Option.{option_map_or}
 use Rattle.std.proofs.lemmas.Bool.Decides.{nat_tests}
@@ -20,9 +21,11 @@ use Rattle.vme_monitor.specs.Whole.{FindsLeast, ShowsAll}
 use Rattle.vme_monitor.specs.declared.mark.BusGrant.{BusGrant}
 use Rattle.vme_monitor.proofs.OwnRules.{own_event, own_marks}
 use Rattle.vme_monitor.proofs.Alongside.{levels_step, changes_fit, memory_early}
-use Rattle.vme_chains.specs.GrantLevels.{falls_between, rises_between, is_low_in, grant_begins, requested_in, taken_between, touches_arbitration, is_cycle_unowned, is_ungranted}
+use Rattle.vme_chains.specs.GrantLevels.{falls_between, rises_between, is_low_in, grant_begins, requested_in}
+use Rattle.vme_chains.specs.GrantLevels.{taken_between, touches_arbitration, is_cycle_unowned, is_ungranted}
 use Rattle.vme_chains.specs.GrantMemory.{is_in, union}
-use Rattle.vme_chains.specs.GrantSpec.{grant_rules, nets_fault, seen_between, grant_begin, grant_opens, grant_ends, grant_sight, grant_next}
+use Rattle.vme_chains.specs.GrantSpec.{grant_rules, nets_fault, seen_between, grant_begin, grant_opens, grant_ends}
+use Rattle.vme_chains.specs.GrantSpec.{grant_sight, grant_next}
 use Rattle.vme_chains.specs.GrantMarks.{tenure_at, tenures_shown}
 use Rattle.vme_chains.specs.declared.grant.Arbitrated.{Arbitrated}
 use Rattle.vme_chains.specs.declared.grant_memory.Arbitration.{Arbitration}
@@ -31,8 +34,10 @@ use Rattle.vme_chains.proofs.GrantLines.{request_exists}
 use Rattle.vme_chains.proofs.GrantEdges.{low-is, falls-is, rises-is, requested-is, grant_begins-is, taken_between-is}
 use Rattle.vme_chains.proofs.GrantNets.{low-kept}
 use Rattle.vme_chains.proofs.GrantArbiter.{in_union}
-use Rattle.vme_chains.proofs.GrantMeaning.{Holds, requested_since, granted_since, requested-start, granted-start, requested-next, granted-next, requested-now}
-use Rattle.vme_chains.proofs.GrantSkips.{untouched, request_arbitration, nets-none, grants-none, takes-none, ends-none, fault-none}
+use Rattle.vme_chains.proofs.GrantMeaning.{Holds, requested_since, granted_since, requested-start, granted-start}
+use Rattle.vme_chains.proofs.GrantMeaning.{requested-next, granted-next, requested-now}
+use Rattle.vme_chains.proofs.GrantSkips.{untouched, request_arbitration, nets-none, grants-none, takes-none, ends-none}
+use Rattle.vme_chains.proofs.GrantSkips.{fault-none}
 use Rattle.vme_chains.proofs.GrantFaults.{fault-is}
 use Rattle.vme_chains.proofs.GrantTests.{or_false, start_or_after}
 
@@ -53,7 +58,12 @@ nothing_more : (f g x : Bool) → f ≡ false → g ≡ false → (not f && (x |
 nothing_more f g true h k = rw h refl
 nothing_more f g false h k = rw (h, k) refl
 
-shown_alike : (opened : Bool) (x y : Option BusGrant) (ends ends' : Bool) → opened ≡ false → x ≡ y → ends ≡ ends' → record nothing { tenure = x; tenure_end = ends } ≡ record nothing { opened = opened; tenure = y; tenure_end = ends' }
+shown_alike : (opened : Bool) (x y : Option BusGrant) (ends ends' : Bool) → opened ≡ false → x ≡ y → ends ≡ ends'
+    → record nothing { tenure = x; tenure_end = ends } ≡ record nothing {
+      opened = opened;
+      tenure = y;
+      tenure_end = ends';
+    }
 shown_alike opened x y ends ends' a b c = rw (a, b, c) refl
 
 not_at_start : (j s : ℕ) (b : Bool) → s < j → ((j == s) && b) ≡ false
@@ -71,7 +81,8 @@ module _ (t : Trace) (span : Stretch) (few : t.opening.slots ≤ 21) where
         granted = sym (granted-start t span);
       }
 
-  module _ (n : ℕ) (from : span.start ≤ n) (before : suc n < span.end) (cs : List Change) (step : levels_at t (suc n) ≡ changed (levels_at t n) cs) (fit : are_changes (levels_at t n) 0 cs ≡ true) where
+  module _ (n : ℕ) (from : span.start ≤ n) (before : suc n < span.end) (cs : List Change) (step : levels_at t (suc n)
+      ≡ changed (levels_at t n) cs) (fit : are_changes (levels_at t n) 0 cs ≡ true) where
     abbrev old : Levels
     old = levels_at t n
 
@@ -87,51 +98,70 @@ module _ (t : Trace) (span : Stretch) (few : t.opening.slots ≤ 21) where
         record {
           requests = λ l h.
               in_cond (grant_begins old new) (requested_in new) (union m.requests (requested_in new)) l
-              ∙ cond_alike (grant_begins old new) (grant_falls t (suc n)) _ _ _ _ (grant_begins-is t few n) (requested-is t (suc n) l h)
-              (in_union m.requests (requested_in new) l h ∙ or_alike _ _ _ _ (held.requests l h) (requested-is t (suc n) l h))
+              ∙ cond_alike (grant_begins old new) (grant_falls t (suc n)) _ _ _ _ (grant_begins-is t few n)
+              (requested-is t (suc n) l h)
+              (in_union m.requests (requested_in new) l h ∙ or_alike _ _ _ _ (held.requests l h)
+              (requested-is t (suc n) l h))
               ∙ sym (requested-next t span n l from);
-          granted = and_not_alike _ _ _ _ (falls-is t n BBSY refl) (or_alike _ _ _ _ held.granted (grant_begins-is t few n)) ∙ sym (granted-next t span n from);
+          granted = and_not_alike _ _ _ _ (falls-is t n BBSY refl)
+              (or_alike _ _ _ _ held.granted (grant_begins-is t few n)) ∙ sym (granted-next t span n from);
         }
 
     -- after one that was passed over
     holds_passed : touches_arbitration cs ≡ false → (m : Arbitration) → Holds t span n m → Holds t span (suc n) m
     holds_passed h m held =
-        let no_grant : grant_falls t (suc n) ≡ false = sym (grant_begins-is t few n) ∙ grants-none t span few n from before cs step fit h in
-        let no_fall : falls t BBSY (suc n) ≡ false = sym (falls-is t n BBSY refl) ∙ takes-none t span few n from before cs step fit h in
+        let no_grant : grant_falls t (suc n) ≡ false = sym (grant_begins-is t few n) ∙ grants-none t span few n from
+        before cs step fit h in
+        let no_fall : falls t BBSY (suc n) ≡ false = sym (falls-is t n BBSY refl) ∙ takes-none t span few n from before
+        cs step fit h in
         record {
           requests = λ l below.
               let same : low t (BR l) (suc n) ≡ low t (BR l) n =
               sym (low-is t (suc n) (BR l) (request_exists t.opening.slots l below))
-              ∙ low-kept t span few n from before cs step fit (BR l) (untouched cs (BR l) h (request_arbitration l below))
+              ∙ low-kept t span few n from before cs step fit (BR l)
+              (untouched cs (BR l) h (request_arbitration l below))
               ∙ low-is t n (BR l) (request_exists t.opening.slots l below)
               in
               held.requests l below
-              ∙ sym (requested-next t span n l from ∙ cond_alike (grant_falls t (suc n)) false (low t (BR l) (suc n)) (low t (BR l) (suc n)) _ _ no_grant refl (or_alike (requested_since t span n l) _ _ _ refl same) ∙ requested-now t span n l from);
-          granted = held.granted ∙ sym (granted-next t span n from ∙ nothing_more _ _ (granted_since t span n) no_fall no_grant);
+              ∙ sym (requested-next t span n l from ∙ cond_alike (grant_falls t (suc n)) false (low t (BR l) (suc n))
+              (low t (BR l) (suc n)) _ _ no_grant refl (or_alike (requested_since t span n l) _ _ _ refl same)
+              ∙ requested-now t span n l from);
+          granted = held.granted ∙ sym (granted-next t span n from ∙ nothing_more _ _ (granted_since t span n) no_fall
+              no_grant);
         }
 
-    holds_by : (m : Arbitration) (b : Bool) → (touches_arbitration cs || is_cycle_unowned old new) ≡ b → Holds t span n m → Holds t span (suc n) (option_map_or (grant_next m old new) (cond b (Some seen) None) (quiet m)).memory
+    holds_by : (m : Arbitration) (b : Bool) → (touches_arbitration cs || is_cycle_unowned old new) ≡ b
+        → Holds t span n m → Holds t span (suc n) (option_map_or (grant_next m old new) (cond b (Some seen) None)
+        (quiet m)).memory
     holds_by m true e held = holds_seen m held
     holds_by m false e held = holds_passed (or_false _ _ e).0 m held
 
-    fault_by : (m : Arbitration) (b : Bool) → (touches_arbitration cs || is_cycle_unowned old new) ≡ b → (option_map_or (grant_next m old new) (cond b (Some seen) None) (quiet m)).fault ≡ (grant_next m old new seen).fault
+    fault_by : (m : Arbitration) (b : Bool) → (touches_arbitration cs || is_cycle_unowned old new) ≡ b
+        → (option_map_or (grant_next m old new) (cond b (Some seen) None) (quiet m)).fault
+        ≡ (grant_next m old new seen).fault
     fault_by m true e = refl
     fault_by m false e =
         let none = or_false (touches_arbitration cs) (is_cycle_unowned old new) e in
         sym
-        (fault-none old new (union m.requests (requested_in new)) (requested_in new) (m.granted || grant_begins old new) (nets_fault old new cs) (grant_begins old new) (falls_between old new BBSY) (is_ungranted old new) (rises_between old new BBSY) (is_cycle_unowned old new) (taken_between old new)
-        (nets-none old new cs none.0) (grants-none t span few n from before cs step fit none.0) (takes-none t span few n from before cs step fit none.0) none.1)
+        (fault-none old new (union m.requests (requested_in new)) (requested_in new) (m.granted || grant_begins old new)
+        (nets_fault old new cs) (grant_begins old new) (falls_between old new BBSY) (is_ungranted old new)
+        (rises_between old new BBSY) (is_cycle_unowned old new) (taken_between old new)
+        (nets-none old new cs none.0) (grants-none t span few n from before cs step fit none.0)
+        (takes-none t span few n from before cs step fit none.0) none.1)
 
     fault_here : (m : Arbitration) → Holds t span n m
-        → option_map (break_at (suc n) (time_at t (suc n))) (noticed grant_sight grant_next m old new cs).fault ≡ rules_break_at t span grant_rules (suc n)
+        → option_map (break_at (suc n) (time_at t (suc n))) (noticed grant_sight grant_next m old new cs).fault
+        ≡ rules_break_at t span grant_rules (suc n)
     fault_here m held =
-        ap (option_map (break_at (suc n) (time_at t (suc n)))) (fault_by m (touches_arbitration cs || is_cycle_unowned old new) refl)
+        ap (option_map (break_at (suc n) (time_at t (suc n))))
+        (fault_by m (touches_arbitration cs || is_cycle_unowned old new) refl)
         ∙ fault-is t span few n from before cs step fit m held
 
     taken_shown : cond (falls_between old new BBSY) (taken_between old new) None ≡ tenure_at t span (suc n)
     unfolding tenure_starts
     taken_shown =
-        alike _ _ _ _ (falls-is t n BBSY refl ∙ judged_and (is_judged span (suc n)) (falls t BBSY (suc n)) (is_judged-holds span (suc n) (omega arith) before)) (taken_between-is t few n)
+        alike _ _ _ _ (falls-is t n BBSY refl ∙ judged_and (is_judged span (suc n)) (falls t BBSY (suc n))
+        (is_judged-holds span (suc n) (omega arith) before)) (taken_between-is t few n)
       where
         alike : (b c : Bool) (x y : Option BusGrant) → b ≡ c → x ≡ y → cond b x None ≡ cond c y None
         alike b c x y e h = rw (e, h) refl
@@ -139,15 +169,20 @@ module _ (t : Trace) (span : Stretch) (few : t.opening.slots ≤ 21) where
     kinds_seen : (m : Arbitration) → (grant_next m old new seen).kinds ≡ tenures_shown t span (suc n)
     kinds_seen m =
         shown_alike _ _ _ _ _ (not_at_start (suc n) span.start (low t BBSY (suc n)) (omega arith)) taken_shown
-        (rises-is t n BBSY refl ∙ judged_and (is_judged span (suc n)) (rises t BBSY (suc n)) (is_judged-holds span (suc n) (omega arith) before))
+        (rises-is t n BBSY refl ∙ judged_and (is_judged span (suc n)) (rises t BBSY (suc n))
+        (is_judged-holds span (suc n) (omega arith) before))
 
-    kinds_by : (m : Arbitration) (b : Bool) → (touches_arbitration cs || is_cycle_unowned old new) ≡ b → (option_map_or (grant_next m old new) (cond b (Some seen) None) (quiet m)).kinds ≡ (grant_next m old new seen).kinds
+    kinds_by : (m : Arbitration) (b : Bool) → (touches_arbitration cs || is_cycle_unowned old new) ≡ b
+        → (option_map_or (grant_next m old new) (cond b (Some seen) None) (quiet m)).kinds
+        ≡ (grant_next m old new seen).kinds
     kinds_by m true e = refl
     kinds_by m false e =
         let none = or_false (touches_arbitration cs) (is_cycle_unowned old new) e in
-        sym (passed (falls_between old new BBSY) (rises_between old new BBSY) (takes-none t span few n from before cs step fit none.0) (ends-none t span few n from before cs step fit none.0))
+        sym (passed (falls_between old new BBSY) (rises_between old new BBSY) (takes-none t span few n from before cs
+        step fit none.0) (ends-none t span few n from before cs step fit none.0))
       where
-        passed : (takes ends : Bool) → takes ≡ false → ends ≡ false → record nothing { tenure = cond takes (taken_between old new) None; tenure_end = ends } ≡ nothing
+        passed : (takes ends : Bool) → takes ≡ false → ends ≡ false
+            → record nothing { tenure = cond takes (taken_between old new) None; tenure_end = ends } ≡ nothing
         passed takes ends a b = rw (a, b) refl
 
     kinds_here : (m : Arbitration) → (noticed grant_sight grant_next m old new cs).kinds ≡ tenures_shown t span (suc n)
@@ -171,25 +206,33 @@ module _ (t : Trace) (span : Stretch) (few : t.opening.slots ≤ 21) where
     holds_along zero from before within = holds_at zero (omega arith)
     holds_along (suc n) from before within =
         elim (start_or_after span.start n from) [
-          | inl e ↦ rw (memory_early (noticed grant_sight grant_next) t started span.start (suc n) (omega arith)) (holds_at (suc n) e)
+          | inl e ↦ rw (memory_early (noticed grant_sight grant_next) t started span.start (suc n) (omega arith))
+              (holds_at (suc n) e)
           | inr earlier ↦
               rw (not_before n span.start earlier)
-              (holds_by n earlier before (changes_of (slice_get t.steps n)) (levels_step t n (omega arith)) (changes_fit t n ok (omega arith)) (memory n) (touches_arbitration (changes_of (slice_get t.steps n)) || is_cycle_unowned (levels_at t n) (levels_at t (suc n))) refl
+              (holds_by n earlier before (changes_of (slice_get t.steps n)) (levels_step t n (omega arith))
+              (changes_fit t n ok (omega arith)) (memory n) (touches_arbitration (changes_of (slice_get t.steps n)) ||
+              is_cycle_unowned (levels_at t n) (levels_at t (suc n))) refl
               (holds_along n earlier (omega arith) (omega arith)))
         ]
 
     pub grant_inside : (n : ℕ) → span.start ≤ n → suc n < span.end → n < length t.steps
-        → option_map (break_at (suc n) (time_at t (suc n))) (next_at (noticed grant_sight grant_next) t (memory n) n).fault ≡ rules_break_at t span grant_rules (suc n)
+        → option_map (break_at (suc n) (time_at t (suc n))) (next_at (noticed grant_sight grant_next) t (memory n)
+        n).fault ≡ rules_break_at t span grant_rules (suc n)
     grant_inside n from before within =
-        fault_here n from before (changes_of (slice_get t.steps n)) (levels_step t n within) (changes_fit t n ok within) (memory n) (holds_along n from (omega arith) (omega arith))
+        fault_here n from before (changes_of (slice_get t.steps n)) (levels_step t n within) (changes_fit t n ok within)
+        (memory n) (holds_along n from (omega arith) (omega arith))
 
-    pub grant_shows : (n : ℕ) → span.start ≤ n → suc n < span.end → n < length t.steps → (next_at (noticed grant_sight grant_next) t (memory n) n).kinds ≡ tenures_shown t span (suc n)
-    grant_shows n from before within = kinds_here n from before (changes_of (slice_get t.steps n)) (levels_step t n within) (changes_fit t n ok within) (memory n)
+    pub grant_shows : (n : ℕ) → span.start ≤ n → suc n < span.end → n < length t.steps
+        → (next_at (noticed grant_sight grant_next) t (memory n) n).kinds ≡ tenures_shown t span (suc n)
+    grant_shows n from before within = kinds_here n from before (changes_of (slice_get t.steps n))
+        (levels_step t n within) (changes_fit t n ok within) (memory n)
 
   open_at : grant_opens (levels_at t span.start) ≡ tenures_shown t span span.start
   unfolding tenure_starts
   open_at =
-      alike _ _ (is_low_in (levels_at t span.start) BBSY) (low t BBSY span.start) _ _ _ (at_start span.start) (low-is t span.start BBSY refl) (not_judged span.start span.end)
+      alike _ _ (is_low_in (levels_at t span.start) BBSY) (low t BBSY span.start) _ _ _ (at_start span.start)
+      (low-is t span.start BBSY refl) (not_judged span.start span.end)
     where
       at_start : (s : ℕ) → (s == s) ≡ true
       at_start s = grind (arith, nat_tests)
@@ -198,13 +241,22 @@ module _ (t : Trace) (span : Stretch) (few : t.opening.slots ≤ 21) where
       not_judged s e = grind (arith, nat_tests)
 
       alike : (same judged x y falls rises : Bool) (o : Option BusGrant) → same ≡ true → x ≡ y → judged ≡ false
-          → record nothing { opened = x } ≡ record nothing { opened = same && y; tenure = cond (judged && falls) o None; tenure_end = judged && rises }
+          → record nothing { opened = x } ≡ record nothing {
+            opened = same && y;
+            tenure = cond (judged && falls) o None;
+            tenure_end = judged && rises;
+          }
       alike same judged x y falls rises o a b c = rw (a, b, c) refl
 
-pub grant_event : FindsLeast (run_of (noticed (noted grant_sight) (spanned grant_begin grant_opens nothing (λ l. None) grant_next))) (start_in grant_begin) grant_rules
-grant_event = own_event grant_begin grant_opens grant_sight grant_next grant_rules refl (λ t span ok few facts n from before within unbroken. grant_inside t span few ok n from before within)
+pub grant_event : FindsLeast
+    (run_of (noticed (noted grant_sight) (spanned grant_begin grant_opens nothing (λ l. None) grant_next)))
+    (start_in grant_begin) grant_rules
+grant_event = own_event grant_begin grant_opens grant_sight grant_next grant_rules refl
+    (λ t span ok few facts n from before within unbroken. grant_inside t span few ok n from before within)
 
-pub grant_marks : ShowsAll (run_of (noticed (noted grant_sight) (spanned grant_begin grant_opens nothing grant_ends grant_next))) (start_in grant_begin) nothing tenures_shown
+pub grant_marks : ShowsAll
+    (run_of (noticed (noted grant_sight) (spanned grant_begin grant_opens nothing grant_ends grant_next)))
+    (start_in grant_begin) nothing tenures_shown
 grant_marks =
     own_marks grant_begin grant_opens grant_sight grant_next grant_ends tenures_shown
     (λ t span ok few facts. record {

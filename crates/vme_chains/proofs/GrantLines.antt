@@ -1,5 +1,6 @@
 -- The lines of one step: what its changes leave as it was, and the first of them with a property.
-use Rattle.std.proofs.Common.{◌≡◌, ℕ, ◌+◌, ◌-◌, ◌<◌, ◌≤◌, Bool, true, false, ◌&&◌, ◌||◌, List, [], ◌∷◌, refl, sym, ◌∙◌, ap, arith, Some, cond}
+use Rattle.std.proofs.Common.{◌≡◌, ℕ, ◌+◌, ◌-◌, ◌<◌, ◌≤◌, Bool, true, false, ◌&&◌, ◌||◌, List, [], ◌∷◌, refl, sym, ◌∙◌}
+use Rattle.std.proofs.Common.{ap, arith, Some, cond}
 use Rattle.std.specs.Prelude.{◌==◌, nat_le}
 use Rattle.std.proofs.lemmas.Bool.Decides.{nat_tests}
 use Rattle.vme_trace.specs.Instants.{any, least}
@@ -27,7 +28,8 @@ one_more : (l k : ℕ) → l < k → l < k + 1
 one_more l k h = omega arith
 
 -- no change stands before the least that may
-below_changes : (v : Levels) (lowest l : ℕ) (cs : List Change) → are_changes v lowest cs ≡ true → l < lowest → is_changed cs l ≡ false
+below_changes : (v : Levels) (lowest l : ℕ) (cs : List Change) → are_changes v lowest cs ≡ true → l < lowest
+    → is_changed cs l ≡ false
 unfolding are_changes
 below_changes v lowest l [] h b = refl
 below_changes v lowest l (c ∷ cs) h b =
@@ -46,26 +48,31 @@ below_changes v lowest l (c ∷ cs) h b =
 
 -- where only changed lines have a property, the first changed line that has it is the least line that has it
 module _ (p : ℕ → Bool) (v : Levels) (few : v.slots ≤ 21) where
-  first_here : (c : Change) (cs : List Change) (b : Bool) → p c.line ≡ b → c.line < line_count → any p 0 c.line ≡ false → (b ≡ false → first_changed p cs ≡ least p 0 line_count)
+  first_here : (c : Change) (cs : List Change) (b : Bool) → p c.line ≡ b → c.line < line_count → any p 0 c.line ≡ false
+      → (b ≡ false → first_changed p cs ≡ least p 0 line_count)
       → cond b (Some c.line) (first_changed p cs) ≡ least p 0 line_count
   first_here c cs true e below before rest = sym (least-is p 0 line_count c.line (omega arith) below e before)
   first_here c cs false e below before rest = rest refl
 
-  kept_else : (c : Change) (cs : List Change) → ((l : ℕ) → is_changed (c ∷ cs) l ≡ false → p l ≡ false) → p c.line ≡ false → (l : ℕ) → is_changed cs l ≡ false → p l ≡ false
+  kept_else : (c : Change) (cs : List Change) → ((l : ℕ) → is_changed (c ∷ cs) l ≡ false → p l ≡ false) → p c.line
+      ≡ false → (l : ℕ) → is_changed cs l ≡ false → p l ≡ false
   kept_else c cs kept here l h = by_line (c.line == l) refl
     where
       by_line : (b : Bool) → (c.line == l) ≡ b → p l ≡ false
       by_line true e = ap p (sym (equal c.line l e)) ∙ here
       by_line false e = kept l (rw (e, h) refl)
 
-  pub first-least : (lowest : ℕ) (cs : List Change) → are_changes v lowest cs ≡ true → ((l : ℕ) → is_changed cs l ≡ false → p l ≡ false) → first_changed p cs ≡ least p 0 line_count
+  pub first-least : (lowest : ℕ) (cs : List Change) → are_changes v lowest cs ≡ true
+      → ((l : ℕ) → is_changed cs l ≡ false → p l ≡ false) → first_changed p cs ≡ least p 0 line_count
   unfolding are_changes
   first-least lowest [] h kept = sym (least-none p 0 line_count (fails-any p 0 line_count (λ l a b. kept l refl)))
   first-least lowest (c ∷ cs) h kept =
       let parts = and_true _ _ h in
       let exists = (and_true _ _ (and_true _ _ parts.0).0).1 in
       first_here c cs (p c.line) refl (exists_below v.slots c.line few exists)
-      (fails-any p 0 c.line (λ l a b. kept l (rw (unlike c.line l b, below_changes v (c.line + 1) l cs parts.1 (one_more l c.line b)) refl)))
+      (fails-any p 0 c.line
+      (λ l a b. kept l (rw (unlike c.line l b, below_changes v (c.line + 1) l cs parts.1 (one_more l c.line b))
+      refl)))
       (λ e. first-least (c.line + 1) cs parts.1 (kept_else c cs kept e))
 
 -- a line that isn't changed shows the same
@@ -78,10 +85,12 @@ no_edge High = (refl, refl)
 no_edge Unknown = (refl, refl)
 
 -- and has no edge
-pub no-fall : (v : Levels) (cs : List Change) (l : ℕ) → is_changed cs l ≡ false → falls_between v (changed v cs) l ≡ false
+pub no-fall : (v : Levels) (cs : List Change) (l : ℕ) → is_changed cs l ≡ false → falls_between v (changed v cs) l
+    ≡ false
 no-fall v cs l h = ap (λ x. is_high (shown v l) && is_low x) (shown-kept v cs l h) ∙ (no_edge (shown v l)).0
 
-pub no-rise : (v : Levels) (cs : List Change) (l : ℕ) → is_changed cs l ≡ false → rises_between v (changed v cs) l ≡ false
+pub no-rise : (v : Levels) (cs : List Change) (l : ℕ) → is_changed cs l ≡ false → rises_between v (changed v cs) l
+    ≡ false
 no-rise v cs l h = ap (λ x. is_low (shown v l) && is_high x) (shown-kept v cs l h) ∙ (no_edge (shown v l)).1
 
 -- what lines there are

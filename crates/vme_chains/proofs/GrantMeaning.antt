@@ -1,5 +1,6 @@
 -- What the memory of the grant monitor means at an instant, and that it goes on to mean it.
-use Rattle.std.proofs.Common.{◌≡◌, ℕ, suc, ◌+◌, ◌<◌, ◌≤◌, Bool, true, false, ◌&&◌, ◌||◌, not, refl, ◌∙◌, ap, arith, cond}
+use Rattle.std.proofs.Common.{◌≡◌, ℕ, suc, ◌+◌, ◌<◌, ◌≤◌, Bool, true, false, ◌&&◌, ◌||◌, not, refl, ◌∙◌, ap, arith}
+use Rattle.std.proofs.Common.{cond}
 use Rattle.std.specs.Prelude.{nat_le}
 use Rattle.std.proofs.lemmas.Bool.Decides.{nat_tests}
 use Rattle.vme_trace.specs.Instants.{any}
@@ -37,38 +38,49 @@ module _ (t : Trace) (span : Stretch) where
     pub granted : m.granted ≡ granted_since n
 
   pub requested-start : (l : ℕ) → requested_since span.start l ≡ low t (BR l) span.start
-  requested-start l = ap (λ f. any (low t (BR l)) f (suc span.start)) (last-start t span (grant_falls t)) ∙ any_one (low t (BR l)) span.start
+  requested-start l = ap (λ f. any (low t (BR l)) f (suc span.start)) (last-start t span (grant_falls t))
+      ∙ any_one (low t (BR l)) span.start
 
   pub granted-start : granted_since span.start ≡ false
-  granted-start = ap (λ f. any (grant_falls t) (f + 1) (suc span.start)) (last-start t span (falls t BBSY)) ∙ fails-any (grant_falls t) (span.start + 1) (suc span.start) (λ i a b. absurd (omega arith))
+  granted-start = ap (λ f. any (grant_falls t) (f + 1) (suc span.start)) (last-start t span (falls t BBSY))
+      ∙ fails-any (grant_falls t) (span.start + 1) (suc span.start) (λ i a b. absurd (omega arith))
 
   -- up to the next instant too, from the same one on
-  pub requested-more : (n l : ℕ) → span.start ≤ n → any (low t (BR l)) (last_before t span (grant_falls t) (suc n)) (suc (suc n)) ≡ (requested_since n l || low t (BR l) (suc n))
+  pub requested-more : (n l : ℕ) → span.start ≤ n → any (low t (BR l)) (last_before t span (grant_falls t) (suc n))
+      (suc (suc n)) ≡ (requested_since n l || low t (BR l) (suc n))
   requested-more n l from =
       let h = last-within t span (grant_falls t) n from in
       any_suc (low t (BR l)) (last_before t span (grant_falls t) (suc n)) (suc n) (omega arith)
 
-  pub granted-more : (n : ℕ) → span.start ≤ n → any (grant_falls t) (last_before t span (falls t BBSY) (suc n) + 1) (suc (suc n)) ≡ (granted_since n || grant_falls t (suc n))
+  pub granted-more : (n : ℕ) → span.start ≤ n → any (grant_falls t) (last_before t span (falls t BBSY) (suc n) + 1)
+      (suc (suc n)) ≡ (granted_since n || grant_falls t (suc n))
   granted-more n from =
       let h = last-within t span (falls t BBSY) n from in
       any_suc (grant_falls t) (last_before t span (falls t BBSY) (suc n) + 1) (suc n) (omega arith)
 
   -- one instant later
-  pub requested-next : (n l : ℕ) → span.start ≤ n → requested_since (suc n) l ≡ cond (grant_falls t (suc n)) (low t (BR l) (suc n)) (requested_since n l || low t (BR l) (suc n))
+  pub requested-next : (n l : ℕ) → span.start ≤ n → requested_since (suc n) l ≡ cond (grant_falls t (suc n))
+      (low t (BR l) (suc n)) (requested_since n l || low t (BR l) (suc n))
   requested-next n l from = by_grant (grant_falls t (suc n)) refl
     where
-      by_grant : (b : Bool) → grant_falls t (suc n) ≡ b → requested_since (suc n) l ≡ cond b (low t (BR l) (suc n)) (requested_since n l || low t (BR l) (suc n))
-      by_grant true e = ap (λ f. any (low t (BR l)) f (suc (suc n))) (last-here t span (grant_falls t) (suc n) (omega arith) e) ∙ any_one (low t (BR l)) (suc n)
-      by_grant false e = ap (λ f. any (low t (BR l)) f (suc (suc n))) (last-kept t span (grant_falls t) (suc n) e) ∙ requested-more n l from
+      by_grant : (b : Bool) → grant_falls t (suc n) ≡ b → requested_since (suc n) l ≡ cond b (low t (BR l) (suc n))
+          (requested_since n l || low t (BR l) (suc n))
+      by_grant true e = ap (λ f. any (low t (BR l)) f (suc (suc n))) (last-here t span (grant_falls t) (suc n)
+          (omega arith) e) ∙ any_one (low t (BR l)) (suc n)
+      by_grant false e = ap (λ f. any (low t (BR l)) f (suc (suc n))) (last-kept t span (grant_falls t) (suc n) e)
+          ∙ requested-more n l from
 
-  pub granted-next : (n : ℕ) → span.start ≤ n → granted_since (suc n) ≡ (not (falls t BBSY (suc n)) && (granted_since n || grant_falls t (suc n)))
+  pub granted-next : (n : ℕ) → span.start ≤ n → granted_since (suc n)
+      ≡ (not (falls t BBSY (suc n)) && (granted_since n || grant_falls t (suc n)))
   granted-next n from = by_fall (falls t BBSY (suc n)) refl
     where
-      by_fall : (b : Bool) → falls t BBSY (suc n) ≡ b → granted_since (suc n) ≡ (not b && (granted_since n || grant_falls t (suc n)))
+      by_fall : (b : Bool) → falls t BBSY (suc n) ≡ b → granted_since (suc n)
+          ≡ (not b && (granted_since n || grant_falls t (suc n)))
       by_fall true e =
           ap (λ f. any (grant_falls t) (f + 1) (suc (suc n))) (last-here t span (falls t BBSY) (suc n) (omega arith) e)
           ∙ fails-any (grant_falls t) (suc n + 1) (suc (suc n)) (λ i a b. absurd (omega arith))
-      by_fall false e = ap (λ f. any (grant_falls t) (f + 1) (suc (suc n))) (last-kept t span (falls t BBSY) (suc n) e) ∙ granted-more n from
+      by_fall false e = ap (λ f. any (grant_falls t) (f + 1) (suc (suc n))) (last-kept t span (falls t BBSY) (suc n) e)
+          ∙ granted-more n from
 
   -- a request that is still there is one since then
   pub requested-now : (n l : ℕ) → span.start ≤ n → (requested_since n l || low t (BR l) n) ≡ requested_since n l
@@ -84,5 +96,6 @@ module _ (t : Trace) (span : Stretch) where
       by_level : (b : Bool) → low t (BR l) n ≡ b → (requested_since n l || b) ≡ requested_since n l
       by_level true e =
           let h = last-within t span (grant_falls t) n from in
-          or_true (requested_since n l) (any-holds (low t (BR l)) (last_before t span (grant_falls t) (suc n)) (suc n) n (omega arith) (omega arith) e)
+          or_true (requested_since n l) (any-holds (low t (BR l)) (last_before t span (grant_falls t) (suc n)) (suc n) n
+          (omega arith) (omega arith) e)
       by_level false e = or_false (requested_since n l)

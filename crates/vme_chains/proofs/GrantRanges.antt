@@ -1,5 +1,6 @@
 -- The greatest of a range, and the last instant before another.
-use Rattle.std.proofs.Common.{◌≡◌, ℕ, zero, suc, ◌+◌, ◌<◌, ◌≤◌, Bool, true, false, ◌&&◌, refl, ◌∙◌, arith, inl, inr, ◌⊎◌}
+use Rattle.std.proofs.Common.{◌≡◌, ℕ, zero, suc, ◌+◌, ◌<◌, ◌≤◌, Bool, true, false, ◌&&◌, refl, ◌∙◌, arith, inl, inr}
+use Rattle.std.proofs.Common.{◌⊎◌}
 use Rattle.std.specs.Prelude.{None, Some, nat_le}
 use Rattle.std.proofs.lemmas.Bool.Decides.{nat_tests}
 use Rattle.vme_trace.specs.Instants.{greatest}
@@ -34,23 +35,27 @@ last_or_before : (i n : ℕ) → i < suc n → (i ≡ n) ⊎ (i < n)
 last_or_before i n h = grind arith
 
 -- the greatest is the one after which none holds
-pub greatest-is : (p : ℕ → Bool) (f n i : ℕ) → f ≤ i → i < n → p i ≡ true → ((k : ℕ) → i < k → k < n → p k ≡ false) → greatest p f n ≡ Some i
+pub greatest-is : (p : ℕ → Bool) (f n i : ℕ) → f ≤ i → i < n → p i ≡ true → ((k : ℕ) → i < k → k < n → p k ≡ false)
+    → greatest p f n ≡ Some i
 greatest-is p f zero i from below h none = absurd (omega arith)
 greatest-is p f (suc n) i from below h none =
     elim (last_or_before i n below) [
       | inl e ↦ rw (← e) (greatest-here p f i from h)
-      | inr b ↦ greatest-before p f n (none n b (omega arith)) ∙ greatest-is p f n i from b h (λ k x y. none k x (omega arith))
+      | inr b ↦ greatest-before p f n (none n b (omega arith)) ∙ greatest-is p f n i from b h
+          (λ k x y. none k x (omega arith))
     ]
 
 both_alike : (p q : ℕ → Bool) (f n : ℕ) → (f ≤ n → p n ≡ q n) → (nat_le f n && p n) ≡ (nat_le f n && q n)
 both_alike p q f n alike = grind (arith, nat_tests)
 
 -- tests that agree in the range have the same greatest
-pub greatest-alike : (p q : ℕ → Bool) (f n : ℕ) → ((i : ℕ) → f ≤ i → i < n → p i ≡ q i) → greatest p f n ≡ greatest q f n
+pub greatest-alike : (p q : ℕ → Bool) (f n : ℕ) → ((i : ℕ) → f ≤ i → i < n → p i ≡ q i) → greatest p f n
+    ≡ greatest q f n
 unfolding greatest
 greatest-alike p q f zero alike = refl
 greatest-alike p q f (suc n) alike =
-    rw (both_alike p q f n (λ a. alike n a (omega arith)), greatest-alike p q f n (λ i a b. alike i a (omega arith))) refl
+    rw (both_alike p q f n (λ a. alike n a (omega arith)), greatest-alike p q f n (λ i a b. alike i a (omega arith)))
+    refl
 
 module _ (t : Trace) (span : Stretch) (p : ℕ → Bool) where
   -- at the start there is none

@@ -1,5 +1,6 @@
 -- A step that touches no line of the arbitration bus breaks and shows nothing, unless a cycle starts.
-use Rattle.std.proofs.Common.{◌≡◌, ℕ, suc, ◌<◌, ◌≤◌, Bool, true, false, ◌&&◌, ◌||◌, List, [], ◌∷◌, refl, sym, ◌∙◌, ap, arith, Option, None, cond}
+use Rattle.std.proofs.Common.{◌≡◌, ℕ, suc, ◌<◌, ◌≤◌, Bool, true, false, ◌&&◌, ◌||◌, List, [], ◌∷◌, refl, sym, ◌∙◌, ap}
+use Rattle.std.proofs.Common.{arith, Option, None, cond}
 use Rattle.std.specs.Prelude.{◌==◌}
 use Rattle.std.proofs.lemmas.Bool.Decides.{nat_tests}
 use Rattle.vme_trace.specs.LineNumbers.{BBSY, BR, grant, is_grant}
@@ -13,14 +14,16 @@ use Rattle.vme_trace.specs.declared.step.Change.{Change}
 use Rattle.vme_trace.proofs.Ranges.{fails-any, clash}
 use Rattle.vme_monitor.specs.declared.mark.Fault.{Fault}
 use Rattle.vme_monitor.specs.declared.mark.BusGrant.{BusGrant}
-use Rattle.vme_chains.specs.GrantLevels.{is_arbitration, touches_arbitration, first_changed, is_net_broken, grant_begins, falls_between, rises_between}
+use Rattle.vme_chains.specs.GrantLevels.{is_arbitration, touches_arbitration, first_changed, is_net_broken}
+use Rattle.vme_chains.specs.GrantLevels.{grant_begins, falls_between, rises_between}
 use Rattle.vme_chains.specs.GrantSpec.{nets_fault, step_fault}
 use Rattle.vme_chains.specs.declared.grant_memory.LevelSet.{LevelSet}
 use Rattle.vme_chains.proofs.GrantNets.{falls-kept, rises-kept}
 use Rattle.vme_chains.proofs.GrantTests.{or_false, equal, first_false}
 
 -- no such line is among the changes
-pub untouched : (cs : List Change) (l : ℕ) → touches_arbitration cs ≡ false → is_arbitration l ≡ true → is_changed cs l ≡ false
+pub untouched : (cs : List Change) (l : ℕ) → touches_arbitration cs ≡ false → is_arbitration l ≡ true → is_changed cs l
+    ≡ false
 untouched [] l h k = refl
 untouched (c ∷ cs) l h k =
     let both = or_false (is_arbitration c.line) (touches_arbitration cs) h in
@@ -28,9 +31,11 @@ untouched (c ∷ cs) l h k =
   where
     other : (b : Bool) → (c.line == l) ≡ b → (b || false) ≡ false
     other false e = refl
-    other true e = absurd (clash (is_arbitration l) k (ap is_arbitration (sym (equal c.line l e)) ∙ (or_false (is_arbitration c.line) (touches_arbitration cs) h).0))
+    other true e = absurd (clash (is_arbitration l) k (ap is_arbitration (sym (equal c.line l e))
+        ∙ (or_false (is_arbitration c.line) (touches_arbitration cs) h).0))
 
-first_none : (p : ℕ → Bool) → ((l : ℕ) → is_arbitration l ≡ false → p l ≡ false) → (cs : List Change) → touches_arbitration cs ≡ false → first_changed p cs ≡ None
+first_none : (p : ℕ → Bool) → ((l : ℕ) → is_arbitration l ≡ false → p l ≡ false) → (cs : List Change)
+    → touches_arbitration cs ≡ false → first_changed p cs ≡ None
 first_none p off [] h = refl
 first_none p off (c ∷ cs) h =
     let both = or_false (is_arbitration c.line) (touches_arbitration cs) h in
@@ -57,9 +62,12 @@ net_arbitration n h = grind (arith, nat_tests)
 pub request_arbitration : (n : ℕ) → n < 4 → is_arbitration (BR n) ≡ true
 request_arbitration n h = grind (arith, nat_tests)
 
-module _ (t : Trace) (span : Stretch) (few : t.opening.slots ≤ 21) (n : ℕ) (from : span.start ≤ n) (before : suc n < span.end) (cs : List Change) (step : levels_at t (suc n) ≡ changed (levels_at t n) cs) (fit : are_changes (levels_at t n) 0 cs ≡ true) (h : touches_arbitration cs ≡ false) where
+module _ (t : Trace) (span : Stretch) (few : t.opening.slots ≤ 21) (n : ℕ) (from : span.start ≤ n)
+    (before : suc n < span.end) (cs : List Change) (step : levels_at t (suc n) ≡ changed (levels_at t n) cs)
+    (fit : are_changes (levels_at t n) 0 cs ≡ true) (h : touches_arbitration cs ≡ false) where
   pub grants-none : grant_begins (levels_at t n) (levels_at t (suc n)) ≡ false
-  grants-none = fails-any _ 0 4 (λ i a b. falls-kept t span few n from before cs step fit (grant i 0) (untouched cs (grant i 0) h (net_arbitration i b)))
+  grants-none = fails-any _ 0 4 (λ i a b. falls-kept t span few n from before cs step fit (grant i 0)
+      (untouched cs (grant i 0) h (net_arbitration i b)))
 
   pub takes-none : falls_between (levels_at t n) (levels_at t (suc n)) BBSY ≡ false
   takes-none = falls-kept t span few n from before cs step fit BBSY (untouched cs BBSY h refl)
@@ -68,7 +76,18 @@ module _ (t : Trace) (span : Stretch) (few : t.opening.slots ≤ 21) (n : ℕ) (
   ends-none = rises-kept t span few n from before cs step fit BBSY (untouched cs BBSY h refl)
 
 -- then nothing is broken
-pub fault-none : (v w : Levels) (requests now : LevelSet) (granted : Bool) (nets : Option Fault) (grants takes ungranted ends unowned : Bool) (taken : Option BusGrant)
+pub fault-none : (v w : Levels) (requests now : LevelSet) (granted : Bool) (nets : Option Fault)
+    (grants takes ungranted ends unowned : Bool) (taken : Option BusGrant)
     → nets ≡ None → grants ≡ false → takes ≡ false → unowned ≡ false
-    → step_fault v w requests granted (record { nets = nets; requests = now; grants = grants; takes = takes; ungranted = takes && ungranted; tenure = cond takes taken None; ends = ends; unowned = unowned }) ≡ None
+    → step_fault v w requests granted (record {
+      nets = nets;
+      requests = now;
+      grants = grants;
+      takes = takes;
+      ungranted
+          = takes && ungranted;
+      tenure = cond takes taken None;
+      ends = ends;
+      unowned = unowned;
+    }) ≡ None
 fault-none v w requests now granted nets grants takes ungranted ends unowned taken a b c d = rw (a, b, c, d) refl

@@ -27,5 +27,6 @@ pub off_kind : (judged has kind edge rest : Bool) → kind ≡ false → (judged
 off_kind judged has kind edge rest h = grind (arith, nat_tests)
 
 -- on a line of that kind it is a test of the edge and one more
-pub on_kind : (judged has kind edge edge' rest rest' : Bool) → judged ≡ true → has ≡ true → kind ≡ true → edge' ≡ edge → rest' ≡ rest → (judged && has && (kind && edge && rest)) ≡ (edge' && rest')
+pub on_kind : (judged has kind edge edge' rest rest' : Bool) → judged ≡ true → has ≡ true → kind ≡ true → edge' ≡ edge
+    → rest' ≡ rest → (judged && has && (kind && edge && rest)) ≡ (edge' && rest')
 on_kind judged has kind edge edge' rest rest' j h k e r = rw (j, h, k, e, r) refl

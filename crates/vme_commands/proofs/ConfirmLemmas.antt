@@ -13,7 +13,9 @@ use Rattle.vme_listing.specs.declared.fault.ListFault.TheVariants as list
 use Rattle.vme_cert.specs.declared.compare.Answer.{Answer as Confirmation}
 use Rattle.vme_cert.specs.declared.compare.Answer.TheVariants.{Yes, No}
 use Rattle.vme_answer.specs.Answers.{CommandAnswer, AnswerGives, binding_read, dump_read, recorded_by}
-use Rattle.vme_commands.specs.Confirmations.{Confirms, GivesConfirmation, GivesRows, IsConfirmation, IsFound, IsListing, compared, compared_with, confirmation_answer_by, confirmation_status, listing_text, TellsConfirmation}
+use Rattle.vme_commands.specs.Confirmations.{Confirms, GivesConfirmation, GivesRows, IsConfirmation, IsFound, IsListing}
+use Rattle.vme_commands.specs.Confirmations.{compared, compared_with, confirmation_answer_by, confirmation_status}
+use Rattle.vme_commands.specs.Confirmations.{listing_text, TellsConfirmation}
 use Rattle.vme_answer.specs.Ends.{Tells, Ends}
 use Rattle.vme_stream.specs.Inputs.{IsInTime, IsReading, TellsWhole, longest_input}
 use Rattle.vme_answer.specs.Refusals.{listing_refusal, refused}
@@ -27,7 +29,8 @@ use Rattle.vme_answer.proofs.EndLemmas.{not_both, read_is, refusal_status-small,
 use Rattle.vme_stream.proofs.InputLemmas.{in_time}
 use Rattle.vme_trace.specs.Streams.{Reading, Writing}
 
-pub binding_lacks : (binding : Result BoundLines Refusal) (dump : Result Contents Refusal) (listing : Result Listed Refusal) (r : Refusal)
+pub binding_lacks : (binding : Result BoundLines Refusal) (dump : Result Contents Refusal)
+    (listing : Result Listed Refusal) (r : Refusal)
     → AnswerGives (λ (b : BoundLines). b) (Err r) binding → GivesConfirmation (Err r) (compared binding dump listing)
 binding_lacks binding dump listing Memory is = tt
 binding_lacks binding dump listing r is = ap (λ (w : Result BoundLines Refusal). compared w dump listing) is
@@ -40,39 +43,51 @@ compared_is : (bound : BoundLines) (dump : Result Contents Refusal) (listing : R
 compared_is bound (Ok contents) listing = refl
 compared_is bound (Err r) listing = refl
 
-pub dump_recorded : (bound : BoundLines) (dump : Result Contents Refusal) (listing : Result Listed Refusal) (recorded : Result Trace BindFault)
-    (found : Result Confirmation Refusal) → recorded_by bound dump ≡ Ok recorded → GivesConfirmation found (compared_with recorded listing)
+pub dump_recorded : (bound : BoundLines) (dump : Result Contents Refusal) (listing : Result Listed Refusal)
+    (recorded : Result Trace BindFault)
+    (found : Result Confirmation Refusal) → recorded_by bound dump ≡ Ok recorded → GivesConfirmation found
+    (compared_with recorded listing)
     → GivesConfirmation found (compared (Ok bound) dump listing)
 dump_recorded bound dump listing recorded found is given =
     let same : compared (Ok bound) dump listing ≡ compared_with recorded listing =
-    compared_is bound dump listing ∙ ap (λ (w : Result (Result Trace BindFault) Refusal). w >>= with_listing listing) is in
+    compared_is bound dump listing ∙ ap (λ (w : Result (Result Trace BindFault) Refusal). w >>= with_listing listing)
+    is in
     subst (GivesConfirmation found) (sym same) given
 
 pub dump_lacks : (bound : BoundLines) (dump : Result Contents Refusal) (listing : Result Listed Refusal) (r : Refusal)
-    → AnswerGives (λ (recorded : Result Trace BindFault). recorded) (Err r) (recorded_by bound dump) → GivesConfirmation (Err r) (compared (Ok bound) dump listing)
+    → AnswerGives (λ (recorded : Result Trace BindFault). recorded) (Err r) (recorded_by bound dump) → GivesConfirmation
+    (Err r) (compared (Ok bound) dump listing)
 dump_lacks bound dump listing Memory is = tt
-dump_lacks bound dump listing r is = compared_is bound dump listing ∙ ap (λ (w : Result (Result Trace BindFault) Refusal). w >>= with_listing listing) is
+dump_lacks bound dump listing r is = compared_is bound dump listing
+    ∙ ap (λ (w : Result (Result Trace BindFault) Refusal). w >>= with_listing listing) is
 
-pub listing_lacks : (recorded : Result Trace BindFault) (r : Refusal) → GivesConfirmation (Err r) (compared_with recorded (Err r))
+pub listing_lacks : (recorded : Result Trace BindFault) (r : Refusal) → GivesConfirmation (Err r)
+    (compared_with recorded (Err r))
 listing_lacks recorded Memory = tt
 listing_lacks recorded r = refl
 
 -- a text that is no listing's has its first fault
-pub listing_fault : (text : List ℕ) (fault : ListFault) → IsFirstFault text fault → IsNoListing text fault → GivesRows (Ok text) (Err (listing_refusal fault))
+pub listing_fault : (text : List ℕ) (fault : ListFault) → IsFirstFault text fault → IsNoListing text fault
+    → GivesRows (Ok text) (Err (listing_refusal fault))
 listing_fault text list.BadHeader first none = (list.BadHeader, refl, first, none)
 listing_fault text (list.BadRow row) first none = (list.BadRow row, refl, first, none)
 listing_fault text (list.Unsorted row) first none = (list.Unsorted row, refl, first, none)
 listing_fault text list.Memory first none = tt
 
-pub listing_refused : {A : Type 0} (old new : Reading) (result : Result A InFault) (fault : InFault) → result ≡ Err fault
+pub listing_refused : {A : Type 0} (old new : Reading) (result : Result A InFault) (fault : InFault) → result
+    ≡ Err fault
     → (result ≡ Err read.Read → IsReading old new None)
     → (result ≡ Err read.TooLong → (bytes : List ℕ) × (longest_input < length bytes) × IsReading old new (Some bytes))
     → (result ≡ Err read.Memory → IsInTime old new)
     → (bytes : Option (List ℕ)) × IsReading old new bytes × GivesRows (listing_text bytes) (Err (refused Listing fault))
 listing_refused old new result read.Read is cannot long memory = (None, cannot is, refl)
 listing_refused old new result read.TooLong is cannot long memory =
-    let found = long is in
-    (Some found.0, found.2, subst (λ (w : Result (List ℕ) Refusal). GivesRows w (Err (TooLong Listing))) (sym (too_long_is Listing found.0 found.1)) refl)
+    let found = long is in (
+      Some found.0,
+      found.2,
+      subst (λ (w : Result (List ℕ) Refusal). GivesRows w (Err (TooLong Listing)))
+          (sym (too_long_is Listing found.0 found.1)) refl,
+    )
 listing_refused old new result read.Memory is cannot long memory =
     let left = in_time old new (memory is) in
     (left.0, left.1, tt)
@@ -85,15 +100,29 @@ confirmation_answer_by-small : (found : Result Confirmation Refusal) → (confir
 confirmation_answer_by-small (Ok found) = confirmation_status-small found
 confirmation_answer_by-small (Err r) = refusal_status-small r
 
-pub Confirms-unwritten : (binding dump listing : Reading × Reading) (out err : Writing × Writing) (status : ℕ) → Confirms binding dump listing out err status
+pub Confirms-unwritten : (binding dump listing : Reading × Reading) (out err : Writing × Writing) (status : ℕ)
+    → Confirms binding dump listing out err status
     → (status ≡ 5) ↔ (out.1.failures ≡ suc out.0.failures)
 Confirms-unwritten binding dump listing out err status confirms =
-    let (binding_bytes, dump_bytes, listing_bytes, given, found, binding_read, dump_read, listing_read, rows, answered, end) = confirms in
+    let (
+      binding_bytes,
+      dump_bytes,
+      listing_bytes,
+      given,
+      found,
+      binding_read,
+      dump_read,
+      listing_read,
+      rows,
+      answered,
+      end,
+    ) = confirms in
     unwritten_by confirmation_answer_by confirmation_answer_by-small found out err status end
 
 -- ---- the exact answer
 
-is_found : (found : Result Confirmation Refusal) (said : Result (Listed × Trace) Refusal) → (found ≡ Err Memory → ⊥) → GivesConfirmation found said
+is_found : (found : Result Confirmation Refusal) (said : Result (Listed × Trace) Refusal) → (found ≡ Err Memory → ⊥)
+    → GivesConfirmation found said
     → IsFound found said
 is_found (Ok answer) said memory given = given
 is_found (Err Memory) said memory given = absurd (memory refl)
@@ -105,41 +134,69 @@ refused_alike (Err q) r is =
     let same : r ≡ q = cc is in
     ap (λ (w : Refusal). Err w) (sym same)
 
-is_listing : (text : Result (List ℕ) Refusal) (given : Result Listed Refusal) → (given ≡ Err Memory → ⊥) → GivesRows text given → IsListing text given
+is_listing : (text : Result (List ℕ) Refusal) (given : Result Listed Refusal) → (given ≡ Err Memory → ⊥)
+    → GivesRows text given → IsListing text given
 is_listing text (Ok rows) memory is = is
 is_listing text (Err Memory) memory is = absurd (memory refl)
 is_listing text (Err r) memory is = is
 
-is_confirmation : (binding : Result BoundLines Refusal) (dump : Result Contents Refusal) (text : Result (List ℕ) Refusal) (given : Result Listed Refusal)
-    (found : Result Confirmation Refusal) → (found ≡ Err Memory → ⊥) → GivesRows text given → GivesConfirmation found (compared binding dump given)
+is_confirmation : (binding : Result BoundLines Refusal) (dump : Result Contents Refusal)
+    (text : Result (List ℕ) Refusal) (given : Result Listed Refusal)
+    (found : Result Confirmation Refusal) → (found ≡ Err Memory → ⊥) → GivesRows text given → GivesConfirmation found
+    (compared binding dump given)
     → IsConfirmation binding dump text found
 is_confirmation (Err r) dump text given found memory rows is = refused_alike found r (is_found found (Err r) memory is)
-is_confirmation (Ok bound) (Err r) text given found memory rows is = refused_alike found r (is_found found (Err r) memory is)
+is_confirmation (Ok bound) (Err r) text given found memory rows is = refused_alike found r
+    (is_found found (Err r) memory is)
 is_confirmation (Ok bound) (Ok contents) text given found memory rows is =
-    let said : IsFound found (compared (Ok bound) (Ok contents) given) = is_found found (compared (Ok bound) (Ok contents) given) memory is in
+    let said : IsFound found (compared (Ok bound) (Ok contents) given) = is_found found
+    (compared (Ok bound) (Ok contents) given) memory is in
     let none : (given ≡ Err Memory → ⊥) =
-    λ lacks. memory (refused_alike found Memory (subst (λ (g : Result Listed Refusal). IsFound found (compared (Ok bound) (Ok contents) g)) lacks said)) in
+    λ lacks. memory
+    (refused_alike found Memory
+    (subst (λ (g : Result Listed Refusal). IsFound found (compared (Ok bound) (Ok contents) g)) lacks said)) in
     (given, none, is_listing text given none rows, said)
 
-was_told : (answer : CommandAnswer) (out err : Writing × Writing) (status : ℕ) → Ends answer out err status → out.1.failures ≡ out.0.failures → Tells answer out err status
+was_told : (answer : CommandAnswer) (out err : Writing × Writing) (status : ℕ) → Ends answer out err status
+    → out.1.failures ≡ out.0.failures → Tells answer out err status
 was_told answer out err status (inl told) same = told
 was_told answer out err status (inr failed) same = absurd (not_both out.1.failures out.0.failures same failed.out_is.1)
 
 -- inputs that are told whole, and no failure, give exactly their answer
-pub Confirms-exact : (binding dump listing : Reading × Reading) (out err : Writing × Writing) (status : ℕ) → Confirms binding dump listing out err status
-    → (b d l : List ℕ) → TellsWhole binding.0 binding.1 b → TellsWhole dump.0 dump.1 d → TellsWhole listing.0 listing.1 l
+pub Confirms-exact : (binding dump listing : Reading × Reading) (out err : Writing × Writing) (status : ℕ)
+    → Confirms binding dump listing out err status
+    → (b d l : List ℕ) → TellsWhole binding.0 binding.1 b → TellsWhole dump.0 dump.1 d → TellsWhole listing.0 listing.1
+    l
     → out.1.failures ≡ out.0.failures → (status ≡ 4 → ⊥)
     → TellsConfirmation b d l out err status
 Confirms-exact binding dump listing out err status confirms b d l told_b told_d told_l same memory =
-    let (binding_bytes, dump_bytes, listing_bytes, given, found, binding_reading, dump_reading, listing_reading, rows, answered, end) = confirms in
-    let told : Tells (confirmation_answer_by found) out err status = was_told (confirmation_answer_by found) out err status end same in
+    let (
+      binding_bytes,
+      dump_bytes,
+      listing_bytes,
+      given,
+      found,
+      binding_reading,
+      dump_reading,
+      listing_reading,
+      rows,
+      answered,
+      end,
+    ) = confirms in
+    let told : Tells (confirmation_answer_by found) out err status = was_told (confirmation_answer_by found) out err
+    status end same in
     let none : (found ≡ Err Memory → ⊥) =
-    λ lacks. memory (told.status_is ∙ ap (λ (f : Result Confirmation Refusal). (confirmation_answer_by f).status) lacks) in
-    let is = is_confirmation (binding_read binding_bytes) (dump_read dump_bytes) (listing_text listing_bytes) given found none rows answered in
+    λ lacks. memory (told.status_is ∙ ap (λ (f : Result Confirmation Refusal). (confirmation_answer_by f).status) lacks)
+    in
+    let is = is_confirmation (binding_read binding_bytes) (dump_read dump_bytes) (listing_text listing_bytes) given
+    found none rows answered in
     let b_is : binding_bytes ≡ Some b = read_is binding.0 binding.1 binding_bytes b binding_reading told_b in
     let d_is : dump_bytes ≡ Some d = read_is dump.0 dump.1 dump_bytes d dump_reading told_d in
     let l_is : listing_bytes ≡ Some l = read_is listing.0 listing.1 listing_bytes l listing_reading told_l in
-    let with_b = subst (λ (x : Option (List ℕ)). IsConfirmation (binding_read x) (dump_read dump_bytes) (listing_text listing_bytes) found) b_is is in
-    let with_d = subst (λ (x : Option (List ℕ)). IsConfirmation (binding_read (Some b)) (dump_read x) (listing_text listing_bytes) found) d_is with_b in
-    let with_l = subst (λ (x : Option (List ℕ)). IsConfirmation (binding_read (Some b)) (dump_read (Some d)) (listing_text x) found) l_is with_d in
+    let with_b = subst (λ (x : Option (List ℕ)). IsConfirmation (binding_read x) (dump_read dump_bytes)
+    (listing_text listing_bytes) found) b_is is in
+    let with_d = subst (λ (x : Option (List ℕ)). IsConfirmation (binding_read (Some b)) (dump_read x)
+    (listing_text listing_bytes) found) d_is with_b in
+    let with_l = subst (λ (x : Option (List ℕ)). IsConfirmation (binding_read (Some b)) (dump_read (Some d))
+    (listing_text x) found) l_is with_d in
     (found, with_l, told)

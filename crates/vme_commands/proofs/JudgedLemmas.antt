@@ -25,31 +25,38 @@ module _ {X : Type 0} (t : Trace) (block : ℕ) (r : Result X NoVerdict)
   -- a recording that is judged
   pub judged-fits : (x : X) → r ≡ Ok x → limited_in_blocks block t ≡ Ok t
   judged-fits x is =
-      let short : length t.steps ≤ capture_limit = at_most capture_limit (length t.steps) (λ over. let no = long.1 over in absurd (cc)) in
-      let few : block_count block t ≤ 4096 = at_most 4096 (block_count block t) (λ over. let no = many.1 (short, over) in absurd (cc)) in
+      let short : length t.steps ≤ capture_limit = at_most capture_limit (length t.steps)
+      (λ over. let no = long.1 over in absurd (cc)) in
+      let few : block_count block t ≤ 4096 = at_most 4096 (block_count block t)
+      (λ over. let no = many.1 (short, over) in absurd (cc)) in
       rw (le-ltb capture_limit (length t.steps) short) (rw (le-ltb 4096 (block_count block t) few) refl)
 
   -- and why one isn't
-  pub judged-refused : (why : NoVerdict) → r ≡ Err why → AnswerGives (λ (t : Trace). t) (Err (judging_refusal why)) (limited_in_blocks block t)
+  pub judged-refused : (why : NoVerdict) → r ≡ Err why → AnswerGives (λ (t : Trace). t) (Err (judging_refusal why))
+      (limited_in_blocks block t)
   judged-refused TooManySteps is = rw (lt-ltb capture_limit (length t.steps) (long.0 is)) refl
   judged-refused TooManyBlocks is =
       let (short, over) = many.0 is in
       rw (le-ltb capture_limit (length t.steps) short) (rw (lt-ltb 4096 (block_count block t) over) refl)
   judged-refused Memory is = tt
 
-verdict_in : (block : ℕ) (r : Result Trace Refusal) → (r >>= verdict_in_blocks block) ≡ ((r >>= in_blocks block) >>= λ t. Ok (verdict_by rules_in_force t))
+verdict_in : (block : ℕ) (r : Result Trace Refusal) → (r >>= verdict_in_blocks block)
+    ≡ ((r >>= in_blocks block) >>= λ t. Ok (verdict_by rules_in_force t))
 verdict_in block (Err r) = refl
 verdict_in block (Ok t) = by_test (nat_lt 4096 (block_count block t))
   where
     by_test : (test : Bool)
         → (if test then Err refusal.TooManyBlocks else Ok (verdict_by rules_in_force t))
-        ≡ ((let cut : Result Trace Refusal = if test then Err refusal.TooManyBlocks else Ok t in cut) >>= λ t. Ok (verdict_by rules_in_force t))
+        ≡ ((let cut : Result Trace Refusal = if test then Err refusal.TooManyBlocks else Ok t in cut) >>= λ t. Ok
+        (verdict_by rules_in_force t))
     by_test true = refl
     by_test false = refl
 
 -- the verdict on the recording that a binding makes of a dump
-pub judgement_of-recorded : (binding dump : Option (List ℕ)) (block : ℕ) (t : Trace) → recording_read binding dump ≡ Ok t
+pub judgement_of-recorded : (binding dump : Option (List ℕ)) (block : ℕ) (t : Trace) → recording_read binding dump
+    ≡ Ok t
     → judgement_of binding dump block ≡ judged_in_blocks block t
 unfolding judgement_of
 judgement_of-recorded binding dump block t is =
-    ap (λ (r : Result Trace Refusal). r >>= verdict_in_blocks block) (capture_read-recorded binding dump t is) ∙ verdict_in block (or_bad_binding _)
+    ap (λ (r : Result Trace Refusal). r >>= verdict_in_blocks block) (capture_read-recorded binding dump t is)
+    ∙ verdict_in block (or_bad_binding _)

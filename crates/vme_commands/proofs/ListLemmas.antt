@@ -1,5 +1,6 @@
 -- How a listing ends, and what the steps of listing give.
-use Rattle.std.proofs.Common.{◌≡◌, ◌≤◌, ◌↔◌, ℕ, suc, Bool, true, false, List, [], ◌∷◌, ◌++◌, ◌-◌, length, take, refl, ap, subst, ◌∙◌, arith}
+use Rattle.std.proofs.Common.{◌≡◌, ◌≤◌, ◌↔◌, ℕ, suc, Bool, true, false, List, [], ◌∷◌, ◌++◌, ◌-◌, length, take, refl}
+use Rattle.std.proofs.Common.{ap, subst, ◌∙◌, arith}
 use Rattle.std.specs.Io.KnownBytes.{Appends}
 use Rattle.std.specs.Prelude.{Option, Some, None, Result, Ok, Err, flat_map, slice_get, if◌then◌else◌}
 use Rattle.std.specs.List.{last_or}
@@ -23,13 +24,15 @@ use Rattle.vme_answer.specs.Answers.{AnswerGives, capture_read, recording_read}
 use Rattle.vme_answer.specs.Ends.{Tells}
 use Rattle.vme_answer.specs.Texts.{verdict_status}
 use Rattle.vme_answer.proofs.AnswerLemmas.{capture_read-recorded}
-use Rattle.vme_answer.proofs.EndLemmas.{Does-exact, Does-unwritten, given_is, refusal_status-small, verdict_status-small}
+use Rattle.vme_answer.proofs.EndLemmas.{Does-exact, Does-unwritten, given_is, refusal_status-small}
+use Rattle.vme_answer.proofs.EndLemmas.{verdict_status-small}
 use Rattle.vme_listing.specs.Written.{AppendsFront}
 use Rattle.vme_stream.specs.Inputs.{TellsWhole}
 use Rattle.vme_trace.specs.Streams.{Reading, Writing}
 use Rattle.vme_stream.proofs.OutputLemmas.{front_is}
 use Rattle.vme_commands.specs.Judged.{in_blocks, limited_in_blocks}
-use Rattle.vme_commands.specs.Listings.{GivesListing, WritesListing, listing_answer_by, listing_answer_of, listing_status, outcome_status, recording_of, row_status, rows_status}
+use Rattle.vme_commands.specs.Listings.{GivesListing, WritesListing, listing_answer_by, listing_answer_of}
+use Rattle.vme_commands.specs.Listings.{listing_status, outcome_status, recording_of, row_status, rows_status}
 
 -- ---- the status
 
@@ -37,7 +40,8 @@ last_is : (o : Option Row) (rows : List Row) (row : Row) → last_or o (rows ++ 
 last_is o [] row = refl
 last_is o (r ∷ rows) row = last_is (Some r) rows row
 
-last_or-get : (o : Option Row) (row : Row) (rows : List Row) → last_or o (row ∷ rows) ≡ slice_get (row ∷ rows) (length rows)
+last_or-get : (o : Option Row) (row : Row) (rows : List Row) → last_or o (row ∷ rows) ≡ slice_get (row ∷ rows)
+    (length rows)
 last_or-get o row [] = refl
 last_or-get o row (next ∷ rows) = last_or-get (Some row) next rows
 
@@ -49,7 +53,8 @@ last_of [] = refl
 last_of (row ∷ rows) = last_or-get None row rows ∙ ap (slice_get (row ∷ rows)) (less_one (length rows))
 
 status_by : (b : Break) (unreadable : Bool)
-    → outcome_status (if unreadable then outcome.Unreadable b.rule b.instant b.line else outcome.Broken b.rule b.instant b.line)
+    → outcome_status (if unreadable then outcome.Unreadable b.rule b.instant b.line else outcome.Broken b.rule b.instant
+    b.line)
     ≡ verdict_status (if unreadable then verdict.Unreadable b else verdict.Broken b)
 status_by b true = refl
 status_by b false = refl
@@ -66,7 +71,8 @@ status_over : (t : Trace) (spans : List Stretch)
 status_over t [] = refl
 status_over t (span ∷ spans) =
     let found : Option Break = least_of all_rules t (span ∷ spans) in
-    ap status_of_last (last_is None (flat_map (rows_of_span t (listed_end t found)) (span ∷ spans)) (Verdict (outcome_of found)))
+    ap status_of_last (last_is None (flat_map (rows_of_span t (listed_end t found)) (span ∷ spans))
+    (Verdict (outcome_of found)))
     ∙ status_on found
 
 -- a listing ends with the status of the verdict
@@ -76,40 +82,49 @@ listing_status-is t = status_over t (judged_spans t)
 
 -- ---- what is given
 
-pub recording_of-refused : (binding dump : Option (List ℕ)) (block : ℕ) (r : Refusal) → AnswerGives (λ (t : Trace). t) (Err r) (capture_read binding dump)
+pub recording_of-refused : (binding dump : Option (List ℕ)) (block : ℕ) (r : Refusal) → AnswerGives (λ (t : Trace). t)
+    (Err r) (capture_read binding dump)
     → GivesListing (Err r) (recording_of binding dump block)
 unfolding recording_of
 recording_of-refused binding dump block Memory is = tt
 recording_of-refused binding dump block r is = ap (λ (w : Result Trace Refusal). w >>= in_blocks block) is
 
-pub recording_of-recorded : (binding dump : Option (List ℕ)) (block : ℕ) (t : Trace) → recording_read binding dump ≡ Ok t
+pub recording_of-recorded : (binding dump : Option (List ℕ)) (block : ℕ) (t : Trace) → recording_read binding dump
+    ≡ Ok t
     → recording_of binding dump block ≡ limited_in_blocks block t
 unfolding recording_of
-recording_of-recorded binding dump block t is = ap (λ (w : Result Trace Refusal). w >>= in_blocks block) (capture_read-recorded binding dump t is)
+recording_of-recorded binding dump block t is = ap (λ (w : Result Trace Refusal). w >>= in_blocks block)
+    (capture_read-recorded binding dump t is)
 
-pub refused_listing : (r : Refusal) (recording : Result Trace Refusal) → AnswerGives (λ (t : Trace). t) (Err r) recording → GivesListing (Err r) recording
+pub refused_listing : (r : Refusal) (recording : Result Trace Refusal) → AnswerGives (λ (t : Trace). t) (Err r)
+    recording → GivesListing (Err r) recording
 refused_listing Memory recording given = tt
 refused_listing r recording given = given
 
-pub given_refusal : (r : Refusal) (recording : Result Trace Refusal) → GivesListing (Err r) recording → AnswerGives (λ (t : Trace). t) (Err r) recording
+pub given_refusal : (r : Refusal) (recording : Result Trace Refusal) → GivesListing (Err r) recording
+    → AnswerGives (λ (t : Trace). t) (Err r) recording
 given_refusal Memory recording given = tt
 given_refusal r recording given = given
 
 -- ---- what was written
 
 -- of a text of which a front was taken, the first bytes were
-pub front_taken : (old new : Option (List ℕ)) (text : List ℕ) → AppendsFront old new text → (n : ℕ) × Appends old new (take n text)
+pub front_taken : (old new : Option (List ℕ)) (text : List ℕ) → AppendsFront old new text → (n : ℕ) × Appends old new
+    (take n text)
 front_taken old new text took =
     let (front, rest, split, appended) = took in
     (length front, subst (λ (bytes : List ℕ). Appends old new bytes) (front_is text front rest split) appended)
 
 -- what was written of a listing was written of what is equal to it
-pub whole_written : (old new : Option (List ℕ)) (listing same : Listed) → listing ≡ same → Appends old new (text_of listing) → Appends old new (text_of same)
+pub whole_written : (old new : Option (List ℕ)) (listing same : Listed) → listing ≡ same → Appends old new
+    (text_of listing) → Appends old new (text_of same)
 whole_written old new listing same is took = subst (λ (l : Listed). Appends old new (text_of l)) is took
 
-pub front_written : (old new : Option (List ℕ)) (listing same : Listed) → listing ≡ same → AppendsFront old new (text_of listing)
+pub front_written : (old new : Option (List ℕ)) (listing same : Listed) → listing ≡ same → AppendsFront old new
+    (text_of listing)
     → (n : ℕ) × Appends old new (take n (text_of same))
-front_written old new listing same is took = front_taken old new (text_of same) (subst (λ (l : Listed). AppendsFront old new (text_of l)) is took)
+front_written old new listing same is took = front_taken old new (text_of same)
+    (subst (λ (l : Listed). AppendsFront old new (text_of l)) is took)
 
 -- ---- how it ends
 
@@ -120,14 +135,18 @@ listing_answer_by-small (Err r) = refusal_status-small r
 abbrev MayList : ℕ → Option (List ℕ) → Option (List ℕ) → Result Trace Refusal → Type 0
 MayList block b d recording = AnswerGives (λ (t : Trace). t) recording (recording_of b d block)
 
-pub WritesListing-unwritten : (binding dump : Reading × Reading) (block : ℕ) (out err : Writing × Writing) (status : ℕ) → WritesListing binding dump block out err status
+pub WritesListing-unwritten : (binding dump : Reading × Reading) (block : ℕ) (out err : Writing × Writing) (status : ℕ)
+    → WritesListing binding dump block out err status
     → (status ≡ 5) ↔ (out.1.failures ≡ suc out.0.failures)
-WritesListing-unwritten binding dump block out err status = Does-unwritten listing_answer_by listing_answer_by-small (MayList block) binding dump out err status
+WritesListing-unwritten binding dump block out err status = Does-unwritten listing_answer_by listing_answer_by-small
+    (MayList block) binding dump out err status
 
-pub WritesListing-exact : (binding dump : Reading × Reading) (block : ℕ) (out err : Writing × Writing) (status : ℕ) → WritesListing binding dump block out err status
+pub WritesListing-exact : (binding dump : Reading × Reading) (block : ℕ) (out err : Writing × Writing) (status : ℕ)
+    → WritesListing binding dump block out err status
     → (b d : List ℕ) → TellsWhole binding.0 binding.1 b → TellsWhole dump.0 dump.1 d
     → out.1.failures ≡ out.0.failures → (status ≡ 4 → ⊥)
     → Tells (listing_answer_of (Some b) (Some d) block) out err status
 WritesListing-exact binding dump block out err status lists b d =
-    Does-exact listing_answer_by listing_answer_by-small (MayList block) binding dump out err status lists b d (listing_answer_of (Some b) (Some d) block)
+    Does-exact listing_answer_by listing_answer_by-small (MayList block) binding dump out err status lists b d
+    (listing_answer_of (Some b) (Some d) block)
     (λ found. given_is listing_answer_by refl found (recording_of (Some b) (Some d) block))

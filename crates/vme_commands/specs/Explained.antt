@@ -7,7 +7,8 @@ use Rattle.vme_trace.specs.Streams.{Reading, Writing}
 use Rattle.vme_trace.specs.declared.verdict.Verdict.{Verdict}
 use Rattle.vme_commands.specs.declared.explain.Explained.{Explained}
 use Rattle.vme_answer.specs.declared.refusal.Refusal.{Refusal}
-use Rattle.vme_answer.specs.Answers.{CommandAnswer, AnswerGives, capture_by, judgement_of, refusal_answer, verdict_in_blocks}
+use Rattle.vme_answer.specs.Answers.{CommandAnswer, AnswerGives, capture_by, judgement_of, refusal_answer}
+use Rattle.vme_answer.specs.Answers.{verdict_in_blocks}
 use Rattle.vme_answer.specs.Ends.{Ends}
 use Rattle.vme_stream.specs.Inputs.{IsReading}
 use Rattle.vme_answer.specs.Texts.{line_of, verdict_status, verdict_text}

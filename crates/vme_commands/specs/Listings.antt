@@ -78,7 +78,8 @@ abbrev pub listing_answer_of : Option (List ℕ) → Option (List ℕ) → ℕ �
 listing_answer_of binding dump block = listing_answer_by (recording_of binding dump block)
 
 -- what the inputs say is listed, unless there was no memory
-abbrev pub WritesListing : Reading × Reading → Reading × Reading → ℕ → Writing × Writing → Writing × Writing → ℕ → Type 0
+abbrev pub WritesListing : Reading × Reading → Reading × Reading → ℕ → Writing × Writing → Writing × Writing → ℕ
+    → Type 0
 WritesListing binding dump block out err status =
     Does listing_answer_by (λ b d recording. AnswerGives (λ t. t) recording (recording_of b d block))
     binding dump out err status

@@ -3,7 +3,8 @@
 ghost use Rattle.std.specs.Prelude.{◌≡◌, ◌++◌, ℕ, List, Option, IfOk, Result};
 ghost use Rattle.vcd_read.specs.Meaning.{dump_of};
 ghost use Rattle.vme_bind.specs.Binding.{binding_of};
-ghost use Rattle.vme_answer.specs.Answers.{AnswerGives, binding_read, dump_read, judgement_of, or_bad_binding, or_bad_dump};
+ghost use Rattle.vme_answer.specs.Answers.{AnswerGives, binding_read, dump_read, judgement_of, or_bad_binding};
+ghost use Rattle.vme_answer.specs.Answers.{or_bad_dump};
 ghost use Rattle.vme_answer.specs.Answers.{verdict_in_blocks};
 ghost use Rattle.vme_commands.specs.Explained.{BeginsWithLine, BeginsWithVerdict, Explains, judged_by};
 ghost use Rattle.vme_stream.specs.Inputs.{IsReading};

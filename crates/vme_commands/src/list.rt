@@ -7,7 +7,8 @@ ghost use Rattle.vme_trace.specs.WellFormed.{malformed_step};
 ghost use Rattle.vme_answer.specs.Ends.{Ends, Tells};
 ghost use Rattle.vme_stream.specs.Inputs.{IsReading, TellsWhole};
 ghost use Rattle.vme_commands.specs.Judged.{limited_in_blocks};
-ghost use Rattle.vme_commands.specs.Listings.{GivesListing, WritesListing, listing_answer_by, listing_answer_of, recording_of};
+ghost use Rattle.vme_commands.specs.Listings.{GivesListing, WritesListing, listing_answer_by, listing_answer_of};
+ghost use Rattle.vme_commands.specs.Listings.{recording_of};
 ghost use Rattle.vme_commands.specs.Listings.{listing_status, outcome_status, row_status, WritesSplit};
 
 use crate::judged_dump::judged_dump;

@@ -11,7 +11,7 @@ use std::thread::Threads;
 use vme_bind::{CaptureFault, TextPieces};
 use vme_summary::chunk_judge::ChunkJudge;
 use vme_summary::stream_judge::StreamJudge;
-use vme_waves::{Speculation, read_by_workers};
+use vme_text_workers::{Speculation, read_by_workers};
 
 /// How many bytes of a dump one worker looks at together, where that is enough for its definitions and its longest
 /// word.

@@ -22,10 +22,14 @@ bits_of Filed = record { sum = omega arith; filed = omega arith; taken = omega a
 bits_of Taken = record { sum = omega arith; filed = omega arith; taken = omega arith; claimed = omega arith }
 
 -- what was seen is no more than there is, where each of the three was seen truly
-pub seen_below : (t f c : ℕ) (x : Stage) → (0 < c → claimed_bit x ≡ 1) → (0 < f → filed_bit x ≡ 1) → (0 < t → taken_bit x ≡ 1) → rank (stage_of t f c) ≤ rank x
-seen_below (suc t) f c x h_claimed h_filed h_taken = let b = bits_of x in omega (arith, h_taken (omega arith), b.sum, b.filed, b.taken)
-seen_below zero (suc f) c x h_claimed h_filed h_taken = let b = bits_of x in omega (arith, h_filed (omega arith), b.sum, b.filed)
-seen_below zero zero (suc c) x h_claimed h_filed h_taken = let b = bits_of x in omega (arith, h_claimed (omega arith), b.sum)
+pub seen_below : (t f c : ℕ) (x : Stage) → (0 < c → claimed_bit x ≡ 1) → (0 < f → filed_bit x ≡ 1)
+    → (0 < t → taken_bit x ≡ 1) → rank (stage_of t f c) ≤ rank x
+seen_below (suc t) f c x h_claimed h_filed h_taken = let b = bits_of x in
+    omega (arith, h_taken (omega arith), b.sum, b.filed, b.taken)
+seen_below zero (suc f) c x h_claimed h_filed h_taken = let b = bits_of x in
+    omega (arith, h_filed (omega arith), b.sum, b.filed)
+seen_below zero zero (suc c) x h_claimed h_filed h_taken = let b = bits_of x in
+    omega (arith, h_claimed (omega arith), b.sum)
 seen_below zero zero zero x h_claimed h_filed h_taken = omega arith
 
 -- the stage at which a bench has seen a number, by what it has seen
@@ -45,7 +49,8 @@ module _ (v : View) (n : ℕ) where
       by_filed zero (suc f) e h = refl
       by_filed (suc t) (suc f) e h = absurd (omega arith)
 
-  pub seen_claimed : occurrences n v.taken ≡ 0 → occurrences n v.filed ≡ 0 → 0 < occurrences n v.claimed → seen v n ≡ Claimed
+  pub seen_claimed : occurrences n v.taken ≡ 0 → occurrences n v.filed ≡ 0 → 0 < occurrences n v.claimed → seen v n
+      ≡ Claimed
   seen_claimed = by_claimed (occurrences n v.taken) (occurrences n v.filed) (occurrences n v.claimed)
     where
       by_claimed : (t f c : ℕ) → t ≡ 0 → f ≡ 0 → 0 < c → stage_of t f c ≡ Claimed
@@ -85,7 +90,8 @@ pub seen_claimed_or_more : (v : View) (n : ℕ) → 0 < occurrences n v.claimed 
 seen_claimed_or_more v n = rank_claimed (occurrences n v.taken) (occurrences n v.filed) (occurrences n v.claimed)
 
 -- what was seen neither filed nor taken
-pub seen_less_than_filed : (v : View) (n : ℕ) → occurrences n v.filed ≡ 0 → occurrences n v.taken ≡ 0 → rank (seen v n) < 2
+pub seen_less_than_filed : (v : View) (n : ℕ) → occurrences n v.filed ≡ 0 → occurrences n v.taken ≡ 0 → rank (seen v n)
+    < 2
 seen_less_than_filed v n = by_none (occurrences n v.taken) (occurrences n v.filed) (occurrences n v.claimed)
   where
     by_none : (t f c : ℕ) → f ≡ 0 → t ≡ 0 → rank (stage_of t f c) < 2
@@ -102,7 +108,9 @@ stage_grows zero zero (suc c) t' f' c' a b d = rank_claimed t' f' c' (omega arit
 stage_grows zero zero zero t' f' c' a b d = omega arith
 
 pub seen_grows : (v w : View) (n : ℕ) → SeesMore v w → rank (seen v n) ≤ rank (seen w n)
-seen_grows v w n more = stage_grows (occurrences n v.taken) (occurrences n v.filed) (occurrences n v.claimed) (occurrences n w.taken) (occurrences n w.filed) (occurrences n w.claimed) (more.taken n) (more.filed n) (more.claimed n)
+seen_grows v w n more = stage_grows (occurrences n v.taken) (occurrences n v.filed) (occurrences n v.claimed)
+    (occurrences n w.taken) (occurrences n w.filed) (occurrences n w.claimed) (more.taken n) (more.filed n)
+    (more.claimed n)
 
 rank_at_most : (t f c k : ℕ) → (0 < t → 3 ≤ k) → (0 < f → 2 ≤ k) → (0 < c → 1 ≤ k) → rank (stage_of t f c) ≤ k
 rank_at_most (suc t) f c k a b d = a (omega arith)
@@ -117,12 +125,44 @@ one_of (suc a) b sum is some = inl (omega arith)
 -- one bench for two sees the greater of what they saw
 pub seen-joint_view : (v w : View) (n : ℕ) → rank (seen (joint_view v w) n) ≡ max (rank (seen v n)) (rank (seen w n))
 seen-joint_view v w n =
-    let left : SeesMore v (joint_view v w) = record { found = λ d. omega (arith, occurrences-append d v.found w.found); claimed = λ d. omega (arith, occurrences-append d v.claimed w.claimed); filed = λ d. omega (arith, occurrences-append d v.filed w.filed); taken = λ d. omega (arith, occurrences-append d v.taken w.taken) } in
-    let right : SeesMore w (joint_view v w) = record { found = λ d. omega (arith, occurrences-append d v.found w.found); claimed = λ d. omega (arith, occurrences-append d v.claimed w.claimed); filed = λ d. omega (arith, occurrences-append d v.filed w.filed); taken = λ d. omega (arith, occurrences-append d v.taken w.taken) } in
-    let k : ℕ = max (rank (seen v n)) (rank (seen w n)) in let a = le-max_left (rank (seen v n)) (rank (seen w n)) in let b = le-max_right (rank (seen v n)) (rank (seen w n)) in
+    let left : SeesMore v (joint_view v w) = record {
+      found = λ d. omega (arith, occurrences-append d v.found w.found);
+      claimed = λ d. omega (arith, occurrences-append d v.claimed w.claimed);
+      filed = λ d. omega
+          (arith, occurrences-append d v.filed w.filed);
+      taken = λ d. omega (arith, occurrences-append d v.taken w.taken);
+    }
+    in
+    let right : SeesMore w (joint_view v w) = record {
+      found = λ d. omega (arith, occurrences-append d v.found w.found);
+      claimed = λ d. omega (arith, occurrences-append d v.claimed w.claimed);
+      filed = λ d. omega
+          (arith, occurrences-append d v.filed w.filed);
+      taken = λ d. omega (arith, occurrences-append d v.taken w.taken);
+    }
+    in
+    let k : ℕ = max (rank (seen v n)) (rank (seen w n)) in let a = le-max_left (rank (seen v n)) (rank (seen w n)) in
+    let b = le-max_right (rank (seen v n)) (rank (seen w n)) in
     let u : View = joint_view v w in
-    let most : rank (seen u n) ≤ k = rank_at_most (occurrences n u.taken) (occurrences n u.filed) (occurrences n u.claimed) k
-    (λ some. ⊎_elim (λ h. omega (arith, a, rank_taken (occurrences n v.taken) (occurrences n v.filed) (occurrences n v.claimed) h)) (λ h. omega (arith, b, rank_taken (occurrences n w.taken) (occurrences n w.filed) (occurrences n w.claimed) h)) (one_of (occurrences n v.taken) (occurrences n w.taken) (occurrences n u.taken) (occurrences-append n v.taken w.taken) some))
-    (λ some. ⊎_elim (λ h. omega (arith, a, seen_filed_or_more v n h)) (λ h. omega (arith, b, seen_filed_or_more w n h)) (one_of (occurrences n v.filed) (occurrences n w.filed) (occurrences n u.filed) (occurrences-append n v.filed w.filed) some))
-    (λ some. ⊎_elim (λ h. omega (arith, a, seen_claimed_or_more v n h)) (λ h. omega (arith, b, seen_claimed_or_more w n h)) (one_of (occurrences n v.claimed) (occurrences n w.claimed) (occurrences n u.claimed) (occurrences-append n v.claimed w.claimed) some)) in
-    let least : k ≤ rank (seen u n) = max-le (seen_grows v u n left) (seen_grows w u n right) in omega (arith, most, least)
+    let most : rank (seen u n) ≤ k = rank_at_most (occurrences n u.taken) (occurrences n u.filed)
+    (occurrences n u.claimed) k
+    (λ some. ⊎_elim (λ h. omega (
+      arith,
+      a,
+      rank_taken (occurrences n v.taken) (occurrences n v.filed)
+          (occurrences n v.claimed) h,
+    )) (λ h. omega (
+      arith,
+      b,
+      rank_taken (occurrences n w.taken) (occurrences n w.filed)
+          (occurrences n w.claimed) h,
+    )) (one_of (occurrences n v.taken) (occurrences n w.taken) (occurrences n u.taken)
+    (occurrences-append n v.taken w.taken) some))
+    (λ some. ⊎_elim (λ h. omega (arith, a, seen_filed_or_more v n h)) (λ h. omega (arith, b, seen_filed_or_more w n h))
+    (one_of (occurrences n v.filed) (occurrences n w.filed) (occurrences n u.filed)
+    (occurrences-append n v.filed w.filed) some))
+    (λ some. ⊎_elim (λ h. omega (arith, a, seen_claimed_or_more v n h))
+    (λ h. omega (arith, b, seen_claimed_or_more w n h)) (one_of (occurrences n v.claimed) (occurrences n w.claimed)
+    (occurrences n u.claimed) (occurrences-append n v.claimed w.claimed) some)) in
+    let least : k ≤ rank (seen u n) = max-le (seen_grows v u n left) (seen_grows w u n right) in
+    omega (arith, most, least)

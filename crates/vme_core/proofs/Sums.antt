@@ -1,5 +1,6 @@
 -- Sums over the views after one or two of them changed, and how often a number stands in a list.
-use Rattle.std.proofs.Common.{◌≡◌, ℕ, zero, suc, ◌+◌, ◌<◌, ◌≤◌, ◌≢◌, ◌⊎◌, List, [], ◌∷◌, ◌++◌, cond, set, sym, refl, ap, ◌∙◌, arith, subst, inl, inr, eq-eqb, ne_eqb, ⊎_elim}
+use Rattle.std.proofs.Common.{◌≡◌, ℕ, zero, suc, ◌+◌, ◌<◌, ◌≤◌, ◌≢◌, ◌⊎◌, List, [], ◌∷◌, ◌++◌, cond, set, sym, refl, ap}
+use Rattle.std.proofs.Common.{◌∙◌, arith, subst, inl, inr, eq-eqb, ne_eqb, ⊎_elim}
 use mathlib.Core.Option.{some, some-injective, some-ne-none}
 use mathlib.Core.Logic.{dite}
 use native.Mathlib.Decide.{ℕ_discrete}
@@ -10,10 +11,17 @@ use Rattle.std.specs.Prelude.{sum_by}
 use Rattle.std.proofs.lemmas.List.Sums.{sum_by-cons}
 
 module _ {V : Type 0} (g : V → ℕ) where
-  pub sum_by_set : (vs : List V) (i : ℕ) (v w : V) → get_elem? vs i ≡ some v → sum_by g (set vs i w) + g v ≡ sum_by g vs + g w
+  pub sum_by_set : (vs : List V) (i : ℕ) (v w : V) → get_elem? vs i ≡ some v → sum_by g (set vs i w) + g v
+      ≡ sum_by g vs + g w
   sum_by_set [] i v w e = absurd (some-ne-none v (sym e))
   sum_by_set (x ∷ xs) zero v w e = omega (arith, ap g (some-injective x v e), sum_by-cons g x xs, sum_by-cons g w xs)
-  sum_by_set (x ∷ xs) (suc i) v w e = omega (arith, sum_by_set xs i v w e, sum_by-cons g x xs, sum_by-cons g x (set xs i w))
+  sum_by_set (x ∷ xs) (suc i) v w e = omega (
+    arith,
+    sum_by_set xs i v w e,
+    sum_by-cons g x xs,
+    sum_by-cons g x
+        (set xs i w),
+  )
 
   pub at_most_sum : (vs : List V) (i : ℕ) (v : V) → get_elem? vs i ≡ some v → g v ≤ sum_by g vs
   at_most_sum [] i v e = absurd (some-ne-none v (sym e))
@@ -22,7 +30,13 @@ module _ {V : Type 0} (g : V → ℕ) where
 
 pub sum_by_plus : {V : Type 0} (f g : V → ℕ) (vs : List V) → sum_by (λ v. f v + g v) vs ≡ sum_by f vs + sum_by g vs
 sum_by_plus f g [] = refl
-sum_by_plus f g (x ∷ xs) = omega (arith, sum_by_plus f g xs, sum_by-cons f x xs, sum_by-cons g x xs, sum_by-cons (λ v. f v + g v) x xs)
+sum_by_plus f g (x ∷ xs) = omega (
+  arith,
+  sum_by_plus f g xs,
+  sum_by-cons f x xs,
+  sum_by-cons g x xs,
+  sum_by-cons (λ v. f v + g v) x xs,
+)
 
 pub occurrences_here : (n : ℕ) (xs : List ℕ) → occurrences n (n ∷ xs) ≡ 1 + occurrences n xs
 occurrences_here n xs = ap (λ b. cond b 1 0 + occurrences n xs) (eq-eqb n n refl)
@@ -38,7 +52,8 @@ pub numbers-append : (xs ys : List (ℕ × Block)) → numbers (xs ++ ys) ≡ nu
 numbers-append [] ys = refl
 numbers-append (x ∷ xs) ys = ap (λ zs. x.0 ∷ zs) (numbers-append xs ys)
 
-pub HasPair-append : (xs ys : List (ℕ × Block)) (n : ℕ) (b : Block) → HasPair (xs ++ ys) n b → HasPair xs n b ⊎ HasPair ys n b
+pub HasPair-append : (xs ys : List (ℕ × Block)) (n : ℕ) (b : Block) → HasPair (xs ++ ys) n b → HasPair xs n b ⊎ HasPair
+    ys n b
 HasPair-append [] ys n b h = inr h
 HasPair-append (x ∷ xs) ys n b (inl e) = inl (inl e)
 HasPair-append (x ∷ xs) ys n b (inr h) = ⊎_elim (λ a. inl (inr a)) (λ a. inr a) (HasPair-append xs ys n b h)
@@ -46,13 +61,15 @@ HasPair-append (x ∷ xs) ys n b (inr h) = ⊎_elim (λ a. inl (inr a)) (λ a. i
 -- a pair that stands in a list has its number there
 pub occurs_of_pair : (xs : List (ℕ × Block)) (n : ℕ) (b : Block) → HasPair xs n b → 0 < occurrences n (numbers xs)
 occurs_of_pair [] n b h = absurd h
-occurs_of_pair (x ∷ xs) n b (inl e) = let z : occurrences n (x.0 ∷ numbers xs) ≡ 1 + occurrences n (numbers xs) = ap (λ (y : ℕ). occurrences n (y ∷ numbers xs)) e.0 ∙ occurrences_here n (numbers xs) in omega (arith, z)
+occurs_of_pair (x ∷ xs) n b (inl e) = let z : occurrences n (x.0 ∷ numbers xs) ≡ 1 + occurrences n (numbers xs) = ap
+    (λ (y : ℕ). occurrences n (y ∷ numbers xs)) e.0 ∙ occurrences_here n (numbers xs) in omega (arith, z)
 occurs_of_pair (x ∷ xs) n b (inr h) = let r = occurs_of_pair xs n b h in omega (arith, r)
 
 -- and a number that occurs there has a pair
 pub pair_of_occurs : (xs : List (ℕ × Block)) (n : ℕ) → 0 < occurrences n (numbers xs) → (b : Block) × HasPair xs n b
 pair_of_occurs [] n h = absurd (omega arith)
-pair_of_occurs (x ∷ xs) n h = dite (ℕ_discrete n x.0) (λ e. (x.1, inl (sym e, refl))) (λ ne. let p = pair_of_occurs xs n (omega (arith, h, occurrences_else n x.0 (numbers xs) ne)) in (p.0, inr p.1))
+pair_of_occurs (x ∷ xs) n h = dite (ℕ_discrete n x.0) (λ e. (x.1, inl (sym e, refl))) (λ ne. let p = pair_of_occurs xs n
+    (omega (arith, h, occurrences_else n x.0 (numbers xs) ne)) in (p.0, inr p.1))
 
 module _ {X : Type 0} (f : ℕ → X) (n : ℕ) (x : X) where
   pub update_here : update f n x n ≡ x
@@ -67,12 +84,14 @@ each n F here else m = dite (ℕ_discrete m n) (λ e. subst F (sym e) here) (λ 
 
 -- what stands in a list after one place changed, or after one came
 module _ {A : Type 0} where
-  pub at_set : (l : List A) (i j : ℕ) (a b : A) → get_elem? (set l i a) j ≡ some b → ((j ≡ i) × (a ≡ b)) ⊎ ((j ≢ i) × (get_elem? l j ≡ some b))
+  pub at_set : (l : List A) (i j : ℕ) (a b : A) → get_elem? (set l i a) j ≡ some b → ((j ≡ i) × (a ≡ b)) ⊎
+      ((j ≢ i) × (get_elem? l j ≡ some b))
   at_set [] i j a b e = absurd (some-ne-none b (sym e))
   at_set (x ∷ xs) zero zero a b e = inl (refl, some-injective a b e)
   at_set (x ∷ xs) zero (suc j) a b e = inr ((λ h. omega arith), e)
   at_set (x ∷ xs) (suc i) zero a b e = inr ((λ h. omega arith), e)
-  at_set (x ∷ xs) (suc i) (suc j) a b e = ⊎_elim (λ t. inl (ap suc t.0, t.1)) (λ t. let n = t.0 in inr ((λ h. n (omega arith)), t.1)) (at_set xs i j a b e)
+  at_set (x ∷ xs) (suc i) (suc j) a b e = ⊎_elim (λ t. inl (ap suc t.0, t.1)) (λ t. let n = t.0 in
+      inr ((λ h. n (omega arith)), t.1)) (at_set xs i j a b e)
 
   pub at_snoc : (l : List A) (a b : A) (j : ℕ) → get_elem? (l ++ a ∷ []) j ≡ some b → (get_elem? l j ≡ some b) ⊎ (a ≡ b)
   at_snoc [] a b zero e = inr (some-injective a b e)

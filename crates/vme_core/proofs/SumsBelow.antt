@@ -12,15 +12,26 @@ sum_below_monotone f g (suc n) h = omega (arith, sum_below_monotone f g n h, h n
 
 sum_below_past : (x limit : ℕ) → limit ≤ x → sum_below (λ n. occurrences n (x ∷ [])) limit ≡ 0
 sum_below_past x zero h = refl
-sum_below_past x (suc n) h = omega (arith, sum_below_past x n (omega arith), occurrences_else n x [] (λ e. omega (arith, e)))
+sum_below_past x (suc n) h = omega (
+  arith,
+  sum_below_past x n (omega arith),
+  occurrences_else n x []
+      (λ e. omega (arith, e)),
+)
 
 sum_below_one : (x limit : ℕ) → x < limit → sum_below (λ n. occurrences n (x ∷ [])) limit ≡ 1
 sum_below_one x zero h = absurd (omega arith)
 sum_below_one x (suc n) h = dite (ℕ_discrete x n)
-    (λ e. omega (arith, sum_below_past x n (omega (arith, e)), occurrences_here x [], ap (λ (y : ℕ). occurrences y (x ∷ [])) e))
+    (λ e. omega (
+      arith,
+      sum_below_past x n (omega (arith, e)),
+      occurrences_here x [],
+      ap (λ (y : ℕ). occurrences y (x ∷ [])) e,
+    ))
     (λ ne. omega (arith, sum_below_one x n (omega (arith, ne)), occurrences_else n x [] (λ e. ne (sym e))))
 
-pub sum_below_plus : (f g : ℕ → ℕ) (limit : ℕ) → sum_below (λ n. f n + g n) limit ≡ sum_below f limit + sum_below g limit
+pub sum_below_plus : (f g : ℕ → ℕ) (limit : ℕ) → sum_below (λ n. f n + g n) limit ≡ sum_below f limit + sum_below g
+    limit
 sum_below_plus f g zero = refl
 sum_below_plus f g (suc n) = omega (arith, sum_below_plus f g n)
 
@@ -31,50 +42,71 @@ occurrences_split : (n x : ℕ) (xs : List ℕ) → occurrences n (x ∷ xs) ≡
 occurrences_split n x xs = omega arith
 
 -- each number of the list is below the limit
-pub length_sum_below : (xs : List ℕ) (limit : ℕ) → ((n : ℕ) → 0 < occurrences n xs → n < limit) → length xs ≡ sum_below (λ n. occurrences n xs) limit
+pub length_sum_below : (xs : List ℕ) (limit : ℕ) → ((n : ℕ) → 0 < occurrences n xs → n < limit) → length xs
+    ≡ sum_below (λ n. occurrences n xs) limit
 length_sum_below [] zero h = refl
 length_sum_below [] (suc n) h = omega (arith, length_sum_below [] n (λ m z. absurd (omega (arith, z))))
 length_sum_below (x ∷ xs) limit h =
     let here : x < limit = h x (omega (arith, occurrences_here x xs)) in
     let rest = length_sum_below xs limit (λ n z. h n (omega (arith, z, occurrences_split n x xs))) in
-    omega (arith, rest, sum_below_one x limit here, sum_below_plus (λ n. occurrences n (x ∷ [])) (λ n. occurrences n xs) limit, sum_below_same (λ n. occurrences n (x ∷ xs)) (λ n. occurrences n (x ∷ []) + occurrences n xs) limit (λ n. occurrences_split n x xs))
+    omega (
+      arith,
+      rest,
+      sum_below_one x limit here,
+      sum_below_plus (λ n. occurrences n (x ∷ [])) (λ n. occurrences n xs)
+          limit,
+      sum_below_same (λ n. occurrences n (x ∷ xs)) (λ n. occurrences n (x ∷ []) + occurrences n xs) limit
+          (λ n. occurrences_split n x xs),
+    )
 
 pub length-numbers : (xs : List (ℕ × Block)) → length (numbers xs) ≡ length xs
 length-numbers [] = refl
 length-numbers (x ∷ xs) = ap suc (length-numbers xs)
 
-pub sum_below_agree : (f g : ℕ → ℕ) (limit : ℕ) → ((n : ℕ) → n < limit → f n ≡ g n) → sum_below f limit ≡ sum_below g limit
+pub sum_below_agree : (f g : ℕ → ℕ) (limit : ℕ) → ((n : ℕ) → n < limit → f n ≡ g n) → sum_below f limit
+    ≡ sum_below g limit
 sum_below_agree f g zero h = refl
 sum_below_agree f g (suc k) h = omega (arith, h k (omega arith), sum_below_agree f g k (λ n l. h n (omega (arith, l))))
 
 -- where f is no more than 1, and 1 only below the limit
-module _ (f : ℕ → ℕ) (limit : ℕ) (within : (n : ℕ) → 0 < f n → n < limit) (xs : List ℕ) (few : (n : ℕ) → occurrences n xs ≤ f n) where
+module _ (f : ℕ → ℕ) (limit : ℕ) (within : (n : ℕ) → 0 < f n → n < limit) (xs : List ℕ)
+    (few : (n : ℕ) → occurrences n xs ≤ f n) where
   pub pigeons : length xs ≤ sum_below f limit
-  pigeons = omega (arith, length_sum_below xs limit (λ n z. within n (omega (arith, few n, z))), sum_below_monotone (λ n. occurrences n xs) f limit few)
+  pigeons = omega (
+    arith,
+    length_sum_below xs limit (λ n z. within n (omega (arith, few n, z))),
+    sum_below_monotone
+        (λ n. occurrences n xs) f limit few,
+  )
 
   missed : (saw had one : ℕ) → had ≤ one → (0 < saw → one ≡ 1) → lack saw had + had ≤ one
   missed zero had one a b = omega arith
   missed (suc saw) zero one a b = omega (arith, b (omega arith))
   missed (suc saw) (suc had) one a b = omega arith
 
-  pub pigeonhole : (saw : List ℕ) → ((n : ℕ) → 0 < occurrences n saw → f n ≡ 1) → sum_below (missing_at saw xs) limit + length xs ≤ sum_below f limit
+  pub pigeonhole : (saw : List ℕ) → ((n : ℕ) → 0 < occurrences n saw → f n ≡ 1) → sum_below (missing_at saw xs) limit +
+      length xs ≤ sum_below f limit
   pigeonhole saw so = omega (
     arith,
     length_sum_below xs limit (λ n z. within n (omega (arith, few n, z))),
     sum_below_plus (missing_at saw xs) (λ n. occurrences n xs) limit,
-    sum_below_monotone (λ n. missing_at saw xs n + occurrences n xs) f limit (λ n. missed (occurrences n saw) (occurrences n xs) (f n) (few n) (so n)),
+    sum_below_monotone (λ n. missing_at saw xs n + occurrences n xs) f limit
+        (λ n. missed (occurrences n saw) (occurrences n xs) (f n) (few n) (so n)),
   )
 
 pub sum_below_limit : (f : ℕ → ℕ) (limit : ℕ) → ((n : ℕ) → f n ≤ 1) → sum_below f limit ≤ limit
 sum_below_limit f zero h = omega arith
 sum_below_limit f (suc n) h = omega (arith, sum_below_limit f n h, h n)
 
-squeeze : (f g : ℕ → ℕ) (limit : ℕ) → ((n : ℕ) → g n ≤ f n) → sum_below f limit ≤ sum_below g limit → (n : ℕ) → n < limit → f n ≡ g n
+squeeze : (f g : ℕ → ℕ) (limit : ℕ) → ((n : ℕ) → g n ≤ f n) → sum_below f limit ≤ sum_below g limit → (n : ℕ)
+    → n < limit → f n ≡ g n
 squeeze f g zero less full n low = absurd (omega arith)
 squeeze f g (suc k) less full n low = dite (ℕ_discrete n k)
     (λ e. subst (λ (y : ℕ). f y ≡ g y) (sym e) (omega (arith, full, less k, sum_below_monotone g f k less)))
     (λ ne. squeeze f g k less (omega (arith, full, less k)) n (omega (arith, low, ne)))
 
 -- a sum that is no more than what stands in the list leaves nothing else
-pub none_else : (f : ℕ → ℕ) (limit : ℕ) (xs : List ℕ) → ((n : ℕ) → 0 < f n → n < limit) → ((n : ℕ) → occurrences n xs ≤ f n) → sum_below f limit ≤ length xs → (n : ℕ) → n < limit → f n ≡ occurrences n xs
-none_else f limit xs within few full n low = squeeze f (λ m. occurrences m xs) limit few (omega (arith, full, length_sum_below xs limit (λ n z. within n (omega (arith, few n, z))))) n low
+pub none_else : (f : ℕ → ℕ) (limit : ℕ) (xs : List ℕ) → ((n : ℕ) → 0 < f n → n < limit)
+    → ((n : ℕ) → occurrences n xs ≤ f n) → sum_below f limit ≤ length xs → (n : ℕ) → n < limit → f n ≡ occurrences n xs
+none_else f limit xs within few full n low = squeeze f (λ m. occurrences m xs) limit few
+    (omega (arith, full, length_sum_below xs limit (λ n z. within n (omega (arith, few n, z))))) n low

@@ -1,5 +1,6 @@
 -- Each part of the rule is kept where one view changes, one comes, or two are joined.
-use Rattle.std.proofs.Common.{◌≡◌, ℕ, zero, suc, ◌+◌, ◌<◌, ◌≤◌, ◌≢◌, List, [], ◌∷◌, ◌++◌, length, set, sym, refl, ap, ◌∙◌, arith, subst, ⊎_elim, le_refl, Option, Some, None}
+use Rattle.std.proofs.Common.{◌≡◌, ℕ, zero, suc, ◌+◌, ◌<◌, ◌≤◌, ◌≢◌, List, [], ◌∷◌, ◌++◌, length, set, sym, refl, ap}
+use Rattle.std.proofs.Common.{◌∙◌, arith, subst, ⊎_elim, le_refl, Option, Some, None}
 use mathlib.Core.Option.{some, some-injective, some-ne-none}
 use lib.ListN.{get_elem?}
 use Rattle.vme_trace.specs.declared.block.Block.{Block}
@@ -19,19 +20,30 @@ pub cons_none : {x : ℕ} {xs : List ℕ} → x ∷ xs ≡ [] → ⊥
 cons_none z = omega (arith, ap length z)
 
 -- F holds of each view after one changed
-pub after_set : (F : View → Type 0) (vs : List View) (i : ℕ) (w : View) → F w → ((j : ℕ) (u : View) → get_elem? vs j ≡ some u → F u) → (j : ℕ) (u : View) → get_elem? (set vs i w) j ≡ some u → F u
+pub after_set : (F : View → Type 0) (vs : List View) (i : ℕ) (w : View) → F w → ((j : ℕ) (u : View) → get_elem? vs j
+    ≡ some u → F u) → (j : ℕ) (u : View) → get_elem? (set vs i w) j ≡ some u → F u
 after_set F vs i w new old j u e = ⊎_elim (λ t. subst F t.1 new) (λ t. old j u t.1) (at_set vs i j w u e)
 
-pub after_append : (F : View → Type 0) (vs : List View) (w : View) → F w → ((j : ℕ) (u : View) → get_elem? vs j ≡ some u → F u) → (j : ℕ) (u : View) → get_elem? (vs ++ w ∷ []) j ≡ some u → F u
+pub after_append : (F : View → Type 0) (vs : List View) (w : View) → F w → ((j : ℕ) (u : View) → get_elem? vs j ≡ some u
+    → F u) → (j : ℕ) (u : View) → get_elem? (vs ++ w ∷ []) j ≡ some u → F u
 after_append F vs w new old j u e = ⊎_elim (λ a. old j u a) (λ a. subst F a new) (at_snoc vs w u j e)
 
 -- where two views changed
-after_two : (F : View → Type 0) (vs : List View) (i j : ℕ) (b s : View) → F b → F s → ((k : ℕ) (u : View) → get_elem? vs k ≡ some u → F u) → (k : ℕ) (u : View) → get_elem? (set (set vs i b) j s) k ≡ some u → F u
+after_two : (F : View → Type 0) (vs : List View) (i j : ℕ) (b s : View) → F b → F s
+    → ((k : ℕ) (u : View) → get_elem? vs k ≡ some u → F u) → (k : ℕ) (u : View) → get_elem? (set (set vs i b) j s) k
+    ≡ some u → F u
 after_two F vs i j b s mine spent old = after_set F (set vs i b) j s spent (after_set F vs i b mine old)
 
 -- and what they had together is what they have
-pub sum_by_two : (g : View → ℕ) (vs : List View) (i j : ℕ) (v w b s : View) → get_elem? vs i ≡ some v → j ≢ i → get_elem? vs j ≡ some w → g b + g s ≡ g v + g w → sum_by g (set (set vs i b) j s) ≡ sum_by g vs
-sum_by_two g vs i j v w b s e ne f same = omega (arith, sum_by_set g vs i v b e, sum_by_set g (set vs i b) j w s (set_else vs i j b ne ∙ f), same)
+pub sum_by_two : (g : View → ℕ) (vs : List View) (i j : ℕ) (v w b s : View) → get_elem? vs i ≡ some v → j ≢ i
+    → get_elem? vs j ≡ some w → g b + g s ≡ g v + g w → sum_by g (set (set vs i b) j s) ≡ sum_by g vs
+sum_by_two g vs i j v w b s e ne f same = omega (
+  arith,
+  sum_by_set g vs i v b e,
+  sum_by_set g (set vs i b) j w s
+      (set_else vs i j b ne ∙ f),
+  same,
+)
 
 -- who keeps no share had none
 none_kept : (es : List ℕ) → kept_share es ≡ [] → es ≡ []
@@ -43,32 +55,43 @@ none_of [] ys z = (refl, z)
 none_of (x ∷ xs) ys z = absurd (cons_none z)
 
 module _ (drawn : ℕ → ℕ) (vs : List View) (r : DrawRule drawn vs) where
-  pub draws_set : (drawn' : ℕ → ℕ) (i : ℕ) (v w : View) → get_elem? vs i ≡ some v → ((d : ℕ) → drawn' d ≤ 1) → ((d : ℕ) → drawn d ≤ drawn' d)
-      → ((d : ℕ) → occurrences d w.draws + drawn d ≡ occurrences d v.draws + drawn' d) → ((d : ℕ) → 0 < occurrences d w.found → drawn' d ≡ 1) → DrawRule drawn' (set vs i w)
+  pub draws_set : (drawn' : ℕ → ℕ) (i : ℕ) (v w : View) → get_elem? vs i ≡ some v → ((d : ℕ) → drawn' d ≤ 1)
+      → ((d : ℕ) → drawn d ≤ drawn' d)
+      → ((d : ℕ) → occurrences d w.draws + drawn d ≡ occurrences d v.draws + drawn' d)
+      → ((d : ℕ) → 0 < occurrences d w.found → drawn' d ≡ 1) → DrawRule drawn' (set vs i w)
   draws_set drawn' i v w e bit more count found = record {
     bit = bit;
     won_once = λ d. omega (arith, sum_by_set (λ (u : View). occurrences d u.draws) vs i v w e, r.won_once d, count d);
-    found = after_set (λ u. (d : ℕ) → 0 < occurrences d u.found → drawn' d ≡ 1) vs i w found (λ j u there d saw. omega (arith, r.found j u there d saw, bit d, more d));
+    found = after_set (λ u. (d : ℕ) → 0 < occurrences d u.found → drawn' d ≡ 1) vs i w found
+        (λ j u there d saw. omega (arith, r.found j u there d saw, bit d, more d));
   }
 
-  pub draws_append : (w : View) → ((d : ℕ) → occurrences d w.draws ≡ 0) → ((d : ℕ) → 0 < occurrences d w.found → drawn d ≡ 1) → DrawRule drawn (vs ++ w ∷ [])
+  pub draws_append : (w : View) → ((d : ℕ) → occurrences d w.draws ≡ 0) → ((d : ℕ) → 0 < occurrences d w.found → drawn d
+      ≡ 1) → DrawRule drawn (vs ++ w ∷ [])
   draws_append w none found = record {
     bit = r.bit;
     won_once = λ d. omega (arith, sum_by_push (λ (u : View). occurrences d u.draws) vs w, r.won_once d, none d);
     found = after_append (λ u. (d : ℕ) → 0 < occurrences d u.found → drawn d ≡ 1) vs w found r.found;
   }
 
-  pub draws_two : (i j : ℕ) (v w b s : View) → get_elem? vs i ≡ some v → j ≢ i → get_elem? vs j ≡ some w → ((d : ℕ) → occurrences d b.draws + occurrences d s.draws ≡ occurrences d v.draws + occurrences d w.draws)
-      → ((d : ℕ) → 0 < occurrences d b.found → drawn d ≡ 1) → ((d : ℕ) → 0 < occurrences d s.found → drawn d ≡ 1) → DrawRule drawn (set (set vs i b) j s)
+  pub draws_two : (i j : ℕ) (v w b s : View) → get_elem? vs i ≡ some v → j ≢ i → get_elem? vs j ≡ some w
+      → ((d : ℕ) → occurrences d b.draws + occurrences d s.draws ≡ occurrences d v.draws + occurrences d w.draws)
+      → ((d : ℕ) → 0 < occurrences d b.found → drawn d ≡ 1) → ((d : ℕ) → 0 < occurrences d s.found → drawn d ≡ 1)
+      → DrawRule drawn (set (set vs i b) j s)
   draws_two i j v w b s e ne f same mine spent = record {
     bit = r.bit;
-    won_once = λ d. omega (arith, sum_by_two (λ (u : View). occurrences d u.draws) vs i j v w b s e ne f (same d), r.won_once d);
+    won_once = λ d. omega (
+      arith,
+      sum_by_two (λ (u : View). occurrences d u.draws) vs i j v w b s e ne f (same d),
+      r.won_once d,
+    );
     found = after_two (λ u. (d : ℕ) → 0 < occurrences d u.found → drawn d ≡ 1) vs i j b s mine spent r.found;
   }
 
 module _ (vs : List View) (r : ShareRule vs) where
   -- one view changed, and not its share
-  pub shares_set : (i : ℕ) (v w : View) → get_elem? vs i ≡ some v → w.share ≡ v.share → (v.share ≡ [] → HasNothing w) → ShareRule (set vs i w)
+  pub shares_set : (i : ℕ) (v w : View) → get_elem? vs i ≡ some v → w.share ≡ v.share → (v.share ≡ [] → HasNothing w)
+      → ShareRule (set vs i w)
   shares_set i v w e same none = record {
     k = r.k;
     fit = after_set (λ u. FitsIn r.k u.share) vs i w (subst (FitsIn r.k) (sym same) (r.fit i v e)) r.fit;
@@ -85,22 +108,44 @@ module _ (vs : List View) (r : ShareRule vs) where
   }
 
   -- one view is cut in two
-  pub shares_split : (i : ℕ) (v : View) → get_elem? vs i ≡ some v → ShareRule (set vs i (kept_view v) ++ split_view v ∷ [])
-  shares_split i v e = let f = r.fit i v e in let more = whole_more (λ (u : View). u.share) r.k vs (r.fit, r.whole) in let n : ℕ = suc r.k in let ws : List View = set vs i (kept_view v) in record {
-    k = n;
-    fit = after_append (λ u. FitsIn n u.share) ws (split_view v) (fits_split r.k v.share f) (after_set (λ u. FitsIn n u.share) vs i (kept_view v) (fits_kept r.k v.share f) more.0);
-    whole = omega (arith, sum_by_push (λ (u : View). weight n u.share) ws (split_view v), sum_by_set (λ (u : View). weight n u.share) vs i v (kept_view v) e, more.1, halves r.k v.share f);
-    poor = after_append (λ u. u.share ≡ [] → HasNothing u) ws (split_view v) (λ _. record { list = refl; takes = refl; draws = refl; pending = refl })
-        (after_set (λ u. u.share ≡ [] → HasNothing u) vs i (kept_view v) (λ z. let h = r.poor i v e (none_kept v.share z) in record { list = h.list; takes = h.takes; draws = h.draws; pending = h.pending }) r.poor);
-  }
+  pub shares_split : (i : ℕ) (v : View) → get_elem? vs i ≡ some v → ShareRule (set vs i (kept_view v) ++ split_view v
+      ∷ [])
+  shares_split i v e = let f = r.fit i v e in let more = whole_more (λ (u : View). u.share) r.k vs (r.fit, r.whole) in
+      let n : ℕ = suc r.k in let ws : List View = set vs i (kept_view v) in record {
+        k = n;
+        fit = after_append (λ u. FitsIn n u.share) ws (split_view v) (fits_split r.k v.share f)
+            (after_set (λ u. FitsIn n u.share) vs i (kept_view v) (fits_kept r.k v.share f) more.0);
+        whole = omega (
+          arith,
+          sum_by_push (λ (u : View). weight n u.share) ws (split_view v),
+          sum_by_set (λ (u : View). weight n u.share) vs i v (kept_view v) e,
+          more.1,
+          halves r.k v.share f,
+        );
+        poor = after_append (λ u. u.share ≡ [] → HasNothing u) ws (split_view v)
+            (λ _. record { list = refl; takes = refl; draws = refl; pending = refl })
+            (after_set (λ u. u.share ≡ [] → HasNothing u) vs i (kept_view v)
+            (λ z. let h = r.poor i v e (none_kept v.share z) in
+            record { list = h.list; takes = h.takes; draws = h.draws; pending = h.pending }) r.poor);
+      }
 
   -- two views are made one, with both shares, and the other has none
-  pub shares_two : (i j : ℕ) (v w b s : View) → get_elem? vs i ≡ some v → j ≢ i → get_elem? vs j ≡ some w → b.share ≡ v.share ++ w.share → s.share ≡ [] → HasNothing s → (v.share ≡ [] → w.share ≡ [] → HasNothing b) → ShareRule (set (set vs i b) j s)
+  pub shares_two : (i j : ℕ) (v w b s : View) → get_elem? vs i ≡ some v → j ≢ i → get_elem? vs j ≡ some w → b.share
+      ≡ v.share ++ w.share → s.share ≡ [] → HasNothing s → (v.share ≡ [] → w.share ≡ [] → HasNothing b)
+      → ShareRule (set (set vs i b) j s)
   shares_two i j v w b s e ne g both lacks spent none = let k : ℕ = r.k in record {
     k = k;
-    fit = after_two (λ u. FitsIn k u.share) vs i j b s (subst (FitsIn k) (sym both) (fits-append k v.share w.share (r.fit i v e) (r.fit j w g))) (subst (FitsIn k) (sym lacks) tt) r.fit;
-    whole = omega (arith, sum_by_two (λ (u : View). weight k u.share) vs i j v w b s e ne g (omega (arith, ap (weight k) both, ap (weight k) lacks, weight-append k v.share w.share)), r.whole);
-    poor = after_two (λ u. u.share ≡ [] → HasNothing u) vs i j b s (λ z. let parts = none_of v.share w.share (sym both ∙ z) in none parts.0 parts.1) (λ _. spent) r.poor;
+    fit = after_two (λ u. FitsIn k u.share) vs i j b s
+        (subst (FitsIn k) (sym both) (fits-append k v.share w.share (r.fit i v e) (r.fit j w g)))
+        (subst (FitsIn k) (sym lacks) tt) r.fit;
+    whole = omega (
+      arith,
+      sum_by_two (λ (u : View). weight k u.share) vs i j v w b s e ne g
+          (omega (arith, ap (weight k) both, ap (weight k) lacks, weight-append k v.share w.share)),
+      r.whole,
+    );
+    poor = after_two (λ u. u.share ≡ [] → HasNothing u) vs i j b s (λ z. let parts = none_of v.share w.share
+        (sym both ∙ z) in none parts.0 parts.1) (λ _. spent) r.poor;
   }
 
 -- what a view says that it saw is so
@@ -113,54 +158,108 @@ module _ (limit : ℕ) (c f t : ℕ → ℕ) (vs : List View) (r : StageRule lim
   pub sighted : (i : ℕ) (v : View) → get_elem? vs i ≡ some v → Sighted c f t v
   sighted i v e = record { claimed = r.saw_claimed i v e; filed = r.saw_filed i v e; taken = r.saw_taken i v e }
 
-  pub stages_set : (c' f' t' : ℕ → ℕ) (i : ℕ) (v w : View) → get_elem? vs i ≡ some v → ((n : ℕ) → c' n ≤ 1) → ((n : ℕ) → 0 < c' n → n < limit) → ((n : ℕ) → t' n ≤ f' n)
+  pub stages_set : (c' f' t' : ℕ → ℕ) (i : ℕ) (v w : View) → get_elem? vs i ≡ some v → ((n : ℕ) → c' n ≤ 1)
+      → ((n : ℕ) → 0 < c' n → n < limit) → ((n : ℕ) → t' n ≤ f' n)
       → ((n : ℕ) → c n ≤ c' n) → ((n : ℕ) → f n ≤ f' n) → ((n : ℕ) → t n ≤ t' n)
-      → ((n : ℕ) → occurrences n w.pending + f' n + c n ≡ occurrences n v.pending + f n + c' n) → ((n : ℕ) → occurrences n (numbers w.list) + f n ≡ occurrences n (numbers v.list) + f' n)
-      → ((n : ℕ) → occurrences n (numbers w.takes) + t n ≡ occurrences n (numbers v.takes) + t' n) → Sighted c' f' t' w → StageRule limit c' f' t' (set vs i w)
+      → ((n : ℕ) → occurrences n w.pending + f' n + c n ≡ occurrences n v.pending + f n + c' n)
+      → ((n : ℕ) → occurrences n (numbers w.list) + f n ≡ occurrences n (numbers v.list) + f' n)
+      → ((n : ℕ) → occurrences n (numbers w.takes) + t n ≡ occurrences n (numbers v.takes) + t' n) → Sighted c' f' t' w
+      → StageRule limit c' f' t' (set vs i w)
   stages_set c' f' t' i v w e bit within order mc mf mt pend list take saw =
-      let pends : (n : ℕ) → sum_by (λ (u : View). occurrences n u.pending) (set vs i w) + f' n ≡ c' n = λ n. omega (arith, sum_by_set (λ (u : View). occurrences n u.pending) vs i v w e, r.pending_once n, pend n) in record {
+      let pends : (n : ℕ) → sum_by (λ (u : View). occurrences n u.pending) (set vs i w) + f' n ≡ c' n = λ n. omega
+      (arith, sum_by_set (λ (u : View). occurrences n u.pending) vs i v w e, r.pending_once n, pend n) in record {
         bit = bit;
         in_range = within;
         taken_is_filed = order;
         pending_once = pends;
-        filed_once = λ n. omega (arith, sum_by_set (λ (u : View). occurrences n (numbers u.list)) vs i v w e, r.filed_once n, list n);
-        taken_once = λ n. omega (arith, sum_by_set (λ (u : View). occurrences n (numbers u.takes)) vs i v w e, r.taken_once n, take n);
-        saw_claimed = after_set (λ u. (n : ℕ) → 0 < occurrences n u.claimed → c' n ≡ 1) vs i w saw.claimed (λ j u there n s. omega (arith, r.saw_claimed j u there n s, bit n, mc n));
-        saw_filed = after_set (λ u. (n : ℕ) → 0 < occurrences n u.filed → f' n ≡ 1) vs i w saw.filed (λ j u there n s. omega (arith, r.saw_filed j u there n s, bit n, mf n, pends n));
-        saw_taken = after_set (λ u. (n : ℕ) → 0 < occurrences n u.taken → t' n ≡ 1) vs i w saw.taken (λ j u there n s. omega (arith, r.saw_taken j u there n s, bit n, mt n, order n, pends n));
+        filed_once = λ n. omega (
+          arith,
+          sum_by_set (λ (u : View). occurrences n (numbers u.list)) vs i v w e,
+          r.filed_once n,
+          list n,
+        );
+        taken_once = λ n. omega (
+          arith,
+          sum_by_set (λ (u : View). occurrences n (numbers u.takes)) vs i v w e,
+          r.taken_once n,
+          take n,
+        );
+        saw_claimed = after_set (λ u. (n : ℕ) → 0 < occurrences n u.claimed → c' n ≡ 1) vs i w saw.claimed
+            (λ j u there n s. omega (arith, r.saw_claimed j u there n s, bit n, mc n));
+        saw_filed = after_set (λ u. (n : ℕ) → 0 < occurrences n u.filed → f' n ≡ 1) vs i w saw.filed
+            (λ j u there n s. omega (arith, r.saw_filed j u there n s, bit n, mf n, pends n));
+        saw_taken = after_set (λ u. (n : ℕ) → 0 < occurrences n u.taken → t' n ≡ 1) vs i w saw.taken
+            (λ j u there n s. omega (arith, r.saw_taken j u there n s, bit n, mt n, order n, pends n));
       }
 
   -- one view saw more, and nothing else changed
-  pub stages_saw : (i : ℕ) (v w : View) → get_elem? vs i ≡ some v → ((n : ℕ) → occurrences n w.pending ≡ occurrences n v.pending) → ((n : ℕ) → occurrences n (numbers w.list) ≡ occurrences n (numbers v.list)) → ((n : ℕ) → occurrences n (numbers w.takes) ≡ occurrences n (numbers v.takes))
+  pub stages_saw : (i : ℕ) (v w : View) → get_elem? vs i ≡ some v → ((n : ℕ) → occurrences n w.pending
+      ≡ occurrences n v.pending) → ((n : ℕ) → occurrences n (numbers w.list) ≡ occurrences n (numbers v.list))
+      → ((n : ℕ) → occurrences n (numbers w.takes) ≡ occurrences n (numbers v.takes))
       → Sighted c f t w → StageRule limit c f t (set vs i w)
-  stages_saw i v w e p l k saw = stages_set c f t i v w e r.bit r.in_range r.taken_is_filed (λ n. le_refl _) (λ n. le_refl _) (λ n. le_refl _) (λ n. omega (arith, p n)) (λ n. omega (arith, l n)) (λ n. omega (arith, k n)) saw
+  stages_saw i v w e p l k saw = stages_set c f t i v w e r.bit r.in_range r.taken_is_filed (λ n. le_refl _)
+      (λ n. le_refl _) (λ n. le_refl _) (λ n. omega (arith, p n)) (λ n. omega (arith, l n)) (λ n. omega (arith, k n))
+      saw
 
-  pub stages_append : (w : View) → ((n : ℕ) → occurrences n w.pending ≡ 0) → ((n : ℕ) → occurrences n (numbers w.list) ≡ 0) → ((n : ℕ) → occurrences n (numbers w.takes) ≡ 0) → Sighted c f t w → StageRule limit c f t (vs ++ w ∷ [])
+  pub stages_append : (w : View) → ((n : ℕ) → occurrences n w.pending ≡ 0) → ((n : ℕ) → occurrences n (numbers w.list)
+      ≡ 0) → ((n : ℕ) → occurrences n (numbers w.takes) ≡ 0) → Sighted c f t w → StageRule limit c f t (vs ++ w ∷ [])
   stages_append w p l k saw = record {
     bit = r.bit;
     in_range = r.in_range;
     taken_is_filed = r.taken_is_filed;
     pending_once = λ n. omega (arith, sum_by_push (λ (u : View). occurrences n u.pending) vs w, r.pending_once n, p n);
-    filed_once = λ n. omega (arith, sum_by_push (λ (u : View). occurrences n (numbers u.list)) vs w, r.filed_once n, l n);
-    taken_once = λ n. omega (arith, sum_by_push (λ (u : View). occurrences n (numbers u.takes)) vs w, r.taken_once n, k n);
+    filed_once = λ n. omega (
+      arith,
+      sum_by_push (λ (u : View). occurrences n (numbers u.list)) vs w,
+      r.filed_once n,
+      l n,
+    );
+    taken_once = λ n. omega (
+      arith,
+      sum_by_push (λ (u : View). occurrences n (numbers u.takes)) vs w,
+      r.taken_once n,
+      k n,
+    );
     saw_claimed = after_append (λ u. (n : ℕ) → 0 < occurrences n u.claimed → c n ≡ 1) vs w saw.claimed r.saw_claimed;
     saw_filed = after_append (λ u. (n : ℕ) → 0 < occurrences n u.filed → f n ≡ 1) vs w saw.filed r.saw_filed;
     saw_taken = after_append (λ u. (n : ℕ) → 0 < occurrences n u.taken → t n ≡ 1) vs w saw.taken r.saw_taken;
   }
 
-  pub stages_two : (i j : ℕ) (v w b s : View) → get_elem? vs i ≡ some v → j ≢ i → get_elem? vs j ≡ some w → ((n : ℕ) → occurrences n b.pending + occurrences n s.pending ≡ occurrences n v.pending + occurrences n w.pending)
-      → ((n : ℕ) → occurrences n (numbers b.list) + occurrences n (numbers s.list) ≡ occurrences n (numbers v.list) + occurrences n (numbers w.list))
-      → ((n : ℕ) → occurrences n (numbers b.takes) + occurrences n (numbers s.takes) ≡ occurrences n (numbers v.takes) + occurrences n (numbers w.takes)) → Sighted c f t b → Sighted c f t s → StageRule limit c f t (set (set vs i b) j s)
+  pub stages_two : (i j : ℕ) (v w b s : View) → get_elem? vs i ≡ some v → j ≢ i → get_elem? vs j ≡ some w
+      → ((n : ℕ) → occurrences n b.pending + occurrences n s.pending ≡ occurrences n v.pending + occurrences n
+      w.pending)
+      → ((n : ℕ) → occurrences n (numbers b.list) + occurrences n (numbers s.list) ≡ occurrences n (numbers v.list) +
+      occurrences n (numbers w.list))
+      → ((n : ℕ) → occurrences n (numbers b.takes) + occurrences n (numbers s.takes) ≡ occurrences n (numbers v.takes) +
+      occurrences n (numbers w.takes)) → Sighted c f t b → Sighted c f t s → StageRule limit c f t
+      (set (set vs i b) j s)
   stages_two i j v w b s e ne has p l k mine spent = record {
     bit = r.bit;
     in_range = r.in_range;
     taken_is_filed = r.taken_is_filed;
-    pending_once = λ n. omega (arith, sum_by_two (λ (u : View). occurrences n u.pending) vs i j v w b s e ne has (p n), r.pending_once n);
-    filed_once = λ n. omega (arith, sum_by_two (λ (u : View). occurrences n (numbers u.list)) vs i j v w b s e ne has (l n), r.filed_once n);
-    taken_once = λ n. omega (arith, sum_by_two (λ (u : View). occurrences n (numbers u.takes)) vs i j v w b s e ne has (k n), r.taken_once n);
-    saw_claimed = after_two (λ u. (n : ℕ) → 0 < occurrences n u.claimed → c n ≡ 1) vs i j b s mine.claimed spent.claimed r.saw_claimed;
-    saw_filed = after_two (λ u. (n : ℕ) → 0 < occurrences n u.filed → f n ≡ 1) vs i j b s mine.filed spent.filed r.saw_filed;
-    saw_taken = after_two (λ u. (n : ℕ) → 0 < occurrences n u.taken → t n ≡ 1) vs i j b s mine.taken spent.taken r.saw_taken;
+    pending_once = λ n. omega (
+      arith,
+      sum_by_two (λ (u : View). occurrences n u.pending) vs i j v w b s e ne has (p n),
+      r.pending_once n,
+    );
+    filed_once = λ n. omega (
+      arith,
+      sum_by_two (λ (u : View). occurrences n (numbers u.list)) vs i j v w b s e ne has
+          (l n),
+      r.filed_once n,
+    );
+    taken_once = λ n. omega (
+      arith,
+      sum_by_two (λ (u : View). occurrences n (numbers u.takes)) vs i j v w b s e ne has
+          (k n),
+      r.taken_once n,
+    );
+    saw_claimed = after_two (λ u. (n : ℕ) → 0 < occurrences n u.claimed → c n ≡ 1) vs i j b s mine.claimed spent.claimed
+        r.saw_claimed;
+    saw_filed = after_two (λ u. (n : ℕ) → 0 < occurrences n u.filed → f n ≡ 1) vs i j b s mine.filed spent.filed
+        r.saw_filed;
+    saw_taken = after_two (λ u. (n : ℕ) → 0 < occurrences n u.taken → t n ≡ 1) vs i j b s mine.taken spent.taken
+        r.saw_taken;
   }
 
 -- what a view filed and took are contents
@@ -175,22 +274,32 @@ pub record Placed (c f t : ℕ → ℕ) (K : ℕ → Option Block) (E : ℕ → 
   pub filed_is_home : (n : ℕ) → f n ≡ 1 → t n ≡ 0 → (b : Block) × (K n ≡ Some b) × H n b
   pub home_is_filed : (n : ℕ) (b : Block) → H n b → (f n ≡ 1) × (t n ≡ 0) × (K n ≡ Some b)
 
-module _ (c f t : ℕ → ℕ) (K : ℕ → Option Block) (E : ℕ → Type 0) (H : ℕ → Block → Type 0) (vs : List View) (r : ContentRule c f t K E H vs) where
+module _ (c f t : ℕ → ℕ) (K : ℕ → Option Block) (E : ℕ → Type 0) (H : ℕ → Block → Type 0) (vs : List View)
+    (r : ContentRule c f t K E H vs) where
   pub placed : Placed c f t K E H
-  placed = record { free_is_empty = r.free_is_empty; unfiled_is_none = r.unfiled_is_none; filed_is_home = r.filed_is_home; home_is_filed = r.home_is_filed }
+  placed = record {
+    free_is_empty = r.free_is_empty;
+    unfiled_is_none = r.unfiled_is_none;
+    filed_is_home
+        = r.filed_is_home;
+    home_is_filed = r.home_is_filed;
+  }
 
   pub holding : (i : ℕ) (v : View) → get_elem? vs i ≡ some v → Holding K v
   holding i v e = record { listed = r.listed i v e; took = r.took i v e }
 
-  pub contents_set : (c' f' t' : ℕ → ℕ) (K' : ℕ → Option Block) (E' : ℕ → Type 0) (H' : ℕ → Block → Type 0) (i : ℕ) (w : View) → Placed c' f' t' K' E' H' → ((n : ℕ) (b : Block) → K n ≡ Some b → K' n ≡ Some b) → Holding K' w
+  pub contents_set : (c' f' t' : ℕ → ℕ) (K' : ℕ → Option Block) (E' : ℕ → Type 0) (H' : ℕ → Block → Type 0) (i : ℕ)
+      (w : View) → Placed c' f' t' K' E' H' → ((n : ℕ) (b : Block) → K n ≡ Some b → K' n ≡ Some b) → Holding K' w
       → ContentRule c' f' t' K' E' H' (set vs i w)
   contents_set c' f' t' K' E' H' i w p stays mine = record {
     free_is_empty = p.free_is_empty;
     unfiled_is_none = p.unfiled_is_none;
     filed_is_home = p.filed_is_home;
     home_is_filed = p.home_is_filed;
-    listed = after_set (λ u. (n : ℕ) (b : Block) → HasPair u.list n b → K' n ≡ Some b) vs i w mine.listed (λ j u there n b has. stays n b (r.listed j u there n b has));
-    took = after_set (λ u. (n : ℕ) (b : Block) → HasPair u.takes n b → K' n ≡ Some b) vs i w mine.took (λ j u there n b has. stays n b (r.took j u there n b has));
+    listed = after_set (λ u. (n : ℕ) (b : Block) → HasPair u.list n b → K' n ≡ Some b) vs i w mine.listed
+        (λ j u there n b has. stays n b (r.listed j u there n b has));
+    took = after_set (λ u. (n : ℕ) (b : Block) → HasPair u.takes n b → K' n ≡ Some b) vs i w mine.took
+        (λ j u there n b has. stays n b (r.took j u there n b has));
   }
 
   -- the words and the places are as they were
@@ -213,15 +322,21 @@ module _ (c f t : ℕ → ℕ) (K : ℕ → Option Block) (E : ℕ → Type 0) (
     unfiled_is_none = r.unfiled_is_none;
     filed_is_home = r.filed_is_home;
     home_is_filed = r.home_is_filed;
-    listed = after_two (λ u. (n : ℕ) (x : Block) → HasPair u.list n x → K n ≡ Some x) vs i j b s mine.listed spent.listed r.listed;
-    took = after_two (λ u. (n : ℕ) (x : Block) → HasPair u.takes n x → K n ≡ Some x) vs i j b s mine.took spent.took r.took;
+    listed = after_two (λ u. (n : ℕ) (x : Block) → HasPair u.list n x → K n ≡ Some x) vs i j b s mine.listed
+        spent.listed r.listed;
+    took = after_two (λ u. (n : ℕ) (x : Block) → HasPair u.takes n x → K n ≡ Some x) vs i j b s mine.took spent.took
+        r.took;
   }
 
-pub saw_one : (c : ℕ → ℕ) (n : ℕ) (xs : List ℕ) → c n ≡ 1 → ((m : ℕ) → 0 < occurrences m xs → c m ≡ 1) → (m : ℕ) → 0 < occurrences m (n ∷ xs) → c m ≡ 1
-saw_one c n xs here old = each n (λ m. 0 < occurrences m (n ∷ xs) → c m ≡ 1) (λ _. here) (λ m ne h. old m (omega (arith, occurrences_else m n xs ne)))
+pub saw_one : (c : ℕ → ℕ) (n : ℕ) (xs : List ℕ) → c n ≡ 1 → ((m : ℕ) → 0 < occurrences m xs → c m ≡ 1) → (m : ℕ)
+    → 0 < occurrences m (n ∷ xs) → c m ≡ 1
+saw_one c n xs here old = each n (λ m. 0 < occurrences m (n ∷ xs) → c m ≡ 1) (λ _. here)
+    (λ m ne h. old m (omega (arith, occurrences_else m n xs ne)))
 
-pub saw_both : (c : ℕ → ℕ) (xs ys : List ℕ) → ((m : ℕ) → 0 < occurrences m xs → c m ≡ 1) → ((m : ℕ) → 0 < occurrences m ys → c m ≡ 1) → (m : ℕ) → 0 < occurrences m (xs ++ ys) → c m ≡ 1
-saw_both c xs ys a b m h = dite (ℕ_discrete (occurrences m xs) 0) (λ z. b m (omega (arith, occurrences-append m xs ys, z))) (λ nz. a m (omega arith))
+pub saw_both : (c : ℕ → ℕ) (xs ys : List ℕ) → ((m : ℕ) → 0 < occurrences m xs → c m ≡ 1)
+    → ((m : ℕ) → 0 < occurrences m ys → c m ≡ 1) → (m : ℕ) → 0 < occurrences m (xs ++ ys) → c m ≡ 1
+saw_both c xs ys a b m h = dite (ℕ_discrete (occurrences m xs) 0)
+    (λ z. b m (omega (arith, occurrences-append m xs ys, z))) (λ nz. a m (omega arith))
 
 only_one : {A : Type 0} (a b : A) (i : ℕ) → get_elem? (a ∷ []) i ≡ some b → a ≡ b
 only_one a b zero e = some-injective a b e

@@ -1,5 +1,6 @@
 -- The rules of the answers that a cycle admits, each by what the memory and the step show.
-use Rattle.std.proofs.Common.{◌≡◌, ℕ, suc, ◌<◌, ◌≤◌, Bool, true, false, ◌&&◌, refl, sym, ◌∙◌, ap, Option, Some, None, cond}
+use Rattle.std.proofs.Common.{◌≡◌, ℕ, suc, ◌<◌, ◌≤◌, Bool, true, false, ◌&&◌, refl, sym, ◌∙◌, ap, Option, Some, None}
+use Rattle.std.proofs.Common.{cond}
 use Rattle.std.specs.Prelude.{option_map, is_some}
 use Rattle.vme_trace.specs.Edges.{falls_between}
 use Rattle.vme_trace.specs.LineNumbers.{AS, DTACK, BERR, is_answer_line, has_line}
@@ -8,7 +9,8 @@ use Rattle.vme_trace.specs.Signals.{falls}
 use Rattle.vme_trace.specs.Judged.{Stretch, is_judged}
 use Rattle.vme_trace.specs.Transfers.{is_answer, answers_write}
 use Rattle.vme_trace.specs.Cycles.{cycle_starts, class_at, in_cycle, answers_of}
-use Rattle.vme_trace.specs.Rules.{breaks, is_broken, is_single, is_block_class, is_interrupt, is_later, spoils_pair, turns}
+use Rattle.vme_trace.specs.Rules.{breaks, is_broken, is_single, is_block_class, is_interrupt, is_later, spoils_pair}
+use Rattle.vme_trace.specs.Rules.{turns}
 use Rattle.vme_trace.specs.Verdict.{rule_break}
 use Rattle.vme_trace.specs.declared.rule.Rule.{Rule}
 use Rattle.vme_trace.specs.declared.rule.Rule.TheVariants.{C1, C2, I4, I5}
@@ -28,14 +30,16 @@ use Rattle.vme_dtb.proofs.Faults.{AreOf}
 use Rattle.vme_dtb.proofs.CycleMemory.{before_is, cycle_before, in_acknowledge, in_acknowledged, in_spoiled, in_turned}
 use Rattle.vme_dtb.proofs.HandshakeBreaks.{answer_is}
 use Rattle.vme_dtb.proofs.Held.{Holds}
-use Rattle.vme_dtb.proofs.StepFacts.{old, new, answer_fall_is, falls_is, gathered, judged, on_answers, rule_from, same_cond, some_of}
+use Rattle.vme_dtb.proofs.StepFacts.{old, new, answer_fall_is, falls_is, gathered, judged, on_answers, rule_from}
+use Rattle.vme_dtb.proofs.StepFacts.{same_cond, some_of}
 
 nowhere : (b : Bool) → let none : Option ℕ = None in none ≡ cond b none none
 nowhere true = refl
 nowhere false = refl
 
 -- what an answer breaks by its direction
-by_direction : (f : Bool → Bool) (u w : Bool) (o : Option ℕ) → cond ((u && is_some o) && f (w && is_some o)) o None ≡ cond (f w) (cond u o None) None
+by_direction : (f : Bool → Bool) (u w : Bool) (o : Option ℕ) → cond ((u && is_some o) && f (w && is_some o)) o None
+    ≡ cond (f w) (cond u o None) None
 by_direction f true true None = nowhere (f true)
 by_direction f true false None = nowhere (f false)
 by_direction f false true None = nowhere (f true)
@@ -46,7 +50,8 @@ by_direction f false true (Some l) = nowhere (f true)
 by_direction f false false (Some l) = nowhere (f false)
 
 -- what the answer of a write breaks
-by_write : (e : Pending) (x : Bool) (o : Option ℕ) → cond ((is_writing e && is_some o) && x) o None ≡ cond (x && is_writing e) (cond (is_unanswered e) o None) None
+by_write : (e : Pending) (x : Bool) (o : Option ℕ) → cond ((is_writing e && is_some o) && x) o None
+    ≡ cond (x && is_writing e) (cond (is_unanswered e) o None) None
 by_write Closed true o = refl
 by_write Closed false o = refl
 by_write Reading true o = refl
@@ -58,7 +63,8 @@ by_write Writing false (Some l) = refl
 by_write Answered true o = refl
 by_write Answered false o = refl
 
-module _ (t : Trace) (span : Stretch) (reads : ReadsStrobes t span) (n : ℕ) (from : span.start ≤ n) (before : suc n < span.end) (m : HandshakeMemory) (holds : Holds t span n m) where
+module _ (t : Trace) (span : Stretch) (reads : ReadsStrobes t span) (n : ℕ) (from : span.start ≤ n)
+    (before : suc n < span.end) (m : HandshakeMemory) (holds : Holds t span n m) where
   abbrev seen : Edges
   seen = edges_between (old t n) (new t n)
 
@@ -76,81 +82,107 @@ module _ (t : Trace) (span : Stretch) (reads : ReadsStrobes t span) (n : ℕ) (f
   pub here_is : cycle_before t span (suc n) ≡ here
   here_is =
       before_is t span n from
-      ∙ same_entered _ _ (cycle_starts t span (suc n)) (falls_between (old t n) (new t n) AS) (sym holds.cycle) cycle_starts_is
+      ∙ same_entered _ _ (cycle_starts t span (suc n)) (falls_between (old t n) (new t n) AS) (sym holds.cycle)
+      cycle_starts_is
     where
-      same_entered : (c d : Cycle) (a b : Bool) → c ≡ d → a ≡ b → cycle_entered c (cond a (Some (asked_of (new t n))) None) ≡ cycle_entered d (cond b (Some (asked_of (new t n))) None)
+      same_entered : (c d : Cycle) (a b : Bool) → c ≡ d → a ≡ b → cycle_entered c (cond a (Some (asked_of (new t n)))
+          None) ≡ cycle_entered d (cond b (Some (asked_of (new t n))) None)
       same_entered c d a b e f = rw (e, f) refl
 
   -- the answer of a write, by the state of the transfer
   pub write_is : answers_write t span (suc n) ≡ (is_writing within && is_some seen.answer_fall)
   write_is =
       answers_write_is t span reads n from before m.pending holds.transfer
-      ∙ ap (λ b. is_writing within && b) (some_of (falls_between (old t n) (new t n) DTACK) (falls_between (old t n) (new t n) BERR) DTACK BERR)
+      ∙ ap (λ b. is_writing within && b) (some_of (falls_between (old t n) (new t n) DTACK)
+      (falls_between (old t n) (new t n) BERR) DTACK BERR)
 
   -- a rule of answers whose cycle the direction spoils
   from_cycle : (r : Rule) (x : Bool) (f : Cycle → Bool → Bool)
-      → ((l : ℕ) → breaks t span r (suc n) l ≡ (is_judged span (suc n) && has_line t.opening.slots l && (is_answer_line l && falls t l (suc n) && (is_answer t span (suc n) && x))))
+      → ((l : ℕ) → breaks t span r (suc n) l ≡ (is_judged span (suc n) && has_line t.opening.slots l
+      && (is_answer_line l && falls t l (suc n) && (is_answer t span (suc n) && x))))
       → x ≡ f (cycle_before t span (suc n)) (answers_write t span (suc n))
-      → option_map (break_at (suc n) (time_at t (suc n))) (broken r (f here (is_writing within)) (answer_in within seen)) ≡ rule_break t span (suc n) r
+      → option_map (break_at (suc n) (time_at t (suc n))) (broken r (f here (is_writing within))
+      (answer_in within seen)) ≡ rule_break t span (suc n) r
   from_cycle r x f form e =
       rule_from t n span from before r (f here (is_writing within)) (answer_in within seen)
       (on_answers t n span from before r (λ l. falls t l (suc n)) (is_answer t span (suc n) && x) form
-      ∙ same_cond _ _ _ _ (same_and (is_answer t span (suc n)) x _ _ (answer_is t span reads n from before m holds) (e ∙ same_test (cycle_before t span (suc n)) (answers_write t span (suc n)) here_is write_is)) (answer_fall_is t n)
+      ∙ same_cond _ _ _ _ (same_and (is_answer t span (suc n)) x _ _ (answer_is t span reads n from before m holds)
+      (e ∙ same_test (cycle_before t span (suc n)) (answers_write t span (suc n)) here_is write_is))
+      (answer_fall_is t n)
       ∙ by_direction (f here) (is_unanswered within) (is_writing within) seen.answer_fall)
     where
       same_and : (a b c d : Bool) → a ≡ c → b ≡ d → (a && b) ≡ (c && d)
       same_and a b c d e f = rw (e, f) refl
 
-      same_test : (c : Cycle) (w : Bool) → c ≡ here → w ≡ (is_writing within && is_some seen.answer_fall) → f c w ≡ f here (is_writing within && is_some seen.answer_fall)
+      same_test : (c : Cycle) (w : Bool) → c ≡ here → w ≡ (is_writing within && is_some seen.answer_fall) → f c w
+          ≡ f here (is_writing within && is_some seen.answer_fall)
       same_test c w e g = rw (e, g) refl
 
   abbrev spoiled : Bool
-  spoiled = in_cycle t span (λ i. is_single (class_at t span i) && spoils_pair t span (answers_of t span i (suc n)) (suc n)) (suc n)
+  spoiled = in_cycle t span (λ i. is_single (class_at t span i) && spoils_pair t span (answers_of t span i (suc n))
+      (suc n)) (suc n)
 
-  form_c1 : (l : ℕ) → breaks t span C1 (suc n) l ≡ (is_judged span (suc n) && has_line t.opening.slots l && (is_answer_line l && falls t l (suc n) && (is_answer t span (suc n) && spoiled)))
+  form_c1 : (l : ℕ) → breaks t span C1 (suc n) l ≡ (is_judged span (suc n) && has_line t.opening.slots l
+      && (is_answer_line l && falls t l (suc n) && (is_answer t span (suc n) && spoiled)))
   unfolding breaks is_broken
-  form_c1 l = ap (λ b. is_judged span (suc n) && has_line t.opening.slots l && b) (gathered (is_answer_line l && falls t l (suc n)) (is_answer t span (suc n)) spoiled)
+  form_c1 l = ap (λ b. is_judged span (suc n) && has_line t.opening.slots l && b)
+      (gathered (is_answer_line l && falls t l (suc n)) (is_answer t span (suc n)) spoiled)
 
-  c1 : option_map (break_at (suc n) (time_at t (suc n))) (broken C1 (is_pair_spoiled here (is_writing within)) (answer_in within seen)) ≡ rule_break t span (suc n) C1
+  c1 : option_map (break_at (suc n) (time_at t (suc n))) (broken C1 (is_pair_spoiled here (is_writing within))
+      (answer_in within seen)) ≡ rule_break t span (suc n) C1
   c1 = from_cycle C1 spoiled is_pair_spoiled form_c1 (in_spoiled t span (suc n))
 
   abbrev turned : Bool
-  turned = in_cycle t span (λ i. is_block_class (class_at t span i) && turns t span (answers_of t span i (suc n)) (suc n)) (suc n)
+  turned = in_cycle t span (λ i. is_block_class (class_at t span i) && turns t span (answers_of t span i (suc n))
+      (suc n)) (suc n)
 
-  form_c2 : (l : ℕ) → breaks t span C2 (suc n) l ≡ (is_judged span (suc n) && has_line t.opening.slots l && (is_answer_line l && falls t l (suc n) && (is_answer t span (suc n) && turned)))
+  form_c2 : (l : ℕ) → breaks t span C2 (suc n) l ≡ (is_judged span (suc n) && has_line t.opening.slots l
+      && (is_answer_line l && falls t l (suc n) && (is_answer t span (suc n) && turned)))
   unfolding breaks is_broken
-  form_c2 l = ap (λ b. is_judged span (suc n) && has_line t.opening.slots l && b) (gathered (is_answer_line l && falls t l (suc n)) (is_answer t span (suc n)) turned)
+  form_c2 l = ap (λ b. is_judged span (suc n) && has_line t.opening.slots l && b)
+      (gathered (is_answer_line l && falls t l (suc n)) (is_answer t span (suc n)) turned)
 
-  c2 : option_map (break_at (suc n) (time_at t (suc n))) (broken C2 (is_turned here (is_writing within)) (answer_in within seen)) ≡ rule_break t span (suc n) C2
+  c2 : option_map (break_at (suc n) (time_at t (suc n))) (broken C2 (is_turned here (is_writing within))
+      (answer_in within seen)) ≡ rule_break t span (suc n) C2
   c2 = from_cycle C2 turned is_turned form_c2 (in_turned t span (suc n))
 
   abbrev later : Bool
   later = in_cycle t span (λ i. is_interrupt (class_at t span i) && is_later (answers_of t span i (suc n))) (suc n)
 
-  form_i5 : (l : ℕ) → breaks t span I5 (suc n) l ≡ (is_judged span (suc n) && has_line t.opening.slots l && (is_answer_line l && falls t l (suc n) && (is_answer t span (suc n) && later)))
+  form_i5 : (l : ℕ) → breaks t span I5 (suc n) l ≡ (is_judged span (suc n) && has_line t.opening.slots l
+      && (is_answer_line l && falls t l (suc n) && (is_answer t span (suc n) && later)))
   unfolding breaks is_broken
-  form_i5 l = ap (λ b. is_judged span (suc n) && has_line t.opening.slots l && b) (gathered (is_answer_line l && falls t l (suc n)) (is_answer t span (suc n)) later)
+  form_i5 l = ap (λ b. is_judged span (suc n) && has_line t.opening.slots l && b)
+      (gathered (is_answer_line l && falls t l (suc n)) (is_answer t span (suc n)) later)
 
-  i5 : option_map (break_at (suc n) (time_at t (suc n))) (broken I5 (is_acknowledged here) (answer_in within seen)) ≡ rule_break t span (suc n) I5
+  i5 : option_map (break_at (suc n) (time_at t (suc n))) (broken I5 (is_acknowledged here) (answer_in within seen))
+      ≡ rule_break t span (suc n) I5
   i5 = from_cycle I5 later (λ c w. is_acknowledged c) form_i5 (in_acknowledged t span (suc n))
 
   abbrev acknowledges : Bool
   acknowledges = in_cycle t span (λ i. is_interrupt (class_at t span i)) (suc n)
 
-  form_i4 : (l : ℕ) → breaks t span I4 (suc n) l ≡ (is_judged span (suc n) && has_line t.opening.slots l && (is_answer_line l && falls t l (suc n) && (answers_write t span (suc n) && acknowledges)))
+  form_i4 : (l : ℕ) → breaks t span I4 (suc n) l ≡ (is_judged span (suc n) && has_line t.opening.slots l
+      && (is_answer_line l && falls t l (suc n) && (answers_write t span (suc n) && acknowledges)))
   unfolding breaks is_broken
-  form_i4 l = ap (λ b. is_judged span (suc n) && has_line t.opening.slots l && b) (gathered (is_answer_line l && falls t l (suc n)) (answers_write t span (suc n)) acknowledges)
+  form_i4 l = ap (λ b. is_judged span (suc n) && has_line t.opening.slots l && b)
+      (gathered (is_answer_line l && falls t l (suc n)) (answers_write t span (suc n)) acknowledges)
 
-  i4 : option_map (break_at (suc n) (time_at t (suc n))) (broken I4 (is_acknowledge here && is_writing within) (answer_in within seen)) ≡ rule_break t span (suc n) I4
+  i4 : option_map (break_at (suc n) (time_at t (suc n))) (broken I4 (is_acknowledge here && is_writing within)
+      (answer_in within seen)) ≡ rule_break t span (suc n) I4
   i4 =
       rule_from t n span from before I4 (is_acknowledge here && is_writing within) (answer_in within seen)
-      (on_answers t n span from before I4 (λ l. falls t l (suc n)) (answers_write t span (suc n) && acknowledges) form_i4
-      ∙ same_cond _ _ _ _ (same_and (answers_write t span (suc n)) acknowledges (is_writing within && is_some seen.answer_fall) (is_acknowledge here) write_is (in_acknowledge t span (suc n) ∙ ap is_acknowledge here_is)) (answer_fall_is t n)
+      (on_answers t n span from before I4 (λ l. falls t l (suc n)) (answers_write t span (suc n) && acknowledges)
+      form_i4
+      ∙ same_cond _ _ _ _ (same_and (answers_write t span (suc n)) acknowledges (is_writing within
+      && is_some seen.answer_fall) (is_acknowledge here) write_is (in_acknowledge t span (suc n) ∙ ap is_acknowledge
+      here_is)) (answer_fall_is t n)
       ∙ by_write within (is_acknowledge here) seen.answer_fall)
     where
       same_and : (a b c d : Bool) → a ≡ c → b ≡ d → (a && b) ≡ (c && d)
       same_and a b c d e f = rw (e, f) refl
 
   -- each fault is that of its rule
-  pub cycles-broken : AreOf (break_at (suc n) (time_at t (suc n))) (rule_break t span (suc n)) cycle_rules (cycle_faults here (is_writing within) (answer_in within seen))
+  pub cycles-broken : AreOf (break_at (suc n) (time_at t (suc n))) (rule_break t span (suc n)) cycle_rules
+      (cycle_faults here (is_writing within) (answer_in within seen))
   cycles-broken = (c1, (c2, (i4, (i5, tt))))

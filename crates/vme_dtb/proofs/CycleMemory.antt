@@ -1,5 +1,6 @@
 -- What the definitions say of the cycle that started last, as far as a memory tells it.
-use Rattle.std.proofs.Common.{◌≡◌, ℕ, suc, ◌+◌, ◌≤◌, Bool, true, false, ◌&&◌, ◌||◌, not, List, [], ◌∷◌, ◌++◌, refl, sym, ◌∙◌, ap, arith, add-one, Option, Some, None, cond}
+use Rattle.std.proofs.Common.{◌≡◌, ℕ, suc, ◌+◌, ◌≤◌, Bool, true, false, ◌&&◌, ◌||◌, not, List, [], ◌∷◌, ◌++◌, refl, sym}
+use Rattle.std.proofs.Common.{◌∙◌, ap, arith, add-one, Option, Some, None, cond}
 use Rattle.std.specs.Option.{option_map_or}
 use Rattle.std.proofs.lemmas.List.{append-nil}
 use Rattle.vme_trace.specs.Instants.{greatest}
@@ -10,10 +11,12 @@ use Rattle.vme_trace.specs.Cycles.{cycle_starts, class_at, cycle_of, in_cycle, a
 use Rattle.vme_trace.specs.Rules.{is_single, is_block_class, is_interrupt, is_later, spoils_pair, turns, differ}
 use Rattle.vme_trace.specs.declared.class.Class.{Class}
 use Rattle.vme_trace.specs.declared.class.Class.TheVariants as class
-use Rattle.vme_dtb.specs.CycleState.{unanswered_of, cycle_entered, after_answer, is_pair_spoiled, is_turned, is_acknowledge, is_acknowledged}
+use Rattle.vme_dtb.specs.CycleState.{unanswered_of, cycle_entered, after_answer, is_pair_spoiled, is_turned}
+use Rattle.vme_dtb.specs.CycleState.{is_acknowledge, is_acknowledged}
 use Rattle.vme_dtb.specs.Edge.{asked_of}
 use Rattle.vme_dtb.specs.declared.cycle.Cycle.{Cycle}
-use Rattle.vme_dtb.specs.declared.cycle.Cycle.TheVariants.{Free, Single, SingleRead, SingleDone, Block, BlockReading, BlockWriting, Interrupt, InterruptDone}
+use Rattle.vme_dtb.specs.declared.cycle.Cycle.TheVariants.{Free, Single, SingleRead, SingleDone, Block, BlockReading}
+use Rattle.vme_dtb.specs.declared.cycle.Cycle.TheVariants.{BlockWriting, Interrupt, InterruptDone}
 use Rattle.vme_dtb.proofs.Searches.{greatest_more, greatest_before, greatest_within, those_before, those_more}
 
 module _ (t : Trace) (span : Stretch) where
@@ -47,7 +50,8 @@ module _ (t : Trace) (span : Stretch) where
   told_none class.I = refl
   told_none class.F = refl
 
-  told_more : (c : Class) (rs : List ℕ) (j : ℕ) → told c (rs ++ j ∷ []) ≡ after_answer (told c rs) (answers_write t span j)
+  told_more : (c : Class) (rs : List ℕ) (j : ℕ) → told c (rs ++ j ∷ []) ≡ after_answer (told c rs)
+      (answers_write t span j)
   told_more class.F rs j = refl
   told_more class.S [] j = by_write (answers_write t span j)
     where
@@ -74,18 +78,22 @@ module _ (t : Trace) (span : Stretch) where
   told_more class.I (r ∷ rs) j = refl
 
   -- the last cycle to start, one instant later
-  cycle_of_suc : (n : ℕ) → span.start ≤ n → cycle_of t span (suc n) ≡ cond (cycle_starts t span (suc n)) (Some (suc n)) (cycle_of t span n)
+  cycle_of_suc : (n : ℕ) → span.start ≤ n → cycle_of t span (suc n) ≡ cond (cycle_starts t span (suc n)) (Some (suc n))
+      (cycle_of t span n)
   unfolding cycle_of
   cycle_of_suc n from =
       ap (greatest (cycle_starts t span) (span.start + 1)) (add-one (suc n))
       ∙ greatest_more (cycle_starts t span) (span.start + 1) (suc n) (omega arith)
-      ∙ ap (λ k. cond (cycle_starts t span (suc n)) (Some (suc n)) (greatest (cycle_starts t span) (span.start + 1) k)) (sym (add-one n))
+      ∙ ap (λ k. cond (cycle_starts t span (suc n)) (Some (suc n)) (greatest (cycle_starts t span) (span.start + 1) k))
+      (sym (add-one n))
 
   cycle_within : (j i : ℕ) → cycle_of t span j ≡ Some i → i ≤ j
   unfolding cycle_of
-  cycle_within j i h = let found = greatest_within (cycle_starts t span) (span.start + 1) (j + 1) i h in omega (arith, found.1)
+  cycle_within j i h = let found = greatest_within (cycle_starts t span) (span.start + 1) (j + 1) i h in
+      omega (arith, found.1)
 
-  answers_suc : (i j : ℕ) → i ≤ j → answers_of t span i (suc j) ≡ answers_of t span i j ++ cond (is_answer t span j) (j ∷ []) []
+  answers_suc : (i j : ℕ) → i ≤ j → answers_of t span i (suc j) ≡ answers_of t span i j ++ cond (is_answer t span j)
+      (j ∷ []) []
   unfolding answers_of
   answers_suc i j h = those_more (is_answer t span) i j h
 
@@ -96,33 +104,41 @@ module _ (t : Trace) (span : Stretch) where
   -- at the start of the span no cycle has started
   pub cycle_start : cycle_after span.start ≡ Free
   unfolding cycle_of
-  cycle_start = ap (λ o. told_of o (suc span.start)) (greatest_before (cycle_starts t span) (span.start + 1) (span.start + 1) (omega arith))
+  cycle_start = ap (λ o. told_of o (suc span.start)) (greatest_before (cycle_starts t span) (span.start + 1)
+      (span.start + 1) (omega arith))
 
   -- an instant is in the cycle that starts there, or else in that of the instant before
-  pub before_is : (n : ℕ) → span.start ≤ n → cycle_before (suc n) ≡ cycle_entered (cycle_after n) (cond (cycle_starts t span (suc n)) (Some (asked_of (levels_at t (suc n)))) None)
+  pub before_is : (n : ℕ) → span.start ≤ n → cycle_before (suc n) ≡ cycle_entered (cycle_after n)
+      (cond (cycle_starts t span (suc n)) (Some (asked_of (levels_at t (suc n)))) None)
   before_is n from = ap (λ o. told_of o (suc n)) (cycle_of_suc n from) ∙ by_start (cycle_starts t span (suc n))
     where
-      by_start : (b : Bool) → told_of (cond b (Some (suc n)) (cycle_of t span n)) (suc n) ≡ cycle_entered (cycle_after n) (cond b (Some (asked_of (levels_at t (suc n)))) None)
+      by_start : (b : Bool) → told_of (cond b (Some (suc n)) (cycle_of t span n)) (suc n)
+          ≡ cycle_entered (cycle_after n) (cond b (Some (asked_of (levels_at t (suc n)))) None)
       by_start true = ap (told (class_at t span (suc n))) (answers_none (suc n)) ∙ told_none (class_at t span (suc n))
       by_start false = refl
 
   -- an answer counts from the next instant on
-  pub after_is : (j : ℕ) → cycle_after j ≡ cond (is_answer t span j) (after_answer (cycle_before j) (answers_write t span j)) (cycle_before j)
+  pub after_is : (j : ℕ) → cycle_after j ≡ cond (is_answer t span j)
+      (after_answer (cycle_before j) (answers_write t span j)) (cycle_before j)
   after_is j = by_cycle (cycle_of t span j) refl
     where
       none : (b w : Bool) → Free ≡ cond b (after_answer Free w) Free
       none true w = refl
       none false w = refl
 
-      by_answer : (c : Class) (rs : List ℕ) (b : Bool) → told c (rs ++ cond b (j ∷ []) []) ≡ cond b (after_answer (told c rs) (answers_write t span j)) (told c rs)
+      by_answer : (c : Class) (rs : List ℕ) (b : Bool) → told c (rs ++ cond b (j ∷ []) [])
+          ≡ cond b (after_answer (told c rs) (answers_write t span j)) (told c rs)
       by_answer c rs true = told_more c rs j
       by_answer c rs false = ap (told c) (append-nil rs)
 
-      by_cycle : (o : Option ℕ) → cycle_of t span j ≡ o → told_of o (suc j) ≡ cond (is_answer t span j) (after_answer (told_of o j) (answers_write t span j)) (told_of o j)
+      by_cycle : (o : Option ℕ) → cycle_of t span j ≡ o → told_of o (suc j) ≡ cond (is_answer t span j)
+          (after_answer (told_of o j) (answers_write t span j)) (told_of o j)
       by_cycle None e = none (is_answer t span j) (answers_write t span j)
-      by_cycle (Some i) e = ap (told (class_at t span i)) (answers_suc i j (cycle_within j i e)) ∙ by_answer (class_at t span i) (answers_of t span i j) (is_answer t span j)
+      by_cycle (Some i) e = ap (told (class_at t span i)) (answers_suc i j (cycle_within j i e))
+          ∙ by_answer (class_at t span i) (answers_of t span i j) (is_answer t span j)
 
-  spoils_is : (c : Class) (rs : List ℕ) (j : ℕ) → (is_single c && spoils_pair t span rs j) ≡ is_pair_spoiled (told c rs) (answers_write t span j)
+  spoils_is : (c : Class) (rs : List ℕ) (j : ℕ) → (is_single c && spoils_pair t span rs j) ≡ is_pair_spoiled (told c rs)
+      (answers_write t span j)
   unfolding spoils_pair
   spoils_is class.S [] j = refl
   spoils_is class.S (r ∷ []) j = by_write (answers_write t span r) (answers_write t span j)
@@ -141,7 +157,8 @@ module _ (t : Trace) (span : Stretch) where
   spoils_is class.I (r ∷ rs) j = refl
   spoils_is class.F rs j = refl
 
-  turns_is : (c : Class) (rs : List ℕ) (j : ℕ) → (is_block_class c && turns t span rs j) ≡ is_turned (told c rs) (answers_write t span j)
+  turns_is : (c : Class) (rs : List ℕ) (j : ℕ) → (is_block_class c && turns t span rs j) ≡ is_turned (told c rs)
+      (answers_write t span j)
   unfolding turns
   turns_is class.S [] j = refl
   turns_is class.S (r ∷ []) j = by_write (answers_write t span r) (answers_write t span j)
@@ -199,34 +216,42 @@ module _ (t : Trace) (span : Stretch) where
   acknowledged_is class.F rs = refl
 
   -- what the rules ask of the cycle, by what a memory tells of it
-  pub in_spoiled : (j : ℕ) → in_cycle t span (λ i. is_single (class_at t span i) && spoils_pair t span (answers_of t span i j) j) j ≡ is_pair_spoiled (cycle_before j) (answers_write t span j)
+  pub in_spoiled : (j : ℕ) → in_cycle t span (λ i. is_single (class_at t span i) && spoils_pair t span
+      (answers_of t span i j) j) j ≡ is_pair_spoiled (cycle_before j) (answers_write t span j)
   unfolding in_cycle
   in_spoiled j = by_cycle (cycle_of t span j)
     where
-      by_cycle : (o : Option ℕ) → option_map_or (λ i. is_single (class_at t span i) && spoils_pair t span (answers_of t span i j) j) o false ≡ is_pair_spoiled (told_of o j) (answers_write t span j)
+      by_cycle : (o : Option ℕ) → option_map_or (λ i. is_single (class_at t span i) && spoils_pair t span
+          (answers_of t span i j) j) o false ≡ is_pair_spoiled (told_of o j) (answers_write t span j)
       by_cycle None = refl
       by_cycle (Some i) = spoils_is (class_at t span i) (answers_of t span i j) j
 
-  pub in_turned : (j : ℕ) → in_cycle t span (λ i. is_block_class (class_at t span i) && turns t span (answers_of t span i j) j) j ≡ is_turned (cycle_before j) (answers_write t span j)
+  pub in_turned : (j : ℕ) → in_cycle t span (λ i. is_block_class (class_at t span i)
+      && turns t span (answers_of t span i j) j) j ≡ is_turned (cycle_before j) (answers_write t span j)
   unfolding in_cycle
   in_turned j = by_cycle (cycle_of t span j)
     where
-      by_cycle : (o : Option ℕ) → option_map_or (λ i. is_block_class (class_at t span i) && turns t span (answers_of t span i j) j) o false ≡ is_turned (told_of o j) (answers_write t span j)
+      by_cycle : (o : Option ℕ) → option_map_or (λ i. is_block_class (class_at t span i)
+          && turns t span (answers_of t span i j) j) o false ≡ is_turned (told_of o j) (answers_write t span j)
       by_cycle None = refl
       by_cycle (Some i) = turns_is (class_at t span i) (answers_of t span i j) j
 
-  pub in_acknowledge : (j : ℕ) → in_cycle t span (λ i. is_interrupt (class_at t span i)) j ≡ is_acknowledge (cycle_before j)
+  pub in_acknowledge : (j : ℕ) → in_cycle t span (λ i. is_interrupt (class_at t span i)) j
+      ≡ is_acknowledge (cycle_before j)
   unfolding in_cycle
   in_acknowledge j = by_cycle (cycle_of t span j)
     where
-      by_cycle : (o : Option ℕ) → option_map_or (λ i. is_interrupt (class_at t span i)) o false ≡ is_acknowledge (told_of o j)
+      by_cycle : (o : Option ℕ) → option_map_or (λ i. is_interrupt (class_at t span i)) o false
+          ≡ is_acknowledge (told_of o j)
       by_cycle None = refl
       by_cycle (Some i) = acknowledge_is (class_at t span i) (answers_of t span i j)
 
-  pub in_acknowledged : (j : ℕ) → in_cycle t span (λ i. is_interrupt (class_at t span i) && is_later (answers_of t span i j)) j ≡ is_acknowledged (cycle_before j)
+  pub in_acknowledged : (j : ℕ) → in_cycle t span (λ i. is_interrupt (class_at t span i)
+      && is_later (answers_of t span i j)) j ≡ is_acknowledged (cycle_before j)
   unfolding in_cycle
   in_acknowledged j = by_cycle (cycle_of t span j)
     where
-      by_cycle : (o : Option ℕ) → option_map_or (λ i. is_interrupt (class_at t span i) && is_later (answers_of t span i j)) o false ≡ is_acknowledged (told_of o j)
+      by_cycle : (o : Option ℕ) → option_map_or (λ i. is_interrupt (class_at t span i)
+          && is_later (answers_of t span i j)) o false ≡ is_acknowledged (told_of o j)
       by_cycle None = refl
       by_cycle (Some i) = acknowledged_is (class_at t span i) (answers_of t span i j)

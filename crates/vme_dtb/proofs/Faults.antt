@@ -1,4 +1,5 @@
--- The first of some faults: there is none where each is none, and it is the first rule that is broken where each is its rule's.
+-- The first of some faults: there is none where each is none, and it is the first rule that is broken where each is its
+-- rule's.
 use Rattle.std.proofs.Common.{◌≡◌, ℕ, Bool, true, false, ◌&&◌, List, [], ◌∷◌, refl, sym, ◌∙◌, ap, Option, None, Some}
 use Rattle.std.specs.Prelude.{option_map}
 use Rattle.std.specs.Option.{option_or}
@@ -30,9 +31,13 @@ none-first (f ∷ fs) h = ap (λ (o : Option Fault). or_first o fs) h.0 ∙ none
 -- no rule of a cycle is broken where there is no answer
 pub unanswered : (c : Cycle) (w : Bool) → None ≡ cycle_fault c w None
 unanswered c w =
-    sym (none-first (cycle_faults c w None) (unnamed C1 (is_pair_spoiled c w), (unnamed C2 (is_turned c w), (unnamed I4 (is_acknowledge c && w), (unnamed I5 (is_acknowledged c), tt)))))
+    sym (none-first (cycle_faults c w None) (
+      unnamed C1 (is_pair_spoiled c w),
+      (unnamed C2 (is_turned c w), (unnamed I4 (is_acknowledge c && w), (unnamed I5 (is_acknowledged c), tt))),
+    ))
 
-map_or : (at : Fault → Break) (a b : Option Fault) → option_map at (option_or a b) ≡ option_or (option_map at a) (option_map at b)
+map_or : (at : Fault → Break) (a b : Option Fault) → option_map at (option_or a b) ≡ option_or (option_map at a)
+    (option_map at b)
 map_or at None b = refl
 map_or at (Some x) b = refl
 
@@ -53,7 +58,8 @@ module _ (at : Fault → Break) (of : Rule → Option Break) where
   AreOf (r ∷ rs) [] = ⊥
   AreOf (r ∷ rs) (f ∷ fs) = (option_map at f ≡ of r) × AreOf rs fs
 
-  or_first-is : (rs : List Rule) (fs : List (Option Fault)) → AreOf rs fs → (earlier : Option Fault) (later : Option Break)
+  or_first-is : (rs : List Rule) (fs : List (Option Fault)) → AreOf rs fs → (earlier : Option Fault)
+      (later : Option Break)
       → option_or (option_map at (or_first earlier fs)) later ≡ option_or (option_map at earlier) (or_break rs later)
   or_first-is [] [] h earlier later = refl
   or_first-is [] (f ∷ fs) h earlier later = absurd h
@@ -64,7 +70,8 @@ module _ (at : Fault → Break) (of : Rule → Option Break) where
       ∙ (or_assoc (option_map at earlier) (option_map at f) (or_break rs later)
       ∙ ap (λ (o : Option Break). option_or (option_map at earlier) (option_or o (or_break rs later))) h.0))
 
-  pub first-is : (rs : List Rule) (fs : List (Option Fault)) → AreOf rs fs → (later : Option Break) → option_or (option_map at (first_of_faults fs)) later ≡ or_break rs later
+  pub first-is : (rs : List Rule) (fs : List (Option Fault)) → AreOf rs fs → (later : Option Break)
+      → option_or (option_map at (first_of_faults fs)) later ≡ or_break rs later
   first-is rs fs h later = or_first-is rs fs h None later
 
   -- the same of two lists

@@ -1,5 +1,6 @@
 -- The rules of the handshake, each by what the memory and the step show.
-use Rattle.std.proofs.Common.{◌≡◌, ℕ, suc, ◌+◌, ◌<◌, ◌≤◌, Bool, true, false, ◌&&◌, ◌||◌, not, refl, sym, ◌∙◌, ap, Option, Some, None, cond}
+use Rattle.std.proofs.Common.{◌≡◌, ℕ, suc, ◌+◌, ◌<◌, ◌≤◌, Bool, true, false, ◌&&◌, ◌||◌, not, refl, sym, ◌∙◌, ap}
+use Rattle.std.proofs.Common.{Option, Some, None, cond}
 use Rattle.std.specs.Prelude.{option_map, is_some, nat_lt, ◌==◌}
 use Rattle.vme_trace.specs.Edges.{falls_between, rises_between}
 use Rattle.vme_trace.specs.Instants.{none}
@@ -18,14 +19,18 @@ use Rattle.vme_monitor.specs.Tracking.{entered, is_unanswered, is_within}
 use Rattle.vme_monitor.specs.declared.tracking.Pending.{Pending}
 use Rattle.vme_monitor.proofs.TrackedTransfers.{in_transfer_is, is_answer_is}
 use Rattle.vme_dtb.specs.Edge.{edges_between}
-use Rattle.vme_dtb.specs.Machine.{answer_in, broken, dropped, freed, is_doubled, is_replied, is_unserved, strobe_faults, strobe_rules}
+use Rattle.vme_dtb.specs.Machine.{answer_in, broken, dropped, freed, is_doubled, is_replied, is_unserved, strobe_faults}
+use Rattle.vme_dtb.specs.Machine.{strobe_rules}
 use Rattle.vme_dtb.specs.declared.edges.Edges.{Edges}
 use Rattle.vme_dtb.specs.declared.memory.HandshakeMemory.{HandshakeMemory}
 use Rattle.vme_dtb.proofs.Faults.{AreOf}
 use Rattle.vme_dtb.proofs.FreedAnswers.{freed_at, held_is}
 use Rattle.vme_dtb.proofs.Held.{Holds}
 use Rattle.vme_dtb.proofs.OpenState.{doubled_is, replied_is, unserved_is}
-use Rattle.vme_dtb.proofs.StepFacts.{old, new, answer_falls_is, answer_fall_is, falls_is, gathered, on_address, on_answers, on_strobes, rises_is, rule_from, same_cond, same_first, some_of, starts_is, strobe_fall_is, strobe_rise_is, strobe_rises_is, unaddressed_is, unready_is}
+use Rattle.vme_dtb.proofs.StepFacts.{old, new, answer_falls_is, answer_fall_is, falls_is, gathered, on_address}
+use Rattle.vme_dtb.proofs.StepFacts.{on_answers, on_strobes, rises_is, rule_from, same_cond, same_first, some_of}
+use Rattle.vme_dtb.proofs.StepFacts.{starts_is, strobe_fall_is, strobe_rise_is, strobe_rises_is, unaddressed_is}
+use Rattle.vme_dtb.proofs.StepFacts.{unready_is}
 
 turned_round : (a x y : Bool) → (a && x && y) ≡ (a && y && x)
 turned_round true true true = refl
@@ -50,7 +55,8 @@ answered_on false true (Some l) = refl
 answered_on false false None = refl
 answered_on false false (Some l) = refl
 
-module _ (t : Trace) (span : Stretch) (reads : ReadsStrobes t span) (n : ℕ) (from : span.start ≤ n) (before : suc n < span.end) (m : HandshakeMemory) (holds : Holds t span n m) where
+module _ (t : Trace) (span : Stretch) (reads : ReadsStrobes t span) (n : ℕ) (from : span.start ≤ n)
+    (before : suc n < span.end) (m : HandshakeMemory) (holds : Holds t span n m) where
   abbrev seen : Edges
   seen = edges_between (old t n) (new t n)
 
@@ -58,108 +64,139 @@ module _ (t : Trace) (span : Stretch) (reads : ReadsStrobes t span) (n : ℕ) (f
   within = entered m.pending (old t n) (new t n)
 
   -- a rule, by the tests that it is of
-  form_1 : (l : ℕ) → breaks t span H1 (suc n) l ≡ (is_judged span (suc n) && has_line t.opening.slots l && (is_answer_line l && not (near (high t l) (suc n)) && transfer_starts t span (suc n)))
+  form_1 : (l : ℕ) → breaks t span H1 (suc n) l ≡ (is_judged span (suc n) && has_line t.opening.slots l
+      && (is_answer_line l && not (near (high t l) (suc n)) && transfer_starts t span (suc n)))
   unfolding breaks is_broken
-  form_1 l = ap (λ b. is_judged span (suc n) && has_line t.opening.slots l && b) (turned_round (is_answer_line l) (transfer_starts t span (suc n)) (not (near (high t l) (suc n))))
+  form_1 l = ap (λ b. is_judged span (suc n) && has_line t.opening.slots l && b)
+      (turned_round (is_answer_line l) (transfer_starts t span (suc n)) (not (near (high t l) (suc n))))
 
   h1 : option_map (break_at (suc n) (time_at t (suc n))) (broken H1 true seen.unready) ≡ rule_break t span (suc n) H1
   h1 =
       rule_from t n span from before H1 true seen.unready
       (on_answers t n span from before H1 (λ l. not (near (high t l) (suc n))) (transfer_starts t span (suc n)) form_1
-      ∙ same_cond _ _ _ _ (starts_is t n span from before) (same_first _ _ _ _ DTACK BERR (unready_is t n DTACK) (unready_is t n BERR)))
+      ∙ same_cond _ _ _ _ (starts_is t n span from before) (same_first _ _ _ _ DTACK BERR (unready_is t n DTACK)
+      (unready_is t n BERR)))
 
   abbrev unserved_at : ℕ → Bool
   unserved_at i = nat_lt i (suc n) && not (is_answered t span i (suc n + 1))
 
   unserved : in_transfer t span unserved_at (suc n) ≡ is_unserved m.pending seen
-  unserved = unserved_is t span reads n from before m.pending holds.transfer ∙ ap (λ b. is_unanswered m.pending && not b) (answer_falls_is t n)
+  unserved = unserved_is t span reads n from before m.pending holds.transfer ∙ ap (λ b. is_unanswered m.pending
+      && not b) (answer_falls_is t n)
 
-  form_2 : (l : ℕ) → breaks t span H2 (suc n) l ≡ (is_judged span (suc n) && has_line t.opening.slots l && (is_strobe l && rises t l (suc n) && in_transfer t span unserved_at (suc n)))
+  form_2 : (l : ℕ) → breaks t span H2 (suc n) l ≡ (is_judged span (suc n) && has_line t.opening.slots l
+      && (is_strobe l && rises t l (suc n) && in_transfer t span unserved_at (suc n)))
   unfolding breaks is_broken
   form_2 l = refl
 
-  h2 : option_map (break_at (suc n) (time_at t (suc n))) (broken H2 (is_unserved m.pending seen) seen.strobe_rise) ≡ rule_break t span (suc n) H2
+  h2 : option_map (break_at (suc n) (time_at t (suc n))) (broken H2 (is_unserved m.pending seen) seen.strobe_rise)
+      ≡ rule_break t span (suc n) H2
   h2 =
       rule_from t n span from before H2 (is_unserved m.pending seen) seen.strobe_rise
-      (on_strobes t n span from before H2 (λ l. rises t l (suc n)) (in_transfer t span unserved_at (suc n)) form_2 ∙ same_cond _ _ _ _ unserved (strobe_rise_is t n))
+      (on_strobes t n span from before H2 (λ l. rises t l (suc n)) (in_transfer t span unserved_at (suc n)) form_2
+      ∙ same_cond _ _ _ _ unserved (strobe_rise_is t n))
 
   abbrev replied_at : ℕ → Bool
   replied_at i = nat_lt i (suc n) && is_answered t span i (suc n)
 
-  form_3 : (l : ℕ) → breaks t span H3 (suc n) l ≡ (is_judged span (suc n) && has_line t.opening.slots l && (is_strobe l && falls t l (suc n) && in_transfer t span replied_at (suc n)))
+  form_3 : (l : ℕ) → breaks t span H3 (suc n) l ≡ (is_judged span (suc n) && has_line t.opening.slots l
+      && (is_strobe l && falls t l (suc n) && in_transfer t span replied_at (suc n)))
   unfolding breaks is_broken
   form_3 l = refl
 
-  h3 : option_map (break_at (suc n) (time_at t (suc n))) (broken H3 (is_replied m.pending) seen.strobe_fall) ≡ rule_break t span (suc n) H3
+  h3 : option_map (break_at (suc n) (time_at t (suc n))) (broken H3 (is_replied m.pending) seen.strobe_fall)
+      ≡ rule_break t span (suc n) H3
   h3 =
       rule_from t n span from before H3 (is_replied m.pending) seen.strobe_fall
-      (on_strobes t n span from before H3 (λ l. falls t l (suc n)) (in_transfer t span replied_at (suc n)) form_3 ∙ same_cond _ _ _ _ (replied_is t span reads n from before m.pending holds.transfer) (strobe_fall_is t n))
+      (on_strobes t n span from before H3 (λ l. falls t l (suc n)) (in_transfer t span replied_at (suc n)) form_3
+      ∙ same_cond _ _ _ _ (replied_is t span reads n from before m.pending holds.transfer) (strobe_fall_is t n))
 
-  form_4 : (l : ℕ) → breaks t span H4 (suc n) l ≡ (is_judged span (suc n) && has_line t.opening.slots l && (is_answer_line l && falls t l (suc n) && not (in_transfer t span (λ i. true) (suc n))))
+  form_4 : (l : ℕ) → breaks t span H4 (suc n) l ≡ (is_judged span (suc n) && has_line t.opening.slots l
+      && (is_answer_line l && falls t l (suc n) && not (in_transfer t span (λ i. true) (suc n))))
   unfolding breaks is_broken
   form_4 l = refl
 
-  h4 : option_map (break_at (suc n) (time_at t (suc n))) (broken H4 (not (is_within within)) seen.answer_fall) ≡ rule_break t span (suc n) H4
+  h4 : option_map (break_at (suc n) (time_at t (suc n))) (broken H4 (not (is_within within)) seen.answer_fall)
+      ≡ rule_break t span (suc n) H4
   h4 =
       rule_from t n span from before H4 (not (is_within within)) seen.answer_fall
       (on_answers t n span from before H4 (λ l. falls t l (suc n)) (not (in_transfer t span (λ i. true) (suc n))) form_4
-      ∙ same_cond _ _ _ _ (ap not (in_transfer_is t span reads n from before m.pending holds.transfer)) (answer_fall_is t n))
+      ∙ same_cond _ _ _ _ (ap not (in_transfer_is t span reads n from before m.pending holds.transfer))
+      (answer_fall_is t n))
 
   abbrev twice_at : ℕ → Bool
-  twice_at i = is_answered t span i (suc n) || (answers t span i (suc n) && falls t DTACK (suc n) && falls t BERR (suc n))
+  twice_at i = is_answered t span i (suc n) || (answers t span i (suc n) && falls t DTACK (suc n)
+      && falls t BERR (suc n))
 
-  form_5 : (l : ℕ) → breaks t span H5 (suc n) l ≡ (is_judged span (suc n) && has_line t.opening.slots l && (is_answer_line l && falls t l (suc n) && in_transfer t span twice_at (suc n)))
+  form_5 : (l : ℕ) → breaks t span H5 (suc n) l ≡ (is_judged span (suc n) && has_line t.opening.slots l
+      && (is_answer_line l && falls t l (suc n) && in_transfer t span twice_at (suc n)))
   unfolding breaks is_broken
   form_5 l = refl
 
   doubled : in_transfer t span twice_at (suc n) ≡ is_doubled within seen
   doubled =
       doubled_is t span reads n from before m.pending holds.transfer
-      ∙ same_both (falls t DTACK (suc n)) (falls t BERR (suc n)) (falls_between (old t n) (new t n) DTACK) (falls_between (old t n) (new t n) BERR) (falls_is t n DTACK) (falls_is t n BERR)
+      ∙ same_both (falls t DTACK (suc n)) (falls t BERR (suc n)) (falls_between (old t n) (new t n) DTACK)
+      (falls_between (old t n) (new t n) BERR) (falls_is t n DTACK) (falls_is t n BERR)
     where
-      same_both : (a b c d : Bool) → a ≡ c → b ≡ d → (is_replied within || (is_unanswered within && (a && b))) ≡ (is_replied within || (is_unanswered within && (c && d)))
+      same_both : (a b c d : Bool) → a ≡ c → b ≡ d → (is_replied within || (is_unanswered within && (a && b)))
+          ≡ (is_replied within || (is_unanswered within && (c && d)))
       same_both a b c d e f = rw (e, f) refl
 
-  h5 : option_map (break_at (suc n) (time_at t (suc n))) (broken H5 (is_doubled within seen) seen.answer_fall) ≡ rule_break t span (suc n) H5
+  h5 : option_map (break_at (suc n) (time_at t (suc n))) (broken H5 (is_doubled within seen) seen.answer_fall)
+      ≡ rule_break t span (suc n) H5
   h5 =
       rule_from t n span from before H5 (is_doubled within seen) seen.answer_fall
-      (on_answers t n span from before H5 (λ l. falls t l (suc n)) (in_transfer t span twice_at (suc n)) form_5 ∙ same_cond _ _ _ _ doubled (answer_fall_is t n))
+      (on_answers t n span from before H5 (λ l. falls t l (suc n)) (in_transfer t span twice_at (suc n)) form_5
+      ∙ same_cond _ _ _ _ doubled (answer_fall_is t n))
 
   abbrev held_at : ℕ → Bool
   held_at l = rises t l (suc n) && not (freed_at t span l n || strobe_rises t (suc n))
 
-  plain_6 : (l : ℕ) → breaks t span H6 (suc n) l ≡ (is_judged span (suc n) && has_line t.opening.slots l && (is_answer_line l && rises t l (suc n) && none (strobe_rises t) (last_before t span (falls t l) (suc n)) (suc n + 1)))
+  plain_6 : (l : ℕ) → breaks t span H6 (suc n) l ≡ (is_judged span (suc n) && has_line t.opening.slots l
+      && (is_answer_line l && rises t l (suc n) && none (strobe_rises t) (last_before t span (falls t l) (suc n))
+      (suc n + 1)))
   unfolding breaks is_broken
   plain_6 l = refl
 
-  form_6 : (l : ℕ) → breaks t span H6 (suc n) l ≡ (is_judged span (suc n) && has_line t.opening.slots l && (is_answer_line l && held_at l && true))
+  form_6 : (l : ℕ) → breaks t span H6 (suc n) l ≡ (is_judged span (suc n) && has_line t.opening.slots l
+      && (is_answer_line l && held_at l && true))
   form_6 l =
       plain_6 l
       ∙ ap (λ b. is_judged span (suc n) && has_line t.opening.slots l && b)
-      (gathered (is_answer_line l) (rises t l (suc n)) (none (strobe_rises t) (last_before t span (falls t l) (suc n)) (suc n + 1))
+      (gathered (is_answer_line l) (rises t l (suc n)) (none (strobe_rises t) (last_before t span (falls t l) (suc n))
+      (suc n + 1))
       ∙ ap (λ b. is_answer_line l && b) (held_is t span l n from)
       ∙ always (is_answer_line l) (held_at l))
 
-  held : (l : ℕ) (was : Bool) → was ≡ freed_at t span l n → held_at l ≡ (rises_between (old t n) (new t n) l && not (freed was seen))
-  held l was e = same_held (rises t l (suc n)) (freed_at t span l n) (strobe_rises t (suc n)) (rises_between (old t n) (new t n) l) was (is_some seen.strobe_rise) (rises_is t n l) (sym e) (strobe_rises_is t n)
+  held : (l : ℕ) (was : Bool) → was ≡ freed_at t span l n → held_at l ≡ (rises_between (old t n) (new t n) l
+      && not (freed was seen))
+  held l was e = same_held (rises t l (suc n)) (freed_at t span l n) (strobe_rises t (suc n))
+      (rises_between (old t n) (new t n) l) was (is_some seen.strobe_rise) (rises_is t n l) (sym e)
+      (strobe_rises_is t n)
     where
       same_held : (a b c d e f : Bool) → a ≡ d → b ≡ e → c ≡ f → (a && not (b || c)) ≡ (d && not (e || f))
       same_held a b c d e f x y z = rw (x, y, z) refl
 
-  h6 : option_map (break_at (suc n) (time_at t (suc n))) (broken H6 true (dropped m seen)) ≡ rule_break t span (suc n) H6
+  h6 : option_map (break_at (suc n) (time_at t (suc n))) (broken H6 true (dropped m seen)) ≡ rule_break t span (suc n)
+      H6
   h6 =
       rule_from t n span from before H6 true (dropped m seen)
-      (on_answers t n span from before H6 held_at true form_6 ∙ same_cond true true _ _ refl (same_first _ _ _ _ DTACK BERR (held DTACK m.dtack_freed holds.dtack) (held BERR m.berr_freed holds.berr)))
+      (on_answers t n span from before H6 held_at true form_6 ∙ same_cond true true _ _ refl
+      (same_first _ _ _ _ DTACK BERR (held DTACK m.dtack_freed holds.dtack) (held BERR m.berr_freed holds.berr)))
 
-  form_7 : (l : ℕ) → breaks t span H7 (suc n) l ≡ (is_judged span (suc n) && has_line t.opening.slots l && ((l == AS) && rises t l (suc n) && in_transfer t span unserved_at (suc n)))
+  form_7 : (l : ℕ) → breaks t span H7 (suc n) l ≡ (is_judged span (suc n) && has_line t.opening.slots l
+      && ((l == AS) && rises t l (suc n) && in_transfer t span unserved_at (suc n)))
   unfolding breaks is_broken
   form_7 l = refl
 
-  h7 : option_map (break_at (suc n) (time_at t (suc n))) (broken H7 (is_unserved m.pending seen && seen.shown.cycle_end) (Some AS)) ≡ rule_break t span (suc n) H7
+  h7 : option_map (break_at (suc n) (time_at t (suc n))) (broken H7 (is_unserved m.pending seen && seen.shown.cycle_end)
+      (Some AS)) ≡ rule_break t span (suc n) H7
   h7 =
       rule_from t n span from before H7 (is_unserved m.pending seen && seen.shown.cycle_end) (Some AS)
       (on_address t n span from before H7 (λ l. rises t l (suc n)) (in_transfer t span unserved_at (suc n)) form_7
-      ∙ ap (λ b. cond b (Some AS) None) (swapped (rises t AS (suc n)) (in_transfer t span unserved_at (suc n)) (rises_between (old t n) (new t n) AS) (is_unserved m.pending seen) (rises_is t n AS) unserved))
+      ∙ ap (λ b. cond b (Some AS) None) (swapped (rises t AS (suc n)) (in_transfer t span unserved_at (suc n))
+      (rises_between (old t n) (new t n) AS) (is_unserved m.pending seen) (rises_is t n AS) unserved))
     where
       swap : (a b : Bool) → (a && b) ≡ (b && a)
       swap true true = refl
@@ -174,22 +211,29 @@ module _ (t : Trace) (span : Stretch) (reads : ReadsStrobes t span) (n : ℕ) (f
   pub answer_is : is_answer t span (suc n) ≡ (is_unanswered within && is_some seen.answer_fall)
   answer_is =
       is_answer_is t span reads n from before m.pending holds.transfer
-      ∙ ap (λ b. is_unanswered within && b) (some_of (falls_between (old t n) (new t n) DTACK) (falls_between (old t n) (new t n) BERR) DTACK BERR)
+      ∙ ap (λ b. is_unanswered within && b) (some_of (falls_between (old t n) (new t n) DTACK)
+      (falls_between (old t n) (new t n) BERR) DTACK BERR)
 
-  form_8 : (l : ℕ) → breaks t span H8 (suc n) l ≡ (is_judged span (suc n) && has_line t.opening.slots l && (is_answer_line l && falls t l (suc n) && (is_answer t span (suc n) && not (near (low t AS) (suc n)))))
+  form_8 : (l : ℕ) → breaks t span H8 (suc n) l ≡ (is_judged span (suc n) && has_line t.opening.slots l
+      && (is_answer_line l && falls t l (suc n) && (is_answer t span (suc n) && not (near (low t AS) (suc n)))))
   unfolding breaks is_broken
-  form_8 l = ap (λ b. is_judged span (suc n) && has_line t.opening.slots l && b) (gathered (is_answer_line l && falls t l (suc n)) (is_answer t span (suc n)) (not (near (low t AS) (suc n))))
+  form_8 l = ap (λ b. is_judged span (suc n) && has_line t.opening.slots l && b)
+      (gathered (is_answer_line l && falls t l (suc n)) (is_answer t span (suc n)) (not (near (low t AS) (suc n))))
 
-  h8 : option_map (break_at (suc n) (time_at t (suc n))) (broken H8 seen.unaddressed (answer_in within seen)) ≡ rule_break t span (suc n) H8
+  h8 : option_map (break_at (suc n) (time_at t (suc n))) (broken H8 seen.unaddressed (answer_in within seen))
+      ≡ rule_break t span (suc n) H8
   h8 =
       rule_from t n span from before H8 seen.unaddressed (answer_in within seen)
-      (on_answers t n span from before H8 (λ l. falls t l (suc n)) (is_answer t span (suc n) && not (near (low t AS) (suc n))) form_8
-      ∙ same_cond _ _ _ _ (same_and (is_answer t span (suc n)) (not (near (low t AS) (suc n))) (is_unanswered within && is_some seen.answer_fall) seen.unaddressed answer_is (unaddressed_is t n)) (answer_fall_is t n)
+      (on_answers t n span from before H8 (λ l. falls t l (suc n)) (is_answer t span (suc n)
+      && not (near (low t AS) (suc n))) form_8
+      ∙ same_cond _ _ _ _ (same_and (is_answer t span (suc n)) (not (near (low t AS) (suc n))) (is_unanswered within
+      && is_some seen.answer_fall) seen.unaddressed answer_is (unaddressed_is t n)) (answer_fall_is t n)
       ∙ answered_on (is_unanswered within) seen.unaddressed seen.answer_fall)
     where
       same_and : (a b c d : Bool) → a ≡ c → b ≡ d → (a && b) ≡ (c && d)
       same_and a b c d e f = rw (e, f) refl
 
   -- each fault is that of its rule
-  pub strobes-broken : AreOf (break_at (suc n) (time_at t (suc n))) (rule_break t span (suc n)) strobe_rules (strobe_faults m within seen)
+  pub strobes-broken : AreOf (break_at (suc n) (time_at t (suc n))) (rule_break t span (suc n)) strobe_rules
+      (strobe_faults m within seen)
   strobes-broken = (h1, (h2, (h3, (h4, (h5, (h6, (h7, (h8, tt))))))))

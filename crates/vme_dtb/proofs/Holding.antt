@@ -1,5 +1,6 @@
 -- The memory says what is so at each judged instant, whatever rule is broken.
-use Rattle.std.proofs.Common.{◌≡◌, ℕ, zero, suc, ◌<◌, ◌≤◌, Bool, true, false, ◌&&◌, ◌||◌, not, refl, sym, ◌∙◌, ap, arith, lit<, Option, Some, None, cond, subst, inl, inr, ◌⊎◌}
+use Rattle.std.proofs.Common.{◌≡◌, ℕ, zero, suc, ◌<◌, ◌≤◌, Bool, true, false, ◌&&◌, ◌||◌, not, refl, sym, ◌∙◌, ap}
+use Rattle.std.proofs.Common.{arith, lit<, Option, Some, None, cond, subst, inl, inr, ◌⊎◌}
 use Rattle.std.specs.Prelude.{is_some, slice_get}
 use Rattle.vme_trace.specs.LineNumbers.{line_count, DTACK, BERR}
 use Rattle.vme_trace.specs.Levels.{Levels, level_at, is_low, is_known, is_idle, is_idle_on}
@@ -41,10 +42,12 @@ false_of_not false h = refl
 
 idle_line : (v : Levels) (l : ℕ) → l < line_count → is_idle v ≡ true → is_idle_on v l ≡ true
 unfolding is_idle
-idle_line v l below idle = true_of_not _ (any-fails (λ k. not (is_idle_on v k)) 0 line_count l (false_of_not _ idle) (omega arith) below)
+idle_line v l below idle = true_of_not _ (any-fails (λ k. not (is_idle_on v k)) 0 line_count l (false_of_not _ idle)
+    (omega arith) below)
 
 -- an answer counts where an answer line falls
-counted : (u w : Bool) (o : Option ℕ) (c : Cycle) → cond (u && is_some o) (after_answer c (w && is_some o)) c ≡ cond (is_some (cond u o None)) (after_answer c w) c
+counted : (u w : Bool) (o : Option ℕ) (c : Cycle) → cond (u && is_some o) (after_answer c (w && is_some o)) c
+    ≡ cond (is_some (cond u o None)) (after_answer c w) c
 counted true true None c = refl
 counted true true (Some l) c = refl
 counted true false None c = refl
@@ -64,58 +67,73 @@ module _ (t : Trace) (span : Stretch) (facts : IsSpan t span) where
         berr = freed_start t span BERR span.start (idle_line (levels_at t span.start) 4 (lit< tt) facts.idle);
       }
 
-  module _ (n : ℕ) (from : span.start ≤ n) (before : suc n < span.end) (m : HandshakeMemory) (holds : Holds t span n m) where
-    abbrev seen : Edges
-    seen = edges_between (old t n) (new t n)
+  module _ (n : ℕ) (from : span.start ≤ n) (before : suc n < span.end) (m : HandshakeMemory) (holds : Holds t span n m)
+    where
+      abbrev seen : Edges
+      seen = edges_between (old t n) (new t n)
 
-    abbrev within : Pending
-    within = entered m.pending (old t n) (new t n)
+      abbrev within : Pending
+      within = entered m.pending (old t n) (new t n)
 
-    abbrev here : Cycle
-    here = cycle_entered m.cycle seen.shown.cycle
+      abbrev here : Cycle
+      here = cycle_entered m.cycle seen.shown.cycle
 
-    cycle_next : cond (is_some (answer_in within seen)) (after_answer here (is_writing within)) here ≡ cycle_after t span (suc n)
-    cycle_next =
-        sym
-        (after_is t span (suc n)
-        ∙ same_counted (is_answer t span (suc n)) (is_unanswered within && is_some seen.answer_fall) (cycle_before t span (suc n)) here (answers_write t span (suc n)) (is_writing within && is_some seen.answer_fall)
-        (answer_is t span facts.reads n from before m holds) (here_is t span facts.reads n from before m holds) (write_is t span facts.reads n from before m holds)
-        ∙ counted (is_unanswered within) (is_writing within) seen.answer_fall here)
-      where
-        same_counted : (a b : Bool) (c d : Cycle) (w x : Bool) → a ≡ b → c ≡ d → w ≡ x → cond a (after_answer c w) c ≡ cond b (after_answer d x) d
-        same_counted a b c d w x e f g = rw (e, f, g) refl
+      cycle_next : cond (is_some (answer_in within seen)) (after_answer here (is_writing within)) here
+          ≡ cycle_after t span (suc n)
+      cycle_next =
+          sym
+          (after_is t span (suc n)
+          ∙ same_counted (is_answer t span (suc n)) (is_unanswered within && is_some seen.answer_fall)
+          (cycle_before t span (suc n)) here (answers_write t span (suc n)) (is_writing within
+          && is_some seen.answer_fall)
+          (answer_is t span facts.reads n from before m holds) (here_is t span facts.reads n from before m holds)
+          (write_is t span facts.reads n from before m holds)
+          ∙ counted (is_unanswered within) (is_writing within) seen.answer_fall here)
+        where
+          same_counted : (a b : Bool) (c d : Cycle) (w x : Bool) → a ≡ b → c ≡ d → w ≡ x → cond a (after_answer c w) c
+              ≡ cond b (after_answer d x) d
+          same_counted a b c d w x e f g = rw (e, f, g) refl
 
-    freed_next : (l : ℕ) (was : Bool) → was ≡ freed_at t span l n → is_known (level_at (old t n) l) ≡ true → (is_low (level_at (new t n) l) && freed was seen) ≡ freed_at t span l (suc n)
-    unfolding low
-    freed_next l was e readable =
-        same_freed (is_low (level_at (new t n) l)) was (freed_at t span l n) (is_some seen.strobe_rise) (strobe_rises t (suc n)) e (sym (strobe_rises_is t n))
-        ∙ sym (freed_suc t span l n from readable)
-      where
-        same_freed : (a b c d f : Bool) → b ≡ c → d ≡ f → (a && (b || d)) ≡ (a && (c || f))
-        same_freed a b c d f x y = rw (x, y) refl
+      freed_next : (l : ℕ) (was : Bool) → was ≡ freed_at t span l n → is_known (level_at (old t n) l) ≡ true
+          → (is_low (level_at (new t n) l) && freed was seen) ≡ freed_at t span l (suc n)
+      unfolding low
+      freed_next l was e readable =
+          same_freed (is_low (level_at (new t n) l)) was (freed_at t span l n) (is_some seen.strobe_rise)
+          (strobe_rises t (suc n)) e (sym (strobe_rises_is t n))
+          ∙ sym (freed_suc t span l n from readable)
+        where
+          same_freed : (a b c d f : Bool) → b ≡ c → d ≡ f → (a && (b || d)) ≡ (a && (c || f))
+          same_freed a b c d f x y = rw (x, y) refl
 
-    pub holds_next : Holds t span (suc n) (memory_after m (old t n) (new t n) (edges_between (old t n) (new t n)))
-    holds_next =
-        record {
-          transfer = tracked_is t span facts.reads n from before m.pending holds.transfer;
-          cycle = cycle_next;
-          dtack = freed_next DTACK m.dtack_freed holds.dtack (facts.known n 3 from (omega (arith, before)) (lit< tt) refl);
-          berr = freed_next BERR m.berr_freed holds.berr (facts.known n 4 from (omega (arith, before)) (lit< tt) refl);
-        }
+      pub holds_next : Holds t span (suc n) (memory_after m (old t n) (new t n) (edges_between (old t n) (new t n)))
+      holds_next =
+          record {
+            transfer = tracked_is t span facts.reads n from before m.pending holds.transfer;
+            cycle = cycle_next;
+            dtack = freed_next DTACK m.dtack_freed holds.dtack (facts.known n 3 from (omega (arith, before)) (lit< tt)
+                refl);
+            berr = freed_next BERR m.berr_freed holds.berr (facts.known n 4 from (omega (arith, before)) (lit< tt)
+                refl);
+          }
 
   abbrev pub memory_at : ℕ → HandshakeMemory
   memory_at k = memory_from (noticed dtb_sight dtb_step) t (dtb_begin (levels_at t span.start)) span.start k
 
   held_start : Holds t span span.start (memory_at span.start)
-  held_start = subst (Holds t span span.start) (sym (memory_early (noticed dtb_sight dtb_step) t (dtb_begin (levels_at t span.start)) span.start span.start (omega arith))) holds_start
+  held_start = subst (Holds t span span.start)
+      (sym (memory_early (noticed dtb_sight dtb_step) t (dtb_begin (levels_at t span.start)) span.start span.start
+      (omega arith))) holds_start
 
   pub holds_at : (k : ℕ) → span.start ≤ k → k < span.end → Holds t span k (memory_at k)
-  holds_at zero from before = let e : span.start ≡ 0 = omega arith in subst (λ (k : ℕ). Holds t span k (memory_at k)) e held_start
+  holds_at zero from before = let e : span.start ≡ 0 = omega arith in subst (λ (k : ℕ). Holds t span k (memory_at k)) e
+      held_start
   holds_at (suc n) from before =
       elim (start_or_after span.start n from) [
         | inl e ↦ subst (λ (k : ℕ). Holds t span k (memory_at k)) e held_start
         | inr earlier ↦
             let so_far = holds_at n earlier (omega arith) in
             rw (lt_fails n span.start earlier)
-            (subst (Holds t span (suc n)) (ap (λ (x : Next HandshakeMemory). x.memory) (sym (noticed_is t span n (memory_at n) so_far (changes_of (slice_get t.steps n))))) (holds_next n earlier before (memory_at n) so_far))
+            (subst (Holds t span (suc n)) (ap (λ (x : Next HandshakeMemory). x.memory)
+            (sym (noticed_is t span n (memory_at n) so_far (changes_of (slice_get t.steps n)))))
+            (holds_next n earlier before (memory_at n) so_far))
       ]

@@ -1,5 +1,6 @@
 -- Over one span, and over whole recordings: the first rule that is broken, and the marks.
-use Rattle.std.proofs.Common.{◌≡◌, ℕ, suc, ◌+◌, ◌<◌, ◌≤◌, Bool, true, false, ◌&&◌, not, refl, sym, ◌∙◌, ap, arith, Option, Some, None, cond}
+use Rattle.std.proofs.Common.{◌≡◌, ℕ, suc, ◌+◌, ◌<◌, ◌≤◌, Bool, true, false, ◌&&◌, not, refl, sym, ◌∙◌, ap, arith}
+use Rattle.std.proofs.Common.{Option, Some, None, cond}
 use Rattle.std.specs.Prelude.{option_map, is_some, slice_get, nat_lt}
 use Rattle.std.specs.Option.{option_or}
 use Rattle.vme_trace.specs.Edges.{falls_between, rises_between, starts_between, strobes_high_in}
@@ -10,7 +11,8 @@ use Rattle.vme_trace.specs.Levels.{level_at, is_low}
 use Rattle.vme_trace.specs.Trace.{Trace, levels_at, time_at}
 use Rattle.vme_trace.specs.Signals.{falls, rises, low, high}
 use Rattle.vme_trace.specs.Judged.{Stretch, is_judged}
-use Rattle.vme_trace.specs.Transfers.{strobes_high, transfer_starts, lasts, in_transfer, answers, is_answer, is_write, answers_write, data_at}
+use Rattle.vme_trace.specs.Transfers.{strobes_high, transfer_starts, lasts, in_transfer, answers, is_answer, is_write}
+use Rattle.vme_trace.specs.Transfers.{answers_write, data_at}
 use Rattle.vme_trace.specs.Cycles.{cycle_starts}
 use Rattle.vme_trace.specs.Verdict.{break_at as rules_break_at, rule_break}
 use Rattle.vme_trace.specs.declared.data.Lanes.{Lanes}
@@ -33,7 +35,9 @@ use Rattle.vme_monitor.proofs.LeastLines.{least_answer}
 use Rattle.vme_monitor.proofs.OwnRules.{own_event, own_marks}
 use Rattle.vme_monitor.proofs.SpanFacts.{IsSpan}
 use Rattle.vme_dtb.specs.Edge.{asked_of, edges_between}
-use Rattle.vme_dtb.specs.Machine.{answer_in, answered_in, cycle_faults, cycle_rules, dtb_begin, dtb_ends, dtb_next, dtb_opens, dtb_sight, dtb_step, fault_in, handshake_rules, strobe_faults, strobe_rules}
+use Rattle.vme_dtb.specs.Machine.{answer_in, answered_in, cycle_faults, cycle_rules, dtb_begin, dtb_ends, dtb_next}
+use Rattle.vme_dtb.specs.Machine.{dtb_opens, dtb_sight, dtb_step, fault_in, handshake_rules, strobe_faults}
+use Rattle.vme_dtb.specs.Machine.{strobe_rules}
 use Rattle.vme_dtb.specs.declared.cycle.Cycle.{Cycle}
 use Rattle.vme_dtb.specs.CycleState.{cycle_entered}
 use Rattle.vme_dtb.specs.Shown.{answer_line, answered, closes, handshake_shown}
@@ -58,14 +62,16 @@ abbrev told : Option Lanes → Option ℕ → Option Answer
 told d o = option_map (λ l. record { line = l; lanes = d }) o
 
 -- an answer of a write is one that falls
-told_by_write : (e : Pending) (o : Option ℕ) (d : Lanes) → told (cond (is_writing e && is_some o) (Some d) None) (cond (is_unanswered e) o None) ≡ told (cond (is_writing e) (Some d) None) (cond (is_unanswered e) o None)
+told_by_write : (e : Pending) (o : Option ℕ) (d : Lanes) → told (cond (is_writing e && is_some o) (Some d) None)
+    (cond (is_unanswered e) o None) ≡ told (cond (is_writing e) (Some d) None) (cond (is_unanswered e) o None)
 told_by_write Closed o d = refl
 told_by_write Reading o d = refl
 told_by_write Writing None d = refl
 told_by_write Writing (Some l) d = refl
 told_by_write Answered o d = refl
 
-module _ (t : Trace) (span : Stretch) (facts : IsSpan t span) (n : ℕ) (from : span.start ≤ n) (before : suc n < span.end) (m : HandshakeMemory) (holds : Holds t span n m) where
+module _ (t : Trace) (span : Stretch) (facts : IsSpan t span) (n : ℕ) (from : span.start ≤ n)
+    (before : suc n < span.end) (m : HandshakeMemory) (holds : Holds t span n m) where
   abbrev seen : Edges
   seen = edges_between (old t n) (new t n)
 
@@ -76,14 +82,18 @@ module _ (t : Trace) (span : Stretch) (facts : IsSpan t span) (n : ℕ) (from : 
   here = cycle_entered m.cycle seen.shown.cycle
 
   -- what the machine finds broken is the first rule that is
-  breaks_are : option_map (break_at (suc n) (time_at t (suc n))) (fault_in m (old t n) (new t n) seen) ≡ rules_break_at t span handshake_rules (suc n)
+  breaks_are : option_map (break_at (suc n) (time_at t (suc n))) (fault_in m (old t n) (new t n) seen)
+      ≡ rules_break_at t span handshake_rules (suc n)
   unfolding rules_break_at
   breaks_are =
-      both-first (break_at (suc n) (time_at t (suc n))) (rule_break t span (suc n)) strobe_rules cycle_rules (strobe_faults m within seen) (cycle_faults here (is_writing within) (answer_in within seen))
+      both-first (break_at (suc n) (time_at t (suc n))) (rule_break t span (suc n)) strobe_rules cycle_rules
+      (strobe_faults m within seen) (cycle_faults here (is_writing within) (answer_in within seen))
       (strobes-broken t span facts.reads n from before m holds) (cycles-broken t span facts.reads n from before m holds)
 
-  pub dtb_inside : option_map (break_at (suc n) (time_at t (suc n))) (next_at (noticed dtb_sight dtb_step) t m n).fault ≡ rules_break_at t span handshake_rules (suc n)
-  dtb_inside = ap (λ (x : Next HandshakeMemory). option_map (break_at (suc n) (time_at t (suc n))) x.fault) (noticed_is t span n m holds (changes_of (slice_get t.steps n))) ∙ breaks_are
+  pub dtb_inside : option_map (break_at (suc n) (time_at t (suc n))) (next_at (noticed dtb_sight dtb_step) t m n).fault
+      ≡ rules_break_at t span handshake_rules (suc n)
+  dtb_inside = ap (λ (x : Next HandshakeMemory). option_map (break_at (suc n) (time_at t (suc n))) x.fault)
+      (noticed_is t span n m holds (changes_of (slice_get t.steps n))) ∙ breaks_are
 
   least_fall : least (λ l. is_answer_line l && falls t l (suc n)) 0 line_count ≡ seen.answer_fall
   least_fall = least_answer (λ l. is_answer_line l && falls t l (suc n)) (λ l h. rw h refl) ∙ answer_fall_is t n
@@ -91,7 +101,9 @@ module _ (t : Trace) (span : Stretch) (facts : IsSpan t span) (n : ℕ) (from : 
   answer_line_is : answer_line t span (suc n) ≡ answer_in within seen
   unfolding answer_line
   answer_line_is =
-      same_answer (is_answer t span (suc n)) (is_unanswered within && is_some seen.answer_fall) (least (λ l. is_answer_line l && falls t l (suc n)) 0 line_count) seen.answer_fall (answer_is t span facts.reads n from before m holds) least_fall
+      same_answer (is_answer t span (suc n)) (is_unanswered within && is_some seen.answer_fall)
+      (least (λ l. is_answer_line l && falls t l (suc n)) 0 line_count) seen.answer_fall
+      (answer_is t span facts.reads n from before m holds) least_fall
       ∙ answered_line (is_unanswered within) seen.answer_fall
     where
       same_answer : (a b : Bool) (o q : Option ℕ) → a ≡ b → o ≡ q → cond a o None ≡ cond b q None
@@ -108,11 +120,14 @@ module _ (t : Trace) (span : Stretch) (facts : IsSpan t span) (n : ℕ) (from : 
   answered_is : answered t span (suc n) ≡ answered_in within (old t n) (new t n) seen
   unfolding answered
   answered_is =
-      same_told (answers_write t span (suc n)) (is_writing within && is_some seen.answer_fall) (data_at t span (suc n)) (lanes_at (cond (starts_between (old t n) (new t n)) (new t n) (old t n))) (answer_line t span (suc n)) (answer_in within seen)
+      same_told (answers_write t span (suc n)) (is_writing within && is_some seen.answer_fall) (data_at t span (suc n))
+      (lanes_at (cond (starts_between (old t n) (new t n)) (new t n) (old t n))) (answer_line t span (suc n))
+      (answer_in within seen)
       (write_is t span facts.reads n from before m holds) data_is answer_line_is
       ∙ told_by_write within seen.answer_fall (lanes_at (cond (starts_between (old t n) (new t n)) (new t n) (old t n)))
     where
-      same_told : (a b : Bool) (d e : Lanes) (o q : Option ℕ) → a ≡ b → d ≡ e → o ≡ q → told (cond a (Some d) None) o ≡ told (cond b (Some e) None) q
+      same_told : (a b : Bool) (d e : Lanes) (o q : Option ℕ) → a ≡ b → d ≡ e → o ≡ q → told (cond a (Some d) None) o
+          ≡ told (cond b (Some e) None) q
       same_told a b d e o q x y z = rw (x, y, z) refl
 
   open_unless : (p : Pending) → SaysPending t span n p → is_within p ≡ not (strobes_high t n)
@@ -123,27 +138,35 @@ module _ (t : Trace) (span : Stretch) (facts : IsSpan t span) (n : ℕ) (from : 
 
   closes_is : closes t span (suc n) ≡ (strobes_high_in (new t n) && not (strobes_high_in (old t n)))
   unfolding closes high
-  closes_is = ap (λ b. strobes_high t (suc n) && b) (started_is t span facts.reads n from before m.pending holds.transfer ∙ open_unless m.pending holds.transfer)
+  closes_is = ap (λ b. strobes_high t (suc n) && b) (started_is t span facts.reads n from before m.pending
+      holds.transfer ∙ open_unless m.pending holds.transfer)
 
   cycle_end_is : (is_judged span (suc n) && rises t AS (suc n)) ≡ rises_between (old t n) (new t n) AS
   cycle_end_is = rw (judged t n span from before, rises_is t n AS) refl
 
-  transfer_is : cond (transfer_starts t span (suc n)) (Some (is_write t span (suc n))) None ≡ cond (starts_between (old t n) (new t n)) (Some (is_low (level_at (new t n) WRITE))) None
+  transfer_is : cond (transfer_starts t span (suc n)) (Some (is_write t span (suc n))) None
+      ≡ cond (starts_between (old t n) (new t n)) (Some (is_low (level_at (new t n) WRITE))) None
   unfolding is_write low
   transfer_is = ap (λ b. cond b (Some (is_low (level_at (new t n) WRITE))) None) (starts_is t n span from before)
 
-  cycle_is : cond (cycle_starts t span (suc n)) (Some (asked_of (new t n))) None ≡ cond (falls_between (old t n) (new t n) AS) (Some (asked_of (new t n))) None
-  cycle_is = ap (λ b. cond b (Some (asked_of (new t n))) None) (cycle_starts_is t span facts.reads n from before m holds)
+  cycle_is : cond (cycle_starts t span (suc n)) (Some (asked_of (new t n))) None
+      ≡ cond (falls_between (old t n) (new t n) AS) (Some (asked_of (new t n))) None
+  cycle_is = ap (λ b. cond b (Some (asked_of (new t n))) None) (cycle_starts_is t span facts.reads n from before m
+      holds)
 
-  same_kinds : (a b : Option CycleStart) (c d : Bool) (e f : Option Bool) (g h : Option Answer) (i j : Bool) → a ≡ b → c ≡ d → e ≡ f → g ≡ h → i ≡ j
-      → record nothing { cycle = a; cycle_end = c; transfer = e; answer = g; close = i } ≡ record nothing { cycle = b; cycle_end = d; transfer = f; answer = h; close = j }
+  same_kinds : (a b : Option CycleStart) (c d : Bool) (e f : Option Bool) (g h : Option Answer) (i j : Bool) → a ≡ b → c
+      ≡ d → e ≡ f → g ≡ h → i ≡ j
+      → record nothing { cycle = a; cycle_end = c; transfer = e; answer = g; close = i }
+      ≡ record nothing { cycle = b; cycle_end = d; transfer = f; answer = h; close = j }
   same_kinds a b c d e f g h i j x y z u v = rw (x, y, z, u, v) refl
 
   kinds_are : (dtb_next m (old t n) (new t n) seen).kinds ≡ handshake_shown t span (suc n)
-  kinds_are = same_kinds _ _ _ _ _ _ _ _ _ _ (sym cycle_is) (sym cycle_end_is) (sym transfer_is) (sym answered_is) (sym closes_is)
+  kinds_are = same_kinds _ _ _ _ _ _ _ _ _ _ (sym cycle_is) (sym cycle_end_is) (sym transfer_is) (sym answered_is)
+      (sym closes_is)
 
   pub dtb_kinds : (next_at (noticed dtb_sight dtb_step) t m n).kinds ≡ handshake_shown t span (suc n)
-  dtb_kinds = ap (λ (x : Next HandshakeMemory). x.kinds) (noticed_is t span n m holds (changes_of (slice_get t.steps n))) ∙ kinds_are
+  dtb_kinds = ap (λ (x : Next HandshakeMemory). x.kinds)
+      (noticed_is t span n m holds (changes_of (slice_get t.steps n))) ∙ kinds_are
 
 module _ (t : Trace) (span : Stretch) where
   unjudged : is_judged span span.start ≡ false
@@ -151,7 +174,8 @@ module _ (t : Trace) (span : Stretch) where
 
   in_none : (p : ℕ → Bool) → in_transfer t span p span.start ≡ false
   unfolding in_transfer
-  in_none p = fails-any (λ i. transfer_starts t span i && lasts t span i span.start && p i) (span.start + 1) (span.start + 1) (λ i a b. absurd (omega arith))
+  in_none p = fails-any (λ i. transfer_starts t span i && lasts t span i span.start && p i) (span.start + 1)
+      (span.start + 1) (λ i a b. absurd (omega arith))
 
   and_false : (b : Bool) → (b && false) ≡ false
   and_false true = refl
@@ -159,17 +183,27 @@ module _ (t : Trace) (span : Stretch) where
 
   shown_start : nothing ≡ handshake_shown t span span.start
   unfolding cycle_starts transfer_starts answered answer_line is_answer closes
-  shown_start = rw (unjudged, in_none (λ i. answers t span i span.start), in_none (λ i. nat_lt i span.start), and_false (strobes_high t span.start)) refl
+  shown_start = rw (
+    unjudged,
+    in_none (λ i. answers t span i span.start),
+    in_none (λ i. nat_lt i span.start),
+    and_false (strobes_high t span.start),
+  ) refl
 
-pub dtb_event : FindsLeast (run_of (noticed (noted dtb_sight) (spanned dtb_begin dtb_opens nothing (λ l. None) dtb_step))) (start_in dtb_begin) handshake_rules
+pub dtb_event : FindsLeast
+    (run_of (noticed (noted dtb_sight) (spanned dtb_begin dtb_opens nothing (λ l. None) dtb_step))) (start_in dtb_begin)
+    handshake_rules
 dtb_event =
     own_event dtb_begin dtb_opens dtb_sight dtb_step handshake_rules refl
-    (λ t span ok few facts n from before within unbroken. dtb_inside t span facts n from before (memory_at t span facts n) (holds_at t span facts n from (omega (arith, before))))
+    (λ t span ok few facts n from before within unbroken. dtb_inside t span facts n from before
+    (memory_at t span facts n) (holds_at t span facts n from (omega (arith, before))))
 
-pub dtb_marks : ShowsAll (run_of (noticed (noted dtb_sight) (spanned dtb_begin dtb_opens nothing dtb_ends dtb_step))) (start_in dtb_begin) nothing handshake_shown
+pub dtb_marks : ShowsAll (run_of (noticed (noted dtb_sight) (spanned dtb_begin dtb_opens nothing dtb_ends dtb_step)))
+    (start_in dtb_begin) nothing handshake_shown
 dtb_marks =
     own_marks dtb_begin dtb_opens dtb_sight dtb_step dtb_ends handshake_shown
     (λ t span ok few facts. record {
       at_start = shown_start t span;
-      inside = λ n from before within. dtb_kinds t span facts n from before (memory_at t span facts n) (holds_at t span facts n from (omega (arith, before)));
+      inside = λ n from before within. dtb_kinds t span facts n from before (memory_at t span facts n)
+          (holds_at t span facts n from (omega (arith, before)));
     })

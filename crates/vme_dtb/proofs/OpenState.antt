@@ -1,14 +1,17 @@
 -- What the state of the transfer says of the transfer in which the next instant is.
-use Rattle.std.proofs.Common.{◌≡◌, ℕ, suc, ◌+◌, ◌<◌, ◌≤◌, Bool, true, false, ◌||◌, ◌&&◌, not, refl, sym, ◌∙◌, ap, arith, inl, inr, ◌⊎◌, add-one}
+use Rattle.std.proofs.Common.{◌≡◌, ℕ, suc, ◌+◌, ◌<◌, ◌≤◌, Bool, true, false, ◌||◌, ◌&&◌, not, refl, sym, ◌∙◌, ap, arith}
+use Rattle.std.proofs.Common.{inl, inr, ◌⊎◌, add-one}
 use Rattle.std.specs.Prelude.{nat_lt}
 use Rattle.vme_trace.specs.Instants.{any}
 use Rattle.vme_trace.specs.LineNumbers.{DTACK, BERR}
 use Rattle.vme_trace.specs.Trace.{Trace}
 use Rattle.vme_trace.specs.Signals.{falls}
 use Rattle.vme_trace.specs.Judged.{Stretch}
-use Rattle.vme_trace.specs.Transfers.{strobes_high, answer_falls, transfer_starts, lasts, is_answered, answers, in_transfer}
+use Rattle.vme_trace.specs.Transfers.{strobes_high, answer_falls, transfer_starts, lasts, is_answered, answers}
+use Rattle.vme_trace.specs.Transfers.{in_transfer}
 use Rattle.vme_trace.proofs.Ranges.{any-fails, fails-any, clash}
-use Rattle.vme_trace.proofs.OpenTransfers.{suc-sub-one, is_judged-holds, ReadsStrobes, in_transfer-is, in_transfer-levels}
+use Rattle.vme_trace.proofs.OpenTransfers.{suc-sub-one, is_judged-holds, ReadsStrobes, in_transfer-is}
+use Rattle.vme_trace.proofs.OpenTransfers.{in_transfer-levels}
 use Rattle.vme_monitor.specs.Tracked.{StaysOpen, SaysPending}
 use Rattle.vme_monitor.specs.Tracking.{is_unanswered, is_within}
 use Rattle.vme_monitor.specs.declared.tracking.Pending.{Pending}
@@ -32,21 +35,30 @@ both_alone true false = refl
 both_alone false true = refl
 both_alone false false = refl
 
-module _ (t : Trace) (span : Stretch) (reads : ReadsStrobes t span) (n : ℕ) (from : span.start ≤ n) (before : suc n < span.end) where
+module _ (t : Trace) (span : Stretch) (reads : ReadsStrobes t span) (n : ℕ) (from : span.start ≤ n)
+    (before : suc n < span.end) where
   lasts_now : (i : ℕ) (w a : Bool) → StaysOpen t span n i w a → lasts t span i (suc n) ≡ true
   unfolding lasts
   lasts_now i w a o =
-      rw (le_holds i (suc n) (omega (arith, o.within)), is_judged-holds span (suc n) (omega arith) before, fails-any (strobes_high t) (i + 1) (suc n) (λ r x y. o.still r (omega arith) (omega arith))) refl
+      rw (
+        le_holds i (suc n) (omega (arith, o.within)),
+        is_judged-holds span (suc n) (omega arith) before,
+        fails-any (strobes_high t) (i + 1) (suc n) (λ r x y. o.still r (omega arith) (omega arith)),
+      ) refl
 
   open_is : (p : ℕ → Bool) (i : ℕ) (w a : Bool) → StaysOpen t span n i w a → in_transfer t span p (suc n) ≡ p i
   open_is p i w a o = in_transfer-is t span p i (suc n) o.later (omega (arith, o.within)) o.starts (lasts_now i w a o)
 
-  none_in : (p : ℕ → Bool) → strobes_high t n ≡ true → strobes_high t (suc n) ≡ true → in_transfer t span p (suc n) ≡ false
+  none_in : (p : ℕ → Bool) → strobes_high t n ≡ true → strobes_high t (suc n) ≡ true → in_transfer t span p (suc n)
+      ≡ false
   unfolding in_transfer
   none_in p high_before high_here =
-      let none : in_transfer t span (λ i. true) (suc n) ≡ false = in_transfer-levels t span reads n from before ∙ rw (high_before, high_here) refl in
+      let none : in_transfer t span (λ i. true) (suc n) ≡ false = in_transfer-levels t span reads n from before
+      ∙ rw (high_before, high_here) refl in
       fails-any (λ i. transfer_starts t span i && lasts t span i (suc n) && p i) (span.start + 1) (suc n + 1)
-      (λ i a b. and_first (transfer_starts t span i && lasts t span i (suc n)) (p i) (any-fails (λ k. transfer_starts t span k && lasts t span k (suc n) && true) (span.start + 1) (suc n + 1) i none a b))
+      (λ i a b. and_first (transfer_starts t span i && lasts t span i (suc n)) (p i)
+      (any-fails (λ k. transfer_starts t span k && lasts t span k (suc n) && true) (span.start + 1) (suc n + 1) i none
+      a b))
 
   -- a transfer that is entered after both strobes were high starts there
   starts_now : (i : ℕ) (w a : Bool) → IsIn t span (suc n) i w a → strobes_high t n ≡ true → i ≡ suc n
@@ -59,17 +71,23 @@ module _ (t : Trace) (span : Stretch) (reads : ReadsStrobes t span) (n : ℕ) (f
   in_one : (p : ℕ → Bool) (i : ℕ) (w a : Bool) → IsIn t span (suc n) i w a → in_transfer t span p (suc n) ≡ p i
   in_one p i w a o = in_transfer-is t span p i (suc n) o.later o.within o.starts o.last
 
-  closed_by : (p : ℕ → Bool) (e : Pending) → Enters t span (suc n) e → strobes_high t n ≡ true → p (suc n) ≡ false → in_transfer t span p (suc n) ≡ false
+  closed_by : (p : ℕ → Bool) (e : Pending) → Enters t span (suc n) e → strobes_high t n ≡ true → p (suc n) ≡ false
+      → in_transfer t span p (suc n) ≡ false
   closed_by p Closed o high_before fails = none_in p high_before o.1
-  closed_by p Reading o high_before fails = in_one p o.0 false false o.1 ∙ ap p (starts_now o.0 false false o.1 high_before) ∙ fails
-  closed_by p Writing o high_before fails = in_one p o.0 true false o.1 ∙ ap p (starts_now o.0 true false o.1 high_before) ∙ fails
-  closed_by p Answered o high_before fails = in_one p o.0 o.1 true o.2 ∙ ap p (starts_now o.0 o.1 true o.2 high_before) ∙ fails
+  closed_by p Reading o high_before fails = in_one p o.0 false false o.1
+      ∙ ap p (starts_now o.0 false false o.1 high_before) ∙ fails
+  closed_by p Writing o high_before fails = in_one p o.0 true false o.1
+      ∙ ap p (starts_now o.0 true false o.1 high_before) ∙ fails
+  closed_by p Answered o high_before fails = in_one p o.0 o.1 true o.2 ∙ ap p (starts_now o.0 o.1 true o.2 high_before)
+      ∙ fails
 
   -- where none is open, the instant is in none that started before
   closed_is : (p : ℕ → Bool) → strobes_high t n ≡ true → p (suc n) ≡ false → in_transfer t span p (suc n) ≡ false
-  closed_is p high_before fails = closed_by p (entered Closed (levels_at t n) (levels_at t (suc n))) (entered_is t span reads n from before Closed high_before) high_before fails
+  closed_is p high_before fails = closed_by p (entered Closed (levels_at t n) (levels_at t (suc n)))
+      (entered_is t span reads n from before Closed high_before) high_before fails
 
-  open_answered : (i : ℕ) (w a : Bool) → StaysOpen t span n i w a → is_answered t span i (suc n + 1) ≡ (a || answer_falls t (suc n))
+  open_answered : (i : ℕ) (w a : Bool) → StaysOpen t span n i w a → is_answered t span i (suc n + 1)
+      ≡ (a || answer_falls t (suc n))
   unfolding is_answered
   open_answered i w a o =
       ap (any (λ r. lasts t span i r && answer_falls t r) i) (add-one (suc n))
@@ -80,39 +98,59 @@ module _ (t : Trace) (span : Stretch) (reads : ReadsStrobes t span) (n : ℕ) (f
   not_yet b = rw (lt_fails (suc n) (suc n) (omega arith)) refl
 
   -- a transfer that started before stays without an answer
-  pub unserved_is : (m : Pending) → SaysPending t span n m → in_transfer t span (λ i. nat_lt i (suc n) && not (is_answered t span i (suc n + 1))) (suc n) ≡ (is_unanswered m && not (answer_falls t (suc n)))
-  unserved_is Closed high_before = closed_is (λ i. nat_lt i (suc n) && not (is_answered t span i (suc n + 1))) high_before (not_yet (not (is_answered t span (suc n) (suc n + 1))))
-  unserved_is Reading o = open_is (λ i. nat_lt i (suc n) && not (is_answered t span i (suc n + 1))) o.0 false false o.1 ∙ rw (lt_holds o.0 (suc n) (omega (arith, o.1.within)), open_answered o.0 false false o.1) refl
-  unserved_is Writing o = open_is (λ i. nat_lt i (suc n) && not (is_answered t span i (suc n + 1))) o.0 true false o.1 ∙ rw (lt_holds o.0 (suc n) (omega (arith, o.1.within)), open_answered o.0 true false o.1) refl
-  unserved_is Answered o = open_is (λ i. nat_lt i (suc n) && not (is_answered t span i (suc n + 1))) o.0 o.1 true o.2 ∙ rw (lt_holds o.0 (suc n) (omega (arith, o.2.within)), open_answered o.0 o.1 true o.2) refl
+  pub unserved_is : (m : Pending) → SaysPending t span n m → in_transfer t span (λ i. nat_lt i (suc n)
+      && not (is_answered t span i (suc n + 1))) (suc n) ≡ (is_unanswered m && not (answer_falls t (suc n)))
+  unserved_is Closed high_before = closed_is (λ i. nat_lt i (suc n) && not (is_answered t span i (suc n + 1)))
+      high_before (not_yet (not (is_answered t span (suc n) (suc n + 1))))
+  unserved_is Reading o = open_is (λ i. nat_lt i (suc n) && not (is_answered t span i (suc n + 1))) o.0 false false o.1
+      ∙ rw (lt_holds o.0 (suc n) (omega (arith, o.1.within)), open_answered o.0 false false o.1) refl
+  unserved_is Writing o = open_is (λ i. nat_lt i (suc n) && not (is_answered t span i (suc n + 1))) o.0 true false o.1
+      ∙ rw (lt_holds o.0 (suc n) (omega (arith, o.1.within)), open_answered o.0 true false o.1) refl
+  unserved_is Answered o = open_is (λ i. nat_lt i (suc n) && not (is_answered t span i (suc n + 1))) o.0 o.1 true o.2
+      ∙ rw (lt_holds o.0 (suc n) (omega (arith, o.2.within)), open_answered o.0 o.1 true o.2) refl
 
   -- a transfer that started before has its answer
-  pub replied_is : (m : Pending) → SaysPending t span n m → in_transfer t span (λ i. nat_lt i (suc n) && is_answered t span i (suc n)) (suc n) ≡ is_replied m
-  replied_is Closed high_before = closed_is (λ i. nat_lt i (suc n) && is_answered t span i (suc n)) high_before (not_yet (is_answered t span (suc n) (suc n)))
-  replied_is Reading o = open_is (λ i. nat_lt i (suc n) && is_answered t span i (suc n)) o.0 false false o.1 ∙ rw (lt_holds o.0 (suc n) (omega (arith, o.1.within)), o.1.reply) refl
-  replied_is Writing o = open_is (λ i. nat_lt i (suc n) && is_answered t span i (suc n)) o.0 true false o.1 ∙ rw (lt_holds o.0 (suc n) (omega (arith, o.1.within)), o.1.reply) refl
-  replied_is Answered o = open_is (λ i. nat_lt i (suc n) && is_answered t span i (suc n)) o.0 o.1 true o.2 ∙ rw (lt_holds o.0 (suc n) (omega (arith, o.2.within)), o.2.reply) refl
+  pub replied_is : (m : Pending) → SaysPending t span n m → in_transfer t span (λ i. nat_lt i (suc n)
+      && is_answered t span i (suc n)) (suc n) ≡ is_replied m
+  replied_is Closed high_before = closed_is (λ i. nat_lt i (suc n) && is_answered t span i (suc n)) high_before
+      (not_yet (is_answered t span (suc n) (suc n)))
+  replied_is Reading o = open_is (λ i. nat_lt i (suc n) && is_answered t span i (suc n)) o.0 false false o.1
+      ∙ rw (lt_holds o.0 (suc n) (omega (arith, o.1.within)), o.1.reply) refl
+  replied_is Writing o = open_is (λ i. nat_lt i (suc n) && is_answered t span i (suc n)) o.0 true false o.1
+      ∙ rw (lt_holds o.0 (suc n) (omega (arith, o.1.within)), o.1.reply) refl
+  replied_is Answered o = open_is (λ i. nat_lt i (suc n) && is_answered t span i (suc n)) o.0 o.1 true o.2
+      ∙ rw (lt_holds o.0 (suc n) (omega (arith, o.2.within)), o.2.reply) refl
 
   -- a transfer that started before is open
-  pub started_is : (m : Pending) → SaysPending t span n m → in_transfer t span (λ i. nat_lt i (suc n)) (suc n) ≡ is_within m
+  pub started_is : (m : Pending) → SaysPending t span n m → in_transfer t span (λ i. nat_lt i (suc n)) (suc n)
+      ≡ is_within m
   started_is Closed high_before = closed_is (λ i. nat_lt i (suc n)) high_before (lt_fails (suc n) (suc n) (omega arith))
-  started_is Reading o = open_is (λ i. nat_lt i (suc n)) o.0 false false o.1 ∙ lt_holds o.0 (suc n) (omega (arith, o.1.within))
-  started_is Writing o = open_is (λ i. nat_lt i (suc n)) o.0 true false o.1 ∙ lt_holds o.0 (suc n) (omega (arith, o.1.within))
-  started_is Answered o = open_is (λ i. nat_lt i (suc n)) o.0 o.1 true o.2 ∙ lt_holds o.0 (suc n) (omega (arith, o.2.within))
+  started_is Reading o = open_is (λ i. nat_lt i (suc n)) o.0 false false o.1 ∙ lt_holds o.0 (suc n)
+      (omega (arith, o.1.within))
+  started_is Writing o = open_is (λ i. nat_lt i (suc n)) o.0 true false o.1 ∙ lt_holds o.0 (suc n)
+      (omega (arith, o.1.within))
+  started_is Answered o = open_is (λ i. nat_lt i (suc n)) o.0 o.1 true o.2 ∙ lt_holds o.0 (suc n)
+      (omega (arith, o.2.within))
 
   abbrev answered_twice : ℕ → Bool
-  answered_twice i = is_answered t span i (suc n) || (answers t span i (suc n) && falls t DTACK (suc n) && falls t BERR (suc n))
+  answered_twice i = is_answered t span i (suc n) || (answers t span i (suc n) && falls t DTACK (suc n)
+      && falls t BERR (suc n))
 
-  twice_one : (i : ℕ) (w : Bool) → IsIn t span (suc n) i w false → answered_twice i ≡ (falls t DTACK (suc n) && falls t BERR (suc n))
+  twice_one : (i : ℕ) (w : Bool) → IsIn t span (suc n) i w false → answered_twice i
+      ≡ (falls t DTACK (suc n) && falls t BERR (suc n))
   unfolding answers
   twice_one i w o = rw (o.last, o.reply) (both_alone (falls t DTACK (suc n)) (falls t BERR (suc n)))
 
-  doubled_by : (e : Pending) → Enters t span (suc n) e → in_transfer t span answered_twice (suc n) ≡ (is_replied e || (is_unanswered e && (falls t DTACK (suc n) && falls t BERR (suc n))))
+  doubled_by : (e : Pending) → Enters t span (suc n) e → in_transfer t span answered_twice (suc n)
+      ≡ (is_replied e || (is_unanswered e && (falls t DTACK (suc n) && falls t BERR (suc n))))
   doubled_by Closed o = none_in answered_twice (ap (strobes_high t) (sym (suc-sub-one n)) ∙ o.0) o.1
   doubled_by Reading o = in_one answered_twice o.0 false false o.1 ∙ twice_one o.0 false o.1
   doubled_by Writing o = in_one answered_twice o.0 true false o.1 ∙ twice_one o.0 true o.1
   doubled_by Answered o = in_one answered_twice o.0 o.1 true o.2 ∙ rw o.2.reply refl
 
   -- it is answered again, or by both lines
-  pub doubled_is : (m : Pending) → SaysPending t span n m → let e = entered m (levels_at t n) (levels_at t (suc n)) in in_transfer t span answered_twice (suc n) ≡ (is_replied e || (is_unanswered e && (falls t DTACK (suc n) && falls t BERR (suc n))))
-  doubled_is m says = doubled_by (entered m (levels_at t n) (levels_at t (suc n))) (entered_is t span reads n from before m says)
+  pub doubled_is : (m : Pending) → SaysPending t span n m → let e = entered m (levels_at t n) (levels_at t (suc n)) in
+      in_transfer t span answered_twice (suc n)
+      ≡ (is_replied e || (is_unanswered e && (falls t DTACK (suc n) && falls t BERR (suc n))))
+  doubled_is m says = doubled_by (entered m (levels_at t n) (levels_at t (suc n)))
+      (entered_is t span reads n from before m says)

@@ -1,5 +1,6 @@
 -- The edges of a step, and the line on which a rule is broken there.
-use Rattle.std.proofs.Common.{◌≡◌, ℕ, suc, ◌<◌, ◌≤◌, Bool, true, false, ◌&&◌, ◌||◌, not, refl, ◌∙◌, ap, arith, Option, Some, None, cond, lit<}
+use Rattle.std.proofs.Common.{◌≡◌, ℕ, suc, ◌<◌, ◌≤◌, Bool, true, false, ◌&&◌, ◌||◌, not, refl, ◌∙◌, ap, arith, Option}
+use Rattle.std.proofs.Common.{Some, None, cond, lit<}
 use Rattle.std.specs.Prelude.{option_map, is_some, ◌==◌}
 use Rattle.std.proofs.lemmas.Bool.Decides.{nat_tests}
 use Rattle.vme_trace.specs.Edges.{falls_between, rises_between, starts_between}
@@ -30,7 +31,8 @@ and_false false = refl
 unapplied : (j h a e c : Bool) → a ≡ false → (j && h && (a && e && c)) ≡ false
 unapplied j h a e c x = rw x (and_false (j && h))
 
-by_condition : (c a b : Bool) (x y : ℕ) → cond (a && c) (Some x) (cond (b && c) (Some y) None) ≡ cond c (first_of a x b y) None
+by_condition : (c a b : Bool) (x y : ℕ) → cond (a && c) (Some x) (cond (b && c) (Some y) None)
+    ≡ cond c (first_of a x b y) None
 by_condition true true b x y = refl
 by_condition true false true x y = refl
 by_condition true false false x y = refl
@@ -61,7 +63,8 @@ pub same_cond : (c d : Bool) (o q : Option ℕ) → c ≡ d → o ≡ q → cond
 same_cond c d o q e f = rw (e, f) refl
 
 -- the least of a test that holds of the address strobe alone
-least_address : (p : ℕ → Bool) → ((l : ℕ) → (l == AS) ≡ false → p l ≡ false) → least p 0 line_count ≡ cond (p AS) (Some AS) None
+least_address : (p : ℕ → Bool) → ((l : ℕ) → (l == AS) ≡ false → p l ≡ false) → least p 0 line_count
+    ≡ cond (p AS) (Some AS) None
 least_address p h = by_test (p AS) refl
   where
     equal : (l : ℕ) → (l == 0) ≡ true → l ≡ 0
@@ -98,19 +101,26 @@ module _ (t : Trace) (n : ℕ) where
   unfolding low
   unaddressed_is = rw (suc-sub-one n) refl
 
-  pub strobe_rises_is : strobe_rises t (suc n) ≡ is_some (first_of (rises_between old new DS0) DS0 (rises_between old new DS1) DS1)
-  strobe_rises_is = rw (rises_is DS0, rises_is DS1) (some_of (rises_between old new DS0) (rises_between old new DS1) DS0 DS1)
+  pub strobe_rises_is : strobe_rises t (suc n) ≡ is_some (first_of (rises_between old new DS0) DS0
+      (rises_between old new DS1) DS1)
+  strobe_rises_is = rw (rises_is DS0, rises_is DS1) (some_of (rises_between old new DS0) (rises_between old new DS1) DS0
+      DS1)
 
-  pub answer_falls_is : answer_falls t (suc n) ≡ is_some (first_of (falls_between old new DTACK) DTACK (falls_between old new BERR) BERR)
-  answer_falls_is = rw (falls_is DTACK, falls_is BERR) (some_of (falls_between old new DTACK) (falls_between old new BERR) DTACK BERR)
+  pub answer_falls_is : answer_falls t (suc n) ≡ is_some (first_of (falls_between old new DTACK) DTACK
+      (falls_between old new BERR) BERR)
+  answer_falls_is = rw (falls_is DTACK, falls_is BERR) (some_of (falls_between old new DTACK)
+      (falls_between old new BERR) DTACK BERR)
 
-  pub strobe_rise_is : first_of (rises t DS0 (suc n)) DS0 (rises t DS1 (suc n)) DS1 ≡ first_of (rises_between old new DS0) DS0 (rises_between old new DS1) DS1
+  pub strobe_rise_is : first_of (rises t DS0 (suc n)) DS0 (rises t DS1 (suc n)) DS1
+      ≡ first_of (rises_between old new DS0) DS0 (rises_between old new DS1) DS1
   strobe_rise_is = same_first _ _ _ _ DS0 DS1 (rises_is DS0) (rises_is DS1)
 
-  pub strobe_fall_is : first_of (falls t DS0 (suc n)) DS0 (falls t DS1 (suc n)) DS1 ≡ first_of (falls_between old new DS0) DS0 (falls_between old new DS1) DS1
+  pub strobe_fall_is : first_of (falls t DS0 (suc n)) DS0 (falls t DS1 (suc n)) DS1
+      ≡ first_of (falls_between old new DS0) DS0 (falls_between old new DS1) DS1
   strobe_fall_is = same_first _ _ _ _ DS0 DS1 (falls_is DS0) (falls_is DS1)
 
-  pub answer_fall_is : first_of (falls t DTACK (suc n)) DTACK (falls t BERR (suc n)) BERR ≡ first_of (falls_between old new DTACK) DTACK (falls_between old new BERR) BERR
+  pub answer_fall_is : first_of (falls t DTACK (suc n)) DTACK (falls t BERR (suc n)) BERR
+      ≡ first_of (falls_between old new DTACK) DTACK (falls_between old new BERR) BERR
   answer_fall_is = same_first _ _ _ _ DTACK BERR (falls_is DTACK) (falls_is BERR)
 
   module _ (span : Stretch) (from : span.start ≤ n) (before : suc n < span.end) where
@@ -122,35 +132,47 @@ module _ (t : Trace) (n : ℕ) where
     starts_is = rw (judged, suc-sub-one n) refl
 
     -- a rule on the answer lines is broken on the first of them that has the edge
-    pub on_answers : (r : Rule) (edge : ℕ → Bool) (c : Bool) → ((l : ℕ) → breaks t span r (suc n) l ≡ (is_judged span (suc n) && has_line t.opening.slots l && (is_answer_line l && edge l && c)))
+    pub on_answers : (r : Rule) (edge : ℕ → Bool) (c : Bool) → ((l : ℕ) → breaks t span r (suc n) l
+        ≡ (is_judged span (suc n) && has_line t.opening.slots l && (is_answer_line l && edge l && c)))
         → least (breaks t span r (suc n)) 0 line_count ≡ cond c (first_of (edge DTACK) DTACK (edge BERR) BERR) None
     on_answers r edge c form =
-        least_answer (breaks t span r (suc n)) (λ l h. form l ∙ unapplied (is_judged span (suc n)) (has_line t.opening.slots l) (is_answer_line l) (edge l) c h)
+        least_answer (breaks t span r (suc n)) (λ l h. form l ∙ unapplied (is_judged span (suc n))
+        (has_line t.opening.slots l) (is_answer_line l) (edge l) c h)
         ∙ rw (on_line DTACK refl, on_line BERR refl) (by_condition c (edge DTACK) (edge BERR) DTACK BERR)
       where
         on_line : (l : ℕ) → is_answer_line l ≡ true → breaks t span r (suc n) l ≡ (edge l && c)
-        on_line l h = form l ∙ applied (is_judged span (suc n)) (has_line t.opening.slots l) (is_answer_line l) (edge l) c judged (answer_exists l t.opening.slots h) h
+        on_line l h = form l ∙ applied (is_judged span (suc n)) (has_line t.opening.slots l) (is_answer_line l) (edge l)
+            c judged (answer_exists l t.opening.slots h) h
 
-    pub on_strobes : (r : Rule) (edge : ℕ → Bool) (c : Bool) → ((l : ℕ) → breaks t span r (suc n) l ≡ (is_judged span (suc n) && has_line t.opening.slots l && (is_strobe l && edge l && c)))
+    pub on_strobes : (r : Rule) (edge : ℕ → Bool) (c : Bool) → ((l : ℕ) → breaks t span r (suc n) l
+        ≡ (is_judged span (suc n) && has_line t.opening.slots l && (is_strobe l && edge l && c)))
         → least (breaks t span r (suc n)) 0 line_count ≡ cond c (first_of (edge DS0) DS0 (edge DS1) DS1) None
     on_strobes r edge c form =
-        least_strobe (breaks t span r (suc n)) (λ l h. form l ∙ unapplied (is_judged span (suc n)) (has_line t.opening.slots l) (is_strobe l) (edge l) c h)
+        least_strobe (breaks t span r (suc n)) (λ l h. form l ∙ unapplied (is_judged span (suc n))
+        (has_line t.opening.slots l) (is_strobe l) (edge l) c h)
         ∙ rw (on_line DS0 refl, on_line DS1 refl) (by_condition c (edge DS0) (edge DS1) DS0 DS1)
       where
         on_line : (l : ℕ) → is_strobe l ≡ true → breaks t span r (suc n) l ≡ (edge l && c)
-        on_line l h = form l ∙ applied (is_judged span (suc n)) (has_line t.opening.slots l) (is_strobe l) (edge l) c judged (strobe_exists l t.opening.slots h) h
+        on_line l h = form l ∙ applied (is_judged span (suc n)) (has_line t.opening.slots l) (is_strobe l) (edge l) c
+            judged (strobe_exists l t.opening.slots h) h
 
-    pub on_address : (r : Rule) (edge : ℕ → Bool) (c : Bool) → ((l : ℕ) → breaks t span r (suc n) l ≡ (is_judged span (suc n) && has_line t.opening.slots l && ((l == AS) && edge l && c)))
+    pub on_address : (r : Rule) (edge : ℕ → Bool) (c : Bool) → ((l : ℕ) → breaks t span r (suc n) l
+        ≡ (is_judged span (suc n) && has_line t.opening.slots l && ((l == AS) && edge l && c)))
         → least (breaks t span r (suc n)) 0 line_count ≡ cond (edge AS && c) (Some AS) None
     on_address r edge c form =
-        least_address (breaks t span r (suc n)) (λ l h. form l ∙ unapplied (is_judged span (suc n)) (has_line t.opening.slots l) (l == AS) (edge l) c h)
-        ∙ ap (λ b. cond b (Some AS) None) (form AS ∙ applied (is_judged span (suc n)) (has_line t.opening.slots AS) (AS == AS) (edge AS) c judged refl refl)
+        least_address (breaks t span r (suc n)) (λ l h. form l ∙ unapplied (is_judged span (suc n))
+        (has_line t.opening.slots l) (l == AS) (edge l) c h)
+        ∙ ap (λ b. cond b (Some AS) None) (form AS ∙ applied (is_judged span (suc n)) (has_line t.opening.slots AS)
+        (AS == AS) (edge AS) c judged refl refl)
 
-    pub rule_from : (r : Rule) (c : Bool) (line : Option ℕ) → least (breaks t span r (suc n)) 0 line_count ≡ cond c line None → option_map (break_at (suc n) (time_at t (suc n))) (broken r c line) ≡ rule_break t span (suc n) r
+    pub rule_from : (r : Rule) (c : Bool) (line : Option ℕ) → least (breaks t span r (suc n)) 0 line_count
+        ≡ cond c line None → option_map (break_at (suc n) (time_at t (suc n))) (broken r c line) ≡ rule_break t span
+        (suc n) r
     unfolding rule_break
     rule_from r c line e = rw e (by_case c line)
       where
-        by_case : (c : Bool) (o : Option ℕ) → option_map (break_at (suc n) (time_at t (suc n))) (broken r c o) ≡ option_map (λ l. record { instant = suc n; time = time_at t (suc n); rule = r; line = l }) (cond c o None)
+        by_case : (c : Bool) (o : Option ℕ) → option_map (break_at (suc n) (time_at t (suc n))) (broken r c o)
+            ≡ option_map (λ l. record { instant = suc n; time = time_at t (suc n); rule = r; line = l }) (cond c o None)
         by_case true None = refl
         by_case true (Some l) = refl
         by_case false None = refl

@@ -1,5 +1,6 @@
 -- Where the address strobe, the strobes and the answer lines stay as they are, nothing happens.
-use Rattle.std.proofs.Common.{◌≡◌, ℕ, Bool, true, false, ◌&&◌, ◌||◌, not, refl, sym, ◌∙◌, ap, arith, List, Option, Some, None, cond}
+use Rattle.std.proofs.Common.{◌≡◌, ℕ, Bool, true, false, ◌&&◌, ◌||◌, not, refl, sym, ◌∙◌, ap, arith, List, Option, Some}
+use Rattle.std.proofs.Common.{None, cond}
 use Rattle.std.specs.Prelude.{is_some, option_map}
 use Rattle.std.specs.Option.{option_or, option_map_or}
 use Rattle.vme_trace.specs.Edges.{answer_between, falls_between, rises_between, starts_between, strobe_low_in}
@@ -23,7 +24,8 @@ use Rattle.vme_monitor.specs.declared.tracking.Pending.{Pending}
 use Rattle.vme_monitor.specs.declared.tracking.Pending.TheVariants.{Closed, Reading, Writing, Answered}
 use Rattle.vme_dtb.specs.CycleState.{after_answer}
 use Rattle.vme_dtb.specs.Edge.{asked_of, edges_between, first_of, is_still, is_unready}
-use Rattle.vme_dtb.specs.Machine.{answer_in, answered_in, broken, cycle_fault, data_in, dtb_next, dtb_sight, dtb_step, handshake_fault, is_doubled, is_replied, is_unserved, memory_after, strobe_faults}
+use Rattle.vme_dtb.specs.Machine.{answer_in, answered_in, broken, cycle_fault, data_in, dtb_next, dtb_sight, dtb_step}
+use Rattle.vme_dtb.specs.Machine.{handshake_fault, is_doubled, is_replied, is_unserved, memory_after, strobe_faults}
 use Rattle.vme_dtb.specs.declared.cycle.Cycle.{Cycle}
 use Rattle.vme_dtb.specs.declared.edges.Edges.{Edges}
 use Rattle.vme_dtb.specs.declared.memory.HandshakeMemory.{HandshakeMemory}
@@ -63,7 +65,8 @@ pub and_not : (b : Bool) → (b && not b) ≡ false
 and_not true = refl
 and_not false = refl
 
-pub all_five : (a b c d e : Bool) → (a && b && c && d && e) ≡ true → (a ≡ true) × (b ≡ true) × (c ≡ true) × (d ≡ true) × (e ≡ true)
+pub all_five : (a b c d e : Bool) → (a && b && c && d && e) ≡ true → (a ≡ true) × (b ≡ true) × (c ≡ true) × (d ≡ true)
+    × (e ≡ true)
 all_five true true true true true h = (refl, refl, refl, refl, refl)
 all_five false b c d e h = absurd (cc)
 all_five true false c d e h = absurd (cc)
@@ -83,10 +86,18 @@ neither : (a b : Option Fault) → a ≡ None → b ≡ None → option_or a b �
 neither a b e f = rw (e, f) refl
 
 -- the edges of a step, by the tests that they rest on
-abbrev pub built : (as_falls as_rises starts closes rise0 rise1 fall0 fall1 dtack_falls berr_falls dtack_rises berr_rises unaddressed : Bool) → CycleStart → Bool → Option ℕ → Edges
-built as_falls as_rises starts closes rise0 rise1 fall0 fall1 dtack_falls berr_falls dtack_rises berr_rises unaddressed asked write unready =
+abbrev pub built : (as_falls as_rises starts closes rise0 rise1 fall0 fall1 dtack_falls berr_falls dtack_rises
+    berr_rises unaddressed : Bool) → CycleStart → Bool → Option ℕ → Edges
+built as_falls as_rises starts closes rise0 rise1 fall0 fall1 dtack_falls berr_falls dtack_rises berr_rises unaddressed
+    asked write unready =
     record {
-      shown = record nothing { cycle = cond as_falls (Some asked) None; cycle_end = as_rises; transfer = cond starts (Some write) None; close = closes };
+      shown = record nothing {
+        cycle = cond as_falls (Some asked) None;
+        cycle_end = as_rises;
+        transfer = cond starts
+            (Some write) None;
+        close = closes;
+      };
       unready = cond starts unready None;
       strobe_rise = first_of rise0 DS0 rise1 DS1;
       strobe_fall = first_of fall0 DS0 fall1 DS1;
@@ -99,17 +110,50 @@ built as_falls as_rises starts closes rise0 rise1 fall0 fall1 dtack_falls berr_f
 
 -- the edges of a step that has none
 abbrev silent : Bool → Edges
-silent u = record { shown = nothing; unready = None; strobe_rise = None; strobe_fall = None; answer_fall = None; both_fall = false; dtack_rises = false; berr_rises = false; unaddressed = u }
+silent u = record {
+  shown = nothing;
+  unready = None;
+  strobe_rise = None;
+  strobe_fall = None;
+  answer_fall = None;
+  both_fall = false;
+  dtack_rises = false;
+  berr_rises = false;
+  unaddressed = u;
+}
 
-same_silent : (a b s c r0 r1 f0 f1 d e g h u : Bool) (x : CycleStart) (y : Bool) (o : Option ℕ) → a ≡ false → b ≡ false → s ≡ false → c ≡ false → r0 ≡ false → r1 ≡ false → f0 ≡ false → f1 ≡ false → d ≡ false → e ≡ false → g ≡ false → h ≡ false
+same_silent : (a b s c r0 r1 f0 f1 d e g h u : Bool) (x : CycleStart) (y : Bool) (o : Option ℕ) → a ≡ false → b ≡ false
+    → s ≡ false → c ≡ false → r0 ≡ false → r1 ≡ false → f0 ≡ false → f1 ≡ false → d ≡ false → e ≡ false → g ≡ false → h
+    ≡ false
     → built a b s c r0 r1 f0 f1 d e g h u x y o ≡ silent u
-same_silent a b s c r0 r1 f0 f1 d e g h u x y o pa pb ps pc p0 p1 q0 q1 pd pe pg ph = rw (pa, pb, ps, pc, p0, p1, q0, q1, pd, pe, pg, ph) refl
+same_silent a b s c r0 r1 f0 f1 d e g h u x y o pa pb ps pc p0 p1 q0 q1 pd pe pg ph = rw (
+  pa,
+  pb,
+  ps,
+  pc,
+  p0,
+  p1,
+  q0,
+  q1,
+  pd,
+  pe,
+  pg,
+  ph,
+) refl
 
 module _ (v w : Levels) (still : is_still v w ≡ true) where
-  each : (level_at w AS ≡ level_at v AS) × (level_at w DS0 ≡ level_at v DS0) × (level_at w DS1 ≡ level_at v DS1) × (level_at w DTACK ≡ level_at v DTACK) × (level_at w BERR ≡ level_at v BERR)
+  each : (level_at w AS ≡ level_at v AS) × (level_at w DS0 ≡ level_at v DS0) × (level_at w DS1 ≡ level_at v DS1)
+      × (level_at w DTACK ≡ level_at v DTACK) × (level_at w BERR ≡ level_at v BERR)
   each =
-      let all = all_five (same_level (level_at v AS) (level_at w AS)) (same_level (level_at v DS0) (level_at w DS0)) (same_level (level_at v DS1) (level_at w DS1)) (same_level (level_at v DTACK) (level_at w DTACK)) (same_level (level_at v BERR) (level_at w BERR)) still in
-      (same_is (level_at v AS) (level_at w AS) all.0, same_is (level_at v DS0) (level_at w DS0) all.1, same_is (level_at v DS1) (level_at w DS1) all.2, same_is (level_at v DTACK) (level_at w DTACK) all.3, same_is (level_at v BERR) (level_at w BERR) all.4)
+      let all = all_five (same_level (level_at v AS) (level_at w AS)) (same_level (level_at v DS0) (level_at w DS0))
+      (same_level (level_at v DS1) (level_at w DS1)) (same_level (level_at v DTACK) (level_at w DTACK))
+      (same_level (level_at v BERR) (level_at w BERR)) still in (
+        same_is (level_at v AS) (level_at w AS) all.0,
+        same_is (level_at v DS0) (level_at w DS0) all.1,
+        same_is (level_at v DS1) (level_at w DS1) all.2,
+        same_is (level_at v DTACK) (level_at w DTACK) all.3,
+        same_is (level_at v BERR) (level_at w BERR) all.4,
+      )
 
   no_fall : (l : ℕ) → level_at w l ≡ level_at v l → falls_between v w l ≡ false
   no_fall l e = ap (λ x. is_high (level_at v l) && is_low x) e ∙ never_falls (level_at v l)
@@ -118,7 +162,8 @@ module _ (v w : Levels) (still : is_still v w ≡ true) where
   no_rise l e = ap (λ x. is_low (level_at v l) && is_high x) e ∙ never_rises (level_at v l)
 
   high_kept : strobes_high_in w ≡ strobes_high_in v
-  high_kept = ap (λ x. is_high x && is_high (level_at w DS1)) each.1 ∙ ap (λ x. is_high (level_at v DS0) && is_high x) each.2
+  high_kept = ap (λ x. is_high x && is_high (level_at w DS1)) each.1 ∙ ap (λ x. is_high (level_at v DS0) && is_high x)
+      each.2
 
   low_kept : strobe_low_in w ≡ strobe_low_in v
   low_kept = ap (λ x. is_low x || is_low (level_at w DS1)) each.1 ∙ ap (λ x. is_low (level_at v DS0) || is_low x) each.2
@@ -134,11 +179,17 @@ module _ (v w : Levels) (still : is_still v w ≡ true) where
 
   edges_still : edges_between v w ≡ silent unaddressed_in
   edges_still =
-      same_silent (falls_between v w AS) (rises_between v w AS) (starts_between v w) (strobes_high_in w && not (strobes_high_in v)) (rises_between v w DS0) (rises_between v w DS1) (falls_between v w DS0) (falls_between v w DS1) (falls_between v w DTACK)
-      (falls_between v w BERR) (rises_between v w DTACK) (rises_between v w BERR) unaddressed_in (asked_of w) (is_low (level_at w WRITE)) (first_of (is_unready v w DTACK) DTACK (is_unready v w BERR) BERR) (no_fall AS each.0) (no_rise AS each.0) no_start no_close
-      (no_rise DS0 each.1) (no_rise DS1 each.2) (no_fall DS0 each.1) (no_fall DS1 each.2) (no_fall DTACK each.3) (no_fall BERR each.4) (no_rise DTACK each.3) (no_rise BERR each.4)
+      same_silent (falls_between v w AS) (rises_between v w AS) (starts_between v w) (strobes_high_in w
+      && not (strobes_high_in v)) (rises_between v w DS0) (rises_between v w DS1) (falls_between v w DS0)
+      (falls_between v w DS1) (falls_between v w DTACK)
+      (falls_between v w BERR) (rises_between v w DTACK) (rises_between v w BERR) unaddressed_in (asked_of w)
+      (is_low (level_at w WRITE)) (first_of (is_unready v w DTACK) DTACK (is_unready v w BERR) BERR)
+      (no_fall AS each.0) (no_rise AS each.0) no_start no_close
+      (no_rise DS0 each.1) (no_rise DS1 each.2) (no_fall DS0 each.1) (no_fall DS1 each.2) (no_fall DTACK each.3)
+      (no_fall BERR each.4) (no_rise DTACK each.3) (no_rise BERR each.4)
 
-  same_tracked : (h a s x : Bool) (p : Pending) (q : Pending) → h ≡ x → a ≡ false → s ≡ false → cond h Closed (answered_by a (cond s q p)) ≡ cond x Closed p
+  same_tracked : (h a s x : Bool) (p : Pending) (q : Pending) → h ≡ x → a ≡ false → s ≡ false
+      → cond h Closed (answered_by a (cond s q p)) ≡ cond x Closed p
   same_tracked h a s x p q e f g = rw (e, f, g) refl
 
   no_answer : answer_between v w ≡ false
@@ -148,7 +199,8 @@ module _ (v w : Levels) (still : is_still v w ≡ true) where
       neither a b e f = rw (e, f) refl
 
   tracked_still : (p : Pending) → tracked p v w ≡ cond (strobes_high_in v) Closed p
-  tracked_still p = same_tracked (strobes_high_in w) (answer_between v w) (starts_between v w) (strobes_high_in v) p (cond (is_low (level_at w WRITE)) Writing Reading) high_kept no_answer no_start
+  tracked_still p = same_tracked (strobes_high_in w) (answer_between v w) (starts_between v w) (strobes_high_in v) p
+      (cond (is_low (level_at w WRITE)) Writing Reading) high_kept no_answer no_start
 
 module _ (t : Trace) (span : Stretch) (n : ℕ) (m : HandshakeMemory) (holds : Holds t span n m) where
   pending_kept : (p : Pending) → SaysPending t span n p → cond (strobes_high_in (old t n)) Closed p ≡ p
@@ -158,7 +210,8 @@ module _ (t : Trace) (span : Stretch) (n : ℕ) (m : HandshakeMemory) (holds : H
   pending_kept Writing o = rw (o.1.still n o.1.within (omega arith)) refl
   pending_kept Answered o = rw (o.2.still n o.2.within (omega arith)) refl
 
-  freed_kept : (after before rest was : Bool) → after ≡ before → was ≡ (before && rest) → (after && (was || false)) ≡ was
+  freed_kept : (after before rest was : Bool) → after ≡ before → was ≡ (before && rest) → (after && (was || false))
+      ≡ was
   freed_kept after before rest was e f = rw (e, f) (by_level before rest)
     where
       by_level : (a b : Bool) → (a && ((a && b) || false)) ≡ (a && b)
@@ -166,17 +219,20 @@ module _ (t : Trace) (span : Stretch) (n : ℕ) (m : HandshakeMemory) (holds : H
       by_level true false = refl
       by_level false b = refl
 
-  same_next : (k : HandshakeMemory) (f : Option Fault) (a : Option Answer) → k ≡ m → f ≡ None → a ≡ None → record { memory = k; fault = f; kinds = record nothing { answer = a } } ≡ quiet m
+  same_next : (k : HandshakeMemory) (f : Option Fault) (a : Option Answer) → k ≡ m → f ≡ None → a ≡ None
+      → record { memory = k; fault = f; kinds = record nothing { answer = a } } ≡ quiet m
   same_next k f a x y z = rw (x, y, z) refl
 
-  same_memory : (p : Pending) (c : Cycle) (a b : Bool) → p ≡ m.pending → c ≡ m.cycle → a ≡ m.dtack_freed → b ≡ m.berr_freed → record { pending = p; cycle = c; dtack_freed = a; berr_freed = b } ≡ m
+  same_memory : (p : Pending) (c : Cycle) (a b : Bool) → p ≡ m.pending → c ≡ m.cycle → a ≡ m.dtack_freed → b
+      ≡ m.berr_freed → record { pending = p; cycle = c; dtack_freed = a; berr_freed = b } ≡ m
   same_memory p c a b x y z u = rw (x, y, z, u) refl
 
   abbrev told : Pending → ℕ → Answer
   told e l = record { line = l; lanes = data_in e (old t n) (new t n) }
 
   -- a step without edges leaves all as it is
-  pub next_still : is_still (old t n) (new t n) ≡ true → dtb_next m (old t n) (new t n) (edges_between (old t n) (new t n)) ≡ quiet m
+  pub next_still : is_still (old t n) (new t n) ≡ true → dtb_next m (old t n) (new t n)
+      (edges_between (old t n) (new t n)) ≡ quiet m
   unfolding low
   next_still still =
       let v = old t n in
@@ -185,23 +241,52 @@ module _ (t : Trace) (span : Stretch) (n : ℕ) (m : HandshakeMemory) (holds : H
       let e = entered m.pending v w in
       let kept = each v w still in
       let none : answer_in e (silent u) ≡ None = nowhere (is_unanswered e) None refl in
-      let no_mark : answered_in e v w (silent u) ≡ None = ap (λ (o : Option ℕ). option_map (λ (l : ℕ). told e l) o) none in
+      let no_mark : answered_in e v w (silent u) ≡ None = ap (λ (o : Option ℕ). option_map (λ (l : ℕ). told e l) o)
+      none in
       ap (dtb_next m v w) (edges_still v w still)
-      ∙ same_next (memory_after m v w (silent u)) (option_or (handshake_fault m e (silent u)) (cycle_fault m.cycle (is_writing e) (answer_in e (silent u)))) (answered_in e v w (silent u))
-      (same_memory (tracked m.pending v w) (cond (is_some (answer_in e (silent u))) (after_answer m.cycle (is_writing e)) m.cycle) (is_low (level_at w DTACK) && (m.dtack_freed || false)) (is_low (level_at w BERR) && (m.berr_freed || false))
-      (tracked_still v w still m.pending ∙ pending_kept m.pending holds.transfer) (ap (λ o. cond (is_some o) (after_answer m.cycle (is_writing e)) m.cycle) none)
-      (freed_kept (is_low (level_at w DTACK)) (is_low (level_at v DTACK)) _ m.dtack_freed (ap is_low kept.3) holds.dtack) (freed_kept (is_low (level_at w BERR)) (is_low (level_at v BERR)) _ m.berr_freed (ap is_low kept.4) holds.berr))
+      ∙ same_next (memory_after m v w (silent u)) (option_or (handshake_fault m e (silent u))
+      (cycle_fault m.cycle (is_writing e) (answer_in e (silent u)))) (answered_in e v w (silent u))
+      (same_memory (tracked m.pending v w) (cond (is_some (answer_in e (silent u)))
+      (after_answer m.cycle (is_writing e)) m.cycle) (is_low (level_at w DTACK) && (m.dtack_freed || false))
+      (is_low (level_at w BERR) && (m.berr_freed || false))
+      (tracked_still v w still m.pending ∙ pending_kept m.pending holds.transfer)
+      (ap (λ o. cond (is_some o) (after_answer m.cycle (is_writing e)) m.cycle) none)
+      (freed_kept (is_low (level_at w DTACK)) (is_low (level_at v DTACK)) _ m.dtack_freed (ap is_low kept.3)
+      holds.dtack) (freed_kept (is_low (level_at w BERR)) (is_low (level_at v BERR)) _ m.berr_freed (ap is_low kept.4)
+      holds.berr))
       (neither (handshake_fault m e (silent u)) (cycle_fault m.cycle (is_writing e) (answer_in e (silent u)))
-      (none-first (strobe_faults m e (silent u))
-      (refl, (unnamed H2 (is_unserved m.pending (silent u)), (unnamed H3 (is_replied m.pending), (unnamed H4 (not (is_within e)), (unnamed H5 (is_doubled e (silent u)), (refl, (not_applied H7 _ (Some AS) (and_false (is_unserved m.pending (silent u))), (ap (broken H8 u) none ∙ unnamed H8 u, tt)))))))))
+      (none-first (strobe_faults m e (silent u)) (
+        refl,
+        (
+          unnamed H2 (is_unserved m.pending (silent u)),
+          (
+            unnamed H3 (is_replied m.pending),
+            (
+              unnamed H4 (not (is_within e)),
+              (
+                unnamed H5 (is_doubled e (silent u)),
+                (
+                  refl,
+                  (
+                    not_applied H7 _ (Some AS) (and_false (is_unserved m.pending (silent u))),
+                    (ap (broken H8 u) none ∙ unnamed H8 u, tt),
+                  ),
+                ),
+              ),
+            ),
+          ),
+        ),
+      ))
       (ap (cycle_fault m.cycle (is_writing e)) none ∙ sym (unanswered m.cycle (is_writing e))))
       no_mark
 
   -- so a step that isn't noticed is done all the same
-  pub noticed_is : (cs : List Change) → noticed dtb_sight dtb_step m (old t n) (new t n) cs ≡ dtb_next m (old t n) (new t n) (edges_between (old t n) (new t n))
+  pub noticed_is : (cs : List Change) → noticed dtb_sight dtb_step m (old t n) (new t n) cs ≡ dtb_next m (old t n)
+      (new t n) (edges_between (old t n) (new t n))
   noticed_is cs = by_still (is_still (old t n) (new t n)) refl
     where
       by_still : (b : Bool) → is_still (old t n) (new t n) ≡ b
-          → option_map_or (dtb_step m (old t n) (new t n)) (cond b None (Some (record {}))) (quiet m) ≡ dtb_next m (old t n) (new t n) (edges_between (old t n) (new t n))
+          → option_map_or (dtb_step m (old t n) (new t n)) (cond b None (Some (record {}))) (quiet m)
+          ≡ dtb_next m (old t n) (new t n) (edges_between (old t n) (new t n))
       by_still true e = sym (next_still e)
       by_still false e = refl

@@ -19,18 +19,31 @@ use Rattle.vme_monitor.specs.declared.mark.Next.{Next}
 use Rattle.vme_monitor.specs.declared.tracking.Pending.{Pending}
 use Rattle.vme_monitor.specs.declared.tracking.Pending.TheVariants.{Closed, Reading, Writing, Answered}
 use Rattle.vme_dtb.specs.CycleState.{after_answer, unanswered_of}
-use Rattle.vme_dtb.specs.Machine.{broken, cycle_fault, data_in, dtb_next, handshake_fault, is_doubled, is_replied, is_unserved, strobe_faults}
+use Rattle.vme_dtb.specs.Machine.{broken, cycle_fault, data_in, dtb_next, handshake_fault, is_doubled, is_replied}
+use Rattle.vme_dtb.specs.Machine.{is_unserved, strobe_faults}
 use Rattle.vme_dtb.specs.Edge.{asked_of, closes_between, edges_between, first_of, is_addressed, stays_on}
 use Rattle.vme_dtb.specs.UsualSteps.{is_answer_alone, is_hasty, is_start_alone, is_strobes_alone, memory_left}
 use Rattle.vme_dtb.specs.declared.cycle.Cycle.{Cycle}
 use Rattle.vme_dtb.specs.declared.memory.HandshakeMemory.{HandshakeMemory}
 use Rattle.vme_dtb.proofs.Faults.{none-first, not_applied, unanswered, unnamed}
 use Rattle.vme_dtb.proofs.StillSteps.{all_five}
-use Rattle.vme_dtb.proofs.UsualEdges.{all_four, answer_edges, answer_is, no_fall, no_start, ready_edges, ready_is, rises_alone, start_edges, start_is, strobes_are, strobes_here}
+use Rattle.vme_dtb.proofs.UsualEdges.{all_four, answer_edges, answer_is, no_fall, no_start, ready_edges, ready_is}
+use Rattle.vme_dtb.proofs.UsualEdges.{rises_alone, start_edges, start_is, strobes_are, strobes_here}
 
-same_next : (p l : Pending) (k : StepMarks) (c d : Cycle) (x y : Bool) (h q r : Option Fault) (a b : Option Answer) → p ≡ l → c ≡ d → h ≡ None → q ≡ r → a ≡ b
-    → ◌≡◌ {A = Next HandshakeMemory} (record { memory = record { pending = p; cycle = c; dtack_freed = x; berr_freed = y }; fault = option_or h q; kinds = record k { answer = a } })
-    (record { memory = record { pending = l; cycle = d; dtack_freed = x; berr_freed = y }; fault = r; kinds = record k { answer = b } })
+same_next : (p l : Pending) (k : StepMarks) (c d : Cycle) (x y : Bool) (h q r : Option Fault) (a b : Option Answer) → p
+    ≡ l → c ≡ d → h ≡ None → q ≡ r → a ≡ b
+    → ◌≡◌ {A = Next HandshakeMemory}
+    (record {
+      memory = record { pending = p; cycle = c; dtack_freed = x; berr_freed = y };
+      fault = option_or h q;
+      kinds = record k { answer = a };
+    })
+    (record {
+      memory = record { pending = l; cycle = d; dtack_freed = x; berr_freed = y };
+      fault = r;
+      kinds = record k
+          { answer = b };
+    })
 same_next p l k c d x y h q r a b o e f g i = rw (o, e, f, g, i) refl
 
 nowhere : (b : Bool) → let none : Option ℕ = None in cond b none none ≡ none
@@ -56,13 +69,15 @@ neither false false h = (refl, refl)
 neither true b h = absurd (cc)
 neither false true h = absurd (cc)
 
-hasty_rise : (p : Pending) (a b e f : Bool) → is_hasty p (a || b) e f ≡ false → broken H2 (is_unanswered p && true) (first_of a DS0 b DS1) ≡ None
+hasty_rise : (p : Pending) (a b e f : Bool) → is_hasty p (a || b) e f ≡ false → broken H2 (is_unanswered p && true)
+    (first_of a DS0 b DS1) ≡ None
 hasty_rise Closed a b e f h = refl
 hasty_rise Answered a b e f h = refl
 hasty_rise Reading a b e f h = calm_line H2 a b DS0 DS1 (neither (a || b) e h).0
 hasty_rise Writing a b e f h = calm_line H2 a b DS0 DS1 (neither (a || b) e h).0
 
-hasty_fall : (p : Pending) (r e a b : Bool) → is_hasty p r e (a || b) ≡ false → broken H3 (is_replied p) (first_of a DS0 b DS1) ≡ None
+hasty_fall : (p : Pending) (r e a b : Bool) → is_hasty p r e (a || b) ≡ false → broken H3 (is_replied p)
+    (first_of a DS0 b DS1) ≡ None
 hasty_fall Closed r e a b h = refl
 hasty_fall Reading r e a b h = refl
 hasty_fall Writing r e a b h = refl
@@ -75,7 +90,8 @@ hasty_end Reading r e f h = (neither r e h).1
 hasty_end Writing r e f h = (neither r e h).1
 
 -- the answer of a transfer without one is one line alone
-one_answer : (e : Pending) → is_unanswered e ≡ true → (not (is_within e) ≡ false) × ((is_replied e || (is_unanswered e && false)) ≡ false) × (cond (is_unanswered e) (Some DTACK) None ≡ Some DTACK)
+one_answer : (e : Pending) → is_unanswered e ≡ true → (not (is_within e) ≡ false)
+    × ((is_replied e || (is_unanswered e && false)) ≡ false) × (cond (is_unanswered e) (Some DTACK) None ≡ Some DTACK)
 one_answer Reading h = (refl, refl, refl)
 one_answer Writing h = (refl, refl, refl)
 one_answer Closed h = absurd (cc)
@@ -91,23 +107,31 @@ module _ (m : HandshakeMemory) (v w : Levels) where
 
   -- where no answer comes, nothing is broken by one
   unanswered_here : (c : Cycle) → cycle_fault c (is_writing within) (cond (is_unanswered within) None None) ≡ None
-  unanswered_here c = ap (cycle_fault c (is_writing within)) (nowhere (is_unanswered within)) ∙ sym (unanswered c (is_writing within))
+  unanswered_here c = ap (cycle_fault c (is_writing within)) (nowhere (is_unanswered within))
+      ∙ sym (unanswered c (is_writing within))
 
-  kept_cycle : (c : Cycle) → (let none : Option ℕ = None in cond (is_some (cond (is_unanswered within) none none)) (after_answer c (is_writing within)) c) ≡ c
-  kept_cycle c = ap (λ (o : Option ℕ). cond (is_some o) (after_answer c (is_writing within)) c) (nowhere (is_unanswered within))
+  kept_cycle : (c : Cycle) → (let none : Option ℕ = None in cond (is_some (cond (is_unanswered within) none none))
+      (after_answer c (is_writing within)) c) ≡ c
+  kept_cycle c = ap (λ (o : Option ℕ). cond (is_some o) (after_answer c (is_writing within)) c)
+      (nowhere (is_unanswered within))
 
   no_h8 : (u : Bool) → broken H8 u (cond (is_unanswered within) None None) ≡ None
   no_h8 u = ap (broken H8 u) (nowhere (is_unanswered within)) ∙ unnamed H8 u
 
   -- what is left open, by whether an answer line falls
-  unanswered_left : (o : Pending) → falls_between v w DTACK ≡ false → falls_between v w BERR ≡ false → within ≡ o → tracked m.pending v w ≡ cond (strobes_high_in w) Closed o
-  unanswered_left o d b e = left_by (strobes_high_in w) (falls_between v w DTACK) (falls_between v w BERR) within o d b e
+  unanswered_left : (o : Pending) → falls_between v w DTACK ≡ false → falls_between v w BERR ≡ false → within ≡ o
+      → tracked m.pending v w ≡ cond (strobes_high_in w) Closed o
+  unanswered_left o d b e = left_by (strobes_high_in w) (falls_between v w DTACK) (falls_between v w BERR) within o d b
+      e
     where
-      left_by : (h d b : Bool) (e o : Pending) → d ≡ false → b ≡ false → e ≡ o → cond h Closed (answered_by (d || b) e) ≡ cond h Closed o
+      left_by : (h d b : Bool) (e o : Pending) → d ≡ false → b ≡ false → e ≡ o → cond h Closed (answered_by (d || b) e)
+          ≡ cond h Closed o
       left_by h d b e o x y z = rw (x, y, z) refl
 
-  answered_left : falls_between v w DTACK ≡ true → is_unanswered within ≡ true → tracked m.pending v w ≡ cond (strobes_high_in w) Closed Answered
-  answered_left d u = ap (λ (b : Bool). cond (strobes_high_in w) Closed (answered_by (b || falls_between v w BERR) within)) d ∙ ap (cond (strobes_high_in w) Closed) (has_answer within u)
+  answered_left : falls_between v w DTACK ≡ true → is_unanswered within ≡ true → tracked m.pending v w
+      ≡ cond (strobes_high_in w) Closed Answered
+  answered_left d u = ap (λ (b : Bool). cond (strobes_high_in w) Closed (answered_by (b || falls_between v w BERR)
+      within)) d ∙ ap (cond (strobes_high_in w) Closed) (has_answer within u)
     where
       has_answer : (e : Pending) → is_unanswered e ≡ true → answered_by true e ≡ Answered
       has_answer Reading h = refl
@@ -134,58 +158,178 @@ module _ (m : HandshakeMemory) (v w : Levels) where
   plain_data : starts_between v w ≡ false → data_in within v w ≡ cond (is_writing m.pending) (Some (lanes_at v)) None
   plain_data s = by_start (starts_between v w) within m.pending s (within_is s)
     where
-      by_start : (b : Bool) (e p : Pending) → b ≡ false → e ≡ p → cond (is_writing e) (Some (lanes_at (cond b w v))) None ≡ cond (is_writing p) (Some (lanes_at v)) None
+      by_start : (b : Bool) (e p : Pending) → b ≡ false → e ≡ p → cond (is_writing e) (Some (lanes_at (cond b w v)))
+          None ≡ cond (is_writing p) (Some (lanes_at v)) None
       by_start b e p x y = rw (x, y) refl
 
   pub start_next : is_start_alone v w ≡ true
-      → record { memory = memory_left m w m.pending (unanswered_of (asked_of w).class) false; fault = None; kinds = record nothing { cycle = Some (asked_of w) } } ≡ dtb_next m v w (edges_between v w)
+      → record {
+        memory = memory_left m w m.pending (unanswered_of (asked_of w).class) false;
+        fault = None;
+        kinds
+            = record nothing { cycle = Some (asked_of w) };
+      } ≡ dtb_next m v w (edges_between v w)
   start_next alone =
-      let all = all_five (falls_between v w AS) (stays_on v w DS0) (stays_on v w DS1) (stays_on v w DTACK) (stays_on v w BERR) alone in
+      let all = all_five (falls_between v w AS) (stays_on v w DS0) (stays_on v w DS1) (stays_on v w DTACK)
+      (stays_on v w BERR) alone in
       let s = start_edges (asked_of w) in
       let c = unanswered_of (asked_of w).class in
       sym
-      (same_next (tracked m.pending v w) _ s.shown _ c _ _ (handshake_fault m within s) _ None _ None (unanswered_left m.pending (no_fall v w DTACK all.3) (no_fall v w BERR all.4) (within_is (no_start v w all.1 all.2))) (kept_cycle c)
-      (none-first (strobe_faults m within s) (refl, (unnamed H2 (is_unserved m.pending s), (unnamed H3 (is_replied m.pending), (unnamed H4 (not (is_within within)), (unnamed H5 (is_doubled within s), (refl, (not_applied H7 _ (Some AS) (and_false (is_unserved m.pending s)), (no_h8 false, tt)))))))))
+      (same_next (tracked m.pending v w) _ s.shown _ c _ _ (handshake_fault m within s) _ None _ None
+      (unanswered_left m.pending (no_fall v w DTACK all.3) (no_fall v w BERR all.4)
+      (within_is (no_start v w all.1 all.2))) (kept_cycle c)
+      (none-first (strobe_faults m within s) (
+        refl,
+        (
+          unnamed H2 (is_unserved m.pending s),
+          (
+            unnamed H3 (is_replied m.pending),
+            (
+              unnamed H4 (not (is_within within)),
+              (
+                unnamed H5 (is_doubled within s),
+                (refl, (not_applied H7 _ (Some AS) (and_false (is_unserved m.pending s)), (no_h8 false, tt))),
+              ),
+            ),
+          ),
+        ),
+      ))
       (unanswered_here c) no_mark)
       ∙ ap (dtb_next m v w) (start_is v w alone)
 
-  pub strobes_next : is_strobes_alone v w ≡ true → is_hasty m.pending (strobe_rises_between v w) (rises_between v w AS) (strobe_falls_between v w) ≡ false
-      → record { memory = memory_left m w within m.cycle (strobe_rises_between v w); fault = None; kinds = record nothing { cycle_end = rises_between v w AS; transfer = cond (starts_between v w) (Some (is_low (level_at w WRITE))) None; close = closes_between v w } } ≡ dtb_next m v w (edges_between v w)
+  pub strobes_next : is_strobes_alone v w ≡ true → is_hasty m.pending (strobe_rises_between v w) (rises_between v w AS)
+      (strobe_falls_between v w) ≡ false
+      → record {
+        memory = memory_left m w within m.cycle (strobe_rises_between v w);
+        fault = None;
+        kinds = record
+            nothing {
+              cycle_end = rises_between v w AS;
+              transfer = cond (starts_between v w)
+                  (Some (is_low (level_at w WRITE))) None;
+              close = closes_between v w;
+            };
+      } ≡ dtb_next m v w (edges_between v w)
   strobes_next alone calm =
-      let all = all_four (is_low (level_at v AS)) (stays_on v w DTACK) (stays_on v w BERR) (not (starts_between v w) || (is_high (level_at v DTACK) && is_high (level_at v BERR))) alone in
+      let all = all_four (is_low (level_at v AS)) (stays_on v w DTACK) (stays_on v w BERR)
+      (not (starts_between v w) || (is_high (level_at v DTACK) && is_high (level_at v BERR))) alone in
       let s = strobes_here v w in
-      ap (λ (b : Bool). by_rise (memory_left m w within m.cycle b)) (sym (any_of (rises_between v w DS0) (rises_between v w DS1) DS0 DS1))
+      ap (λ (b : Bool). by_rise (memory_left m w within m.cycle b))
+      (sym (any_of (rises_between v w DS0) (rises_between v w DS1) DS0 DS1))
       ∙ sym
-      (same_next (tracked m.pending v w) _ s.shown _ m.cycle _ _ (handshake_fault m within s) _ None _ None (unanswered_left within (no_fall v w DTACK all.1) (no_fall v w BERR all.2) refl) (kept_cycle m.cycle)
-      (none-first (strobe_faults m within s) (refl, (hasty_rise m.pending (rises_between v w DS0) (rises_between v w DS1) (rises_between v w AS) (strobe_falls_between v w) calm, (hasty_fall m.pending (strobe_rises_between v w) (rises_between v w AS) (falls_between v w DS0) (falls_between v w DS1) calm, (unnamed H4 (not (is_within within)), (unnamed H5 (is_doubled within s), (refl, (not_applied H7 _ (Some AS) (hasty_end m.pending (strobe_rises_between v w) (rises_between v w AS) (strobe_falls_between v w) calm), (no_h8 false, tt)))))))))
+      (same_next (tracked m.pending v w) _ s.shown _ m.cycle _ _ (handshake_fault m within s) _ None _ None
+      (unanswered_left within (no_fall v w DTACK all.1) (no_fall v w BERR all.2) refl) (kept_cycle m.cycle)
+      (none-first (strobe_faults m within s) (
+        refl,
+        (
+          hasty_rise m.pending (rises_between v w DS0) (rises_between v w DS1) (rises_between v w AS)
+              (strobe_falls_between v w) calm,
+          (
+            hasty_fall m.pending (strobe_rises_between v w) (rises_between v w AS)
+                (falls_between v w DS0) (falls_between v w DS1) calm,
+            (
+              unnamed H4 (not (is_within within)),
+              (
+                unnamed H5 (is_doubled within s),
+                (
+                  refl,
+                  (
+                    not_applied H7 _ (Some AS) (hasty_end m.pending (strobe_rises_between v w) (rises_between v w AS)
+                        (strobe_falls_between v w) calm),
+                    (no_h8 false, tt),
+                  ),
+                ),
+              ),
+            ),
+          ),
+        ),
+      ))
       (unanswered_here m.cycle) no_mark)
       ∙ ap (dtb_next m v w) (strobes_are v w alone)
     where
       by_rise : HandshakeMemory → Next HandshakeMemory
-      by_rise left = record { memory = left; fault = None; kinds = record nothing { cycle_end = rises_between v w AS; transfer = cond (starts_between v w) (Some (is_low (level_at w WRITE))) None; close = closes_between v w } }
+      by_rise left = record {
+        memory = left;
+        fault = None;
+        kinds = record nothing {
+          cycle_end = rises_between v w AS;
+          transfer = cond (starts_between v w) (Some (is_low (level_at w WRITE))) None;
+          close = closes_between v w;
+        };
+      }
 
-  pub answer_next : is_answer_alone v w ≡ true → falls_between v w DTACK ≡ true → is_addressed v w ≡ true → is_unanswered m.pending ≡ true
-      → record { memory = memory_left m w Answered (after_answer m.cycle (is_writing m.pending)) false; fault = cycle_fault m.cycle (is_writing m.pending) (Some DTACK); kinds = record nothing { answer = Some (plain_answer DTACK) } } ≡ dtb_next m v w (edges_between v w)
+  pub answer_next : is_answer_alone v w ≡ true → falls_between v w DTACK ≡ true → is_addressed v w ≡ true
+      → is_unanswered m.pending ≡ true
+      → record {
+        memory = memory_left m w Answered (after_answer m.cycle (is_writing m.pending)) false;
+        fault
+            = cycle_fault m.cycle (is_writing m.pending) (Some DTACK);
+        kinds = record nothing
+            { answer = Some (plain_answer DTACK) };
+      } ≡ dtb_next m v w (edges_between v w)
   answer_next alone falls addressed waits =
       let all = all_four (stays_on v w AS) (stays_on v w DS0) (stays_on v w DS1) (stays_on v w BERR) alone in
       let s = answer_edges in
       let same = within_is (no_start v w all.1 all.2) in
       let one = one_answer within (ap is_unanswered same ∙ waits) in
       sym
-      (same_next (tracked m.pending v w) _ s.shown _ (after_answer m.cycle (is_writing m.pending)) _ _ (handshake_fault m within s) _ (cycle_fault m.cycle (is_writing m.pending) (Some DTACK)) _ (Some (plain_answer DTACK)) (answered_left falls (ap is_unanswered same ∙ waits))
-      (ap (λ (o : Option ℕ). cond (is_some o) (after_answer m.cycle (is_writing within)) m.cycle) one.2 ∙ ap (λ (p : Pending). after_answer m.cycle (is_writing p)) same)
-      (none-first (strobe_faults m within s) (refl, (unnamed H2 (is_unserved m.pending s), (unnamed H3 (is_replied m.pending), (not_applied H4 _ (Some DTACK) one.0, (not_applied H5 _ (Some DTACK) one.1, (refl, (not_applied H7 _ (Some AS) (and_false (is_unserved m.pending s)), (refl, tt)))))))))
-      (ap (cycle_fault m.cycle (is_writing within)) one.2 ∙ ap (λ (p : Pending). cycle_fault m.cycle (is_writing p) (Some DTACK)) same)
-      (ap (option_map told) one.2 ∙ ap (λ (d : Option Lanes). Some (told_with d DTACK)) (plain_data (no_start v w all.1 all.2))))
+      (same_next (tracked m.pending v w) _ s.shown _ (after_answer m.cycle (is_writing m.pending)) _ _
+      (handshake_fault m within s) _ (cycle_fault m.cycle (is_writing m.pending) (Some DTACK)) _
+      (Some (plain_answer DTACK)) (answered_left falls (ap is_unanswered same ∙ waits))
+      (ap (λ (o : Option ℕ). cond (is_some o) (after_answer m.cycle (is_writing within)) m.cycle) one.2
+      ∙ ap (λ (p : Pending). after_answer m.cycle (is_writing p)) same)
+      (none-first (strobe_faults m within s) (
+        refl,
+        (
+          unnamed H2 (is_unserved m.pending s),
+          (
+            unnamed H3 (is_replied m.pending),
+            (
+              not_applied H4 _ (Some DTACK) one.0,
+              (
+                not_applied H5 _ (Some DTACK) one.1,
+                (refl, (not_applied H7 _ (Some AS) (and_false (is_unserved m.pending s)), (refl, tt))),
+              ),
+            ),
+          ),
+        ),
+      ))
+      (ap (cycle_fault m.cycle (is_writing within)) one.2 ∙ ap (λ (p : Pending). cycle_fault m.cycle (is_writing p)
+      (Some DTACK)) same)
+      (ap (option_map told) one.2 ∙ ap (λ (d : Option Lanes). Some (told_with d DTACK))
+      (plain_data (no_start v w all.1 all.2))))
       ∙ ap (dtb_next m v w) (answer_is v w alone falls addressed)
 
-  pub ready_next : is_answer_alone v w ≡ true → rises_between v w DTACK ≡ true → m.dtack_freed ≡ true → quiet (memory_left m w m.pending m.cycle false) ≡ dtb_next m v w (edges_between v w)
+  pub ready_next : is_answer_alone v w ≡ true → rises_between v w DTACK ≡ true → m.dtack_freed ≡ true
+      → quiet (memory_left m w m.pending m.cycle false) ≡ dtb_next m v w (edges_between v w)
   ready_next alone rises gone =
       let all = all_four (stays_on v w AS) (stays_on v w DS0) (stays_on v w DS1) (stays_on v w BERR) alone in
       let s = ready_edges (not (is_addressed v w)) in
       sym
       (same_next (tracked m.pending v w) _ s.shown _ m.cycle _ _ (handshake_fault m within s) _ None _ None
-      (unanswered_left m.pending (rises_alone (level_at v DTACK) (level_at w DTACK) rises) (no_fall v w BERR all.3) (within_is (no_start v w all.1 all.2))) (kept_cycle m.cycle)
-      (none-first (strobe_faults m within s) (refl, (unnamed H2 (is_unserved m.pending s), (unnamed H3 (is_replied m.pending), (unnamed H4 (not (is_within within)), (unnamed H5 (is_doubled within s), (rw gone refl, (not_applied H7 _ (Some AS) (and_false (is_unserved m.pending s)), (no_h8 (not (is_addressed v w)), tt)))))))))
+      (unanswered_left m.pending (rises_alone (level_at v DTACK) (level_at w DTACK) rises) (no_fall v w BERR all.3)
+      (within_is (no_start v w all.1 all.2))) (kept_cycle m.cycle)
+      (none-first (strobe_faults m within s) (
+        refl,
+        (
+          unnamed H2 (is_unserved m.pending s),
+          (
+            unnamed H3 (is_replied m.pending),
+            (
+              unnamed H4 (not (is_within within)),
+              (
+                unnamed H5 (is_doubled within s),
+                (
+                  rw gone refl,
+                  (
+                    not_applied H7 _ (Some AS) (and_false (is_unserved m.pending s)),
+                    (no_h8 (not (is_addressed v w)), tt),
+                  ),
+                ),
+              ),
+            ),
+          ),
+        ),
+      ))
       (unanswered_here m.cycle) no_mark)
       ∙ ap (dtb_next m v w) (ready_is v w alone rises)

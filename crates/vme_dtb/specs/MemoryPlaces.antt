@@ -111,7 +111,8 @@ third_part p c a b ha hb = omega arith
 fourth_part : (p c a b : ℕ) → b < 2 → (36 * p + 4 * c + 2 * a + b) % 2 ≡ b
 fourth_part p c a b hb = omega arith
 
-same_memory : (m : HandshakeMemory) (p : Pending) (c : Cycle) (a b : Bool) → p ≡ m.pending → c ≡ m.cycle → a ≡ m.dtack_freed
+same_memory : (m : HandshakeMemory) (p : Pending) (c : Cycle) (a b : Bool) → p ≡ m.pending → c ≡ m.cycle → a
+    ≡ m.dtack_freed
     → b ≡ m.berr_freed → record { pending = p; cycle = c; dtack_freed = a; berr_freed = b } ≡ m
 same_memory m p c a b hp hc ha hb = rw (hp, hc, ha, hb) refl
 

@@ -1,7 +1,18 @@
 -- Computed from the definitions.
 use Rattle.std.proofs.Common.{refl}
 use Rattle.vme_eval.specs.Recording.{Agrees, AllAgree}
-use Rattle.vme_eval.specs.Acknowledges.{acknowledges, acknowledge_cycle, acknowledge_of_level_3, acknowledge_skips_slot, acknowledge_outside_an_acknowledge_cycle, acknowledge_with_its_input, acknowledge_as_its_input_rises, acknowledge_before_strobe, acknowledge_before_the_cycle, acknowledge_by_the_second_strobe, acknowledge_as_the_strobe_rises, acknowledge_as_the_second_strobe_rises, acknowledge_as_the_second_strobe_falls, acknowledge_near_a_strobe_and_near_the_cycle, acknowledge_after_answer, acknowledge_after_an_answer_at_the_start, acknowledge_after_the_answer_of_a_data_cycle, acknowledge_with_the_answer, acknowledge_after_a_bus_error, acknowledge_as_the_next_cycle_starts, acknowledge_write, acknowledge_turns_to_a_read, acknowledge_is_a_read_from_its_start, acknowledged_twice}
+use Rattle.vme_eval.specs.Acknowledges.{acknowledges, acknowledge_cycle, acknowledge_of_level_3, acknowledge_skips_slot}
+use Rattle.vme_eval.specs.Acknowledges.{acknowledge_outside_an_acknowledge_cycle, acknowledge_with_its_input}
+use Rattle.vme_eval.specs.Acknowledges.{acknowledge_as_its_input_rises, acknowledge_before_strobe}
+use Rattle.vme_eval.specs.Acknowledges.{acknowledge_before_the_cycle, acknowledge_by_the_second_strobe}
+use Rattle.vme_eval.specs.Acknowledges.{acknowledge_as_the_strobe_rises, acknowledge_as_the_second_strobe_rises}
+use Rattle.vme_eval.specs.Acknowledges.{acknowledge_as_the_second_strobe_falls}
+use Rattle.vme_eval.specs.Acknowledges.{acknowledge_near_a_strobe_and_near_the_cycle, acknowledge_after_answer}
+use Rattle.vme_eval.specs.Acknowledges.{acknowledge_after_an_answer_at_the_start}
+use Rattle.vme_eval.specs.Acknowledges.{acknowledge_after_the_answer_of_a_data_cycle, acknowledge_with_the_answer}
+use Rattle.vme_eval.specs.Acknowledges.{acknowledge_after_a_bus_error, acknowledge_as_the_next_cycle_starts}
+use Rattle.vme_eval.specs.Acknowledges.{acknowledge_write, acknowledge_turns_to_a_read}
+use Rattle.vme_eval.specs.Acknowledges.{acknowledge_is_a_read_from_its_start, acknowledged_twice}
 use Rattle.vme_eval.proofs.Everything.{everything, rows}
 
 pub acknowledge_cycle_agrees : Agrees acknowledge_cycle
@@ -97,5 +108,70 @@ unfolding everything rows acknowledged_twice
 acknowledged_twice_agrees = record { well_formed = refl; verdict = refl; rows = refl }
 
 pub acknowledges_agree : AllAgree acknowledges
-acknowledges_agree =
-    (acknowledge_cycle_agrees, (acknowledge_of_level_3_agrees, (acknowledge_skips_slot_agrees, (acknowledge_outside_an_acknowledge_cycle_agrees, (acknowledge_with_its_input_agrees, (acknowledge_as_its_input_rises_agrees, (acknowledge_before_strobe_agrees, (acknowledge_before_the_cycle_agrees, (acknowledge_by_the_second_strobe_agrees, (acknowledge_as_the_strobe_rises_agrees, (acknowledge_as_the_second_strobe_rises_agrees, (acknowledge_as_the_second_strobe_falls_agrees, (acknowledge_near_a_strobe_and_near_the_cycle_agrees, (acknowledge_after_answer_agrees, (acknowledge_after_an_answer_at_the_start_agrees, (acknowledge_after_the_answer_of_a_data_cycle_agrees, (acknowledge_with_the_answer_agrees, (acknowledge_after_a_bus_error_agrees, (acknowledge_as_the_next_cycle_starts_agrees, (acknowledge_write_agrees, (acknowledge_turns_to_a_read_agrees, (acknowledge_is_a_read_from_its_start_agrees, (acknowledged_twice_agrees, tt)))))))))))))))))))))))
+acknowledges_agree = (
+  acknowledge_cycle_agrees,
+  (
+    acknowledge_of_level_3_agrees,
+    (
+      acknowledge_skips_slot_agrees,
+      (
+        acknowledge_outside_an_acknowledge_cycle_agrees,
+        (
+          acknowledge_with_its_input_agrees,
+          (
+            acknowledge_as_its_input_rises_agrees,
+            (
+              acknowledge_before_strobe_agrees,
+              (
+                acknowledge_before_the_cycle_agrees,
+                (
+                  acknowledge_by_the_second_strobe_agrees,
+                  (
+                    acknowledge_as_the_strobe_rises_agrees,
+                    (
+                      acknowledge_as_the_second_strobe_rises_agrees,
+                      (
+                        acknowledge_as_the_second_strobe_falls_agrees,
+                        (
+                          acknowledge_near_a_strobe_and_near_the_cycle_agrees,
+                          (
+                            acknowledge_after_answer_agrees,
+                            (
+                              acknowledge_after_an_answer_at_the_start_agrees,
+                              (
+                                acknowledge_after_the_answer_of_a_data_cycle_agrees,
+                                (
+                                  acknowledge_with_the_answer_agrees,
+                                  (
+                                    acknowledge_after_a_bus_error_agrees,
+                                    (
+                                      acknowledge_as_the_next_cycle_starts_agrees,
+                                      (
+                                        acknowledge_write_agrees,
+                                        (
+                                          acknowledge_turns_to_a_read_agrees,
+                                          (
+                                            acknowledge_is_a_read_from_its_start_agrees,
+                                            (acknowledged_twice_agrees, tt),
+                                          ),
+                                        ),
+                                      ),
+                                    ),
+                                  ),
+                                ),
+                              ),
+                            ),
+                          ),
+                        ),
+                      ),
+                    ),
+                  ),
+                ),
+              ),
+            ),
+          ),
+        ),
+      ),
+    ),
+  ),
+)

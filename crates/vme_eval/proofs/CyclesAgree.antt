@@ -1,7 +1,10 @@
 -- Computed from the definitions.
 use Rattle.std.proofs.Common.{refl}
 use Rattle.vme_eval.specs.Recording.{Agrees, AllAgree}
-use Rattle.vme_eval.specs.Cycles.{cycles, read_modify_write, write_then_read, two_writes, read_write_write, answer_as_the_cycle_starts_counts, block_read, block_turns, block_turns_from_write_to_read, free_cycle, free_cycle_reads_writes_and_reads, extended_read, extended_block_read, acknowledge_line_rises_as_the_cycle_starts}
+use Rattle.vme_eval.specs.Cycles.{cycles, read_modify_write, write_then_read, two_writes, read_write_write}
+use Rattle.vme_eval.specs.Cycles.{answer_as_the_cycle_starts_counts, block_read, block_turns}
+use Rattle.vme_eval.specs.Cycles.{block_turns_from_write_to_read, free_cycle, free_cycle_reads_writes_and_reads}
+use Rattle.vme_eval.specs.Cycles.{extended_read, extended_block_read, acknowledge_line_rises_as_the_cycle_starts}
 use Rattle.vme_eval.proofs.Everything.{everything, rows}
 
 pub read_modify_write_agrees : Agrees read_modify_write
@@ -57,5 +60,43 @@ unfolding everything rows acknowledge_line_rises_as_the_cycle_starts
 acknowledge_line_rises_as_the_cycle_starts_agrees = record { well_formed = refl; verdict = refl; rows = refl }
 
 pub cycles_agree : AllAgree cycles
-cycles_agree =
-    (read_modify_write_agrees, (write_then_read_agrees, (two_writes_agrees, (read_write_write_agrees, (answer_as_the_cycle_starts_counts_agrees, (block_read_agrees, (block_turns_agrees, (block_turns_from_write_to_read_agrees, (free_cycle_agrees, (free_cycle_reads_writes_and_reads_agrees, (extended_read_agrees, (extended_block_read_agrees, (acknowledge_line_rises_as_the_cycle_starts_agrees, tt)))))))))))))
+cycles_agree = (
+  read_modify_write_agrees,
+  (
+    write_then_read_agrees,
+    (
+      two_writes_agrees,
+      (
+        read_write_write_agrees,
+        (
+          answer_as_the_cycle_starts_counts_agrees,
+          (
+            block_read_agrees,
+            (
+              block_turns_agrees,
+              (
+                block_turns_from_write_to_read_agrees,
+                (
+                  free_cycle_agrees,
+                  (
+                    free_cycle_reads_writes_and_reads_agrees,
+                    (
+                      extended_read_agrees,
+                      (
+                        extended_block_read_agrees,
+                        (
+                          acknowledge_line_rises_as_the_cycle_starts_agrees,
+                          tt,
+                        ),
+                      ),
+                    ),
+                  ),
+                ),
+              ),
+            ),
+          ),
+        ),
+      ),
+    ),
+  ),
+)

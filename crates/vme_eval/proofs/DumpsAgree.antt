@@ -1,7 +1,9 @@
 -- Computed from the definitions.
 use Rattle.std.proofs.Common.{refl}
 use Rattle.vme_eval.specs.Recording.{Agrees, AllAgree}
-use Rattle.vme_eval.specs.Dumps.{dumps, dumped_read, dumped_nothing, dumped_stray_answer, dumped_unknown_strobe, dumped_gap, strobe_lost_at_once, answer_low_before_judging, address_lost_between_cycles, earlier_break_of_a_later_rule}
+use Rattle.vme_eval.specs.Dumps.{dumps, dumped_read, dumped_nothing, dumped_stray_answer, dumped_unknown_strobe}
+use Rattle.vme_eval.specs.Dumps.{dumped_gap, strobe_lost_at_once, answer_low_before_judging}
+use Rattle.vme_eval.specs.Dumps.{address_lost_between_cycles, earlier_break_of_a_later_rule}
 use Rattle.vme_eval.proofs.Everything.{everything, rows}
 
 pub dumped_read_agrees : Agrees dumped_read
@@ -41,5 +43,28 @@ unfolding everything rows earlier_break_of_a_later_rule
 earlier_break_of_a_later_rule_agrees = record { well_formed = refl; verdict = refl; rows = refl }
 
 pub dumps_agree : AllAgree dumps
-dumps_agree =
-    (dumped_read_agrees, (dumped_nothing_agrees, (dumped_stray_answer_agrees, (dumped_unknown_strobe_agrees, (dumped_gap_agrees, (strobe_lost_at_once_agrees, (answer_low_before_judging_agrees, (address_lost_between_cycles_agrees, (earlier_break_of_a_later_rule_agrees, tt)))))))))
+dumps_agree = (
+  dumped_read_agrees,
+  (
+    dumped_nothing_agrees,
+    (
+      dumped_stray_answer_agrees,
+      (
+        dumped_unknown_strobe_agrees,
+        (
+          dumped_gap_agrees,
+          (
+            strobe_lost_at_once_agrees,
+            (
+              answer_low_before_judging_agrees,
+              (
+                address_lost_between_cycles_agrees,
+                (earlier_break_of_a_later_rule_agrees, tt),
+              ),
+            ),
+          ),
+        ),
+      ),
+    ),
+  ),
+)

@@ -1,7 +1,14 @@
 -- Computed from the definitions.
 use Rattle.std.proofs.Common.{refl}
 use Rattle.vme_eval.specs.Recording.{Agrees, AllAgree}
-use Rattle.vme_eval.specs.Grants.{grants, slot_grants_ungranted, slot_grants_with_its_input, slot_grants_as_its_input_rises, slot_ends_its_grant_early, slot_ends_its_grant_as_its_input_falls, second_level_granted, higher_level_granted_second, two_levels_granted_at_once, another_level_granted_as_the_first_ends, grant_while_busy, slot_grants_while_busy, grant_falls_as_the_bus_is_let_go, grant_unasked, request_with_the_grant, request_low_at_the_start, request_of_the_grant_before_serves_again, request_before_another_levels_grant, request_of_two_grants_before, grant_withdrawn}
+use Rattle.vme_eval.specs.Grants.{grants, slot_grants_ungranted, slot_grants_with_its_input}
+use Rattle.vme_eval.specs.Grants.{slot_grants_as_its_input_rises, slot_ends_its_grant_early}
+use Rattle.vme_eval.specs.Grants.{slot_ends_its_grant_as_its_input_falls, second_level_granted}
+use Rattle.vme_eval.specs.Grants.{higher_level_granted_second, two_levels_granted_at_once}
+use Rattle.vme_eval.specs.Grants.{another_level_granted_as_the_first_ends, grant_while_busy, slot_grants_while_busy}
+use Rattle.vme_eval.specs.Grants.{grant_falls_as_the_bus_is_let_go, grant_unasked, request_with_the_grant}
+use Rattle.vme_eval.specs.Grants.{request_low_at_the_start, request_of_the_grant_before_serves_again}
+use Rattle.vme_eval.specs.Grants.{request_before_another_levels_grant, request_of_two_grants_before, grant_withdrawn}
 use Rattle.vme_eval.proofs.Everything.{everything, rows}
 
 pub slot_grants_ungranted_agrees : Agrees slot_grants_ungranted
@@ -81,5 +88,58 @@ unfolding everything rows grant_withdrawn
 grant_withdrawn_agrees = record { well_formed = refl; verdict = refl; rows = refl }
 
 pub grants_agree : AllAgree grants
-grants_agree =
-    (slot_grants_ungranted_agrees, (slot_grants_with_its_input_agrees, (slot_grants_as_its_input_rises_agrees, (slot_ends_its_grant_early_agrees, (slot_ends_its_grant_as_its_input_falls_agrees, (second_level_granted_agrees, (higher_level_granted_second_agrees, (two_levels_granted_at_once_agrees, (another_level_granted_as_the_first_ends_agrees, (grant_while_busy_agrees, (slot_grants_while_busy_agrees, (grant_falls_as_the_bus_is_let_go_agrees, (grant_unasked_agrees, (request_with_the_grant_agrees, (request_low_at_the_start_agrees, (request_of_the_grant_before_serves_again_agrees, (request_before_another_levels_grant_agrees, (request_of_two_grants_before_agrees, (grant_withdrawn_agrees, tt)))))))))))))))))))
+grants_agree = (
+  slot_grants_ungranted_agrees,
+  (
+    slot_grants_with_its_input_agrees,
+    (
+      slot_grants_as_its_input_rises_agrees,
+      (
+        slot_ends_its_grant_early_agrees,
+        (
+          slot_ends_its_grant_as_its_input_falls_agrees,
+          (
+            second_level_granted_agrees,
+            (
+              higher_level_granted_second_agrees,
+              (
+                two_levels_granted_at_once_agrees,
+                (
+                  another_level_granted_as_the_first_ends_agrees,
+                  (
+                    grant_while_busy_agrees,
+                    (
+                      slot_grants_while_busy_agrees,
+                      (
+                        grant_falls_as_the_bus_is_let_go_agrees,
+                        (
+                          grant_unasked_agrees,
+                          (
+                            request_with_the_grant_agrees,
+                            (
+                              request_low_at_the_start_agrees,
+                              (
+                                request_of_the_grant_before_serves_again_agrees,
+                                (
+                                  request_before_another_levels_grant_agrees,
+                                  (
+                                    request_of_two_grants_before_agrees,
+                                    (grant_withdrawn_agrees, tt),
+                                  ),
+                                ),
+                              ),
+                            ),
+                          ),
+                        ),
+                      ),
+                    ),
+                  ),
+                ),
+              ),
+            ),
+          ),
+        ),
+      ),
+    ),
+  ),
+)

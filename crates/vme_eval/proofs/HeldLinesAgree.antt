@@ -114,5 +114,73 @@ unfolding everything rows lowest_address_line_changes
 lowest_address_line_changes_agrees = record { well_formed = refl; verdict = refl; rows = refl }
 
 pub held_lines_agree : AllAgree held_lines
-held_lines_agree =
-    (short_address_agrees, (address_changes_early_agrees, (address_changes_with_answer_agrees, (unneeded_line_changes_agrees, (address_lost_in_the_cycle_agrees, (highest_address_line_changes_agrees, (address_changes_as_the_cycle_ends_agrees, (address_changes_after_an_answer_at_the_start_agrees, (unknown_modifier_agrees, (floating_modifier_agrees, (address_lost_as_the_cycle_starts_agrees, (address_known_as_the_cycle_starts_agrees, (highest_address_line_unknown_agrees, (direction_unknown_agrees, (direction_known_as_the_transfer_starts_agrees, (direction_settles_as_the_transfer_starts_agrees, (direction_changes_agrees, (direction_changes_after_the_answer_agrees, (direction_changes_as_a_strobe_rises_agrees, (level_of_an_acknowledge_changes_agrees, (acknowledge_line_changes_agrees, (highest_modifier_line_changes_agrees, (lowest_modifier_line_changes_agrees, (long_word_line_changes_agrees, (lowest_address_line_changes_agrees, tt)))))))))))))))))))))))))
+held_lines_agree = (
+  short_address_agrees,
+  (
+    address_changes_early_agrees,
+    (
+      address_changes_with_answer_agrees,
+      (
+        unneeded_line_changes_agrees,
+        (
+          address_lost_in_the_cycle_agrees,
+          (
+            highest_address_line_changes_agrees,
+            (
+              address_changes_as_the_cycle_ends_agrees,
+              (
+                address_changes_after_an_answer_at_the_start_agrees,
+                (
+                  unknown_modifier_agrees,
+                  (
+                    floating_modifier_agrees,
+                    (
+                      address_lost_as_the_cycle_starts_agrees,
+                      (
+                        address_known_as_the_cycle_starts_agrees,
+                        (
+                          highest_address_line_unknown_agrees,
+                          (
+                            direction_unknown_agrees,
+                            (
+                              direction_known_as_the_transfer_starts_agrees,
+                              (
+                                direction_settles_as_the_transfer_starts_agrees,
+                                (
+                                  direction_changes_agrees,
+                                  (
+                                    direction_changes_after_the_answer_agrees,
+                                    (
+                                      direction_changes_as_a_strobe_rises_agrees,
+                                      (
+                                        level_of_an_acknowledge_changes_agrees,
+                                        (
+                                          acknowledge_line_changes_agrees,
+                                          (
+                                            highest_modifier_line_changes_agrees,
+                                            (
+                                              lowest_modifier_line_changes_agrees,
+                                              (long_word_line_changes_agrees, (lowest_address_line_changes_agrees, tt)),
+                                            ),
+                                          ),
+                                        ),
+                                      ),
+                                    ),
+                                  ),
+                                ),
+                              ),
+                            ),
+                          ),
+                        ),
+                      ),
+                    ),
+                  ),
+                ),
+              ),
+            ),
+          ),
+        ),
+      ),
+    ),
+  ),
+)

@@ -58,5 +58,37 @@ unfolding everything rows answer_and_direction_after_one_strobe
 answer_and_direction_after_one_strobe_agrees = record { well_formed = refl; verdict = refl; rows = refl }
 
 pub leniencies_agree : AllAgree leniencies
-leniencies_agree =
-    (chain_net_left_low_agrees, (acknowledge_net_left_low_agrees, (acknowledge_passed_on_twice_agrees, (read_modify_write_at_two_addresses_agrees, (read_modify_write_of_two_sizes_agrees, (block_of_long_words_without_its_long_word_line_agrees, (modifier_changes_in_a_block_agrees, (write_after_the_bus_error_of_the_read_agrees, (strobe_long_before_the_cycle_agrees, (acknowledge_of_level_0_agrees, (grant_taken_after_the_request_agrees, (answer_and_direction_after_one_strobe_agrees, tt))))))))))))
+leniencies_agree = (
+  chain_net_left_low_agrees,
+  (
+    acknowledge_net_left_low_agrees,
+    (
+      acknowledge_passed_on_twice_agrees,
+      (
+        read_modify_write_at_two_addresses_agrees,
+        (
+          read_modify_write_of_two_sizes_agrees,
+          (
+            block_of_long_words_without_its_long_word_line_agrees,
+            (
+              modifier_changes_in_a_block_agrees,
+              (
+                write_after_the_bus_error_of_the_read_agrees,
+                (
+                  strobe_long_before_the_cycle_agrees,
+                  (
+                    acknowledge_of_level_0_agrees,
+                    (
+                      grant_taken_after_the_request_agrees,
+                      (answer_and_direction_after_one_strobe_agrees, tt),
+                    ),
+                  ),
+                ),
+              ),
+            ),
+          ),
+        ),
+      ),
+    ),
+  ),
+)

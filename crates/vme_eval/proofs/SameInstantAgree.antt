@@ -86,5 +86,55 @@ unfolding everything rows address_and_data_unknown
 address_and_data_unknown_agrees = record { well_formed = refl; verdict = refl; rows = refl }
 
 pub same_instant_agree : AllAgree same_instant
-same_instant_agree =
-    (modifier_and_direction_unknown_agrees, (direction_unknown_as_the_answer_is_low_agrees, (data_unknown_as_the_answer_is_low_agrees, (answered_again_as_the_answer_is_withdrawn_agrees, (address_and_direction_change_agrees, (direction_and_data_change_agrees, (direction_changes_with_a_second_answer_agrees, (block_turns_as_a_slot_grants_agrees, (slot_grants_as_another_ends_its_grant_agrees, (slot_ends_its_grant_as_a_level_is_granted_agrees, (two_levels_granted_while_busy_agrees, (unasked_level_granted_while_busy_agrees, (past_the_last_slot_with_an_acknowledge_agrees, (acknowledge_of_nothing_agrees, (acknowledge_after_answer_and_strobe_agrees, (acknowledge_with_a_second_write_agrees, (second_acknowledge_is_a_write_agrees, (address_and_data_unknown_agrees, tt))))))))))))))))))
+same_instant_agree = (
+  modifier_and_direction_unknown_agrees,
+  (
+    direction_unknown_as_the_answer_is_low_agrees,
+    (
+      data_unknown_as_the_answer_is_low_agrees,
+      (
+        answered_again_as_the_answer_is_withdrawn_agrees,
+        (
+          address_and_direction_change_agrees,
+          (
+            direction_and_data_change_agrees,
+            (
+              direction_changes_with_a_second_answer_agrees,
+              (
+                block_turns_as_a_slot_grants_agrees,
+                (
+                  slot_grants_as_another_ends_its_grant_agrees,
+                  (
+                    slot_ends_its_grant_as_a_level_is_granted_agrees,
+                    (
+                      two_levels_granted_while_busy_agrees,
+                      (
+                        unasked_level_granted_while_busy_agrees,
+                        (
+                          past_the_last_slot_with_an_acknowledge_agrees,
+                          (
+                            acknowledge_of_nothing_agrees,
+                            (
+                              acknowledge_after_answer_and_strobe_agrees,
+                              (
+                                acknowledge_with_a_second_write_agrees,
+                                (
+                                  second_acknowledge_is_a_write_agrees,
+                                  (address_and_data_unknown_agrees, tt),
+                                ),
+                              ),
+                            ),
+                          ),
+                        ),
+                      ),
+                    ),
+                  ),
+                ),
+              ),
+            ),
+          ),
+        ),
+      ),
+    ),
+  ),
+)

@@ -4,26 +4,91 @@ use Rattle.std.specs.Prelude.{[], ◌∷◌, List, All}
 use Rattle.std.proofs.lemmas.List.Elements.{All-nil, All-cons}
 use Rattle.vme_trace.specs.Trace.{Trace}
 use Rattle.vme_trace.specs.declared.rule.Rule.{Rule}
-use Rattle.vme_trace.specs.declared.rule.Rule.TheVariants.{U1, U2, U3, U4, H1, H2, H3, H4, H5, H6, H7, H8, S1, S2, S3, C1, C2, G1, G2, G3, G4, G5, B1, B2, B3, B4, I1, I2, I3, I4, I5}
+use Rattle.vme_trace.specs.declared.rule.Rule.TheVariants.{U1, U2, U3, U4, H1, H2, H3, H4, H5, H6, H7, H8, S1, S2, S3}
+use Rattle.vme_trace.specs.declared.rule.Rule.TheVariants.{C1, C2, G1, G2, G3, G4, G5, B1, B2, B3, B4, I1, I2, I3, I4}
+use Rattle.vme_trace.specs.declared.rule.Rule.TheVariants.{I5}
 use Rattle.vme_eval.specs.Examples.{Conforms, IsShown, named_rule, says_unreadable}
 use Rattle.vme_eval.specs.Dumps.{strobe_lost_at_once, answer_low_before_judging, address_lost_between_cycles}
-use Rattle.vme_eval.proofs.DumpsAgree.{strobe_lost_at_once_agrees, answer_low_before_judging_agrees, address_lost_between_cycles_agrees}
+use Rattle.vme_eval.proofs.DumpsAgree.{strobe_lost_at_once_agrees, answer_low_before_judging_agrees}
+use Rattle.vme_eval.proofs.DumpsAgree.{address_lost_between_cycles_agrees}
 use Rattle.vme_eval.specs.Resets.{strobe_lost_with_the_reset}
 use Rattle.vme_eval.proofs.ResetsAgree.{strobe_lost_with_the_reset_agrees}
-use Rattle.vme_eval.specs.Transfers.{read_cycle, bus_error, starts_before_the_answer_rose, answer_rises_as_the_next_transfer_starts, strobes_rise_early, strobes_rise_with_answer, strobe_falls_after_the_answer, strobe_falls_with_the_answer, second_strobe_falls_before_the_answer, stray_answer, answered_at_its_first_instant, answered_again_by_the_same_line, answer_withdrawn_early, answer_rises_with_the_strobes, cycle_ends_unanswered, cycle_ends_with_the_answer, transfer_as_the_cycle_ends, answer_without_a_cycle}
-use Rattle.vme_eval.proofs.TransfersAgree.{read_cycle_agrees, bus_error_agrees, starts_before_the_answer_rose_agrees, answer_rises_as_the_next_transfer_starts_agrees, strobes_rise_early_agrees, strobes_rise_with_answer_agrees, strobe_falls_after_the_answer_agrees, strobe_falls_with_the_answer_agrees, second_strobe_falls_before_the_answer_agrees, stray_answer_agrees, answered_at_its_first_instant_agrees, answered_again_by_the_same_line_agrees, answer_withdrawn_early_agrees, answer_rises_with_the_strobes_agrees, cycle_ends_unanswered_agrees, cycle_ends_with_the_answer_agrees, transfer_as_the_cycle_ends_agrees, answer_without_a_cycle_agrees}
-use Rattle.vme_eval.specs.Cycles.{read_modify_write, write_then_read, block_read, block_turns, free_cycle_reads_writes_and_reads}
-use Rattle.vme_eval.proofs.CyclesAgree.{read_modify_write_agrees, write_then_read_agrees, block_read_agrees, block_turns_agrees, free_cycle_reads_writes_and_reads_agrees}
-use Rattle.vme_eval.specs.HeldLines.{address_changes_early, address_changes_with_answer, unneeded_line_changes, address_changes_as_the_cycle_ends, address_changes_after_an_answer_at_the_start, address_lost_as_the_cycle_starts, address_known_as_the_cycle_starts, direction_unknown, direction_known_as_the_transfer_starts, direction_settles_as_the_transfer_starts, direction_changes, direction_changes_as_a_strobe_rises}
-use Rattle.vme_eval.proofs.HeldLinesAgree.{address_changes_early_agrees, address_changes_with_answer_agrees, unneeded_line_changes_agrees, address_changes_as_the_cycle_ends_agrees, address_changes_after_an_answer_at_the_start_agrees, address_lost_as_the_cycle_starts_agrees, address_known_as_the_cycle_starts_agrees, direction_unknown_agrees, direction_known_as_the_transfer_starts_agrees, direction_settles_as_the_transfer_starts_agrees, direction_changes_agrees, direction_changes_as_a_strobe_rises_agrees}
-use Rattle.vme_eval.specs.WriteData.{data_unknown, data_change, unmoved_data_unknown, data_of_a_read, data_change_with_the_answer, second_byte_settles, unmoved_data_change}
-use Rattle.vme_eval.proofs.WriteDataAgree.{data_unknown_agrees, data_change_agrees, unmoved_data_unknown_agrees, data_of_a_read_agrees, data_change_with_the_answer_agrees, second_byte_settles_agrees, unmoved_data_change_agrees}
-use Rattle.vme_eval.specs.Grants.{slot_grants_ungranted, slot_grants_with_its_input, slot_grants_as_its_input_rises, slot_ends_its_grant_early, slot_ends_its_grant_as_its_input_falls, second_level_granted, another_level_granted_as_the_first_ends, grant_while_busy, grant_falls_as_the_bus_is_let_go, grant_unasked, request_with_the_grant, request_low_at_the_start, request_of_the_grant_before_serves_again, grant_withdrawn}
-use Rattle.vme_eval.proofs.GrantsAgree.{slot_grants_ungranted_agrees, slot_grants_with_its_input_agrees, slot_grants_as_its_input_rises_agrees, slot_ends_its_grant_early_agrees, slot_ends_its_grant_as_its_input_falls_agrees, second_level_granted_agrees, another_level_granted_as_the_first_ends_agrees, grant_while_busy_agrees, grant_falls_as_the_bus_is_let_go_agrees, grant_unasked_agrees, request_with_the_grant_agrees, request_low_at_the_start_agrees, request_of_the_grant_before_serves_again_agrees, grant_withdrawn_agrees}
-use Rattle.vme_eval.specs.Tenures.{taken_by_the_last_slot, grant_read_at_the_instant_before, slot_read_as_the_bus_is_taken, another_levels_grant_taken, bus_taken_ungranted, grant_taken_twice, cycle_without_the_bus, cycle_starts_as_the_bus_is_taken, cycle_starts_as_the_bus_is_let_go, grant_past_last_slot}
-use Rattle.vme_eval.proofs.TenuresAgree.{taken_by_the_last_slot_agrees, grant_read_at_the_instant_before_agrees, slot_read_as_the_bus_is_taken_agrees, another_levels_grant_taken_agrees, bus_taken_ungranted_agrees, grant_taken_twice_agrees, cycle_without_the_bus_agrees, cycle_starts_as_the_bus_is_taken_agrees, cycle_starts_as_the_bus_is_let_go_agrees, grant_past_last_slot_agrees}
-use Rattle.vme_eval.specs.Acknowledges.{acknowledge_skips_slot, acknowledge_with_its_input, acknowledge_as_its_input_rises, acknowledge_before_strobe, acknowledge_by_the_second_strobe, acknowledge_as_the_strobe_rises, acknowledge_near_a_strobe_and_near_the_cycle, acknowledge_after_answer, acknowledge_with_the_answer, acknowledge_after_a_bus_error, acknowledge_as_the_next_cycle_starts, acknowledge_write, acknowledge_is_a_read_from_its_start, acknowledged_twice}
-use Rattle.vme_eval.proofs.AcknowledgesAgree.{acknowledge_skips_slot_agrees, acknowledge_with_its_input_agrees, acknowledge_as_its_input_rises_agrees, acknowledge_before_strobe_agrees, acknowledge_by_the_second_strobe_agrees, acknowledge_as_the_strobe_rises_agrees, acknowledge_near_a_strobe_and_near_the_cycle_agrees, acknowledge_after_answer_agrees, acknowledge_with_the_answer_agrees, acknowledge_after_a_bus_error_agrees, acknowledge_as_the_next_cycle_starts_agrees, acknowledge_write_agrees, acknowledge_is_a_read_from_its_start_agrees, acknowledged_twice_agrees}
+use Rattle.vme_eval.specs.Transfers.{read_cycle, bus_error, starts_before_the_answer_rose}
+use Rattle.vme_eval.specs.Transfers.{answer_rises_as_the_next_transfer_starts, strobes_rise_early}
+use Rattle.vme_eval.specs.Transfers.{strobes_rise_with_answer, strobe_falls_after_the_answer}
+use Rattle.vme_eval.specs.Transfers.{strobe_falls_with_the_answer, second_strobe_falls_before_the_answer, stray_answer}
+use Rattle.vme_eval.specs.Transfers.{answered_at_its_first_instant, answered_again_by_the_same_line}
+use Rattle.vme_eval.specs.Transfers.{answer_withdrawn_early, answer_rises_with_the_strobes, cycle_ends_unanswered}
+use Rattle.vme_eval.specs.Transfers.{cycle_ends_with_the_answer, transfer_as_the_cycle_ends, answer_without_a_cycle}
+use Rattle.vme_eval.proofs.TransfersAgree.{read_cycle_agrees, bus_error_agrees, starts_before_the_answer_rose_agrees}
+use Rattle.vme_eval.proofs.TransfersAgree.{answer_rises_as_the_next_transfer_starts_agrees, strobes_rise_early_agrees}
+use Rattle.vme_eval.proofs.TransfersAgree.{strobes_rise_with_answer_agrees, strobe_falls_after_the_answer_agrees}
+use Rattle.vme_eval.proofs.TransfersAgree.{strobe_falls_with_the_answer_agrees}
+use Rattle.vme_eval.proofs.TransfersAgree.{second_strobe_falls_before_the_answer_agrees, stray_answer_agrees}
+use Rattle.vme_eval.proofs.TransfersAgree.{answered_at_its_first_instant_agrees, answered_again_by_the_same_line_agrees}
+use Rattle.vme_eval.proofs.TransfersAgree.{answer_withdrawn_early_agrees, answer_rises_with_the_strobes_agrees}
+use Rattle.vme_eval.proofs.TransfersAgree.{cycle_ends_unanswered_agrees, cycle_ends_with_the_answer_agrees}
+use Rattle.vme_eval.proofs.TransfersAgree.{transfer_as_the_cycle_ends_agrees, answer_without_a_cycle_agrees}
+use Rattle.vme_eval.specs.Cycles.{read_modify_write, write_then_read, block_read, block_turns}
+use Rattle.vme_eval.specs.Cycles.{free_cycle_reads_writes_and_reads}
+use Rattle.vme_eval.proofs.CyclesAgree.{read_modify_write_agrees, write_then_read_agrees, block_read_agrees}
+use Rattle.vme_eval.proofs.CyclesAgree.{block_turns_agrees, free_cycle_reads_writes_and_reads_agrees}
+use Rattle.vme_eval.specs.HeldLines.{address_changes_early, address_changes_with_answer, unneeded_line_changes}
+use Rattle.vme_eval.specs.HeldLines.{address_changes_as_the_cycle_ends, address_changes_after_an_answer_at_the_start}
+use Rattle.vme_eval.specs.HeldLines.{address_lost_as_the_cycle_starts, address_known_as_the_cycle_starts}
+use Rattle.vme_eval.specs.HeldLines.{direction_unknown, direction_known_as_the_transfer_starts}
+use Rattle.vme_eval.specs.HeldLines.{direction_settles_as_the_transfer_starts, direction_changes}
+use Rattle.vme_eval.specs.HeldLines.{direction_changes_as_a_strobe_rises}
+use Rattle.vme_eval.proofs.HeldLinesAgree.{address_changes_early_agrees, address_changes_with_answer_agrees}
+use Rattle.vme_eval.proofs.HeldLinesAgree.{unneeded_line_changes_agrees, address_changes_as_the_cycle_ends_agrees}
+use Rattle.vme_eval.proofs.HeldLinesAgree.{address_changes_after_an_answer_at_the_start_agrees}
+use Rattle.vme_eval.proofs.HeldLinesAgree.{address_lost_as_the_cycle_starts_agrees}
+use Rattle.vme_eval.proofs.HeldLinesAgree.{address_known_as_the_cycle_starts_agrees, direction_unknown_agrees}
+use Rattle.vme_eval.proofs.HeldLinesAgree.{direction_known_as_the_transfer_starts_agrees}
+use Rattle.vme_eval.proofs.HeldLinesAgree.{direction_settles_as_the_transfer_starts_agrees, direction_changes_agrees}
+use Rattle.vme_eval.proofs.HeldLinesAgree.{direction_changes_as_a_strobe_rises_agrees}
+use Rattle.vme_eval.specs.WriteData.{data_unknown, data_change, unmoved_data_unknown, data_of_a_read}
+use Rattle.vme_eval.specs.WriteData.{data_change_with_the_answer, second_byte_settles, unmoved_data_change}
+use Rattle.vme_eval.proofs.WriteDataAgree.{data_unknown_agrees, data_change_agrees, unmoved_data_unknown_agrees}
+use Rattle.vme_eval.proofs.WriteDataAgree.{data_of_a_read_agrees, data_change_with_the_answer_agrees}
+use Rattle.vme_eval.proofs.WriteDataAgree.{second_byte_settles_agrees, unmoved_data_change_agrees}
+use Rattle.vme_eval.specs.Grants.{slot_grants_ungranted, slot_grants_with_its_input, slot_grants_as_its_input_rises}
+use Rattle.vme_eval.specs.Grants.{slot_ends_its_grant_early, slot_ends_its_grant_as_its_input_falls}
+use Rattle.vme_eval.specs.Grants.{second_level_granted, another_level_granted_as_the_first_ends, grant_while_busy}
+use Rattle.vme_eval.specs.Grants.{grant_falls_as_the_bus_is_let_go, grant_unasked, request_with_the_grant}
+use Rattle.vme_eval.specs.Grants.{request_low_at_the_start, request_of_the_grant_before_serves_again, grant_withdrawn}
+use Rattle.vme_eval.proofs.GrantsAgree.{slot_grants_ungranted_agrees, slot_grants_with_its_input_agrees}
+use Rattle.vme_eval.proofs.GrantsAgree.{slot_grants_as_its_input_rises_agrees, slot_ends_its_grant_early_agrees}
+use Rattle.vme_eval.proofs.GrantsAgree.{slot_ends_its_grant_as_its_input_falls_agrees, second_level_granted_agrees}
+use Rattle.vme_eval.proofs.GrantsAgree.{another_level_granted_as_the_first_ends_agrees, grant_while_busy_agrees}
+use Rattle.vme_eval.proofs.GrantsAgree.{grant_falls_as_the_bus_is_let_go_agrees, grant_unasked_agrees}
+use Rattle.vme_eval.proofs.GrantsAgree.{request_with_the_grant_agrees, request_low_at_the_start_agrees}
+use Rattle.vme_eval.proofs.GrantsAgree.{request_of_the_grant_before_serves_again_agrees, grant_withdrawn_agrees}
+use Rattle.vme_eval.specs.Tenures.{taken_by_the_last_slot, grant_read_at_the_instant_before}
+use Rattle.vme_eval.specs.Tenures.{slot_read_as_the_bus_is_taken, another_levels_grant_taken, bus_taken_ungranted}
+use Rattle.vme_eval.specs.Tenures.{grant_taken_twice, cycle_without_the_bus, cycle_starts_as_the_bus_is_taken}
+use Rattle.vme_eval.specs.Tenures.{cycle_starts_as_the_bus_is_let_go, grant_past_last_slot}
+use Rattle.vme_eval.proofs.TenuresAgree.{taken_by_the_last_slot_agrees, grant_read_at_the_instant_before_agrees}
+use Rattle.vme_eval.proofs.TenuresAgree.{slot_read_as_the_bus_is_taken_agrees, another_levels_grant_taken_agrees}
+use Rattle.vme_eval.proofs.TenuresAgree.{bus_taken_ungranted_agrees, grant_taken_twice_agrees}
+use Rattle.vme_eval.proofs.TenuresAgree.{cycle_without_the_bus_agrees, cycle_starts_as_the_bus_is_taken_agrees}
+use Rattle.vme_eval.proofs.TenuresAgree.{cycle_starts_as_the_bus_is_let_go_agrees, grant_past_last_slot_agrees}
+use Rattle.vme_eval.specs.Acknowledges.{acknowledge_skips_slot, acknowledge_with_its_input}
+use Rattle.vme_eval.specs.Acknowledges.{acknowledge_as_its_input_rises, acknowledge_before_strobe}
+use Rattle.vme_eval.specs.Acknowledges.{acknowledge_by_the_second_strobe, acknowledge_as_the_strobe_rises}
+use Rattle.vme_eval.specs.Acknowledges.{acknowledge_near_a_strobe_and_near_the_cycle, acknowledge_after_answer}
+use Rattle.vme_eval.specs.Acknowledges.{acknowledge_with_the_answer, acknowledge_after_a_bus_error}
+use Rattle.vme_eval.specs.Acknowledges.{acknowledge_as_the_next_cycle_starts, acknowledge_write}
+use Rattle.vme_eval.specs.Acknowledges.{acknowledge_is_a_read_from_its_start, acknowledged_twice}
+use Rattle.vme_eval.proofs.AcknowledgesAgree.{acknowledge_skips_slot_agrees, acknowledge_with_its_input_agrees}
+use Rattle.vme_eval.proofs.AcknowledgesAgree.{acknowledge_as_its_input_rises_agrees, acknowledge_before_strobe_agrees}
+use Rattle.vme_eval.proofs.AcknowledgesAgree.{acknowledge_by_the_second_strobe_agrees}
+use Rattle.vme_eval.proofs.AcknowledgesAgree.{acknowledge_as_the_strobe_rises_agrees}
+use Rattle.vme_eval.proofs.AcknowledgesAgree.{acknowledge_near_a_strobe_and_near_the_cycle_agrees}
+use Rattle.vme_eval.proofs.AcknowledgesAgree.{acknowledge_after_answer_agrees, acknowledge_with_the_answer_agrees}
+use Rattle.vme_eval.proofs.AcknowledgesAgree.{acknowledge_after_a_bus_error_agrees}
+use Rattle.vme_eval.proofs.AcknowledgesAgree.{acknowledge_as_the_next_cycle_starts_agrees, acknowledge_write_agrees}
+use Rattle.vme_eval.proofs.AcknowledgesAgree.{acknowledge_is_a_read_from_its_start_agrees, acknowledged_twice_agrees}
 
 before : (t : Trace) (ts : List Trace) → Conforms t → All Conforms ts → All Conforms (t ∷ ts)
 before t ts = All-cons Conforms t ts
@@ -38,8 +103,11 @@ U1_is_shown = record {
   unreadable = ap says_unreadable strobe_lost_at_once_agrees.verdict;
   some = omega arith;
   spared =
-      before address_lost_between_cycles.trace (answer_low_before_judging.trace ∷ strobe_lost_with_the_reset.trace ∷ []) address_lost_between_cycles_agrees.verdict
-      (before answer_low_before_judging.trace (strobe_lost_with_the_reset.trace ∷ []) answer_low_before_judging_agrees.verdict (alone strobe_lost_with_the_reset.trace strobe_lost_with_the_reset_agrees.verdict));
+      before address_lost_between_cycles.trace (answer_low_before_judging.trace ∷ strobe_lost_with_the_reset.trace ∷ [])
+      address_lost_between_cycles_agrees.verdict
+      (before answer_low_before_judging.trace (strobe_lost_with_the_reset.trace ∷ [])
+      answer_low_before_judging_agrees.verdict (alone strobe_lost_with_the_reset.trace
+      strobe_lost_with_the_reset_agrees.verdict));
 }
 
 U2_is_shown : IsShown U2
@@ -48,7 +116,8 @@ U2_is_shown = record {
   rule = ap named_rule address_lost_as_the_cycle_starts_agrees.verdict;
   unreadable = ap says_unreadable address_lost_as_the_cycle_starts_agrees.verdict;
   some = omega arith;
-  spared = before address_known_as_the_cycle_starts.trace (read_cycle.trace ∷ []) address_known_as_the_cycle_starts_agrees.verdict (alone read_cycle.trace read_cycle_agrees.verdict);
+  spared = before address_known_as_the_cycle_starts.trace (read_cycle.trace ∷ [])
+      address_known_as_the_cycle_starts_agrees.verdict (alone read_cycle.trace read_cycle_agrees.verdict);
 }
 
 U3_is_shown : IsShown U3
@@ -66,7 +135,8 @@ U4_is_shown = record {
   rule = ap named_rule data_unknown_agrees.verdict;
   unreadable = ap says_unreadable data_unknown_agrees.verdict;
   some = omega arith;
-  spared = before unmoved_data_unknown.trace (data_of_a_read.trace ∷ []) unmoved_data_unknown_agrees.verdict (alone data_of_a_read.trace data_of_a_read_agrees.verdict);
+  spared = before unmoved_data_unknown.trace (data_of_a_read.trace ∷ []) unmoved_data_unknown_agrees.verdict
+      (alone data_of_a_read.trace data_of_a_read_agrees.verdict);
 }
 
 H1_is_shown : IsShown H1
@@ -93,7 +163,9 @@ H3_is_shown = record {
   rule = ap named_rule strobe_falls_after_the_answer_agrees.verdict;
   unreadable = ap says_unreadable strobe_falls_after_the_answer_agrees.verdict;
   some = omega arith;
-  spared = before strobe_falls_with_the_answer.trace (second_strobe_falls_before_the_answer.trace ∷ []) strobe_falls_with_the_answer_agrees.verdict (alone second_strobe_falls_before_the_answer.trace second_strobe_falls_before_the_answer_agrees.verdict);
+  spared = before strobe_falls_with_the_answer.trace (second_strobe_falls_before_the_answer.trace ∷ [])
+      strobe_falls_with_the_answer_agrees.verdict (alone second_strobe_falls_before_the_answer.trace
+      second_strobe_falls_before_the_answer_agrees.verdict);
 }
 
 H4_is_shown : IsShown H4
@@ -102,7 +174,9 @@ H4_is_shown = record {
   rule = ap named_rule stray_answer_agrees.verdict;
   unreadable = ap says_unreadable stray_answer_agrees.verdict;
   some = omega arith;
-  spared = before answered_at_its_first_instant.trace (strobes_rise_with_answer.trace ∷ []) answered_at_its_first_instant_agrees.verdict (alone strobes_rise_with_answer.trace strobes_rise_with_answer_agrees.verdict);
+  spared = before answered_at_its_first_instant.trace (strobes_rise_with_answer.trace ∷ [])
+      answered_at_its_first_instant_agrees.verdict (alone strobes_rise_with_answer.trace
+      strobes_rise_with_answer_agrees.verdict);
 }
 
 H5_is_shown : IsShown H5
@@ -111,7 +185,8 @@ H5_is_shown = record {
   rule = ap named_rule answered_again_by_the_same_line_agrees.verdict;
   unreadable = ap says_unreadable answered_again_by_the_same_line_agrees.verdict;
   some = omega arith;
-  spared = before answer_rises_as_the_next_transfer_starts.trace (bus_error.trace ∷ []) answer_rises_as_the_next_transfer_starts_agrees.verdict (alone bus_error.trace bus_error_agrees.verdict);
+  spared = before answer_rises_as_the_next_transfer_starts.trace (bus_error.trace ∷ [])
+      answer_rises_as_the_next_transfer_starts_agrees.verdict (alone bus_error.trace bus_error_agrees.verdict);
 }
 
 H6_is_shown : IsShown H6
@@ -129,7 +204,9 @@ H7_is_shown = record {
   rule = ap named_rule cycle_ends_unanswered_agrees.verdict;
   unreadable = ap says_unreadable cycle_ends_unanswered_agrees.verdict;
   some = omega arith;
-  spared = before cycle_ends_with_the_answer.trace (transfer_as_the_cycle_ends.trace ∷ []) cycle_ends_with_the_answer_agrees.verdict (alone transfer_as_the_cycle_ends.trace transfer_as_the_cycle_ends_agrees.verdict);
+  spared = before cycle_ends_with_the_answer.trace (transfer_as_the_cycle_ends.trace ∷ [])
+      cycle_ends_with_the_answer_agrees.verdict (alone transfer_as_the_cycle_ends.trace
+      transfer_as_the_cycle_ends_agrees.verdict);
 }
 
 H8_is_shown : IsShown H8
@@ -138,16 +215,25 @@ H8_is_shown = record {
   rule = ap named_rule answer_without_a_cycle_agrees.verdict;
   unreadable = ap says_unreadable answer_without_a_cycle_agrees.verdict;
   some = omega arith;
-  spared = before address_changes_after_an_answer_at_the_start.trace (transfer_as_the_cycle_ends.trace ∷ []) address_changes_after_an_answer_at_the_start_agrees.verdict (alone transfer_as_the_cycle_ends.trace transfer_as_the_cycle_ends_agrees.verdict);
+  spared = before address_changes_after_an_answer_at_the_start.trace (transfer_as_the_cycle_ends.trace ∷ [])
+      address_changes_after_an_answer_at_the_start_agrees.verdict (alone transfer_as_the_cycle_ends.trace
+      transfer_as_the_cycle_ends_agrees.verdict);
 }
 
 S1_is_shown : IsShown S1
-unfolding address_changes_early address_changes_with_answer address_changes_as_the_cycle_ends address_changes_after_an_answer_at_the_start unneeded_line_changes
+unfolding address_changes_early address_changes_with_answer address_changes_as_the_cycle_ends
+    address_changes_after_an_answer_at_the_start unneeded_line_changes
 S1_is_shown = record {
   rule = ap named_rule address_changes_early_agrees.verdict;
   unreadable = ap says_unreadable address_changes_early_agrees.verdict;
   some = omega arith;
-  spared = before address_changes_with_answer.trace (address_changes_as_the_cycle_ends.trace ∷ address_changes_after_an_answer_at_the_start.trace ∷ unneeded_line_changes.trace ∷ []) address_changes_with_answer_agrees.verdict (before address_changes_as_the_cycle_ends.trace (address_changes_after_an_answer_at_the_start.trace ∷ unneeded_line_changes.trace ∷ []) address_changes_as_the_cycle_ends_agrees.verdict (before address_changes_after_an_answer_at_the_start.trace (unneeded_line_changes.trace ∷ []) address_changes_after_an_answer_at_the_start_agrees.verdict (alone unneeded_line_changes.trace unneeded_line_changes_agrees.verdict)));
+  spared = before address_changes_with_answer.trace (address_changes_as_the_cycle_ends.trace
+      ∷ address_changes_after_an_answer_at_the_start.trace ∷ unneeded_line_changes.trace ∷ [])
+      address_changes_with_answer_agrees.verdict (before address_changes_as_the_cycle_ends.trace
+      (address_changes_after_an_answer_at_the_start.trace ∷ unneeded_line_changes.trace ∷ [])
+      address_changes_as_the_cycle_ends_agrees.verdict (before address_changes_after_an_answer_at_the_start.trace
+      (unneeded_line_changes.trace ∷ []) address_changes_after_an_answer_at_the_start_agrees.verdict
+      (alone unneeded_line_changes.trace unneeded_line_changes_agrees.verdict)));
 }
 
 S2_is_shown : IsShown S2
@@ -156,7 +242,9 @@ S2_is_shown = record {
   rule = ap named_rule direction_changes_agrees.verdict;
   unreadable = ap says_unreadable direction_changes_agrees.verdict;
   some = omega arith;
-  spared = before direction_changes_as_a_strobe_rises.trace (direction_settles_as_the_transfer_starts.trace ∷ []) direction_changes_as_a_strobe_rises_agrees.verdict (alone direction_settles_as_the_transfer_starts.trace direction_settles_as_the_transfer_starts_agrees.verdict);
+  spared = before direction_changes_as_a_strobe_rises.trace (direction_settles_as_the_transfer_starts.trace ∷ [])
+      direction_changes_as_a_strobe_rises_agrees.verdict (alone direction_settles_as_the_transfer_starts.trace
+      direction_settles_as_the_transfer_starts_agrees.verdict);
 }
 
 S3_is_shown : IsShown S3
@@ -165,7 +253,9 @@ S3_is_shown = record {
   rule = ap named_rule data_change_agrees.verdict;
   unreadable = ap says_unreadable data_change_agrees.verdict;
   some = omega arith;
-  spared = before data_change_with_the_answer.trace (second_byte_settles.trace ∷ unmoved_data_change.trace ∷ []) data_change_with_the_answer_agrees.verdict (before second_byte_settles.trace (unmoved_data_change.trace ∷ []) second_byte_settles_agrees.verdict (alone unmoved_data_change.trace unmoved_data_change_agrees.verdict));
+  spared = before data_change_with_the_answer.trace (second_byte_settles.trace ∷ unmoved_data_change.trace ∷ [])
+      data_change_with_the_answer_agrees.verdict (before second_byte_settles.trace (unmoved_data_change.trace ∷ [])
+      second_byte_settles_agrees.verdict (alone unmoved_data_change.trace unmoved_data_change_agrees.verdict));
 }
 
 C1_is_shown : IsShown C1
@@ -174,7 +264,9 @@ C1_is_shown = record {
   rule = ap named_rule write_then_read_agrees.verdict;
   unreadable = ap says_unreadable write_then_read_agrees.verdict;
   some = omega arith;
-  spared = before read_modify_write.trace (free_cycle_reads_writes_and_reads.trace ∷ []) read_modify_write_agrees.verdict (alone free_cycle_reads_writes_and_reads.trace free_cycle_reads_writes_and_reads_agrees.verdict);
+  spared = before read_modify_write.trace (free_cycle_reads_writes_and_reads.trace ∷ [])
+      read_modify_write_agrees.verdict (alone free_cycle_reads_writes_and_reads.trace
+      free_cycle_reads_writes_and_reads_agrees.verdict);
 }
 
 C2_is_shown : IsShown C2
@@ -183,7 +275,8 @@ C2_is_shown = record {
   rule = ap named_rule block_turns_agrees.verdict;
   unreadable = ap says_unreadable block_turns_agrees.verdict;
   some = omega arith;
-  spared = before block_read.trace (free_cycle_reads_writes_and_reads.trace ∷ []) block_read_agrees.verdict (alone free_cycle_reads_writes_and_reads.trace free_cycle_reads_writes_and_reads_agrees.verdict);
+  spared = before block_read.trace (free_cycle_reads_writes_and_reads.trace ∷ []) block_read_agrees.verdict
+      (alone free_cycle_reads_writes_and_reads.trace free_cycle_reads_writes_and_reads_agrees.verdict);
 }
 
 G1_is_shown : IsShown G1
@@ -192,7 +285,9 @@ G1_is_shown = record {
   rule = ap named_rule slot_grants_ungranted_agrees.verdict;
   unreadable = ap says_unreadable slot_grants_ungranted_agrees.verdict;
   some = omega arith;
-  spared = before slot_grants_with_its_input.trace (slot_grants_as_its_input_rises.trace ∷ []) slot_grants_with_its_input_agrees.verdict (alone slot_grants_as_its_input_rises.trace slot_grants_as_its_input_rises_agrees.verdict);
+  spared = before slot_grants_with_its_input.trace (slot_grants_as_its_input_rises.trace ∷ [])
+      slot_grants_with_its_input_agrees.verdict (alone slot_grants_as_its_input_rises.trace
+      slot_grants_as_its_input_rises_agrees.verdict);
 }
 
 G2_is_shown : IsShown G2
@@ -210,7 +305,9 @@ G3_is_shown = record {
   rule = ap named_rule second_level_granted_agrees.verdict;
   unreadable = ap says_unreadable second_level_granted_agrees.verdict;
   some = omega arith;
-  spared = before another_level_granted_as_the_first_ends.trace (another_levels_grant_taken.trace ∷ []) another_level_granted_as_the_first_ends_agrees.verdict (alone another_levels_grant_taken.trace another_levels_grant_taken_agrees.verdict);
+  spared = before another_level_granted_as_the_first_ends.trace (another_levels_grant_taken.trace ∷ [])
+      another_level_granted_as_the_first_ends_agrees.verdict (alone another_levels_grant_taken.trace
+      another_levels_grant_taken_agrees.verdict);
 }
 
 G4_is_shown : IsShown G4
@@ -219,7 +316,9 @@ G4_is_shown = record {
   rule = ap named_rule grant_while_busy_agrees.verdict;
   unreadable = ap says_unreadable grant_while_busy_agrees.verdict;
   some = omega arith;
-  spared = before grant_falls_as_the_bus_is_let_go.trace (slot_read_as_the_bus_is_taken.trace ∷ []) grant_falls_as_the_bus_is_let_go_agrees.verdict (alone slot_read_as_the_bus_is_taken.trace slot_read_as_the_bus_is_taken_agrees.verdict);
+  spared = before grant_falls_as_the_bus_is_let_go.trace (slot_read_as_the_bus_is_taken.trace ∷ [])
+      grant_falls_as_the_bus_is_let_go_agrees.verdict (alone slot_read_as_the_bus_is_taken.trace
+      slot_read_as_the_bus_is_taken_agrees.verdict);
 }
 
 G5_is_shown : IsShown G5
@@ -228,7 +327,11 @@ G5_is_shown = record {
   rule = ap named_rule grant_unasked_agrees.verdict;
   unreadable = ap says_unreadable grant_unasked_agrees.verdict;
   some = omega arith;
-  spared = before request_with_the_grant.trace (request_low_at_the_start.trace ∷ request_of_the_grant_before_serves_again.trace ∷ []) request_with_the_grant_agrees.verdict (before request_low_at_the_start.trace (request_of_the_grant_before_serves_again.trace ∷ []) request_low_at_the_start_agrees.verdict (alone request_of_the_grant_before_serves_again.trace request_of_the_grant_before_serves_again_agrees.verdict));
+  spared = before request_with_the_grant.trace (request_low_at_the_start.trace
+      ∷ request_of_the_grant_before_serves_again.trace ∷ []) request_with_the_grant_agrees.verdict
+      (before request_low_at_the_start.trace (request_of_the_grant_before_serves_again.trace ∷ [])
+      request_low_at_the_start_agrees.verdict (alone request_of_the_grant_before_serves_again.trace
+      request_of_the_grant_before_serves_again_agrees.verdict));
 }
 
 B1_is_shown : IsShown B1
@@ -237,7 +340,9 @@ B1_is_shown = record {
   rule = ap named_rule bus_taken_ungranted_agrees.verdict;
   unreadable = ap says_unreadable bus_taken_ungranted_agrees.verdict;
   some = omega arith;
-  spared = before grant_read_at_the_instant_before.trace (another_levels_grant_taken.trace ∷ []) grant_read_at_the_instant_before_agrees.verdict (alone another_levels_grant_taken.trace another_levels_grant_taken_agrees.verdict);
+  spared = before grant_read_at_the_instant_before.trace (another_levels_grant_taken.trace ∷ [])
+      grant_read_at_the_instant_before_agrees.verdict (alone another_levels_grant_taken.trace
+      another_levels_grant_taken_agrees.verdict);
 }
 
 B2_is_shown : IsShown B2
@@ -246,7 +351,9 @@ B2_is_shown = record {
   rule = ap named_rule grant_taken_twice_agrees.verdict;
   unreadable = ap says_unreadable grant_taken_twice_agrees.verdict;
   some = omega arith;
-  spared = before grant_falls_as_the_bus_is_let_go.trace (another_level_granted_as_the_first_ends.trace ∷ []) grant_falls_as_the_bus_is_let_go_agrees.verdict (alone another_level_granted_as_the_first_ends.trace another_level_granted_as_the_first_ends_agrees.verdict);
+  spared = before grant_falls_as_the_bus_is_let_go.trace (another_level_granted_as_the_first_ends.trace ∷ [])
+      grant_falls_as_the_bus_is_let_go_agrees.verdict (alone another_level_granted_as_the_first_ends.trace
+      another_level_granted_as_the_first_ends_agrees.verdict);
 }
 
 B3_is_shown : IsShown B3
@@ -255,7 +362,9 @@ B3_is_shown = record {
   rule = ap named_rule cycle_without_the_bus_agrees.verdict;
   unreadable = ap says_unreadable cycle_without_the_bus_agrees.verdict;
   some = omega arith;
-  spared = before cycle_starts_as_the_bus_is_taken.trace (cycle_starts_as_the_bus_is_let_go.trace ∷ []) cycle_starts_as_the_bus_is_taken_agrees.verdict (alone cycle_starts_as_the_bus_is_let_go.trace cycle_starts_as_the_bus_is_let_go_agrees.verdict);
+  spared = before cycle_starts_as_the_bus_is_taken.trace (cycle_starts_as_the_bus_is_let_go.trace ∷ [])
+      cycle_starts_as_the_bus_is_taken_agrees.verdict (alone cycle_starts_as_the_bus_is_let_go.trace
+      cycle_starts_as_the_bus_is_let_go_agrees.verdict);
 }
 
 B4_is_shown : IsShown B4
@@ -264,7 +373,8 @@ B4_is_shown = record {
   rule = ap named_rule grant_past_last_slot_agrees.verdict;
   unreadable = ap says_unreadable grant_past_last_slot_agrees.verdict;
   some = omega arith;
-  spared = before taken_by_the_last_slot.trace (grant_withdrawn.trace ∷ []) taken_by_the_last_slot_agrees.verdict (alone grant_withdrawn.trace grant_withdrawn_agrees.verdict);
+  spared = before taken_by_the_last_slot.trace (grant_withdrawn.trace ∷ []) taken_by_the_last_slot_agrees.verdict
+      (alone grant_withdrawn.trace grant_withdrawn_agrees.verdict);
 }
 
 I1_is_shown : IsShown I1
@@ -273,25 +383,37 @@ I1_is_shown = record {
   rule = ap named_rule acknowledge_skips_slot_agrees.verdict;
   unreadable = ap says_unreadable acknowledge_skips_slot_agrees.verdict;
   some = omega arith;
-  spared = before acknowledge_with_its_input.trace (acknowledge_as_its_input_rises.trace ∷ []) acknowledge_with_its_input_agrees.verdict (alone acknowledge_as_its_input_rises.trace acknowledge_as_its_input_rises_agrees.verdict);
+  spared = before acknowledge_with_its_input.trace (acknowledge_as_its_input_rises.trace ∷ [])
+      acknowledge_with_its_input_agrees.verdict (alone acknowledge_as_its_input_rises.trace
+      acknowledge_as_its_input_rises_agrees.verdict);
 }
 
 I2_is_shown : IsShown I2
-unfolding acknowledge_before_strobe acknowledge_as_the_strobe_rises acknowledge_near_a_strobe_and_near_the_cycle acknowledge_by_the_second_strobe
+unfolding acknowledge_before_strobe acknowledge_as_the_strobe_rises acknowledge_near_a_strobe_and_near_the_cycle
+    acknowledge_by_the_second_strobe
 I2_is_shown = record {
   rule = ap named_rule acknowledge_before_strobe_agrees.verdict;
   unreadable = ap says_unreadable acknowledge_before_strobe_agrees.verdict;
   some = omega arith;
-  spared = before acknowledge_as_the_strobe_rises.trace (acknowledge_near_a_strobe_and_near_the_cycle.trace ∷ acknowledge_by_the_second_strobe.trace ∷ []) acknowledge_as_the_strobe_rises_agrees.verdict (before acknowledge_near_a_strobe_and_near_the_cycle.trace (acknowledge_by_the_second_strobe.trace ∷ []) acknowledge_near_a_strobe_and_near_the_cycle_agrees.verdict (alone acknowledge_by_the_second_strobe.trace acknowledge_by_the_second_strobe_agrees.verdict));
+  spared = before acknowledge_as_the_strobe_rises.trace (acknowledge_near_a_strobe_and_near_the_cycle.trace
+      ∷ acknowledge_by_the_second_strobe.trace ∷ []) acknowledge_as_the_strobe_rises_agrees.verdict
+      (before acknowledge_near_a_strobe_and_near_the_cycle.trace (acknowledge_by_the_second_strobe.trace ∷ [])
+      acknowledge_near_a_strobe_and_near_the_cycle_agrees.verdict (alone acknowledge_by_the_second_strobe.trace
+      acknowledge_by_the_second_strobe_agrees.verdict));
 }
 
 I3_is_shown : IsShown I3
-unfolding acknowledge_after_answer acknowledge_with_the_answer acknowledge_after_a_bus_error acknowledge_as_the_next_cycle_starts
+unfolding acknowledge_after_answer acknowledge_with_the_answer acknowledge_after_a_bus_error
+    acknowledge_as_the_next_cycle_starts
 I3_is_shown = record {
   rule = ap named_rule acknowledge_after_answer_agrees.verdict;
   unreadable = ap says_unreadable acknowledge_after_answer_agrees.verdict;
   some = omega arith;
-  spared = before acknowledge_with_the_answer.trace (acknowledge_after_a_bus_error.trace ∷ acknowledge_as_the_next_cycle_starts.trace ∷ []) acknowledge_with_the_answer_agrees.verdict (before acknowledge_after_a_bus_error.trace (acknowledge_as_the_next_cycle_starts.trace ∷ []) acknowledge_after_a_bus_error_agrees.verdict (alone acknowledge_as_the_next_cycle_starts.trace acknowledge_as_the_next_cycle_starts_agrees.verdict));
+  spared = before acknowledge_with_the_answer.trace (acknowledge_after_a_bus_error.trace
+      ∷ acknowledge_as_the_next_cycle_starts.trace ∷ []) acknowledge_with_the_answer_agrees.verdict
+      (before acknowledge_after_a_bus_error.trace (acknowledge_as_the_next_cycle_starts.trace ∷ [])
+      acknowledge_after_a_bus_error_agrees.verdict (alone acknowledge_as_the_next_cycle_starts.trace
+      acknowledge_as_the_next_cycle_starts_agrees.verdict));
 }
 
 I4_is_shown : IsShown I4
@@ -309,7 +431,8 @@ I5_is_shown = record {
   rule = ap named_rule acknowledged_twice_agrees.verdict;
   unreadable = ap says_unreadable acknowledged_twice_agrees.verdict;
   some = omega arith;
-  spared = alone acknowledge_near_a_strobe_and_near_the_cycle.trace acknowledge_near_a_strobe_and_near_the_cycle_agrees.verdict;
+  spared = alone acknowledge_near_a_strobe_and_near_the_cycle.trace
+      acknowledge_near_a_strobe_and_near_the_cycle_agrees.verdict;
 }
 
 -- each rule

@@ -1,7 +1,16 @@
 -- Computed from the definitions.
 use Rattle.std.proofs.Common.{refl}
 use Rattle.vme_eval.specs.Recording.{Agrees, AllAgree}
-use Rattle.vme_eval.specs.Tenures.{tenures, tenure_on_level_0, tenure_on_level_1, tenure_on_level_2, taken_by_the_last_slot, open_tenure_ends, tenure_after_an_open_one, two_tenures, grant_read_at_the_instant_before, slot_read_as_the_bus_is_taken, another_levels_grant_taken, higher_levels_grant_taken, grant_chain_with_a_gap, bus_taken_ungranted, taken_by_a_slots_grant_alone, grant_taken_twice, grant_of_the_same_instant_taken_twice, taken_again_by_a_slots_grant, third_tenure_without_a_grant, cycle_without_the_bus, cycle_starts_as_the_bus_is_taken, cycle_starts_as_the_bus_is_let_go, everything_starts_at_one_instant, grant_past_last_slot, past_the_last_slot_as_the_grant_ends}
+use Rattle.vme_eval.specs.Tenures.{tenures, tenure_on_level_0, tenure_on_level_1, tenure_on_level_2}
+use Rattle.vme_eval.specs.Tenures.{taken_by_the_last_slot, open_tenure_ends, tenure_after_an_open_one, two_tenures}
+use Rattle.vme_eval.specs.Tenures.{grant_read_at_the_instant_before, slot_read_as_the_bus_is_taken}
+use Rattle.vme_eval.specs.Tenures.{another_levels_grant_taken, higher_levels_grant_taken, grant_chain_with_a_gap}
+use Rattle.vme_eval.specs.Tenures.{bus_taken_ungranted, taken_by_a_slots_grant_alone, grant_taken_twice}
+use Rattle.vme_eval.specs.Tenures.{grant_of_the_same_instant_taken_twice, taken_again_by_a_slots_grant}
+use Rattle.vme_eval.specs.Tenures.{third_tenure_without_a_grant, cycle_without_the_bus}
+use Rattle.vme_eval.specs.Tenures.{cycle_starts_as_the_bus_is_taken, cycle_starts_as_the_bus_is_let_go}
+use Rattle.vme_eval.specs.Tenures.{everything_starts_at_one_instant, grant_past_last_slot}
+use Rattle.vme_eval.specs.Tenures.{past_the_last_slot_as_the_grant_ends}
 use Rattle.vme_eval.proofs.Everything.{everything, rows}
 
 pub tenure_on_level_0_agrees : Agrees tenure_on_level_0
@@ -101,5 +110,76 @@ unfolding everything rows past_the_last_slot_as_the_grant_ends
 past_the_last_slot_as_the_grant_ends_agrees = record { well_formed = refl; verdict = refl; rows = refl }
 
 pub tenures_agree : AllAgree tenures
-tenures_agree =
-    (tenure_on_level_0_agrees, (tenure_on_level_1_agrees, (tenure_on_level_2_agrees, (taken_by_the_last_slot_agrees, (open_tenure_ends_agrees, (tenure_after_an_open_one_agrees, (two_tenures_agrees, (grant_read_at_the_instant_before_agrees, (slot_read_as_the_bus_is_taken_agrees, (another_levels_grant_taken_agrees, (higher_levels_grant_taken_agrees, (grant_chain_with_a_gap_agrees, (bus_taken_ungranted_agrees, (taken_by_a_slots_grant_alone_agrees, (grant_taken_twice_agrees, (grant_of_the_same_instant_taken_twice_agrees, (taken_again_by_a_slots_grant_agrees, (third_tenure_without_a_grant_agrees, (cycle_without_the_bus_agrees, (cycle_starts_as_the_bus_is_taken_agrees, (cycle_starts_as_the_bus_is_let_go_agrees, (everything_starts_at_one_instant_agrees, (grant_past_last_slot_agrees, (past_the_last_slot_as_the_grant_ends_agrees, tt))))))))))))))))))))))))
+tenures_agree = (
+  tenure_on_level_0_agrees,
+  (
+    tenure_on_level_1_agrees,
+    (
+      tenure_on_level_2_agrees,
+      (
+        taken_by_the_last_slot_agrees,
+        (
+          open_tenure_ends_agrees,
+          (
+            tenure_after_an_open_one_agrees,
+            (
+              two_tenures_agrees,
+              (
+                grant_read_at_the_instant_before_agrees,
+                (
+                  slot_read_as_the_bus_is_taken_agrees,
+                  (
+                    another_levels_grant_taken_agrees,
+                    (
+                      higher_levels_grant_taken_agrees,
+                      (
+                        grant_chain_with_a_gap_agrees,
+                        (
+                          bus_taken_ungranted_agrees,
+                          (
+                            taken_by_a_slots_grant_alone_agrees,
+                            (
+                              grant_taken_twice_agrees,
+                              (
+                                grant_of_the_same_instant_taken_twice_agrees,
+                                (
+                                  taken_again_by_a_slots_grant_agrees,
+                                  (
+                                    third_tenure_without_a_grant_agrees,
+                                    (
+                                      cycle_without_the_bus_agrees,
+                                      (
+                                        cycle_starts_as_the_bus_is_taken_agrees,
+                                        (
+                                          cycle_starts_as_the_bus_is_let_go_agrees,
+                                          (
+                                            everything_starts_at_one_instant_agrees,
+                                            (
+                                              grant_past_last_slot_agrees,
+                                              (
+                                                past_the_last_slot_as_the_grant_ends_agrees,
+                                                tt,
+                                              ),
+                                            ),
+                                          ),
+                                        ),
+                                      ),
+                                    ),
+                                  ),
+                                ),
+                              ),
+                            ),
+                          ),
+                        ),
+                      ),
+                    ),
+                  ),
+                ),
+              ),
+            ),
+          ),
+        ),
+      ),
+    ),
+  ),
+)

@@ -1,7 +1,17 @@
 -- Computed from the definitions.
 use Rattle.std.proofs.Common.{refl}
 use Rattle.vme_eval.specs.Recording.{Agrees, AllAgree}
-use Rattle.vme_eval.specs.Transfers.{transfers, read_cycle, read_cycle_from_idle, pipelined_cycles, bus_error, starts_before_the_answer_rose, answer_rises_as_the_next_transfer_starts, strobes_rise_early, strobes_rise_with_answer, one_strobe_rises_early, strobe_falls_after_the_answer, strobe_falls_with_the_answer, second_strobe_falls_before_the_answer, stray_answer, bus_error_to_nobody, answered_at_its_first_instant, answered_by_both_lines_in_turn, answered_by_both_lines_at_once, answered_again_by_the_same_line, answer_withdrawn_early, second_answer_withdrawn_early, answer_rises_with_the_strobes, cycle_ends_unanswered, cycle_ends_with_the_answer, transfer_as_the_cycle_ends, answer_without_a_cycle, strobe_before_the_cycle, transfer_between_two_cycles}
+use Rattle.vme_eval.specs.Transfers.{transfers, read_cycle, read_cycle_from_idle, pipelined_cycles, bus_error}
+use Rattle.vme_eval.specs.Transfers.{starts_before_the_answer_rose, answer_rises_as_the_next_transfer_starts}
+use Rattle.vme_eval.specs.Transfers.{strobes_rise_early, strobes_rise_with_answer, one_strobe_rises_early}
+use Rattle.vme_eval.specs.Transfers.{strobe_falls_after_the_answer, strobe_falls_with_the_answer}
+use Rattle.vme_eval.specs.Transfers.{second_strobe_falls_before_the_answer, stray_answer, bus_error_to_nobody}
+use Rattle.vme_eval.specs.Transfers.{answered_at_its_first_instant, answered_by_both_lines_in_turn}
+use Rattle.vme_eval.specs.Transfers.{answered_by_both_lines_at_once, answered_again_by_the_same_line}
+use Rattle.vme_eval.specs.Transfers.{answer_withdrawn_early, second_answer_withdrawn_early}
+use Rattle.vme_eval.specs.Transfers.{answer_rises_with_the_strobes, cycle_ends_unanswered, cycle_ends_with_the_answer}
+use Rattle.vme_eval.specs.Transfers.{transfer_as_the_cycle_ends, answer_without_a_cycle, strobe_before_the_cycle}
+use Rattle.vme_eval.specs.Transfers.{transfer_between_two_cycles}
 use Rattle.vme_eval.proofs.Everything.{everything, rows}
 
 pub read_cycle_agrees : Agrees read_cycle
@@ -113,5 +123,85 @@ unfolding everything rows transfer_between_two_cycles
 transfer_between_two_cycles_agrees = record { well_formed = refl; verdict = refl; rows = refl }
 
 pub transfers_agree : AllAgree transfers
-transfers_agree =
-    (read_cycle_agrees, (read_cycle_from_idle_agrees, (pipelined_cycles_agrees, (bus_error_agrees, (starts_before_the_answer_rose_agrees, (answer_rises_as_the_next_transfer_starts_agrees, (strobes_rise_early_agrees, (strobes_rise_with_answer_agrees, (one_strobe_rises_early_agrees, (strobe_falls_after_the_answer_agrees, (strobe_falls_with_the_answer_agrees, (second_strobe_falls_before_the_answer_agrees, (stray_answer_agrees, (bus_error_to_nobody_agrees, (answered_at_its_first_instant_agrees, (answered_by_both_lines_in_turn_agrees, (answered_by_both_lines_at_once_agrees, (answered_again_by_the_same_line_agrees, (answer_withdrawn_early_agrees, (second_answer_withdrawn_early_agrees, (answer_rises_with_the_strobes_agrees, (cycle_ends_unanswered_agrees, (cycle_ends_with_the_answer_agrees, (transfer_as_the_cycle_ends_agrees, (answer_without_a_cycle_agrees, (strobe_before_the_cycle_agrees, (transfer_between_two_cycles_agrees, tt)))))))))))))))))))))))))))
+transfers_agree = (
+  read_cycle_agrees,
+  (
+    read_cycle_from_idle_agrees,
+    (
+      pipelined_cycles_agrees,
+      (
+        bus_error_agrees,
+        (
+          starts_before_the_answer_rose_agrees,
+          (
+            answer_rises_as_the_next_transfer_starts_agrees,
+            (
+              strobes_rise_early_agrees,
+              (
+                strobes_rise_with_answer_agrees,
+                (
+                  one_strobe_rises_early_agrees,
+                  (
+                    strobe_falls_after_the_answer_agrees,
+                    (
+                      strobe_falls_with_the_answer_agrees,
+                      (
+                        second_strobe_falls_before_the_answer_agrees,
+                        (
+                          stray_answer_agrees,
+                          (
+                            bus_error_to_nobody_agrees,
+                            (
+                              answered_at_its_first_instant_agrees,
+                              (
+                                answered_by_both_lines_in_turn_agrees,
+                                (
+                                  answered_by_both_lines_at_once_agrees,
+                                  (
+                                    answered_again_by_the_same_line_agrees,
+                                    (
+                                      answer_withdrawn_early_agrees,
+                                      (
+                                        second_answer_withdrawn_early_agrees,
+                                        (
+                                          answer_rises_with_the_strobes_agrees,
+                                          (
+                                            cycle_ends_unanswered_agrees,
+                                            (
+                                              cycle_ends_with_the_answer_agrees,
+                                              (
+                                                transfer_as_the_cycle_ends_agrees,
+                                                (
+                                                  answer_without_a_cycle_agrees,
+                                                  (
+                                                    strobe_before_the_cycle_agrees,
+                                                    (
+                                                      transfer_between_two_cycles_agrees,
+                                                      tt,
+                                                    ),
+                                                  ),
+                                                ),
+                                              ),
+                                            ),
+                                          ),
+                                        ),
+                                      ),
+                                    ),
+                                  ),
+                                ),
+                              ),
+                            ),
+                          ),
+                        ),
+                      ),
+                    ),
+                  ),
+                ),
+              ),
+            ),
+          ),
+        ),
+      ),
+    ),
+  ),
+)

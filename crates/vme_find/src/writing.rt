@@ -122,13 +122,14 @@ fn constant_text(alloc: Global, slots: u8) -> Result<Text, AllocError> {
     text.push(b"slots ")?;
     text.push_decimal(alloc, u64::from(slots))?;
     text.push(
-        b"\nAS = 1\nDS0 = 1\nDS1 = 1\nDTACK = 1\nBERR = 1\nIACK = 1\nLWORD = 1\nWRITE = 1\nBBSY = 0\nAM = 1\nA = 1\nBR = 1\nBG0 = 1\nBG1 = 1\nBG2 = 1\nBG3 = 1\nIA = 1\n",
+        b"\nAS = 1\nDS0 = 1\nDS1 = 1\nDTACK = 1\nBERR = 1\nIACK = 1\nLWORD = 1\nWRITE = 1\n",
     )?;
+    text.push(b"BBSY = 0\nAM = 1\nA = 1\nBR = 1\nBG0 = 1\nBG1 = 1\nBG2 = 1\nBG3 = 1\nIA = 1\n")?;
     Ok(text)
 }
 
-/// Nothing is proposed for a dump with a fault. Where that is want of memory it stays so: constants don't stand for what
-/// couldn't be looked for.
+/// Nothing is proposed for a dump with a fault. Where that is want of memory it stays so: constants don't stand for
+/// what couldn't be looked for.
 fn nothing_by(fault: VcdFault) -> Result<Option<Text>, AllocError>
     ensures { OnOk result (fault.kind ≢ Memory) }
 {

@@ -1,5 +1,6 @@
 -- What the calling thread has taken off the board, step by step.
-use Rattle.std.proofs.Common.{◌≡◌, ◌≢◌, ℕ, zero, suc, ◌+◌, ◌<◌, ◌≤◌, List, [], ◌∷◌, ◌++◌, length, length-set, slice_get, set, replicate, Option, Some, None, sym, refl, ap, ◌∙◌, subst, arith, inl, inr, ⊎_elim}
+use Rattle.std.proofs.Common.{◌≡◌, ◌≢◌, ℕ, zero, suc, ◌+◌, ◌<◌, ◌≤◌, List, [], ◌∷◌, ◌++◌, length, length-set, slice_get}
+use Rattle.std.proofs.Common.{set, replicate, Option, Some, None, sym, refl, ap, ◌∙◌, subst, arith, inl, inr, ⊎_elim}
 use Rattle.std.proofs.lemmas.Option.{none-some, same_Some, slice_get-get_or}
 use Rattle.std.proofs.lemmas.List.{length-replicate}
 use mathlib.Core.Logic.{dite}
@@ -34,7 +35,8 @@ some_none : (b : Block) → Some b ≡ no_block → ⊥
 some_none b e = none-some b (sym e)
 
 -- how many blocks there are
-count_set : (xs : Places) (n : ℕ) (b : Block) → slice_get xs n ≡ Some no_block → block_count (set xs n (Some b)) ≡ suc (block_count xs)
+count_set : (xs : Places) (n : ℕ) (b : Block) → slice_get xs n ≡ Some no_block → block_count (set xs n (Some b))
+    ≡ suc (block_count xs)
 count_set [] n b e = absurd (none-some no_block e)
 count_set (None ∷ xs) zero b e = refl
 count_set (Some c ∷ xs) zero b e = absurd (some_none c (same_Some (Some c) no_block e))
@@ -56,7 +58,8 @@ count_free (Some c ∷ xs) (suc n) e = omega (arith, count_free xs n e)
 
 pub count_all : (xs : Places) → ((n : ℕ) → n < length xs → (b : Block) × HasBlock xs n b) → block_count xs ≡ length xs
 count_all [] all = refl
-count_all (None ∷ xs) all = let first = all zero (omega arith) in absurd (some_none first.0 (sym (same_Some no_block (Some first.0) first.1)))
+count_all (None ∷ xs) all = let first = all zero (omega arith) in
+    absurd (some_none first.0 (sym (same_Some no_block (Some first.0) first.1)))
 count_all (Some b ∷ xs) all = ap suc (count_all xs (λ n low. all (suc n) (omega (arith, low))))
 
 count_none : (n : ℕ) → block_count (replicate n no_block) ≡ 0
@@ -67,25 +70,30 @@ count_none (suc n) = count_none n
 pub place_of : (xs : Places) (n : ℕ) (x : Option Block) → n < length xs → stored xs n ≡ x → slice_get xs n ≡ Some x
 place_of xs n x low is = slice_get-get_or xs n no_block low ∙ ap (λ (y : Option Block). Some y) is
 
-pub collected_first : (total : ℕ) (v : View) (c : Collection) → c.total ≡ total → c.book ≡ replicate total no_block → c.count ≡ 0 → v.takes ≡ [] → IsCollected total v c
+pub collected_first : (total : ℕ) (v : View) (c : Collection) → c.total ≡ total → c.book ≡ replicate total no_block
+    → c.count ≡ 0 → v.takes ≡ [] → IsCollected total v c
 collected_first total v c t book count none = record {
   total_is = t;
   long = ap (λ (xs : Places). length xs) book ∙ length-replicate total no_block;
   counted = count ∙ (sym (count_none total) ∙ ap block_count (sym book));
-  took = λ n b at. absurd (none-some b (get_replicate total n no_block (Some b) (ap (λ (xs : Places). slice_get xs n) (sym book) ∙ at)));
+  took = λ n b at. absurd
+      (none-some b (get_replicate total n no_block (Some b) (ap (λ (xs : Places). slice_get xs n) (sym book) ∙ at)));
   kept = λ n b h. absurd (subst (λ (xs : List (ℕ × Block)). HasPair xs n b) none h);
-  saw = λ n some. let z = ap (λ (xs : List (ℕ × Block)). occurrences n (numbers xs)) none in absurd (omega (arith, z, some));
+  saw = λ n some. let z = ap (λ (xs : List (ℕ × Block)). occurrences n (numbers xs)) none in
+      absurd (omega (arith, z, some));
 }
 
 -- the bench took nothing, and saw as much
-pub collected_same : (total : ℕ) (v w : View) (c : Collection) → IsCollected total v c → w.takes ≡ v.takes → ((n : ℕ) → occurrences n v.filed ≤ occurrences n w.filed) → IsCollected total w c
+pub collected_same : (total : ℕ) (v w : View) (c : Collection) → IsCollected total v c → w.takes ≡ v.takes
+    → ((n : ℕ) → occurrences n v.filed ≤ occurrences n w.filed) → IsCollected total w c
 collected_same total v w c k same more = record {
   total_is = k.total_is;
   long = k.long;
   counted = k.counted;
   took = λ n b at. subst (λ (xs : List (ℕ × Block)). HasPair xs n b) (sym same) (k.took n b at);
   kept = λ n b h. k.kept n b (subst (λ (xs : List (ℕ × Block)). HasPair xs n b) same h);
-  saw = λ n some. let z = ap (λ (xs : List (ℕ × Block)). occurrences n (numbers xs)) same in let s = k.saw n (omega (arith, z, some)) in let m = more n in omega (arith, s, m);
+  saw = λ n some. let z = ap (λ (xs : List (ℕ × Block)). occurrences n (numbers xs)) same in
+      let s = k.saw n (omega (arith, z, some)) in let m = more n in omega (arith, s, m);
 }
 
 append_none : (xs : List (ℕ × Block)) → xs ++ [] ≡ xs
@@ -93,14 +101,19 @@ append_none [] = refl
 append_none (x ∷ xs) = ap (λ (l : List (ℕ × Block)). x ∷ l) (append_none xs)
 
 -- one bench for two, the second of which took nothing
-pub collected_both : (total : ℕ) (v w u : View) (c : Collection) → u ≡ joint_view v w → w.takes ≡ [] → IsCollected total v c → IsCollected total u c
+pub collected_both : (total : ℕ) (v w u : View) (c : Collection) → u ≡ joint_view v w → w.takes ≡ [] → IsCollected total
+    v c → IsCollected total u c
 collected_both total v w u c is none k = collected_same total v u c k
     (ap (λ (x : View). x.takes) is ∙ (ap (λ (xs : List (ℕ × Block)). v.takes ++ xs) none ∙ append_none v.takes))
-    (λ n. let z = ap (λ (x : View). occurrences n x.filed) is in let s = occurrences-append n v.filed w.filed in omega (arith, z, s))
+    (λ n. let z = ap (λ (x : View). occurrences n x.filed) is in let s = occurrences-append n v.filed w.filed in
+    omega (arith, z, s))
 
 -- the bench took one more block, which the book got
-module _ (total : ℕ) (v w : View) (c e : Collection) (m n : ℕ) (b : Block) (k : IsCollected total v c) (t : e.total ≡ c.total) (book : e.book ≡ set c.book m (Some b)) (count : e.count ≡ c.count + 1)
-    (is : m ≡ n) (low : n < total) (took : w.takes ≡ (n, b) ∷ v.takes) (new : occurrences n (numbers v.takes) ≡ 0) (free : slice_get c.book m ≡ Some no_block) (more : (l : ℕ) → occurrences l v.filed ≤ occurrences l w.filed) (filed : 0 < occurrences n w.filed) where
+module _ (total : ℕ) (v w : View) (c e : Collection) (m n : ℕ) (b : Block) (k : IsCollected total v c)
+    (t : e.total ≡ c.total) (book : e.book ≡ set c.book m (Some b)) (count : e.count ≡ c.count + 1)
+    (is : m ≡ n) (low : n < total) (took : w.takes ≡ (n, b) ∷ v.takes) (new : occurrences n (numbers v.takes) ≡ 0)
+    (free : slice_get c.book m ≡ Some no_block) (more : (l : ℕ) → occurrences l v.filed ≤ occurrences l w.filed)
+    (filed : 0 < occurrences n w.filed) where
   book_n : e.book ≡ set c.book n (Some b)
   book_n = book ∙ ap (λ (l : ℕ). set c.book l (Some b)) is
 
@@ -108,42 +121,49 @@ module _ (total : ℕ) (v w : View) (c e : Collection) (m n : ℕ) (b : Block) (
   free_n = ap (slice_get c.book) (sym is) ∙ free
 
   here : slice_get e.book n ≡ Some (Some b)
-  here = ap (λ (xs : Places). slice_get xs n) book_n ∙ get_here c.book n (Some b) (let l = k.long in omega (arith, l, low))
+  here = ap (λ (xs : Places). slice_get xs n) book_n ∙ get_here c.book n (Some b) (let l = k.long in
+      omega (arith, l, low))
 
   else_at : (l : ℕ) → l ≢ n → slice_get e.book l ≡ slice_get c.book l
   else_at l ne = ap (λ (xs : Places). slice_get xs l) book_n ∙ get_else c.book n l (Some b) ne
 
   all_took : (l : ℕ) (d : Block) → HasBlock e.book l d → HasPair ((n, b) ∷ v.takes) l d
   all_took l d at = dite (ℕ_discrete l n)
-      (λ same. let z : Some b ≡ Some d = same_Some (Some b) (Some d) (sym here ∙ (ap (slice_get e.book) (sym same) ∙ at)) in inl (sym same, same_Some b d z))
+      (λ same. let z : Some b ≡ Some d = same_Some (Some b) (Some d)
+      (sym here ∙ (ap (slice_get e.book) (sym same) ∙ at)) in inl (sym same, same_Some b d z))
       (λ ne. inr (k.took l d (sym (else_at l ne) ∙ at)))
 
   all_kept : (l : ℕ) (d : Block) → HasPair ((n, b) ∷ v.takes) l d → HasBlock e.book l d
   all_kept l d h = elim h [
     | inl x ↦ ap (slice_get e.book) (sym x.0) ∙ (here ∙ ap (λ (y : Block). Some (Some y)) x.1)
     | inr x ↦
-        let ne : l ≢ n = λ same. let o = occurs_of_pair v.takes l d x in let z = ap (λ (y : ℕ). occurrences y (numbers v.takes)) same in omega (arith, o, z, new) in
+        let ne : l ≢ n = λ same. let o = occurs_of_pair v.takes l d x in
+        let z = ap (λ (y : ℕ). occurrences y (numbers v.takes)) same in omega (arith, o, z, new) in
         else_at l ne ∙ k.kept l d x
   ]
 
   all_saw : (l : ℕ) → 0 < occurrences l (n ∷ numbers v.takes) → 0 < occurrences l w.filed
   all_saw l some = dite (ℕ_discrete l n)
       (λ same. subst (λ (y : ℕ). 0 < occurrences y w.filed) (sym same) filed)
-      (λ ne. let z = occurrences_else l n (numbers v.takes) ne in let s = k.saw l (omega (arith, z, some)) in let g = more l in omega (arith, s, g))
+      (λ ne. let z = occurrences_else l n (numbers v.takes) ne in let s = k.saw l (omega (arith, z, some)) in
+      let g = more l in omega (arith, s, g))
 
   pub collected_more : IsCollected total w e
   collected_more = record {
     total_is = t ∙ k.total_is;
     long = ap (λ (xs : Places). length xs) book ∙ (length-set c.book m (Some b) ∙ k.long);
-    counted = let z = ap block_count book in let s = count_set c.book m b free in let o = k.counted in omega (arith, z, s, o, count);
+    counted = let z = ap block_count book in let s = count_set c.book m b free in let o = k.counted in
+        omega (arith, z, s, o, count);
     took = λ l d at. subst (λ (xs : List (ℕ × Block)). HasPair xs l d) (sym took) (all_took l d at);
     kept = λ l d h. all_kept l d (subst (λ (xs : List (ℕ × Block)). HasPair xs l d) took h);
     saw = λ l some. all_saw l (subst (λ (xs : List (ℕ × Block)). 0 < occurrences l (numbers xs)) took some);
   }
 
 -- the book refuses no block that is new to the bench, but for want of memory
-pub never_refused : (total : ℕ) (v : View) (c : Collection) (m n : ℕ) (f : InsertFault) → IsCollected total v c → m ≡ n → n < total → occurrences n (numbers v.takes) ≡ 0 → RefusesBlock c.book m f → (f ≡ insert_fault.Memory → ⊥) → ⊥
-never_refused total v c m n insert_fault.Stranger k is low new why other = let l = k.long in absurd (omega (arith, l, why, is, low))
+pub never_refused : (total : ℕ) (v : View) (c : Collection) (m n : ℕ) (f : InsertFault) → IsCollected total v c → m ≡ n
+    → n < total → occurrences n (numbers v.takes) ≡ 0 → RefusesBlock c.book m f → (f ≡ insert_fault.Memory → ⊥) → ⊥
+never_refused total v c m n insert_fault.Stranger k is low new why other = let l = k.long in
+    absurd (omega (arith, l, why, is, low))
 never_refused total v c m n insert_fault.Doubled k is low new why other =
     let near : m < length c.book = let l = k.long in omega (arith, l, is, low) in
     let o = occurs_of_pair v.takes m why.0 (k.took m why.0 (place_of c.book m (Some why.0) near why.1)) in
@@ -151,9 +171,11 @@ never_refused total v c m n insert_fault.Doubled k is low new why other =
 never_refused total v c m n insert_fault.Memory k is low new why other = other refl
 
 -- one more block than was counted is no more than all
-pub count_fits : (total : ℕ) (v : View) (c : Collection) (m : ℕ) → IsCollected total v c → m < length c.book → stored c.book m ≡ no_block → c.count + 1 ≤ total
+pub count_fits : (total : ℕ) (v : View) (c : Collection) (m : ℕ) → IsCollected total v c → m < length c.book
+    → stored c.book m ≡ no_block → c.count + 1 ≤ total
 count_fits total v c m k low free =
-    let s = count_free c.book m (place_of c.book m no_block low free) in let l = k.long in let o = k.counted in omega (arith, s, l, o)
+    let s = count_free c.book m (place_of c.book m no_block low free) in let l = k.long in let o = k.counted in
+    omega (arith, s, l, o)
 
 -- what was seen filed and not taken
 pub filed_of_seen : (v : View) (n : ℕ) → seen v n ≡ stage.Filed → 0 < occurrences n v.filed
@@ -167,7 +189,9 @@ filed_of_seen v n is =
 
 -- what is gone stays gone
 pub gone_on : (v w : View) (n : ℕ) → TakesOnly v w → IsGone v n → IsGone w n
-gone_on v w n more gone = let g : 0 < occurrences n (numbers v.takes) + occurrences n v.taken = gone in let a = more.takes n in let b = more.sees.taken n in let on : 0 < occurrences n (numbers w.takes) + occurrences n w.taken = omega (arith, g, a, b) in on
+gone_on v w n more gone = let g : 0 < occurrences n (numbers v.takes) + occurrences n v.taken = gone in
+    let a = more.takes n in let b = more.sees.taken n in let on : 0 < occurrences n (numbers w.takes) + occurrences n
+    w.taken = omega (arith, g, a, b) in on
 
 pub sees_on : (u v w : View) → SeesMore u v → SeesMore v w → SeesMore u w
 sees_on u v w a b = record {
@@ -178,10 +202,14 @@ sees_on u v w a b = record {
 }
 
 -- what the bench filed is gone, after one more delivery
-pub own_next : (board : Board) (ds : List Block) (u v w : View) (r : Reply) (n : ℕ) → IsDelivered board ds u v r → TakesOnly v w → number_at ds r.delivery ≡ n → (r.answer ≡ Filed → IsGone w n) → HasTakenOwn u → HasTakenOwn w
+pub own_next : (board : Board) (ds : List Block) (u v w : View) (r : Reply) (n : ℕ) → IsDelivered board ds u v r
+    → TakesOnly v w → number_at ds r.delivery ≡ n → (r.answer ≡ Filed → IsGone w n) → HasTakenOwn u → HasTakenOwn w
 own_next board ds u v w r n d more is gone own m some =
     let z = ap (λ (l : List (ℕ × Block)). occurrences m (numbers l)) more.list in
     ⊎_elim
-    (λ old. let g : 0 < occurrences m (numbers u.takes) + occurrences m u.taken = own m old in let t = ap (λ (l : List (ℕ × Block)). occurrences m (numbers l)) d.takes in let s = d.sees.taken m in let now : 0 < occurrences m (numbers v.takes) + occurrences m v.taken = omega (arith, g, t, s) in gone_on v w m more now)
+    (λ old. let g : 0 < occurrences m (numbers u.takes) + occurrences m u.taken = own m old in
+    let t = ap (λ (l : List (ℕ × Block)). occurrences m (numbers l)) d.takes in let s = d.sees.taken m in
+    let now : 0 < occurrences m (numbers v.takes) + occurrences m v.taken = omega (arith, g, t, s) in
+    gone_on v w m more now)
     (λ now. subst (IsGone w) (sym is ∙ now.1) (gone now.0))
     (d.lists m (omega (arith, z, some)))

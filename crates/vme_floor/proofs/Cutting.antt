@@ -1,5 +1,6 @@
 -- What comes of deliveries of a cut: its recording, and no fault but want of memory or of a thread.
-use Rattle.std.proofs.Common.{◌≡◌, ℕ, zero, suc, ◌+◌, ◌<◌, ◌≤◌, List, [], ◌∷◌, ◌++◌, append_assoc, length, slice_get, take, drop, Some, Result, Ok, Err, sym, refl, ap, ◌∙◌, subst, arith, ◌⊎◌, inl, inr}
+use Rattle.std.proofs.Common.{◌≡◌, ℕ, zero, suc, ◌+◌, ◌<◌, ◌≤◌, List, [], ◌∷◌, ◌++◌, append_assoc, length, slice_get}
+use Rattle.std.proofs.Common.{take, drop, Some, Result, Ok, Err, sym, refl, ap, ◌∙◌, subst, arith, ◌⊎◌, inl, inr}
 use Rattle.std.specs.Prelude.{IfErr, IfOk}
 use Rattle.std.proofs.lemmas.List.{take-append-drop}
 use Rattle.std.proofs.lemmas.Option.{none-some, same_Some, slice_get_within}
@@ -19,15 +20,21 @@ use Rattle.vme_floor.specs.declared.report.RunFault.TheVariants as fault
 use Rattle.vme_floor.proofs.Places.{get_within}
 
 -- lists of one length that agree at each place
-pub same_lists : (xs ys : List Block) → length xs ≡ length ys → ((k : ℕ) (x : Block) → slice_get xs k ≡ Some x → slice_get ys k ≡ Some x) → xs ≡ ys
+pub same_lists : (xs ys : List Block) → length xs ≡ length ys → ((k : ℕ) (x : Block) → slice_get xs k ≡ Some x
+    → slice_get ys k ≡ Some x) → xs ≡ ys
 same_lists [] [] e h = refl
 same_lists [] (y ∷ ys) e h = absurd (omega arith)
 same_lists (x ∷ xs) [] e h = absurd (omega arith)
-same_lists (x ∷ xs) (y ∷ ys) e h = let head : x ≡ y = sym (same_Some y x (h zero x refl)) in let tail = same_lists xs ys (omega arith) (λ k z at. h (suc k) z at) in λ i. head i ∷ tail i
+same_lists (x ∷ xs) (y ∷ ys) e h = let head : x ≡ y = sym (same_Some y x (h zero x refl)) in
+    let tail = same_lists xs ys (omega arith) (λ k z at. h (suc k) z at) in λ i. head i ∷ tail i
 
 -- the first of blocks that join, join
 first_join : (k : ℕ) (xs : List Block) → BlocksJoin xs → BlocksJoin (take k xs)
-first_join k xs j = record { follow = λ before after a b is. j.follow before (after ++ drop k xs) a b (sym (take-append-drop k xs) ∙ (ap (λ (l : List Block). l ++ drop k xs) is ∙ append_assoc before (a ∷ b ∷ after) (drop k xs))) }
+first_join k xs j = record {
+  follow = λ before after a b is. j.follow before (after ++ drop k xs) a b
+      (sym (take-append-drop k xs) ∙ (ap (λ (l : List Block). l ++ drop k xs) is ∙ append_assoc before (a ∷ b ∷ after)
+      (drop k xs)));
+}
 
 pub not_torn : (bs : List Block) (n : ℕ) → BlocksJoin bs → IsLeastTornBlock bs n → ⊥
 not_torn bs n j t = t.torn (first_join (n + 1) bs j)
@@ -36,28 +43,39 @@ pub out_of_range : (n most : ℕ) → 0 < n → n ≤ most → (n ≡ 0) ⊎ (mo
 out_of_range n most positive few (inl none) = omega arith
 out_of_range n most positive few (inr many) = omega arith
 
-module _ (t : Trace) (total workers : ℕ) (blocks deliveries : List Block) (cut : IsCutOf t total blocks) (are : AreDeliveriesOf blocks deliveries) (range : InRange total deliveries workers) where
+module _ (t : Trace) (total workers : ℕ) (blocks deliveries : List Block) (cut : IsCutOf t total blocks)
+    (are : AreDeliveriesOf blocks deliveries) (range : InRange total deliveries workers) where
   -- what was filed is the blocks
-  content_is : (answers : List Answer) (content : List Block) → IsContent total deliveries answers content → content ≡ blocks
+  content_is : (answers : List Answer) (content : List Block) → IsContent total deliveries answers content → content
+      ≡ blocks
   content_is answers content c = same_lists content blocks (c.count ∙ sym cut.count) (λ n b at.
       let f = c.filed n b at in ap (λ (k : ℕ). slice_get blocks k) (sym (c.numbered n b at)) ∙ are.of f.0 b f.1.1)
 
-  recorded_is : (report : Report) → IsRecorded total deliveries report.answers report.capture report.span → report.capture ≡ t
+  recorded_is : (report : Report) → IsRecorded total deliveries report.answers report.capture report.span
+      → report.capture ≡ t
   recorded_is report r =
       let same : r.blocks ≡ blocks = content_is report.answers r.blocks r.content in
       same_Some report.capture t (sym r.capture_is ∙ (ap joined_trace same ∙ cut.joined))
 
   -- the answer to a delivery of a number that is missing is that there was no memory
-  answer_is : (n d : ℕ) (b : Block) (answers : List Answer) (a : Answer) → HasAnswers total deliveries answers → IsLeastUnfiled total deliveries answers n → slice_get blocks n ≡ Some b → slice_get deliveries d ≡ Some b
+  answer_is : (n d : ℕ) (b : Block) (answers : List Answer) (a : Answer) → HasAnswers total deliveries answers
+      → IsLeastUnfiled total deliveries answers n → slice_get blocks n ≡ Some b → slice_get deliveries d ≡ Some b
       → slice_get answers d ≡ Some a → LacksMemory deliveries answers n
-  answer_is n d b answers answer.Filed told missing at there is = absurd (missing.missing (b, cut.numbered n b at, (d, (is, there))))
-  answer_is n d b answers answer.Stranger told missing at there is = absurd (none-some answer.Stranger (sym (cut.accepted n b at) ∙ told.right d answer.Stranger b is there))
-  answer_is n d b answers answer.TooLong told missing at there is = absurd (none-some answer.TooLong (sym (cut.accepted n b at) ∙ told.right d answer.TooLong b is there))
-  answer_is n d b answers (answer.Malformed step) told missing at there is = absurd (none-some (answer.Malformed step) (sym (cut.accepted n b at) ∙ told.right d (answer.Malformed step) b is there))
-  answer_is n d b answers answer.Doubled told missing at there is = absurd (missing.missing (subst (λ (k : ℕ). IsFiledNumber deliveries answers k) (cut.numbered n b at) (told.doubled d b is there)))
+  answer_is n d b answers answer.Filed told missing at there is = absurd
+      (missing.missing (b, cut.numbered n b at, (d, (is, there))))
+  answer_is n d b answers answer.Stranger told missing at there is = absurd
+      (none-some answer.Stranger (sym (cut.accepted n b at) ∙ told.right d answer.Stranger b is there))
+  answer_is n d b answers answer.TooLong told missing at there is = absurd
+      (none-some answer.TooLong (sym (cut.accepted n b at) ∙ told.right d answer.TooLong b is there))
+  answer_is n d b answers (answer.Malformed step) told missing at there is = absurd (none-some (answer.Malformed step)
+      (sym (cut.accepted n b at) ∙ told.right d (answer.Malformed step) b is there))
+  answer_is n d b answers answer.Doubled told missing at there is = absurd
+      (missing.missing (subst (λ (k : ℕ). IsFiledNumber deliveries answers k) (cut.numbered n b at)
+      (told.doubled d b is there)))
   answer_is n d b answers answer.Memory told missing at there is = (d, b, there, cut.numbered n b at, is)
 
-  lacks_memory : (n : ℕ) (answers : List Answer) → HasAnswers total deliveries answers → IsLeastUnfiled total deliveries answers n → LacksMemory deliveries answers n
+  lacks_memory : (n : ℕ) (answers : List Answer) → HasAnswers total deliveries answers → IsLeastUnfiled total deliveries
+      answers n → LacksMemory deliveries answers n
   lacks_memory n answers told missing =
       let block = get_within blocks n (let low = missing.within in let long = cut.count in omega (arith, low, long)) in
       let at : slice_get blocks n ≡ Some block.0 = block.1 in
@@ -66,7 +84,8 @@ module _ (t : Trace) (total workers : ℕ) (blocks deliveries : List Block) (cut
       let given = get_within answers delivery.0 (let long = told.count in omega (arith, near, long)) in
       answer_is n delivery.0 block.0 answers given.0 told missing at delivery.1 given.1
 
-  refused : (f : RunFault) → AreAnswered total deliveries (Err f) → IsFault total deliveries workers f → IsOutcomeOf t deliveries workers (Err f)
+  refused : (f : RunFault) → AreAnswered total deliveries (Err f) → IsFault total deliveries workers f
+      → IsOutcomeOf t deliveries workers (Err f)
   refused fault.BadTotal told is = out_of_range total 4096 range.total_from range.total_to is
   refused fault.BadDraws told is = let few = range.draws_to in let many = is.2 in omega (arith, few, many)
   refused fault.BadWorkers told is = out_of_range workers 64 range.workers_from range.workers_to is.3
@@ -75,10 +94,14 @@ module _ (t : Trace) (total workers : ℕ) (blocks deliveries : List Block) (cut
   refused fault.Stray told is = is
   refused (fault.Missing n answers) told is = lacks_memory n answers told is.1
   refused (fault.Torn n answers) told is =
-      let torn = is.1 in not_torn torn.blocks n (subst BlocksJoin (sym (content_is answers torn.blocks torn.content)) cut.joins) torn.torn
+      let torn = is.1 in not_torn torn.blocks n (subst BlocksJoin (sym (content_is answers torn.blocks torn.content))
+      cut.joins) torn.torn
 
-  pub outcome_of : (outcome : Result Report RunFault) → AreAnswered total deliveries outcome → IfOk outcome (λ r. IsRecorded total deliveries r.answers r.capture r.span) → IfOk outcome (λ r. r.verdict ≡ verdict_by rules_in_force r.capture)
+  pub outcome_of : (outcome : Result Report RunFault) → AreAnswered total deliveries outcome
+      → IfOk outcome (λ r. IsRecorded total deliveries r.answers r.capture r.span)
+      → IfOk outcome (λ r. r.verdict ≡ verdict_by rules_in_force r.capture)
       → IfErr outcome (λ f. IsFault total deliveries workers f) → IsOutcomeOf t deliveries workers outcome
   outcome_of (Ok report) told recorded judged refusals =
-      let same : report.capture ≡ t = recorded_is report recorded in (same, judged ∙ ap (λ (c : Trace). verdict_by rules_in_force c) same)
+      let same : report.capture ≡ t = recorded_is report recorded in
+      (same, judged ∙ ap (λ (c : Trace). verdict_by rules_in_force c) same)
   outcome_of (Err f) told recorded judged refusals = refused f told refusals

@@ -1,5 +1,6 @@
 -- The table of the replies.
-use Rattle.std.proofs.Common.{◌≡◌, ℕ, zero, suc, ◌+◌, ◌<◌, List, [], ◌∷◌, ◌++◌, length, length-set, slice_get, set, replicate, Option, Some, None, sym, refl, ap, ◌∙◌, arith, ⊎_elim}
+use Rattle.std.proofs.Common.{◌≡◌, ℕ, zero, suc, ◌+◌, ◌<◌, List, [], ◌∷◌, ◌++◌, length, length-set, slice_get, set}
+use Rattle.std.proofs.Common.{replicate, Option, Some, None, sym, refl, ap, ◌∙◌, arith, ⊎_elim}
 use Rattle.std.proofs.lemmas.Option.{none-some, same_Some}
 use mathlib.Core.Logic.{dite}
 use native.Mathlib.Decide.{ℕ_discrete}
@@ -28,26 +29,38 @@ table_first replies count = record {
   none = λ d at k low t here is. absurd (omega (arith, low));
 }
 
-pub table_next : (replies : List Reply) (count i : ℕ) (table : List O) (t : Reply) → IsTable replies count i table → slice_get replies i ≡ Some t → t.delivery < count → IsTable replies count (i + 1) (set table t.delivery (Some t.answer))
+pub table_next : (replies : List Reply) (count i : ℕ) (table : List O) (t : Reply) → IsTable replies count i table
+    → slice_get replies i ≡ Some t → t.delivery < count → IsTable replies count (i + 1)
+    (set table t.delivery (Some t.answer))
 table_next replies count i table t inv at low =
-    let p : ℕ = t.delivery in let here = get_here table p (Some t.answer) (let l = inv.long in omega (arith, l, low)) in record {
+    let p : ℕ = t.delivery in let here = get_here table p (Some t.answer) (let l = inv.long in omega (arith, l, low)) in
+    record {
       long = length-set table p (Some t.answer) ∙ inv.long;
       some = λ d a is. dite (ℕ_discrete d p)
-          (λ e. let same : Some t.answer ≡ Some a = same_Some (Some t.answer) (Some a) (sym here ∙ (ap (slice_get (set table p (Some t.answer))) (sym e) ∙ is)) in
+          (λ e. let same : Some t.answer ≡ Some a = same_Some (Some t.answer) (Some a)
+          (sym here ∙ (ap (slice_get (set table p (Some t.answer))) (sym e) ∙ is)) in
           (i, at ∙ ap (λ (x : ℕ × Answer). Some (reply_of x.0 x.1)) (λ j. (sym e j, same_Some t.answer a same j))))
           (λ ne. inv.some d a (sym (get_else table p d (Some t.answer) ne) ∙ is));
       none = λ d is k l u there same. dite (ℕ_discrete d p)
-          (λ e. let z : Some t.answer ≡ nothing = same_Some (Some t.answer) nothing (sym here ∙ (ap (slice_get (set table p (Some t.answer))) (sym e) ∙ is)) in absurd (none-some t.answer (sym z)))
+          (λ e. let z : Some t.answer ≡ nothing = same_Some (Some t.answer) nothing
+          (sym here ∙ (ap (slice_get (set table p (Some t.answer))) (sym e) ∙ is)) in
+          absurd (none-some t.answer (sym z)))
           (λ ne. dite (ℕ_discrete k i)
-          (λ e. ne (sym same ∙ ap (λ (x : Reply). x.delivery) (same_Some u t (sym there ∙ (ap (slice_get replies) e ∙ at)))))
+          (λ e. ne (sym same ∙ ap (λ (x : Reply). x.delivery)
+          (same_Some u t (sym there ∙ (ap (slice_get replies) e ∙ at)))))
           (λ nk. inv.none d (sym (get_else table p d (Some t.answer) ne) ∙ is) k (omega (arith, l, nk)) u there same));
     }
 
-pub undrawn : (replies : List Reply) (d : ℕ) → ((k : ℕ) → k < length replies → (t : Reply) → slice_get replies k ≡ Some t → t.delivery ≡ d → ⊥) → occurrences d (replied replies) ≡ 0
+pub undrawn : (replies : List Reply) (d : ℕ) → ((k : ℕ) → k < length replies → (t : Reply) → slice_get replies k
+    ≡ Some t → t.delivery ≡ d → ⊥) → occurrences d (replied replies) ≡ 0
 undrawn [] d none = refl
-undrawn (t ∷ ts) d none = occurrences_else d t.delivery (replied ts) (λ e. none 0 (omega arith) t refl (sym e)) ∙ undrawn ts d (λ k l u at is. none (suc k) (omega (arith, l)) u at is)
+undrawn (t ∷ ts) d none = occurrences_else d t.delivery (replied ts) (λ e. none 0 (omega arith) t refl (sym e))
+    ∙ undrawn ts d (λ k l u at is. none (suc k) (omega (arith, l)) u at is)
 
 -- an answer of the table is pushed
-pub pushes : (table : List O) (answers : List Answer) (i : ℕ) (a : Answer) → length answers ≡ i → slice_get table i ≡ Some (Some a)
-    → ((d : ℕ) (b : Answer) → slice_get answers d ≡ Some b → slice_get table d ≡ Some (Some b)) → (d : ℕ) (b : Answer) → slice_get (answers ++ a ∷ []) d ≡ Some b → slice_get table d ≡ Some (Some b)
-pushes table answers i a long at inv d b is = ⊎_elim (λ x. inv d b x) (λ x. ap (slice_get table) (x.0 ∙ long) ∙ (at ∙ ap (λ (y : Answer). Some (Some y)) x.1)) (get_snoc answers a b d is)
+pub pushes : (table : List O) (answers : List Answer) (i : ℕ) (a : Answer) → length answers ≡ i → slice_get table i
+    ≡ Some (Some a)
+    → ((d : ℕ) (b : Answer) → slice_get answers d ≡ Some b → slice_get table d ≡ Some (Some b)) → (d : ℕ) (b : Answer)
+    → slice_get (answers ++ a ∷ []) d ≡ Some b → slice_get table d ≡ Some (Some b)
+pushes table answers i a long at inv d b is = ⊎_elim (λ x. inv d b x) (λ x. ap (slice_get table) (x.0 ∙ long)
+    ∙ (at ∙ ap (λ (y : Answer). Some (Some y)) x.1)) (get_snoc answers a b d is)

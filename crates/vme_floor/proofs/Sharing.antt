@@ -1,5 +1,6 @@
 -- The shares of the calling thread's bench, after some of the others were folded into it.
-use Rattle.std.proofs.Common.{◌≡◌, ℕ, zero, suc, ◌+◌, ◌*◌, ◌-◌, ◌^◌, ◌≤◌, List, [], ◌∷◌, ◌++◌, ap, arith, le_refl, pow-suc}
+use Rattle.std.proofs.Common.{◌≡◌, ℕ, zero, suc, ◌+◌, ◌*◌, ◌-◌, ◌^◌, ◌≤◌, List, [], ◌∷◌, ◌++◌, ap, arith, le_refl}
+use Rattle.std.proofs.Common.{pow-suc}
 use Rattle.vme_core.specs.Shares.{weight, FitsIn, IsWholeShare}
 use Rattle.vme_core.proofs.ShareSums.{fits-append, weight-append}
 
@@ -13,14 +14,22 @@ fits_upto m zero low = tt
 fits_upto m (suc t) low = fits-append m (upto t) (suc t ∷ []) (fits_upto m t (omega (arith, low))) (low, tt)
 
 weight_upto : (m t : ℕ) → t ≤ m → weight m (upto t) + 2 ^ (m - t) ≡ 2 ^ m
-weight_upto m zero low = let e : 2 ^ (m - 0) ≡ 2 ^ m = ap (λ (j : ℕ). 2 ^ j) (let z : m - 0 ≡ m = omega arith in z) in omega (arith, e)
+weight_upto m zero low = let e : 2 ^ (m - 0) ≡ 2 ^ m = ap (λ (j : ℕ). 2 ^ j) (let z : m - 0 ≡ m = omega arith in z) in
+    omega (arith, e)
 weight_upto m (suc t) low =
-    let one : m - t ≡ suc (m - suc t) = omega (arith, low) in let e : 2 ^ (m - t) ≡ 2 ^ suc (m - suc t) = ap (λ (j : ℕ). 2 ^ j) one in
+    let one : m - t ≡ suc (m - suc t) = omega (arith, low) in let e : 2 ^ (m - t) ≡ 2 ^ suc (m - suc t) = ap
+    (λ (j : ℕ). 2 ^ j) one in
     let a : weight m (upto t) + 2 ^ (m - t) ≡ 2 ^ m = weight_upto m t (omega (arith, low)) in
-    let b : weight m (upto t ++ suc t ∷ []) ≡ weight m (upto t) + (2 ^ (m - suc t) + 0) = weight-append m (upto t) (suc t ∷ []) in
+    let b : weight m (upto t ++ suc t ∷ []) ≡ weight m (upto t) + (2 ^ (m - suc t) + 0) = weight-append m (upto t)
+    (suc t ∷ []) in
     let p : 2 ^ suc (m - suc t) ≡ 2 ^ (m - suc t) * 2 = pow-suc 2 (m - suc t) in
     let g : weight m (upto t ++ suc t ∷ []) + 2 ^ (m - suc t) ≡ 2 ^ m = omega (arith, a, b, e, p) in g
 
 -- the calling thread halved its share m times, and has all the others'
 pub whole_upto : (m : ℕ) → IsWholeShare (m ∷ upto m)
-whole_upto m = (m, (le_refl m, fits_upto m m (le_refl m)), (let a = weight_upto m m (le_refl m) in let g : 2 ^ (m - m) + weight m (upto m) ≡ 2 ^ m = omega (arith, a) in g))
+whole_upto m = (
+  m,
+  (le_refl m, fits_upto m m (le_refl m)),
+  (let a = weight_upto m m (le_refl m) in
+      let g : 2 ^ (m - m) + weight m (upto m) ≡ 2 ^ m = omega (arith, a) in g),
+)

@@ -1,5 +1,6 @@
 -- The blocks of so many steps each are a cut of a well-formed recording.
-use Rattle.std.proofs.Common.{◌≡◌, ℕ, ◌*◌, ◌<◌, ◌≤◌, Bool, true, false, if◌then◌else◌, List, length, slice_get, get_or, take, drop, min, Option, Some, None, sym, refl, ap, ◌∙◌, subst, arith}
+use Rattle.std.proofs.Common.{◌≡◌, ℕ, ◌*◌, ◌<◌, ◌≤◌, Bool, true, false, if◌then◌else◌, List, length, slice_get, get_or}
+use Rattle.std.proofs.Common.{take, drop, min, Option, Some, None, sym, refl, ap, ◌∙◌, subst, arith}
 use Rattle.std.specs.Prelude.{nat_lt}
 use Rattle.std.proofs.lemmas.Bool.Decides.{nat_tests}
 use Rattle.std.proofs.lemmas.List.{length-take, take-append-drop}
@@ -26,13 +27,20 @@ module _ (t : Trace) (size : ℕ) where
   count_is = length-map-range_with_len (block_at size t) 0 (block_count size t)
 
   -- each stands at its number
-  pub block_there : (n : ℕ) (b : Block) → slice_get blocks n ≡ Some b → (n < block_count size t) × (b ≡ block_at size t n)
+  pub block_there : (n : ℕ) (b : Block) → slice_get blocks n ≡ Some b → (n < block_count size t)
+      × (b ≡ block_at size t n)
   block_there n b at =
-      let low = slice_get_within blocks n b at in let below : n < block_count size t = let long = count_is in omega (arith, low, long) in
-      let is : get_or blocks n b ≡ block_at size t n = get_or-map-range_with_len (block_at size t) 0 (block_count size t) n n b below (omega arith) in
-      (below, same_Some b (block_at size t n) (sym at ∙ (slice_get-get_or blocks n b low ∙ ap (λ (x : Block). Some x) is)))
+      let low = slice_get_within blocks n b at in let below : n < block_count size t = let long = count_is in
+      omega (arith, low, long) in
+      let is : get_or blocks n b ≡ block_at size t n = get_or-map-range_with_len (block_at size t) 0
+      (block_count size t) n n b below (omega arith) in (
+        below,
+        same_Some b (block_at size t n) (sym at ∙ (slice_get-get_or blocks n b low ∙ ap (λ (x : Block). Some x)
+            is)),
+      )
 
-  accepted_by : (within long : Bool) (step : Option ℕ) → within ≡ true → long ≡ false → step ≡ None → (if within then (if long then Some answer.TooLong else malformed_refusal step) else Some answer.Stranger) ≡ None
+  accepted_by : (within long : Bool) (step : Option ℕ) → within ≡ true → long ≡ false → step ≡ None
+      → (if within then (if long then Some answer.TooLong else malformed_refusal step) else Some answer.Stranger) ≡ None
   accepted_by true true step e f g = absurd (cc)
   accepted_by true false None e f g = refl
   accepted_by true false (Some k) e f g = absurd (none-some k (sym g))
@@ -49,26 +57,35 @@ module _ (t : Trace) (size : ℕ) where
     block_sound : (k : ℕ) → malformed_step (trace_of (block_at size t k)) ≡ None
     block_sound k =
         let m : ℕ = k * size in
-        let parts = sound_apart t.opening (take m t.steps) (drop m t.steps) (subst (λ xs. malformed_step (record { opening = t.opening; steps = xs }) ≡ None) (sym (take-append-drop m t.steps)) sound) in
+        let parts = sound_apart t.opening (take m t.steps) (drop m t.steps)
+        (subst (λ xs. malformed_step (record { opening = t.opening; steps = xs }) ≡ None)
+        (sym (take-append-drop m t.steps)) sound) in
         let left : Levels = levels_after t.opening (take m t.steps) in
-        let here = sound_apart left (take size (drop m t.steps)) (drop size (drop m t.steps)) (subst (λ xs. malformed_step (record { opening = left; steps = xs }) ≡ None) (sym (take-append-drop size (drop m t.steps))) parts.second) in
-        subst (λ (v : Levels). malformed_step (record { opening = v; steps = take size (drop m t.steps) }) ≡ None) (sym (levels_at-taken t m)) here.first
+        let here = sound_apart left (take size (drop m t.steps)) (drop size (drop m t.steps))
+        (subst (λ xs. malformed_step (record { opening = left; steps = xs }) ≡ None)
+        (sym (take-append-drop size (drop m t.steps))) parts.second) in
+        subst (λ (v : Levels). malformed_step (record { opening = v; steps = take size (drop m t.steps) }) ≡ None)
+        (sym (levels_at-taken t m)) here.first
 
     block_short : (k : ℕ) → length (take size (drop (k * size) t.steps)) ≤ 65536
-    block_short k = let long = length-take size (drop (k * size) t.steps) in let most = min_left size (length (drop (k * size) t.steps)) in omega (arith, long, most, few)
+    block_short k = let long = length-take size (drop (k * size) t.steps) in
+        let most = min_left size (length (drop (k * size) t.steps)) in omega (arith, long, most, few)
       where
         min_left : (m n : ℕ) → min m n ≤ m
         min_left m n = omega arith
 
     block_accepted : (n : ℕ) → n < block_count size t → first_refusal (block_count size t) (block_at size t n) ≡ None
-    block_accepted n low = accepted_by (nat_lt n (block_count size t)) (nat_lt 65536 (length (take size (drop (n * size) t.steps)))) (malformed_step (trace_of (block_at size t n)))
-        (is_below n (block_count size t) low) (isnt_below 65536 (length (take size (drop (n * size) t.steps))) (block_short n)) (block_sound n)
+    block_accepted n low = accepted_by (nat_lt n (block_count size t))
+        (nat_lt 65536 (length (take size (drop (n * size) t.steps)))) (malformed_step (trace_of (block_at size t n)))
+        (is_below n (block_count size t) low) (isnt_below 65536 (length (take size (drop (n * size) t.steps)))
+        (block_short n)) (block_sound n)
 
     pub size_cuts : IsCutOf t (block_count size t) blocks
     size_cuts = record {
       count = count_is;
       numbered = λ n b at. ap (λ (x : Block). x.number) (block_there n b at).1;
-      accepted = λ n b at. let there = block_there n b at in subst (λ (x : Block). first_refusal (block_count size t) x ≡ None) (sym there.1) (block_accepted n there.0);
+      accepted = λ n b at. let there = block_there n b at in subst (λ (x : Block). first_refusal (block_count size t) x
+          ≡ None) (sym there.1) (block_accepted n there.0);
       joins = parts_join t size sound 0 0 0 (block_count size t) refl;
       joined = cut_whole t size some;
     }

@@ -1,5 +1,6 @@
 -- One more delivery, and the work of two.
-use Rattle.std.proofs.Common.{◌≡◌, ◌==◌, ℕ, zero, suc, ◌+◌, ◌<◌, ◌≤◌, cond, List, [], ◌∷◌, ◌++◌, length, slice_get, Option, Some, None, sym, refl, ap, ◌∙◌, subst, arith, inl, inr, ne_eqb, ◌≢◌}
+use Rattle.std.proofs.Common.{◌≡◌, ◌==◌, ℕ, zero, suc, ◌+◌, ◌<◌, ◌≤◌, cond, List, [], ◌∷◌, ◌++◌, length, slice_get}
+use Rattle.std.proofs.Common.{Option, Some, None, sym, refl, ap, ◌∙◌, subst, arith, inl, inr, ne_eqb, ◌≢◌}
 use Rattle.std.specs.Prelude.{Bool, true, false, nat_lt, if◌then◌else◌}
 use Rattle.std.proofs.lemmas.Bool.Decides.{nat_tests}
 use Rattle.std.proofs.lemmas.Option.{none-some}
@@ -19,10 +20,12 @@ use Rattle.vme_floor.specs.declared.answer.Answer.{Answer}
 use Rattle.vme_floor.specs.declared.answer.Answer.TheVariants.{Filed, Stranger, TooLong, Malformed, Doubled, Memory}
 use Rattle.vme_floor.specs.declared.answer.Reply.{Reply}
 use Rattle.vme_floor.specs.Settling.{reply_of}
-use Rattle.vme_floor.specs.Works.{number_in, number_at, filing, filings, replied, Each, IsListed, IsSeenIf, IsOldOrFiled, IsReply, IsWork, Lists, left}
+use Rattle.vme_floor.specs.Works.{number_in, number_at, filing, filings, replied, Each, IsListed, IsSeenIf}
+use Rattle.vme_floor.specs.Works.{IsOldOrFiled, IsReply, IsWork, Lists, left}
 use Rattle.vme_floor.proofs.Weighing.{is_filing}
 
-low_where : (total n : ℕ) (test : Bool) (rest : Option Answer) → nat_lt n total ≡ test → (if test then rest else Some Stranger) ≡ None → n < total
+low_where : (total n : ℕ) (test : Bool) (rest : Option Answer) → nat_lt n total ≡ test
+    → (if test then rest else Some Stranger) ≡ None → n < total
 low_where total n true rest e none = grind (arith, nat_tests)
 low_where total n false rest e none = absurd (none-some Stranger (sym none))
 
@@ -38,7 +41,8 @@ each_map : {A : Type 0} (P Q : A → Type 0) → ((x : A) → P x → Q x) → (
 each_map P Q f [] e = tt
 each_map P Q f (x ∷ xs) e = (f x e.0, each_map P Q f xs e.1)
 
-filings_append : (ds : List Block) (xs ys : List Reply) (n : ℕ) → filings ds (xs ++ ys) n ≡ filings ds xs n + filings ds ys n
+filings_append : (ds : List Block) (xs ys : List Reply) (n : ℕ) → filings ds (xs ++ ys) n ≡ filings ds xs n + filings ds
+    ys n
 filings_append ds [] ys n = omega arith
 filings_append ds (x ∷ xs) ys n = omega (arith, filings_append ds xs ys n)
 
@@ -67,18 +71,38 @@ listed_grows xs ys f (Malformed step) b r = tt
 listed_grows xs ys f Doubled b r = tt
 listed_grows xs ys f Memory b r = tt
 
-replies_grow : (total : ℕ) (ds : List Block) (xs ys : List (ℕ × Block)) → Within xs ys → (rs : List Reply) → Each (IsReply total ds xs) rs → Each (IsReply total ds ys) rs
-replies_grow total ds xs ys f = each_map (IsReply total ds xs) (IsReply total ds ys) (λ t r. (r.0, λ b e. let s = r.1 b e in (s.0, listed_grows xs ys f t.answer b s.1)))
+replies_grow : (total : ℕ) (ds : List Block) (xs ys : List (ℕ × Block)) → Within xs ys → (rs : List Reply)
+    → Each (IsReply total ds xs) rs → Each (IsReply total ds ys) rs
+replies_grow total ds xs ys f = each_map (IsReply total ds xs) (IsReply total ds ys)
+    (λ t r. (r.0, λ b e. let s = r.1 b e in (s.0, listed_grows xs ys f t.answer b s.1)))
 
 -- what was seen, is seen by one who sees more
-seen_if_more : (ds : List Block) (v w : View) → SeesMore v w → (rs : List Reply) → Each (IsSeenIf ds v) rs → Each (IsSeenIf ds w) rs
-seen_if_more ds v w more = each_map (IsSeenIf ds v) (IsSeenIf ds w) (λ r f is. let a : 1 ≤ rank (seen v (number_at ds r.delivery)) = f is in let b = seen_grows v w (number_at ds r.delivery) more in let g : 1 ≤ rank (seen w (number_at ds r.delivery)) = omega (arith, a, b) in g)
+seen_if_more : (ds : List Block) (v w : View) → SeesMore v w → (rs : List Reply) → Each (IsSeenIf ds v) rs
+    → Each (IsSeenIf ds w) rs
+seen_if_more ds v w more = each_map (IsSeenIf ds v) (IsSeenIf ds w)
+    (λ r f is. let a : 1 ≤ rank (seen v (number_at ds r.delivery)) = f is in
+    let b = seen_grows v w (number_at ds r.delivery) more in let g : 1 ≤ rank (seen w (number_at ds r.delivery)) = omega
+    (arith, a, b) in g)
 
 sees_left : (v w u : View) → u ≡ joint_view v w → SeesMore v u
-sees_left v w u is = subst (SeesMore v) (sym is) (record { found = λ d. omega (arith, occurrences-append d v.found w.found); claimed = λ d. omega (arith, occurrences-append d v.claimed w.claimed); filed = λ d. omega (arith, occurrences-append d v.filed w.filed); taken = λ d. omega (arith, occurrences-append d v.taken w.taken) })
+sees_left v w u is = subst (SeesMore v) (sym is)
+    (record {
+      found = λ d. omega (arith, occurrences-append d v.found w.found);
+      claimed = λ d. omega
+          (arith, occurrences-append d v.claimed w.claimed);
+      filed = λ d. omega (arith, occurrences-append d v.filed w.filed);
+      taken = λ d. omega (arith, occurrences-append d v.taken w.taken);
+    })
 
 sees_right : (v w u : View) → u ≡ joint_view v w → SeesMore w u
-sees_right v w u is = subst (SeesMore w) (sym is) (record { found = λ d. omega (arith, occurrences-append d v.found w.found); claimed = λ d. omega (arith, occurrences-append d v.claimed w.claimed); filed = λ d. omega (arith, occurrences-append d v.filed w.filed); taken = λ d. omega (arith, occurrences-append d v.taken w.taken) })
+sees_right v w u is = subst (SeesMore w) (sym is)
+    (record {
+      found = λ d. omega (arith, occurrences-append d v.found w.found);
+      claimed = λ d. omega
+          (arith, occurrences-append d v.claimed w.claimed);
+      filed = λ d. omega (arith, occurrences-append d v.filed w.filed);
+      taken = λ d. omega (arith, occurrences-append d v.taken w.taken);
+    })
 
 -- two have found what the first has
 pub found_both : (v w u : View) (k : ℕ) → u ≡ joint_view v w → AllFound v k → AllFound u k
@@ -96,7 +120,8 @@ no_work total ds v l d = record {
 
 -- what a delivery does to the list, however it is answered
 module _ (old new : List (ℕ × Block)) (b : Block) where
-  counted : (a : Answer) → Lists old new b a → (n : ℕ) → occurrences n (numbers new) ≡ filing a b.number n + occurrences n (numbers old)
+  counted : (a : Answer) → Lists old new b a → (n : ℕ) → occurrences n (numbers new) ≡ filing a b.number n + occurrences
+      n (numbers old)
   counted Filed r n = ap (λ (xs : List (ℕ × Block)). occurrences n (numbers xs)) r.1
   counted Stranger r n = omega (arith, ap (λ (xs : List (ℕ × Block)). occurrences n (numbers xs)) r)
   counted TooLong r n = omega (arith, ap (λ (xs : List (ℕ × Block)). occurrences n (numbers xs)) r)
@@ -128,7 +153,9 @@ module _ (old new : List (ℕ × Block)) (b : Block) where
 
   once : (a : Answer) → Lists old new b a → (n : ℕ) → occurrences n (numbers old) ≤ 1 → occurrences n (numbers new) ≤ 1
   once Filed r n o = let e = ap (λ (xs : List (ℕ × Block)). occurrences n (numbers xs)) r.1 in
-      dite (ℕ_discrete n b.number) (λ s. let z = subst (λ (y : ℕ). occurrences y (numbers old) ≡ 0) (sym s) r.0 in grind (arith, nat_tests)) (λ ne. let t = ap {B = ℕ} (λ t. cond t 1 0) (ne_eqb n b.number ne) in omega (arith, e, o, t))
+      dite (ℕ_discrete n b.number) (λ s. let z = subst (λ (y : ℕ). occurrences y (numbers old) ≡ 0) (sym s) r.0 in
+      grind (arith, nat_tests)) (λ ne. let t = ap {B = ℕ} (λ t. cond t 1 0) (ne_eqb n b.number ne) in
+      omega (arith, e, o, t))
   once Stranger r n o = once_by r n o
   once TooLong r n o = once_by r n o
   once (Malformed step) r n o = once_by r n o
@@ -139,57 +166,89 @@ same_block : (b c : Block) (o : Option Block) → o ≡ Some b → o ≡ Some c 
 same_block b c o e f = cc
 
 -- a draw, and its delivery
-pub works_on : (total : ℕ) (ds : List Block) (u v w : View) (rs : List Reply) (d : ℕ) (b : Block) (a : Answer) → IsWork total ds u rs
-    → occurrences d u.draws ≡ 0 → v.draws ≡ d ∷ u.draws → v.list ≡ u.list → w.draws ≡ v.draws → Suits total b a → Lists v.list w.list b a → d < length ds → slice_get ds d ≡ Some b
+pub works_on : (total : ℕ) (ds : List Block) (u v w : View) (rs : List Reply) (d : ℕ) (b : Block) (a : Answer)
+    → IsWork total ds u rs
+    → occurrences d u.draws ≡ 0 → v.draws ≡ d ∷ u.draws → v.list ≡ u.list → w.draws ≡ v.draws → Suits total b a
+    → Lists v.list w.list b a → d < length ds → slice_get ds d ≡ Some b
     → SeesMore u w → (a ≡ Doubled → HasSeen w b.number Claimed) → IsWork total ds w (rs ++ reply_of d a ∷ [])
 works_on total ds u v w rs d b a k fresh drew same_list more suits changed near at sees second =
     let one : List Reply = reply_of d a ∷ [] in
     let lists : Lists u.list w.list b a = subst (λ (xs : List (ℕ × Block)). Lists xs w.list b a) same_list changed in
     let n_is : number_at ds d ≡ b.number = ap number_in at in
-    let draws : (e : ℕ) → occurrences e w.draws ≡ cond (e == d) 1 0 + occurrences e u.draws = λ e. ap (occurrences e) (more ∙ drew) in
+    let draws : (e : ℕ) → occurrences e w.draws ≡ cond (e == d) 1 0 + occurrences e u.draws = λ e. ap (occurrences e)
+    (more ∙ drew) in
     record {
-      drew = λ e. let x = draws e in let y = k.drew e in let z = ap (occurrences e) (replied_append rs one) in let t = occurrences-append e (replied rs) (replied one) in omega (arith, x, y, z, t);
-      filed = λ n. let x = counted u.list w.list b a lists n in let y = k.filed n in let z = filings_append ds rs one n in let t = ap (λ (m : ℕ). filing a m n) n_is in omega (arith, x, y, z, t);
-      right = each_append (IsReply total ds w.list) rs one (replies_grow total ds u.list w.list (kept u.list w.list b a lists) rs k.right)
-          ((near, λ c e. subst (λ (x : Block). Suits total x a × IsListed w.list x a) (same_block b c (slice_get ds d) at e) (suits, listed u.list w.list b a lists)), tt);
-      doubled = each_append (IsSeenIf ds w) rs one (seen_if_more ds u w sees rs k.doubled) ((λ is. subst (λ (m : ℕ). HasSeen w m Claimed) (sym n_is) (second is)), tt);
-      draws_once = λ e. let x = draws e in let o = k.draws_once e in dite (ℕ_discrete e d) (λ s. let z = subst (λ (y : ℕ). occurrences y u.draws ≡ 0) (sym s) fresh in grind (arith, nat_tests)) (λ ne. let t = ap {B = ℕ} (λ t. cond t 1 0) (ne_eqb e d ne) in omega (arith, x, o, t));
+      drew = λ e. let x = draws e in let y = k.drew e in let z = ap (occurrences e) (replied_append rs one) in
+          let t = occurrences-append e (replied rs) (replied one) in omega (arith, x, y, z, t);
+      filed = λ n. let x = counted u.list w.list b a lists n in let y = k.filed n in
+          let z = filings_append ds rs one n in let t = ap (λ (m : ℕ). filing a m n) n_is in omega (arith, x, y, z, t);
+      right = each_append (IsReply total ds w.list) rs one (replies_grow total ds u.list w.list
+          (kept u.list w.list b a lists) rs k.right) (
+            (
+              near,
+              λ c e. subst (λ (x : Block). Suits total x a × IsListed w.list x a)
+                  (same_block b c (slice_get ds d) at e) (suits, listed u.list w.list b a lists),
+            ),
+            tt,
+          );
+      doubled = each_append (IsSeenIf ds w) rs one (seen_if_more ds u w sees rs k.doubled)
+          ((λ is. subst (λ (m : ℕ). HasSeen w m Claimed) (sym n_is) (second is)), tt);
+      draws_once = λ e. let x = draws e in let o = k.draws_once e in
+          dite (ℕ_discrete e d) (λ s. let z = subst (λ (y : ℕ). occurrences y u.draws ≡ 0) (sym s) fresh in
+          grind (arith, nat_tests)) (λ ne. let t = ap {B = ℕ} (λ t. cond t 1 0) (ne_eqb e d ne) in
+          omega (arith, x, o, t));
       files_once = λ n. once u.list w.list b a lists n (k.files_once n);
     }
 
 -- the work of two is that of one
-pub works_both : (total : ℕ) (ds : List Block) (v w u : View) (xs ys : List Reply) → u ≡ joint_view v w → IsWork total ds v xs → IsWork total ds w ys
-    → ((d : ℕ) → occurrences d v.draws + occurrences d w.draws ≤ 1) → ((n : ℕ) → occurrences n (numbers v.list) + occurrences n (numbers w.list) ≤ 1) → IsWork total ds u (xs ++ ys)
+pub works_both : (total : ℕ) (ds : List Block) (v w u : View) (xs ys : List Reply) → u ≡ joint_view v w
+    → IsWork total ds v xs → IsWork total ds w ys
+    → ((d : ℕ) → occurrences d v.draws + occurrences d w.draws ≤ 1)
+    → ((n : ℕ) → occurrences n (numbers v.list) + occurrences n (numbers w.list) ≤ 1) → IsWork total ds u (xs ++ ys)
 works_both total ds v w u xs ys is a b d n =
-    let list : u.list ≡ v.list ++ w.list = ap (λ (x : View). x.list) is in let draws : u.draws ≡ v.draws ++ w.draws = ap (λ (x : View). x.draws) is in
-    let drew : (k : ℕ) → occurrences k u.draws ≡ occurrences k v.draws + occurrences k w.draws = λ k. ap (occurrences k) draws ∙ occurrences-append k v.draws w.draws in
-    let filed : (k : ℕ) → occurrences k (numbers u.list) ≡ occurrences k (numbers v.list) + occurrences k (numbers w.list) = λ k. ap (λ (l : List (ℕ × Block)). occurrences k (numbers l)) list ∙ (ap (occurrences k) (numbers-append v.list w.list) ∙ occurrences-append k (numbers v.list) (numbers w.list)) in
+    let list : u.list ≡ v.list ++ w.list = ap (λ (x : View). x.list) is in let draws : u.draws ≡ v.draws
+    ++ w.draws = ap (λ (x : View). x.draws) is in
+    let drew : (k : ℕ) → occurrences k u.draws ≡ occurrences k v.draws + occurrences k w.draws = λ k. ap (occurrences k)
+    draws ∙ occurrences-append k v.draws w.draws in
+    let filed : (k : ℕ) → occurrences k (numbers u.list) ≡ occurrences k (numbers v.list) + occurrences k
+    (numbers w.list) = λ k. ap (λ (l : List (ℕ × Block)). occurrences k (numbers l)) list
+    ∙ (ap (occurrences k) (numbers-append v.list w.list) ∙ occurrences-append k (numbers v.list) (numbers w.list)) in
     record {
-      drew = λ k. let x = drew k in let y = a.drew k in let z = b.drew k in let t = ap (occurrences k) (replied_append xs ys) in let s = occurrences-append k (replied xs) (replied ys) in omega (arith, x, y, z, t, s);
-      filed = λ k. let x = filed k in let y = a.filed k in let z = b.filed k in let t = filings_append ds xs ys k in omega (arith, x, y, z, t);
+      drew = λ k. let x = drew k in let y = a.drew k in let z = b.drew k in
+          let t = ap (occurrences k) (replied_append xs ys) in let s = occurrences-append k (replied xs) (replied ys) in
+          omega (arith, x, y, z, t, s);
+      filed = λ k. let x = filed k in let y = a.filed k in let z = b.filed k in let t = filings_append ds xs ys k in
+          omega (arith, x, y, z, t);
       right = each_append (IsReply total ds u.list) xs ys
-          (replies_grow total ds v.list u.list (λ m c h. subst (λ (l : List (ℕ × Block)). HasPair l m c) (sym list) (has_left v.list w.list m c h)) xs a.right)
-          (replies_grow total ds w.list u.list (λ m c h. subst (λ (l : List (ℕ × Block)). HasPair l m c) (sym list) (has_right v.list w.list m c h)) ys b.right);
-      doubled = each_append (IsSeenIf ds u) xs ys (seen_if_more ds v u (sees_left v w u is) xs a.doubled) (seen_if_more ds w u (sees_right v w u is) ys b.doubled);
+          (replies_grow total ds v.list u.list (λ m c h. subst (λ (l : List (ℕ × Block)). HasPair l m c) (sym list)
+          (has_left v.list w.list m c h)) xs a.right)
+          (replies_grow total ds w.list u.list (λ m c h. subst (λ (l : List (ℕ × Block)). HasPair l m c) (sym list)
+          (has_right v.list w.list m c h)) ys b.right);
+      doubled = each_append (IsSeenIf ds u) xs ys (seen_if_more ds v u (sees_left v w u is) xs a.doubled)
+          (seen_if_more ds w u (sees_right v w u is) ys b.doubled);
       draws_once = λ k. let x = drew k in let y = d k in omega (arith, x, y);
       files_once = λ k. let x = filed k in let y = n k in omega (arith, x, y);
     }
 
 -- the same work of a bench that has taken or seen more
-pub works_same : (total : ℕ) (ds : List Block) (v w : View) (rs : List Reply) → w.list ≡ v.list → w.draws ≡ v.draws → SeesMore v w → IsWork total ds v rs → IsWork total ds w rs
+pub works_same : (total : ℕ) (ds : List Block) (v w : View) (rs : List Reply) → w.list ≡ v.list → w.draws ≡ v.draws
+    → SeesMore v w → IsWork total ds v rs → IsWork total ds w rs
 works_same total ds v w rs list draws sees k = record {
   drew = λ d. ap (occurrences d) draws ∙ k.drew d;
   filed = λ n. ap (λ (l : List (ℕ × Block)). occurrences n (numbers l)) list ∙ k.filed n;
   right = subst (λ (l : List (ℕ × Block)). Each (IsReply total ds l) rs) (sym list) k.right;
   doubled = seen_if_more ds v w sees rs k.doubled;
   draws_once = λ d. let z = ap (occurrences d) draws in let o = k.draws_once d in omega (arith, z, o);
-  files_once = λ n. let z = ap (λ (l : List (ℕ × Block)). occurrences n (numbers l)) list in let o = k.files_once n in omega (arith, z, o);
+  files_once = λ n. let z = ap (λ (l : List (ℕ × Block)). occurrences n (numbers l)) list in let o = k.files_once n in
+      omega (arith, z, o);
 }
 
 -- the numbers of the list after a delivery
-pub old_or_filed : (ds : List Block) (old new : List (ℕ × Block)) (d : ℕ) (b : Block) (a : Answer) → slice_get ds d ≡ Some b → Lists old new b a → (n : ℕ) → 0 < occurrences n (numbers new) → IsOldOrFiled ds old (reply_of d a) n
+pub old_or_filed : (ds : List Block) (old new : List (ℕ × Block)) (d : ℕ) (b : Block) (a : Answer) → slice_get ds d
+    ≡ Some b → Lists old new b a → (n : ℕ) → 0 < occurrences n (numbers new) → IsOldOrFiled ds old (reply_of d a) n
 old_or_filed ds old new d b a at lists n some = dite (ℕ_discrete (occurrences n (numbers old)) 0)
-    (λ z. let c = counted old new b a lists n in let f = is_filing a b.number n (omega (arith, c, z, some)) in inr (f.0, ap number_in at ∙ sym f.1))
+    (λ z. let c = counted old new b a lists n in let f = is_filing a b.number n (omega (arith, c, z, some)) in
+    inr (f.0, ap number_in at ∙ sym f.1))
     (λ ne. inl (omega (arith, ne)))
 
 -- 1 where the draw was not found
@@ -209,13 +268,15 @@ left_least (suc k) f g more = let h = left_least k f g more in let m = more k in
     (λ ne. let b = found_once k g ne in omega (arith, h, b))
 
 -- one more was found
-pub left_less : (k : ℕ) (f g : List ℕ) → ((e : ℕ) → occurrences e f ≤ occurrences e g) → (d : ℕ) → d < k → occurrences d f ≡ 0 → 0 < occurrences d g → left k g < left k f
+pub left_less : (k : ℕ) (f g : List ℕ) → ((e : ℕ) → occurrences e f ≤ occurrences e g) → (d : ℕ) → d < k
+    → occurrences d f ≡ 0 → 0 < occurrences d g → left k g < left k f
 left_less zero f g more d near none some = absurd (omega arith)
 left_less (suc k) f g more d near none some = dite (ℕ_discrete d k)
     (λ is. let h = left_least k f g more in
     let a = unfound k f (ap (λ (y : ℕ). occurrences y f) (sym is) ∙ none) in
     let s : 0 < occurrences k g = subst (λ (y : ℕ). 0 < occurrences y g) is some in
     let b = found_once k g (λ z. omega (arith, z, s)) in omega (arith, h, a, b))
-    (λ ne. let h = left_less k f g more d (omega (arith, near, ne)) none some in let m = more k in dite (ℕ_discrete (occurrences k g) 0)
+    (λ ne. let h = left_less k f g more d (omega (arith, near, ne)) none some in let m = more k in
+    dite (ℕ_discrete (occurrences k g) 0)
     (λ z. let a = unfound k f (omega (arith, m, z)) in let b = unfound k g z in omega (arith, h, a, b))
     (λ nz. let b = found_once k g nz in omega (arith, h, b)))

@@ -1,5 +1,6 @@
 -- The digits of a modifier code and of an address hold them.
-use Rattle.std.proofs.Common.{◌≡◌, ◌==◌, ℕ, ◌+◌, ◌/◌, ◌^◌, ◌<◌, Bool, true, false, not, ◌&&◌, ◌⊎◌, inl, inr, refl, sym, subst, arith}
+use Rattle.std.proofs.Common.{◌≡◌, ◌==◌, ℕ, ◌+◌, ◌/◌, ◌^◌, ◌<◌, Bool, true, false, not, ◌&&◌, ◌⊎◌, inl, inr, refl, sym}
+use Rattle.std.proofs.Common.{subst, arith}
 use Rattle.std.specs.Prelude.{nat_lt, if◌then◌else◌}
 use Rattle.std.proofs.lemmas.Bool.{and_parts, ltb-true}
 use Rattle.std.proofs.lemmas.Bool.Decides.{nat_tests}
@@ -20,7 +21,8 @@ short_small modifier h = grind (arith, nat_tests)
 abbrev Space : ℕ → ℕ → Type 0
 Space modifier highest = (modifier < 64) × ((highest ≡ 31) ⊎ ((highest ≡ 23) ⊎ (highest ≡ 15)))
 
-space_by : (modifier : ℕ) (extended standard short : Bool) → is_extended modifier ≡ extended → is_standard modifier ≡ standard → is_short modifier ≡ short
+space_by : (modifier : ℕ) (extended standard short : Bool) → is_extended modifier ≡ extended → is_standard modifier
+    ≡ standard → is_short modifier ≡ short
     → not ((if extended then 31 else if standard then 23 else if short then 15 else 0) == 0) ≡ true
     → Space modifier (if extended then 31 else if standard then 23 else if short then 15 else 0)
 space_by modifier true standard short e f g h = (extended_small modifier e, inl refl)
@@ -36,7 +38,8 @@ space modifier h = space_by modifier (is_extended modifier) (is_standard modifie
 abbrev Held : ℕ → ℕ → Type 0
 Held address highest = (address < 16 ^ ((highest + 1) / 4)) × (address < 2 ^ 32)
 
-held_at : (n highest address : ℕ) → highest ≡ n → (address < 2 ^ (n + 1) → Held address n) → address < 2 ^ (highest + 1) → Held address highest
+held_at : (n highest address : ℕ) → highest ≡ n → (address < 2 ^ (n + 1) → Held address n) → address < 2 ^ (highest + 1)
+    → Held address highest
 held_at n highest address e f below = subst (Held address) (sym e) (f (subst (λ h. address < 2 ^ (h + 1)) e below))
 
 held_31 : (address : ℕ) → address < 2 ^ 32 → Held address 31
@@ -48,11 +51,16 @@ held_23 address below = (below, omega arith)
 held_15 : (address : ℕ) → address < 2 ^ 16 → Held address 15
 held_15 address below = (below, omega arith)
 
-holds : (highest address : ℕ) → (highest ≡ 31) ⊎ ((highest ≡ 23) ⊎ (highest ≡ 15)) → address < 2 ^ (highest + 1) → Held address highest
+holds : (highest address : ℕ) → (highest ≡ 31) ⊎ ((highest ≡ 23) ⊎ (highest ≡ 15)) → address < 2 ^ (highest + 1)
+    → Held address highest
 holds highest address which below =
     elim which [
       | inl e ↦ held_at 31 highest address e (held_31 address) below
-      | inr other ↦ elim other [ inl e ↦ held_at 23 highest address e (held_23 address) below | inr e ↦ held_at 15 highest address e (held_15 address) below ]
+      | inr other ↦ elim other [
+        | inl e ↦ held_at 23 highest address e (held_23 address) below
+        | inr e ↦ held_at 15
+            highest address e (held_15 address) below
+      ]
     ]
 
 pub record HasDigits (modifier address : ℕ) : Type 0 where
@@ -62,8 +70,11 @@ pub record HasDigits (modifier address : ℕ) : Type 0 where
 
 pub address-digits : (modifier address : ℕ) → is_address modifier address ≡ true → HasDigits modifier address
 address-digits modifier address h =
-    let front = and_parts (not (highest_address modifier == 0) && nat_lt address (2 ^ (highest_address modifier + 1))) _ h in
-    let parts = and_parts (not (highest_address modifier == 0)) (nat_lt address (2 ^ (highest_address modifier + 1))) front.0 in
+    let front = and_parts (not (highest_address modifier == 0) && nat_lt address (2 ^ (highest_address modifier + 1))) _
+    h in
+    let parts = and_parts (not (highest_address modifier == 0)) (nat_lt address (2 ^ (highest_address modifier + 1)))
+    front.0 in
     let at = space modifier parts.0 in
-    let held = holds (highest_address modifier) address at.1 (ltb-true address (2 ^ (highest_address modifier + 1)) parts.1) in
+    let held = holds (highest_address modifier) address at.1 (ltb-true address (2 ^ (highest_address modifier + 1))
+    parts.1) in
     record { modifier_below = at.0; address_below = held.0; by_32_bits = held.1 }

@@ -32,7 +32,8 @@ no_flag digit flag h = grind (arith, nat_tests)
 unknown_digit : (digit : ℕ) → is_digit true digit 1 ≡ true → digit ≡ 0
 unknown_digit digit h = grind (arith, nat_tests)
 
-pub digit_of-text : (moved : Bool) (digit flag : ℕ) → digit < 16 → flag < 2 → is_digit moved digit flag ≡ true → digit_of (digit_text moved digit flag) ≡ digit
+pub digit_of-text : (moved : Bool) (digit flag : ℕ) → digit < 16 → flag < 2 → is_digit moved digit flag ≡ true
+    → digit_of (digit_text moved digit flag) ≡ digit
 digit_of-text false digit flag d f h = sym (no_digit digit flag h)
 digit_of-text true digit zero d f h = digit_of-glyph digit d
 digit_of-text true digit (suc zero) d f h = sym (unknown_digit digit h)
@@ -41,7 +42,8 @@ digit_of-text true digit (suc (suc flag)) d f h = absurd (omega arith)
 no_x : (byte : ℕ) → byte ≤ 70 → flag_of byte ≡ 0
 no_x byte most = grind (arith, nat_tests)
 
-pub flag_of-text : (moved : Bool) (digit flag : ℕ) → digit < 16 → flag < 2 → is_digit moved digit flag ≡ true → flag_of (digit_text moved digit flag) ≡ flag
+pub flag_of-text : (moved : Bool) (digit flag : ℕ) → digit < 16 → flag < 2 → is_digit moved digit flag ≡ true
+    → flag_of (digit_text moved digit flag) ≡ flag
 flag_of-text false digit flag d f h = sym (no_flag digit flag h)
 flag_of-text true digit zero d f h = no_x (digit_glyph true digit) (glyph_most digit d)
 flag_of-text true digit (suc zero) d f h = refl

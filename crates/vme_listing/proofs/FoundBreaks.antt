@@ -1,5 +1,6 @@
 -- The least break of some rules: what it names, and that no rule is broken at an instant before it.
-use Rattle.std.proofs.Common.{◌≡◌, ℕ, zero, suc, ◌+◌, ◌<◌, ◌≤◌, Bool, true, false, List, [], ◌∷◌, ◌++◌, refl, sym, ap, subst, arith, ◌⊎◌, inl, inr}
+use Rattle.std.proofs.Common.{◌≡◌, ℕ, zero, suc, ◌+◌, ◌<◌, ◌≤◌, Bool, true, false, List, [], ◌∷◌, ◌++◌, refl, sym, ap}
+use Rattle.std.proofs.Common.{subst, arith, ◌⊎◌, inl, inr}
 use Rattle.std.specs.Prelude.{Option, None, Some, option_map, ◌==◌, ◌&&◌, ◌||◌, nat_le}
 use Rattle.std.specs.Option.{option_or}
 use Rattle.std.proofs.lemmas.Bool.{and_parts}
@@ -28,15 +29,22 @@ IsWithin span j = (span.start < j) × (j ≤ span.end)
 judged_there : (span : Stretch) (j : ℕ) → span.start < span.end → is_judged span j ≡ true → IsWithin span j
 judged_there span j whole h = (grind (arith, nat_tests), grind (arith, nat_tests))
 
-at_end : (span : Stretch) (j : ℕ) (a b : Bool) → span.start < span.end → ((j == span.end) && a && b) ≡ true → IsWithin span j
-at_end span j a b whole h = let here : (j == span.end) ≡ true = (and_parts (j == span.end) a (and_parts ((j == span.end) && a) b h).0).0 in (grind (arith, nat_tests), grind (arith, nat_tests))
+at_end : (span : Stretch) (j : ℕ) (a b : Bool) → span.start < span.end → ((j == span.end) && a && b) ≡ true
+    → IsWithin span j
+at_end span j a b whole h = let here : (j == span.end)
+    ≡ true = (and_parts (j == span.end) a (and_parts ((j == span.end) && a) b h).0).0 in
+    (grind (arith, nat_tests), grind (arith, nat_tests))
 
-breaks-within : (t : Trace) (span : Stretch) (r : Rule) (j l : ℕ) → span.start < span.end → breaks t span r j l ≡ true → IsWithin span j
+breaks-within : (t : Trace) (span : Stretch) (r : Rule) (j l : ℕ) → span.start < span.end → breaks t span r j l ≡ true
+    → IsWithin span j
 unfolding breaks is_broken
 breaks-within t span r j l whole h =
-    let parts = and_parts ((ends_span r || is_judged span j) && has_line t.opening.slots l) (is_broken t span r j l) h in
-    elim (one_of (ends_span r) (is_judged span j) (and_parts (ends_span r || is_judged span j) (has_line t.opening.slots l) parts.0).0) [
-      | inl ends ↦ at_end span j (nat_le j (last_instant t)) (is_lost (levels_at t j) l) whole (subst (λ (q : Rule). is_broken t span q j l ≡ true) (only_u1 r ends) parts.1)
+    let parts = and_parts ((ends_span r || is_judged span j) && has_line t.opening.slots l) (is_broken t span r j l)
+    h in
+    elim (one_of (ends_span r) (is_judged span j) (and_parts (ends_span r || is_judged span j)
+    (has_line t.opening.slots l) parts.0).0) [
+      | inl ends ↦ at_end span j (nat_le j (last_instant t)) (is_lost (levels_at t j) l) whole
+          (subst (λ (q : Rule). is_broken t span q j l ≡ true) (only_u1 r ends) parts.1)
       | inr judged ↦ judged_there span j whole judged
     ]
   where
@@ -63,7 +71,8 @@ module _ (t : Trace) (span : Stretch) where
   unfolding rule_break
   rule_break-at r j b e = named (least (breaks t span r j) 0 line_count) refl e
     where
-      named : (o : Option ℕ) → least (breaks t span r j) 0 line_count ≡ o → option_map (λ l. record { instant = j; time = time_at t j; rule = r; line = l }) o ≡ Some b → IsAt span b j
+      named : (o : Option ℕ) → least (breaks t span r j) 0 line_count ≡ o
+          → option_map (λ l. record { instant = j; time = time_at t j; rule = r; line = l }) o ≡ Some b → IsAt span b j
       named None h f = absurd (cc)
       named (Some l) h f =
           let is = least-found (breaks t span r j) 0 line_count l h in
@@ -71,7 +80,8 @@ module _ (t : Trace) (span : Stretch) where
           record {
             instant = sym (ap (λ (x : Break). x.instant) same);
             line = subst (λ (x : Break). x.line < line_count) same is.below;
-            within = λ whole. subst (λ (x : Break). IsWithin span x.instant) same (breaks-within t span r j l whole is.holds);
+            within = λ whole. subst (λ (x : Break). IsWithin span x.instant) same
+                (breaks-within t span r j l whole is.holds);
           }
 
   break_at-at : (rules : List Rule) (j : ℕ) (b : Break) → break_at t span rules j ≡ Some b → IsAt span b j
@@ -84,12 +94,15 @@ module _ (t : Trace) (span : Stretch) where
       ]
 
   -- of a list of rules none of which is broken at an instant, no rule is
-  break_at-none : (front back : List Rule) (r : Rule) (j : ℕ) → break_at t span (front ++ r ∷ back) j ≡ None → rule_break t span j r ≡ None
+  break_at-none : (front back : List Rule) (r : Rule) (j : ℕ) → break_at t span (front ++ r ∷ back) j ≡ None
+      → rule_break t span j r ≡ None
   unfolding break_at
   break_at-none [] back r j e = (neither (rule_break t span j r) (break_at t span back j) e).0
-  break_at-none (q ∷ front) back r j e = break_at-none front back r j (neither (rule_break t span j q) (break_at t span (front ++ r ∷ back) j) e).1
+  break_at-none (q ∷ front) back r j e = break_at-none front back r j
+      (neither (rule_break t span j q) (break_at t span (front ++ r ∷ back) j) e).1
 
-  before-none : (rules : List Rule) (n i : ℕ) → break_before t span rules n ≡ None → i < n → break_at t span rules i ≡ None
+  before-none : (rules : List Rule) (n i : ℕ) → break_before t span rules n ≡ None → i < n → break_at t span rules i
+      ≡ None
   unfolding break_before
   before-none rules zero i e below = absurd (omega arith)
   before-none rules (suc n) i e below =
@@ -119,36 +132,49 @@ module _ (t : Trace) (span : Stretch) where
             record { below = omega arith; line = first.line; within = first.within; none = first.none }
         | inr late ↦
             let here = break_at-at rules n b late.1 in
-            record { below = omega arith; line = here.line; within = here.within; none = λ i before. before-none rules n i late.0 (omega arith) }
+            record {
+              below = omega arith;
+              line = here.line;
+              within = here.within;
+              none = λ i before. before-none rules n
+                  i late.0 (omega arith);
+            }
       ]
 
   -- the least break, if there is one, is at an instant of the recording and on one of the lines
-  pub least_break-within : (rules : List Rule) (b : Break) → least_break t span rules ≡ Some b → (b.instant < last_instant t + 1) × (b.line < line_count)
+  pub least_break-within : (rules : List Rule) (b : Break) → least_break t span rules ≡ Some b
+      → (b.instant < last_instant t + 1) × (b.line < line_count)
   unfolding least_break
   least_break-within rules b e = let first = before-found rules (last_instant t + 1) b e in (first.below, first.line)
 
   -- it is at an instant after the start of the span, and not after its end
-  pub least_break-judged : (rules : List Rule) (b : Break) → span.start < span.end → least_break t span rules ≡ Some b → IsWithin span b.instant
+  pub least_break-judged : (rules : List Rule) (b : Break) → span.start < span.end → least_break t span rules ≡ Some b
+      → IsWithin span b.instant
   unfolding least_break
   least_break-judged rules b whole e = (before-found rules (last_instant t + 1) b e).within whole
 
-  unbroken_at : (front back : List Rule) (r : Rule) (j l : ℕ) → break_at t span (front ++ r ∷ back) j ≡ None → l < line_count → breaks t span r j l ≡ false
+  unbroken_at : (front back : List Rule) (r : Rule) (j l : ℕ) → break_at t span (front ++ r ∷ back) j ≡ None
+      → l < line_count → breaks t span r j l ≡ false
   unfolding rule_break
   unbroken_at front back r j l e there =
-      any-fails (breaks t span r j) 0 line_count l (least-none-any (breaks t span r j) 0 line_count (no_line (least (breaks t span r j) 0 line_count) (break_at-none front back r j e))) (omega arith) there
+      any-fails (breaks t span r j) 0 line_count l (least-none-any (breaks t span r j) 0 line_count
+      (no_line (least (breaks t span r j) 0 line_count) (break_at-none front back r j e))) (omega arith) there
     where
-      no_line : (o : Option ℕ) → option_map {U = Break} (λ l. record { instant = j; time = time_at t j; rule = r; line = l }) o ≡ None → o ≡ None
+      no_line : (o : Option ℕ) → option_map {U = Break}
+          (λ l. record { instant = j; time = time_at t j; rule = r; line = l }) o ≡ None → o ≡ None
       no_line None h = refl
       no_line (Some k) h = absurd (cc)
 
   -- before the least break no rule is broken on any line
-  pub unbroken_before : (front back : List Rule) (r : Rule) (b : Break) (j l : ℕ) → least_break t span (front ++ r ∷ back) ≡ Some b → j < b.instant → l < line_count → breaks t span r j l ≡ false
+  pub unbroken_before : (front back : List Rule) (r : Rule) (b : Break) (j l : ℕ) → least_break t span
+      (front ++ r ∷ back) ≡ Some b → j < b.instant → l < line_count → breaks t span r j l ≡ false
   unfolding least_break
   unbroken_before front back r b j l e before there =
       unbroken_at front back r j l ((before-found (front ++ r ∷ back) (last_instant t + 1) b e).none j before) there
 
   -- without a break none is at any instant
-  pub unbroken_always : (front back : List Rule) (r : Rule) (j l : ℕ) → least_break t span (front ++ r ∷ back) ≡ None → j < last_instant t + 1 → l < line_count → breaks t span r j l ≡ false
+  pub unbroken_always : (front back : List Rule) (r : Rule) (j l : ℕ) → least_break t span (front ++ r ∷ back) ≡ None
+      → j < last_instant t + 1 → l < line_count → breaks t span r j l ≡ false
   unfolding least_break
   unbroken_always front back r j l e before there =
       unbroken_at front back r j l (before-none (front ++ r ∷ back) (last_instant t + 1) j e before) there

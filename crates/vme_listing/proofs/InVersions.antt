@@ -1,16 +1,21 @@
--- The rows of a well placed listing of the newest version, as another version has them, are those of one of that version,
+-- The rows of a well placed listing of the newest version, as another version has them, are those of one of that
+-- version,
 -- where that can tell them.
-use Rattle.std.proofs.Common.{◌≡◌, ℕ, ◌^◌, ◌<◌, ◌≤◌, Bool, true, false, ◌&&◌, ◌||◌, not, List, [], ◌∷◌, map, length, refl, sym, ◌∙◌, subst, ◌⊎◌, inl, inr}
+use Rattle.std.proofs.Common.{◌≡◌, ℕ, ◌^◌, ◌<◌, ◌≤◌, Bool, true, false, ◌&&◌, ◌||◌, not, List, [], ◌∷◌, map, length}
+use Rattle.std.proofs.Common.{refl, sym, ◌∙◌, subst, ◌⊎◌, inl, inr}
 use Rattle.std.specs.Prelude.{Option, None, Some, option_map}
 use Rattle.std.specs.List.{list_all}
 use Rattle.std.proofs.lemmas.Bool.{and_from, and_parts}
 use Rattle.std.proofs.lemmas.List.{map-id}
 use Rattle.vme_trace.specs.Trace.{Trace}
 use Rattle.vme_listing.specs.Listed.{tells_resets}
-use Rattle.vme_listing.specs.Places.{is_number, is_edge, has_data, is_row, is_start, is_reset, is_verdict, is_never_idle, is_later, place_of, may_follow, ascends, follows, ends_listing, is_rest, can_tell, is_well_placed}
+use Rattle.vme_listing.specs.Places.{is_number, is_edge, has_data, is_row, is_start, is_reset, is_verdict}
+use Rattle.vme_listing.specs.Places.{is_never_idle, is_later, place_of, may_follow, ascends, follows, ends_listing}
+use Rattle.vme_listing.specs.Places.{is_rest, can_tell, is_well_placed}
 use Rattle.vme_listing.specs.Recorded.{recorded_rows, row_in, rows_in}
 use Rattle.vme_listing.specs.declared.row.Row.{Row}
-use Rattle.vme_listing.specs.declared.row.Row.TheVariants.{Start, Reset, OpenTenure, Tenure, AddressedCycle, FreeCycle, InterruptCycle, Transfer, PendingTransfer, Verdict}
+use Rattle.vme_listing.specs.declared.row.Row.TheVariants.{Start, Reset, OpenTenure, Tenure, AddressedCycle, FreeCycle}
+use Rattle.vme_listing.specs.declared.row.Row.TheVariants.{InterruptCycle, Transfer, PendingTransfer, Verdict}
 use Rattle.vme_listing.specs.declared.row.Version.{Version}
 use Rattle.vme_listing.specs.declared.row.Version.TheVariants.{One, Two, Three}
 use Rattle.vme_listing.proofs.Readings.{follows_parts, follows_from}
@@ -30,7 +35,8 @@ row_told One (AddressedCycle start class modifier address end) told h = h
 row_told One (FreeCycle start modifier end) told h = h
 row_told One (InterruptCycle start level end) told h = h
 row_told One (Transfer direction line start cycle answer close lanes) told h =
-    and_from _ _ (and_parts (is_number start && is_number cycle && is_number answer && is_edge close) (has_data Three direction lanes) h).0 refl
+    and_from _ _ (and_parts (is_number start && is_number cycle && is_number answer && is_edge close)
+    (has_data Three direction lanes) h).0 refl
 row_told One (PendingTransfer start direction) told h = h
 row_told One (Verdict outcome) told h = h
 row_told Two (Start instant) told h = h
@@ -58,46 +64,142 @@ alike : (v : Version) (row : Row) → IsAlike v (row_in v row) row
 alike One (Start instant) = record { start = refl; reset = refl; verdict = refl; idle = refl; place = inr refl }
 alike One (Reset instant) = record { start = refl; reset = refl; verdict = refl; idle = refl; place = inl refl }
 alike One (OpenTenure start end) = record { start = refl; reset = refl; verdict = refl; idle = refl; place = inl refl }
-alike One (Tenure start level slot end) = record { start = refl; reset = refl; verdict = refl; idle = refl; place = inl refl }
-alike One (AddressedCycle start class modifier address end) = record { start = refl; reset = refl; verdict = refl; idle = refl; place = inl refl }
-alike One (FreeCycle start modifier end) = record { start = refl; reset = refl; verdict = refl; idle = refl; place = inl refl }
-alike One (InterruptCycle start level end) = record { start = refl; reset = refl; verdict = refl; idle = refl; place = inl refl }
-alike One (Transfer direction line start cycle answer close lanes) = record { start = refl; reset = refl; verdict = refl; idle = refl; place = inl refl }
-alike One (PendingTransfer start direction) = record { start = refl; reset = refl; verdict = refl; idle = refl; place = inl refl }
+alike One (Tenure start level slot end) = record {
+  start = refl;
+  reset = refl;
+  verdict = refl;
+  idle = refl;
+  place = inl
+      refl;
+}
+alike One (AddressedCycle start class modifier address end) = record {
+  start = refl;
+  reset = refl;
+  verdict = refl;
+  idle
+      = refl;
+  place = inl refl;
+}
+alike One (FreeCycle start modifier end) = record {
+  start = refl;
+  reset = refl;
+  verdict = refl;
+  idle = refl;
+  place = inl
+      refl;
+}
+alike One (InterruptCycle start level end) = record {
+  start = refl;
+  reset = refl;
+  verdict = refl;
+  idle = refl;
+  place
+      = inl refl;
+}
+alike One (Transfer direction line start cycle answer close lanes) = record {
+  start = refl;
+  reset = refl;
+  verdict
+      = refl;
+  idle = refl;
+  place = inl refl;
+}
+alike One (PendingTransfer start direction) = record {
+  start = refl;
+  reset = refl;
+  verdict = refl;
+  idle = refl;
+  place
+      = inl refl;
+}
 alike One (Verdict outcome) = record { start = refl; reset = refl; verdict = refl; idle = refl; place = inl refl }
 alike Two (Start instant) = record { start = refl; reset = refl; verdict = refl; idle = refl; place = inr refl }
 alike Two (Reset instant) = record { start = refl; reset = refl; verdict = refl; idle = refl; place = inl refl }
 alike Two (OpenTenure start end) = record { start = refl; reset = refl; verdict = refl; idle = refl; place = inl refl }
-alike Two (Tenure start level slot end) = record { start = refl; reset = refl; verdict = refl; idle = refl; place = inl refl }
-alike Two (AddressedCycle start class modifier address end) = record { start = refl; reset = refl; verdict = refl; idle = refl; place = inl refl }
-alike Two (FreeCycle start modifier end) = record { start = refl; reset = refl; verdict = refl; idle = refl; place = inl refl }
-alike Two (InterruptCycle start level end) = record { start = refl; reset = refl; verdict = refl; idle = refl; place = inl refl }
-alike Two (Transfer direction line start cycle answer close lanes) = record { start = refl; reset = refl; verdict = refl; idle = refl; place = inl refl }
-alike Two (PendingTransfer start direction) = record { start = refl; reset = refl; verdict = refl; idle = refl; place = inl refl }
+alike Two (Tenure start level slot end) = record {
+  start = refl;
+  reset = refl;
+  verdict = refl;
+  idle = refl;
+  place = inl
+      refl;
+}
+alike Two (AddressedCycle start class modifier address end) = record {
+  start = refl;
+  reset = refl;
+  verdict = refl;
+  idle
+      = refl;
+  place = inl refl;
+}
+alike Two (FreeCycle start modifier end) = record {
+  start = refl;
+  reset = refl;
+  verdict = refl;
+  idle = refl;
+  place = inl
+      refl;
+}
+alike Two (InterruptCycle start level end) = record {
+  start = refl;
+  reset = refl;
+  verdict = refl;
+  idle = refl;
+  place
+      = inl refl;
+}
+alike Two (Transfer direction line start cycle answer close lanes) = record {
+  start = refl;
+  reset = refl;
+  verdict
+      = refl;
+  idle = refl;
+  place = inl refl;
+}
+alike Two (PendingTransfer start direction) = record {
+  start = refl;
+  reset = refl;
+  verdict = refl;
+  idle = refl;
+  place
+      = inl refl;
+}
 alike Two (Verdict outcome) = record { start = refl; reset = refl; verdict = refl; idle = refl; place = inl refl }
 alike Three row = record { start = refl; reset = refl; verdict = refl; idle = refl; place = inl refl }
 
 module _ (v : Version) where
-  may_told : (before : Option Row) (row : Row) → may_follow (option_map (row_in v) before) (row_in v row) ≡ may_follow before row
+  may_told : (before : Option Row) (row : Row) → may_follow (option_map (row_in v) before) (row_in v row)
+      ≡ may_follow before row
   may_told None row = rw ((alike v row).start, (alike v row).idle) refl
-  may_told (Some before) row = rw ((alike v before).verdict, (alike v before).reset, (alike v row).start, (alike v row).verdict, (alike v row).idle) refl
+  may_told (Some before) row = rw (
+    (alike v before).verdict,
+    (alike v before).reset,
+    (alike v row).start,
+    (alike v row).verdict,
+    (alike v row).idle,
+  ) refl
 
   -- where a place is told no more, nothing is compared with it
-  later_told : (before row told_before told_row : Option (ℕ × ℕ)) → (told_before ≡ before) ⊎ (told_before ≡ None) → (told_row ≡ row) ⊎ (told_row ≡ None) → is_later before row ≡ true → is_later told_before told_row ≡ true
+  later_told : (before row told_before told_row : Option (ℕ × ℕ)) → (told_before ≡ before) ⊎ (told_before ≡ None)
+      → (told_row ≡ row) ⊎ (told_row ≡ None) → is_later before row ≡ true → is_later told_before told_row ≡ true
   later_told before row told_before told_row (inl e) (inl f) h = rw (e, f) h
   later_told before row told_before told_row (inr e) f h = rw e refl
   later_told before row None told_row e (inr f) h = refl
   later_told before row (Some place) told_row e (inr f) h = rw f refl
 
-  ascends_told : (before : Option Row) (row : Row) → ascends Three before row ≡ true → ascends v (option_map (row_in v) before) (row_in v row) ≡ true
+  ascends_told : (before : Option Row) (row : Row) → ascends Three before row ≡ true
+      → ascends v (option_map (row_in v) before) (row_in v row) ≡ true
   ascends_told None row h = refl
   ascends_told (Some before) row h =
-      later_told (place_of Three before) (place_of Three row) (place_of v (row_in v before)) (place_of v (row_in v row)) (alike v before).place (alike v row).place h
+      later_told (place_of Three before) (place_of Three row) (place_of v (row_in v before)) (place_of v (row_in v row))
+      (alike v before).place (alike v row).place h
 
-  follows_told : (before : Option Row) (row : Row) → IsTold v row → follows Three before row ≡ true → follows v (option_map (row_in v) before) (row_in v row) ≡ true
+  follows_told : (before : Option Row) (row : Row) → IsTold v row → follows Three before row ≡ true
+      → follows v (option_map (row_in v) before) (row_in v row) ≡ true
   follows_told before row told h =
       let parts = follows_parts Three before row h in
-      follows_from v (option_map (row_in v) before) (row_in v row) (row_told v row told parts.0) (may_told before row ∙ parts.1) (ascends_told before row parts.2)
+      follows_from v (option_map (row_in v) before) (row_in v row) (row_told v row told parts.0) (may_told before row
+      ∙ parts.1) (ascends_told before row parts.2)
 
   ends_told : (before : Option Row) → ends_listing before ≡ true → ends_listing (option_map (row_in v) before) ≡ true
   ends_told None h = h
@@ -107,7 +209,8 @@ module _ (v : Version) where
   told_parts true b c h = (refl, refl)
   told_parts false b c h = and_parts b c h
 
-  rest_told : (before : Option Row) (rows : List Row) → can_tell v rows ≡ true → is_rest Three before rows ≡ true → is_rest v (option_map (row_in v) before) (map (row_in v) rows) ≡ true
+  rest_told : (before : Option Row) (rows : List Row) → can_tell v rows ≡ true → is_rest Three before rows ≡ true
+      → is_rest v (option_map (row_in v) before) (map (row_in v) rows) ≡ true
   unfolding is_rest
   rest_told before [] told h = ends_told before h
   rest_told before (row ∷ rows) told h =
@@ -121,9 +224,12 @@ rows_in-is One rows = refl
 rows_in-is Two rows = map-id rows
 rows_in-is Three rows = map-id rows
 
-pub rows_placed : (v : Version) (t : Trace) → t.opening.slots ≤ 21 → length t.steps < 2 ^ 32 → can_tell v (recorded_rows t) ≡ true → is_well_placed (record { version = v; rows = rows_in v (recorded_rows t) }) ≡ true
+pub rows_placed : (v : Version) (t : Trace) → t.opening.slots ≤ 21 → length t.steps < 2 ^ 32
+    → can_tell v (recorded_rows t) ≡ true → is_well_placed (record { version = v; rows = rows_in v (recorded_rows t) })
+    ≡ true
 rows_placed v t slots few told =
-    subst (λ rows. is_rest v None rows ≡ true) (rows_in-is v (recorded_rows t)) (rest_told v None (recorded_rows t) told (listing_placed t slots few))
+    subst (λ rows. is_rest v None rows ≡ true) (rows_in-is v (recorded_rows t)) (rest_told v None (recorded_rows t) told
+    (listing_placed t slots few))
 
 -- what a version can tell
 is_told : (v : Version) (row : Row) → is_row v (row_in v row) ≡ true → IsTold v row
@@ -163,10 +269,13 @@ told_rows : (v : Version) (rows : List Row) → list_all (is_row v) (map (row_in
 told_rows v [] h = no_rows v
 told_rows v (row ∷ rows) h =
     let parts = and_parts (is_row v (row_in v row)) (list_all (is_row v) (map (row_in v) rows)) h in
-    from_parts (tells_resets v) (not (is_reset row)) (list_all (λ r. not (is_reset r)) rows) (is_told v row parts.0) (told_rows v rows parts.1)
+    from_parts (tells_resets v) (not (is_reset row)) (list_all (λ r. not (is_reset r)) rows) (is_told v row parts.0)
+    (told_rows v rows parts.1)
 
 -- where each row of a recording is one of the version, they are a listing's
-pub placed_rows : (v : Version) (t : Trace) → t.opening.slots ≤ 21 → length t.steps < 2 ^ 32 → list_all (is_row v) (rows_in v (recorded_rows t)) ≡ true
+pub placed_rows : (v : Version) (t : Trace) → t.opening.slots ≤ 21 → length t.steps < 2 ^ 32 → list_all (is_row v)
+    (rows_in v (recorded_rows t)) ≡ true
     → is_well_placed (record { version = v; rows = rows_in v (recorded_rows t) }) ≡ true
 placed_rows v t slots few h =
-    rows_placed v t slots few (told_rows v (recorded_rows t) (subst (λ rows. list_all (is_row v) rows ≡ true) (sym (rows_in-is v (recorded_rows t))) h))
+    rows_placed v t slots few (told_rows v (recorded_rows t) (subst (λ rows. list_all (is_row v) rows ≡ true)
+    (sym (rows_in-is v (recorded_rows t))) h))

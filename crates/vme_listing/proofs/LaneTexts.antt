@@ -1,5 +1,6 @@
 -- The data of a write is read from its own text.
-use Rattle.std.proofs.Common.{◌≡◌, ◌==◌, ℕ, ◌+◌, ◌*◌, ◌/◌, ◌%◌, ◌^◌, ◌<◌, Bool, true, not, ◌&&◌, List, [], ◌∷◌, cond, refl, ap, ◌∙◌, arith}
+use Rattle.std.proofs.Common.{◌≡◌, ◌==◌, ℕ, ◌+◌, ◌*◌, ◌/◌, ◌%◌, ◌^◌, ◌<◌, Bool, true, not, ◌&&◌, List, [], ◌∷◌, cond}
+use Rattle.std.proofs.Common.{refl, ap, ◌∙◌, arith}
 use Rattle.std.specs.Prelude.{Some, codes, nat_lt}
 use Rattle.std.proofs.Math.Nat.{mod-eq_of_lt}
 use Rattle.std.specs.List.{list_all}
@@ -11,7 +12,8 @@ use Rattle.vme_trace.specs.declared.data.MovedBytes.TheVariants.{Nothing, OddByt
 use Rattle.vme_listing.specs.LaneDigits.{is_moved_in, digit_in, flag_in}
 use Rattle.vme_listing.specs.Places.{is_digit_in, are_digits_from, is_lanes}
 use Rattle.vme_listing.specs.RowText.{digit_text, digit_text_in, lanes_text}
-use Rattle.vme_listing.specs.Words.{digit_of, number_after, number_of, flag_of, flags_after, flags_of, moved_of, lanes_of}
+use Rattle.vme_listing.specs.Words.{digit_of, number_after, number_of, flag_of, flags_after, flags_of, moved_of}
+use Rattle.vme_listing.specs.Words.{lanes_of}
 use Rattle.vme_listing.proofs.Cuts.{is_plain}
 use Rattle.vme_listing.proofs.DigitTexts.{text_past, digit_of-text, flag_of-text, shown-text}
 use Rattle.vme_listing.proofs.Numerals.{last}
@@ -32,7 +34,8 @@ record AreDigits (a : Lanes) : Type 0 where
 digits : (a : Lanes) → is_lanes a ≡ true → AreDigits a
 unfolding is_lanes
 digits a h =
-    let high = and_parts (nat_lt a.value (2 ^ 32) && nat_lt a.unknown 256 && are_digits_from a 0) (are_digits_from a 4) h in
+    let high = and_parts (nat_lt a.value (2 ^ 32) && nat_lt a.unknown 256 && are_digits_from a 0) (are_digits_from a 4)
+    h in
     let low = and_parts (nat_lt a.value (2 ^ 32) && nat_lt a.unknown 256) (are_digits_from a 0) high.0 in
     let p = and_parts (nat_lt a.value (2 ^ 32)) (nat_lt a.unknown 256) low.0 in
     let p3 = and_parts (is_digit_in a 0 && is_digit_in a 1 && is_digit_in a 2) (is_digit_in a 3) low.1 in
@@ -55,10 +58,12 @@ digits a h =
     }
 
 -- one more digit
-number_step : (n front byte : ℕ) (word : List ℕ) → n < 2 ^ 32 → front ≡ n / 16 → digit_of byte ≡ n % 16 → number_after 16 front (byte ∷ word) ≡ number_after 16 n word
+number_step : (n front byte : ℕ) (word : List ℕ) → n < 2 ^ 32 → front ≡ n / 16 → digit_of byte ≡ n % 16
+    → number_after 16 front (byte ∷ word) ≡ number_after 16 n word
 number_step n front byte word below e d =
     ap (λ x. number_after 16 x word)
-    (ap (λ f. (f * 16 % 2 ^ 32 + digit_of byte) % 2 ^ 32) e ∙ ap (λ x. (n / 16 * 16 % 2 ^ 32 + x) % 2 ^ 32) d ∙ last 16 (n / 16) (n % 16) n (omega arith) below)
+    (ap (λ f. (f * 16 % 2 ^ 32 + digit_of byte) % 2 ^ 32) e ∙ ap (λ x. (n / 16 * 16 % 2 ^ 32 + x) % 2 ^ 32) d
+    ∙ last 16 (n / 16) (n % 16) n (omega arith) below)
 
 number_read : (a : Lanes) → is_lanes a ≡ true → number_of 16 (lanes_text a) ≡ a.value
 unfolding number_of lanes_text
@@ -73,21 +78,31 @@ number_read a h =
     let w5 : List ℕ = digit_text_in a 4 ∷ w4 in
     let w6 : List ℕ = digit_text_in a 5 ∷ w5 in
     let w7 : List ℕ = digit_text_in a 6 ∷ w6 in
-    number_step (v / 268435456) 0 (digit_text_in a 7) w7 (omega arith) (omega arith) (digit_of-text (is_moved_in a 7) (digit_in a 7) (flag_in a 7) (omega arith) (omega arith) are.d7)
-    ∙ number_step (v / 16777216) (v / 268435456) (digit_text_in a 6) w6 (omega arith) (omega arith) (digit_of-text (is_moved_in a 6) (digit_in a 6) (flag_in a 6) (omega arith) (omega arith) are.d6)
-    ∙ number_step (v / 1048576) (v / 16777216) (digit_text_in a 5) w5 (omega arith) (omega arith) (digit_of-text (is_moved_in a 5) (digit_in a 5) (flag_in a 5) (omega arith) (omega arith) are.d5)
-    ∙ number_step (v / 65536) (v / 1048576) (digit_text_in a 4) w4 (omega arith) (omega arith) (digit_of-text (is_moved_in a 4) (digit_in a 4) (flag_in a 4) (omega arith) (omega arith) are.d4)
-    ∙ number_step (v / 4096) (v / 65536) (digit_text_in a 3) w3 (omega arith) (omega arith) (digit_of-text (is_moved_in a 3) (digit_in a 3) (flag_in a 3) (omega arith) (omega arith) are.d3)
-    ∙ number_step (v / 256) (v / 4096) (digit_text_in a 2) w2 (omega arith) (omega arith) (digit_of-text (is_moved_in a 2) (digit_in a 2) (flag_in a 2) (omega arith) (omega arith) are.d2)
-    ∙ number_step (v / 16) (v / 256) (digit_text_in a 1) w1 (omega arith) (omega arith) (digit_of-text (is_moved_in a 1) (digit_in a 1) (flag_in a 1) (omega arith) (omega arith) are.d1)
-    ∙ number_step v (v / 16) (digit_text_in a 0) [] (omega arith) (omega arith) (digit_of-text (is_moved_in a 0) (digit_in a 0) (flag_in a 0) (omega arith) (omega arith) are.d0 ∙ omega arith)
+    number_step (v / 268435456) 0 (digit_text_in a 7) w7 (omega arith) (omega arith)
+    (digit_of-text (is_moved_in a 7) (digit_in a 7) (flag_in a 7) (omega arith) (omega arith) are.d7)
+    ∙ number_step (v / 16777216) (v / 268435456) (digit_text_in a 6) w6 (omega arith) (omega arith)
+    (digit_of-text (is_moved_in a 6) (digit_in a 6) (flag_in a 6) (omega arith) (omega arith) are.d6)
+    ∙ number_step (v / 1048576) (v / 16777216) (digit_text_in a 5) w5 (omega arith) (omega arith)
+    (digit_of-text (is_moved_in a 5) (digit_in a 5) (flag_in a 5) (omega arith) (omega arith) are.d5)
+    ∙ number_step (v / 65536) (v / 1048576) (digit_text_in a 4) w4 (omega arith) (omega arith)
+    (digit_of-text (is_moved_in a 4) (digit_in a 4) (flag_in a 4) (omega arith) (omega arith) are.d4)
+    ∙ number_step (v / 4096) (v / 65536) (digit_text_in a 3) w3 (omega arith) (omega arith)
+    (digit_of-text (is_moved_in a 3) (digit_in a 3) (flag_in a 3) (omega arith) (omega arith) are.d3)
+    ∙ number_step (v / 256) (v / 4096) (digit_text_in a 2) w2 (omega arith) (omega arith)
+    (digit_of-text (is_moved_in a 2) (digit_in a 2) (flag_in a 2) (omega arith) (omega arith) are.d2)
+    ∙ number_step (v / 16) (v / 256) (digit_text_in a 1) w1 (omega arith) (omega arith)
+    (digit_of-text (is_moved_in a 1) (digit_in a 1) (flag_in a 1) (omega arith) (omega arith) are.d1)
+    ∙ number_step v (v / 16) (digit_text_in a 0) [] (omega arith) (omega arith)
+    (digit_of-text (is_moved_in a 0) (digit_in a 0) (flag_in a 0) (omega arith) (omega arith) are.d0 ∙ omega arith)
 
 -- one more bit
-flags_step : (n front byte : ℕ) (word : List ℕ) → n < 256 → front ≡ n / 2 → flag_of byte ≡ n % 2 → flags_after front (byte ∷ word) ≡ flags_after n word
+flags_step : (n front byte : ℕ) (word : List ℕ) → n < 256 → front ≡ n / 2 → flag_of byte ≡ n % 2 → flags_after front
+    (byte ∷ word) ≡ flags_after n word
 flags_step n front byte word below e f =
     let small : n / 2 * 2 < 256 = omega arith in
     ap (λ x. flags_after x word)
-    (ap (λ x. x * 2 % 256 + flag_of byte) e ∙ ap (λ x. n / 2 * 2 % 256 + x) f ∙ ap (λ x. x + n % 2) (mod-eq_of_lt small) ∙ omega arith)
+    (ap (λ x. x * 2 % 256 + flag_of byte) e ∙ ap (λ x. n / 2 * 2 % 256 + x) f ∙ ap (λ x. x + n % 2) (mod-eq_of_lt small)
+    ∙ omega arith)
 
 flags_read : (a : Lanes) → is_lanes a ≡ true → flags_of (lanes_text a) ≡ a.unknown
 unfolding flags_of lanes_text
@@ -102,21 +117,35 @@ flags_read a h =
     let w5 : List ℕ = digit_text_in a 4 ∷ w4 in
     let w6 : List ℕ = digit_text_in a 5 ∷ w5 in
     let w7 : List ℕ = digit_text_in a 6 ∷ w6 in
-    flags_step (u / 128) 0 (digit_text_in a 7) w7 (omega arith) (omega arith) (flag_of-text (is_moved_in a 7) (digit_in a 7) (flag_in a 7) (omega arith) (omega arith) are.d7)
-    ∙ flags_step (u / 64) (u / 128) (digit_text_in a 6) w6 (omega arith) (omega arith) (flag_of-text (is_moved_in a 6) (digit_in a 6) (flag_in a 6) (omega arith) (omega arith) are.d6)
-    ∙ flags_step (u / 32) (u / 64) (digit_text_in a 5) w5 (omega arith) (omega arith) (flag_of-text (is_moved_in a 5) (digit_in a 5) (flag_in a 5) (omega arith) (omega arith) are.d5)
-    ∙ flags_step (u / 16) (u / 32) (digit_text_in a 4) w4 (omega arith) (omega arith) (flag_of-text (is_moved_in a 4) (digit_in a 4) (flag_in a 4) (omega arith) (omega arith) are.d4)
-    ∙ flags_step (u / 8) (u / 16) (digit_text_in a 3) w3 (omega arith) (omega arith) (flag_of-text (is_moved_in a 3) (digit_in a 3) (flag_in a 3) (omega arith) (omega arith) are.d3)
-    ∙ flags_step (u / 4) (u / 8) (digit_text_in a 2) w2 (omega arith) (omega arith) (flag_of-text (is_moved_in a 2) (digit_in a 2) (flag_in a 2) (omega arith) (omega arith) are.d2)
-    ∙ flags_step (u / 2) (u / 4) (digit_text_in a 1) w1 (omega arith) (omega arith) (flag_of-text (is_moved_in a 1) (digit_in a 1) (flag_in a 1) (omega arith) (omega arith) are.d1)
-    ∙ flags_step u (u / 2) (digit_text_in a 0) [] (omega arith) (omega arith) (flag_of-text (is_moved_in a 0) (digit_in a 0) (flag_in a 0) (omega arith) (omega arith) are.d0 ∙ omega arith)
+    flags_step (u / 128) 0 (digit_text_in a 7) w7 (omega arith) (omega arith)
+    (flag_of-text (is_moved_in a 7) (digit_in a 7) (flag_in a 7) (omega arith) (omega arith) are.d7)
+    ∙ flags_step (u / 64) (u / 128) (digit_text_in a 6) w6 (omega arith) (omega arith)
+    (flag_of-text (is_moved_in a 6) (digit_in a 6) (flag_in a 6) (omega arith) (omega arith) are.d6)
+    ∙ flags_step (u / 32) (u / 64) (digit_text_in a 5) w5 (omega arith) (omega arith)
+    (flag_of-text (is_moved_in a 5) (digit_in a 5) (flag_in a 5) (omega arith) (omega arith) are.d5)
+    ∙ flags_step (u / 16) (u / 32) (digit_text_in a 4) w4 (omega arith) (omega arith)
+    (flag_of-text (is_moved_in a 4) (digit_in a 4) (flag_in a 4) (omega arith) (omega arith) are.d4)
+    ∙ flags_step (u / 8) (u / 16) (digit_text_in a 3) w3 (omega arith) (omega arith)
+    (flag_of-text (is_moved_in a 3) (digit_in a 3) (flag_in a 3) (omega arith) (omega arith) are.d3)
+    ∙ flags_step (u / 4) (u / 8) (digit_text_in a 2) w2 (omega arith) (omega arith)
+    (flag_of-text (is_moved_in a 2) (digit_in a 2) (flag_in a 2) (omega arith) (omega arith) are.d2)
+    ∙ flags_step (u / 2) (u / 4) (digit_text_in a 1) w1 (omega arith) (omega arith)
+    (flag_of-text (is_moved_in a 1) (digit_in a 1) (flag_in a 1) (omega arith) (omega arith) are.d1)
+    ∙ flags_step u (u / 2) (digit_text_in a 0) [] (omega arith) (omega arith)
+    (flag_of-text (is_moved_in a 0) (digit_in a 0) (flag_in a 0) (omega arith) (omega arith) are.d0 ∙ omega arith)
 
 moved_read : (a : Lanes) → moved_of (lanes_text a) ≡ a.moved
 unfolding moved_of lanes_text
 moved_read a =
-    rw (shown-text (is_moved_in a 7) (digit_in a 7) (flag_in a 7), shown-text (is_moved_in a 2) (digit_in a 2) (flag_in a 2), shown-text (is_moved_in a 0) (digit_in a 0) (flag_in a 0)) (by_bytes a.moved)
+    rw (
+      shown-text (is_moved_in a 7) (digit_in a 7) (flag_in a 7),
+      shown-text (is_moved_in a 2) (digit_in a 2)
+          (flag_in a 2),
+      shown-text (is_moved_in a 0) (digit_in a 0) (flag_in a 0),
+    ) (by_bytes a.moved)
   where
-    by_bytes : (m : MovedBytes) → cond (has_digit m 7) LongWord (cond (has_digit m 2) (cond (has_digit m 0) Word EvenByte) (cond (has_digit m 0) OddByte Nothing)) ≡ m
+    by_bytes : (m : MovedBytes) → cond (has_digit m 7) LongWord
+        (cond (has_digit m 2) (cond (has_digit m 0) Word EvenByte) (cond (has_digit m 0) OddByte Nothing)) ≡ m
     by_bytes Nothing = refl
     by_bytes OddByte = refl
     by_bytes EvenByte = refl
@@ -128,19 +157,35 @@ unfolding lanes_of
 lanes_read a h = rw (moved_read a, number_read a h, flags_read a h) refl
 
 digit_plain : (moved : Bool) (digit flag : ℕ) → not (digit_text moved digit flag == 32) ≡ true
-digit_plain moved digit flag = ap not (ne_eqb (digit_text moved digit flag) 32 (λ e. omega (arith, text_past moved digit flag)))
+digit_plain moved digit flag = ap not (ne_eqb (digit_text moved digit flag) 32
+    (λ e. omega (arith, text_past moved digit flag)))
 
 digit_stays : (moved : Bool) (digit flag : ℕ) → not (digit_text moved digit flag == 10) ≡ true
-digit_stays moved digit flag = ap not (ne_eqb (digit_text moved digit flag) 10 (λ e. omega (arith, text_past moved digit flag)))
+digit_stays moved digit flag = ap not (ne_eqb (digit_text moved digit flag) 10
+    (λ e. omega (arith, text_past moved digit flag)))
 
 -- no byte of it is a space
 pub lanes-plain : (a : Lanes) → is_plain (lanes_text a) ≡ true
 unfolding lanes_text
 lanes-plain a =
-    and_from _ _ (digit_plain (is_moved_in a 7) (digit_in a 7) (flag_in a 7)) (and_from _ _ (digit_plain (is_moved_in a 6) (digit_in a 6) (flag_in a 6)) (and_from _ _ (digit_plain (is_moved_in a 5) (digit_in a 5) (flag_in a 5)) (and_from _ _ (digit_plain (is_moved_in a 4) (digit_in a 4) (flag_in a 4)) (and_from _ _ (digit_plain (is_moved_in a 3) (digit_in a 3) (flag_in a 3)) (and_from _ _ (digit_plain (is_moved_in a 2) (digit_in a 2) (flag_in a 2)) (and_from _ _ (digit_plain (is_moved_in a 1) (digit_in a 1) (flag_in a 1)) (and_from _ _ (digit_plain (is_moved_in a 0) (digit_in a 0) (flag_in a 0)) refl)))))))
+    and_from _ _ (digit_plain (is_moved_in a 7) (digit_in a 7) (flag_in a 7))
+    (and_from _ _ (digit_plain (is_moved_in a 6) (digit_in a 6) (flag_in a 6))
+    (and_from _ _ (digit_plain (is_moved_in a 5) (digit_in a 5) (flag_in a 5))
+    (and_from _ _ (digit_plain (is_moved_in a 4) (digit_in a 4) (flag_in a 4))
+    (and_from _ _ (digit_plain (is_moved_in a 3) (digit_in a 3) (flag_in a 3))
+    (and_from _ _ (digit_plain (is_moved_in a 2) (digit_in a 2) (flag_in a 2))
+    (and_from _ _ (digit_plain (is_moved_in a 1) (digit_in a 1) (flag_in a 1))
+    (and_from _ _ (digit_plain (is_moved_in a 0) (digit_in a 0) (flag_in a 0)) refl)))))))
 
 -- nor a line feed
 pub lanes-inside : (a : Lanes) → list_all (λ b. not (b == 10)) (lanes_text a) ≡ true
 unfolding lanes_text
 lanes-inside a =
-    and_from _ _ (digit_stays (is_moved_in a 7) (digit_in a 7) (flag_in a 7)) (and_from _ _ (digit_stays (is_moved_in a 6) (digit_in a 6) (flag_in a 6)) (and_from _ _ (digit_stays (is_moved_in a 5) (digit_in a 5) (flag_in a 5)) (and_from _ _ (digit_stays (is_moved_in a 4) (digit_in a 4) (flag_in a 4)) (and_from _ _ (digit_stays (is_moved_in a 3) (digit_in a 3) (flag_in a 3)) (and_from _ _ (digit_stays (is_moved_in a 2) (digit_in a 2) (flag_in a 2)) (and_from _ _ (digit_stays (is_moved_in a 1) (digit_in a 1) (flag_in a 1)) (and_from _ _ (digit_stays (is_moved_in a 0) (digit_in a 0) (flag_in a 0)) refl)))))))
+    and_from _ _ (digit_stays (is_moved_in a 7) (digit_in a 7) (flag_in a 7))
+    (and_from _ _ (digit_stays (is_moved_in a 6) (digit_in a 6) (flag_in a 6))
+    (and_from _ _ (digit_stays (is_moved_in a 5) (digit_in a 5) (flag_in a 5))
+    (and_from _ _ (digit_stays (is_moved_in a 4) (digit_in a 4) (flag_in a 4))
+    (and_from _ _ (digit_stays (is_moved_in a 3) (digit_in a 3) (flag_in a 3))
+    (and_from _ _ (digit_stays (is_moved_in a 2) (digit_in a 2) (flag_in a 2))
+    (and_from _ _ (digit_stays (is_moved_in a 1) (digit_in a 1) (flag_in a 1))
+    (and_from _ _ (digit_stays (is_moved_in a 0) (digit_in a 0) (flag_in a 0)) refl)))))))

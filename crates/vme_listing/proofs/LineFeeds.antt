@@ -1,9 +1,11 @@
 -- The text of a row has no line feed, so a row's line ends at the first line feed from its start on.
-use Rattle.std.proofs.Common.{◌≡◌, ℕ, ◌+◌, ◌^◌, ◌<◌, Bool, true, false, not, List, [], ◌∷◌, ◌++◌, take, drop, get_or, length, refl, sym, ap, ◌∙◌, subst, arith, inl, inr, ◌⊎◌, length-append}
+use Rattle.std.proofs.Common.{◌≡◌, ℕ, ◌+◌, ◌^◌, ◌<◌, Bool, true, false, not, List, [], ◌∷◌, ◌++◌, take, drop, get_or}
+use Rattle.std.proofs.Common.{length, refl, sym, ap, ◌∙◌, subst, arith, inl, inr, ◌⊎◌, length-append}
 use Rattle.std.specs.Prelude.{Option, None, Some, ◌&&◌, ◌==◌, decimal, nat_lt, nat_le}
 use Rattle.std.specs.List.{list_all}
 use Rattle.std.specs.Fmt.{digits}
-use Rattle.std.proofs.lemmas.Bool.{agree_below, agree_below_at, and_from, and_parts, cases_order, eq-eqb, leb-true, ltb-true, ne_eqb, true≢false}
+use Rattle.std.proofs.lemmas.Bool.{agree_below, agree_below_at, and_from, and_parts, cases_order, eq-eqb, leb-true}
+use Rattle.std.proofs.lemmas.Bool.{ltb-true, ne_eqb, true≢false}
 use Rattle.std.proofs.lemmas.List.{append_assoc, drop_at, get_or_append_left, take_at}
 use Rattle.std.proofs.lemmas.List.Folds.{list_all-append, list_all_at}
 use Rattle.std.proofs.Math.Seq.{get_or-append_seam}
@@ -21,7 +23,8 @@ use Rattle.vme_listing.proofs.Cuts.{are_glyphs, decimal-glyphs, hexadecimal-glyp
 use Rattle.vme_listing.proofs.LaneTexts.{lanes-inside}
 use Rattle.vme_listing.specs.Listed.{tells_resets}
 use Rattle.vme_listing.specs.Places.{is_number, is_edge, has_class, is_address, is_outcome, has_data, is_row}
-use Rattle.vme_listing.specs.RowText.{edge_text, hexadecimal, address_digits, class_text, direction_text, answer_text, data_text, break_text, row_text, line_of}
+use Rattle.vme_listing.specs.RowText.{edge_text, hexadecimal, address_digits, class_text, direction_text, answer_text}
+use Rattle.vme_listing.specs.RowText.{data_text, break_text, row_text, line_of}
 use Rattle.vme_listing.specs.declared.row.AnswerLine.{AnswerLine}
 use Rattle.vme_listing.specs.declared.row.AnswerLine.TheVariants.{Dtack, Berr}
 use Rattle.vme_listing.specs.declared.row.Direction.{Direction}
@@ -30,7 +33,8 @@ use Rattle.vme_listing.specs.declared.row.ListedVerdict.{ListedVerdict}
 use Rattle.vme_listing.specs.declared.row.ListedVerdict.TheVariants.{Conforming, NeverIdle, Broken, Unreadable}
 use Rattle.vme_listing.specs.declared.row.Version.{Version}
 use Rattle.vme_listing.specs.declared.row.Row.{Row}
-use Rattle.vme_listing.specs.declared.row.Row.TheVariants.{Start, Reset, OpenTenure, Tenure, AddressedCycle, FreeCycle, InterruptCycle, Transfer, PendingTransfer, Verdict}
+use Rattle.vme_listing.specs.declared.row.Row.TheVariants.{Start, Reset, OpenTenure, Tenure, AddressedCycle, FreeCycle}
+use Rattle.vme_listing.specs.declared.row.Row.TheVariants.{InterruptCycle, Transfer, PendingTransfer, Verdict}
 
 abbrev pub stays : ℕ → Bool
 stays b = not (b == 10)
@@ -43,7 +47,8 @@ glyphs-inside : (word : List ℕ) → are_glyphs word ≡ true → is_inside wor
 glyphs-inside [] h = refl
 glyphs-inside (byte ∷ word) h =
     let p = and_parts (nat_le 48 byte) (are_glyphs word) h in
-    and_from (stays byte) (is_inside word) (ap not (ne_eqb byte 10 (λ e. omega (arith, leb-true 48 byte p.0)))) (glyphs-inside word p.1)
+    and_from (stays byte) (is_inside word) (ap not (ne_eqb byte 10 (λ e. omega (arith, leb-true 48 byte p.0))))
+    (glyphs-inside word p.1)
 
 decimal-inside : (n : ℕ) → n < 2 ^ 32 → is_inside (decimal n) ≡ true
 decimal-inside n h = glyphs-inside (decimal n) (decimal-glyphs n (omega arith))
@@ -84,9 +89,11 @@ unfolding digits
 all_lines = refl
 
 line-inside : (line : ℕ) → nat_lt line line_count ≡ true → is_inside (line_name line) ≡ true
-line-inside line h = agree_below_at (λ l. is_inside (line_name l)) (λ l. true) line_count line all_lines (ltb-true line line_count h)
+line-inside line h = agree_below_at (λ l. is_inside (line_name l)) (λ l. true) line_count line all_lines
+    (ltb-true line line_count h)
 
-break-inside : (rule : Rule) (instant line : ℕ) → is_number instant ≡ true → nat_lt line line_count ≡ true → is_inside (break_text rule instant line) ≡ true
+break-inside : (rule : Rule) (instant line : ℕ) → is_number instant ≡ true → nat_lt line line_count ≡ true
+    → is_inside (break_text rule instant line) ≡ true
 break-inside rule instant line p q =
     let r = rule-inside rule in
     let n = number-inside instant p in
@@ -111,7 +118,8 @@ four true true false d h = absurd (cc)
 four true false c d h = absurd (cc)
 four false b c d h = absurd (cc)
 
-five : (a b c d e : Bool) → (a && b && c && d && e) ≡ true → (a ≡ true) × (b ≡ true) × (c ≡ true) × (d ≡ true) × (e ≡ true)
+five : (a b c d e : Bool) → (a && b && c && d && e) ≡ true → (a ≡ true) × (b ≡ true) × (c ≡ true) × (d ≡ true)
+    × (e ≡ true)
 five true true true true true h = (refl, refl, refl, refl, refl)
 five true true true true false h = absurd (cc)
 five true true true false e h = absurd (cc)
@@ -123,8 +131,10 @@ outcome-inside : (outcome : ListedVerdict) → is_outcome outcome ≡ true → i
 unfolding row_text
 outcome-inside Conforming h = refl
 outcome-inside NeverIdle h = refl
-outcome-inside (Broken rule instant line) h = let p = three _ (is_number instant) (nat_lt line line_count) h in break-inside rule instant line p.1 p.2
-outcome-inside (Unreadable rule instant line) h = let p = three _ (is_number instant) (nat_lt line line_count) h in break-inside rule instant line p.1 p.2
+outcome-inside (Broken rule instant line) h = let p = three _ (is_number instant) (nat_lt line line_count) h in
+    break-inside rule instant line p.1 p.2
+outcome-inside (Unreadable rule instant line) h = let p = three _ (is_number instant) (nat_lt line line_count) h in
+    break-inside rule instant line p.1 p.2
 
 pub row-inside : (version : Version) (row : Row) → is_row version row ≡ true → is_inside (row_text row) ≡ true
 unfolding is_row row_text
@@ -163,7 +173,8 @@ row-inside version (InterruptCycle start level end) h =
     let e = edge-inside end p.2 in
     simp (list_all-append, s, l, e)
 row-inside version (Transfer direction line start cycle answer close lanes) h =
-    let p = five (is_number start) (is_number cycle) (is_number answer) (is_edge close) (has_data version direction lanes) h in
+    let p = five (is_number start) (is_number cycle) (is_number answer) (is_edge close)
+    (has_data version direction lanes) h in
     let s = number-inside start p.0 in
     let i = number-inside cycle p.1 in
     let d = direction-inside direction in
@@ -178,12 +189,14 @@ row-inside version (PendingTransfer start direction) h =
     simp (list_all-append, s, d)
 row-inside version (Verdict outcome) h = outcome-inside outcome h
 
-first_line : (line more : List ℕ) (end : ℕ) → is_inside line ≡ true → IsFirstByte (is_byte 10) (line ++ 10 ∷ more) (Some end) → end ≡ length line
+first_line : (line more : List ℕ) (end : ℕ) → is_inside line ≡ true → IsFirstByte (is_byte 10) (line ++ 10 ∷ more)
+    (Some end) → end ≡ length line
 first_line line more end inside f = by_order (cases_order end (length line))
   where
     within : end < length line → ⊥
     within h =
-        let here : (get_or line end 0 == 10) ≡ true = ap (λ b. b == 10) (sym (get_or_append_left line (10 ∷ more) 0 end h)) ∙ f.1 in
+        let here : (get_or line end 0 == 10) ≡ true = ap (λ b. b == 10)
+        (sym (get_or_append_left line (10 ∷ more) 0 end h)) ∙ f.1 in
         true≢false (sym inside ∙ list_all_at stays line end 0 h (ap not here))
 
     behind : length line < end → ⊥
@@ -195,10 +208,16 @@ first_line line more end inside f = by_order (cases_order end (length line))
     by_order (inr (inr h)) = absurd (behind h)
 
 -- where the line of a row is at the front of a text, the first line feed ends it
-pub front_line : (version : Version) (text : List ℕ) (end : ℕ) (row : Row) (more : List ℕ) → IsFirstByte (is_byte 10) text (Some end) → is_row version row ≡ true → text ≡ line_of row ++ more → (row_text row ≡ take end text) × (drop (end + 1) text ≡ more)
+pub front_line : (version : Version) (text : List ℕ) (end : ℕ) (row : Row) (more : List ℕ) → IsFirstByte (is_byte 10)
+    text (Some end) → is_row version row ≡ true → text ≡ line_of row ++ more → (row_text row ≡ take end text)
+    × (drop (end + 1) text ≡ more)
 front_line version text end row more f h e =
     let line = row_text row in
     let split : text ≡ line ++ 10 ∷ more = e ∙ append_assoc line (10 ∷ []) more in
-    let n : end ≡ length line = first_line line more end (row-inside version row h) (subst (λ t. IsFirstByte (is_byte 10) t (Some end)) split f) in
-    let after : length (line ++ 10 ∷ []) ≡ end + 1 = omega (arith, length-append line (10 ∷ [])) in
-    (sym (ap (take end) split ∙ take_at line (10 ∷ more) end (sym n)), ap (drop (end + 1)) e ∙ drop_at (line ++ 10 ∷ []) more (end + 1) after)
+    let n : end ≡ length line = first_line line more end (row-inside version row h)
+    (subst (λ t. IsFirstByte (is_byte 10) t (Some end)) split f) in
+    let after : length (line ++ 10 ∷ []) ≡ end + 1 = omega (arith, length-append line (10 ∷ [])) in (
+      sym (ap (take end) split ∙ take_at line (10 ∷ more) end (sym n)),
+      ap (drop (end + 1)) e ∙ drop_at (line ++ 10 ∷ [])
+          more (end + 1) after,
+    )

@@ -1,5 +1,6 @@
 -- A number that is written is read back.
-use Rattle.std.proofs.Common.{◌≡◌, ℕ, zero, suc, ◌+◌, ◌*◌, ◌/◌, ◌%◌, ◌^◌, ◌<◌, true, false, List, [], ◌∷◌, ◌++◌, refl, sym, ap, ◌∙◌, arith}
+use Rattle.std.proofs.Common.{◌≡◌, ℕ, zero, suc, ◌+◌, ◌*◌, ◌/◌, ◌%◌, ◌^◌, ◌<◌, true, false, List, [], ◌∷◌, ◌++◌, refl}
+use Rattle.std.proofs.Common.{sym, ap, ◌∙◌, arith}
 use Rattle.std.specs.Prelude.{Option, None, Some, bytes_eq, codes, decimal}
 use Rattle.std.specs.Fmt.{digit_glyph}
 use Rattle.std.proofs.Math.Nat.{mod-eq_of_lt, pow-suc}
@@ -12,7 +13,8 @@ use Rattle.vme_listing.specs.RowText.{edge_text, hexadecimal}
 use Rattle.vme_listing.specs.Words.{digit_of, number_after, number_of, edge_of}
 use Rattle.vme_listing.proofs.Cuts.{is_plain, are_glyphs, decimal-glyphs, glyphs-plain}
 
-number_push : (base n : ℕ) (word : List ℕ) (byte : ℕ) → number_after base n (word ++ byte ∷ []) ≡ (number_after base n word * base % 2 ^ 32 + digit_of byte) % 2 ^ 32
+number_push : (base n : ℕ) (word : List ℕ) (byte : ℕ) → number_after base n (word ++ byte ∷ [])
+    ≡ (number_after base n word * base % 2 ^ 32 + digit_of byte) % 2 ^ 32
 number_push base n [] byte = refl
 number_push base n (first ∷ word) byte = number_push base ((n * base % 2 ^ 32 + digit_of first) % 2 ^ 32) word byte
 
@@ -23,12 +25,14 @@ pub digit_of-glyph : (digit : ℕ) → digit < 16 → digit_of (digit_glyph true
 digit_of-glyph digit small = grind (arith, nat_tests)
 
 -- a last digit, by 32 bits
-pub last : (base front digit n : ℕ) → front * base + digit ≡ n → n < 2 ^ 32 → (front * base % 2 ^ 32 + digit) % 2 ^ 32 ≡ n
+pub last : (base front digit n : ℕ) → front * base + digit ≡ n → n < 2 ^ 32 → (front * base % 2 ^ 32 + digit) % 2 ^ 32
+    ≡ n
 last base front digit n e below =
     let small : front * base < 2 ^ 32 = omega arith in
     ap (λ x. (x + digit) % 2 ^ 32) (mod-eq_of_lt small) ∙ ap (λ x. x % 2 ^ 32) e ∙ mod-eq_of_lt below
 
-decimal_push : (n : ℕ) (word : List ℕ) → n < 2 ^ 32 → number_after 10 0 word ≡ n / 10 → number_after 10 0 (word ++ (48 + n % 10) ∷ []) ≡ n
+decimal_push : (n : ℕ) (word : List ℕ) → n < 2 ^ 32 → number_after 10 0 word ≡ n / 10 → number_after 10 0
+    (word ++ (48 + n % 10) ∷ []) ≡ n
 decimal_push n word below e =
     number_push 10 0 word (48 + n % 10)
     ∙ ap (λ x. (x * 10 % 2 ^ 32 + digit_of (48 + n % 10)) % 2 ^ 32) e
@@ -45,7 +49,8 @@ number_of-decimal n below =
     decimal_by_steps (λ n ds. n < 2 ^ 32 → number_after 10 0 ds ≡ n) (λ n small _. decimal_one n small)
     (λ n ds low h below. decimal_push n ds below (h (omega arith))) n (omega arith) below
 
-hexadecimal_push : (n : ℕ) (word : List ℕ) → n < 2 ^ 32 → number_after 16 0 word ≡ n / 16 → number_after 16 0 (word ++ digit_glyph true (n % 16) ∷ []) ≡ n
+hexadecimal_push : (n : ℕ) (word : List ℕ) → n < 2 ^ 32 → number_after 16 0 word ≡ n / 16 → number_after 16 0
+    (word ++ digit_glyph true (n % 16) ∷ []) ≡ n
 hexadecimal_push n word below e =
     number_push 16 0 word (digit_glyph true (n % 16))
     ∙ ap (λ x. (x * 16 % 2 ^ 32 + digit_of (digit_glyph true (n % 16))) % 2 ^ 32) e
@@ -56,7 +61,8 @@ number_after-hexadecimal : (k n : ℕ) → n < 16 ^ k → n < 2 ^ 32 → number_
 unfolding hexadecimal
 number_after-hexadecimal zero n small below = omega arith
 number_after-hexadecimal (suc k) n small below =
-    hexadecimal_push n (hexadecimal k (n / 16)) below (number_after-hexadecimal k (n / 16) (omega (arith, pow-suc 16 k)) (omega arith))
+    hexadecimal_push n (hexadecimal k (n / 16)) below (number_after-hexadecimal k (n / 16) (omega (arith, pow-suc 16 k))
+    (omega arith))
 
 pub number_of-hexadecimal : (k n : ℕ) → n < 16 ^ k → n < 2 ^ 32 → number_of 16 (hexadecimal k n) ≡ n
 unfolding number_of

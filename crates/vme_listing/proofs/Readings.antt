@@ -1,12 +1,15 @@
 -- How a listing is read, row by row.
-use Rattle.std.proofs.Common.{◌≡◌, ◌≢◌, ℕ, ◌-◌, ◌<◌, Bool, true, false, List, [], ◌∷◌, ◌++◌, drop, get_or, length, refl, sym, ap, ◌∙◌, subst, arith, length-append}
+use Rattle.std.proofs.Common.{◌≡◌, ◌≢◌, ℕ, ◌-◌, ◌<◌, Bool, true, false, List, [], ◌∷◌, ◌++◌, drop, get_or, length, refl}
+use Rattle.std.proofs.Common.{sym, ap, ◌∙◌, subst, arith, length-append}
 use Rattle.std.specs.Prelude.{Option, None, Some, not, ◌&&◌, ◌↔◌, flat_map}
 use Rattle.std.specs.List.{slice_get}
 use Rattle.std.proofs.lemmas.Bool.{and_from, and_parts, false_from_ne_true, false≢true, iff_false}
 use Rattle.std.proofs.lemmas.Grind.{flat_map-append}
 use Rattle.std.proofs.lemmas.List.{append_assoc, append-nil}
-use Rattle.vme_listing.specs.Places.{is_row, is_verdict, is_never_idle, may_follow, ascends, follows, ends_listing, is_rest, is_well_placed}
-use Rattle.vme_listing.specs.Reading.{last_of, are_placed, IsFront, IsRead, IsUnfinished, IsRowFault, IsFirstFault, HasNoListing, IsNoListing, IsOnlyListing}
+use Rattle.vme_listing.specs.Places.{is_row, is_verdict, is_never_idle, may_follow, ascends, follows, ends_listing}
+use Rattle.vme_listing.specs.Places.{is_rest, is_well_placed}
+use Rattle.vme_listing.specs.Reading.{last_of, are_placed, IsFront, IsRead, IsUnfinished, IsRowFault, IsFirstFault}
+use Rattle.vme_listing.specs.Reading.{HasNoListing, IsNoListing, IsOnlyListing}
 use Rattle.vme_listing.specs.RowText.{header, line_of, text_of}
 use Rattle.vme_listing.specs.declared.fault.ListFault.{ListFault}
 use Rattle.vme_listing.specs.declared.fault.ListFault.TheVariants.{BadHeader, BadRow, Unsorted, Memory}
@@ -16,13 +19,15 @@ use Rattle.vme_listing.specs.declared.row.Version.TheVariants.{One, Two, Three}
 use Rattle.vme_listing.specs.Listed.{Listed}
 
 -- the last row, by its place
-last_within : (before row : Row) (rows : List Row) → slice_get (row ∷ rows) (length rows) ≡ last_of (Some before) (row ∷ rows)
+last_within : (before row : Row) (rows : List Row) → slice_get (row ∷ rows) (length rows) ≡ last_of (Some before)
+    (row ∷ rows)
 last_within before row [] = refl
 last_within before row (next ∷ rows) = last_within row next rows
 
 pub slice_get-last : (rows : List Row) → slice_get rows (length rows - 1) ≡ last_of None rows
 slice_get-last [] = refl
-slice_get-last (row ∷ rows) = let n : length (row ∷ rows) - 1 ≡ length rows = omega arith in ap (slice_get (row ∷ rows)) n ∙ last_within row row rows
+slice_get-last (row ∷ rows) = let n : length (row ∷ rows) - 1 ≡ length rows = omega arith in
+    ap (slice_get (row ∷ rows)) n ∙ last_within row row rows
 
 three : (a b c : Bool) → (a && b && c) ≡ true → (a ≡ true) × (b ≡ true) × (c ≡ true)
 three true true true h = (refl, refl, refl)
@@ -33,15 +38,19 @@ three false b c h = absurd (cc)
 from_three : (a b c : Bool) → a ≡ true → b ≡ true → c ≡ true → (a && b && c) ≡ true
 from_three a b c p q r = rw (p, q, r) refl
 
-pub follows_parts : (version : Version) (before : Option Row) (row : Row) → follows version before row ≡ true → (is_row version row ≡ true) × (may_follow before row ≡ true) × (ascends version before row ≡ true)
+pub follows_parts : (version : Version) (before : Option Row) (row : Row) → follows version before row ≡ true
+    → (is_row version row ≡ true) × (may_follow before row ≡ true) × (ascends version before row ≡ true)
 unfolding follows
 follows_parts version before row h = three (is_row version row) (may_follow before row) (ascends version before row) h
 
-pub follows_from : (version : Version) (before : Option Row) (row : Row) → is_row version row ≡ true → may_follow before row ≡ true → ascends version before row ≡ true → follows version before row ≡ true
+pub follows_from : (version : Version) (before : Option Row) (row : Row) → is_row version row ≡ true → may_follow before
+    row ≡ true → ascends version before row ≡ true → follows version before row ≡ true
 unfolding follows
-follows_from version before row p q r = from_three (is_row version row) (may_follow before row) (ascends version before row) p q r
+follows_from version before row p q r = from_three (is_row version row) (may_follow before row)
+    (ascends version before row) p q r
 
-placed_more : (version : Version) (before : Option Row) (rows : List Row) (row : Row) → are_placed version before rows ≡ true → follows version (last_of before rows) row ≡ true → are_placed version before (rows ++ row ∷ []) ≡ true
+placed_more : (version : Version) (before : Option Row) (rows : List Row) (row : Row) → are_placed version before rows
+    ≡ true → follows version (last_of before rows) row ≡ true → are_placed version before (rows ++ row ∷ []) ≡ true
 placed_more version before [] row p f = and_from _ _ f refl
 placed_more version before (first ∷ rows) row p f =
     let parts = and_parts (follows version before first) (are_placed version (Some first) rows) p in
@@ -51,31 +60,37 @@ last_of_more : (before : Option Row) (rows : List Row) (row : Row) → last_of b
 last_of_more before [] row = refl
 last_of_more before (first ∷ rows) row = last_of_more (Some first) rows row
 
-placed_listing : (version : Version) (before : Option Row) (rows : List Row) → are_placed version before rows ≡ true → ends_listing (last_of before rows) ≡ true → is_rest version before rows ≡ true
+placed_listing : (version : Version) (before : Option Row) (rows : List Row) → are_placed version before rows ≡ true
+    → ends_listing (last_of before rows) ≡ true → is_rest version before rows ≡ true
 unfolding is_rest
 placed_listing version before [] p e = e
 placed_listing version before (row ∷ rows) p e =
     let parts = and_parts (follows version before row) (are_placed version (Some row) rows) p in
     and_from _ _ parts.0 (placed_listing version (Some row) rows parts.1 e)
 
-pub read_none : (text : List ℕ) (version : Version) (rest : List ℕ) → text ≡ header version ++ rest → IsRead text version [] rest
+pub read_none : (text : List ℕ) (version : Version) (rest : List ℕ) → text ≡ header version ++ rest
+    → IsRead text version [] rest
 read_none text version rest e = record { placed = refl; split = e }
 
-lines_more : (rows : List Row) (row : Row) (more : List ℕ) → flat_map line_of rows ++ (line_of row ++ more) ≡ flat_map line_of (rows ++ row ∷ []) ++ more
+lines_more : (rows : List Row) (row : Row) (more : List ℕ) → flat_map line_of rows ++ (line_of row ++ more)
+    ≡ flat_map line_of (rows ++ row ∷ []) ++ more
 lines_more rows row more =
     sym (append_assoc (flat_map line_of rows) (line_of row) more)
     ∙ ap (λ line. (flat_map line_of rows ++ line) ++ more) (sym (append-nil (line_of row)))
     ∙ ap (λ lines. lines ++ more) (sym (flat_map-append line_of rows (row ∷ [])))
 
-pub read_more : (text : List ℕ) (version : Version) (rows : List Row) (rest : List ℕ) (row : Row) (more : List ℕ) → IsRead text version rows rest → follows version (last_of None rows) row ≡ true → IsFront rest row more
+pub read_more : (text : List ℕ) (version : Version) (rows : List Row) (rest : List ℕ) (row : Row) (more : List ℕ)
+    → IsRead text version rows rest → follows version (last_of None rows) row ≡ true → IsFront rest row more
     → IsRead text version (rows ++ row ∷ []) more
 read_more text version rows rest row more read f e =
     record {
       placed = placed_more version None rows row read.placed f;
-      split = read.split ∙ ap (λ l. header version ++ (flat_map line_of rows ++ l)) e.0 ∙ ap (λ l. header version ++ l) (lines_more rows row more);
+      split = read.split ∙ ap (λ l. header version ++ (flat_map line_of rows ++ l)) e.0 ∙ ap (λ l. header version ++ l)
+          (lines_more rows row more);
     }
 
--- each well placed listing that has the text is of this version and begins with these rows, and the rest is the text of its
+-- each well placed listing that has the text is of this version and begins with these rows, and the rest is the text of
+-- its
 -- other rows
 pub record Begins (text : List ℕ) (version : Version) (rows : List Row) (rest : List ℕ) (all : Listed) : Type 0 where
   pub same : all.version ≡ version
@@ -85,7 +100,8 @@ pub record Begins (text : List ℕ) (version : Version) (rows : List Row) (rest 
   pub lines : flat_map line_of others ≡ rest
 
 abbrev pub AllBegin : List ℕ → Version → List Row → List ℕ → Type 0
-AllBegin text version rows rest = (all : Listed) → is_well_placed all ≡ true → text_of all ≡ text → Begins text version rows rest all
+AllBegin text version rows rest = (all : Listed) → is_well_placed all ≡ true → text_of all ≡ text → Begins text version
+    rows rest all
 
 -- headers differ by their version
 pub one_header : (v w : Version) (a b : List ℕ) → header v ++ a ≡ header w ++ b → (v ≡ w) × (a ≡ b)
@@ -99,13 +115,22 @@ one_header Two Three a b e = absurd (omega (arith, ap (λ l. get_or l 17 0) e))
 one_header Three One a b e = absurd (omega (arith, ap (λ l. get_or l 17 0) e))
 one_header Three Two a b e = absurd (omega (arith, ap (λ l. get_or l 17 0) e))
 
-pub begin_none : (text : List ℕ) (version : Version) (rest : List ℕ) → text ≡ header version ++ rest → AllBegin text version [] rest
+pub begin_none : (text : List ℕ) (version : Version) (rest : List ℕ) → text ≡ header version ++ rest
+    → AllBegin text version [] rest
 begin_none text version rest e all w t =
     let one = one_header all.version version (flat_map line_of all.rows) rest (t ∙ e) in
-    record { same = one.0; others = all.rows; split = refl; placed = subst (λ v. is_rest v None all.rows ≡ true) one.0 w; lines = one.1 }
+    record {
+      same = one.0;
+      others = all.rows;
+      split = refl;
+      placed = subst (λ v. is_rest v None all.rows ≡ true) one.0
+          w;
+      lines = one.1;
+    }
 
 -- behind a verdict there are no rows
-behind_verdict : (version : Version) (row : Row) (later : List Row) → is_rest version (Some row) later ≡ true → is_verdict row ≡ true → flat_map line_of later ≡ []
+behind_verdict : (version : Version) (row : Row) (later : List Row) → is_rest version (Some row) later ≡ true
+    → is_verdict row ≡ true → flat_map line_of later ≡ []
 unfolding is_rest
 behind_verdict version row [] placed verdict = refl
 behind_verdict version row (next ∷ later) placed verdict =
@@ -114,8 +139,10 @@ behind_verdict version row (next ∷ later) placed verdict =
     absurd (false≢true (ap not (sym verdict) ∙ (three (not (is_verdict row)) (not (is_never_idle next)) _ may).0))
 
 -- of what follows in such a listing, the first row follows and its line is at the front of the rest
-next_other : (version : Version) (rows : List Row) (rest : List ℕ) → IsUnfinished rows → (others : List Row) → is_rest version (last_of None rows) others ≡ true → flat_map line_of others ≡ rest
-    → (row : Row) × (later : List Row) × (others ≡ row ∷ later) × (follows version (last_of None rows) row ≡ true) × (is_rest version (Some row) later ≡ true) × IsFront rest row (flat_map line_of later)
+next_other : (version : Version) (rows : List Row) (rest : List ℕ) → IsUnfinished rows → (others : List Row)
+    → is_rest version (last_of None rows) others ≡ true → flat_map line_of others ≡ rest
+    → (row : Row) × (later : List Row) × (others ≡ row ∷ later) × (follows version (last_of None rows) row ≡ true)
+    × (is_rest version (Some row) later ≡ true) × IsFront rest row (flat_map line_of later)
 unfolding is_rest
 next_other version rows rest unfinished [] placed lines = absurd (false≢true (sym unfinished ∙ placed))
 next_other version rows rest unfinished (row ∷ later) placed lines =
@@ -125,8 +152,10 @@ next_other version rows rest unfinished (row ∷ later) placed lines =
 regroup : (rows : List Row) (row : Row) (later : List Row) → rows ++ row ∷ later ≡ (rows ++ row ∷ []) ++ later
 regroup rows row later = sym (append_assoc rows (row ∷ []) later)
 
-pub begin_more : (text : List ℕ) (version : Version) (rows : List Row) (rest : List ℕ) (row : Row) (more : List ℕ) → AllBegin text version rows rest → IsUnfinished rows
-    → ((other : Row) (behind : List ℕ) → follows version (last_of None rows) other ≡ true → IsFront rest other behind → (row ≡ other) × (more ≡ behind)) → AllBegin text version (rows ++ row ∷ []) more
+pub begin_more : (text : List ℕ) (version : Version) (rows : List Row) (rest : List ℕ) (row : Row) (more : List ℕ)
+    → AllBegin text version rows rest → IsUnfinished rows
+    → ((other : Row) (behind : List ℕ) → follows version (last_of None rows) other ≡ true → IsFront rest other behind
+    → (row ≡ other) × (more ≡ behind)) → AllBegin text version (rows ++ row ∷ []) more
 begin_more text version rows rest row more begin unfinished found all w t =
     let b = begin all w t in
     let (other, later, is, f, placed, lines) = next_other version rows rest unfinished b.others b.placed b.lines in
@@ -135,12 +164,15 @@ begin_more text version rows rest row more begin unfinished found all w t =
       same = b.same;
       others = later;
       split = b.split ∙ ap (λ l. rows ++ l) is ∙ ap (λ r. rows ++ r ∷ later) (sym same.0) ∙ regroup rows row later;
-      placed = subst (λ r. is_rest version r later ≡ true) (ap Some (sym same.0) ∙ sym (last_of_more None rows row)) placed;
+      placed = subst (λ r. is_rest version r later ≡ true) (ap Some (sym same.0) ∙ sym (last_of_more None rows row))
+          placed;
       lines = sym same.1;
     }
 
-pub begin_not : (text : List ℕ) (version : Version) (rows : List Row) (rest : List ℕ) → AllBegin text version rows rest → IsUnfinished rows
-    → ((other : Row) (behind : List ℕ) → follows version (last_of None rows) other ≡ true → IsFront rest other behind → ⊥) → HasNoListing text
+pub begin_not : (text : List ℕ) (version : Version) (rows : List Row) (rest : List ℕ) → AllBegin text version rows rest
+    → IsUnfinished rows
+    → ((other : Row) (behind : List ℕ) → follows version (last_of None rows) other ≡ true → IsFront rest other behind
+    → ⊥) → HasNoListing text
 begin_not text version rows rest begin unfinished none all w t =
     let b = begin all w t in
     let (other, later, is, f, placed, lines) = next_other version rows rest unfinished b.others b.placed b.lines in
@@ -148,23 +180,35 @@ begin_not text version rows rest begin unfinished none all w t =
 
 no_lines : (others : List Row) → flat_map line_of others ≡ [] → others ≡ []
 no_lines [] e = refl
-no_lines (row ∷ others) e = absurd (omega (arith, ap length e, length-append (line_of row) (flat_map line_of others), length-append {A = ℕ}))
+no_lines (row ∷ others) e = absurd (omega (
+  arith,
+  ap length e,
+  length-append (line_of row) (flat_map line_of others),
+  length-append {A = ℕ},
+))
 
 abbrev listed : Version → List Row → Listed
 listed version rows = record { version = version; rows = rows }
 
-same_listing : (all : Listed) (version : Version) (rows : List Row) → all.version ≡ version → all.rows ≡ rows → all ≡ listed version rows
+same_listing : (all : Listed) (version : Version) (rows : List Row) → all.version ≡ version → all.rows ≡ rows → all
+    ≡ listed version rows
 same_listing all version rows v r = ap (λ x. listed x all.rows) v ∙ ap (λ x. listed version x) r
 
-pub only_listing : (text : List ℕ) (version : Version) (rows : List Row) (rest : List ℕ) → AllBegin text version rows rest → rest ≡ [] → IsOnlyListing text (listed version rows)
+pub only_listing : (text : List ℕ) (version : Version) (rows : List Row) (rest : List ℕ) → AllBegin text version rows
+    rest → rest ≡ [] → IsOnlyListing text (listed version rows)
 only_listing text version rows rest begin e all w t =
     let b = begin all w t in
-    same_listing all version rows b.same (b.split ∙ ap (λ l. rows ++ l) (no_lines b.others (b.lines ∙ e)) ∙ append-nil rows)
+    same_listing all version rows b.same (b.split ∙ ap (λ l. rows ++ l) (no_lines b.others (b.lines ∙ e))
+    ∙ append-nil rows)
 
-pub read_listing : (text : List ℕ) (version : Version) (rows : List Row) (rest : List ℕ) → IsRead text version rows rest → ends_listing (last_of None rows) ≡ true → rest ≡ []
+pub read_listing : (text : List ℕ) (version : Version) (rows : List Row) (rest : List ℕ) → IsRead text version rows rest
+    → ends_listing (last_of None rows) ≡ true → rest ≡ []
     → (is_well_placed (listed version rows) ≡ true) × (text_of (listed version rows) ≡ text)
-read_listing text version rows rest read end e =
-    (placed_listing version None rows read.placed end, sym (read.split ∙ ap (λ l. header version ++ (flat_map line_of rows ++ l)) e ∙ ap (λ l. header version ++ l) (append-nil (flat_map line_of rows))))
+read_listing text version rows rest read end e = (
+  placed_listing version None rows read.placed end,
+  sym (read.split ∙ ap (λ l. header version ++ (flat_map line_of rows ++ l)) e ∙ ap (λ l. header version ++ l)
+      (append-nil (flat_map line_of rows))),
+)
 
 pub no_listing : (text : List ℕ) → HasNoListing text → (fault : ListFault) → IsNoListing text fault
 no_listing text none BadHeader = none
@@ -173,10 +217,12 @@ no_listing text none (Unsorted n) = none
 no_listing text none Memory = tt
 
 -- a text with no header is that of no listing
-pub no_header : (text : List ℕ) → ((version : Version) (rest : List ℕ) → text ≢ header version ++ rest) → HasNoListing text
+pub no_header : (text : List ℕ) → ((version : Version) (rest : List ℕ) → text ≢ header version ++ rest)
+    → HasNoListing text
 no_header text none l w t = none l.version (flat_map line_of l.rows) (sym t)
 
-pub first_fault : (text : List ℕ) (version : Version) (rows : List Row) (rest : List ℕ) → IsRead text version rows rest → IsUnfinished rows → (fault : ListFault) → IsRowFault version rows rest fault → IsFirstFault text fault
+pub first_fault : (text : List ℕ) (version : Version) (rows : List Row) (rest : List ℕ) → IsRead text version rows rest
+    → IsUnfinished rows → (fault : ListFault) → IsRowFault version rows rest fault → IsFirstFault text fault
 first_fault text version rows rest read unfinished BadHeader h = absurd h
 first_fault text version rows rest read unfinished (BadRow n) h = (version, rows, rest, (read, unfinished, h))
 first_fault text version rows rest read unfinished (Unsorted n) h = (version, rows, rest, (read, unfinished, h))
@@ -189,11 +235,14 @@ IsClosed rows rest = ends_listing (last_of None rows) ≡ true → rest ≡ []
 pub closed_none : (rest : List ℕ) → IsClosed [] rest
 closed_none rest end = absurd (false≢true end)
 
-pub closed_more : (rows : List Row) (rest : List ℕ) (row : Row) (more : List ℕ) → IsFront rest row more → IsClosed (rows ++ row ∷ []) more
+pub closed_more : (rows : List Row) (rest : List ℕ) (row : Row) (more : List ℕ) → IsFront rest row more
+    → IsClosed (rows ++ row ∷ []) more
 closed_more rows rest row more e end = e.1 (ap ends_listing (sym (last_of_more None rows row)) ∙ end)
 
-pub unfinished_from : (whole : Bool) (rows slice : List Row) (rest : List ℕ) → IsClosed rows rest → slice ≡ rows → ((whole ≡ true) ↔ ((ends_listing (last_of None slice) ≡ true) × (rest ≡ []))) → whole ≡ false → IsUnfinished rows
-unfinished_from whole rows slice rest closed same iff not_whole = false_from_ne_true (ends_listing (last_of None rows)) (λ h. iff_false iff not_whole (ap (λ l. ends_listing (last_of None l)) same ∙ h, closed h))
+pub unfinished_from : (whole : Bool) (rows slice : List Row) (rest : List ℕ) → IsClosed rows rest → slice ≡ rows
+    → ((whole ≡ true) ↔ ((ends_listing (last_of None slice) ≡ true) × (rest ≡ []))) → whole ≡ false → IsUnfinished rows
+unfinished_from whole rows slice rest closed same iff not_whole = false_from_ne_true (ends_listing (last_of None rows))
+    (λ h. iff_false iff not_whole (ap (λ l. ends_listing (last_of None l)) same ∙ h, closed h))
 
 pub shorter : (rest : List ℕ) (row : Row) (more : List ℕ) → IsFront rest row more → length more < length rest
 shorter rest row more e = omega (arith, ap length e.0, length-append (line_of row) more, length-append {A = ℕ})

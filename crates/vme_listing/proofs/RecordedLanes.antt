@@ -1,9 +1,11 @@
 -- The data that a transfer moves, as a recording has it, is data that a write may have.
-use Rattle.std.proofs.Common.{◌≡◌, ℕ, ◌+◌, ◌*◌, ◌/◌, ◌%◌, ◌^◌, ◌<◌, ◌≤◌, Bool, true, false, not, ◌&&◌, ◌||◌, cond, refl, ap, ◌∙◌, arith}
+use Rattle.std.proofs.Common.{◌≡◌, ℕ, ◌+◌, ◌*◌, ◌/◌, ◌%◌, ◌^◌, ◌<◌, ◌≤◌, Bool, true, false, not, ◌&&◌, ◌||◌, cond, refl}
+use Rattle.std.proofs.Common.{ap, ◌∙◌, arith}
 use Rattle.std.proofs.Math.Nat.{add-mul-div_left, div-eq_of_lt}
 use Rattle.std.proofs.lemmas.Bool.{agree_below, agree_below_at}
 use Rattle.vme_trace.specs.Data.{is_odd_byte, is_even_byte, is_selected}
-use Rattle.vme_trace.specs.Lanes.{has_digit, moved_at, is_digit_moved, is_digit_known, weight_at, digit_at, flag_at, lanes_at}
+use Rattle.vme_trace.specs.Lanes.{has_digit, moved_at, is_digit_moved, is_digit_known, weight_at, digit_at, flag_at}
+use Rattle.vme_trace.specs.Lanes.{lanes_at}
 use Rattle.vme_trace.specs.Levels.{Levels, level_at, is_high, is_low}
 use Rattle.vme_trace.specs.LineNumbers.{A, D, DS0, DS1, LWORD, is_data}
 use Rattle.vme_trace.specs.declared.data.MovedBytes.{MovedBytes}
@@ -16,15 +18,18 @@ use Rattle.vme_listing.proofs.RowForms.{both, is_less}
 -- the selection of a line, by the level of the long word line and whether A01 and the strobes are low
 abbrev selected_by : Level → Bool → Bool → Bool → ℕ → Bool
 selected_by word address odd even l =
-    (is_high word && ((odd && is_odd_byte l) || (even && is_even_byte l))) || (is_low word && address && odd && even && is_data l)
+    (is_high word && ((odd && is_odd_byte l) || (even && is_even_byte l))) || (is_low word && address && odd && even
+    && is_data l)
 
 abbrev moved_by : Level → Bool → Bool → Bool → MovedBytes
 moved_by word address odd even =
     cond (selected_by word address odd even (D 16)) LongWord
     (cond (selected_by word address odd even (D 0) && selected_by word address odd even (D 8)) Word
-    (cond (selected_by word address odd even (D 0)) OddByte (cond (selected_by word address odd even (D 8)) EvenByte Nothing)))
+    (cond (selected_by word address odd even (D 0)) OddByte (cond (selected_by word address odd even (D 8)) EvenByte
+    Nothing)))
 
-agrees : (word : Level) (address odd even : Bool) → agree_below (λ k. has_digit (moved_by word address odd even) k) (λ k. selected_by word address odd even (D (4 * k))) 8 ≡ true
+agrees : (word : Level) (address odd even : Bool) → agree_below (λ k. has_digit (moved_by word address odd even) k)
+    (λ k. selected_by word address odd even (D (4 * k))) 8 ≡ true
 agrees Unknown address odd even = refl
 agrees High address false false = refl
 agrees High address false true = refl
@@ -43,7 +48,8 @@ has_selected v k below =
     let address = is_low (level_at v (A 1)) in
     let odd = is_low (level_at v DS0) in
     let even = is_low (level_at v DS1) in
-    agree_below_at (λ k. has_digit (moved_by word address odd even) k) (λ k. selected_by word address odd even (D (4 * k))) 8 k (agrees word address odd even) below
+    agree_below_at (λ k. has_digit (moved_by word address odd even) k) (λ k. selected_by word address odd even
+    (D (4 * k))) 8 k (agrees word address odd even) below
 
 -- a digit and its bit
 record IsForm (moved : Bool) (digit flag : ℕ) : Type 0 where
@@ -51,7 +57,8 @@ record IsForm (moved : Bool) (digit flag : ℕ) : Type 0 where
   bit : flag < 2
   form : is_digit moved digit flag ≡ true
 
-form_by : (moved known : Bool) (digit : ℕ) → digit < 16 → IsForm moved (cond (moved && known) digit 0) (cond (moved && not known) 1 0)
+form_by : (moved known : Bool) (digit : ℕ) → digit < 16 → IsForm moved (cond (moved && known) digit 0)
+    (cond (moved && not known) 1 0)
 form_by false known digit small = record { below = omega arith; bit = omega arith; form = refl }
 form_by true false digit small = record { below = omega arith; bit = omega arith; form = refl }
 form_by true true digit small = record { below = small; bit = omega arith; form = refl }
@@ -63,14 +70,24 @@ weight-most false weight = omega arith
 digit_form : (v : Levels) (k : ℕ) → IsForm (is_digit_moved v k) (digit_at v k) (flag_at v k)
 unfolding digit_at flag_at
 digit_form v k =
-    form_by (is_digit_moved v k) (is_digit_known v k) (weight_at v (4 * k) 1 + weight_at v (4 * k + 1) 2 + weight_at v (4 * k + 2) 4 + weight_at v (4 * k + 3) 8)
-    (omega (arith, weight-most (is_high (level_at v (D (4 * k)))) 1, weight-most (is_high (level_at v (D (4 * k + 1)))) 2, weight-most (is_high (level_at v (D (4 * k + 2)))) 4, weight-most (is_high (level_at v (D (4 * k + 3)))) 8))
+    form_by (is_digit_moved v k) (is_digit_known v k) (weight_at v (4 * k) 1 + weight_at v (4 * k + 1) 2 + weight_at v
+    (4 * k + 2) 4 + weight_at v (4 * k + 3) 8)
+    (omega (
+      arith,
+      weight-most (is_high (level_at v (D (4 * k)))) 1,
+      weight-most (is_high (level_at v (D (4 * k + 1))))
+          2,
+      weight-most (is_high (level_at v (D (4 * k + 2)))) 4,
+      weight-most (is_high (level_at v (D (4 * k + 3)))) 8,
+    ))
 
 -- of a number by digits, the digit of a weight
-digit_there : (base weight n low digit high : ℕ) → n ≡ low + weight * (digit + base * high) → low < weight → (digit + base * high) % base ≡ digit → 0 < weight → n / weight % base ≡ digit
+digit_there : (base weight n low digit high : ℕ) → n ≡ low + weight * (digit + base * high) → low < weight
+    → (digit + base * high) % base ≡ digit → 0 < weight → n / weight % base ≡ digit
 digit_there base weight n low digit high e below rest positive =
     ap (λ x. x / weight % base) e
-    ∙ ap (λ q. q % base) (add-mul-div_left low (digit + base * high) {y = weight} positive ∙ gone (low / weight) (digit + base * high) (div-eq_of_lt below))
+    ∙ ap (λ q. q % base) (add-mul-div_left low (digit + base * high) {y = weight} positive ∙ gone (low / weight)
+    (digit + base * high) (div-eq_of_lt below))
     ∙ rest
   where
     gone : (n rest : ℕ) → n ≡ 0 → n + rest ≡ rest
@@ -86,17 +103,27 @@ record AreDigits (n d0 d1 d2 d3 d4 d5 d6 d7 : ℕ) : Type 0 where
   at6 : n / 16 ^ 6 % 16 ≡ d6
   at7 : n / 16 ^ 7 % 16 ≡ d7
 
-digits_are : (n d0 d1 d2 d3 d4 d5 d6 d7 : ℕ) → n ≡ d0 + 16 * d1 + 256 * d2 + 4096 * d3 + 65536 * d4 + 1048576 * d5 + 16777216 * d6 + 268435456 * d7 → d0 < 16 → d1 < 16 → d2 < 16 → d3 < 16 → d4 < 16 → d5 < 16 → d6 < 16 → d7 < 16 → AreDigits n d0 d1 d2 d3 d4 d5 d6 d7
+digits_are : (n d0 d1 d2 d3 d4 d5 d6 d7 : ℕ) → n ≡ d0 + 16 * d1 + 256 * d2 + 4096 * d3 + 65536 * d4 + 1048576 * d5 +
+    16777216 * d6 + 268435456 * d7 → d0 < 16 → d1 < 16 → d2 < 16 → d3 < 16 → d4 < 16 → d5 < 16 → d6 < 16 → d7 < 16
+    → AreDigits n d0 d1 d2 d3 d4 d5 d6 d7
 digits_are n d0 d1 d2 d3 d4 d5 d6 d7 e b0 b1 b2 b3 b4 b5 b6 b7 =
     record {
-      at0 = digit_there 16 1 n (0) d0 (d1 + 16 * (d2 + 16 * (d3 + 16 * (d4 + 16 * (d5 + 16 * (d6 + 16 * (d7))))))) (omega arith) (omega arith) (omega arith) (omega arith);
-      at1 = digit_there 16 16 n (d0) d1 (d2 + 16 * (d3 + 16 * (d4 + 16 * (d5 + 16 * (d6 + 16 * (d7)))))) (omega arith) (omega arith) (omega arith) (omega arith);
-      at2 = digit_there 16 256 n (d0 + 16 * d1) d2 (d3 + 16 * (d4 + 16 * (d5 + 16 * (d6 + 16 * (d7))))) (omega arith) (omega arith) (omega arith) (omega arith);
-      at3 = digit_there 16 4096 n (d0 + 16 * d1 + 256 * d2) d3 (d4 + 16 * (d5 + 16 * (d6 + 16 * (d7)))) (omega arith) (omega arith) (omega arith) (omega arith);
-      at4 = digit_there 16 65536 n (d0 + 16 * d1 + 256 * d2 + 4096 * d3) d4 (d5 + 16 * (d6 + 16 * (d7))) (omega arith) (omega arith) (omega arith) (omega arith);
-      at5 = digit_there 16 1048576 n (d0 + 16 * d1 + 256 * d2 + 4096 * d3 + 65536 * d4) d5 (d6 + 16 * (d7)) (omega arith) (omega arith) (omega arith) (omega arith);
-      at6 = digit_there 16 16777216 n (d0 + 16 * d1 + 256 * d2 + 4096 * d3 + 65536 * d4 + 1048576 * d5) d6 (d7) (omega arith) (omega arith) (omega arith) (omega arith);
-      at7 = digit_there 16 268435456 n (d0 + 16 * d1 + 256 * d2 + 4096 * d3 + 65536 * d4 + 1048576 * d5 + 16777216 * d6) d7 (0) (omega arith) (omega arith) (omega arith) (omega arith);
+      at0 = digit_there 16 1 n (0) d0 (d1 + 16 * (d2 + 16 * (d3 + 16 * (d4 + 16 * (d5 + 16 * (d6 + 16 * (d7)))))))
+          (omega arith) (omega arith) (omega arith) (omega arith);
+      at1 = digit_there 16 16 n (d0) d1 (d2 + 16 * (d3 + 16 * (d4 + 16 * (d5 + 16 * (d6 + 16 * (d7)))))) (omega arith)
+          (omega arith) (omega arith) (omega arith);
+      at2 = digit_there 16 256 n (d0 + 16 * d1) d2 (d3 + 16 * (d4 + 16 * (d5 + 16 * (d6 + 16 * (d7))))) (omega arith)
+          (omega arith) (omega arith) (omega arith);
+      at3 = digit_there 16 4096 n (d0 + 16 * d1 + 256 * d2) d3 (d4 + 16 * (d5 + 16 * (d6 + 16 * (d7)))) (omega arith)
+          (omega arith) (omega arith) (omega arith);
+      at4 = digit_there 16 65536 n (d0 + 16 * d1 + 256 * d2 + 4096 * d3) d4 (d5 + 16 * (d6 + 16 * (d7))) (omega arith)
+          (omega arith) (omega arith) (omega arith);
+      at5 = digit_there 16 1048576 n (d0 + 16 * d1 + 256 * d2 + 4096 * d3 + 65536 * d4) d5 (d6 + 16 * (d7))
+          (omega arith) (omega arith) (omega arith) (omega arith);
+      at6 = digit_there 16 16777216 n (d0 + 16 * d1 + 256 * d2 + 4096 * d3 + 65536 * d4 + 1048576 * d5) d6 (d7)
+          (omega arith) (omega arith) (omega arith) (omega arith);
+      at7 = digit_there 16 268435456 n (d0 + 16 * d1 + 256 * d2 + 4096 * d3 + 65536 * d4 + 1048576 * d5 + 16777216 * d6)
+          d7 (0) (omega arith) (omega arith) (omega arith) (omega arith);
     }
 
 record AreBits (n d0 d1 d2 d3 d4 d5 d6 d7 : ℕ) : Type 0 where
@@ -109,20 +136,30 @@ record AreBits (n d0 d1 d2 d3 d4 d5 d6 d7 : ℕ) : Type 0 where
   at6 : n / 2 ^ 6 % 2 ≡ d6
   at7 : n / 2 ^ 7 % 2 ≡ d7
 
-bits_are : (n d0 d1 d2 d3 d4 d5 d6 d7 : ℕ) → n ≡ d0 + 2 * d1 + 4 * d2 + 8 * d3 + 16 * d4 + 32 * d5 + 64 * d6 + 128 * d7 → d0 < 2 → d1 < 2 → d2 < 2 → d3 < 2 → d4 < 2 → d5 < 2 → d6 < 2 → d7 < 2 → AreBits n d0 d1 d2 d3 d4 d5 d6 d7
+bits_are : (n d0 d1 d2 d3 d4 d5 d6 d7 : ℕ) → n ≡ d0 + 2 * d1 + 4 * d2 + 8 * d3 + 16 * d4 + 32 * d5 + 64 * d6 + 128 * d7
+    → d0 < 2 → d1 < 2 → d2 < 2 → d3 < 2 → d4 < 2 → d5 < 2 → d6 < 2 → d7 < 2 → AreBits n d0 d1 d2 d3 d4 d5 d6 d7
 bits_are n d0 d1 d2 d3 d4 d5 d6 d7 e b0 b1 b2 b3 b4 b5 b6 b7 =
     record {
-      at0 = digit_there 2 1 n (0) d0 (d1 + 2 * (d2 + 2 * (d3 + 2 * (d4 + 2 * (d5 + 2 * (d6 + 2 * (d7))))))) (omega arith) (omega arith) (omega arith) (omega arith);
-      at1 = digit_there 2 2 n (d0) d1 (d2 + 2 * (d3 + 2 * (d4 + 2 * (d5 + 2 * (d6 + 2 * (d7)))))) (omega arith) (omega arith) (omega arith) (omega arith);
-      at2 = digit_there 2 4 n (d0 + 2 * d1) d2 (d3 + 2 * (d4 + 2 * (d5 + 2 * (d6 + 2 * (d7))))) (omega arith) (omega arith) (omega arith) (omega arith);
-      at3 = digit_there 2 8 n (d0 + 2 * d1 + 4 * d2) d3 (d4 + 2 * (d5 + 2 * (d6 + 2 * (d7)))) (omega arith) (omega arith) (omega arith) (omega arith);
-      at4 = digit_there 2 16 n (d0 + 2 * d1 + 4 * d2 + 8 * d3) d4 (d5 + 2 * (d6 + 2 * (d7))) (omega arith) (omega arith) (omega arith) (omega arith);
-      at5 = digit_there 2 32 n (d0 + 2 * d1 + 4 * d2 + 8 * d3 + 16 * d4) d5 (d6 + 2 * (d7)) (omega arith) (omega arith) (omega arith) (omega arith);
-      at6 = digit_there 2 64 n (d0 + 2 * d1 + 4 * d2 + 8 * d3 + 16 * d4 + 32 * d5) d6 (d7) (omega arith) (omega arith) (omega arith) (omega arith);
-      at7 = digit_there 2 128 n (d0 + 2 * d1 + 4 * d2 + 8 * d3 + 16 * d4 + 32 * d5 + 64 * d6) d7 (0) (omega arith) (omega arith) (omega arith) (omega arith);
+      at0 = digit_there 2 1 n (0) d0 (d1 + 2 * (d2 + 2 * (d3 + 2 * (d4 + 2 * (d5 + 2 * (d6 + 2 * (d7)))))))
+          (omega arith) (omega arith) (omega arith) (omega arith);
+      at1 = digit_there 2 2 n (d0) d1 (d2 + 2 * (d3 + 2 * (d4 + 2 * (d5 + 2 * (d6 + 2 * (d7)))))) (omega arith)
+          (omega arith) (omega arith) (omega arith);
+      at2 = digit_there 2 4 n (d0 + 2 * d1) d2 (d3 + 2 * (d4 + 2 * (d5 + 2 * (d6 + 2 * (d7))))) (omega arith)
+          (omega arith) (omega arith) (omega arith);
+      at3 = digit_there 2 8 n (d0 + 2 * d1 + 4 * d2) d3 (d4 + 2 * (d5 + 2 * (d6 + 2 * (d7)))) (omega arith)
+          (omega arith) (omega arith) (omega arith);
+      at4 = digit_there 2 16 n (d0 + 2 * d1 + 4 * d2 + 8 * d3) d4 (d5 + 2 * (d6 + 2 * (d7))) (omega arith) (omega arith)
+          (omega arith) (omega arith);
+      at5 = digit_there 2 32 n (d0 + 2 * d1 + 4 * d2 + 8 * d3 + 16 * d4) d5 (d6 + 2 * (d7)) (omega arith) (omega arith)
+          (omega arith) (omega arith);
+      at6 = digit_there 2 64 n (d0 + 2 * d1 + 4 * d2 + 8 * d3 + 16 * d4 + 32 * d5) d6 (d7) (omega arith) (omega arith)
+          (omega arith) (omega arith);
+      at7 = digit_there 2 128 n (d0 + 2 * d1 + 4 * d2 + 8 * d3 + 16 * d4 + 32 * d5 + 64 * d6) d7 (0) (omega arith)
+          (omega arith) (omega arith) (omega arith);
     }
 
-same_form : (m moved : Bool) (x digit y flag : ℕ) → m ≡ moved → x ≡ digit → y ≡ flag → is_digit moved digit flag ≡ true → is_digit m x y ≡ true
+same_form : (m moved : Bool) (x digit y flag : ℕ) → m ≡ moved → x ≡ digit → y ≡ flag → is_digit moved digit flag ≡ true
+    → is_digit m x y ≡ true
 same_form m moved x digit y flag p q r h = rw (p, q, r) h
 
 pub lanes_form : (v : Levels) → is_lanes (lanes_at v) ≡ true
@@ -136,21 +173,45 @@ lanes_form v =
     let f5 = digit_form v 5 in
     let f6 = digit_form v 6 in
     let f7 = digit_form v 7 in
-    let value = digit_at v 0 + 16 * digit_at v 1 + 256 * digit_at v 2 + 4096 * digit_at v 3 + 65536 * digit_at v 4 + 1048576 * digit_at v 5 + 16777216 * digit_at v 6 + 268435456 * digit_at v 7 in
-    let unknown = flag_at v 0 + 2 * flag_at v 1 + 4 * flag_at v 2 + 8 * flag_at v 3 + 16 * flag_at v 4 + 32 * flag_at v 5 + 64 * flag_at v 6 + 128 * flag_at v 7 in
-    let digits = digits_are value (digit_at v 0) (digit_at v 1) (digit_at v 2) (digit_at v 3) (digit_at v 4) (digit_at v 5) (digit_at v 6) (digit_at v 7) refl f0.below f1.below f2.below f3.below f4.below f5.below f6.below f7.below in
-    let bits = bits_are unknown (flag_at v 0) (flag_at v 1) (flag_at v 2) (flag_at v 3) (flag_at v 4) (flag_at v 5) (flag_at v 6) (flag_at v 7) refl f0.bit f1.bit f2.bit f3.bit f4.bit f5.bit f6.bit f7.bit in
+    let value = digit_at v 0 + 16 * digit_at v 1 + 256 * digit_at v 2 + 4096 * digit_at v 3 + 65536 * digit_at v 4 +
+    1048576 * digit_at v 5 + 16777216 * digit_at v 6 + 268435456 * digit_at v 7 in
+    let unknown = flag_at v 0 + 2 * flag_at v 1 + 4 * flag_at v 2 + 8 * flag_at v 3 + 16 * flag_at v 4 + 32 * flag_at v
+    5 + 64 * flag_at v 6 + 128 * flag_at v 7 in
+    let digits = digits_are value (digit_at v 0) (digit_at v 1) (digit_at v 2) (digit_at v 3) (digit_at v 4)
+    (digit_at v 5) (digit_at v 6) (digit_at v 7) refl f0.below f1.below f2.below f3.below f4.below f5.below f6.below
+    f7.below in
+    let bits = bits_are unknown (flag_at v 0) (flag_at v 1) (flag_at v 2) (flag_at v 3) (flag_at v 4) (flag_at v 5)
+    (flag_at v 6) (flag_at v 7) refl f0.bit f1.bit f2.bit f3.bit f4.bit f5.bit f6.bit f7.bit in
     both _ _
-    (both _ _ (both _ _ (is_less value (2 ^ 32) (omega (arith, f0.below, f1.below, f2.below, f3.below, f4.below, f5.below, f6.below, f7.below))) (is_less unknown 256 (omega (arith, f0.bit, f1.bit, f2.bit, f3.bit, f4.bit, f5.bit, f6.bit, f7.bit))))
+    (both _ _ (both _ _ (is_less value (2 ^ 32) (omega (
+      arith,
+      f0.below,
+      f1.below,
+      f2.below,
+      f3.below,
+      f4.below,
+      f5.below,
+      f6.below,
+      f7.below,
+    )))
+    (is_less unknown 256 (omega (arith, f0.bit, f1.bit, f2.bit, f3.bit, f4.bit, f5.bit, f6.bit, f7.bit))))
     (both _ _
     (both _ _
-    (both _ _ (same_form (has_digit (moved_at v) 0) (is_digit_moved v 0) (value / 16 ^ 0 % 16) (digit_at v 0) (unknown / 2 ^ 0 % 2) (flag_at v 0) (has_selected v 0 (omega arith)) digits.at0 bits.at0 f0.form)
-    (same_form (has_digit (moved_at v) 1) (is_digit_moved v 1) (value / 16 ^ 1 % 16) (digit_at v 1) (unknown / 2 ^ 1 % 2) (flag_at v 1) (has_selected v 1 (omega arith)) digits.at1 bits.at1 f1.form))
-    (same_form (has_digit (moved_at v) 2) (is_digit_moved v 2) (value / 16 ^ 2 % 16) (digit_at v 2) (unknown / 2 ^ 2 % 2) (flag_at v 2) (has_selected v 2 (omega arith)) digits.at2 bits.at2 f2.form))
-    (same_form (has_digit (moved_at v) 3) (is_digit_moved v 3) (value / 16 ^ 3 % 16) (digit_at v 3) (unknown / 2 ^ 3 % 2) (flag_at v 3) (has_selected v 3 (omega arith)) digits.at3 bits.at3 f3.form)))
+    (both _ _ (same_form (has_digit (moved_at v) 0) (is_digit_moved v 0) (value / 16 ^ 0 % 16) (digit_at v 0)
+    (unknown / 2 ^ 0 % 2) (flag_at v 0) (has_selected v 0 (omega arith)) digits.at0 bits.at0 f0.form)
+    (same_form (has_digit (moved_at v) 1) (is_digit_moved v 1) (value / 16 ^ 1 % 16) (digit_at v 1)
+    (unknown / 2 ^ 1 % 2) (flag_at v 1) (has_selected v 1 (omega arith)) digits.at1 bits.at1 f1.form))
+    (same_form (has_digit (moved_at v) 2) (is_digit_moved v 2) (value / 16 ^ 2 % 16) (digit_at v 2)
+    (unknown / 2 ^ 2 % 2) (flag_at v 2) (has_selected v 2 (omega arith)) digits.at2 bits.at2 f2.form))
+    (same_form (has_digit (moved_at v) 3) (is_digit_moved v 3) (value / 16 ^ 3 % 16) (digit_at v 3)
+    (unknown / 2 ^ 3 % 2) (flag_at v 3) (has_selected v 3 (omega arith)) digits.at3 bits.at3 f3.form)))
     (both _ _
     (both _ _
-    (both _ _ (same_form (has_digit (moved_at v) 4) (is_digit_moved v 4) (value / 16 ^ 4 % 16) (digit_at v 4) (unknown / 2 ^ 4 % 2) (flag_at v 4) (has_selected v 4 (omega arith)) digits.at4 bits.at4 f4.form)
-    (same_form (has_digit (moved_at v) 5) (is_digit_moved v 5) (value / 16 ^ 5 % 16) (digit_at v 5) (unknown / 2 ^ 5 % 2) (flag_at v 5) (has_selected v 5 (omega arith)) digits.at5 bits.at5 f5.form))
-    (same_form (has_digit (moved_at v) 6) (is_digit_moved v 6) (value / 16 ^ 6 % 16) (digit_at v 6) (unknown / 2 ^ 6 % 2) (flag_at v 6) (has_selected v 6 (omega arith)) digits.at6 bits.at6 f6.form))
-    (same_form (has_digit (moved_at v) 7) (is_digit_moved v 7) (value / 16 ^ 7 % 16) (digit_at v 7) (unknown / 2 ^ 7 % 2) (flag_at v 7) (has_selected v 7 (omega arith)) digits.at7 bits.at7 f7.form))
+    (both _ _ (same_form (has_digit (moved_at v) 4) (is_digit_moved v 4) (value / 16 ^ 4 % 16) (digit_at v 4)
+    (unknown / 2 ^ 4 % 2) (flag_at v 4) (has_selected v 4 (omega arith)) digits.at4 bits.at4 f4.form)
+    (same_form (has_digit (moved_at v) 5) (is_digit_moved v 5) (value / 16 ^ 5 % 16) (digit_at v 5)
+    (unknown / 2 ^ 5 % 2) (flag_at v 5) (has_selected v 5 (omega arith)) digits.at5 bits.at5 f5.form))
+    (same_form (has_digit (moved_at v) 6) (is_digit_moved v 6) (value / 16 ^ 6 % 16) (digit_at v 6)
+    (unknown / 2 ^ 6 % 2) (flag_at v 6) (has_selected v 6 (omega arith)) digits.at6 bits.at6 f6.form))
+    (same_form (has_digit (moved_at v) 7) (is_digit_moved v 7) (value / 16 ^ 7 % 16) (digit_at v 7)
+    (unknown / 2 ^ 7 % 2) (flag_at v 7) (has_selected v 7 (omega arith)) digits.at7 bits.at7 f7.form))

@@ -1,5 +1,6 @@
 -- At each listed instant at most one tenure, one cycle and one transfer begin, each with a row that its form allows.
-use Rattle.std.proofs.Common.{◌≡◌, ◌≢◌, ℕ, zero, suc, ◌+◌, ◌-◌, ◌^◌, ◌<◌, ◌≤◌, ◌==◌, Bool, true, false, ◌&&◌, not, cond, List, [], ◌∷◌, refl, arith}
+use Rattle.std.proofs.Common.{◌≡◌, ◌≢◌, ℕ, zero, suc, ◌+◌, ◌-◌, ◌^◌, ◌<◌, ◌≤◌, ◌==◌, Bool, true, false, ◌&&◌, not, cond}
+use Rattle.std.proofs.Common.{List, [], ◌∷◌, refl, arith}
 use Rattle.std.specs.Prelude.{Option, None, Some, nat_le, option_map, option_and_then, if◌then◌else◌}
 use Rattle.std.proofs.lemmas.Bool.Decides.{nat_tests}
 use Rattle.vme_trace.specs.Instants.{greatest, least}
@@ -18,7 +19,8 @@ use Rattle.vme_trace.specs.declared.rule.Rule.TheVariants.{U2, B4}
 use Rattle.vme_trace.proofs.Ranges.{any-least, least-found}
 use Rattle.vme_trace.specs.declared.data.Lanes.{Lanes}
 use Rattle.vme_listing.specs.Places.{is_lanes, has_data, is_row}
-use Rattle.vme_listing.specs.Recorded.{answered_row, cycle_row, cycle_rows, data_of, direction_of, tenure_row, tenure_rows, transfer_row, transfer_rows}
+use Rattle.vme_listing.specs.Recorded.{answered_row, cycle_row, cycle_rows, data_of, direction_of, tenure_row}
+use Rattle.vme_listing.specs.Recorded.{tenure_rows, transfer_row, transfer_rows}
 use Rattle.vme_listing.specs.declared.row.Direction.TheVariants.{Read, Write}
 use Rattle.vme_listing.specs.declared.row.Version.TheVariants.{Three}
 use Rattle.vme_listing.specs.declared.row.Row.{Row}
@@ -37,7 +39,8 @@ unfolding greatest
 greatest-below p first zero i e = absurd (cc)
 greatest-below p first (suc n) i e = chosen (nat_le first n && p n) (λ h. greatest-below p first n i h) e
   where
-    chosen : (b : Bool) → (greatest p first n ≡ Some i → i < n) → cond b (Some n) (greatest p first n) ≡ Some i → i < suc n
+    chosen : (b : Bool) → (greatest p first n ≡ Some i → i < n) → cond b (Some n) (greatest p first n) ≡ Some i
+        → i < suc n
     chosen true before h = let same : n ≡ i = cc in omega arith
     chosen false before h = omega (arith, before h)
 
@@ -46,27 +49,34 @@ slot_within : (t : Trace) (i slot : ℕ) → tenure_slot t i ≡ Some slot → (
 unfolding tenure_slot
 slot_within t i slot e = by_level (tenure_level t i) e
   where
-    counted : (o : Option ℕ) → ((k : ℕ) → o ≡ Some k → k < t.opening.slots + 1) → option_map (λ k. 1 + k) o ≡ Some slot → (1 ≤ slot) × (slot ≤ t.opening.slots + 1)
+    counted : (o : Option ℕ) → ((k : ℕ) → o ≡ Some k → k < t.opening.slots + 1) → option_map (λ k. 1 + k) o ≡ Some slot
+        → (1 ≤ slot) × (slot ≤ t.opening.slots + 1)
     counted None h f = absurd (cc)
     counted (Some k) h f = let same : 1 + k ≡ slot = cc in let below = h k refl in (omega arith, omega arith)
 
-    by_level : (o : Option ℕ) → option_map (λ k. 1 + k) (option_and_then (λ n. greatest (has_reached t (taken_grant t i) n) 0 (t.opening.slots + 1)) o) ≡ Some slot → (1 ≤ slot) × (slot ≤ t.opening.slots + 1)
+    by_level : (o : Option ℕ) → option_map (λ k. 1 + k)
+        (option_and_then (λ n. greatest (has_reached t (taken_grant t i) n) 0 (t.opening.slots + 1)) o) ≡ Some slot
+        → (1 ≤ slot) × (slot ≤ t.opening.slots + 1)
     by_level None f = absurd (cc)
-    by_level (Some n) f = counted (greatest (has_reached t (taken_grant t i) n) 0 (t.opening.slots + 1)) (greatest-below (has_reached t (taken_grant t i) n) 0 (t.opening.slots + 1)) f
+    by_level (Some n) f = counted (greatest (has_reached t (taken_grant t i) n) 0 (t.opening.slots + 1))
+        (greatest-below (has_reached t (taken_grant t i) n) 0 (t.opening.slots + 1)) f
 
 level_within : (t : Trace) (i level : ℕ) → tenure_level t i ≡ Some level → level < 4
 unfolding tenure_level
 level_within t i level e = (least-found (λ n. low t (grant n 0) (taken_grant t i)) 0 4 level e).below
 
-not_past : (judged falls past : Bool) → (judged && falls) ≡ true → (judged && true && (true && falls && past)) ≡ false → past ≡ false
+not_past : (judged falls past : Bool) → (judged && falls) ≡ true → (judged && true && (true && falls && past)) ≡ false
+    → past ≡ false
 not_past true true past h e = e
 not_past true false past h e = absurd (cc)
 not_past false falls past h e = absurd (cc)
 
 -- a tenure that breaks no rule by its slot has one of the backplane
-slot_exists : (t : Trace) (span : Stretch) (i : ℕ) → tenure_starts t span i ≡ true → breaks t span B4 i BBSY ≡ false → is_option_equal (tenure_slot t i) (t.opening.slots + 1) ≡ false
+slot_exists : (t : Trace) (span : Stretch) (i : ℕ) → tenure_starts t span i ≡ true → breaks t span B4 i BBSY ≡ false
+    → is_option_equal (tenure_slot t i) (t.opening.slots + 1) ≡ false
 unfolding breaks is_broken tenure_starts
-slot_exists t span i starts unbroken = not_past (is_judged span i) (falls t BBSY i) (is_option_equal (tenure_slot t i) (t.opening.slots + 1)) starts unbroken
+slot_exists t span i starts unbroken = not_past (is_judged span i) (falls t BBSY i) (is_option_equal (tenure_slot t i)
+    (t.opening.slots + 1)) starts unbroken
 
 unequal : (m n : ℕ) → (m == n) ≡ false → m ≢ n
 unequal m n h = grind (arith, nat_tests)
@@ -82,48 +92,67 @@ needs_modifier v n free below = rw free (within n below)
     within : (n : ℕ) → n < 6 → is_within (record { modifier = true; highest = 0 }) (6 + n) ≡ true
     within n below = grind (arith, nat_tests)
 
-lacking : (judged starts has needed known : Bool) → (judged && starts) ≡ true → has ≡ true → needed ≡ true → not known ≡ true → (judged && has && ((judged && starts) && needed && not known)) ≡ false → ⊥
+lacking : (judged starts has needed known : Bool) → (judged && starts) ≡ true → has ≡ true → needed ≡ true → not known
+    ≡ true → (judged && has && ((judged && starts) && needed && not known)) ≡ false → ⊥
 lacking judged starts has needed known s h n k e = grind (arith, nat_tests)
 
 -- a cycle that breaks no rule by a line that it needs, and is of class F, has a code whose bits are known
-code_known : (t : Trace) (span : Stretch) (i : ℕ) → cycle_starts t span i ≡ true → ((l : ℕ) → l < line_count → breaks t span U2 i l ≡ false) → class_of (levels_at t i) ≡ class.F → has_known_modifier (levels_at t i) ≡ false → ⊥
+code_known : (t : Trace) (span : Stretch) (i : ℕ) → cycle_starts t span i ≡ true
+    → ((l : ℕ) → l < line_count → breaks t span U2 i l ≡ false) → class_of (levels_at t i) ≡ class.F
+    → has_known_modifier
+    (levels_at t i) ≡ false → ⊥
 unfolding breaks is_broken cycle_starts known
 code_known t span i starts unbroken free unknown =
     let v = levels_at t i in
     let found = any-least (λ n. not (is_modifier_bit_known v n)) 0 6 (negated _ unknown) in
     let n = found.0 in
     let is = least-found (λ n. not (is_modifier_bit_known v n)) 0 6 n found.1 in
-    lacking (is_judged span i) (falls t AS i) (has_line t.opening.slots (AM n)) (is_needed v (AM n)) (is_known_on v (AM n))
-    starts (bused t.opening.slots (AM n) (omega (arith, is.below))) (needs_modifier v n free is.below) is.holds (unbroken (AM n) (omega (arith, is.below)))
+    lacking (is_judged span i) (falls t AS i) (has_line t.opening.slots (AM n)) (is_needed v (AM n))
+    (is_known_on v (AM n))
+    starts (bused t.opening.slots (AM n) (omega (arith, is.below))) (needs_modifier v n free is.below) is.holds
+    (unbroken (AM n) (omega (arith, is.below)))
   where
     negated : (b : Bool) → not b ≡ false → b ≡ true
     negated true h = refl
     negated false h = absurd (cc)
 
-data_by : (write : Bool) (lanes : Lanes) → is_lanes lanes ≡ true → has_data Three (cond write Write Read) (cond write (Some lanes) None) ≡ true
+data_by : (write : Bool) (lanes : Lanes) → is_lanes lanes ≡ true → has_data Three (cond write Write Read)
+    (cond write (Some lanes) None) ≡ true
 data_by true lanes h = h
 data_by false lanes h = refl
 
 -- the data of a transfer is what the row of its direction has
-data_form : (t : Trace) (span : Stretch) (end i r : ℕ) → has_data Three (direction_of t span end i) (data_of t span end i r) ≡ true
+data_form : (t : Trace) (span : Stretch) (end i r : ℕ) → has_data Three (direction_of t span end i)
+    (data_of t span end i r) ≡ true
 unfolding data_at
-data_form t span end i r = data_by (is_write t span i) (data_at t span r) (lanes_form (levels_at t (if transfer_starts t span r then r else r - 1)))
+data_form t span end i r = data_by (is_write t span i) (data_at t span r)
+    (lanes_form (levels_at t (if transfer_starts t span r then r else r - 1)))
 
 module _ (t : Trace) (span : Stretch) (end : ℕ) (few : end ≤ 2 ^ 32) (i : ℕ) (listed : i < end) where
   pub tenure_one : t.opening.slots ≤ 21 → breaks t span B4 i BBSY ≡ false → AtMostOne i 2 (tenure_rows t span end i)
   unfolding tenure_rows is_row
   tenure_one slots unbroken = by_tests ((i == span.start) && low t BBSY i) (tenure_starts t span i) refl
     where
-      taken : (level slot : Option ℕ) → tenure_level t i ≡ level → tenure_slot t i ≡ slot → is_option_equal slot (t.opening.slots + 1) ≡ false → AtMostOne i 2 (tenure_row i level slot (least (rises t BBSY) (i + 1) end))
+      taken : (level slot : Option ℕ) → tenure_level t i ≡ level → tenure_slot t i ≡ slot → is_option_equal slot
+          (t.opening.slots + 1) ≡ false → AtMostOne i 2 (tenure_row i level slot (least (rises t BBSY) (i + 1) end))
       taken None slot l s unequal_past = tt
       taken (Some level) None l s unequal_past = tt
       taken (Some level) (Some slot) l s unequal_past =
           let within = slot_within t i slot s in
           let other = unequal slot (t.opening.slots + 1) unequal_past in
-          tenure_form i level slot (least (rises t BBSY) (i + 1) end) (number i end listed few) (level_within t i level l) within.0 (omega (arith, within.1, other)) (edge (rises t BBSY) (i + 1) end few)
+          tenure_form i level slot (least (rises t BBSY) (i + 1) end) (number i end listed few)
+          (level_within t i level l) within.0 (omega (arith, within.1, other)) (edge (rises t BBSY) (i + 1) end few)
 
-      by_tests : (opened starts : Bool) → tenure_starts t span i ≡ starts → AtMostOne i 2 (cond opened (OpenTenure i (least (rises t BBSY) (i + 1) end) ∷ []) (cond starts (tenure_row i (tenure_level t i) (tenure_slot t i) (least (rises t BBSY) (i + 1) end)) []))
-      by_tests true starts e = record { allowed = both _ _ (number i end listed few) (edge (rises t BBSY) (i + 1) end few); place = refl; no_start = refl; no_reset = refl }
+      by_tests : (opened starts : Bool) → tenure_starts t span i ≡ starts
+          → AtMostOne i 2 (cond opened (OpenTenure i (least (rises t BBSY) (i + 1) end) ∷ [])
+          (cond starts (tenure_row i (tenure_level t i) (tenure_slot t i) (least (rises t BBSY) (i + 1) end)) []))
+      by_tests true starts e = record {
+        allowed = both _ _ (number i end listed few)
+            (edge (rises t BBSY) (i + 1) end few);
+        place = refl;
+        no_start = refl;
+        no_reset = refl;
+      }
       by_tests false true e = taken (tenure_level t i) (tenure_slot t i) refl refl (slot_exists t span i e unbroken)
       by_tests false false e = tt
 
@@ -131,8 +160,11 @@ module _ (t : Trace) (span : Stretch) (end : ℕ) (few : end ≤ 2 ^ 32) (i : �
   unfolding cycle_rows
   cycle_one unbroken = by_test (cycle_starts t span i) refl
     where
-      by_test : (starts : Bool) → cycle_starts t span i ≡ starts → AtMostOne i 3 (cond starts (cycle_row i (levels_at t i) (least (rises t AS) (i + 1) end) (class_of (levels_at t i)) ∷ []) [])
-      by_test true e = cycle_form i (levels_at t i) (least (rises t AS) (i + 1) end) (number i end listed few) (edge (rises t AS) (i + 1) end few) (code_known t span i e unbroken)
+      by_test : (starts : Bool) → cycle_starts t span i ≡ starts
+          → AtMostOne i 3 (cond starts (cycle_row i (levels_at t i) (least (rises t AS) (i + 1) end)
+          (class_of (levels_at t i)) ∷ []) [])
+      by_test true e = cycle_form i (levels_at t i) (least (rises t AS) (i + 1) end) (number i end listed few)
+          (edge (rises t AS) (i + 1) end few) (code_known t span i e unbroken)
       by_test false e = tt
 
   pub transfer_one : AtMostOne i 4 (transfer_rows t span end i)
@@ -142,14 +174,16 @@ module _ (t : Trace) (span : Stretch) (end : ℕ) (few : end ≤ 2 ^ 32) (i : �
       pending : IsMiddle i 4 (PendingTransfer i (direction_of t span end i))
       pending = record { allowed = number i end listed few; place = refl; no_start = refl; no_reset = refl }
 
-      answered : (r : ℕ) → r < end → (cycle : Option ℕ) → cycle_of t span r ≡ cycle → IsMiddle i 4 (answered_row t span end i r cycle)
+      answered : (r : ℕ) → r < end → (cycle : Option ℕ) → cycle_of t span r ≡ cycle
+          → IsMiddle i 4 (answered_row t span end i r cycle)
       answered r below None e = pending
       answered r below (Some cycle) e =
           let first = greatest-below (cycle_starts t span) (span.start + 1) (r + 1) cycle e in
           record {
             allowed =
                 both _ _
-                (both _ _ (both _ _ (both _ _ (number i end listed few) (number cycle end (omega (arith, first)) few)) (number r end below few)) (edge (strobes_high t) (i + 1) end few))
+                (both _ _ (both _ _ (both _ _ (number i end listed few) (number cycle end (omega (arith, first)) few))
+                (number r end below few)) (edge (strobes_high t) (i + 1) end few))
                 (data_form t span end i r);
             place = refl;
             no_start = refl;
@@ -160,6 +194,8 @@ module _ (t : Trace) (span : Stretch) (end : ℕ) (few : end ≤ 2 ^ 32) (i : �
       by_answer None h = pending
       by_answer (Some r) h = answered r (h r refl) (cycle_of t span r) refl
 
-      by_test : (starts : Bool) → AtMostOne i 4 (cond starts (transfer_row t span end i (least (answers t span i) i end) ∷ []) [])
-      by_test true = by_answer (least (answers t span i) i end) (λ r e. (least-found (answers t span i) i end r e).below)
+      by_test : (starts : Bool) → AtMostOne i 4 (cond starts (transfer_row t span end i (least (answers t span i) i end)
+          ∷ []) [])
+      by_test true = by_answer (least (answers t span i) i end)
+          (λ r e. (least-found (answers t span i) i end r e).below)
       by_test false = tt

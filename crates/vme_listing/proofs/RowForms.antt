@@ -1,5 +1,6 @@
 -- The rows of cycles, tenures and transfers are ones that their forms allow.
-use Rattle.std.proofs.Common.{◌≡◌, ℕ, zero, suc, ◌+◌, ◌*◌, ◌/◌, ◌%◌, ◌^◌, ◌<◌, ◌≤◌, ◌==◌, Bool, true, false, ◌&&◌, not, cond, refl, ap, arith, add-one, ◌⊎◌, inl, inr}
+use Rattle.std.proofs.Common.{◌≡◌, ℕ, zero, suc, ◌+◌, ◌*◌, ◌/◌, ◌%◌, ◌^◌, ◌<◌, ◌≤◌, ◌==◌, Bool, true, false, ◌&&◌, not}
+use Rattle.std.proofs.Common.{cond, refl, ap, arith, add-one, ◌⊎◌, inl, inr}
 use Rattle.std.specs.Prelude.{Option, None, Some, nat_lt, nat_le}
 use Rattle.std.proofs.Math.Nat.{pow-succ'}
 use Rattle.std.proofs.lemmas.Bool.Decides.{nat_tests}
@@ -50,7 +51,8 @@ even : (v : Levels) (n : ℕ) → (k : ℕ) × (address_to v n ≡ 2 * k)
 even v zero = (0, refl)
 even v (suc n) = grown (is_high (level_at v (A (suc n)))) (even v n)
   where
-    grown : (high : Bool) → ((k : ℕ) × (address_to v n ≡ 2 * k)) → (k : ℕ) × (address_to v n + cond high (2 ^ suc n) 0 ≡ 2 * k)
+    grown : (high : Bool) → ((k : ℕ) × (address_to v n ≡ 2 * k)) → (k : ℕ) × (address_to v n + cond high (2 ^ suc n) 0
+        ≡ 2 * k)
     grown true h = (h.0 + 2 ^ n, omega (arith, h.1, pow-succ' 2 n))
     grown false h = (h.0, omega (arith, h.1))
 
@@ -63,12 +65,14 @@ bounded v (suc n) = grown (is_high (level_at v (A (suc n)))) (bounded v n)
     grown true h = omega (arith, h, pow-succ' 2 (suc n))
     grown false h = omega (arith, h, pow-succ' 2 (suc n))
 
-address_form : (v : Levels) (modifier : ℕ) → (highest_address modifier == 0) ≡ false → is_address modifier (address_to v (highest_address modifier)) ≡ true
+address_form : (v : Levels) (modifier : ℕ) → (highest_address modifier == 0) ≡ false → is_address modifier
+    (address_to v (highest_address modifier)) ≡ true
 address_form v modifier h =
     let highest = highest_address modifier in
     let e = even v highest in
     let rest : address_to v highest % 2 ≡ 0 = remainder (address_to v highest) e.0 e.1 in
-    both _ _ (both _ _ (ap not h) (is_less (address_to v highest) (2 ^ (highest + 1)) (rw add-one (bounded v highest)))) (ap (λ n. n == 0) rest)
+    both _ _ (both _ _ (ap not h) (is_less (address_to v highest) (2 ^ (highest + 1)) (rw add-one (bounded v highest))))
+    (ap (λ n. n == 0) rest)
   where
     remainder : (a k : ℕ) → a ≡ 2 * k → a % 2 ≡ 0
     remainder a k e = omega arith
@@ -87,41 +91,85 @@ bit_within v n = chosen (is_high_on v (AM n))
 
 modifier_within : (v : Levels) → modifier_of v < 64
 unfolding modifier_of
-modifier_within v = omega (arith, bit_within v 0, bit_within v 1, bit_within v 2, bit_within v 3, bit_within v 4, bit_within v 5)
+modifier_within v = omega (
+  arith,
+  bit_within v 0,
+  bit_within v 1,
+  bit_within v 2,
+  bit_within v 3,
+  bit_within v 4,
+  bit_within v 5,
+)
 
--- what the class of a cycle says of its code: whether its bits are known, it is of block transfers, and it has no address
+-- what the class of a cycle says of its code: whether its bits are known, it is of block transfers, and it has no
+-- address
 abbrev Says : Class → Bool → Bool → Bool → Type 0
 Says class.S known block free = (block ≡ false) × (free ≡ false)
 Says class.K known block free = block ≡ true
 Says class.I known block free = Unit {0}
 Says class.F known block free = (known ≡ false) ⊎ (free ≡ true)
 
-by_tests : (interrupt known block free : Bool) → Says (cond interrupt class.I (cond (not known) class.F (cond block class.K (cond free class.F class.S)))) known block free
+by_tests : (interrupt known block free : Bool)
+    → Says (cond interrupt class.I (cond (not known) class.F (cond block class.K (cond free class.F class.S)))) known
+    block free
 by_tests true known block free = tt
 by_tests false false block free = inl refl
 by_tests false true true free = refl
 by_tests false true false true = inr refl
 by_tests false true false false = (refl, refl)
 
-class_says : (v : Levels) → Says (class_of v) (has_known_modifier v) (is_block (modifier_of v)) (highest_address (modifier_of v) == 0)
+class_says : (v : Levels) → Says (class_of v) (has_known_modifier v) (is_block (modifier_of v))
+    (highest_address (modifier_of v) == 0)
 unfolding class_of
-class_says v = by_tests (is_low (level_at v IACK)) (has_known_modifier v) (is_block (modifier_of v)) (highest_address (modifier_of v) == 0)
+class_says v = by_tests (is_low (level_at v IACK)) (has_known_modifier v) (is_block (modifier_of v))
+    (highest_address (modifier_of v) == 0)
 
 -- the row of a cycle, whose code is known if its class is free
-pub cycle_form : (i : ℕ) (v : Levels) (e : Option ℕ) → is_number i ≡ true → is_edge e ≡ true → (class_of v ≡ class.F → has_known_modifier v ≡ false → ⊥) → IsMiddle i 3 (cycle_row i v e (class_of v))
+pub cycle_form : (i : ℕ) (v : Levels) (e : Option ℕ) → is_number i ≡ true → is_edge e ≡ true
+    → (class_of v ≡ class.F → has_known_modifier v ≡ false → ⊥) → IsMiddle i 3 (cycle_row i v e (class_of v))
 unfolding is_row
 cycle_form i v e n ed known = by_class (class_of v) refl (class_says v)
   where
-    by_class : (c : Class) → class_of v ≡ c → Says c (has_known_modifier v) (is_block (modifier_of v)) (highest_address (modifier_of v) == 0) → IsMiddle i 3 (cycle_row i v e c)
-    by_class class.S is f = record { allowed = both _ _ (both _ _ (both _ _ n (ap not f.0)) (address_form v (modifier_of v) f.1)) ed; place = refl; no_start = refl; no_reset = refl }
-    by_class class.K is f = record { allowed = both _ _ (both _ _ (both _ _ n f) (address_form v (modifier_of v) (block_space (modifier_of v) f))) ed; place = refl; no_start = refl; no_reset = refl }
+    by_class : (c : Class) → class_of v ≡ c → Says c (has_known_modifier v) (is_block (modifier_of v))
+        (highest_address (modifier_of v) == 0) → IsMiddle i 3 (cycle_row i v e c)
+    by_class class.S is f = record {
+      allowed = both _ _ (both _ _ (both _ _ n (ap not f.0)) (address_form v (modifier_of v) f.1)) ed;
+      place = refl;
+      no_start = refl;
+      no_reset = refl;
+    }
+    by_class class.K is f = record {
+      allowed = both _ _ (both _ _ (both _ _ n f) (address_form v (modifier_of v) (block_space (modifier_of v) f)))
+          ed;
+      place = refl;
+      no_start = refl;
+      no_reset = refl;
+    }
     by_class class.I is f =
         let level : address_to v 3 < 16 = bounded v 3 in
-        record { allowed = both _ _ (both _ _ n (is_less (address_to v 3 / 2) 8 (omega arith))) ed; place = refl; no_start = refl; no_reset = refl }
+        record {
+          allowed = both _ _ (both _ _ n (is_less (address_to v 3 / 2) 8 (omega arith))) ed;
+          place = refl;
+          no_start = refl;
+          no_reset = refl;
+        }
     by_class class.F is (inl unknown) = absurd (known is unknown)
-    by_class class.F is (inr free) = record { allowed = both _ _ (both _ _ (both _ _ n (is_less (modifier_of v) 64 (modifier_within v))) free) ed; place = refl; no_start = refl; no_reset = refl }
+    by_class class.F is (inr free) = record {
+      allowed = both _ _ (both _ _ (both _ _ n (is_less (modifier_of v) 64 (modifier_within v))) free) ed;
+      place
+          = refl;
+      no_start = refl;
+      no_reset = refl;
+    }
 
-pub tenure_form : (i level slot : ℕ) (e : Option ℕ) → is_number i ≡ true → level < 4 → 1 ≤ slot → slot ≤ 21 → is_edge e ≡ true → IsMiddle i 2 (Tenure i level slot e)
+pub tenure_form : (i level slot : ℕ) (e : Option ℕ) → is_number i ≡ true → level < 4 → 1 ≤ slot → slot ≤ 21 → is_edge e
+    ≡ true → IsMiddle i 2 (Tenure i level slot e)
 unfolding is_row
 tenure_form i level slot e n below first last ed =
-    record { allowed = both _ _ (both _ _ (both _ _ (both _ _ n (is_less level 4 below)) (is_at_most 1 slot first)) (is_at_most slot 21 last)) ed; place = refl; no_start = refl; no_reset = refl }
+    record {
+      allowed = both _ _ (both _ _ (both _ _ (both _ _ n (is_less level 4 below)) (is_at_most 1 slot first))
+          (is_at_most slot 21 last)) ed;
+      place = refl;
+      no_start = refl;
+      no_reset = refl;
+    }

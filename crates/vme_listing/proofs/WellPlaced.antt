@@ -1,5 +1,7 @@
 -- The listing of a recording is well placed.
-use Rattle.std.proofs.Common.{◌≡◌, ℕ, zero, suc, ◌+◌, ◌^◌, ◌<◌, ◌≤◌, ◌==◌, Bool, true, false, ◌&&◌, ◌||◌, not, cond, min, List, [], ◌∷◌, ◌++◌, length, refl, sym, ◌∙◌, ap, subst, arith, append_assoc, ◌⊎◌, inl, inr}
+use Rattle.std.proofs.Common.{◌≡◌, ℕ, zero, suc, ◌+◌, ◌^◌, ◌<◌, ◌≤◌, ◌==◌, Bool, true, false, ◌&&◌, ◌||◌, not, cond}
+use Rattle.std.proofs.Common.{min, List, [], ◌∷◌, ◌++◌, length, refl, sym, ◌∙◌, ap, subst, arith, append_assoc, ◌⊎◌}
+use Rattle.std.proofs.Common.{inl, inr}
 use Rattle.std.specs.Prelude.{Option, None, Some, drop, flat_map, nat_lt, take}
 use Rattle.std.proofs.Math.Nat.{min-le_right, min-eq_left}
 use Rattle.std.proofs.lemmas.Bool.Decides.{nat_tests}
@@ -16,12 +18,17 @@ use Rattle.vme_trace.specs.declared.rule.Rule.{Rule}
 use Rattle.vme_trace.specs.declared.rule.Rule.TheVariants.{U2, B4}
 use Rattle.vme_trace.specs.declared.verdict.Break.{Break}
 use Rattle.vme_trace.proofs.JudgedSpans.{AreInOrder, spans_in_order, starts_before_end}
-use Rattle.vme_listing.specs.Places.{follows, is_later, is_never_idle, is_outcome, is_reset, is_rest, is_row, is_start, is_verdict, is_well_placed, never_idles, place_of}
-use Rattle.vme_listing.specs.Recorded.{cycle_rows, listed_end, listing_before, listing_by, recorded_rows, listing_of_spans, outcome_of, reset_rows, rows_before, rows_of_span, tenure_rows, transfer_rows}
+use Rattle.vme_listing.specs.Places.{follows, is_later, is_never_idle, is_outcome, is_reset, is_rest, is_row, is_start}
+use Rattle.vme_listing.specs.Places.{is_verdict, is_well_placed, never_idles, place_of}
+use Rattle.vme_listing.specs.Recorded.{cycle_rows, listed_end, listing_before, listing_by, recorded_rows}
+use Rattle.vme_listing.specs.Recorded.{listing_of_spans, outcome_of, reset_rows, rows_before, rows_of_span, tenure_rows}
+use Rattle.vme_listing.specs.Recorded.{transfer_rows}
 use Rattle.vme_listing.specs.declared.row.Version.TheVariants.{Three}
 use Rattle.vme_listing.specs.declared.row.Row.{Row}
-use Rattle.vme_listing.specs.declared.row.Row.TheVariants.{Start, Reset, OpenTenure, Tenure, AddressedCycle, FreeCycle, InterruptCycle, Transfer, PendingTransfer, Verdict}
-use Rattle.vme_listing.proofs.FoundBreaks.{either, neither, least_break-judged, least_break-within, unbroken_always, unbroken_before}
+use Rattle.vme_listing.specs.declared.row.Row.TheVariants.{Start, Reset, OpenTenure, Tenure, AddressedCycle, FreeCycle}
+use Rattle.vme_listing.specs.declared.row.Row.TheVariants.{InterruptCycle, Transfer, PendingTransfer, Verdict}
+use Rattle.vme_listing.proofs.FoundBreaks.{either, neither, least_break-judged, least_break-within, unbroken_always}
+use Rattle.vme_listing.proofs.FoundBreaks.{unbroken_before}
 use Rattle.vme_listing.proofs.RecordedRows.{AtMostOne, cycle_one, tenure_one, transfer_one}
 use Rattle.vme_listing.proofs.RowForms.{IsMiddle, both, is_less, number}
 
@@ -31,17 +38,24 @@ record Precedes (row : Row) (i kind : ℕ) : Type 0 where
   goes_on : is_reset row ≡ false
   earlier : is_later (place_of Three row) (Some (i, kind)) ≡ true
 
-later_than : (o : Option (ℕ × ℕ)) (i j m n : ℕ) → (i < j) ⊎ ((i ≡ j) × (m ≤ n)) → is_later o (Some (i, m)) ≡ true → is_later o (Some (j, n)) ≡ true
+later_than : (o : Option (ℕ × ℕ)) (i j m n : ℕ) → (i < j) ⊎ ((i ≡ j) × (m ≤ n)) → is_later o (Some (i, m)) ≡ true
+    → is_later o (Some (j, n)) ≡ true
 later_than None i j m n h e = refl
 later_than (Some p) i j m n h e = on p.0 p.1 i j m n h e
   where
-    on : (a b i j m n : ℕ) → (i < j) ⊎ ((i ≡ j) × (m ≤ n)) → (nat_lt a i || ((a == i) && nat_lt b m)) ≡ true → (nat_lt a j || ((a == j) && nat_lt b n)) ≡ true
+    on : (a b i j m n : ℕ) → (i < j) ⊎ ((i ≡ j) × (m ≤ n)) → (nat_lt a i || ((a == i) && nat_lt b m)) ≡ true
+        → (nat_lt a j || ((a == j) && nat_lt b n)) ≡ true
     on a b i j m n (inl h) e = grind (arith, nat_tests)
     on a b i j m n (inr h) e = let same = h.0 in let most = h.1 in grind (arith, nat_tests)
 
 -- one of a later instant may too, or of this one and a later kind
 later : (row : Row) (i j m n : ℕ) → (i < j) ⊎ ((i ≡ j) × (m ≤ n)) → Precedes row i m → Precedes row j n
-later row i j m n h p = record { unfinished = p.unfinished; goes_on = p.goes_on; earlier = later_than (place_of Three row) i j m n h p.earlier }
+later row i j m n h p = record {
+  unfinished = p.unfinished;
+  goes_on = p.goes_on;
+  earlier = later_than
+      (place_of Three row) i j m n h p.earlier;
+}
 
 after_start : (start : ℕ) → Precedes (Start start) start 2
 after_start start = record { unfinished = refl; goes_on = refl; earlier = higher start }
@@ -67,16 +81,19 @@ inside (PendingTransfer start direction) p e = record { no_verdict = refl; no_id
 inside (Verdict outcome) p e = absurd (cc)
 
 -- what may stand behind a row that is no verdict, by whether that is a reset
-placed_behind : (ended reset idle starts ends : Bool) → ended ≡ false → idle ≡ false → cond reset (starts || ends) (not starts) ≡ true → (not ended && not idle && cond reset (starts || ends) (not starts)) ≡ true
+placed_behind : (ended reset idle starts ends : Bool) → ended ≡ false → idle ≡ false → cond reset (starts || ends)
+    (not starts) ≡ true → (not ended && not idle && cond reset (starts || ends) (not starts)) ≡ true
 placed_behind ended reset idle starts ends e f g = rw (e, f, g) refl
 
 -- a row of this instant and kind, other than a start, may stand behind one that precedes it
-follows_on : (before row : Row) (i kind : ℕ) → Precedes before i kind → is_row Three row ≡ true → place_of Three row ≡ Some (i, kind) → is_start row ≡ false → follows Three (Some before) row ≡ true
+follows_on : (before row : Row) (i kind : ℕ) → Precedes before i kind → is_row Three row ≡ true → place_of Three row
+    ≡ Some (i, kind) → is_start row ≡ false → follows Three (Some before) row ≡ true
 unfolding follows
 follows_on before row i kind p allowed place no_start =
     let is = inside row (i, kind) place in
     both _ _ (both _ _ allowed
-    (placed_behind (is_verdict before) (is_reset before) (is_never_idle row) (is_start row) (is_verdict row) p.unfinished is.no_idle
+    (placed_behind (is_verdict before) (is_reset before) (is_never_idle row) (is_start row) (is_verdict row)
+    p.unfinished is.no_idle
     (rw (p.goes_on, no_start) refl)))
     (ap (is_later (place_of Three before)) place ∙ p.earlier)
 
@@ -92,17 +109,22 @@ next_kind row i kind m =
     higher i kind = grind (arith, nat_tests)
 
 -- at most one row of this instant and kind, and rows that may stand behind it
-group : (before : Row) (i kind : ℕ) (rows more : List Row) → AtMostOne i kind rows → Precedes before i kind → ((row : Row) → Precedes row i (kind + 1) → is_rest Three (Some row) more ≡ true) → is_rest Three (Some before) (rows ++ more) ≡ true
+group : (before : Row) (i kind : ℕ) (rows more : List Row) → AtMostOne i kind rows → Precedes before i kind
+    → ((row : Row) → Precedes row i (kind + 1) → is_rest Three (Some row) more ≡ true) → is_rest Three (Some before)
+    (rows ++ more) ≡ true
 unfolding is_rest
 group before i kind [] more one p rest = rest before (later before i i kind (kind + 1) (inr (refl, omega arith)) p)
-group before i kind (row ∷ []) more one p rest = both _ _ (follows_on before row i kind p one.allowed one.place one.no_start) (rest row (next_kind row i kind one))
+group before i kind (row ∷ []) more one p rest = both _ _ (follows_on before row i kind p one.allowed one.place
+    one.no_start) (rest row (next_kind row i kind one))
 group before i kind (row ∷ next ∷ rows) more one p rest = absurd one
 
 -- the verdict may stand behind a row that isn't one
-last_is : (row : Row) (found : Option Break) → is_outcome (outcome_of found) ≡ true → is_verdict row ≡ false → is_rest Three (Some row) (Verdict (outcome_of found) ∷ []) ≡ true
+last_is : (row : Row) (found : Option Break) → is_outcome (outcome_of found) ≡ true → is_verdict row ≡ false
+    → is_rest Three (Some row) (Verdict (outcome_of found) ∷ []) ≡ true
 unfolding is_rest follows is_row
 last_is row found is e =
-    both _ _ (both _ _ (both _ _ is (placed_behind (is_verdict row) (is_reset row) (never_idles (outcome_of found)) false true e (named found) (of_any (is_reset row)))) (unplaced (place_of Three row))) refl
+    both _ _ (both _ _ (both _ _ is (placed_behind (is_verdict row) (is_reset row) (never_idles (outcome_of found))
+    false true e (named found) (of_any (is_reset row)))) (unplaced (place_of Three row))) refl
   where
     of_any : (reset : Bool) → cond reset true true ≡ true
     of_any true = refl
@@ -154,24 +176,36 @@ module _ (t : Trace) (slots : t.opening.slots ≤ 21) (few : length t.steps < 2 
     none_before : (i : ℕ) → i ≤ span.start → rows_before t span end i ≡ []
     unfolding rows_before
     none_before zero h = refl
-    none_before (suc i) h = rw (none_before i (omega arith), early_tenures i (omega arith), early_cycles i (omega arith), early_transfers i (omega arith)) refl
+    none_before (suc i) h = rw (
+      none_before i (omega arith),
+      early_tenures i (omega arith),
+      early_cycles i
+          (omega arith),
+      early_transfers i (omega arith),
+    ) refl
 
-    module _ (needed : (i l : ℕ) → i < end → l < line_count → breaks t span U2 i l ≡ false) (taken : (i l : ℕ) → i < end → l < line_count → breaks t span B4 i l ≡ false) where
+    module _ (needed : (i l : ℕ) → i < end → l < line_count → breaks t span U2 i l ≡ false) (taken : (i l : ℕ) → i < end
+        → l < line_count → breaks t span B4 i l ≡ false) where
       abbrev rows_at : ℕ → List Row → List Row
       rows_at i more = tenure_rows t span end i ++ (cycle_rows t span end i ++ (transfer_rows t span end i ++ more))
 
       -- the rows that begin at an instant, and rows that may stand behind them
-      placed_at : (i : ℕ) → i < end → (before : Row) → Precedes before i 2 → (more : List Row) → ((row : Row) → Precedes row (suc i) 0 → is_rest Three (Some row) more ≡ true) → is_rest Three (Some before) (rows_at i more) ≡ true
+      placed_at : (i : ℕ) → i < end → (before : Row) → Precedes before i 2 → (more : List Row)
+          → ((row : Row) → Precedes row (suc i) 0 → is_rest Three (Some row) more ≡ true) → is_rest Three (Some before)
+          (rows_at i more) ≡ true
       placed_at i below before p more rest =
           let cycles = cycle_rows t span end i in
           let transfers = transfer_rows t span end i in
-          group before i 2 (tenure_rows t span end i) (cycles ++ (transfers ++ more)) (tenure_one t span end within i below slots (taken i BBSY below (omega arith))) p
-          (λ b pb. group b i 3 cycles (transfers ++ more) (cycle_one t span end within i below (λ l there. needed i l below there)) pb
+          group before i 2 (tenure_rows t span end i) (cycles ++ (transfers ++ more))
+          (tenure_one t span end within i below slots (taken i BBSY below (omega arith))) p
+          (λ b pb. group b i 3 cycles (transfers ++ more) (cycle_one t span end within i below
+          (λ l there. needed i l below there)) pb
           (λ c pc. group c i 4 transfers more (transfer_one t span end within i below) pc
           (λ d pd. rest d (later d i (suc i) 5 0 (inl (omega arith)) pd))))
 
       -- the rows that begin before an instant, behind the start of the span, and rows that may stand behind them
-      placed_before : (n : ℕ) → span.start < n → n ≤ end → (more : List Row) → ((row : Row) → Precedes row n 0 → is_rest Three (Some row) more ≡ true)
+      placed_before : (n : ℕ) → span.start < n → n ≤ end → (more : List Row)
+          → ((row : Row) → Precedes row n 0 → is_rest Three (Some row) more ≡ true)
           → is_rest Three (Some (Start span.start)) (rows_before t span end n ++ more) ≡ true
       unfolding rows_before
       placed_before zero after below more rest = absurd (omega arith)
@@ -179,12 +213,15 @@ module _ (t : Trace) (slots : t.opening.slots ≤ 21) (few : length t.steps < 2 
           let tenures = tenure_rows t span end i in
           let cycles = cycle_rows t span end i in
           let transfers = transfer_rows t span end i in
-          let split : rows_before t span end (suc i) ++ more ≡ rows_before t span end i ++ rows_at i more = simp append_assoc in
+          let split : rows_before t span end (suc i) ++ more ≡ rows_before t span end i ++ rows_at i more = simp
+          append_assoc in
           subst (λ rows. is_rest Three (Some (Start span.start)) rows ≡ true) (sym split)
           (elim (last_or_before i span.start after) [
             | inl same ↦
-                subst (λ rows. is_rest Three (Some (Start span.start)) (rows ++ rows_at i more) ≡ true) (sym (none_before i (omega arith)))
-                (placed_at i (omega arith) (Start span.start) (later (Start span.start) span.start i 2 2 (inr (same, omega arith)) (after_start span.start)) more rest)
+                subst (λ rows. is_rest Three (Some (Start span.start)) (rows ++ rows_at i more) ≡ true)
+                (sym (none_before i (omega arith)))
+                (placed_at i (omega arith) (Start span.start) (later (Start span.start) span.start i 2 2
+                (inr (same, omega arith)) (after_start span.start)) more rest)
             | inr before ↦
                 placed_before i before (omega arith) (rows_at i more)
                 (λ a pa. placed_at i (omega arith) a (later a i i 0 2 (inr (refl, omega arith)) pa) more rest)
@@ -196,28 +233,43 @@ module _ (t : Trace) (slots : t.opening.slots ≤ 21) (few : length t.steps < 2 
     below : b.instant < last_instant t + 1
     line : b.line < line_count
 
-  by_first : (span : Stretch) (spans : List Stretch) (b : Break) → IsSpanOf t span → least_break t span all_rules ≡ Some b → IsNamed span.start b
+  by_first : (span : Stretch) (spans : List Stretch) (b : Break) → IsSpanOf t span → least_break t span all_rules
+      ≡ Some b → IsNamed span.start b
   by_first span spans b is e =
       let there = least_break-within t span all_rules b e in
-      record { after = (least_break-judged t span all_rules b (starts_before_end t span is) e).0; below = there.0; line = there.1 }
+      record {
+        after = (least_break-judged t span all_rules b (starts_before_end t span is) e).0;
+        below = there.0;
+        line
+            = there.1;
+      }
 
-  named : (span : Stretch) (spans : List Stretch) (b : Break) → AreInOrder t (span ∷ spans) → least_of all_rules t (span ∷ spans) ≡ Some b → IsNamed span.start b
+  named : (span : Stretch) (spans : List Stretch) (b : Break) → AreInOrder t (span ∷ spans) → least_of all_rules t
+      (span ∷ spans) ≡ Some b → IsNamed span.start b
   named span [] b order e = by_first span [] b order e
   named span (next ∷ spans) b order e =
       elim (either (least_break t span all_rules) (least_of all_rules t (next ∷ spans)) b e) [
         | inl here ↦ by_first span (next ∷ spans) b order.0 here
         | inr later ↦
             let is = named next spans b order.3 later.1 in
-            record { after = omega (arith, starts_before_end t span order.0, order.2, is.after); below = is.below; line = is.line }
+            record {
+              after = omega (arith, starts_before_end t span order.0, order.2, is.after);
+              below = is.below;
+              line
+                  = is.line;
+            }
       ]
 
-  outcome_form : (span : Stretch) (spans : List Stretch) → AreInOrder t (span ∷ spans) → (found : Option Break) → least_of all_rules t (span ∷ spans) ≡ found → is_outcome (outcome_of found) ≡ true
+  outcome_form : (span : Stretch) (spans : List Stretch) → AreInOrder t (span ∷ spans) → (found : Option Break)
+      → least_of all_rules t (span ∷ spans) ≡ found → is_outcome (outcome_of found) ≡ true
   outcome_form span spans order None e = refl
   outcome_form span spans order (Some b) e =
       let is = named span spans b order e in
-      by_rule (is_unreadable b.rule) refl (number b.instant (last_instant t + 1) is.below (omega arith)) (is_less b.line line_count is.line)
+      by_rule (is_unreadable b.rule) refl (number b.instant (last_instant t + 1) is.below (omega arith))
+      (is_less b.line line_count is.line)
     where
-      by_rule : (r : Bool) → is_unreadable b.rule ≡ r → nat_lt b.instant (2 ^ 32) ≡ true → nat_lt b.line line_count ≡ true → is_outcome (outcome_of (Some b)) ≡ true
+      by_rule : (r : Bool) → is_unreadable b.rule ≡ r → nat_lt b.instant (2 ^ 32) ≡ true → nat_lt b.line line_count
+          ≡ true → is_outcome (outcome_of (Some b)) ≡ true
       by_rule true h n l = rw (h, h, n, l) refl
       by_rule false h n l = rw (h, h, n, l) refl
 
@@ -226,36 +278,51 @@ module _ (t : Trace) (slots : t.opening.slots ≤ 21) (few : length t.steps < 2 
     after : span.start < limit
     most : limit ≤ last_instant t + 1
 
-  limit_form : (span : Stretch) (spans : List Stretch) → AreInOrder t (span ∷ spans) → (found : Option Break) → least_of all_rules t (span ∷ spans) ≡ found → IsLimit span (listed_end t found)
+  limit_form : (span : Stretch) (spans : List Stretch) → AreInOrder t (span ∷ spans) → (found : Option Break)
+      → least_of all_rules t (span ∷ spans) ≡ found → IsLimit span (listed_end t found)
   limit_form span spans order None e = record { after = omega (arith, (first spans order).within); most = omega arith }
     where
       first : (spans : List Stretch) → AreInOrder t (span ∷ spans) → IsSpanOf t span
       first [] order = order
       first (next ∷ spans) order = order.0
-  limit_form span spans order (Some b) e = let is = named span spans b order e in record { after = is.after; most = omega (arith, is.below) }
+  limit_form span spans order (Some b) e = let is = named span spans b order e in
+      record { after = is.after; most = omega (arith, is.below) }
 
   -- at each listed instant a cycle has what it needs, and a tenure is one of a slot
   abbrev IsUnbroken : ℕ → Stretch → Type 0
-  IsUnbroken limit span = (i l : ℕ) → span.start < limit → i < limit → l < line_count → (breaks t span U2 i l ≡ false) × (breaks t span B4 i l ≡ false)
+  IsUnbroken limit span = (i l : ℕ) → span.start < limit → i < limit → l < line_count → (breaks t span U2 i l ≡ false)
+      × (breaks t span B4 i l ≡ false)
 
   abbrev AreUnbroken : ℕ → List Stretch → Type 0
   AreUnbroken limit [] = Unit {0}
   AreUnbroken limit (span ∷ spans) = IsUnbroken limit span × AreUnbroken limit spans
 
-  past_limit : (limit : ℕ) (span : Stretch) (spans : List Stretch) → AreInOrder t (span ∷ spans) → limit ≤ span.start → AreUnbroken limit (span ∷ spans)
+  past_limit : (limit : ℕ) (span : Stretch) (spans : List Stretch) → AreInOrder t (span ∷ spans) → limit ≤ span.start
+      → AreUnbroken limit (span ∷ spans)
   past_limit limit span [] order h = (λ i l first. absurd (omega arith), tt)
-  past_limit limit span (next ∷ spans) order h =
-      (λ i l first. absurd (omega arith), past_limit limit next spans order.3 (omega (arith, starts_before_end t span order.0, order.2)))
+  past_limit limit span (next ∷ spans) order h = (
+    λ i l first. absurd (omega arith),
+    past_limit limit next spans order.3
+        (omega (arith, starts_before_end t span order.0, order.2)),
+  )
 
-  held_always : (span : Stretch) → least_break t span all_rules ≡ None → (limit : ℕ) → limit ≤ last_instant t + 1 → IsUnbroken limit span
-  held_always span e limit most i l first below there =
-      (unbroken_always t span (till U2) (behind U2) U2 i l e (omega arith) there, unbroken_always t span (till B4) (behind B4) B4 i l e (omega arith) there)
+  held_always : (span : Stretch) → least_break t span all_rules ≡ None → (limit : ℕ) → limit ≤ last_instant t + 1
+      → IsUnbroken limit span
+  held_always span e limit most i l first below there = (
+    unbroken_always t span (till U2) (behind U2) U2 i l e (omega arith) there,
+    unbroken_always t span (till B4)
+        (behind B4) B4 i l e (omega arith) there,
+  )
 
   held_before : (span : Stretch) (b : Break) → least_break t span all_rules ≡ Some b → IsUnbroken b.instant span
-  held_before span b e i l first below there =
-      (unbroken_before t span (till U2) (behind U2) U2 b i l e below there, unbroken_before t span (till B4) (behind B4) B4 b i l e below there)
+  held_before span b e i l first below there = (
+    unbroken_before t span (till U2) (behind U2) U2 b i l e below there,
+    unbroken_before t span (till B4) (behind B4)
+        B4 b i l e below there,
+  )
 
-  unbroken : (span : Stretch) (spans : List Stretch) → AreInOrder t (span ∷ spans) → (found : Option Break) → least_of all_rules t (span ∷ spans) ≡ found → AreUnbroken (listed_end t found) (span ∷ spans)
+  unbroken : (span : Stretch) (spans : List Stretch) → AreInOrder t (span ∷ spans) → (found : Option Break)
+      → least_of all_rules t (span ∷ spans) ≡ found → AreUnbroken (listed_end t found) (span ∷ spans)
   unbroken span [] order None e = (held_always span e (last_instant t + 1) (omega arith), tt)
   unbroken span [] order (Some b) e = (held_before span b e, tt)
   unbroken span (next ∷ spans) order None e =
@@ -280,9 +347,11 @@ module _ (t : Trace) (slots : t.opening.slots ≤ 21) (few : length t.steps < 2 
         not_less : (m n : ℕ) → n ≤ m → nat_lt m n ≡ false
         not_less m n h = grind (arith, nat_tests)
 
-    unlisted : (span : Stretch) (spans : List Stretch) → AreInOrder t (span ∷ spans) → limit ≤ span.start → flat_map (rows_of_span t limit) (span ∷ spans) ≡ []
+    unlisted : (span : Stretch) (spans : List Stretch) → AreInOrder t (span ∷ spans) → limit ≤ span.start
+        → flat_map (rows_of_span t limit) (span ∷ spans) ≡ []
     unlisted span [] order h = rw (none_of span h) refl
-    unlisted span (next ∷ spans) order h = rw (none_of span h) (unlisted next spans order.3 (omega (arith, starts_before_end t span order.0, order.2)))
+    unlisted span (next ∷ spans) order h = rw (none_of span h)
+        (unlisted next spans order.3 (omega (arith, starts_before_end t span order.0, order.2)))
 
     -- the rows of a span whose start is listed, behind that start
     abbrev rows_behind : Stretch → List Row
@@ -299,7 +368,8 @@ module _ (t : Trace) (slots : t.opening.slots ≤ 21) (few : length t.steps < 2 
 
     start_follows : (i start : ℕ) → i < start → start < limit → follows Three (Some (Reset i)) (Start start) ≡ true
     unfolding follows is_row
-    start_follows i start after below = both _ _ (both _ _ (number start limit below (omega arith)) refl) (higher i start after)
+    start_follows i start after below = both _ _ (both _ _ (number start limit below (omega arith)) refl)
+        (higher i start after)
       where
         higher : (i j : ℕ) → i < j → (nat_lt i j || ((i == j) && nat_lt 0 1)) ≡ true
         higher i j h = grind (arith, nat_tests)
@@ -312,28 +382,35 @@ module _ (t : Trace) (slots : t.opening.slots ≤ 21) (few : length t.steps < 2 
       abbrev rows_of : List Stretch → List Row
       rows_of spans = flat_map (rows_of_span t limit) spans ++ verdict
 
-      rows_split : (span : Stretch) (spans : List Stretch) → span.start < limit → rows_of (span ∷ spans) ≡ Start span.start ∷ rows_behind span ++ rows_of spans
+      rows_split : (span : Stretch) (spans : List Stretch) → span.start < limit → rows_of (span ∷ spans)
+          ≡ Start span.start ∷ rows_behind span ++ rows_of spans
       rows_split span spans h =
           ap (λ rows. (rows ++ flat_map (rows_of_span t limit) spans) ++ verdict) (all_of span h)
-          ∙ ap (λ rows. Start span.start ∷ rows) (append_assoc (rows_behind span) (flat_map (rows_of_span t limit) spans) verdict)
+          ∙ ap (λ rows. Start span.start ∷ rows)
+          (append_assoc (rows_behind span) (flat_map (rows_of_span t limit) spans) verdict)
 
       -- where the reset of a span isn't listed, no later span is
-      only_verdict : (span : Stretch) (spans : List Stretch) → AreInOrder t (span ∷ spans) → (is_reset_at t span.end && nat_lt span.end limit) ≡ false → rows_of spans ≡ verdict
+      only_verdict : (span : Stretch) (spans : List Stretch) → AreInOrder t (span ∷ spans)
+          → (is_reset_at t span.end && nat_lt span.end limit) ≡ false → rows_of spans ≡ verdict
       only_verdict span [] order e = refl
       only_verdict span (next ∷ spans) order e =
-          ap (λ rows. rows ++ verdict) (unlisted next spans order.3 (omega (arith, order.2, past (is_reset_at t span.end) span.end order.1 e)))
+          ap (λ rows. rows ++ verdict)
+          (unlisted next spans order.3 (omega (arith, order.2, past (is_reset_at t span.end) span.end order.1 e)))
         where
           past : (b : Bool) (n : ℕ) → b ≡ true → (b && nat_lt n limit) ≡ false → limit ≤ n
           past b n h e = grind (arith, nat_tests)
 
       -- behind the start of a span stand its rows, and what may stand behind its reset, where that is listed
-      span_placed : (span : Stretch) (spans : List Stretch) → AreInOrder t (span ∷ spans) → IsUnbroken limit span → span.start < span.end → span.start < limit
-          → ((is_reset_at t span.end && nat_lt span.end limit) ≡ true → is_rest Three (Some (Reset span.end)) (rows_of spans) ≡ true)
+      span_placed : (span : Stretch) (spans : List Stretch) → AreInOrder t (span ∷ spans) → IsUnbroken limit span
+          → span.start < span.end → span.start < limit
+          → ((is_reset_at t span.end && nat_lt span.end limit) ≡ true → is_rest Three (Some (Reset span.end))
+          (rows_of spans) ≡ true)
           → is_rest Three (Some (Start span.start)) (rows_behind span ++ rows_of spans) ≡ true
       unfolding is_rest
       span_placed span spans order held whole listed after =
           let end = min span.end limit in
-          subst (λ rows. is_rest Three (Some (Start span.start)) rows ≡ true) (sym (append_assoc (rows_before t span end end) (reset_rows t limit span) (rows_of spans)))
+          subst (λ rows. is_rest Three (Some (Start span.start)) rows ≡ true)
+          (sym (append_assoc (rows_before t span end end) (reset_rows t limit span) (rows_of spans)))
           (placed_before span end (omega (arith, min-le_right span.end limit))
           (λ i l below there. (held i l listed (omega (arith, min-le_right span.end limit)) there).0)
           (λ i l below there. (held i l listed (omega (arith, min-le_right span.end limit)) there).1)
@@ -346,34 +423,43 @@ module _ (t : Trace) (slots : t.opening.slots ≤ 21) (few : length t.steps < 2 
           below_limit : (b : Bool) (n : ℕ) → (b && nat_lt n limit) ≡ true → n < limit
           below_limit b n e = grind (arith, nat_tests)
 
-          by_reset : (row : Row) → Precedes row (min span.end limit) 0 → (b : Bool) → (is_reset_at t span.end && nat_lt span.end limit) ≡ b
+          by_reset : (row : Row) → Precedes row (min span.end limit) 0 → (b : Bool)
+              → (is_reset_at t span.end && nat_lt span.end limit) ≡ b
               → is_rest Three (Some row) (cond b (Reset span.end ∷ []) [] ++ rows_of spans) ≡ true
           by_reset row p true e =
               let below = below_limit (is_reset_at t span.end) span.end e in
-              both _ _ (reset_follows row span.end below (subst (λ i. Precedes row i 0) (min-eq_left (omega arith)) p)) (after e)
-          by_reset row p false e = subst (λ rows. is_rest Three (Some row) rows ≡ true) (sym (only_verdict span spans order e)) (last_is row found is p.unfinished)
+              both _ _ (reset_follows row span.end below (subst (λ i. Precedes row i 0) (min-eq_left (omega arith)) p))
+              (after e)
+          by_reset row p false e = subst (λ rows. is_rest Three (Some row) rows ≡ true)
+              (sym (only_verdict span spans order e)) (last_is row found is p.unfinished)
 
       -- behind the start of a span stand its rows, those of the spans after it, and the verdict
-      behind_start : (span : Stretch) (spans : List Stretch) → AreInOrder t (span ∷ spans) → AreUnbroken limit (span ∷ spans) → span.start < limit → is_rest Three (Some (Start span.start)) (rows_behind span ++ rows_of spans) ≡ true
+      behind_start : (span : Stretch) (spans : List Stretch) → AreInOrder t (span ∷ spans) → AreUnbroken limit
+          (span ∷ spans) → span.start < limit → is_rest Three (Some (Start span.start)) (rows_behind span
+          ++ rows_of spans) ≡ true
       unfolding is_rest
       behind_start span [] order held listed =
-          span_placed span [] order held.0 (starts_before_end t span order) listed (λ reset. last_is (Reset span.end) found is refl)
+          span_placed span [] order held.0 (starts_before_end t span order) listed (λ reset. last_is (Reset span.end)
+          found is refl)
       behind_start span (next ∷ spans) order held listed =
           span_placed span (next ∷ spans) order held.0 (starts_before_end t span order.0) listed
           (λ reset.
           elim (by_limit next.start) [
             | inl below ↦
                 subst (λ rows. is_rest Three (Some (Reset span.end)) rows ≡ true) (sym (rows_split next spans below))
-                (both _ _ (start_follows span.end next.start order.2 below) (behind_start next spans order.3 held.1 below))
+                (both _ _ (start_follows span.end next.start order.2 below) (behind_start next spans order.3 held.1
+                below))
             | inr past ↦
-                subst (λ rows. is_rest Three (Some (Reset span.end)) rows ≡ true) (sym (ap (λ rows. rows ++ verdict) (unlisted next spans order.3 past)))
+                subst (λ rows. is_rest Three (Some (Reset span.end)) rows ≡ true)
+                (sym (ap (λ rows. rows ++ verdict) (unlisted next spans order.3 past)))
                 (last_is (Reset span.end) found is refl)
           ])
         where
           by_limit : (n : ℕ) → (n < limit) ⊎ (limit ≤ n)
           by_limit n = grind arith
 
-  all_placed : (span : Stretch) (spans : List Stretch) → AreInOrder t (span ∷ spans) → (found : Option Break) → least_of all_rules t (span ∷ spans) ≡ found → is_rest Three None (listing_before t (span ∷ spans) found) ≡ true
+  all_placed : (span : Stretch) (spans : List Stretch) → AreInOrder t (span ∷ spans) → (found : Option Break)
+      → least_of all_rules t (span ∷ spans) ≡ found → is_rest Three None (listing_before t (span ∷ spans) found) ≡ true
   unfolding is_rest follows is_row
   all_placed span spans order found e =
       let limit = listed_end t found in
@@ -384,10 +470,12 @@ module _ (t : Trace) (slots : t.opening.slots ≤ 21) (few : length t.steps < 2 
       (behind_start limit form.most found is span spans order (unbroken span spans order found e) form.after))
 
 -- the listing of a recording whose slots and instants can be written is well placed
-pub listing_placed : (t : Trace) → t.opening.slots ≤ 21 → length t.steps < 2 ^ 32 → is_well_placed (record { version = Three; rows = recorded_rows t }) ≡ true
+pub listing_placed : (t : Trace) → t.opening.slots ≤ 21 → length t.steps < 2 ^ 32
+    → is_well_placed (record { version = Three; rows = recorded_rows t }) ≡ true
 unfolding listing_by is_rest follows is_row
 listing_placed t slots few = by_spans (judged_spans t) (spans_in_order t)
   where
-    by_spans : (spans : List Stretch) → AreInOrder t spans → is_rest Three None (listing_of_spans all_rules t spans) ≡ true
+    by_spans : (spans : List Stretch) → AreInOrder t spans → is_rest Three None (listing_of_spans all_rules t spans)
+        ≡ true
     by_spans [] order = refl
     by_spans (span ∷ spans) order = all_placed t slots few span spans order (least_of all_rules t (span ∷ spans)) refl

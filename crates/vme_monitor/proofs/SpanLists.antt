@@ -1,5 +1,6 @@
 -- The spans that have started at an instant, and breaks and marks over spans that follow one another, up to an instant.
-use Rattle.std.proofs.Common.{◌≡◌, ℕ, zero, suc, ◌+◌, ◌<◌, ◌≤◌, true, false, ◌&&◌, List, [], ◌∷◌, ◌++◌, map, refl, ap, sym, ◌∙◌, arith, Option, Some, None, add-one, append-nil, append_assoc}
+use Rattle.std.proofs.Common.{◌≡◌, ℕ, zero, suc, ◌+◌, ◌<◌, ◌≤◌, true, false, ◌&&◌, List, [], ◌∷◌, ◌++◌, map, refl, ap}
+use Rattle.std.proofs.Common.{sym, ◌∙◌, arith, Option, Some, None, add-one, append-nil, append_assoc}
 use Rattle.std.specs.Prelude.{nat_lt, nat_le}
 use Rattle.std.specs.Option.{option_or}
 use Rattle.std.proofs.lemmas.Bool.Decides.{nat_tests}
@@ -41,7 +42,8 @@ pub over_later : (n : ℕ) (spans : List Stretch) → AreOver n spans → AreOve
 over_later n [] h = tt
 over_later n (span ∷ spans) h = (omega (arith, h.0), over_later n spans h.1)
 
-pub over_both : (n : ℕ) (spans : List Stretch) (span : Stretch) → AreOver n spans → span.end ≤ n → AreOver n (spans ++ span ∷ [])
+pub over_both : (n : ℕ) (spans : List Stretch) (span : Stretch) → AreOver n spans → span.end ≤ n
+    → AreOver n (spans ++ span ∷ [])
 over_both n [] span h e = (e, tt)
 over_both n (x ∷ spans) span h e = (h.0, over_both n spans span h.1 e)
 
@@ -87,11 +89,14 @@ module _ (t : Trace) (rules : List Rule) where
   least_is (span ∷ []) = sym (or_none (break_before t span rules (last_instant t + 1)))
   least_is (span ∷ x ∷ spans) = ap (option_or (break_before t span rules (last_instant t + 1))) (least_is (x ∷ spans))
 
-  pub breaks_both : (n : ℕ) (spans : List Stretch) (span : Stretch) → breaks_to t rules n (spans ++ span ∷ []) ≡ option_or (breaks_to t rules n spans) (break_before t span rules n)
+  pub breaks_both : (n : ℕ) (spans : List Stretch) (span : Stretch) → breaks_to t rules n (spans ++ span ∷ [])
+      ≡ option_or (breaks_to t rules n spans) (break_before t span rules n)
   breaks_both n [] span = or_none (break_before t span rules n)
-  breaks_both n (x ∷ spans) span = rw (breaks_both n spans span) (sym (or_apart (break_before t x rules n) (breaks_to t rules n spans) (break_before t span rules n)))
+  breaks_both n (x ∷ spans) span = rw (breaks_both n spans span)
+      (sym (or_apart (break_before t x rules n) (breaks_to t rules n spans) (break_before t span rules n)))
 
-  pub before_next : (span : Stretch) (n : ℕ) → break_before t span rules (suc n) ≡ option_or (break_before t span rules n) (rules_break_at t span rules n)
+  pub before_next : (span : Stretch) (n : ℕ) → break_before t span rules (suc n)
+      ≡ option_or (break_before t span rules n) (rules_break_at t span rules n)
   unfolding break_before
   before_next span n = refl
 
@@ -104,22 +109,36 @@ module _ (t : Trace) (rules : List Rule) where
   before_start s zero within h = before_first (span_from t s)
   before_start s (suc n) within h =
       before_next (span_from t s) n
-      ∙ rw (before_start s n within (omega arith), unbroken_before t (span_from t s) rules n (end-after t s within) (omega arith)) refl
+      ∙ rw (
+        before_start s n within (omega arith),
+        unbroken_before t (span_from t s) rules n (end-after t s within)
+            (omega arith),
+      ) refl
 
   -- spans that are over have no more
-  pub breaks_over : (n : ℕ) (spans : List Stretch) → AreOver n spans → breaks_to t rules (suc (suc n)) spans ≡ breaks_to t rules (suc n) spans
+  pub breaks_over : (n : ℕ) (spans : List Stretch) → AreOver n spans → breaks_to t rules (suc (suc n)) spans
+      ≡ breaks_to t rules (suc n) spans
   breaks_over n [] over = refl
   breaks_over n (span ∷ spans) over =
-      rw (breaks_over n spans over.1, before_next span (suc n), unbroken_after t span rules (suc n) (omega (arith, over.0)), or_none (break_before t span rules (suc n))) refl
+      rw (
+        breaks_over n spans over.1,
+        before_next span (suc n),
+        unbroken_after t span rules (suc n)
+            (omega (arith, over.0)),
+        or_none (break_before t span rules (suc n)),
+      ) refl
 
 module _ (shown : Stretch → ℕ → StepMarks) where
-  pub marks_are : (t : Trace) (spans : List Stretch) → marks_over shown t spans ≡ marks_to shown (last_instant t + 1) spans
+  pub marks_are : (t : Trace) (spans : List Stretch) → marks_over shown t spans ≡ marks_to shown (last_instant t + 1)
+      spans
   marks_are t [] = refl
   marks_are t (span ∷ spans) = ap (λ ms. marks_within t span (shown span) ++ ms) (marks_are t spans)
 
-  pub marks_both : (n : ℕ) (spans : List Stretch) (span : Stretch) → marks_to shown n (spans ++ span ∷ []) ≡ marks_to shown n spans ++ marks_until span (shown span) n
+  pub marks_both : (n : ℕ) (spans : List Stretch) (span : Stretch) → marks_to shown n (spans ++ span ∷ [])
+      ≡ marks_to shown n spans ++ marks_until span (shown span) n
   marks_both n [] span = append-nil (marks_until span (shown span) n)
-  marks_both n (x ∷ spans) span = rw (marks_both n spans span) (sym (append_assoc (marks_until x (shown x) n) (marks_to shown n spans) (marks_until span (shown span) n)))
+  marks_both n (x ∷ spans) span = rw (marks_both n spans span)
+      (sym (append_assoc (marks_until x (shown x) n) (marks_to shown n spans) (marks_until span (shown span) n)))
 
   off_before : (j s e : ℕ) → j < s → (nat_lt 0 j && nat_le s j && nat_le j e) ≡ false
   off_before j s e h = grind (arith, nat_tests)
@@ -130,20 +149,27 @@ module _ (shown : Stretch → ℕ → StepMarks) where
   on_test : (j s e : ℕ) → 0 < j → s ≤ j → j ≤ e → (nat_lt 0 j && nat_le s j && nat_le j e) ≡ true
   on_test j s e a b c = grind (arith, nat_tests)
 
-  pub on_span : (span : Stretch) (n : ℕ) → span.start ≤ suc n → suc n ≤ span.end → marks_on span (shown span) (suc n) ≡ map (mark_at (suc n)) (kinds_of (shown span (suc n)))
+  pub on_span : (span : Stretch) (n : ℕ) → span.start ≤ suc n → suc n ≤ span.end → marks_on span (shown span) (suc n)
+      ≡ map (mark_at (suc n)) (kinds_of (shown span (suc n)))
   on_span span n from to = rw (on_test (suc n) span.start span.end (omega arith) from to) refl
 
   -- up to its start a span has no marks
   pub until_start : (span : Stretch) (n : ℕ) → n ≤ span.start → marks_until span (shown span) n ≡ []
   until_start span zero h = refl
-  until_start span (suc n) h = rw (until_start span n (omega arith), off_before n span.start span.end (omega arith)) refl
+  until_start span (suc n) h = rw (until_start span n (omega arith), off_before n span.start span.end (omega arith))
+      refl
 
   pub marks_first : (spans : List Stretch) → marks_to shown 1 spans ≡ []
   marks_first [] = refl
   marks_first (span ∷ spans) = marks_first spans
 
   -- spans that are over have no more
-  pub marks_no_more : (n : ℕ) (spans : List Stretch) → AreOver n spans → marks_to shown (suc (suc n)) spans ≡ marks_to shown (suc n) spans
+  pub marks_no_more : (n : ℕ) (spans : List Stretch) → AreOver n spans → marks_to shown (suc (suc n)) spans
+      ≡ marks_to shown (suc n) spans
   marks_no_more n [] over = refl
   marks_no_more n (span ∷ spans) over =
-      rw (marks_no_more n spans over.1, off_after (suc n) span.start span.end (omega (arith, over.0)), append-nil (marks_until span (shown span) (suc n))) refl
+      rw (
+        marks_no_more n spans over.1,
+        off_after (suc n) span.start span.end (omega (arith, over.0)),
+        append-nil (marks_until span (shown span) (suc n)),
+      ) refl

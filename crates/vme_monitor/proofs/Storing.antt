@@ -10,55 +10,103 @@ use Rattle.vme_monitor.specs.Walk.{AllRejoin, LinkValue, link_to_place, later_li
 
 later_layer : (n : ℕ) (l : List LinkValue) → sum_by link_marks (map (later_link_value n) l) ≡ sum_by link_marks l
 later_layer n [] = refl
-later_layer n (h ∷ l) = omega (arith, sum_by-cons link_marks (later_link_value n h) (map (later_link_value n) l), sum_by-cons link_marks h l, length-map h.marks (later_mark n), later_layer n l)
+later_layer n (h ∷ l) = omega (
+  arith,
+  sum_by-cons link_marks (later_link_value n h) (map (later_link_value n) l),
+  sum_by-cons link_marks h l,
+  length-map h.marks (later_mark n),
+  later_layer n l,
+)
 
-later_layers : (n : ℕ) (ls : List (List LinkValue)) → sum_by layer_marks (map (map (later_link_value n)) ls) ≡ sum_by layer_marks ls
+later_layers : (n : ℕ) (ls : List (List LinkValue)) → sum_by layer_marks (map (map (later_link_value n)) ls)
+    ≡ sum_by layer_marks ls
 later_layers n [] = refl
-later_layers n (l ∷ ls) = omega (arith, sum_by-cons layer_marks (map (later_link_value n) l) (map (map (later_link_value n)) ls), sum_by-cons layer_marks l ls, later_layer n l, later_layers n ls)
+later_layers n (l ∷ ls) = omega (
+  arith,
+  sum_by-cons layer_marks (map (later_link_value n) l)
+      (map (map (later_link_value n)) ls),
+  sum_by-cons layer_marks l ls,
+  later_layer n l,
+  later_layers n ls,
+)
 
 module _ {P : Type 0} where
   later_rows : (n : ℕ) (rows : List (Outcome P)) → sum_by row_marks (map (later_outcome n) rows) ≡ sum_by row_marks rows
   later_rows n [] = refl
-  later_rows n (r ∷ rows) = omega (arith, sum_by-cons row_marks (later_outcome n r) (map (later_outcome n) rows), sum_by-cons row_marks r rows, length-map r.marks (later_mark n), later_rows n rows)
+  later_rows n (r ∷ rows) = omega (
+    arith,
+    sum_by-cons row_marks (later_outcome n r) (map (later_outcome n) rows),
+    sum_by-cons row_marks r rows,
+    length-map r.marks (later_mark n),
+    later_rows n rows,
+  )
 
-  bridge_marks : (place : P → ℕ) (rows : List (Outcome P)) → sum_by link_marks (map (link_to_place place) rows) ≡ sum_by row_marks rows
+  bridge_marks : (place : P → ℕ) (rows : List (Outcome P)) → sum_by link_marks (map (link_to_place place) rows)
+      ≡ sum_by row_marks rows
   bridge_marks place [] = refl
-  bridge_marks place (r ∷ rows) = omega (arith, sum_by-cons link_marks (link_to_place place r) (map (link_to_place place) rows), sum_by-cons row_marks r rows, bridge_marks place rows)
+  bridge_marks place (r ∷ rows) = omega (
+    arith,
+    sum_by-cons link_marks (link_to_place place r)
+        (map (link_to_place place) rows),
+    sum_by-cons row_marks r rows,
+    bridge_marks place rows,
+  )
 
   pub unmoved_marks : (ms : List P) → sum_by row_marks (map nothing_shown ms) ≡ 0
   unmoved_marks [] = refl
-  unmoved_marks (m ∷ ms) = omega (arith, sum_by-cons row_marks (nothing_shown m) (map nothing_shown ms), unmoved_marks ms)
+  unmoved_marks (m ∷ ms) = omega (
+    arith,
+    sum_by-cons row_marks (nothing_shown m) (map nothing_shown ms),
+    unmoved_marks ms,
+  )
 
-  rejoined_marks : (merged : List P) (rows : List (Outcome P)) (links : List LinkValue) → AllRejoin merged rows links → sum_by link_marks links ≡ sum_by row_marks rows
+  rejoined_marks : (merged : List P) (rows : List (Outcome P)) (links : List LinkValue) → AllRejoin merged rows links
+      → sum_by link_marks links ≡ sum_by row_marks rows
   rejoined_marks merged [] [] r = refl
-  rejoined_marks merged (o ∷ os) (h ∷ hs) r = omega (arith, sum_by-cons link_marks h hs, sum_by-cons row_marks o os, ap (λ ms. length ms) r.2, rejoined_marks merged os hs r.3)
+  rejoined_marks merged (o ∷ os) (h ∷ hs) r = omega (
+    arith,
+    sum_by-cons link_marks h hs,
+    sum_by-cons row_marks o os,
+    ap (λ ms. length ms) r.2,
+    rejoined_marks merged os hs r.3,
+  )
   rejoined_marks merged [] (h ∷ hs) r = absurd r
   rejoined_marks merged (o ∷ os) [] r = absurd r
 
   -- rows that are joined keep their marks, in a layer of their own
-  pub marks_rejoined : (ls : List (List LinkValue)) (merged : List P) (rows : List (Outcome P)) (links : List LinkValue) → AllRejoin merged rows links → marks_of (ls ++ links ∷ []) (map nothing_shown merged) ≡ marks_of ls rows
+  pub marks_rejoined : (ls : List (List LinkValue)) (merged : List P) (rows : List (Outcome P)) (links : List LinkValue)
+      → AllRejoin merged rows links → marks_of (ls ++ links ∷ []) (map nothing_shown merged) ≡ marks_of ls rows
   marks_rejoined ls merged rows links r =
-      let all : sum_by layer_marks (ls ++ links ∷ []) ≡ sum_by layer_marks ls + sum_by layer_marks (links ∷ []) = sum_by-append layer_marks ls (links ∷ []) in
+      let all : sum_by layer_marks (ls ++ links ∷ []) ≡ sum_by layer_marks ls + sum_by layer_marks (links ∷ [])
+      = sum_by-append layer_marks ls (links ∷ []) in
       let one : sum_by layer_marks (links ∷ []) ≡ sum_by link_marks links + 0 = sum_by-cons layer_marks links [] in
       omega (arith, all, one, unmoved_marks merged, rejoined_marks merged rows links r)
 
   -- fresh rows have none
-  pub marks_fresh : (ls : List (List LinkValue)) (ms : List P) (rows : List (Outcome P)) → ls ≡ [] → rows ≡ map nothing_shown ms → marks_of ls rows ≡ 0
+  pub marks_fresh : (ls : List (List LinkValue)) (ms : List P) (rows : List (Outcome P)) → ls ≡ [] → rows
+      ≡ map nothing_shown ms → marks_of ls rows ≡ 0
   marks_fresh ls ms rows none fresh =
       let layers : sum_by layer_marks ls ≡ 0 = ap (sum_by layer_marks) none in
       let all : sum_by row_marks rows ≡ 0 = ap (sum_by row_marks) fresh ∙ unmoved_marks ms in
       omega (arith, layers, all)
 
   -- a table of two keeps the marks of both
-  pub marks_composed : (place : P → ℕ) (m n : ℕ) (h1 h2 h3 : List (List LinkValue)) (link_of : List LinkValue) (rows : List (Outcome P)) (ls : List (List LinkValue)) (ras : List (Outcome P)) (bs : List (List LinkValue)) (rbs : List (Outcome P))
-      → h1 ≡ map (map (later_link_value m)) ls → link_of ≡ map (link_to_place place) (map (later_outcome m) ras) → h2 ≡ h1 ++ link_of ∷ [] → h3 ≡ h2 ++ map (map (later_link_value n)) bs → rows ≡ map (later_outcome n) rbs
+  pub marks_composed : (place : P → ℕ) (m n : ℕ) (h1 h2 h3 : List (List LinkValue)) (link_of : List LinkValue)
+      (rows : List (Outcome P)) (ls : List (List LinkValue)) (ras : List (Outcome P)) (bs : List (List LinkValue))
+      (rbs : List (Outcome P))
+      → h1 ≡ map (map (later_link_value m)) ls → link_of ≡ map (link_to_place place) (map (later_outcome m) ras) → h2
+      ≡ h1 ++ link_of ∷ [] → h3 ≡ h2 ++ map (map (later_link_value n)) bs → rows ≡ map (later_outcome n) rbs
       → marks_of h3 rows ≡ marks_of ls ras + marks_of bs rbs
   marks_composed place m n h1 h2 h3 link_of rows ls ras bs rbs e1 eb e2 e3 er =
       let first : sum_by layer_marks h1 ≡ sum_by layer_marks ls = ap (sum_by layer_marks) e1 ∙ later_layers m ls in
-      let between : sum_by link_marks link_of ≡ sum_by row_marks ras = ap (sum_by link_marks) eb ∙ bridge_marks place (map (later_outcome m) ras) ∙ later_rows m ras in
-      let middle : sum_by layer_marks h2 ≡ sum_by layer_marks h1 + sum_by layer_marks (link_of ∷ []) = ap (sum_by layer_marks) e2 ∙ sum_by-append layer_marks h1 (link_of ∷ []) in
-      let one : sum_by layer_marks (link_of ∷ []) ≡ sum_by link_marks link_of + 0 = sum_by-cons layer_marks link_of [] in
-      let last : sum_by layer_marks h3 ≡ sum_by layer_marks h2 + sum_by layer_marks (map (map (later_link_value n)) bs) = ap (sum_by layer_marks) e3 ∙ sum_by-append layer_marks h2 (map (map (later_link_value n)) bs) in
+      let between : sum_by link_marks link_of ≡ sum_by row_marks ras = ap (sum_by link_marks) eb ∙ bridge_marks place
+      (map (later_outcome m) ras) ∙ later_rows m ras in
+      let middle : sum_by layer_marks h2 ≡ sum_by layer_marks h1 + sum_by layer_marks (link_of ∷ []) = ap
+      (sum_by layer_marks) e2 ∙ sum_by-append layer_marks h1 (link_of ∷ []) in
+      let one : sum_by layer_marks (link_of ∷ []) ≡ sum_by link_marks link_of + 0 = sum_by-cons layer_marks link_of
+      [] in
+      let last : sum_by layer_marks h3 ≡ sum_by layer_marks h2 + sum_by layer_marks (map (map (later_link_value n)) bs)
+      = ap (sum_by layer_marks) e3 ∙ sum_by-append layer_marks h2 (map (map (later_link_value n)) bs) in
       let ends : sum_by row_marks rows ≡ sum_by row_marks rbs = ap (sum_by row_marks) er ∙ later_rows n rbs in
       omega (arith, first, between, middle, one, last, later_layers n bs, ends)
 
@@ -69,15 +117,20 @@ module _ {P : Type 0} (place : P → ℕ) where
       → link_of ≡ map (link_to_place place) ras → h1 ≡ ls ++ link_of ∷ [] → h2 ≡ h1 ++ map (map (later_link_value n)) bs
       → rows ≡ map (later_outcome n) rbs → marks_of h2 rows ≡ marks_of ls ras + marks_of bs rbs
   marks_appended n h1 h2 link_of rows ls ras bs rbs eb e1 e2 er =
-      let between : sum_by link_marks link_of ≡ sum_by row_marks ras = ap (sum_by link_marks) eb ∙ bridge_marks place ras in
-      let middle : sum_by layer_marks h1 ≡ sum_by layer_marks ls + sum_by layer_marks (link_of ∷ []) = ap (sum_by layer_marks) e1 ∙ sum_by-append layer_marks ls (link_of ∷ []) in
-      let one : sum_by layer_marks (link_of ∷ []) ≡ sum_by link_marks link_of + 0 = sum_by-cons layer_marks link_of [] in
-      let last : sum_by layer_marks h2 ≡ sum_by layer_marks h1 + sum_by layer_marks (map (map (later_link_value n)) bs) = ap (sum_by layer_marks) e2 ∙ sum_by-append layer_marks h1 (map (map (later_link_value n)) bs) in
+      let between : sum_by link_marks link_of ≡ sum_by row_marks ras = ap (sum_by link_marks) eb ∙ bridge_marks place
+      ras in
+      let middle : sum_by layer_marks h1 ≡ sum_by layer_marks ls + sum_by layer_marks (link_of ∷ []) = ap
+      (sum_by layer_marks) e1 ∙ sum_by-append layer_marks ls (link_of ∷ []) in
+      let one : sum_by layer_marks (link_of ∷ []) ≡ sum_by link_marks link_of + 0 = sum_by-cons layer_marks link_of
+      [] in
+      let last : sum_by layer_marks h2 ≡ sum_by layer_marks h1 + sum_by layer_marks (map (map (later_link_value n)) bs)
+      = ap (sum_by layer_marks) e2 ∙ sum_by-append layer_marks h1 (map (map (later_link_value n)) bs) in
       let ends : sum_by row_marks rows ≡ sum_by row_marks rbs = ap (sum_by row_marks) er ∙ later_rows n rbs in
       omega (arith, between, middle, one, last, later_layers n bs, ends)
 
 -- sums up to a greatest number
-pub capped_sum : (a b c d count most : ℕ) → c ≡ min a most → d ≡ min b most → count ≡ min (c + d) most → count ≡ min (a + b) most
+pub capped_sum : (a b c d count most : ℕ) → c ≡ min a most → d ≡ min b most → count ≡ min (c + d) most → count
+    ≡ min (a + b) most
 capped_sum a b c d count most first second sum = omega (arith, first, second, sum)
 
 pub capped_add : (a b c count most : ℕ) → c ≡ min a most → count ≡ min (c + b) most → count ≡ min (a + b) most

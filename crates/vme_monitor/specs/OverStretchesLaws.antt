@@ -2,7 +2,8 @@ use Rattle.std.proofs.Common.{◌≡◌, ℕ, suc, ◌+◌, ◌<◌, ◌≤◌, 
 use Rattle.std.proofs.Common.{if◌then◌else◌}
 use Rattle.vme_trace.specs.Levels.{Levels, is_idle}
 use Rattle.vme_monitor.specs.Run.{quiet}
-use Rattle.vme_monitor.specs.OverStretches.{phase_place, phase_nth, phase_alertness, faintness_by, noted_faintness, spanned}
+use Rattle.vme_monitor.specs.OverStretches.{phase_place, phase_nth, phase_alertness, faintness_by, noted_faintness}
+use Rattle.vme_monitor.specs.OverStretches.{spanned}
 use Rattle.vme_monitor.specs.OverStretches.{judging, waiting}
 use Rattle.vme_monitor.specs.declared.mark.Fault.{Fault}
 use Rattle.vme_monitor.specs.declared.mark.StepMarks.{StepMarks}
@@ -54,7 +55,8 @@ module _ {P S : Type 0} (begin : Levels → P) (opens : Levels → StepMarks) (r
   spanned_unmoved Reset before after seen h = absurd (never_waiting seen.end seen.inner (omega (arith, h)))
   spanned_unmoved Ended before after seen h = refl
 
-  either : (b : Bool) (x y : Next (StretchPhase P)) (n : ℕ) → phase_alertness x.memory ≤ n → phase_alertness y.memory ≤ n
+  either : (b : Bool) (x y : Next (StretchPhase P)) (n : ℕ) → phase_alertness x.memory ≤ n → phase_alertness y.memory ≤
+      n
       → phase_alertness (if b then x else y).memory ≤ n
   either true x y n h k = h
   either false x y n h k = k
@@ -72,7 +74,8 @@ module _ {P S : Type 0} (begin : Levels → P) (opens : Levels → StepMarks) (r
   judging_calm p before after None (Some s) h = omega arith
 
   -- but for what ends a span, a machine waits after a reset, waits, judges and has ended, in this order
-  pub spanned_calm : (m : StretchPhase P) (before after : Levels) (seen : StretchObservation S) → 0 < noted_faintness seen
+  pub spanned_calm : (m : StretchPhase P) (before after : Levels) (seen : StretchObservation S) → 0 < noted_faintness
+      seen
       → phase_alertness (spanned begin opens resets ends next m before after seen).memory ≤ phase_alertness m
   spanned_calm Waiting before after seen h = waiting_calm Waiting after (omega arith)
   spanned_calm (Judging p) before after seen h = judging_calm p before after seen.end seen.inner h

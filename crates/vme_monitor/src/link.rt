@@ -9,7 +9,8 @@ ghost use Rattle.vme_monitor.specs.Run.{answer_kind as answer_kind_of, answered_
 ghost use Rattle.vme_monitor.specs.Run.{cycle_kind as cycle_kind_of, extended, kinds_of, mark_at, outcome_at};
 ghost use Rattle.vme_monitor.specs.Run.{tenure_kind as tenure_kind_of, when as when_shown};
 ghost use Rattle.vme_monitor.specs.declared.mark.MarkKind.TheVariants.{Transfer};
-ghost use Rattle.vme_monitor.specs.Walk.{link_to_place, link_value, later_break as later_break_of, later_link_value, later_mark};
+ghost use Rattle.vme_monitor.specs.Walk.{link_to_place, link_value, later_break as later_break_of, later_link_value};
+ghost use Rattle.vme_monitor.specs.Walk.{later_mark};
 ghost use Rattle.vme_monitor.specs.Walk.{later_outcome, outcome_of};
 
 use crate::machine::Enumerable;

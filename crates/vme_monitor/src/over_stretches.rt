@@ -270,6 +270,7 @@ pub fn rules_over_captures<R: Rules>()
         ≡ has_span (judged_spans t) }
     ensures memory { (t : Trace) (span : Stretch) (n : ℕ) → malformed_step t ≡ None → t.opening.slots ≤ 21
         → IsSpanOf t span → span.start ≤ n → n < span.end → n ≤ length t.steps
-        → (⟦<RuleMonitor<R> as Monitor>⟧.run (⟦<RuleMonitor<R> as Monitor>⟧.begin t.opening) t.opening (take n t.steps)).leaving
+        → (⟦<RuleMonitor<R> as Monitor>⟧.run (⟦<RuleMonitor<R> as Monitor>⟧.begin t.opening) t.opening
+        (take n t.steps)).leaving
         ≡ Judging (memory_from (noticed R.observation R.next) t (R.begin (levels_at t span.start)) span.start n) }
 {}

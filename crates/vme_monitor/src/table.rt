@@ -12,7 +12,7 @@ ghost use Rattle.vme_monitor.specs.Outcome.{IsWithin, inside-prop, StandsFor, fo
 ghost use Rattle.vme_monitor.specs.Run.{noticed, run_of};
 ghost use Rattle.vme_monitor.specs.Walk.{link_values, later_link_value, outcome_of, reach};
 ghost use Rattle.vme_monitor.specs.Tables.{HasRoomFor, outcome};
-ghost use Rattle.vme_monitor.specs.Underway.{GiveRuns, seen_in};
+ghost use Rattle.vme_monitor.specs.StepRuns.{GiveRuns, seen_in};
 
 use crate::link::{
     Link, TableRow, delay_links, delay_rows, fresh_rows, later_links, later_rows, links_in,
@@ -32,7 +32,8 @@ pub struct Table<P: Enumerable> {
     steps: u32,
     layers: Vec<Vec<Link>>,
     rows: Vec<TableRow<P>>,
-    ghost full: { (p : P) → IsTrue (is_some (reach (link_values layers.items) (map outcome_of rows.items) (P.place_of p))) },
+    ghost full: { (p : P)
+        → IsTrue (is_some (reach (link_values layers.items) (map outcome_of rows.items) (P.place_of p))) },
     ghost inside: { (p : P) → IsWithin steps (outcome layers.items rows.items p
         (P.place_of p)) } by { inside-prop steps (λ (p : P). outcome layers.items rows.items p (P.place_of p)) },
 }
@@ -269,7 +270,8 @@ fn later_layers(
     layers: &[Vec<Link>],
     by: u32,
 ) -> Result<(), AllocError>
-    ensures { OnOk result (link_values all.new.items ≡ link_values all.old.items ++ map (map (later_link_value by)) (link_values layers.now)) }
+    ensures { OnOk result (link_values all.new.items ≡ link_values all.old.items ++ map (map (later_link_value by))
+        (link_values layers.now)) }
 {
     for layer in layers {
         let links = later_links(alloc, layer.as_slice(), by)?;

@@ -13,7 +13,8 @@ pub themselves : (blocks : List Block) → AreTakenFrom blocks blocks → AreDel
 themselves blocks of = record { of = of; all = All-contains_itself blocks; count = omega arith }
 
 -- so are the blocks and some of them behind
-pub with_more : (blocks deliveries again : List Block) → deliveries ≡ blocks ++ again → AreTakenFrom blocks deliveries → length deliveries ≤ 2 * length blocks → AreDeliveries blocks deliveries
+pub with_more : (blocks deliveries again : List Block) → deliveries ≡ blocks ++ again → AreTakenFrom blocks deliveries
+    → length deliveries ≤ 2 * length blocks → AreDeliveries blocks deliveries
 with_more blocks deliveries again is of count = record {
   of = of;
   all = λ k d low. rw is (Contains-append_left blocks again _ (All-contains_itself blocks k d low));
@@ -21,7 +22,8 @@ with_more blocks deliveries again is of count = record {
 }
 
 -- and any order of these
-pub reordered : (blocks before after : List Block) → IsPermutation before after → AreDeliveries blocks before → AreDeliveries blocks after
+pub reordered : (blocks before after : List Block) → IsPermutation before after → AreDeliveries blocks before
+    → AreDeliveries blocks after
 reordered blocks before after p d = record {
   of = All-permutation (λ (b : Block). slice_get blocks b.number ≡ Some b) before after p d.of;
   all = λ k b low. Contains-permutation before after _ p (d.all k b low);
@@ -29,13 +31,16 @@ reordered blocks before after p d = record {
 }
 
 -- what a slice of all of a vector leaves there
-written_back : (lent before after : List Block) (len : ℕ) → len ≡ length before → lent ≡ before → length after ≡ length lent → take len (after ++ drop (length after) before) ≡ after
+written_back : (lent before after : List Block) (len : ℕ) → len ≡ length before → lent ≡ before → length after
+    ≡ length lent → take len (after ++ drop (length after) before) ≡ after
 written_back lent before after len all same long =
     let rest : length before ≤ length after = omega (arith, long, ap length same) in
     let whole : len ≡ length after = omega (arith, all, long, ap length same) in
     rw (drop_of_length-le before rest) (rw whole (take-append_seam after []))
 
-pub shuffled : (blocks lent before after : List Block) (len : ℕ) → len ≡ length before → lent ≡ before → IsPermutation lent after → AreDeliveries blocks before → AreDeliveries blocks (take len (after ++ drop (length after) before))
+pub shuffled : (blocks lent before after : List Block) (len : ℕ) → len ≡ length before → lent ≡ before
+    → IsPermutation lent after → AreDeliveries blocks before → AreDeliveries blocks
+    (take len (after ++ drop (length after) before))
 shuffled blocks lent before after len all same p d =
     subst (AreDeliveries blocks) (sym (written_back lent before after len all same (length_permutation lent after p)))
     (reordered blocks lent after p (subst (AreDeliveries blocks) (sym same) d))

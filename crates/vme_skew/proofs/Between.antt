@@ -1,5 +1,6 @@
 -- The step from some levels to others.
-use Rattle.std.proofs.Common.{◌≡◌, ◌≢◌, ℕ, zero, suc, ◌+◌, ◌<◌, ◌≤◌, Bool, true, false, cond, not, ◌&&◌, ◌||◌, List, [], ◌∷◌, ◌++◌, length, map, refl, sym, ap, ◌∙◌, arith, inl, inr, ◌⊎◌}
+use Rattle.std.proofs.Common.{◌≡◌, ◌≢◌, ℕ, zero, suc, ◌+◌, ◌<◌, ◌≤◌, Bool, true, false, cond, not, ◌&&◌, ◌||◌, List, []}
+use Rattle.std.proofs.Common.{◌∷◌, ◌++◌, length, map, refl, sym, ap, ◌∙◌, arith, inl, inr, ◌⊎◌}
 use Rattle.std.specs.Prelude.{nat_le, nat_lt, ◌==◌}
 use Rattle.std.proofs.lemmas.Bool.{false≢true}
 use Rattle.std.proofs.lemmas.Bool.Decides.{nat_tests}
@@ -48,17 +49,20 @@ pub record AreOfOne (v w : Levels) : Type 0 where
 -- what no line distinguishes is the same
 pub all_alike : (v w : Levels) → AreOfOne v w → any (differs v w) 0 line_count ≡ false → v ≡ w
 all_alike v w one none =
-    same_levels v w one.slots one.first one.second (λ l lt. alike v w l (any-fails (differs v w) 0 line_count l none (omega arith) lt))
+    same_levels v w one.slots one.first one.second
+    (λ l lt. alike v w l (any-fails (differs v w) 0 line_count l none (omega arith) lt))
 
 -- the changes from some levels to others lead there
 pub changes-lead : (v w : Levels) → AreOfOne v w → changed v (changes_between v w) ≡ w
 changes-lead v w one =
-    same_levels (changed v (changes_between v w)) w (slots-kept v (changes_between v w) ∙ one.slots) (length-changed v (changes_between v w) ∙ one.first) one.second
+    same_levels (changed v (changes_between v w)) w (slots-kept v (changes_between v w) ∙ one.slots)
+    (length-changed v (changes_between v w) ∙ one.first) one.second
     (λ l lt.
     changed-those (differs v w) (level_at w) v line_count (omega (arith, one.first)) l
     ∙ by_test (nat_lt l line_count) (differs v w l) l (is_below l line_count lt) refl)
   where
-    by_test : (a b : Bool) (l : ℕ) → a ≡ true → differs v w l ≡ b → cond (a && b) (level_at w l) (level_at v l) ≡ level_at w l
+    by_test : (a b : Bool) (l : ℕ) → a ≡ true → differs v w l ≡ b → cond (a && b) (level_at w l) (level_at v l)
+        ≡ level_at w l
     by_test true true l e h = refl
     by_test true false l e h = alike v w l h
     by_test false b l e h = absurd (false≢true e)
@@ -66,7 +70,8 @@ changes-lead v w one =
 pub step-leads : (time : ℕ) (v w : Levels) → AreOfOne v w → levels_after v (step_between time v w) ≡ w
 step-leads time v w one = by_test (any (differs v w) 0 line_count) refl
   where
-    by_test : (b : Bool) → any (differs v w) 0 line_count ≡ b → levels_after v (cond b (made_step time (changes_between v w)) []) ≡ w
+    by_test : (b : Bool) → any (differs v w) 0 line_count ≡ b
+        → levels_after v (cond b (made_step time (changes_between v w)) []) ≡ w
     by_test true e = changes-lead v w one
     by_test false e = all_alike v w one e
 
@@ -110,18 +115,28 @@ pub record FirstIs (v : Levels) (k : ℕ) (c : Change) (cs : List Change) : Type
 pub first_is : (v : Levels) (k : ℕ) (c : Change) (cs : List Change) → are_changes v k (c ∷ cs) ≡ true → FirstIs v k c cs
 unfolding are_changes
 first_is v k c cs h =
-    let parts = four_parts (nat_le k c.line) (has_line v.slots c.line) (not (same_level (level_at v c.line) c.level)) (are_changes v (c.line + 1) cs) h in
-    record { from = from_test k c.line parts.0; exists = parts.1; other = not_true (same_level (level_at v c.line) c.level) parts.2; rest = parts.3 }
+    let parts = four_parts (nat_le k c.line) (has_line v.slots c.line) (not (same_level (level_at v c.line) c.level))
+    (are_changes v (c.line + 1) cs) h in
+    record {
+      from = from_test k c.line parts.0;
+      exists = parts.1;
+      other = not_true
+          (same_level (level_at v c.line) c.level) parts.2;
+      rest = parts.3;
+    }
 
 -- no line below the lowest changes
-pub lines_below : (v : Levels) (k : ℕ) (cs : List Change) (l : ℕ) → are_changes v k cs ≡ true → l < k → is_changed cs l ≡ false
+pub lines_below : (v : Levels) (k : ℕ) (cs : List Change) (l : ℕ) → are_changes v k cs ≡ true → l < k → is_changed cs l
+    ≡ false
 lines_below v k [] l h lt = refl
 lines_below v k (c ∷ cs) l h lt =
     let is = first_is v k c cs h in
-    neither (c.line == l) (is_changed cs l) (other_number c.line l (omega (arith, is.from, lt))) (lines_below v (c.line + 1) cs l is.rest (omega (arith, is.from, lt)))
+    neither (c.line == l) (is_changed cs l) (other_number c.line l (omega (arith, is.from, lt)))
+    (lines_below v (c.line + 1) cs l is.rest (omega (arith, is.from, lt)))
 
 -- a line that changes exists
-pub changed_exists : (v : Levels) (k : ℕ) (cs : List Change) (l : ℕ) → are_changes v k cs ≡ true → is_changed cs l ≡ true → has_line v.slots l ≡ true
+pub changed_exists : (v : Levels) (k : ℕ) (cs : List Change) (l : ℕ) → are_changes v k cs ≡ true → is_changed cs l
+    ≡ true → has_line v.slots l ≡ true
 changed_exists v k [] l h is' = absurd (false≢true is')
 changed_exists v k (c ∷ cs) l h is' =
     let is = first_is v k c cs h in
@@ -141,44 +156,57 @@ pub exists_below : (slots l : ℕ) → has_line slots l ≡ true → l < line_co
 exists_below slots l h = by_tests (nat_lt l (grant 0 0)) (is_grant l) (is_slot_iack l) refl refl refl h
   where
     by_tests : (a b c : Bool) → nat_lt l (grant 0 0) ≡ a → is_grant l ≡ b → is_slot_iack l ≡ c
-        → cond a true (cond b (nat_le (grant_place l) slots) (cond c (nat_le l (iack slots)) (nat_lt l line_count))) ≡ true → l < line_count
+        → cond a true (cond b (nat_le (grant_place l) slots) (cond c (nat_le l (iack slots)) (nat_lt l line_count)))
+        ≡ true → l < line_count
     by_tests true b c is_low is_grant_net is_iack h = omega (arith, less_than l (grant 0 0) is_low)
-    by_tests false true c is_low is_grant_net is_iack h = omega (arith, less_than l (iack 1) (second_of (nat_le (grant 0 0) l) (nat_lt l (iack 1)) is_grant_net))
-    by_tests false false true is_low is_grant_net is_iack h = omega (arith, less_than l (D 0) (second_of (nat_le (iack 1) l) (nat_lt l (D 0)) is_iack))
+    by_tests false true c is_low is_grant_net is_iack h = omega
+        (arith, less_than l (iack 1) (second_of (nat_le (grant 0 0) l) (nat_lt l (iack 1)) is_grant_net))
+    by_tests false false true is_low is_grant_net is_iack h = omega
+        (arith, less_than l (D 0) (second_of (nat_le (iack 1) l) (nat_lt l (D 0)) is_iack))
     by_tests false false false is_low is_grant_net is_iack h = less_than l line_count h
 
--- The changes from levels to those that they lead to are these: seen from levels that are the same on the lines at hand.
-changes_again : (u v : Levels) (k : ℕ) (cs : List Change) → length u.levels ≡ line_count → ((l : ℕ) → k ≤ l → level_at u l ≡ level_at v l)
+-- The changes from levels to those that they lead to are these: seen from levels that are the same on the lines at
+-- hand.
+changes_again : (u v : Levels) (k : ℕ) (cs : List Change) → length u.levels ≡ line_count
+    → ((l : ℕ) → k ≤ l → level_at u l ≡ level_at v l)
     → are_changes v k cs ≡ true → map (change_to (changed u cs)) (those (differs v (changed u cs)) k line_count) ≡ cs
 unfolding changed
 changes_again u v k [] whole same h =
-    ap (map (change_to u)) (those-none (differs v u) k line_count (fails-any (differs v u) k line_count (λ l low lt. alike_differs v u l (sym (same l low)))))
+    ap (map (change_to u)) (those-none (differs v u) k line_count (fails-any (differs v u) k line_count
+    (λ l low lt. alike_differs v u l (sym (same l low)))))
 changes_again u v k (c ∷ cs) whole same h =
     let is = first_is v k c cs h in
     let next : Levels = set_level u c.line c.level in
     let end : Levels = changed next cs in
     let below : c.line < line_count = exists_below v.slots c.line is.exists in
     let here : level_at end c.line ≡ c.level =
-    level-kept next cs c.line (lines_below v (c.line + 1) cs c.line is.rest (omega arith)) ∙ set_same u c.line c.level (omega (arith, below, whole)) in
+    level-kept next cs c.line (lines_below v (c.line + 1) cs c.line is.rest (omega arith)) ∙ set_same u c.line c.level
+    (omega (arith, below, whole)) in
     let kept = λ (l : ℕ) (low : k ≤ l) (lt : l < c.line).
     let ne : l ≢ c.line = omega (arith, lt) in
-    alike_differs v end l (sym (level-kept next cs l (lines_below v (c.line + 1) cs l is.rest (omega (arith, lt))) ∙ set_other u c.line l c.level ne ∙ same l low)) in
-    let differs_here : differs v end c.line ≡ true = ap (λ (x : Level). not (same_level (level_at v c.line) x)) here ∙ ap not is.other in
+    alike_differs v end l (sym (level-kept next cs l (lines_below v (c.line + 1) cs l is.rest (omega (arith, lt)))
+    ∙ set_other u c.line l c.level ne ∙ same l low)) in
+    let differs_here : differs v end c.line ≡ true = ap (λ (x : Level). not (same_level (level_at v c.line) x)) here
+    ∙ ap not is.other in
     let first : those (differs v end) k line_count ≡ c.line ∷ those (differs v end) (c.line + 1) line_count =
-    those-next (differs v end) k line_count c.line is.from below differs_here (fails-any (differs v end) k c.line kept) in
+    those-next (differs v end) k line_count c.line is.from below differs_here (fails-any (differs v end) k c.line kept)
+    in
     ap (map (change_to end)) first
     ∙ ap (λ (x : Level). to_level c.line x ∷ map (change_to end) (those (differs v end) (c.line + 1) line_count)) here
     ∙ ap (λ (ds : List Change). c ∷ ds) (changes_again next v (c.line + 1) cs (length-set_level u c.line c.level whole)
-    (λ l low. let ne : l ≢ c.line = omega (arith, low) in set_other u c.line l c.level ne ∙ same l (omega (arith, low, is.from))) is.rest)
+    (λ l low. let ne : l ≢ c.line = omega (arith, low) in set_other u c.line l c.level ne
+    ∙ same l (omega (arith, low, is.from))) is.rest)
   where
     to_level : ℕ → Level → Change
     to_level l x = record { line = l; level = x }
 
-    length-set_level : (v : Levels) (l : ℕ) (x : Level) → length v.levels ≡ line_count → length (set_level v l x).levels ≡ line_count
+    length-set_level : (v : Levels) (l : ℕ) (x : Level) → length v.levels ≡ line_count → length (set_level v l x).levels
+        ≡ line_count
     length-set_level v l x e = set_all v l x e
 
 -- a step that may follow is what lies between the levels on both sides
-pub step-between : (time : ℕ) (v : Levels) (cs : List Change) → length v.levels ≡ line_count → are_changes v 0 cs ≡ true → is_empty cs ≡ false
+pub step-between : (time : ℕ) (v : Levels) (cs : List Change) → length v.levels ≡ line_count → are_changes v 0 cs ≡ true
+    → is_empty cs ≡ false
     → step_between time v (changed v cs) ≡ made_step time cs
 step-between time v cs whole h some = by_test (any (differs v (changed v cs)) 0 line_count) refl
   where
@@ -192,7 +220,8 @@ step-between time v cs whole h some = by_test (any (differs v (changed v cs)) 0 
         → cond b (made_step time (changes_between v (changed v cs))) [] ≡ made_step time cs
     by_test true e = ap (made_step time) again
     by_test false e =
-        let none : cs ≡ [] = sym again ∙ ap (map (change_to (changed v cs))) (those-none (differs v (changed v cs)) 0 line_count e) in
+        let none : cs ≡ [] = sym again ∙ ap (map (change_to (changed v cs))) (those-none (differs v (changed v cs)) 0
+        line_count e) in
         absurd (false≢true (sym some ∙ empty cs none))
 
 -- ---- the step that lies between levels may follow
@@ -206,7 +235,8 @@ not_empty : (cs : List Change) → 0 < length cs → is_empty cs ≡ false
 not_empty [] h = absurd (omega (arith, h))
 not_empty (c ∷ cs) h = refl
 
-may : (v : Levels) (n clock : ℕ) (step : Step) → ((n == 0) || nat_lt clock step.time) ≡ true → is_empty step.changes ≡ false → are_changes v 0 step.changes ≡ true → may_follow v n clock step ≡ true
+may : (v : Levels) (n clock : ℕ) (step : Step) → ((n == 0) || nat_lt clock step.time) ≡ true → is_empty step.changes
+    ≡ false → are_changes v 0 step.changes ≡ true → may_follow v n clock step ≡ true
 may v n clock step a b c = rw (a, b, c) refl
 
 four_again : (a b c d : Bool) → a ≡ true → b ≡ true → c ≡ false → d ≡ true → (a && b && not c && d) ≡ true
@@ -221,15 +251,18 @@ unfolding are_changes
 lower v k [] h = refl
 lower v k (c ∷ cs) h =
     let is = first_is v (k + 1) c cs h in
-    four_again (nat_le k c.line) (has_line v.slots c.line) (same_level (level_at v c.line) c.level) (are_changes v (c.line + 1) cs)
+    four_again (nat_le k c.line) (has_line v.slots c.line) (same_level (level_at v c.line) c.level)
+    (are_changes v (c.line + 1) cs)
     (at_least k c.line (omega (arith, is.from))) is.exists is.other is.rest
 
 -- the changes between levels are changes, from a line on
-are_between : (v w : Levels) → Leads v w → (d k : ℕ) → k + d ≡ line_count → are_changes v k (map (change_to w) (those (differs v w) k line_count)) ≡ true
+are_between : (v w : Levels) → Leads v w → (d k : ℕ) → k + d ≡ line_count → are_changes v k
+    (map (change_to w) (those (differs v w) k line_count)) ≡ true
 unfolding are_changes
 are_between v w leads zero k e =
     let end : k ≡ line_count = omega (arith, e) in
-    ap (λ (ls : List ℕ). are_changes v k (map (change_to w) ls)) (those-none (differs v w) k line_count (fails-any (differs v w) k line_count (λ l low lt. absurd (omega (arith, low, lt, end)))))
+    ap (λ (ls : List ℕ). are_changes v k (map (change_to w) ls)) (those-none (differs v w) k line_count
+    (fails-any (differs v w) k line_count (λ l low lt. absurd (omega (arith, low, lt, end)))))
 are_between v w leads (suc d) k e = by_test (differs v w k) refl (are_between v w leads d (k + 1) (omega (arith, e)))
   where
     rest : List Change
@@ -238,21 +271,32 @@ are_between v w leads (suc d) k e = by_test (differs v w k) refl (are_between v 
     none_before : any (differs v w) k k ≡ false
     none_before = fails-any (differs v w) k k (λ l low lt. absurd (omega (arith, low, lt)))
 
-    by_test : (b : Bool) → differs v w k ≡ b → are_changes v (k + 1) rest ≡ true → are_changes v k (map (change_to w) (those (differs v w) k line_count)) ≡ true
+    by_test : (b : Bool) → differs v w k ≡ b → are_changes v (k + 1) rest ≡ true → are_changes v k
+        (map (change_to w) (those (differs v w) k line_count)) ≡ true
     by_test true h so_far =
-        ap (λ (ls : List ℕ). are_changes v k (map (change_to w) ls)) (those-next (differs v w) k line_count k (omega arith) (omega (arith, e)) h none_before)
-        ∙ four_again (nat_le k k) (has_line v.slots k) (same_level (level_at v k) (level_at w k)) (are_changes v (k + 1) rest)
+        ap (λ (ls : List ℕ). are_changes v k (map (change_to w) ls)) (those-next (differs v w) k line_count k
+        (omega arith) (omega (arith, e)) h none_before)
+        ∙ four_again (nat_le k k) (has_line v.slots k) (same_level (level_at v k) (level_at w k))
+        (are_changes v (k + 1) rest)
         (at_least k k (omega arith)) (leads.exist k h) (not_true (same_level (level_at v k) (level_at w k)) h) so_far
     by_test false h so_far =
         let only : any (differs v w) k (k + 1) ≡ false =
-        fails-any (differs v w) k (k + 1) (λ l low lt. let here : l ≡ k = omega (arith, low, lt) in ap (differs v w) here ∙ h) in
+        fails-any (differs v w) k (k + 1) (λ l low lt. let here : l ≡ k = omega (arith, low, lt) in
+        ap (differs v w) here ∙ h) in
         let is : those (differs v w) k line_count ≡ those (differs v w) (k + 1) line_count =
-        those-split (differs v w) k (k + 1) line_count (omega arith) (omega (arith, e)) ∙ ap (λ (ls : List ℕ). ls ++ those (differs v w) (k + 1) line_count) (those-none (differs v w) k (k + 1) only) in
+        those-split (differs v w) k (k + 1) line_count (omega arith) (omega (arith, e))
+        ∙ ap (λ (ls : List ℕ). ls ++ those (differs v w) (k + 1) line_count) (those-none (differs v w) k (k + 1) only)
+        in
         ap (λ (ls : List ℕ). are_changes v k (map (change_to w) ls)) is ∙ lower v k rest so_far
 
-pub between-may : (v w : Levels) (n clock time : ℕ) → Leads v w → any (differs v w) 0 line_count ≡ true → ((n == 0) || nat_lt clock time) ≡ true
+pub between-may : (v w : Levels) (n clock time : ℕ) → Leads v w → any (differs v w) 0 line_count ≡ true
+    → ((n == 0) || nat_lt clock time) ≡ true
     → may_follow v n clock (record { time = time; changes = changes_between v w }) ≡ true
 between-may v w n clock time leads some later =
     may v n clock (record { time = time; changes = changes_between v w }) later
-    (not_empty (changes_between v w) (omega (arith, length-map (those (differs v w) 0 line_count) (change_to w), some_of (differs v w) line_count some)))
+    (not_empty (changes_between v w) (omega (
+      arith,
+      length-map (those (differs v w) 0 line_count) (change_to w),
+      some_of (differs v w) line_count some,
+    )))
     (are_between v w leads line_count 0 refl)

@@ -1,5 +1,6 @@
 -- The laws of what a recording is settled to.
-use Rattle.std.proofs.Common.{◌≡◌, ℕ, zero, suc, ◌+◌, ◌-◌, ◌<◌, ◌≤◌, Bool, true, false, cond, not, ◌&&◌, ◌||◌, List, [], ◌∷◌, ◌++◌, length, take, refl, sym, ap, ◌∙◌, subst, arith, inl, inr, ◌⊎◌}
+use Rattle.std.proofs.Common.{◌≡◌, ℕ, zero, suc, ◌+◌, ◌-◌, ◌<◌, ◌≤◌, Bool, true, false, cond, not, ◌&&◌, ◌||◌, List, []}
+use Rattle.std.proofs.Common.{◌∷◌, ◌++◌, length, take, refl, sym, ap, ◌∙◌, subst, arith, inl, inr, ◌⊎◌}
 use Rattle.std.specs.Prelude.{Option, None, Some, slice_get, nat_lt, ◌==◌}
 use Rattle.std.proofs.lemmas.Bool.{false≢true}
 use Rattle.std.proofs.lemmas.Bool.Decides.{nat_tests}
@@ -21,7 +22,8 @@ use Rattle.vme_bind.specs.Recording.{differs, changes_between, step_between}
 use Rattle.vme_bind.proofs.RecorderLemmas.{alike_differs, bool_cases}
 use Rattle.vme_bind.proofs.CaptureLemmas.{length-changed}
 use Rattle.vme_skew.specs.Settled.{IsRecording, begins_behind, group_start, settled, step_to, steps_before}
-use Rattle.vme_skew.proofs.Between.{AreOfOne, Leads, all_alike, between-may, changed_exists, changes-lead, nothing-between, step-between, step-leads}
+use Rattle.vme_skew.proofs.Between.{AreOfOne, Leads, all_alike, between-may, changed_exists, changes-lead}
+use Rattle.vme_skew.proofs.Between.{nothing-between, step-between, step-leads}
 use Rattle.vme_skew.proofs.Growing.{levels-kept, levels-last, start-le, time-kept, time-last}
 
 -- ---- the steps of a recording
@@ -48,21 +50,26 @@ pub record Stands (v : Levels) (n clock : ℕ) (step : Step) : Type 0 where
 
 pub stands : (v : Levels) (n clock : ℕ) (step : Step) → may_follow v n clock step ≡ true → Stands v n clock step
 stands v n clock step h =
-    let parts = three_parts ((n == 0) || nat_lt clock step.time) (not (is_empty step.changes)) (are_changes v 0 step.changes) h in
+    let parts = three_parts ((n == 0) || nat_lt clock step.time) (not (is_empty step.changes))
+    (are_changes v 0 step.changes) h in
     record { later = parts.0; some = not_true (is_empty step.changes) parts.1; changes = parts.2 }
 
-pub step-stands : (t : Trace) → malformed_step t ≡ None → (n : ℕ) (step : Step) → n < length t.steps → slice_get t.steps n ≡ Some step → Stands (levels_at t n) n (time_at t n) step
+pub step-stands : (t : Trace) → malformed_step t ≡ None → (n : ℕ) (step : Step) → n < length t.steps → slice_get t.steps
+    n ≡ Some step → Stands (levels_at t n) n (time_at t n) step
 unfolding malformed_step
 step-stands t formed n step lt found =
-    let sound : is_step t n ≡ true = not_false (is_step t n) (any-fails (λ i. not (is_step t i)) 0 (length t.steps) n (least-none-any (λ i. not (is_step t i)) 0 (length t.steps) formed) (omega arith) lt) in
-    stands (levels_at t n) n (time_at t n) step (sym (fits-at t n (levels_at t n) (time_at t n) step refl refl found) ∙ sound)
+    let sound : is_step t n ≡ true = not_false (is_step t n) (any-fails (λ i. not (is_step t i)) 0 (length t.steps) n
+    (least-none-any (λ i. not (is_step t i)) 0 (length t.steps) formed) (omega arith) lt) in
+    stands (levels_at t n) n (time_at t n) step (sym (fits-at t n (levels_at t n) (time_at t n) step refl refl found)
+    ∙ sound)
 
 pub slots-at : (t : Trace) (n : ℕ) → (levels_at t n).slots ≡ t.opening.slots
 unfolding levels_at
 slots-at t zero = refl
 slots-at t (suc n) = by_step (slice_get t.steps n) (slots-at t n)
   where
-    by_step : (step : Option Step) → (levels_at t n).slots ≡ t.opening.slots → (after (levels_at t n) step).slots ≡ t.opening.slots
+    by_step : (step : Option Step) → (levels_at t n).slots ≡ t.opening.slots → (after (levels_at t n) step).slots
+        ≡ t.opening.slots
     by_step None so_far = so_far
     by_step (Some step) so_far = slots-kept (levels_at t n) step.changes ∙ so_far
 
@@ -71,30 +78,40 @@ unfolding levels_at
 length-at t zero = refl
 length-at t (suc n) = by_step (slice_get t.steps n) (length-at t n)
   where
-    by_step : (step : Option Step) → length (levels_at t n).levels ≡ length t.opening.levels → length (after (levels_at t n) step).levels ≡ length t.opening.levels
+    by_step : (step : Option Step) → length (levels_at t n).levels ≡ length t.opening.levels
+        → length (after (levels_at t n) step).levels ≡ length t.opening.levels
     by_step None so_far = so_far
     by_step (Some step) so_far = length-changed (levels_at t n) step.changes ∙ so_far
 
 -- the levels at two instants are of one backplane
 pub of_one : (t : Trace) → length t.opening.levels ≡ line_count → (i j : ℕ) → AreOfOne (levels_at t i) (levels_at t j)
-of_one t whole i j = record { slots = slots-at t i ∙ sym (slots-at t j); first = length-at t i ∙ whole; second = length-at t j ∙ whole }
+of_one t whole i j = record {
+  slots = slots-at t i ∙ sym (slots-at t j);
+  first = length-at t i
+      ∙ whole;
+  second = length-at t j ∙ whole;
+}
 
 -- a line that the backplane doesn't have keeps its level
-absent : (t : Trace) → malformed_step t ≡ None → (l : ℕ) → has_line t.opening.slots l ≡ false → (n : ℕ) → level_at (levels_at t n) l ≡ level_at t.opening l
+absent : (t : Trace) → malformed_step t ≡ None → (l : ℕ) → has_line t.opening.slots l ≡ false → (n : ℕ)
+    → level_at (levels_at t n) l ≡ level_at t.opening l
 unfolding levels_at
 absent t formed l none zero = refl
 absent t formed l none (suc n) =
     elim (slice_get_cases t.steps n).1 [
       | inl here ↦
           ap (λ (o : Option Step). level_at (after (levels_at t n) o) l) here.2
-          ∙ level-kept (levels_at t n) here.0.changes l (unchanged here.0.changes (is_changed here.0.changes l) refl (step-stands t formed n here.0 here.1 here.2).changes)
+          ∙ level-kept (levels_at t n) here.0.changes l (unchanged here.0.changes (is_changed here.0.changes l) refl
+          (step-stands t formed n here.0 here.1 here.2).changes)
           ∙ absent t formed l none n
       | inr past ↦ ap (λ (o : Option Step). level_at (after (levels_at t n) o) l) past.1 ∙ absent t formed l none n
     ]
   where
-    unchanged : (cs : List Change) (b : Bool) → is_changed cs l ≡ b → are_changes (levels_at t n) 0 cs ≡ true → is_changed cs l ≡ false
+    unchanged : (cs : List Change) (b : Bool) → is_changed cs l ≡ b → are_changes (levels_at t n) 0 cs ≡ true
+        → is_changed cs l ≡ false
     unchanged cs false e h = e
-    unchanged cs true e h = absurd (false≢true (sym none ∙ ap (λ (s : ℕ). has_line s l) (sym (slots-at t n)) ∙ changed_exists (levels_at t n) 0 cs l h e))
+    unchanged cs true e h = absurd (false≢true (sym none ∙ ap (λ (s : ℕ). has_line s l) (sym (slots-at t n))
+        ∙ changed_exists (levels_at t n) 0 cs l h e))
 
 pub leads : (t : Trace) → IsRecording t → (i j : ℕ) → Leads (levels_at t i) (levels_at t j)
 leads t is i j = record {
@@ -103,31 +120,42 @@ leads t is i j = record {
     | inl e ↦ e
     | inr none ↦
         let out : has_line t.opening.slots l ≡ false = ap (λ (s : ℕ). has_line s l) (sym (slots-at t i)) ∙ none in
-        absurd (false≢true (sym (alike_differs (levels_at t i) (levels_at t j) l (absent t is.formed l out i ∙ sym (absent t is.formed l out j))) ∙ d))
+        absurd (false≢true
+        (sym (alike_differs (levels_at t i) (levels_at t j) l (absent t is.formed l out i
+        ∙ sym (absent t is.formed l out j))) ∙ d))
   ];
 }
 
 -- ---- the levels behind the groups
 
-step_to-leads : (skew : ℕ) (t : Trace) → length t.opening.levels ≡ line_count → (n : ℕ) → levels_after (levels_at t (group_start skew t n - 1)) (step_to skew t n) ≡ levels_at t n
-step_to-leads skew t whole n = step-leads (time_at t (group_start skew t n)) (levels_at t (group_start skew t n - 1)) (levels_at t n) (of_one t whole (group_start skew t n - 1) n)
+step_to-leads : (skew : ℕ) (t : Trace) → length t.opening.levels ≡ line_count → (n : ℕ)
+    → levels_after (levels_at t (group_start skew t n - 1)) (step_to skew t n) ≡ levels_at t n
+step_to-leads skew t whole n = step-leads (time_at t (group_start skew t n)) (levels_at t (group_start skew t n - 1))
+    (levels_at t n) (of_one t whole (group_start skew t n - 1) n)
 
-before-leads : (skew : ℕ) (t : Trace) → length t.opening.levels ≡ line_count → (n : ℕ) → levels_after t.opening (steps_before skew t n) ≡ levels_at t (group_start skew t n - 1)
+before-leads : (skew : ℕ) (t : Trace) → length t.opening.levels ≡ line_count → (n : ℕ) → levels_after t.opening
+    (steps_before skew t n) ≡ levels_at t (group_start skew t n - 1)
 unfolding group_start steps_before levels_at
 before-leads skew t whole zero = refl
-before-leads skew t whole (suc i) = by_test (begins_behind skew t (group_start skew t i) i) (before-leads skew t whole i)
+before-leads skew t whole (suc i) = by_test (begins_behind skew t (group_start skew t i) i)
+    (before-leads skew t whole i)
   where
-    by_test : (b : Bool) → levels_after t.opening (steps_before skew t i) ≡ levels_at t (group_start skew t i - 1) → levels_after t.opening (cond b (steps_before skew t i ++ step_to skew t i) (steps_before skew t i)) ≡ levels_at t (cond b (suc i) (group_start skew t i) - 1)
+    by_test : (b : Bool) → levels_after t.opening (steps_before skew t i) ≡ levels_at t (group_start skew t i - 1)
+        → levels_after t.opening (cond b (steps_before skew t i ++ step_to skew t i) (steps_before skew t i))
+        ≡ levels_at t (cond b (suc i) (group_start skew t i) - 1)
     by_test true so_far =
         let one_less : suc i - 1 ≡ i = omega arith in
         levels_after-append t.opening (steps_before skew t i) (step_to skew t i)
-        ∙ ap (λ (v : Levels). levels_after v (step_to skew t i)) so_far ∙ step_to-leads skew t whole i ∙ ap (levels_at t) (sym one_less)
+        ∙ ap (λ (v : Levels). levels_after v (step_to skew t i)) so_far ∙ step_to-leads skew t whole i
+        ∙ ap (levels_at t) (sym one_less)
     by_test false so_far = so_far
 
-pub levels_kept : (skew n : ℕ) (t : Trace) → IsRecording t → levels_after t.opening (steps_before skew t n ++ step_to skew t n) ≡ levels_at t n
+pub levels_kept : (skew n : ℕ) (t : Trace) → IsRecording t → levels_after t.opening (steps_before skew t n
+    ++ step_to skew t n) ≡ levels_at t n
 levels_kept skew n t is =
     levels_after-append t.opening (steps_before skew t n) (step_to skew t n)
-    ∙ ap (λ (v : Levels). levels_after v (step_to skew t n)) (before-leads skew t is.whole n) ∙ step_to-leads skew t is.whole n
+    ∙ ap (λ (v : Levels). levels_after v (step_to skew t n)) (before-leads skew t is.whole n) ∙ step_to-leads skew t
+    is.whole n
 
 -- ---- no more steps
 
@@ -145,21 +173,42 @@ pub step_to-first : (skew : ℕ) (t : Trace) → step_to skew t 0 ≡ []
 unfolding group_start
 step_to-first skew t = nothing-between (time_at t 0) (levels_at t 0)
 
-few : (skew : ℕ) (t : Trace) (n : ℕ) → (length (steps_before skew t n) ≤ n - 1) × (length (steps_before skew t n ++ step_to skew t n) ≤ n)
+few : (skew : ℕ) (t : Trace) (n : ℕ) → (length (steps_before skew t n) ≤ n - 1)
+    × (length (steps_before skew t n ++ step_to skew t n) ≤ n)
 unfolding steps_before
 few skew t zero = (omega arith, omega (arith, ap length (step_to-first skew t)))
 few skew t (suc i) = by_test (begins_behind skew t (group_start skew t i) i) (few skew t i)
   where
     last : length (step_to skew t (suc i)) ≤ 1
-    last = step-one (time_at t (group_start skew t (suc i))) (levels_at t (group_start skew t (suc i) - 1)) (levels_at t (suc i))
+    last = step-one (time_at t (group_start skew t (suc i))) (levels_at t (group_start skew t (suc i) - 1))
+        (levels_at t (suc i))
 
     before : Bool → List Step
     before b = cond b (steps_before skew t i ++ step_to skew t i) (steps_before skew t i)
 
-    by_test : (b : Bool) → (length (steps_before skew t i) ≤ i - 1) × (length (steps_before skew t i ++ step_to skew t i) ≤ i)
+    by_test : (b : Bool) → (length (steps_before skew t i) ≤ i - 1)
+        × (length (steps_before skew t i ++ step_to skew t i) ≤ i)
         → (length (before b) ≤ suc i - 1) × (length (before b ++ step_to skew t (suc i)) ≤ suc i)
-    by_test true h = (omega (arith, h.1), omega (arith, h.1, last, length-append (before true) (step_to skew t (suc i))))
-    by_test false h = (omega (arith, h.0), omega (arith, h.0, last, length-append (before false) (step_to skew t (suc i))))
+    by_test true h = (
+      omega (arith, h.1),
+      omega (
+        arith,
+        h.1,
+        last,
+        length-append (before true)
+            (step_to skew t (suc i)),
+      ),
+    )
+    by_test false h = (
+      omega (arith, h.0),
+      omega (
+        arith,
+        h.0,
+        last,
+        length-append (before false)
+            (step_to skew t (suc i)),
+      ),
+    )
 
 pub no_longer : (skew : ℕ) (t : Trace) → length (settled skew t).steps ≤ length t.steps
 unfolding settled
@@ -188,12 +237,15 @@ alone t formed (suc i) le =
           let later = (step-stands t formed i here.0 here.1 here.2).later in
           let begins : begins_behind 0 t i i ≡ true =
           first_or i (nat_lt (time_at t i) here.0.time) (nat_lt (time_at t i + 0) (time_of (slice_get t.steps i))) later
-          (λ h. later_than (time_at t i) (time_of (slice_get t.steps i)) (ap (λ (o : Option Step). nat_lt (time_at t i) (time_of o)) here.2 ∙ h)) in
-          ap (λ (start : ℕ). cond (begins_behind 0 t start i) (suc i) start) so_far ∙ ap (λ (b : Bool). cond b (suc i) i) begins
+          (λ h. later_than (time_at t i) (time_of (slice_get t.steps i))
+          (ap (λ (o : Option Step). nat_lt (time_at t i) (time_of o)) here.2 ∙ h)) in
+          ap (λ (start : ℕ). cond (begins_behind 0 t start i) (suc i) start) so_far
+          ∙ ap (λ (b : Bool). cond b (suc i) i) begins
       | inr past ↦ absurd (omega (arith, past.0, le))
     ]
 
-begins-alone : (t : Trace) → malformed_step t ≡ None → (i : ℕ) → suc i ≤ length t.steps → begins_behind 0 t (group_start 0 t i) i ≡ true
+begins-alone : (t : Trace) → malformed_step t ≡ None → (i : ℕ) → suc i ≤ length t.steps → begins_behind 0 t
+    (group_start 0 t i) i ≡ true
 unfolding group_start
 begins-alone t formed i le = by_test (begins_behind 0 t (group_start 0 t i) i) (alone t formed (suc i) le)
   where
@@ -202,24 +254,28 @@ begins-alone t formed i le = by_test (begins_behind 0 t (group_start 0 t i) i) (
     by_test false e = absurd (omega (arith, e, start-le 0 t i))
 
 -- the group of an instant makes its very step
-own-step : (t : Trace) → IsRecording t → (i : ℕ) (step : Step) → i < length t.steps → slice_get t.steps i ≡ Some step → step_to 0 t (suc i) ≡ step ∷ []
+own-step : (t : Trace) → IsRecording t → (i : ℕ) (step : Step) → i < length t.steps → slice_get t.steps i ≡ Some step
+    → step_to 0 t (suc i) ≡ step ∷ []
 unfolding levels_at
 own-step t is i step lt found =
     let stand = step-stands t is.formed i step lt found in
     let one_less : suc i - 1 ≡ i = omega arith in
-    ap (λ (start : ℕ). step_between (time_at t start) (levels_at t (start - 1)) (levels_at t (suc i))) (alone t is.formed (suc i) (omega (arith, lt)))
+    ap (λ (start : ℕ). step_between (time_at t start) (levels_at t (start - 1)) (levels_at t (suc i)))
+    (alone t is.formed (suc i) (omega (arith, lt)))
     ∙ ap (λ (j : ℕ). step_between (time_at t (suc i)) (levels_at t j) (levels_at t (suc i))) one_less
     ∙ ap (λ (o : Option Step). step_between (time_of o) (levels_at t i) (after (levels_at t i) o)) found
     ∙ step-between step.time (levels_at t i) step.changes (length-at t i ∙ is.whole) stand.changes stand.some
 
-all-alone : (t : Trace) → IsRecording t → (n : ℕ) → n ≤ length t.steps → steps_before 0 t n ++ step_to 0 t n ≡ take n t.steps
+all-alone : (t : Trace) → IsRecording t → (n : ℕ) → n ≤ length t.steps → steps_before 0 t n ++ step_to 0 t n
+    ≡ take n t.steps
 unfolding steps_before
 all-alone t is zero le = step_to-first 0 t
 all-alone t is (suc i) le =
     elim (slice_get_cases t.steps i).1 [
       | inl here ↦
           let one_more : i + 1 ≡ suc i = omega arith in
-          ap (λ (b : Bool). cond b (steps_before 0 t i ++ step_to 0 t i) (steps_before 0 t i) ++ step_to 0 t (suc i)) (begins-alone t is.formed i le)
+          ap (λ (b : Bool). cond b (steps_before 0 t i ++ step_to 0 t i) (steps_before 0 t i) ++ step_to 0 t (suc i))
+          (begins-alone t is.formed i le)
           ∙ ap (λ (xs : List Step). xs ++ step_to 0 t (suc i)) (all-alone t is i (omega (arith, le)))
           ∙ ap (λ (xs : List Step). take i t.steps ++ xs) (own-step t is i here.0 here.1 here.2)
           ∙ sym (taken_more t.steps i here.0 here.2) ∙ ap (λ (n : ℕ). take n t.steps) one_more
@@ -228,7 +284,8 @@ all-alone t is (suc i) le =
 
 pub by_zero : (t : Trace) → IsRecording t → settled 0 t ≡ t
 unfolding settled
-by_zero t is = ap of_these (all-alone t is (length t.steps) (omega arith) ∙ take_all (length t.steps) t.steps (omega arith))
+by_zero t is = ap of_these (all-alone t is (length t.steps) (omega arith) ∙ take_all (length t.steps) t.steps
+    (omega arith))
   where
     of_these : List Step → Trace
     of_these xs = record { opening = t.opening; steps = xs }
@@ -257,7 +314,8 @@ pub length_more : (xs : List Step) (step : Step) → length (xs ++ step ∷ []) 
 length_more [] step = refl
 length_more (x ∷ xs) step = ap suc (length_more xs step)
 
-pub still_step : (o : Levels) (xs : List Step) (step : Step) (i : ℕ) → i < length xs → is_step (of_steps o (xs ++ step ∷ [])) i ≡ is_step (of_steps o xs) i
+pub still_step : (o : Levels) (xs : List Step) (step : Step) (i : ℕ) → i < length xs
+    → is_step (of_steps o (xs ++ step ∷ [])) i ≡ is_step (of_steps o xs) i
 unfolding is_step
 still_step o xs step i lt =
     let t : Trace = of_steps o xs in
@@ -267,13 +325,18 @@ still_step o xs step i lt =
     by_step : (found : Option Step) → fits (of_steps o (xs ++ step ∷ [])) i found ≡ fits (of_steps o xs) i found
     by_step None = refl
     by_step (Some s) =
-        ap (λ (v : Levels). may_follow v i (time_at (of_steps o (xs ++ step ∷ [])) i) s) (levels-kept (of_steps o xs) step i (omega (arith, lt)))
-        ∙ ap (λ (clock : ℕ). may_follow (levels_at (of_steps o xs) i) i clock s) (time-kept (of_steps o xs) step i (omega (arith, lt)))
+        ap (λ (v : Levels). may_follow v i (time_at (of_steps o (xs ++ step ∷ [])) i) s)
+        (levels-kept (of_steps o xs) step i (omega (arith, lt)))
+        ∙ ap (λ (clock : ℕ). may_follow (levels_at (of_steps o xs) i) i clock s)
+        (time-kept (of_steps o xs) step i (omega (arith, lt)))
 
-formed-more : (o : Levels) (xs : List Step) (v : Levels) (clock : ℕ) (step : Step) → AreFormed o xs v clock → may_follow v (length xs) clock step ≡ true → AreFormed o (xs ++ step ∷ []) (changed v step.changes) step.time
+formed-more : (o : Levels) (xs : List Step) (v : Levels) (clock : ℕ) (step : Step) → AreFormed o xs v clock
+    → may_follow v (length xs) clock step ≡ true → AreFormed o (xs ++ step ∷ []) (changed v step.changes) step.time
 formed-more o xs v clock step h may = record {
-  sound = ap (any (λ i. not (is_step u i)) 0) (length_more xs step) ∙ fails-any (λ i. not (is_step u i)) 0 (suc (length xs)) each;
-  left = ap (levels_at u) (length_more xs step) ∙ levels-last t step ∙ ap (λ (w : Levels). changed w step.changes) h.left;
+  sound = ap (any (λ i. not (is_step u i)) 0) (length_more xs step) ∙ fails-any (λ i. not (is_step u i)) 0
+      (suc (length xs)) each;
+  left = ap (levels_at u) (length_more xs step) ∙ levels-last t step ∙ ap (λ (w : Levels). changed w step.changes)
+      h.left;
   time = ap (time_at u) (length_more xs step) ∙ time-last t step;
 }
   where
@@ -285,13 +348,15 @@ formed-more o xs v clock step h may = record {
 
     last : is_step u (length xs) ≡ true
     last =
-        fits-at u (length xs) v clock step (sym (levels-kept t step (length xs) (omega arith) ∙ h.left)) (sym (time-kept t step (length xs) (omega arith) ∙ h.time)) (get_last xs step)
+        fits-at u (length xs) v clock step (sym (levels-kept t step (length xs) (omega arith) ∙ h.left))
+        (sym (time-kept t step (length xs) (omega arith) ∙ h.time)) (get_last xs step)
         ∙ may
 
     each : (i : ℕ) → 0 ≤ i → i < suc (length xs) → not (is_step u i) ≡ false
     each i low lt = elim (last_or_before (length xs) i lt) [
       | inl e ↦ ap (λ (j : ℕ). not (is_step u j)) e ∙ ap not last
-      | inr less ↦ ap not (still_step o xs step i less) ∙ any-fails (λ i. not (is_step t i)) 0 (length xs) i h.sound (omega arith) less
+      | inr less ↦ ap not (still_step o xs step i less) ∙ any-fails (λ i. not (is_step t i)) 0 (length xs) i h.sound
+          (omega arith) less
     ]
       where
         last_or_before : (n i : ℕ) → i < suc n → (i ≡ n) ⊎ (i < n)
@@ -312,16 +377,20 @@ record AreSettled (o : Levels) (xs : List Step) (v : Levels) (IsBefore : ℕ →
   earlier : (length xs ≡ 0) ⊎ IsBefore clock
 
 -- one step more, from the levels that are left to others, at a later time
-one-more : (o : Levels) (xs : List Step) (v w : Levels) (time : ℕ) → Leads v w → AreSettled o xs v (λ clock. clock < time) → AreSettled o (xs ++ step_between time v w) w (λ clock. clock ≤ time)
+one-more : (o : Levels) (xs : List Step) (v w : Levels) (time : ℕ) → Leads v w → AreSettled o xs v
+    (λ clock. clock < time) → AreSettled o (xs ++ step_between time v w) w (λ clock. clock ≤ time)
 one-more o xs v w time leads h = by_test (any (differs v w) 0 line_count) refl
   where
-    by_test : (b : Bool) → any (differs v w) 0 line_count ≡ b → AreSettled o (xs ++ cond b (made_step time (changes_between v w)) []) w (λ clock. clock ≤ time)
+    by_test : (b : Bool) → any (differs v w) 0 line_count ≡ b
+        → AreSettled o (xs ++ cond b (made_step time (changes_between v w)) []) w (λ clock. clock ≤ time)
     by_test true some =
         let step : Step = record { time = time; changes = changes_between v w } in
-        let may = between-may v w (length xs) h.clock time leads some (first_or_later (length xs) h.clock time h.earlier) in
+        let may = between-may v w (length xs) h.clock time leads some (first_or_later (length xs) h.clock time
+        h.earlier) in
         record {
           clock = time;
-          formed = subst (λ (u : Levels). AreFormed o (xs ++ step ∷ []) u time) (changes-lead v w leads.one) (formed-more o xs v h.clock step h.formed may);
+          formed = subst (λ (u : Levels). AreFormed o (xs ++ step ∷ []) u time) (changes-lead v w leads.one)
+              (formed-more o xs v h.clock step h.formed may);
           earlier = inr (omega arith);
         }
     by_test false none =
@@ -347,13 +416,16 @@ begins_is (suc i) a b h = inr (less a b (no_first (suc i == 0) (nat_lt a b) (not
 
 module _ (skew : ℕ) (t : Trace) (is : IsRecording t) where
   abbrev BeforeGroup : ℕ → Type 0
-  BeforeGroup n = AreSettled t.opening (steps_before skew t n) (levels_at t (group_start skew t n - 1)) (λ clock. clock < time_at t (group_start skew t n))
+  BeforeGroup n = AreSettled t.opening (steps_before skew t n) (levels_at t (group_start skew t n - 1))
+      (λ clock. clock < time_at t (group_start skew t n))
 
   abbrev UpTo : ℕ → Type 0
-  UpTo n = AreSettled t.opening (steps_before skew t n ++ step_to skew t n) (levels_at t n) (λ clock. clock ≤ time_at t (group_start skew t n))
+  UpTo n = AreSettled t.opening (steps_before skew t n ++ step_to skew t n) (levels_at t n)
+      (λ clock. clock ≤ time_at t (group_start skew t n))
 
   up_to : (n : ℕ) → BeforeGroup n → UpTo n
-  up_to n h = one-more t.opening (steps_before skew t n) (levels_at t (group_start skew t n - 1)) (levels_at t n) (time_at t (group_start skew t n)) (leads t is (group_start skew t n - 1) n) h
+  up_to n h = one-more t.opening (steps_before skew t n) (levels_at t (group_start skew t n - 1)) (levels_at t n)
+      (time_at t (group_start skew t n)) (leads t is (group_start skew t n - 1) n) h
 
   nothing_first : (i : ℕ) → i ≡ 0 → length (steps_before skew t i ++ step_to skew t i) ≡ 0
   nothing_first i e = omega (arith, (few skew t i).1, e)
@@ -364,11 +436,14 @@ module _ (skew : ℕ) (t : Trace) (is : IsRecording t) where
   before_group (suc i) = by_test (begins_behind skew t (group_start skew t i) i) refl (before_group i)
     where
       by_test : (b : Bool) → begins_behind skew t (group_start skew t i) i ≡ b → BeforeGroup i
-          → AreSettled t.opening (cond b (steps_before skew t i ++ step_to skew t i) (steps_before skew t i)) (levels_at t (cond b (suc i) (group_start skew t i) - 1)) (λ clock. clock < time_at t (cond b (suc i) (group_start skew t i)))
+          → AreSettled t.opening (cond b (steps_before skew t i ++ step_to skew t i) (steps_before skew t i))
+          (levels_at t (cond b (suc i) (group_start skew t i) - 1))
+          (λ clock. clock < time_at t (cond b (suc i) (group_start skew t i)))
       by_test true e h =
           let so_far : UpTo i = up_to i h in
           let one_less : i ≡ suc i - 1 = omega arith in
-          subst (λ (j : ℕ). AreSettled t.opening (steps_before skew t i ++ step_to skew t i) (levels_at t j) (λ clock. clock < time_at t (suc i))) one_less (record {
+          subst (λ (j : ℕ). AreSettled t.opening (steps_before skew t i ++ step_to skew t i) (levels_at t j)
+          (λ clock. clock < time_at t (suc i))) one_less (record {
             clock = so_far.clock;
             formed = so_far.formed;
             earlier = elim (begins_is i (time_at t (group_start skew t i) + skew) (time_at t (suc i)) e) [

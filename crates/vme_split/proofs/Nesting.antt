@@ -1,5 +1,7 @@
 -- What is listed is as the rules ask for it.
-use Rattle.std.proofs.Common.{lit<, ◌≡◌, ◌≢◌, ℕ, zero, suc, ◌+◌, ◌-◌, ◌<◌, ◌≤◌, Bool, true, false, ◌&&◌, ◌||◌, not, cond, if◌then◌else◌, refl, sym, ◌∙◌, ap, arith, subst, List, [], ◌∷◌, ◌++◌, map, flat_map, inl, inr, ◌⊎◌, All, Contains}
+use Rattle.std.proofs.Common.{lit<, ◌≡◌, ◌≢◌, ℕ, zero, suc, ◌+◌, ◌-◌, ◌<◌, ◌≤◌, Bool, true, false, ◌&&◌, ◌||◌, not}
+use Rattle.std.proofs.Common.{cond, if◌then◌else◌, refl, sym, ◌∙◌, ap, arith, subst, List, [], ◌∷◌, ◌++◌, map, flat_map}
+use Rattle.std.proofs.Common.{inl, inr, ◌⊎◌, All, Contains}
 use Rattle.std.specs.Prelude.{Option, None, Some, IfSome, ◌==◌, nat_lt, nat_le, option_map, option_and_then}
 use Rattle.std.proofs.lemmas.Bool.Decides.{nat_tests}
 use Rattle.std.proofs.lemmas.List.Elements.{Contains-append_left, Contains-append_right}
@@ -9,7 +11,8 @@ use Rattle.vme_trace.specs.Levels.{Levels}
 use Rattle.vme_trace.specs.Trace.{Trace, levels_at}
 use Rattle.vme_trace.specs.Signals.{near, low, falls, rises}
 use Rattle.vme_trace.specs.Judged.{Stretch, IsSpanOf, is_judged}
-use Rattle.vme_trace.specs.Transfers.{strobes_high, answer_falls, transfer_starts, lasts, is_answered, answers, in_transfer}
+use Rattle.vme_trace.specs.Transfers.{strobes_high, answer_falls, transfer_starts, lasts, is_answered, answers}
+use Rattle.vme_trace.specs.Transfers.{in_transfer}
 use Rattle.vme_trace.specs.Cycles.{cycle_starts, cycle_of}
 use Rattle.vme_trace.specs.Tenures.{is_granting, has_reached, taken_grant, tenure_level, tenure_slot, tenure_starts}
 use Rattle.vme_trace.specs.Rules.{is_broken, is_option_equal}
@@ -22,7 +25,8 @@ use Rattle.vme_listing.specs.Recorded.{cycle_row, transfer_row, answered_row, ro
 use Rattle.vme_listing.specs.declared.row.Row.{Row}
 use Rattle.vme_listing.specs.declared.row.Row.TheVariants as row
 use Rattle.vme_listing.specs.declared.row.Row.TheVariants.{OpenTenure, Tenure}
-use Rattle.vme_split.specs.Split.{TellsGrant, IsOpenAtStart, Interval, interval, Covers, StartsInOne, IsOfASlot, IsAnsweredInCycle, AwaitsAnswer, is_traffic, tenure_in, cycle_in, KeepsRules}
+use Rattle.vme_split.specs.Split.{TellsGrant, IsOpenAtStart, Interval, interval, Covers, StartsInOne, IsOfASlot}
+use Rattle.vme_split.specs.Split.{IsAnsweredInCycle, AwaitsAnswer, is_traffic, tenure_in, cycle_in, KeepsRules}
 use Rattle.vme_split.proofs.Lists.{past_or_below, greatest-is, greatest-found}
 use Rattle.vme_split.proofs.Intervals.{Covering, covering, goes_on}
 use Rattle.vme_split.proofs.Unbroken.{IsUnbroken, held}
@@ -34,14 +38,16 @@ use Rattle.vme_split.proofs.Classes.{cycles_of_classes}
 use Rattle.vme_split.proofs.Telling.{acknowledges_told, directions_told}
 use Rattle.vme_split.proofs.WrittenData.{data_told}
 use Rattle.vme_split.proofs.Codes.{codes_told, modifiers_told, addresses_told}
-use Rattle.vme_split.proofs.EachRow.{contains_told, all_told, all_before, all_tenure, all_tenure_at, all_cycle, all_transfer}
+use Rattle.vme_split.proofs.EachRow.{contains_told, all_told, all_before, all_tenure, all_tenure_at, all_cycle}
+use Rattle.vme_split.proofs.EachRow.{all_transfer}
 
 greatest-below : (p : ℕ → Bool) (first n i : ℕ) → greatest p first n ≡ Some i → i < n
 unfolding greatest
 greatest-below p first zero i e = absurd (cc)
 greatest-below p first (suc n) i e = chosen (nat_le first n && p n) (λ h. greatest-below p first n i h) e
   where
-    chosen : (b : Bool) → (greatest p first n ≡ Some i → i < n) → cond b (Some n) (greatest p first n) ≡ Some i → i < suc n
+    chosen : (b : Bool) → (greatest p first n ≡ Some i → i < n) → cond b (Some n) (greatest p first n) ≡ Some i
+        → i < suc n
     chosen true before h = let same : n ≡ i = cc in omega arith
     chosen false before h = omega (arith, before h)
 
@@ -50,13 +56,17 @@ slot_within : (t : Trace) (i slot : ℕ) → tenure_slot t i ≡ Some slot → (
 unfolding tenure_slot
 slot_within t i slot e = by_level (tenure_level t i) e
   where
-    counted : (o : Option ℕ) → ((k : ℕ) → o ≡ Some k → k < t.opening.slots + 1) → option_map (λ k. 1 + k) o ≡ Some slot → (1 ≤ slot) × (slot ≤ t.opening.slots + 1)
+    counted : (o : Option ℕ) → ((k : ℕ) → o ≡ Some k → k < t.opening.slots + 1) → option_map (λ k. 1 + k) o ≡ Some slot
+        → (1 ≤ slot) × (slot ≤ t.opening.slots + 1)
     counted None h f = absurd (cc)
     counted (Some k) h f = let same : 1 + k ≡ slot = cc in let below = h k refl in (omega arith, omega arith)
 
-    by_level : (o : Option ℕ) → option_map (λ k. 1 + k) (option_and_then (λ n. greatest (has_reached t (taken_grant t i) n) 0 (t.opening.slots + 1)) o) ≡ Some slot → (1 ≤ slot) × (slot ≤ t.opening.slots + 1)
+    by_level : (o : Option ℕ) → option_map (λ k. 1 + k)
+        (option_and_then (λ n. greatest (has_reached t (taken_grant t i) n) 0 (t.opening.slots + 1)) o) ≡ Some slot
+        → (1 ≤ slot) × (slot ≤ t.opening.slots + 1)
     by_level None f = absurd (cc)
-    by_level (Some n) f = counted (greatest (has_reached t (taken_grant t i) n) 0 (t.opening.slots + 1)) (greatest-below (has_reached t (taken_grant t i) n) 0 (t.opening.slots + 1)) f
+    by_level (Some n) f = counted (greatest (has_reached t (taken_grant t i) n) 0 (t.opening.slots + 1))
+        (greatest-below (has_reached t (taken_grant t i) n) 0 (t.opening.slots + 1)) f
 
 level_within : (t : Trace) (i level : ℕ) → tenure_level t i ≡ Some level → level < 4
 unfolding tenure_level
@@ -66,7 +76,8 @@ unequal : (m n : ℕ) → (m == n) ≡ false → m ≢ n
 unequal m n h = grind (arith, nat_tests)
 
 -- near an instant, where a line is low
-line_near : (t : Trace) (l s r : ℕ) → s < r → near (low t l) r ≡ true → (k : ℕ) × (s ≤ k) × (k ≤ r) × (r ≤ k + 1) × (low t l k ≡ true)
+line_near : (t : Trace) (l s r : ℕ) → s < r → near (low t l) r ≡ true → (k : ℕ) × (s ≤ k) × (k ≤ r) × (r ≤ k + 1)
+    × (low t l k ≡ true)
 line_near t l s r after h = by (bool_cases (low t l r))
   where
     first : (a b : Bool) → (a || b) ≡ true → b ≡ false → a ≡ true
@@ -82,15 +93,19 @@ if_some : (o : Option ℕ) (P : ℕ → Type 0) → ((e : ℕ) → o ≡ Some e 
 if_some None P h = tt
 if_some (Some e) P h = h e refl
 
-module _ (t : Trace) (span : Stretch) (is : IsSpanOf t span) (end : ℕ) (within : span.start < end) (most : end ≤ span.end) (unbroken : IsUnbroken t span end) where
+module _ (t : Trace) (span : Stretch) (is : IsSpanOf t span) (end : ℕ) (within : span.start < end)
+    (most : end ≤ span.end) (unbroken : IsUnbroken t span end) where
   -- tenures
-  of_a_slot : (i : ℕ) → i < end → tenure_starts t span i ≡ true → (level slot : ℕ) → tenure_level t i ≡ Some level → tenure_slot t i ≡ Some slot → (level < 4) × (1 ≤ slot) × (slot ≤ t.opening.slots)
+  of_a_slot : (i : ℕ) → i < end → tenure_starts t span i ≡ true → (level slot : ℕ) → tenure_level t i ≡ Some level
+      → tenure_slot t i ≡ Some slot → (level < 4) × (1 ≤ slot) × (slot ≤ t.opening.slots)
   unfolding is_broken
   of_a_slot i before starts level slot l e =
       let there = tenures.judged_falls t span is end within most unbroken i starts in
       let bounds = slot_within t i slot e in
-      let past = off_past (falls t BBSY i) _ there.1 (held t span end most unbroken rule.B4 i BBSY there.0 before (lit< tt) refl) in
-      let other = unequal slot (t.opening.slots + 1) (sym (ap (λ (o : Option ℕ). is_option_equal o (t.opening.slots + 1)) e) ∙ past) in
+      let past = off_past (falls t BBSY i) _ there.1 (held t span end most unbroken rule.B4 i BBSY there.0 before
+      (lit< tt) refl) in
+      let other = unequal slot (t.opening.slots + 1)
+      (sym (ap (λ (o : Option ℕ). is_option_equal o (t.opening.slots + 1)) e) ∙ past) in
       (level_within t i level l, bounds.0, omega (arith, bounds.1, other))
     where
       off_past : (a b : Bool) → a ≡ true → (true && a && b) ≡ false → b ≡ false
@@ -99,12 +114,15 @@ module _ (t : Trace) (span : Stretch) (is : IsSpanOf t span) (end : ℕ) (within
 
   slots_held : All (IsOfASlot t.opening.slots) (rows_before t span end end)
   slots_held = all_before (IsOfASlot t.opening.slots) t span end
-      (λ i before. all_tenure (IsOfASlot t.opening.slots) t span end i (λ e. tt) (λ starts level slot e l s. of_a_slot i before starts level slot l s))
+      (λ i before. all_tenure (IsOfASlot t.opening.slots) t span end i (λ e. tt) (λ starts level slot e l s. of_a_slot i
+      before starts level slot l s))
       (λ i before. all_cycle (IsOfASlot t.opening.slots) t span end i (in_cycle i))
-      (λ i before. all_transfer (IsOfASlot t.opening.slots) t span end i (λ starts. in_transfer_row i (least (answers t span i) i end)))
+      (λ i before. all_transfer (IsOfASlot t.opening.slots) t span end i
+      (λ starts. in_transfer_row i (least (answers t span i) i end)))
       end (omega arith)
     where
-      in_cycle : (i : ℕ) (c : Class) → IsOfASlot t.opening.slots (cycle_row i (levels_at t i) (least (rises t AS) (i + 1) end) c)
+      in_cycle : (i : ℕ) (c : Class) → IsOfASlot t.opening.slots
+          (cycle_row i (levels_at t i) (least (rises t AS) (i + 1) end) c)
       in_cycle i class.S = tt
       in_cycle i class.K = tt
       in_cycle i class.I = tt
@@ -119,9 +137,13 @@ module _ (t : Trace) (span : Stretch) (is : IsSpanOf t span) (end : ℕ) (within
       in_transfer_row i (Some r) = in_answered i r (cycle_of t span r)
 
   -- the nets of its level are low as far as its slot
-  grant_there : (i : ℕ) → i < end → tenure_starts t span i ≡ true → (level slot : ℕ) (e : Option ℕ) → tenure_level t i ≡ Some level → tenure_slot t i ≡ Some slot → TellsGrant t (row.Tenure i level slot e)
+  grant_there : (i : ℕ) → i < end → tenure_starts t span i ≡ true → (level slot : ℕ) (e : Option ℕ) → tenure_level t i
+      ≡ Some level → tenure_slot t i ≡ Some slot → TellsGrant t (row.Tenure i level slot e)
   unfolding tenure_slot has_reached taken_grant
-  grant_there i before starts level slot e l s = by (greatest (has_reached t (taken_grant t i) level) 0 (t.opening.slots + 1)) refl (sym (ap (λ (o : Option ℕ). option_map (λ k. 1 + k) (option_and_then (λ n. greatest (has_reached t (taken_grant t i) n) 0 (t.opening.slots + 1)) o)) l) ∙ s)
+  grant_there i before starts level slot e l s = by (greatest (has_reached t (taken_grant t i) level) 0
+      (t.opening.slots + 1)) refl
+      (sym (ap (λ (o : Option ℕ). option_map (λ k. 1 + k)
+      (option_and_then (λ n. greatest (has_reached t (taken_grant t i) n) 0 (t.opening.slots + 1)) o)) l) ∙ s)
     where
       first : (b : Bool) → (if b then i else i - 1) ≤ i
       first true = omega arith
@@ -143,7 +165,8 @@ module _ (t : Trace) (span : Stretch) (is : IsSpanOf t span) (end : ℕ) (within
       off true h = absurd (h refl)
       off false h = refl
 
-      by : (o : Option ℕ) → greatest (has_reached t (taken_grant t i) level) 0 (t.opening.slots + 1) ≡ o → option_map (λ k. 1 + k) o ≡ Some slot → TellsGrant t (row.Tenure i level slot e)
+      by : (o : Option ℕ) → greatest (has_reached t (taken_grant t i) level) 0 (t.opening.slots + 1) ≡ o
+          → option_map (λ k. 1 + k) o ≡ Some slot → TellsGrant t (row.Tenure i level slot e)
       by None f g = absurd (cc)
       by (Some k) f g =
           let same : 1 + k ≡ slot = cc in
@@ -153,17 +176,25 @@ module _ (t : Trace) (span : Stretch) (is : IsSpanOf t span) (end : ℕ) (within
             first (is_granting t i),
             second (is_granting t i),
             (
-              (λ m a. on_by (low t (grant level m) (taken_grant t i)) (any-fails (λ net. not (low t (grant level net) (taken_grant t i))) 0 (k + 1) m (off_by (any (λ net. not (low t (grant level net) (taken_grant t i))) 0 (k + 1)) found.holds) (omega arith) (omega (arith, same)))),
+              (λ m a. on_by (low t (grant level m) (taken_grant t i))
+                  (any-fails (λ net. not (low t (grant level net) (taken_grant t i))) 0 (k + 1) m
+                  (off_by (any (λ net. not (low t (grant level net) (taken_grant t i))) 0 (k + 1)) found.holds)
+                  (omega arith) (omega (arith, same)))),
               off (low t (grant level slot) (taken_grant t i)) (λ h. let next : slot ≡ k + 1 = omega (arith, same) in
-                  clash (has_reached t (taken_grant t i) level (k + 1)) (every-more (λ net. low t (grant level net) (taken_grant t i)) 0 (k + 1) found.holds (ap (λ n. low t (grant level n) (taken_grant t i)) (sym next) ∙ h)) (found.none (k + 1) (omega arith) (omega (arith, same, of.2)))),
+                  clash (has_reached t (taken_grant t i) level (k + 1))
+                  (every-more (λ net. low t (grant level net) (taken_grant t i)) 0 (k + 1) found.holds
+                  (ap (λ n. low t (grant level n) (taken_grant t i)) (sym next) ∙ h))
+                  (found.none (k + 1) (omega arith) (omega (arith, same, of.2)))),
             ),
           )
 
   grants_told : All (TellsGrant t) (rows_before t span end end)
   grants_told = all_before (TellsGrant t) t span end
-      (λ i before. all_tenure (TellsGrant t) t span end i (λ e. tt) (λ starts level slot e l s. grant_there i before starts level slot e l s))
+      (λ i before. all_tenure (TellsGrant t) t span end i (λ e. tt) (λ starts level slot e l s. grant_there i before
+      starts level slot e l s))
       (λ i before. all_cycle (TellsGrant t) t span end i (in_cycle i))
-      (λ i before. all_transfer (TellsGrant t) t span end i (λ starts. in_transfer_row i (least (answers t span i) i end)))
+      (λ i before. all_transfer (TellsGrant t) t span end i
+      (λ starts. in_transfer_row i (least (answers t span i) i end)))
       end (omega arith)
     where
       in_cycle : (i : ℕ) (c : Class) → TellsGrant t (cycle_row i (levels_at t i) (least (rises t AS) (i + 1) end) c)
@@ -182,12 +213,15 @@ module _ (t : Trace) (span : Stretch) (is : IsSpanOf t span) (end : ℕ) (within
 
   open_first : All (IsOpenAtStart span.start) (rows_before t span end end)
   open_first = all_before (IsOpenAtStart span.start) t span end
-      (λ i before. all_tenure_at (IsOpenAtStart span.start) t span end i (λ same e. same) (λ starts level slot e l s. (tenures.judged_falls t span is end within most unbroken i starts).0))
+      (λ i before. all_tenure_at (IsOpenAtStart span.start) t span end i (λ same e. same)
+      (λ starts level slot e l s. (tenures.judged_falls t span is end within most unbroken i starts).0))
       (λ i before. all_cycle (IsOpenAtStart span.start) t span end i (in_cycle i))
-      (λ i before. all_transfer (IsOpenAtStart span.start) t span end i (λ starts. in_transfer_row i (least (answers t span i) i end)))
+      (λ i before. all_transfer (IsOpenAtStart span.start) t span end i
+      (λ starts. in_transfer_row i (least (answers t span i) i end)))
       end (omega arith)
     where
-      in_cycle : (i : ℕ) (c : Class) → IsOpenAtStart span.start (cycle_row i (levels_at t i) (least (rises t AS) (i + 1) end) c)
+      in_cycle : (i : ℕ) (c : Class) → IsOpenAtStart span.start
+          (cycle_row i (levels_at t i) (least (rises t AS) (i + 1) end) c)
       in_cycle i class.S = tt
       in_cycle i class.K = tt
       in_cycle i class.I = tt
@@ -205,10 +239,12 @@ module _ (t : Trace) (span : Stretch) (is : IsSpanOf t span) (end : ℕ) (within
   traffic_alone = all_before (λ row. is_traffic row ≡ true) t span end
       (λ i before. all_tenure (λ row. is_traffic row ≡ true) t span end i (λ e. refl) (λ starts level slot e l s. refl))
       (λ i before. all_cycle (λ row. is_traffic row ≡ true) t span end i (in_cycle i))
-      (λ i before. all_transfer (λ row. is_traffic row ≡ true) t span end i (λ starts. in_transfer_row i (least (answers t span i) i end)))
+      (λ i before. all_transfer (λ row. is_traffic row ≡ true) t span end i
+      (λ starts. in_transfer_row i (least (answers t span i) i end)))
       end (omega arith)
     where
-      in_cycle : (i : ℕ) (c : Class) → is_traffic (cycle_row i (levels_at t i) (least (rises t AS) (i + 1) end) c) ≡ true
+      in_cycle : (i : ℕ) (c : Class) → is_traffic (cycle_row i (levels_at t i) (least (rises t AS) (i + 1) end) c)
+          ≡ true
       in_cycle i class.S = refl
       in_cycle i class.K = refl
       in_cycle i class.I = refl
@@ -225,7 +261,8 @@ module _ (t : Trace) (span : Stretch) (is : IsSpanOf t span) (end : ℕ) (within
   -- cycles
   busy_near : (i : ℕ) → span.start < i → i < end → falls t AS i ≡ true → near (low t BBSY) i ≡ true
   unfolding is_broken
-  busy_near i after before down = by (falls t AS i) (near (low t BBSY) i) down (held t span end most unbroken rule.B3 i AS after before (lit< tt) refl)
+  busy_near i after before down = by (falls t AS i) (near (low t BBSY) i) down (held t span end most unbroken rule.B3 i
+      AS after before (lit< tt) refl)
     where
       by : (a b : Bool) → a ≡ true → (true && a && not b) ≡ false → b ≡ true
       by true true h e = refl
@@ -241,21 +278,30 @@ module _ (t : Trace) (span : Stretch) (is : IsSpanOf t span) (end : ℕ) (within
 
   TenureCovers : ℕ → Type 0
   TenureCovers k = Covering (low t BBSY) (tenure_starts t span) (rises t BBSY) (rises t BBSY) span.start end
-      (tenures.starts_is t span is end within most unbroken) (tenures.ends_is t span is end within most unbroken) (tenures.stop_is t span is end within most unbroken) k
+      (tenures.starts_is t span is end within most unbroken) (tenures.ends_is t span is end within most unbroken)
+      (tenures.stop_is t span is end within most unbroken) k
 
-  in_tenure : (i : ℕ) → i < end → cycle_starts t span i ≡ true → StartsInOne (flat_map tenure_in (rows_before t span end end)) (cycles.cycle_at t span end i)
+  in_tenure : (i : ℕ) → i < end → cycle_starts t span i ≡ true
+      → StartsInOne (flat_map tenure_in (rows_before t span end end)) (cycles.cycle_at t span end i)
   unfolding TenureCovers
   in_tenure i before starts =
       let down = cycle_judged i starts in
       let there = line_near t BBSY span.start i down.0 (busy_near i down.0 before down.1) in
-      let cover : TenureCovers there.0 = covering (low t BBSY) (tenure_starts t span) (rises t BBSY) (rises t BBSY) span.start end
-      (tenures.starts_is t span is end within most unbroken) (tenures.ends_is t span is end within most unbroken) (tenures.stop_is t span is end within most unbroken) there.0 there.1 (omega (arith, there.2, before)) there.4 in (
+      let cover : TenureCovers there.0 = covering (low t BBSY) (tenure_starts t span) (rises t BBSY) (rises t BBSY)
+      span.start end
+      (tenures.starts_is t span is end within most unbroken) (tenures.ends_is t span is end within most unbroken)
+      (tenures.stop_is t span is end within most unbroken) there.0 there.1 (omega (arith, there.2, before)) there.4 in (
         tenure_told cover.first,
-        subst (λ xs. Contains xs (tenure_told cover.first)) (sym (tenures.tenures_told t span is end within most unbroken)) (by there.0 (omega (arith, there.2, before)) cover cover.begun),
+        subst (λ xs. Contains xs (tenure_told cover.first))
+            (sym (tenures.tenures_told t span is end within most unbroken)) (by there.0 (omega (arith, there.2, before))
+            cover cover.begun),
         (
           omega (arith, cover.to, there.2),
-          if_some (least (rises t BBSY) (cover.first + 1) end) (λ e. i ≤ e) (λ e f. let later = goes_on (low t BBSY) (tenure_starts t span) (rises t BBSY) (rises t BBSY) span.start end
-              (tenures.starts_is t span is end within most unbroken) (tenures.ends_is t span is end within most unbroken) (tenures.stop_is t span is end within most unbroken) there.0 (omega (arith, there.2, before)) cover e f in omega (arith, later, there.3)),
+          if_some (least (rises t BBSY) (cover.first + 1) end) (λ e. i ≤ e) (λ e f. let later = goes_on (low t BBSY)
+              (tenure_starts t span) (rises t BBSY) (rises t BBSY) span.start end
+              (tenures.starts_is t span is end within most unbroken) (tenures.ends_is t span is end within most
+              unbroken) (tenures.stop_is t span is end within most unbroken) there.0 (omega (arith, there.2, before))
+              cover e f in omega (arith, later, there.3)),
         ),
       )
     where
@@ -263,20 +309,30 @@ module _ (t : Trace) (span : Stretch) (is : IsSpanOf t span) (end : ℕ) (within
       at_first true h a = (0, omega arith, refl)
       at_first false h a = absurd (cc)
 
-      by : (k : ℕ) → k < end → (c : TenureCovers k) → (c.first ≡ span.start) ⊎ ((span.start < c.first) × (tenure_starts t span c.first ≡ true))
-          → Contains (cond (low t BBSY span.start) (tenure_told span.start ∷ []) [] ++ map tenure_told (those (tenure_starts t span) (span.start + 1) end)) (tenure_told c.first)
+      by : (k : ℕ) → k < end → (c : TenureCovers k) → (c.first ≡ span.start) ⊎ ((span.start < c.first)
+          × (tenure_starts t span c.first ≡ true))
+          → Contains (cond (low t BBSY span.start) (tenure_told span.start ∷ []) [] ++ map tenure_told
+          (those (tenure_starts t span) (span.start + 1) end)) (tenure_told c.first)
       by k below c (inl same) =
-          subst (λ n. Contains (cond (low t BBSY span.start) (tenure_told span.start ∷ []) [] ++ map tenure_told (those (tenure_starts t span) (span.start + 1) end)) (tenure_told n)) (sym same)
-          (Contains-append_left (cond (low t BBSY span.start) (tenure_told span.start ∷ []) []) _ (tenure_told span.start)
-          (at_first (low t BBSY span.start) (ap (low t BBSY) (sym same) ∙ c.held c.first (omega arith) c.to) (tenure_told span.start)))
+          subst (λ n. Contains (cond (low t BBSY span.start) (tenure_told span.start ∷ []) [] ++ map tenure_told
+          (those (tenure_starts t span) (span.start + 1) end)) (tenure_told n)) (sym same)
+          (Contains-append_left (cond (low t BBSY span.start) (tenure_told span.start ∷ []) []) _
+          (tenure_told span.start)
+          (at_first (low t BBSY span.start) (ap (low t BBSY) (sym same) ∙ c.held c.first (omega arith) c.to)
+          (tenure_told span.start)))
       by k below c (inr begun) =
           Contains-append_right (cond (low t BBSY span.start) (tenure_told span.start ∷ []) []) _ (tenure_told c.first)
-          (contains_told tenure_told (tenure_starts t span) (span.start + 1) end c.first (omega (arith, begun.0)) (omega (arith, c.to, below)) begun.1)
+          (contains_told tenure_told (tenure_starts t span) (span.start + 1) end c.first (omega (arith, begun.0))
+          (omega (arith, c.to, below)) begun.1)
 
-  cycles_held : All (StartsInOne (flat_map tenure_in (rows_before t span end end))) (flat_map cycle_in (rows_before t span end end))
+  cycles_held : All (StartsInOne (flat_map tenure_in (rows_before t span end end)))
+      (flat_map cycle_in (rows_before t span end end))
   cycles_held =
-      subst (All (StartsInOne (flat_map tenure_in (rows_before t span end end)))) (sym (cycles.cycles_told t span end within))
-      (all_told (StartsInOne (flat_map tenure_in (rows_before t span end end))) (cycles.cycle_at t span end) (cycle_starts t span) end end (span.start + 1) (omega arith) (λ i from before starts. in_tenure i before starts))
+      subst (All (StartsInOne (flat_map tenure_in (rows_before t span end end))))
+      (sym (cycles.cycles_told t span end within))
+      (all_told (StartsInOne (flat_map tenure_in (rows_before t span end end))) (cycles.cycle_at t span end)
+      (cycle_starts t span) end end (span.start + 1) (omega arith) (λ i from before starts. in_tenure i before
+      starts))
 
   -- transfers
   abbrev cycles_listed : List Interval
@@ -299,7 +355,8 @@ module _ (t : Trace) (span : Stretch) (is : IsSpanOf t span) (end : ℕ) (within
     -- none of the instants in between has both strobes high
     still : (m : ℕ) → i < m → m < r → strobes_high t m ≡ false
     unfolding lasts
-    still m a b = any-fails (strobes_high t) (i + 1) r m (last_part (nat_le i r) (is_judged span r) (any (strobes_high t) (i + 1) r) lasting) (omega arith) b
+    still m a b = any-fails (strobes_high t) (i + 1) r m (last_part (nat_le i r) (is_judged span r)
+        (any (strobes_high t) (i + 1) r) lasting) (omega arith) b
       where
         last_part : (x y z : Bool) → (x && y && not z) ≡ true → z ≡ false
         last_part true true true h = absurd (cc)
@@ -308,17 +365,23 @@ module _ (t : Trace) (span : Stretch) (is : IsSpanOf t span) (end : ℕ) (within
         last_part false y z h = absurd (cc)
 
     in_its_transfer : Covers (interval i (least (strobes_high t) (i + 1) end)) r
-    in_its_transfer = (found.first, if_some (least (strobes_high t) (i + 1) end) (λ c. r ≤ c) (λ c f. by c (least-found (strobes_high t) (i + 1) end c f) (past_or_below c r)))
+    in_its_transfer = (
+      found.first,
+      if_some (least (strobes_high t) (i + 1) end) (λ c. r ≤ c)
+          (λ c f. by c (least-found (strobes_high t) (i + 1) end c f) (past_or_below c r)),
+    )
       where
         by : (c : ℕ) → IsLeast (strobes_high t) (i + 1) end c → (r ≤ c) ⊎ (c < r) → r ≤ c
         by c close (inl past) = past
-        by c close (inr before) = absurd (clash (strobes_high t c) close.holds (still c (omega (arith, close.first)) before))
+        by c close (inr before) = absurd (clash (strobes_high t c) close.holds (still c (omega (arith, close.first))
+            before))
 
     abbrev Near : Type 0
     Near = (k : ℕ) × (span.start ≤ k) × (k ≤ r) × (r ≤ k + 1) × (low t AS k ≡ true)
 
     there : Near
-    there = low_near t span is end within most r (omega (arith, found.first, after)) (addressed t span is end within most unbroken i r after starts e)
+    there = low_near t span is end within most r (omega (arith, found.first, after))
+        (addressed t span is end within most unbroken i r after starts e)
 
     cover : CycleCovers t span is end within most there.0
     cover = cycle_there t span is end within most there.0 there.1 (omega (arith, there.2, found.below)) there.4
@@ -328,36 +391,45 @@ module _ (t : Trace) (span : Stretch) (is : IsSpanOf t span) (end : ℕ) (within
     none_later k a b =
         let back : k ≡ (k - 1) + 1 = omega (arith, a) in
         ap (cycle_starts t span) back
-        ∙ (cycles.starts_is t span is end within most (k - 1) (omega (arith, cover.from, a)) (omega (arith, back, b, found.below))
-        ∙ ap (λ v. not v && low t AS (k - 1 + 1)) (cover.held (k - 1) (omega (arith, a)) (omega (arith, back, b, there.3))))
+        ∙ (cycles.starts_is t span is end within most (k - 1) (omega (arith, cover.from, a))
+        (omega (arith, back, b, found.below))
+        ∙ ap (λ v. not v && low t AS (k - 1 + 1)) (cover.held (k - 1) (omega (arith, a))
+        (omega (arith, back, b, there.3))))
 
     its_cycle : cycle_of t span r ≡ Some cover.first
     unfolding cycle_of
     its_cycle =
         let begun = cycle_begun t span is end within most there.0 cover in
-        greatest-is (cycle_starts t span) (span.start + 1) (r + 1) cover.first (omega (arith, begun.0)) (omega (arith, cover.to, there.2)) begun.1 none_later
+        greatest-is (cycle_starts t span) (span.start + 1) (r + 1) cover.first (omega (arith, begun.0))
+        (omega (arith, cover.to, there.2)) begun.1 none_later
 
     in_its_cycle : (o : Option ℕ) × Contains cycles_listed (interval cover.first o) × Covers (interval cover.first o) r
     in_its_cycle =
         let begun = cycle_begun t span is end within most there.0 cover in (
           least (rises t AS) (cover.first + 1) end,
-          subst (λ xs. Contains xs (cycles.cycle_at t span end cover.first)) (sym (cycles.cycles_told t span end within))
-              (contains_told (cycles.cycle_at t span end) (cycle_starts t span) (span.start + 1) end cover.first (omega (arith, begun.0)) (omega (arith, cover.to, there.2, found.below)) begun.1),
+          subst (λ xs. Contains xs (cycles.cycle_at t span end cover.first))
+              (sym (cycles.cycles_told t span end within))
+              (contains_told (cycles.cycle_at t span end) (cycle_starts t span) (span.start + 1) end cover.first
+              (omega (arith, begun.0)) (omega (arith, cover.to, there.2, found.below)) begun.1),
           (
             omega (arith, cover.to, there.2),
             if_some (least (rises t AS) (cover.first + 1) end) (λ c. r ≤ c) (λ c f.
                 let later = goes_on (low t AS) (cycle_starts t span) (rises t AS) (rises t AS) span.start end
-                (cycles.starts_is t span is end within most) (cycles.ends_is t span is end within most) (cycles.stop_is t span is end within most) there.0 (omega (arith, there.2, found.below)) cover c f in
+                (cycles.starts_is t span is end within most) (cycles.ends_is t span is end within most)
+                (cycles.stop_is t span is end within most) there.0 (omega (arith, there.2, found.below)) cover c f in
                 omega (arith, later, there.3)),
           ),
         )
 
   -- the address strobe doesn't rise in a transfer that isn't answered yet
-  awaited : (i j : ℕ) → transfer_starts t span i ≡ true → i < j → j < end → lasts t span i j ≡ true → any (reply_at t span i) i (j + 1) ≡ false → rises t AS j ≡ false
+  awaited : (i j : ℕ) → transfer_starts t span i ≡ true → i < j → j < end → lasts t span i j ≡ true
+      → any (reply_at t span i) i (j + 1) ≡ false → rises t AS j ≡ false
   unfolding is_broken
   awaited i j starts order before lasting none =
-      by (rises t AS j) (in_transfer t span (λ k. nat_lt k j && not (is_answered t span k (j + 1))) j) (nat_lt i j) (is_answered t span i (j + 1))
-      (in_transfer-is t span (λ k. nat_lt k j && not (is_answered t span k (j + 1))) i j (after_start t span i starts) (omega arith) starts lasting)
+      by (rises t AS j) (in_transfer t span (λ k. nat_lt k j && not (is_answered t span k (j + 1))) j) (nat_lt i j)
+      (is_answered t span i (j + 1))
+      (in_transfer-is t span (λ k. nat_lt k j && not (is_answered t span k (j + 1))) i j (after_start t span i starts)
+      (omega arith) starts lasting)
       (less i j order) (answered_is t span i (j + 1) ∙ none)
       (held t span end most unbroken rule.H7 j AS (omega (arith, after_start t span i starts)) before (lit< tt) refl)
     where
@@ -368,34 +440,49 @@ module _ (t : Trace) (span : Stretch) (is : IsSpanOf t span) (end : ℕ) (within
       by true x n d h k e f = absurd (clash x (h ∙ (ap (λ b. b && not d) k ∙ ap not e)) f)
       by false x n d h k e f = refl
 
-  awaits_answer : (i : ℕ) → transfer_starts t span i ≡ true → AwaitsAnswer t end (transfer_row t span end i (least (answers t span i) i end))
-  awaits_answer i starts = subst (λ (o : Option ℕ). AwaitsAnswer t end (transfer_row t span end i o)) (sym (first_reply t span i end)) (by (least (reply_at t span i) i end) refl)
+  awaits_answer : (i : ℕ) → transfer_starts t span i ≡ true → AwaitsAnswer t end
+      (transfer_row t span end i (least (answers t span i) i end))
+  awaits_answer i starts = subst (λ (o : Option ℕ). AwaitsAnswer t end (transfer_row t span end i o))
+      (sym (first_reply t span i end)) (by (least (reply_at t span i) i end) refl)
     where
-      row_told : (r : ℕ) (o : Option ℕ) (c : ℕ) → o ≡ Some c → least (reply_at t span i) i end ≡ Some r → AwaitsAnswer t end (answered_row t span end i r o)
+      row_told : (r : ℕ) (o : Option ℕ) (c : ℕ) → o ≡ Some c → least (reply_at t span i) i end ≡ Some r
+          → AwaitsAnswer t end (answered_row t span end i r o)
       row_told r None c e f = absurd (cc)
       row_told r (Some k) c e f = λ j a b.
           let found = least-found (reply_at t span i) i end r f in
           awaited i j starts a (omega (arith, found.below))
-          (lasts_on t span is i j (after_start t span i starts) (omega arith) (omega (arith, found.below)) (λ m x y. still i r starts f m x (omega arith)))
-          (fails-any (reply_at t span i) i (j + 1) (λ m x y. any-fails (reply_at t span i) i r m found.least x (omega arith)))
+          (lasts_on t span is i j (after_start t span i starts) (omega arith) (omega (arith, found.below))
+          (λ m x y. still i r starts f m x (omega arith)))
+          (fails-any (reply_at t span i) i (j + 1) (λ m x y. any-fails (reply_at t span i) i r m found.least x
+          (omega arith)))
 
       by : (o : Option ℕ) → least (reply_at t span i) i end ≡ o → AwaitsAnswer t end (transfer_row t span end i o)
       by None e = λ j a b.
           awaited i j starts a b
-          (lasts_on t span is i j (after_start t span i starts) (omega arith) (omega arith) (λ m x y. any-fails (strobes_high t) (i + 1) end m (least-none-any (strobes_high t) (i + 1) end (unclosed t span is end within most unbroken i (after_start t span i starts) starts e)) (omega arith) (omega arith)))
-          (fails-any (reply_at t span i) i (j + 1) (λ m x y. any-fails (reply_at t span i) i end m (least-none-any (reply_at t span i) i end e) x (omega arith)))
+          (lasts_on t span is i j (after_start t span i starts) (omega arith) (omega arith)
+          (λ m x y. any-fails (strobes_high t) (i + 1) end m (least-none-any (strobes_high t) (i + 1) end
+          (unclosed t span is end within most unbroken i (after_start t span i starts) starts e)) (omega arith)
+          (omega arith)))
+          (fails-any (reply_at t span i) i (j + 1) (λ m x y. any-fails (reply_at t span i) i end m
+          (least-none-any (reply_at t span i) i end e) x (omega arith)))
       by (Some r) e = row_told r (cycle_of t span r) (cover i r starts e).first (its_cycle i r starts e) e
 
-  answered_in_cycle : (i : ℕ) → transfer_starts t span i ≡ true → IsAnsweredInCycle cycles_listed (transfer_row t span end i (least (answers t span i) i end))
-  answered_in_cycle i starts = subst (λ (o : Option ℕ). IsAnsweredInCycle cycles_listed (transfer_row t span end i o)) (sym (first_reply t span i end)) (by (least (reply_at t span i) i end) refl)
+  answered_in_cycle : (i : ℕ) → transfer_starts t span i ≡ true → IsAnsweredInCycle cycles_listed
+      (transfer_row t span end i (least (answers t span i) i end))
+  answered_in_cycle i starts = subst (λ (o : Option ℕ). IsAnsweredInCycle cycles_listed (transfer_row t span end i o))
+      (sym (first_reply t span i end)) (by (least (reply_at t span i) i end) refl)
     where
-      by : (o : Option ℕ) → least (reply_at t span i) i end ≡ o → IsAnsweredInCycle cycles_listed (transfer_row t span end i o)
+      by : (o : Option ℕ) → least (reply_at t span i) i end ≡ o → IsAnsweredInCycle cycles_listed
+          (transfer_row t span end i o)
       by None e = tt
-      by (Some r) e = subst (λ (c : Option ℕ). IsAnsweredInCycle cycles_listed (answered_row t span end i r c)) (sym (its_cycle i r starts e)) (in_its_transfer i r starts e, in_its_cycle i r starts e)
+      by (Some r) e = subst (λ (c : Option ℕ). IsAnsweredInCycle cycles_listed (answered_row t span end i r c))
+          (sym (its_cycle i r starts e)) (in_its_transfer i r starts e, in_its_cycle i r starts e)
 
   abbrev transfers_held : (P : Row → Type 0) → Type 0
-  transfers_held P = ((i : ℕ) (e : Option ℕ) → P (OpenTenure i e)) → ((i level slot : ℕ) (e : Option ℕ) → P (Tenure i level slot e)) → ((i : ℕ) (v : Levels) (e : Option ℕ) (c : Class) → P (cycle_row i v e c))
-      → ((i : ℕ) → transfer_starts t span i ≡ true → P (transfer_row t span end i (least (answers t span i) i end))) → All P (rows_before t span end end)
+  transfers_held P = ((i : ℕ) (e : Option ℕ) → P (OpenTenure i e)) → ((i level slot : ℕ) (e : Option ℕ)
+      → P (Tenure i level slot e)) → ((i : ℕ) (v : Levels) (e : Option ℕ) (c : Class) → P (cycle_row i v e c))
+      → ((i : ℕ) → transfer_starts t span i ≡ true → P (transfer_row t span end i (least (answers t span i) i end)))
+      → All P (rows_before t span end end)
 
   by_transfers : (P : Row → Type 0) → transfers_held P
   by_transfers P opened started cycle transfer = all_before P t span end
@@ -422,7 +509,8 @@ module _ (t : Trace) (span : Stretch) (is : IsSpanOf t span) (end : ℕ) (within
     open_at_start = open_first;
     grants = grants_told;
     cycles_in_tenures = cycles_held;
-    answers_in_cycles = by_transfers (IsAnsweredInCycle cycles_listed) (λ i e. tt) (λ i level slot e. tt) no_answer answered_in_cycle;
+    answers_in_cycles = by_transfers (IsAnsweredInCycle cycles_listed) (λ i e. tt) (λ i level slot e. tt) no_answer
+        answered_in_cycle;
     cycles_of_classes = cycles_of_classes t span is end within most unbroken;
     acknowledges = acknowledges_told t span is end within most unbroken;
     codes_of_classes = codes_told t span end most unbroken;

@@ -23,15 +23,19 @@ none_left : (xs : List Interval) → [] ≡ starts_of xs → xs ≡ []
 none_left [] h = refl
 none_left (x ∷ xs) h = absurd (unlike h)
 
-pub told_by_edges : (n : ℕ) (xs ys : List Interval) → AreInTurn n xs → AreInTurn n ys → starts_of xs ≡ starts_of ys → ends_of xs ≡ ends_of ys → xs ≡ ys
+pub told_by_edges : (n : ℕ) (xs ys : List Interval) → AreInTurn n xs → AreInTurn n ys → starts_of xs ≡ starts_of ys
+    → ends_of xs ≡ ends_of ys → xs ≡ ys
 told_by_edges n [] ys a b s e = sym (none_left ys s)
 told_by_edges n (x ∷ xs) [] a b s e = absurd (unlike (sym s))
-told_by_edges n (x ∷ xs) (y ∷ ys) a b s e = by x.end y.end refl refl a.1 b.1 e (λ m p q r. told_by_edges m xs ys p q (tail_same s) r)
+told_by_edges n (x ∷ xs) (y ∷ ys) a b s e = by x.end y.end refl refl a.1 b.1 e (λ m p q r. told_by_edges m xs ys p q
+    (tail_same s) r)
   where
-    by : (o p : Option ℕ) → x.end ≡ o → y.end ≡ p → MatchOption o (xs ≡ []) (λ k. (x.start < k) × AreInTurn (k + 1) xs) → MatchOption p (ys ≡ []) (λ k. (y.start < k) × AreInTurn (k + 1) ys)
+    by : (o p : Option ℕ) → x.end ≡ o → y.end ≡ p → MatchOption o (xs ≡ []) (λ k. (x.start < k) × AreInTurn (k + 1) xs)
+        → MatchOption p (ys ≡ []) (λ k. (y.start < k) × AreInTurn (k + 1) ys)
         → option_to_list o ++ ends_of xs ≡ option_to_list p ++ ends_of ys
         → ((m : ℕ) → AreInTurn m xs → AreInTurn m ys → ends_of xs ≡ ends_of ys → xs ≡ ys) → x ∷ xs ≡ y ∷ ys
-    by None None f g c d h rest = ap₂ (λ (z : Interval) (zs : List Interval). z ∷ zs) (ap₂ interval (head_same s) (f ∙ sym g)) (c ∙ sym d)
+    by None None f g c d h rest = ap₂ (λ (z : Interval) (zs : List Interval). z ∷ zs)
+        (ap₂ interval (head_same s) (f ∙ sym g)) (c ∙ sym d)
     by None (Some k) f g c d h rest = absurd (unlike (ap ends_of (sym c) ∙ h))
     by (Some j) None f g c d h rest = absurd (unlike (ap ends_of (sym d) ∙ sym h))
     by (Some j) (Some k) f g c d h rest =
@@ -39,32 +43,41 @@ told_by_edges n (x ∷ xs) (y ∷ ys) a b s e = by x.end y.end refl refl a.1 b.1
         ap₂ (λ (z : Interval) (zs : List Interval). z ∷ zs) (ap₂ interval (head_same s) (f ∙ (ap Some same ∙ sym g)))
         (rest (j + 1) c.1 (subst (λ m. AreInTurn (m + 1) ys) (sym same) d.1) (tail_same h))
 
-module _ (t : Trace) (first end : ℕ) (rows others : List Row) (a : SplitsStretch t first end rows) (b : SplitsStretch t first end others) where
+module _ (t : Trace) (first end : ℕ) (rows others : List Row) (a : SplitsStretch t first end rows)
+    (b : SplitsStretch t first end others) where
   same_cycles : flat_map cycle_in rows ≡ flat_map cycle_in others
-  same_cycles = told_by_edges (first + 1) _ _ a.cycles.in_turn b.cycles.in_turn (a.cycles.start ∙ sym b.cycles.start) (a.cycles.stop ∙ sym b.cycles.stop)
+  same_cycles = told_by_edges (first + 1) _ _ a.cycles.in_turn b.cycles.in_turn (a.cycles.start ∙ sym b.cycles.start)
+      (a.cycles.stop ∙ sym b.cycles.stop)
 
   same_transfers : flat_map transfer_in rows ≡ flat_map transfer_in others
-  same_transfers = told_by_edges (first + 1) _ _ a.transfers.in_turn b.transfers.in_turn (a.transfers.start ∙ sym b.transfers.start) (a.transfers.close ∙ sym b.transfers.close)
+  same_transfers = told_by_edges (first + 1) _ _ a.transfers.in_turn b.transfers.in_turn (a.transfers.start
+      ∙ sym b.transfers.start) (a.transfers.close ∙ sym b.transfers.close)
 
   -- the rows of either, among the cycles and transfers of the first
   kept : (r : Row) → Contains rows r → IsAnsweredInCycle (flat_map cycle_in rows) r
   kept r c = All-contains (IsAnsweredInCycle (flat_map cycle_in rows)) rows r a.keeps.answers_in_cycles c
 
   kept_others : (r : Row) → Contains others r → IsAnsweredInCycle (flat_map cycle_in rows) r
-  kept_others r c = subst (λ (cycles : List Interval). IsAnsweredInCycle cycles r) (sym same_cycles) (All-contains (IsAnsweredInCycle (flat_map cycle_in others)) others r b.keeps.answers_in_cycles c)
+  kept_others r c = subst (λ (cycles : List Interval). IsAnsweredInCycle cycles r) (sym same_cycles)
+      (All-contains (IsAnsweredInCycle (flat_map cycle_in others)) others r b.keeps.answers_in_cycles c)
 
   pub unique : TellAlike rows others
   unique = record {
-    tenures = told_by_edges first _ _ a.tenures.in_turn b.tenures.in_turn (a.tenures.start ∙ sym b.tenures.start) (a.tenures.stop ∙ sym b.tenures.stop);
+    tenures = told_by_edges first _ _ a.tenures.in_turn b.tenures.in_turn (a.tenures.start ∙ sym b.tenures.start)
+        (a.tenures.stop ∙ sym b.tenures.stop);
     cycles = same_cycles;
     transfers = same_transfers;
-    dtack = all_alike (flat_map transfer_in rows) (flat_map cycle_in rows) (first + 1) (first + 1) a.transfers.in_turn a.cycles.in_turn (flat_map answered_by_dtack rows) (flat_map answered_by_dtack others)
+    dtack = all_alike (flat_map transfer_in rows) (flat_map cycle_in rows) (first + 1) (first + 1) a.transfers.in_turn
+        a.cycles.in_turn (flat_map answered_by_dtack rows) (flat_map answered_by_dtack others)
         (placed_dtack rows (flat_map cycle_in rows) kept)
-        (λ x c. subst (λ (transfers : List Interval). IsPlaced transfers (flat_map cycle_in rows) x) (sym same_transfers) (placed_dtack others (flat_map cycle_in rows) kept_others x c))
+        (λ x c. subst (λ (transfers : List Interval). IsPlaced transfers (flat_map cycle_in rows) x)
+        (sym same_transfers) (placed_dtack others (flat_map cycle_in rows) kept_others x c))
         (dtack_answers rows ∙ (a.answers.dtack ∙ (sym b.answers.dtack ∙ sym (dtack_answers others))));
-    berr = all_alike (flat_map transfer_in rows) (flat_map cycle_in rows) (first + 1) (first + 1) a.transfers.in_turn a.cycles.in_turn (flat_map answered_by_berr rows) (flat_map answered_by_berr others)
+    berr = all_alike (flat_map transfer_in rows) (flat_map cycle_in rows) (first + 1) (first + 1) a.transfers.in_turn
+        a.cycles.in_turn (flat_map answered_by_berr rows) (flat_map answered_by_berr others)
         (placed_berr rows (flat_map cycle_in rows) kept)
-        (λ x c. subst (λ (transfers : List Interval). IsPlaced transfers (flat_map cycle_in rows) x) (sym same_transfers) (placed_berr others (flat_map cycle_in rows) kept_others x c))
+        (λ x c. subst (λ (transfers : List Interval). IsPlaced transfers (flat_map cycle_in rows) x)
+        (sym same_transfers) (placed_berr others (flat_map cycle_in rows) kept_others x c))
         (berr_answers rows ∙ (a.answers.berr ∙ (sym b.answers.berr ∙ sym (berr_answers others))));
     each_cycle = λ r s c d. cycles_alike t r s
         (All-contains (TellsAcknowledge t) rows r a.keeps.acknowledges c)

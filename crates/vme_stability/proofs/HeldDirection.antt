@@ -29,7 +29,8 @@ on_line j a b c d x y z = rw (x, y, z) (turn d c)
     turn false true = refl
     turn false false = refl
 
-module _ (t : Trace) (span : Stretch) (reads : ReadsStrobes t span) (n : ℕ) (from : span.start ≤ n) (before : suc n < span.end) (m : Holding) (holds : Holds t span n m) where
+module _ (t : Trace) (span : Stretch) (reads : ReadsStrobes t span) (n : ℕ) (from : span.start ≤ n)
+    (before : suc n < span.end) (m : Holding) (holds : Holds t span n m) where
   abbrev old : Levels
   old = levels_at t n
 
@@ -47,8 +48,10 @@ module _ (t : Trace) (span : Stretch) (reads : ReadsStrobes t span) (n : ℕ) (f
   on_write : breaks t span S2 (suc n) WRITE ≡ (keeps_direction m old new && direction_turned old new)
   unfolding breaks is_broken
   on_write =
-      on_line (is_judged span (suc n)) (has_edge t WRITE (suc n)) (any (holds_direction t span (suc n)) (span.start + 1) (suc n)) (keeps_direction m old new) (direction_turned old new)
+      on_line (is_judged span (suc n)) (has_edge t WRITE (suc n)) (any (holds_direction t span (suc n)) (span.start + 1)
+      (suc n)) (keeps_direction m old new) (direction_turned old new)
       (judged t span reads n from before) turns (sym (keeps_direction_is t span reads n from before m holds))
 
-  pub turned_least : (cs : List Change) → least (breaks t span S2 (suc n)) 0 line_count ≡ turned_fault m old new (sight_of old new cs)
+  pub turned_least : (cs : List Change) → least (breaks t span S2 (suc n)) 0 line_count ≡ turned_fault m old new
+      (sight_of old new cs)
   turned_least cs = least_write (breaks t span S2 (suc n)) elsewhere ∙ rw on_write refl

@@ -26,7 +26,8 @@ unknown_one false k h = absurd (cc)
 module _ (v : Levels) where
   outside : (l : ℕ) → (5 ≤ l → l < 45 → ⊥) → lacks v l ≡ false
   unfolding is_needed
-  outside l h = first_false (is_within (needs_of v) l) (not (is_known_on v l)) (λ e. h (needed_above v l e) (needed_below v l e))
+  outside l h = first_false (is_within (needs_of v) l) (not (is_known_on v l))
+      (λ e. h (needed_above v l e) (needed_below v l e))
 
   -- no line before the first that a cycle may need is lacked
   pub lacks_first : any (lacks v) 0 5 ≡ false
@@ -34,7 +35,8 @@ module _ (v : Levels) where
 
   -- nor one behind the last
   pub lacks_none : (n : ℕ) → 45 ≤ n → any (lacks v) 0 n ≡ false → unknown_need v ≡ None
-  lacks_none n past h = least-none (lacks v) 0 line_count (fails-any (lacks v) 0 line_count (λ l a b. by_place l (below_or_not l n)))
+  lacks_none n past h = least-none (lacks v) 0 line_count
+      (fails-any (lacks v) 0 line_count (λ l a b. by_place l (below_or_not l n)))
     where
       below_or_not : (a b : ℕ) → (a < b) ⊎ (b ≤ a)
       below_or_not a b = grind arith
@@ -48,7 +50,8 @@ module _ (v : Levels) where
   unfolding is_needed
   lacks_known h =
       least-outside (is_known_on v) (lacks v) 5 45 line_count h
-      (λ l below e. let of = unknown_one (is_within (needs_of v) l) (is_known_on v l) e in (needed_above v l of.0, needed_below v l of.0, of.1))
+      (λ l below e. let of = unknown_one (is_within (needs_of v) l) (is_known_on v l) e in
+      (needed_above v l of.0, needed_below v l of.0, of.1))
 
   pub lacks_here : (n : ℕ) → n < 45 → any (lacks v) 0 n ≡ false → lacks v n ≡ true → unknown_need v ≡ Some n
   lacks_here n below h e = least-is (lacks v) 0 line_count n (omega arith) (omega arith) e h

@@ -4,7 +4,9 @@ use Rattle.std.specs.Prelude.{◌==◌, nat_le, if◌then◌else◌}
 use Rattle.std.proofs.lemmas.Bool.Decides.{nat_tests}
 use Rattle.vme_trace.specs.LineNumbers.{AM, IACK, has_line}
 use Rattle.vme_trace.specs.Levels.{Levels, level_at, is_low, is_known}
-use Rattle.vme_trace.specs.Cycle.{Needs, is_within, needs_of, class_of, modifier_of, modifier_bit, highest_address, has_known_modifier, is_modifier_bit_known, is_block, is_extended, is_standard, is_short}
+use Rattle.vme_trace.specs.Cycle.{Needs, is_within, needs_of, class_of, modifier_of, modifier_bit, highest_address}
+use Rattle.vme_trace.specs.Cycle.{has_known_modifier, is_modifier_bit_known, is_block, is_extended, is_standard}
+use Rattle.vme_trace.specs.Cycle.{is_short}
 use Rattle.vme_trace.specs.declared.class.Class.{Class}
 use Rattle.vme_trace.specs.declared.class.Class.TheVariants as class
 use Rattle.vme_trace.proofs.Ranges.{every-alike}
@@ -29,13 +31,15 @@ highest_of v class.K e = rw e (highest_code (modifier_of v))
 within_below : (needs : Needs) (l : ℕ) → needs.highest ≤ 31 → is_within needs l ≡ true → l < 45
 within_below needs l h k = below needs.modifier needs.highest l h k
   where
-    below : (m : Bool) (h l : ℕ) → h ≤ 31 → ((l == 5) || (m && ((nat_le 6 l && nat_le l 11) || (l == 12))) || (nat_le 14 l && nat_le l (13 + h))) ≡ true → l < 45
+    below : (m : Bool) (h l : ℕ) → h ≤ 31 → ((l == 5) || (m && ((nat_le 6 l && nat_le l 11) || (l == 12))) ||
+        (nat_le 14 l && nat_le l (13 + h))) ≡ true → l < 45
     below m h l few k = grind (arith, nat_tests)
 
 within_above : (needs : Needs) (l : ℕ) → is_within needs l ≡ true → 5 ≤ l
 within_above needs l k = above needs.modifier needs.highest l k
   where
-    above : (m : Bool) (h l : ℕ) → ((l == 5) || (m && ((nat_le 6 l && nat_le l 11) || (l == 12))) || (nat_le 14 l && nat_le l (13 + h))) ≡ true → 5 ≤ l
+    above : (m : Bool) (h l : ℕ) → ((l == 5) || (m && ((nat_le 6 l && nat_le l 11) || (l == 12))) ||
+        (nat_le 14 l && nat_le l (13 + h))) ≡ true → 5 ≤ l
     above m h l k = grind (arith, nat_tests)
 
 pub needed_below : (v : Levels) (l : ℕ) → is_within (needs_of v) l ≡ true → l < 45
@@ -66,9 +70,11 @@ is_interrupting class.F = false
 
 not_interrupting : (v : Levels) → is_low (level_at v IACK) ≡ false → is_interrupting (class_of v) ≡ false
 unfolding class_of
-not_interrupting v h = rw h (by_tests (not (has_known_modifier v)) (is_block (modifier_of v)) (highest_address (modifier_of v) == 0))
+not_interrupting v h = rw h (by_tests (not (has_known_modifier v)) (is_block (modifier_of v))
+    (highest_address (modifier_of v) == 0))
   where
-    by_tests : (a b c : Bool) → is_interrupting (if a then class.F else if b then class.K else if c then class.F else class.S) ≡ false
+    by_tests : (a b c : Bool) → is_interrupting (if a then class.F else if b then class.K else if c then class.F else
+        class.S) ≡ false
     by_tests true b c = refl
     by_tests false true c = refl
     by_tests false false true = refl
@@ -76,7 +82,8 @@ not_interrupting v h = rw h (by_tests (not (has_known_modifier v)) (is_block (mo
 
 -- and a cycle that is no interrupt acknowledge needs the address modifier
 asks_modifier : (v : Levels) → is_low (level_at v IACK) ≡ false → (needs_of v).modifier ≡ true
-asks_modifier v h = modifier_by v (class_of v) refl (λ e. clash (is_interrupting (class_of v)) (ap is_interrupting e) (not_interrupting v h))
+asks_modifier v h = modifier_by v (class_of v) refl (λ e. clash (is_interrupting (class_of v)) (ap is_interrupting e)
+    (not_interrupting v h))
   where
     clash : (b : Bool) → b ≡ true → b ≡ false → ⊥
     clash b h k = cc
@@ -84,10 +91,13 @@ asks_modifier v h = modifier_by v (class_of v) refl (λ e. clash (is_interruptin
 modifier_within : (needs : Needs) (b : ℕ) → needs.modifier ≡ true → b < 6 → is_within needs (AM b) ≡ true
 modifier_within needs b h few = within needs.modifier needs.highest b h few
   where
-    within : (m : Bool) (h b : ℕ) → m ≡ true → b < 6 → ((6 + b == 5) || (m && ((nat_le 6 (6 + b) && nat_le (6 + b) 11) || (6 + b == 12))) || (nat_le 14 (6 + b) && nat_le (6 + b) (13 + h))) ≡ true
+    within : (m : Bool) (h b : ℕ) → m ≡ true → b < 6
+        → ((6 + b == 5) || (m && ((nat_le 6 (6 + b) && nat_le (6 + b) 11) || (6 + b == 12))) || (nat_le 14 (6 + b)
+        && nat_le (6 + b) (13 + h))) ≡ true
     within m h b e few = grind (arith, nat_tests)
 
-pub needs_modifier : (v : Levels) (b : ℕ) → is_low (level_at v IACK) ≡ false → b < 6 → is_within (needs_of v) (AM b) ≡ true
+pub needs_modifier : (v : Levels) (b : ℕ) → is_low (level_at v IACK) ≡ false → b < 6 → is_within (needs_of v) (AM b)
+    ≡ true
 needs_modifier v b h few = modifier_within (needs_of v) b (asks_modifier v h) few
 
 module _ (v w : Levels) where
@@ -99,10 +109,18 @@ module _ (v w : Levels) where
     code_same : modifier_of w ≡ modifier_of v
     unfolding modifier_of
     code_same =
-        rw (bit_same 0 (omega arith), bit_same 1 (omega arith), bit_same 2 (omega arith), bit_same 3 (omega arith), bit_same 4 (omega arith), bit_same 5 (omega arith)) refl
+        rw (
+          bit_same 0 (omega arith),
+          bit_same 1 (omega arith),
+          bit_same 2 (omega arith),
+          bit_same 3 (omega arith),
+          bit_same 4 (omega arith),
+          bit_same 5 (omega arith),
+        ) refl
 
     known_same : has_known_modifier w ≡ has_known_modifier v
-    known_same = every-alike (is_modifier_bit_known w) (is_modifier_bit_known v) 0 6 (λ b from few. ap is_known (alike b few))
+    known_same = every-alike (is_modifier_bit_known w) (is_modifier_bit_known v) 0 6
+        (λ b from few. ap is_known (alike b few))
 
   class_same_I : level_at w IACK ≡ level_at v IACK → is_low (level_at v IACK) ≡ true → class_of w ≡ class_of v
   unfolding class_of
@@ -112,7 +130,8 @@ module _ (v w : Levels) where
   unfolding class_of
   interrupt_class u h = rw h refl
 
-  class_same : level_at w IACK ≡ level_at v IACK → modifier_of w ≡ modifier_of v → has_known_modifier w ≡ has_known_modifier v → class_of w ≡ class_of v
+  class_same : level_at w IACK ≡ level_at v IACK → modifier_of w ≡ modifier_of v → has_known_modifier w
+      ≡ has_known_modifier v → class_of w ≡ class_of v
   unfolding class_of
   class_same e code known = rw (e, code, known) refl
 
@@ -120,7 +139,8 @@ module _ (v w : Levels) where
   unfolding needs_of
   needs_by_class e h = rw (e, h) refl
 
-  needs_by_code : (c : Class) → class_of v ≡ c → class_of w ≡ c → modifier_of w ≡ modifier_of v → needs_of w ≡ needs_of v
+  needs_by_code : (c : Class) → class_of v ≡ c → class_of w ≡ c → modifier_of w ≡ modifier_of v → needs_of w
+      ≡ needs_of v
   unfolding needs_of
   needs_by_code class.I e h code = rw (e, h) refl
   needs_by_code class.F e h code = rw (e, h) refl

@@ -2,9 +2,11 @@
 use Rattle.std.proofs.Common.{◌≡◌, Bool, false, ◌||◌, refl}
 use Rattle.vme_stability.specs.HoldingPlaces.{has_risen, passed, was_answered, writes_of}
 use Rattle.vme_stability.specs.declared.holding.TransferState.{TransferState}
-use Rattle.vme_stability.specs.declared.holding.TransferState.TheVariants.{Fresh, RisenInRead, RisenInWrite, Answered, Over}
+use Rattle.vme_stability.specs.declared.holding.TransferState.TheVariants.{Fresh, RisenInRead, RisenInWrite, Answered}
+use Rattle.vme_stability.specs.declared.holding.TransferState.TheVariants.{Over}
 
-pub passed_same : (m : TransferState) (low : Bool) → passed (was_answered m || false) (has_risen m || false) (writes_of m low) ≡ m
+pub passed_same : (m : TransferState) (low : Bool) → passed (was_answered m || false) (has_risen m || false)
+    (writes_of m low) ≡ m
 passed_same Fresh low = refl
 passed_same RisenInRead low = refl
 passed_same RisenInWrite low = refl

@@ -8,7 +8,8 @@ use Rattle.vme_monitor.specs.declared.tracking.Pending.TheVariants as pending
 use Rattle.vme_stability.specs.HoldingPlaces.{has_risen, passed, was_answered, writes_of}
 use Rattle.vme_stability.specs.StabilitySpec.{kept}
 use Rattle.vme_stability.specs.declared.holding.TransferState.{TransferState}
-use Rattle.vme_stability.specs.declared.holding.TransferState.TheVariants.{Fresh, RisenInRead, RisenInWrite, Answered, Over}
+use Rattle.vme_stability.specs.declared.holding.TransferState.TheVariants.{Fresh, RisenInRead, RisenInWrite, Answered}
+use Rattle.vme_stability.specs.declared.holding.TransferState.TheVariants.{Over}
 
 abbrev pub is_answered_state : Pending → Bool
 is_answered_state pending.Answered = true
@@ -63,9 +64,11 @@ fresh_here false r s h j = rw (h, j) refl
 
 -- a write that has had no answer, by what the memory and the levels say, from one instant to the next
 pub directed_next : (p : Pending) (x : TransferState) (a s d e : Bool) → is_answered_state p ≡ was_answered x
-    → (is_closed p ≡ true → has_risen x ≡ false) → (is_closed p ≡ true → s ≡ false) → (is_closed p ≡ false → writes_of x d ≡ is_writing p)
+    → (is_closed p ≡ true → has_risen x ≡ false) → (is_closed p ≡ true → s ≡ false)
+    → (is_closed p ≡ false → writes_of x d ≡ is_writing p)
     → (((not (is_closed p) && not (has_risen x)) && not s) ≡ true → e ≡ d)
-    → writes_of (passed (was_answered x || a) (has_risen x || s) (writes_of x d)) e ≡ is_writing (answered_by a (cond (is_closed p) (cond e pending.Writing pending.Reading) p))
+    → writes_of (passed (was_answered x || a) (has_risen x || s) (writes_of x d)) e
+    ≡ is_writing (answered_by a (cond (is_closed p) (cond e pending.Writing pending.Reading) p))
 directed_next pending.Closed RisenInRead a s d e h r j w t = absurd (clash true refl (r refl))
 directed_next pending.Closed RisenInWrite a s d e h r j w t = absurd (clash true refl (r refl))
 directed_next pending.Closed Answered a s d e h r j w t = absurd (cc)
@@ -105,17 +108,20 @@ directed_next pending.Answered Answered false false d e h r j w t = refl
 directed_next pending.Answered Over true s d e h r j w t = refl
 directed_next pending.Answered Over false s d e h r j w t = refl
 
-closed_unanswered : (p : Pending) (x : TransferState) → true ≡ is_closed p → is_answered_state p ≡ was_answered x → false ≡ was_answered x
+closed_unanswered : (p : Pending) (x : TransferState) → true ≡ is_closed p → is_answered_state p ≡ was_answered x
+    → false ≡ was_answered x
 closed_unanswered pending.Closed x c h = h
 closed_unanswered pending.Reading x c h = absurd (cc)
 closed_unanswered pending.Writing x c h = absurd (cc)
 closed_unanswered pending.Answered x c h = absurd (cc)
 
 -- the same as the levels say it, where the strobes aren't both high after the step
-pub directed_by : (p : Pending) (x : TransferState) (h l k a s d e : Bool) → h ≡ is_closed p → l ≡ not k → k ≡ false → is_answered_state p ≡ was_answered x
+pub directed_by : (p : Pending) (x : TransferState) (h l k a s d e : Bool) → h ≡ is_closed p → l ≡ not k → k ≡ false
+    → is_answered_state p ≡ was_answered x
     → (h ≡ true → has_risen x ≡ false) → (h ≡ true → s ≡ false) → (h ≡ false → writes_of x d ≡ is_writing p)
     → (((not h && not (has_risen x)) && not s) ≡ true → e ≡ d)
-    → writes_of (passed (not k && (was_answered x || a)) (not k && (has_risen x || s)) (writes_of x d)) e ≡ is_writing (cond k pending.Closed (answered_by a (cond (h && l) (cond e pending.Writing pending.Reading) p)))
+    → writes_of (passed (not k && (was_answered x || a)) (not k && (has_risen x || s)) (writes_of x d)) e
+    ≡ is_writing (cond k pending.Closed (answered_by a (cond (h && l) (cond e pending.Writing pending.Reading) p)))
 directed_by p x true l true a s d e c low inside answered risen rises directed still = absurd (cc)
 directed_by p x false l true a s d e c low inside answered risen rises directed still = absurd (cc)
 directed_by p x true l false a s d e c low inside answered risen rises directed still = rw low (by_state p c)
@@ -123,21 +129,29 @@ directed_by p x true l false a s d e c low inside answered risen rises directed 
     unanswered : false ≡ was_answered x
     unanswered = closed_unanswered p x c answered
 
-    by_state : (p : Pending) → true ≡ is_closed p → writes_of (passed (was_answered x || a) (has_risen x || s) (writes_of x d)) e ≡ is_writing (answered_by a (cond true (cond e pending.Writing pending.Reading) p))
-    by_state pending.Closed c = directed_next pending.Closed x a s d e unanswered (λ y. risen refl) (λ y. rises refl) (λ y. absurd (clash true refl y)) (λ y. absurd (clash false y refl))
+    by_state : (p : Pending) → true ≡ is_closed p → writes_of (passed (was_answered x || a) (has_risen x || s)
+        (writes_of x d)) e ≡ is_writing (answered_by a (cond true (cond e pending.Writing pending.Reading) p))
+    by_state pending.Closed c = directed_next pending.Closed x a s d e unanswered (λ y. risen refl) (λ y. rises refl)
+        (λ y. absurd (clash true refl y)) (λ y. absurd (clash false y refl))
     by_state pending.Reading c = absurd (cc)
     by_state pending.Writing c = absurd (cc)
     by_state pending.Answered c = absurd (cc)
 directed_by p x false l false a s d e c low inside answered risen rises directed still = by_state p c answered directed
   where
-    by_state : (p : Pending) → false ≡ is_closed p → is_answered_state p ≡ was_answered x → (false ≡ false → writes_of x d ≡ is_writing p) → writes_of (passed (was_answered x || a) (has_risen x || s) (writes_of x d)) e ≡ is_writing (answered_by a p)
+    by_state : (p : Pending) → false ≡ is_closed p → is_answered_state p ≡ was_answered x
+        → (false ≡ false → writes_of x d ≡ is_writing p) → writes_of (passed (was_answered x || a) (has_risen x || s)
+        (writes_of x d)) e ≡ is_writing (answered_by a p)
     by_state pending.Closed c h w = absurd (cc)
-    by_state pending.Reading c h w = directed_next pending.Reading x a s d e h (λ y. absurd (clash false y refl)) (λ y. absurd (clash false y refl)) w still
-    by_state pending.Writing c h w = directed_next pending.Writing x a s d e h (λ y. absurd (clash false y refl)) (λ y. absurd (clash false y refl)) w still
-    by_state pending.Answered c h w = directed_next pending.Answered x a s d e h (λ y. absurd (clash false y refl)) (λ y. absurd (clash false y refl)) w still
+    by_state pending.Reading c h w = directed_next pending.Reading x a s d e h (λ y. absurd (clash false y refl))
+        (λ y. absurd (clash false y refl)) w still
+    by_state pending.Writing c h w = directed_next pending.Writing x a s d e h (λ y. absurd (clash false y refl))
+        (λ y. absurd (clash false y refl)) w still
+    by_state pending.Answered c h w = directed_next pending.Answered x a s d e h (λ y. absurd (clash false y refl))
+        (λ y. absurd (clash false y refl)) w still
 
 -- the instant after the step is in a write that had no answer, by what the memory and the levels say
-pub writes_entered : (p : Pending) (h l e z : Bool) → h ≡ is_closed p → (h ≡ false → z ≡ is_writing p) → is_writing (cond (h && l) (cond e pending.Writing pending.Reading) p) ≡ cond h (l && e) z
+pub writes_entered : (p : Pending) (h l e z : Bool) → h ≡ is_closed p → (h ≡ false → z ≡ is_writing p)
+    → is_writing (cond (h && l) (cond e pending.Writing pending.Reading) p) ≡ cond h (l && e) z
 writes_entered pending.Closed true true true z c d = refl
 writes_entered pending.Closed true true false z c d = refl
 writes_entered pending.Closed true false e z c d = refl
@@ -150,7 +164,8 @@ writes_entered pending.Answered true l e z c d = absurd (cc)
 writes_entered pending.Answered false l e z c d = sym (d refl)
 
 -- the data of an open write are held where nothing has come of it
-pub held_data : (x : TransferState) (a s d : Bool) → (writes_of x d && not a && (not (has_risen x) && not s)) ≡ ((((true && not (has_risen x)) && not s) && not (was_answered x) && not a) && d)
+pub held_data : (x : TransferState) (a s d : Bool) → (writes_of x d && not a && (not (has_risen x) && not s))
+    ≡ ((((true && not (has_risen x)) && not s) && not (was_answered x) && not a) && d)
 held_data Fresh true true true = refl
 held_data Fresh true true false = refl
 held_data Fresh true false true = refl

@@ -38,7 +38,8 @@ module _ (v : Levels) where
   -- past the last data line
   pub undriven_none : (n : ℕ) → 191 ≤ n → any (is_undriven v) 0 n ≡ false → least (is_undriven v) 0 line_count ≡ None
   undriven_none n past h =
-      least-none (is_undriven v) 0 line_count (fails-any (is_undriven v) 0 line_count (λ l a b. by_place l (below_or_not l n)))
+      least-none (is_undriven v) 0 line_count (fails-any (is_undriven v) 0 line_count
+      (λ l a b. by_place l (below_or_not l n)))
     where
       below_or_not : (l n : ℕ) → (l < n) ⊎ (n ≤ l)
       below_or_not l n = grind arith
@@ -51,12 +52,15 @@ module _ (v : Levels) where
   pub undriven_known : every (is_known_on v) 159 191 ≡ true → least (is_undriven v) 0 line_count ≡ None
   undriven_known h =
       least-outside (is_known_on v) (is_undriven v) 159 191 line_count h
-      (λ l below e. let of = unknown_one (is_selected v l) (is_known_on v l) e in (selected_from v l of.0, selected_to v l of.0, of.1))
+      (λ l below e. let of = unknown_one (is_selected v l) (is_known_on v l) e in
+      (selected_from v l of.0, selected_to v l of.0, of.1))
 
-  pub undriven_here : (n : ℕ) → n < 191 → any (is_undriven v) 0 n ≡ false → is_undriven v n ≡ true → least (is_undriven v) 0 line_count ≡ Some n
+  pub undriven_here : (n : ℕ) → n < 191 → any (is_undriven v) 0 n ≡ false → is_undriven v n ≡ true
+      → least (is_undriven v) 0 line_count ≡ Some n
   undriven_here n below h e = least-is (is_undriven v) 0 line_count n (omega arith) (omega arith) e h
 
-  pub undriven_more : (n : ℕ) → any (is_undriven v) 0 n ≡ false → is_undriven v n ≡ false → any (is_undriven v) 0 (n + 1) ≡ false
+  pub undriven_more : (n : ℕ) → any (is_undriven v) 0 n ≡ false → is_undriven v n ≡ false → any (is_undriven v) 0
+      (n + 1) ≡ false
   undriven_more n h e = any-step (is_undriven v) 0 n ∙ rw (h, e) (and_false (nat_le 0 n))
 
   pub next_line : (b : ℕ) → any (is_undriven v) 0 (159 + b + 1) ≡ false → any (is_undriven v) 0 (159 + (b + 1)) ≡ false

@@ -3,7 +3,8 @@ use Rattle.std.proofs.Common.{◌≡◌, refl, ℕ, ◌+◌, ◌<◌, Bool, true
 use Rattle.std.specs.Prelude.{◌/◌, ◌%◌, ◌==◌, if◌then◌else◌}
 use Rattle.vme_stability.specs.declared.holding.Holding.{Holding}
 use Rattle.vme_stability.specs.declared.holding.TransferState.{TransferState}
-use Rattle.vme_stability.specs.declared.holding.TransferState.TheVariants.{Fresh, RisenInRead, RisenInWrite, Answered, Over}
+use Rattle.vme_stability.specs.declared.holding.TransferState.TheVariants.{Fresh, RisenInRead, RisenInWrite, Answered}
+use Rattle.vme_stability.specs.declared.holding.TransferState.TheVariants.{Over}
 
 -- an answer has come
 abbrev pub was_answered : TransferState → Bool

@@ -1,5 +1,6 @@
 -- Reading a source by what takes its bytes.
-use Rattle.std.proofs.Common.{◌≡◌, ℕ, ◌+◌, ◌-◌, ◌≤◌, ◌<◌, List, ◌++◌, length, take, drop, Some, None, sym, ap, subst, ◌∙◌, append_assoc, append-nil, length-append, length-take-le, arith}
+use Rattle.std.proofs.Common.{◌≡◌, ℕ, ◌+◌, ◌-◌, ◌≤◌, ◌<◌, List, ◌++◌, length, take, drop, Some, None, sym, ap, subst}
+use Rattle.std.proofs.Common.{◌∙◌, append_assoc, append-nil, length-append, length-take-le, arith}
 use Rattle.std.specs.List.{copy_within}
 use Rattle.std.proofs.Math.Nat.{zero-add}
 use Rattle.std.proofs.Math.Seq.{paste, take-add, take-append_seam}
@@ -13,7 +14,8 @@ use Rattle.vme_stream.proofs.InputLemmas.{gives_more, reads_more, read_to_end}
 use Rattle.vme_trace.specs.Streams.{Reading}
 
 -- So many reads gave bytes: those that were taken, which are done, and those that are held, the first of a buffer.
-pub record IsUnderway {O : Type 0} (old now : Reading) (first here : List ℕ → O) (buffer done : List ℕ) (taken filled reads : ℕ) : Type 0 where
+pub record IsUnderway {O : Type 0} (old now : Reading) (first here : List ℕ → O) (buffer done : List ℕ)
+    (taken filled reads : ℕ) : Type 0 where
   pub within : filled ≤ length buffer
   pub some : 0 < length buffer
   pub counted : reads ≤ taken + filled
@@ -24,10 +26,12 @@ pub record IsUnderway {O : Type 0} (old now : Reading) (first here : List ℕ �
   pub failures : now.failures ≡ old.failures
   pub passes : ContinuesAs first here done
 
-passes-on : {O : Type 0} (first here next : List ℕ → O) (xs ys : List ℕ) → ContinuesAs first here xs → ContinuesAs here next ys → ContinuesAs first next (xs ++ ys)
+passes-on : {O : Type 0} (first here next : List ℕ → O) (xs ys : List ℕ) → ContinuesAs first here xs → ContinuesAs here
+    next ys → ContinuesAs first next (xs ++ ys)
 passes-on first here next xs ys one two rest = ap first (append_assoc xs ys rest) ∙ one (ys ++ rest) ∙ two rest
 
-module _ {O : Type 0} (old now : Reading) (first here : List ℕ → O) (buffer done : List ℕ) (taken filled reads : ℕ) (u : IsUnderway old now first here buffer done taken filled reads) where
+module _ {O : Type 0} (old now : Reading) (first here : List ℕ → O) (buffer done : List ℕ) (taken filled reads : ℕ)
+    (u : IsUnderway old now first here buffer done taken filled reads) where
   -- what is read so far
   abbrev pub all_read : List ℕ
   all_read = done ++ take filled buffer
@@ -39,19 +43,29 @@ module _ {O : Type 0} (old now : Reading) (first here : List ℕ → O) (buffer 
   read-length = length-append done (take filled buffer) ∙ omega (arith, held, u.done_is)
 
   -- some of what is held is taken
-  module _ (limit : taken + filled ≤ longest_input) (next : List ℕ → O) (after : List ℕ) (count : ℕ) (within : count ≤ filled) (room : filled - count < length after)
-      (left : take (filled - count) after ≡ drop count (take filled buffer)) (passed : ContinuesAs here next (take count buffer)) where
+  module _ (limit : taken + filled ≤ longest_input) (next : List ℕ → O) (after : List ℕ) (count : ℕ)
+      (within : count ≤ filled) (room : filled - count < length after)
+      (left : take (filled - count) after ≡ drop count (take filled buffer))
+      (passed : ContinuesAs here next (take count buffer)) where
     same_read : all_read ≡ (done ++ take count buffer) ++ take (filled - count) after
     same_read =
-        ap (λ (xs : List ℕ). done ++ xs) (sym (take-append-drop count (take filled buffer)) ∙ ap (λ (xs : List ℕ). xs ++ drop count (take filled buffer)) (take-take count filled buffer within) ∙ ap (λ (xs : List ℕ). take count buffer ++ xs) (sym left))
+        ap (λ (xs : List ℕ). done ++ xs) (sym (take-append-drop count (take filled buffer))
+        ∙ ap (λ (xs : List ℕ). xs ++ drop count (take filled buffer)) (take-take count filled buffer within)
+        ∙ ap (λ (xs : List ℕ). take count buffer ++ xs) (sym left))
         ∙ sym (append_assoc done (take count buffer) (take (filled - count) after))
 
-    pub given-on : IsUnderway old now first next after (done ++ take count buffer) (taken + count) (filled - count) reads
+    pub given-on : IsUnderway old now first next after (done ++ take count buffer) (taken + count) (filled - count)
+        reads
     given-on = record {
       within = omega (arith, room);
       some = omega (arith, room);
       counted = omega (arith, u.counted, within);
-      done_is = length-append done (take count buffer) ∙ omega (arith, u.done_is, length-take-le count buffer (omega (arith, within, u.within)));
+      done_is = length-append done (take count buffer) ∙ omega (
+        arith,
+        u.done_is,
+        length-take-le count buffer
+            (omega (arith, within, u.within)),
+      );
       few = omega (arith, limit, within);
       read = subst (Consumes old.left now.left) same_read u.read;
       reads_are = u.reads_are;
@@ -60,12 +74,15 @@ module _ {O : Type 0} (old now : Reading) (first here : List ℕ → O) (buffer 
     }
 
   -- one more read gave bytes
-  pub read-on : (later : Reading) (after : List ℕ) (count : ℕ) → take filled after ≡ take filled buffer → filled + count ≤ length after → 0 < count → 0 < length after
-      → Consumes now.left later.left (take count (drop filled after)) → later.reads ≡ now.reads + 1 → later.failures ≡ now.failures
+  pub read-on : (later : Reading) (after : List ℕ) (count : ℕ) → take filled after ≡ take filled buffer
+      → filled + count ≤ length after → 0 < count → 0 < length after
+      → Consumes now.left later.left (take count (drop filled after)) → later.reads ≡ now.reads + 1 → later.failures
+      ≡ now.failures
       → IsUnderway old later first here after done taken (filled + count) (reads + 1)
   read-on later after count front fits some room read reads_are failures =
       let joined : done ++ take (filled + count) after ≡ all_read ++ take count (drop filled after) =
-      ap (λ (xs : List ℕ). done ++ xs) (take-add filled count after ∙ ap (λ (xs : List ℕ). xs ++ take count (drop filled after)) front)
+      ap (λ (xs : List ℕ). done ++ xs) (take-add filled count after
+      ∙ ap (λ (xs : List ℕ). xs ++ take count (drop filled after)) front)
       ∙ sym (append_assoc done (take filled buffer) (take count (drop filled after))) in
       record {
         within = fits;
@@ -73,32 +90,39 @@ module _ {O : Type 0} (old now : Reading) (first here : List ℕ → O) (buffer 
         counted = omega (arith, u.counted, some);
         done_is = u.done_is;
         few = u.few;
-        read = subst (Consumes old.left later.left) (sym joined) (Consumes-trans old.left now.left later.left _ _ u.read read);
+        read = subst (Consumes old.left later.left) (sym joined) (Consumes-trans old.left now.left later.left _ _ u.read
+            read);
         reads_are = omega (arith, reads_are, u.reads_are);
         failures = failures ∙ u.failures;
         passes = u.passes;
       }
 
   -- the last read gave none
-  pub read-out : (later : Reading) (after : List ℕ) → take filled after ≡ take filled buffer → Consumes now.left later.left (take 0 (drop filled after)) → IsAtEnd later.left
+  pub read-out : (later : Reading) (after : List ℕ) → take filled after ≡ take filled buffer → Consumes now.left
+      later.left (take 0 (drop filled after)) → IsAtEnd later.left
       → later.reads ≡ now.reads → later.failures ≡ now.failures → reads < most_reads
       → IsReading old later (Some all_read)
   read-out later after front read end reads_are failures few =
-      read_to_end old later all_read (subst (Consumes old.left later.left) (append-nil all_read) (Consumes-trans old.left now.left later.left _ _ u.read read)) end
+      read_to_end old later all_read (subst (Consumes old.left later.left) (append-nil all_read)
+      (Consumes-trans old.left now.left later.left _ _ u.read read)) end
       (record { failures = failures ∙ u.failures; reads = omega (arith, reads_are, u.reads_are, few) })
 
   -- there are too many bytes
-  pub read-long : longest_input < taken + filled → reads < most_reads → (bytes : List ℕ) × (longest_input < length bytes) × IsReading old now (Some bytes)
+  pub read-long : longest_input < taken + filled → reads < most_reads → (bytes : List ℕ)
+      × (longest_input < length bytes) × IsReading old now (Some bytes)
   read-long long few =
-      reads_more old now all_read longest_input u.read (omega (arith, long, read-length)) (record { failures = u.failures; reads = omega (arith, u.reads_are, few) })
+      reads_more old now all_read longest_input u.read (omega (arith, long, read-length))
+      (record { failures = u.failures; reads = omega (arith, u.reads_are, few) })
 
   -- so many reads gave bytes that no more are made
   pub read-up : most_reads ≤ reads → now.reads ≡ old.reads + most_reads → IsReading old now None
-  read-up many reads_are = gives_more old now all_read u.read (omega (arith, many, u.counted, read-length)) reads_are u.failures
+  read-up many reads_are = gives_more old now all_read u.read (omega (arith, many, u.counted, read-length)) reads_are
+      u.failures
 
 -- ---- bytes that are moved to the front of a buffer
 
-moved_in : (xs : List ℕ) (from : ℕ) → from ≤ length xs → take (length xs - from) (copy_within xs from (length xs) 0) ≡ drop from xs
+moved_in : (xs : List ℕ) (from : ℕ) → from ≤ length xs → take (length xs - from) (copy_within xs from (length xs) 0)
+    ≡ drop from xs
 moved_in xs from le =
     let k = length xs - from in
     subst (λ (j : ℕ). take j (paste xs 0 (drop from xs) k) ≡ drop from xs) (zero-add k)
@@ -106,9 +130,11 @@ moved_in xs from le =
 
 -- what is written back to a buffer as long as this one
 pub written_back : (xs given : List ℕ) (n : ℕ) → n ≡ length given → take n (given ++ drop (length given) xs) ≡ given
-written_back xs given n e = ap (λ (k : ℕ). take k (given ++ drop (length given) xs)) e ∙ take-append_seam given (drop (length given) xs)
+written_back xs given n e = ap (λ (k : ℕ). take k (given ++ drop (length given) xs)) e ∙ take-append_seam given
+    (drop (length given) xs)
 
-pub moved : (xs given : List ℕ) (n from : ℕ) → n ≡ length xs → from ≤ n → length given ≡ length xs → given ≡ copy_within xs from n 0
+pub moved : (xs given : List ℕ) (n from : ℕ) → n ≡ length xs → from ≤ n → length given ≡ length xs → given
+    ≡ copy_within xs from n 0
     → take (n - from) (take n (given ++ drop (length given) xs)) ≡ drop from xs
 moved xs given n from e le len is =
     ap (take (n - from)) (written_back xs given n (e ∙ sym len) ∙ is)

@@ -89,7 +89,8 @@ fn make_room<T: ByteConsumer, M: Fn(T, &[u8]) -> Result<(T, usize), AllocError>>
     ensures room { IfOk result (λ made. filled - made.1 < vec_len bytes.new) }
     ensures left { IfOk result (λ made.
         take (filled - made.1) bytes.new.items ≡ drop made.1 (take filled bytes.old.items)) }
-    ensures taken { IfOk result (λ made. ContinuesAs (T.ahead consumer) (T.ahead made.0) (take made.1 bytes.old.items)) }
+    ensures taken { IfOk result (λ made. ContinuesAs (T.ahead consumer) (T.ahead made.0)
+        (take made.1 bytes.old.items)) }
 {
     if filled < bytes.len() {
         return Ok((consumer, 0));

@@ -1,5 +1,6 @@
 -- Two extents, of blocks that join or don't.
-use Rattle.std.proofs.Common.{◌≡◌, zero, suc, ◌+◌, ◌↔◌, IsTrue, Bool, true, false, List, [], ◌∷◌, ◌++◌, sym, ◌∙◌, ap, subst, arith, Some, None}
+use Rattle.std.proofs.Common.{◌≡◌, zero, suc, ◌+◌, ◌↔◌, IsTrue, Bool, true, false, List, [], ◌∷◌, ◌++◌, sym, ◌∙◌, ap}
+use Rattle.std.proofs.Common.{subst, arith, Some, None}
 use Rattle.std.specs.Prelude.{All, option_map}
 use Rattle.std.proofs.lemmas.List.Elements.{All-append}
 use Rattle.vme_trace.specs.Trace.{levels_after}
@@ -15,7 +16,8 @@ use Rattle.vme_summary.specs.declared.extent.Extent.{Extent}
 use Rattle.vme_summary.specs.declared.span.Span.{Span}
 use Rattle.vme_summary.specs.declared.summary.MonitorSummaries.{MonitorSummaries}
 use Rattle.vme_summary.proofs.Times.{first_time-append, last_or-append, last_time-append}
-use Rattle.vme_summary.proofs.Chains.{Boundary, chain_joins, chain_of, joins_apart, joins_together, last_left, last_number, left_after, left_by_all, number_after, steps-append}
+use Rattle.vme_summary.proofs.Chains.{Boundary, chain_joins, chain_of, joins_apart, joins_together, last_left}
+use Rattle.vme_summary.proofs.Chains.{last_number, left_after, left_by_all, number_after, steps-append}
 
 -- what an extent says of the block at its head and of those that follow it
 record Reads (e : Extent) (a : Block) (rest : List Block) : Type 0 where
@@ -32,7 +34,8 @@ reads e a rest p =
     let left : Some (left_after (left_by a) rest) ≡ Some e.left = sym (last_left a rest) ∙ p.left in
     record { first = cc; last = cc; opening = cc; left = cc }
 
-boundary : (e f : Extent) (a b : Block) (rest bs : List Block) → IsExtent e (a ∷ rest) → IsExtent f (b ∷ bs) → Meets e f → Boundary a rest b bs
+boundary : (e f : Extent) (a b : Block) (rest bs : List Block) → IsExtent e (a ∷ rest) → IsExtent f (b ∷ bs) → Meets e f
+    → Boundary a rest b bs
 boundary e f a b rest bs p q m =
     let r = reads e a rest p in
     let s = reads f b bs q in
@@ -60,7 +63,8 @@ meets_join e f [] y p q m = let none : None ≡ Some e.first = p.first in absurd
 meets_join e f (a ∷ rest) [] p q m = let none : None ≡ Some f.first = q.first in absurd (cc)
 meets_join e f (a ∷ rest) (b ∷ bs) p q m = joins_together a rest b bs p.join q.join (boundary e f a b rest bs p q m)
 
-pub extent_joined : (e f : Extent) (x y : List Block) → IsExtent e x → IsExtent f y → Meets e f → IsExtent (joined_extent e f) (x ++ y)
+pub extent_joined : (e f : Extent) (x y : List Block) → IsExtent e x → IsExtent f y → Meets e f
+    → IsExtent (joined_extent e f) (x ++ y)
 extent_joined e f [] y p q m = let none : None ≡ Some e.first = p.first in absurd (cc)
 extent_joined e f (a ∷ rest) [] p q m = let none : None ≡ Some f.first = q.first in absurd (cc)
 extent_joined e f (a ∷ rest) (b ∷ bs) p q m =
@@ -71,8 +75,10 @@ extent_joined e f (a ∷ rest) (b ∷ bs) p q m =
       last = ap (option_map (λ (b : Block). b.number)) (last_or-append None (a ∷ rest) (b ∷ bs)) ∙ q.last;
       opening = p.opening;
       left = ap (option_map left_by) (last_or-append None (a ∷ rest) (b ∷ bs)) ∙ q.left;
-      starts = rw (p.starts, q.starts) (sym (ap first_time (steps-append (a ∷ rest) (b ∷ bs)) ∙ first_time-append (joined_steps (a ∷ rest)) (joined_steps (b ∷ bs))));
-      ends = rw (p.ends, q.ends) (sym (ap last_time (steps-append (a ∷ rest) (b ∷ bs)) ∙ last_time-append (joined_steps (a ∷ rest)) (joined_steps (b ∷ bs))));
+      starts = rw (p.starts, q.starts) (sym (ap first_time (steps-append (a ∷ rest) (b ∷ bs)) ∙ first_time-append
+          (joined_steps (a ∷ rest)) (joined_steps (b ∷ bs))));
+      ends = rw (p.ends, q.ends) (sym (ap last_time (steps-append (a ∷ rest) (b ∷ bs)) ∙ last_time-append
+          (joined_steps (a ∷ rest)) (joined_steps (b ∷ bs))));
     }
 
 -- the lines that all steps leave are those that the last block leaves
@@ -80,11 +86,13 @@ pub left_by_steps : (e : Extent) (x : List Block) → IsExtent e x → levels_af
 left_by_steps e [] p = let none : None ≡ Some e.first = p.first in absurd (cc)
 left_by_steps e (a ∷ rest) p =
     let r = reads e a rest p in
-    ap (λ v. levels_after v (joined_steps (a ∷ rest))) (sym r.opening) ∙ levels_after-append a.opening a.steps (joined_steps rest)
+    ap (λ v. levels_after v (joined_steps (a ∷ rest))) (sym r.opening) ∙ levels_after-append a.opening a.steps
+    (joined_steps rest)
     ∙ left_by_all a.number (left_by a) (last_time a.steps) rest (chain_of a rest p.join) ∙ r.left
 
 -- a test that tells whether extents meet tells whether their blocks join
-pub test_torn : (e f : Extent) (test : Bool) (x y : List Block) → (IsTrue test ↔ Meets e f) → test ≡ false → IsExtent e x → IsExtent f y → ¬ BlocksJoin (x ++ y)
+pub test_torn : (e f : Extent) (test : Bool) (x y : List Block) → (IsTrue test ↔ Meets e f) → test ≡ false
+    → IsExtent e x → IsExtent f y → ¬ BlocksJoin (x ++ y)
 test_torn e f test x y t off p q j = let on : test ≡ true = t.1 (join_meets e f x y p q j) in absurd (cc)
 
 pub test_meets : (e f : Extent) (test : Bool) → (IsTrue test ↔ Meets e f) → test ≡ true → Meets e f
@@ -94,19 +102,25 @@ test_meets e f test t on = t.0 on
 pub one_joins : (b : Block) → BlocksJoin (b ∷ [])
 one_joins b = chain_joins b [] tt
 
-pub one_sound : (b : Block) → malformed_step (trace_of b) ≡ None → All (λ (b : Block). malformed_step (trace_of b) ≡ None) (b ∷ [])
+pub one_sound : (b : Block) → malformed_step (trace_of b) ≡ None → All (λ (b : Block). malformed_step (trace_of b)
+    ≡ None) (b ∷ [])
 one_sound b e zero d below = e
 one_sound b e (suc k) d below = absurd (omega arith)
 
-pub spans_joined : (s t : Span) (e : Extent) (r : MonitorSummaries) → e ≡ joined_extent s.extent t.extent → Meets s.extent t.extent
+pub spans_joined : (s t : Span) (e : Extent) (r : MonitorSummaries) → e ≡ joined_extent s.extent t.extent
+    → Meets s.extent t.extent
     → SummaryStandsForBoth s.summary t.summary r
-    → (x y : List Block) → SpanStandsFor s x → SpanStandsFor t y → SpanStandsFor (record { extent = e; summary = r }) (x ++ y)
+    → (x y : List Block) → SpanStandsFor s x → SpanStandsFor t y → SpanStandsFor (record { extent = e; summary = r })
+    (x ++ y)
 spans_joined s t e r same m both x y p q =
-    let opens : t.extent.opening ≡ levels_after s.extent.opening (joined_steps x) = m.opened ∙ sym (left_by_steps s.extent x p.extent) in
-    let second : SummaryStandsFor t.summary (levels_after s.extent.opening (joined_steps x)) (joined_steps y) = subst (λ v. SummaryStandsFor t.summary v (joined_steps y)) opens q.summary in
+    let opens : t.extent.opening ≡ levels_after s.extent.opening (joined_steps x) = m.opened
+    ∙ sym (left_by_steps s.extent x p.extent) in
+    let second : SummaryStandsFor t.summary (levels_after s.extent.opening (joined_steps x)) (joined_steps y) = subst
+    (λ v. SummaryStandsFor t.summary v (joined_steps y)) opens q.summary in
     let whole = both s.extent.opening (joined_steps x) (joined_steps y) p.summary second in
     record {
-      extent = subst (λ (k : Extent). IsExtent k (x ++ y)) (sym same) (extent_joined s.extent t.extent x y p.extent q.extent m);
+      extent = subst (λ (k : Extent). IsExtent k (x ++ y)) (sym same) (extent_joined s.extent t.extent x y p.extent
+          q.extent m);
       summary = subst (λ (k : Extent). SummaryStandsFor r k.opening (joined_steps (x ++ y))) (sym same)
           (subst (λ steps. SummaryStandsFor r s.extent.opening steps) (sym (steps-append x y)) whole);
     }

@@ -1,5 +1,6 @@
 -- The listing of a recording that a summary stands for.
-use Rattle.std.proofs.Common.{◌≡◌, ◌<◌, ◌≤◌, ◌^◌, Bool, true, List, [], ◌∷◌, length, refl, sym, ap, arith, Option, None, Some}
+use Rattle.std.proofs.Common.{◌≡◌, ◌<◌, ◌≤◌, ◌^◌, Bool, true, List, [], ◌∷◌, length, refl, sym, ap, arith, Option, None}
+use Rattle.std.proofs.Common.{Some}
 use Rattle.vme_trace.specs.Levels.{Levels}
 use Rattle.vme_trace.specs.Trace.{Trace}
 use Rattle.vme_trace.specs.Judged.{judged_spans}
@@ -21,7 +22,9 @@ use Rattle.vme_summary.specs.declared.summary.MonitorSummaries.{MonitorSummaries
 use Rattle.vme_summary.proofs.MarkedListing.{marked_is_listed}
 use Rattle.vme_summary.proofs.Whole.{FindsFrom, found_all, span_of_all}
 
-listing_at : (t : Trace) (judged : Bool) (event : Option Break) (opening : Levels) (marks : List Mark) → judged ≡ has_span (judged_spans t) → event ≡ first_break t → opening ≡ t.opening → marks ≡ all_marks t → recorded_rows t ≡ listed opening judged event marks
+listing_at : (t : Trace) (judged : Bool) (event : Option Break) (opening : Levels) (marks : List Mark) → judged
+    ≡ has_span (judged_spans t) → event ≡ first_break t → opening ≡ t.opening → marks ≡ all_marks t → recorded_rows t
+    ≡ listed opening judged event marks
 listing_at t judged event opening marks started first opens seen =
     let whole = marked_is_listed t in
     cc
@@ -31,25 +34,29 @@ pub listing_found : (s : MonitorSummaries) (o : Levels) (t : Trace) → StandsFo
     → (f : MonitorStates) → FindsFrom s o f
     → (judged : Bool) → ((t : Trace) → HasFoundAll f t → judged ≡ has_span (judged_spans t))
     → (event : Option Break) → ((t : Trace) → HasFoundAll f t → event ≡ first_break t)
-    → (marks : List Mark) → ((t : Trace) → StandsForAll s o t → marks ≡ all_marks t) → listing_of t ≡ in_newest_version (listed o judged event marks)
+    → (marks : List Mark) → ((t : Trace) → StandsForAll s o t → marks ≡ all_marks t) → listing_of t ≡ in_newest_version
+    (listed o judged event marks)
 listing_found s o t all f finds judged started event first marks seen =
     let found = found_all s o f t finds all in
     ap in_newest_version (listing_at t judged event o marks (started t found) (first t found) all.opens (seen t all))
 
 -- a law of the listings of recordings holds of it
 pub placed_found : (s : MonitorSummaries) (o : Levels) (t : Trace) → StandsForAll s o t → summary_steps s < 2 ^ 32
-    → ((t : Trace) → t.opening.slots ≤ 21 → length t.steps < 2 ^ 32 → is_well_placed (listing_of t) ≡ true) → is_well_placed (listing_of t) ≡ true
+    → ((t : Trace) → t.opening.slots ≤ 21 → length t.steps < 2 ^ 32 → is_well_placed (listing_of t) ≡ true)
+    → is_well_placed (listing_of t) ≡ true
 placed_found s o t all counted law = law t all.few (omega (arith, all.stands.known.counted, counted))
 
 module _ (s : Span) (few : s.extent.opening.slots ≤ 21) (listing : Listed) where
   -- a listing of whatever recording a span's summary stands for is that of the recording that its blocks make
-  pub listing_joined : ((t : Trace) → StandsForAll s.summary s.extent.opening t → listing ≡ listing_of t) → IsListingOf s listing
+  pub listing_joined : ((t : Trace) → StandsForAll s.summary s.extent.opening t → listing ≡ listing_of t)
+      → IsListingOf s listing
   listing_joined is [] stands = let none : None ≡ Some s.extent.first = stands.extent.first in absurd (cc)
   listing_joined is (b ∷ bs) stands =
       let t : Trace = record { opening = b.opening; steps = joined_steps (b ∷ bs) } in
       ap Some (sym (is t (span_of_all s few (b ∷ bs) t stands refl)))
 
-  pub placed_joined : ((t : Trace) → StandsForAll s.summary s.extent.opening t → is_well_placed listing ≡ true) → StandsForBlocks s → is_well_placed listing ≡ true
+  pub placed_joined : ((t : Trace) → StandsForAll s.summary s.extent.opening t → is_well_placed listing ≡ true)
+      → StandsForBlocks s → is_well_placed listing ≡ true
   placed_joined placed ([], stands) = let none : None ≡ Some s.extent.first = stands.extent.first in absurd (cc)
   placed_joined placed (b ∷ bs, stands) =
       let t : Trace = record { opening = b.opening; steps = joined_steps (b ∷ bs) } in

@@ -10,5 +10,6 @@ use Rattle.vme_summary.specs.declared.summary.MonitorSummaries.{MonitorSummaries
 
 -- what goes on past further steps knows the lines that they leave
 pub marked_on : (j : ChunkSummary) (s : Option MonitorSummaries) (o : Levels) (x y : List Step)
-    → StandsSoFar s o (x ++ y) → IsMarkedOf j (levels_after o x) y → HasMarked (record { left = j.left; summary = s }) o (x ++ y)
+    → StandsSoFar s o (x ++ y) → IsMarkedOf j (levels_after o x) y → HasMarked (record { left = j.left; summary = s }) o
+    (x ++ y)
 marked_on j s o x y stands made = record { left = made.left ∙ sym (levels_after-append x y o); stands = stands }

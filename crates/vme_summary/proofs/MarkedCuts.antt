@@ -1,5 +1,6 @@
 -- The marks of a span before an instant.
-use Rattle.std.proofs.Common.{◌≡◌, ℕ, zero, suc, ◌+◌, ◌-◌, ◌<◌, ◌≤◌, Bool, true, false, ◌&&◌, List, [], ◌∷◌, ◌++◌, map, refl, sym, ◌∙◌, ap, arith, cond, append_assoc, append-nil}
+use Rattle.std.proofs.Common.{◌≡◌, ℕ, zero, suc, ◌+◌, ◌-◌, ◌<◌, ◌≤◌, Bool, true, false, ◌&&◌, List, [], ◌∷◌, ◌++◌, map}
+use Rattle.std.proofs.Common.{refl, sym, ◌∙◌, ap, arith, cond, append_assoc, append-nil}
 use Rattle.std.specs.Prelude.{nat_lt, nat_le}
 use Rattle.std.proofs.lemmas.Bool.Decides.{nat_tests}
 use Rattle.vme_trace.specs.Judged.{Stretch}
@@ -25,7 +26,8 @@ third_fails true false c e = refl
 third_fails false b c e = refl
 
 -- marks of an instant before the end are kept
-cut_kept : (end j : ℕ) (ks : List MarkKind) (ms : List Mark) → j < end → marks_before end (map (mark_at j) ks ++ ms) ≡ map (mark_at j) ks ++ marks_before end ms
+cut_kept : (end j : ℕ) (ks : List MarkKind) (ms : List Mark) → j < end → marks_before end (map (mark_at j) ks ++ ms)
+    ≡ map (mark_at j) ks ++ marks_before end ms
 cut_kept end j [] ms h = refl
 cut_kept end j (k ∷ ks) ms h = rw (lt_holds j end h) (ap (λ x. mark_at j k ∷ x) (cut_kept end j ks ms h))
 
@@ -35,12 +37,15 @@ cut_none end j [] h = refl
 cut_none end j (k ∷ ks) h = rw (lt_fails j end h) refl
 
 -- where none of the last marks is kept, the others are cut
-pub cut_first : (end : ℕ) (xs ys : List Mark) → marks_before end ys ≡ [] → marks_before end (xs ++ ys) ≡ marks_before end xs
+pub cut_first : (end : ℕ) (xs ys : List Mark) → marks_before end ys ≡ [] → marks_before end (xs ++ ys)
+    ≡ marks_before end xs
 cut_first end [] ys h = h
 cut_first end (x ∷ xs) ys h = ap (λ r. cond (nat_lt x.instant end) (x ∷ r) []) (cut_first end xs ys h)
 
 module _ (span : Stretch) (shown : ℕ → StepMarks) where
-  on_kept : (end j : ℕ) (c : Bool) (ms : List Mark) → j < end → marks_before end (cond c (map (mark_at j) (kinds_of (shown j))) [] ++ ms) ≡ cond c (map (mark_at j) (kinds_of (shown j))) [] ++ marks_before end ms
+  on_kept : (end j : ℕ) (c : Bool) (ms : List Mark) → j < end → marks_before end
+      (cond c (map (mark_at j) (kinds_of (shown j))) [] ++ ms) ≡ cond c (map (mark_at j) (kinds_of (shown j))) []
+      ++ marks_before end ms
   on_kept end j true ms h = cut_kept end j (kinds_of (shown j)) ms h
   on_kept end j false ms h = refl
 
@@ -48,16 +53,19 @@ module _ (span : Stretch) (shown : ℕ → StepMarks) where
   on_none end j true h = cut_none end j (kinds_of (shown j)) h
   on_none end j false h = refl
 
-  pub until_kept : (end n : ℕ) (ms : List Mark) → n ≤ end → marks_before end (marks_until span shown n ++ ms) ≡ marks_until span shown n ++ marks_before end ms
+  pub until_kept : (end n : ℕ) (ms : List Mark) → n ≤ end → marks_before end (marks_until span shown n ++ ms)
+      ≡ marks_until span shown n ++ marks_before end ms
   until_kept end zero ms h = refl
   until_kept end (suc n) ms h =
       ap (marks_before end) (append_assoc (marks_until span shown n) (marks_on span shown n) ms)
       ∙ (until_kept end n (marks_on span shown n ++ ms) (omega arith)
-      ∙ (ap (λ x. marks_until span shown n ++ x) (on_kept end n (nat_lt 0 n && nat_le span.start n && nat_le n span.end) ms (omega arith))
+      ∙ (ap (λ x. marks_until span shown n ++ x) (on_kept end n (nat_lt 0 n && nat_le span.start n && nat_le n span.end)
+      ms (omega arith))
       ∙ sym (append_assoc (marks_until span shown n) (marks_on span shown n) (marks_before end ms))))
 
   pub until_whole : (end : ℕ) → marks_before end (marks_until span shown end) ≡ marks_until span shown end
-  until_whole end = ap (marks_before end) (sym (append-nil (marks_until span shown end))) ∙ (until_kept end end [] (omega arith) ∙ append-nil (marks_until span shown end))
+  until_whole end = ap (marks_before end) (sym (append-nil (marks_until span shown end)))
+      ∙ (until_kept end end [] (omega arith) ∙ append-nil (marks_until span shown end))
 
   -- the marks before an instant are those that are shown until then
   until_cut : (end k : ℕ) → marks_before end (marks_until span shown (k + end)) ≡ marks_until span shown end
@@ -67,7 +75,9 @@ module _ (span : Stretch) (shown : ℕ → StepMarks) where
       none = omega arith
   until_cut end (suc k) =
       ap (λ n. marks_before end (marks_until span shown n)) more
-      ∙ (cut_first end (marks_until span shown (k + end)) (marks_on span shown (k + end)) (on_none end (k + end) (nat_lt 0 (k + end) && nat_le span.start (k + end) && nat_le (k + end) span.end) (omega arith))
+      ∙ (cut_first end (marks_until span shown (k + end)) (marks_on span shown (k + end))
+      (on_none end (k + end) (nat_lt 0 (k + end) && nat_le span.start (k + end) && nat_le (k + end) span.end)
+      (omega arith))
       ∙ until_cut end k)
     where
       more : suc k + end ≡ suc (k + end)
@@ -81,15 +91,18 @@ module _ (span : Stretch) (shown : ℕ → StepMarks) where
 
   -- before the start there are none
   pub on_early : (n : ℕ) → n < span.start → marks_on span shown n ≡ []
-  on_early n h = ap (λ c. cond c (map (mark_at n) (kinds_of (shown n))) []) (second_fails (nat_lt 0 n) (nat_le span.start n) (nat_le n span.end) (le_fails span.start n h))
+  on_early n h = ap (λ c. cond c (map (mark_at n) (kinds_of (shown n))) [])
+      (second_fails (nat_lt 0 n) (nat_le span.start n) (nat_le n span.end) (le_fails span.start n h))
 
   pub until_start : (n : ℕ) → n ≤ span.start → marks_until span shown n ≡ []
   until_start zero h = refl
-  until_start (suc n) h = ap (λ ms. ms ++ marks_on span shown n) (until_start n (omega arith)) ∙ on_early n (omega arith)
+  until_start (suc n) h = ap (λ ms. ms ++ marks_on span shown n) (until_start n (omega arith))
+      ∙ on_early n (omega arith)
 
   -- and none after the end
   on_late : (n : ℕ) → span.end < n → marks_on span shown n ≡ []
-  on_late n h = ap (λ c. cond c (map (mark_at n) (kinds_of (shown n))) []) (third_fails (nat_lt 0 n) (nat_le span.start n) (nat_le n span.end) (le_fails n span.end h))
+  on_late n h = ap (λ c. cond c (map (mark_at n) (kinds_of (shown n))) [])
+      (third_fails (nat_lt 0 n) (nat_le span.start n) (nat_le n span.end) (le_fails n span.end h))
 
   until_late : (k : ℕ) → marks_until span shown (k + suc span.end) ≡ marks_until span shown (suc span.end)
   until_late zero = ap (marks_until span shown) none
@@ -112,8 +125,10 @@ module _ (span : Stretch) (shown : ℕ → StepMarks) where
       whole = omega arith
 
 -- marks that are the same at each instant
-pub until_alike : (span : Stretch) (a b : ℕ → StepMarks) (n : ℕ) → ((j : ℕ) → j < n → a j ≡ b j) → marks_until span a n ≡ marks_until span b n
+pub until_alike : (span : Stretch) (a b : ℕ → StepMarks) (n : ℕ) → ((j : ℕ) → j < n → a j ≡ b j) → marks_until span a n
+    ≡ marks_until span b n
 until_alike span a b zero alike = refl
 until_alike span a b (suc n) alike =
     ap (λ xs. xs ++ marks_on span a n) (until_alike span a b n (λ j h. alike j (omega arith)))
-    ∙ ap (λ k. marks_until span b n ++ cond (nat_lt 0 n && nat_le span.start n && nat_le n span.end) (map (mark_at n) (kinds_of k)) []) (alike n (omega arith))
+    ∙ ap (λ k. marks_until span b n ++ cond (nat_lt 0 n && nat_le span.start n && nat_le n span.end)
+    (map (mark_at n) (kinds_of k)) []) (alike n (omega arith))

@@ -1,5 +1,6 @@
 -- The rows of the marks of a span before an instant.
-use Rattle.std.proofs.Common.{◌≡◌, ℕ, zero, suc, ◌+◌, ◌<◌, ◌≤◌, Bool, true, false, ◌&&◌, List, [], ◌∷◌, ◌++◌, map, refl, sym, ◌∙◌, ap, arith, Option, None, cond, inl, inr, ◌⊎◌, append_assoc, append-nil}
+use Rattle.std.proofs.Common.{◌≡◌, ℕ, zero, suc, ◌+◌, ◌<◌, ◌≤◌, Bool, true, false, ◌&&◌, List, [], ◌∷◌, ◌++◌, map, refl}
+use Rattle.std.proofs.Common.{sym, ◌∙◌, ap, arith, Option, None, cond, inl, inr, ◌⊎◌, append_assoc, append-nil}
 use Rattle.std.specs.Prelude.{◌==◌, nat_lt, nat_le}
 use Rattle.std.proofs.lemmas.Bool.Decides.{nat_tests}
 use Rattle.vme_trace.specs.LineNumbers.{BBSY}
@@ -20,7 +21,8 @@ use Rattle.vme_dtb.proofs.Searches.{greatest_before, le_holds, lt_holds}
 use Rattle.vme_monitor.specs.KnownSpec.{known_resets}
 use Rattle.vme_summary.specs.AllShown.{all_over, all_shown}
 use Rattle.vme_summary.specs.MarkedRows.{first_instant, is_cycle_end, is_tenure_end, opening_marks, rows_of}
-use Rattle.vme_summary.proofs.InstantMarks.{all_put, all_put_is, after_cycle, after_open, after_tenure, after_transfer, asked_row, moved_row, open_row, rows_put, start_row, taken_row}
+use Rattle.vme_summary.proofs.InstantMarks.{all_put, all_put_is, after_cycle, after_open, after_tenure, after_transfer}
+use Rattle.vme_summary.proofs.InstantMarks.{asked_row, moved_row, open_row, rows_put, start_row, taken_row}
 use Rattle.vme_summary.proofs.Forward.{marks_from}
 use Rattle.vme_summary.proofs.MarkedCuts.{on_early, until_alike}
 use Rattle.vme_summary.proofs.MarkedKinds.{no_cycle, no_tenure, no_transfer, plainly, plainly_is, plainly_unjudged}
@@ -48,7 +50,8 @@ module _ (shown : ℕ → StepMarks) (unreset : (j : ℕ) → (shown j).reset �
 
   -- one more instant at the end
   from_last : (n i : ℕ) → marks_from shown i (suc n) ≡ marks_from shown i n ++ pieces shown (i + n)
-  from_last zero i = sym (all_put_is i (shown i) [] (unreset i)) ∙ (append-nil (pieces shown i) ∙ ap (pieces shown) none)
+  from_last zero i = sym (all_put_is i (shown i) [] (unreset i))
+      ∙ (append-nil (pieces shown i) ∙ ap (pieces shown) none)
     where
       none : i ≡ i + 0
       none = omega arith
@@ -62,7 +65,8 @@ module _ (shown : ℕ → StepMarks) (unreset : (j : ℕ) → (shown j).reset �
 
 module _ (t : Trace) (span : Stretch) where
   -- what is shown at the opening
-  opening_by : (b c : Bool) → cond b (mark_at 0 kind.Start ∷ cond c (mark_at 0 kind.Open ∷ []) []) [] ≡ map (mark_at 0) (kinds_of (record nothing { start = b; opened = b && c }))
+  opening_by : (b c : Bool) → cond b (mark_at 0 kind.Start ∷ cond c (mark_at 0 kind.Open ∷ []) []) [] ≡ map (mark_at 0)
+      (kinds_of (record nothing { start = b; opened = b && c }))
   opening_by true true = refl
   opening_by true false = refl
   opening_by false c = refl
@@ -70,13 +74,15 @@ module _ (t : Trace) (span : Stretch) where
   pub opening_is : is_idle t.opening ≡ (0 == span.start) → opening_marks t.opening ≡ pieces (plainly t span) 0
   unfolding low levels_at
   opening_is e =
-      ap (λ b. cond b (mark_at 0 kind.Start ∷ cond (is_low (level_at t.opening BBSY)) (mark_at 0 kind.Open ∷ []) []) []) e
+      ap (λ b. cond b (mark_at 0 kind.Start ∷ cond (is_low (level_at t.opening BBSY)) (mark_at 0 kind.Open ∷ []) []) [])
+      e
       ∙ (opening_by (0 == span.start) (is_low (level_at t.opening BBSY))
       ∙ sym (ap (λ k. map (mark_at 0) (kinds_of k)) (plainly_unjudged t span 0 (not_judged t span 0 (omega arith)))))
 
   -- before the start nothing is shown
   pub nothing_early : (j : ℕ) → j < span.start → pieces (plainly t span) j ≡ []
-  nothing_early j early = ap (λ k. map (mark_at j) (kinds_of k)) (plainly_unjudged t span j (not_judged t span j (omega arith))) ∙ rw (not_equal j span.start early) refl
+  nothing_early j early = ap (λ k. map (mark_at j) (kinds_of k))
+      (plainly_unjudged t span j (not_judged t span j (omega arith))) ∙ rw (not_equal j span.start early) refl
 
   tested : (a b c : Bool) → a ≡ true → b ≡ true → c ≡ true → (a && b && c) ≡ true
   tested a b c e f g = rw (e, f, g) refl
@@ -86,38 +92,47 @@ module _ (t : Trace) (span : Stretch) where
   on_is j later below =
       elim (before_or_from j span.start) [
         | inl early ↦ on_early span (plainly t span) j early ∙ sym (nothing_early j early)
-        | inr from ↦ ap (λ c. cond c (pieces (plainly t span) j) []) (tested (nat_lt 0 j) (nat_le span.start j) (nat_le j span.end) (lt_holds 0 j later) (le_holds span.start j from) (le_holds j span.end (omega arith)))
+        | inr from ↦ ap (λ c. cond c (pieces (plainly t span) j) []) (tested (nat_lt 0 j) (nat_le span.start j)
+            (nat_le j span.end) (lt_holds 0 j later) (le_holds span.start j from) (le_holds j span.end (omega arith)))
       ]
 
   -- with what is shown at the opening, the marks are those of all instants
-  until_is : (n : ℕ) → suc n ≤ span.end → pieces (plainly t span) 0 ++ marks_until span (plainly t span) (suc n) ≡ marks_from (plainly t span) 0 (suc n)
+  until_is : (n : ℕ) → suc n ≤ span.end → pieces (plainly t span) 0 ++ marks_until span (plainly t span) (suc n)
+      ≡ marks_from (plainly t span) 0 (suc n)
   until_is zero below = all_put_is 0 (plainly t span 0) [] refl
   until_is (suc n) below =
-      sym (append_assoc (pieces (plainly t span) 0) (marks_until span (plainly t span) (suc n)) (marks_on span (plainly t span) (suc n)))
+      sym (append_assoc (pieces (plainly t span) 0) (marks_until span (plainly t span) (suc n))
+      (marks_on span (plainly t span) (suc n)))
       ∙ (ap (λ x. x ++ marks_on span (plainly t span) (suc n)) (until_is n (omega arith))
-      ∙ (ap (λ x. marks_from (plainly t span) 0 (suc n) ++ x) (on_is (suc n) (omega arith) (omega arith) ∙ ap (pieces (plainly t span)) same)
+      ∙ (ap (λ x. marks_from (plainly t span) 0 (suc n) ++ x) (on_is (suc n) (omega arith) (omega arith)
+      ∙ ap (pieces (plainly t span)) same)
       ∙ sym (from_last (plainly t span) (λ j. refl) (suc n) 0)))
     where
       same : suc n ≡ 0 + suc n
       same = omega arith
 
-  from_opening : (end : ℕ) → 0 < end → end ≤ span.end → pieces (plainly t span) 0 ++ marks_until span (plainly t span) end ≡ marks_from (plainly t span) 0 end
+  from_opening : (end : ℕ) → 0 < end → end ≤ span.end → pieces (plainly t span) 0 ++ marks_until span (plainly t span)
+      end ≡ marks_from (plainly t span) 0 end
   from_opening zero some below = absurd (omega arith)
   from_opening (suc n) some below = until_is n below
 
   -- before the end of the span each instant shows what is plainly there
   over_is : (j : ℕ) → j < span.end → all_over t span j ≡ plainly t span j
-  over_is j h = ap (λ b. cond b (all_shown t span j) (cond (is_reset_at t j) known_resets nothing)) (lt_holds j span.end h) ∙ plainly_is t span j
+  over_is j h = ap (λ b. cond b (all_shown t span j) (cond (is_reset_at t j) known_resets nothing))
+      (lt_holds j span.end h) ∙ plainly_is t span j
 
   module _ (end : ℕ) (within : end ≤ span.end) where
     -- the rows of so many instants from one on
     abbrev rows_from : ℕ → ℕ → List Row
     rows_from i zero = []
-    rows_from i (suc n) = start_row i (i == span.start) ++ (tenure_rows t span end i ++ (cycle_rows t span end i ++ (transfer_rows t span end i ++ rows_from (suc i) n)))
+    rows_from i (suc n) = start_row i (i == span.start)
+        ++ (tenure_rows t span end i
+        ++ (cycle_rows t span end i ++ (transfer_rows t span end i ++ rows_from (suc i) n)))
 
     early_tenures : (i : ℕ) → i < span.start → tenure_rows t span end i ≡ []
     unfolding tenure_rows
-    early_tenures i early = rw (not_equal i span.start early, no_tenure t span i (not_judged t span i (omega arith))) refl
+    early_tenures i early = rw (not_equal i span.start early, no_tenure t span i (not_judged t span i (omega arith)))
+        refl
 
     early_cycles : (i : ℕ) → i < span.start → cycle_rows t span end i ≡ []
     unfolding cycle_rows
@@ -132,21 +147,26 @@ module _ (t : Trace) (span : Stretch) where
     later i n = marks_from (plainly t span) (suc i) n
 
     abbrev open_part : ℕ → ℕ → List Row
-    open_part i n = open_row i (plainly t span i).opened (first_instant is_tenure_end (after_open i (plainly t span i) (later i n)))
+    open_part i n = open_row i (plainly t span i).opened
+        (first_instant is_tenure_end (after_open i (plainly t span i) (later i n)))
 
     abbrev taken_part : ℕ → ℕ → List Row
-    taken_part i n = taken_row i (plainly t span i).tenure (first_instant is_tenure_end (after_tenure i (plainly t span i) (later i n)))
+    taken_part i n = taken_row i (plainly t span i).tenure
+        (first_instant is_tenure_end (after_tenure i (plainly t span i) (later i n)))
 
     abbrev asked_part : ℕ → ℕ → List Row
-    asked_part i n = asked_row i (plainly t span i).cycle (first_instant is_cycle_end (after_cycle i (plainly t span i) (later i n)))
+    asked_part i n = asked_row i (plainly t span i).cycle
+        (first_instant is_cycle_end (after_cycle i (plainly t span i) (later i n)))
 
     abbrev moved_part : Option ℕ → ℕ → ℕ → List Row
-    moved_part cycle i n = moved_row i (plainly t span i).transfer cycle (after_transfer i (plainly t span i) (later i n))
+    moved_part cycle i n = moved_row i (plainly t span i).transfer cycle (after_transfer i (plainly t span i)
+        (later i n))
 
     tenures_at : (i n : ℕ) → suc i + n ≡ end → open_part i n ++ taken_part i n ≡ tenure_rows t span end i
     tenures_at i n whole =
         elim (before_or_from i span.start) [
-          | inl early ↦ rw (not_equal i span.start early, no_tenure t span i (not_judged t span i (omega arith))) (sym (early_tenures i early))
+          | inl early ↦ rw (not_equal i span.start early, no_tenure t span i (not_judged t span i (omega arith)))
+              (sym (early_tenures i early))
           | inr from ↦ tenures_are t span end within i n from whole
         ]
 
@@ -157,18 +177,24 @@ module _ (t : Trace) (span : Stretch) where
           | inr from ↦ cycles_are t span end within i n from whole
         ]
 
-    gathered : (s o k a m r x y z : List Row) → o ++ k ≡ x → a ≡ y → m ≡ z → s ++ (o ++ (k ++ (a ++ (m ++ r)))) ≡ s ++ (x ++ (y ++ (z ++ r)))
+    gathered : (s o k a m r x y z : List Row) → o ++ k ≡ x → a ≡ y → m ≡ z → s ++ (o ++ (k ++ (a ++ (m ++ r)))) ≡ s
+        ++ (x ++ (y ++ (z ++ r)))
     gathered s o k a m r x y z e f g = ap (λ l. s ++ l) (sym (append_assoc o k (a ++ (m ++ r))) ∙ rw (e, f, g) refl)
 
-    instant_found : (i n : ℕ) → suc i + n ≡ end → rows_of (latest t span (suc i)) (later i n) ≡ rows_from (suc i) n → rows_of (latest t span i) (marks_from (plainly t span) i (suc n)) ≡ rows_from i (suc n)
+    instant_found : (i n : ℕ) → suc i + n ≡ end → rows_of (latest t span (suc i)) (later i n) ≡ rows_from (suc i) n
+        → rows_of (latest t span i) (marks_from (plainly t span) i (suc n)) ≡ rows_from i (suc n)
     instant_found i n whole after =
         rows_put i (plainly t span i) (later i n) (latest t span i)
-        ∙ (ap (λ c. start_row i (i == span.start) ++ (open_part i n ++ (taken_part i n ++ (asked_part i n ++ (moved_part c i n ++ rows_of c (later i n)))))) (latest_more t span i)
+        ∙ (ap (λ c. start_row i (i == span.start)
+        ++ (open_part i n ++ (taken_part i n ++ (asked_part i n ++ (moved_part c i n ++ rows_of c (later i n))))))
+        (latest_more t span i)
         ∙ (gathered
-        (start_row i (i == span.start)) (open_part i n) (taken_part i n) (asked_part i n) (moved_part (latest t span (suc i)) i n) (rows_of (latest t span (suc i)) (later i n))
+        (start_row i (i == span.start)) (open_part i n) (taken_part i n) (asked_part i n)
+        (moved_part (latest t span (suc i)) i n) (rows_of (latest t span (suc i)) (later i n))
         (tenure_rows t span end i) (cycle_rows t span end i) (transfer_rows t span end i)
         (tenures_at i n whole) (cycles_at i n whole) (transfers_are t span end within i n whole)
-        ∙ ap (λ r. start_row i (i == span.start) ++ (tenure_rows t span end i ++ (cycle_rows t span end i ++ (transfer_rows t span end i ++ r)))) after))
+        ∙ ap (λ r. start_row i (i == span.start)
+        ++ (tenure_rows t span end i ++ (cycle_rows t span end i ++ (transfer_rows t span end i ++ r)))) after))
 
     -- the rows of the marks from an instant on are those of the instants
     rows_found : (n i : ℕ) → i + n ≡ end → rows_of (latest t span i) (marks_from (plainly t span) i n) ≡ rows_from i n
@@ -181,15 +207,21 @@ module _ (t : Trace) (span : Stretch) where
     joined : (b x y z r : List Row) → b ++ (x ++ (y ++ (z ++ r))) ≡ (b ++ x ++ y ++ z) ++ r
     joined b x y z r = simp append_assoc refl
 
-    after_start : (n i : ℕ) → span.start < i → rows_before t span end i ++ rows_from i n ≡ rows_before t span end (i + n)
+    after_start : (n i : ℕ) → span.start < i → rows_before t span end i ++ rows_from i n ≡ rows_before t span end
+        (i + n)
     unfolding rows_before
     after_start zero i later = append-nil (rows_before t span end i) ∙ ap (rows_before t span end) same
       where
         same : i ≡ i + 0
         same = omega arith
     after_start (suc n) i later =
-        ap (λ b. rows_before t span end i ++ (start_row i b ++ (tenure_rows t span end i ++ (cycle_rows t span end i ++ (transfer_rows t span end i ++ rows_from (suc i) n))))) (not_equal_after i span.start later)
-        ∙ (joined (rows_before t span end i) (tenure_rows t span end i) (cycle_rows t span end i) (transfer_rows t span end i) (rows_from (suc i) n)
+        ap (λ b. rows_before t span end i
+        ++ (start_row i b
+        ++ (tenure_rows t span end i
+        ++ (cycle_rows t span end i ++ (transfer_rows t span end i ++ rows_from (suc i) n)))))
+        (not_equal_after i span.start later)
+        ∙ (joined (rows_before t span end i) (tenure_rows t span end i) (cycle_rows t span end i)
+        (transfer_rows t span end i) (rows_from (suc i) n)
         ∙ (after_start n (suc i) (omega arith)
         ∙ ap (rows_before t span end) more))
       where
@@ -199,15 +231,26 @@ module _ (t : Trace) (span : Stretch) where
     none_before : (i : ℕ) → i ≤ span.start → rows_before t span end i ≡ []
     unfolding rows_before
     none_before zero early = refl
-    none_before (suc i) early = rw (none_before i (omega arith), early_tenures i (omega arith), early_cycles i (omega arith), early_transfers i (omega arith)) refl
+    none_before (suc i) early = rw (
+      none_before i (omega arith),
+      early_tenures i (omega arith),
+      early_cycles i
+          (omega arith),
+      early_transfers i (omega arith),
+    ) refl
 
-    at_start : (n : ℕ) → rows_from span.start (suc n) ≡ row.Start span.start ∷ rows_before t span end (suc span.start + n)
+    at_start : (n : ℕ) → rows_from span.start (suc n) ≡ row.Start span.start ∷ rows_before t span end
+        (suc span.start + n)
     unfolding rows_before
     at_start n =
-        ap (λ b. start_row span.start b ++ (tenure_rows t span end span.start ++ (cycle_rows t span end span.start ++ (transfer_rows t span end span.start ++ rows_from (suc span.start) n)))) (same_number span.start)
+        ap (λ b. start_row span.start b ++ (tenure_rows t span end span.start ++ (cycle_rows t span end span.start
+        ++ (transfer_rows t span end span.start ++ rows_from (suc span.start) n)))) (same_number span.start)
         ∙ ap (λ r. row.Start span.start ∷ r) (
-        ap (λ b. b ++ (tenure_rows t span end span.start ++ (cycle_rows t span end span.start ++ (transfer_rows t span end span.start ++ rows_from (suc span.start) n)))) (sym (none_before span.start (omega arith)))
-        ∙ (joined (rows_before t span end span.start) (tenure_rows t span end span.start) (cycle_rows t span end span.start) (transfer_rows t span end span.start) (rows_from (suc span.start) n)
+        ap (λ b. b ++ (tenure_rows t span end span.start ++ (cycle_rows t span end span.start
+        ++ (transfer_rows t span end span.start ++ rows_from (suc span.start) n))))
+        (sym (none_before span.start (omega arith)))
+        ∙ (joined (rows_before t span end span.start) (tenure_rows t span end span.start)
+        (cycle_rows t span end span.start) (transfer_rows t span end span.start) (rows_from (suc span.start) n)
         ∙ after_start n (suc span.start) (omega arith))
         )
       where
@@ -215,22 +258,32 @@ module _ (t : Trace) (span : Stretch) where
         same_number a = grind (arith, nat_tests)
 
     early_none : (n i : ℕ) → i < span.start → rows_from i (suc n) ≡ rows_from (suc i) n
-    early_none n i early = rw (not_equal i span.start early, early_tenures i early, early_cycles i early, early_transfers i early) refl
+    early_none n i early = rw (
+      not_equal i span.start early,
+      early_tenures i early,
+      early_cycles i early,
+      early_transfers i early,
+    ) refl
 
     last_or_before : (i s : ℕ) → i ≤ s → (s ≡ i) ⊎ (i < s)
     last_or_before i s h = grind arith
 
-    from_start : (n i : ℕ) → i ≤ span.start → span.start < i + n → rows_from i n ≡ row.Start span.start ∷ rows_before t span end (i + n)
+    from_start : (n i : ℕ) → i ≤ span.start → span.start < i + n → rows_from i n ≡ row.Start span.start
+        ∷ rows_before t span end (i + n)
     from_start zero i early after = absurd (omega arith)
     from_start (suc n) i early after =
         elim (last_or_before i span.start early) [
-          | inl e ↦ ap (λ k. rows_from k (suc n)) (sym e) ∙ (at_start n ∙ ap (λ k. row.Start span.start ∷ rows_before t span end k) (omega arith))
-          | inr before ↦ early_none n i before ∙ (from_start n (suc i) before (omega arith) ∙ ap (λ k. row.Start span.start ∷ rows_before t span end k) (omega arith))
+          | inl e ↦ ap (λ k. rows_from k (suc n)) (sym e)
+              ∙ (at_start n ∙ ap (λ k. row.Start span.start ∷ rows_before t span end k) (omega arith))
+          | inr before ↦ early_none n i before ∙ (from_start n (suc i) before (omega arith)
+              ∙ ap (λ k. row.Start span.start ∷ rows_before t span end k) (omega arith))
         ]
 
-    rows_are : span.start < end → rows_of None (marks_from (plainly t span) 0 end) ≡ row.Start span.start ∷ rows_before t span end end
+    rows_are : span.start < end → rows_of None (marks_from (plainly t span) 0 end) ≡ row.Start span.start
+        ∷ rows_before t span end end
     rows_are after =
-        ap (λ l. rows_of l (marks_from (plainly t span) 0 end)) (sym (greatest_before (cycle_starts t span) (span.start + 1) 0 (omega arith)))
+        ap (λ l. rows_of l (marks_from (plainly t span) 0 end))
+        (sym (greatest_before (cycle_starts t span) (span.start + 1) 0 (omega arith)))
         ∙ (rows_found end 0 whole
         ∙ (from_start end 0 (omega arith) (omega arith)
         ∙ ap (λ k. row.Start span.start ∷ rows_before t span end k) whole))
@@ -240,8 +293,10 @@ module _ (t : Trace) (span : Stretch) where
 
   -- the rows of the marks before an instant, with what is shown at the opening
   pub rows_until : (end : ℕ) → span.start < end → end ≤ span.end
-      → rows_of None (pieces (plainly t span) 0 ++ marks_until span (all_over t span) end) ≡ row.Start span.start ∷ rows_before t span end end
+      → rows_of None (pieces (plainly t span) 0 ++ marks_until span (all_over t span) end) ≡ row.Start span.start
+      ∷ rows_before t span end end
   rows_until end after within =
-      ap (λ ms. rows_of None (pieces (plainly t span) 0 ++ ms)) (until_alike span (all_over t span) (plainly t span) end (λ j h. over_is j (omega arith)))
+      ap (λ ms. rows_of None (pieces (plainly t span) 0 ++ ms)) (until_alike span (all_over t span) (plainly t span) end
+      (λ j h. over_is j (omega arith)))
       ∙ (ap (rows_of None) (from_opening end (omega arith) within)
       ∙ rows_are end within after)

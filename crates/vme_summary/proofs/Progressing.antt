@@ -1,5 +1,6 @@
 -- Judging goes on past further blocks, and past further steps.
-use Rattle.std.proofs.Common.{◌≡◌, ℕ, ◌+◌, ◌≤◌, List, [], ◌∷◌, ◌++◌, length, length-append, sym, ◌∙◌, ap, subst, refl, Some, None}
+use Rattle.std.proofs.Common.{◌≡◌, ℕ, ◌+◌, ◌≤◌, List, [], ◌∷◌, ◌++◌, length, length-append, sym, ◌∙◌, ap, subst, refl}
+use Rattle.std.proofs.Common.{Some, None}
 use Rattle.std.specs.Option.{option_map}
 use Rattle.vme_trace.specs.Levels.{Levels}
 use Rattle.vme_trace.specs.Trace.{Trace, levels_after}
@@ -17,7 +18,8 @@ use Rattle.vme_monitor.specs.declared.mark.Next.{Next}
 use Rattle.vme_summary.specs.Summaries.{SummaryStandsFor, stands_finds_all, summary_steps}
 use Rattle.vme_summary.specs.Joins.{BlocksJoin}
 use Rattle.vme_summary.specs.Stands.{IsExtent, Meets, SpanStandsFor, first_number, joined_extent, recorded, step_count}
-use Rattle.vme_summary.specs.Progressed.{FoundAfter, HasCome, HasFound, HasFoundAll, HasJudged, HasMonitorState, IsFoundOf, judged_steps}
+use Rattle.vme_summary.specs.Progressed.{FoundAfter, HasCome, HasFound, HasFoundAll, HasJudged, HasMonitorState}
+use Rattle.vme_summary.specs.Progressed.{IsFoundOf, judged_steps}
 use Rattle.vme_summary.specs.declared.extent.Extent.{Extent}
 use Rattle.vme_summary.specs.declared.monitor_states.MonitorStates.{MonitorStates}
 use Rattle.vme_summary.specs.declared.running_verdict.RunningVerdict.{RunningVerdict}
@@ -30,16 +32,21 @@ use Rattle.vme_summary.proofs.Extents.{extent_joined, left_by_steps}
 use Rattle.vme_summary.proofs.Whole.{joined_sound}
 
 -- what a monitor sees of further steps from the memory that it is in
-pub seen_after : {P : Type 0} (next : P → Levels → Levels → List Change → Next P) (begin : Levels → P) (says : P → Outcome P) (count n : ℕ) (a b : MonitorState P) (o : Levels) (x y : List Step)
-    → b.memory ≡ (says a.memory).leaving → b.event ≡ earlier a.event (option_map (shifted_break n) (says a.memory).event) → n ≡ length x
-    → HasMonitorState (run_of next) begin a o x → FindsFor (run_of next) says count (levels_after o x) y → HasMonitorState (run_of next) begin b o (x ++ y)
+pub seen_after : {P : Type 0} (next : P → Levels → Levels → List Change → Next P) (begin : Levels → P)
+    (says : P → Outcome P) (count n : ℕ) (a b : MonitorState P) (o : Levels) (x y : List Step)
+    → b.memory ≡ (says a.memory).leaving → b.event ≡ earlier a.event
+    (option_map (shifted_break n) (says a.memory).event) → n ≡ length x
+    → HasMonitorState (run_of next) begin a o x → FindsFor (run_of next) says count (levels_after o x) y
+    → HasMonitorState (run_of next) begin b o (x ++ y)
 seen_after {P} next begin says count n a b o x y m e long seen finds =
     let after = levels_after o x in
     let so_far = run_of next (begin o) o x in
     let rest = run_of next so_far.leaving after y in
     let whole = run_joined next x y (begin o) o in
-    let left : (says a.memory).leaving ≡ rest.leaving = finds.leaving a.memory ∙ ap (λ (p : P). (run_of next p after y).leaving) seen.memory in
-    let broken : (says a.memory).event ≡ rest.event = finds.event a.memory ∙ ap (λ (p : P). (run_of next p after y).event) seen.memory in
+    let left : (says a.memory).leaving ≡ rest.leaving = finds.leaving a.memory
+    ∙ ap (λ (p : P). (run_of next p after y).leaving) seen.memory in
+    let broken : (says a.memory).event ≡ rest.event = finds.event a.memory
+    ∙ ap (λ (p : P). (run_of next p after y).event) seen.memory in
     record {
       memory = m ∙ left ∙ sym (ap (λ (r : Outcome P). r.leaving) whole);
       event = e ∙ ap (λ (k : ℕ). earlier a.event (option_map (shifted_break k) (says a.memory).event)) long
@@ -48,22 +55,31 @@ seen_after {P} next begin says count n a b o x y m e long seen finds =
           ∙ sym (ap (λ (r : Outcome P). r.event) whole);
     }
 
-pub come_after : (p : RunningVerdict) (s : Span) (e : Extent) (n : ℕ) (f : MonitorStates) → e ≡ joined_extent p.extent s.extent → n ≡ p.steps + summary_steps s.summary → Meets p.extent s.extent
+pub come_after : (p : RunningVerdict) (s : Span) (e : Extent) (n : ℕ) (f : MonitorStates) → e ≡ joined_extent p.extent
+    s.extent → n ≡ p.steps + summary_steps s.summary → Meets p.extent s.extent
     → FoundAfter p.found p.steps s.summary f
-    → (x y : List Block) → HasCome p x → SpanStandsFor s y → HasCome (record { extent = e; steps = n; found = f }) (x ++ y)
+    → (x y : List Block) → HasCome p x → SpanStandsFor s y → HasCome (record { extent = e; steps = n; found = f })
+    (x ++ y)
 come_after p s e n f same count m found x y c q =
-    let opens : s.extent.opening ≡ levels_after p.extent.opening (joined_steps x) = m.opened ∙ sym (left_by_steps p.extent x c.extent) in
-    let second : SummaryStandsFor s.summary (levels_after p.extent.opening (joined_steps x)) (joined_steps y) = subst (λ v. SummaryStandsFor s.summary v (joined_steps y)) opens q.summary in
+    let opens : s.extent.opening ≡ levels_after p.extent.opening (joined_steps x) = m.opened
+    ∙ sym (left_by_steps p.extent x c.extent) in
+    let second : SummaryStandsFor s.summary (levels_after p.extent.opening (joined_steps x)) (joined_steps y) = subst
+    (λ v. SummaryStandsFor s.summary v (joined_steps y)) opens q.summary in
     let whole = found p.extent.opening (joined_steps x) (joined_steps y) c.steps c.found (stands_finds_all second) in
     let steps = steps-append x y in
     let more : summary_steps s.summary ≡ length (joined_steps y) = q.summary.known.counted in
     record {
-      extent = subst (λ (k : Extent). IsExtent k (x ++ y)) (sym same) (extent_joined p.extent s.extent x y c.extent q.extent m);
-      steps = count ∙ ap (λ k. k + summary_steps s.summary) c.steps ∙ ap (λ k. length (joined_steps x) + k) more ∙ sym (ap length steps ∙ length-append (joined_steps x) (joined_steps y));
-      found = subst (λ (k : Extent). HasFound f k.opening (joined_steps (x ++ y))) (sym same) (subst (λ (steps : List Step). HasFound f p.extent.opening steps) (sym steps) whole);
+      extent = subst (λ (k : Extent). IsExtent k (x ++ y)) (sym same) (extent_joined p.extent s.extent x y c.extent
+          q.extent m);
+      steps = count ∙ ap (λ k. k + summary_steps s.summary) c.steps ∙ ap (λ k. length (joined_steps x) + k) more
+          ∙ sym (ap length steps ∙ length-append (joined_steps x) (joined_steps y));
+      found = subst (λ (k : Extent). HasFound f k.opening (joined_steps (x ++ y))) (sym same)
+          (subst (λ (steps : List Step). HasFound f p.extent.opening steps) (sym steps) whole);
     }
 
-pub past_recording : (p : RunningVerdict) → p.extent.opening.slots ≤ 21 → (v : Verdict) → ((t : Trace) → HasFoundAll p.found t → verdict_by rules_in_force t ≡ v) → (blocks : List Block) → HasCome p blocks → recorded (verdict_by rules_in_force) blocks ≡ Some v
+pub past_recording : (p : RunningVerdict) → p.extent.opening.slots ≤ 21 → (v : Verdict)
+    → ((t : Trace) → HasFoundAll p.found t → verdict_by rules_in_force t ≡ v) → (blocks : List Block) → HasCome p blocks
+    → recorded (verdict_by rules_in_force) blocks ≡ Some v
 past_recording p few v found [] c = let none : None ≡ Some p.extent.first = c.extent.first in absurd (cc)
 past_recording p few v found (b ∷ bs) c =
     let opens : Some b.opening ≡ Some p.extent.opening = c.extent.opening in
@@ -77,7 +93,8 @@ past_recording p few v found (b ∷ bs) c =
     }))
 
 -- how many steps there are
-pub come_steps : (p : RunningVerdict) (blocks : List Block) → HasCome p blocks → judged_steps p ≡ length (joined_steps blocks)
+pub come_steps : (p : RunningVerdict) (blocks : List Block) → HasCome p blocks → judged_steps p
+    ≡ length (joined_steps blocks)
 come_steps p blocks c = c.steps
 
 pub span_steps : (s : Span) (blocks : List Block) → SpanStandsFor s blocks → step_count s ≡ length (joined_steps blocks)
@@ -92,12 +109,15 @@ pub come_join : (p : RunningVerdict) (blocks : List Block) → HasCome p blocks 
 come_join p blocks c = c.extent.join
 
 -- judging goes on past further steps
-pub judged_on : (j : VerdictState) (m : ChunkSummary) (n : ℕ) (f : MonitorStates) → n ≡ j.steps + summary_steps m.summary → FoundAfter j.found j.steps m.summary f
-    → (o : Levels) (x y : List Step) → HasJudged j o x → IsFoundOf m (levels_after o x) y → HasJudged (record { left = m.left; steps = n; found = f }) o (x ++ y)
+pub judged_on : (j : VerdictState) (m : ChunkSummary) (n : ℕ) (f : MonitorStates) → n ≡ j.steps + summary_steps
+    m.summary → FoundAfter j.found j.steps m.summary f
+    → (o : Levels) (x y : List Step) → HasJudged j o x → IsFoundOf m (levels_after o x) y
+    → HasJudged (record { left = m.left; steps = n; found = f }) o (x ++ y)
 judged_on j m n f count found o x y h made =
     let long : summary_steps m.summary ≡ length y = made.finds.known.counted in
     record {
       left = made.left ∙ sym (levels_after-append x y o);
-      counted = count ∙ ap (λ k. k + summary_steps m.summary) h.counted ∙ ap (λ k. length x + k) long ∙ sym (length-append x y);
+      counted = count ∙ ap (λ k. k + summary_steps m.summary) h.counted ∙ ap (λ k. length x + k) long
+          ∙ sym (length-append x y);
       found = found o x y h.counted h.found made.finds;
     }

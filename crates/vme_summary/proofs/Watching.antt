@@ -3,9 +3,10 @@ use Rattle.std.proofs.Common.{ℕ, ◌+◌, ◌≤◌, List, ◌++◌, length, l
 use Rattle.vme_trace.specs.Levels.{Levels}
 use Rattle.vme_trace.specs.WellFormed.{capture_limit}
 use Rattle.vme_trace.specs.declared.step.Step.{Step}
-use Rattle.vme_summary.specs.Watched.{KeepsUp}
+use Rattle.vme_summary.specs.JudgedSoFar.{KeepsUp}
 
-module _ (IsPast : Levels → List Step → Type 0) (count : ℕ) (o : Levels) (taken waiting : List Step) (k : KeepsUp IsPast count o taken waiting) (le : count ≤ capture_limit) where
+module _ (IsPast : Levels → List Step → Type 0) (count : ℕ) (o : Levels) (taken waiting : List Step)
+    (k : KeepsUp IsPast count o taken waiting) (le : count ≤ capture_limit) where
   within : length taken ≤ capture_limit
   within = omega (arith, le, k.counted)
 
@@ -16,5 +17,6 @@ module _ (IsPast : Levels → List Step → Type 0) (count : ℕ) (o : Levels) (
       (o, h.0, h.1, omega (arith, within, sym (length-append h.0 waiting) ∙ ap length h.2))
 
   -- with them, all steps are judged
-  pub all-judged : (IsNext : Levels → List Step → Type 0) → ((o : Levels) (x : List Step) → IsPast o x → IsNext o (x ++ waiting)) → IsNext o taken
+  pub all-judged : (IsNext : Levels → List Step → Type 0) → ((o : Levels) (x : List Step) → IsPast o x
+      → IsNext o (x ++ waiting)) → IsNext o taken
   all-judged IsNext past = let h = k.kept within in subst (IsNext o) h.2 (past o h.0 h.1)

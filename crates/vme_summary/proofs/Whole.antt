@@ -1,5 +1,6 @@
 -- The recording that blocks make, and the verdict on it.
-use Rattle.std.proofs.Common.{◌≡◌, ℕ, suc, ◌≤◌, Bool, true, false, List, [], ◌∷◌, refl, sym, ◌∙◌, ap, subst, arith, Option, Some, None}
+use Rattle.std.proofs.Common.{◌≡◌, ℕ, suc, ◌≤◌, Bool, true, false, List, [], ◌∷◌, refl, sym, ◌∙◌, ap, subst, arith}
+use Rattle.std.proofs.Common.{Option, Some, None}
 use Rattle.std.specs.Prelude.{All}
 use Rattle.std.specs.Option.{option_or}
 use Rattle.vme_trace.specs.Levels.{Levels}
@@ -38,38 +39,48 @@ no_steps : (v : Levels) → malformed_step (record { opening = v; steps = [] }) 
 no_steps v = stands_sound v [] tt
 
 -- what is later than a time is later than the last of some steps, whatever that time is
-later_own : (steps : List Step) (t : Option ℕ) (bs : List Block) (n : ℕ) (v : Levels) → GoOn n v (option_or (last_time steps) t) bs → is_later (last_time steps) (first_time (joined_steps bs)) ≡ true
+later_own : (steps : List Step) (t : Option ℕ) (bs : List Block) (n : ℕ) (v : Levels)
+    → GoOn n v (option_or (last_time steps) t) bs → is_later (last_time steps) (first_time (joined_steps bs)) ≡ true
 later_own steps t bs n v g = by_last (last_time steps) (untimed bs n v (option_or (last_time steps) t) g).1
   where
-    by_last : (l : Option ℕ) → is_later (option_or l t) (first_time (joined_steps bs)) ≡ true → is_later l (first_time (joined_steps bs)) ≡ true
+    by_last : (l : Option ℕ) → is_later (option_or l t) (first_time (joined_steps bs)) ≡ true
+        → is_later l (first_time (joined_steps bs)) ≡ true
     by_last None h = refl
     by_last (Some s) h = h
 
-chain_sound : (bs : List Block) (n : ℕ) (v : Levels) (t : Option ℕ) → GoOn n v t bs → All IsSound bs → malformed_step (record { opening = v; steps = joined_steps bs }) ≡ None
+chain_sound : (bs : List Block) (n : ℕ) (v : Levels) (t : Option ℕ) → GoOn n v t bs → All IsSound bs
+    → malformed_step (record { opening = v; steps = joined_steps bs }) ≡ None
 chain_sound [] n v t g all = no_steps v
 chain_sound (b ∷ bs) n v t g all =
-    let whole = sound_together b.opening b.steps (joined_steps bs) (head_sound b bs all) (chain_sound bs b.number (left_by b) (option_or (last_time b.steps) t) g.3 (others b bs all)) (later_own b.steps t bs b.number (left_by b) g.3) in
+    let whole = sound_together b.opening b.steps (joined_steps bs) (head_sound b bs all)
+    (chain_sound bs b.number (left_by b) (option_or (last_time b.steps) t) g.3 (others b bs all))
+    (later_own b.steps t bs b.number (left_by b) g.3) in
     subst (λ w. malformed_step (record { opening = w; steps = joined_steps (b ∷ bs) }) ≡ None) g.1 whole
 
-blocks_sound : (b : Block) (bs : List Block) → BlocksJoin (b ∷ bs) → All IsSound (b ∷ bs) → malformed_step (record { opening = b.opening; steps = joined_steps (b ∷ bs) }) ≡ None
+blocks_sound : (b : Block) (bs : List Block) → BlocksJoin (b ∷ bs) → All IsSound (b ∷ bs)
+    → malformed_step (record { opening = b.opening; steps = joined_steps (b ∷ bs) }) ≡ None
 blocks_sound b bs j all =
     let g = chain_of b bs j in
-    let h : GoOn b.number (left_by b) (option_or (last_time b.steps) None) bs = subst (λ k. GoOn b.number (left_by b) k bs) (own (last_time b.steps)) g in
-    sound_together b.opening b.steps (joined_steps bs) (head_sound b bs all) (chain_sound bs b.number (left_by b) (option_or (last_time b.steps) None) h (others b bs all)) (later_own b.steps None bs b.number (left_by b) h)
+    let h : GoOn b.number (left_by b) (option_or (last_time b.steps) None) bs = subst
+    (λ k. GoOn b.number (left_by b) k bs) (own (last_time b.steps)) g in
+    sound_together b.opening b.steps (joined_steps bs) (head_sound b bs all) (chain_sound bs b.number (left_by b)
+    (option_or (last_time b.steps) None) h (others b bs all)) (later_own b.steps None bs b.number (left_by b) h)
   where
     own : (l : Option ℕ) → l ≡ option_or l None
     own None = refl
     own (Some s) = refl
 
 -- blocks that join make a well-formed recording
-pub joined_sound : (blocks : List Block) (t : Trace) → BlocksJoin blocks → All IsSound blocks → joined_trace blocks ≡ Some t → malformed_step t ≡ None
+pub joined_sound : (blocks : List Block) (t : Trace) → BlocksJoin blocks → All IsSound blocks → joined_trace blocks
+    ≡ Some t → malformed_step t ≡ None
 joined_sound [] t j all e = absurd (cc)
 joined_sound (b ∷ bs) t j all e =
     let whole : record { opening = b.opening; steps = joined_steps (b ∷ bs) } ≡ t = cc in
     subst (λ k. malformed_step k ≡ None) whole (blocks_sound b bs j all)
 
 -- the summary of a span that stands for blocks stands for the recording that they make
-pub span_of_all : (s : Span) → s.extent.opening.slots ≤ 21 → (blocks : List Block) (t : Trace) → SpanStandsFor s blocks → joined_trace blocks ≡ Some t → StandsForAll s.summary s.extent.opening t
+pub span_of_all : (s : Span) → s.extent.opening.slots ≤ 21 → (blocks : List Block) (t : Trace) → SpanStandsFor s blocks
+    → joined_trace blocks ≡ Some t → StandsForAll s.summary s.extent.opening t
 span_of_all s few [] t stands e = absurd (cc)
 span_of_all s few (b ∷ bs) t stands e =
     let opens : Some b.opening ≡ Some s.extent.opening = stands.extent.opening in
@@ -84,7 +95,8 @@ span_of_all s few (b ∷ bs) t stands e =
     } in
     subst (λ k. StandsForAll s.summary s.extent.opening k) whole here
 
-judged_some : (spans : List Stretch) (t : Trace) → has_span spans ≡ true → judge rules_in_force t spans ≡ verdict_on (least_of rules_in_force t spans)
+judged_some : (spans : List Stretch) (t : Trace) → has_span spans ≡ true → judge rules_in_force t spans
+    ≡ verdict_on (least_of rules_in_force t spans)
 judged_some [] t e = absurd (cc)
 judged_some (span ∷ spans) t e = refl
 
@@ -93,12 +105,15 @@ judged_none [] t e = refl
 judged_none (span ∷ spans) t e = absurd (cc)
 
 -- the verdict where something is judged
-pub judged_verdict : (t : Trace) (judged : Bool) (event : Option Break) → judged ≡ has_span (judged_spans t) → event ≡ first_break t → judged ≡ true → verdict_by rules_in_force t ≡ verdict_on event
+pub judged_verdict : (t : Trace) (judged : Bool) (event : Option Break) → judged ≡ has_span (judged_spans t) → event
+    ≡ first_break t → judged ≡ true → verdict_by rules_in_force t ≡ verdict_on event
 unfolding verdict_by
-judged_verdict t judged event started first on = judged_some (judged_spans t) t (sym started ∙ on) ∙ ap verdict_on (sym first)
+judged_verdict t judged event started first on = judged_some (judged_spans t) t (sym started ∙ on)
+    ∙ ap verdict_on (sym first)
 
 -- and where nothing is
-pub waiting_verdict : (t : Trace) (judged : Bool) → judged ≡ has_span (judged_spans t) → judged ≡ false → verdict_by rules_in_force t ≡ NeverIdle
+pub waiting_verdict : (t : Trace) (judged : Bool) → judged ≡ has_span (judged_spans t) → judged ≡ false
+    → verdict_by rules_in_force t ≡ NeverIdle
 unfolding verdict_by
 waiting_verdict t judged started off = judged_none (judged_spans t) t (sym started ∙ off)
 
@@ -106,14 +121,24 @@ waiting_verdict t judged started off = judged_none (judged_spans t) t (sym start
 abbrev pub FindsFrom : MonitorSummaries → Levels → MonitorStates → Type 0
 FindsFrom s o f = (x : List Step) → SummaryFindsFor s o x → HasFound f o x
 
-pub found_all : (s : MonitorSummaries) (o : Levels) (f : MonitorStates) (t : Trace) → FindsFrom s o f → StandsForAll s o t → HasFoundAll f t
+pub found_all : (s : MonitorSummaries) (o : Levels) (f : MonitorStates) (t : Trace) → FindsFrom s o f → StandsForAll s o
+    t → HasFoundAll f t
 found_all s o f t finds all =
     let same = all.opens in
-    let stands : SummaryStandsFor s o t.steps = subst (λ (v : Levels). SummaryStandsFor s v t.steps) (sym same) all.stands in
-    record { sound = all.sound; few = all.few; found_there = subst (λ (v : Levels). HasFound f v t.steps) same (finds t.steps (stands_finds_all stands)) }
+    let stands : SummaryStandsFor s o t.steps = subst (λ (v : Levels). SummaryStandsFor s v t.steps) (sym same)
+    all.stands in
+    record {
+      sound = all.sound;
+      few = all.few;
+      found_there = subst (λ (v : Levels). HasFound f v t.steps) same
+          (finds t.steps (stands_finds_all stands));
+    }
 
-pub verdict_found : (s : Span) → s.extent.opening.slots ≤ 21 → (f : MonitorStates) → FindsFrom s.summary s.extent.opening f → (v : Verdict) → ((t : Trace) → HasFoundAll f t → verdict_by rules_in_force t ≡ v) → IsVerdictOf s v
-verdict_found s few f finds v found [] stands = let none : None ≡ Some s.extent.first = stands.extent.first in absurd (cc)
+pub verdict_found : (s : Span) → s.extent.opening.slots ≤ 21 → (f : MonitorStates) → FindsFrom s.summary
+    s.extent.opening f → (v : Verdict) → ((t : Trace) → HasFoundAll f t → verdict_by rules_in_force t ≡ v)
+    → IsVerdictOf s v
+verdict_found s few f finds v found [] stands = let none : None ≡ Some s.extent.first = stands.extent.first in
+    absurd (cc)
 verdict_found s few f finds v found (b ∷ bs) stands =
     let t : Trace = record { opening = b.opening; steps = joined_steps (b ∷ bs) } in
     ap Some (found t (found_all s.summary s.extent.opening f t finds (span_of_all s few (b ∷ bs) t stands refl)))

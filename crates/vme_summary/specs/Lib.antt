@@ -11,4 +11,4 @@ pub mod MarkedRows
 pub mod Endings
 pub mod CutFaults
 pub mod Progressed
-pub mod Watched
+pub mod JudgedSoFar

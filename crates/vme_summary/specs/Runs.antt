@@ -22,7 +22,8 @@ use Rattle.vme_chains.specs.declared.acknowledge.Acknowledgement.{Acknowledgemen
 unfoldable pub known_run : StretchPhase Stateless → Levels → List Step → Outcome (StretchPhase Stateless)
 known_run = run_of (noticed (noted known_sight) (spanned known_begin known_opens known_resets known_ends known_next))
 
-unfoldable pub handshake_run : StretchPhase HandshakeMemory → Levels → List Step → Outcome (StretchPhase HandshakeMemory)
+unfoldable pub handshake_run : StretchPhase HandshakeMemory → Levels → List Step
+    → Outcome (StretchPhase HandshakeMemory)
 handshake_run = run_of (noticed (noted dtb_sight) (spanned dtb_begin dtb_opens nothing dtb_ends dtb_step))
 
 unfoldable pub stability_run : StretchPhase Holding → Levels → List Step → Outcome (StretchPhase Holding)
@@ -33,7 +34,8 @@ stability_run =
 unfoldable pub grant_run : StretchPhase Arbitration → Levels → List Step → Outcome (StretchPhase Arbitration)
 grant_run = run_of (noticed (noted grant_sight) (spanned grant_begin grant_opens nothing grant_ends grant_next))
 
-unfoldable pub acknowledge_run : StretchPhase Acknowledgement → Levels → List Step → Outcome (StretchPhase Acknowledgement)
+unfoldable pub acknowledge_run : StretchPhase Acknowledgement → Levels → List Step
+    → Outcome (StretchPhase Acknowledgement)
 acknowledge_run =
     run_of
     (noticed (noted acknowledge_sight)

@@ -38,7 +38,8 @@ stability_outcome s p = outcome s.stability.layers.items s.stability.rows.items 
 abbrev pub grant_outcome : MonitorSummaries → StretchPhase Arbitration → Outcome (StretchPhase Arbitration)
 grant_outcome s p = outcome s.grant.layers.items s.grant.rows.items p (phase_place arbitration_place p)
 
-abbrev pub acknowledge_outcome : MonitorSummaries → StretchPhase Acknowledgement → Outcome (StretchPhase Acknowledgement)
+abbrev pub acknowledge_outcome : MonitorSummaries → StretchPhase Acknowledgement
+    → Outcome (StretchPhase Acknowledgement)
 acknowledge_outcome s p =
     outcome s.acknowledge.layers.items s.acknowledge.rows.items p (phase_place acknowledgement_place p)
 
@@ -61,7 +62,8 @@ pub record SummaryFindsFor (s : MonitorSummaries) (o : Levels) (x : List Step) :
   pub acknowledge : FindsFor acknowledge_run (acknowledge_outcome s) s.acknowledge.steps o x
 
 -- one that stands for steps finds what they do
-pub stands_finds_all : {s : MonitorSummaries} {o : Levels} {x : List Step} → SummaryStandsFor s o x → SummaryFindsFor s o x
+pub stands_finds_all : {s : MonitorSummaries} {o : Levels} {x : List Step} → SummaryStandsFor s o x → SummaryFindsFor s
+    o x
 stands_finds_all p =
     record {
       known = stands_finds p.known;

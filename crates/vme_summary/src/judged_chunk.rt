@@ -26,7 +26,7 @@ pub struct JudgedChunk<J: ChunkJudge> {
 
 impl<J: ChunkJudge> Model for JudgedChunk<J> {
     ghost use Rattle.vme_trace.specs.Trace.{Trace};
-    ghost use Rattle.vme_summary.specs.Watched.{IsPart};
+    ghost use Rattle.vme_summary.specs.JudgedSoFar.{IsPart};
 
     ghost Value = { Trace };
 

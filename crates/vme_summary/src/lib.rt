@@ -5,13 +5,14 @@
 //! However the blocks of a recording were joined, [`Span::verdict`] is the verdict of the recording, and
 //! [`Span::listing`] its listing, which is well placed.
 //!
-//! A recording that is judged in order needs no span: what judges goes on past some steps at once (`chunk_judge`), without
-//! marks for a verdict (`verdict_state`) and with them for a listing (`listing_state`). [`Judge`] and [`Lister`] take the steps as
-//! they are made; [`verdict_by_blocks`] and [`listing_by_blocks`] take a capture, and copy none of its blocks.
+//! A recording that is judged in order needs no span: what judges goes on past some steps at once (`chunk_judge`),
+//! without marks for a verdict (`verdict_state`) and with them for a listing (`listing_state`). [`Judge`] and
+//! [`Lister`] take the steps as they are made; [`verdict_by_blocks`] and [`listing_by_blocks`] take a capture, and copy
+//! none of its blocks.
 //!
 //! What judges takes steps that were judged apart, too: a [`JudgedChunk`] is made of steps that follow some lines, on
-//! any thread, and the parts of a recording are passed in order to what judges it. [`DiscardSteps`] takes steps and judges
-//! none.
+//! any thread, and the parts of a recording are passed in order to what judges it. [`DiscardSteps`] takes steps and
+//! judges none.
 //!
 //! A [`RunningVerdict`] goes on past further blocks from where judging has come to, without a join and without memory.
 //!

@@ -6,7 +6,7 @@ ghost use Rattle.vme_trace.specs.Judged.{judged_spans};
 ghost use Rattle.vme_trace.specs.Trace.{Trace, levels_after};
 ghost use Rattle.vme_trace.specs.declared.step.Step.{Step};
 ghost use Rattle.vme_monitor.specs.Outcome.{StandsFor};
-ghost use Rattle.vme_monitor.specs.Underway.{seen_in};
+ghost use Rattle.vme_monitor.specs.StepRuns.{seen_in};
 ghost use Rattle.vme_monitor.specs.Whole.{has_span};
 ghost use Rattle.vme_summary.specs.AllShown.{all_marks};
 ghost use Rattle.vme_summary.specs.HasRoom.{HasRoom};

@@ -59,7 +59,7 @@ pub type Lister = StreamJudge<ListingState>;
 
 impl<J: ChunkJudge> Model for StreamJudge<J> {
     ghost use Rattle.vme_trace.specs.Trace.{Trace};
-    ghost use Rattle.vme_summary.specs.Watched.{KeepsUp};
+    ghost use Rattle.vme_summary.specs.JudgedSoFar.{KeepsUp};
 
     ghost Value = { Trace };
 

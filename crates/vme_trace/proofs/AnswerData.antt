@@ -1,5 +1,6 @@
 -- Where the data of an answer are taken.
-use Rattle.std.proofs.Common.{◌≡◌, ℕ, ◌+◌, ◌-◌, ◌<◌, ◌≤◌, Bool, true, false, ◌&&◌, ◌||◌, not, refl, ◌∙◌, ap, arith, inl, inr, ◌⊎◌}
+use Rattle.std.proofs.Common.{◌≡◌, ℕ, ◌+◌, ◌-◌, ◌<◌, ◌≤◌, Bool, true, false, ◌&&◌, ◌||◌, not, refl, ◌∙◌, ap, arith, inl}
+use Rattle.std.proofs.Common.{inr, ◌⊎◌}
 use Rattle.vme_trace.specs.LineNumbers.{DS0, DS1}
 use Rattle.vme_trace.specs.Levels.{is_low, is_high}
 use Rattle.vme_trace.specs.Lanes.{lanes_at}
@@ -53,10 +54,12 @@ module _ (t : Trace) (span : Stretch) where
   open_since : (i r k : ℕ) → answers t span i r ≡ true → i < k → k < r → strobes_high t k ≡ false
   unfolding answers lasts
   open_since i r k found after before =
-      any-fails (strobes_high t) (i + 1) r k (not_true _ (second_of_two _ _ (first_of_two _ _ (first_of_two _ _ found)))) (omega arith) before
+      any-fails (strobes_high t) (i + 1) r k
+      (not_true _ (second_of_two _ _ (first_of_two _ _ (first_of_two _ _ found)))) (omega arith) before
 
   -- no other transfer starts before the answer of one
-  pub starts_apart : (i r : ℕ) → transfer_starts t span i ≡ true → answers t span i r ≡ true → i < r → transfer_starts t span r ≡ false
+  pub starts_apart : (i r : ℕ) → transfer_starts t span i ≡ true → answers t span i r ≡ true → i < r → transfer_starts t
+      span r ≡ false
   unfolding transfer_starts
   starts_apart i r starts found after = no_start _ _ _ open_before
     where
@@ -68,7 +71,8 @@ module _ (t : Trace) (span : Stretch) where
           ]
 
   -- the data of an answer are those that the lines say before it, and there where the transfer starts there
-  pub data-later : (i r : ℕ) → transfer_starts t span i ≡ true → answers t span i r ≡ true → i < r → data_at t span r ≡ lanes_at (levels_at t (r - 1))
+  pub data-later : (i r : ℕ) → transfer_starts t span i ≡ true → answers t span i r ≡ true → i < r → data_at t span r
+      ≡ lanes_at (levels_at t (r - 1))
   unfolding data_at
   data-later i r starts found after = rw (starts_apart i r starts found after) refl
 

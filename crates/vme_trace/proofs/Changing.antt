@@ -1,12 +1,14 @@
 -- Where control is lost, and what changes leave as it was.
-use Rattle.std.proofs.Common.{◌≡◌, ℕ, ◌+◌, ◌<◌, ◌≤◌, Bool, true, false, ◌||◌, ◌&&◌, not, List, [], ◌∷◌, refl, sym, ◌∙◌, ap, arith, ◌≢◌, cond}
+use Rattle.std.proofs.Common.{◌≡◌, ℕ, ◌+◌, ◌<◌, ◌≤◌, Bool, true, false, ◌||◌, ◌&&◌, not, List, [], ◌∷◌, refl, sym, ◌∙◌}
+use Rattle.std.proofs.Common.{ap, arith, ◌≢◌, cond}
 use Rattle.std.specs.Prelude.{None, Some, ◌==◌, nat_le, slice_set}
 use Rattle.std.proofs.lemmas.Bool.Decides.{nat_tests}
 use Rattle.std.proofs.lemmas.List.{get_or-set_other}
 use Rattle.std.proofs.lemmas.Option.{unwrap_or-slice_get}
 use Rattle.vme_trace.specs.Instants.{any, least}
 use Rattle.vme_trace.specs.LineNumbers.{line_count, SYSRESET, has_line, is_control}
-use Rattle.vme_trace.specs.Levels.{Levels, level_at, set_level, rests_high, is_idle, is_idle_on, is_reset, is_lost, is_low, is_high, is_known, loses_control}
+use Rattle.vme_trace.specs.Levels.{Levels, level_at, set_level, rests_high, is_idle, is_idle_on, is_reset, is_lost}
+use Rattle.vme_trace.specs.Levels.{is_low, is_high, is_known, loses_control}
 use Rattle.vme_trace.specs.Trace.{changed}
 use Rattle.vme_trace.specs.WellFormed.{are_changes}
 use Rattle.vme_trace.specs.Changes.{is_changed, touches_control, lost_among}
@@ -30,7 +32,8 @@ differs m l h e = absurd (same m l h e)
     same m l h e = grind (arith, nat_tests)
 
 kept_set : (v : Levels) (m l : ℕ) (x : Level) → (m == l) ≡ false → level_at (set_level v m x) l ≡ level_at v l
-kept_set v m l x h = unwrap_or-slice_get (slice_set v.levels m x) l Unknown ∙ (get_or-set_other v.levels m l x Unknown (differs m l h) ∙ sym (unwrap_or-slice_get v.levels l Unknown))
+kept_set v m l x h = unwrap_or-slice_get (slice_set v.levels m x) l Unknown
+    ∙ (get_or-set_other v.levels m l x Unknown (differs m l h) ∙ sym (unwrap_or-slice_get v.levels l Unknown))
 
 true_of_not : (b : Bool) → not b ≡ false → b ≡ true
 true_of_not true h = refl
@@ -42,9 +45,11 @@ false_of_not false h = refl
 
 each_idle : (v : Levels) (l : ℕ) → is_idle v ≡ true → l < line_count → is_idle_on v l ≡ true
 unfolding is_idle
-each_idle v l idle below = true_of_not _ (any-fails (λ k. not (is_idle_on v k)) 0 line_count l (false_of_not _ idle) (omega arith) below)
+each_idle v l idle below = true_of_not _ (any-fails (λ k. not (is_idle_on v k)) 0 line_count l (false_of_not _ idle)
+    (omega arith) below)
 
-idle_known : (control strict reset : Bool) (x : Level) → cond (not control) true (cond strict (is_high x) (is_known x)) ≡ true → (control && not (is_known x) && not reset) ≡ false
+idle_known : (control strict reset : Bool) (x : Level) → cond (not control) true (cond strict (is_high x) (is_known x))
+    ≡ true → (control && not (is_known x) && not reset) ≡ false
 idle_known false strict reset x h = refl
 idle_known true strict reset Low h = refl
 idle_known true strict reset High h = refl
@@ -54,7 +59,8 @@ idle_known true false reset Unknown h = absurd (cc)
 -- an idle bus has lost nothing
 pub idle-holds : (v : Levels) → is_idle v ≡ true → loses_control v ≡ false
 unfolding loses_control
-idle-holds v idle = fails-any (is_lost v) 0 line_count (λ l a b. idle_known (is_control v.slots l) (rests_high l) (is_reset v) (level_at v l) (each_idle v l idle b))
+idle-holds v idle = fails-any (is_lost v) 0 line_count (λ l a b. idle_known (is_control v.slots l) (rests_high l)
+    (is_reset v) (level_at v l) (each_idle v l idle b))
 
 high_not_low : (x : Level) → is_high x ≡ true → is_low x ≡ false
 high_not_low Low h = absurd (cc)
@@ -80,14 +86,16 @@ slots-kept v [] = refl
 slots-kept v (c ∷ cs) = slots-kept (set_level v c.line c.level) cs
 
 -- a line that isn't changed keeps its level
-pub level-kept : (v : Levels) (cs : List Change) (l : ℕ) → is_changed cs l ≡ false → level_at (changed v cs) l ≡ level_at v l
+pub level-kept : (v : Levels) (cs : List Change) (l : ℕ) → is_changed cs l ≡ false → level_at (changed v cs) l
+    ≡ level_at v l
 unfolding changed
 level-kept v [] l h = refl
 level-kept v (c ∷ cs) l h =
     let both = or_false (c.line == l) (is_changed cs l) h in
     level-kept (set_level v c.line c.level) cs l both.1 ∙ kept_set v c.line l c.level both.0
 
-untouched : (slots : ℕ) (cs : List Change) (l : ℕ) → touches_control slots cs ≡ false → is_control slots l ≡ true → is_changed cs l ≡ false
+untouched : (slots : ℕ) (cs : List Change) (l : ℕ) → touches_control slots cs ≡ false → is_control slots l ≡ true
+    → is_changed cs l ≡ false
 untouched slots [] l h k = refl
 untouched slots (c ∷ cs) l h k =
     let both = or_false (is_control slots c.line) (touches_control slots cs) h in
@@ -95,25 +103,32 @@ untouched slots (c ∷ cs) l h k =
   where
     other : (b : Bool) → (c.line == l) ≡ b → (b || false) ≡ false
     other false e = refl
-    other true e = absurd (clash (is_control slots l) k (ap (is_control slots) (sym (equal c.line l e)) ∙ (or_false (is_control slots c.line) (touches_control slots cs) h).0))
+    other true e = absurd (clash (is_control slots l) k (ap (is_control slots) (sym (equal c.line l e))
+        ∙ (or_false (is_control slots c.line) (touches_control slots cs) h).0))
       where
         equal : (a b : ℕ) → (a == b) ≡ true → a ≡ b
         equal a b h = grind (arith, nat_tests)
 
-idle_on-kept : (v : Levels) (cs : List Change) (l : ℕ) → touches_control v.slots cs ≡ false → is_idle_on (changed v cs) l ≡ is_idle_on v l
+idle_on-kept : (v : Levels) (cs : List Change) (l : ℕ) → touches_control v.slots cs ≡ false → is_idle_on (changed v cs)
+    l ≡ is_idle_on v l
 idle_on-kept v cs l h = rw (slots-kept v cs) (by_control (is_control v.slots l) refl)
   where
-    by_control : (b : Bool) → is_control v.slots l ≡ b → cond (not b) true (cond (rests_high l) (is_high (level_at (changed v cs) l)) (is_known (level_at (changed v cs) l))) ≡ cond (not b) true (cond (rests_high l) (is_high (level_at v l)) (is_known (level_at v l)))
+    by_control : (b : Bool) → is_control v.slots l ≡ b → cond (not b) true
+        (cond (rests_high l) (is_high (level_at (changed v cs) l)) (is_known (level_at (changed v cs) l)))
+        ≡ cond (not b) true (cond (rests_high l) (is_high (level_at v l)) (is_known (level_at v l)))
     by_control false e = refl
     by_control true e = rw (level-kept v cs l (untouched v.slots cs l h e)) refl
 
 -- where no control line changes, a bus stays idle or not
-pub idle-kept : (v : Levels) (cs : List Change) → touches_control v.slots cs ≡ false → is_idle (changed v cs) ≡ is_idle v
+pub idle-kept : (v : Levels) (cs : List Change) → touches_control v.slots cs ≡ false → is_idle (changed v cs)
+    ≡ is_idle v
 unfolding is_idle
-idle-kept v cs h = ap not (any-alike (λ l. not (is_idle_on (changed v cs) l)) (λ l. not (is_idle_on v l)) 0 line_count (λ l a b. ap not (idle_on-kept v cs l h)))
+idle-kept v cs h = ap not (any-alike (λ l. not (is_idle_on (changed v cs) l)) (λ l. not (is_idle_on v l)) 0 line_count
+    (λ l a b. ap not (idle_on-kept v cs l h)))
 
 -- and reset or not
-pub reset-kept : (v : Levels) (cs : List Change) → touches_control v.slots cs ≡ false → is_reset (changed v cs) ≡ is_reset v
+pub reset-kept : (v : Levels) (cs : List Change) → touches_control v.slots cs ≡ false → is_reset (changed v cs)
+    ≡ is_reset v
 reset-kept v cs h = ap is_low (level-kept v cs SYSRESET (untouched v.slots cs SYSRESET h refl))
 
 still_false : (a b c : Bool) → (a && not b) ≡ false → b ≡ false → (a && not c) ≡ false
@@ -121,11 +136,14 @@ still_false true true c h k = absurd (cc)
 still_false true false c h k = absurd (cc)
 still_false false b c h k = refl
 
-lost-kept : (v : Levels) (cs : List Change) (l : ℕ) → is_reset v ≡ false → is_lost v l ≡ false → is_changed cs l ≡ false → is_lost (changed v cs) l ≡ false
-lost-kept v cs l r h k = rw (slots-kept v cs, level-kept v cs l k) (still_false (is_control v.slots l && not (is_known (level_at v l))) (is_reset v) (is_reset (changed v cs)) h r)
+lost-kept : (v : Levels) (cs : List Change) (l : ℕ) → is_reset v ≡ false → is_lost v l ≡ false → is_changed cs l ≡ false
+    → is_lost (changed v cs) l ≡ false
+lost-kept v cs l r h k = rw (slots-kept v cs, level-kept v cs l k)
+    (still_false (is_control v.slots l && not (is_known (level_at v l))) (is_reset v) (is_reset (changed v cs)) h r)
 
 -- no change stands before the least that may
-below_changes : (v : Levels) (lowest l : ℕ) (cs : List Change) → are_changes v lowest cs ≡ true → l < lowest → is_changed cs l ≡ false
+below_changes : (v : Levels) (lowest l : ℕ) (cs : List Change) → are_changes v lowest cs ≡ true → l < lowest
+    → is_changed cs l ≡ false
 unfolding are_changes
 below_changes v lowest l [] h b = refl
 below_changes v lowest l (c ∷ cs) h b =
@@ -149,15 +167,18 @@ one_more : (l k : ℕ) → l < k → l < k + 1
 one_more l k h = omega arith
 
 module _ (v now : Levels) (few : v.slots ≤ 21) where
-  lost_here : (c : Change) (cs : List Change) (b : Bool) → is_lost now c.line ≡ b → c.line < line_count → any (is_lost now) 0 c.line ≡ false → (b ≡ false → lost_among now cs ≡ least (is_lost now) 0 line_count)
+  lost_here : (c : Change) (cs : List Change) (b : Bool) → is_lost now c.line ≡ b → c.line < line_count
+      → any (is_lost now) 0 c.line ≡ false → (b ≡ false → lost_among now cs ≡ least (is_lost now) 0 line_count)
       → cond b (Some c.line) (lost_among now cs) ≡ least (is_lost now) 0 line_count
-  lost_here c cs true e below before rest = sym (least-is (is_lost now) 0 line_count c.line (omega arith) below e before)
+  lost_here c cs true e below before rest = sym (least-is (is_lost now) 0 line_count c.line (omega arith) below e
+      before)
   lost_here c cs false e below before rest = rest refl
 
   unlike : (a b : ℕ) → b < a → (a == b) ≡ false
   unlike a b h = grind (arith, nat_tests)
 
-  kept_else : (c : Change) (cs : List Change) → ((l : ℕ) → is_changed (c ∷ cs) l ≡ false → is_lost now l ≡ false) → is_lost now c.line ≡ false → (l : ℕ) → is_changed cs l ≡ false → is_lost now l ≡ false
+  kept_else : (c : Change) (cs : List Change) → ((l : ℕ) → is_changed (c ∷ cs) l ≡ false → is_lost now l ≡ false)
+      → is_lost now c.line ≡ false → (l : ℕ) → is_changed cs l ≡ false → is_lost now l ≡ false
   kept_else c cs kept here l h = by_line (c.line == l) refl
     where
       equal : (a b : ℕ) → (a == b) ≡ true → a ≡ b
@@ -167,14 +188,18 @@ module _ (v now : Levels) (few : v.slots ≤ 21) where
       by_line true e = ap (is_lost now) (sym (equal c.line l e)) ∙ here
       by_line false e = kept l (rw (e, h) refl)
 
-  first_lost : (lowest : ℕ) (cs : List Change) → are_changes v lowest cs ≡ true → ((l : ℕ) → is_changed cs l ≡ false → is_lost now l ≡ false) → lost_among now cs ≡ least (is_lost now) 0 line_count
+  first_lost : (lowest : ℕ) (cs : List Change) → are_changes v lowest cs ≡ true → ((l : ℕ) → is_changed cs l ≡ false
+      → is_lost now l ≡ false) → lost_among now cs ≡ least (is_lost now) 0 line_count
   unfolding are_changes
-  first_lost lowest [] h kept = sym (least-none (is_lost now) 0 line_count (fails-any (is_lost now) 0 line_count (λ l a b. kept l refl)))
+  first_lost lowest [] h kept = sym (least-none (is_lost now) 0 line_count (fails-any (is_lost now) 0 line_count
+      (λ l a b. kept l refl)))
   first_lost lowest (c ∷ cs) h kept =
       let parts = and_true _ _ h in
       let exists = (and_true _ _ (and_true _ _ parts.0).0).1 in
       lost_here c cs (is_lost now c.line) refl (exists_below v.slots c.line few exists)
-      (fails-any (is_lost now) 0 c.line (λ l a b. kept l (rw (unlike c.line l b, below_changes v (c.line + 1) l cs parts.1 (one_more l c.line b)) refl)))
+      (fails-any (is_lost now) 0 c.line
+      (λ l a b. kept l (rw (unlike c.line l b, below_changes v (c.line + 1) l cs parts.1 (one_more l c.line b))
+      refl)))
       (λ e. first_lost (c.line + 1) cs parts.1 (kept_else c cs kept e))
 
 none_lost : (v : Levels) (l : ℕ) → v.slots ≤ 21 → loses_control v ≡ false → is_lost v l ≡ false
@@ -187,11 +212,15 @@ none_lost v l few h = by_test (is_lost v l) refl
 
     by_test : (b : Bool) → is_lost v l ≡ b → b ≡ false
     by_test false e = refl
-    by_test true e = absurd (clash (is_lost v l) e (any-fails (is_lost v) 0 line_count l h (omega arith) (exists_below v.slots l few (control_exists (has_line v.slots l) _ (control_exists (is_control v.slots l) _ (control_exists _ _ e))))))
+    by_test true e = absurd (clash (is_lost v l) e (any-fails (is_lost v) 0 line_count l h (omega arith)
+        (exists_below v.slots l few (control_exists (has_line v.slots l) _ (control_exists (is_control v.slots l) _
+        (control_exists _ _ e))))))
 
 -- so the first changed line that is lost is the least lost line, where the bus wasn't reset before
-pub lost-least : (v : Levels) (cs : List Change) → v.slots ≤ 21 → are_changes v 0 cs ≡ true → loses_control v ≡ false → is_reset v ≡ false → lost_among (changed v cs) cs ≡ least (is_lost (changed v cs)) 0 line_count
-lost-least v cs few h held unreset = first_lost v (changed v cs) few 0 cs h (λ l k. lost-kept v cs l unreset (none_lost v l few held) k)
+pub lost-least : (v : Levels) (cs : List Change) → v.slots ≤ 21 → are_changes v 0 cs ≡ true → loses_control v ≡ false
+    → is_reset v ≡ false → lost_among (changed v cs) cs ≡ least (is_lost (changed v cs)) 0 line_count
+lost-least v cs few h held unreset = first_lost v (changed v cs) few 0 cs h
+    (λ l k. lost-kept v cs l unreset (none_lost v l few held) k)
 
 -- and where no control line is among the changes, none is lost
 pub lost-untouched : (now : Levels) (cs : List Change) → touches_control now.slots cs ≡ false → lost_among now cs ≡ None

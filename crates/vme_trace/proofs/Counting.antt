@@ -20,7 +20,8 @@ none-more false false = refl
 module _ (p : ℕ → Bool) (first number count : ℕ) where
   every-step : first ≤ number → every p first (number + 1) ≡ (every p first number && p number)
   every-step h =
-      ap not (any-step (λ k. not (p k)) first number) ∙ rw (from first number h) (none-more (any (λ k. not (p k)) first number) (p number))
+      ap not (any-step (λ k. not (p k)) first number) ∙ rw (from first number h)
+      (none-more (any (λ k. not (p k)) first number) (p number))
 
   pub none-counted : number ≡ first → AreCounted p first number 0
   none-counted e = (omega arith, rw e (same first ∙ sym (every-empty p first)))
@@ -28,10 +29,14 @@ module _ (p : ℕ → Bool) (first number count : ℕ) where
       same : (n : ℕ) → (0 + n == n) ≡ true
       same n = grind (arith, nat_tests)
 
-  pub one-counted : (next : ℕ) → next ≡ count + 1 → AreCounted p first number count → p number ≡ true → AreCounted p first (number + 1) next
+  pub one-counted : (next : ℕ) → next ≡ count + 1 → AreCounted p first number count → p number ≡ true
+      → AreCounted p first (number + 1) next
   one-counted next e is h =
-      let le = is.0 in
-      (omega (arith, e, le), rw (e, every-step (omega (arith, le)), h) (both (every p first number) (further count first number ∙ is.1)))
+      let le = is.0 in (
+        omega (arith, e, le),
+        rw (e, every-step (omega (arith, le)), h)
+            (both (every p first number) (further count first number ∙ is.1)),
+      )
     where
       further : (c f n : ℕ) → (c + 1 + f == n + 1) ≡ (c + f == n)
       further c f n = by_test (c + f == n) refl
@@ -44,10 +49,14 @@ module _ (p : ℕ → Bool) (first number count : ℕ) where
       both true e = e
       both false e = e
 
-  pub one-passed : (next : ℕ) → next ≡ count → AreCounted p first number count → p number ≡ false → AreCounted p first (number + 1) next
+  pub one-passed : (next : ℕ) → next ≡ count → AreCounted p first number count → p number ≡ false → AreCounted p first
+      (number + 1) next
   one-passed next e is h =
-      let le = is.0 in
-      (omega (arith, e, le), rw (e, every-step (omega (arith, le)), h) (fewer count first number le ∙ sym (off (every p first number))))
+      let le = is.0 in (
+        omega (arith, e, le),
+        rw (e, every-step (omega (arith, le)), h) (fewer count first number le
+            ∙ sym (off (every p first number))),
+      )
     where
       fewer : (c f n : ℕ) → c + f ≤ n → (c + f == n + 1) ≡ false
       fewer c f n h = grind (arith, nat_tests)
@@ -57,8 +66,10 @@ module _ (p : ℕ → Bool) (first number count : ℕ) where
       off false = refl
 
   -- at the end of the range
-  pub all-counted : (last : ℕ) → first ≤ last → number ≡ last + 1 → AreCounted p first number count → (count == last - first + 1) ≡ every p first (last + 1)
-  all-counted last order e is = same count first last order ∙ (ap (λ n. count + first == n) (sym e) ∙ is.1 ∙ ap (every p first) e)
+  pub all-counted : (last : ℕ) → first ≤ last → number ≡ last + 1 → AreCounted p first number count
+      → (count == last - first + 1) ≡ every p first (last + 1)
+  all-counted last order e is = same count first last order ∙ (ap (λ n. count + first == n) (sym e) ∙ is.1
+      ∙ ap (every p first) e)
     where
       same : (c f l : ℕ) → f ≤ l → (c == l - f + 1) ≡ (c + f == l + 1)
       same c f l h = by_test (c + f == l + 1) refl

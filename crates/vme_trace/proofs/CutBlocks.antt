@@ -1,5 +1,6 @@
 -- The levels that steps leave, and the blocks of a cut.
-use Rattle.std.proofs.Common.{◌≡◌, ℕ, zero, suc, ◌+◌, ◌-◌, ◌*◌, ◌/◌, ◌%◌, ◌<◌, ◌≤◌, List, [], ◌∷◌, ◌++◌, refl, sym, ◌∙◌, ap, arith, inl, inr, ◌⊎◌, length, take, drop, map, min, max}
+use Rattle.std.proofs.Common.{◌≡◌, ℕ, zero, suc, ◌+◌, ◌-◌, ◌*◌, ◌/◌, ◌%◌, ◌<◌, ◌≤◌, List, [], ◌∷◌, ◌++◌, refl, sym, ◌∙◌}
+use Rattle.std.proofs.Common.{ap, arith, inl, inr, ◌⊎◌, length, take, drop, map, min, max}
 use Rattle.std.specs.Prelude.{None, Some, slice_get}
 use Rattle.std.specs.Int.{div_ceil}
 use Rattle.std.specs.List.{range_with_len}
@@ -17,18 +18,24 @@ use Rattle.vme_trace.specs.declared.block.Block.{Block}
 use Rattle.vme_trace.specs.declared.step.Step.{Step}
 
 -- the levels after some steps and more
-pub levels_after-append : (v : Levels) (xs ys : List Step) → levels_after v (xs ++ ys) ≡ levels_after (levels_after v xs) ys
+pub levels_after-append : (v : Levels) (xs ys : List Step) → levels_after v (xs ++ ys)
+    ≡ levels_after (levels_after v xs) ys
 levels_after-append v [] ys = refl
 levels_after-append v (x ∷ xs) ys = levels_after-append (changed v x.changes) xs ys
 
 -- one step more
-pub taken_more : (xs : List Step) (n : ℕ) (step : Step) → slice_get xs n ≡ Some step → take (n + 1) xs ≡ take n xs ++ step ∷ []
-taken_more xs n step found = take_more xs n step (slice_get_within xs n step found) ∙ ap (λ s. take n xs ++ s ∷ []) (get_or_from_slice_get xs n step step found)
+pub taken_more : (xs : List Step) (n : ℕ) (step : Step) → slice_get xs n ≡ Some step → take (n + 1) xs ≡ take n xs
+    ++ step ∷ []
+taken_more xs n step found = take_more xs n step (slice_get_within xs n step found) ∙ ap (λ s. take n xs ++ s ∷ [])
+    (get_or_from_slice_get xs n step step found)
 
-pub levels_after-more : (v : Levels) (xs : List Step) (n : ℕ) (step : Step) → slice_get xs n ≡ Some step → levels_after v (take (n + 1) xs) ≡ changed (levels_after v (take n xs)) step.changes
-levels_after-more v xs n step found = ap (levels_after v) (taken_more xs n step found) ∙ levels_after-append v (take n xs) (step ∷ [])
+pub levels_after-more : (v : Levels) (xs : List Step) (n : ℕ) (step : Step) → slice_get xs n ≡ Some step
+    → levels_after v (take (n + 1) xs) ≡ changed (levels_after v (take n xs)) step.changes
+levels_after-more v xs n step found = ap (levels_after v) (taken_more xs n step found) ∙ levels_after-append v
+    (take n xs) (step ∷ [])
 
-within_or_past : (xs : List Step) (n : ℕ) → (((x : Step) × (slice_get xs n ≡ Some x)) ⊎ ((length xs ≤ n) × (slice_get xs n ≡ None)))
+within_or_past : (xs : List Step) (n : ℕ)
+    → (((x : Step) × (slice_get xs n ≡ Some x)) ⊎ ((length xs ≤ n) × (slice_get xs n ≡ None)))
 within_or_past xs n =
     elim (slice_get_cases xs n).1 [
       | inl here ↦ inl (here.0, here.2)
@@ -41,8 +48,10 @@ unfolding levels_at
 levels_at-taken t zero = refl
 levels_at-taken t (suc n) =
     elim (within_or_past t.steps n) [
-      | inl here ↦ rw (here.1, levels_at-taken t n) (sym (levels_after-more t.opening t.steps n here.0 here.1) ∙ ap (λ k. levels_after t.opening (take k t.steps)) (one_more n))
-      | inr past ↦ rw (past.1, levels_at-taken t n) (ap (levels_after t.opening) (take_all n t.steps past.0 ∙ sym (take_all (suc n) t.steps (omega (arith, past.0)))))
+      | inl here ↦ rw (here.1, levels_at-taken t n) (sym (levels_after-more t.opening t.steps n here.0 here.1)
+          ∙ ap (λ k. levels_after t.opening (take k t.steps)) (one_more n))
+      | inr past ↦ rw (past.1, levels_at-taken t n) (ap (levels_after t.opening) (take_all n t.steps past.0
+          ∙ sym (take_all (suc n) t.steps (omega (arith, past.0)))))
     ]
   where
     one_more : (n : ℕ) → n + 1 ≡ suc n
@@ -56,13 +65,16 @@ levels_at-first t size = ap (levels_at t) (zero_times size)
     zero_times n = omega arith
 
 -- so a block's steps lead from its opening to the next one's
-pub levels_at-more : (t : Trace) (k n : ℕ) → levels_at t (k + n) ≡ levels_after (levels_at t k) (take n (drop k t.steps))
+pub levels_at-more : (t : Trace) (k n : ℕ) → levels_at t (k + n) ≡ levels_after (levels_at t k)
+    (take n (drop k t.steps))
 levels_at-more t k n =
-    levels_at-taken t (k + n) ∙ ap (levels_after t.opening) (take-add k n t.steps) ∙ levels_after-append t.opening (take k t.steps) (take n (drop k t.steps))
+    levels_at-taken t (k + n) ∙ ap (levels_after t.opening) (take-add k n t.steps) ∙ levels_after-append t.opening
+    (take k t.steps) (take n (drop k t.steps))
     ∙ ap (λ v. levels_after v (take n (drop k t.steps))) (sym (levels_at-taken t k))
 
 -- the steps of the first k blocks are the first steps
-joined-taken : (size : ℕ) (t : Trace) (k : ℕ) → joined_steps (map (block_at size t) (range_with_len 0 k)) ≡ take (k * size) t.steps
+joined-taken : (size : ℕ) (t : Trace) (k : ℕ) → joined_steps (map (block_at size t) (range_with_len 0 k))
+    ≡ take (k * size) t.steps
 joined-taken size t zero = sym (ap (λ n. take n t.steps) (zero_times size))
   where
     zero_times : (n : ℕ) → 0 * n ≡ 0
@@ -92,12 +104,14 @@ filled size n positive = by_rest (n % size) refl
         omega (arith, whole, up, e)
     by_rest (suc r) e =
         let whole = div-add-mod' n size in
-        let up : (n / size + 1) * size ≤ max 1 (n / size + min 1 (n % size)) * size = mul-le-mul_right size (omega arith) in
+        let up : (n / size + 1) * size ≤ max 1 (n / size + min 1 (n % size)) * size = mul-le-mul_right size
+        (omega arith) in
         omega (arith, whole, up, mod-lt n positive)
 
 -- joined, the blocks have all steps
 pub joined-blocks : (size : ℕ) (t : Trace) → 0 < size → joined_steps (blocks_of size t) ≡ t.steps
-joined-blocks size t positive = joined-taken size t (block_count size t) ∙ take_all (block_count size t * size) t.steps (filled size (length t.steps) positive)
+joined-blocks size t positive = joined-taken size t (block_count size t) ∙ take_all (block_count size t * size) t.steps
+    (filled size (length t.steps) positive)
 
 -- each block starts within the steps
 pub starts_within : (size n k : ℕ) → k < max 1 (div_ceil n size) → k * size ≤ n
@@ -107,11 +121,13 @@ starts_within size n k below =
     omega (arith, whole, mul-le-mul_right size fewer)
 
 -- what is left of the steps may be less than a block
-pub last_part : (size k : ℕ) (xs : List Step) → take (min (length xs) (k + size) - k) (drop k xs) ≡ take size (drop k xs)
+pub last_part : (size k : ℕ) (xs : List Step) → take (min (length xs) (k + size) - k) (drop k xs)
+    ≡ take size (drop k xs)
 last_part size k xs =
     elim (whole_or_part (length xs) (k + size)) [
       | inl whole ↦ ap (λ n. take n (drop k xs)) (exact (length xs) k size whole)
-      | inr part ↦ take_all _ (drop k xs) (omega (arith, length-drop k xs)) ∙ sym (take_all size (drop k xs) (omega (arith, length-drop k xs)))
+      | inr part ↦ take_all _ (drop k xs) (omega (arith, length-drop k xs))
+          ∙ sym (take_all size (drop k xs) (omega (arith, length-drop k xs)))
     ]
   where
     whole_or_part : (n m : ℕ) → (m ≤ n) ⊎ (n ≤ m)
@@ -124,14 +140,26 @@ abbrev piece : ℕ → Levels → List Step → Block
 piece number opening steps = record { number = number; opening = opening; steps = steps }
 
 -- what was copied is block k
-pub block_at-is : (size : ℕ) (t : Trace) (k number : ℕ) (opening : Levels) (xs : List Step) (end : ℕ) → number ≡ k → opening ≡ levels_at t (k * size) → xs ≡ t.steps → end ≡ min (length xs) (k * size + size)
+pub block_at-is : (size : ℕ) (t : Trace) (k number : ℕ) (opening : Levels) (xs : List Step) (end : ℕ) → number ≡ k
+    → opening ≡ levels_at t (k * size) → xs ≡ t.steps → end ≡ min (length xs) (k * size + size)
     → piece number opening (take (end - k * size) (drop (k * size) xs)) ≡ block_at size t k
-block_at-is size t k number opening xs end same before all last = rw (same, before, all, last ∙ ap (λ ys. min (length ys) (k * size + size)) all, last_part size (k * size) t.steps) refl
+block_at-is size t k number opening xs end same before all last = rw (
+  same,
+  before,
+  all,
+  last
+      ∙ ap (λ ys. min (length ys) (k * size + size)) all,
+  last_part size (k * size) t.steps,
+) refl
 
 -- and the levels after it are those before the next
-pub levels_at-next : (size : ℕ) (t : Trace) (k : ℕ) (opening : Levels) (xs : List Step) (end : ℕ) → opening ≡ levels_at t (k * size) → xs ≡ t.steps → end ≡ min (length xs) (k * size + size) → levels_after opening (take (end - k * size) (drop (k * size) xs)) ≡ levels_at t ((k + 1) * size)
+pub levels_at-next : (size : ℕ) (t : Trace) (k : ℕ) (opening : Levels) (xs : List Step) (end : ℕ) → opening
+    ≡ levels_at t (k * size) → xs ≡ t.steps → end ≡ min (length xs) (k * size + size) → levels_after opening
+    (take (end - k * size) (drop (k * size) xs)) ≡ levels_at t ((k + 1) * size)
 levels_at-next size t k opening xs end before all last =
-    let here : levels_after opening (take (end - k * size) (drop (k * size) xs)) ≡ levels_at t (k * size + size) = rw (before, all, last ∙ ap (λ ys. min (length ys) (k * size + size)) all, last_part size (k * size) t.steps) (sym (levels_at-more t (k * size) size)) in
+    let here : levels_after opening (take (end - k * size) (drop (k * size) xs)) ≡ levels_at t (k * size + size) = rw
+    (before, all, last ∙ ap (λ ys. min (length ys) (k * size + size)) all, last_part size (k * size) t.steps)
+    (sym (levels_at-more t (k * size) size)) in
     here ∙ ap (levels_at t) (times_more k size)
   where
     times_more : (k n : ℕ) → k * n + n ≡ (k + 1) * n

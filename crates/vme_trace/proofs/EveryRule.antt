@@ -5,7 +5,9 @@ use Rattle.std.specs.List.{list_all}
 use Rattle.vme_trace.specs.Names.{rule_number}
 use Rattle.vme_trace.specs.Rules.{all_rules}
 use Rattle.vme_trace.specs.declared.rule.Rule.{Rule}
-use Rattle.vme_trace.specs.declared.rule.Rule.TheVariants.{U1, U2, U3, U4, H1, H2, H3, H4, H5, H6, H7, H8, S1, S2, S3, C1, C2, G1, G2, G3, G4, G5, B1, B2, B3, B4, I1, I2, I3, I4, I5}
+use Rattle.vme_trace.specs.declared.rule.Rule.TheVariants.{U1, U2, U3, U4, H1, H2, H3, H4, H5, H6, H7, H8, S1, S2, S3}
+use Rattle.vme_trace.specs.declared.rule.Rule.TheVariants.{C1, C2, G1, G2, G3, G4, G5, B1, B2, B3, B4, I1, I2, I3, I4}
+use Rattle.vme_trace.specs.declared.rule.Rule.TheVariants.{I5}
 
 pub listed : (r : Rule) → slice_get all_rules (rule_number r) ≡ Some r
 listed U1 = refl

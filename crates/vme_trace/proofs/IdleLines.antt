@@ -7,10 +7,12 @@ use Rattle.vme_trace.specs.LineNumbers.{is_control}
 use Rattle.vme_trace.specs.Levels.{Levels, rests_high, is_idle, is_idle_on, is_high_on, is_known_on, idle_by_ranges}
 use Rattle.vme_trace.proofs.Ranges.{every-split, every-alike, every-holds}
 
-shown_high : (control strict h k : Bool) → control ≡ true → strict ≡ true → cond (not control) true (cond strict h k) ≡ h
+shown_high : (control strict h k : Bool) → control ≡ true → strict ≡ true → cond (not control) true (cond strict h k)
+    ≡ h
 shown_high control strict h k a b = rw (a, b) refl
 
-shown_known : (control strict h k : Bool) → control ≡ true → strict ≡ false → cond (not control) true (cond strict h k) ≡ k
+shown_known : (control strict h k : Bool) → control ≡ true → strict ≡ false → cond (not control) true (cond strict h k)
+    ≡ k
 shown_known control strict h k a b = rw (a, b) refl
 
 unasked : (control strict h k : Bool) → control ≡ false → cond (not control) true (cond strict h k) ≡ true
@@ -52,50 +54,95 @@ strict_reset l a b = grind (arith, nat_tests)
 lax : (l : ℕ) → 5 ≤ l → l < 50 → rests_high l ≡ false
 lax l a b = grind (arith, nat_tests)
 
-rearranged : (a b c d e f g h i : Bool) → (a && (b && (true && (c && (d && (e && (f && (g && (h && i))))))))) ≡ (a && b && c && d && e && f && g && h && i)
+rearranged : (a b c d e f g h i : Bool) → (a && (b && (true && (c && (d && (e && (f && (g && (h && i)))))))))
+    ≡ (a && b && c && d && e && f && g && h && i)
 rearranged a b c d e f g h i = grind (arith, nat_tests)
 
 module _ (v : Levels) (least : 1 ≤ v.slots) (few : v.slots ≤ 21) where
   strobes_part : every (is_idle_on v) 0 5 ≡ every (is_high_on v) 0 5
-  strobes_part = every-alike (is_idle_on v) (is_high_on v) 0 5 (λ l a b. shown_high _ _ _ _ (first_control v.slots l (omega arith)) (strict_first l b))
+  strobes_part = every-alike (is_idle_on v) (is_high_on v) 0 5
+      (λ l a b. shown_high _ _ _ _ (first_control v.slots l (omega arith)) (strict_first l b))
 
   iack_part : every (is_idle_on v) 5 6 ≡ every (is_known_on v) 5 6
-  iack_part = every-alike (is_idle_on v) (is_known_on v) 5 6 (λ l a b. shown_known _ _ _ _ (first_control v.slots l b) (lax l a (omega arith)))
+  iack_part = every-alike (is_idle_on v) (is_known_on v) 5 6 (λ l a b. shown_known _ _ _ _ (first_control v.slots l b)
+      (lax l a (omega arith)))
 
   other_part : every (is_idle_on v) 6 45 ≡ true
-  other_part = every-holds (is_idle_on v) 6 45 (λ l a b. unasked (is_control v.slots l) (rests_high l) (is_high_on v l) (is_known_on v l) (other_lines v.slots l a b))
+  other_part = every-holds (is_idle_on v) 6 45 (λ l a b. unasked (is_control v.slots l) (rests_high l) (is_high_on v l)
+      (is_known_on v l) (other_lines v.slots l a b))
 
   request_part : every (is_idle_on v) 45 50 ≡ every (is_known_on v) 45 50
-  request_part = every-alike (is_idle_on v) (is_known_on v) 45 50 (λ l a b. shown_known _ _ _ _ (request_control v.slots l a b) (lax l (omega arith) b))
+  request_part = every-alike (is_idle_on v) (is_known_on v) 45 50
+      (λ l a b. shown_known _ _ _ _ (request_control v.slots l a b) (lax l (omega arith) b))
 
-  chain_part : (n first end : ℕ) → n < 4 → first ≡ 50 + 22 * n → end ≡ first + v.slots + 1 → every (is_idle_on v) first end ≡ every (is_high_on v) first end
-  chain_part n first end level e h = every-alike (is_idle_on v) (is_high_on v) first end (λ l a b. shown_high _ _ _ _ (chain_control v.slots l n (l - first) level (omega arith) few (omega arith)) (strict_net l (omega arith) (omega arith)))
+  chain_part : (n first end : ℕ) → n < 4 → first ≡ 50 + 22 * n → end ≡ first + v.slots + 1 → every (is_idle_on v) first
+      end ≡ every (is_high_on v) first end
+  chain_part n first end level e h = every-alike (is_idle_on v) (is_high_on v) first end
+      (λ l a b. shown_high _ _ _ _ (chain_control v.slots l n (l - first) level (omega arith) few (omega arith))
+      (strict_net l (omega arith) (omega arith)))
 
-  past_part : (n first end next : ℕ) → n < 4 → first ≡ 50 + 22 * n → end ≡ first + v.slots + 1 → next ≡ first + 22 → every (is_idle_on v) end next ≡ true
-  past_part n first end next level e h k = every-holds (is_idle_on v) end next (λ l a b. unasked (is_control v.slots l) (rests_high l) (is_high_on v l) (is_known_on v l) (chain_past v.slots l n (l - first) level (omega arith) (omega arith) (omega arith)))
+  past_part : (n first end next : ℕ) → n < 4 → first ≡ 50 + 22 * n → end ≡ first + v.slots + 1 → next ≡ first + 22
+      → every (is_idle_on v) end next ≡ true
+  past_part n first end next level e h k = every-holds (is_idle_on v) end next (λ l a b. unasked (is_control v.slots l)
+      (rests_high l) (is_high_on v l) (is_known_on v l) (chain_past v.slots l n (l - first) level (omega arith)
+      (omega arith) (omega arith)))
 
   acknowledge_part : every (is_idle_on v) 138 (137 + v.slots + 1) ≡ every (is_high_on v) 138 (137 + v.slots + 1)
-  acknowledge_part = every-alike (is_idle_on v) (is_high_on v) 138 (137 + v.slots + 1) (λ l a b. shown_high _ _ _ _ (iack_control v.slots l few a (omega arith)) (strict_net l (omega arith) (omega arith)))
+  acknowledge_part = every-alike (is_idle_on v) (is_high_on v) 138 (137 + v.slots + 1)
+      (λ l a b. shown_high _ _ _ _ (iack_control v.slots l few a (omega arith))
+      (strict_net l (omega arith) (omega arith)))
 
   acknowledge_past : every (is_idle_on v) (137 + v.slots + 1) 191 ≡ true
-  acknowledge_past = every-holds (is_idle_on v) (137 + v.slots + 1) 191 (λ l a b. unasked (is_control v.slots l) (rests_high l) (is_high_on v l) (is_known_on v l) (iack_past v.slots l (omega arith) (omega arith) b))
+  acknowledge_past = every-holds (is_idle_on v) (137 + v.slots + 1) 191 (λ l a b. unasked (is_control v.slots l)
+      (rests_high l) (is_high_on v l) (is_known_on v l) (iack_past v.slots l (omega arith) (omega arith) b))
 
   reset_part : every (is_idle_on v) 191 192 ≡ every (is_high_on v) 191 192
-  reset_part = every-alike (is_idle_on v) (is_high_on v) 191 192 (λ l a b. shown_high _ _ _ _ (reset_control v.slots l a b) (strict_reset l a b))
+  reset_part = every-alike (is_idle_on v) (is_high_on v) 191 192
+      (λ l a b. shown_high _ _ _ _ (reset_control v.slots l a b) (strict_reset l a b))
 
   last_part : every (is_idle_on v) (137 + v.slots + 1) 192 ≡ every (is_high_on v) 191 192
-  last_part = every-split (is_idle_on v) (137 + v.slots + 1) 191 192 (omega arith) (omega arith) ∙ rw (acknowledge_past, reset_part) refl
+  last_part = every-split (is_idle_on v) (137 + v.slots + 1) 191 192 (omega arith) (omega arith)
+      ∙ rw (acknowledge_past, reset_part) refl
 
   -- two ranges, of which the second asks nothing of what comes past the lines that there are
-  chain_split : (n first end next : ℕ) → n < 4 → first ≡ 50 + 22 * n → end ≡ first + v.slots + 1 → next ≡ first + 22 → every (is_idle_on v) first 192 ≡ (every (is_high_on v) first end && every (is_idle_on v) next 192)
+  chain_split : (n first end next : ℕ) → n < 4 → first ≡ 50 + 22 * n → end ≡ first + v.slots + 1 → next ≡ first + 22
+      → every (is_idle_on v) first 192 ≡ (every (is_high_on v) first end && every (is_idle_on v) next 192)
   chain_split n first end next level e h k =
       every-split (is_idle_on v) first end 192 (omega arith) (omega arith)
-      ∙ rw (every-split (is_idle_on v) end next 192 (omega arith) (omega arith), chain_part n first end level e h, past_part n first end next level e h k) refl
+      ∙ rw (
+        every-split (is_idle_on v) end next 192 (omega arith) (omega arith),
+        chain_part n first end level e h,
+        past_part n first end next level e h k,
+      ) refl
 
   -- an idle bus is one on which each range is idle
   pub is_idle-ranges : is_idle v ≡ idle_by_ranges v
   unfolding is_idle
   is_idle-ranges =
       every-split (is_idle_on v) 0 5 192 (omega arith) (omega arith)
-      ∙ rw (strobes_part, every-split (is_idle_on v) 5 6 192 (omega arith) (omega arith), iack_part, every-split (is_idle_on v) 6 45 192 (omega arith) (omega arith), other_part, every-split (is_idle_on v) 45 50 192 (omega arith) (omega arith), request_part)
-      (rw (chain_split 0 50 (50 + v.slots + 1) 72 (omega arith) (omega arith) (omega arith) (omega arith), chain_split 1 72 (72 + v.slots + 1) 94 (omega arith) (omega arith) (omega arith) (omega arith), chain_split 2 94 (94 + v.slots + 1) 116 (omega arith) (omega arith) (omega arith) (omega arith), chain_split 3 116 (116 + v.slots + 1) 138 (omega arith) (omega arith) (omega arith) (omega arith), every-split (is_idle_on v) 138 (137 + v.slots + 1) 192 (omega arith) (omega arith), acknowledge_part, last_part) (rearranged (every (is_high_on v) 0 5) (every (is_known_on v) 5 6) (every (is_known_on v) 45 50) (every (is_high_on v) 50 (50 + v.slots + 1)) (every (is_high_on v) 72 (72 + v.slots + 1)) (every (is_high_on v) 94 (94 + v.slots + 1)) (every (is_high_on v) 116 (116 + v.slots + 1)) (every (is_high_on v) 138 (137 + v.slots + 1)) (every (is_high_on v) 191 192)))
+      ∙ rw (
+        strobes_part,
+        every-split (is_idle_on v) 5 6 192 (omega arith) (omega arith),
+        iack_part,
+        every-split (is_idle_on v) 6 45 192 (omega arith) (omega arith),
+        other_part,
+        every-split (is_idle_on v) 45 50
+            192 (omega arith) (omega arith),
+        request_part,
+      )
+      (rw (
+        chain_split 0 50 (50 + v.slots + 1) 72 (omega arith) (omega arith) (omega arith) (omega arith),
+        chain_split 1 72 (72 + v.slots + 1) 94 (omega arith) (omega arith) (omega arith) (omega arith),
+        chain_split 2 94
+            (94 + v.slots + 1) 116 (omega arith) (omega arith) (omega arith) (omega arith),
+        chain_split 3 116
+            (116 + v.slots + 1) 138 (omega arith) (omega arith) (omega arith) (omega arith),
+        every-split (is_idle_on v) 138
+            (137 + v.slots + 1) 192 (omega arith) (omega arith),
+        acknowledge_part,
+        last_part,
+      )
+      (rearranged (every (is_high_on v) 0 5) (every (is_known_on v) 5 6) (every (is_known_on v) 45 50)
+      (every (is_high_on v) 50 (50 + v.slots + 1)) (every (is_high_on v) 72 (72 + v.slots + 1))
+      (every (is_high_on v) 94 (94 + v.slots + 1)) (every (is_high_on v) 116 (116 + v.slots + 1))
+      (every (is_high_on v) 138 (137 + v.slots + 1)) (every (is_high_on v) 191 192)))

@@ -1,14 +1,18 @@
--- The stretches of a recording that are judged: what is known of each, how they stand, and how they are found from instant to instant.
-use Rattle.std.proofs.Common.{◌≡◌, ℕ, zero, suc, ◌+◌, ◌<◌, ◌≤◌, Bool, true, false, ◌&&◌, ◌||◌, not, List, [], ◌∷◌, ◌++◌, map, refl, sym, ◌∙◌, ap, arith, inl, inr, ◌⊎◌, cond, subst}
+-- The stretches of a recording that are judged: what is known of each, how they stand, and how they are found from
+-- instant to instant.
+use Rattle.std.proofs.Common.{◌≡◌, ℕ, zero, suc, ◌+◌, ◌<◌, ◌≤◌, Bool, true, false, ◌&&◌, ◌||◌, not, List, [], ◌∷◌, ◌++◌}
+use Rattle.std.proofs.Common.{map, refl, sym, ◌∙◌, ap, arith, inl, inr, ◌⊎◌, cond, subst}
 use Rattle.std.specs.Prelude.{Option, None, Some, nat_le, unwrap_or}
 use Rattle.std.proofs.lemmas.Bool.Decides.{nat_tests}
 use Rattle.std.proofs.lemmas.List.{map-append}
 use Rattle.vme_trace.specs.Instants.{any, least, greatest, those}
 use Rattle.vme_trace.specs.Trace.{Trace, levels_at, last_instant}
-use Rattle.vme_trace.specs.Judged.{Stretch, IsSpanOf, span_from, span_end, is_idle_at, is_reset_at, loses_control_at, stops_at, last_reset, was_idle, is_cut_off, span_starts, judged_spans}
+use Rattle.vme_trace.specs.Judged.{Stretch, IsSpanOf, span_from, span_end, is_idle_at, is_reset_at, loses_control_at}
+use Rattle.vme_trace.specs.Judged.{stops_at, last_reset, was_idle, is_cut_off, span_starts, judged_spans}
 use Rattle.vme_trace.proofs.Changing.{idle-holds, idle-runs, reset-holds}
 use Rattle.vme_trace.proofs.OpenTransfers.{ReadsStrobes, bool_cases}
-use Rattle.vme_trace.proofs.Ranges.{any-fails, fails-any, any-least, least-found, those-none, those-more, those-same, those-next, those-split, clash}
+use Rattle.vme_trace.proofs.Ranges.{any-fails, fails-any, any-least, least-found, those-none, those-more, those-same}
+use Rattle.vme_trace.proofs.Ranges.{those-next, those-split, clash}
 use Rattle.vme_trace.proofs.SpanEnds.{not_lost, not_reset, reads_strobes}
 
 and_true : (a b : Bool) → (a && b) ≡ true → (a ≡ true) × (b ≡ true)
@@ -116,20 +120,23 @@ module _ (t : Trace) where
   unfolding was_idle
   was_idle-reset n h =
       ap (λ first. any (is_idle_at t) first (suc n)) (last_reset_here n h)
-      ∙ fails-any (is_idle_at t) n (suc n) (λ i a b. let e : i ≡ n = omega arith in ap (is_idle_at t) e ∙ reset-busy_at n h)
+      ∙ fails-any (is_idle_at t) n (suc n) (λ i a b. let e : i ≡ n = omega arith in
+      ap (is_idle_at t) e ∙ reset-busy_at n h)
 
   pub was_idle-next : (n : ℕ) → is_reset_at t n ≡ false → was_idle t (suc n) ≡ (was_idle t n || is_idle_at t n)
   unfolding was_idle any
   was_idle-next n h =
       ap (λ first. any (is_idle_at t) first (suc n)) (last_reset_before n h)
-      ∙ ap (λ b. any (is_idle_at t) (last_reset t n) n || (b && is_idle_at t n)) (le_holds (last_reset t n) n (greatest_within (is_reset_at t) n))
+      ∙ ap (λ b. any (is_idle_at t) (last_reset t n) n || (b && is_idle_at t n))
+      (le_holds (last_reset t n) n (greatest_within (is_reset_at t) n))
 
   -- whether a stretch was cut off
   pub cut-first : any (is_cut_off t) 0 0 ≡ false
   unfolding any
   cut-first = refl
 
-  pub cut-next : (n : ℕ) → any (is_cut_off t) 0 (suc n) ≡ (any (is_cut_off t) 0 n || (loses_control_at t n && was_idle t n))
+  pub cut-next : (n : ℕ) → any (is_cut_off t) 0 (suc n)
+      ≡ (any (is_cut_off t) 0 n || (loses_control_at t n && was_idle t n))
   unfolding any is_cut_off
   cut-next n = rw (zero_le n) refl
 
@@ -166,7 +173,10 @@ module _ (t : Trace) where
   awaits-until f (suc n) w from busy =
       elim (last_or_before f n from) [
         | inl e ↦ subst Awaits e w
-        | inr before ↦ awaits-next n (awaits-until f n w before (fails-any (is_idle_at t) f n (λ i a b. any-fails (is_idle_at t) f (suc n) i busy a (omega arith)))) (any-fails (is_idle_at t) f (suc n) n busy before (omega arith))
+        | inr before ↦ awaits-next n
+            (awaits-until f n w before (fails-any (is_idle_at t) f n (λ i a b. any-fails (is_idle_at t) f (suc n) i busy
+            a
+            (omega arith)))) (any-fails (is_idle_at t) f (suc n) n busy before (omega arith))
       ]
 
   -- the instant at which a stretch starts
@@ -176,7 +186,11 @@ module _ (t : Trace) where
 
   starts_awaited : (s : ℕ) → span_starts t s ≡ true → Awaits s
   unfolding span_starts
-  starts_awaited s h = record { unjudged = false_of_not _ (and_true _ _ (and_true _ _ h).0).1; uncut = false_of_not _ (and_true _ _ h).1 }
+  starts_awaited s h = record {
+    unjudged = false_of_not _ (and_true _ _ (and_true _ _ h).0).1;
+    uncut = false_of_not _
+        (and_true _ _ h).1;
+  }
 
   -- none starts after one was cut off, nor where the bus was idle since the last reset
   pub cut-no_start : (n : ℕ) → any (is_cut_off t) 0 n ≡ true → span_starts t n ≡ false
@@ -214,7 +228,8 @@ module _ (t : Trace) where
   unfolding span_end
   end-after s within = by_end (least (stops_at t) (s + 1) (last_instant t + 1)) refl
     where
-      by_end : (o : Option ℕ) → least (stops_at t) (s + 1) (last_instant t + 1) ≡ o → s < unwrap_or o (last_instant t + 1)
+      by_end : (o : Option ℕ) → least (stops_at t) (s + 1) (last_instant t + 1) ≡ o → s < unwrap_or o
+          (last_instant t + 1)
       by_end None e = omega arith
       by_end (Some w) e = omega (arith, (least-found (stops_at t) (s + 1) (last_instant t + 1) w e).first)
 
@@ -222,7 +237,8 @@ module _ (t : Trace) where
   unfolding span_end
   end-within s = by_end (least (stops_at t) (s + 1) (last_instant t + 1)) refl
     where
-      by_end : (o : Option ℕ) → least (stops_at t) (s + 1) (last_instant t + 1) ≡ o → unwrap_or o (last_instant t + 1) ≤ last_instant t + 1
+      by_end : (o : Option ℕ) → least (stops_at t) (s + 1) (last_instant t + 1) ≡ o → unwrap_or o (last_instant t + 1) ≤
+          last_instant t + 1
       by_end None e = omega arith
       by_end (Some w) e = omega (arith, (least-found (stops_at t) (s + 1) (last_instant t + 1) w e).below)
 
@@ -231,7 +247,8 @@ module _ (t : Trace) where
   unfolding span_end
   end-stops s = by_end (least (stops_at t) (s + 1) (last_instant t + 1)) refl
     where
-      by_end : (o : Option ℕ) → least (stops_at t) (s + 1) (last_instant t + 1) ≡ o → unwrap_or o (last_instant t + 1) ≤ last_instant t → stops_at t (unwrap_or o (last_instant t + 1)) ≡ true
+      by_end : (o : Option ℕ) → least (stops_at t) (s + 1) (last_instant t + 1) ≡ o → unwrap_or o (last_instant t + 1) ≤
+          last_instant t → stops_at t (unwrap_or o (last_instant t + 1)) ≡ true
       by_end None e within = absurd (omega arith)
       by_end (Some w) e within = (least-found (stops_at t) (s + 1) (last_instant t + 1) w e).holds
 
@@ -268,10 +285,12 @@ module _ (t : Trace) where
         | inl e ↦
             let starts = subst (λ i. span_starts t i ≡ true) e h.starts in (
               was_idle-next (suc n) (in-unreset s (suc n) h) ∙ or_second _ _ (starts-idle (suc n) starts),
-              cut-next (suc n) ∙ both_false _ _ (starts_awaited (suc n) starts).uncut (ap (λ b. b && was_idle t (suc n)) (in-held s (suc n) h)),
+              cut-next (suc n) ∙ both_false _ _ (starts_awaited (suc n) starts).uncut (ap (λ b. b && was_idle t (suc n))
+                  (in-held s (suc n) h)),
             )
         | inr before ↦
-            let earlier = in_started s n (record { starts = h.starts; from = before; before = omega (arith, h.before) }) in (
+            let earlier = in_started s n (record { starts = h.starts; from = before; before = omega (arith, h.before) })
+            in (
               was_idle-next (suc n) (in-unreset s (suc n) h) ∙ or_first _ _ earlier.0,
               cut-next (suc n) ∙ both_false _ _ earlier.1 (ap (λ b. b && was_idle t (suc n)) (in-held s (suc n) h)),
             )
@@ -285,12 +304,14 @@ module _ (t : Trace) where
   pub in-reset : (s n : ℕ) → IsIn s n → is_reset_at t (suc n) ≡ true → Awaits (suc (suc n))
   in-reset s n h reset = record {
     unjudged = was_idle-reset (suc n) reset;
-    uncut = cut-next (suc n) ∙ both_false _ _ (in_started s n h).1 (ap (λ b. b && was_idle t (suc n)) (reset-holds_at (suc n) reset));
+    uncut = cut-next (suc n) ∙ both_false _ _ (in_started s n h).1 (ap (λ b. b && was_idle t (suc n))
+        (reset-holds_at (suc n) reset));
   }
 
   -- and where it ends by a loss, none comes after it
   pub in-lost : (s n : ℕ) → IsIn s n → loses_control_at t (suc n) ≡ true → any (is_cut_off t) 0 (suc (suc n)) ≡ true
-  in-lost s n h lost = cut-next (suc n) ∙ or_second _ (loses_control_at t (suc n) && was_idle t (suc n)) (rw (lost, (in_started s n h).0) refl)
+  in-lost s n h lost = cut-next (suc n) ∙ or_second _ (loses_control_at t (suc n) && was_idle t (suc n))
+      (rw (lost, (in_started s n h).0) refl)
 
   second_of : (a b : Bool) → a ≡ false → (a || b) ≡ true → b ≡ true
   second_of true b h k = absurd (cc)
@@ -346,7 +367,8 @@ module _ (t : Trace) where
   ends_within span is = omega (arith, is.ends, end-within span.start)
 
   -- from its start on and before its end nothing is lost, and the bus isn't reset
-  pub span_holds : (span : Stretch) (n : ℕ) → IsSpanOf t span → span.start ≤ n → n < span.end → loses_control_at t n ≡ false
+  pub span_holds : (span : Stretch) (n : ℕ) → IsSpanOf t span → span.start ≤ n → n < span.end → loses_control_at t n
+      ≡ false
   span_holds span n is from before = in-held span.start n (in_span span n is from before)
 
   pub span_runs : (span : Stretch) (n : ℕ) → IsSpanOf t span → span.start ≤ n → n < span.end → is_reset_at t n ≡ false
@@ -359,7 +381,8 @@ module _ (t : Trace) where
   span_stops span is within = ap (stops_at t) is.ends ∙ end-stops span.start (omega (arith, is.ends))
 
   -- where it doesn't end by a reset, control is lost there
-  pub span_lost : (span : Stretch) → IsSpanOf t span → span.end ≤ last_instant t → is_reset_at t span.end ≡ false → loses_control_at t span.end ≡ true
+  pub span_lost : (span : Stretch) → IsSpanOf t span → span.end ≤ last_instant t → is_reset_at t span.end ≡ false
+      → loses_control_at t span.end ≡ true
   span_lost span is within unreset = second_of _ _ unreset (span_stops span is within)
 
   last_of : (span : Stretch) → IsSpanOf t span → (n : ℕ) × (span.end ≡ suc n) × IsIn span.start n
@@ -370,20 +393,24 @@ module _ (t : Trace) where
       by_end (suc n) e = (n, e, in_span span n is (omega (arith, e, starts_before_end span is)) (omega (arith, e)))
 
   -- and no other starts then or later
-  pub span_final : (span : Stretch) (j : ℕ) → IsSpanOf t span → span.end ≤ last_instant t → is_reset_at t span.end ≡ false → span.end ≤ j → span_starts t j ≡ false
+  pub span_final : (span : Stretch) (j : ℕ) → IsSpanOf t span → span.end ≤ last_instant t → is_reset_at t span.end
+      ≡ false → span.end ≤ j → span_starts t j ≡ false
   span_final span j is within unreset from =
       let last = last_of span is in
       let lost = ap (loses_control_at t) (sym last.1) ∙ span_lost span is within unreset in
       elim (same_or_after span.end j from) [
-        | inl e ↦ ap (span_starts t) (sym e) ∙ busy-no_start span.end (stops-busy_at span.end (span_stops span is within))
-        | inr later ↦ cut-no_start j (cut-stays (suc (suc last.0)) j (in-lost span.start last.0 last.2 lost) (omega (arith, last.1)))
+        | inl e ↦ ap (span_starts t) (sym e) ∙ busy-no_start span.end
+            (stops-busy_at span.end (span_stops span is within))
+        | inr later ↦ cut-no_start j (cut-stays (suc (suc last.0)) j (in-lost span.start last.0 last.2 lost)
+            (omega (arith, last.1)))
       ]
 
   -- where it ends by a reset, the next is awaited after it
   pub span_reset : (span : Stretch) → IsSpanOf t span → is_reset_at t span.end ≡ true → Awaits (suc span.end)
   span_reset span is reset =
       let last = last_of span is in
-      subst (λ n. Awaits (suc n)) (sym last.1) (in-reset span.start last.0 last.2 (ap (is_reset_at t) (sym last.1) ∙ reset))
+      subst (λ n. Awaits (suc n)) (sym last.1) (in-reset span.start last.0 last.2 (ap (is_reset_at t) (sym last.1)
+      ∙ reset))
 
   -- no other starts within it, nor at its end
   pub span_alone : (span : Stretch) (j : ℕ) → IsSpanOf t span → span.start < j → j ≤ span.end → span_starts t j ≡ false
@@ -391,7 +418,8 @@ module _ (t : Trace) where
   span_alone span (suc n) is after upto = in-no_start span.start n (in_span span n is (omega arith) (omega arith))
 
   -- a later one starts only after it ended by a reset
-  pub spans_apart : (span next : Stretch) → IsSpanOf t span → IsSpanOf t next → span.start < next.start → (is_reset_at t span.end ≡ true) × (span.end < next.start)
+  pub spans_apart : (span next : Stretch) → IsSpanOf t span → IsSpanOf t next → span.start < next.start
+      → (is_reset_at t span.end ≡ true) × (span.end < next.start)
   spans_apart span next is is_next order =
       elim (before_or_after next.start span.end) [
         | inl within ↦ absurd (clash _ is_next.starts (span_alone span next.start is order within))
@@ -403,14 +431,16 @@ module _ (t : Trace) where
 
       by_test : (b : Bool) → is_reset_at t span.end ≡ b → span.end < next.start → b ≡ true
       by_test true e past = refl
-      by_test false e past = absurd (clash _ is_next.starts (span_final span next.start is (omega (arith, is_next.within)) e (omega arith)))
+      by_test false e past = absurd
+          (clash _ is_next.starts (span_final span next.start is (omega (arith, is_next.within)) e (omega arith)))
 
   -- those of one start are one
   pub spans_same : (span other : Stretch) → IsSpanOf t span → IsSpanOf t other → span.start ≡ other.start → span ≡ other
   spans_same span other is is_other e = span-is span is ∙ (ap (span_from t) e ∙ sym (span-is other is_other))
 
   -- and an instant is in one at most
-  pub spans_one : (span other : Stretch) (n : ℕ) → IsSpanOf t span → IsSpanOf t other → span.start ≤ n → n < span.end → other.start ≤ n → n < other.end → span ≡ other
+  pub spans_one : (span other : Stretch) (n : ℕ) → IsSpanOf t span → IsSpanOf t other → span.start ≤ n → n < span.end
+      → other.start ≤ n → n < other.end → span ≡ other
   spans_one span other n is is_other from before from_other before_other =
       elim (three span.start other.start) [
         | inl order ↦ absurd (omega (arith, (spans_apart span other is is_other order).1))
@@ -437,7 +467,8 @@ module _ (t : Trace) where
   spans_from_first = refl
 
   pub spans_more : (n : ℕ) → span_starts t n ≡ true → spans_before (suc n) ≡ spans_before n ++ span_from t n ∷ []
-  spans_more n h = ap (map (span_from t)) (those-more (span_starts t) 0 n (omega arith) h) ∙ map-append (span_from t) (those (span_starts t) 0 n) (n ∷ [])
+  spans_more n h = ap (map (span_from t)) (those-more (span_starts t) 0 n (omega arith) h) ∙ map-append (span_from t)
+      (those (span_starts t) 0 n) (n ∷ [])
 
   pub spans_kept : (n : ℕ) → span_starts t n ≡ false → spans_before (suc n) ≡ spans_before n
   spans_kept n h = ap (map (span_from t)) (those-same (span_starts t) 0 n h)
@@ -447,17 +478,22 @@ module _ (t : Trace) where
   spans_none f w busy =
       ap (map (span_from t))
       (those-none (span_starts t) f (last_instant t + 1)
-      (fails-any (span_starts t) f (last_instant t + 1) (λ i a b. busy-no_start i (any-fails (is_idle_at t) f (last_instant t + 1) i busy a b))))
+      (fails-any (span_starts t) f (last_instant t + 1)
+      (λ i a b. busy-no_start i (any-fails (is_idle_at t) f (last_instant t + 1) i busy a b))))
 
-  same_starts : (f m : ℕ) → f ≤ m → ((j : ℕ) → f ≤ j → j < m → span_starts t j ≡ false) → those (span_starts t) f (last_instant t + 1) ≡ those (span_starts t) m (last_instant t + 1)
+  same_starts : (f m : ℕ) → f ≤ m → ((j : ℕ) → f ≤ j → j < m → span_starts t j ≡ false) → those (span_starts t) f
+      (last_instant t + 1) ≡ those (span_starts t) m (last_instant t + 1)
   same_starts f m order none =
       elim (within_or_past m (last_instant t)) [
         | inl within ↦
             those-split (span_starts t) f m (last_instant t + 1) order (omega arith)
-            ∙ ap (λ js. js ++ those (span_starts t) m (last_instant t + 1)) (those-none (span_starts t) f m (fails-any (span_starts t) f m none))
+            ∙ ap (λ js. js ++ those (span_starts t) m (last_instant t + 1))
+            (those-none (span_starts t) f m (fails-any (span_starts t) f m none))
         | inr past ↦
-            those-none (span_starts t) f (last_instant t + 1) (fails-any (span_starts t) f (last_instant t + 1) (λ j a b. none j a (omega arith)))
-            ∙ sym (those-none (span_starts t) m (last_instant t + 1) (fails-any (span_starts t) m (last_instant t + 1) (λ j a b. absurd (omega arith))))
+            those-none (span_starts t) f (last_instant t + 1) (fails-any (span_starts t) f (last_instant t + 1)
+            (λ j a b. none j a (omega arith)))
+            ∙ sym (those-none (span_starts t) m (last_instant t + 1) (fails-any (span_starts t) m (last_instant t + 1)
+            (λ j a b. absurd (omega arith))))
       ]
     where
       within_or_past : (m last : ℕ) → (m ≤ last + 1) ⊎ (last + 1 < m)
@@ -466,60 +502,79 @@ module _ (t : Trace) where
   -- the next stretch starts past the end of one
   starts_past : (span : Stretch) → IsSpanOf t span → spans_after (span.start + 1) ≡ spans_after (span.end + 1)
   starts_past span is =
-      ap (map (span_from t)) (same_starts (span.start + 1) (span.end + 1) (omega (arith, starts_before_end span is)) (λ j a b. span_alone span j is (omega arith) (omega arith)))
+      ap (map (span_from t)) (same_starts (span.start + 1) (span.end + 1) (omega (arith, starts_before_end span is))
+      (λ j a b. span_alone span j is (omega arith) (omega arith)))
 
-  starts_here : (f : ℕ) → f ≤ last_instant t → span_starts t f ≡ true → spans_after f ≡ span_from t f ∷ spans_after (f + 1)
+  starts_here : (f : ℕ) → f ≤ last_instant t → span_starts t f ≡ true → spans_after f ≡ span_from t f
+      ∷ spans_after (f + 1)
   starts_here f within starts =
-      ap (map (span_from t)) (those-next (span_starts t) f (last_instant t + 1) f (omega arith) (omega arith) starts (fails-any (span_starts t) f f (λ j a b. absurd (omega arith))))
+      ap (map (span_from t)) (those-next (span_starts t) f (last_instant t + 1) f (omega arith) (omega arith) starts
+      (fails-any (span_starts t) f f (λ j a b. absurd (omega arith))))
 
-  starts_there : (f i : ℕ) → f ≤ i → i ≤ last_instant t → span_starts t i ≡ true → any (span_starts t) f i ≡ false → spans_after f ≡ span_from t i ∷ spans_after (i + 1)
-  starts_there f i from within starts none = ap (map (span_from t)) (those-next (span_starts t) f (last_instant t + 1) i from (omega arith) starts none)
+  starts_there : (f i : ℕ) → f ≤ i → i ≤ last_instant t → span_starts t i ≡ true → any (span_starts t) f i ≡ false
+      → spans_after f ≡ span_from t i ∷ spans_after (i + 1)
+  starts_there f i from within starts none = ap (map (span_from t)) (those-next (span_starts t) f (last_instant t + 1) i
+      from (omega arith) starts none)
 
   -- where one is awaited, the first idle instant starts it, and the others start past its end
-  pub spans_next : (f i : ℕ) → Awaits f → f ≤ i → i ≤ last_instant t → is_idle_at t i ≡ true → any (is_idle_at t) f i ≡ false
+  pub spans_next : (f i : ℕ) → Awaits f → f ≤ i → i ≤ last_instant t → is_idle_at t i ≡ true → any (is_idle_at t) f i
+      ≡ false
       → IsSpanOf t (span_from t i) × (spans_after f ≡ span_from t i ∷ spans_after (span_end t i + 1))
   spans_next f i w from within idle busy =
       let starts = awaits-starts i (awaits-until f i w from busy) ∙ idle in
       let is : IsSpanOf t (span_from t i) = record { within = within; starts = starts; ends = refl } in (
         is,
-        starts_there f i from within starts (fails-any (span_starts t) f i (λ j a b. busy-no_start j (any-fails (is_idle_at t) f i j busy a b)))
+        starts_there f i from within starts
+            (fails-any (span_starts t) f i (λ j a b. busy-no_start j (any-fails (is_idle_at t) f i j busy a b)))
             ∙ ap (λ spans. span_from t i ∷ spans) (starts_past (span_from t i) is),
       )
 
   -- none comes after one that doesn't end by a reset
-  pub spans_final : (span : Stretch) → IsSpanOf t span → (span.end ≤ last_instant t → is_reset_at t span.end ≡ false) → spans_after (span.end + 1) ≡ []
+  pub spans_final : (span : Stretch) → IsSpanOf t span → (span.end ≤ last_instant t → is_reset_at t span.end ≡ false)
+      → spans_after (span.end + 1) ≡ []
   spans_final span is unreset =
       ap (map (span_from t))
       (those-none (span_starts t) (span.end + 1) (last_instant t + 1)
-      (fails-any (span_starts t) (span.end + 1) (last_instant t + 1) (λ j a b. span_final span j is (omega arith) (unreset (omega arith)) (omega arith))))
+      (fails-any (span_starts t) (span.end + 1) (last_instant t + 1) (λ j a b. span_final span j is (omega arith)
+      (unreset (omega arith)) (omega arith))))
 
   -- each is in the list, with those that start before it and after it
-  pub span_listed : (span : Stretch) → IsSpanOf t span → judged_spans t ≡ spans_before span.start ++ span ∷ spans_after (span.end + 1)
+  pub span_listed : (span : Stretch) → IsSpanOf t span → judged_spans t ≡ spans_before span.start ++ span
+      ∷ spans_after (span.end + 1)
   span_listed span is =
       spans_all
-      ∙ (ap (map (span_from t)) (those-split (span_starts t) 0 span.start (last_instant t + 1) (omega arith) (omega (arith, is.within)))
-      ∙ (map-append (span_from t) (those (span_starts t) 0 span.start) (those (span_starts t) span.start (last_instant t + 1))
-      ∙ ap (λ spans. spans_before span.start ++ spans) (starts_here span.start is.within is.starts ∙ (ap (λ first. first ∷ spans_after (span.start + 1)) (sym (span-is span is)) ∙ ap (λ spans. span ∷ spans) (starts_past span is)))))
+      ∙ (ap (map (span_from t)) (those-split (span_starts t) 0 span.start (last_instant t + 1) (omega arith)
+      (omega (arith, is.within)))
+      ∙ (map-append (span_from t) (those (span_starts t) 0 span.start)
+      (those (span_starts t) span.start (last_instant t + 1))
+      ∙ ap (λ spans. spans_before span.start ++ spans) (starts_here span.start is.within is.starts
+      ∙ (ap (λ first. first ∷ spans_after (span.start + 1)) (sym (span-is span is)) ∙ ap (λ spans. span ∷ spans)
+      (starts_past span is)))))
 
 -- stretches in order: each but the last ends by a reset, before the next one starts
 abbrev pub AreInOrder : Trace → List Stretch → Type 0
 AreInOrder t [] = Unit {0}
 AreInOrder t (span ∷ []) = IsSpanOf t span
-AreInOrder t (span ∷ next ∷ spans) = IsSpanOf t span × (is_reset_at t span.end ≡ true) × (span.end < next.start) × AreInOrder t (next ∷ spans)
+AreInOrder t (span ∷ next ∷ spans) = IsSpanOf t span × (is_reset_at t span.end ≡ true) × (span.end < next.start)
+    × AreInOrder t (next ∷ spans)
 
 module _ (t : Trace) where
   ordered_from : (k f : ℕ) → f + k ≡ last_instant t + 1 → AreInOrder t (spans_after t f)
   ordered_from zero f e =
-      let none : spans_after t f ≡ [] = ap (map (span_from t)) (those-none (span_starts t) f (last_instant t + 1) (fails-any (span_starts t) f (last_instant t + 1) (λ j a b. absurd (omega arith)))) in
+      let none : spans_after t f ≡ [] = ap (map (span_from t)) (those-none (span_starts t) f (last_instant t + 1)
+      (fails-any (span_starts t) f (last_instant t + 1) (λ j a b. absurd (omega arith)))) in
       subst (AreInOrder t) (sym none) tt
   ordered_from (suc k) f e = by_start (bool_cases (span_starts t f)) (ordered_from k (f + 1) (omega arith))
     where
       is_one : (i : ℕ) → i ≤ last_instant t → span_starts t i ≡ true → IsSpanOf t (span_from t i)
       is_one i within starts = record { within = within; starts = starts; ends = refl }
 
-      followed : span_starts t f ≡ true → (any (span_starts t) (f + 1) (last_instant t + 1) ≡ true) ⊎ (any (span_starts t) (f + 1) (last_instant t + 1) ≡ false) → AreInOrder t (spans_after t (f + 1)) → AreInOrder t (span_from t f ∷ spans_after t (f + 1))
+      followed : span_starts t f ≡ true → (any (span_starts t) (f + 1) (last_instant t + 1) ≡ true) ⊎
+          (any (span_starts t) (f + 1) (last_instant t + 1) ≡ false) → AreInOrder t (spans_after t (f + 1))
+          → AreInOrder t (span_from t f ∷ spans_after t (f + 1))
       followed starts (inr none) later =
-          let last : spans_after t (f + 1) ≡ [] = ap (map (span_from t)) (those-none (span_starts t) (f + 1) (last_instant t + 1) none) in
+          let last : spans_after t (f + 1) ≡ [] = ap (map (span_from t)) (those-none (span_starts t) (f + 1)
+          (last_instant t + 1) none) in
           subst (λ spans. AreInOrder t (span_from t f ∷ spans)) (sym last) (is_one f (omega arith) starts)
       followed starts (inl some) later =
           let i = any-least (span_starts t) (f + 1) (last_instant t + 1) some in
@@ -528,23 +583,36 @@ module _ (t : Trace) where
           let is = is_one f (omega arith) starts in
           let is_next = is_one i.0 (omega (arith, found.below)) found.holds in
           let apart = spans_apart t (span_from t f) (span_from t i.0) is is_next (omega (arith, found.first)) in
-          subst (λ spans. AreInOrder t (span_from t f ∷ spans)) (sym there) (is, apart.0, apart.1, subst (AreInOrder t) there later)
+          subst (λ spans. AreInOrder t (span_from t f ∷ spans)) (sym there) (
+            is,
+            apart.0,
+            apart.1,
+            subst (AreInOrder t)
+                there later,
+          )
 
-      by_start : (span_starts t f ≡ true) ⊎ (span_starts t f ≡ false) → AreInOrder t (spans_after t (f + 1)) → AreInOrder t (spans_after t f)
+      by_start : (span_starts t f ≡ true) ⊎ (span_starts t f ≡ false) → AreInOrder t (spans_after t (f + 1))
+          → AreInOrder t (spans_after t f)
       by_start (inr none) later =
-          let same : spans_after t f ≡ spans_after t (f + 1) = ap (map (span_from t)) (same_starts t f (f + 1) (omega arith) (λ j a b. let here : j ≡ f = omega arith in ap (span_starts t) here ∙ none)) in
+          let same : spans_after t f ≡ spans_after t (f + 1) = ap (map (span_from t))
+          (same_starts t f (f + 1) (omega arith) (λ j a b. let here : j ≡ f = omega arith in ap (span_starts t) here
+          ∙ none)) in
           subst (AreInOrder t) (sym same) later
-      by_start (inl starts) later = subst (AreInOrder t) (sym (starts_here t f (omega arith) starts)) (followed starts (bool_cases (any (span_starts t) (f + 1) (last_instant t + 1))) later)
+      by_start (inl starts) later = subst (AreInOrder t) (sym (starts_here t f (omega arith) starts))
+          (followed starts (bool_cases (any (span_starts t) (f + 1) (last_instant t + 1))) later)
 
   pub spans_in_order : AreInOrder t (judged_spans t)
   spans_in_order = subst (AreInOrder t) (sym (spans_from_first t)) (ordered_from (last_instant t + 1) 0 (omega arith))
 
   -- between a reset that ends one and the start of the next no instant is idle
-  pub busy_between : (span next : Stretch) (n : ℕ) → IsSpanOf t span → IsSpanOf t next → span.start < next.start → ((j : ℕ) → span.start < j → j < next.start → span_starts t j ≡ false) → span.end ≤ n → n < next.start → is_idle_at t n ≡ false
+  pub busy_between : (span next : Stretch) (n : ℕ) → IsSpanOf t span → IsSpanOf t next → span.start < next.start
+      → ((j : ℕ) → span.start < j → j < next.start → span_starts t j ≡ false) → span.end ≤ n → n < next.start
+      → is_idle_at t n ≡ false
   busy_between span next n is is_next order none from before =
       elim (same_or_after span.end n from) [
         | inl e ↦ ap (is_idle_at t) (sym e) ∙ reset-busy_at t span.end apart.0
-        | inr after ↦ any-fails (is_idle_at t) (suc span.end) next.start n (by_test (any (is_idle_at t) (suc span.end) next.start) refl) after before
+        | inr after ↦ any-fails (is_idle_at t) (suc span.end) next.start n
+            (by_test (any (is_idle_at t) (suc span.end) next.start) refl) after before
       ]
     where
       apart : (is_reset_at t span.end ≡ true) × (span.end < next.start)
@@ -555,5 +623,6 @@ module _ (t : Trace) where
       by_test true e =
           let i = any-least (is_idle_at t) (suc span.end) next.start e in
           let found = least-found (is_idle_at t) (suc span.end) next.start i.0 i.1 in
-          let starts = awaits-starts t i.0 (awaits-until t (suc span.end) i.0 (span_reset t span is apart.0) found.first found.least) ∙ found.holds in
+          let starts = awaits-starts t i.0 (awaits-until t (suc span.end) i.0 (span_reset t span is apart.0) found.first
+          found.least) ∙ found.holds in
           absurd (clash _ starts (none i.0 (omega (arith, found.first, starts_before_end t span is)) found.below))

@@ -1,5 +1,6 @@
 -- Lines and rules differ in their names.
-use Rattle.std.proofs.Common.{◌≡◌, ℕ, ◌<◌, ◌≤◌, Bool, true, false, not, List, [], ◌∷◌, map, refl, sym, ◌∙◌, ap, arith, inl, inr, ◌⊎◌, get_or, cond}
+use Rattle.std.proofs.Common.{◌≡◌, ℕ, ◌<◌, ◌≤◌, Bool, true, false, not, List, [], ◌∷◌, map, refl, sym, ◌∙◌, ap, arith}
+use Rattle.std.proofs.Common.{inl, inr, ◌⊎◌, get_or, cond}
 use Rattle.std.specs.Prelude.{Option, None, Some, IfSome, ◌==◌, bytes_eq, decimal, find, nat_lt}
 use Rattle.std.specs.Fmt.{digits}
 use Rattle.std.specs.List.{range_with_len}
@@ -10,12 +11,14 @@ use Rattle.std.proofs.lemmas.Slice.Eq.{bytes_eq-Decides}
 use Rattle.vme_trace.specs.Instants.{any, none, every}
 use Rattle.vme_trace.specs.LineNumbers.{line_count}
 use Rattle.vme_trace.specs.Rules.{rule_name, all_rules}
-use Rattle.vme_trace.specs.Names.{two_digits, line_name, line_named, is_line_name, rule_named, rule_number, is_rule_name}
+use Rattle.vme_trace.specs.Names.{two_digits, line_name, line_named, is_line_name, rule_named, rule_number}
+use Rattle.vme_trace.specs.Names.{is_rule_name}
 use Rattle.vme_trace.specs.declared.rule.Rule.{Rule}
 use Rattle.vme_trace.proofs.EveryRule.{every-rule, same-rule}
 use Rattle.vme_trace.proofs.Ranges.{any-fails, least-is, least-none, least-found, fails-any, clash}
 
-numbers : map (λ n. cond (nat_lt n 10) (two_digits n) (decimal n)) (range_with_len 0 100) ≡ map two_digits (range_with_len 0 100)
+numbers : map (λ n. cond (nat_lt n 10) (two_digits n) (decimal n)) (range_with_len 0 100)
+    ≡ map two_digits (range_with_len 0 100)
 unfolding digits
 numbers = refl
 
@@ -23,7 +26,8 @@ numbers = refl
 pub decimal-two_digits : (n : ℕ) → 10 ≤ n → n < 100 → decimal n ≡ two_digits n
 decimal-two_digits n low high =
     sym (later (nat_lt n 10) (not_below n low))
-    ∙ sym (get_or-map-range_with_len (λ n. cond (nat_lt n 10) (two_digits n) (decimal n)) 0 100 n n [] high (omega arith))
+    ∙ sym (get_or-map-range_with_len (λ n. cond (nat_lt n 10) (two_digits n) (decimal n)) 0 100 n n [] high
+    (omega arith))
     ∙ ap (λ t. get_or t n []) numbers
     ∙ get_or-map-range_with_len two_digits 0 100 n n [] high (omega arith)
   where
@@ -54,8 +58,11 @@ false_of_not false h = refl
 
 later_differs : (n m : ℕ) → n < m → m < line_count → line_name n ≡ line_name m → ⊥
 later_differs n m before below e =
-    let alone = true_of_not (none (λ k. bytes_eq (line_name k) (line_name m)) 0 m) (any-fails (λ k. not (none (λ n. bytes_eq (line_name n) (line_name k)) 0 k)) 0 line_count m (false_of_not _ all_differ) (omega arith) below) in
-    clash (bytes_eq (line_name n) (line_name m)) (text-same _ _ e) (any-fails (λ k. bytes_eq (line_name k) (line_name m)) 0 m n (false_of_not _ alone) (omega arith) before)
+    let alone = true_of_not (none (λ k. bytes_eq (line_name k) (line_name m)) 0 m)
+    (any-fails (λ k. not (none (λ n. bytes_eq (line_name n) (line_name k)) 0 k)) 0 line_count m
+    (false_of_not _ all_differ) (omega arith) below) in
+    clash (bytes_eq (line_name n) (line_name m)) (text-same _ _ e)
+    (any-fails (λ k. bytes_eq (line_name k) (line_name m)) 0 m n (false_of_not _ alone) (omega arith) before)
 
 order_of : (n m : ℕ) → (n < m) ⊎ ((n ≡ m) ⊎ (m < n))
 order_of n m = grind arith
@@ -77,18 +84,21 @@ pub line_named-is : (n : ℕ) (name : List ℕ) → n < line_count → line_name
 unfolding line_named
 line_named-is n name below e =
     least-is (is_line_name name) 0 line_count n (omega arith) below (text-same _ _ e)
-    (fails-any (is_line_name name) 0 n (λ l a b. not_true _ (λ h. apart l b (line_name-injective l n (omega arith) below (same_text _ _ h ∙ sym e)))))
+    (fails-any (is_line_name name) 0 n
+    (λ l a b. not_true _ (λ h. apart l b (line_name-injective l n (omega arith) below (same_text _ _ h ∙ sym e)))))
   where
     apart : (l : ℕ) → l < n → l ≡ n → ⊥
     apart l b e = omega arith
 
 pub line_named-none : (name : List ℕ) → ((n : ℕ) → n < line_count → line_name n ≡ name → ⊥) → line_named name ≡ None
 unfolding line_named
-line_named-none name unlike = least-none (is_line_name name) 0 line_count (fails-any (is_line_name name) 0 line_count (λ l a b. not_true _ (λ h. unlike l b (same_text _ _ h))))
+line_named-none name unlike = least-none (is_line_name name) 0 line_count (fails-any (is_line_name name) 0 line_count
+    (λ l a b. not_true _ (λ h. unlike l b (same_text _ _ h))))
 
 pub line_named-found : (n : ℕ) (name : List ℕ) → line_named name ≡ Some n → (n < line_count) × (line_name n ≡ name)
 unfolding line_named
-line_named-found n name e = let found = least-found (is_line_name name) 0 line_count n e in (found.below, same_text _ _ found.holds)
+line_named-found n name e = let found = least-found (is_line_name name) 0 line_count n e in
+    (found.below, same_text _ _ found.holds)
 
 abbrev is_found : Rule → Option Rule → Bool
 is_found r None = false
@@ -98,14 +108,16 @@ own : (r : Rule) → rule_named (rule_name r) ≡ Some r
 unfolding rule_named
 own r = by_found (rule_named (rule_name r)) refl (every-rule (λ q. is_found q (rule_named (rule_name q))) refl r)
   where
-    by_found : (o : Option Rule) → rule_named (rule_name r) ≡ o → is_found r o ≡ true → rule_named (rule_name r) ≡ Some r
+    by_found : (o : Option Rule) → rule_named (rule_name r) ≡ o → is_found r o ≡ true → rule_named (rule_name r)
+        ≡ Some r
     by_found None e h = absurd (cc)
     by_found (Some q) e h = e ∙ ap Some (same-rule q r (eqb-true (rule_number q) (rule_number r) h))
 
 pub rule_named-is : (r : Rule) (name : List ℕ) → rule_name r ≡ name → rule_named name ≡ Some r
 rule_named-is r name e = ap rule_named (sym e) ∙ own r
 
-find-step : (p : Rule → Bool) (q r : Rule) (later : Option Rule) (b : Bool) → p q ≡ b → cond b (Some q) later ≡ Some r → (later ≡ Some r → p r ≡ true) → p r ≡ true
+find-step : (p : Rule → Bool) (q r : Rule) (later : Option Rule) (b : Bool) → p q ≡ b → cond b (Some q) later ≡ Some r
+    → (later ≡ Some r → p r ≡ true) → p r ≡ true
 find-step p q r later true h e rest = let same : q ≡ r = cc in ap p (sym same) ∙ h
 find-step p q r later false h e rest = rest e
 

@@ -1,5 +1,6 @@
 -- Laws of the searches over a range.
-use Rattle.std.proofs.Common.{◌≡◌, ℕ, zero, suc, ◌+◌, ◌<◌, ◌≤◌, Bool, true, false, ◌&&◌, ◌||◌, not, refl, sym, ◌∙◌, ap, arith, add-one, inl, inr, ◌⊎◌, cond, subst, [], ◌∷◌, ◌++◌, append_assoc, append-nil}
+use Rattle.std.proofs.Common.{◌≡◌, ℕ, zero, suc, ◌+◌, ◌<◌, ◌≤◌, Bool, true, false, ◌&&◌, ◌||◌, not, refl, sym, ◌∙◌, ap}
+use Rattle.std.proofs.Common.{arith, add-one, inl, inr, ◌⊎◌, cond, subst, [], ◌∷◌, ◌++◌, append_assoc, append-nil}
 use Rattle.std.specs.Prelude.{Option, None, Some, nat_le}
 use Rattle.std.proofs.lemmas.Bool.Decides.{nat_tests}
 use Rattle.vme_trace.specs.Instants.{any, every, least, those}
@@ -9,10 +10,12 @@ pub any-step : (p : ℕ → Bool) (f n : ℕ) → any p f (n + 1) ≡ (any p f n
 unfolding any
 any-step p f n = rw add-one refl
 
-or_holds : (p : ℕ → Bool) (f n i : ℕ) (a : Bool) → f ≤ i → i < suc n → p i ≡ true → (i < n → a ≡ true) → (a || (nat_le f n && p n)) ≡ true
+or_holds : (p : ℕ → Bool) (f n i : ℕ) (a : Bool) → f ≤ i → i < suc n → p i ≡ true → (i < n → a ≡ true)
+    → (a || (nat_le f n && p n)) ≡ true
 or_holds p f n i a in_range below h rest = grind (arith, nat_tests)
 
-or_fails : (p : ℕ → Bool) (f n i : ℕ) (a : Bool) → (a || (nat_le f n && p n)) ≡ false → f ≤ i → i < suc n → (a ≡ false → i < n → p i ≡ false) → p i ≡ false
+or_fails : (p : ℕ → Bool) (f n i : ℕ) (a : Bool) → (a || (nat_le f n && p n)) ≡ false → f ≤ i → i < suc n
+    → (a ≡ false → i < n → p i ≡ false) → p i ≡ false
 or_fails p f n i a none in_range below rest = grind (arith, nat_tests)
 
 last_or_before : (n i : ℕ) → i < suc n → (i ≡ n) ⊎ (i < n)
@@ -32,13 +35,15 @@ or_none false b h = (refl, h)
 pub any-holds : (p : ℕ → Bool) (f n i : ℕ) → f ≤ i → i < n → p i ≡ true → any p f n ≡ true
 unfolding any
 any-holds p f zero i in_range below h = absurd (omega arith)
-any-holds p f (suc n) i in_range below h = or_holds p f n i (any p f n) in_range below h (λ b. any-holds p f n i in_range b h)
+any-holds p f (suc n) i in_range below h = or_holds p f n i (any p f n) in_range below h
+    (λ b. any-holds p f n i in_range b h)
 
 -- where the test finds none, none holds
 pub any-fails : (p : ℕ → Bool) (f n i : ℕ) → any p f n ≡ false → f ≤ i → i < n → p i ≡ false
 unfolding any
 any-fails p f zero i none in_range below = absurd (omega arith)
-any-fails p f (suc n) i none in_range below = or_fails p f n i (any p f n) none in_range below (λ e b. any-fails p f n i e in_range b)
+any-fails p f (suc n) i none in_range below = or_fails p f n i (any p f n) none in_range below
+    (λ e b. any-fails p f n i e in_range b)
 
 and_fails : (p : ℕ → Bool) (f n : ℕ) → (f ≤ n → p n ≡ false) → (nat_le f n && p n) ≡ false
 and_fails p f n h = grind (arith, nat_tests)
@@ -47,7 +52,11 @@ and_fails p f n h = grind (arith, nat_tests)
 pub fails-any : (p : ℕ → Bool) (f n : ℕ) → ((i : ℕ) → f ≤ i → i < n → p i ≡ false) → any p f n ≡ false
 unfolding any
 fails-any p f zero h = refl
-fails-any p f (suc n) h = rw (fails-any p f n (λ i a b. h i a (omega arith)), and_fails p f n (λ a. h n a (omega arith))) refl
+fails-any p f (suc n) h = rw (
+  fails-any p f n (λ i a b. h i a (omega arith)),
+  and_fails p f n
+      (λ a. h n a (omega arith)),
+) refl
 
 pub any-empty : (p : ℕ → Bool) (f : ℕ) → any p f 0 ≡ false
 unfolding any
@@ -63,7 +72,8 @@ least-is p f (suc n) i in_range below h first =
       | inr b ↦ rw (any-holds p f n i in_range b h) (least-is p f n i in_range b h first)
     ]
 
-least_nowhere : (a b : Bool) (o : Option ℕ) (n : ℕ) → o ≡ None → a ≡ false → b ≡ false → (cond a o (cond b (Some n) None)) ≡ None
+least_nowhere : (a b : Bool) (o : Option ℕ) (n : ℕ) → o ≡ None → a ≡ false → b ≡ false
+    → (cond a o (cond b (Some n) None)) ≡ None
 least_nowhere a b o n e h k = rw (h, k) refl
 
 -- where one of the range fails, not every one holds
@@ -74,7 +84,8 @@ every-fails p f n i in_range below h = rw (any-holds (λ k. not (p k)) f n i in_
 pub least-none : (p : ℕ → Bool) (f n : ℕ) → any p f n ≡ false → least p f n ≡ None
 unfolding least any
 least-none p f zero none = refl
-least-none p f (suc n) none = least_nowhere _ _ _ _ (least-none p f n (or_none _ _ none).0) (or_none _ _ none).0 (or_none _ _ none).1
+least-none p f (suc n) none = least_nowhere _ _ _ _ (least-none p f n (or_none _ _ none).0) (or_none _ _ none).0
+    (or_none _ _ none).1
 
 chosen : (b : Bool) (x y z : Option ℕ) → cond b x y ≡ z → ((b ≡ true) × (x ≡ z)) ⊎ ((b ≡ false) × (y ≡ z))
 chosen true x y z h = inl (refl, h)
@@ -108,7 +119,8 @@ least-found p f (suc n) i h =
       | inr none ↦
           let here = last_is n i (nat_le f n && p n) none.1 in
           let both = and_holds (nat_le f n) (p n) here.0 in
-          subst (λ k. IsLeast p f (suc n) k) here.1 (record { first = le_from f n both.0; below = omega arith; holds = both.1; least = none.0 })
+          subst (λ k. IsLeast p f (suc n) k) here.1
+          (record { first = le_from f n both.0; below = omega arith; holds = both.1; least = none.0 })
     ]
 
 both_alike : (p q : ℕ → Bool) (f n : ℕ) → (f ≤ n → p n ≡ q n) → (nat_le f n && p n) ≡ (nat_le f n && q n)
@@ -129,14 +141,19 @@ cond_none n false h = refl
 pub any-alike : (p q : ℕ → Bool) (f n : ℕ) → ((i : ℕ) → f ≤ i → i < n → p i ≡ q i) → any p f n ≡ any q f n
 unfolding any
 any-alike p q f zero alike = refl
-any-alike p q f (suc n) alike = rw (any-alike p q f n (λ i a b. alike i a (omega arith))) (ap (λ b. any q f n || b) (both_alike p q f n (λ a. alike n a (omega arith))))
+any-alike p q f (suc n) alike = rw (any-alike p q f n (λ i a b. alike i a (omega arith)))
+    (ap (λ b. any q f n || b) (both_alike p q f n (λ a. alike n a (omega arith))))
 
 -- and have the same least
 pub least-alike : (p q : ℕ → Bool) (f n : ℕ) → ((i : ℕ) → f ≤ i → i < n → p i ≡ q i) → least p f n ≡ least q f n
 unfolding least
 least-alike p q f zero alike = refl
 least-alike p q f (suc n) alike =
-    rw (any-alike p q f n (λ i a b. alike i a (omega arith)), least-alike p q f n (λ i a b. alike i a (omega arith)), both_alike p q f n (λ a. alike n a (omega arith))) refl
+    rw (
+      any-alike p q f n (λ i a b. alike i a (omega arith)),
+      least-alike p q f n (λ i a b. alike i a (omega arith)),
+      both_alike p q f n (λ a. alike n a (omega arith)),
+    ) refl
 
 -- where there is no least, none holds
 pub least-none-any : (p : ℕ → Bool) (f n : ℕ) → least p f n ≡ None → any p f n ≡ false
@@ -154,7 +171,8 @@ any-least p f n h = some_or_none (least p f n) (λ e. clash (any p f n) h (least
 
 -- one more holds
 pub every-more : (p : ℕ → Bool) (f n : ℕ) → every p f n ≡ true → p n ≡ true → every p f (n + 1) ≡ true
-every-more p f n so_far here = ap not (any-step (λ k. not (p k)) f n) ∙ more (any (λ k. not (p k)) f n) (nat_le f n) (p n) so_far here
+every-more p f n so_far here = ap not (any-step (λ k. not (p k)) f n) ∙ more (any (λ k. not (p k)) f n) (nat_le f n)
+    (p n) so_far here
   where
     more : (a b c : Bool) → not a ≡ true → c ≡ true → not (a || (b && not c)) ≡ true
     more true b c h k = absurd (cc)
@@ -174,8 +192,10 @@ any-split p f zero zero a b = refl
 any-split p f (suc m) zero a b = absurd (omega arith)
 any-split p f m (suc n) a b =
     elim (same_or_below m n b) [
-      | inl e ↦ subst (λ k. any p f (suc n) ≡ (any p f k || any p k (suc n))) (sym e) (or_false (any p f (suc n)) (any p (suc n) (suc n)) (any_after p (suc n)))
-      | inr c ↦ rw (any-split p f m n a c) (regroup (any p f m) (any p m n) (nat_le f n) (nat_le m n) (p n) (from f n (omega arith)) (from m n c))
+      | inl e ↦ subst (λ k. any p f (suc n) ≡ (any p f k || any p k (suc n))) (sym e)
+          (or_false (any p f (suc n)) (any p (suc n) (suc n)) (any_after p (suc n)))
+      | inr c ↦ rw (any-split p f m n a c) (regroup (any p f m) (any p m n) (nat_le f n) (nat_le m n) (p n)
+          (from f n (omega arith)) (from m n c))
     ]
   where
     same_or_below : (m n : ℕ) → m ≤ suc n → (m ≡ suc n) ⊎ (m ≤ n)
@@ -197,7 +217,8 @@ any-split p f m (suc n) a b =
 
 -- a range in two parts
 pub every-split : (p : ℕ → Bool) (f m n : ℕ) → f ≤ m → m ≤ n → every p f n ≡ (every p f m && every p m n)
-every-split p f m n a b = ap not (any-split (λ k. not (p k)) f m n a b) ∙ or_splits (any (λ k. not (p k)) f m) (any (λ k. not (p k)) m n)
+every-split p f m n a b = ap not (any-split (λ k. not (p k)) f m n a b) ∙ or_splits (any (λ k. not (p k)) f m)
+    (any (λ k. not (p k)) m n)
 
 pub every-alike : (p q : ℕ → Bool) (f n : ℕ) → ((i : ℕ) → f ≤ i → i < n → p i ≡ q i) → every p f n ≡ every q f n
 every-alike p q f n alike = ap not (any-alike (λ k. not (p k)) (λ k. not (q k)) f n (λ i a b. ap not (alike i a b)))
@@ -209,7 +230,8 @@ every-holds p f n h = ap not (fails-any (λ k. not (p k)) f n (λ i a b. ap not 
 pub those-none : (p : ℕ → Bool) (f n : ℕ) → any p f n ≡ false → those p f n ≡ []
 unfolding those any
 those-none p f zero none = refl
-those-none p f (suc n) none = let both = or_none (any p f n) (nat_le f n && p n) none in rw (those-none p f n both.0, both.1) refl
+those-none p f (suc n) none = let both = or_none (any p f n) (nat_le f n && p n) none in
+    rw (those-none p f n both.0, both.1) refl
 
 and_off : (a b : Bool) → b ≡ false → (a && b) ≡ false
 and_off true b h = h
@@ -228,30 +250,48 @@ those-same p f n h = rw (and_off (nat_le f n) (p n) h) (append-nil (those p f n)
 pub those-split : (p : ℕ → Bool) (f m n : ℕ) → f ≤ m → m ≤ n → those p f n ≡ those p f m ++ those p m n
 those-split p f m zero a b =
     let e : m ≡ 0 = omega arith in
-    subst (λ k. those p f 0 ≡ those p f k ++ those p k 0) (sym e) (sym (ap (λ xs. those p f 0 ++ xs) (those-none p 0 0 (any-empty p 0)) ∙ append-nil (those p f 0)))
+    subst (λ k. those p f 0 ≡ those p f k ++ those p k 0) (sym e)
+    (sym (ap (λ xs. those p f 0 ++ xs) (those-none p 0 0 (any-empty p 0)) ∙ append-nil (those p f 0)))
 those-split p f m (suc n) a b =
     elim (same_or_below m n b) [
-      | inl e ↦ subst (λ k. those p f (suc n) ≡ those p f k ++ those p k (suc n)) (sym e) (sym (ap (λ xs. those p f (suc n) ++ xs) (those-none p (suc n) (suc n) (fails-any p (suc n) (suc n) (λ i x y. absurd (omega arith)))) ∙ append-nil (those p f (suc n))))
+      | inl e ↦ subst (λ k. those p f (suc n) ≡ those p f k ++ those p k (suc n)) (sym e)
+          (sym (ap (λ xs. those p f (suc n) ++ xs)
+          (those-none p (suc n) (suc n) (fails-any p (suc n) (suc n) (λ i x y. absurd (omega arith))))
+          ∙ append-nil (those p f (suc n))))
       | inr c ↦ by_last (p n) refl c (those-split p f m n a c)
     ]
   where
     same_or_below : (m n : ℕ) → m ≤ suc n → (m ≡ suc n) ⊎ (m ≤ n)
     same_or_below m n h = grind arith
 
-    by_last : (last : Bool) → p n ≡ last → m ≤ n → those p f n ≡ those p f m ++ those p m n → those p f (suc n) ≡ those p f m ++ those p m (suc n)
+    by_last : (last : Bool) → p n ≡ last → m ≤ n → those p f n ≡ those p f m ++ those p m n → those p f (suc n)
+        ≡ those p f m ++ those p m (suc n)
     by_last true e c earlier =
         those-more p f n (omega arith) e
-        ∙ (ap (λ xs. xs ++ n ∷ []) earlier ∙ (append_assoc (those p f m) (those p m n) (n ∷ []) ∙ ap (λ xs. those p f m ++ xs) (sym (those-more p m n c e))))
+        ∙ (ap (λ xs. xs ++ n ∷ []) earlier ∙ (append_assoc (those p f m) (those p m n) (n ∷ [])
+        ∙ ap (λ xs. those p f m ++ xs) (sym (those-more p m n c e))))
     by_last false e c earlier = those-same p f n e ∙ (earlier ∙ ap (λ xs. those p f m ++ xs) (sym (those-same p m n e)))
 
 -- the first, and those after it
-pub those-next : (p : ℕ → Bool) (f n i : ℕ) → f ≤ i → i < n → p i ≡ true → any p f i ≡ false → those p f n ≡ i ∷ those p (i + 1) n
+pub those-next : (p : ℕ → Bool) (f n i : ℕ) → f ≤ i → i < n → p i ≡ true → any p f i ≡ false → those p f n ≡ i
+    ∷ those p (i + 1) n
 those-next p f n i from below h first =
     those-split p f (i + 1) n (omega arith) (omega arith)
-    ∙ ap (λ xs. xs ++ those p (i + 1) n) (ap (those p f) (sym add-one_is) ∙ (those-more p f i from h ∙ ap (λ xs. xs ++ i ∷ []) (those-none p f i first)))
+    ∙ ap (λ xs. xs ++ those p (i + 1) n) (ap (those p f) (sym add-one_is)
+    ∙ (those-more p f i from h ∙ ap (λ xs. xs ++ i ∷ []) (those-none p f i first)))
   where
     add-one_is : suc i ≡ i + 1
     add-one_is = omega arith
 
 -- for the goals of a loop that searches a range
-pub ruleset searches = (any-step, any-holds, any-fails, any-empty, every-empty, every-fails, least-is, least-none, nat_tests)
+pub ruleset searches = (
+  any-step,
+  any-holds,
+  any-fails,
+  any-empty,
+  every-empty,
+  every-fails,
+  least-is,
+  least-none,
+  nat_tests,
+)

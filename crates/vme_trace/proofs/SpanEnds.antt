@@ -1,5 +1,6 @@
 -- Where a span ends, what can be read within it, and what breaks there.
-use Rattle.std.proofs.Common.{lit<, lit≤, ◌≡◌, ℕ, zero, suc, ◌+◌, ◌<◌, ◌≤◌, Bool, true, false, ◌&&◌, ◌||◌, not, List, refl, sym, ◌∙◌, ap, arith, inl, inr, ◌⊎◌}
+use Rattle.std.proofs.Common.{lit<, lit≤, ◌≡◌, ℕ, zero, suc, ◌+◌, ◌<◌, ◌≤◌, Bool, true, false, ◌&&◌, ◌||◌, not, List}
+use Rattle.std.proofs.Common.{refl, sym, ◌∙◌, ap, arith, inl, inr, ◌⊎◌}
 use Rattle.std.specs.Prelude.{Option, None, Some, slice_get, ◌==◌, nat_le, unwrap_or}
 use Rattle.std.proofs.lemmas.Bool.Decides.{nat_tests}
 use Rattle.vme_trace.specs.Instants.{any, least}
@@ -34,14 +35,17 @@ end-past t s n held within = past (least (stops_at t) (s + 1) (last_instant t + 
     past (Some w) e = let found = least-found (stops_at t) (s + 1) (last_instant t + 1) w e in
         elim (below_or_not n w) [
           | inl below ↦ below
-          | inr above ↦ absurd (clash (stops_at t w) found.holds (any-fails (stops_at t) (s + 1) (n + 1) w held found.first (omega arith)))
+          | inr above ↦ absurd (clash (stops_at t w) found.holds (any-fails (stops_at t) (s + 1) (n + 1) w held
+              found.first (omega arith)))
         ]
 
 -- and is the first at which it doesn't
-pub end-is : (t : Trace) (s n : ℕ) → any (stops_at t) (s + 1) (n + 1) ≡ false → s ≤ n → n < last_instant t → stops_at t (suc n) ≡ true → span_end t s ≡ suc n
+pub end-is : (t : Trace) (s n : ℕ) → any (stops_at t) (s + 1) (n + 1) ≡ false → s ≤ n → n < last_instant t
+    → stops_at t (suc n) ≡ true → span_end t s ≡ suc n
 unfolding span_end
 end-is t s n held from within stops =
-    rw (least-is (stops_at t) (s + 1) (last_instant t + 1) (suc n) (omega arith) (omega arith) stops (ap (any (stops_at t) (s + 1)) (suc-is n) ∙ held)) refl
+    rw (least-is (stops_at t) (s + 1) (last_instant t + 1) (suc n) (omega arith) (omega arith) stops
+    (ap (any (stops_at t) (s + 1)) (suc-is n) ∙ held)) refl
 
 slots-after : (v : Levels) (step : Option Step) → (after v step).slots ≡ v.slots
 slots-after v None = refl
@@ -56,22 +60,29 @@ slots_at t (suc n) = slots-after (levels_at t n) (slice_get t.steps n) ∙ slots
 ends_in_false : (a b c d : Bool) → d ≡ false → (a && (b && c && d)) ≡ false
 ends_in_false a b c d h = grind (arith, nat_tests)
 
-all_but_last : (a b c d e f g : Bool) → a ≡ d → b ≡ true → c ≡ true → (a && (b && c && (d && e && f && g))) ≡ (d && e && f && g)
+all_but_last : (a b c d e f g : Bool) → a ≡ d → b ≡ true → c ≡ true → (a && (b && c && (d && e && f && g)))
+    ≡ (d && e && f && g)
 all_but_last a b c true e f g h k m = rw (h, k, m) refl
 all_but_last a b c false e f g h k m = rw h refl
 
 module _ (t : Trace) (s n : ℕ) where
   -- at a judged instant U1 isn't broken
-  pub u1-held : loses_control_at t (suc n) ≡ false → (l : ℕ) → l < line_count → breaks t (span_from t s) U1 (suc n) l ≡ false
+  pub u1-held : loses_control_at t (suc n) ≡ false → (l : ℕ) → l < line_count → breaks t (span_from t s) U1 (suc n) l
+      ≡ false
   unfolding breaks is_broken loses_control_at loses_control
-  u1-held held l below = ends_in_false (has_line t.opening.slots l) (suc n == span_end t s) (nat_le (suc n) (last_instant t)) (is_lost (levels_at t (suc n)) l) (any-fails (is_lost (levels_at t (suc n))) 0 line_count l held (omega arith) below)
+  u1-held held l below = ends_in_false (has_line t.opening.slots l) (suc n == span_end t s)
+      (nat_le (suc n) (last_instant t)) (is_lost (levels_at t (suc n)) l) (any-fails (is_lost (levels_at t (suc n))) 0
+      line_count l held (omega arith) below)
 
   -- at the end of the span it is, on each lost line; where the bus is reset, no line is lost
-  pub u1-lost : span_end t s ≡ suc n → n < last_instant t → (l : ℕ) → breaks t (span_from t s) U1 (suc n) l ≡ is_lost (levels_at t (suc n)) l
+  pub u1-lost : span_end t s ≡ suc n → n < last_instant t → (l : ℕ) → breaks t (span_from t s) U1 (suc n) l
+      ≡ is_lost (levels_at t (suc n)) l
   unfolding breaks is_broken
   u1-lost ends within l =
-      all_but_last (has_line t.opening.slots l) (suc n == span_end t s) (nat_le (suc n) (last_instant t)) (has_line (levels_at t (suc n)).slots l) _ _ _
-      (ap (λ slots. has_line slots l) (sym (slots_at t (suc n)))) (equal_test (suc n) (span_end t s) (sym ends)) (le_test n (last_instant t) within)
+      all_but_last (has_line t.opening.slots l) (suc n == span_end t s) (nat_le (suc n) (last_instant t))
+      (has_line (levels_at t (suc n)).slots l) _ _ _
+      (ap (λ slots. has_line slots l) (sym (slots_at t (suc n)))) (equal_test (suc n) (span_end t s) (sym ends))
+      (le_test n (last_instant t) within)
     where
       equal_test : (a b : ℕ) → a ≡ b → (a == b) ≡ true
       equal_test a b h = grind (arith, nat_tests)
@@ -95,9 +106,12 @@ goes_on : (t : Trace) (s j : ℕ) → s < j → j < span_end t s → stops_at t 
 unfolding span_end
 goes_on t s j after before = by_end (least (stops_at t) (s + 1) (last_instant t + 1)) refl before
   where
-    by_end : (o : Option ℕ) → least (stops_at t) (s + 1) (last_instant t + 1) ≡ o → j < unwrap_or o (last_instant t + 1) → stops_at t j ≡ false
-    by_end None e b = any-fails (stops_at t) (s + 1) (last_instant t + 1) j (least-none-any (stops_at t) (s + 1) (last_instant t + 1) e) (omega arith) b
-    by_end (Some w) e b = let found = least-found (stops_at t) (s + 1) (last_instant t + 1) w e in any-fails (stops_at t) (s + 1) w j found.least (omega arith) b
+    by_end : (o : Option ℕ) → least (stops_at t) (s + 1) (last_instant t + 1) ≡ o → j < unwrap_or o (last_instant t + 1)
+        → stops_at t j ≡ false
+    by_end None e b = any-fails (stops_at t) (s + 1) (last_instant t + 1) j (least-none-any (stops_at t) (s + 1)
+        (last_instant t + 1) e) (omega arith) b
+    by_end (Some w) e b = let found = least-found (stops_at t) (s + 1) (last_instant t + 1) w e in
+        any-fails (stops_at t) (s + 1) w j found.least (omega arith) b
 
 -- within a span nothing is lost
 pub not_lost : (t : Trace) (s j : ℕ) → s < j → j < span_end t s → loses_control_at t j ≡ false
@@ -112,12 +126,15 @@ pub reads_strobes : (t : Trace) (s : ℕ) → is_idle_at t s ≡ true → ReadsS
 unfolding is_idle_at is_idle high known is_reset_at loses_control_at loses_control
 reads_strobes t s idle = record {
   opens = both (idle_line 1 (lit< tt)) (idle_line 2 (lit< tt));
-  first = λ j a b. known_unless _ _ (any-fails (is_lost (levels_at t j)) 0 line_count 1 (not_lost t s j a b) (lit≤ tt) (lit< tt)) (not_reset t s j a b);
-  second = λ j a b. known_unless _ _ (any-fails (is_lost (levels_at t j)) 0 line_count 2 (not_lost t s j a b) (lit≤ tt) (lit< tt)) (not_reset t s j a b);
+  first = λ j a b. known_unless _ _ (any-fails (is_lost (levels_at t j)) 0 line_count 1 (not_lost t s j a b) (lit≤ tt)
+      (lit< tt)) (not_reset t s j a b);
+  second = λ j a b. known_unless _ _ (any-fails (is_lost (levels_at t j)) 0 line_count 2 (not_lost t s j a b) (lit≤ tt)
+      (lit< tt)) (not_reset t s j a b);
 }
   where
     idle_line : (l : ℕ) → l < line_count → is_idle_on (levels_at t s) l ≡ true
-    idle_line l below = true_of_not _ (any-fails (λ k. not (is_idle_on (levels_at t s) k)) 0 line_count l (false_of_not _ idle) (omega arith) below)
+    idle_line l below = true_of_not _ (any-fails (λ k. not (is_idle_on (levels_at t s) k)) 0 line_count l
+        (false_of_not _ idle) (omega arith) below)
 
     known_unless : (a b : Bool) → (not a && not b) ≡ false → b ≡ false → a ≡ true
     known_unless true b h k = refl
@@ -131,7 +148,8 @@ last_or_before : (j k : ℕ) → j ≤ suc k → (j ≡ suc k) ⊎ (j ≤ k)
 last_or_before j k h = grind arith
 
 -- a break stays the least, whatever comes later
-pub break_before-stays : (t : Trace) (span : Stretch) (rules : List Rule) (b : Break) (j k : ℕ) → break_before t span rules j ≡ Some b → j ≤ k → break_before t span rules k ≡ Some b
+pub break_before-stays : (t : Trace) (span : Stretch) (rules : List Rule) (b : Break) (j k : ℕ) → break_before t span
+    rules j ≡ Some b → j ≤ k → break_before t span rules k ≡ Some b
 unfolding break_before
 break_before-stays t span rules b j zero first order = let e : j ≡ 0 = omega arith in rw e at first
 break_before-stays t span rules b j (suc k) first order =

@@ -2,7 +2,7 @@ use smallvec::SmallVec;
 use std::alloc::{AllocError, Global};
 use std::test::Fail;
 use vme_trace::{
-    Block, Capture, Change, Changes, Class, CutFault, LINE_COUNT, Level, Line, LineSet, Lines,
+    Block, Capture, Change, Changes, Class, CutFault, LINE_COUNT, Level, Line, Lines, NeededLines,
     Rule, Step, Steps, am_class, am_code, is_selected, needed,
 };
 
@@ -333,7 +333,7 @@ fn lines_of_code(code: u8) -> Result<Lines, Fail> {
 }
 
 /// The highest address line of a set, or 0.
-fn highest_address_of(set: &LineSet) -> u8 {
+fn highest_address_of(set: &NeededLines) -> u8 {
     let mut highest = 0;
     for bit in 1..32 {
         if set.has(Line::address(bit)) {

@@ -1,21 +1,25 @@
 -- What the typed getters of a parse read.
-use Rattle.std.proofs.Common.{◌≡◌, ℕ, ◌<◌, ◌≤◌, ◌^◌, List, [], ◌∷◌, ◌++◌, refl, ap, sym, subst, ◌∙◌, IfErr, IsErrAnd, inl, inr, is_some, true, true≢false}
+use Rattle.std.proofs.Common.{◌≡◌, ℕ, ◌<◌, ◌≤◌, ◌^◌, List, [], ◌∷◌, ◌++◌, refl, ap, sym, subst, ◌∙◌, IfErr, IsErrAnd}
+use Rattle.std.proofs.Common.{inl, inr, is_some, true, true≢false}
 use Rattle.std.specs.Prelude.{Option, Some, None, Result, Ok, Err, codes, option_map}
 use Rattle.std.specs.Borrow.{Bor}
 use Rattle.std.specs.Str.Parse.{ParsesUnsigned}
-use Rattle.clap.specs.Words.{HasKind, IsAmong, Row, Text, ReadsOne, fault_of, first_of, first_value, found_of, kind_of, one_text, rows_of, without_minus}
+use Rattle.clap.specs.Words.{HasKind, IsAmong, Row, Text, ReadsOne, fault_of, first_of, first_value, found_of, kind_of}
+use Rattle.clap.specs.Words.{one_text, rows_of, without_minus}
 use Rattle.clap.proofs.CallerReads.{signed_reads}
 use Rattle.clap.specs.declared.error.Error.{Error}
 use Rattle.clap.specs.declared.parser.matches.ArgMatches.{ArgMatches}
 use Rattle.clap.proofs.WalkLemmas.{first_value-rows, one_text-rows}
-use Rattle.vme_words.specs.Orders.{HasNumber, IsOrder, Says, SaysConfirmation, SaysOrder, SaysWords, if_given, names_in, number_in, number_of, task_name}
+use Rattle.vme_words.specs.Orders.{HasNumber, IsOrder, Says, SaysConfirmation, SaysOrder, SaysWords, if_given, names_in}
+use Rattle.vme_words.specs.Orders.{number_in, number_of, task_name}
 use Rattle.vme_words.specs.Commands.{vmecheck_app}
 use Rattle.vme_words.specs.OrderFaults.{ComesOf, IsFaultOf}
 use Rattle.vme_words.specs.declared.order_fault.OrderFault.{OrderFault}
 use Rattle.vme_words.specs.declared.order_fault.OrderFault.TheVariants.{Usage, Memory as no_memory}
 use Rattle.vme_words.specs.declared.order.Order.{Order}
 use Rattle.vme_words.specs.declared.order.Task.{Task}
-use Rattle.vme_words.specs.declared.order.Task.TheVariants.{Check, List as Listing, Confirm, Rules, Variables, Bind, Explain}
+use Rattle.vme_words.specs.declared.order.Task.TheVariants.{Check, List as Listing, Confirm, Rules, Variables, Bind}
+use Rattle.vme_words.specs.declared.order.Task.TheVariants.{Explain}
 
 -- the number that a getter reads of an option is the number of its text
 pub number_read : (E : Type 0) (G : List ℕ → Result ℕ E → Type 0) (m : ArgMatches) (id : Text) (n : ℕ) (r : Option ℕ)
@@ -30,22 +34,27 @@ number_read E G m id n r none value reads is = go (one_text (found_of m) id) ref
     go (Some t) e =
         let read : ReadsOne G t (Some n) = subst (λ (o : Option ℕ). ReadsOne G t o) is (value t e) in
         let number : n ≡ number_of t = reads t n read in
-        ap (λ (o : Option (List ℕ)). option_map number_of o) (sym (one_text-rows (found_of m) id) ∙ e) ∙ ap (λ (k : ℕ). Some k) (sym number)
+        ap (λ (o : Option (List ℕ)). option_map number_of o) (sym (one_text-rows (found_of m) id) ∙ e)
+        ∙ ap (λ (k : ℕ). Some k) (sym number)
 
 -- and where the option has one, the getter reads it
-pub number_there : (E : Type 0) (G : List ℕ → Result ℕ E → Type 0) (m : ArgMatches) (id : Text) (greatest : ℕ) (r : Option ℕ)
+pub number_there : (E : Type 0) (G : List ℕ → Result ℕ E → Type 0) (m : ArgMatches) (id : Text) (greatest : ℕ)
+    (r : Option ℕ)
     → HasNumber id greatest (rows_of (found_of m)) → greatest < 2 ^ 32
     → ((t : List ℕ) → one_text (found_of m) id ≡ Some t → ReadsOne G t r)
     → ((t : List ℕ) (x : Result ℕ E) → G t x → ParsesUnsigned 32 10 t x)
     → (n : ℕ) × (r ≡ Some n) × (1 ≤ n) × (n ≤ greatest)
 number_there E G m id greatest r has small value only =
-    signed_reads E G 32 1 greatest has.text r (value (without_minus has.text) (one_text-rows (found_of m) id ∙ has.read)) only small has.says
+    signed_reads E G 32 1 greatest has.text r (value (without_minus has.text) (one_text-rows (found_of m) id
+    ∙ has.read)) only small has.says
 
 -- a file that has a name is read
-pub named_file : (m : ArgMatches) (id : Text) (r : Option (Bor (List ℕ))) → option_map (λ (s : Bor (List ℕ)). s.now) r ≡ first_value (found_of m) id → r ≡ None
+pub named_file : (m : ArgMatches) (id : Text) (r : Option (Bor (List ℕ))) → option_map (λ (s : Bor (List ℕ)). s.now) r
+    ≡ first_value (found_of m) id → r ≡ None
     → is_some (first_of id (rows_of (found_of m))) ≡ true → ⊥
 named_file m id r gives none has =
-    let first : first_of id (rows_of (found_of m)) ≡ None = sym (first_value-rows (found_of m) id) ∙ sym gives ∙ ap (λ (o : Option (Bor (List ℕ))). option_map (λ (s : Bor (List ℕ)). s.now) o) none in
+    let first : first_of id (rows_of (found_of m)) ≡ None = sym (first_value-rows (found_of m) id) ∙ sym gives
+    ∙ ap (λ (o : Option (Bor (List ℕ))). option_map (λ (s : Bor (List ℕ)). s.now) o) none in
     true≢false (sym has ∙ ap is_some first)
 
 -- ---- an error of a parse
@@ -57,67 +66,77 @@ error_in other no_memory = other
 is_told : (a b : Error) → Usage a ≡ Usage b → a ≡ b
 is_told a b is = ap (error_in a) is
 
-comes_of_words : (words : List Text) (error : Error) (fault : OrderFault) → ComesOf error fault → HasKind (fault_of vmecheck_app words) error → IsFaultOf words fault
+comes_of_words : (words : List Text) (error : Error) (fault : OrderFault) → ComesOf error fault
+    → HasKind (fault_of vmecheck_app words) error → IsFaultOf words fault
 comes_of_words words error (Usage told) comes (inl none) =
     let bad : Usage told ≡ no_memory = comes.memory none in
     cc
 comes_of_words words error (Usage told) comes (inr among) =
-    let is : Usage told ≡ Usage error = comes.usage (λ none. let bad : Usage told ≡ no_memory = comes.memory none in cc) in
+    let is : Usage told ≡ Usage error = comes.usage (λ none. let bad : Usage told ≡ no_memory = comes.memory none in
+    cc) in
     let same : told ≡ error = is_told told error is in
     subst (λ (e : Error). IsAmong (kind_of e) (fault_of vmecheck_app words)) (sym same) among
 comes_of_words words error no_memory comes has = tt
 
 -- `?` passes an error of the parse of these words up as a fault of them
-pub passed_up : {T : Type 0} (r : Result T OrderFault) (error : Error) (words : List Text) → IsErrAnd r (λ fault. ComesOf error fault)
+pub passed_up : {T : Type 0} (r : Result T OrderFault) (error : Error) (words : List Text)
+    → IsErrAnd r (λ fault. ComesOf error fault)
     → HasKind (fault_of vmecheck_app words) error → IfErr r (IsFaultOf words)
 passed_up (Ok x) error words comes has = tt
 passed_up (Err fault) error words comes has = comes_of_words words error fault comes has
 
 -- ---- an order by its task
 
-pub is_check : (order : Order) (rows : List Row) → order.command ≡ Check → SaysOrder order rows → IsOrder order (Some (codes "check", rows))
+pub is_check : (order : Order) (rows : List Row) → order.command ≡ Check → SaysOrder order rows
+    → IsOrder order (Some (codes "check", rows))
 is_check order rows task says = record {
   rows = rows;
   command = ap (λ (t : Task). Some (task_name t, rows)) (sym task);
   says = subst (λ (t : Task). Says t order rows) (sym task) says;
 }
 
-pub is_list : (order : Order) (rows : List Row) → order.command ≡ Listing → SaysOrder order rows → IsOrder order (Some (codes "list", rows))
+pub is_list : (order : Order) (rows : List Row) → order.command ≡ Listing → SaysOrder order rows
+    → IsOrder order (Some (codes "list", rows))
 is_list order rows task says = record {
   rows = rows;
   command = ap (λ (t : Task). Some (task_name t, rows)) (sym task);
   says = subst (λ (t : Task). Says t order rows) (sym task) says;
 }
 
-pub is_confirmation : (order : Order) (rows : List Row) → order.command ≡ Confirm → SaysConfirmation order rows → IsOrder order (Some (codes "confirm", rows))
+pub is_confirmation : (order : Order) (rows : List Row) → order.command ≡ Confirm → SaysConfirmation order rows
+    → IsOrder order (Some (codes "confirm", rows))
 is_confirmation order rows task says = record {
   rows = rows;
   command = ap (λ (t : Task). Some (task_name t, rows)) (sym task);
   says = subst (λ (t : Task). Says t order rows) (sym task) says;
 }
 
-pub is_rules : (order : Order) (rows : List Row) → order.command ≡ Rules → SaysWords order (if_given (first_of (codes "RULE") rows)) → IsOrder order (Some (codes "rules", rows))
+pub is_rules : (order : Order) (rows : List Row) → order.command ≡ Rules → SaysWords order
+    (if_given (first_of (codes "RULE") rows)) → IsOrder order (Some (codes "rules", rows))
 is_rules order rows task says = record {
   rows = rows;
   command = ap (λ (t : Task). Some (task_name t, rows)) (sym task);
   says = subst (λ (t : Task). Says t order rows) (sym task) says;
 }
 
-pub is_variables : (order : Order) (rows : List Row) → order.command ≡ Variables → SaysWords order (first_of (codes "DUMP") rows ∷ []) → IsOrder order (Some (codes "variables", rows))
+pub is_variables : (order : Order) (rows : List Row) → order.command ≡ Variables → SaysWords order
+    (first_of (codes "DUMP") rows ∷ []) → IsOrder order (Some (codes "variables", rows))
 is_variables order rows task says = record {
   rows = rows;
   command = ap (λ (t : Task). Some (task_name t, rows)) (sym task);
   says = subst (λ (t : Task). Says t order rows) (sym task) says;
 }
 
-pub is_bind : (order : Order) (rows : List Row) → order.command ≡ Bind → SaysWords order (first_of (codes "DUMP") rows ∷ if_given (first_of (codes "slots") rows)) → IsOrder order (Some (codes "bind", rows))
+pub is_bind : (order : Order) (rows : List Row) → order.command ≡ Bind → SaysWords order (first_of (codes "DUMP") rows
+    ∷ if_given (first_of (codes "slots") rows)) → IsOrder order (Some (codes "bind", rows))
 is_bind order rows task says = record {
   rows = rows;
   command = ap (λ (t : Task). Some (task_name t, rows)) (sym task);
   says = subst (λ (t : Task). Says t order rows) (sym task) says;
 }
 
-pub is_explain : (order : Order) (rows : List Row) → order.command ≡ Explain → SaysWords order (names_in rows ++ if_given (first_of (codes "gtkw") rows)) → IsOrder order (Some (codes "explain", rows))
+pub is_explain : (order : Order) (rows : List Row) → order.command ≡ Explain → SaysWords order
+    (names_in rows ++ if_given (first_of (codes "gtkw") rows)) → IsOrder order (Some (codes "explain", rows))
 is_explain order rows task says = record {
   rows = rows;
   command = ap (λ (t : Task). Some (task_name t, rows)) (sym task);

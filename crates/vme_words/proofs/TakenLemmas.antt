@@ -1,19 +1,26 @@
 -- Words without a fault name a task, and give all that its order needs.
-use Rattle.std.proofs.Common.{◌≡◌, ◌∙◌, ◌⊎◌, ◌&&◌, ◌||◌, Bool, true, false, not, refl, sym, ap, subst, codes, List, [], ◌∷◌, Option, Some, None, is_some, true≢false, inl, inr}
+use Rattle.std.proofs.Common.{◌≡◌, ◌∙◌, ◌⊎◌, ◌&&◌, ◌||◌, Bool, true, false, not, refl, sym, ap, subst, codes, List, []}
+use Rattle.std.proofs.Common.{◌∷◌, Option, Some, None, is_some, true≢false, inl, inr}
 use Rattle.std.specs.Prelude.{cond, find, drop, option_map, unwrap_or}
 use Rattle.std.specs.Str.{bytes_eq}
 use Rattle.std.proofs.lemmas.Slice.Eq.{bytes_eq-Decides}
 use Rattle.clap.specs.Kinds.{check_kinds}
 use Rattle.clap.specs.Words.{new_rule}
-use Rattle.clap.specs.Faults.{built_fault, check_fault, defaults_fault, entered_fault, fault_of, level_fault, settle_fault, walk_fault}
-use Rattle.clap.specs.Simple.{App, Shape, built, built_leaf, entered, filled, help_rule, help_shape, inherited, label_of, marked_built, names_of, rows_at, subcommand_of, with_index, with_leaf_noted}
+use Rattle.clap.specs.Faults.{built_fault, check_fault, defaults_fault, entered_fault, fault_of, level_fault}
+use Rattle.clap.specs.Faults.{settle_fault, walk_fault}
+use Rattle.clap.specs.Simple.{App, Shape, built, built_leaf, entered, filled, help_rule, help_shape, inherited}
+use Rattle.clap.specs.Simple.{label_of, marked_built, names_of, rows_at, subcommand_of, with_index, with_leaf_noted}
 use Rattle.clap.specs.Takes.{is_given}
-use Rattle.clap.specs.Walk.{Rule, Text, answers_to, finished, nothing_held, rows_after, settled, stop_after, walk, walk_from, with_default}
+use Rattle.clap.specs.Walk.{Rule, Text, answers_to, finished, nothing_held, rows_after, settled, stop_after, walk}
+use Rattle.clap.specs.Walk.{walk_from, with_default}
 use Rattle.clap.proofs.OnLiterals.{clap_on_literals}
-use Rattle.vme_words.specs.Commands.{bind_app, confirm_app, explain_app, file_rule, number_rule, recording_app, rules_app, slots_rule, variables_app, vmecheck_app, word_rule}
+use Rattle.vme_words.specs.Commands.{bind_app, confirm_app, explain_app, file_rule, number_rule, recording_app}
+use Rattle.vme_words.specs.Commands.{rules_app, slots_rule, variables_app, vmecheck_app, word_rule}
 use Rattle.vme_words.specs.Orders.{HasConfirmation, HasName, HasNames, HasOrder, HasRecording}
-use Rattle.vme_words.specs.declared.order.Task.TheVariants.{Check, List as Listing, Confirm, Rules, Variables, Bind, Explain}
-use Rattle.vme_words.proofs.RowLemmas.{EachKnown, NamesNoHelp, both_free, default_adds, defaults_keep, given_text, level_good, row_says, walk_stops}
+use Rattle.vme_words.specs.declared.order.Task.TheVariants.{Check, List as Listing, Confirm, Rules, Variables, Bind}
+use Rattle.vme_words.specs.declared.order.Task.TheVariants.{Explain}
+use Rattle.vme_words.proofs.RowLemmas.{EachKnown, NamesNoHelp, both_free, default_adds, defaults_keep, given_text}
+use Rattle.vme_words.proofs.RowLemmas.{level_good, row_says, walk_stops}
 
 -- ---- what the program's command comes to
 
@@ -117,19 +124,43 @@ confirmation_known = (
 
 rules_known : EachKnown rules_rules rules_rules
 unfolding clap_on_literals
-rules_known = (record { own = refl; acts = refl; defaults = refl }, (record { own = refl; acts = tt; defaults = refl }, tt))
+rules_known = (
+  record { own = refl; acts = refl; defaults = refl },
+  (
+    record { own = refl; acts = tt; defaults = refl },
+    tt,
+  ),
+)
 
 variables_known : EachKnown variables_rules variables_rules
 unfolding clap_on_literals
-variables_known = (record { own = refl; acts = refl; defaults = refl }, (record { own = refl; acts = tt; defaults = refl }, tt))
+variables_known = (
+  record { own = refl; acts = refl; defaults = refl },
+  (record { own = refl; acts = tt; defaults = refl }, tt),
+)
 
 bind_known : EachKnown bind_rules bind_rules
 unfolding clap_on_literals
-bind_known = (record { own = refl; acts = refl; defaults = refl }, (record { own = refl; acts = refl; defaults = refl }, (record { own = refl; acts = tt; defaults = refl }, tt)))
+bind_known = (
+  record { own = refl; acts = refl; defaults = refl },
+  (
+    record { own = refl; acts = refl; defaults = refl },
+    (record { own = refl; acts = tt; defaults = refl }, tt),
+  ),
+)
 
 explain_known : EachKnown explain_rules explain_rules
 unfolding clap_on_literals
-explain_known = (record { own = refl; acts = refl; defaults = refl }, (record { own = refl; acts = refl; defaults = refl }, (record { own = refl; acts = refl; defaults = refl }, (record { own = refl; acts = tt; defaults = refl }, tt))))
+explain_known = (
+  record { own = refl; acts = refl; defaults = refl },
+  (
+    record { own = refl; acts = refl; defaults = refl },
+    (
+      record { own = refl; acts = refl; defaults = refl },
+      (record { own = refl; acts = tt; defaults = refl }, tt),
+    ),
+  ),
+)
 
 -- ---- the matches of a subcommand
 
@@ -142,20 +173,23 @@ two_given true true e = (refl, refl)
 two_given true false e = cc
 two_given false d e = cc
 
-three_given : (b d l : Bool) → check_kinds false false (not b || (not d || (not l || false))) ≡ [] → (b ≡ true) × (d ≡ true) × (l ≡ true)
+three_given : (b d l : Bool) → check_kinds false false (not b || (not d || (not l || false))) ≡ [] → (b ≡ true)
+    × (d ≡ true) × (l ≡ true)
 three_given true true true e = (refl, refl, refl)
 three_given true true false e = cc
 three_given true false l e = cc
 three_given false d l e = cc
 
-recording_has : (name : Text) (words : List Text) → level_fault (recording name) [] nothing_held words false [] ≡ [] → HasRecording (rows_after recording_rules [] words)
+recording_has : (name : Text) (words : List Text) → level_fault (recording name) [] nothing_held words false [] ≡ []
+    → HasRecording (rows_after recording_rules [] words)
 recording_has name words e =
     let level = level_good (recording name) words recording_known e in
     let rows = rows_after recording_rules [] words in
     let before = (settled recording_rules (walk recording_rules [] nothing_held words).held).rows in
     let given = two_given (is_given (codes "BINDING") rows) (is_given (codes "DUMP") rows) level.1 in
     let in_block = row_says recording_rules rows block 65536 level.0 recording_known.0.own refl
-    (defaults_keep (codes "block") (workers ∷ binding ∷ dump ∷ help ∷ []) (with_default before block) (default_adds before block (codes "16384") [] refl)) in
+    (defaults_keep (codes "block") (workers ∷ binding ∷ dump ∷ help ∷ []) (with_default before block)
+    (default_adds before block (codes "16384") [] refl)) in
     let in_workers = row_says recording_rules rows workers 64 level.0 recording_known.1.0.own refl
     (defaults_keep (codes "workers") (binding ∷ dump ∷ help ∷ []) (with_default (with_default before block) workers)
     (default_adds (with_default before block) workers (codes "4") [] refl)) in
@@ -168,11 +202,13 @@ recording_has name words e =
       };
     }
 
-confirmation_has : (words : List Text) → level_fault confirmation [] nothing_held words false [] ≡ [] → HasConfirmation (rows_after confirmation_rules [] words)
+confirmation_has : (words : List Text) → level_fault confirmation [] nothing_held words false [] ≡ [] → HasConfirmation
+    (rows_after confirmation_rules [] words)
 confirmation_has words e =
     let level = level_good confirmation words confirmation_known e in
     let rows = rows_after confirmation_rules [] words in
-    let given = three_given (is_given (codes "BINDING") rows) (is_given (codes "DUMP") rows) (is_given (codes "LISTING") rows) level.1 in
+    let given = three_given (is_given (codes "BINDING") rows) (is_given (codes "DUMP") rows)
+    (is_given (codes "LISTING") rows) level.1 in
     record {
       names = record {
         binding = given_text confirmation_rules rows binding level.0 confirmation_known.0.own given.0;
@@ -181,19 +217,23 @@ confirmation_has words e =
       listing = given_text confirmation_rules rows listing level.0 confirmation_known.1.1.0.own given.2;
     }
 
-variables_has : (words : List Text) → level_fault of_variables [] nothing_held words false [] ≡ [] → HasName (codes "DUMP") (rows_after variables_rules [] words)
+variables_has : (words : List Text) → level_fault of_variables [] nothing_held words false [] ≡ []
+    → HasName (codes "DUMP") (rows_after variables_rules [] words)
 variables_has words e =
     let level = level_good of_variables words variables_known e in
     let rows = rows_after variables_rules [] words in
-    given_text variables_rules rows only_dump level.0 variables_known.0.own (one_given (is_given (codes "DUMP") rows) level.1)
+    given_text variables_rules rows only_dump level.0 variables_known.0.own (one_given (is_given (codes "DUMP") rows)
+    level.1)
 
-bind_has : (words : List Text) → level_fault of_bind [] nothing_held words false [] ≡ [] → HasName (codes "DUMP") (rows_after bind_rules [] words)
+bind_has : (words : List Text) → level_fault of_bind [] nothing_held words false [] ≡ [] → HasName (codes "DUMP")
+    (rows_after bind_rules [] words)
 bind_has words e =
     let level = level_good of_bind words bind_known e in
     let rows = rows_after bind_rules [] words in
     given_text bind_rules rows only_dump level.0 bind_known.1.0.own (one_given (is_given (codes "DUMP") rows) level.1)
 
-explain_has : (words : List Text) → level_fault of_explain [] nothing_held words false [] ≡ [] → HasNames (rows_after explain_rules [] words)
+explain_has : (words : List Text) → level_fault of_explain [] nothing_held words false [] ≡ []
+    → HasNames (rows_after explain_rules [] words)
 explain_has words e =
     let level = level_good of_explain words explain_known e in
     let rows = rows_after explain_rules [] words in
@@ -207,47 +247,58 @@ explain_has words e =
 
 -- words of the subcommand without a fault give an order, or it is the call for help
 abbrev Makes : Shape → Type 0
-Makes s = (words : List Text) → level_fault s [] nothing_held words false [] ≡ [] → HasOrder (Some (rows_at s words)) ⊎ (label_of s ≡ (codes "help", []))
+Makes s = (words : List Text) → level_fault s [] nothing_held words false [] ≡ [] → HasOrder (Some (rows_at s words)) ⊎
+    (label_of s ≡ (codes "help", []))
 
 abbrev EachMakes : List Shape → Type 0
 EachMakes [] = Unit {0}
 EachMakes (s ∷ rest) = Makes s × EachMakes rest
 
-found_makes : (xs : List Shape) (test : Shape → Bool) (s : Shape) → EachMakes xs → find test xs ≡ Some s → Makes s × (test s ≡ true)
+found_makes : (xs : List Shape) (test : Shape → Bool) (s : Shape) → EachMakes xs → find test xs ≡ Some s → Makes s
+    × (test s ≡ true)
 found_makes [] test s makes e = cc
 found_makes (x ∷ xs) test s makes e = go (test x) refl e (λ f. found_makes xs test s makes.1 f)
   where
-    go : (t : Bool) → test x ≡ t → cond t (Some x) (find test xs) ≡ Some s → (find test xs ≡ Some s → Makes s × (test s ≡ true)) → Makes s × (test s ≡ true)
-    go true is f rest = subst (λ (y : Shape). Makes y × (test y ≡ true)) (ap (λ (o : Option Shape). unwrap_or o x) f) (makes.0, is)
+    go : (t : Bool) → test x ≡ t → cond t (Some x) (find test xs) ≡ Some s → (find test xs ≡ Some s → Makes s
+        × (test s ≡ true)) → Makes s × (test s ≡ true)
+    go true is f rest = subst (λ (y : Shape). Makes y × (test y ≡ true)) (ap (λ (o : Option Shape). unwrap_or o x) f)
+        (makes.0, is)
     go false is f rest = rest f
 
 is_help : (word : Text) → bytes_eq word (codes "help") ≡ false → answers_to word (codes "help", []) ≡ true → ⊥
 is_help word not_it it = go (bytes_eq (codes "help") word) refl it
   where
     go : (t : Bool) → bytes_eq (codes "help") word ≡ t → (t || false) ≡ true → ⊥
-    go true is f = absurd (true≢false (sym ((bytes_eq-Decides word (codes "help")).1 (sym ((bytes_eq-Decides (codes "help") word).0 is))) ∙ not_it))
+    go true is f = absurd
+        (true≢false (sym ((bytes_eq-Decides word (codes "help")).1 (sym ((bytes_eq-Decides (codes "help") word).0 is)))
+        ∙ not_it))
     go false is f = absurd (true≢false (sym f))
 
-entered_order : (a : App) (stop : Option (Text × List Text)) → EachMakes a.subs → NamesNoHelp stop → entered_fault a stop ≡ [] → is_some (entered a stop) ≡ true → HasOrder (entered a stop)
+entered_order : (a : App) (stop : Option (Text × List Text)) → EachMakes a.subs → NamesNoHelp stop → entered_fault a
+    stop ≡ [] → is_some (entered a stop) ≡ true → HasOrder (entered a stop)
 entered_order a None makes named e has = absurd (true≢false (sym has))
 entered_order a (Some p) makes named e has = go (find (λ s. answers_to p.0 (label_of s)) a.subs) refl
   where
-    go : (o : Option Shape) → find (λ s. answers_to p.0 (label_of s)) a.subs ≡ o → HasOrder (option_map (λ s. rows_at s p.1) o)
+    go : (o : Option Shape) → find (λ s. answers_to p.0 (label_of s)) a.subs ≡ o
+        → HasOrder (option_map (λ s. rows_at s p.1) o)
     go None is = let bad = rw is at has in cc
     go (Some s) is =
         let found = found_makes a.subs (λ x. answers_to p.0 (label_of x)) s makes is in
         elim (found.0 p.1 (rw is at e)) [
           | inl h ↦ h
-          | inr helps ↦ absurd (is_help p.0 named (subst (λ (l : Text × List Text). answers_to p.0 l ≡ true) helps found.1))
+          | inr helps ↦ absurd (is_help p.0 named (subst (λ (l : Text × List Text). answers_to p.0 l ≡ true) helps
+              found.1))
         ]
 
 -- where a subcommand is wanted, one was entered
-one_entered : (has helps wants needs : Bool) → wants ≡ true → check_kinds (not has && helps) (not has && wants) needs ≡ [] → has ≡ true
+one_entered : (has helps wants needs : Bool) → wants ≡ true → check_kinds (not has && helps) (not has && wants) needs
+    ≡ [] → has ≡ true
 one_entered true helps wants needs is e = refl
 one_entered false true wants needs is e = cc
 one_entered false false wants needs is e = let bad = rw is at e in cc
 
-order_of_app : (a : App) (words : List Text) → EachMakes a.subs → a.top.disable_help_subcommand ≡ false → a.top.subcommand_required ≡ true
+order_of_app : (a : App) (words : List Text) → EachMakes a.subs → a.top.disable_help_subcommand ≡ false
+    → a.top.subcommand_required ≡ true
     → built_fault a nothing_held words ≡ [] → HasOrder (entered a (stop_after a.top.rules (names_of a) words))
 order_of_app a words makes helps wants e =
     let stop = stop_after a.top.rules (names_of a) words in
@@ -255,34 +306,75 @@ order_of_app a words makes helps wants e =
     let f = both_free (walk_fault a.top (names_of a) (walk_from nothing_held) words) _ e in
     let below = both_free (entered_fault a stop) _ f.1 in
     let settle = both_free (settle_fault a.top.rules a.top.args_override_self end) _ below.1 in
-    let last = both_free (defaults_fault (settled a.top.rules end).rows a.top.rules) (check_fault a.top (finished a.top.rules end) (is_some (entered a stop))) settle.1 in
+    let last = both_free (defaults_fault (settled a.top.rules end).rows a.top.rules)
+    (check_fault a.top (finished a.top.rules end) (is_some (entered a stop))) settle.1 in
     entered_order a stop makes (walk_stops a.top (names_of a) helps words (walk_from nothing_held) f.0 tt) below.0
     (one_entered (is_some (entered a stop)) _ a.top.subcommand_required _ wants last.1)
 
 check_makes : Makes (recording (codes "check"))
-check_makes words e = inl (record { task = Check; rows = rows_after recording_rules [] words; command = refl; has = recording_has (codes "check") words e })
+check_makes words e = inl (record {
+  task = Check;
+  rows = rows_after recording_rules [] words;
+  command = refl;
+  has
+      = recording_has (codes "check") words e;
+})
 
 list_makes : Makes (recording (codes "list"))
-list_makes words e = inl (record { task = Listing; rows = rows_after recording_rules [] words; command = refl; has = recording_has (codes "list") words e })
+list_makes words e = inl (record {
+  task = Listing;
+  rows = rows_after recording_rules [] words;
+  command = refl;
+  has
+      = recording_has (codes "list") words e;
+})
 
 confirm_makes : Makes confirmation
-confirm_makes words e = inl (record { task = Confirm; rows = rows_after confirmation_rules [] words; command = refl; has = confirmation_has words e })
+confirm_makes words e = inl (record {
+  task = Confirm;
+  rows = rows_after confirmation_rules [] words;
+  command = refl;
+  has
+      = confirmation_has words e;
+})
 
 rules_makes : Makes of_rules
 rules_makes words e = inl (record { task = Rules; rows = rows_after rules_rules [] words; command = refl; has = tt })
 
 variables_makes : Makes of_variables
-variables_makes words e = inl (record { task = Variables; rows = rows_after variables_rules [] words; command = refl; has = variables_has words e })
+variables_makes words e = inl (record {
+  task = Variables;
+  rows = rows_after variables_rules [] words;
+  command = refl;
+  has = variables_has words e;
+})
 
 bind_makes : Makes of_bind
-bind_makes words e = inl (record { task = Bind; rows = rows_after bind_rules [] words; command = refl; has = bind_has words e })
+bind_makes words e = inl (record {
+  task = Bind;
+  rows = rows_after bind_rules [] words;
+  command = refl;
+  has = bind_has
+      words e;
+})
 
 explain_makes : Makes of_explain
-explain_makes words e = inl (record { task = Explain; rows = rows_after explain_rules [] words; command = refl; has = explain_has words e })
+explain_makes words e = inl (record {
+  task = Explain;
+  rows = rows_after explain_rules [] words;
+  command = refl;
+  has
+      = explain_has words e;
+})
 
 help_makes : Makes (built_leaf help_shape)
 help_makes words e = inr refl
 
 -- the words that clap takes by the program's command have an order
-pub words_have_order : (words : List Text) → fault_of vmecheck_app words ≡ [] → HasOrder (subcommand_of vmecheck_app words)
-words_have_order words e = order_of_app (built vmecheck_app) (drop 1 words) (check_makes, (list_makes, (confirm_makes, (rules_makes, (variables_makes, (bind_makes, (explain_makes, (help_makes, tt)))))))) refl refl e
+pub words_have_order : (words : List Text) → fault_of vmecheck_app words ≡ []
+    → HasOrder (subcommand_of vmecheck_app words)
+words_have_order words e = order_of_app (built vmecheck_app) (drop 1 words) (
+  check_makes,
+  (list_makes, (confirm_makes, (rules_makes, (variables_makes, (bind_makes, (explain_makes, (help_makes, tt))))))),
+) refl
+    refl e

@@ -8,7 +8,8 @@ pub returns-clause-later : goal.returns-clause-later
 returns-clause-later c = chain_joins first (next 11 ∷ []) (refl, refl, refl, tt)
 
 pub returns-clause-across_empty : goal.returns-clause-across_empty
-returns-clause-across_empty c = chain_joins first (empty ∷ after_empty 11 ∷ []) (refl, refl, refl, (refl, refl, refl, tt))
+returns-clause-across_empty c = chain_joins first (empty ∷ after_empty 11 ∷ [])
+    (refl, refl, refl, (refl, refl, refl, tt))
 
 pub returns-clause-same_slots : goal.returns-clause-same_slots
 unfolding changed

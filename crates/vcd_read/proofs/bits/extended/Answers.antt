@@ -12,13 +12,25 @@ loop-place-preserved c =
       | then-place-missing w ↦
           let more = more_fill size digits place _ c.requires.some c.requires.fits refl w.if-place-missing.true in
           record {
-            items = rw (w.bits-is, w.push_reserved.ensures.items, c.loop-place.invariant.items, c.fill_of-fill.ensures, c.bit_of.ensures) (sym more);
+            items = rw (
+              w.bits-is,
+              w.push_reserved.ensures.items,
+              c.loop-place.invariant.items,
+              c.fill_of-fill.ensures,
+              c.bit_of.ensures,
+            ) (sym more);
             room = rw (w.bits-is, w.push_reserved.ensures.capacity) c.loop-place.invariant.room;
           }
       | else-place-missing w ↦
-          let more = more_digit size digits place _ c.requires.fits refl w.if-place-missing.false c.loop-place-test.true in
+          let more = more_digit size digits place _ c.requires.fits refl w.if-place-missing.false c.loop-place-test.true
+          in
           record {
-            items = rw (w.bits-is, w.push_reserved-else-place-missing.ensures.items, c.loop-place.invariant.items, w.bit_of-else-place-missing.ensures) (sym more);
+            items = rw (
+              w.bits-is,
+              w.push_reserved-else-place-missing.ensures.items,
+              c.loop-place.invariant.items,
+              w.bit_of-else-place-missing.ensures,
+            ) (sym more);
             room = rw (w.bits-is, w.push_reserved-else-place-missing.ensures.capacity) c.loop-place.invariant.room;
           }
     ]

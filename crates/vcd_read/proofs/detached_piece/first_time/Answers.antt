@@ -8,5 +8,6 @@ pub returns-in-Ok : goal.returns-in-Ok
 returns-in-Ok c =
     let text = c.args.text in
     let token = c.in_ok-token.token in
-    first-read (left_at text 0) _ (token_at text token.at token.bytes.now) c.in-Time.digits.now c.in-Ok.time c.in_ok-token.ensures.token
+    first-read (left_at text 0) _ (token_at text token.at token.bytes.now) c.in-Time.digits.now c.in-Ok.time
+    c.in_ok-token.ensures.token
     (sym (ap found_shape c.in-Time.is) ∙ c.shape_of.ensures) (sym c.decimal.ensures ∙ c.in-Ok.is)

@@ -5,4 +5,5 @@ use Rattle.vcd_read.proofs.ScopesLemmas.{joined_is}
 use Rattle.vcd_read.proofs.header.joined.Goals as goal
 
 pub returns : goal.returns
-returns c = IfOk-weaker c.concat.result _ _ (λ v clones. each_same _ _ clones ∙ joined_is c.args.words.now) c.concat.ensures.ok
+returns c = IfOk-weaker c.concat.result _ _ (λ v clones. each_same _ _ clones ∙ joined_is c.args.words.now)
+    c.concat.ensures.ok

@@ -10,4 +10,7 @@ returns-clause-header g c =
     let text = piece.bytes.now in
     rw (c.fault.ensures, c.in_default.ensures.text, c.loop-token.invariant.same) (
     sym c.loop-token.invariant.left
-    ∙ header_ends g.D.DeclarationVisitor.with_variable text piece.line (declared_in (g.D.DeclarationVisitor.scopes c.loop-token.definitions.declarations) c.loop-token.definitions.codes (g.D.DeclarationVisitor.taken c.loop-token.definitions.declarations)) (left_at piece c.loop-token.reader.at) c.requires.first (rw c.loop-token.invariant.same at c.in_default.ensures.token))
+    ∙ header_ends g.D.DeclarationVisitor.with_variable text piece.line
+    (declared_in (g.D.DeclarationVisitor.scopes c.loop-token.definitions.declarations) c.loop-token.definitions.codes
+    (g.D.DeclarationVisitor.taken c.loop-token.definitions.declarations)) (left_at piece c.loop-token.reader.at)
+    c.requires.first (rw c.loop-token.invariant.same at c.in_default.ensures.token))

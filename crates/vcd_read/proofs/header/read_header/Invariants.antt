@@ -10,7 +10,11 @@ invariant-loop-token g l =
     let text = piece.bytes.now in
     record {
       same : l.reader.text ≡ l.fn.reader.text;
-      left : header_of g.D.DeclarationVisitor.with_variable text (declared_in (g.D.DeclarationVisitor.scopes l.definitions.declarations) l.definitions.codes (g.D.DeclarationVisitor.taken l.definitions.declarations)) (left_at piece l.reader.at) ≡ header_of g.D.DeclarationVisitor.with_variable text (nothing_declared (g.D.DeclarationVisitor.taken l.fn.declarations)) (left_at piece l.fn.reader.at);
+      left : header_of g.D.DeclarationVisitor.with_variable text
+          (declared_in (g.D.DeclarationVisitor.scopes l.definitions.declarations) l.definitions.codes
+          (g.D.DeclarationVisitor.taken l.definitions.declarations)) (left_at piece l.reader.at)
+          ≡ header_of g.D.DeclarationVisitor.with_variable text
+          (nothing_declared (g.D.DeclarationVisitor.taken l.fn.declarations)) (left_at piece l.fn.reader.at);
     }
 
 abbrev pub decreases-loop-token : goal.decreases-loop-token

@@ -8,7 +8,8 @@ returns-then-is_end-clause-rest c =
     let text = c.args.reader.now.text in
     let t = token_at text c.in-Some.token.at c.in-Some.token.bytes.now in
     c.loop-token.invariant.so_far
-    ∙ behind_end (line_at text c.args.first) t (left_at text c.loop-token.reader.at) (left_at text c.next.new.self.at) (rw c.loop-token.invariant.same at c.in-Some.ensures.token) (sym c.if-is_end.ensures)
+    ∙ behind_end (line_at text c.args.first) t (left_at text c.loop-token.reader.at) (left_at text c.next.new.self.at)
+    (rw c.loop-token.invariant.same at c.in-Some.ensures.token) (sym c.if-is_end.ensures)
 
 pub loop-token-preserved : goal.loop-token-preserved
 loop-token-preserved c =
@@ -19,7 +20,9 @@ loop-token-preserved c =
       moves = omega (arith, c.in-Some.ensures.moves, c.loop-token.invariant.moves);
       so_far =
           c.loop-token.invariant.so_far
-          ∙ behind_word (line_at text c.args.first) t (left_at text c.loop-token.reader.at) (left_at text c.next.new.self.at) (rw c.loop-token.invariant.same at c.in-Some.ensures.token) (sym c.if-is_end.ensures);
+          ∙ behind_word (line_at text c.args.first) t (left_at text c.loop-token.reader.at)
+          (left_at text c.next.new.self.at) (rw c.loop-token.invariant.same at c.in-Some.ensures.token)
+          (sym c.if-is_end.ensures);
     }
 
 pub returns-clause-rest : goal.returns-clause-rest
@@ -27,4 +30,5 @@ returns-clause-rest c =
     let text = c.args.reader.now.text in
     rw (c.fault.ensures, c.in_default.ensures.text, c.loop-token.invariant.same) (
     c.loop-token.invariant.so_far
-    ∙ behind_unfinished (line_at text c.args.first) (left_at text c.loop-token.reader.at) (rw c.loop-token.invariant.same at c.in_default.ensures.token))
+    ∙ behind_unfinished (line_at text c.args.first) (left_at text c.loop-token.reader.at)
+    (rw c.loop-token.invariant.same at c.in_default.ensures.token))

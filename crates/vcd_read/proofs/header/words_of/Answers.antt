@@ -2,7 +2,8 @@ use Rattle.std.proofs.Common.{sym, ap, ◌∙◌, arith, List, ℕ}
 use Rattle.vcd_read.specs.Reading.{line_at, left_at, token_at}
 use Rattle.vcd_read.specs.Scopes.{texts}
 use Rattle.vcd_read.specs.Sections.{section_from}
-use Rattle.vcd_read.proofs.SectionLemmas.{behind_words, words_end, words_word, words_unfinished, texts_push, All-push_word}
+use Rattle.vcd_read.proofs.SectionLemmas.{behind_words, words_end, words_word, words_unfinished, texts_push}
+use Rattle.vcd_read.proofs.SectionLemmas.{All-push_word}
 use Rattle.vcd_read.proofs.header.words_of.Goals as goal
 
 pub returns-then-is_end-clause-words : goal.returns-then-is_end-clause-words
@@ -10,7 +11,9 @@ returns-then-is_end-clause-words c =
     let text = c.args.reader.now.text in
     let t = token_at text c.in-Some.token.at c.in-Some.token.bytes.now in
     c.loop-token.invariant.so_far
-    ∙ words_end (line_at text c.args.first) (texts c.loop-token.words.items) t (left_at text c.loop-token.reader.at) (left_at text c.next.new.self.at) (rw c.loop-token.invariant.same at c.in-Some.ensures.token) (sym c.if-is_end.ensures)
+    ∙ words_end (line_at text c.args.first) (texts c.loop-token.words.items) t (left_at text c.loop-token.reader.at)
+    (left_at text c.next.new.self.at) (rw c.loop-token.invariant.same at c.in-Some.ensures.token)
+    (sym c.if-is_end.ensures)
 
 pub loop-token-preserved : goal.loop-token-preserved
 loop-token-preserved c =
@@ -24,10 +27,13 @@ loop-token-preserved c =
       moves = omega (arith, c.in-Some.ensures.moves, c.loop-token.invariant.moves);
       so_far =
           c.loop-token.invariant.so_far
-          ∙ words_word line (texts words) t (left_at text c.loop-token.reader.at) after (rw c.loop-token.invariant.same at c.in-Some.ensures.token) (sym c.if-is_end.ensures)
-          ∙ ap (λ (ws : List (List ℕ)). behind_words ws (section_from line after)) (sym (texts_push words c.in-Some.token.bytes))
+          ∙ words_word line (texts words) t (left_at text c.loop-token.reader.at) after
+          (rw c.loop-token.invariant.same at c.in-Some.ensures.token) (sym c.if-is_end.ensures)
+          ∙ ap (λ (ws : List (List ℕ)). behind_words ws (section_from line after))
+          (sym (texts_push words c.in-Some.token.bytes))
           ∙ ap (λ ws. behind_words (texts ws) (section_from line after)) (sym c.in_ok-push.ensures.items);
-      each = rw c.in_ok-push.ensures.items (All-push_word words c.in-Some.token.bytes c.loop-token.invariant.each c.in-Some.ensures.within.1);
+      each = rw c.in_ok-push.ensures.items (All-push_word words c.in-Some.token.bytes c.loop-token.invariant.each
+          c.in-Some.ensures.within.1);
     }
 
 pub returns-clause-words : goal.returns-clause-words
@@ -35,4 +41,5 @@ returns-clause-words c =
     let text = c.args.reader.now.text in
     rw (c.fault.ensures, c.in_default.ensures.text, c.loop-token.invariant.same) (
     c.loop-token.invariant.so_far
-    ∙ words_unfinished (line_at text c.args.first) (texts c.loop-token.words.items) (left_at text c.loop-token.reader.at) (rw c.loop-token.invariant.same at c.in_default.ensures.token))
+    ∙ words_unfinished (line_at text c.args.first) (texts c.loop-token.words.items)
+    (left_at text c.loop-token.reader.at) (rw c.loop-token.invariant.same at c.in_default.ensures.token))

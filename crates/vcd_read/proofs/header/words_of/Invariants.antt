@@ -13,7 +13,8 @@ invariant-loop-token l =
     record {
       same : l.reader.text ≡ l.fn.reader.text;
       moves : l.fn.reader.at ≤ l.reader.at;
-      so_far : section_from line (left_at text l.fn.reader.at) ≡ behind_words (texts l.words.items) (section_from line (left_at text l.reader.at));
+      so_far : section_from line (left_at text l.fn.reader.at) ≡ behind_words (texts l.words.items)
+          (section_from line (left_at text l.reader.at));
       each : All (λ word. 0 < length word.now) l.words.items;
     }
 

@@ -4,8 +4,10 @@ use Rattle.std.proofs.lemmas.List.Sums.{count_by-le-length, sum_by-append}
 use Rattle.vcd_read.proofs.lines.line_feeds.Goals as goal
 
 -- the line feeds of what is cut in two
-fed : (whole few rest : List ℕ) → whole ≡ few ++ rest → count_by (λ b. b == 10) whole ≡ count_by (λ b. b == 10) few + count_by (λ b. b == 10) rest
-fed whole few rest parts = ap (count_by (λ (b : ℕ). b == 10)) parts ∙ sum_by-append (λ (b : ℕ). cond (b == 10) 1 0) few rest
+fed : (whole few rest : List ℕ) → whole ≡ few ++ rest → count_by (λ b. b == 10) whole ≡ count_by (λ b. b == 10) few +
+    count_by (λ b. b == 10) rest
+fed whole few rest parts = ap (count_by (λ (b : ℕ). b == 10)) parts ∙ sum_by-append (λ (b : ℕ). cond (b == 10) 1 0) few
+    rest
 
 pub loop-few-init : goal.loop-few-init
 loop-few-init c =
@@ -22,7 +24,15 @@ line_feeds_of_few-ended-requires c = omega (arith, c.in-Some.ensures.steps.1.1, 
 pub overflow_add-total : goal.overflow_add-total
 overflow_add-total c =
     let sum = fed _ c.in-Some.few.now _ c.in-Some.ensures.steps.1.0 in
-    omega (arith, c.loop-few.invariant.counted, sum, c.line_feeds_of_few-ended.ensures, count_by-le-length (λ (b : ℕ). b == 10) c.args.bytes.now, c.requires)
+    omega (
+      arith,
+      c.loop-few.invariant.counted,
+      sum,
+      c.line_feeds_of_few-ended.ensures,
+      count_by-le-length
+          (λ (b : ℕ). b == 10) c.args.bytes.now,
+      c.requires,
+    )
 
 pub loop-few-preserved : goal.loop-few-preserved
 loop-few-preserved c =

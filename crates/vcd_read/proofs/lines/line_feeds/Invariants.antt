@@ -8,5 +8,6 @@ invariant-loop-few l = record {
   can_next : goal.iterator-loop-few.can_next l.few-iterator;
   is_finite : goal.iterator-loop-few.is_finite l.few-iterator;
   size : chunks_size l.few-iterator ≡ 240;
-  counted : l.total + count_by (λ (b : ℕ). b == 10) (chunks_rest l.few-iterator) ≡ count_by (λ (b : ℕ). b == 10) l.bytes;
+  counted : l.total + count_by (λ (b : ℕ). b == 10) (chunks_rest l.few-iterator) ≡ count_by (λ (b : ℕ). b == 10)
+      l.bytes;
 }

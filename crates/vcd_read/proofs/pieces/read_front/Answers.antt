@@ -8,7 +8,9 @@ pub returns-in-Ok-clause-header : goal.returns-in-Ok-clause-header
 returns-in-Ok-clause-header g c =
     let front = c.args.front.now in
     λ text more.
-    found-front g.D.DeclarationVisitor.with_variable front text more (nothing_declared (g.D.DeclarationVisitor.taken c.args.declarations)) (tokens front) (defined c.in-Ok.head (g.D.DeclarationVisitor.taken c.in-Ok.declarations)) c.in-Ok.ensures
+    found-front g.D.DeclarationVisitor.with_variable front text more
+    (nothing_declared (g.D.DeclarationVisitor.taken c.args.declarations)) (tokens front)
+    (defined c.in-Ok.head (g.D.DeclarationVisitor.taken c.in-Ok.declarations)) c.in-Ok.ensures
 
 pub returns-in_default : goal.returns-in_default
 returns-in_default g c =
@@ -16,6 +18,9 @@ returns-in_default g c =
     record {
       line = tt;
       header = λ text more.
-          failed-front g.D.DeclarationVisitor.with_variable front text more (nothing_declared (g.D.DeclarationVisitor.taken c.args.declarations)) (tokens front) c.in-Err.fault.line c.in-Err.fault.kind
-          (goes_on-else c.in-Err.fault.kind c.in_default.not-UnfinishedSection c.in_default.not-NoEndDefinitions) c.in-Err.ensures;
+          failed-front g.D.DeclarationVisitor.with_variable front text more
+          (nothing_declared (g.D.DeclarationVisitor.taken c.args.declarations)) (tokens front) c.in-Err.fault.line
+          c.in-Err.fault.kind
+          (goes_on-else c.in-Err.fault.kind c.in_default.not-UnfinishedSection c.in_default.not-NoEndDefinitions)
+          c.in-Err.ensures;
     }

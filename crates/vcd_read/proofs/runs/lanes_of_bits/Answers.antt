@@ -11,7 +11,8 @@ returns-clause-high c =
     let v = chunk c.args.at 16 text in
     let long = length-chunk c.args.at 16 text c.requires in
     run_high is_bit text c.args.at c.first_set.result _ c.requires c.type_inv.text c.first_set.ensures _
-    (joined bit_and _ _ v (joined _ _ _ v (zip2_splat {Y = ℕ} bit_and v 16 254 long) (splat_is v 16 48 long)) (joined _ _ _ v (zip2_splat {Y = ℕ} bit_and v 16 221 long) (splat_is v 16 88 long))) refl
+    (joined bit_and _ _ v (joined _ _ _ v (zip2_splat {Y = ℕ} bit_and v 16 254 long) (splat_is v 16 48 long))
+    (joined _ _ _ v (zip2_splat {Y = ℕ} bit_and v 16 221 long) (splat_is v 16 88 long))) refl
 
 pub returns-clause-bits : goal.returns-clause-bits
 returns-clause-bits c =
@@ -19,7 +20,8 @@ returns-clause-bits c =
     let v = chunk c.args.at 16 text in
     let long = length-chunk c.args.at 16 text c.requires in
     run_passes is_bit text c.args.at c.first_set.result _ c.requires c.type_inv.text c.first_set.ensures _
-    (joined bit_and _ _ v (joined _ _ _ v (zip2_splat {Y = ℕ} bit_and v 16 254 long) (splat_is v 16 48 long)) (joined _ _ _ v (zip2_splat {Y = ℕ} bit_and v 16 221 long) (splat_is v 16 88 long))) refl
+    (joined bit_and _ _ v (joined _ _ _ v (zip2_splat {Y = ℕ} bit_and v 16 254 long) (splat_is v 16 48 long))
+    (joined _ _ _ v (zip2_splat {Y = ℕ} bit_and v 16 221 long) (splat_is v 16 88 long))) refl
 
 pub returns-clause-end : goal.returns-clause-end
 returns-clause-end c =
@@ -27,4 +29,5 @@ returns-clause-end c =
     let v = chunk c.args.at 16 text in
     let long = length-chunk c.args.at 16 text c.requires in
     run_stops is_bit text c.args.at c.first_set.result _ c.requires c.type_inv.text c.first_set.ensures _
-    (joined bit_and _ _ v (joined _ _ _ v (zip2_splat {Y = ℕ} bit_and v 16 254 long) (splat_is v 16 48 long)) (joined _ _ _ v (zip2_splat {Y = ℕ} bit_and v 16 221 long) (splat_is v 16 88 long))) refl
+    (joined bit_and _ _ v (joined _ _ _ v (zip2_splat {Y = ℕ} bit_and v 16 254 long) (splat_is v 16 48 long))
+    (joined _ _ _ v (zip2_splat {Y = ℕ} bit_and v 16 221 long) (splat_is v 16 88 long))) refl

@@ -10,7 +10,8 @@ returns-then-is_space-clause-apart c =
     let end = c.loop-end.end in
     let e : (end - 1) + 1 ≡ end = omega arith in
     λ line rest.
-    subst (λ (n : ℕ). tokens_from line (take n text ++ rest) ≡ tokens_from line (take n text) ++ tokens_from (line_behind line (take n text)) rest) e
+    subst (λ (n : ℕ). tokens_from line (take n text ++ rest) ≡ tokens_from line (take n text)
+    ++ tokens_from (line_behind line (take n text)) rest) e
     (space_behind text rest (end - 1) line (omega arith) (sym c.is_space.ensures ∙ c.if-is_space.true))
 
 pub returns-clause-apart : goal.returns-clause-apart

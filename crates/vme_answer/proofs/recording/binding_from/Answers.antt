@@ -13,4 +13,5 @@ returns-in-Ok g c =
 
 pub returns-in-Err : goal.returns-in-Err
 returns-in-Err g c =
-    rw c.of_input.ensures (binding_refused _ _ c.read_all.result c.in-Err.fault c.in-Err.is c.read_all.ensures.read c.read_all.ensures.too_long c.read_all.ensures.memory)
+    rw c.of_input.ensures (binding_refused _ _ c.read_all.result c.in-Err.fault c.in-Err.is c.read_all.ensures.read
+    c.read_all.ensures.too_long c.read_all.ensures.memory)

@@ -10,4 +10,5 @@ pub returns-in-Ok : goal.returns-in-Ok
 returns-in-Ok c = ap (λ (r : Result BoundLines BindFault). or_bad_binding r) c.in-Ok.ensures
 
 pub returns-in-Err : goal.returns-in-Err
-returns-in-Err c = rw c.of_binding.ensures (or_bad_binding-gives c.in-Err.fault.line c.in-Err.fault.kind _ c.in-Err.ensures)
+returns-in-Err c = rw c.of_binding.ensures (or_bad_binding-gives c.in-Err.fault.line c.in-Err.fault.kind _
+    c.in-Err.ensures)

@@ -6,9 +6,11 @@ use Rattle.vme_bind.proofs.search.visit_all.Given as goal
 
 abbrev pub invariant-loop-s : goal.invariant-loop-s
 invariant-loop-s l =
-    let variable = variable_in l.scopes l.variable.net l.variable.size (record { name = l.variable.name.now; index = l.variable.index }) in
+    let variable = variable_in l.scopes l.variable.net l.variable.size
+    (record { name = l.variable.name.now; index = l.variable.index }) in
     record {
       begun : All (HasOpened l.scopes) l.sought;
-      done : map seen_in (take l.s-index l.sought) ≡ map (with_candidate variable) (map seen_in (take l.s-index l.fn.sought));
+      done : map seen_in (take l.s-index l.sought) ≡ map (with_candidate variable)
+          (map seen_in (take l.s-index l.fn.sought));
       rest : drop l.s-index l.sought ≡ drop l.s-index l.fn.sought;
     }

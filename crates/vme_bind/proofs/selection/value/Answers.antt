@@ -7,11 +7,13 @@ use Rattle.vcd_read.proofs.NumberLemmas.{digit_at, front_le, number_step, digits
 use Rattle.vme_bind.proofs.selection.value.Goals as goal
 
 number_short : (text : List ℕ) → is_number text ≡ true → length text ≤ 9 → number text < 1000000000
-number_short text digits short = digits_value_short (numerals_by_value (λ ds. all_ascii_digits ds ≡ true) tells_all_ascii_digits) text 9 (digits_of_number text digits) short
+number_short text digits short = digits_value_short (numerals_by_value (λ ds. all_ascii_digits ds ≡ true)
+    tells_all_ascii_digits) text 9 (digits_of_number text digits) short
 
 pub overflow_sub-digit : goal.overflow_sub-digit
 overflow_sub-digit c =
-    let d = digit_at c.args.digits.now c.loop-byte.byte-index (digits_of_number c.args.digits.now c.requires.number) c.loop-byte-test.true in
+    let d = digit_at c.args.digits.now c.loop-byte.byte-index (digits_of_number c.args.digits.now c.requires.number)
+    c.loop-byte-test.true in
     omega (arith, d.low, c.from-digit.ensures)
 
 pub overflow_mul-number : goal.overflow_mul-number

@@ -9,9 +9,17 @@ pub new-requires : goal.new-requires
 new-requires g c net =
     let slots = c.args.lines.now.slots in
     let bound_groups = c.args.bound_groups.now in
-    let same : c.new-recorder.result.now.slots ≡ slots = ap (λ (p : RecorderLevels). p.now.slots) c.new-recorder.ensures ∙ ap (λ v. v.slots) (c.opening_of-opening.ensures []) ∙ levels-slots slots bound_groups [] 0 in
-    subst (λ (s : ℕ). AreLines s (line_bits_of c.in_ok-line_bits.line_bits net)) (sym same) (line_bits-lines slots bound_groups c.in_ok-line_bits.line_bits c.in_ok-line_bits.ensures net)
+    let same : c.new-recorder.result.now.slots ≡ slots = ap (λ (p : RecorderLevels). p.now.slots) c.new-recorder.ensures
+    ∙ ap (λ v. v.slots) (c.opening_of-opening.ensures []) ∙ levels-slots slots bound_groups [] 0 in
+    subst (λ (s : ℕ). AreLines s (line_bits_of c.in_ok-line_bits.line_bits net)) (sym same)
+    (line_bits-lines slots bound_groups c.in_ok-line_bits.line_bits c.in_ok-line_bits.ensures net)
 
 pub returns : goal.returns
 returns g c =
-    rw (c.new.ensures, c.open.ensures) (record { first = c.opening_of-opening.ensures; none = refl; line_bits = c.in_ok-line_bits.ensures; progress = c.new-recorder.ensures })
+    rw (c.new.ensures, c.open.ensures) (record {
+      first = c.opening_of-opening.ensures;
+      none = refl;
+      line_bits
+          = c.in_ok-line_bits.ensures;
+      progress = c.new-recorder.ensures;
+    })

@@ -15,7 +15,8 @@ returns-in-Ok-pieces-clause-rest g c =
     let bound_groups = c.args.bound_groups.now in
     let head = c.args.front.head in
     let p = c.in-Ok-pieces.pieces in
-    leads-outcome c.args.fault (λ _ more. ahead made_change made_instant p.codes (taking p.underway.timed.visitor p.underway.timed.clock) p.underway.bracket (place_of p.underway.place) [] more) p
+    leads-outcome c.args.fault (λ _ more. ahead made_change made_instant p.codes
+    (taking p.underway.timed.visitor p.underway.timed.clock) p.underway.bracket (place_of p.underway.place) [] more) p
     (λ more. body_outcome c.args.fault slots bound_groups (going_on head more))
     (λ more. steps made_change made_instant head.nets (at_first c.in-Ok.made) (body_from ready (head.body ++ more)))
     (λ more. body-outcome slots bound_groups (going_on head more) c.args.fault c.in-Ok.made c.in-Ok.ensures)

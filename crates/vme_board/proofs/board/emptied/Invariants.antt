@@ -8,10 +8,15 @@ use Rattle.vme_board.proofs.board.emptied.Given as goal
 abbrev pub invariant-loop-n : goal.invariant-loop-n
 invariant-loop-n l =
     let ws = slots_items l.initial.closed.words in
-    (length l.contents.items ≡ l.n) × (l.n ≤ l.total) × (l.total ≤ vec_capacity l.contents) × (slots_items l.closed.slots ≡ slots_items l.initial.closed.slots) × (l.closed.words ≡ l.initial.closed.words) × (slots_len l.closed.slots ≡ l.total)
-    × Filled (slots_filled l.closed.slots) l.n (slots_len l.closed.slots) × ((k : ℕ) → k < l.n → get_or (slots_filled l.closed.slots) k false ≡ false)
-    × ((k : ℕ) → k < l.n → slice_get l.contents.items k ≡ Some (kept (bit_of 1 ws k) (bit_of 2 ws k) (slots_items l.initial.closed.slots) k))
-    × (l.all_filed ≡ sum_below (bit_of 1 ws) l.n) × (l.all_taken ≡ sum_below (bit_of 2 ws) l.n) × (l.all_filed ≤ l.n) × (l.all_taken ≤ l.n)
+    (length l.contents.items ≡ l.n) × (l.n ≤ l.total) × (l.total ≤ vec_capacity l.contents)
+    × (slots_items l.closed.slots ≡ slots_items l.initial.closed.slots) × (l.closed.words ≡ l.initial.closed.words)
+    × (slots_len l.closed.slots ≡ l.total)
+    × Filled (slots_filled l.closed.slots) l.n (slots_len l.closed.slots)
+    × ((k : ℕ) → k < l.n → get_or (slots_filled l.closed.slots) k false ≡ false)
+    × ((k : ℕ) → k < l.n → slice_get l.contents.items k
+    ≡ Some (kept (bit_of 1 ws k) (bit_of 2 ws k) (slots_items l.initial.closed.slots) k))
+    × (l.all_filed ≡ sum_below (bit_of 1 ws) l.n) × (l.all_taken ≡ sum_below (bit_of 2 ws) l.n) × (l.all_filed ≤ l.n)
+    × (l.all_taken ≤ l.n)
 
 abbrev pub decreases-loop-n : goal.decreases-loop-n
 decreases-loop-n l = l.total - l.n

@@ -1,5 +1,6 @@
 -- The steps of the blocks, one block after the other.
-use Rattle.std.proofs.Common.{rules, ◌≡◌, ℕ, ◌+◌, ◌<◌, ◌≤◌, List, [], ◌∷◌, ◌++◌, length, length-append, map, get_or, append-nil, arith, refl, sym, ◌∙◌, ap, subst, Option, None, Some}
+use Rattle.std.proofs.Common.{rules, ◌≡◌, ℕ, ◌+◌, ◌<◌, ◌≤◌, List, [], ◌∷◌, ◌++◌, length, length-append, map, get_or}
+use Rattle.std.proofs.Common.{append-nil, arith, refl, sym, ◌∙◌, ap, subst, Option, None, Some}
 use Rattle.std.specs.Vec.Iter.{into_iter_items}
 use Rattle.std.proofs.lemmas.Option.{none-some}
 use Rattle.vme_trace.specs.Blocks.{joined_steps}
@@ -15,11 +16,13 @@ no_length [] e = refl
 no_length (x ∷ xs) e = absurd (omega arith)
 
 -- nothing is left of nothing
-last_part : (items : List (Option Block)) (bs : List Block) (steps all : List Step) → length items ≡ 0 → items ≡ map Some bs → steps ++ joined_steps bs ≡ all → steps ≡ all
+last_part : (items : List (Option Block)) (bs : List Block) (steps all : List Step) → length items ≡ 0 → items
+    ≡ map Some bs → steps ++ joined_steps bs ≡ all → steps ≡ all
 last_part items [] steps all n e s = sym (append-nil steps) ∙ s
 last_part items (b ∷ bs) steps all n e s = let more = ap length e in absurd (omega arith)
 
-no_place : (items rest : List (Option Block)) (place : Option Block) (bs : List Block) → items ≡ place ∷ rest → items ≡ map Some bs → place ≡ None → ⊥
+no_place : (items rest : List (Option Block)) (place : Option Block) (bs : List Block) → items ≡ place ∷ rest → items
+    ≡ map Some bs → place ≡ None → ⊥
 no_place items rest place [] e m n = let none : place ∷ rest ≡ [] = sym e ∙ m in absurd (cc)
 no_place items rest place (b ∷ bs) e m n = let whole : place ∷ rest ≡ Some b ∷ map Some bs = sym e ∙ m in absurd (cc)
 
@@ -30,7 +33,8 @@ unreachable-requires c =
     let all = c.requires.join.1 in
     let long = as_many items bs all.all in
     let first = next_of items bs 0 (all_there items bs all.all) (omega arith) in
-    none-some first.0 (sym c.in-None.is ∙ read_at items 0 c.index.result.now first.0 (omega arith) c.index.ensures first.1)
+    none-some first.0 (sym c.in-None.is ∙ read_at items 0 c.index.result.now first.0 (omega arith) c.index.ensures
+    first.1)
 
 pub unreachable-requires-in_default : goal.unreachable-requires-in_default
 unreachable-requires-in_default c =
@@ -46,7 +50,8 @@ unreachable-requires-in_default-append c =
     let steps = c.loop-place.steps.items in
     let own = c.into_inner-own.result.items in
     let part = c.loop-place.invariant.parts bs all.all in
-    let next = next_part _ _ c.in-Some-place.place c.in-Some-place-2.block steps (steps ++ own) own _ c.in-Some-place.ensures.steps.0 c.in-Some-place-2.is c.into_inner-own.ensures refl part.0 part.1 part.2 in
+    let next = next_part _ _ c.in-Some-place.place c.in-Some-place-2.block steps (steps ++ own) own _
+    c.in-Some-place.ensures.steps.0 c.in-Some-place-2.is c.into_inner-own.ensures refl part.0 part.1 part.2 in
     let whole = ap length next.2 ∙ refl in
     let both = length-append (steps ++ own) (joined_steps next.0) in
     let first = length-append steps own in
@@ -70,7 +75,9 @@ loop-place-preserved c =
       counted = omega arith;
       parts = λ bs e.
           let part = inv.parts bs e in
-          next_part _ _ c.in-Some-place.place c.in-Some-place-2.block c.loop-place.steps.items c.append.new.self.items c.into_inner-own.result.items _ steps.0 c.in-Some-place-2.is c.into_inner-own.ensures c.in-Ok.ensures.items part.0 part.1 part.2;
+          next_part _ _ c.in-Some-place.place c.in-Some-place-2.block c.loop-place.steps.items c.append.new.self.items
+          c.into_inner-own.result.items _ steps.0 c.in-Some-place-2.is c.into_inner-own.ensures c.in-Ok.ensures.items
+          part.0 part.1 part.2;
       room = omega arith;
     }
 
@@ -81,9 +88,11 @@ from_well_formed-requires c =
     let all = c.requires.join.1 in
     let part = c.loop-place.invariant.parts bs all.all in
     let none = c.in-None-place.ensures.steps.0 in
-    let steps : c.loop-place.steps.items ≡ joined_steps bs = last_part (into_iter_items c.loop-place.place-iterator) part.0 _ _ (c.loop-place.invariant.counted ∙ none) part.1 part.2 in
+    let steps : c.loop-place.steps.items ≡ joined_steps bs = last_part (into_iter_items c.loop-place.place-iterator)
+    part.0 _ _ (c.loop-place.invariant.counted ∙ none) part.1 part.2 in
     let first = found_at items 0 c.index.result.now c.in-Some.first c.requires.some c.index.ensures c.in-Some.is in
-    joined_sound bs _ all.join c.requires.join.2 (trace_is items bs c.in-Some.first c.loop-place.steps.items all.all first steps)
+    joined_sound bs _ all.join c.requires.join.2 (trace_is items bs c.in-Some.first c.loop-place.steps.items all.all
+    first steps)
 
 pub unreachable-requires-in-None-from_well_formed : goal.unreachable-requires-in-None-from_well_formed
 unreachable-requires-in-None-from_well_formed c =
@@ -92,7 +101,9 @@ unreachable-requires-in-None-from_well_formed c =
     let all = c.requires.join.1 in
     let part = c.loop-place.invariant.parts bs all.all in
     let none = c.in-None-place.ensures.steps.0 in
-    let steps : c.loop-place.steps.items ≡ joined_steps bs = last_part (into_iter_items c.loop-place.place-iterator) part.0 _ _ (c.loop-place.invariant.counted ∙ none) part.1 part.2 in
+    let steps : c.loop-place.steps.items ≡ joined_steps bs = last_part (into_iter_items c.loop-place.place-iterator)
+    part.0 _ _ (c.loop-place.invariant.counted ∙ none) part.1 part.2 in
     let long = as_many items bs all.all in
     let few = c.requires.placed.few in
-    c.in-None-from_well_formed.ensures (subst (λ (l : List Step). length l ≤ 268435456) (sym steps) (few_steps items bs c.requires.placed (all_there items bs all.all) (omega arith)))
+    c.in-None-from_well_formed.ensures (subst (λ (l : List Step). length l ≤ 268435456) (sym steps)
+    (few_steps items bs c.requires.placed (all_there items bs all.all) (omega arith)))

@@ -10,6 +10,7 @@ invariant-loop-place l = record {
   next : (goal.iterator-loop-place).can_next l.place-iterator;
   finite : (goal.iterator-loop-place).is_finite l.place-iterator;
   counted : length (into_iter_items l.place-iterator) ≡ into_iter_len l.place-iterator;
-  parts : (bs : List Block) → l.fn.blocks.items ≡ map Some bs → (rest : List Block) × (into_iter_items l.place-iterator ≡ map Some rest) × (l.steps.items ++ joined_steps rest ≡ joined_steps bs);
+  parts : (bs : List Block) → l.fn.blocks.items ≡ map Some bs → (rest : List Block) × (into_iter_items l.place-iterator
+      ≡ map Some rest) × (l.steps.items ++ joined_steps rest ≡ joined_steps bs);
   room : vec_capacity l.fn.room ≤ vec_capacity l.steps;
 }

@@ -3,7 +3,8 @@ use Rattle.std.proofs.Common.{◌≡◌, ◌+◌, ◌*◌, ◌^◌, ◌%◌, ◌
 use Rattle.vme_trace.specs.Cycle.{Needs, is_within}
 use Rattle.vme_trace.specs.Levels.{level_at, is_high}
 use Rattle.vme_listing.specs.Recorded.{address_to}
-use Rattle.vme_cert.proofs.Addresses.{weight_below, weight-is, next-weight, address-below, address_line, no_address_line, with_high, without_high}
+use Rattle.vme_cert.proofs.Addresses.{weight_below, weight-is, next-weight, address-below, address_line}
+use Rattle.vme_cert.proofs.Addresses.{no_address_line, with_high, without_high}
 use Rattle.vme_cert.proofs.Watched.{needs_31}
 use Rattle.vme_cert.proofs.rows.address_on.Goals as goal
 use Rattle.vme_cert.proofs.rows.address_on.Goals.{then-is_high, else-is_high}
@@ -23,15 +24,20 @@ loop-bit-preserved c =
     let n = c.loop-bit.bit in
     let few : n < 31 = omega arith in
     let same = weight-is n few in
-    let shown = ap (λ l. is_high (level_at c.args.lines.now l)) (sym c.address-line.ensures) ∙ ap is_high (sym c.level.ensures) ∙ sym c.is_high.ensures in
-    let needed = address_line c.args.needs n few (ap (is_within c.args.needs) (sym c.address-line.ensures) ∙ sym c.has.ensures ∙ c.if-not-has.false) in
+    let shown = ap (λ l. is_high (level_at c.args.lines.now l)) (sym c.address-line.ensures)
+    ∙ ap is_high (sym c.level.ensures) ∙ sym c.is_high.ensures in
+    let needed = address_line c.args.needs n few (ap (is_within c.args.needs) (sym c.address-line.ensures)
+    ∙ sym c.has.ensures ∙ c.if-not-has.false) in
     elim c.if-is_high.branch [
       | then-is_high w ↦ record {
-        so_far = w.address-is ∙ ap (λ a. a + 2 * 2 ^ n % 4294967296) c.loop-bit.invariant.so_far ∙ ap (λ k. address_to c.args.lines.now n + k) same ∙ sym (with_high c.args.lines.now n (shown ∙ w.if-is_high.true));
+        so_far = w.address-is ∙ ap (λ a. a + 2 * 2 ^ n % 4294967296) c.loop-bit.invariant.so_far
+            ∙ ap (λ k. address_to c.args.lines.now n + k) same
+            ∙ sym (with_high c.args.lines.now n (shown ∙ w.if-is_high.true));
         within = needed;
       }
       | else-is_high w ↦ record {
-        so_far = w.address-is ∙ c.loop-bit.invariant.so_far ∙ sym (without_high c.args.lines.now n (shown ∙ w.if-is_high.false));
+        so_far = w.address-is ∙ c.loop-bit.invariant.so_far
+            ∙ sym (without_high c.args.lines.now n (shown ∙ w.if-is_high.false));
         within = needed;
       }
     ]
@@ -42,13 +48,16 @@ at_end n m k e h g = omega arith
 pub returns-then-not-has : goal.returns-then-not-has
 returns-then-not-has c =
     let n = c.loop-bit.bit in
-    let past = no_address_line c.args.needs n (omega arith) (ap (is_within c.args.needs) (sym c.address-line.ensures) ∙ sym c.has.ensures ∙ c.if-not-has.true) in
+    let past = no_address_line c.args.needs n (omega arith) (ap (is_within c.args.needs) (sym c.address-line.ensures)
+    ∙ sym c.has.ensures ∙ c.if-not-has.true) in
     let e = ap (λ (needs : Needs). needs.highest) c.requires in
-    c.loop-bit.invariant.so_far ∙ ap (address_to c.args.lines.now) (at_end n _ _ e c.loop-bit.invariant.within (omega (arith, past, e)))
+    c.loop-bit.invariant.so_far ∙ ap (address_to c.args.lines.now) (at_end n _ _ e c.loop-bit.invariant.within
+    (omega (arith, past, e)))
 
 pub returns : goal.returns
 returns c =
     let n = c.loop-bit.bit in
     let most = needs_31 c.args.lines.now in
     let e = ap (λ (needs : Needs). needs.highest) c.requires in
-    c.loop-bit.invariant.so_far ∙ ap (address_to c.args.lines.now) (at_end n _ _ e c.loop-bit.invariant.within (omega (arith, most, e)))
+    c.loop-bit.invariant.so_far ∙ ap (address_to c.args.lines.now) (at_end n _ _ e c.loop-bit.invariant.within
+    (omega (arith, most, e)))

@@ -8,18 +8,24 @@ use Rattle.vme_cert.proofs.rows.cycle_row.Goals as goal
 
 pub overflow_cast-level : goal.overflow_cast-level
 overflow_cast-level c =
-    let e = c.address_on-address.ensures ∙ ap (address_to c.args.lines.now) (interrupt-highest c.args.lines.now (sym c.requires.class ∙ c.in-I.is)) in
+    let e = c.address_on-address.ensures ∙ ap (address_to c.args.lines.now) (interrupt-highest c.args.lines.now
+    (sym c.requires.class ∙ c.in-I.is)) in
     let below = address-below c.args.lines.now 3 in
     omega (arith, e, below)
 
 pub returns-in-I : goal.returns-in-I
 returns-in-I c =
-    let e = c.address_on-address.ensures ∙ ap (address_to c.args.lines.now) (interrupt-highest c.args.lines.now (sym c.requires.class ∙ c.in-I.is)) in
-    ap (λ a. InterruptCycle c.args.start (a / 2) c.args.end) e ∙ ap (cycle_row c.args.start c.args.lines.now c.args.end) (sym (sym c.requires.class ∙ c.in-I.is))
+    let e = c.address_on-address.ensures ∙ ap (address_to c.args.lines.now) (interrupt-highest c.args.lines.now
+    (sym c.requires.class ∙ c.in-I.is)) in
+    ap (λ a. InterruptCycle c.args.start (a / 2) c.args.end) e ∙ ap (cycle_row c.args.start c.args.lines.now c.args.end)
+    (sym (sym c.requires.class ∙ c.in-I.is))
 
 pub returns-in_default : goal.returns-in_default
 returns-in_default c =
-    ap (λ m. AddressedCycle c.args.start c.args.cycle.0 m c.address_on-address.result c.args.end) c.am_code-modifier.ensures.code
-    ∙ (ap (λ a. AddressedCycle c.args.start c.args.cycle.0 (modifier_of c.args.lines.now) a c.args.end) c.address_on-address.ensures
-    ∙ (addressed-row c.args.start c.args.lines.now c.args.end c.args.cycle.0 (sym c.requires.class) c.in_default.not-I c.in_default.not-F
+    ap (λ m. AddressedCycle c.args.start c.args.cycle.0 m c.address_on-address.result c.args.end)
+    c.am_code-modifier.ensures.code
+    ∙ (ap (λ a. AddressedCycle c.args.start c.args.cycle.0 (modifier_of c.args.lines.now) a c.args.end)
+    c.address_on-address.ensures
+    ∙ (addressed-row c.args.start c.args.lines.now c.args.end c.args.cycle.0 (sym c.requires.class) c.in_default.not-I
+    c.in_default.not-F
     ∙ ap (cycle_row c.args.start c.args.lines.now c.args.end) c.requires.class))

@@ -5,4 +5,5 @@ use Rattle.vme_cert.proofs.Those.{any-first}
 use Rattle.vme_cert.proofs.search.any.Goals as goal
 
 pub returns : goal.returns
-returns g c p tests = c.is_some.ensures ∙ (ap is_some (c.least.ensures.found p tests) ∙ any-first p c.args.first c.args.end)
+returns g c p tests = c.is_some.ensures ∙ (ap is_some (c.least.ensures.found p tests) ∙ any-first p c.args.first
+    c.args.end)

@@ -1,4 +1,5 @@
--- No rule is broken before the instant at hand, and the index has all that happens up to there; past the end none is broken.
+-- No rule is broken before the instant at hand, and the index has all that happens up to there; past the end none is
+-- broken.
 use Rattle.std.proofs.Common.{◌≡◌, ℕ, ◌+◌, ◌<◌, ◌≤◌, sym, ◌∙◌, ap, subst, arith, inl, inr, ◌⊎◌}
 use Rattle.std.specs.Prelude.{min}
 use Rattle.std.proofs.Math.Nat.{min-eq_left, min-eq_right}
@@ -32,10 +33,12 @@ all_or_past end last n h = by_order (last_or_not end last)
     by_order (inl all) = inl (omega (arith, h, min-eq_right all))
     by_order (inr past) = inr (omega (arith, h, min-eq_left past))
 
-found : (c : After-is_some) → c.break_at-found.result ≡ break_at c.args.start.now.capture.now (between c.args.start.now.instant c.args.end) all_rules c.loop-instant._instant
+found : (c : After-is_some) → c.break_at-found.result ≡ break_at c.args.start.now.capture.now
+    (between c.args.start.now.instant c.args.end) all_rules c.loop-instant._instant
 found c =
     let so_far = c.loop-instant.invariant in
-    same-break _ _ _ _ all_rules _ _ c.break_at-found.result so_far.same (c.in_ok-note.ensures.span_is ∙ so_far.span) so_far.at c.break_at-found.ensures.break_at
+    same-break _ _ _ _ all_rules _ _ c.break_at-found.result so_far.same (c.in_ok-note.ensures.span_is ∙ so_far.span)
+    so_far.at c.break_at-found.ensures.break_at
 
 pub loop-instant-init : goal.loop-instant-init
 loop-instant-init c =
@@ -57,7 +60,13 @@ note-requires-clause-next c = c.loop-instant.invariant.noted ∙ sym c.loop-inst
 
 pub note-requires-clause-within : goal.note-requires-clause-within
 note-requires-clause-within c =
-    omega (arith, same_last _ _ c.loop-instant.invariant.same, c.last_instant.ensures.last, c.min-last.ensures, c.loop-instant.invariant.at)
+    omega (
+      arith,
+      same_last _ _ c.loop-instant.invariant.same,
+      c.last_instant.ensures.last,
+      c.min-last.ensures,
+      c.loop-instant.invariant.at,
+    )
 
 pub note-requires-clause-index : goal.note-requires-clause-index
 note-requires-clause-index c = moved _ _ _ (sym c.loop-instant.invariant.same) c.loop-instant.invariant.index
@@ -80,7 +89,8 @@ unfolding least_break
 returns-then-is_some-clause-found c =
     let t = c.args.start.now.capture.now in
     let span = between c.args.start.now.instant c.args.end in
-    found-first t span all_rules c.break_at-found.result c.loop-instant._instant (last_instant t + 1) c.loop-instant.invariant.none (found (goal.at.returns-then-is_some-clause-found c).After-is_some)
+    found-first t span all_rules c.break_at-found.result c.loop-instant._instant (last_instant t + 1)
+    c.loop-instant.invariant.none (found (goal.at.returns-then-is_some-clause-found c).After-is_some)
     (sym c.is_some.ensures ∙ c.if-is_some.true) (omega (arith, c.last_instant.ensures.last, c.min-last.ensures))
 
 pub returns-then-is_some-clause-span : goal.returns-then-is_some-clause-span
@@ -91,28 +101,42 @@ returns-then-is_some-clause-index c = moved _ _ _ c.loop-instant.invariant.same 
 
 pub returns-then-is_some-clause-noted : goal.returns-then-is_some-clause-noted
 returns-then-is_some-clause-noted c =
-    let end = ends-at c.note.new.self.span c.break_at-found.result _ c.break_at-found.ensures.there (sym c.is_some.ensures ∙ c.if-is_some.true) in
+    let end = ends-at c.note.new.self.span c.break_at-found.result _ c.break_at-found.ensures.there
+    (sym c.is_some.ensures ∙ c.if-is_some.true) in
     omega (arith, end, c.loop-instant.invariant.at, c.loop-instant.invariant.noted, c.in_ok-note.ensures.noted)
 
 pub returns-then-is_some-clause-answered : goal.returns-then-is_some-clause-answered
 returns-then-is_some-clause-answered c =
-    let end = ends-at c.note.new.self.span c.break_at-found.result _ c.break_at-found.ensures.there (sym c.is_some.ensures ∙ c.if-is_some.true) in
+    let end = ends-at c.note.new.self.span c.break_at-found.result _ c.break_at-found.ensures.there
+    (sym c.is_some.ensures ∙ c.if-is_some.true) in
     omega (arith, end, c.loop-instant.invariant.at, c.loop-instant.invariant.answered, c.in_ok-note.ensures.answered)
 
 pub is_answer-is_answer-requires : goal.is_answer-is_answer-requires
-is_answer-is_answer-requires c = omega (arith, c.loop-instant.invariant.at, c.loop-instant.invariant.noted, c.in_ok-note.ensures.noted)
+is_answer-is_answer-requires c = omega (
+  arith,
+  c.loop-instant.invariant.at,
+  c.loop-instant.invariant.noted,
+  c.in_ok-note.ensures.noted,
+)
 
 pub note_answer-requires-clause-next : goal.note_answer-requires-clause-next
-note_answer-requires-clause-next c = c.in_ok-note.ensures.answered ∙ (c.loop-instant.invariant.answered ∙ sym c.loop-instant.invariant.at)
+note_answer-requires-clause-next c = c.in_ok-note.ensures.answered ∙ (c.loop-instant.invariant.answered
+    ∙ sym c.loop-instant.invariant.at)
 
 pub note_answer-requires-clause-within : goal.note_answer-requires-clause-within
-note_answer-requires-clause-within c = omega (arith, c.loop-instant.invariant.at, c.loop-instant.invariant.noted, c.in_ok-note.ensures.noted)
+note_answer-requires-clause-within c = omega (
+  arith,
+  c.loop-instant.invariant.at,
+  c.loop-instant.invariant.noted,
+  c.in_ok-note.ensures.noted,
+)
 
 pub note_answer-requires-clause-is : goal.note_answer-requires-clause-is
 note_answer-requires-clause-is c =
     elim c.if-answer_falls.branch [
       | then-answer_falls w ↦ w.is_answer-is ∙ w.is_answer-is_answer.ensures
-      | else-answer_falls w ↦ w.is_answer-is ∙ (w.if-answer_falls.false ∙ sym (no-answer _ _ _ (sym c.answer_falls.ensures ∙ w.if-answer_falls.false)))
+      | else-answer_falls w ↦ w.is_answer-is
+          ∙ (w.if-answer_falls.false ∙ sym (no-answer _ _ _ (sym c.answer_falls.ensures ∙ w.if-answer_falls.false)))
     ]
 
 pub note_answer-requires-clause-index : goal.note_answer-requires-clause-index
@@ -120,7 +144,13 @@ note_answer-requires-clause-index c = c.in_ok-note.ensures.is
 
 pub advance-requires : goal.advance-requires
 advance-requires c =
-    omega (arith, same_last _ _ c.loop-instant.invariant.same, c.last_instant.ensures.last, c.min-last.ensures, c.loop-instant.invariant.at)
+    omega (
+      arith,
+      same_last _ _ c.loop-instant.invariant.same,
+      c.last_instant.ensures.last,
+      c.min-last.ensures,
+      c.loop-instant.invariant.at,
+    )
 
 pub loop-instant-preserved : goal.loop-instant-preserved
 loop-instant-preserved c =
@@ -134,7 +164,9 @@ loop-instant-preserved c =
       index = moved _ _ _ so_far.same answered.is;
       noted = answered.noted ∙ (noted.noted ∙ ap (λ n. n + 1) so_far.noted);
       answered = answered.answered ∙ ap (λ n. n + 1) (noted.answered ∙ so_far.answered);
-      none = none-more c.args.start.now.capture.now (between c.args.start.now.instant c.args.end) all_rules c.break_at-found.result c.loop-instant._instant so_far.none (found (goal.at.loop-instant-preserved c).After-is_some) (sym c.is_some.ensures ∙ c.if-is_some.false);
+      none = none-more c.args.start.now.capture.now (between c.args.start.now.instant c.args.end) all_rules
+          c.break_at-found.result c.loop-instant._instant so_far.none
+          (found (goal.at.loop-instant-preserved c).After-is_some) (sym c.is_some.ensures ∙ c.if-is_some.false);
     }
 
 pub returns-clause-found : goal.returns-clause-found
@@ -142,10 +174,18 @@ unfolding least_break
 returns-clause-found c =
     let t = c.args.start.now.capture.now in
     let span = between c.args.start.now.instant c.args.end in
-    let over : c.loop-instant._instant ≡ c.min-last.result + 1 = omega (arith, c.last_instant.ensures.last, c.min-last.ensures, c.requires.order, c.requires.within) in
+    let over : c.loop-instant._instant ≡ c.min-last.result + 1 = omega (
+      arith,
+      c.last_instant.ensures.last,
+      c.min-last.ensures,
+      c.requires.order,
+      c.requires.within,
+    ) in
     sym
-    (unbroken-by t span all_rules c.loop-instant._instant (last_instant t + 1) (omega (arith, over, c.last_instant.ensures.last, c.min-last.ensures))
-    (all_or_past c.args.end (last_instant t) c.loop-instant._instant (omega (arith, over, c.last_instant.ensures.last, c.min-last.ensures))) c.loop-instant.invariant.none)
+    (unbroken-by t span all_rules c.loop-instant._instant (last_instant t + 1)
+    (omega (arith, over, c.last_instant.ensures.last, c.min-last.ensures))
+    (all_or_past c.args.end (last_instant t) c.loop-instant._instant
+    (omega (arith, over, c.last_instant.ensures.last, c.min-last.ensures))) c.loop-instant.invariant.none)
 
 pub returns-clause-span : goal.returns-clause-span
 returns-clause-span c = c.loop-instant.invariant.span
@@ -156,9 +196,23 @@ returns-clause-index c = c.loop-instant.invariant.index
 pub returns-clause-noted : goal.returns-clause-noted
 returns-clause-noted c =
     let end = ap (λ (s : Stretch). s.end) c.loop-instant.invariant.span in
-    omega (arith, end, c.loop-instant.invariant.noted, c.last_instant.ensures.last, c.min-last.ensures, c.requires.within)
+    omega (
+      arith,
+      end,
+      c.loop-instant.invariant.noted,
+      c.last_instant.ensures.last,
+      c.min-last.ensures,
+      c.requires.within,
+    )
 
 pub returns-clause-answered : goal.returns-clause-answered
 returns-clause-answered c =
     let end = ap (λ (s : Stretch). s.end) c.loop-instant.invariant.span in
-    omega (arith, end, c.loop-instant.invariant.answered, c.last_instant.ensures.last, c.min-last.ensures, c.requires.within)
+    omega (
+      arith,
+      end,
+      c.loop-instant.invariant.answered,
+      c.last_instant.ensures.last,
+      c.min-last.ensures,
+      c.requires.within,
+    )

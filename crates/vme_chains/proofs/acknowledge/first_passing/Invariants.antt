@@ -3,4 +3,5 @@ use Rattle.vme_chains.specs.AcknowledgeSpec.{first_changed, passes_on}
 use Rattle.vme_chains.proofs.acknowledge.first_passing.Given as goal
 
 abbrev pub invariant-loop-change : goal.invariant-loop-change
-invariant-loop-change l = first_changed (passes_on l.before l.after) (drop l.change-index l.changes) ≡ first_changed (passes_on l.fn.before l.fn.after) l.fn.changes
+invariant-loop-change l = first_changed (passes_on l.before l.after) (drop l.change-index l.changes)
+    ≡ first_changed (passes_on l.fn.before l.fn.after) l.fn.changes

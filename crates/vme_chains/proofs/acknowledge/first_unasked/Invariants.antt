@@ -3,4 +3,5 @@ use Rattle.vme_chains.specs.AcknowledgeSpec.{first_changed, passes_unasked}
 use Rattle.vme_chains.proofs.acknowledge.first_unasked.Given as goal
 
 abbrev pub invariant-loop-change : goal.invariant-loop-change
-invariant-loop-change l = first_changed (passes_unasked l.before l.after) (drop l.change-index l.changes) ≡ first_changed (passes_unasked l.fn.before l.fn.after) l.fn.changes
+invariant-loop-change l = first_changed (passes_unasked l.before l.after) (drop l.change-index l.changes)
+    ≡ first_changed (passes_unasked l.fn.before l.fn.after) l.fn.changes

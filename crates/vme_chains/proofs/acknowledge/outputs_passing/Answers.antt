@@ -9,5 +9,6 @@ pub returns-clause-unasked : goal.returns-clause-unasked
 returns-clause-unasked c =
     elim c.if-is_some.branch [
       | then-is_some w ↦ w.unasked-is ∙ w.first_unasked-unasked.ensures
-      | else-is_some w ↦ w.unasked-is ∙ sym (unasked_none c.args.before.now c.args.after.now c.args.changes.now (ap is_some (sym c.first_passing-first.ensures) ∙ (sym c.is_some.ensures ∙ w.if-is_some.false)))
+      | else-is_some w ↦ w.unasked-is ∙ sym (unasked_none c.args.before.now c.args.after.now c.args.changes.now
+          (ap is_some (sym c.first_passing-first.ensures) ∙ (sym c.is_some.ensures ∙ w.if-is_some.false)))
     ]

@@ -14,10 +14,13 @@ returns-then-not-has c =
     ap Some c.grant-net.ensures
     ∙ sym
     (ap (option_map (λ n. grant n 0))
-    (least-is (λ n. falls_between c.args.before.now c.args.after.now (grant n 0) && not (is_in c.args.requests n)) 0 4 c.loop-level.level (omega arith) c.loop-level-test.true
-    (both _ _ (ap (falls_between c.args.before.now c.args.after.now) (sym c.grant-net.ensures) ∙ sym c.falls.ensures ∙ c.if-falls.true) (sym c.has.ensures ∙ c.if-not-has.true)) c.loop-level.invariant))
+    (least-is (λ n. falls_between c.args.before.now c.args.after.now (grant n 0) && not (is_in c.args.requests n)) 0 4
+    c.loop-level.level (omega arith) c.loop-level-test.true
+    (both _ _ (ap (falls_between c.args.before.now c.args.after.now) (sym c.grant-net.ensures) ∙ sym c.falls.ensures
+    ∙ c.if-falls.true) (sym c.has.ensures ∙ c.if-not-has.true)) c.loop-level.invariant))
 
 pub returns : goal.returns
 returns c =
     let e : c.loop-level.level ≡ 4 = omega arith in
-    sym (ap (option_map (λ n. grant n 0)) (least-none (λ n. falls_between c.args.before.now c.args.after.now (grant n 0) && not (is_in c.args.requests n)) 0 4 (rw e at c.loop-level.invariant)))
+    sym (ap (option_map (λ n. grant n 0)) (least-none (λ n. falls_between c.args.before.now c.args.after.now (grant n 0)
+    && not (is_in c.args.requests n)) 0 4 (rw e at c.loop-level.invariant)))

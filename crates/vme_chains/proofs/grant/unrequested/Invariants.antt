@@ -7,4 +7,5 @@ use Rattle.vme_chains.specs.GrantMemory.{is_in}
 use Rattle.vme_chains.proofs.grant.unrequested.Given as goal
 
 abbrev pub invariant-loop-level : goal.invariant-loop-level
-invariant-loop-level l = any (λ n. falls_between l.before l.after (grant n 0) && not (is_in l.requests n)) 0 l.level ≡ false
+invariant-loop-level l = any (λ n. falls_between l.before l.after (grant n 0) && not (is_in l.requests n)) 0 l.level
+    ≡ false

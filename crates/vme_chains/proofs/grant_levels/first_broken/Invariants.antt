@@ -3,4 +3,5 @@ use Rattle.vme_chains.specs.GrantLevels.{first_changed, is_net_broken}
 use Rattle.vme_chains.proofs.grant_levels.first_broken.Given as goal
 
 abbrev pub invariant-loop-change : goal.invariant-loop-change
-invariant-loop-change l = first_changed (is_net_broken l.rule l.before l.after) (drop l.change-index l.changes) ≡ first_changed (is_net_broken l.rule l.before l.after) l.changes
+invariant-loop-change l = first_changed (is_net_broken l.rule l.before l.after) (drop l.change-index l.changes)
+    ≡ first_changed (is_net_broken l.rule l.before l.after) l.changes

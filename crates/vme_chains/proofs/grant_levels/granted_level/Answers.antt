@@ -8,7 +8,8 @@ pub returns-then-is_low-clause-level : goal.returns-then-is_low-clause-level
 returns-then-is_low-clause-level c =
     sym
     (least-is (λ n. is_low_in c.args.lines.now (grant n 0)) 0 4 c.loop-level.level (omega arith) c.loop-level-test.true
-    (ap (is_low_in c.args.lines.now) (sym c.grant.ensures) ∙ sym c.is_low.ensures ∙ c.if-is_low.true) c.loop-level.invariant)
+    (ap (is_low_in c.args.lines.now) (sym c.grant.ensures) ∙ sym c.is_low.ensures ∙ c.if-is_low.true)
+    c.loop-level.invariant)
 
 pub returns-clause-level : goal.returns-clause-level
 returns-clause-level c =

@@ -11,5 +11,7 @@ both a b h k = rw (h, k) refl
 pub returns-then-is_low : goal.returns-then-is_low
 returns-then-is_low c =
     sym
-    (any-holds (λ n. not (grant n 0 == c.args.line) && is_low_in c.args.lines.now (grant n 0)) 0 4 c.loop-level.level (omega arith) c.loop-level-test.true
-    (both _ _ (ap (λ l. not (l == c.args.line)) (sym c.grant-net.ensures) ∙ sym c.ne.ensures ∙ c.if-ne.true) (ap (is_low_in c.args.lines.now) (sym c.grant-net.ensures) ∙ sym c.is_low.ensures ∙ c.if-is_low.true)))
+    (any-holds (λ n. not (grant n 0 == c.args.line) && is_low_in c.args.lines.now (grant n 0)) 0 4 c.loop-level.level
+    (omega arith) c.loop-level-test.true
+    (both _ _ (ap (λ l. not (l == c.args.line)) (sym c.grant-net.ensures) ∙ sym c.ne.ensures ∙ c.if-ne.true)
+    (ap (is_low_in c.args.lines.now) (sym c.grant-net.ensures) ∙ sym c.is_low.ensures ∙ c.if-is_low.true)))

@@ -3,4 +3,6 @@ use Rattle.vme_chains.proofs.PassedNets.{passed_more}
 use Rattle.vme_chains.proofs.grant_levels.touches_nets.Goals as goal
 
 pub loop-change-preserved : goal.loop-change-preserved
-loop-change-preserved c p none = passed_more p none c.args.changes.now c.loop-change.change-index c.change-item.result c.loop-change-test.true c.change-item.is (sym c.is_grant.ensures ∙ c.if-is_grant.false) (c.loop-change.invariant p none)
+loop-change-preserved c p none = passed_more p none c.args.changes.now c.loop-change.change-index c.change-item.result
+    c.loop-change-test.true c.change-item.is (sym c.is_grant.ensures ∙ c.if-is_grant.false)
+    (c.loop-change.invariant p none)

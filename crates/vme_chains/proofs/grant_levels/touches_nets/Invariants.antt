@@ -4,4 +4,5 @@ use Rattle.vme_chains.specs.GrantLevels.{first_changed}
 use Rattle.vme_chains.proofs.grant_levels.touches_nets.Given as goal
 
 abbrev pub invariant-loop-change : goal.invariant-loop-change
-invariant-loop-change l = (p : ℕ → Bool) → ((k : ℕ) → is_grant k ≡ false → p k ≡ false) → first_changed p (drop l.change-index l.changes) ≡ first_changed p l.changes
+invariant-loop-change l = (p : ℕ → Bool) → ((k : ℕ) → is_grant k ≡ false → p k ≡ false) → first_changed p
+    (drop l.change-index l.changes) ≡ first_changed p l.changes

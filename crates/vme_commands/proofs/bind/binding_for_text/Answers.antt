@@ -11,5 +11,6 @@ returns-in-Ok c =
       made.bound,
       made.recording,
       made.is_binding,
-      capture_by-recorded made.bound (or_bad_dump (dump_of dump)) (Ok made.recording) (text_recorded-ok made.bound dump made.recording made.records),
+      capture_by-recorded made.bound (or_bad_dump (dump_of dump)) (Ok made.recording)
+          (text_recorded-ok made.bound dump made.recording made.records),
     )

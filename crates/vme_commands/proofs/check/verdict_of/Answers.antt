@@ -17,7 +17,8 @@ pub returns-in-Ok : goal.returns-in-Ok
 returns-in-Ok c =
     let told = c.in-Ok.ensures in
     λ formed.
-    ap (λ (r : Result Trace Refusal). r >>= or_verdict) (judged-fits c.args.judge c.args.block _ told.too_many_steps told.too_many_blocks c.in-Ok.verdict refl)
+    ap (λ (r : Result Trace Refusal). r >>= or_verdict) (judged-fits c.args.judge c.args.block _ told.too_many_steps
+    told.too_many_blocks c.in-Ok.verdict refl)
     ∙ ap Ok (sym (told.verdict formed))
 
 pub returns-in-Err : goal.returns-in-Err

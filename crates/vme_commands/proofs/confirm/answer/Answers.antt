@@ -5,12 +5,25 @@ use Rattle.vme_commands.proofs.confirm.answer.Goals as goal
 
 pub returns-in-Ok : goal.returns-in-Ok
 returns-in-Ok g c =
-    let (binding, dump, listing, given, binding_reading, dump_reading, listing_reading, rows, answered) = c.in-Ok.ensures in
-    (binding, dump, listing, given, Ok c.in-Ok.found, binding_reading, dump_reading, listing_reading, rows, answered, c.tell.ensures)
+    let (binding, dump, listing, given, binding_reading, dump_reading, listing_reading, rows, answered)
+    = c.in-Ok.ensures in (
+      binding,
+      dump,
+      listing,
+      given,
+      Ok c.in-Ok.found,
+      binding_reading,
+      dump_reading,
+      listing_reading,
+      rows,
+      answered,
+      c.tell.ensures,
+    )
 
 pub returns-in-Err : goal.returns-in-Err
 returns-in-Err g c =
-    let (binding, dump, listing, given, binding_reading, dump_reading, listing_reading, rows, answered) = c.in-Err.ensures in (
+    let (binding, dump, listing, given, binding_reading, dump_reading, listing_reading, rows, answered)
+    = c.in-Err.ensures in (
       binding,
       dump,
       listing,

@@ -12,4 +12,9 @@ returns-in-Ok c =
 pub returns-in-Err : goal.returns-in-Err
 returns-in-Err c =
     let refusal = listing_refusal c.in-Err.fault in
-    rw c.of_listing.ensures (Err refusal, listing_fault c.args.text.now c.in-Err.fault c.in-Err.ensures.first c.in-Err.ensures.none, listing_lacks (Ok c.args.capture.now) refusal)
+    rw c.of_listing.ensures (
+      Err refusal,
+      listing_fault c.args.text.now c.in-Err.fault c.in-Err.ensures.first
+          c.in-Err.ensures.none,
+      listing_lacks (Ok c.args.capture.now) refusal,
+    )

@@ -15,5 +15,15 @@ pub returns-in-Err : goal.returns-in-Err
 returns-in-Err g c =
     let (bound, bound_reading, refused) = c.in-Err.ensures in
     let dump = unread (g.D.Source.reading c.args.dump.now) in
-    let listing = unread (g.L.Source.reading c.args.listing.now) in
-    (bound, dump.0, listing.0, Err Memory, bound_reading, dump.1, listing.1, tt, binding_lacks (binding_read bound) (dump_read dump.0) (Err Memory) c.in-Err.refusal refused)
+    let listing = unread (g.L.Source.reading c.args.listing.now) in (
+      bound,
+      dump.0,
+      listing.0,
+      Err Memory,
+      bound_reading,
+      dump.1,
+      listing.1,
+      tt,
+      binding_lacks (binding_read bound)
+          (dump_read dump.0) (Err Memory) c.in-Err.refusal refused,
+    )

@@ -4,18 +4,22 @@ use Rattle.vme_commands.proofs.confirm.confirm_with.Goals as goal
 
 pub returns-clause-unwritten : goal.returns-clause-unwritten
 returns-clause-unwritten g c =
-    let binding : Reading × Reading = (g.B.Source.reading c.args.binding.now, g.B.Source.reading c.answer.new.binding) in
+    let binding : Reading × Reading = (g.B.Source.reading c.args.binding.now, g.B.Source.reading c.answer.new.binding)
+    in
     let dump : Reading × Reading = (g.D.Source.reading c.args.dump.now, g.D.Source.reading c.answer.new.dump) in
-    let listing : Reading × Reading = (g.L.Source.reading c.args.listing.now, g.L.Source.reading c.answer.new.listing) in
+    let listing : Reading × Reading = (g.L.Source.reading c.args.listing.now, g.L.Source.reading c.answer.new.listing)
+    in
     let out : Writing × Writing = (g.O.Sink.writing c.args.out.now, g.O.Sink.writing c.answer.new.out) in
     let err : Writing × Writing = (g.E.Sink.writing c.args.err.now, g.E.Sink.writing c.answer.new.err) in
     Confirms-unwritten binding dump listing out err c.answer.result c.answer.ensures
 
 pub returns-clause-exact : goal.returns-clause-exact
 returns-clause-exact g c =
-    let binding : Reading × Reading = (g.B.Source.reading c.args.binding.now, g.B.Source.reading c.answer.new.binding) in
+    let binding : Reading × Reading = (g.B.Source.reading c.args.binding.now, g.B.Source.reading c.answer.new.binding)
+    in
     let dump : Reading × Reading = (g.D.Source.reading c.args.dump.now, g.D.Source.reading c.answer.new.dump) in
-    let listing : Reading × Reading = (g.L.Source.reading c.args.listing.now, g.L.Source.reading c.answer.new.listing) in
+    let listing : Reading × Reading = (g.L.Source.reading c.args.listing.now, g.L.Source.reading c.answer.new.listing)
+    in
     let out : Writing × Writing = (g.O.Sink.writing c.args.out.now, g.O.Sink.writing c.answer.new.out) in
     let err : Writing × Writing = (g.E.Sink.writing c.args.err.now, g.E.Sink.writing c.answer.new.err) in
     Confirms-exact binding dump listing out err c.answer.result c.answer.ensures

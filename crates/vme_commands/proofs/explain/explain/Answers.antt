@@ -5,8 +5,16 @@ use Rattle.vme_commands.proofs.explain.explain.Goals as goal
 
 pub returns-in-Ok : goal.returns-in-Ok
 returns-in-Ok g c =
-    let (binding, dump, binding_reading, dump_reading, given) = c.in-Ok.ensures.read in
-    (binding, dump, Ok c.in-Ok.told, binding_reading, dump_reading, given, c.in-Ok.ensures.begins, rw (c.verdict_status.ensures, c.as_bytes.ensures) at c.tell_bytes-status.ensures)
+    let (binding, dump, binding_reading, dump_reading, given) = c.in-Ok.ensures.read in (
+      binding,
+      dump,
+      Ok c.in-Ok.told,
+      binding_reading,
+      dump_reading,
+      given,
+      c.in-Ok.ensures.begins,
+      rw (c.verdict_status.ensures, c.as_bytes.ensures) at c.tell_bytes-status.ensures,
+    )
 
 pub returns-in-Err : goal.returns-in-Err
 returns-in-Err g c =

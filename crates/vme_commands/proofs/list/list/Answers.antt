@@ -12,7 +12,8 @@ use Rattle.vme_commands.proofs.list.list.Goals as goal
 
 pub returns-clause-unwritten : goal.returns-clause-unwritten
 returns-clause-unwritten g c =
-    let binding : Reading × Reading = (g.B.Source.reading c.args.binding.now, g.B.Source.reading c.list_by.new.binding) in
+    let binding : Reading × Reading = (g.B.Source.reading c.args.binding.now, g.B.Source.reading c.list_by.new.binding)
+    in
     let dump : Reading × Reading = (g.D.Source.reading c.args.dump.now, g.D.Source.reading c.list_by.new.dump) in
     let out : Writing × Writing = (g.O.Sink.writing c.args.out.now, g.O.Sink.writing c.list_by.new.out) in
     let err : Writing × Writing = (g.E.Sink.writing c.args.err.now, g.E.Sink.writing c.list_by.new.err) in
@@ -20,7 +21,8 @@ returns-clause-unwritten g c =
 
 pub returns-clause-exact : goal.returns-clause-exact
 returns-clause-exact g c =
-    let binding : Reading × Reading = (g.B.Source.reading c.args.binding.now, g.B.Source.reading c.list_by.new.binding) in
+    let binding : Reading × Reading = (g.B.Source.reading c.args.binding.now, g.B.Source.reading c.list_by.new.binding)
+    in
     let dump : Reading × Reading = (g.D.Source.reading c.args.dump.now, g.D.Source.reading c.list_by.new.dump) in
     let out : Writing × Writing = (g.O.Sink.writing c.args.out.now, g.O.Sink.writing c.list_by.new.out) in
     let err : Writing × Writing = (g.E.Sink.writing c.args.err.now, g.E.Sink.writing c.list_by.new.err) in
@@ -28,7 +30,8 @@ returns-clause-exact g c =
 
 pub returns-clause-split : goal.returns-clause-split
 returns-clause-split g c b d t binding_told dump_told written enough is =
-    let binding : Reading × Reading = (g.B.Source.reading c.args.binding.now, g.B.Source.reading c.list_by.new.binding) in
+    let binding : Reading × Reading = (g.B.Source.reading c.args.binding.now, g.B.Source.reading c.list_by.new.binding)
+    in
     let dump : Reading × Reading = (g.D.Source.reading c.args.dump.now, g.D.Source.reading c.list_by.new.dump) in
     let out : Writing × Writing = (g.O.Sink.writing c.args.out.now, g.O.Sink.writing c.list_by.new.out) in
     let err : Writing × Writing = (g.E.Sink.writing c.args.err.now, g.E.Sink.writing c.list_by.new.err) in

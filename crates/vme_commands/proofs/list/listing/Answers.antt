@@ -4,10 +4,22 @@ use Rattle.vme_commands.proofs.list.listing.Goals as goal
 
 pub returns-in-Ok : goal.returns-in-Ok
 returns-in-Ok g c =
-    let (bound, bytes, bound_reading, reading, recorded) = c.in-Ok.ensures.gives in
-    (bound, bytes, bound_reading, reading, rw (recording_of-recorded bound bytes c.args.block _ recorded) (c.listing_of_steps.ensures c.in-Ok.ensures.formed))
+    let (bound, bytes, bound_reading, reading, recorded) = c.in-Ok.ensures.gives in (
+      bound,
+      bytes,
+      bound_reading,
+      reading,
+      rw (recording_of-recorded bound bytes c.args.block _ recorded)
+          (c.listing_of_steps.ensures c.in-Ok.ensures.formed),
+    )
 
 pub returns-in-Err : goal.returns-in-Err
 returns-in-Err g c =
-    let (bound, bytes, bound_reading, reading, refused) = c.in-Err.ensures.gives in
-    (bound, bytes, bound_reading, reading, recording_of-refused bound bytes c.args.block c.in-Err.refusal (capture_read-unrecorded bound bytes c.in-Err.refusal refused))
+    let (bound, bytes, bound_reading, reading, refused) = c.in-Err.ensures.gives in (
+      bound,
+      bytes,
+      bound_reading,
+      reading,
+      recording_of-refused bound bytes c.args.block c.in-Err.refusal
+          (capture_read-unrecorded bound bytes c.in-Err.refusal refused),
+    )

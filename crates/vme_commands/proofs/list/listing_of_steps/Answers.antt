@@ -8,7 +8,12 @@ use Rattle.vme_commands.proofs.list.listing_of_steps.Goals as goal
 pub returns-in-Ok : goal.returns-in-Ok
 returns-in-Ok c =
     let told = c.in-Ok.ensures in
-    λ formed. (c.args.lister, judged-fits c.args.lister c.args.block _ told.too_many_steps told.too_many_blocks c.in-Ok.listing refl, told.listing formed)
+    λ formed. (
+      c.args.lister,
+      judged-fits c.args.lister c.args.block _ told.too_many_steps told.too_many_blocks
+          c.in-Ok.listing refl,
+      told.listing formed,
+    )
 
 pub returns-in-Err : goal.returns-in-Err
 returns-in-Err c =

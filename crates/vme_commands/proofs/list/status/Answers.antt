@@ -11,8 +11,10 @@ last_in rows = slice_get rows (length rows - 1)
 pub returns-in-Some : goal.returns-in-Some
 returns-in-Some c =
     c.row_code.ensures
-    ∙ ap status_of_last (sym (last_of c.args.listing.now.rows ∙ ap last_in (sym c.rows.ensures) ∙ sym c.last.ensures.value ∙ ap option_copied c.in-Some.is))
+    ∙ ap status_of_last (sym (last_of c.args.listing.now.rows ∙ ap last_in (sym c.rows.ensures)
+    ∙ sym c.last.ensures.value ∙ ap option_copied c.in-Some.is))
 
 pub returns-in-None : goal.returns-in-None
 returns-in-None c =
-    ap status_of_last (sym (last_of c.args.listing.now.rows ∙ ap last_in (sym c.rows.ensures) ∙ sym c.last.ensures.value ∙ ap option_copied c.in-None.is))
+    ap status_of_last (sym (last_of c.args.listing.now.rows ∙ ap last_in (sym c.rows.ensures) ∙ sym c.last.ensures.value
+    ∙ ap option_copied c.in-None.is))

@@ -15,5 +15,6 @@ returns-in-Ok g c =
 
 pub returns-in-Err : goal.returns-in-Err
 returns-in-Err g c =
-    let (bytes, reading, refused) = dump_refused _ _ c.read_all.result c.in-Err.fault c.in-Err.is c.read_all.ensures.read c.read_all.ensures.too_long c.read_all.ensures.memory in
+    let (bytes, reading, refused) = dump_refused _ _ c.read_all.result c.in-Err.fault c.in-Err.is
+    c.read_all.ensures.read c.read_all.ensures.too_long c.read_all.ensures.memory in
     rw c.of_input.ensures (bytes, reading, text_refused (dump_read bytes) _ refused)

@@ -12,10 +12,14 @@ pub loop-bit-preserved : goal.loop-bit-preserved
 loop-bit-preserved c =
     elim c.if-is_high.branch [
       | then-is_high w ↦
-          high_more c.args.lines.now c.loop-bit.bit c.loop-bit.address c.if-is_high.address c.loop-bit.invariant (omega arith) c.address.result c.level.result c.is_high.result (omega arith) c.address.ensures c.level.ensures c.is_high.ensures
+          high_more c.args.lines.now c.loop-bit.bit c.loop-bit.address c.if-is_high.address c.loop-bit.invariant
+          (omega arith) c.address.result c.level.result c.is_high.result (omega arith) c.address.ensures
+          c.level.ensures c.is_high.ensures
           w.if-is_high.true w.address-is
       | else-is_high w ↦
-          low_more c.args.lines.now c.loop-bit.bit c.loop-bit.address c.if-is_high.address c.loop-bit.invariant (omega arith) c.address.result c.level.result c.is_high.result c.address.ensures c.level.ensures c.is_high.ensures
+          low_more c.args.lines.now c.loop-bit.bit c.loop-bit.address c.if-is_high.address c.loop-bit.invariant
+          (omega arith) c.address.result c.level.result c.is_high.result c.address.ensures c.level.ensures
+          c.is_high.ensures
           w.if-is_high.false w.address-is
     ]
 

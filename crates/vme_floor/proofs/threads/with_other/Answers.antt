@@ -21,20 +21,24 @@ returns-clause-collected c =
     let a : IsCollectedOf board ds first = subst P c.in_ok-work.was c.requires.first in
     let b : IsOtherWorkOf board ds other = subst Q c.in_ok-other_bench.was c.requires.other in
     let fold = c.fold-bench.ensures in
-    let v : View = view_of first.work.bench in let w : View = view_of other.bench in let u : View = view_of c.fold-bench.result in
+    let v : View = view_of first.work.bench in let w : View = view_of other.bench in
+    let u : View = view_of c.fold-bench.result in
     record {
       found = found_both v w u (length ds) fold.joint a.found;
       work = record {
         of = fold.board;
         draws = a.work.draws;
         did = subst (λ (rs : List Reply). IsWork total ds u rs) (sym c.in_ok-append.ensures.items)
-            (works_both total ds v w u first.work.replies.items other.replies.items fold.joint a.work.did b.is_work.did fold.draws fold.lists);
+            (works_both total ds v w u first.work.replies.items other.replies.items fold.joint a.work.did b.is_work.did
+            fold.draws fold.lists);
       };
       collected = collected_both total v w u first.collection fold.joint b.takes a.collected;
     }
 
 pub returns-clause-share : goal.returns-clause-share
 returns-clause-share c s t a b =
-    let x : (view_of c.in_ok-work.field-0.work.bench).share ≡ s = subst (λ (r : Result CollectingWorker AllocError). IfOk r (λ all. (view_of all.work.bench).share ≡ s)) c.in_ok-work.was a in
-    let y : (view_of c.in_ok-other_bench.field-0.bench).share ≡ t = subst (λ (r : Result Work AllocError). IfOk r (λ work. (view_of work.bench).share ≡ t)) c.in_ok-other_bench.was b in
+    let x : (view_of c.in_ok-work.field-0.work.bench).share ≡ s = subst (λ (r : Result CollectingWorker AllocError).
+    IfOk r (λ all. (view_of all.work.bench).share ≡ s)) c.in_ok-work.was a in
+    let y : (view_of c.in_ok-other_bench.field-0.bench).share ≡ t = subst (λ (r : Result Work AllocError). IfOk r
+    (λ work. (view_of work.bench).share ≡ t)) c.in_ok-other_bench.was b in
     ap (λ (u : View). u.share) c.fold-bench.ensures.joint ∙ (λ i. x i ++ y i)

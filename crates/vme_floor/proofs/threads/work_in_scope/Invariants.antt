@@ -15,15 +15,21 @@ invariant-loop-worker g l = record {
   count : l.worker ≡ vec_len l.handles + 1;
   workers : (k : ℕ) (d : _) → k < vec_len l.handles → (get_or (vec_items l.handles) k d).promise.worker ≡ k + 1;
   none : l.workers ≡ 1 → vec_len l.handles ≡ 0;
-  assignments : (k : ℕ) (d : _) → k < vec_len l.handles → ((get_or (vec_items l.handles) k d).promise.board.now ≡ l.board) × ((get_or (vec_items l.handles) k d).promise.deliveries.now ≡ l.deliveries);
+  assignments : (k : ℕ) (d : _) → k < vec_len l.handles → ((get_or (vec_items l.handles) k d).promise.board.now
+      ≡ l.board) × ((get_or (vec_items l.handles) k d).promise.deliveries.now ≡ l.deliveries);
 }
 
 abbrev pub invariant-loop-handle : goal.invariant-loop-handle
 invariant-loop-handle g l = record {
   next : (goal.iterator-loop-handle g).can_next l.handle-iterator;
   finite : (goal.iterator-loop-handle g).is_finite l.handle-iterator;
-  assignments : (k : ℕ) (d : _) → k < into_iter_len l.handle-iterator → ((get_or (into_iter_items l.handle-iterator) k d).promise.board.now ≡ l.board) × ((get_or (into_iter_items l.handle-iterator) k d).promise.deliveries.now ≡ l.deliveries);
+  assignments : (k : ℕ) (d : _) → k < into_iter_len l.handle-iterator
+      → ((get_or (into_iter_items l.handle-iterator) k d).promise.board.now ≡ l.board)
+      × ((get_or (into_iter_items l.handle-iterator) k d).promise.deliveries.now ≡ l.deliveries);
   all : IfOk l.all (λ c. IsCollectedOf l.board l.deliveries c);
-  shares : l.fault ≡ None → (m t : ℕ) × (m ≡ t + into_iter_len l.handle-iterator) × ((k : ℕ) (d : _) → k < into_iter_len l.handle-iterator → (get_or (into_iter_items l.handle-iterator) k d).promise.worker ≡ t + k + 1) × IfOk l.all (λ c. (view_of c.work.bench).share ≡ m ∷ upto t);
+  shares : l.fault ≡ None → (m t : ℕ) × (m ≡ t + into_iter_len l.handle-iterator)
+      × ((k : ℕ) (d : _) → k < into_iter_len l.handle-iterator
+      → (get_or (into_iter_items l.handle-iterator) k d).promise.worker ≡ t + k + 1)
+      × IfOk l.all (λ c. (view_of c.work.bench).share ≡ m ∷ upto t);
   own : l.workers ≡ 1 → (into_iter_len l.handle-iterator ≡ 0) × IfOk l.all (λ c. HasTakenOwn (view_of c.work.bench));
 }

@@ -1,4 +1,5 @@
--- The rows so far and what is left of the text, that each listing with this text begins with these rows, and that nothing is
+-- The rows so far and what is left of the text, that each listing with this text begins with these rows, and that
+-- nothing is
 -- left behind a verdict.
 use Rattle.std.proofs.Common.{length}
 use Rattle.vme_listing.specs.Reading.{IsRead}

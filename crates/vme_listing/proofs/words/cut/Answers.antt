@@ -5,7 +5,8 @@ use Rattle.vme_listing.specs.Words.{words, word_at}
 use Rattle.vme_listing.proofs.words.cut.Goals as goal
 
 pub returns-in-Some-clause-first : goal.returns-in-Some-clause-first
-returns-in-Some-clause-first c = ap (λ ws. word_at ws 0) (sym (words_from_first c.args.line.now c.in-Some.end c.in-Some.ensures))
+returns-in-Some-clause-first c = ap (λ ws. word_at ws 0)
+    (sym (words_from_first c.args.line.now c.in-Some.end c.in-Some.ensures))
 
 pub returns-in-Some-clause-others : goal.returns-in-Some-clause-others
 returns-in-Some-clause-others c place =

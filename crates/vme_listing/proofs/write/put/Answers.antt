@@ -8,5 +8,9 @@ pub loop-rest-preserved : goal.loop-rest-preserved
 loop-rest-preserved g c =
     let (done, split, appended, same) = c.loop-rest.invariant in
     let rest = c.loop-rest.rest.now in
-    let n = c.in-Ok.taken in
-    (done ++ take n rest, moves_front _ done rest n split, Appends-trans _ _ _ _ _ appended c.in-Ok.ensures.bytes, c.in-Ok.ensures.failures ∙ same)
+    let n = c.in-Ok.taken in (
+      done ++ take n rest,
+      moves_front _ done rest n split,
+      Appends-trans _ _ _ _ _ appended c.in-Ok.ensures.bytes,
+      c.in-Ok.ensures.failures ∙ same,
+    )

@@ -11,18 +11,28 @@ loop-row-preserved g c =
     let rows = c.rows-rows.result.now in
     let i = c.loop-row.row-index in
     let rest = flat_map line_of (drop (i + 1) rows) in
-    let more : flat_map line_of (drop i rows) ≡ line_of c.row-item.result ++ rest = lines_more line_of rows i c.row-item.result c.loop-row-test.true c.row-item.is in
+    let more : flat_map line_of (drop i rows) ≡ line_of c.row-item.result ++ rest = lines_more line_of rows i
+    c.row-item.result c.loop-row-test.true c.row-item.is in
     let (gone, left, went) =
-    line_more (g.W.Sink.writing c.args.sink.now).taken (g.W.Sink.writing c.loop-row.sink).taken (g.W.Sink.writing c.make_room.new.sink).taken (text_of c.args.listing.now) done c.loop-row.piece c.make_room.new.held (line_of c.row-item.result) rest
-    (split ∙ ap (λ l. done ++ (c.loop-row.piece ++ l)) more) appended c.in_ok-make_room.ensures.moves in
-    (gone, left ∙ ap (λ l. gone ++ (l ++ rest)) (sym c.push_line.ensures), went, c.in_ok-make_room.ensures.failures ∙ same)
+    line_more (g.W.Sink.writing c.args.sink.now).taken (g.W.Sink.writing c.loop-row.sink).taken
+    (g.W.Sink.writing c.make_room.new.sink).taken (text_of c.args.listing.now) done c.loop-row.piece
+    c.make_room.new.held (line_of c.row-item.result) rest
+    (split ∙ ap (λ l. done ++ (c.loop-row.piece ++ l)) more) appended c.in_ok-make_room.ensures.moves in (
+      gone,
+      left ∙ ap (λ l. gone ++ (l ++ rest)) (sym c.push_line.ensures),
+      went,
+      c.in_ok-make_room.ensures.failures
+          ∙ same,
+    )
 
 pub returns-in_err-make_room-clause-front : goal.returns-in_err-make_room-clause-front
 returns-in_err-make_room-clause-front g c =
     let (done, split, appended, same) = c.loop-row.invariant in
     let rows = c.rows-rows.result.now in
     on_any_err c.from_residual.result
-    (front_of (g.W.Sink.writing c.args.sink.now).taken (g.W.Sink.writing c.loop-row.sink).taken (g.W.Sink.writing c.make_room.new.sink).taken (text_of c.args.listing.now) done c.loop-row.piece (flat_map line_of (drop c.loop-row.row-index rows))
+    (front_of (g.W.Sink.writing c.args.sink.now).taken (g.W.Sink.writing c.loop-row.sink).taken
+    (g.W.Sink.writing c.make_room.new.sink).taken (text_of c.args.listing.now) done c.loop-row.piece
+    (flat_map line_of (drop c.loop-row.row-index rows))
     split appended c.in_err-make_room.ensures.front)
 
 pub returns-clause-whole : goal.returns-clause-whole
@@ -30,7 +40,9 @@ returns-clause-whole g c =
     let (done, split, appended, same) = c.loop-row.invariant in
     let rows = c.rows-rows.result.now in
     on_ok c.put.result
-    (whole_of (g.W.Sink.writing c.args.sink.now).taken (g.W.Sink.writing c.loop-row.sink).taken (g.W.Sink.writing c.put.new.sink).taken (text_of c.args.listing.now) done c.loop-row.piece c.as_bytes.result.now (flat_map line_of (drop c.loop-row.row-index rows))
+    (whole_of (g.W.Sink.writing c.args.sink.now).taken (g.W.Sink.writing c.loop-row.sink).taken
+    (g.W.Sink.writing c.put.new.sink).taken (text_of c.args.listing.now) done c.loop-row.piece c.as_bytes.result.now
+    (flat_map line_of (drop c.loop-row.row-index rows))
     split (lines_none line_of rows c.loop-row.row-index (omega arith)) c.as_bytes.ensures appended)
     c.put.ensures.whole
 
@@ -42,6 +54,7 @@ returns-clause-front g c =
     let new = (g.W.Sink.writing c.put.new.sink).taken in
     on_err c.put.result
     (λ (h : AppendsFront mid new c.as_bytes.result.now).
-    front_of (g.W.Sink.writing c.args.sink.now).taken mid new (text_of c.args.listing.now) done c.loop-row.piece (flat_map line_of (drop c.loop-row.row-index rows))
+    front_of (g.W.Sink.writing c.args.sink.now).taken mid new (text_of c.args.listing.now) done c.loop-row.piece
+    (flat_map line_of (drop c.loop-row.row-index rows))
     split appended (subst (λ l. AppendsFront mid new l) c.as_bytes.ensures h))
     c.put.ensures.front

@@ -7,6 +7,7 @@ use Rattle.vme_monitor.proofs.merge.have_merged.Given as goal
 abbrev pub invariant-loop-row : goal.invariant-loop-row
 invariant-loop-row g l =
     record {
-      stamped : AreStamped g.P.Enumerable.place_of l.stamp (memories_in (map outcome_of (take l.row-index l.rows))) l.last_seen;
+      stamped : AreStamped g.P.Enumerable.place_of l.stamp (memories_in (map outcome_of (take l.row-index l.rows)))
+          l.last_seen;
       apart : AreDistinct g.P.Enumerable.place_of (memories_in (map outcome_of (take l.row-index l.rows)));
     }

@@ -10,10 +10,16 @@ loop-row-preserved g c =
     let i = c.loop-row.row-index in
     let rows = c.args.rows.now in
     let most = c.if-most-sensitivity.most in
-    let grows : c.loop-row.most ≤ most = elim c.if-most-sensitivity.branch [ then-most-sensitivity w ↦ omega arith | else-most-sensitivity w ↦ omega arith ] in
-    let here : g.M.Machine.sensitivity_of c.row-item.result.memory ≤ most = elim c.if-most-sensitivity.branch [ then-most-sensitivity w ↦ omega arith | else-most-sensitivity w ↦ omega arith ] in
-    let so_far = no_more (λ r. g.M.Machine.sensitivity_of r.memory) c.loop-row.most most (take i rows) grows c.loop-row.invariant in
-    All-more (λ r. g.M.Machine.sensitivity_of r.memory ≤ most) rows i c.row-item.result c.loop-row-test.true so_far (rw c.row-item.is at here)
+    let grows : c.loop-row.most ≤ most = elim c.if-most-sensitivity.branch [
+      | then-most-sensitivity w ↦ omega arith
+      | else-most-sensitivity w ↦ omega arith
+    ] in
+    let here : g.M.Machine.sensitivity_of c.row-item.result.memory ≤ most = elim c.if-most-sensitivity.branch
+    [ then-most-sensitivity w ↦ omega arith | else-most-sensitivity w ↦ omega arith ] in
+    let so_far = no_more (λ r. g.M.Machine.sensitivity_of r.memory) c.loop-row.most most (take i rows) grows
+    c.loop-row.invariant in
+    All-more (λ r. g.M.Machine.sensitivity_of r.memory ≤ most) rows i c.row-item.result c.loop-row-test.true so_far
+    (rw c.row-item.is at here)
 
 pub returns : goal.returns
 returns g c = rw (take_all c.loop-row.row-index c.args.rows.now c.loop-row-test.false) at c.loop-row.invariant

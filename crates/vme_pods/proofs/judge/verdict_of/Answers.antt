@@ -13,4 +13,5 @@ pub returns-in-Err-clause-exact : goal.returns-in-Err-clause-exact
 returns-in-Err-clause-exact c = λ v is. passed c.unjudged_by.result (Ok v) c.unjudged_by.ensures.passing
 
 pub returns-in-Err-clause-alone : goal.returns-in-Err-clause-alone
-returns-in-Err-clause-alone c = λ is. same_fault c.args.outcome c.in-Err.fault fault.NoWorker c.in-Err.is (c.unjudged_by.ensures.alone is)
+returns-in-Err-clause-alone c = λ is. same_fault c.args.outcome c.in-Err.fault fault.NoWorker c.in-Err.is
+    (c.unjudged_by.ensures.alone is)

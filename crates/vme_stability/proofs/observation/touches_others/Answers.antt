@@ -5,6 +5,9 @@ use Rattle.vme_stability.proofs.observation.touches_others.Goals as goal
 
 pub loop-change-preserved : goal.loop-change-preserved
 loop-change-preserved c = (
-  λ needs. passed_needs.passed_more needs c.args.changes.now c.loop-change.change-index c.change-item.result c.loop-change-test.true c.change-item.is (omega arith) (c.loop-change.invariant.0 needs),
-  λ v w. passed_data.passed_more v w c.args.changes.now c.loop-change.change-index c.change-item.result c.loop-change-test.true c.change-item.is (passed_data.not_data c.change-item.result.line (omega arith)) (c.loop-change.invariant.1 v w),
+  λ needs. passed_needs.passed_more needs c.args.changes.now c.loop-change.change-index c.change-item.result
+      c.loop-change-test.true c.change-item.is (omega arith) (c.loop-change.invariant.0 needs),
+  λ v w. passed_data.passed_more v w c.args.changes.now c.loop-change.change-index c.change-item.result
+      c.loop-change-test.true c.change-item.is (passed_data.not_data c.change-item.result.line (omega arith))
+      (c.loop-change.invariant.1 v w),
 )

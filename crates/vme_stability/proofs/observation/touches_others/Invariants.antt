@@ -7,4 +7,5 @@ use Rattle.vme_stability.proofs.observation.touches_others.Given as goal
 abbrev pub invariant-loop-change : goal.invariant-loop-change
 invariant-loop-change l =
     ((needs : Needs) → first_needed needs (drop l.change-index l.changes) ≡ first_needed needs l.changes)
-    × ((v w : Levels) → first_among (is_shifted v w) (drop l.change-index l.changes) ≡ first_among (is_shifted v w) l.changes)
+    × ((v w : Levels) → first_among (is_shifted v w) (drop l.change-index l.changes) ≡ first_among (is_shifted v w)
+    l.changes)

@@ -16,7 +16,8 @@ returns-then-taken-filled-gt-LONGEST-clause-too_long g c =
     let mid = g.R.Source.reading c.loop.source in
     let (done, u) = c.loop.invariant in
     λ _.
-    read-long old mid (g.T.ByteConsumer.ahead c.args.consumer) (g.T.ByteConsumer.ahead c.loop.consumer) c.loop.bytes.items done c.loop.taken c.loop.filled c.loop.counter u
+    read-long old mid (g.T.ByteConsumer.ahead c.args.consumer) (g.T.ByteConsumer.ahead c.loop.consumer)
+    c.loop.bytes.items done c.loop.taken c.loop.filled c.loop.counter u
     c.if-taken-filled-gt-LONGEST.true (omega (arith, c.loop-test.true))
 
 pub returns-then-count-eq0-clause-bytes : goal.returns-then-count-eq0-clause-bytes
@@ -36,13 +37,23 @@ returns-then-count-eq0-clause-bytes g c =
     let m = c.in_ok-next.ensures in
     let limit : c.loop.taken + c.loop.filled ≤ longest_input = omega (arith, c.if-taken-filled-gt-LONGEST.false) in
     let roomy : held < length room = subst (λ (n : ℕ). held < n) c.make_room.new.bytes.ok.0 m.room in
-    let given = given-on old mid first here buffer done c.loop.taken c.loop.filled c.loop.counter u limit next room count m.within roomy m.left m.taken in
-    let whole = all_read old mid first next room (done ++ take count buffer) (c.loop.taken + count) held c.loop.counter given in
-    let long = read-length old mid first next room (done ++ take count buffer) (c.loop.taken + count) held c.loop.counter given in
+    let given = given-on old mid first here buffer done c.loop.taken c.loop.filled c.loop.counter u limit next room
+    count m.within roomy m.left m.taken in
+    let whole = all_read old mid first next room (done ++ take count buffer) (c.loop.taken + count) held c.loop.counter
+    given in
+    let long = read-length old mid first next room (done ++ take count buffer) (c.loop.taken + count) held
+    c.loop.counter given in
     let none = c.if-count-eq0.true in
     let read = subst (λ (n : ℕ). Consumes mid.left new.left (take n (drop held after))) none c.in-Ok.ensures.bytes in
-    let reading = read-out old mid first next room (done ++ take count buffer) (c.loop.taken + count) held c.loop.counter given new after c.in-Ok.ensures.front read (c.in-Ok.ensures.end none) (c.in-Ok.ensures.reads.0 none) c.in-Ok.ensures.ok (omega (arith, c.loop-test.true)) in
-    (whole, omega (arith, long, limit, m.within), reading, given.passes (take held room) ∙ ap next (sym (c.truncate.ensures.items ∙ c.in-Ok.ensures.front)))
+    let reading = read-out old mid first next room (done ++ take count buffer) (c.loop.taken + count) held
+    c.loop.counter given new after c.in-Ok.ensures.front read (c.in-Ok.ensures.end none)
+    (c.in-Ok.ensures.reads.0 none) c.in-Ok.ensures.ok (omega (arith, c.loop-test.true)) in (
+      whole,
+      omega (arith, long, limit, m.within),
+      reading,
+      given.passes (take held room)
+          ∙ ap next (sym (c.truncate.ensures.items ∙ c.in-Ok.ensures.front)),
+    )
 
 pub loop-preserved : goal.loop-preserved
 loop-preserved g c =
@@ -61,10 +72,14 @@ loop-preserved g c =
     let m = c.in_ok-next.ensures in
     let limit : c.loop.taken + c.loop.filled ≤ longest_input = omega (arith, c.if-taken-filled-gt-LONGEST.false) in
     let roomy : held < length room = subst (λ (n : ℕ). held < n) c.make_room.new.bytes.ok.0 m.room in
-    let given = given-on old mid first here buffer done c.loop.taken c.loop.filled c.loop.counter u limit next room count m.within roomy m.left m.taken in
+    let given = given-on old mid first here buffer done c.loop.taken c.loop.filled c.loop.counter u limit next room
+    count m.within roomy m.left m.taken in
     let some : 0 < c.in-Ok.count = omega (arith, c.if-count-eq0.false) in
-    let fits : held + c.in-Ok.count ≤ length after = subst (λ (n : ℕ). held + c.in-Ok.count ≤ n) c.read_behind.new.bytes.ok.0 c.in-Ok.ensures.fits in
+    let fits : held + c.in-Ok.count ≤ length after = subst (λ (n : ℕ). held + c.in-Ok.count ≤ n)
+    c.read_behind.new.bytes.ok.0 c.in-Ok.ensures.fits in
     let more : new.reads ≡ mid.reads + 1 = omega (arith, c.in-Ok.ensures.reads.1 some) in (
       done ++ take count buffer,
-      read-on old mid first next room (done ++ take count buffer) (c.loop.taken + count) held c.loop.counter given new after c.in-Ok.count c.in-Ok.ensures.front fits some (omega (arith, fits, some)) c.in-Ok.ensures.bytes more c.in-Ok.ensures.ok,
+      read-on old mid first next room (done ++ take count buffer) (c.loop.taken + count) held c.loop.counter given new
+          after c.in-Ok.count c.in-Ok.ensures.front fits some (omega (arith, fits, some)) c.in-Ok.ensures.bytes more
+          c.in-Ok.ensures.ok,
     )

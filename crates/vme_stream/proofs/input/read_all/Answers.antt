@@ -25,7 +25,8 @@ loop-preserved g c =
     record {
       within = c.in-Ok.ensures.fits;
       counted = omega (arith, c.loop.invariant.counted, some);
-      read = Consumes-grown _ _ _ _ c.read_chunk.new.bytes.items c.loop.filled c.in-Ok.count c.in-Ok.ensures.front c.loop.invariant.read c.in-Ok.ensures.bytes;
+      read = Consumes-grown _ _ _ _ c.read_chunk.new.bytes.items c.loop.filled c.in-Ok.count c.in-Ok.ensures.front
+          c.loop.invariant.read c.in-Ok.ensures.bytes;
       reads = omega (arith, more, c.loop.invariant.reads);
       failures = c.in-Ok.ensures.ok ∙ c.loop.invariant.failures;
     }

@@ -7,7 +7,8 @@ abbrev pub invariant-loop : goal.invariant-loop
 invariant-loop g l = record {
   within : l.filled ≤ vec_len l.bytes;
   counted : l.counter ≤ l.filled;
-  read : Consumes (g.R.Source.reading l.initial.source).left (g.R.Source.reading l.source).left (take l.filled l.bytes.items);
+  read : Consumes (g.R.Source.reading l.initial.source).left (g.R.Source.reading l.source).left
+      (take l.filled l.bytes.items);
   reads : (g.R.Source.reading l.source).reads ≡ (g.R.Source.reading l.initial.source).reads + l.counter;
   failures : (g.R.Source.reading l.source).failures ≡ (g.R.Source.reading l.initial.source).failures;
 }

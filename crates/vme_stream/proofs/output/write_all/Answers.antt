@@ -8,8 +8,13 @@ pub loop-rest-preserved : goal.loop-rest-preserved
 loop-rest-preserved g c =
     let (done, split, appended, same) = c.loop-rest.invariant in
     let rest = c.loop-rest.rest.now in
-    let count = c.in-Ok.count in
-    (done ++ take count rest, splits_later _ done rest count split, Appends-trans _ _ _ _ _ appended c.in-Ok.ensures.bytes, c.in-Ok.ensures.failures ∙ same)
+    let count = c.in-Ok.count in (
+      done ++ take count rest,
+      splits_later _ done rest count split,
+      Appends-trans _ _ _ _ _ appended
+          c.in-Ok.ensures.bytes,
+      c.in-Ok.ensures.failures ∙ same,
+    )
 
 pub returns-in-Err : goal.returns-in-Err
 returns-in-Err g c =

@@ -7,4 +7,5 @@ abbrev pub invariant-loop-block : goal.invariant-loop-block
 invariant-loop-block g l =
     (goal.iterator-loop-block g).can_next l.block-iterator
     × (goal.iterator-loop-block g).is_finite l.block-iterator
-    × ((done : List Step) × g.J.ChunkJudge.is_past l.judging l.fn.capture.opening done × (done ++ chunks_rest l.block-iterator ≡ l.fn.capture.steps))
+    × ((done : List Step) × g.J.ChunkJudge.is_past l.judging l.fn.capture.opening done
+    × (done ++ chunks_rest l.block-iterator ≡ l.fn.capture.steps))

@@ -5,7 +5,11 @@ use Rattle.vme_summary.proofs.span.append.Goals as goal
 
 pub returns-then-not-meets-clause-torn : goal.returns-then-not-meets-clause-torn
 returns-then-not-meets-clause-torn c =
-    λ x y p q. (λ e. test_torn c.args.first.extent c.args.second.extent c.meets.result x y c.meets.ensures c.if-not-meets.true p.extent q.extent, λ e. refl)
+    λ x y p q. (
+      λ e. test_torn c.args.first.extent c.args.second.extent c.meets.result x y c.meets.ensures
+          c.if-not-meets.true p.extent q.extent,
+      λ e. refl,
+    )
 
 pub returns-in-Ok-clause-joined : goal.returns-in-Ok-clause-joined
 returns-in-Ok-clause-joined c =
@@ -19,7 +23,8 @@ returns-in-Err-clause-torn c =
       λ e. absurd (cc),
       λ torn.
           absurd
-          (torn (meets_join c.args.first.extent c.args.second.extent x y p.extent q.extent (test_meets c.args.first.extent c.args.second.extent c.meets.result c.meets.ensures c.if-not-meets.false))),
+          (torn (meets_join c.args.first.extent c.args.second.extent x y p.extent q.extent
+          (test_meets c.args.first.extent c.args.second.extent c.meets.result c.meets.ensures c.if-not-meets.false))),
     )
 
 pub returns-in-Err-clause-first : goal.returns-in-Err-clause-first

@@ -5,7 +5,11 @@ use Rattle.vme_summary.proofs.span.join.Goals as goal
 
 pub returns-then-not-meets-clause-torn : goal.returns-then-not-meets-clause-torn
 returns-then-not-meets-clause-torn c =
-    λ x y p q. (λ e. test_torn c.args.first.now.extent c.args.second.now.extent c.meets.result x y c.meets.ensures c.if-not-meets.true p.extent q.extent, λ e. refl)
+    λ x y p q. (
+      λ e. test_torn c.args.first.now.extent c.args.second.now.extent c.meets.result x y c.meets.ensures
+          c.if-not-meets.true p.extent q.extent,
+      λ e. refl,
+    )
 
 pub returns-in_default-clause-torn : goal.returns-in_default-clause-torn
 returns-in_default-clause-torn c =
@@ -13,13 +17,16 @@ returns-in_default-clause-torn c =
       λ e. absurd (cc),
       λ torn.
           absurd
-          (torn (meets_join c.args.first.now.extent c.args.second.now.extent x y p.extent q.extent (test_meets c.args.first.now.extent c.args.second.now.extent c.meets.result c.meets.ensures c.if-not-meets.false))),
+          (torn (meets_join c.args.first.now.extent c.args.second.now.extent x y p.extent q.extent
+          (test_meets c.args.first.now.extent c.args.second.now.extent c.meets.result c.meets.ensures
+          c.if-not-meets.false))),
     )
 
 pub returns-clause-joined : goal.returns-clause-joined
 returns-clause-joined c =
     spans_joined c.args.first.now c.args.second.now c.joined.result c.in-Ok.summary c.joined.ensures
-    (test_meets c.args.first.now.extent c.args.second.now.extent c.meets.result c.meets.ensures c.if-not-meets.false) c.in-Ok.ensures.stands
+    (test_meets c.args.first.now.extent c.args.second.now.extent c.meets.result c.meets.ensures c.if-not-meets.false)
+    c.in-Ok.ensures.stands
 
 pub returns-clause-torn : goal.returns-clause-torn
 returns-clause-torn c =
@@ -27,5 +34,7 @@ returns-clause-torn c =
       λ e. absurd (cc),
       λ torn.
           absurd
-          (torn (meets_join c.args.first.now.extent c.args.second.now.extent x y p.extent q.extent (test_meets c.args.first.now.extent c.args.second.now.extent c.meets.result c.meets.ensures c.if-not-meets.false))),
+          (torn (meets_join c.args.first.now.extent c.args.second.now.extent x y p.extent q.extent
+          (test_meets c.args.first.now.extent c.args.second.now.extent c.meets.result c.meets.ensures
+          c.if-not-meets.false))),
     )

@@ -9,4 +9,5 @@ pub returns-then-not-is_known : goal.returns-then-not-is_known
 returns-then-not-is_known c =
     sym
     (every-fails (is_modifier_bit_known c.args.lines.now) 0 6 c.loop-bit.bit (omega arith) c.loop-bit-test.true
-    (ap (λ l. is_known (level_at c.args.lines.now l)) (sym c.address_modifier.ensures) ∙ ap is_known (sym c.level.ensures) ∙ sym c.is_known.ensures ∙ c.if-not-is_known.true))
+    (ap (λ l. is_known (level_at c.args.lines.now l)) (sym c.address_modifier.ensures)
+    ∙ ap is_known (sym c.level.ensures) ∙ sym c.is_known.ensures ∙ c.if-not-is_known.true))

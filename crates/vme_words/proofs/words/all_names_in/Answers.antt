@@ -18,4 +18,5 @@ returns-in_ok-with_name-in-Some-2-clause-said c =
     rw (c.in_ok-with_name-in-Some-2.ensures, listing, both) refl
 
 pub returns-in_default-clause-found : goal.returns-in_default-clause-found
-returns-in_default-clause-found c has = absurd (named_file c.args.found.now (codes "LISTING") c.get_str.result c.get_str.ensures c.in_default.is has.listing)
+returns-in_default-clause-found c has = absurd (named_file c.args.found.now (codes "LISTING") c.get_str.result
+    c.get_str.ensures c.in_default.is has.listing)

@@ -18,4 +18,5 @@ returns-in_ok-with_name-in-Some-clause-said c =
     rw (c.in_ok-with_name-in-Some.ensures, none, dump) refl
 
 pub returns-in-None-clause-found : goal.returns-in-None-clause-found
-returns-in-None-clause-found c has = absurd (named_file c.args.found.now (codes "DUMP") c.get_str.result c.get_str.ensures c.in-None.is has)
+returns-in-None-clause-found c has = absurd (named_file c.args.found.now (codes "DUMP") c.get_str.result
+    c.get_str.ensures c.in-None.is has)

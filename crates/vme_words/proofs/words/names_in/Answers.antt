@@ -17,10 +17,20 @@ returns-clause-said c =
     sym (first_value-rows found (codes "BINDING")) ∙ sym c.get_str.ensures ∙ ap text_of c.in-Some-Some.is-0 in
     let dump : first_of (codes "DUMP") (rows_of found) ≡ Some c.in-Some-Some.dump.now =
     sym (first_value-rows found (codes "DUMP")) ∙ sym c.get_str-2.ensures ∙ ap text_of c.in-Some-Some.is-1 in
-    rw (c.in_ok-push-2.ensures.items, c.in_ok-push.ensures.items, c.in_ok-names.ensures.items, c.in_ok-from_str.ensures.ok, c.in_ok-from_str-2.ensures.ok, binding, dump) refl
+    rw (
+      c.in_ok-push-2.ensures.items,
+      c.in_ok-push.ensures.items,
+      c.in_ok-names.ensures.items,
+      c.in_ok-from_str.ensures.ok,
+      c.in_ok-from_str-2.ensures.ok,
+      binding,
+      dump,
+    ) refl
 
 pub returns-in_default-clause-found : goal.returns-in_default-clause-found
 returns-in_default-clause-found c has = elim c.in_default.branch [
-  | in_default-via-in-Some+in_default w ↦ absurd (named_file c.args.found.now (codes "DUMP") c.get_str-2.result c.get_str-2.ensures w.in_default.is-1 has.dump)
-  | in_default-via-in_default w ↦ absurd (named_file c.args.found.now (codes "BINDING") c.get_str.result c.get_str.ensures w.in_default.is-0 has.binding)
+  | in_default-via-in-Some+in_default w ↦ absurd (named_file c.args.found.now (codes "DUMP") c.get_str-2.result
+      c.get_str-2.ensures w.in_default.is-1 has.dump)
+  | in_default-via-in_default w ↦ absurd (named_file c.args.found.now (codes "BINDING") c.get_str.result
+      c.get_str.ensures w.in_default.is-0 has.binding)
 ]

@@ -19,14 +19,17 @@ pub returns-in_err-matches-clause-faulty : goal.returns-in_err-matches-clause-fa
 returns-in_err-matches-clause-faulty c =
     let app = c.in_ok-vmecheck_command.ensures in
     let words = map string_bytes c.args.words.now in
-    passed_up c.from_residual-in_err-matches.result c.in_err-matches.field-0.0 words c.from_residual-in_err-matches.ensures.1
-    (subst (λ (a : App). HasKind (fault_of a words) c.in_err-matches.field-0.0) app (c.in_err-matches.ensures.kinds (ap is_simple_and_free app ∙ is_simple_app)))
+    passed_up c.from_residual-in_err-matches.result c.in_err-matches.field-0.0 words
+    c.from_residual-in_err-matches.ensures.1
+    (subst (λ (a : App). HasKind (fault_of a words) c.in_err-matches.field-0.0) app
+    (c.in_err-matches.ensures.kinds (ap is_simple_and_free app ∙ is_simple_app)))
 
 pub returns-in-Some-clause-ok : goal.returns-in-Some-clause-ok
 returns-in-Some-clause-ok c =
     let app = c.in_ok-vmecheck_command.ensures in
     let words = map string_bytes c.args.words.now in
-    let met = (c.in_ok-matches.ensures.matches (ap is_simple app ∙ is_simple_only)).1 ∙ ap (λ (a : App). subcommand_of a words) app in
+    let met = (c.in_ok-matches.ensures.matches (ap is_simple app ∙ is_simple_only)).1
+    ∙ ap (λ (a : App). subcommand_of a words) app in
     let said = rw c.in-Some.is at c.in_ok-order.ensures.said in
     subst (IsOrder c.in-Some.order) met said
 
@@ -34,13 +37,16 @@ pub returns-in-Some-clause-taken : goal.returns-in-Some-clause-taken
 returns-in-Some-clause-taken c =
     let app = c.in_ok-vmecheck_command.ensures in
     let words = map string_bytes c.args.words.now in
-    subst (λ (a : App). fault_of a words ≡ []) app (c.in_ok-matches.ensures.kinds (ap is_simple_and_free app ∙ is_simple_app))
+    subst (λ (a : App). fault_of a words ≡ []) app (c.in_ok-matches.ensures.kinds (ap is_simple_and_free app
+    ∙ is_simple_app))
 
 pub returns-clause-faulty : goal.returns-clause-faulty
 returns-clause-faulty c =
     let app = c.in_ok-vmecheck_command.ensures in
     let words = map string_bytes c.args.words.now in
-    let taken : fault_of vmecheck_app words ≡ [] = subst (λ (a : App). fault_of a words ≡ []) app (c.in_ok-matches.ensures.kinds (ap is_simple_and_free app ∙ is_simple_app)) in
-    let met = (c.in_ok-matches.ensures.matches (ap is_simple app ∙ is_simple_only)).1 ∙ ap (λ (a : App). subcommand_of a words) app in
+    let taken : fault_of vmecheck_app words ≡ [] = subst (λ (a : App). fault_of a words ≡ []) app
+    (c.in_ok-matches.ensures.kinds (ap is_simple_and_free app ∙ is_simple_app)) in
+    let met = (c.in_ok-matches.ensures.matches (ap is_simple app ∙ is_simple_only)).1
+    ∙ ap (λ (a : App). subcommand_of a words) app in
     let found = c.in_ok-order.ensures.found (subst HasOrder (sym met) (words_have_order words taken)) in
     absurd (true≢false (sym found ∙ ap is_some c.in-None.is))

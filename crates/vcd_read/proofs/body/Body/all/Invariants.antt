@@ -11,8 +11,12 @@ invariant-loop g l = record {
   text : l.self.reader.text ≡ l.fn.self.reader.text;
   between : l.self.place ≡ Ready;
   rest : (more : List Token)
-      → remaining_in g.T.ChangeVisitor.with_change g.T.ChangeVisitor.with_instant (place_of l.fn.self.place) l.fn.self.codes.now l.fn.self.reader (taking (g.T.ChangeVisitor.taken l.fn.self.timed.visitor) l.fn.self.timed.clock) l.fn.self.bracket more
-      ≡ remaining_in g.T.ChangeVisitor.with_change g.T.ChangeVisitor.with_instant (place_of l.self.place) l.self.codes.now l.self.reader (taking (g.T.ChangeVisitor.taken l.self.timed.visitor) l.self.timed.clock) l.self.bracket more;
+      → remaining_in g.T.ChangeVisitor.with_change g.T.ChangeVisitor.with_instant (place_of l.fn.self.place)
+      l.fn.self.codes.now l.fn.self.reader (taking (g.T.ChangeVisitor.taken l.fn.self.timed.visitor)
+      l.fn.self.timed.clock) l.fn.self.bracket more
+      ≡ remaining_in g.T.ChangeVisitor.with_change g.T.ChangeVisitor.with_instant (place_of l.self.place)
+      l.self.codes.now l.self.reader (taking (g.T.ChangeVisitor.taken l.self.timed.visitor) l.self.timed.clock)
+      l.self.bracket more;
 }
 
 abbrev pub decreases-loop : goal.decreases-loop

@@ -18,9 +18,16 @@ returns-then-is_end-clause-rest g c =
     let t = token_at text c.in-Some.word.at c.in-Some.word.bytes.now in
     let cut = rw inv.text at c.in-Some.ensures.token in
     λ more.
-    let ended = comment_end line (left_at text c.loop-word.self.reader.at ++ more) (left_at text after ++ more) t (ap (λ (ts : List Token). ts ++ more) cut) (sym c.is_end.ensures ∙ c.if-is_end.true) in
-    ap (steps g.T.ChangeVisitor.with_change g.T.ChangeVisitor.with_instant old.codes.now (state_of old.reader.text (taking (g.T.ChangeVisitor.taken old.timed.visitor) old.timed.clock) old.bracket)) (inv.rest more ∙ ended)
-    ∙ same_left g.T.ChangeVisitor.with_change g.T.ChangeVisitor.with_instant old.codes.now c.loop-word.self.codes.now text c.next.new.self.text (taking (g.T.ChangeVisitor.taken old.timed.visitor) old.timed.clock) (taking (g.T.ChangeVisitor.taken c.loop-word.self.timed.visitor) c.loop-word.self.timed.clock) old.bracket c.loop-word.self.bracket _ (place_of c.loop-word.self.place) after (cc) (cc) (rw inv.timed refl) inv.bracket (ap place_of (inv.place ∙ c.requires.between)) more
+    let ended = comment_end line (left_at text c.loop-word.self.reader.at ++ more) (left_at text after ++ more) t
+    (ap (λ (ts : List Token). ts ++ more) cut) (sym c.is_end.ensures ∙ c.if-is_end.true) in
+    ap (steps g.T.ChangeVisitor.with_change g.T.ChangeVisitor.with_instant old.codes.now
+    (state_of old.reader.text (taking (g.T.ChangeVisitor.taken old.timed.visitor) old.timed.clock) old.bracket))
+    (inv.rest more ∙ ended)
+    ∙ same_left g.T.ChangeVisitor.with_change g.T.ChangeVisitor.with_instant old.codes.now c.loop-word.self.codes.now
+    text c.next.new.self.text (taking (g.T.ChangeVisitor.taken old.timed.visitor) old.timed.clock)
+    (taking (g.T.ChangeVisitor.taken c.loop-word.self.timed.visitor) c.loop-word.self.timed.clock) old.bracket
+    c.loop-word.self.bracket _ (place_of c.loop-word.self.place) after (cc) (cc) (rw inv.timed refl) inv.bracket
+    (ap place_of (inv.place ∙ c.requires.between)) more
 
 pub loop-word-preserved : goal.loop-word-preserved
 loop-word-preserved g c =
@@ -37,7 +44,9 @@ loop-word-preserved g c =
       bracket = inv.bracket;
       forward = omega (arith, c.in-Some.ensures.forward, inv.forward);
       place = inv.place;
-      rest = λ more. inv.rest more ∙ comment_more line (left_at text c.loop-word.self.reader.at ++ more) (left_at text after ++ more) t (ap (λ (ts : List Token). ts ++ more) cut) (sym c.is_end.ensures ∙ c.if-is_end.false);
+      rest = λ more. inv.rest more ∙ comment_more line (left_at text c.loop-word.self.reader.at ++ more)
+          (left_at text after ++ more) t (ap (λ (ts : List Token). ts ++ more) cut) (sym c.is_end.ensures
+          ∙ c.if-is_end.false);
     }
 
 pub returns-clause-rest : goal.returns-clause-rest
@@ -53,6 +62,10 @@ returns-clause-rest g c =
     let s = state_of text (taking (g.T.ChangeVisitor.taken old.timed.visitor) old.timed.clock) old.bracket in
     λ more.
     ap (steps g.T.ChangeVisitor.with_change g.T.ChangeVisitor.with_instant old.codes.now s) (inv.rest more)
-    ∙ nothing_left g.T.ChangeVisitor.with_change g.T.ChangeVisitor.with_instant old.codes.now s place (left_at text c.loop-word.self.reader.at) (left_at text after) none end more
-    ∙ same_left g.T.ChangeVisitor.with_change g.T.ChangeVisitor.with_instant old.codes.now c.loop-word.self.codes.now text c.next.new.self.text (taking (g.T.ChangeVisitor.taken old.timed.visitor) old.timed.clock) (taking (g.T.ChangeVisitor.taken c.loop-word.self.timed.visitor) c.loop-word.self.timed.clock) old.bracket c.loop-word.self.bracket place (in_comment c.line.result) after (cc) later (rw inv.timed refl) inv.bracket
+    ∙ nothing_left g.T.ChangeVisitor.with_change g.T.ChangeVisitor.with_instant old.codes.now s place
+    (left_at text c.loop-word.self.reader.at) (left_at text after) none end more
+    ∙ same_left g.T.ChangeVisitor.with_change g.T.ChangeVisitor.with_instant old.codes.now c.loop-word.self.codes.now
+    text c.next.new.self.text (taking (g.T.ChangeVisitor.taken old.timed.visitor) old.timed.clock)
+    (taking (g.T.ChangeVisitor.taken c.loop-word.self.timed.visitor) c.loop-word.self.timed.clock) old.bracket
+    c.loop-word.self.bracket place (in_comment c.line.result) after (cc) later (rw inv.timed refl) inv.bracket
     (ap in_comment (c.line.ensures ∙ ap (λ (x : BodyPiece). line_of x c.args.start) later)) more

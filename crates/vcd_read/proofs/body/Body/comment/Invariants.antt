@@ -12,8 +12,10 @@ invariant-loop-word g l = record {
   bracket : l.self.bracket ≡ l.fn.self.bracket;
   forward : l.fn.self.reader.at ≤ l.self.reader.at;
   place : l.self.place ≡ l.fn.self.place;
-  rest : (more : List Token) → body_from (in_comment (line_of l.fn.self.reader.text l.start)) (left_at l.fn.self.reader.text l.fn.self.reader.at ++ more)
-      ≡ body_from (in_comment (line_of l.fn.self.reader.text l.start)) (left_at l.fn.self.reader.text l.self.reader.at ++ more);
+  rest : (more : List Token) → body_from (in_comment (line_of l.fn.self.reader.text l.start))
+      (left_at l.fn.self.reader.text l.fn.self.reader.at ++ more)
+      ≡ body_from (in_comment (line_of l.fn.self.reader.text l.start)) (left_at l.fn.self.reader.text l.self.reader.at
+      ++ more);
 }
 
 abbrev pub decreases-loop-word : goal.decreases-loop-word

@@ -1,7 +1,8 @@
 use Rattle.std.proofs.Common.{◌∙◌, ◌++◌, List, sym, ap}
 use Rattle.vcd_read.specs.Tokens.{Token}
 use Rattle.vcd_read.specs.Reading.{left_at, token_at}
-use Rattle.vcd_read.specs.Body.{time_item, change, bracket_open, bracket_end, time_shape, scalar, vector, foreign, comment, open_shape, end_shape, none}
+use Rattle.vcd_read.specs.Body.{time_item, change, bracket_open, bracket_end, time_shape, scalar, vector, foreign}
+use Rattle.vcd_read.specs.Body.{comment, open_shape, end_shape, none}
 use Rattle.vcd_read.specs.Shapes.{found_shape}
 use Rattle.vcd_read.specs.Taking.{taking, state_of, steps}
 use Rattle.vcd_read.proofs.BodyLemmas.{read_item, shape_read, leaves_same, read_wrong}
@@ -12,9 +13,13 @@ returns-in-Time-clause-rest g c =
     let old = c.args.self.now in
     let text = old.reader.text in
     let t = token_at text c.args.token.at c.args.token.bytes.now in
-    let is = λ (more : List Token). shape_read t (left_at text old.reader.at ++ more) (time_shape c.in-Time.digits.now) (sym (ap found_shape c.in-Time.is) ∙ c.shape_of.ensures) in
+    let is = λ (more : List Token). shape_read t (left_at text old.reader.at ++ more) (time_shape c.in-Time.digits.now)
+    (sym (ap found_shape c.in-Time.is) ∙ c.shape_of.ensures) in
     let new = c.time.new.self in
-    read_item g.T.ChangeVisitor.with_change g.T.ChangeVisitor.with_instant old.codes.now new.codes.now (state_of old.reader.text (taking (g.T.ChangeVisitor.taken old.timed.visitor) old.timed.clock) old.bracket) (state_of new.reader.text (taking (g.T.ChangeVisitor.taken new.timed.visitor) new.timed.clock) new.bracket) text new.reader.text old.reader.at new.reader.at new.place (time_item t.line c.in-Time.digits.now) _ c.time.result
+    read_item g.T.ChangeVisitor.with_change g.T.ChangeVisitor.with_instant old.codes.now new.codes.now
+    (state_of old.reader.text (taking (g.T.ChangeVisitor.taken old.timed.visitor) old.timed.clock) old.bracket)
+    (state_of new.reader.text (taking (g.T.ChangeVisitor.taken new.timed.visitor) new.timed.clock) new.bracket) text
+    new.reader.text old.reader.at new.reader.at new.place (time_item t.line c.in-Time.digits.now) _ c.time.result
     (cc) (cc) (cc) (cc) is c.time.ensures.step
 
 pub returns-in-Scalar-clause-rest : goal.returns-in-Scalar-clause-rest
@@ -22,9 +27,14 @@ returns-in-Scalar-clause-rest g c =
     let old = c.args.self.now in
     let text = old.reader.text in
     let t = token_at text c.args.token.at c.args.token.bytes.now in
-    let is = λ (more : List Token). shape_read t (left_at text old.reader.at ++ more) (scalar c.in-Scalar.digit.now c.in-Scalar.code.now) (sym (ap found_shape c.in-Scalar.is) ∙ c.shape_of.ensures) in
+    let is = λ (more : List Token). shape_read t (left_at text old.reader.at ++ more)
+    (scalar c.in-Scalar.digit.now c.in-Scalar.code.now) (sym (ap found_shape c.in-Scalar.is) ∙ c.shape_of.ensures) in
     let new = c.change.new.self in
-    read_item g.T.ChangeVisitor.with_change g.T.ChangeVisitor.with_instant old.codes.now new.codes.now (state_of old.reader.text (taking (g.T.ChangeVisitor.taken old.timed.visitor) old.timed.clock) old.bracket) (state_of new.reader.text (taking (g.T.ChangeVisitor.taken new.timed.visitor) new.timed.clock) new.bracket) text new.reader.text old.reader.at new.reader.at new.place (change t.line c.in-Scalar.digit.now c.in-Scalar.code.now) _ c.change.result
+    read_item g.T.ChangeVisitor.with_change g.T.ChangeVisitor.with_instant old.codes.now new.codes.now
+    (state_of old.reader.text (taking (g.T.ChangeVisitor.taken old.timed.visitor) old.timed.clock) old.bracket)
+    (state_of new.reader.text (taking (g.T.ChangeVisitor.taken new.timed.visitor) new.timed.clock) new.bracket) text
+    new.reader.text old.reader.at new.reader.at new.place (change t.line c.in-Scalar.digit.now c.in-Scalar.code.now) _
+    c.change.result
     (cc) (cc) (cc) (cc) is c.change.ensures.step
 
 pub returns-in-Opens-clause-rest : goal.returns-in-Opens-clause-rest
@@ -32,9 +42,13 @@ returns-in-Opens-clause-rest g c =
     let old = c.args.self.now in
     let text = old.reader.text in
     let t = token_at text c.args.token.at c.args.token.bytes.now in
-    let is = λ (more : List Token). shape_read t (left_at text old.reader.at ++ more) open_shape (sym (ap found_shape c.in-Opens.is) ∙ c.shape_of.ensures) in
+    let is = λ (more : List Token). shape_read t (left_at text old.reader.at ++ more) open_shape
+    (sym (ap found_shape c.in-Opens.is) ∙ c.shape_of.ensures) in
     let new = c.open.new.self in
-    read_item g.T.ChangeVisitor.with_change g.T.ChangeVisitor.with_instant old.codes.now new.codes.now (state_of old.reader.text (taking (g.T.ChangeVisitor.taken old.timed.visitor) old.timed.clock) old.bracket) (state_of new.reader.text (taking (g.T.ChangeVisitor.taken new.timed.visitor) new.timed.clock) new.bracket) text new.reader.text old.reader.at new.reader.at new.place (bracket_open t.line) _ c.open.result
+    read_item g.T.ChangeVisitor.with_change g.T.ChangeVisitor.with_instant old.codes.now new.codes.now
+    (state_of old.reader.text (taking (g.T.ChangeVisitor.taken old.timed.visitor) old.timed.clock) old.bracket)
+    (state_of new.reader.text (taking (g.T.ChangeVisitor.taken new.timed.visitor) new.timed.clock) new.bracket) text
+    new.reader.text old.reader.at new.reader.at new.place (bracket_open t.line) _ c.open.result
     (cc) (cc) (cc) (cc) is c.open.ensures.step
 
 pub returns-in-Ends-clause-rest : goal.returns-in-Ends-clause-rest
@@ -42,9 +56,13 @@ returns-in-Ends-clause-rest g c =
     let old = c.args.self.now in
     let text = old.reader.text in
     let t = token_at text c.args.token.at c.args.token.bytes.now in
-    let is = λ (more : List Token). shape_read t (left_at text old.reader.at ++ more) end_shape (sym (ap found_shape c.in-Ends.is) ∙ c.shape_of.ensures) in
+    let is = λ (more : List Token). shape_read t (left_at text old.reader.at ++ more) end_shape
+    (sym (ap found_shape c.in-Ends.is) ∙ c.shape_of.ensures) in
     let new = c.close.new.self in
-    read_item g.T.ChangeVisitor.with_change g.T.ChangeVisitor.with_instant old.codes.now new.codes.now (state_of old.reader.text (taking (g.T.ChangeVisitor.taken old.timed.visitor) old.timed.clock) old.bracket) (state_of new.reader.text (taking (g.T.ChangeVisitor.taken new.timed.visitor) new.timed.clock) new.bracket) text new.reader.text old.reader.at new.reader.at new.place (bracket_end t.line) _ c.close.result
+    read_item g.T.ChangeVisitor.with_change g.T.ChangeVisitor.with_instant old.codes.now new.codes.now
+    (state_of old.reader.text (taking (g.T.ChangeVisitor.taken old.timed.visitor) old.timed.clock) old.bracket)
+    (state_of new.reader.text (taking (g.T.ChangeVisitor.taken new.timed.visitor) new.timed.clock) new.bracket) text
+    new.reader.text old.reader.at new.reader.at new.place (bracket_end t.line) _ c.close.result
     (cc) (cc) (cc) (cc) is c.close.ensures.step
 
 pub returns-in-Vector-clause-rest : goal.returns-in-Vector-clause-rest
@@ -52,29 +70,41 @@ returns-in-Vector-clause-rest g c =
     let old = c.args.self.now in
     let text = old.reader.text in
     let t = token_at text c.args.token.at c.args.token.bytes.now in
-    let is = λ (more : List Token). shape_read t (left_at text old.reader.at ++ more) (vector c.in-Vector.digits.now) (sym (ap found_shape c.in-Vector.is) ∙ c.shape_of.ensures) in
-    leaves_same _ _ _ c.vector.result (λ more. ap (steps g.T.ChangeVisitor.with_change g.T.ChangeVisitor.with_instant old.codes.now (state_of old.reader.text (taking (g.T.ChangeVisitor.taken old.timed.visitor) old.timed.clock) old.bracket)) (is more)) c.vector.ensures.rest
+    let is = λ (more : List Token). shape_read t (left_at text old.reader.at ++ more) (vector c.in-Vector.digits.now)
+    (sym (ap found_shape c.in-Vector.is) ∙ c.shape_of.ensures) in
+    leaves_same _ _ _ c.vector.result (λ more. ap (steps g.T.ChangeVisitor.with_change g.T.ChangeVisitor.with_instant
+    old.codes.now (state_of old.reader.text (taking (g.T.ChangeVisitor.taken old.timed.visitor) old.timed.clock)
+    old.bracket)) (is more)) c.vector.ensures.rest
 
 pub returns-in-Foreign-clause-rest : goal.returns-in-Foreign-clause-rest
 returns-in-Foreign-clause-rest g c =
     let old = c.args.self.now in
     let text = old.reader.text in
     let t = token_at text c.args.token.at c.args.token.bytes.now in
-    let is = λ (more : List Token). shape_read t (left_at text old.reader.at ++ more) foreign (sym (ap found_shape c.in-Foreign.is) ∙ c.shape_of.ensures) in
-    leaves_same _ _ _ c.foreign.result (λ more. ap (steps g.T.ChangeVisitor.with_change g.T.ChangeVisitor.with_instant old.codes.now (state_of old.reader.text (taking (g.T.ChangeVisitor.taken old.timed.visitor) old.timed.clock) old.bracket)) (is more)) c.foreign.ensures.rest
+    let is = λ (more : List Token). shape_read t (left_at text old.reader.at ++ more) foreign
+    (sym (ap found_shape c.in-Foreign.is) ∙ c.shape_of.ensures) in
+    leaves_same _ _ _ c.foreign.result (λ more. ap (steps g.T.ChangeVisitor.with_change g.T.ChangeVisitor.with_instant
+    old.codes.now (state_of old.reader.text (taking (g.T.ChangeVisitor.taken old.timed.visitor) old.timed.clock)
+    old.bracket)) (is more)) c.foreign.ensures.rest
 
 pub returns-in-Comment-clause-rest : goal.returns-in-Comment-clause-rest
 returns-in-Comment-clause-rest g c =
     let old = c.args.self.now in
     let text = old.reader.text in
     let t = token_at text c.args.token.at c.args.token.bytes.now in
-    let is = λ (more : List Token). shape_read t (left_at text old.reader.at ++ more) comment (sym (ap found_shape c.in-Comment.is) ∙ c.shape_of.ensures) in
-    leaves_same _ _ _ c.comment.result (λ more. ap (steps g.T.ChangeVisitor.with_change g.T.ChangeVisitor.with_instant old.codes.now (state_of old.reader.text (taking (g.T.ChangeVisitor.taken old.timed.visitor) old.timed.clock) old.bracket)) (is more)) c.comment.ensures.rest
+    let is = λ (more : List Token). shape_read t (left_at text old.reader.at ++ more) comment
+    (sym (ap found_shape c.in-Comment.is) ∙ c.shape_of.ensures) in
+    leaves_same _ _ _ c.comment.result (λ more. ap (steps g.T.ChangeVisitor.with_change g.T.ChangeVisitor.with_instant
+    old.codes.now (state_of old.reader.text (taking (g.T.ChangeVisitor.taken old.timed.visitor) old.timed.clock)
+    old.bracket)) (is more)) c.comment.ensures.rest
 
 pub returns-in-Unknown-clause-rest : goal.returns-in-Unknown-clause-rest
 returns-in-Unknown-clause-rest g c =
     let old = c.args.self.now in
     let text = old.reader.text in
     let t = token_at text c.args.token.at c.args.token.bytes.now in
-    let is = λ (more : List Token). shape_read t (left_at text old.reader.at ++ more) none (sym (ap found_shape c.in-Unknown.is) ∙ c.shape_of.ensures) in
-    rw c.fault.ensures (λ more. read_wrong g.T.ChangeVisitor.with_change g.T.ChangeVisitor.with_instant old.codes.now (state_of old.reader.text (taking (g.T.ChangeVisitor.taken old.timed.visitor) old.timed.clock) old.bracket) t.line _ _ _ (is more))
+    let is = λ (more : List Token). shape_read t (left_at text old.reader.at ++ more) none
+    (sym (ap found_shape c.in-Unknown.is) ∙ c.shape_of.ensures) in
+    rw c.fault.ensures (λ more. read_wrong g.T.ChangeVisitor.with_change g.T.ChangeVisitor.with_instant old.codes.now
+    (state_of old.reader.text (taking (g.T.ChangeVisitor.taken old.timed.visitor) old.timed.clock) old.bracket) t.line
+    _ _ _ (is more))

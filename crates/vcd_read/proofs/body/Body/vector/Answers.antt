@@ -15,6 +15,10 @@ returns-in-Some-clause-rest g c =
     let after = c.next.new.self.at in
     let t = token_at text c.in-Some.code.at c.in-Some.code.bytes.now in
     let h = rw c.in-Some.ensures.text at c.change.ensures.step in
-    let is = λ (more : List Token). vector_read line c.args.digits.now (left_at text old.reader.at ++ more) (left_at text after ++ more) t (ap (λ (ts : List Token). ts ++ more) c.in-Some.ensures.token) in
-    read_item g.T.ChangeVisitor.with_change g.T.ChangeVisitor.with_instant old.codes.now new.codes.now (state_of old.reader.text (taking (g.T.ChangeVisitor.taken old.timed.visitor) old.timed.clock) old.bracket) (state_of new.reader.text (taking (g.T.ChangeVisitor.taken new.timed.visitor) new.timed.clock) new.bracket) text new.reader.text after new.reader.at new.place (change line c.args.digits.now t.bytes) _ c.change.result
+    let is = λ (more : List Token). vector_read line c.args.digits.now (left_at text old.reader.at ++ more)
+    (left_at text after ++ more) t (ap (λ (ts : List Token). ts ++ more) c.in-Some.ensures.token) in
+    read_item g.T.ChangeVisitor.with_change g.T.ChangeVisitor.with_instant old.codes.now new.codes.now
+    (state_of old.reader.text (taking (g.T.ChangeVisitor.taken old.timed.visitor) old.timed.clock) old.bracket)
+    (state_of new.reader.text (taking (g.T.ChangeVisitor.taken new.timed.visitor) new.timed.clock) new.bracket) text
+    new.reader.text after new.reader.at new.place (change line c.args.digits.now t.bytes) _ c.change.result
     (cc) (cc) (cc) (cc) is h

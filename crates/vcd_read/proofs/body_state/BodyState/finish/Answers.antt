@@ -4,7 +4,11 @@ use Rattle.vcd_read.proofs.BodyLemmas.{finished-ok, unfinished_fails}
 use Rattle.vcd_read.proofs.body_state.BodyState.finish.Goals as goal
 
 pub returns-in-Some : goal.returns-in-Some
-returns-in-Some g c = λ nets. unfinished_fails g.T.ChangeVisitor.with_change g.T.ChangeVisitor.with_instant nets (taking (g.T.ChangeVisitor.taken c.args.self.timed.visitor) c.args.self.timed.clock) c.args.self.bracket c.args.self.place c.in-Some.line (sym c.in-Some.ensures)
+returns-in-Some g c = λ nets. unfinished_fails g.T.ChangeVisitor.with_change g.T.ChangeVisitor.with_instant nets
+    (taking (g.T.ChangeVisitor.taken c.args.self.timed.visitor) c.args.self.timed.clock) c.args.self.bracket
+    c.args.self.place c.in-Some.line (sym c.in-Some.ensures)
 
 pub returns : goal.returns
-returns g c = λ nets. finished-ok g.T.ChangeVisitor.with_change g.T.ChangeVisitor.with_instant nets (taking (g.T.ChangeVisitor.taken c.args.self.timed.visitor) c.args.self.timed.clock) c.args.self.bracket c.args.self.place (sym c.in_default.ensures) ∙ ap Ok (sym c.in_ok-finish.ensures)
+returns g c = λ nets. finished-ok g.T.ChangeVisitor.with_change g.T.ChangeVisitor.with_instant nets
+    (taking (g.T.ChangeVisitor.taken c.args.self.timed.visitor) c.args.self.timed.clock) c.args.self.bracket
+    c.args.self.place (sym c.in_default.ensures) ∙ ap Ok (sym c.in_ok-finish.ensures)

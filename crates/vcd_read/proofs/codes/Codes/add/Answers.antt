@@ -10,10 +10,15 @@ pub invariant_of-self-2 : goal.invariant_of-self-2
 invariant_of-self-2 c =
     let nets : List Net = map net_code c.self.inside.nets.items in
     let none : net_of (map net_code c.self.inside.nets.items) c.args.code.now ≡ None = rw c.self.view_is c.requires in
-    let more : map net_code c.push_reserved.new.self.items ≡ map net_code c.self.inside.nets.items ++ record { code = c.args.code.now; size = c.args.size } ∷ [] =
+    let more : map net_code c.push_reserved.new.self.items ≡ map net_code c.self.inside.nets.items
+    ++ record { code = c.args.code.now; size = c.args.size } ∷ [] =
     ap (map net_code) c.push_reserved.ensures.items
     ∙ map_push net_code c.reserve.new.self.items _
-    ∙ ap (λ (before : List NetCode). map net_code before ++ record { code = c.in_ok-bytes.bytes.items; size = c.args.size } ∷ []) c.reserve.ensures.items
-    ∙ ap (λ (bytes : List ℕ). map net_code c.self.inside.nets.items ++ record { code = bytes; size = c.args.size } ∷ []) c.in_ok-bytes.ensures.items in
-    let pushed = indexed_push nets c.self.inside.index c.insert.new.self c.args.code.now c.args.size c.len-net.result c.self.invariant none (simp length-map (omega (arith, c.len-net.ensures))) (omega (arith, c.if-net.false)) c.in_ok-insert.ensures.ok in
+    ∙ ap (λ (before : List NetCode). map net_code before
+    ++ record { code = c.in_ok-bytes.bytes.items; size = c.args.size } ∷ []) c.reserve.ensures.items
+    ∙ ap (λ (bytes : List ℕ). map net_code c.self.inside.nets.items ++ record { code = bytes; size = c.args.size } ∷ [])
+    c.in_ok-bytes.ensures.items in
+    let pushed = indexed_push nets c.self.inside.index c.insert.new.self c.args.code.now c.args.size c.len-net.result
+    c.self.invariant none (simp length-map (omega (arith, c.len-net.ensures))) (omega (arith, c.if-net.false))
+    c.in_ok-insert.ensures.ok in
     subst (λ (nets : List Net). AreIndexed nets c.insert.new.self) (sym more) pushed

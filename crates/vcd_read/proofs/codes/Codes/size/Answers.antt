@@ -10,4 +10,6 @@ returns c =
     let n = c.index.result.now in
     let i = c.args.net in
     let lt : i < length (map net_code nets) = rw c.self.view_is c.requires in
-    rw (← c.self.view_is) (sym (size_of-at (map net_code nets) i (net_code n) lt (ap net_code c.index.ensures ∙ sym (get_or-map net_code nets i n (net_code n) (omega (arith, simp length-map at lt))))))
+    rw (← c.self.view_is)
+    (sym (size_of-at (map net_code nets) i (net_code n) lt (ap net_code c.index.ensures
+    ∙ sym (get_or-map net_code nets i n (net_code n) (omega (arith, simp length-map at lt))))))

@@ -10,6 +10,8 @@ returns c =
     let name = c.args.name.now in
     let names = names_at s.path.items (reverse s.starts.items) in
     c.in_ok-extend_from_slice-2.ensures.items
-    ∙ ap (λ (front : List ℕ). front ++ name) (c.in_ok-extend_from_slice.ensures.items ∙ ap (λ (front : List ℕ). front ++ c.deref.result.now) c.in_ok-path.ensures.items ∙ c.deref.ensures.value ∙ c.self.invariant.whole)
+    ∙ ap (λ (front : List ℕ). front ++ name) (c.in_ok-extend_from_slice.ensures.items
+    ∙ ap (λ (front : List ℕ). front ++ c.deref.result.now) c.in_ok-path.ensures.items ∙ c.deref.ensures.value
+    ∙ c.self.invariant.whole)
     ∙ sym (path_of-is names name c.requires)
     ∙ ap (λ (ns : List (List ℕ)). path_of ns name) c.self.view_is

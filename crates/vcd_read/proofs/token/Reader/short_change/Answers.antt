@@ -11,7 +11,8 @@ returns-clause-token c =
     let at = c.args.self.now.at in
     let code = c.ends_word.ensures.goes_on (cc) in
     change_step piece.line text at code.0 (cc) code.1 (c.ends_word-2.ensures.ends (cc))
-    ∙ ap (λ (ts : List Token). token_at piece at (between text at (at + 1) ++ between text (at + 1) (at + 2)) ∷ ts) (sym (c.behind_word-self.ensures.left piece.line))
+    ∙ ap (λ (ts : List Token). token_at piece at (between text at (at + 1) ++ between text (at + 1) (at + 2)) ∷ ts)
+    (sym (c.behind_word-self.ensures.left piece.line))
 
 pub returns-clause-shape : goal.returns-clause-shape
 returns-clause-shape c =

@@ -14,8 +14,11 @@ returns-clause-token c =
     let rest : take (length text - (at + 1)) (drop (at + 1) text) ≡ drop (at + 1) text =
     take_all (length text - (at + 1)) (drop (at + 1) text) (omega (arith, length-drop (at + 1) text)) in
     time_step piece.line text at c.leading_number-number.result.count c.requires c.if-self-ne35.false
-    (rw rest at c.leading_number-number.ensures.within) (rw rest at c.leading_number-number.ensures.digits) (c.ends_word.ensures.ends (cc))
-    ∙ ap (λ (ts : List Token). token_at piece at (35 ∷ between text (at + 1) (at + 1 + c.leading_number-number.result.count)) ∷ ts) (sym (c.behind_word-self.ensures.left piece.line))
+    (rw rest at c.leading_number-number.ensures.within) (rw rest at c.leading_number-number.ensures.digits)
+    (c.ends_word.ensures.ends (cc))
+    ∙ ap (λ (ts : List Token). token_at piece at
+    (35 ∷ between text (at + 1) (at + 1 + c.leading_number-number.result.count)) ∷ ts)
+    (sym (c.behind_word-self.ensures.left piece.line))
 
 pub returns-clause-time : goal.returns-clause-time
 returns-clause-time c =
@@ -26,5 +29,7 @@ returns-clause-time c =
     take_all (length text - (at + 1)) (drop (at + 1) text) (omega (arith, length-drop (at + 1) text)) in
     let n : at + 1 + count - (at + 1) ≡ count = omega arith in
     let within = rw rest at c.leading_number-number.ensures.within in
-    rw n (short_time_of (take count (drop (at + 1) text)) c.leading_number-number.result.number (omega (arith, length-take-le count (drop (at + 1) text) within, c.if-count-eq0.false))
-    (rw rest at c.leading_number-number.ensures.digits) (rw rest at c.leading_number-number.ensures.number) (omega arith))
+    rw n (short_time_of (take count (drop (at + 1) text)) c.leading_number-number.result.number
+    (omega (arith, length-take-le count (drop (at + 1) text) within, c.if-count-eq0.false))
+    (rw rest at c.leading_number-number.ensures.digits) (rw rest at c.leading_number-number.ensures.number)
+    (omega arith))

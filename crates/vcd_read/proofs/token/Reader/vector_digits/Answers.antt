@@ -10,9 +10,12 @@ returns-clause-token c =
     let text = piece.bytes.now in
     let at = c.args.self.now.at in
     let end = c.bits_end-end.result in
-    vector_step piece.line text at end (cc) (omega arith) c.bits_end-end.ensures.high c.bits_end-end.ensures.bits (c.ends_word.ensures.ends (cc))
-    ∙ ap (λ (ts : List Token). token_at piece at (between text at end) ∷ ts) (sym (c.behind_word-self.ensures.left piece.line))
+    vector_step piece.line text at end (cc) (omega arith) c.bits_end-end.ensures.high c.bits_end-end.ensures.bits
+    (c.ends_word.ensures.ends (cc))
+    ∙ ap (λ (ts : List Token). token_at piece at (between text at end) ∷ ts)
+    (sym (c.behind_word-self.ensures.left piece.line))
 
 pub returns-clause-shape : goal.returns-clause-shape
 returns-clause-shape c =
-    vector_of c.args.self.now.text.bytes.now c.args.self.now.at c.bits_end-end.result (cc) (omega arith) c.bits_end-end.ensures.high c.bits_end-end.ensures.bits
+    vector_of c.args.self.now.text.bytes.now c.args.self.now.at c.bits_end-end.result (cc) (omega arith)
+    c.bits_end-end.ensures.high c.bits_end-end.ensures.bits

@@ -10,5 +10,7 @@ returns-clause-token c =
     let text = piece.bytes.now in
     let start = c.args.self.now.at in
     let end = c.word_end-end.result in
-    token_step piece.line text start end (omega arith) c.word_end-end.ensures.high (word_from text start end c.requires.word c.word_end-end.ensures.word) c.word_end-end.ensures.end
-    ∙ ap (λ (ts : List Token). token_at piece start (between text start end) ∷ ts) (sym (c.behind_word-self.ensures.left piece.line))
+    token_step piece.line text start end (omega arith) c.word_end-end.ensures.high
+    (word_from text start end c.requires.word c.word_end-end.ensures.word) c.word_end-end.ensures.end
+    ∙ ap (λ (ts : List Token). token_at piece start (between text start end) ∷ ts)
+    (sym (c.behind_word-self.ensures.left piece.line))

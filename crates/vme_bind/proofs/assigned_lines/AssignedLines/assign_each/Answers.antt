@@ -14,4 +14,5 @@ loop-line_bit-preserved c =
     ap (λ (assigned : List Bool). slice_set assigned c.number.result true) c.loop-line_bit.invariant
     ∙ ap (λ (n : ℕ). slice_set (assigned_too (take i line_bits) first) n true) c.number.ensures.number
     ∙ sym (assigned_too-more (take i line_bits) first line_bit)
-    ∙ ap (λ (ts : List LineBit). assigned_too ts first) (ap (λ (t : LineBit). take i line_bits ++ t ∷ []) c.line_bit-item.is ∙ sym (take_more line_bits i line_bit c.loop-line_bit-test.true))
+    ∙ ap (λ (ts : List LineBit). assigned_too ts first) (ap (λ (t : LineBit). take i line_bits ++ t ∷ [])
+    c.line_bit-item.is ∙ sym (take_more line_bits i line_bit c.loop-line_bit-test.true))

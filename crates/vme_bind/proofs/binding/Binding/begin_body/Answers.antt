@@ -11,7 +11,8 @@ returns-in-Ok-clause-rest g c variables seen =
     let head = c.args.front.head in
     let bound_groups = rw (bound_groups_found variables b.assignments _ seen) at c.in-Ok.ensures in
     let given = rw (c.lines.ensures.slots, c.deref.ensures.value) at c.begin_bound_groups.ensures.rest in
-    leads-same _ c.begin_bound_groups.result _ _ (λ (more : List Token). behind-fitting b (going_on head more) variables c.in-Ok.bound_groups.items bound_groups) given
+    leads-same _ c.begin_bound_groups.result _ _ (λ (more : List Token). behind-fitting b (going_on head more) variables
+    c.in-Ok.bound_groups.items bound_groups) given
 
 pub returns-in-Memory-clause-rest : goal.returns-in-Memory-clause-rest
 returns-in-Memory-clause-rest g c variables seen =
@@ -25,4 +26,5 @@ returns-in_default-clause-rest g c variables seen =
     let own = c.in-Err.fault in
     let fails = rw (bound_groups_found variables b.assignments _ seen) at c.in-Err.ensures in
     let refused = refused-is own _ c.in_default.not-Memory fails in
-    leads-same _ c.begin_bound_groups-in_default.result _ _ (λ (more : List Token). behind-refused b (going_on head more) variables [] own refused) c.begin_bound_groups-in_default.ensures.rest
+    leads-same _ c.begin_bound_groups-in_default.result _ _ (λ (more : List Token). behind-refused b
+    (going_on head more) variables [] own refused) c.begin_bound_groups-in_default.ensures.rest

@@ -11,7 +11,8 @@ returns-in-Err-clause-bound c =
     let s = saying c.in-Some.statement in
     let rest = left c.next.new.self in
     fails_first c.in-Err.field-0 (at_line s.line (bound b s)) (λ next. bound_all next rest) _
-    (sym c.loop-statement.invariant.bound ∙ ap (bound_all b) c.in-Some.ensures.left ∙ bound_more b s rest) c.in-Err.ensures
+    (sym c.loop-statement.invariant.bound ∙ ap (bound_all b) c.in-Some.ensures.left ∙ bound_more b s rest)
+    c.in-Err.ensures
 
 pub loop-statement-preserved : goal.loop-statement-preserved
 loop-statement-preserved c =
@@ -19,10 +20,12 @@ loop-statement-preserved c =
     let s = saying c.in-Some.statement in
     let rest = left c.next.new.self in
     record {
-      bound = sym (bound_step b c.bind.new.self s rest c.in_default-bind.ensures) ∙ ap (bound_all b) (sym c.in-Some.ensures.left) ∙ c.loop-statement.invariant.bound;
+      bound = sym (bound_step b c.bind.new.self s rest c.in_default-bind.ensures) ∙ ap (bound_all b)
+          (sym c.in-Some.ensures.left) ∙ c.loop-statement.invariant.bound;
       last = c.in-Some.ensures.last ∙ c.loop-statement.invariant.last;
     }
 
 pub returns-clause-bound : goal.returns-clause-bound
 returns-clause-bound c =
-    sym c.loop-statement.invariant.bound ∙ ap (bound_all c.loop-statement.self) c.in_default.ensures.left ∙ bound_end c.loop-statement.self
+    sym c.loop-statement.invariant.bound ∙ ap (bound_all c.loop-statement.self) c.in_default.ensures.left
+    ∙ bound_end c.loop-statement.self

@@ -14,10 +14,13 @@ returns-then-not-is_bound c =
     let same : c.in-Some.line ≡ c.loop-number.number = c.in-Some.ensures.1 in
     let has : has_line b.slots c.in-Some.line ≡ true = search rules in
     let free : is_bound b.assignments c.in-Some.line ≡ false = search rules in
-    sym (least-is (λ (k : ℕ). has_line b.slots k && not (is_bound b.assignments k)) 0 line_count c.in-Some.line (omega arith) (omega (arith, same)) (both _ _ has free) (rw same c.loop-number.invariant))
+    sym (least-is (λ (k : ℕ). has_line b.slots k && not (is_bound b.assignments k)) 0 line_count c.in-Some.line
+    (omega arith) (omega (arith, same)) (both _ _ has free) (rw same c.loop-number.invariant))
 
 pub returns : goal.returns
 returns c =
     let b = c.args.self.now in
     let end : c.loop-number.number ≡ line_count = omega arith in
-    sym (least-none (λ (k : ℕ). has_line b.slots k && not (is_bound b.assignments k)) 0 line_count (ap (λ (n : ℕ). any (λ (k : ℕ). has_line b.slots k && not (is_bound b.assignments k)) 0 n) (sym end) ∙ c.loop-number.invariant))
+    sym (least-none (λ (k : ℕ). has_line b.slots k && not (is_bound b.assignments k)) 0 line_count
+    (ap (λ (n : ℕ). any (λ (k : ℕ). has_line b.slots k && not (is_bound b.assignments k)) 0 n) (sym end)
+    ∙ c.loop-number.invariant))

@@ -5,4 +5,5 @@ use Rattle.vme_bind.proofs.WiresLemmas.{only_from}
 use Rattle.vme_bind.proofs.bound_groups.BitRange.of.Given as goal
 
 abbrev pub invariant-loop-variable : goal.invariant-loop-variable
-invariant-loop-variable l = only_from l.found (filter_map (candidate l.named) (drop l.variable-index l.variables)) ≡ only (filter_map (candidate l.named) l.variables)
+invariant-loop-variable l = only_from l.found (filter_map (candidate l.named) (drop l.variable-index l.variables))
+    ≡ only (filter_map (candidate l.named) l.variables)

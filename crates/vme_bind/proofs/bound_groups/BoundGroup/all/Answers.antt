@@ -10,8 +10,10 @@ returns-in-Err c =
     let all = c.args.assignments.now in
     let i = c.loop-assignment.assignment-index in
     let bound_groups = c.loop-assignment.bound_groups.items in
-    fails_first c.in-Err.field-0 (bound_group_in variables c.assignment-item.result) (λ bound_group. behind_bound_groups (bound_groups ++ bound_group ∷ []) (bound_groups_in variables (drop (i + 1) all))) _
-    (sym c.loop-assignment.invariant.bound_groups ∙ bound_groups-first bound_groups variables all i c.assignment-item.result c.loop-assignment-test.true c.assignment-item.is) c.in-Err.ensures
+    fails_first c.in-Err.field-0 (bound_group_in variables c.assignment-item.result) (λ bound_group. behind_bound_groups
+    (bound_groups ++ bound_group ∷ []) (bound_groups_in variables (drop (i + 1) all))) _
+    (sym c.loop-assignment.invariant.bound_groups ∙ bound_groups-first bound_groups variables all i
+    c.assignment-item.result c.loop-assignment-test.true c.assignment-item.is) c.in-Err.ensures
 
 pub loop-assignment-preserved : goal.loop-assignment-preserved
 loop-assignment-preserved c =
@@ -22,7 +24,8 @@ loop-assignment-preserved c =
     record {
       bound_groups =
           ap (λ ws. behind_bound_groups ws (bound_groups_in variables (drop (i + 1) all))) c.push_reserved.ensures.items
-          ∙ sym (bound_groups-step bound_groups variables all i c.assignment-item.result c.in-Ok.bound_group c.loop-assignment-test.true c.assignment-item.is c.in-Ok.ensures)
+          ∙ sym (bound_groups-step bound_groups variables all i c.assignment-item.result c.in-Ok.bound_group
+          c.loop-assignment-test.true c.assignment-item.is c.in-Ok.ensures)
           ∙ c.loop-assignment.invariant.bound_groups;
       count = omega (arith, c.push_reserved.ensures.len, c.loop-assignment.invariant.count);
       capacity = c.push_reserved.ensures.capacity ∙ c.loop-assignment.invariant.capacity;
@@ -30,4 +33,5 @@ loop-assignment-preserved c =
 
 pub returns : goal.returns
 returns c =
-    sym c.loop-assignment.invariant.bound_groups ∙ bound_groups-end c.loop-assignment.bound_groups.items c.args.variables.now c.args.assignments.now c.loop-assignment.assignment-index c.loop-assignment-test.false
+    sym c.loop-assignment.invariant.bound_groups ∙ bound_groups-end c.loop-assignment.bound_groups.items
+    c.args.variables.now c.args.assignments.now c.loop-assignment.assignment-index c.loop-assignment-test.false

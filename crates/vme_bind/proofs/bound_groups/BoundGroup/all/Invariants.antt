@@ -5,7 +5,8 @@ use Rattle.vme_bind.proofs.bound_groups.BoundGroup.all.Given as goal
 
 abbrev pub invariant-loop-assignment : goal.invariant-loop-assignment
 invariant-loop-assignment l = record {
-  bound_groups : behind_bound_groups l.bound_groups.items (bound_groups_in l.variables (drop l.assignment-index l.assignments)) ≡ bound_groups_in l.variables l.assignments;
+  bound_groups : behind_bound_groups l.bound_groups.items
+      (bound_groups_in l.variables (drop l.assignment-index l.assignments)) ≡ bound_groups_in l.variables l.assignments;
   count : vec_len l.bound_groups ≡ l.assignment-index;
   capacity : vec_capacity l.bound_groups ≡ length l.assignments;
 }

@@ -12,7 +12,8 @@ returns-then-self-depth-clause-seen c =
     let v = c.args.variable in
     let r : Reference = record { name = v.name.now; index = v.index } in
     ap (λ (found : PathMatch). let seen : Searched = record { assignment = s.assignment.now; found = found } in seen)
-    (found-other s.assignment.now.source s.found c.args.scopes.now v.net v.size r s.begun c.requires.name c.requires.begun (λ e. c.if-self-depth.true (e ∙ sym c.depth.ensures)))
+    (found-other s.assignment.now.source s.found c.args.scopes.now v.net v.size r s.begun c.requires.name
+    c.requires.begun (λ e. c.if-self-depth.true (e ∙ sym c.depth.ensures)))
 
 pub returns-then-eq-clause-seen : goal.returns-then-eq-clause-seen
 returns-then-eq-clause-seen c =
@@ -24,7 +25,8 @@ returns-then-eq-clause-seen c =
     let begun = rw c.in-Variable.is at c.requires.begun in
     let rest = rw (c.as_bytes.ensures, c.path.ensures) at c.rest_of.ensures in
     let same = sym c.eq.ensures ∙ c.if-eq.true in
-    let here = candidate-here named scopes v.net v.size r c.requires.name s.begun c.rest_of.result.now begun (c.if-self-depth.false ∙ c.depth.ensures) rest same in
+    let here = candidate-here named scopes v.net v.size r c.requires.name s.begun c.rest_of.result.now begun
+    (c.if-self-depth.false ∙ c.depth.ensures) rest same in
     let is = ap (λ (source : LevelSource). candidate_of source (variable_in scopes v.net v.size r)) c.in-Variable.is in
     ap (λ (found : PathMatch). let seen : Searched = record { assignment = s.assignment.now; found = found } in seen)
     (c.with-self.ensures ∙ ap (with_bits s.found) (c.meant-bits.ensures ∙ here ∙ sym is))

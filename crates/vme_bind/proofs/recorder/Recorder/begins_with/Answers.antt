@@ -8,7 +8,8 @@ use Rattle.vme_trace.proofs.SameLines.{lines_decide}
 use Rattle.vme_bind.proofs.recorder.Recorder.begins_with.Goals as goal
 
 both : (shown now levels : Levels) → shown ≡ levels → now ≡ levels → record { shown = shown; now = now } ≡ all_of levels
-both shown now levels e f = ap (λ (v : Levels). record { shown = v; now = now }) e ∙ ap (λ (v : Levels). record { shown = levels; now = v }) f
+both shown now levels e f = ap (λ (v : Levels). record { shown = v; now = now }) e
+    ∙ ap (λ (v : Levels). record { shown = levels; now = v }) f
 
 pub returns-in-Some : goal.returns-in-Some
 returns-in-Some c =
@@ -16,7 +17,8 @@ returns-in-Some c =
     let v = c.args.levels.now in
     let d = lines_decide inside.now v c.eq.result c.eq.ensures in
     subst (λ (p : RecorderLevels). IsTrue c.eq.result ↔ (entered end_of p c.args.ended ≡ all_of v)) c.self.view_is
-    (subst (λ (e : Option ℕ). IsTrue c.eq.result ↔ (entered end_of (record { shown = inside.shown; now = inside.now }) e ≡ all_of v)) (sym c.in-Some.is)
+    (subst (λ (e : Option ℕ). IsTrue c.eq.result ↔ (entered end_of (record { shown = inside.shown; now = inside.now }) e
+    ≡ all_of v)) (sym c.in-Some.is)
     (λ on. ap all_of (d.0 on), λ e. d.1 (ap (λ (p : RecorderLevels). p.now) e)))
 
 pub returns-then-eq : goal.returns-then-eq
@@ -25,15 +27,21 @@ returns-then-eq c =
     let v = c.args.levels.now in
     let d = lines_decide inside.now v c.eq-in-None.result c.eq-in-None.ensures in
     let s = lines_decide inside.shown v c.eq-then-eq.result c.eq-then-eq.ensures in
-    subst (λ (p : RecorderLevels). IsTrue c.eq-then-eq.result ↔ (entered end_of p c.args.ended ≡ all_of v)) c.self.view_is
-    (subst (λ (e : Option ℕ). IsTrue c.eq-then-eq.result ↔ (entered end_of (record { shown = inside.shown; now = inside.now }) e ≡ all_of v)) (sym c.in-None.is)
-    (λ on. both inside.shown inside.now v (s.0 on) (d.0 c.if-eq.true), λ e. s.1 (ap (λ (p : RecorderLevels). p.shown) e)))
+    subst (λ (p : RecorderLevels). IsTrue c.eq-then-eq.result ↔ (entered end_of p c.args.ended ≡ all_of v))
+    c.self.view_is
+    (subst (λ (e : Option ℕ). IsTrue c.eq-then-eq.result ↔
+    (entered end_of (record { shown = inside.shown; now = inside.now }) e ≡ all_of v)) (sym c.in-None.is) (
+      λ on. both inside.shown inside.now v (s.0 on) (d.0 c.if-eq.true),
+      λ e. s.1 (ap (λ (p : RecorderLevels). p.shown) e),
+    ))
 
 pub returns-else-eq : goal.returns-else-eq
 returns-else-eq c =
     let inside = c.self.inside in
     let v = c.args.levels.now in
     let d = lines_decide inside.now v c.eq-in-None.result c.eq-in-None.ensures in
-    subst (λ (p : RecorderLevels). IsTrue c.eq-in-None.result ↔ (entered end_of p c.args.ended ≡ all_of v)) c.self.view_is
-    (subst (λ (e : Option ℕ). IsTrue c.eq-in-None.result ↔ (entered end_of (record { shown = inside.shown; now = inside.now }) e ≡ all_of v)) (sym c.in-None.is)
+    subst (λ (p : RecorderLevels). IsTrue c.eq-in-None.result ↔ (entered end_of p c.args.ended ≡ all_of v))
+    c.self.view_is
+    (subst (λ (e : Option ℕ). IsTrue c.eq-in-None.result ↔
+    (entered end_of (record { shown = inside.shown; now = inside.now }) e ≡ all_of v)) (sym c.in-None.is)
     (λ on. absurd (false≢true (sym c.if-eq.false ∙ on)), λ e. d.1 (ap (λ (p : RecorderLevels). p.now) e)))

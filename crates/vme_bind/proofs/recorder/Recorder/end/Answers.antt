@@ -8,15 +8,20 @@ use Rattle.vme_bind.specs.Recording.{RecorderLevels, step_between, step_in}
 use Rattle.vme_bind.proofs.WaveLemmas.{end-leads}
 use Rattle.vme_bind.proofs.recorder.Recorder.end.Goals as goal
 
-leads-ok : (v : Levels) (steps : List Step) (q r : RecorderLevels) (result : Result (Option Step) AllocError) → levels_after v steps ≡ r.shown
-    → IfOk result (λ step. step_in step ≡ steps) → OnOk result (q ≡ r) → IfOk result (λ step. levels_after v (step_in step) ≡ q.shown)
-leads-ok v steps q r (Ok step) leads is to = ap (levels_after v) is ∙ leads ∙ sym (ap (λ (p : RecorderLevels). p.shown) to)
+leads-ok : (v : Levels) (steps : List Step) (q r : RecorderLevels) (result : Result (Option Step) AllocError)
+    → levels_after v steps ≡ r.shown
+    → IfOk result (λ step. step_in step ≡ steps) → OnOk result (q ≡ r)
+    → IfOk result (λ step. levels_after v (step_in step) ≡ q.shown)
+leads-ok v steps q r (Ok step) leads is to = ap (levels_after v) is ∙ leads
+    ∙ sym (ap (λ (p : RecorderLevels). p.shown) to)
 leads-ok v steps q r (Err fault) leads is to = is
 
 pub returns-in-Some-clause-leads : goal.returns-in-Some-clause-leads
 returns-in-Some-clause-leads c =
     let p = c.args.self.now in
     let inside = c.self.inside in
-    leads-ok p.shown (step_between c.in-Some.time p.shown p.now) c.end_instant.new.self (record { shown = p.now; now = p.now }) c.end_instant.result
-    (end-leads p inside.shown inside.now inside.touched.items (Some c.in-Some.time) (sym c.self.view_is) c.self.invariant)
+    leads-ok p.shown (step_between c.in-Some.time p.shown p.now) c.end_instant.new.self
+    (record { shown = p.now; now = p.now }) c.end_instant.result
+    (end-leads p inside.shown inside.now inside.touched.items (Some c.in-Some.time) (sym c.self.view_is)
+    c.self.invariant)
     c.end_instant.ensures.step c.end_instant.ensures.shown

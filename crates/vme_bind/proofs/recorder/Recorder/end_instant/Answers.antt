@@ -12,4 +12,5 @@ pub returns-in-0-clause-step : goal.returns-in-0-clause-step
 returns-in-0-clause-step c =
     let inside = c.self.inside in
     let none : length inside.touched.items ≡ 0 = search rules in
-    none-step c.args.time c.args.self.now inside.shown inside.now inside.touched.items (search rules) c.self.invariant none
+    none-step c.args.time c.args.self.now inside.shown inside.now inside.touched.items (search rules) c.self.invariant
+    none

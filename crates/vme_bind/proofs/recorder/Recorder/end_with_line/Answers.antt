@@ -8,32 +8,46 @@ use Rattle.vme_bind.proofs.recorder.Recorder.end_with_line.Goals as goal
 pub returns-then-is_shown-clause-shown : goal.returns-then-is_shown-clause-shown
 returns-then-is_shown-clause-shown c =
     let inside = c.self.inside in
-    line-ended c.args.self.now inside.shown inside.now inside.touched.items c.args.line (search rules) c.self.invariant c.requires.exists c.requires.alone
+    line-ended c.args.self.now inside.shown inside.now inside.touched.items c.args.line (search rules) c.self.invariant
+    c.requires.exists c.requires.alone
     c.set.new.self (c.set.ensures ∙ ap (set_level inside.shown c.args.line) c.level-level.ensures)
 
 pub returns-then-is_shown-clause-step : goal.returns-then-is_shown-clause-step
 returns-then-is_shown-clause-step c =
     let inside = c.self.inside in
-    let same : same_level (level_at inside.shown c.args.line) (level_at inside.now c.args.line) ≡ true = rw (← c.level.ensures, ← c.level-level.ensures) (sym c.is_same-is_shown.ensures ∙ c.if-is_shown.true) in
-    line-none c.args.self.now inside.shown inside.now inside.touched.items c.args.line (search rules) c.self.invariant c.requires.exists c.requires.alone c.args.time same
+    let same : same_level (level_at inside.shown c.args.line) (level_at inside.now c.args.line)
+    ≡ true = rw (← c.level.ensures, ← c.level-level.ensures) (sym c.is_same-is_shown.ensures ∙ c.if-is_shown.true) in
+    line-none c.args.self.now inside.shown inside.now inside.touched.items c.args.line (search rules) c.self.invariant
+    c.requires.exists c.requires.alone c.args.time same
 
 pub invariant_of-self-2 : goal.invariant_of-self-2
 invariant_of-self-2 c =
     let inside = c.self.inside in
     let shown : c.set.new.self ≡ inside.now =
-    line-shown c.args.self.now inside.shown inside.now inside.touched.items c.args.line (search rules) c.self.invariant c.requires.exists c.requires.alone
+    line-shown c.args.self.now inside.shown inside.now inside.touched.items c.args.line (search rules) c.self.invariant
+    c.requires.exists c.requires.alone
     c.set.new.self (c.set.ensures ∙ ap (set_level inside.shown c.args.line) c.level-level.ensures) in
-    subst (ListsTouchedLines c.set.new.self inside.now) (sym c.clear.ensures.items) (touched-none c.set.new.self inside.now shown c.self.invariant.now_all)
+    subst (ListsTouchedLines c.set.new.self inside.now) (sym c.clear.ensures.items)
+    (touched-none c.set.new.self inside.now shown c.self.invariant.now_all)
 
 pub returns-clause-shown : goal.returns-clause-shown
 returns-clause-shown c =
     let inside = c.self.inside in
-    line-ended c.args.self.now inside.shown inside.now inside.touched.items c.args.line (search rules) c.self.invariant c.requires.exists c.requires.alone
+    line-ended c.args.self.now inside.shown inside.now inside.touched.items c.args.line (search rules) c.self.invariant
+    c.requires.exists c.requires.alone
     c.set.new.self (c.set.ensures ∙ ap (set_level inside.shown c.args.line) c.level-level.ensures)
 
 pub returns-clause-step : goal.returns-clause-step
 returns-clause-step c =
     let inside = c.self.inside in
-    let other : same_level (level_at inside.shown c.args.line) (level_at inside.now c.args.line) ≡ false = rw (← c.level.ensures, ← c.level-level.ensures) (sym c.is_same-is_shown.ensures ∙ c.if-is_shown.false) in
-    let list : c.new.result ≡ change_to inside.now c.args.line ∷ [] = rw (c.new.ensures, c.push_reserved.ensures.items, c.new-changes.ensures.items, c.level-level.ensures) refl in
-    line-step c.args.self.now inside.shown inside.now inside.touched.items c.args.line (search rules) c.self.invariant c.requires.exists c.requires.alone c.args.time c.new.result list other
+    let other : same_level (level_at inside.shown c.args.line) (level_at inside.now c.args.line)
+    ≡ false = rw (← c.level.ensures, ← c.level-level.ensures) (sym c.is_same-is_shown.ensures ∙ c.if-is_shown.false)
+    in
+    let list : c.new.result ≡ change_to inside.now c.args.line ∷ [] = rw (
+      c.new.ensures,
+      c.push_reserved.ensures.items,
+      c.new-changes.ensures.items,
+      c.level-level.ensures,
+    ) refl in
+    line-step c.args.self.now inside.shown inside.now inside.touched.items c.args.line (search rules) c.self.invariant
+    c.requires.exists c.requires.alone c.args.time c.new.result list other

@@ -9,18 +9,21 @@ use Rattle.vme_bind.proofs.recorder.Recorder.end_with_lines.Goals as goal
 
 pub show-requires-clause-sorted : goal.show-requires-clause-sorted
 show-requires-clause-sorted c =
-    subst IsNonDecreasing (sym c.deref.ensures.value) (IsNonDecreasingBy-from_sort_by_key (λ (x : ℕ). x) _ c.sort_unstable_by_key.ensures.sorted (λ a r q k. search rules))
+    subst IsNonDecreasing (sym c.deref.ensures.value) (IsNonDecreasingBy-from_sort_by_key (λ (x : ℕ). x) _
+    c.sort_unstable_by_key.ensures.sorted (λ a r q k. search rules))
 
 pub show-requires-clause-touched : goal.show-requires-clause-touched
 show-requires-clause-touched c =
     subst (ListsTouchedLines c.self.inside.shown c.self.inside.now) (sym c.deref.ensures.value)
-    (touched-permuted c.self.inside.shown c.self.inside.now c.self.inside.touched.items c.sort_unstable_by_key.new.self.items c.self.invariant c.sort_unstable_by_key.ensures.permutation)
+    (touched-permuted c.self.inside.shown c.self.inside.now c.self.inside.touched.items
+    c.sort_unstable_by_key.new.self.items c.self.invariant c.sort_unstable_by_key.ensures.permutation)
 
 pub returns-then-is_empty-clause-step : goal.returns-then-is_empty-clause-step
 returns-then-is_empty-clause-step c =
     let inside = c.self.inside in
     let none : (length c.in_ok-changes.changes.items == 0) ≡ true = search rules in
-    sym (step-none c.args.time inside.shown inside.now c.in_ok-changes.changes.items c.in_ok-changes.ensures.changes none)
+    sym (step-none c.args.time inside.shown inside.now c.in_ok-changes.changes.items c.in_ok-changes.ensures.changes
+    none)
     ∙ step-at c.args.time c.args.self.now inside.shown inside.now (search rules)
 
 pub returns-clause-step : goal.returns-clause-step

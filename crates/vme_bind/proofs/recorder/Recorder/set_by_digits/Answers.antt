@@ -22,7 +22,9 @@ returns-in-len1-clause-ok c =
     let bits = extended c.args.size c.args.digits.now in
     let levels = c.args.self.now.now in
     let level = c.level_by_digits.result in
-    let here = tapped-more line_bits bits 0 line_bit levels level (omega (arith, c.in-len1.len_at_least)) c.line_bit-item.is c.level_by_digits.ensures in
+    let here = tapped-more line_bits bits 0 line_bit levels level (omega (arith, c.in-len1.len_at_least))
+    c.line_bit-item.is c.level_by_digits.ensures in
     let all : set_level levels line_bit.line level ≡ changed levels (map (tapped bits) line_bits)
-    = here ∙ ap (λ (ts : List LineBit). changed levels (map (tapped bits) ts)) (take_all 1 line_bits (omega (arith, c.in-len1.len_below))) in
+    = here ∙ ap (λ (ts : List LineBit). changed levels (map (tapped bits) ts))
+    (take_all 1 line_bits (omega (arith, c.in-len1.len_below))) in
     rw all at c.set_line.ensures.ok

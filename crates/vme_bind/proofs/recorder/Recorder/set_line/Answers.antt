@@ -11,14 +11,18 @@ invariant_of-self-2 c =
     let line = c.args.line in
     let level = c.args.level in
     let now : inside.now ≡ c.args.self.now.now = search rules in
-    let slots : c.args.self.now.now.slots ≡ inside.shown.slots = ap (λ (v : Levels). v.slots) (sym now) ∙ c.self.invariant.slots in
+    let slots : c.args.self.now.now.slots ≡ inside.shown.slots = ap (λ (v : Levels). v.slots) (sym now)
+    ∙ c.self.invariant.slots in
     let here : IsLine inside.shown.slots line = subst (λ s. IsLine s line) slots c.requires in
     elim c.if-not-is_same.branch [
       | then-not-is_same+in_ok-push w ↦
           let set : c.set.new.self ≡ set_level inside.now line level = rw w.self-inside-is at c.set.ensures in
-          rw (w.self-inside-is, set, w.in_ok-push.ensures.items) (touched-more inside.shown inside.now inside.touched.items line level c.self.invariant here)
+          rw (w.self-inside-is, set, w.in_ok-push.ensures.items) (touched-more inside.shown inside.now
+          inside.touched.items line level c.self.invariant here)
       | else-not-is_same w ↦
           let set : c.set.new.self ≡ set_level inside.now line level = rw w.self-inside-is at c.set.ensures in
-          let same : same_level (level_at inside.shown line) level ≡ true = rw (← c.level.ensures) (sym w.if-not-is_same.ensures) in
-          rw (w.self-inside-is, set) (touched-same inside.shown inside.now inside.touched.items line level c.self.invariant here same)
+          let same : same_level (level_at inside.shown line) level ≡ true = rw (← c.level.ensures)
+          (sym w.if-not-is_same.ensures) in
+          rw (w.self-inside-is, set) (touched-same inside.shown inside.now inside.touched.items line level
+          c.self.invariant here same)
     ]

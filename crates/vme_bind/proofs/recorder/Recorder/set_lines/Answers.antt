@@ -11,7 +11,8 @@ pub set_line-requires : goal.set_line-requires
 set_line-requires c =
     let line_bit = c.line_bit-item.result in
     let old = c.args.self.now.now in
-    let line : IsLine old.slots line_bit.line = subst (λ (t : LineBit). IsLine old.slots t.line) (sym c.line_bit-item.is) (c.requires c.loop-line_bit.line_bit-index line_bit c.loop-line_bit-test.true) in
+    let line : IsLine old.slots line_bit.line = subst (λ (t : LineBit). IsLine old.slots t.line)
+    (sym c.line_bit-item.is) (c.requires c.loop-line_bit.line_bit-index line_bit c.loop-line_bit-test.true) in
     subst (λ s. IsLine s line_bit.line) (sym c.loop-line_bit.invariant.slots) line
 
 pub loop-line_bit-preserved : goal.loop-line_bit-preserved
@@ -23,8 +24,10 @@ loop-line_bit-preserved c =
     let ok = c.in_ok-set_line.ensures.ok in
     record {
       now =
-          ap (λ (p : RecorderLevels). p.now) ok ∙ ap (λ (v : Levels). set_level v line_bit.line level) c.loop-line_bit.invariant.now
-          ∙ tapped-more line_bits c.args.bits.now i line_bit c.args.self.now.now level c.loop-line_bit-test.true c.line_bit-item.is c.level_in.ensures;
+          ap (λ (p : RecorderLevels). p.now) ok ∙ ap (λ (v : Levels). set_level v line_bit.line level)
+          c.loop-line_bit.invariant.now
+          ∙ tapped-more line_bits c.args.bits.now i line_bit c.args.self.now.now level c.loop-line_bit-test.true
+          c.line_bit-item.is c.level_in.ensures;
       slots = c.set_line.ensures.slots ∙ c.loop-line_bit.invariant.slots;
       shown = ap (λ (p : RecorderLevels). p.shown) ok ∙ c.loop-line_bit.invariant.shown;
     }

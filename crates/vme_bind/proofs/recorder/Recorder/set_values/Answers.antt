@@ -16,7 +16,9 @@ loop-value-preserved c =
     record {
       now =
           ap (λ (p : RecorderLevels). valued line_bits (drop (i + 1) values) p.now) ok
-          ∙ sym (valued-step line_bits values i v old.now c.loop-value-test.true c.value-item.is) ∙ c.loop-value.invariant.now;
-      slots = ap (λ (p : RecorderLevels). p.now.slots) ok ∙ slots-kept old.now (map (tapped v.bits) (line_bits_of line_bits v.net)) ∙ c.loop-value.invariant.slots;
+          ∙ sym (valued-step line_bits values i v old.now c.loop-value-test.true c.value-item.is)
+          ∙ c.loop-value.invariant.now;
+      slots = ap (λ (p : RecorderLevels). p.now.slots) ok ∙ slots-kept old.now
+          (map (tapped v.bits) (line_bits_of line_bits v.net)) ∙ c.loop-value.invariant.slots;
       shown = ap (λ (p : RecorderLevels). p.shown) ok ∙ c.loop-value.invariant.shown;
     }

@@ -12,8 +12,10 @@ returns-in-Err c =
     let bound_groups = c.loop-sought.bound_groups.items in
     let lt = rw c.deref-sought-items.ensures.value at c.loop-sought-test.true in
     let item = rw c.deref-sought-items.ensures.value at c.sought-item.is in
-    fails_first c.in-Err.field-0 (bound_group_of (seen_in c.sought-item.result)) (λ bound_group. behind_bound_groups (bound_groups ++ bound_group ∷ []) (bound_groups_of (map seen_in (drop (i + 1) all)))) _
-    (sym c.loop-sought.invariant.bound_groups ∙ bound_groups-first bound_groups all i c.sought-item.result lt item) c.in-Err.ensures
+    fails_first c.in-Err.field-0 (bound_group_of (seen_in c.sought-item.result)) (λ bound_group. behind_bound_groups
+    (bound_groups ++ bound_group ∷ []) (bound_groups_of (map seen_in (drop (i + 1) all)))) _
+    (sym c.loop-sought.invariant.bound_groups ∙ bound_groups-first bound_groups all i c.sought-item.result lt item)
+    c.in-Err.ensures
 
 pub loop-sought-preserved : goal.loop-sought-preserved
 loop-sought-preserved c =
@@ -24,7 +26,8 @@ loop-sought-preserved c =
     let item = rw c.deref-sought-items.ensures.value at c.sought-item.is in
     record {
       bound_groups =
-          ap (λ ws. behind_bound_groups ws (bound_groups_of (map seen_in (drop (i + 1) all)))) c.push_reserved.ensures.items
+          ap (λ ws. behind_bound_groups ws (bound_groups_of (map seen_in (drop (i + 1) all))))
+          c.push_reserved.ensures.items
           ∙ sym (bound_groups-step bound_groups all i c.sought-item.result c.in-Ok.bound_group lt item c.in-Ok.ensures)
           ∙ c.loop-sought.invariant.bound_groups;
       count = omega (arith, c.push_reserved.ensures.len, c.loop-sought.invariant.count);
@@ -32,4 +35,6 @@ loop-sought-preserved c =
     }
 
 pub returns : goal.returns
-returns c = sym c.loop-sought.invariant.bound_groups ∙ bound_groups-end c.loop-sought.bound_groups.items c.args.self.now.sought.items c.loop-sought.sought-index (rw c.deref-sought-items.ensures.value at c.loop-sought-test.false)
+returns c = sym c.loop-sought.invariant.bound_groups ∙ bound_groups-end c.loop-sought.bound_groups.items
+    c.args.self.now.sought.items c.loop-sought.sought-index (rw c.deref-sought-items.ensures.value at
+    c.loop-sought-test.false)

@@ -6,7 +6,9 @@ use Rattle.vme_bind.proofs.search.Search.bound_groups.Given as goal
 abbrev pub invariant-loop-sought : goal.invariant-loop-sought
 invariant-loop-sought l =
     record {
-      bound_groups : behind_bound_groups l.bound_groups.items (bound_groups_of (map seen_in (drop l.sought-index l.self.sought.items))) ≡ bound_groups_of (map seen_in l.self.sought.items);
+      bound_groups : behind_bound_groups l.bound_groups.items
+          (bound_groups_of (map seen_in (drop l.sought-index l.self.sought.items))) ≡ bound_groups_of
+          (map seen_in l.self.sought.items);
       count : vec_len l.bound_groups ≡ l.sought-index;
       capacity : vec_capacity l.bound_groups ≡ vec_len l.self.sought;
     }

@@ -6,9 +6,14 @@ use Rattle.vme_bind.proofs.search.SearchDeclarationVisitor.close.Goals as goal
 pub invariant_of-self-2 : goal.invariant_of-self-2
 invariant_of-self-2 c =
     let s = c.args.self.now in
-    record { begun = closed-back c.if-not-close.ensures.0 s.scopes c.close.new.self s.sought.items c.as_mut_slice.result.now c.close_all.new.sought s.sought.len c.depth.result s.begun c.if-not-close.ensures.1 (omega (arith, s.sought.ok.0)) c.as_mut_slice.ensures.value c.close_all.ensures c.depth.ensures }
+    record {
+      begun = closed-back c.if-not-close.ensures.0 s.scopes c.close.new.self s.sought.items
+          c.as_mut_slice.result.now c.close_all.new.sought s.sought.len c.depth.result s.begun c.if-not-close.ensures.1
+          (omega (arith, s.sought.ok.0)) c.as_mut_slice.ensures.value c.close_all.ensures c.depth.ensures;
+    }
 
 pub returns-clause-taken : goal.returns-clause-taken
 returns-clause-taken c =
     let s = c.args.self.now in
-    seen-back (closed c.depth.result) s.sought.items c.as_mut_slice.result.now c.close_all.new.sought s.sought.len (λ s. refl) (omega (arith, s.sought.ok.0)) c.as_mut_slice.ensures.value c.close_all.ensures
+    seen-back (closed c.depth.result) s.sought.items c.as_mut_slice.result.now c.close_all.new.sought s.sought.len
+    (λ s. refl) (omega (arith, s.sought.ok.0)) c.as_mut_slice.ensures.value c.close_all.ensures

@@ -7,15 +7,23 @@ pub invariant_of-self-2 : goal.invariant_of-self-2
 invariant_of-self-2 c =
     let s = c.args.self.now in
     let start = length c.path-start.result.now in
-    let depth : c.depth-depth.result - 1 ≡ length s.scopes = omega (arith, c.depth-depth.ensures, ap (λ (names : List (List ℕ)). length names) c.in_ok-open.ensures.ok) in
+    let depth : c.depth-depth.result - 1 ≡ length s.scopes = omega (
+      arith,
+      c.depth-depth.ensures,
+      ap (λ (names : List (List ℕ)). length names) c.in_ok-open.ensures.ok,
+    ) in
     record {
       begun =
-          opened-back c.args.name.now s.scopes c.«open».new.self s.sought.items c.as_mut_slice.result.now c.open_all.new.sought s.sought.len (c.depth-depth.result - 1) start c.rest_of-part.result.now s.begun
-          c.in_ok-open.ensures.ok (omega (arith, s.sought.ok.0)) c.as_mut_slice.ensures.value c.open_all.ensures depth (ap (λ (path : List ℕ). length path) c.path-start.ensures)
+          opened-back c.args.name.now s.scopes c.«open».new.self s.sought.items c.as_mut_slice.result.now
+          c.open_all.new.sought s.sought.len (c.depth-depth.result - 1) start c.rest_of-part.result.now s.begun
+          c.in_ok-open.ensures.ok (omega (arith, s.sought.ok.0)) c.as_mut_slice.ensures.value c.open_all.ensures depth
+          (ap (λ (path : List ℕ). length path) c.path-start.ensures)
           (c.rest_of-part.ensures ∙ ap (drop start) c.path.ensures);
     }
 
 pub returns-clause-taken : goal.returns-clause-taken
 returns-clause-taken c =
     let s = c.args.self.now in
-    seen-back (opened (c.depth-depth.result - 1) (length c.path-start.result.now) c.rest_of-part.result.now) s.sought.items c.as_mut_slice.result.now c.open_all.new.sought s.sought.len (λ s. refl) (omega (arith, s.sought.ok.0)) c.as_mut_slice.ensures.value c.open_all.ensures
+    seen-back (opened (c.depth-depth.result - 1) (length c.path-start.result.now) c.rest_of-part.result.now)
+    s.sought.items c.as_mut_slice.result.now c.open_all.new.sought s.sought.len (λ s. refl)
+    (omega (arith, s.sought.ok.0)) c.as_mut_slice.ensures.value c.open_all.ensures

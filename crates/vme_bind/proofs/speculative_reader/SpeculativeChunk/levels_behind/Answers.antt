@@ -17,8 +17,10 @@ loop-number-preserved c =
           let set : c.if-has.behind ≡ set_level after n w.level.result = search rules in
           let assigned : is_assigned a.assigned n ≡ true = search rules in
           let level : w.level.result ≡ level_at a.apart.progress.taken.now n = search rules in
-          subst (AreLeftBelow a before (n + 1)) (sym set) (left-assigned a before n after c.loop-number.invariant w.level.result c.loop-number-test.true assigned level)
+          subst (AreLeftBelow a before (n + 1)) (sym set) (left-assigned a before n after c.loop-number.invariant
+          w.level.result c.loop-number-test.true assigned level)
       | else-has w ↦
           let assigned : is_assigned a.assigned n ≡ false = search rules in
-          subst (AreLeftBelow a before (n + 1)) (sym w.behind-is) (left-same a before n after c.loop-number.invariant assigned)
+          subst (AreLeftBelow a before (n + 1)) (sym w.behind-is) (left-same a before n after c.loop-number.invariant
+          assigned)
     ]

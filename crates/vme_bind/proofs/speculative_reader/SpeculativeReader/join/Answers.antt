@@ -14,6 +14,8 @@ returns c =
     let view : c.args.self ≡ wave_of inside.fault inside.line_bits inside.recorder r = search rules in
     let seen : c.args.ahead ≡ ahead_of ahead.from ahead.recorder u ahead.assigned = search rules in
     λ bytes recorded is.
-    wave-joined bytes recorded c.args.self c.args.ahead inside.fault inside.line_bits inside.recorder ahead.recorder r (reached (λ p. tt {0}) c.join-pieces.result.0) ahead.from u
-    ahead.assigned view seen is c.requires c.ended_by.result (step_in c.in_ok-step.step) c.end.new.self c.ended_by.ensures c.join-pieces.ensures.behind
+    wave-joined bytes recorded c.args.self c.args.ahead inside.fault inside.line_bits inside.recorder ahead.recorder r
+    (reached (λ p. tt {0}) c.join-pieces.result.0) ahead.from u
+    ahead.assigned view seen is c.requires c.ended_by.result (step_in c.in_ok-step.step) c.end.new.self
+    c.ended_by.ensures c.join-pieces.ensures.behind
     c.in_ok-step.ensures.step c.in_ok-step.ensures.ended c.in_ok-step.ensures.leads

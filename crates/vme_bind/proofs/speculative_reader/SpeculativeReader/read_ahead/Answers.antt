@@ -17,20 +17,27 @@ invariant_of-ahead g c =
     let inside = c.self.inside in
     let r : Reached (Unit {0}) = reached (λ p. tt {0}) inside.pieces in
     let a : ReadApart SpeculativelyMade = read_apart (λ m. m) c.in_ok-apart.apart in
-    let is : IsReadApart ahead_change ahead_instant r.nets c.args.piece.now c.new-builder.result a = c.in_ok-apart.ensures.read in
+    let is : IsReadApart ahead_change ahead_instant r.nets c.args.piece.now c.new-builder.result a
+    = c.in_ok-apart.ensures.read in
     let same : inside.recorder.now.slots ≡ c.args.from.now.slots = search rules in
     let lines : (net : ℕ) → AreLines c.args.from.now.slots (line_bits_of c.new-builder.result.made.line_bits net) =
     λ net.
-    subst (λ (line_bits : NetLines). AreLines c.args.from.now.slots (line_bits_of line_bits net)) (sym (ap (λ (m : Made). m.line_bits) c.new-builder.ensures.made))
+    subst (λ (line_bits : NetLines). AreLines c.args.from.now.slots (line_bits_of line_bits net))
+    (sym (ap (λ (m : Made). m.line_bits) c.new-builder.ensures.made))
     (subst (λ s. AreLines s (line_bits_of inside.line_bits net)) same (c.self.invariant.1 net)) in
     let assigned : c.into_parts-recorder.result.2 ≡ a.progress.taken.assigned =
-    sym c.into_parts-recorder.ensures.assigned ∙ ap (λ (m : SpeculativelyMade). m.assigned) c.with_visitor-builder.ensures.visitor in
-    let made : IsReadApart made_change made_instant r.nets c.args.piece.now c.new-builder.result.made (apart_with a.progress.taken.made a) =
+    sym c.into_parts-recorder.ensures.assigned ∙ ap (λ (m : SpeculativelyMade). m.assigned)
+    c.with_visitor-builder.ensures.visitor in
+    let made : IsReadApart made_change made_instant r.nets c.args.piece.now c.new-builder.result.made
+    (apart_with a.progress.taken.made a) =
     made-read r.nets c.args.piece.now c.new-builder.result a is in (
-      ap (λ (p : RecorderLevels). p.now.slots) (sym c.into_parts-recorder.ensures.progress ∙ ap (λ (m : SpeculativelyMade). m.made.progress) c.with_visitor-builder.ensures.visitor)
+      ap (λ (p : RecorderLevels). p.now.slots) (sym c.into_parts-recorder.ensures.progress
+          ∙ ap (λ (m : SpeculativelyMade). m.made.progress) c.with_visitor-builder.ensures.visitor)
           ∙ slots-are r.nets c.args.piece.now c.new-builder.result.made (apart_with a.progress.taken.made a) made
-          ∙ ap (λ (m : Made). m.progress.now.slots) c.new-builder.ensures.made ∙ ap (λ (p : RecorderLevels). p.now.slots) c.new.ensures,
-      λ l on. assigned-lines r.nets c.args.piece.now c.new-builder.result a is c.args.from.now.slots lines c.new-builder.ensures.assigned l (ap (λ (assigned : List Bool). is_assigned assigned l) (sym assigned) ∙ on),
+          ∙ ap (λ (m : Made). m.progress.now.slots) c.new-builder.ensures.made
+          ∙ ap (λ (p : RecorderLevels). p.now.slots) c.new.ensures,
+      λ l on. assigned-lines r.nets c.args.piece.now c.new-builder.result a is c.args.from.now.slots lines
+          c.new-builder.ensures.assigned l (ap (λ (assigned : List Bool). is_assigned assigned l) (sym assigned) ∙ on),
     )
 
 pub returns-clause-opening : goal.returns-clause-opening
@@ -38,9 +45,12 @@ returns-clause-opening g c =
     let inside = c.self.inside in
     let r : Reached (Unit {0}) = reached (λ p. tt {0}) inside.pieces in
     let a : ReadApart SpeculativelyMade = read_apart (λ m. m) c.in_ok-apart.apart in
-    let is : IsReadApart ahead_change ahead_instant r.nets c.args.piece.now c.new-builder.result a = c.in_ok-apart.ensures.read in
-    ap (λ (t : Trace). t.opening) (sym c.into_parts-recorder.ensures.recorded ∙ ap (λ (m : SpeculativelyMade). m.made.recorded) c.with_visitor-builder.ensures.visitor)
-    ∙ opening-kept r.nets c.args.piece.now c.new-builder.result.made (apart_with a.progress.taken.made a) (made-read r.nets c.args.piece.now c.new-builder.result a is)
+    let is : IsReadApart ahead_change ahead_instant r.nets c.args.piece.now c.new-builder.result a
+    = c.in_ok-apart.ensures.read in
+    ap (λ (t : Trace). t.opening) (sym c.into_parts-recorder.ensures.recorded
+    ∙ ap (λ (m : SpeculativelyMade). m.made.recorded) c.with_visitor-builder.ensures.visitor)
+    ∙ opening-kept r.nets c.args.piece.now c.new-builder.result.made (apart_with a.progress.taken.made a)
+    (made-read r.nets c.args.piece.now c.new-builder.result a is)
     ∙ ap (λ (m : Made). m.recorded.opening) c.new-builder.ensures.made
 
 pub returns-clause-read : goal.returns-clause-read
@@ -48,7 +58,8 @@ returns-clause-read g c =
     let inside = c.self.inside in
     let r : Reached (Unit {0}) = reached (λ p. tt {0}) inside.pieces in
     let a : ReadApart SpeculativelyMade = read_apart (λ m. m) c.in_ok-apart.apart in
-    let is : IsReadApart ahead_change ahead_instant r.nets c.args.piece.now c.new-builder.result a = c.in_ok-apart.ensures.read in
+    let is : IsReadApart ahead_change ahead_instant r.nets c.args.piece.now c.new-builder.result a
+    = c.in_ok-apart.ensures.read in
     let from = c.args.from.now in
     let q = c.into_parts-recorder.result.0 in
     let t = g.F.StepVisitor.recorded c.into_parts-recorder.result.1 in
@@ -56,15 +67,24 @@ returns-clause-read g c =
     let first = g.F.StepVisitor.recorded c.args.visitor in
     let u : ReadApart (Unit {0}) = read_apart (λ p. tt {0}) c.with_visitor-builder.result.0 in
     let begun : c.new-builder.result.made ≡ made_behind inside.line_bits from first =
-    c.new-builder.ensures.made ∙ ap (λ (p : RecorderLevels). record { line_bits = inside.line_bits; progress = p; recorded = first }) c.new.ensures in
-    let progress : q ≡ a.progress.taken.made.progress = sym c.into_parts-recorder.ensures.progress ∙ ap (λ (m : SpeculativelyMade). m.made.progress) c.with_visitor-builder.ensures.visitor in
+    c.new-builder.ensures.made
+    ∙ ap (λ (p : RecorderLevels). record { line_bits = inside.line_bits; progress = p; recorded = first })
+    c.new.ensures in
+    let progress : q ≡ a.progress.taken.made.progress = sym c.into_parts-recorder.ensures.progress
+    ∙ ap (λ (m : SpeculativelyMade). m.made.progress) c.with_visitor-builder.ensures.visitor in
     let view : c.args.self.now ≡ wave_of inside.fault inside.line_bits inside.recorder r = search rules in
-    subst (λ (w : WaveReached). IsReadSpeculatively w.body.nets w.line_bits c.args.piece.now t (ahead_of from q u assigned)) (sym view)
-    (ahead-read r.nets inside.line_bits c.args.piece.now from first c.new-builder.result.made (apart_with a.progress.taken.made a) begun c.requires.none (made-read r.nets c.args.piece.now c.new-builder.result a is) u q t
+    subst (λ (w : WaveReached). IsReadSpeculatively w.body.nets w.line_bits c.args.piece.now t
+    (ahead_of from q u assigned)) (sym view)
+    (ahead-read r.nets inside.line_bits c.args.piece.now from first c.new-builder.result.made
+    (apart_with a.progress.taken.made a) begun c.requires.none (made-read r.nets c.args.piece.now c.new-builder.result
+    a is) u q t
     c.with_visitor-builder.ensures.apart progress
-    (sym c.into_parts-recorder.ensures.recorded ∙ ap (λ (m : SpeculativelyMade). m.made.recorded) c.with_visitor-builder.ensures.visitor)
+    (sym c.into_parts-recorder.ensures.recorded ∙ ap (λ (m : SpeculativelyMade). m.made.recorded)
+    c.with_visitor-builder.ensures.visitor)
     assigned
     (assigned-leads r.nets c.args.piece.now c.new-builder.result a is (ahead_of from q u assigned) inside.line_bits
-    (ap (λ (m : Made). length m.progress.now.levels) begun ∙ c.requires.levels) c.new-builder.ensures.assigned (ap (λ (m : Made). m.line_bits) begun)
+    (ap (λ (m : Made). length m.progress.now.levels) begun ∙ c.requires.levels) c.new-builder.ensures.assigned
+    (ap (λ (m : Made). m.line_bits) begun)
     (ap (λ (v : ReadApart (Unit {0})). v.first_line) c.with_visitor-builder.ensures.apart)
-    (sym c.into_parts-recorder.ensures.assigned ∙ ap (λ (m : SpeculativelyMade). m.assigned) c.with_visitor-builder.ensures.visitor) progress))
+    (sym c.into_parts-recorder.ensures.assigned ∙ ap (λ (m : SpeculativelyMade). m.assigned)
+    c.with_visitor-builder.ensures.visitor) progress))

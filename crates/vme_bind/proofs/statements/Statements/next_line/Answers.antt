@@ -4,11 +4,13 @@ use Rattle.vme_bind.proofs.statements.Statements.next_line.Goals as goal
 
 pub returns-in-Some-clause-left : goal.returns-in-Some-clause-left
 returns-in-Some-clause-left c =
-    said_at c.args.self.now.line c.args.self.now.rest.now c.in-Some.feed c.without_return.result.now c.without_return.ensures c.in-Some.ensures.0 c.in-Some.ensures.1
+    said_at c.args.self.now.line c.args.self.now.rest.now c.in-Some.feed c.without_return.result.now
+    c.without_return.ensures c.in-Some.ensures.0 c.in-Some.ensures.1
 
 pub returns-in-Some-clause-last : goal.returns-in-Some-clause-last
 returns-in-Some-clause-last c =
-    let more = feeds_at c.args.self.now.rest.now c.in-Some.feed c.in-Some.ensures.0 c.in-Some.ensures.1 in omega (arith, more)
+    let more = feeds_at c.args.self.now.rest.now c.in-Some.feed c.in-Some.ensures.0 c.in-Some.ensures.1 in
+    omega (arith, more)
 
 pub returns-in-None-clause-left : goal.returns-in-None-clause-left
 returns-in-None-clause-left c = said_last c.args.self.now.line c.args.self.now.rest.now c.in-None.ensures

@@ -18,4 +18,6 @@ returns-in-Some g c =
 pub returns-in-Err : goal.returns-in-Err
 returns-in-Err g c =
     let p = c.args.self.pieces in
-    fails-whole c.args.self.fault c.in-Err.fault (finished made_change made_instant p.codes (taking p.underway.timed.visitor p.underway.timed.clock) p.underway.bracket (place_of p.underway.place)) c.in-Err.ensures
+    fails-whole c.args.self.fault c.in-Err.fault (finished made_change made_instant p.codes
+    (taking p.underway.timed.visitor p.underway.timed.clock) p.underway.bracket (place_of p.underway.place))
+    c.in-Err.ensures

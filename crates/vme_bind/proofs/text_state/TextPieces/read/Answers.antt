@@ -10,10 +10,13 @@ use Rattle.vme_bind.proofs.TextPieceLemmas.{fails-outcome}
 use Rattle.vme_bind.proofs.text_state.TextPieces.read.Goals as goal
 
 pub returns-in-Ok-clause-rest : goal.returns-in-Ok-clause-rest
-returns-in-Ok-clause-rest g c = λ more. ap (λ (r : Result (State Made) VcdFault). outcome c.args.self.fault (r >>= at_end made_instant)) (c.in-Ok.ensures.rest more)
+returns-in-Ok-clause-rest g c = λ more. ap (λ (r : Result (State Made) VcdFault). outcome c.args.self.fault
+    (r >>= at_end made_instant)) (c.in-Ok.ensures.rest more)
 
 pub returns-in-Err-clause-rest : goal.returns-in-Err-clause-rest
 returns-in-Err-clause-rest g c =
     let p = c.args.self.pieces in
-    let read = ahead made_change made_instant p.codes (taking p.underway.timed.visitor p.underway.timed.clock) p.underway.bracket (place_of p.underway.place) (tokens_from p.line c.args.piece.now) in
-    fails-outcome c.args.self.fault c.in-Err.fault (λ more. outcome c.args.self.fault (read more >>= at_end made_instant)) read (λ more. refl) c.in-Err.ensures.rest
+    let read = ahead made_change made_instant p.codes (taking p.underway.timed.visitor p.underway.timed.clock)
+    p.underway.bracket (place_of p.underway.place) (tokens_from p.line c.args.piece.now) in
+    fails-outcome c.args.self.fault c.in-Err.fault (λ more. outcome c.args.self.fault
+    (read more >>= at_end made_instant)) read (λ more. refl) c.in-Err.ensures.rest

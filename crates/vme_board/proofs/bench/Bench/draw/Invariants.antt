@@ -6,7 +6,8 @@ use Rattle.vme_board.proofs.bench.Bench.draw.Given as goal
 
 abbrev pub invariant-loop-self : goal.invariant-loop-self
 invariant-loop-self l =
-    IsOf l.self l.board × ((view_of l.self).draws ≡ (view_of l.initial.self).draws) × SameNumbers (view_of l.initial.self) (view_of l.self)
+    IsOf l.self l.board × ((view_of l.self).draws ≡ (view_of l.initial.self).draws)
+    × SameNumbers (view_of l.initial.self) (view_of l.self)
     × SeesMore (view_of l.initial.self) (view_of l.self)
 
 abbrev pub decreases-loop-self : goal.decreases-loop-self

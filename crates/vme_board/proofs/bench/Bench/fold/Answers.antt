@@ -12,39 +12,88 @@ use Rattle.vme_board.proofs.bench.Bench.fold.Goals.{then-next-other_next, else-n
 use Rattle.vme_board.proofs.Steps.{joins, counts}
 
 pub join_seat-requires : goal.join_seat-requires
-join_seat-requires c = let board = c.args.board.now in let other = c.args.other in
-    (c.requires.this, c.requires.other, other.no_slots, omega (arith, board.sized.0, board.limits.0, board.numbers_fit.0), joins board.table.shared.key c.args.self.seat.id other.seat.id c.args.self.seat.me.0 other.seat.me.0)
+join_seat-requires c = let board = c.args.board.now in let other = c.args.other in (
+  c.requires.this,
+  c.requires.other,
+  other.no_slots,
+  omega (
+    arith,
+    board.sized.0,
+    board.limits.0,
+    board.numbers_fit.0,
+  ),
+  joins board.table.shared.key c.args.self.seat.id other.seat.id c.args.self.seat.me.0
+      other.seat.me.0,
+)
 
 pub load-requires : goal.load-requires
-load-requires c = let board = c.args.board.now in let some : 0 < board.table.shared.key = omega (arith, board.limits.0, board.numbers_fit.0) in
-    (c.join_seat.ensures.0 ∙ c.requires.this, omega (arith, board.sized.0, some), counts board.table.shared.key board.table.shared.table_id.slots c.join_seat.new.seat.id c.join_seat.new.seat.me some)
+load-requires c = let board = c.args.board.now in let some : 0 < board.table.shared.key = omega (
+  arith,
+  board.limits.0,
+  board.numbers_fit.0,
+) in (
+  c.join_seat.ensures.0 ∙ c.requires.this,
+  omega (arith, board.sized.0, some),
+  counts board.table.shared.key
+      board.table.shared.table_id.slots c.join_seat.new.seat.id c.join_seat.new.seat.me some,
+)
 
 pub invariant_of-result : goal.invariant_of-result
 invariant_of-result c =
-    let a = c.args.self.seat.me.0 in let b = c.args.other.seat.me.0 in let once = c.load.ensures.2 in let last : c.load.new.seat.me ≡ (joint_view a b, c.args.self.seat.me.1) = once.0 ∙ c.join_seat.ensures.2 in
+    let a = c.args.self.seat.me.0 in let b = c.args.other.seat.me.0 in let once = c.load.ensures.2 in
+    let last : c.load.new.seat.me ≡ (joint_view a b, c.args.self.seat.me.1) = once.0 ∙ c.join_seat.ensures.2 in
     let x = c.args.self.counted in let y = c.args.other.counted in record {
       no_slots = ap (λ (m : SeatState). m.1) last ∙ c.args.self.no_slots;
-      shares = let same : length c.load.new.seat.me.0.share ≡ length (a.share ++ b.share) = ap (λ (m : SeatState). length m.0.share) last in omega (arith, c.args.self.shares, same, length-append a.share b.share);
-      not_pending = ap (λ (m : SeatState). m.0.pending) last ∙ (λ i. c.args.self.not_pending i ++ c.args.other.not_pending i);
-      found = λ d l. subst (λ (m : SeatState). 0 < occurrences d m.0.found) (sym last) (elim c.if-next-other_next.branch [
-        | then-next-other_next w ↦ let h = c.args.other.found d (omega (arith, l, w.next-is)) in omega (arith, h, occurrences-append d a.found b.found)
-        | else-next-other_next w ↦ let h = c.args.self.found d (omega (arith, l, w.next-is)) in omega (arith, h, occurrences-append d a.found b.found)
-      ]);
-      counted = (omega (arith, x.0, y.0, ap (λ (m : SeatState). length m.0.list) last, length-append a.list b.list), omega (arith, x.1, y.1, ap (λ (m : SeatState). length m.0.takes) last, length-append a.takes b.takes));
+      shares = let same : length c.load.new.seat.me.0.share ≡ length (a.share ++ b.share) = ap
+          (λ (m : SeatState). length m.0.share) last in
+          omega (arith, c.args.self.shares, same, length-append a.share b.share);
+      not_pending = ap (λ (m : SeatState). m.0.pending) last
+          ∙ (λ i. c.args.self.not_pending i ++ c.args.other.not_pending i);
+      found = λ d l. subst (λ (m : SeatState). 0 < occurrences d m.0.found) (sym last)
+          (elim c.if-next-other_next.branch [
+            | then-next-other_next w ↦ let h = c.args.other.found d (omega (arith, l, w.next-is)) in
+                omega (arith, h, occurrences-append d a.found b.found)
+            | else-next-other_next w ↦ let h = c.args.self.found d (omega (arith, l, w.next-is)) in
+                omega (arith, h, occurrences-append d a.found b.found)
+          ]);
+      counted = (
+        omega (arith, x.0, y.0, ap (λ (m : SeatState). length m.0.list) last, length-append a.list b.list),
+        omega (arith, x.1, y.1, ap (λ (m : SeatState). length m.0.takes) last, length-append a.takes b.takes),
+      );
       same_blocks = subst (λ (m : SeatState). SameBlocks m.0) (sym once.0) once.6;
     }
 
 pub returns-clause-lists : goal.returns-clause-lists
-returns-clause-lists c n = let a = c.args.self.seat.me.0 in let b = c.args.other.seat.me.0 in let once = c.load.ensures.2 in
-    let o = subst (λ (m : SeatState). occurrences n (numbers m.0.list) ≤ 1) c.join_seat.ensures.2 (once.2 n) in omega (arith, o, ap (occurrences n) (numbers-append a.list b.list), occurrences-append n (numbers a.list) (numbers b.list))
+returns-clause-lists c n = let a = c.args.self.seat.me.0 in let b = c.args.other.seat.me.0 in
+    let once = c.load.ensures.2 in
+    let o = subst (λ (m : SeatState). occurrences n (numbers m.0.list) ≤ 1) c.join_seat.ensures.2 (once.2 n) in
+    omega (
+      arith,
+      o,
+      ap (occurrences n) (numbers-append a.list b.list),
+      occurrences-append n (numbers a.list)
+          (numbers b.list),
+    )
 
 pub returns-clause-takes : goal.returns-clause-takes
-returns-clause-takes c n = let a = c.args.self.seat.me.0 in let b = c.args.other.seat.me.0 in let once = c.load.ensures.2 in
-    let o = subst (λ (m : SeatState). occurrences n (numbers m.0.takes) ≤ 1) c.join_seat.ensures.2 (once.3 n) in omega (arith, o, ap (occurrences n) (numbers-append a.takes b.takes), occurrences-append n (numbers a.takes) (numbers b.takes))
+returns-clause-takes c n = let a = c.args.self.seat.me.0 in let b = c.args.other.seat.me.0 in
+    let once = c.load.ensures.2 in
+    let o = subst (λ (m : SeatState). occurrences n (numbers m.0.takes) ≤ 1) c.join_seat.ensures.2 (once.3 n) in
+    omega (
+      arith,
+      o,
+      ap (occurrences n) (numbers-append a.takes b.takes),
+      occurrences-append n (numbers a.takes)
+          (numbers b.takes),
+    )
 
 pub returns-clause-draws : goal.returns-clause-draws
-returns-clause-draws c d = let a = c.args.self.seat.me.0 in let b = c.args.other.seat.me.0 in let once = c.load.ensures.2 in
-    let o = subst (λ (m : SeatState). occurrences d m.0.draws ≤ 1) c.join_seat.ensures.2 (once.1 d) in omega (arith, o, occurrences-append d a.draws b.draws)
+returns-clause-draws c d = let a = c.args.self.seat.me.0 in let b = c.args.other.seat.me.0 in
+    let once = c.load.ensures.2 in
+    let o = subst (λ (m : SeatState). occurrences d m.0.draws ≤ 1) c.join_seat.ensures.2 (once.1 d) in
+    omega (arith, o, occurrences-append d a.draws b.draws)
 
 pub returns-clause-seen : goal.returns-clause-seen
-returns-clause-seen c n = ap (λ (u : View). rank (seen u n)) (ap (λ (m : SeatState). m.0) (c.load.ensures.2.0 ∙ c.join_seat.ensures.2)) ∙ seen-joint_view c.args.self.seat.me.0 c.args.other.seat.me.0 n
+returns-clause-seen c n = ap (λ (u : View). rank (seen u n))
+    (ap (λ (m : SeatState). m.0) (c.load.ensures.2.0 ∙ c.join_seat.ensures.2)) ∙ seen-joint_view c.args.self.seat.me.0
+    c.args.other.seat.me.0 n

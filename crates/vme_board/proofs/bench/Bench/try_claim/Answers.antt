@@ -17,97 +17,237 @@ use Rattle.vme_board.proofs.Looks.{grows_filing}
 
 pub fetch_or-claimed-requires : goal.fetch_or-claimed-requires
 fetch_or-claimed-requires c =
-    let board = c.args.board.now in let bench = c.args.self.now in let width = board.table.shared.key in let slots = board.table.shared.table_id.slots in let n : ℕ = c.block.result.now.number in
-    let low : n < board.total = subst (λ (b : Block). b.number < board.total) (sym c.block.ensures.block) c.requires.number in let is = c.word_of.ensures in
+    let board = c.args.board.now in let bench = c.args.self.now in let width = board.table.shared.key in
+    let slots = board.table.shared.table_id.slots in let n : ℕ = c.block.result.now.number in
+    let low : n < board.total = subst (λ (b : Block). b.number < board.total) (sym c.block.ensures.block)
+    c.requires.number in let is = c.word_of.ensures in
     let near = word_within width board.total n 0 low board.numbers_fit.0 board.numbers_fit.1 (omega arith) in (
       c.requires.bench,
       omega (arith, near, board.sized.0, is),
-      at_word ClaimTells width slots bench.seat.id bench.seat.me c.word_of.result (4 * (n / 64) + 0) c.mask_of.result (mask_of n) is c.mask_of.ensures
-          (claims_allowed width slots bench.seat.id bench.seat.me bench.shares n (omega (arith, low, board.sized.1)) near bench.not_pending),
+      at_word ClaimTells width slots bench.seat.id bench.seat.me c.word_of.result (4 * (n / 64) + 0) c.mask_of.result
+          (mask_of n) is c.mask_of.ensures
+          (claims_allowed width slots bench.seat.id bench.seat.me bench.shares n (omega (arith, low, board.sized.1))
+          near bench.not_pending),
     )
 
 pub fetch_or-requires : goal.fetch_or-requires
 fetch_or-requires c =
-    let board = c.args.board.now in let seat = c.exchange.new.seat in let width = board.table.shared.key in let n : ℕ = c.args.judged.number in let low : n < board.total = c.requires.number in
+    let board = c.args.board.now in let seat = c.exchange.new.seat in let width = board.table.shared.key in
+    let n : ℕ = c.args.judged.number in let low : n < board.total = c.requires.number in
     let near = word_within width board.total n 1 low board.numbers_fit.0 board.numbers_fit.1 (omega arith) in
-    let slots = c.args.board.now.table.shared.table_id.slots in let own : c.block.result.now.number ≡ c.args.judged.number = ap (λ (b : Block). b.number) c.block.ensures.block in
-    let at_claim = at_equal slots 0 c.word_of.result c.mask_of.result c.block.result.now.number c.args.judged.number c.word_of.ensures c.mask_of.ensures own in
-    let free = subst (λ (y : ℕ). bit_at c.fetch_or-claimed.result (y % 64) ≡ 0) own (bit_0 c.fetch_or-claimed.result (c.block.result.now.number % 64) c.bit.result c.bit.ensures c.if-bit-eq1.false) in
-    let exchange : c.exchange.new.seat.me ≡ (c.fetch_or-claimed.new.seat.me.0, (c.args.judged.number, Some c.args.judged) ∷ rest c.fetch_or-claimed.new.seat.me.1) = subst (λ (y : ℕ). c.exchange.new.seat.me ≡ (c.fetch_or-claimed.new.seat.me.0, (y, Some c.args.judged) ∷ rest c.fetch_or-claimed.new.seat.me.1)) own c.exchange.ensures.3 in
-    let put = after_put slots c.args.judged.number c.word_of.result c.mask_of.result c.word_of-2.result c.mask_of-2.result c.args.judged c.args.self.now.seat.me c.fetch_or-claimed.new.seat.me c.exchange.new.seat.me c.exchange.new.seat.me c.fetch_or-claimed.result 0 c.fetch_or-claimed.ensures.2 at_claim free c.args.self.now.no_slots exchange in let at_file = at_equal slots 1 c.word_of-2.result c.mask_of-2.result c.block.result.now.number n c.word_of-2.ensures c.mask_of-2.ensures own in let is = at_file.word in (
+    let slots = c.args.board.now.table.shared.table_id.slots in let own : c.block.result.now.number
+    ≡ c.args.judged.number = ap (λ (b : Block). b.number) c.block.ensures.block in
+    let at_claim = at_equal slots 0 c.word_of.result c.mask_of.result c.block.result.now.number c.args.judged.number
+    c.word_of.ensures c.mask_of.ensures own in
+    let free = subst (λ (y : ℕ). bit_at c.fetch_or-claimed.result (y % 64) ≡ 0) own
+    (bit_0 c.fetch_or-claimed.result (c.block.result.now.number % 64) c.bit.result c.bit.ensures c.if-bit-eq1.false)
+    in
+    let exchange : c.exchange.new.seat.me
+    ≡ (
+      c.fetch_or-claimed.new.seat.me.0,
+      (c.args.judged.number, Some c.args.judged)
+          ∷ rest c.fetch_or-claimed.new.seat.me.1,
+    ) = subst (λ (y : ℕ). c.exchange.new.seat.me
+    ≡ (c.fetch_or-claimed.new.seat.me.0, (y, Some c.args.judged) ∷ rest c.fetch_or-claimed.new.seat.me.1)) own
+    c.exchange.ensures.3 in
+    let put = after_put slots c.args.judged.number c.word_of.result c.mask_of.result c.word_of-2.result
+    c.mask_of-2.result c.args.judged c.args.self.now.seat.me c.fetch_or-claimed.new.seat.me c.exchange.new.seat.me
+    c.exchange.new.seat.me c.fetch_or-claimed.result 0 c.fetch_or-claimed.ensures.2 at_claim free
+    c.args.self.now.no_slots exchange in let at_file = at_equal slots 1 c.word_of-2.result c.mask_of-2.result
+    c.block.result.now.number n c.word_of-2.ensures c.mask_of-2.ensures own in let is = at_file.word in (
       c.exchange.ensures.0 ∙ c.fetch_or-claimed.ensures.0 ∙ c.requires.bench,
       omega (arith, near, board.sized.0, is),
-      at_word FileTells width slots seat.id seat.me c.word_of-2.result (4 * (n / 64) + 1) c.mask_of-2.result (mask_of n) is at_file.mask
-          (files_allowed width slots seat.id seat.me n c.args.judged refl (omega (arith, low, board.sized.1)) near (ap (λ (m : SeatState). m.0.pending) put) (ap (λ (m : SeatState). m.1) put)),
+      at_word FileTells width slots seat.id seat.me c.word_of-2.result (4 * (n / 64) + 1) c.mask_of-2.result (mask_of n)
+          is at_file.mask
+          (files_allowed width slots seat.id seat.me n c.args.judged refl (omega (arith, low, board.sized.1)) near
+          (ap (λ (m : SeatState). m.0.pending) put) (ap (λ (m : SeatState). m.1) put)),
     )
 
 pub overflow_add-self : goal.overflow_add-self
 overflow_add-self c =
-    let slots = c.args.board.now.table.shared.table_id.slots in let own : c.block.result.now.number ≡ c.args.judged.number = ap (λ (b : Block). b.number) c.block.ensures.block in
-    let at_claim = at_equal slots 0 c.word_of.result c.mask_of.result c.block.result.now.number c.args.judged.number c.word_of.ensures c.mask_of.ensures own in
-    let free = subst (λ (y : ℕ). bit_at c.fetch_or-claimed.result (y % 64) ≡ 0) own (bit_0 c.fetch_or-claimed.result (c.block.result.now.number % 64) c.bit.result c.bit.ensures c.if-bit-eq1.false) in
-    let exchange : c.exchange.new.seat.me ≡ (c.fetch_or-claimed.new.seat.me.0, (c.args.judged.number, Some c.args.judged) ∷ rest c.fetch_or-claimed.new.seat.me.1) = subst (λ (y : ℕ). c.exchange.new.seat.me ≡ (c.fetch_or-claimed.new.seat.me.0, (y, Some c.args.judged) ∷ rest c.fetch_or-claimed.new.seat.me.1)) own c.exchange.ensures.3 in
-    let done = after_file slots c.args.judged.number c.word_of.result c.mask_of.result c.word_of-2.result c.mask_of-2.result c.args.judged c.args.self.now.seat.me c.fetch_or-claimed.new.seat.me c.exchange.new.seat.me c.fetch_or.new.seat.me c.fetch_or-claimed.result c.fetch_or.result c.fetch_or-claimed.ensures.2 at_claim free c.args.self.now.no_slots exchange c.fetch_or.ensures.2 (at_equal slots 1 c.word_of-2.result c.mask_of-2.result c.block.result.now.number c.args.judged.number c.word_of-2.ensures c.mask_of-2.ensures own) in
-    let board = c.args.board.now in let had = c.args.self.now.counted in let few = done.few in omega (arith, few, had.0, board.sized.1, board.limits.1)
+    let slots = c.args.board.now.table.shared.table_id.slots in let own : c.block.result.now.number
+    ≡ c.args.judged.number = ap (λ (b : Block). b.number) c.block.ensures.block in
+    let at_claim = at_equal slots 0 c.word_of.result c.mask_of.result c.block.result.now.number c.args.judged.number
+    c.word_of.ensures c.mask_of.ensures own in
+    let free = subst (λ (y : ℕ). bit_at c.fetch_or-claimed.result (y % 64) ≡ 0) own
+    (bit_0 c.fetch_or-claimed.result (c.block.result.now.number % 64) c.bit.result c.bit.ensures c.if-bit-eq1.false)
+    in
+    let exchange : c.exchange.new.seat.me
+    ≡ (
+      c.fetch_or-claimed.new.seat.me.0,
+      (c.args.judged.number, Some c.args.judged)
+          ∷ rest c.fetch_or-claimed.new.seat.me.1,
+    ) = subst (λ (y : ℕ). c.exchange.new.seat.me
+    ≡ (c.fetch_or-claimed.new.seat.me.0, (y, Some c.args.judged) ∷ rest c.fetch_or-claimed.new.seat.me.1)) own
+    c.exchange.ensures.3 in
+    let done = after_file slots c.args.judged.number c.word_of.result c.mask_of.result c.word_of-2.result
+    c.mask_of-2.result c.args.judged c.args.self.now.seat.me c.fetch_or-claimed.new.seat.me c.exchange.new.seat.me
+    c.fetch_or.new.seat.me c.fetch_or-claimed.result c.fetch_or.result c.fetch_or-claimed.ensures.2 at_claim free
+    c.args.self.now.no_slots exchange c.fetch_or.ensures.2 (at_equal slots 1 c.word_of-2.result c.mask_of-2.result
+    c.block.result.now.number c.args.judged.number c.word_of-2.ensures c.mask_of-2.ensures own) in
+    let board = c.args.board.now in let had = c.args.self.now.counted in let few = done.few in
+    omega (arith, few, had.0, board.sized.1, board.limits.1)
 
 pub invariant_of-self-2 : goal.invariant_of-self-2
 invariant_of-self-2 c =
-    let slots = c.args.board.now.table.shared.table_id.slots in let own : c.block.result.now.number ≡ c.args.judged.number = ap (λ (b : Block). b.number) c.block.ensures.block in
-    let at_claim = at_equal slots 0 c.word_of.result c.mask_of.result c.block.result.now.number c.args.judged.number c.word_of.ensures c.mask_of.ensures own in
-    let free = subst (λ (y : ℕ). bit_at c.fetch_or-claimed.result (y % 64) ≡ 0) own (bit_0 c.fetch_or-claimed.result (c.block.result.now.number % 64) c.bit.result c.bit.ensures c.if-bit-eq1.false) in
-    let exchange : c.exchange.new.seat.me ≡ (c.fetch_or-claimed.new.seat.me.0, (c.args.judged.number, Some c.args.judged) ∷ rest c.fetch_or-claimed.new.seat.me.1) = subst (λ (y : ℕ). c.exchange.new.seat.me ≡ (c.fetch_or-claimed.new.seat.me.0, (y, Some c.args.judged) ∷ rest c.fetch_or-claimed.new.seat.me.1)) own c.exchange.ensures.3 in
-    let done = after_file slots c.args.judged.number c.word_of.result c.mask_of.result c.word_of-2.result c.mask_of-2.result c.args.judged c.args.self.now.seat.me c.fetch_or-claimed.new.seat.me c.exchange.new.seat.me c.fetch_or.new.seat.me c.fetch_or-claimed.result c.fetch_or.result c.fetch_or-claimed.ensures.2 at_claim free c.args.self.now.no_slots exchange c.fetch_or.ensures.2 (at_equal slots 1 c.word_of-2.result c.mask_of-2.result c.block.result.now.number c.args.judged.number c.word_of-2.ensures c.mask_of-2.ensures own) in
+    let slots = c.args.board.now.table.shared.table_id.slots in let own : c.block.result.now.number
+    ≡ c.args.judged.number = ap (λ (b : Block). b.number) c.block.ensures.block in
+    let at_claim = at_equal slots 0 c.word_of.result c.mask_of.result c.block.result.now.number c.args.judged.number
+    c.word_of.ensures c.mask_of.ensures own in
+    let free = subst (λ (y : ℕ). bit_at c.fetch_or-claimed.result (y % 64) ≡ 0) own
+    (bit_0 c.fetch_or-claimed.result (c.block.result.now.number % 64) c.bit.result c.bit.ensures c.if-bit-eq1.false)
+    in
+    let exchange : c.exchange.new.seat.me
+    ≡ (
+      c.fetch_or-claimed.new.seat.me.0,
+      (c.args.judged.number, Some c.args.judged)
+          ∷ rest c.fetch_or-claimed.new.seat.me.1,
+    ) = subst (λ (y : ℕ). c.exchange.new.seat.me
+    ≡ (c.fetch_or-claimed.new.seat.me.0, (y, Some c.args.judged) ∷ rest c.fetch_or-claimed.new.seat.me.1)) own
+    c.exchange.ensures.3 in
+    let done = after_file slots c.args.judged.number c.word_of.result c.mask_of.result c.word_of-2.result
+    c.mask_of-2.result c.args.judged c.args.self.now.seat.me c.fetch_or-claimed.new.seat.me c.exchange.new.seat.me
+    c.fetch_or.new.seat.me c.fetch_or-claimed.result c.fetch_or.result c.fetch_or-claimed.ensures.2 at_claim free
+    c.args.self.now.no_slots exchange c.fetch_or.ensures.2 (at_equal slots 1 c.word_of-2.result c.mask_of-2.result
+    c.block.result.now.number c.args.judged.number c.word_of-2.ensures c.mask_of-2.ensures own) in
     let had = c.args.self.now.counted in let last = done.seat in record {
       no_slots = ap (λ (m : SeatState). m.1) last;
       not_pending = ap (λ (m : SeatState). m.0.pending) last;
-      shares = let same : length c.fetch_or.new.seat.me.0.share ≡ length c.args.self.now.seat.me.0.share = ap (λ (m : SeatState). length m.0.share) last in omega (arith, c.args.self.now.shares, same);
+      shares = let same : length c.fetch_or.new.seat.me.0.share ≡ length c.args.self.now.seat.me.0.share = ap
+          (λ (m : SeatState). length m.0.share) last in omega (arith, c.args.self.now.shares, same);
       found = λ d l. subst (λ (m : SeatState). 0 < occurrences d m.0.found) (sym last) (c.args.self.now.found d l);
-      counted = (omega (arith, had.0, ap (λ (m : SeatState). length m.0.list) last), had.1 ∙ sym (ap (λ (m : SeatState). length m.0.takes) last));
+      counted = (
+        omega (arith, had.0, ap (λ (m : SeatState). length m.0.list) last),
+        had.1
+            ∙ sym (ap (λ (m : SeatState). length m.0.takes) last),
+      );
       same_blocks = done.same_blocks;
     }
 
 pub returns-clause-list : goal.returns-clause-list
 returns-clause-list c =
-    let slots = c.args.board.now.table.shared.table_id.slots in let own : c.block.result.now.number ≡ c.args.judged.number = ap (λ (b : Block). b.number) c.block.ensures.block in
-    let at_claim = at_equal slots 0 c.word_of.result c.mask_of.result c.block.result.now.number c.args.judged.number c.word_of.ensures c.mask_of.ensures own in
-    let free = subst (λ (y : ℕ). bit_at c.fetch_or-claimed.result (y % 64) ≡ 0) own (bit_0 c.fetch_or-claimed.result (c.block.result.now.number % 64) c.bit.result c.bit.ensures c.if-bit-eq1.false) in
-    let exchange : c.exchange.new.seat.me ≡ (c.fetch_or-claimed.new.seat.me.0, (c.args.judged.number, Some c.args.judged) ∷ rest c.fetch_or-claimed.new.seat.me.1) = subst (λ (y : ℕ). c.exchange.new.seat.me ≡ (c.fetch_or-claimed.new.seat.me.0, (y, Some c.args.judged) ∷ rest c.fetch_or-claimed.new.seat.me.1)) own c.exchange.ensures.3 in
-    let done = after_file slots c.args.judged.number c.word_of.result c.mask_of.result c.word_of-2.result c.mask_of-2.result c.args.judged c.args.self.now.seat.me c.fetch_or-claimed.new.seat.me c.exchange.new.seat.me c.fetch_or.new.seat.me c.fetch_or-claimed.result c.fetch_or.result c.fetch_or-claimed.ensures.2 at_claim free c.args.self.now.no_slots exchange c.fetch_or.ensures.2 (at_equal slots 1 c.word_of-2.result c.mask_of-2.result c.block.result.now.number c.args.judged.number c.word_of-2.ensures c.mask_of-2.ensures own) in
+    let slots = c.args.board.now.table.shared.table_id.slots in let own : c.block.result.now.number
+    ≡ c.args.judged.number = ap (λ (b : Block). b.number) c.block.ensures.block in
+    let at_claim = at_equal slots 0 c.word_of.result c.mask_of.result c.block.result.now.number c.args.judged.number
+    c.word_of.ensures c.mask_of.ensures own in
+    let free = subst (λ (y : ℕ). bit_at c.fetch_or-claimed.result (y % 64) ≡ 0) own
+    (bit_0 c.fetch_or-claimed.result (c.block.result.now.number % 64) c.bit.result c.bit.ensures c.if-bit-eq1.false)
+    in
+    let exchange : c.exchange.new.seat.me
+    ≡ (
+      c.fetch_or-claimed.new.seat.me.0,
+      (c.args.judged.number, Some c.args.judged)
+          ∷ rest c.fetch_or-claimed.new.seat.me.1,
+    ) = subst (λ (y : ℕ). c.exchange.new.seat.me
+    ≡ (c.fetch_or-claimed.new.seat.me.0, (y, Some c.args.judged) ∷ rest c.fetch_or-claimed.new.seat.me.1)) own
+    c.exchange.ensures.3 in
+    let done = after_file slots c.args.judged.number c.word_of.result c.mask_of.result c.word_of-2.result
+    c.mask_of-2.result c.args.judged c.args.self.now.seat.me c.fetch_or-claimed.new.seat.me c.exchange.new.seat.me
+    c.fetch_or.new.seat.me c.fetch_or-claimed.result c.fetch_or.result c.fetch_or-claimed.ensures.2 at_claim free
+    c.args.self.now.no_slots exchange c.fetch_or.ensures.2 (at_equal slots 1 c.word_of-2.result c.mask_of-2.result
+    c.block.result.now.number c.args.judged.number c.word_of-2.ensures c.mask_of-2.ensures own) in
     ap (λ (m : SeatState). m.0.list) done.seat
 
 pub returns-clause-sees_filed : goal.returns-clause-sees_filed
 returns-clause-sees_filed c =
-    let slots = c.args.board.now.table.shared.table_id.slots in let own : c.block.result.now.number ≡ c.args.judged.number = ap (λ (b : Block). b.number) c.block.ensures.block in
-    let at_claim = at_equal slots 0 c.word_of.result c.mask_of.result c.block.result.now.number c.args.judged.number c.word_of.ensures c.mask_of.ensures own in
-    let free = subst (λ (y : ℕ). bit_at c.fetch_or-claimed.result (y % 64) ≡ 0) own (bit_0 c.fetch_or-claimed.result (c.block.result.now.number % 64) c.bit.result c.bit.ensures c.if-bit-eq1.false) in
-    let exchange : c.exchange.new.seat.me ≡ (c.fetch_or-claimed.new.seat.me.0, (c.args.judged.number, Some c.args.judged) ∷ rest c.fetch_or-claimed.new.seat.me.1) = subst (λ (y : ℕ). c.exchange.new.seat.me ≡ (c.fetch_or-claimed.new.seat.me.0, (y, Some c.args.judged) ∷ rest c.fetch_or-claimed.new.seat.me.1)) own c.exchange.ensures.3 in
-    let done = after_file slots c.args.judged.number c.word_of.result c.mask_of.result c.word_of-2.result c.mask_of-2.result c.args.judged c.args.self.now.seat.me c.fetch_or-claimed.new.seat.me c.exchange.new.seat.me c.fetch_or.new.seat.me c.fetch_or-claimed.result c.fetch_or.result c.fetch_or-claimed.ensures.2 at_claim free c.args.self.now.no_slots exchange c.fetch_or.ensures.2 (at_equal slots 1 c.word_of-2.result c.mask_of-2.result c.block.result.now.number c.args.judged.number c.word_of-2.ensures c.mask_of-2.ensures own) in
+    let slots = c.args.board.now.table.shared.table_id.slots in let own : c.block.result.now.number
+    ≡ c.args.judged.number = ap (λ (b : Block). b.number) c.block.ensures.block in
+    let at_claim = at_equal slots 0 c.word_of.result c.mask_of.result c.block.result.now.number c.args.judged.number
+    c.word_of.ensures c.mask_of.ensures own in
+    let free = subst (λ (y : ℕ). bit_at c.fetch_or-claimed.result (y % 64) ≡ 0) own
+    (bit_0 c.fetch_or-claimed.result (c.block.result.now.number % 64) c.bit.result c.bit.ensures c.if-bit-eq1.false)
+    in
+    let exchange : c.exchange.new.seat.me
+    ≡ (
+      c.fetch_or-claimed.new.seat.me.0,
+      (c.args.judged.number, Some c.args.judged)
+          ∷ rest c.fetch_or-claimed.new.seat.me.1,
+    ) = subst (λ (y : ℕ). c.exchange.new.seat.me
+    ≡ (c.fetch_or-claimed.new.seat.me.0, (y, Some c.args.judged) ∷ rest c.fetch_or-claimed.new.seat.me.1)) own
+    c.exchange.ensures.3 in
+    let done = after_file slots c.args.judged.number c.word_of.result c.mask_of.result c.word_of-2.result
+    c.mask_of-2.result c.args.judged c.args.self.now.seat.me c.fetch_or-claimed.new.seat.me c.exchange.new.seat.me
+    c.fetch_or.new.seat.me c.fetch_or-claimed.result c.fetch_or.result c.fetch_or-claimed.ensures.2 at_claim free
+    c.args.self.now.no_slots exchange c.fetch_or.ensures.2 (at_equal slots 1 c.word_of-2.result c.mask_of-2.result
+    c.block.result.now.number c.args.judged.number c.word_of-2.ensures c.mask_of-2.ensures own) in
     let n : ℕ = c.args.judged.number in let here = occurrences_here n c.args.self.now.seat.me.0.filed in
-    subst (λ (m : SeatState). 2 ≤ rank (seen m.0 n)) (sym done.seat) (seen_filed_or_more (after_filing (after_claim c.args.self.now.seat.me.0 n) n c.args.judged) n (omega (arith, here)))
+    subst (λ (m : SeatState). 2 ≤ rank (seen m.0 n)) (sym done.seat)
+    (seen_filed_or_more (after_filing (after_claim c.args.self.now.seat.me.0 n) n c.args.judged) n
+    (omega (arith, here)))
 
 pub returns-clause-takes : goal.returns-clause-takes
 returns-clause-takes c =
-    let slots = c.args.board.now.table.shared.table_id.slots in let own : c.block.result.now.number ≡ c.args.judged.number = ap (λ (b : Block). b.number) c.block.ensures.block in
-    let at_claim = at_equal slots 0 c.word_of.result c.mask_of.result c.block.result.now.number c.args.judged.number c.word_of.ensures c.mask_of.ensures own in
-    let free = subst (λ (y : ℕ). bit_at c.fetch_or-claimed.result (y % 64) ≡ 0) own (bit_0 c.fetch_or-claimed.result (c.block.result.now.number % 64) c.bit.result c.bit.ensures c.if-bit-eq1.false) in
-    let exchange : c.exchange.new.seat.me ≡ (c.fetch_or-claimed.new.seat.me.0, (c.args.judged.number, Some c.args.judged) ∷ rest c.fetch_or-claimed.new.seat.me.1) = subst (λ (y : ℕ). c.exchange.new.seat.me ≡ (c.fetch_or-claimed.new.seat.me.0, (y, Some c.args.judged) ∷ rest c.fetch_or-claimed.new.seat.me.1)) own c.exchange.ensures.3 in
-    let done = after_file slots c.args.judged.number c.word_of.result c.mask_of.result c.word_of-2.result c.mask_of-2.result c.args.judged c.args.self.now.seat.me c.fetch_or-claimed.new.seat.me c.exchange.new.seat.me c.fetch_or.new.seat.me c.fetch_or-claimed.result c.fetch_or.result c.fetch_or-claimed.ensures.2 at_claim free c.args.self.now.no_slots exchange c.fetch_or.ensures.2 (at_equal slots 1 c.word_of-2.result c.mask_of-2.result c.block.result.now.number c.args.judged.number c.word_of-2.ensures c.mask_of-2.ensures own) in
+    let slots = c.args.board.now.table.shared.table_id.slots in let own : c.block.result.now.number
+    ≡ c.args.judged.number = ap (λ (b : Block). b.number) c.block.ensures.block in
+    let at_claim = at_equal slots 0 c.word_of.result c.mask_of.result c.block.result.now.number c.args.judged.number
+    c.word_of.ensures c.mask_of.ensures own in
+    let free = subst (λ (y : ℕ). bit_at c.fetch_or-claimed.result (y % 64) ≡ 0) own
+    (bit_0 c.fetch_or-claimed.result (c.block.result.now.number % 64) c.bit.result c.bit.ensures c.if-bit-eq1.false)
+    in
+    let exchange : c.exchange.new.seat.me
+    ≡ (
+      c.fetch_or-claimed.new.seat.me.0,
+      (c.args.judged.number, Some c.args.judged)
+          ∷ rest c.fetch_or-claimed.new.seat.me.1,
+    ) = subst (λ (y : ℕ). c.exchange.new.seat.me
+    ≡ (c.fetch_or-claimed.new.seat.me.0, (y, Some c.args.judged) ∷ rest c.fetch_or-claimed.new.seat.me.1)) own
+    c.exchange.ensures.3 in
+    let done = after_file slots c.args.judged.number c.word_of.result c.mask_of.result c.word_of-2.result
+    c.mask_of-2.result c.args.judged c.args.self.now.seat.me c.fetch_or-claimed.new.seat.me c.exchange.new.seat.me
+    c.fetch_or.new.seat.me c.fetch_or-claimed.result c.fetch_or.result c.fetch_or-claimed.ensures.2 at_claim free
+    c.args.self.now.no_slots exchange c.fetch_or.ensures.2 (at_equal slots 1 c.word_of-2.result c.mask_of-2.result
+    c.block.result.now.number c.args.judged.number c.word_of-2.ensures c.mask_of-2.ensures own) in
     ap (λ (m : SeatState). m.0.takes) done.seat
 
 pub returns-clause-draws : goal.returns-clause-draws
 returns-clause-draws c =
-    let slots = c.args.board.now.table.shared.table_id.slots in let own : c.block.result.now.number ≡ c.args.judged.number = ap (λ (b : Block). b.number) c.block.ensures.block in
-    let at_claim = at_equal slots 0 c.word_of.result c.mask_of.result c.block.result.now.number c.args.judged.number c.word_of.ensures c.mask_of.ensures own in
-    let free = subst (λ (y : ℕ). bit_at c.fetch_or-claimed.result (y % 64) ≡ 0) own (bit_0 c.fetch_or-claimed.result (c.block.result.now.number % 64) c.bit.result c.bit.ensures c.if-bit-eq1.false) in
-    let exchange : c.exchange.new.seat.me ≡ (c.fetch_or-claimed.new.seat.me.0, (c.args.judged.number, Some c.args.judged) ∷ rest c.fetch_or-claimed.new.seat.me.1) = subst (λ (y : ℕ). c.exchange.new.seat.me ≡ (c.fetch_or-claimed.new.seat.me.0, (y, Some c.args.judged) ∷ rest c.fetch_or-claimed.new.seat.me.1)) own c.exchange.ensures.3 in
-    let done = after_file slots c.args.judged.number c.word_of.result c.mask_of.result c.word_of-2.result c.mask_of-2.result c.args.judged c.args.self.now.seat.me c.fetch_or-claimed.new.seat.me c.exchange.new.seat.me c.fetch_or.new.seat.me c.fetch_or-claimed.result c.fetch_or.result c.fetch_or-claimed.ensures.2 at_claim free c.args.self.now.no_slots exchange c.fetch_or.ensures.2 (at_equal slots 1 c.word_of-2.result c.mask_of-2.result c.block.result.now.number c.args.judged.number c.word_of-2.ensures c.mask_of-2.ensures own) in
-    record { draws = ap (λ (m : SeatState). m.0.draws) done.seat; found = ap (λ (m : SeatState). m.0.found) done.seat; share = ap (λ (m : SeatState). m.0.share) done.seat }
+    let slots = c.args.board.now.table.shared.table_id.slots in let own : c.block.result.now.number
+    ≡ c.args.judged.number = ap (λ (b : Block). b.number) c.block.ensures.block in
+    let at_claim = at_equal slots 0 c.word_of.result c.mask_of.result c.block.result.now.number c.args.judged.number
+    c.word_of.ensures c.mask_of.ensures own in
+    let free = subst (λ (y : ℕ). bit_at c.fetch_or-claimed.result (y % 64) ≡ 0) own
+    (bit_0 c.fetch_or-claimed.result (c.block.result.now.number % 64) c.bit.result c.bit.ensures c.if-bit-eq1.false)
+    in
+    let exchange : c.exchange.new.seat.me
+    ≡ (
+      c.fetch_or-claimed.new.seat.me.0,
+      (c.args.judged.number, Some c.args.judged)
+          ∷ rest c.fetch_or-claimed.new.seat.me.1,
+    ) = subst (λ (y : ℕ). c.exchange.new.seat.me
+    ≡ (c.fetch_or-claimed.new.seat.me.0, (y, Some c.args.judged) ∷ rest c.fetch_or-claimed.new.seat.me.1)) own
+    c.exchange.ensures.3 in
+    let done = after_file slots c.args.judged.number c.word_of.result c.mask_of.result c.word_of-2.result
+    c.mask_of-2.result c.args.judged c.args.self.now.seat.me c.fetch_or-claimed.new.seat.me c.exchange.new.seat.me
+    c.fetch_or.new.seat.me c.fetch_or-claimed.result c.fetch_or.result c.fetch_or-claimed.ensures.2 at_claim free
+    c.args.self.now.no_slots exchange c.fetch_or.ensures.2 (at_equal slots 1 c.word_of-2.result c.mask_of-2.result
+    c.block.result.now.number c.args.judged.number c.word_of-2.ensures c.mask_of-2.ensures own) in
+    record {
+      draws = ap (λ (m : SeatState). m.0.draws) done.seat;
+      found = ap (λ (m : SeatState). m.0.found) done.seat;
+      share = ap (λ (m : SeatState). m.0.share) done.seat;
+    }
 
 pub returns-clause-grows : goal.returns-clause-grows
 returns-clause-grows c =
-    let slots = c.args.board.now.table.shared.table_id.slots in let own : c.block.result.now.number ≡ c.args.judged.number = ap (λ (b : Block). b.number) c.block.ensures.block in
-    let at_claim = at_equal slots 0 c.word_of.result c.mask_of.result c.block.result.now.number c.args.judged.number c.word_of.ensures c.mask_of.ensures own in
-    let free = subst (λ (y : ℕ). bit_at c.fetch_or-claimed.result (y % 64) ≡ 0) own (bit_0 c.fetch_or-claimed.result (c.block.result.now.number % 64) c.bit.result c.bit.ensures c.if-bit-eq1.false) in
-    let exchange : c.exchange.new.seat.me ≡ (c.fetch_or-claimed.new.seat.me.0, (c.args.judged.number, Some c.args.judged) ∷ rest c.fetch_or-claimed.new.seat.me.1) = subst (λ (y : ℕ). c.exchange.new.seat.me ≡ (c.fetch_or-claimed.new.seat.me.0, (y, Some c.args.judged) ∷ rest c.fetch_or-claimed.new.seat.me.1)) own c.exchange.ensures.3 in
-    let done = after_file slots c.args.judged.number c.word_of.result c.mask_of.result c.word_of-2.result c.mask_of-2.result c.args.judged c.args.self.now.seat.me c.fetch_or-claimed.new.seat.me c.exchange.new.seat.me c.fetch_or.new.seat.me c.fetch_or-claimed.result c.fetch_or.result c.fetch_or-claimed.ensures.2 at_claim free c.args.self.now.no_slots exchange c.fetch_or.ensures.2 (at_equal slots 1 c.word_of-2.result c.mask_of-2.result c.block.result.now.number c.args.judged.number c.word_of-2.ensures c.mask_of-2.ensures own) in
-    subst (λ (m : SeatState). SeesMore c.args.self.now.seat.me.0 m.0) (sym done.seat) (grows_filing c.args.self.now.seat.me.0 c.args.judged.number c.args.judged)
+    let slots = c.args.board.now.table.shared.table_id.slots in let own : c.block.result.now.number
+    ≡ c.args.judged.number = ap (λ (b : Block). b.number) c.block.ensures.block in
+    let at_claim = at_equal slots 0 c.word_of.result c.mask_of.result c.block.result.now.number c.args.judged.number
+    c.word_of.ensures c.mask_of.ensures own in
+    let free = subst (λ (y : ℕ). bit_at c.fetch_or-claimed.result (y % 64) ≡ 0) own
+    (bit_0 c.fetch_or-claimed.result (c.block.result.now.number % 64) c.bit.result c.bit.ensures c.if-bit-eq1.false)
+    in
+    let exchange : c.exchange.new.seat.me
+    ≡ (
+      c.fetch_or-claimed.new.seat.me.0,
+      (c.args.judged.number, Some c.args.judged)
+          ∷ rest c.fetch_or-claimed.new.seat.me.1,
+    ) = subst (λ (y : ℕ). c.exchange.new.seat.me
+    ≡ (c.fetch_or-claimed.new.seat.me.0, (y, Some c.args.judged) ∷ rest c.fetch_or-claimed.new.seat.me.1)) own
+    c.exchange.ensures.3 in
+    let done = after_file slots c.args.judged.number c.word_of.result c.mask_of.result c.word_of-2.result
+    c.mask_of-2.result c.args.judged c.args.self.now.seat.me c.fetch_or-claimed.new.seat.me c.exchange.new.seat.me
+    c.fetch_or.new.seat.me c.fetch_or-claimed.result c.fetch_or.result c.fetch_or-claimed.ensures.2 at_claim free
+    c.args.self.now.no_slots exchange c.fetch_or.ensures.2 (at_equal slots 1 c.word_of-2.result c.mask_of-2.result
+    c.block.result.now.number c.args.judged.number c.word_of-2.ensures c.mask_of-2.ensures own) in
+    subst (λ (m : SeatState). SeesMore c.args.self.now.seat.me.0 m.0) (sym done.seat)
+    (grows_filing c.args.self.now.seat.me.0 c.args.judged.number c.args.judged)

@@ -1,10 +1,11 @@
 -- Not all join, or all do.
-use Rattle.std.proofs.Common.{◌≡◌, ℕ, ◌<◌, ◌≤◌, List, [], ◌∷◌, length, map, get_or, arith, refl, sym, ◌∙◌, ap, subst, Option, None, Some}
+use Rattle.std.proofs.Common.{◌≡◌, ℕ, ◌<◌, ◌≤◌, List, [], ◌∷◌, length, map, get_or, arith, refl, sym, ◌∙◌, ap, subst}
+use Rattle.std.proofs.Common.{Option, None, Some}
 use Rattle.std.specs.Global.{Vec}
 use Rattle.vme_trace.specs.declared.block.Block.{Block}
 use Rattle.vme_summary.specs.Stands.{SpanStandsFor}
 use Rattle.vme_book.specs.Inserted.{IsLeastTorn, stored}
-use Rattle.vme_book.specs.Kept.{StandsForSome}
+use Rattle.vme_book.specs.BookState.{StandsForSome}
 use Rattle.vme_book.proofs.Prefixes.{all_of, least_torn, no_longer, same_front, settled, starts_at_zero, there_all}
 use Rattle.vme_book.proofs.book.Book.close.Goals as goal
 
@@ -13,8 +14,12 @@ returns-then-book-len-clause-why c =
     let blocks = c.book.inside.places.blocks.items in
     let kept = c.book.invariant.2 in
     let all = all_of blocks c.in_default.ensures.none in
-    let below : c.book.inside.reached < length blocks = omega arith in
-    (all.0, subst (λ (l : List (Option Block)). IsLeastTorn l c.book.inside.reached all.0) c.book.view_is (least_torn blocks c.book.invariant.0 all.0 c.book.inside.reached all.1 kept.past.prefix kept.ended kept.past.count below))
+    let below : c.book.inside.reached < length blocks = omega arith in (
+      all.0,
+      subst (λ (l : List (Option Block)). IsLeastTorn l c.book.inside.reached all.0) c.book.view_is
+          (least_torn blocks c.book.invariant.0 all.0 c.book.inside.reached all.1 kept.past.prefix kept.ended
+          kept.past.count below),
+    )
 
 pub returns-clause-whole : goal.returns-clause-whole
 returns-clause-whole c =
@@ -22,14 +27,16 @@ returns-clause-whole c =
     let bs = c.book.invariant.0 in
     let kept = c.book.invariant.2 in
     let joined = c.go_on.ensures.joined in
-    let count : c.go_on.new.self.count ≡ c.book.inside.reached = settled c.go_on.result (sym c.is_err.ensures.value ∙ c.if-is_err.false) c.go_on.ensures.all in
+    let count : c.go_on.new.self.count ≡ c.book.inside.reached = settled c.go_on.result (sym c.is_err.ensures.value
+    ∙ c.if-is_err.false) c.go_on.ensures.all in
     let reached = kept.past.count in
     let most = no_longer blocks bs kept.past.prefix.there in
     let full : blocks ≡ map Some bs = there_all blocks bs kept.past.prefix.there (omega arith) in
     let as_long : length joined.0 ≡ length bs = joined.1.count ∙ count ∙ sym reached in
     let same : joined.0 ≡ bs = same_front blocks joined.0 bs joined.1.there kept.past.prefix.there as_long in
     let held : c.go_on.new.self.span ≡ Some c.in-Some-take.span = sym c.take.ensures.value ∙ c.in-Some-take.is in
-    let stands : SpanStandsFor c.in-Some-take.span bs = subst (λ (l : List Block). SpanStandsFor c.in-Some-take.span l) same (subst (λ o. StandsForSome o joined.0) held joined.1.stands) in (
+    let stands : SpanStandsFor c.in-Some-take.span bs = subst (λ (l : List Block). SpanStandsFor c.in-Some-take.span l)
+    same (subst (λ o. StandsForSome o joined.0) held joined.1.stands) in (
       bs,
       record {
         all = sym c.book.view_is ∙ full;

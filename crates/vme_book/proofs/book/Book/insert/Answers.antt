@@ -1,9 +1,10 @@
 -- The block is placed, and judging goes on.
-use Rattle.std.proofs.Common.{◌≡◌, ℕ, ◌<◌, ◌≤◌, List, [], ◌∷◌, length, get_or, arith, set, sym, ◌∙◌, ap, subst, Option, None, Some}
+use Rattle.std.proofs.Common.{◌≡◌, ℕ, ◌<◌, ◌≤◌, List, [], ◌∷◌, length, get_or, arith, set, sym, ◌∙◌, ap, subst, Option}
+use Rattle.std.proofs.Common.{None, Some}
 use Rattle.vme_trace.specs.declared.block.Block.{Block}
 use Rattle.vme_summary.specs.Stands.{SpanStandsFor}
 use Rattle.vme_book.specs.Inserted.{stored}
-use Rattle.vme_book.specs.Kept.{IsPast}
+use Rattle.vme_book.specs.BookState.{IsPast}
 use Rattle.vme_book.proofs.Prefixes.{found_at, free_at, keeps_after, none_of, ready_after, some_of, spans_later}
 use Rattle.vme_book.proofs.book.Book.insert.Goals as goal
 
@@ -12,8 +13,12 @@ returns-then-is_some-clause-why c =
     let blocks = c.self.inside.places.blocks.items in
     let b = some_of c.index.result.now (sym c.if-is_some.ensures) in
     let number = c.block.result.now.number in
-    let there : stored blocks number ≡ Some b.0 = found_at blocks number c.index.result.now b.0 (omega arith) c.index.ensures b.1 in
-    (b.0, sym (ap (λ (v : Block). stored c.args.self.now v.number) c.block.ensures.block) ∙ sym (ap (λ (l : List (Option Block)). stored l number) c.self.view_is) ∙ there)
+    let there : stored blocks number ≡ Some b.0 = found_at blocks number c.index.result.now b.0 (omega arith)
+    c.index.ensures b.1 in (
+      b.0,
+      sym (ap (λ (v : Block). stored c.args.self.now v.number) c.block.ensures.block)
+          ∙ sym (ap (λ (l : List (Option Block)). stored l number) c.self.view_is) ∙ there,
+    )
 
 pub judged_on-progress-requires-clause-placed : goal.judged_on-progress-requires-clause-placed
 judged_on-progress-requires-clause-placed c =
@@ -22,14 +27,19 @@ judged_on-progress-requires-clause-placed c =
     let kept = c.self.invariant.2 in
     let joined = c.go_on.ensures.joined in
     let below : number < length blocks = omega arith in
-    let free = free_at blocks number c.index.result.now below c.index.ensures (none_of c.index.result.now (sym c.if-is_some.ensures)) in
+    let free = free_at blocks number c.index.result.now below c.index.ensures
+    (none_of c.index.result.now (sym c.if-is_some.ensures)) in
     let parts = c.into_parts-block.ensures in
     let named = ap (λ (v : Block). v.number) (parts.block ∙ sym c.block.ensures.block) in
     let short = parts.short in
     let b = c.into_parts-block.result.0 in
     let s = c.into_parts-block.result.1 in
-    let ready = ready_after c.self.inside.places c.self.inside.progress c.self.inside.reached c.self.inside.joined c.go_on.new.self c.self.invariant.0 c.self.invariant.1 joined.0 c.go_on.new.places.blocks c.go_on.new.places.spans.items number b s kept
-    c.go_on.ensures.blocks c.go_on.ensures.waiting joined.1 c.go_on.ensures.within below free named (subst (λ (v : Block). length v.steps ≤ 65536) (sym parts.block) short) (subst (λ v. SpanStandsFor s (v ∷ [])) (sym parts.block) parts.span) in
+    let ready = ready_after c.self.inside.places c.self.inside.progress c.self.inside.reached c.self.inside.joined
+    c.go_on.new.self c.self.invariant.0 c.self.invariant.1 joined.0 c.go_on.new.places.blocks
+    c.go_on.new.places.spans.items number b s kept
+    c.go_on.ensures.blocks c.go_on.ensures.waiting joined.1 c.go_on.ensures.within below free named
+    (subst (λ (v : Block). length v.steps ≤ 65536) (sym parts.block) short) (subst (λ v. SpanStandsFor s (v ∷ []))
+    (sym parts.block) parts.span) in
     ready.placed
 
 pub judged_on-progress-requires-clause-waiting : goal.judged_on-progress-requires-clause-waiting
@@ -39,14 +49,19 @@ judged_on-progress-requires-clause-waiting c =
     let kept = c.self.invariant.2 in
     let joined = c.go_on.ensures.joined in
     let below : number < length blocks = omega arith in
-    let free = free_at blocks number c.index.result.now below c.index.ensures (none_of c.index.result.now (sym c.if-is_some.ensures)) in
+    let free = free_at blocks number c.index.result.now below c.index.ensures
+    (none_of c.index.result.now (sym c.if-is_some.ensures)) in
     let parts = c.into_parts-block.ensures in
     let named = ap (λ (v : Block). v.number) (parts.block ∙ sym c.block.ensures.block) in
     let short = parts.short in
     let b = c.into_parts-block.result.0 in
     let s = c.into_parts-block.result.1 in
-    let ready = ready_after c.self.inside.places c.self.inside.progress c.self.inside.reached c.self.inside.joined c.go_on.new.self c.self.invariant.0 c.self.invariant.1 joined.0 c.go_on.new.places.blocks c.go_on.new.places.spans.items number b s kept
-    c.go_on.ensures.blocks c.go_on.ensures.waiting joined.1 c.go_on.ensures.within below free named (subst (λ (v : Block). length v.steps ≤ 65536) (sym parts.block) short) (subst (λ v. SpanStandsFor s (v ∷ [])) (sym parts.block) parts.span) in
+    let ready = ready_after c.self.inside.places c.self.inside.progress c.self.inside.reached c.self.inside.joined
+    c.go_on.new.self c.self.invariant.0 c.self.invariant.1 joined.0 c.go_on.new.places.blocks
+    c.go_on.new.places.spans.items number b s kept
+    c.go_on.ensures.blocks c.go_on.ensures.waiting joined.1 c.go_on.ensures.within below free named
+    (subst (λ (v : Block). length v.steps ≤ 65536) (sym parts.block) short) (subst (λ v. SpanStandsFor s (v ∷ []))
+    (sym parts.block) parts.span) in
     spans_later _ _ c.go_on.new.self.count c.self.inside.reached ready.waiting ready.within
 
 pub judged_on-progress-requires-clause-past : goal.judged_on-progress-requires-clause-past
@@ -56,15 +71,23 @@ judged_on-progress-requires-clause-past c =
     let kept = c.self.invariant.2 in
     let joined = c.go_on.ensures.joined in
     let below : number < length blocks = omega arith in
-    let free = free_at blocks number c.index.result.now below c.index.ensures (none_of c.index.result.now (sym c.if-is_some.ensures)) in
+    let free = free_at blocks number c.index.result.now below c.index.ensures
+    (none_of c.index.result.now (sym c.if-is_some.ensures)) in
     let parts = c.into_parts-block.ensures in
     let named = ap (λ (v : Block). v.number) (parts.block ∙ sym c.block.ensures.block) in
     let short = parts.short in
     let b = c.into_parts-block.result.0 in
     let s = c.into_parts-block.result.1 in
-    let ready = ready_after c.self.inside.places c.self.inside.progress c.self.inside.reached c.self.inside.joined c.go_on.new.self c.self.invariant.0 c.self.invariant.1 joined.0 c.go_on.new.places.blocks c.go_on.new.places.spans.items number b s kept
-    c.go_on.ensures.blocks c.go_on.ensures.waiting joined.1 c.go_on.ensures.within below free named (subst (λ (v : Block). length v.steps ≤ 65536) (sym parts.block) short) (subst (λ v. SpanStandsFor s (v ∷ [])) (sym parts.block) parts.span) in
-    (c.self.invariant.0, subst (λ o. IsPast (set c.go_on.new.places.blocks.items number (Some b)) o c.self.inside.reached c.self.invariant.0) (sym c.take.ensures.value) ready.past)
+    let ready = ready_after c.self.inside.places c.self.inside.progress c.self.inside.reached c.self.inside.joined
+    c.go_on.new.self c.self.invariant.0 c.self.invariant.1 joined.0 c.go_on.new.places.blocks
+    c.go_on.new.places.spans.items number b s kept
+    c.go_on.ensures.blocks c.go_on.ensures.waiting joined.1 c.go_on.ensures.within below free named
+    (subst (λ (v : Block). length v.steps ≤ 65536) (sym parts.block) short) (subst (λ v. SpanStandsFor s (v ∷ []))
+    (sym parts.block) parts.span) in (
+      c.self.invariant.0,
+      subst (λ o. IsPast (set c.go_on.new.places.blocks.items number (Some b)) o
+          c.self.inside.reached c.self.invariant.0) (sym c.take.ensures.value) ready.past,
+    )
 
 pub invariant_of-self-2 : goal.invariant_of-self-2
 invariant_of-self-2 c =
@@ -73,13 +96,23 @@ invariant_of-self-2 c =
     let kept = c.self.invariant.2 in
     let joined = c.go_on.ensures.joined in
     let below : number < length blocks = omega arith in
-    let free = free_at blocks number c.index.result.now below c.index.ensures (none_of c.index.result.now (sym c.if-is_some.ensures)) in
+    let free = free_at blocks number c.index.result.now below c.index.ensures
+    (none_of c.index.result.now (sym c.if-is_some.ensures)) in
     let parts = c.into_parts-block.ensures in
     let named = ap (λ (v : Block). v.number) (parts.block ∙ sym c.block.ensures.block) in
     let short = parts.short in
     let b = c.into_parts-block.result.0 in
     let s = c.into_parts-block.result.1 in
-    let ready = ready_after c.self.inside.places c.self.inside.progress c.self.inside.reached c.self.inside.joined c.go_on.new.self c.self.invariant.0 c.self.invariant.1 joined.0 c.go_on.new.places.blocks c.go_on.new.places.spans.items number b s kept
-    c.go_on.ensures.blocks c.go_on.ensures.waiting joined.1 c.go_on.ensures.within below free named (subst (λ (v : Block). length v.steps ≤ 65536) (sym parts.block) short) (subst (λ v. SpanStandsFor s (v ∷ [])) (sym parts.block) parts.span) in
-    let past = c.judged_on-progress.ensures.past in
-    (past.0, joined.0, keeps_after _ c.self.inside.progress c.judged_on-progress.result.0 c.self.inside.reached c.judged_on-progress.result.1 c.go_on.new.self c.self.invariant.0 past.0 joined.0 ready c.judged_on-progress.ensures.within past.1 past.2)
+    let ready = ready_after c.self.inside.places c.self.inside.progress c.self.inside.reached c.self.inside.joined
+    c.go_on.new.self c.self.invariant.0 c.self.invariant.1 joined.0 c.go_on.new.places.blocks
+    c.go_on.new.places.spans.items number b s kept
+    c.go_on.ensures.blocks c.go_on.ensures.waiting joined.1 c.go_on.ensures.within below free named
+    (subst (λ (v : Block). length v.steps ≤ 65536) (sym parts.block) short) (subst (λ v. SpanStandsFor s (v ∷ []))
+    (sym parts.block) parts.span) in
+    let past = c.judged_on-progress.ensures.past in (
+      past.0,
+      joined.0,
+      keeps_after _ c.self.inside.progress c.judged_on-progress.result.0 c.self.inside.reached
+          c.judged_on-progress.result.1 c.go_on.new.self c.self.invariant.0 past.0 joined.0 ready
+          c.judged_on-progress.ensures.within past.1 past.2,
+    )

@@ -1,13 +1,15 @@
 -- The next block has a span of its own, and it joins.
-use Rattle.std.proofs.Common.{rules, arith, ◌≡◌, ℕ, ◌+◌, ◌<◌, ◌≤◌, List, [], ◌∷◌, ◌++◌, length, length-append, None, Some, refl, sym, ◌∙◌, ap, subst, get_or, set, Option}
+use Rattle.std.proofs.Common.{rules, arith, ◌≡◌, ℕ, ◌+◌, ◌<◌, ◌≤◌, List, [], ◌∷◌, ◌++◌, length, length-append, None}
+use Rattle.std.proofs.Common.{Some, refl, sym, ◌∙◌, ap, subst, get_or, set, Option}
 use Rattle.vme_trace.specs.declared.block.Block.{Block}
 use Rattle.vme_summary.specs.Joins.{BlocksJoin}
 use Rattle.vme_summary.specs.Stands.{SpanStandsFor}
 use Rattle.vme_summary.specs.declared.span.Span.{Span}
 use Rattle.vme_summary.proofs.Progressing.{span_steps}
 use Rattle.vme_book.specs.Inserted.{stored}
-use Rattle.vme_book.specs.Kept.{AreJoinedTo, HaveSpans, StandsForSome}
-use Rattle.vme_book.proofs.Prefixes.{joined_after, next_of, no_span, one_more, own_span, found_at, put_back, shorter_joins, spans_after, steps_fit, within_places}
+use Rattle.vme_book.specs.BookState.{AreJoinedTo, HaveSpans, StandsForSome}
+use Rattle.vme_book.proofs.Prefixes.{joined_after, next_of, no_span, one_more, own_span, found_at, put_back}
+use Rattle.vme_book.proofs.Prefixes.{shorter_joins, spans_after, steps_fit, within_places}
 use Rattle.vme_book.proofs.joined.JoinedPrefix.go_on.Goals as goal
 
 pub unreachable-requires : goal.unreachable-requires
@@ -20,7 +22,8 @@ unreachable-requires c =
     let prefix = c.requires.prefix in
     let long = prefix.2 in
     let b = next_of blocks prefix.0 n prefix.1.there (omega arith) in
-    no_span blocks spans c.loop-number.self.count n b.0 c.index_mut.result.now inv.waiting (omega arith) b.1 c.index_mut.ensures.value (sym c.take.ensures.value ∙ c.in_default.is)
+    no_span blocks spans c.loop-number.self.count n b.0 c.index_mut.result.now inv.waiting (omega arith) b.1
+    c.index_mut.ensures.value (sym c.take.ensures.value ∙ c.in_default.is)
 
 pub push-requires-clause-few : goal.push-requires-clause-few
 push-requires-clause-few c =
@@ -32,13 +35,15 @@ push-requires-clause-few c =
     let prefix = c.requires.prefix in
     let long = prefix.2 in
     let b = next_of blocks prefix.0 n prefix.1.there (omega arith) in
-    let stands = own_span blocks spans c.loop-number.self.count n b.0 c.index_mut.result.now c.in-Some.span inv.waiting (omega arith) b.1 c.index_mut.ensures.value (sym c.take.ensures.value ∙ c.in-Some.is) in
+    let stands = own_span blocks spans c.loop-number.self.count n b.0 c.index_mut.result.now c.in-Some.span inv.waiting
+    (omega arith) b.1 c.index_mut.ensures.value (sym c.take.ensures.value ∙ c.in-Some.is) in
     let xs = inv.joined.0 in
     let joined = inv.joined.1 in
     let there : stored blocks (length xs) ≡ Some b.0 = ap (λ (k : ℕ). stored blocks k) (joined.count ∙ at) ∙ b.1 in
     λ t e.
     let before : SpanStandsFor t xs = subst (λ (o : Option Span). StandsForSome o xs) e joined.stands in
-    steps_fit blocks xs b.0 _ _ c.requires.placed joined.there there (span_steps t xs before) (span_steps _ (b.0 ∷ []) stands)
+    steps_fit blocks xs b.0 _ _ c.requires.placed joined.there there (span_steps t xs before)
+    (span_steps _ (b.0 ∷ []) stands)
 
 pub push-requires-clause-joins : goal.push-requires-clause-joins
 push-requires-clause-joins c =
@@ -50,13 +55,20 @@ push-requires-clause-joins c =
     let prefix = c.requires.prefix in
     let long = prefix.2 in
     let b = next_of blocks prefix.0 n prefix.1.there (omega arith) in
-    let stands = own_span blocks spans c.loop-number.self.count n b.0 c.index_mut.result.now c.in-Some.span inv.waiting (omega arith) b.1 c.index_mut.ensures.value (sym c.take.ensures.value ∙ c.in-Some.is) in
+    let stands = own_span blocks spans c.loop-number.self.count n b.0 c.index_mut.result.now c.in-Some.span inv.waiting
+    (omega arith) b.1 c.index_mut.ensures.value (sym c.take.ensures.value ∙ c.in-Some.is) in
     let xs = inv.joined.0 in
     let joined = inv.joined.1 in
     let there : stored blocks (length xs) ≡ Some b.0 = ap (λ (k : ℕ). stored blocks k) (joined.count ∙ at) ∙ b.1 in
     let more = one_more blocks xs b.0 joined.there there in
-    let count = joined.count in
-    (xs, b.0, joined.stands, stands, shorter_joins blocks (xs ++ b.0 ∷ []) prefix.0 more prefix.1 (omega (arith, length-append xs (b.0 ∷ []))))
+    let count = joined.count in (
+      xs,
+      b.0,
+      joined.stands,
+      stands,
+      shorter_joins blocks (xs ++ b.0 ∷ []) prefix.0 more prefix.1
+          (omega (arith, length-append xs (b.0 ∷ []))),
+    )
 
 pub returns-in-Err-clause-waiting : goal.returns-in-Err-clause-waiting
 returns-in-Err-clause-waiting c =
@@ -72,9 +84,11 @@ returns-in-Err-clause-waiting c =
     let many = inv.waiting.as_many in
     let below = within_places blocks n b.0 b.1 in
     let back : c.in-Err.span ≡ c.in-Some.span = c.in-Err.ensures.handed_back in
-    let there = found_at spans n c.index_mut.result.now c.in-Err.span (omega arith) c.index_mut.ensures.value (sym c.take.ensures.value ∙ c.in-Some.is ∙ sym (ap Some back)) in
+    let there = found_at spans n c.index_mut.result.now c.in-Err.span (omega arith) c.index_mut.ensures.value
+    (sym c.take.ensures.value ∙ c.in-Some.is ∙ sym (ap Some back)) in
     let kept : c.push.new.self.count ≡ c.loop-number.self.count = c.in-Err.ensures.same in
-    subst (λ (k : ℕ). HaveSpans blocks (set (set spans n c.take.new.self) n (Some c.in-Err.span)) k) (sym kept) (put_back blocks spans n c.loop-number.self.count c.take.new.self c.in-Err.span inv.waiting there)
+    subst (λ (k : ℕ). HaveSpans blocks (set (set spans n c.take.new.self) n (Some c.in-Err.span)) k) (sym kept)
+    (put_back blocks spans n c.loop-number.self.count c.take.new.self c.in-Err.span inv.waiting there)
 
 pub loop-number-preserved : goal.loop-number-preserved
 loop-number-preserved c =
@@ -86,7 +100,8 @@ loop-number-preserved c =
     let prefix = c.requires.prefix in
     let long = prefix.2 in
     let b = next_of blocks prefix.0 n prefix.1.there (omega arith) in
-    let stands = own_span blocks spans c.loop-number.self.count n b.0 c.index_mut.result.now c.in-Some.span inv.waiting (omega arith) b.1 c.index_mut.ensures.value (sym c.take.ensures.value ∙ c.in-Some.is) in
+    let stands = own_span blocks spans c.loop-number.self.count n b.0 c.index_mut.result.now c.in-Some.span inv.waiting
+    (omega arith) b.1 c.index_mut.ensures.value (sym c.take.ensures.value ∙ c.in-Some.is) in
     let xs = inv.joined.0 in
     let joined = inv.joined.1 in
     let there : stored blocks (length xs) ≡ Some b.0 = ap (λ (k : ℕ). stored blocks k) (joined.count ∙ at) ∙ b.1 in
@@ -99,6 +114,7 @@ loop-number-preserved c =
       waiting = spans_after blocks spans n c.push.new.self.count c.take.new.self waiting next;
       joined = (
         xs ++ b.0 ∷ [],
-        joined_after blocks c.loop-number.self c.push.new.self xs b.0 joined (ap (λ (k : ℕ). stored blocks k) at ∙ b.1) more (c.in_default-push.ensures.pushed xs b.0 joined.stands stands),
+        joined_after blocks c.loop-number.self c.push.new.self xs b.0 joined (ap (λ (k : ℕ). stored blocks k) at ∙ b.1)
+            more (c.in_default-push.ensures.pushed xs b.0 joined.stands stands),
       );
     }

@@ -1,6 +1,6 @@
 use Rattle.std.proofs.Common.{◌≡◌, List}
 use Rattle.vme_trace.specs.declared.block.Block.{Block}
-use Rattle.vme_book.specs.Kept.{AreJoinedTo, HaveSpans}
+use Rattle.vme_book.specs.BookState.{AreJoinedTo, HaveSpans}
 use Rattle.vme_book.proofs.joined.JoinedPrefix.go_on.Given as goal
 
 abbrev pub invariant-loop-number : goal.invariant-loop-number

@@ -1,6 +1,6 @@
 use Rattle.std.proofs.Common.{List}
 use Rattle.vme_trace.specs.declared.block.Block.{Block}
-use Rattle.vme_book.specs.Kept.{IsPast}
+use Rattle.vme_book.specs.BookState.{IsPast}
 use Rattle.vme_book.proofs.places.BookSlots.judged_on.Given as goal
 
 abbrev pub invariant-loop-number : goal.invariant-loop-number

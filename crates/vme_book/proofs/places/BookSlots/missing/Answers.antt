@@ -11,6 +11,7 @@ loop-number-preserved c =
     let n = c.loop-number.number in
     let b = some_of c.block-item.result c.if-is_none.ensures in
     let same = c.deref-block-items.ensures.value in
-    let there = found_at c.deref-block-items.result.now n c.block-item.result b.0 c.loop-number-test.true c.block-item.is b.1 in
+    let there = found_at c.deref-block-items.result.now n c.block-item.result b.0 c.loop-number-test.true
+    c.block-item.is b.1 in
     let here : stored blocks n ≡ Some b.0 = ap (λ l. get_or l n None) (sym same) ∙ there in
     below_more (λ k. (x : Block) × (stored blocks k ≡ Some x)) n c.loop-number.invariant (b.0, here)

@@ -14,4 +14,5 @@ invariant_of-self-clause-is c =
     let t = c.args.self.now.capture.now in
     let i = c.args.self.now.instant in
     let same : i ≡ i + 1 - 1 = omega arith in
-    c.apply.ensures ∙ (ap (λ v. changed v c.step_at.result.0.now) (c.args.self.now.is ∙ ap (levels_at t) same) ∙ sym c.step_at.ensures.made)
+    c.apply.ensures ∙ (ap (λ v. changed v c.step_at.result.0.now) (c.args.self.now.is ∙ ap (levels_at t) same)
+    ∙ sym c.step_at.ensures.made)

@@ -7,11 +7,13 @@ use Rattle.vme_trace.proofs.Ranges.{least-is, least-none}
 use Rattle.vme_cert.proofs.Searching.{any-start, any-more, any-end}
 use Rattle.vme_cert.proofs.Losing.{idle-goes_on, stops-lost, stops-reset}
 use Rattle.vme_cert.proofs.bus.Bus.next_stop.Goals as goal
-use Rattle.vme_cert.proofs.bus.Bus.next_stop.Goals.{After-apply, then-is_reset-via-then-is_reset, then-is_reset-via-else-is_reset+then-is_some}
+use Rattle.vme_cert.proofs.bus.Bus.next_stop.Goals.{After-apply, then-is_reset-via-then-is_reset}
+use Rattle.vme_cert.proofs.bus.Bus.next_stop.Goals.{then-is_reset-via-else-is_reset+then-is_some}
 
 -- the levels of the instant at hand
 now : (c : After-apply) → c.apply.new.self ≡ levels_at c.args.self.now.capture.now c.loop-instant.instant
-now c = c.apply.ensures ∙ (ap (λ v. changed v c.step_at-time.result.0.now) c.loop-instant.invariant.is ∙ sym c.step_at-time.ensures.made)
+now c = c.apply.ensures ∙ (ap (λ v. changed v c.step_at-time.result.0.now) c.loop-instant.invariant.is
+    ∙ sym c.step_at-time.ensures.made)
 
 pub loop-instant-init : goal.loop-instant-init
 loop-instant-init c =
@@ -33,15 +35,18 @@ returns-then-is_reset c =
     let so_far = c.loop-instant.invariant in
     let is = now (goal.at.returns-then-is_reset c).After-apply in
     let stops : stops_at t j ≡ true = elim c.then-is_reset.branch [
-      | then-is_reset-via-then-is_reset w ↦ stops-reset t c.apply.new.self j is (sym c.is_reset.ensures ∙ w.if-is_reset.true)
+      | then-is_reset-via-then-is_reset w ↦ stops-reset t c.apply.new.self j is (sym c.is_reset.ensures
+          ∙ w.if-is_reset.true)
       | then-is_reset-via-else-is_reset+then-is_some w ↦
-          stops-lost t c.apply.new.self j is c.step_at-time.result.0.now c.args.self.now.few c.step_at-time.ensures.made c.step_at-time.ensures.sound so_far.here
+          stops-lost t c.apply.new.self j is c.step_at-time.result.0.now c.args.self.now.few c.step_at-time.ensures.made
+          c.step_at-time.ensures.sound so_far.here
           (sym c.is_reset.ensures ∙ w.if-is_reset.false)
           ∙ (ap is_some (sym w.lost_among.ensures) ∙ (sym w.is_some.ensures ∙ w.if-is_some.true))
     ] in
     sym
     (ap (λ found. unwrap_or found last)
-    (least-is (stops_at t) (c.args.self.now.instant + 1) last j (omega arith) (omega (arith, c.last_instant-past.ensures.last)) stops so_far.goes_on))
+    (least-is (stops_at t) (c.args.self.now.instant + 1) last j (omega arith)
+    (omega (arith, c.last_instant-past.ensures.last)) stops so_far.goes_on))
 
 pub loop-instant-preserved : goal.loop-instant-preserved
 loop-instant-preserved c =
@@ -51,7 +56,8 @@ loop-instant-preserved c =
     let is = now (goal.at.loop-instant-preserved c).After-apply in
     let back : j + 1 - 1 ≡ j = omega arith in
     let goes_on : stops_at t j ≡ false =
-    stops-lost t c.apply.new.self j is c.step_at-time.result.0.now c.args.self.now.few c.step_at-time.ensures.made c.step_at-time.ensures.sound so_far.here
+    stops-lost t c.apply.new.self j is c.step_at-time.result.0.now c.args.self.now.few c.step_at-time.ensures.made
+    c.step_at-time.ensures.sound so_far.here
     (sym c.is_reset.ensures ∙ c.if-is_reset.false)
     ∙ (ap is_some (sym c.lost_among.ensures) ∙ (sym c.is_some.ensures ∙ c.if-is_some.false)) in
     record {
@@ -66,5 +72,6 @@ returns c =
     let t = c.args.self.now.capture.now in
     let first = c.args.self.now.instant + 1 in
     let last = last_instant t + 1 in
-    let never = least-none (stops_at t) first last (any-end (stops_at t) first c.loop-instant.instant last (omega (arith, c.last_instant-past.ensures.last, c.requires.within)) c.loop-instant.invariant.goes_on) in
+    let never = least-none (stops_at t) first last (any-end (stops_at t) first c.loop-instant.instant last
+    (omega (arith, c.last_instant-past.ensures.last, c.requires.within)) c.loop-instant.invariant.goes_on) in
     ap (λ n. n + 1) c.last_instant-past.ensures.last ∙ sym (ap (λ found. unwrap_or found last) never)

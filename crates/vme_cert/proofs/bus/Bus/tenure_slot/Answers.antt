@@ -13,6 +13,8 @@ returns c =
     let t = c.args.self.now.capture.now in
     let is = sym c.in_ok-level.ensures.level in
     let slots = c.slots.ensures.slots ∙ (ap (λ (v : Levels). v.slots) c.granted-granted.ensures ∙ slots_at t _) in
-    let first = c.least.ensures.found (λ k. not (passes t c.args.self.now.instant c.in_ok-level.level is k)) (search rules) in
+    let first = c.least.ensures.found (λ k. not (passes t c.args.self.now.instant c.in_ok-level.level is k))
+    (search rules) in
     let past = ap (λ n. n + 1) (c.from-past.ensures ∙ slots) in
-    ap (λ (n : ℕ). Some n) c.unwrap_or-slot.ensures ∙ slot-reached t c.args.self.now.instant c.in_ok-level.level is _ c.least.result past first
+    ap (λ (n : ℕ). Some n) c.unwrap_or-slot.ensures ∙ slot-reached t c.args.self.now.instant c.in_ok-level.level is _
+    c.least.result past first

@@ -5,8 +5,10 @@ use Rattle.vme_cert.proofs.Kept.{has_at}
 use Rattle.vme_cert.proofs.bus.Bus.was_low.Goals as goal
 
 pub level-requires : goal.level-requires
-level-requires c = has_at c.args.self.now.capture.now c.args.self.now.before (c.args.self.now.instant - 1) c.args.line c.args.self.now.was c.requires
+level-requires c = has_at c.args.self.now.capture.now c.args.self.now.before (c.args.self.now.instant - 1) c.args.line
+    c.args.self.now.was c.requires
 
 pub returns : goal.returns
 unfolding low
-returns c = c.is_low.ensures ∙ ap is_low (c.level.ensures ∙ ap (λ (v : Levels). level_at v c.args.line) c.args.self.now.was)
+returns c = c.is_low.ensures ∙ ap is_low (c.level.ensures ∙ ap (λ (v : Levels). level_at v c.args.line)
+    c.args.self.now.was)

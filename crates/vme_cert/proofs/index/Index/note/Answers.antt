@@ -17,9 +17,11 @@ returns c =
     let old = c.args.self.now in
     let mid = c.if-cycle_starts.self in
     let p = since old.span.start (cycle_starts t old.span) in
-    let from : old.span.start ≤ n = omega (arith, c.requires.index.started, c.requires.index.answered, c.requires.next) in
+    let from : old.span.start ≤ n = omega (arith, c.requires.index.started, c.requires.index.answered, c.requires.next)
+    in
     let here = since-is old.span.start (cycle_starts t old.span) n from in
-    let old_cycles = c.requires.index.cycles ∙ ap (λ m. map (cycle_at t) (those (since old.span.start (cycle_starts t old.span)) 0 m)) c.requires.next in
+    let old_cycles = c.requires.index.cycles
+    ∙ ap (λ m. map (cycle_at t) (those (since old.span.start (cycle_starts t old.span)) 0 m)) c.requires.next in
     let with_cycles : IsWithCycles t old mid n = elim c.if-cycle_starts.branch [
       | then-cycle_starts+in_ok-push w ↦
           record {
@@ -29,7 +31,8 @@ returns c =
             answers = ap (λ (s : Index). s.answers) w.self-is;
             acknowledges = ap (λ (s : Index). s.acknowledges) w.self-is;
             cycles = ap (λ (s : Index). s.cycles.items) w.self-is ∙ (w.in_ok-push.ensures.items
-                ∙ cycles-more t p n old.cycles.items _ old_cycles (cycle-is t n c.args.bus.now.levels w.am_class.result w.needed.result c.args.bus.now.is w.am_class.ensures w.needed.ensures)
+                ∙ cycles-more t p n old.cycles.items _ old_cycles (cycle-is t n c.args.bus.now.levels w.am_class.result
+                w.needed.result c.args.bus.now.is w.am_class.ensures w.needed.ensures)
                 (here ∙ (sym c.cycle_starts.ensures ∙ w.if-cycle_starts.true)));
           }
       | else-cycle_starts w ↦
@@ -39,11 +42,14 @@ returns c =
             answered = ap (λ (s : Index). s.answered) w.self-is;
             answers = ap (λ (s : Index). s.answers) w.self-is;
             acknowledges = ap (λ (s : Index). s.acknowledges) w.self-is;
-            cycles = ap (λ (s : Index). s.cycles.items) w.self-is ∙ (old_cycles ∙ ap (map (cycle_at t)) (sym (those-not p n (here ∙ (sym c.cycle_starts.ensures ∙ w.if-cycle_starts.false)))));
+            cycles = ap (λ (s : Index). s.cycles.items) w.self-is
+                ∙ (old_cycles ∙ ap (map (cycle_at t))
+                (sym (those-not p n (here ∙ (sym c.cycle_starts.ensures ∙ w.if-cycle_starts.false)))));
           }
     ] in
     let kept : mid.lists ≡ old.lists = elim c.if-cycle_starts.branch [
       | then-cycle_starts+in_ok-push w ↦ ap (λ (s : Index). s.lists) w.self-is
       | else-cycle_starts w ↦ ap (λ (s : Index). s.lists) w.self-is
     ] in
-    noted-index t old mid _ n c.requires.index c.requires.next c.requires.within kept with_cycles c.in_ok-note.ensures refl refl refl refl refl refl
+    noted-index t old mid _ n c.requires.index c.requires.next c.requires.within kept with_cycles c.in_ok-note.ensures
+    refl refl refl refl refl refl

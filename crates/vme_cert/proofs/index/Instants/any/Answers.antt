@@ -5,4 +5,5 @@ use Rattle.vme_cert.proofs.Those.{any-last}
 use Rattle.vme_cert.proofs.index.Instants.any.Goals as goal
 
 pub returns : goal.returns
-returns c p n is within = c.is_some.ensures ∙ (ap is_some (c.last.ensures.greatest p n is within) ∙ any-last p c.args.first c.args.end)
+returns c p n is within = c.is_some.ensures ∙ (ap is_some (c.last.ensures.greatest p n is within)
+    ∙ any-last p c.args.first c.args.end)

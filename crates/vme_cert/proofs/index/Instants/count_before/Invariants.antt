@@ -8,7 +8,8 @@ invariant-loop-low l =
     record {
       order : l.low ≤ l.high;
       within : l.high ≤ length l.instants;
-      between : (p : ℕ → Bool) (n : ℕ) → l.instants ≡ those p 0 n → l.fn.end ≤ n → (l.low ≤ length (those p 0 l.fn.end)) × (length (those p 0 l.fn.end) ≤ l.high);
+      between : (p : ℕ → Bool) (n : ℕ) → l.instants ≡ those p 0 n → l.fn.end ≤ n → (l.low ≤ length (those p 0 l.fn.end))
+          × (length (those p 0 l.fn.end) ≤ l.high);
     }
 
 abbrev pub decreases-loop-low : goal.decreases-loop-low

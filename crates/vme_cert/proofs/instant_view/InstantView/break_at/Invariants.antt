@@ -6,4 +6,5 @@ use Rattle.vme_cert.proofs.instant_view.InstantView.break_at.Given as goal
 
 -- none of the rules so far is broken
 abbrev pub invariant-loop-place : goal.invariant-loop-place
-invariant-loop-place l = break_at (trace l.self) (span l.self) (drop l.place all_rules) (instant l.self) ≡ break_at (trace l.self) (span l.self) all_rules (instant l.self)
+invariant-loop-place l = break_at (trace l.self) (span l.self) (drop l.place all_rules) (instant l.self)
+    ≡ break_at (trace l.self) (span l.self) all_rules (instant l.self)

@@ -12,7 +12,8 @@ returns-then-answer-self c =
     let self = c.args.self.now in
     let here : c.args.answer ≡ instant self = omega arith in
     let starts = subst (λ j. transfer_starts (trace self) (span self) j ≡ true) (sym here) c.requires.starts in
-    c.moved_data.ensures ∙ ap lanes_at (self.bus.now.is ∙ ap (levels_at (trace self)) (sym here)) ∙ sym (data-there (trace self) (span self) c.args.answer starts)
+    c.moved_data.ensures ∙ ap lanes_at (self.bus.now.is ∙ ap (levels_at (trace self)) (sym here))
+    ∙ sym (data-there (trace self) (span self) c.args.answer starts)
 
 pub returns-else-answer-self : goal.returns-else-answer-self
 returns-else-answer-self c =

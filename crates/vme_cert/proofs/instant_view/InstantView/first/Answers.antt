@@ -16,4 +16,5 @@ pub returns-clause-from : goal.returns-clause-from
 returns-clause-from c =
     let span = c.args.self.now.index.now.span in
     let p = since span.start (happens c.args.self.now.bus.now.capture.now span c.args.event) in
-    least-from p c.args.first c.args.end c.first.result (c.first.ensures.least p _ (c.list.ensures _ c.args.self.now.indexed) c.requires.noted)
+    least-from p c.args.first c.args.end c.first.result
+    (c.first.ensures.least p _ (c.list.ensures _ c.args.self.now.indexed) c.requires.noted)

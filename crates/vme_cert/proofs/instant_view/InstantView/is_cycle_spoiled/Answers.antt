@@ -23,6 +23,8 @@ pub returns-then-matches-3 : goal.returns-then-matches-3
 unfolding in_cycle
 returns-then-matches-3 c =
     let self = c.args.self.now in
-    let of : cycle_of (trace self) (span self) (instant self) ≡ Some c.in-Some.start = sym c.cycle_of.ensures.cycle ∙ c.in-Some.is in
+    let of : cycle_of (trace self) (span self) (instant self) ≡ Some c.in-Some.start = sym c.cycle_of.ensures.cycle
+    ∙ c.in-Some.is in
     let interrupt : is_interrupt (class_at (trace self) (span self) c.in-Some.start) ≡ true = search rules in
-    rw (c.in-I5.is, of, interrupt, later_any) (c.any.ensures (is_answer (trace self) (span self)) _ self.indexed.answers self.reached)
+    rw (c.in-I5.is, of, interrupt, later_any) (c.any.ensures (is_answer (trace self) (span self)) _ self.indexed.answers
+    self.reached)

@@ -9,4 +9,5 @@ returns-else-may_hold c =
     let self = c.args.self.now in
     let number = c.number-number.ensures.number in
     let exists = c.number-number.ensures.exists in
-    c.if-may_hold.false ∙ sym (data-kept (trace self) (span self) (instant self) c.args.line (omega (arith, number, exists)) (omega (arith, number)) (c.requires c.if-may_hold.false))
+    c.if-may_hold.false ∙ sym (data-kept (trace self) (span self) (instant self) c.args.line
+    (omega (arith, number, exists)) (omega (arith, number)) (c.requires c.if-may_hold.false))

@@ -12,7 +12,8 @@ invariant-loop-start l =
     record {
       started : (span l.self).start ≤ l.from;
       is : is_held (trace l.self) (span l.self) (instant l.self) l.line
-          ≡ any (λ i. cycle_starts (trace l.self) (span l.self) i && waits (trace l.self) (span l.self) (instant l.self) l.line i) l.from (instant l.self);
+          ≡ any (λ i. cycle_starts (trace l.self) (span l.self) i && waits (trace l.self) (span l.self) (instant l.self)
+          l.line i) l.from (instant l.self);
     }
 
 abbrev pub decreases-loop-start : goal.decreases-loop-start

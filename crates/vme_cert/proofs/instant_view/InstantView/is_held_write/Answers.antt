@@ -9,7 +9,8 @@ use Rattle.vme_trace.specs.Transfers.{strobe_rises}
 use Rattle.vme_cert.specs.Judging.{trace, instant}
 use Rattle.vme_cert.proofs.Asked.{held-write}
 use Rattle.vme_cert.proofs.instant_view.InstantView.is_held_write.Goals as goal
-use Rattle.vme_cert.proofs.instant_view.InstantView.is_held_write.Goals.{then-start-at, else-start-at, then-is_none, else-is_none}
+use Rattle.vme_cert.proofs.instant_view.InstantView.is_held_write.Goals.{then-start-at, else-start-at, then-is_none}
+use Rattle.vme_cert.proofs.instant_view.InstantView.is_held_write.Goals.{else-is_none}
 
 -- the test that was made, part by part
 is_earlier : (i j : ℕ) (n s : Bool) → i < j → s ≡ not n → n ≡ (nat_lt i j && not s)
@@ -54,7 +55,8 @@ returns-then-is_write c =
       | then-is_none w ↦ w.value-is ∙ (w.is_write.ensures ∙ and_write _ _ _ _ waiting w.if-is_none.true)
       | else-is_none w ↦ w.value-is ∙ and_none _ _ _ write waiting w.if-is_none.false
     ] in
-    ap not c.any.ensures ∙ (all_four _ before answered write _ written c.if-is_write.true ∙ sym (held-write _ _ _ start c.in-Some.answer c.in-Some.ensures))
+    ap not c.any.ensures ∙ (all_four _ before answered write _ written c.if-is_write.true
+    ∙ sym (held-write _ _ _ start c.in-Some.answer c.in-Some.ensures))
 
 pub returns-else-is_write : goal.returns-else-is_write
 returns-else-is_write c =
@@ -74,4 +76,5 @@ returns-else-is_write c =
       | then-is_none w ↦ w.value-is ∙ (w.is_write.ensures ∙ and_write _ _ _ _ waiting w.if-is_none.true)
       | else-is_none w ↦ w.value-is ∙ and_none _ _ _ write waiting w.if-is_none.false
     ] in
-    not_all _ before answered write still written c.if-is_write.false ∙ sym (held-write _ _ _ start c.in-Some.answer c.in-Some.ensures)
+    not_all _ before answered write still written c.if-is_write.false
+    ∙ sym (held-write _ _ _ start c.in-Some.answer c.in-Some.ensures)

@@ -23,7 +23,8 @@ returns-then-unwrap_or-at c =
     let start = c.in-Some.start in
     c.is_write.ensures
     ∙ (not_earlier (low t WRITE start) c.unwrap_or.result j c.if-unwrap_or-at.true
-    ∙ (ap (λ (n : ℕ). low t WRITE start && not (nat_lt n j)) c.unwrap_or.ensures ∙ sym (open-write _ _ _ start c.in-Some.answer c.in-Some.ensures)))
+    ∙ (ap (λ (n : ℕ). low t WRITE start && not (nat_lt n j)) c.unwrap_or.ensures
+    ∙ sym (open-write _ _ _ start c.in-Some.answer c.in-Some.ensures)))
 
 pub returns-else-unwrap_or-at : goal.returns-else-unwrap_or-at
 returns-else-unwrap_or-at c =
@@ -31,4 +32,5 @@ returns-else-unwrap_or-at c =
     let j = instant c.args.self.now in
     let start = c.in-Some.start in
     earlier (low t WRITE start) c.unwrap_or.result j c.if-unwrap_or-at.false
-    ∙ (ap (λ (n : ℕ). low t WRITE start && not (nat_lt n j)) c.unwrap_or.ensures ∙ sym (open-write _ _ _ start c.in-Some.answer c.in-Some.ensures))
+    ∙ (ap (λ (n : ℕ). low t WRITE start && not (nat_lt n j)) c.unwrap_or.ensures
+    ∙ sym (open-write _ _ _ start c.in-Some.answer c.in-Some.ensures))

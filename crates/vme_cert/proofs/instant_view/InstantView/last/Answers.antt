@@ -13,10 +13,12 @@ returns-clause-greatest c =
     let p = happens c.args.self.now.bus.now.capture.now span c.args.event in
     let start = ap (λ (s : Stretch). s.start + 1) c.span.view_is in
     c.last.ensures.greatest (since span.start p) _ (c.list.ensures _ c.args.self.now.indexed) c.requires
-    ∙ (ap (λ f. greatest (since span.start p) f c.args.end) start ∙ greatest-since span.start p (span.start + 1) c.args.end (omega arith))
+    ∙ (ap (λ f. greatest (since span.start p) f c.args.end) start ∙ greatest-since span.start p (span.start + 1)
+    c.args.end (omega arith))
 
 pub returns-clause-before : goal.returns-clause-before
 returns-clause-before c =
     let span = c.args.self.now.index.now.span in
     let p = since span.start (happens c.args.self.now.bus.now.capture.now span c.args.event) in
-    greatest-before p _ c.args.end c.last.result (c.last.ensures.greatest p _ (c.list.ensures _ c.args.self.now.indexed) c.requires)
+    greatest-before p _ c.args.end c.last.result (c.last.ensures.greatest p _ (c.list.ensures _ c.args.self.now.indexed)
+    c.requires)

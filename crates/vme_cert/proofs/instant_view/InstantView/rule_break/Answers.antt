@@ -18,5 +18,7 @@ edge_of r a b c d e = refl
 pub returns-in_default : goal.returns-in_default
 returns-in_default c =
     let self = c.args.self.now in
-    let edge = edge_of c.args.rule c.in_default.not-U1 c.in_default.not-U2 c.in_default.not-U3 c.in_default.not-U4 c.in_default.not-H1 in
-    c.edge_break.ensures ∙ edge-least (trace self) (span self) (instant self) c.args.rule c.args.changes.now edge self.bus.now.few c.requires.made c.requires.sound
+    let edge = edge_of c.args.rule c.in_default.not-U1 c.in_default.not-U2 c.in_default.not-U3 c.in_default.not-U4
+    c.in_default.not-H1 in
+    c.edge_break.ensures ∙ edge-least (trace self) (span self) (instant self) c.args.rule c.args.changes.now edge
+    self.bus.now.few c.requires.made c.requires.sound

@@ -31,10 +31,12 @@ returns-then-answers_write c =
     let more = c.any.ensures (is_answer t span) self.index.now.answered self.indexed.answers self.reached in
     let value : c.if-any.value ≡ (c.any.result || answers_write t span c.in-Some.first) = elim c.if-any.branch [
       | then-any w ↦ first_holds c.any.result _ c.if-any.value w.value-is w.if-any.true
-      | else-any w ↦ first_fails c.any.result _ c.if-any.value w.answers_write.result w.value-is w.answers_write.ensures w.if-any.false
+      | else-any w ↦ first_fails c.any.result _ c.if-any.value w.answers_write.result w.value-is w.answers_write.ensures
+          w.if-any.false
     ] in
     holds c.any.result _ c.if-any.value (not (answers_write t span self.bus.now.instant)) value c.if-answers_write.true
-    ∙ sym (spoils-asked t span c.args.start self.bus.now.instant c.in-Some.first c.any.result (answers_write t span c.in-Some.first) first more refl)
+    ∙ sym (spoils-asked t span c.args.start self.bus.now.instant c.in-Some.first c.any.result
+    (answers_write t span c.in-Some.first) first more refl)
 
 pub returns-else-answers_write : goal.returns-else-answers_write
 returns-else-answers_write c =
@@ -45,14 +47,18 @@ returns-else-answers_write c =
     let more = c.any.ensures (is_answer t span) self.index.now.answered self.indexed.answers self.reached in
     let value : c.if-any.value ≡ (c.any.result || answers_write t span c.in-Some.first) = elim c.if-any.branch [
       | then-any w ↦ first_holds c.any.result _ c.if-any.value w.value-is w.if-any.true
-      | else-any w ↦ first_fails c.any.result _ c.if-any.value w.answers_write.result w.value-is w.answers_write.ensures w.if-any.false
+      | else-any w ↦ first_fails c.any.result _ c.if-any.value w.answers_write.result w.value-is w.answers_write.ensures
+          w.if-any.false
     ] in
     ap not c.answers_write-else-answers_write.ensures
-    ∙ (fails c.any.result _ c.if-any.value (not (answers_write t span self.bus.now.instant)) value c.if-answers_write.false
-    ∙ sym (spoils-asked t span c.args.start self.bus.now.instant c.in-Some.first c.any.result (answers_write t span c.in-Some.first) first more refl))
+    ∙ (fails c.any.result _ c.if-any.value (not (answers_write t span self.bus.now.instant)) value
+    c.if-answers_write.false
+    ∙ sym (spoils-asked t span c.args.start self.bus.now.instant c.in-Some.first c.any.result
+    (answers_write t span c.in-Some.first) first more refl))
 
 pub returns-in-None : goal.returns-in-None
 returns-in-None c =
     let self = c.args.self.now in
     let p = is_answer self.bus.now.capture.now self.index.now.span in
-    sym (spoils-none _ _ c.args.start self.bus.now.instant (c.in-None.ensures.least p self.index.now.answered self.indexed.answers self.reached))
+    sym (spoils-none _ _ c.args.start self.bus.now.instant (c.in-None.ensures.least p self.index.now.answered
+    self.indexed.answers self.reached))

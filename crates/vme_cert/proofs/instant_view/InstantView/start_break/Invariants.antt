@@ -7,4 +7,5 @@ use Rattle.vme_cert.proofs.instant_view.InstantView.start_break.Given as goal
 
 -- it is broken on none of the lines so far
 abbrev pub invariant-loop-number : goal.invariant-loop-number
-invariant-loop-number l = any (breaks (trace l.self) (span l.self) l.rule (instant l.self)) (lines_of l.rule).0 l.number ≡ false
+invariant-loop-number l = any (breaks (trace l.self) (span l.self) l.rule (instant l.self)) (lines_of l.rule).0 l.number
+    ≡ false

@@ -19,10 +19,13 @@ pub returns-in-Some : goal.returns-in-Some
 returns-in-Some c =
     let self = c.args.self.now in
     let p = is_answer self.bus.now.capture.now self.index.now.span in
-    unlike _ _ _ _ c.answers_write.ensures c.answers_write-in-Some.ensures ∙ sym (turns-first _ _ c.args.start self.bus.now.instant c.in-Some.first (c.in-Some.ensures.least p self.index.now.answered self.indexed.answers self.reached))
+    unlike _ _ _ _ c.answers_write.ensures c.answers_write-in-Some.ensures
+    ∙ sym (turns-first _ _ c.args.start self.bus.now.instant c.in-Some.first
+    (c.in-Some.ensures.least p self.index.now.answered self.indexed.answers self.reached))
 
 pub returns-in-None : goal.returns-in-None
 returns-in-None c =
     let self = c.args.self.now in
     let p = is_answer self.bus.now.capture.now self.index.now.span in
-    sym (turns-none _ _ c.args.start self.bus.now.instant (c.in-None.ensures.least p self.index.now.answered self.indexed.answers self.reached))
+    sym (turns-none _ _ c.args.start self.bus.now.instant (c.in-None.ensures.least p self.index.now.answered
+    self.indexed.answers self.reached))

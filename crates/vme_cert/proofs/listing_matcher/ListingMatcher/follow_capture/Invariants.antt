@@ -14,7 +14,8 @@ invariant-loop-start l =
     record {
       same : l.bus.capture.now ≡ l.capture;
       version : l.self.version ≡ l.fn.self.version;
-      rest : (done : List Row) × (spans : List Stretch) × ((candidate : Candidate) → Matches candidate [] l.fn.self → Matches candidate done l.self) × Follow l.capture l.bus.instant spans
+      rest : (done : List Row) × (spans : List Stretch) × ((candidate : Candidate) → Matches candidate [] l.fn.self
+          → Matches candidate done l.self) × Follow l.capture l.bus.instant spans
           × (done ++ rows_from l.capture l.outcome spans ≡ recorded_rows l.capture);
     }
 

@@ -16,7 +16,8 @@ invariant-loop-start l =
       until : l.first ≤ l.fn.end;
       version : l.self.version ≡ l.fn.self.version;
       rows : (candidate : Candidate) (right : List Row) → Matches candidate right l.fn.self
-          → Matches candidate (right ++ Start l.fn.index.span.start ∷ rows_before l.fn.bus.capture.now l.fn.index.span l.fn.end l.first) l.self;
+          → Matches candidate (right ++ Start l.fn.index.span.start ∷ rows_before l.fn.bus.capture.now l.fn.index.span
+          l.fn.end l.first) l.self;
     }
 
 abbrev pub decreases-loop-start : goal.decreases-loop-start

@@ -9,7 +9,8 @@ pub returns-in-Definitions : goal.returns-in-Definitions
 returns-in-Definitions g c = rw c.in-Definitions.is c.record_text.ensures.gives
 
 pub returns-in-Ok : goal.returns-in-Ok
-returns-in-Ok g c = rw c.in-Body.is (subst (λ (r : Result Trace CaptureFault). GivesBy (λ (w : Trace). w) c.finish.result r) (sym (c.in-Ok.ensures.rest [])) c.finish.ensures)
+returns-in-Ok g c = rw c.in-Body.is (subst (λ (r : Result Trace CaptureFault). GivesBy (λ (w : Trace). w)
+    c.finish.result r) (sym (c.in-Ok.ensures.rest [])) c.finish.ensures)
 
 pub returns-in-Err : goal.returns-in-Err
 returns-in-Err g c = rw c.in-Body.is (c.in-Err.ensures.rest [])

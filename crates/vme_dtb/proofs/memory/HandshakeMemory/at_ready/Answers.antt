@@ -5,4 +5,5 @@ use Rattle.vme_dtb.proofs.memory.HandshakeMemory.at_ready.Goals as goal
 pub returns : goal.returns
 returns c =
     let gone : c.args.self.dtack_freed ≡ true = grind arith in
-    rw (c.quiet.ensures, c.left.ensures) (ready_next c.args.self c.args.before.now c.args.after.now c.requires.alone c.requires.rises gone)
+    rw (c.quiet.ensures, c.left.ensures) (ready_next c.args.self c.args.before.now c.args.after.now c.requires.alone
+    c.requires.rises gone)

@@ -9,5 +9,13 @@ pub returns : goal.returns
 returns c =
     let v = c.args.before.now in
     let w = c.args.after.now in
-    let calm : is_hasty c.args.self.pending (strobe_rises_between v w) (rises_between v w AS) (strobe_falls_between v w) ≡ false = grind arith in
-    rw (c.left.ensures, c.entered-entered.ensures, c.strobe_rises-strobe_rises.ensures, c.rises-cycle_end.ensures, c.transfer_started.ensures, c.closes.ensures) (strobes_next c.args.self v w c.requires calm)
+    let calm : is_hasty c.args.self.pending (strobe_rises_between v w) (rises_between v w AS) (strobe_falls_between v w)
+    ≡ false = grind arith in
+    rw (
+      c.left.ensures,
+      c.entered-entered.ensures,
+      c.strobe_rises-strobe_rises.ensures,
+      c.rises-cycle_end.ensures,
+      c.transfer_started.ensures,
+      c.closes.ensures,
+    ) (strobes_next c.args.self v w c.requires calm)

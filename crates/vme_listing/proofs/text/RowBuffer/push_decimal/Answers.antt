@@ -1,4 +1,5 @@
-use Rattle.std.proofs.Common.{◌≡◌, ◌+◌, ◌-◌, ◌/◌, ◌%◌, [], ◌∷◌, ◌++◌, drop, take, set, refl, sym, ap, ◌∙◌, arith, length-set}
+use Rattle.std.proofs.Common.{◌≡◌, ◌+◌, ◌-◌, ◌/◌, ◌%◌, [], ◌∷◌, ◌++◌, drop, take, set, refl, sym, ap, ◌∙◌, arith}
+use Rattle.std.proofs.Common.{length-set}
 use Rattle.std.specs.Prelude.{decimal}
 use Rattle.std.proofs.lemmas.Fmt.{decimal_digit, decimal_step, decimal_nonempty, length-decimal-le}
 use Rattle.std.proofs.lemmas.Grind.{drop-set_at}
@@ -7,7 +8,12 @@ use Rattle.vme_listing.proofs.Digits.{decimal_length}
 use Rattle.vme_listing.proofs.text.RowBuffer.push_decimal.Goals as goal
 
 pub loop-rest-init : goal.loop-rest-init
-loop-rest-init c = (length-decimal-le 10 c.args.number (omega arith) (omega arith) (omega arith), omega arith, refl, append-nil (decimal c.args.number))
+loop-rest-init c = (
+  length-decimal-le 10 c.args.number (omega arith) (omega arith) (omega arith),
+  omega arith,
+  refl,
+  append-nil (decimal c.args.number),
+)
 
 pub overflow_sub-start : goal.overflow_sub-start
 overflow_sub-start c = omega (arith, c.loop-rest.invariant.0, decimal_nonempty c.loop-rest.rest (omega arith))
@@ -24,7 +30,8 @@ loop-rest-preserved c =
       omega (arith, enough, longer),
       omega arith,
       length-set l.digits (l.start - 1) _ ∙ size,
-      ap (λ later. decimal (l.rest / 10) ++ later) (drop-set_at l.digits (l.start - 1) (l.start - 1) (48 + l.rest % 10) refl (omega (arith, enough, longer)))
+      ap (λ later. decimal (l.rest / 10) ++ later) (drop-set_at l.digits (l.start - 1) (l.start - 1) (48 + l.rest % 10)
+          refl (omega (arith, enough, longer)))
           ∙ ap (λ n. decimal (l.rest / 10) ++ (48 + l.rest % 10) ∷ drop n l.digits) next
           ∙ sym (append_assoc (decimal (l.rest / 10)) ((48 + l.rest % 10) ∷ []) (drop l.start l.digits))
           ∙ ap (λ ds. ds ++ drop l.start l.digits) (sym (decimal_step l.rest (omega arith) (omega arith)))
@@ -40,7 +47,8 @@ returns-clause-text c =
     let ds = set l.digits (l.start - 1) (48 + l.rest) in
     c.extend.ensures.text
     ∙ ap (λ text. c.args.self.now ++ text)
-    (ap (λ n. take (n - (l.start - 1)) (drop (l.start - 1) ds)) (sym (length-set l.digits (l.start - 1) (48 + l.rest) ∙ size))
+    (ap (λ n. take (n - (l.start - 1)) (drop (l.start - 1) ds)) (sym (length-set l.digits (l.start - 1) (48 + l.rest)
+    ∙ size))
     ∙ take_rest ds (l.start - 1)
     ∙ drop-set_at l.digits (l.start - 1) (l.start - 1) (48 + l.rest) refl (omega (arith, enough, one))
     ∙ ap (λ n. (48 + l.rest) ∷ drop n l.digits) next

@@ -5,7 +5,8 @@ use Rattle.vme_listing.proofs.text.RowBuffer.push_decimal.Given as goal
 
 abbrev pub invariant-loop-rest : goal.invariant-loop-rest
 invariant-loop-rest l =
-    (length (decimal l.rest) ≤ l.start) × (l.start ≤ 10) × (length l.digits ≡ 10) × (decimal l.rest ++ drop l.start l.digits ≡ decimal l.number)
+    (length (decimal l.rest) ≤ l.start) × (l.start ≤ 10) × (length l.digits ≡ 10)
+    × (decimal l.rest ++ drop l.start l.digits ≡ decimal l.number)
 
 abbrev pub decreases-loop-rest : goal.decreases-loop-rest
 decreases-loop-rest l = l.rest

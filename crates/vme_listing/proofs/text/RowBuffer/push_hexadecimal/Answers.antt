@@ -1,4 +1,5 @@
-use Rattle.std.proofs.Common.{◌≡◌, ◌+◌, ◌-◌, ◌/◌, ◌%◌, true, [], ◌∷◌, ◌++◌, drop, take, set, refl, sym, ap, ◌∙◌, arith, length-set}
+use Rattle.std.proofs.Common.{◌≡◌, ◌+◌, ◌-◌, ◌/◌, ◌%◌, true, [], ◌∷◌, ◌++◌, drop, take, set, refl, sym, ap, ◌∙◌, arith}
+use Rattle.std.proofs.Common.{length-set}
 use Rattle.std.specs.Fmt.{digit_glyph}
 use Rattle.std.proofs.lemmas.Grind.{drop-set_at}
 use Rattle.std.proofs.lemmas.List.{append_assoc, append-nil, take_rest}
@@ -8,8 +9,13 @@ use Rattle.vme_listing.proofs.text.RowBuffer.push_hexadecimal.Goals as goal
 
 pub loop-start-init : goal.loop-start-init
 loop-start-init c =
-    let all : 8 - (8 - c.args.digits) ≡ c.args.digits = omega arith in
-    (omega arith, omega arith, refl, append-nil (hexadecimal (8 - (8 - c.args.digits)) c.args.value) ∙ ap (λ n. hexadecimal n c.args.value) all)
+    let all : 8 - (8 - c.args.digits) ≡ c.args.digits = omega arith in (
+      omega arith,
+      omega arith,
+      refl,
+      append-nil (hexadecimal (8 - (8 - c.args.digits)) c.args.value)
+          ∙ ap (λ n. hexadecimal n c.args.value) all,
+    )
 
 pub loop-start-preserved : goal.loop-start-preserved
 loop-start-preserved c =
@@ -22,9 +28,11 @@ loop-start-preserved c =
       omega arith,
       omega arith,
       length-set l.glyphs (l.start - 1) _ ∙ size,
-      ap (λ g. hexadecimal (l.start - 1 - first) (l.rest / 16) ++ drop (l.start - 1) (set l.glyphs (l.start - 1) g)) c.hexadecimal_digit.ensures
+      ap (λ g. hexadecimal (l.start - 1 - first) (l.rest / 16) ++ drop (l.start - 1) (set l.glyphs (l.start - 1) g))
+          c.hexadecimal_digit.ensures
           ∙ ap (λ n. hexadecimal n (l.rest / 16) ++ drop (l.start - 1) (set l.glyphs (l.start - 1) glyph)) fewer
-          ∙ ap (λ later. hexadecimal (l.start - first - 1) (l.rest / 16) ++ later) (drop-set_at l.glyphs (l.start - 1) (l.start - 1) glyph refl (omega arith))
+          ∙ ap (λ later. hexadecimal (l.start - first - 1) (l.rest / 16) ++ later) (drop-set_at l.glyphs (l.start - 1)
+          (l.start - 1) glyph refl (omega arith))
           ∙ ap (λ n. hexadecimal (l.start - first - 1) (l.rest / 16) ++ glyph ∷ drop n l.glyphs) next
           ∙ sym (append_assoc (hexadecimal (l.start - first - 1) (l.rest / 16)) (glyph ∷ []) (drop l.start l.glyphs))
           ∙ ap (λ ds. ds ++ drop l.start l.glyphs) (sym (hexadecimal_step (l.start - first) l.rest (omega arith)))

@@ -12,6 +12,8 @@ loop-place-preserved c =
     let within : l.place < length l.words = omega (arith, size, c.loop-place-test.true) in (
       length-set l.words l.place c.cut.result.0 ∙ size,
       omega arith,
-      words_more l.words line l.place c.cut.result.0 within before (c.cut.ensures.first ∙ behind 0 ∙ ap (λ n. word_at (words line) n) here),
-      λ k. let next : l.place + (k + 1) ≡ l.place + 1 + k = omega arith in c.cut.ensures.others k ∙ behind (k + 1) ∙ ap (λ n. word_at (words line) n) next,
+      words_more l.words line l.place c.cut.result.0 within before (c.cut.ensures.first ∙ behind 0
+          ∙ ap (λ n. word_at (words line) n) here),
+      λ k. let next : l.place + (k + 1) ≡ l.place + 1 + k = omega arith in c.cut.ensures.others k ∙ behind (k + 1)
+          ∙ ap (λ n. word_at (words line) n) next,
     )

@@ -6,4 +6,5 @@ use Rattle.vme_monitor.specs.Walk.{link_values}
 use Rattle.vme_monitor.proofs.table.Table.stored.Given as goal
 
 abbrev pub invariant-loop-layer : goal.invariant-loop-layer
-invariant-loop-layer g l = l.count ≡ min (sum_by layer_marks (link_values (take l.layer-index l.self.layers.items))) (2 ^ 64 - 1)
+invariant-loop-layer g l = l.count ≡ min (sum_by layer_marks (link_values (take l.layer-index l.self.layers.items)))
+    (2 ^ 64 - 1)

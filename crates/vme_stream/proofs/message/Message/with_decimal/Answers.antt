@@ -7,4 +7,9 @@ with_digits-requires c = omega (arith, c.requires, length-decimal-20 c.args.numb
 
 pub returns-clause-short : goal.returns-clause-short
 returns-clause-short c =
-    omega (arith, length-decimal-20 c.args.number c.ranges.number.fits, ap length c.with_digits.ensures, length-append c.args.self (decimal c.args.number))
+    omega (
+      arith,
+      length-decimal-20 c.args.number c.ranges.number.fits,
+      ap length c.with_digits.ensures,
+      length-append c.args.self (decimal c.args.number),
+    )

@@ -17,12 +17,15 @@ invariant_of-result g c =
     let chunk_summary = c.in_ok-chunk_summary.chunk_summary in
     let judged = c.in_ok-chunk_summary.ensures in
     let whole : length steps ≤ capture_limit → first ≡ steps = λ few.
-    sym (append-nil first) ∙ ap (λ (ss : List Step). first ++ ss) (sym (c.split_at.ensures.back ∙ drop_of_length-le steps (omega (arith, few, c.min.ensures)))) ∙ sym cut in
+    sym (append-nil first) ∙ ap (λ (ss : List Step). first ++ ss)
+    (sym (c.split_at.ensures.back ∙ drop_of_length-le steps (omega (arith, few, c.min.ensures)))) ∙ sym cut in
     rw c.of.ensures
     (record {
       counted = c.min-2.ensures;
-      made = λ few. subst (λ (ss : List Step). g.J.ChunkJudge.is_made_of chunk_summary opening ss) (whole few) judged.made;
+      made = λ few. subst (λ (ss : List Step). g.J.ChunkJudge.is_made_of chunk_summary opening ss) (whole few)
+          judged.made;
       left_is =
-          c.left_by.ensures ∙ ap (λ (v : Levels). levels_after v rest) judged.left ∙ sym (levels_after-append opening first rest)
+          c.left_by.ensures ∙ ap (λ (v : Levels). levels_after v rest) judged.left
+          ∙ sym (levels_after-append opening first rest)
           ∙ ap (levels_after opening) (sym cut);
     })

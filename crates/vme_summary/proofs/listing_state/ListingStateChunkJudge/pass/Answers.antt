@@ -4,4 +4,5 @@ use Rattle.vme_summary.proofs.listing_state.ListingStateChunkJudge.pass.Goals as
 
 pub returns-clause-past : goal.returns-clause-past
 returns-clause-past c =
-    λ o x y before made. marked_on c.args.chunk_summary c.append.new.self.summary o x y (c.in_ok-append.ensures.both o x y before.stands made.stands) made
+    λ o x y before made. marked_on c.args.chunk_summary c.append.new.self.summary o x y
+    (c.in_ok-append.ensures.both o x y before.stands made.stands) made

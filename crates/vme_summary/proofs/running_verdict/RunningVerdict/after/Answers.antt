@@ -6,12 +6,18 @@ use Rattle.vme_summary.proofs.running_verdict.RunningVerdict.after.Goals as goal
 
 pub returns-then-not-meets-clause-torn : goal.returns-then-not-meets-clause-torn
 returns-then-not-meets-clause-torn c =
-    λ x y p q. (λ e. test_torn c.args.self.now.extent c.args.next.now.extent c.meets.result x y c.meets.ensures c.if-not-meets.true p.extent q.extent, λ e. refl)
+    λ x y p q. (
+      λ e. test_torn c.args.self.now.extent c.args.next.now.extent c.meets.result x y c.meets.ensures
+          c.if-not-meets.true p.extent q.extent,
+      λ e. refl,
+    )
 
 pub returns-clause-come : goal.returns-clause-come
 returns-clause-come c =
-    come_after c.args.self.now c.args.next.now c.joined.result _ c.found_after.result c.joined.ensures (ap (λ k. c.args.self.now.steps + k) c.steps.ensures.value)
-    (test_meets c.args.self.now.extent c.args.next.now.extent c.meets.result c.meets.ensures c.if-not-meets.false) c.found_after.ensures
+    come_after c.args.self.now c.args.next.now c.joined.result _ c.found_after.result c.joined.ensures
+    (ap (λ k. c.args.self.now.steps + k) c.steps.ensures.value)
+    (test_meets c.args.self.now.extent c.args.next.now.extent c.meets.result c.meets.ensures c.if-not-meets.false)
+    c.found_after.ensures
 
 pub returns-clause-torn : goal.returns-clause-torn
 returns-clause-torn c =
@@ -19,5 +25,7 @@ returns-clause-torn c =
       λ e. absurd (cc),
       λ torn.
           absurd
-          (torn (meets_join c.args.self.now.extent c.args.next.now.extent x y p.extent q.extent (test_meets c.args.self.now.extent c.args.next.now.extent c.meets.result c.meets.ensures c.if-not-meets.false))),
+          (torn (meets_join c.args.self.now.extent c.args.next.now.extent x y p.extent q.extent
+          (test_meets c.args.self.now.extent c.args.next.now.extent c.meets.result c.meets.ensures
+          c.if-not-meets.false))),
     )

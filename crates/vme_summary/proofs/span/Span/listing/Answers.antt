@@ -29,7 +29,8 @@ pub returns-clause-split : goal.returns-clause-split
 returns-clause-split c =
     let s = c.args.self.now in
     let few : s.extent.opening.slots ≤ 21 = omega arith in
-    IfOk-weaker c.listing.result _ _ (λ rows is. split_of s rows (listing_joined s few rows is)) c.listing.ensures.listing
+    IfOk-weaker c.listing.result _ _ (λ rows is. split_of s rows (listing_joined s few rows is))
+    c.listing.ensures.listing
 
 pub returns-clause-placed : goal.returns-clause-placed
 returns-clause-placed c =

@@ -18,7 +18,8 @@ returns-clause-listing c =
     IfOk-weaker c.listing_by.result _ _
     (λ listing e t all.
     e ∙ ap (λ ms. in_newest_version (listed o judged event ms)) c.as_slice.ensures.value
-    ∙ sym (listing_found s o t all c.found_from-found.result c.found_from-found.ensures judged c.has_judged.ensures event c.first_break.ensures marks c.in_ok-marks.ensures))
+    ∙ sym (listing_found s o t all c.found_from-found.result c.found_from-found.ensures judged c.has_judged.ensures
+    event c.first_break.ensures marks c.in_ok-marks.ensures))
     c.listing_by.ensures
 
 pub returns-clause-placed : goal.returns-clause-placed
@@ -27,5 +28,6 @@ returns-clause-placed c =
     let counted : summary_steps s < 2 ^ 32 = omega (arith, c.steps.ensures) in
     IfOk-weaker c.listing_by.result _ _
     (λ listing is t all.
-    subst (λ (l : Listed). is_well_placed l ≡ true) (sym (is t all)) (placed_found s c.args.opening.now t all counted c.listings_are_well_placed.ensures.recorded))
+    subst (λ (l : Listed). is_well_placed l ≡ true) (sym (is t all)) (placed_found s c.args.opening.now t all counted
+    c.listings_are_well_placed.ensures.recorded))
     (returns-clause-listing c)

@@ -6,4 +6,5 @@ use Rattle.vme_summary.proofs.verdict_state.VerdictStateChunkJudge.pass.Goals as
 pub returns-clause-past : goal.returns-clause-past
 returns-clause-past c =
     let j = c.args.self.now in
-    judged_on j c.args.chunk_summary _ c.found_after-self.result (ap (λ k. j.steps + k) c.steps.ensures) c.found_after-self.ensures
+    judged_on j c.args.chunk_summary _ c.found_after-self.result (ap (λ k. j.steps + k) c.steps.ensures)
+    c.found_after-self.ensures

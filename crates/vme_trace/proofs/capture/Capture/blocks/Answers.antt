@@ -7,7 +7,11 @@ use Rattle.vme_trace.proofs.CutBlocks.{levels_at-first, levels_at-next, block_at
 use Rattle.vme_trace.proofs.capture.Capture.blocks.Goals as goal
 
 pub loop-number-init : goal.loop-number-init
-loop-number-init c = record { cut = c.in_ok-blocks.ensures.items; reached = c.opening.ensures.opening ∙ sym (levels_at-first c.args.self.now c.args.size) }
+loop-number-init c = record {
+  cut = c.in_ok-blocks.ensures.items;
+  reached = c.opening.ensures.opening
+      ∙ sym (levels_at-first c.args.self.now c.args.size);
+}
 
 pub overflow_mul-start : goal.overflow_mul-start
 overflow_mul-start c =
@@ -23,9 +27,12 @@ loop-number-preserved c =
     record {
       cut =
           c.in_ok-push.ensures.items ∙ ap (λ xs. xs ++ c.in_ok-block.block ∷ []) c.loop-number.invariant.cut
-          ∙ ap (λ b. map (block_at size t) (range_with_len 0 n) ++ b ∷ []) (c.in_ok-block.ensures.block ∙ block_at-is size t n _ _ _ _ refl c.loop-number.invariant.reached c.steps-steps.ensures.steps c.min-end.ensures)
+          ∙ ap (λ b. map (block_at size t) (range_with_len 0 n) ++ b ∷ []) (c.in_ok-block.ensures.block
+          ∙ block_at-is size t n _ _ _ _ refl c.loop-number.invariant.reached c.steps-steps.ensures.steps
+          c.min-end.ensures)
           ∙ sym (map-range_with_len_more (block_at size t) 0 n n (omega arith));
-      reached = c.in_ok-block.ensures.lines ∙ levels_at-next size t n _ _ _ c.loop-number.invariant.reached c.steps-steps.ensures.steps c.min-end.ensures;
+      reached = c.in_ok-block.ensures.lines ∙ levels_at-next size t n _ _ _ c.loop-number.invariant.reached
+          c.steps-steps.ensures.steps c.min-end.ensures;
     }
 
 pub returns-clause-joined : goal.returns-clause-joined

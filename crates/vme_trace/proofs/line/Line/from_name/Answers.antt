@@ -12,13 +12,15 @@ loop-number-preserved c =
     below_more _ _ c.loop-number.invariant
     (λ e.
     clash _
-    (text-same c.as_bytes.result.now c.args.name.now (c.as_bytes.ensures.bytes ∙ c.name.ensures ∙ ap line_name c.nth-line.ensures ∙ e))
+    (text-same c.as_bytes.result.now c.args.name.now (c.as_bytes.ensures.bytes ∙ c.name.ensures
+    ∙ ap line_name c.nth-line.ensures ∙ e))
     (sym c.eq.ensures ∙ c.if-eq.false))
 
 pub returns-then-eq : goal.returns-then-eq
 returns-then-eq c =
     let below : c.nth-line.result < line_count = omega (arith, c.nth-line.ensures) in
-    let named : line_name c.nth-line.result ≡ c.args.name.now = sym (c.as_bytes.ensures.bytes ∙ c.name.ensures) ∙ same_text _ _ (sym c.eq.ensures ∙ c.if-eq.true) in
+    let named : line_name c.nth-line.result ≡ c.args.name.now = sym (c.as_bytes.ensures.bytes ∙ c.name.ensures)
+    ∙ same_text _ _ (sym c.eq.ensures ∙ c.if-eq.true) in
     record {
       line = sym (line_named-is c.nth-line.result c.args.name.now below named);
       named = named;

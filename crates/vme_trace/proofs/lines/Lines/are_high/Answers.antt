@@ -15,7 +15,8 @@ loop-number-preserved c =
 pub returns-then-not-is_high : goal.returns-then-not-is_high
 returns-then-not-is_high c =
     sym
-    (every-fails (is_high_on c.args.self.now) c.args.first (c.args.last + 1) c.loop-number.number (omega arith) (omega arith)
+    (every-fails (is_high_on c.args.self.now) c.args.first (c.args.last + 1) c.loop-number.number (omega arith)
+    (omega arith)
     (ap is_high (sym c.at.ensures) ∙ sym c.is_high.ensures ∙ c.if-not-is_high.true))
 
 pub returns : goal.returns

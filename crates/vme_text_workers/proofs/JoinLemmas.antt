@@ -1,0 +1,155 @@
+-- Pieces that are joined in order, and what comes of the text.
+use Rattle.std.proofs.Common.{◌≡◌, ℕ, suc, ◌+◌, ◌<◌, add-one, drop, List, [], ◌∷◌, ◌++◌, length, get_or, Option, None}
+use Rattle.std.proofs.Common.{refl, sym, ap, subst, ◌∙◌, arith, append_assoc}
+use Rattle.std.specs.Prelude.{IfSome}
+use Rattle.std.proofs.Math.Seq.{drop-cons}
+use Rattle.vme_trace.specs.Followed.{with_steps}
+use Rattle.vme_trace.specs.Levels.{Levels}
+use Rattle.vme_trace.specs.Trace.{Trace, levels_after}
+use Rattle.vme_trace.specs.declared.step.Step.{Step}
+use Rattle.vme_trace.proofs.CutBlocks.{levels_after-append}
+use Rattle.vcd_read.specs.Body.{body_from}
+use Rattle.vcd_read.specs.Header.{◌>>=◌, Net}
+use Rattle.vcd_read.specs.Reading.{line_behind}
+use Rattle.vcd_read.specs.Taking.{at_end, state_at, steps}
+use Rattle.vcd_read.specs.Tokens.{Token, tokens_from}
+use Rattle.vme_bind.specs.Made.{made_change, made_instant}
+use Rattle.vme_bind.specs.TextCapture.{CaptureFailsBy}
+use Rattle.vme_bind.specs.TextPieces.{TextReached, outcome, outcome_ahead}
+use Rattle.vme_bind.specs.SpeculativeReading.{IsJoined, ReadSpeculatively, WaveReached, with_recording}
+use Rattle.vme_bind.specs.declared.fault.CaptureFault.{CaptureFault}
+use Rattle.vme_bind.specs.declared.net_lines.NetLines.{NetLines}
+use Rattle.vme_text_workers.specs.Cuts.{lines_behind, tokens_of}
+use Rattle.vme_text_workers.specs.SpeculativeChunks.{AreAhead, AreTaken, IsAheadAt, IsJudgedAhead, IsNextOf}
+use Rattle.vme_text_workers.specs.declared.cut.DumpPiece.{DumpPiece}
+
+-- ---- what comes of tokens, and of others behind them
+
+pub ahead-append : (t : TextReached) (first then' more : List Token) → outcome_ahead t (first ++ then') more
+    ≡ outcome_ahead t first (then' ++ more)
+ahead-append t first then' more =
+    ap (λ (ts : List Token). outcome t.fault (steps made_change made_instant t.body.nets
+    (state_at t.body.progress t.body.bracket) (body_from t.body.place ts) >>= at_end made_instant))
+    (append_assoc first then' more)
+
+-- ---- the pieces that are left
+
+pub left-more : (pieces : List DumpPiece) (count : ℕ) (d : DumpPiece) → count < length pieces → drop count pieces
+    ≡ get_or pieces count d ∷ drop (count + 1) pieces
+left-more pieces count d lt = rw add-one (drop-cons pieces count d lt)
+
+-- ---- pieces that are read in order
+
+pub taken-none : (pieces : List DumpPiece) (t : TextReached) → AreTaken pieces t t pieces
+taken-none pieces t = record { lines = refl; leads = λ more. refl }
+
+module _ (pieces : List DumpPiece) (t u : TextReached) (piece : DumpPiece) (left : List DumpPiece)
+    (so : AreTaken pieces t u (piece ∷ left)) where
+  -- what comes of the pieces is what comes of the next one, and of those behind it
+  next-first : (more : List Token)
+      → outcome_ahead t (tokens_of t.body.line pieces) more
+      ≡ outcome_ahead u (tokens_from u.body.line piece.bytes.now) (tokens_of (line_behind u.body.line piece.bytes.now)
+      left ++ more)
+  next-first more =
+      so.leads more ∙ ahead-append u (tokens_from u.body.line piece.bytes.now)
+      (tokens_of (line_behind u.body.line piece.bytes.now) left) more
+
+  pub taken-more : (v : TextReached) → v.body.line ≡ line_behind u.body.line piece.bytes.now
+      → ((more : List Token) → outcome_ahead u (tokens_from u.body.line piece.bytes.now) more ≡ outcome_ahead v [] more)
+      → AreTaken pieces t v left
+  taken-more v line read = record {
+    lines = so.lines ∙ ap (λ (l : ℕ). lines_behind l left) (sym line);
+    leads = λ more.
+        next-first more ∙ read (tokens_of (line_behind u.body.line piece.bytes.now) left ++ more)
+        ∙ ap (λ (l : ℕ). outcome_ahead v (tokens_of l left) more) (sym line);
+  }
+
+  pub taken-fails : (fault : CaptureFault)
+      → ((more : List Token) → CaptureFailsBy fault (outcome_ahead u (tokens_from u.body.line piece.bytes.now) more))
+      → (more : List Token) → CaptureFailsBy fault (outcome_ahead t (tokens_of t.body.line pieces) more)
+  taken-fails fault fails more =
+      subst (CaptureFailsBy fault) (sym (next-first more))
+      (fails (tokens_of (line_behind u.body.line piece.bytes.now) left ++ more))
+
+-- ---- pieces that were read ahead
+
+pub are-ahead : (w : WaveReached) (pieces : List DumpPiece) (all : List (Option (ReadSpeculatively × Trace)))
+    → ((place : ℕ) → place < length pieces → IsAheadAt w pieces place (get_or all place None)) → AreAhead w.body.nets
+    w.line_bits pieces all
+are-ahead w [] all h = tt
+are-ahead w (piece ∷ pieces) [] h = tt
+are-ahead w (piece ∷ pieces) (one ∷ all) h =
+    (h 0 (omega arith) piece refl, are-ahead w pieces all (λ place lt p at. h (suc place) (omega arith) p at))
+
+module _ (nets : List Net) (taps : NetLines) (pieces left : List DumpPiece) (piece : DumpPiece)
+    (all rest : List (Option (ReadSpeculatively × Trace))) (one : Option (ReadSpeculatively × Trace))
+    (are : AreAhead nets taps pieces all) (at : pieces ≡ piece ∷ left) (of : all ≡ one ∷ rest) where
+  both : AreAhead nets taps (piece ∷ left) (one ∷ rest)
+  both = subst (λ (ps : List DumpPiece). AreAhead nets taps ps (one ∷ rest)) at (subst (AreAhead nets taps pieces) of
+      are)
+
+  pub one-ahead : IfSome one (λ a. IsJudgedAhead nets taps piece.bytes.now a.1 a.0)
+  one-ahead = both.0
+
+  pub rest-ahead : (w : WaveReached) → w.body.nets ≡ nets → w.line_bits ≡ taps → AreAhead w.body.nets w.line_bits left
+      rest
+  rest-ahead w same-nets same-taps =
+      subst (λ (n : List Net). AreAhead n w.line_bits left rest) (sym same-nets)
+      (subst (λ (t : NetLines). AreAhead nets t left rest) (sym same-taps) both.1)
+
+-- nothing was read
+pub none-ahead : (nets : List Net) (taps : NetLines) (pieces : List DumpPiece) → AreAhead nets taps pieces []
+none-ahead nets taps [] = tt
+none-ahead nets taps (piece ∷ pieces) = tt
+
+-- the next of those that were read again, and the others
+pub next-ahead : (nets : List Net) (taps : NetLines) (pieces left : List DumpPiece) (piece : DumpPiece)
+    (all rest : List (Option (ReadSpeculatively × Trace))) (next : Option (ReadSpeculatively × Trace))
+    → AreAhead nets taps pieces all → pieces ≡ piece ∷ left → IsNextOf all rest next
+    → IfSome next (λ a. IsJudgedAhead nets taps piece.bytes.now a.1 a.0) × AreAhead nets taps left rest
+next-ahead nets taps pieces left piece [] rest next are at (none, empty) = (
+  subst (λ (o : Option (ReadSpeculatively × Trace)). IfSome o (λ a. IsJudgedAhead nets taps piece.bytes.now a.1 a.0))
+      (sym empty) tt,
+  subst (AreAhead nets taps left) (sym none) (none-ahead nets taps left),
+)
+next-ahead nets taps pieces left piece (one ∷ all) rest next are at (same, is) =
+    let both : AreAhead nets taps (piece ∷ left) (one ∷ all) = subst (λ (ps : List DumpPiece). AreAhead nets taps ps
+    (one ∷ all)) at are in (
+      subst (λ (o : Option (ReadSpeculatively × Trace)). IfSome o (λ a. IsJudgedAhead nets taps piece.bytes.now a.1
+          a.0)) (sym is) both.0,
+      subst (AreAhead nets taps left) (sym same) both.1,
+    )
+
+pub same-nets : (nets nets2 : List Net) (taps taps2 : NetLines) (pieces : List DumpPiece)
+    (all : List (Option (ReadSpeculatively × Trace)))
+    → nets2 ≡ nets → taps2 ≡ taps → AreAhead nets taps pieces all → AreAhead nets2 taps2 pieces all
+same-nets nets nets2 taps taps2 pieces all e f are =
+    subst (λ (n : List Net). AreAhead n taps2 pieces all) (sym e) (subst (λ (t : NetLines). AreAhead nets t pieces all)
+    (sym f) are)
+
+-- ---- a piece that is joined, and whose steps are passed
+
+module _ (bytes : List ℕ) (recorded : Trace) (levels : Levels) (w v : WaveReached) (ended : List Step)
+    (one : IsJoined bytes recorded levels w v ended)
+    (watch passed : Trace) (past : passed ≡ with_steps watch ended) where
+  -- its steps follow those that were passed
+  pub steps-follow : recorded.opening ≡ levels → levels_after watch.opening watch.steps ≡ w.body.progress.taken.shown
+      → recorded.opening ≡ levels_after passed.opening passed.steps
+  steps-follow opening leaves =
+      opening ∙ sym one.leads ∙ ap (λ (u : Levels). levels_after u ended) (sym leaves)
+      ∙ sym (levels_after-append watch.opening watch.steps ended)
+      ∙ ap (λ (t : Trace). levels_after t.opening t.steps) (sym past)
+
+  pub joined-taken : (pieces left : List DumpPiece) (piece : DumpPiece) (t : TextReached) (end : Trace)
+      → piece.bytes.now ≡ bytes
+      → AreTaken pieces t (with_recording watch w) (piece ∷ left) → end ≡ with_steps passed recorded.steps
+      → AreTaken pieces t (with_recording end v) left
+  joined-taken pieces left piece t end of so done =
+      let whole : end ≡ with_steps watch (ended ++ recorded.steps) =
+      done ∙ ap (λ (p : Trace). with_steps p recorded.steps) past
+      ∙ ap (λ (ss : List Step). record watch { steps = ss }) (append_assoc watch.steps ended recorded.steps) in
+      taken-more pieces t (with_recording watch w) piece left so (with_recording end v)
+      (one.line ∙ ap (line_behind w.body.line) (sym of))
+      (λ more. ap (λ (b : List ℕ). outcome_ahead (with_recording watch w) (tokens_from w.body.line b) more) of
+      ∙ one.rest watch more
+      ∙ ap (λ (u : Trace). outcome_ahead (with_recording u v) [] more) (sym whole))

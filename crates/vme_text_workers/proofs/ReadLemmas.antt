@@ -1,0 +1,37 @@
+-- A piece that is read in two, one after the other.
+use Rattle.std.proofs.Common.{◌≡◌, ℕ, List, [], ◌++◌, Result, Ok, Err, sym, ap, ◌∙◌}
+use Rattle.std.specs.Prelude.{IfOk}
+use Rattle.vcd_read.specs.Reading.{line_behind}
+use Rattle.vcd_read.specs.Tokens.{Token, tokens_from}
+use Rattle.vme_bind.specs.TextPieces.{TextContinuesAs, TextReached, outcome_ahead}
+use Rattle.vme_bind.specs.declared.fault.CaptureFault.{CaptureFault}
+use Rattle.vme_bind.proofs.TextPieceLemmas.{leads-same}
+use Rattle.vme_text_workers.specs.Cuts.{IsCutIn}
+use Rattle.vme_text_workers.proofs.JoinLemmas.{ahead-append}
+
+module _ (whole front behind : List ℕ) (cut : IsCutIn whole front behind) (t u : TextReached) (line : u.body.line
+    ≡ line_behind t.body.line front)
+    (read : (more : List Token) → outcome_ahead t (tokens_from t.body.line front) more ≡ outcome_ahead u [] more) where
+  -- the front is read: what comes of the whole is what comes of what stands behind it
+  front-read : (more : List Token) → outcome_ahead t (tokens_from t.body.line whole) more ≡ outcome_ahead u
+      (tokens_from u.body.line behind) more
+  front-read more =
+      let at : ℕ = line_behind t.body.line front in
+      ap (λ (ts : List Token). outcome_ahead t ts more) (cut.tokens t.body.line)
+      ∙ ahead-append t (tokens_from t.body.line front) (tokens_from at behind) more
+      ∙ read (tokens_from at behind ++ more)
+      ∙ ap (λ (l : ℕ). outcome_ahead u (tokens_from l behind) more) (sym line)
+
+  -- and so it is what that is read to
+  pub both-lead : {X : Type 0} (reach : X → TextReached) (r : Result X CaptureFault)
+      → TextContinuesAs (λ x. outcome_ahead (reach x) []) r (outcome_ahead u (tokens_from u.body.line behind))
+      → TextContinuesAs (λ x. outcome_ahead (reach x) []) r (outcome_ahead t (tokens_from t.body.line whole))
+  both-lead reach r leads =
+      leads-same (λ x. outcome_ahead (reach x) []) r (outcome_ahead t (tokens_from t.body.line whole))
+      (outcome_ahead u (tokens_from u.body.line behind)) front-read leads
+
+  pub both-lines : {X : Type 0} (reach : X → TextReached) (r : Result X CaptureFault)
+      → IfOk r (λ x. (reach x).body.line ≡ line_behind u.body.line behind) → IfOk r (λ x. (reach x).body.line
+      ≡ line_behind t.body.line whole)
+  both-lines reach (Ok x) h = h ∙ ap (λ (l : ℕ). line_behind l behind) line ∙ sym (cut.lines t.body.line)
+  both-lines reach (Err fault) h = h

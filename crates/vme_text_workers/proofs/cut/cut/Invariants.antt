@@ -1,0 +1,5 @@
+use Rattle.vme_text_workers.proofs.CutLemmas.{IsCutSoFar}
+use Rattle.vme_text_workers.proofs.cut.cut.Given as goal
+
+abbrev pub invariant-loop : goal.invariant-loop
+invariant-loop l = IsCutSoFar l.fn.text l.pieces.items l.left

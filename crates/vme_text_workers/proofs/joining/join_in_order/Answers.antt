@@ -1,0 +1,106 @@
+use Rattle.std.proofs.Common.{◌≡◌, ◌+◌, ◌∷◌, ◌∙◌, [], ap, drop, get_or, arith, refl, subst, sym}
+use Rattle.std.specs.Vec.Iter.{into_iter_items}
+use Rattle.vme_trace.specs.Trace.{Trace, levels_after}
+use Rattle.vme_bind.specs.Recording.{step_in}
+use Rattle.vme_bind.specs.SpeculativeReading.{WaveReached, with_recording}
+use Rattle.vme_text_workers.specs.SpeculativeChunks.{AreAhead, AreTaken}
+use Rattle.vme_text_workers.specs.declared.cut.DumpPiece.{DumpPiece}
+use Rattle.vme_text_workers.proofs.JoinLemmas.{joined-taken, left-more, next-ahead, one-ahead, rest-ahead, same-nets}
+use Rattle.vme_text_workers.proofs.JoinLemmas.{steps-follow, taken-none}
+use Rattle.vme_text_workers.proofs.joining.join_in_order.Goals as goal
+
+abbrev no_piece : DumpPiece
+no_piece = record { bytes = record { ref_ptr = (0, 0); now = [] }; line = 0 }
+
+pub loop-ahead-init : goal.loop-ahead-init
+loop-ahead-init g c = record {
+  next = tt;
+  finite = tt;
+  count = omega arith;
+  ahead =
+      subst (AreAhead c.args.wave.body.nets c.args.wave.line_bits c.args.pieces.now)
+      (sym c.into_iter-ahead-iterator.ensures.into_iter_gives.0)
+      c.requires.all;
+  again =
+      subst (AreAhead c.args.wave.body.nets c.args.wave.line_bits c.args.pieces.now)
+      (sym c.into_iter-again.ensures.rest)
+      c.requires.again;
+  taken = taken-none c.args.pieces.now (with_recording c.args.watch c.args.wave);
+}
+
+pub fitting-requires-clause-ahead : goal.fitting-requires-clause-ahead
+fitting-requires-clause-ahead g c =
+    let pieces = c.args.pieces.now in
+    let count = c.loop-ahead.count in
+    let w : WaveReached = c.loop-ahead.wave in
+    let at : drop count pieces ≡ get_or pieces count no_piece ∷ drop (count + 1) pieces = left-more pieces count
+    no_piece (omega arith) in
+    one-ahead w.body.nets w.line_bits (drop count pieces) (drop (count + 1) pieces) (get_or pieces count no_piece)
+    (into_iter_items c.loop-ahead.ahead-iterator)
+    (into_iter_items c.next.new.self) c.in-Some.ahead c.loop-ahead.invariant.ahead at c.in-Some.ensures.steps.0
+
+pub fitting-requires-clause-again : goal.fitting-requires-clause-again
+fitting-requires-clause-again g c =
+    let pieces = c.args.pieces.now in
+    let count = c.loop-ahead.count in
+    let w : WaveReached = c.loop-ahead.wave in
+    let at : drop count pieces ≡ get_or pieces count no_piece ∷ drop (count + 1) pieces = left-more pieces count
+    no_piece (omega arith) in
+    (next-ahead w.body.nets w.line_bits (drop count pieces) (drop (count + 1) pieces) (get_or pieces count no_piece)
+    (into_iter_items c.loop-ahead.again)
+    (into_iter_items c.next_of-anew.new.pieces) c.next_of-anew.result c.loop-ahead.invariant.again at
+    c.next_of-anew.ensures).0
+
+pub pass-requires : goal.pass-requires
+pass-requires g c =
+    let w : WaveReached = c.loop-ahead.wave in
+    let v : WaveReached = c.in_ok-behind.behind in
+    let chunks : Trace = c.in-Some-fitting.chunks in
+    let read = c.in-Some-fitting.ensures.read in
+    let watch : Trace = c.leaves.new.self in
+    let same : watch ≡ c.loop-ahead.watch = c.in_ok-leaves.ensures.same in
+    let bytes = (get_or c.args.pieces.now c.loop-ahead.count no_piece).bytes.now in
+    let leaves : levels_after watch.opening watch.steps ≡ w.body.progress.taken.shown =
+    ap (λ (t : Trace). levels_after t.opening t.steps) same ∙ c.in_ok-leaves.ensures.leaves c.if-not-branch.false
+    ∙ c.shown.ensures in
+    steps-follow bytes chunks c.in-Some-fitting.ahead.from w v (step_in c.in_ok-behind.step)
+    (c.in_ok-behind.ensures bytes chunks read.read)
+    watch c.in_ok-watch.watch c.in_ok-watch.ensures read.opening leaves
+
+pub loop-ahead-preserved : goal.loop-ahead-preserved
+loop-ahead-preserved g c =
+    let pieces = c.args.pieces.now in
+    let count = c.loop-ahead.count in
+    let w : WaveReached = c.loop-ahead.wave in
+    let v : WaveReached = c.in_ok-behind.behind in
+    let chunks : Trace = c.in-Some-fitting.chunks in
+    let read = c.in-Some-fitting.ensures.read in
+    let watch : Trace = c.leaves.new.self in
+    let same : watch ≡ c.loop-ahead.watch = c.in_ok-leaves.ensures.same in
+    let piece = get_or pieces count no_piece in
+    let left = drop (count + 1) pieces in
+    let at : drop count pieces ≡ piece ∷ left = left-more pieces count no_piece (omega arith) in
+    let one = c.in_ok-behind.ensures piece.bytes.now chunks read.read in
+    let first = with_recording c.args.watch c.args.wave in
+    let so : AreTaken pieces first (with_recording watch w) (piece ∷ left) =
+    subst (λ (t : Trace). AreTaken pieces first (with_recording t w) (piece ∷ left)) (sym same)
+    (subst (AreTaken pieces first (with_recording c.loop-ahead.watch w)) at c.loop-ahead.invariant.taken) in
+    record {
+      next = tt;
+      finite = tt;
+      count = omega arith;
+      ahead =
+          rest-ahead w.body.nets w.line_bits (drop count pieces) left piece
+          (into_iter_items c.loop-ahead.ahead-iterator) (into_iter_items c.next.new.self) c.in-Some.ahead
+          c.loop-ahead.invariant.ahead at c.in-Some.ensures.steps.0 v one.nets one.line_bits;
+      again =
+          same-nets w.body.nets v.body.nets w.line_bits v.line_bits left (into_iter_items c.next_of-anew.new.pieces)
+          one.nets one.line_bits
+          (next-ahead w.body.nets w.line_bits (drop count pieces) left piece (into_iter_items c.loop-ahead.again)
+          (into_iter_items c.next_of-anew.new.pieces) c.next_of-anew.result
+          c.loop-ahead.invariant.again at c.next_of-anew.ensures).1;
+      taken =
+          joined-taken piece.bytes.now chunks c.in-Some-fitting.ahead.from w v (step_in c.in_ok-behind.step) one watch
+          c.in_ok-watch.watch c.in_ok-watch.ensures
+          pieces left piece first c.in_ok-watch-2.watch refl so c.in_ok-watch-2.ensures;
+    }

@@ -1,0 +1,14 @@
+use Rattle.std.proofs.Common.{None, subst, sym}
+use Rattle.vme_text_workers.specs.SpeculativeChunks.{AreAhead}
+use Rattle.vme_text_workers.proofs.JoinLemmas.{are-ahead, none-ahead}
+use Rattle.vme_text_workers.proofs.speculative.read_from.Goals as goal
+
+pub returns-then-all : goal.returns-then-all
+returns-then-all g c =
+    subst (AreAhead c.args.wave.now.body.nets c.args.wave.now.line_bits c.args.pieces.now) (sym c.new.ensures.items)
+    (none-ahead c.args.wave.now.body.nets c.args.wave.now.line_bits c.args.pieces.now)
+
+pub returns : goal.returns
+returns g c =
+    are-ahead c.args.wave.now c.args.pieces.now c.in_ok-all.all.items
+    (λ place lt. (c.in_ok-all.ensures.each place None lt).1.met)

@@ -1,0 +1,93 @@
+//! A text that is cut into pieces where they can be read apart.
+
+ghost use Rattle.std.specs.Prelude.{◌≡◌, ◌≤◌, ◌<◌, length, IfOk, IfSome};
+ghost use Rattle.vme_text_workers.specs.Cuts.{ArePiecesOf, IsCutIn};
+
+use memchr::{memchr, memrchr};
+use std::alloc::{AllocError, Global};
+use vcd_read::{line_feeds, whole_tokens};
+
+/// A piece of a text, and the line that it begins on.
+#[derive(Clone, Copy)]
+pub(crate) struct DumpPiece<'t> {
+    pub bytes: &'t [u8],
+    pub line: u64,
+}
+
+/// The first place from here on at which a line begins with a time, behind another line.
+fn time_from(text: &[u8], from: usize) -> Option<usize>
+    ensures { IfSome result (λ place. place < length text.now) }
+{
+    let mut at = from;
+    while at < text.len() {
+        at += memchr(b'\n', &text[at..])? + 1;
+        if at < text.len() && text[at] == b'#' {
+            return Some(at);
+        }
+    }
+    None
+}
+
+/// The last such place.
+fn last_time(text: &[u8]) -> Option<usize>
+    ensures { IfSome result (λ place. place < length text.now) }
+{
+    let mut end = text.len();
+    while let Some(place) = memrchr(b'\n', &text[..end]) {
+        if place + 1 < text.len() && text[place + 1] == b'#' {
+            return Some(place + 1);
+        }
+        end = place;
+    }
+    None
+}
+
+/// A text cut in two behind the last space before this place.
+fn cut_before(text: &[u8], place: usize) -> (&[u8], &[u8])
+    requires { place ≤ length text.now }
+    ensures { IsCutIn text.now result.0.now result.1.now }
+{
+    text.split_at(whole_tokens(&text[..place]))
+}
+
+/// A text cut in two where a line begins with a time, so far from its beginning or later.
+pub(crate) fn cut_at_time(text: &[u8], from: usize) -> Option<(&[u8], &[u8])>
+    ensures { IfSome result (λ cut. IsCutIn text.now cut.0.now cut.1.now) }
+{
+    let place = time_from(text, from)?;
+    Some(cut_before(text, place))
+}
+
+/// A text cut in two where the last line begins that begins with a time.
+pub(crate) fn cut_at_last_time(text: &[u8]) -> Option<(&[u8], &[u8])>
+    ensures { IfSome result (λ cut. IsCutIn text.now cut.0.now cut.1.now) }
+{
+    let place = last_time(text)?;
+    Some(cut_before(text, place))
+}
+
+/// A text that begins on this line, cut into so many pieces at most, of about the same size. Each but the first begins
+/// with a time.
+pub(crate) fn cut<'t>(
+    alloc: Global,
+    text: &'t [u8],
+    line: u64,
+    most: u32,
+) -> Result<Vec<DumpPiece<'t>>, AllocError>
+    ensures { IfOk result (λ pieces. ArePiecesOf text.now pieces.items) }
+{
+    let size = text.len() / (most as usize).max(1);
+    let mut pieces = Vec::new(alloc);
+    let mut left = text;
+    let mut line = line;
+    for _ in 1..most {
+        let Some((bytes, behind)) = cut_at_time(left, size) else {
+            break;
+        };
+        pieces.push(DumpPiece { bytes, line })?;
+        line = line.saturating_add(line_feeds(bytes));
+        left = behind;
+    }
+    pieces.push(DumpPiece { bytes: left, line })?;
+    Ok(pieces)
+}

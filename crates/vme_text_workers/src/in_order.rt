@@ -1,0 +1,28 @@
+//! Pieces that are read in order.
+
+ghost use Rattle.std.specs.Prelude.{◌≡◌, [], IfOk};
+ghost use Rattle.vme_bind.specs.TextPieces.{TextContinuesAs, outcome_ahead, text_reached};
+ghost use Rattle.vme_text_workers.specs.Cuts.{lines_behind, tokens_of};
+
+use crate::cut::DumpPiece;
+use std::alloc::Global;
+use vme_bind::{CaptureFault, TextPieces};
+use vme_trace::StepVisitor;
+
+/// Takes the next pieces of the text, one after the other.
+pub(crate) fn read_in_order<F: StepVisitor>(
+    alloc: Global,
+    text: TextPieces<F>,
+    pieces: &[DumpPiece<'_>],
+) -> Result<TextPieces<F>, CaptureFault>
+    ensures line { IfOk result (λ text'. (text_reached text').body.line
+        ≡ lines_behind (text_reached text).body.line pieces.now) }
+    ensures rest { TextContinuesAs (λ text'. outcome_ahead (text_reached text') []) result
+        (outcome_ahead (text_reached text) (tokens_of (text_reached text).body.line pieces.now)) }
+{
+    let mut text = text;
+    for piece in pieces {
+        text = text.read(alloc, piece.bytes)?;
+    }
+    Ok(text)
+}

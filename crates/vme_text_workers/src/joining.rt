@@ -1,0 +1,131 @@
+//! Pieces that were read ahead, joined in order as far as they fit.
+
+ghost use Rattle.std.specs.Prelude.{◌≡◌, ◌≤◌, drop, length, IfOk, IfSome, Some};
+ghost use Rattle.std.specs.Vec.Iter.{into_iter_items};
+ghost use Rattle.vme_trace.specs.Followed.{with_steps};
+ghost use Rattle.vme_bind.specs.Recording.{step_in};
+ghost use Rattle.vme_bind.specs.SpeculativeReading.{MayFollowLevels, with_recording};
+ghost use Rattle.vme_text_workers.specs.SpeculativeChunks.{AreAhead, AreTaken, IsJudgedAhead, IsNextOf};
+
+use crate::chunks::JudgedChunks;
+use crate::cut::DumpPiece;
+use crate::speculative::read_ahead;
+use std::alloc::{AllocError, Global};
+use std::vec::IntoIter;
+use vme_bind::{SpeculativeChunk, SpeculativeReader};
+use vme_summary::chunk_judge::ChunkJudge;
+use vme_summary::stream_judge::StreamJudge;
+use vme_trace::{Step, StepVisitor};
+
+/// What some pieces lead to, of which the first were joined.
+#[derive(Drop)]
+pub(crate) struct JoinedPieces<J: ChunkJudge> {
+    /// How far the recording is made behind those.
+    pub wave: SpeculativeReader,
+    /// What judged it.
+    pub watch: StreamJudge<J>,
+    /// How many were joined.
+    pub count: usize,
+}
+
+/// A piece, if it was read and fits.
+fn if_fits<J: ChunkJudge>(
+    wave: &SpeculativeReader,
+    ahead: Option<(SpeculativeChunk, JudgedChunks<J>)>,
+) -> Option<(SpeculativeChunk, JudgedChunks<J>)>
+    ensures same { IfSome result (λ a. ahead ≡ Some a) }
+    ensures fits { IfSome result (λ a. MayFollowLevels wave.now a.0) }
+{
+    let (ahead, chunks) = ahead?;
+    if wave.may_join(&ahead) {
+        Some((ahead, chunks))
+    } else {
+        None
+    }
+}
+
+/// The piece as it was read ahead, or again, if it fits so, or else as it is read from the levels that really stand
+/// before it, if it fits then.
+fn fitting<J: ChunkJudge>(
+    alloc: Global,
+    wave: &SpeculativeReader,
+    piece: DumpPiece<'_>,
+    ahead: Option<(SpeculativeChunk, JudgedChunks<J>)>,
+    again: Option<(SpeculativeChunk, JudgedChunks<J>)>,
+) -> Option<(SpeculativeChunk, JudgedChunks<J>)>
+    requires ahead { IfSome ahead (λ a. IsJudgedAhead wave.now.body.nets wave.now.line_bits piece.bytes.now a.1 a.0) }
+    requires again { IfSome again (λ a. IsJudgedAhead wave.now.body.nets wave.now.line_bits piece.bytes.now a.1 a.0) }
+    ensures read { IfSome result (λ a.
+        IsJudgedAhead wave.now.body.nets wave.now.line_bits piece.entry.bytes.now a.1 a.0) }
+    ensures fits { IfSome result (λ a. MayFollowLevels wave.now a.0) }
+{
+    if let Some(fit) = if_fits(wave, ahead) {
+        return Some(fit);
+    }
+    if let Some(fit) = if_fits(wave, again) {
+        return Some(fit);
+    }
+    if_fits(wave, read_ahead(alloc, wave, piece, wave.now()))
+}
+
+/// Goes past a step, if there is one. The only error is want of memory.
+fn past_step<J: ChunkJudge>(
+    alloc: Global,
+    watch: StreamJudge<J>,
+    step: Option<Step>,
+) -> Result<StreamJudge<J>, AllocError>
+    ensures { IfOk result (λ passed. passed ≡ with_steps watch (step_in step)) }
+{
+    let mut watch = watch;
+    if let Some(step) = step {
+        watch.step(alloc, step)?;
+    }
+    Ok(watch)
+}
+
+/// The next piece of these, if there is one and it was read.
+fn next_of<X: Drop>(pieces: &mut IntoIter<Option<X>>) -> Option<X>
+    ensures { IsNextOf (into_iter_items pieces.old) (into_iter_items pieces.new) result }
+{
+    match pieces.next() {
+        Some(next) => next,
+        None => None,
+    }
+}
+
+/// Joins the pieces in order, up to the first that doesn't fit, and judges their steps. Some were read again. The only
+/// error is want of memory.
+pub(crate) fn join_in_order<J: ChunkJudge>(
+    alloc: Global,
+    wave: SpeculativeReader,
+    watch: StreamJudge<J>,
+    pieces: &[DumpPiece<'_>],
+    all: Vec<Option<(SpeculativeChunk, JudgedChunks<J>)>>,
+    again: Vec<Option<(SpeculativeChunk, JudgedChunks<J>)>>,
+) -> Result<JoinedPieces<J>, AllocError>
+    requires all { AreAhead wave.body.nets wave.line_bits pieces.now all.items }
+    requires again { AreAhead wave.body.nets wave.line_bits pieces.now again.items }
+    ensures count { IfOk result (λ joined. joined.count ≤ length pieces.now) }
+    ensures taken { IfOk result (λ joined. AreTaken pieces.now (with_recording watch wave)
+        (with_recording joined.watch joined.wave) (drop joined.count pieces.now)) }
+{
+    let mut wave = wave;
+    let mut watch = watch;
+    let mut count = 0;
+    let mut again = again.into_iter();
+    for ahead in all {
+        if count >= pieces.len() || !watch.leaves(alloc, wave.shown())? {
+            break;
+        }
+        let anew = next_of(&mut again);
+        let Some((ahead, chunks)) = fitting(alloc, &wave, pieces[count], ahead, anew) else {
+            break;
+        };
+        let (behind, step) = wave.join(alloc, ahead)?;
+        wave = behind;
+        watch = past_step(alloc, watch, step)?;
+        watch = chunks.pass(alloc, watch)?;
+        count += 1;
+    }
+    Ok(JoinedPieces { wave, watch, count })
+}

@@ -1,0 +1,220 @@
+//! Pieces that are read ahead of those before them, and judged as they are read.
+
+ghost use Rattle.std.specs.Prelude.{◌≡◌, ◌<◌, length, slice_get, IfOk, IfSome};
+ghost use Rattle.vme_trace.specs.LineNumbers.{line_count};
+ghost use Rattle.vme_text_workers.specs.SpeculativeChunks.{AreAhead, AreWhole, IsAheadAt, IsJudgedAhead};
+
+use crate::chunks::{ChunkBuffer, JudgedChunks};
+use crate::cut::{DumpPiece, cut_at_time};
+use crate::detached::map_places;
+use crate::speculation::Speculation;
+use std::alloc::{AllocError, Global};
+use std::thread::Threads;
+use vme_bind::{SpeculativeChunk, SpeculativeReader};
+use vme_summary::DiscardSteps;
+use vme_summary::chunk_judge::ChunkJudge;
+use vme_trace::Lines;
+
+/// How many bytes before a piece are looked at for the levels that it begins with.
+const LOOK_BACK: usize = 16_384;
+
+/// The last bytes of a piece, from where a line begins with a time.
+fn last_lines(bytes: &[u8]) -> Option<&[u8]> {
+    if bytes.len() <= LOOK_BACK {
+        return Some(bytes);
+    }
+    let (_, last) = cut_at_time(bytes, bytes.len() - LOOK_BACK)?;
+    Some(last)
+}
+
+/// What a piece does to the levels, where it is read from those before all pieces. None is given where
+/// `SpeculativeReader::read_ahead` gives none.
+fn read_levels(
+    alloc: Global,
+    wave: &SpeculativeReader,
+    bytes: &[u8],
+    line: u64,
+) -> Option<SpeculativeChunk> {
+    let now = wave.now();
+    let (ahead, _) = wave.read_ahead(alloc, bytes, line, now, DiscardSteps::new(now))?;
+    Some(ahead)
+}
+
+/// The levels that likely stand behind a piece: those that its last lines lead to, from the levels before all pieces. A
+/// line that changed earlier than in those is taken to have its first level still.
+fn likely_behind(alloc: Global, wave: &SpeculativeReader, piece: DumpPiece<'_>) -> Lines
+    ensures { length result.levels ≡ line_count }
+{
+    let now = *wave.now();
+    let Some(bytes) = last_lines(piece.bytes) else {
+        return now;
+    };
+    match read_levels(alloc, wave, bytes, piece.line) {
+        Some(ahead) => *ahead.levels(),
+        None => now,
+    }
+}
+
+/// Reads a piece ahead, from these levels, and judges it. None is given where `SpeculativeReader::read_ahead` gives
+/// none.
+pub(crate) fn read_ahead<J: ChunkJudge>(
+    alloc: Global,
+    wave: &SpeculativeReader,
+    piece: DumpPiece<'_>,
+    levels: &Lines,
+) -> Option<(SpeculativeChunk, JudgedChunks<J>)>
+    requires { length levels.now.levels ≡ line_count }
+    ensures { IfSome result (λ ahead.
+        IsJudgedAhead wave.now.body.nets wave.now.line_bits piece.entry.bytes.now ahead.1 ahead.0) }
+{
+    let chunks = ChunkBuffer::new(alloc, levels);
+    let (ahead, chunks) = wave.read_ahead(alloc, piece.bytes, piece.line, levels, chunks)?;
+    match chunks.finish(alloc) {
+        Ok(chunks) => Some((ahead, chunks)),
+        Err(_) => None,
+    }
+}
+
+/// Reads each piece ahead from the levels that likely stand before it, by a thread of its own.
+pub(crate) fn read_each_guessed<R: Threads + Sync, J: ChunkJudge + Send>(
+    rt: &R,
+    alloc: Global,
+    wave: &SpeculativeReader,
+    pieces: &[DumpPiece<'_>],
+) -> Result<Vec<Option<(SpeculativeChunk, JudgedChunks<J>)>>, AllocError>
+    ensures { IfOk result (λ all. AreAhead wave.now.body.nets wave.now.line_bits pieces.now all.items) }
+{
+    let all = map_places(
+        rt,
+        alloc,
+        pieces.len(),
+        &|place: usize| -> Option<(SpeculativeChunk, JudgedChunks<J>)>
+            requires { place < length pieces.now }
+            ensures { IsAheadAt wave.entry.now pieces.entry.now place result }
+        {
+            let levels = if place == 0 {
+                *wave.now()
+            } else {
+                likely_behind(alloc, wave, pieces[place - 1])
+            };
+            read_ahead(alloc, wave, pieces[place], &levels)
+        },
+    )?;
+    Ok(all)
+}
+
+/// The levels behind a piece that was read ahead, where these stand before it. There are none of another backplane.
+fn behind(ahead: &SpeculativeChunk, before: &Lines) -> Option<Lines>
+    requires { length before.now.levels ≡ line_count }
+    ensures { IfSome result (λ levels. length levels.levels ≡ line_count) }
+{
+    if ahead.from().slots() != before.slots() {
+        return None;
+    }
+    Some(ahead.levels_behind(before))
+}
+
+/// The levels before each piece: what the pieces before it do to the lines is read first, each by a thread of its own.
+/// They aren't known behind a piece that can't be read ahead. Whether a guess would have been wrong is noted. The only
+/// error is want of memory.
+pub(crate) fn levels_before_each<R: Threads + Sync>(
+    rt: &R,
+    alloc: Global,
+    wave: &SpeculativeReader,
+    pieces: &[DumpPiece<'_>],
+    speculation: &Speculation,
+) -> Result<Vec<Option<Lines>>, AllocError>
+    ensures { IfOk result (λ levels. AreWhole levels.items) }
+{
+    let read = map_places(
+        rt,
+        alloc,
+        pieces.len().saturating_sub(1),
+        &|place: usize| -> Option<(SpeculativeChunk, Lines)>
+            requires { place < length pieces.now }
+        {
+            let piece = pieces[place];
+            let ahead = read_levels(alloc, wave, piece.bytes, piece.line)?;
+            Some((ahead, likely_behind(alloc, wave, piece)))
+        },
+    )?;
+    let mut levels = Vec::new(alloc);
+    let mut before = *wave.now();
+    let mut wrong = false;
+    levels.push(Some(before))?;
+    for one in &read {
+        let Some((ahead, likely)) = one else {
+            break;
+        };
+        let Some(next) = behind(ahead, &before) else {
+            break;
+        };
+        levels.push(Some(next))?;
+        wrong = wrong || *likely != next;
+        before = next;
+    }
+    speculation.note(wrong);
+    Ok(levels)
+}
+
+/// The levels from which each piece is to be read again: those that really stand before it, if it was read from others.
+/// They aren't known behind a piece that wasn't read ahead. The only error is want of memory.
+pub(crate) fn levels_to_read_again<J: ChunkJudge>(
+    alloc: Global,
+    wave: &SpeculativeReader,
+    all: &[Option<(SpeculativeChunk, JudgedChunks<J>)>],
+) -> Result<Vec<Option<Lines>>, AllocError>
+    ensures { IfOk result (λ levels. AreWhole levels.items) }
+{
+    let mut again = Vec::new(alloc);
+    let mut before = *wave.now();
+    for one in all {
+        let Some((ahead, _)) = one else {
+            break;
+        };
+        let Some(next) = behind(ahead, &before) else {
+            break;
+        };
+        again.push(if *ahead.from() == before {
+            None
+        } else {
+            Some(before)
+        })?;
+        before = next;
+    }
+    Ok(again)
+}
+
+/// Reads each piece from its levels, if there are any, by a thread of its own. Where there are none, nothing is read.
+pub(crate) fn read_from<R: Threads + Sync, J: ChunkJudge + Send>(
+    rt: &R,
+    alloc: Global,
+    wave: &SpeculativeReader,
+    pieces: &[DumpPiece<'_>],
+    levels: &[Option<Lines>],
+) -> Result<Vec<Option<(SpeculativeChunk, JudgedChunks<J>)>>, AllocError>
+    requires { AreWhole levels.now }
+    ensures { IfOk result (λ all. AreAhead wave.now.body.nets wave.now.line_bits pieces.now all.items) }
+{
+    if levels.iter().all(|one| one.is_none()) {
+        return Ok(Vec::new(alloc));
+    }
+    let all = map_places(
+        rt,
+        alloc,
+        pieces.len(),
+        &|place: usize| -> Option<(SpeculativeChunk, JudgedChunks<J>)>
+            requires { (place < length pieces.now) × AreWhole levels.now }
+            ensures { IsAheadAt wave.entry.now pieces.entry.now place result }
+        {
+            if place >= levels.len() {
+                return None;
+            }
+            match &levels[place] {
+                Some(before) => read_ahead(alloc, wave, pieces[place], before),
+                None => None,
+            }
+        },
+    )?;
+    Ok(all)
+}

@@ -1,0 +1,152 @@
+//! A piece of a dump that is read and judged by several workers.
+
+ghost use Rattle.std.specs.Prelude.{◌≡◌, ◌≤◌, [], Result, drop, length, IfOk};
+ghost use Rattle.vme_trace.specs.Trace.{Trace};
+ghost use Rattle.vcd_read.specs.Reading.{line_behind};
+ghost use Rattle.vcd_read.specs.Tokens.{tokens_from};
+ghost use Rattle.vme_bind.specs.TextCapture.{CaptureFailsBy};
+ghost use Rattle.vme_bind.specs.TextPieces.{TextContinuesAs, outcome_ahead, text_reached};
+ghost use Rattle.vme_bind.specs.SpeculativeReading.{with_recording};
+ghost use Rattle.vme_bind.specs.declared.fault.CaptureFault.{CaptureFault as Why};
+ghost use Rattle.vme_text_workers.specs.SpeculativeChunks.{AreAhead, AreTaken};
+
+use crate::chunks::JudgedChunks;
+use crate::cut::{DumpPiece, cut, cut_at_last_time, cut_at_time};
+use crate::in_order::read_in_order;
+use crate::joining::{JoinedPieces, join_in_order};
+use crate::speculation::Speculation;
+use crate::speculative::{levels_before_each, levels_to_read_again, read_each_guessed, read_from};
+use std::alloc::{AllocError, Global};
+use std::thread::Threads;
+use vcd_read::{FaultKind, VcdFault};
+use vme_bind::{CaptureFault, SpeculativeChunk, SpeculativeReader, TextPieces};
+use vme_summary::chunk_judge::ChunkJudge;
+use vme_summary::stream_judge::StreamJudge;
+
+fn want_of_memory() -> CaptureFault
+    ensures { (answer : Result Trace Why) → CaptureFailsBy result answer }
+{
+    CaptureFault::Dump(VcdFault {
+        line: 0,
+        kind: FaultKind::Memory,
+    })
+}
+
+/// Reads and judges the pieces ahead of one another: from the levels that likely stand before each, or, where the last
+/// guess was wrong, from those that reading them first leads to. The only error is want of memory.
+fn read_each_ahead<R: Threads + Sync, J: ChunkJudge + Send>(
+    rt: &R,
+    alloc: Global,
+    wave: &SpeculativeReader,
+    pieces: &[DumpPiece<'_>],
+    speculation: &Speculation,
+) -> Result<Vec<Option<(SpeculativeChunk, JudgedChunks<J>)>>, AllocError>
+    ensures { IfOk result (λ all. AreAhead wave.now.body.nets wave.now.line_bits pieces.now all.items) }
+{
+    if speculation.is_wrong() {
+        let levels = levels_before_each(rt, alloc, wave, pieces, speculation)?;
+        return read_from(rt, alloc, wave, pieces, &levels);
+    }
+    read_each_guessed(rt, alloc, wave, pieces)
+}
+
+/// Reads and judges the pieces ahead of one another, those that were read from other levels than really stand before
+/// them again, and joins them in order as far as they fit. How many pieces were taken so is told too. The only error is
+/// want of memory.
+fn take_ahead<R: Threads + Sync, J: ChunkJudge + Send>(
+    rt: &R,
+    alloc: Global,
+    wave: SpeculativeReader,
+    watch: StreamJudge<J>,
+    pieces: &[DumpPiece<'_>],
+    speculation: &Speculation,
+) -> Result<(TextPieces<StreamJudge<J>>, usize), AllocError>
+    ensures count { IfOk result (λ taken. taken.1 ≤ length pieces.now) }
+    ensures taken { IfOk result (λ taken.
+        AreTaken pieces.now (with_recording watch wave) (text_reached taken.0) (drop taken.1 pieces.now)) }
+{
+    let all = read_each_ahead(rt, alloc, &wave, pieces, speculation)?;
+    let levels = levels_to_read_again(alloc, &wave, &all)?;
+    if levels.iter().any(|one| one.is_some()) {
+        speculation.note(true);
+    }
+    let again = read_from(rt, alloc, &wave, pieces, &levels)?;
+    let JoinedPieces { wave, watch, count } = join_in_order(
+        alloc, wave, watch, pieces, all, again,
+    )?;
+    Ok((wave.with_step_visitor(watch), count))
+}
+
+/// Takes the next piece of the text, which ends behind a space, or where the text does. It is read and judged by so
+/// many threads at most. What doesn't fit behind what stands before it is read in order, and so is what stands behind
+/// that.
+fn read_body<R: Threads + Sync, J: ChunkJudge + Send>(
+    rt: &R,
+    alloc: Global,
+    text: TextPieces<StreamJudge<J>>,
+    piece: &[u8],
+    workers: u32,
+    speculation: &Speculation,
+) -> Result<TextPieces<StreamJudge<J>>, CaptureFault>
+    ensures line { IfOk result (λ text'. (text_reached text').body.line
+        ≡ line_behind (text_reached text).body.line piece.now) }
+    ensures rest { TextContinuesAs (λ text'. outcome_ahead (text_reached text') []) result
+        (outcome_ahead (text_reached text) (tokens_from (text_reached text).body.line piece.now)) }
+{
+    let (wave, watch) = text.into_wave();
+    let Ok(pieces) = cut(alloc, piece, wave.line(), workers) else {
+        return Err(want_of_memory());
+    };
+    match take_ahead(rt, alloc, wave, watch, &pieces, speculation) {
+        Ok((text, count)) => read_in_order(alloc, text, &pieces[count..]),
+        Err(_) => Err(want_of_memory()),
+    }
+}
+
+/// The same, but what stands behind the last time is read in order, since it may end within an item.
+fn read_up_to_last_time<R: Threads + Sync, J: ChunkJudge + Send>(
+    rt: &R,
+    alloc: Global,
+    text: TextPieces<StreamJudge<J>>,
+    piece: &[u8],
+    workers: u32,
+    speculation: &Speculation,
+) -> Result<TextPieces<StreamJudge<J>>, CaptureFault>
+    ensures line { IfOk result (λ text'. (text_reached text').body.line
+        ≡ line_behind (text_reached text).body.line piece.now) }
+    ensures rest { TextContinuesAs (λ text'. outcome_ahead (text_reached text') []) result
+        (outcome_ahead (text_reached text) (tokens_from (text_reached text).body.line piece.now)) }
+{
+    let Some((front, behind)) = cut_at_last_time(piece) else {
+        return text.read(alloc, piece);
+    };
+    let text = read_body(rt, alloc, text, front, workers, speculation)?;
+    text.read(alloc, behind)
+}
+
+/// Takes the next piece of the text, which ends behind a space, or where the text does. From its first time to its last
+/// it is read and judged by so many workers, each in a thread of its own, as far as it fits behind what stands before;
+/// all else is read in order. One worker reads all of it in order, without a thread. The guess is what the pieces
+/// before left of it, or a new one: it changes no answer. Errors are those of `TextPieces::read`.
+pub fn read_by_workers<R: Threads + Sync, J: ChunkJudge + Send>(
+    rt: &R,
+    alloc: Global,
+    text: TextPieces<StreamJudge<J>>,
+    piece: &[u8],
+    workers: u32,
+    speculation: &Speculation,
+) -> Result<TextPieces<StreamJudge<J>>, CaptureFault>
+    ensures line { IfOk result (λ text'. (text_reached text').body.line
+        ≡ line_behind (text_reached text).body.line piece.now) }
+    ensures rest { TextContinuesAs (λ text'. outcome_ahead (text_reached text') []) result
+        (outcome_ahead (text_reached text) (tokens_from (text_reached text).body.line piece.now)) }
+{
+    if workers <= 1 {
+        return text.read(alloc, piece);
+    }
+    let Some((front, behind)) = cut_at_time(piece, 0) else {
+        return text.read(alloc, piece);
+    };
+    let text = text.read(alloc, front)?;
+    read_up_to_last_time(rt, alloc, text, behind, workers, speculation)
+}

@@ -1,5 +1,0 @@
-use Rattle.vme_waves.proofs.CutLemmas.{IsCutSoFar}
-use Rattle.vme_waves.proofs.cut.cut.Given as goal
-
-abbrev pub invariant-loop : goal.invariant-loop
-invariant-loop l = IsCutSoFar l.fn.text l.pieces.items l.left

@@ -1,8 +1,0 @@
-use Rattle.std.proofs.Common.{◌≤◌, length}
-use Rattle.vme_waves.proofs.cut.last_time.Given as goal
-
-abbrev pub invariant-loop-place : goal.invariant-loop-place
-invariant-loop-place l = l.end ≤ length l.text
-
-abbrev pub decreases-loop-place : goal.decreases-loop-place
-decreases-loop-place l = l.end
