@@ -621,6 +621,117 @@ fn faults_of_codes(rt: HostRuntime) -> Result<(), Fail> {
     assert_faults(&rt, rt.alloc(), CODES, &OF_CODES, &[13])
 }
 
+/// The digits of a vector of this length, of each kind in turn.
+fn digits_of(alloc: Global, length: usize) -> Result<Vec<u8>, AllocError> {
+    let mut digits = Vec::new(alloc);
+    for place in 0..length {
+        digits.push(match place % 6 {
+            0 => b'1',
+            1 => b'x',
+            2 => b'0',
+            3 => b'z',
+            4 => b'X',
+            _ => b'Z',
+        })?;
+    }
+    Ok(digits)
+}
+
+/// A change behind these definitions and so many spaces, and as many spaces behind it.
+fn spaced(alloc: Global, front: &[u8], count: usize, change: &[u8]) -> Result<Vec<u8>, AllocError> {
+    let mut text = Vec::from_slice(alloc, front)?;
+    for _ in 0..count {
+        text.push(b' ')?;
+    }
+    text.extend_from_slice(change)?;
+    for _ in 0..count {
+        text.push(b' ')?;
+    }
+    Ok(text)
+}
+
+/// The same, with another byte at a place of the change.
+fn spoiled(
+    alloc: Global,
+    front: &[u8],
+    count: usize,
+    change: &[u8],
+    place: usize,
+    byte: u8,
+) -> Result<Vec<u8>, AllocError> {
+    let mut change = Vec::from_slice(alloc, change)?;
+    if let Some(spoiled) = change.get_mut(place) {
+        *spoiled = byte;
+    }
+    spaced(alloc, front, count, &change)
+}
+
+/// Whether a text is a dump in which the only net has this value at time 0.
+fn has_value(alloc: Global, text: &[u8], value: &[u8]) -> Result<bool, VcdFault> {
+    let dump = read_vcd(alloc, text)?;
+    let mut found = Vec::new(alloc);
+    for instant in dump.instants() {
+        show_instant(alloc, &mut found, instant)?;
+    }
+    let mut wanted = together(alloc, &["#0 0="])?;
+    wanted.extend_from_slice(value)?;
+    wanted.push(b'\n')?;
+    Ok(found == wanted)
+}
+
+/// Vectors of each length, with so many spaces before and behind them.
+#[test]
+fn vectors_of_each_length_at_each_place(rt: HostRuntime) -> Result<(), Fail> {
+    let alloc = rt.alloc();
+    let front = b"$var wire 64 p A $end\n$enddefinitions $end\n";
+    for length in 1..41 {
+        let digits = digits_of(alloc, length)?;
+        let mut change = together(alloc, &["b"])?;
+        change.extend_from_slice(&digits)?;
+        change.extend_from_slice(b" p")?;
+        let value = bits_of(alloc, 0, 64, &digits)?.bits;
+        for count in 0..16 {
+            let text = spaced(alloc, front, count, &change)?;
+            assert!(rt; has_value(alloc, &text, &value)?, "{length} behind {count}");
+            for place in 1..length + 1 {
+                let text = spoiled(alloc, front, count, &change, place, b'2')?;
+                assert!(rt;
+                    fails_with(alloc, &text, &[], 3, FaultKind::BadToken),
+                    "{length} behind {count}, at {place}"
+                );
+            }
+        }
+    }
+    Ok(())
+}
+
+/// Changes of codes of each length, with so many spaces before and behind them.
+#[test]
+fn codes_of_each_length_at_each_place(rt: HostRuntime) -> Result<(), Fail> {
+    let alloc = rt.alloc();
+    for length in 1..41 {
+        let mut code = Vec::new(alloc);
+        code.resize(length, b'~')?;
+        let mut front = together(alloc, &["$var wire 1 "])?;
+        front.extend_from_slice(&code)?;
+        front.extend_from_slice(b" A $end\n$enddefinitions $end\n")?;
+        let mut change = together(alloc, &["1"])?;
+        change.extend_from_slice(&code)?;
+        for count in 0..16 {
+            let text = spaced(alloc, &front, count, &change)?;
+            assert!(rt; has_value(alloc, &text, b"1")?, "{length} behind {count}");
+            for place in 1..length + 1 {
+                let text = spoiled(alloc, &front, count, &change, place, 1)?;
+                assert!(rt;
+                    fails_with(alloc, &text, &[], 3, FaultKind::UndeclaredCode),
+                    "{length} behind {count}, at {place}"
+                );
+            }
+        }
+    }
+    Ok(())
+}
+
 #[test]
 fn a_fault_is_shown_with_its_line(rt: HostRuntime) -> Result<(), Fail> {
     let kind = FaultKind::BadVar;

@@ -1,10 +1,11 @@
 //! The recording of a dump that is read piece by piece.
 
-ghost use Rattle.std.specs.Prelude.{◌≡◌, ◌++◌, ℕ, List, [], IfOk, None, Some, map, replicate};
+ghost use Rattle.std.specs.Prelude.{◌≡◌, ◌↔◌, ◌++◌, ℕ, IsTrue, List, [], IfOk, None, Some, map, replicate};
 ghost use Rattle.std.specs.List.{fold};
 ghost use Rattle.std.specs.Option.{ForSome};
 ghost use Rattle.vme_trace.specs.LineNumbers.{line_count};
 ghost use Rattle.vme_trace.specs.declared.level.Level.TheVariants.{Unknown};
+ghost use Rattle.vcd_read.specs.Body.{ready};
 ghost use Rattle.vcd_read.specs.Reading.{line_behind};
 ghost use Rattle.vcd_read.specs.Tokens.{tokens_from};
 ghost use Rattle.vcd_read.specs.declared.dump.Variable.{Variable};
@@ -123,6 +124,15 @@ impl<F: StepVisitor> TextPieces<F> {
             Ok(pieces) => Ok(TextPieces { pieces, fault }),
             Err(fault) => Err(CaptureFault::Dump(fault)),
         }
+    }
+
+    /// Whether what is read so far ends between two items, and outside of brackets. Elsewhere no piece that is read
+    /// ahead may be joined.
+    pub fn is_between_items(&self) -> bool
+        ensures { IsTrue result ↔ ((text_reached self.now).body.place ≡ ready)
+            × ((text_reached self.now).body.bracket ≡ None) }
+    {
+        self.pieces.is_between_items()
     }
 
     /// What took the recording of the text, of which nothing is left. A fault of the dump comes before one of the

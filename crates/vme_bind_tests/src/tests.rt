@@ -769,3 +769,28 @@ fn a_wave_of_pieces_records_what_their_text_does(rt: HostRuntime) -> Result<(), 
     assert!(rt; found.as_slice() == READ_STEPS.as_bytes());
     Ok(())
 }
+
+/// What is read ends between two items unless an item or a bracket is open.
+#[test]
+fn a_text_is_between_items_outside_of_brackets(rt: HostRuntime) -> Result<(), Fail> {
+    let alloc = rt.alloc();
+    let binding = bound(alloc, &[BUS_LINES])?;
+    let front = together(alloc, &[BUS, DECLARED])?;
+    let kept = none_kept(alloc, Lines::new(1).ok_or("no slots")?);
+    let text = binding.begin_text(alloc, front.as_slice(), kept)?;
+    let mut text = text.ok().ok_or("no definitions")?;
+    assert!(rt; text.is_between_items());
+    for (piece, wanted) in [
+        ("#0 1p 1q\n", true),
+        ("$dumpon\n", false),
+        ("#10 0p\n", false),
+        ("$end\n", true),
+        ("b0 \n", false),
+        ("q\n", true),
+        ("$comment\n", false),
+    ] {
+        text = text.read(alloc, piece.as_bytes())?;
+        assert!(rt; text.is_between_items() == wanted, "{piece}");
+    }
+    Ok(())
+}

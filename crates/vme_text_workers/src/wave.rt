@@ -1,6 +1,6 @@
 //! A piece of a dump that is read and judged by several workers.
 
-ghost use Rattle.std.specs.Prelude.{◌≡◌, ◌≤◌, [], Result, drop, length, IfOk};
+ghost use Rattle.std.specs.Prelude.{◌≡◌, ◌≤◌, [], Result, drop, length, IfOk, IfSome};
 ghost use Rattle.vme_trace.specs.Trace.{Trace};
 ghost use Rattle.vcd_read.specs.Reading.{line_behind};
 ghost use Rattle.vcd_read.specs.Tokens.{tokens_from};
@@ -8,6 +8,7 @@ ghost use Rattle.vme_bind.specs.TextCapture.{CaptureFailsBy};
 ghost use Rattle.vme_bind.specs.TextPieces.{TextContinuesAs, outcome_ahead, text_reached};
 ghost use Rattle.vme_bind.specs.SpeculativeReading.{with_recording};
 ghost use Rattle.vme_bind.specs.declared.fault.CaptureFault.{CaptureFault as Why};
+ghost use Rattle.vme_text_workers.specs.Cuts.{IsCutIn};
 ghost use Rattle.vme_text_workers.specs.SpeculativeChunks.{AreAhead, AreTaken};
 
 use crate::chunks::JudgedChunks;
@@ -22,6 +23,7 @@ use vcd_read::{FaultKind, VcdFault};
 use vme_bind::{CaptureFault, SpeculativeChunk, SpeculativeReader, TextPieces};
 use vme_summary::chunk_judge::ChunkJudge;
 use vme_summary::stream_judge::StreamJudge;
+use vme_trace::StepVisitor;
 
 fn want_of_memory() -> CaptureFault
     ensures { (answer : Result Trace Why) → CaptureFailsBy result answer }
@@ -103,6 +105,21 @@ fn read_body<R: Threads + Sync, J: ChunkJudge + Send>(
     }
 }
 
+/// The piece cut at its last time. Where an item or a bracket is open before it, no part of it would fit, and it isn't
+/// cut.
+fn cut_to_read_ahead<'a, F: StepVisitor>(
+    text: &TextPieces<F>,
+    piece: &'a [u8],
+) -> Option<(&'a [u8], &'a [u8])>
+    ensures { IfSome result (λ cut. IsCutIn piece.now cut.0.now cut.1.now) }
+{
+    if text.is_between_items() {
+        cut_at_last_time(piece)
+    } else {
+        None
+    }
+}
+
 /// The same, but what stands behind the last time is read in order, since it may end within an item.
 fn read_up_to_last_time<R: Threads + Sync, J: ChunkJudge + Send>(
     rt: &R,
@@ -117,7 +134,7 @@ fn read_up_to_last_time<R: Threads + Sync, J: ChunkJudge + Send>(
     ensures rest { TextContinuesAs (λ text'. outcome_ahead (text_reached text') []) result
         (outcome_ahead (text_reached text) (tokens_from (text_reached text).body.line piece.now)) }
 {
-    let Some((front, behind)) = cut_at_last_time(piece) else {
+    let Some((front, behind)) = cut_to_read_ahead(&text, piece) else {
         return text.read(alloc, piece);
     };
     let text = read_body(rt, alloc, text, front, workers, speculation)?;
