@@ -1,4 +1,4 @@
--- From the mask of sixteen bytes to the run that they begin with.
+-- From the mask of at most 64 bytes to the run that they begin with.
 use Rattle.std.proofs.Common.{◌≡◌, ℕ, ◌+◌, ◌%◌, ◌^◌, ◌<◌, ◌≤◌, eqb, Bool, true, false, not, cond, List, [], ◌∷◌, map}
 use Rattle.std.proofs.Common.{length, get_or, replicate, Fits, w8, refl, sym, ap, ap₂, ◌∙◌, arith}
 use Rattle.std.proofs.lemmas.Bool.{agree_below, agree_below_at, not-true, not-false}
@@ -23,32 +23,32 @@ splat_is [] n y e = ap (λ k. replicate k y) (sym e)
 splat_is (x ∷ xs) n y e = ap (λ k. replicate k y) (sym e) ∙ ap (λ r. y ∷ r) (splat_is xs (length xs) y refl)
 
 -- a test fails where its lane stops, and nowhere before
-module _ (q : ℕ → Bool) (text : List ℕ) (at r : ℕ) (lanes : List ℕ) (room : at + 16 ≤ length text)
+module _ (q : ℕ → Bool) (text : List ℕ) (at r n : ℕ) (few : n ≤ 64) (lanes : List ℕ) (room : at + n ≤ length text)
     (fits : (k : ℕ) → Fits w8 (get_or text k 0))
-    (found : r ≡ cond (eqb (mask_l (map (top 7) lanes) % 2 ^ 64) 0) 16
+    (found : r ≡ cond (eqb (mask_l (map (top 7) lanes) % 2 ^ 64) 0) n
     (trailing_zeros w64 (mask_l (map (top 7) lanes) % 2 ^ 64)))
-    (f : ℕ → ℕ) (computed : lanes ≡ map f (chunk at 16 text)) (all : agree_below (λ x. top 7 (f x)) (λ x. not (q x)) 256
+    (f : ℕ → ℕ) (computed : lanes ≡ map f (chunk at n text)) (all : agree_below (λ x. top 7 (f x)) (λ x. not (q x)) 256
     ≡ true) where
   abbrev stops : ℕ → Bool
   stops x = top 7 (f x)
 
-  counted : r ≡ prefix_len (λ x. not (stops x)) (chunk at 16 text)
+  counted : r ≡ prefix_len (λ x. not (stops x)) (chunk at n text)
   counted =
-      let v = chunk at 16 text in
-      let long = length-chunk at 16 text room in
+      let v = chunk at n text in
+      let long = length-chunk at n text room in
       let mask = ap (λ l. mask_l l % 2 ^ 64) (ap (map (top 7)) computed ∙ map-map (top 7) f v)
-      ∙ mask_l-mod (map stops v) 64 (omega (arith, length-map v stops, long)) in
-      found ∙ ap (λ m. cond (eqb m 0) 16 (trailing_zeros w64 m)) mask ∙ first_set_mask_l stops v 16 long (omega arith)
+      ∙ mask_l-mod (map stops v) 64 (omega (arith, length-map v stops, long, few)) in
+      found ∙ ap (λ m. cond (eqb m 0) n (trailing_zeros w64 m)) mask ∙ first_set_mask_l stops v n long few
 
-  pub run_high : r ≤ 16
-  run_high = run_in_chunk_le stops text at 16 r 0 room counted
+  pub run_high : r ≤ n
+  run_high = run_in_chunk_le stops text at n r 0 room counted
 
   pub run_passes : (k : ℕ) → at ≤ k → k < at + r → q (get_or text k 0) ≡ true
   run_passes k low high =
       not-false _ (sym (agree_below_at stops (λ x. not (q x)) 256 (get_or text k 0) all (fits k).fits)
-      ∙ run_in_chunk_fails stops text at 16 r 0 room counted k low high)
+      ∙ run_in_chunk_fails stops text at n r 0 room counted k low high)
 
-  pub run_stops : r < 16 → q (get_or text (at + r) 0) ≡ false
+  pub run_stops : r < n → q (get_or text (at + r) 0) ≡ false
   run_stops short =
       not-true _ (sym (agree_below_at stops (λ x. not (q x)) 256 (get_or text (at + r) 0) all (fits (at + r)).fits)
-      ∙ run_in_chunk_stops stops text at 16 r 0 room counted short)
+      ∙ run_in_chunk_stops stops text at n r 0 room counted short)

@@ -61,6 +61,7 @@ impl Codes {
     }
 
     /// The size of a net.
+    #[inline(always)]
     pub fn size(&self, net: u32) -> u32
         requires { net < length self.now }
         ensures { result ≡ size_of self.now net }

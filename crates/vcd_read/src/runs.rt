@@ -1,4 +1,4 @@
-//! Where runs of bytes end, found sixteen bytes at a time.
+//! Where runs of bytes end, found sixteen or thirty-two bytes at a time.
 
 ghost use Rattle.std.specs.Prelude.{◌≡◌, ◌==◌, if◌then◌else◌, ℕ, ◌+◌, ◌<◌, ◌≤◌, length, slice_index, true, false};
 ghost use Rattle.std.specs.Int.{w64, trailing_zeros};
@@ -7,16 +7,22 @@ ghost use Rattle.vcd_read.specs.Numbers.{is_bit};
 use crate::shape::is_bit;
 use std::simd::prelude::*;
 
-/// How many bytes are looked at at once.
+/// How many bytes are looked at at once for a space.
 const LANES: usize = 16;
 
-/// How many lanes come before the first that is set.
+/// How many bytes are looked at one by one before that: most codes are short.
+const FEW: usize = 3;
+
+/// How many bytes are looked at at once for the end of digits: many vectors have so many bits.
+const DIGIT_LANES: usize = 32;
+
+/// How many of so many lanes come before the first that is set.
 #[inline(always)]
-fn first_set(lanes: u64) -> usize
-    ensures { result ≡ (if lanes == 0 then 16 else trailing_zeros w64 lanes) }
+fn first_set(lanes: u64, count: usize) -> usize
+    ensures { result ≡ (if lanes == 0 then count else trailing_zeros w64 lanes) }
 {
     if lanes == 0 {
-        LANES
+        count
     } else {
         lanes.trailing_zeros() as usize
     }
@@ -31,12 +37,31 @@ fn lanes_above_space(text: &[u8], at: usize) -> usize
     ensures end { result < 16 → slice_index text.now (at + result) ≤ 32 }
 {
     let bytes = u8x16::from_slice(&text[at..]);
-    first_set(bytes.simd_le(u8x16::splat(b' ')).to_bitmask())
+    first_set(bytes.simd_le(u8x16::splat(b' ')).to_bitmask(), LANES)
 }
 
 /// The first byte from here on that isn't above the space, or the end.
 #[inline(always)]
 pub(crate) fn above_space_end(text: &[u8], at: usize) -> usize
+    requires { at ≤ length text.now }
+    ensures low { at ≤ result }
+    ensures high { result ≤ length text.now }
+    ensures above { (k : ℕ) → at ≤ k → k < result → 32 < slice_index text.now k }
+    ensures end { result < length text.now → slice_index text.now result ≤ 32 }
+{
+    let mut i = at;
+    while i < text.len() && i - at < FEW {
+        if text[i] <= b' ' {
+            return i;
+        }
+        i += 1;
+    }
+    above_space_end_by_lanes(text, i)
+}
+
+/// The same, sixteen bytes at a time.
+#[inline(never)]
+fn above_space_end_by_lanes(text: &[u8], at: usize) -> usize
     requires { at ≤ length text.now }
     ensures low { at ≤ result }
     ensures high { result ≤ length text.now }
@@ -69,20 +94,20 @@ fn above_space_end_by_byte(text: &[u8], at: usize) -> usize
     i
 }
 
-/// How many of the bytes from here on, up to sixteen, come before the first that is no digit of a vector.
+/// How many of the bytes from here on, up to thirty-two, come before the first that is no digit of a vector.
 #[inline(always)]
 fn lanes_of_bits(text: &[u8], at: usize) -> usize
-    requires { at + 16 ≤ length text.now }
-    ensures high { result ≤ 16 }
+    requires { at + 32 ≤ length text.now }
+    ensures high { result ≤ 32 }
     ensures bits { (k : ℕ) → at ≤ k → k < at + result → is_bit (slice_index text.now k) ≡ true }
-    ensures end { result < 16 → is_bit (slice_index text.now (at + result)) ≡ false }
+    ensures end { result < 32 → is_bit (slice_index text.now (at + result)) ≡ false }
 {
-    let bytes = u8x16::from_slice(&text[at..]);
+    let bytes = u8x32::from_slice(&text[at..]);
     // 0 and 1 differ in one bit alone, and so do the cases of a letter, and x and z.
-    let digits = bytes & u8x16::splat(0xfe);
-    let letters = bytes & u8x16::splat(0xdd);
-    let others = digits.simd_ne(u8x16::splat(b'0')) & letters.simd_ne(u8x16::splat(b'X'));
-    first_set(others.to_bitmask())
+    let digits = bytes & u8x32::splat(0xfe);
+    let letters = bytes & u8x32::splat(0xdd);
+    let others = digits.simd_ne(u8x32::splat(b'0')) & letters.simd_ne(u8x32::splat(b'X'));
+    first_set(others.to_bitmask(), DIGIT_LANES)
 }
 
 /// The first byte from here on that is no digit of a vector, or the end.
@@ -95,10 +120,13 @@ pub(crate) fn bits_end(text: &[u8], at: usize) -> usize
     ensures end { result < length text.now → is_bit (slice_index text.now result) ≡ false }
 {
     let mut i = at;
-    while text.len() - i >= LANES {
+    while text.len() - i >= DIGIT_LANES {
         let count = lanes_of_bits(text, i);
         i += count;
-        if count < LANES {
+        if count < DIGIT_LANES {
+            return i;
+        }
+        if i < text.len() && !is_bit(text[i]) {
             return i;
         }
     }

@@ -39,6 +39,7 @@ impl<T: ChangeVisitor> TimedVisitor<T> {
     }
 
     /// Goes on to a time, or stays at it.
+    #[inline(always)]
     pub fn advance(&mut self, alloc: Global, time: u64) -> Result<(), AllocError>
         ensures { OnOk result (taking (T.taken self.new.visitor) self.new.clock
             ≡ advanced T.with_instant (taking (T.taken self.old.visitor) self.old.clock) time) }

@@ -99,8 +99,37 @@ fn word_start(text: &[u8], at: usize) -> usize
     i
 }
 
+/// Whether no word goes on at a place.
+#[inline(always)]
+fn ends_word(text: &[u8], at: usize) -> bool
+    ensures ends { result ≡ true → at < length text.now → is_space (slice_index text.now at) ≡ true }
+    ensures goes_on { result ≡ false → (at < length text.now) × (is_space (slice_index text.now at) ≡ false) }
+{
+    match text.get(at) {
+        Some(b) => is_space(*b),
+        None => true,
+    }
+}
+
 /// The first space from here on, or the end.
+#[inline(always)]
 fn word_end(text: &[u8], at: usize) -> usize
+    requires { at ≤ length text.now }
+    ensures low { at ≤ result }
+    ensures high { result ≤ length text.now }
+    ensures word { (k : ℕ) → at ≤ k → k < result → is_space (slice_index text.now k) ≡ false }
+    ensures end { result < length text.now → is_space (slice_index text.now result) ≡ true }
+{
+    let end = above_space_end(text, at);
+    if ends_word(text, end) {
+        return end;
+    }
+    word_end_past_controls(text, end)
+}
+
+/// The same, where bytes below the space may stand within the word.
+#[inline(never)]
+fn word_end_past_controls(text: &[u8], at: usize) -> usize
     requires { at ≤ length text.now }
     ensures low { at ≤ result }
     ensures high { result ≤ length text.now }
@@ -112,18 +141,6 @@ fn word_end(text: &[u8], at: usize) -> usize
         i = above_space_end(text, i + 1);
     }
     i
-}
-
-/// Whether no word goes on at a place.
-#[inline(always)]
-fn ends_word(text: &[u8], at: usize) -> bool
-    ensures ends { result ≡ true → at < length text.now → is_space (slice_index text.now at) ≡ true }
-    ensures goes_on { result ≡ false → (at < length text.now) × (is_space (slice_index text.now at) ≡ false) }
-{
-    match text.get(at) {
-        Some(b) => is_space(*b),
-        None => true,
-    }
 }
 
 /// The place behind the space that ends a word here, or the end.

@@ -72,6 +72,7 @@ impl NetLines {
     ghost use Rattle.vme_bind.specs.NetLines.{line_bits_of, line_bits_below};
 
     /// The lines of a net.
+    #[inline(always)]
     pub fn of(&self, net: u32) -> &[LineBit]
         ensures { result.now ≡ line_bits_of self.now net }
     {

@@ -15,19 +15,22 @@ pub returns-clause-high : goal.returns-clause-high
 returns-clause-high c =
     let text = c.args.text.now in
     let v = chunk c.args.at 16 text in
-    run_high (λ b. not (leb b 32)) text c.args.at c.first_set.result _ c.requires c.type_inv.text c.first_set.ensures _
+    run_high (λ b. not (leb b 32)) text c.args.at c.first_set.result 16 (omega arith) _ c.requires
+    c.type_inv.text c.first_set.ensures _
     (zip2_splat _ v 16 32 (length-chunk c.args.at 16 text c.requires)) refl
 
 pub returns-clause-above : goal.returns-clause-above
 returns-clause-above c = λ k low high.
     let text = c.args.text.now in
     let v = chunk c.args.at 16 text in
-    above _ (run_passes (λ b. not (leb b 32)) text c.args.at c.first_set.result _ c.requires c.type_inv.text
+    above _ (run_passes (λ b. not (leb b 32)) text c.args.at c.first_set.result 16 (omega arith) _ c.requires
+    c.type_inv.text
     c.first_set.ensures _ (zip2_splat _ v 16 32 (length-chunk c.args.at 16 text c.requires)) refl k low high)
 
 pub returns-clause-end : goal.returns-clause-end
 returns-clause-end c = λ short.
     let text = c.args.text.now in
     let v = chunk c.args.at 16 text in
-    at_most _ (run_stops (λ b. not (leb b 32)) text c.args.at c.first_set.result _ c.requires c.type_inv.text
+    at_most _ (run_stops (λ b. not (leb b 32)) text c.args.at c.first_set.result 16 (omega arith) _ c.requires
+    c.type_inv.text
     c.first_set.ensures _ (zip2_splat _ v 16 32 (length-chunk c.args.at 16 text c.requires)) refl short)

@@ -1,4 +1,4 @@
-use Rattle.std.proofs.Common.{ℕ, bit_and, refl}
+use Rattle.std.proofs.Common.{ℕ, bit_and, refl, arith}
 use Rattle.std.proofs.lemmas.Simd.{length-chunk, zip2_splat}
 use lib.Lanes.{chunk}
 use Rattle.vcd_read.specs.Numbers.{is_bit}
@@ -8,26 +8,29 @@ use Rattle.vcd_read.proofs.runs.lanes_of_bits.Goals as goal
 pub returns-clause-high : goal.returns-clause-high
 returns-clause-high c =
     let text = c.args.text.now in
-    let v = chunk c.args.at 16 text in
-    let long = length-chunk c.args.at 16 text c.requires in
-    run_high is_bit text c.args.at c.first_set.result _ c.requires c.type_inv.text c.first_set.ensures _
-    (joined bit_and _ _ v (joined _ _ _ v (zip2_splat {Y = ℕ} bit_and v 16 254 long) (splat_is v 16 48 long))
-    (joined _ _ _ v (zip2_splat {Y = ℕ} bit_and v 16 221 long) (splat_is v 16 88 long))) refl
+    let v = chunk c.args.at 32 text in
+    let long = length-chunk c.args.at 32 text c.requires in
+    run_high is_bit text c.args.at c.first_set.result 32 (omega arith) _ c.requires
+    c.type_inv.text c.first_set.ensures _
+    (joined bit_and _ _ v (joined _ _ _ v (zip2_splat {Y = ℕ} bit_and v 32 254 long) (splat_is v 32 48 long))
+    (joined _ _ _ v (zip2_splat {Y = ℕ} bit_and v 32 221 long) (splat_is v 32 88 long))) refl
 
 pub returns-clause-bits : goal.returns-clause-bits
 returns-clause-bits c =
     let text = c.args.text.now in
-    let v = chunk c.args.at 16 text in
-    let long = length-chunk c.args.at 16 text c.requires in
-    run_passes is_bit text c.args.at c.first_set.result _ c.requires c.type_inv.text c.first_set.ensures _
-    (joined bit_and _ _ v (joined _ _ _ v (zip2_splat {Y = ℕ} bit_and v 16 254 long) (splat_is v 16 48 long))
-    (joined _ _ _ v (zip2_splat {Y = ℕ} bit_and v 16 221 long) (splat_is v 16 88 long))) refl
+    let v = chunk c.args.at 32 text in
+    let long = length-chunk c.args.at 32 text c.requires in
+    run_passes is_bit text c.args.at c.first_set.result 32 (omega arith) _ c.requires
+    c.type_inv.text c.first_set.ensures _
+    (joined bit_and _ _ v (joined _ _ _ v (zip2_splat {Y = ℕ} bit_and v 32 254 long) (splat_is v 32 48 long))
+    (joined _ _ _ v (zip2_splat {Y = ℕ} bit_and v 32 221 long) (splat_is v 32 88 long))) refl
 
 pub returns-clause-end : goal.returns-clause-end
 returns-clause-end c =
     let text = c.args.text.now in
-    let v = chunk c.args.at 16 text in
-    let long = length-chunk c.args.at 16 text c.requires in
-    run_stops is_bit text c.args.at c.first_set.result _ c.requires c.type_inv.text c.first_set.ensures _
-    (joined bit_and _ _ v (joined _ _ _ v (zip2_splat {Y = ℕ} bit_and v 16 254 long) (splat_is v 16 48 long))
-    (joined _ _ _ v (zip2_splat {Y = ℕ} bit_and v 16 221 long) (splat_is v 16 88 long))) refl
+    let v = chunk c.args.at 32 text in
+    let long = length-chunk c.args.at 32 text c.requires in
+    run_stops is_bit text c.args.at c.first_set.result 32 (omega arith) _ c.requires
+    c.type_inv.text c.first_set.ensures _
+    (joined bit_and _ _ v (joined _ _ _ v (zip2_splat {Y = ℕ} bit_and v 32 254 long) (splat_is v 32 48 long))
+    (joined _ _ _ v (zip2_splat {Y = ℕ} bit_and v 32 221 long) (splat_is v 32 88 long))) refl
