@@ -1,4 +1,6 @@
 pub mod Between
+pub mod Grouping
 pub mod Growing
 pub mod Laws
+pub mod StepByStep
 pub mod WorkedAgree

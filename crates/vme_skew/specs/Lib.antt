@@ -1,2 +1,3 @@
 pub mod Settled
 pub mod Worked
+pub mod Group

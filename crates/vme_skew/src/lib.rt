@@ -2,14 +2,20 @@
 //!
 //! A logic analyser samples each line a little earlier or later than another. What lies within the *skew* is taken as
 //! one moment: the steps of a recording are taken in groups, and each group makes one step, at the time of its first
-//! one, of the lines that have another level behind the group than before it. `specs/Settled` says so; start there. The
-//! functions of this file are laws of it, whose contracts are what they say.
+//! one, of the lines that have another level behind the group than before it. `specs/Settled` says so; start there.
+//! `settle` makes that recording. The functions of this file are laws of the definition, whose contracts are what they
+//! say.
 #![tactic(auto)]
 
 ghost use Rattle.std.specs.Prelude.{◌≡◌, ◌≤◌, ◌++◌, ℕ, length};
 ghost use Rattle.vme_trace.specs.Trace.{Trace, levels_after, levels_at};
 ghost use Rattle.vme_skew.specs.Settled.{IsRecording, settled, step_to, steps_before};
 ghost use Rattle.vme_skew.specs.Worked.{AllSettle, worked};
+
+mod group;
+mod settling;
+
+pub use settling::settle;
 
 /// Settled by 0 a recording is itself.
 pub fn settled_by_zero()

@@ -1,0 +1,24 @@
+-- The group at hand of a recording that is settled step by step.
+use Rattle.std.specs.Prelude.{◌≡◌, ℕ, Bool, true, false, List, get_or, All, Contains}
+use Rattle.vme_trace.specs.Levels.{Levels}
+use Rattle.vme_trace.specs.declared.step.Change.{Change}
+use Rattle.vme_bind.specs.Recording.{IsLine, ListsTouchedLines}
+
+-- when it begins, the levels before it, and those behind its last step
+pub record GroupLevels : Type 0 where
+  pub start : ℕ
+  pub before : Levels
+  pub now : Levels
+
+-- a group begins, and has no step yet
+abbrev pub begun : ℕ → Levels → GroupLevels
+begun start v = record { start = start; before = v; now = v }
+
+-- the lines that may have other levels than before the group are listed, and each that is marked is listed
+pub record KeepsTouchedLines (before now : Levels) (touched : List ℕ) (marks : List Bool) : Type 0 where
+  pub lists : ListsTouchedLines before now touched
+  pub marked : (l : ℕ) → get_or marks l false ≡ true → Contains touched l
+
+-- each changes a line that a backplane of so many slots has
+abbrev pub ChangeLines : ℕ → List Change → Type 0
+ChangeLines slots = All (λ (change : Change). IsLine slots change.line)

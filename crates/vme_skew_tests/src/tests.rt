@@ -1,0 +1,278 @@
+use smallvec::SmallVec;
+use std::alloc::{AllocError, Global};
+use std::test::Fail;
+use vme_skew::settle;
+use vme_trace::{Capture, Change, Changes, LINE_COUNT, Level, Line, Lines, Step};
+
+/// The numbers of the lines that change at a time, with their new levels.
+type Row = (u64, &'static [(u8, Level)]);
+
+const AS: u8 = 0;
+
+const DS0: u8 = 1;
+
+const DTACK: u8 = 3;
+
+const BBSY: u8 = 45;
+
+const D00: u8 = 159;
+
+const SYSRESET: u8 = 191;
+
+const LOW: Level = Level::Low;
+
+const HIGH: Level = Level::High;
+
+const UNKNOWN: Level = Level::Unknown;
+
+const THREE_FALLS: [Row; 3] = [
+    (10, &[(DTACK, LOW)]),
+    (13, &[(AS, LOW)]),
+    (15, &[(BBSY, LOW)]),
+];
+
+const ALL_AT_ONCE: [Row; 1] = [(10, &[(AS, LOW), (DTACK, LOW), (BBSY, LOW)])];
+
+/// The last times that there are.
+const LATEST: [Row; 2] = [(u64::MAX - 1, &[(DTACK, LOW)]), (u64::MAX, &[(AS, LOW)])];
+
+/// More lines fall at once than a step keeps without memory of its own, and rise one after the other.
+const MANY: [Row; 4] = [
+    (
+        3,
+        &[
+            (D00, LOW),
+            (D00 + 1, LOW),
+            (D00 + 2, LOW),
+            (D00 + 3, LOW),
+            (D00 + 4, LOW),
+        ],
+    ),
+    (
+        4,
+        &[
+            (AS, LOW),
+            (DS0, LOW),
+            (D00 + 5, LOW),
+            (D00 + 6, LOW),
+            (D00 + 7, LOW),
+            (D00 + 8, LOW),
+        ],
+    ),
+    (9, &[(DS0, HIGH)]),
+    (14, &[(AS, HIGH)]),
+];
+
+const MANY_AT_ONCE: [Row; 3] = [
+    (
+        3,
+        &[
+            (AS, LOW),
+            (DS0, LOW),
+            (D00, LOW),
+            (D00 + 1, LOW),
+            (D00 + 2, LOW),
+            (D00 + 3, LOW),
+            (D00 + 4, LOW),
+            (D00 + 5, LOW),
+            (D00 + 6, LOW),
+            (D00 + 7, LOW),
+            (D00 + 8, LOW),
+        ],
+    ),
+    (9, &[(DS0, HIGH)]),
+    (14, &[(AS, HIGH)]),
+];
+
+/// Steps behind an opening at which each line is high, a skew, and the steps that they settle to.
+const WORKED: [(&[Row], u64, &[Row]); 17] = [
+    // a step at just the skew belongs to the group, whose lines come in their order
+    (
+        &THREE_FALLS,
+        3,
+        &[(10, &[(AS, LOW), (DTACK, LOW)]), (15, &[(BBSY, LOW)])],
+    ),
+    // one that is later begins another, from which the skew is counted anew
+    (
+        &THREE_FALLS,
+        2,
+        &[(10, &[(DTACK, LOW)]), (13, &[(AS, LOW), (BBSY, LOW)])],
+    ),
+    // settled by 0 all stays
+    (&THREE_FALLS, 0, &THREE_FALLS),
+    (&MANY, 0, &MANY),
+    // the skew is as long as the recording, longer, and as long as can be
+    (&THREE_FALLS, 5, &ALL_AT_ONCE),
+    (&THREE_FALLS, 6, &ALL_AT_ONCE),
+    (&THREE_FALLS, u64::MAX, &ALL_AT_ONCE),
+    // a line that falls and rises within a group doesn't change
+    (
+        &[(4, &[(AS, LOW)]), (5, &[(DS0, LOW)]), (6, &[(AS, HIGH)])],
+        5,
+        &[(4, &[(DS0, LOW)])],
+    ),
+    // a line that falls, rises and falls within a group falls once
+    (
+        &[(4, &[(AS, LOW)]), (5, &[(AS, HIGH)]), (6, &[(AS, LOW)])],
+        5,
+        &[(4, &[(AS, LOW)])],
+    ),
+    // a group that ends as it began makes no step, and the next one begins with the next step
+    (
+        &[
+            (0, &[(AS, LOW), (DS0, LOW)]),
+            (5, &[(AS, HIGH), (DS0, HIGH)]),
+            (6, &[(DTACK, LOW)]),
+            (12, &[(DTACK, HIGH)]),
+        ],
+        5,
+        &[(6, &[(DTACK, LOW)]), (12, &[(DTACK, HIGH)])],
+    ),
+    // what ends as it began may leave nothing
+    (&[(7, &[(AS, LOW)]), (8, &[(AS, HIGH)])], 1, &[]),
+    // a reset and an unknown line within a group are gone
+    (
+        &[
+            (0, &[(AS, UNKNOWN), (SYSRESET, LOW)]),
+            (1, &[(DS0, LOW)]),
+            (2, &[(SYSRESET, HIGH)]),
+            (3, &[(AS, LOW)]),
+        ],
+        3,
+        &[(0, &[(AS, LOW), (DS0, LOW)])],
+    ),
+    // those that last longer than the group aren't
+    (
+        &[
+            (0, &[(DS0, LOW)]),
+            (1, &[(AS, UNKNOWN)]),
+            (2, &[(SYSRESET, LOW)]),
+            (9, &[(AS, HIGH), (SYSRESET, HIGH)]),
+        ],
+        3,
+        &[
+            (0, &[(AS, UNKNOWN), (DS0, LOW), (SYSRESET, LOW)]),
+            (9, &[(AS, HIGH), (SYSRESET, HIGH)]),
+        ],
+    ),
+    // nothing settles to nothing
+    (&[], 3, &[]),
+    // at the last times that there are
+    (&LATEST, 0, &LATEST),
+    (&LATEST, 1, &[(u64::MAX - 1, &[(AS, LOW), (DTACK, LOW)])]),
+    // more lines than a step keeps without memory of its own
+    (&MANY, 4, &MANY_AT_ONCE),
+];
+
+fn step((time, row): Row, alloc: Global) -> Result<Step, AllocError> {
+    let mut changes = SmallVec::new(alloc);
+    for (number, level) in row {
+        if let Some(line) = Line::from_number(*number) {
+            changes.push(Change {
+                line,
+                level: *level,
+            })?;
+        }
+    }
+    Ok(Step {
+        time,
+        changes: Changes::new(changes),
+    })
+}
+
+/// Every line of a backplane high.
+fn high_lines() -> Option<Lines> {
+    let mut lines = Lines::new(1)?;
+    for number in 0..LINE_COUNT {
+        let line = Line::from_number(number)?;
+        if lines.has(line) {
+            lines.set(line, Level::High);
+        }
+    }
+    Some(lines)
+}
+
+/// The recording of these steps behind such lines.
+fn recorded(alloc: Global, rows: &[Row]) -> Result<Option<Capture>, AllocError> {
+    let mut steps = Vec::new(alloc);
+    for row in rows {
+        steps.push(step(*row, alloc)?)?;
+    }
+    let Some(opening) = high_lines() else {
+        return Ok(None);
+    };
+    Ok(Capture::new(opening, steps).ok())
+}
+
+/// Whether the changes of a step are these.
+fn has_changes(step: &Step, row: &[(u8, Level)]) -> bool {
+    let changes = step.changes.as_slice();
+    if changes.len() != row.len() {
+        return false;
+    }
+    for (change, (number, level)) in changes.iter().zip(row) {
+        if change.line.number() != *number || change.level != *level {
+            return false;
+        }
+    }
+    true
+}
+
+/// Whether a recording has this opening and these steps.
+fn is_recorded(capture: &Capture, opening: &Lines, rows: &[Row]) -> bool {
+    let steps = capture.steps();
+    if *capture.opening() != *opening || steps.len() != rows.len() {
+        return false;
+    }
+    for (step, (time, row)) in steps.iter().zip(rows) {
+        if step.time != *time || !has_changes(step, row) {
+            return false;
+        }
+    }
+    true
+}
+
+#[test]
+fn worked_recordings_settle(rt: HostRuntime) -> Result<(), Fail> {
+    let opening = high_lines().ok_or("no such lines")?;
+    for (rows, skew, settled) in WORKED {
+        let capture = recorded(rt.alloc(), rows)?.ok_or("malformed")?;
+        let made = settle(rt.alloc(), &capture, skew)?;
+        assert!(rt;
+            is_recorded(&made, &opening, settled),
+            "{skew} {}",
+            rows.len()
+        );
+        assert!(rt;
+            is_recorded(&capture, &opening, rows),
+            "{skew} {}",
+            rows.len()
+        );
+    }
+    Ok(())
+}
+
+/// What is settled settles to itself where its steps lie more than the skew apart.
+#[test]
+fn what_is_settled_stays(rt: HostRuntime) -> Result<(), Fail> {
+    let opening = high_lines().ok_or("no such lines")?;
+    let capture = recorded(rt.alloc(), &MANY)?.ok_or("malformed")?;
+    let once = settle(rt.alloc(), &capture, 4)?;
+    let twice = settle(rt.alloc(), &once, 4)?;
+    assert!(rt; is_recorded(&twice, &opening, &MANY_AT_ONCE));
+    Ok(())
+}
+
+/// Run with each allocation refused in turn, this shows that the answer is then want of memory, and else the recording.
+#[test]
+fn want_of_memory_is_the_error(rt: HostRuntime) {
+    let Ok(Some(capture)) = recorded(rt.alloc(), &MANY) else {
+        return;
+    };
+    let Some(opening) = high_lines() else {
+        return;
+    };
+    if let Ok(made) = settle(rt.alloc(), &capture, 4) {
+        assert!(rt; is_recorded(&made, &opening, &MANY_AT_ONCE));
+    }
+}
