@@ -5,22 +5,25 @@ ghost use Rattle.vcd_read.specs.Meaning.{dump_of};
 ghost use Rattle.vme_answer.specs.Answers.{dump_read, or_bad_dump};
 ghost use Rattle.vme_answer.specs.Ends.{Ends};
 ghost use Rattle.vme_stream.specs.Inputs.{IsReading};
-ghost use Rattle.vme_commands.specs.TextAnswers.{IsBindingFor, text_answer_by};
+ghost use Rattle.vme_stream.specs.Outputs.{TriesToWrite};
+ghost use Rattle.vme_commands.specs.TextAnswers.{IsBindingFor, binding_answer};
 ghost use Rattle.vme_answer.specs.declared.refusal.Refusal.{Refusal};
+ghost use Rattle.vme_find.specs.declared.writing.FoundBinding.{FoundBinding as Found};
 
-use crate::telling::tell_text;
 use std::alloc::Global;
-use vme_answer::{Input, Refusal};
-use vme_find::write_binding;
-use vme_stream::read_all;
-use vme_text::Text;
+use vme_answer::{Input, Refusal, cannot_write_line, refusal_line};
+use vme_find::{FoundBinding, write_binding};
+use vme_stream::{complain, read_all, write_all};
 use vme_trace::{Sink, Source};
 
-/// Writes to `out` a binding for a dump, of so many slots, 1 to 21, or of those that the daisy chains show; or to `err`
-/// why the dump can't be read, as `check` says it. The answer is the exit status: 0, 3 where the dump is refused, 4 for
-/// want of memory, 5 where the binding can't be written.
+/// Writes to `out` a binding for a dump, of so many slots, 1 to 21, or of those that the daisy chains show, and to
+/// `err` one line that says what was bound; or to `err` why the dump can't be read, as `check` says it. The answer is
+/// the exit status: 0; 7 where AS, a strobe or DTACK wasn't found, or AS never moves, so that a check by the binding
+/// judges nothing, and the line says why; 3 where the dump is refused, 4 for want of memory, 5 where the binding
+/// can't be written.
 ///
-/// What it writes is a binding by the format, and it makes a recording of the dump without a fault.
+/// What it writes is a binding by the format, and it makes a recording of the dump without a fault. A failure of `err`
+/// is ignored.
 pub fn bind<D: Source, O: Sink, E: Sink>(
     alloc: Global,
     dump: &mut D,
@@ -28,17 +31,55 @@ pub fn bind<D: Source, O: Sink, E: Sink>(
     out: &mut O,
     err: &mut E,
 ) -> u8
-    ensures { (bytes : Option (List ℕ)) × (made : Result (List ℕ) Refusal)
+    ensures { (bytes : Option (List ℕ)) × (made : Result Found Refusal)
         × IsReading (D.reading dump.old) (D.reading dump.new) bytes
         × IsBindingFor (dump_read bytes) made
-        × Ends (text_answer_by 0 made)
+        × Ends (binding_answer made)
         (O.writing out.old, O.writing out.new) (E.writing err.old, E.writing err.new) result }
 {
     let made = binding_for(alloc, dump, slots);
-    tell_text(&made, 0, out, err)
+    tell_binding(&made, out, err)
 }
 
-fn binding_for<D: Source>(alloc: Global, dump: &mut D, slots: Option<u8>) -> Result<Text, Refusal>
+/// Writes a binding to `out` and what is said of it to `err`, or to `err` why there is none.
+fn tell_binding<O: Sink, E: Sink>(
+    made: &Result<FoundBinding, Refusal>,
+    out: &mut O,
+    err: &mut E,
+) -> u8
+    ensures { Ends (binding_answer made.now)
+        (O.writing out.old, O.writing out.new) (E.writing err.old, E.writing err.new) result }
+{
+    match made {
+        Ok(found) => match write_all(out, found.text.as_bytes()) {
+            Ok(()) => {
+                say(err, found.told.as_bytes());
+                if found.is_bus { 0 } else { 7 }
+            }
+            Err(_) => {
+                complain(err, cannot_write_line());
+                5
+            }
+        },
+        Err(refusal) => {
+            complain(err, refusal_line(refusal));
+            refusal.status()
+        }
+    }
+}
+
+/// Writes what is said of a binding. Where that fails, nothing else is done.
+fn say<W: Sink>(sink: &mut W, line: &[u8])
+    ensures { TriesToWrite (W.writing sink.old) (W.writing sink.new) line.now }
+{
+    let _ = write_all(sink, line);
+}
+
+fn binding_for<D: Source>(
+    alloc: Global,
+    dump: &mut D,
+    slots: Option<u8>,
+) -> Result<FoundBinding, Refusal>
     ensures { (bytes : Option (List ℕ))
         × IsReading (D.reading dump.old) (D.reading dump.new) bytes
         × IsBindingFor (dump_read bytes) result }
@@ -49,11 +90,11 @@ fn binding_for<D: Source>(alloc: Global, dump: &mut D, slots: Option<u8>) -> Res
     }
 }
 
-fn binding_for_text(alloc: Global, dump: &[u8], slots: Option<u8>) -> Result<Text, Refusal>
+fn binding_for_text(alloc: Global, dump: &[u8], slots: Option<u8>) -> Result<FoundBinding, Refusal>
     ensures { IsBindingFor (or_bad_dump (dump_of dump.now)) result }
 {
     match write_binding(alloc, dump, slots) {
-        Ok(text) => Ok(text),
+        Ok(found) => Ok(found),
         Err(fault) => Err(Refusal::of_capture(fault)),
     }
 }

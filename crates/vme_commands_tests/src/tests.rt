@@ -684,7 +684,7 @@ fn an_explanation_begins_with_the_verdict(rt: HostRuntime) -> Result<(), Fail> {
 fn a_binding_is_written(rt: HostRuntime) -> Result<(), Fail> {
     let dump = dump_of(rt.alloc(), HEAD, BODY)?;
     let mut out = Page::new(rt.alloc(), 5000);
-    let mut err = Page::new(rt.alloc(), 100);
+    let mut err = Page::new(rt.alloc(), 200);
     let status = bind(
         rt.alloc(),
         &mut Bytes::new(dump.as_bytes()),
@@ -695,7 +695,31 @@ fn a_binding_is_written(rt: HostRuntime) -> Result<(), Fail> {
     let head =
         b"# Found by the names in the scope bus: look each line over.\nslots 1\nAS = bus.AS\n";
     assert!(rt; out.bytes.as_slice().starts_with(head));
-    assert!(rt; err.bytes.is_empty() && status == 0);
+    let told =
+        "vmecheck: bound 6 of 19 groups in scope bus, 1 slot; not found: LWORD WRITE BBSY AM A D SYSRESET BR \
+BG0 BG1 BG2 BG3 IA\n";
+    assert!(rt; err.bytes.as_slice() == told.as_bytes() && status == 0);
+    Ok(())
+}
+
+#[test]
+fn a_binding_without_a_bus_ends_with_a_status_of_its_own(rt: HostRuntime) -> Result<(), Fail> {
+    let mut out = Page::new(rt.alloc(), 5000);
+    let mut err = Page::new(rt.alloc(), 200);
+    let status = bind(
+        rt.alloc(),
+        &mut Bytes::new(UNBOUND.as_bytes()),
+        None,
+        &mut out,
+        &mut err,
+    );
+    assert!(rt; out.bytes.as_slice().starts_with(b"# NOTHING IS BOUND: "));
+    assert!(rt;
+        err.bytes
+            .as_slice()
+            .starts_with(b"vmecheck: bound 0 of 19 groups: ")
+    );
+    assert_eq!(rt; status, 7);
     Ok(())
 }
 

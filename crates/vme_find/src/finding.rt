@@ -70,6 +70,19 @@ impl Findings {
             .unwrap_or(false)
     }
 
+    /// The groups of which a line was found.
+    pub(crate) fn groups(&self) -> Groups {
+        let mut groups: Groups = 0;
+        for number in 0..LINE_COUNT {
+            if let Some(line) = Line::from_number(number) {
+                if self.tap(line).is_some() {
+                    groups |= group_of(line);
+                }
+            }
+        }
+        groups
+    }
+
     /// Lets go of what was found for a line.
     pub(crate) fn forget(&mut self, line: Line) {
         if let Some(tap) = self.taps.get_mut(usize::from(line.number())) {

@@ -1,6 +1,7 @@
 //! What the lines that weren't found are bound to, so that it fits what was found.
 
 use crate::finding::{Findings, VariableBit};
+use crate::groups::Groups;
 use vme_trace::{LINE_COUNT, Line, MOST_SLOTS};
 
 /// Why lines that were found, or a whole part of the bus, are bound to what they show at rest.
@@ -27,6 +28,8 @@ pub(crate) struct Fitted {
     pub has_chain: bool,
     /// The code that the address modifier lines show where they weren't found.
     pub code: u8,
+    /// The groups of which a line was found, bound or not.
+    pub named: Groups,
 }
 
 impl Fitted {
@@ -36,6 +39,7 @@ impl Fitted {
             arbitration: arbitration(&found),
             has_chain: found.tap(Line::IACK).is_some() && found.tap(Line::iack(1)).is_some(),
             code: code_for(&found),
+            named: found.groups(),
             found,
             low: [false; LINE_COUNT as usize],
         };

@@ -317,6 +317,24 @@ impl<'a> Proposal<'a> {
         )
     }
 
+    /// How many of some lines are bound to variables: all, where they are bits of one variable that can be named at
+    /// once, or else those whose bit can be named.
+    pub(crate) fn count_bound(&self, first: u8, count: u8) -> u8 {
+        if let Some(tap) = self.run(first, count) {
+            let naming = self.paths.naming(tap.variable, tap.place, u32::from(count));
+            if matches!(naming, Naming::Whole | Naming::Selected) {
+                return count;
+            }
+        }
+        let mut bound: u8 = 0;
+        for place in 0..count {
+            if self.is_named(first, place) {
+                bound = bound.saturating_add(1);
+            }
+        }
+        bound
+    }
+
     /// Whether the format can name a bit that was found for any line.
     fn is_any_named(&self) -> bool {
         (0..LINE_COUNT).any(|number| self.is_named(number, 0))
@@ -441,6 +459,11 @@ impl<'a> Proposal<'a> {
             }
         }
         self.text.push(b"\n")
+    }
+
+    /// What was found, and what the other lines are bound to.
+    pub(crate) fn fitted(&self) -> &Fitted {
+        self.fitted
     }
 
     /// The text.

@@ -11,24 +11,42 @@ use crate::fitting::Fitted;
 use crate::levels_seen::LevelsSeen;
 use crate::paths::Paths;
 use crate::proposal::Proposal;
+use crate::told::{is_bus, told, told_constants};
 use std::alloc::{AllocError, Global};
 use vcd_read::{FaultKind, VcdFault, read_definitions};
 use vme_bind::{BindFault, BindKind, Binding, CaptureFault, read_binding};
 use vme_text::Text;
 
-/// Writes a binding for the text of a dump: the lines that are found by the names of its variables, and the others as
+/// A binding for a dump, and what is to be said of it.
+#[derive(Drop)]
+pub struct FoundBinding {
+    /// The text of the binding.
+    pub text: Text,
+    /// A line for people, from `vmecheck: ` to its end: how many of the 19 groups of lines are bound to variables, in
+    /// which scope, which aren't, and why a check by the binding judges nothing, if so.
+    pub told: Text,
+    /// Whether AS, a strobe and DTACK are bound to variables, and AS moves in the dump: else a check by the binding
+    /// judges no cycle.
+    pub is_bus: bool,
+}
+
+/// Finds a binding for the text of a dump: the lines that are found by the names of its variables, and the others as
 /// constants that fit these, with a comment. The slots are those that are told, or else those of the daisy chains.
 ///
 /// What it writes is a binding by the format, of so many slots, and it makes a recording of the dump. A fault of the
 /// dump is its first one; at line 0 it is want of memory. A fault of the binding comes only if even the binding of
 /// constants makes no recording.
-pub fn write_binding(alloc: Global, dump: &[u8], slots: Option<u8>) -> Result<Text, CaptureFault>
-    ensures ok { IfOk result (λ text. MakesRecording text dump.now) }
-    ensures slots { IfOk result (λ text. IfSome slots (λ n. HasSlots n text)) }
+pub fn write_binding(
+    alloc: Global,
+    dump: &[u8],
+    slots: Option<u8>,
+) -> Result<FoundBinding, CaptureFault>
+    ensures ok { IfOk result (λ found. MakesRecording found.text dump.now) }
+    ensures slots { IfOk result (λ found. IfSome slots (λ n. HasSlots n found.text)) }
     ensures err { IfErr result (IsDumpFault dump.now) }
 {
     match found_binding(alloc, dump, slots) {
-        Ok(Some(text)) => Ok(text),
+        Ok(Some(found)) => Ok(found),
         Ok(None) => Err(CaptureFault::Binding(BindFault {
             line: 0,
             kind: BindKind::TooManySteps,
@@ -38,14 +56,18 @@ pub fn write_binding(alloc: Global, dump: &[u8], slots: Option<u8>) -> Result<Te
 }
 
 /// The same, by the fault of the dump; nothing where even the binding of constants makes no recording.
-fn found_binding(alloc: Global, dump: &[u8], slots: Option<u8>) -> Result<Option<Text>, VcdFault>
-    ensures ok { IfOk result (λ o. IfSome o (λ text. MakesRecording text dump.now)) }
-    ensures slots { IfOk result (λ o. IfSome o (λ text. IfSome slots (λ n. HasSlots n text))) }
+fn found_binding(
+    alloc: Global,
+    dump: &[u8],
+    slots: Option<u8>,
+) -> Result<Option<FoundBinding>, VcdFault>
+    ensures ok { IfOk result (λ o. IfSome o (λ found. MakesRecording found.text dump.now)) }
+    ensures slots { IfOk result (λ o. IfSome o (λ found. IfSome slots (λ n. HasSlots n found.text))) }
     ensures err { IfErr result (λ fault. ReadFails fault (dump_of dump.now)) }
 {
     match proposed(alloc, dump, slots) {
-        Ok(Some(text)) => match fits(alloc, &text, dump, slots) {
-            Ok(true) => Ok(Some(text)),
+        Ok(Some(found)) => match fits(alloc, &found.text, dump, slots) {
+            Ok(true) => Ok(Some(found)),
             Ok(false) => constants(alloc, dump, slots),
             Err(fault) => Err(fault),
         },
@@ -101,14 +123,18 @@ fn or_memory(kind: BindKind) -> Result<bool, VcdFault>
 }
 
 /// The binding of all lines to constants, if it makes a recording of the dump.
-fn constants(alloc: Global, dump: &[u8], slots: Option<u8>) -> Result<Option<Text>, VcdFault>
-    ensures ok { IfOk result (λ o. IfSome o (λ text. MakesRecording text dump.now)) }
-    ensures slots { IfOk result (λ o. IfSome o (λ text. IfSome slots (λ n. HasSlots n text))) }
+fn constants(
+    alloc: Global,
+    dump: &[u8],
+    slots: Option<u8>,
+) -> Result<Option<FoundBinding>, VcdFault>
+    ensures ok { IfOk result (λ o. IfSome o (λ found. MakesRecording found.text dump.now)) }
+    ensures slots { IfOk result (λ o. IfSome o (λ found. IfSome slots (λ n. HasSlots n found.text))) }
     ensures err { IfErr result (λ fault. ReadFails fault (dump_of dump.now)) }
 {
-    match constant_text(alloc, slots.unwrap_or(1)) {
-        Ok(text) => match fits(alloc, &text, dump, slots) {
-            Ok(true) => Ok(Some(text)),
+    match constant_binding(alloc, slots.unwrap_or(1)) {
+        Ok(found) => match fits(alloc, &found.text, dump, slots) {
+            Ok(true) => Ok(Some(found)),
             Ok(false) => Ok(None),
             Err(fault) => Err(fault),
         },
@@ -128,9 +154,18 @@ fn constant_text(alloc: Global, slots: u8) -> Result<Text, AllocError> {
     Ok(text)
 }
 
+/// The same, and what is said of it.
+fn constant_binding(alloc: Global, slots: u8) -> Result<FoundBinding, AllocError> {
+    Ok(FoundBinding {
+        text: constant_text(alloc, slots)?,
+        told: told_constants(alloc)?,
+        is_bus: false,
+    })
+}
+
 /// Nothing is proposed for a dump with a fault. Where that is want of memory it stays so: constants don't stand for
 /// what couldn't be looked for.
-fn nothing_by(fault: VcdFault) -> Result<Option<Text>, AllocError>
+fn nothing_by(fault: VcdFault) -> Result<Option<FoundBinding>, AllocError>
     ensures { OnOk result (fault.kind ≢ Memory) }
 {
     match fault.kind {
@@ -140,7 +175,11 @@ fn nothing_by(fault: VcdFault) -> Result<Option<Text>, AllocError>
 }
 
 /// What is proposed for a dump, unless the dump has a fault.
-fn proposed(alloc: Global, dump: &[u8], slots: Option<u8>) -> Result<Option<Text>, AllocError> {
+fn proposed(
+    alloc: Global,
+    dump: &[u8],
+    slots: Option<u8>,
+) -> Result<Option<FoundBinding>, AllocError> {
     let reader = NamesReader::new(alloc)?;
     let (head, reader) = match read_definitions(alloc, dump, reader) {
         Ok(read) => read,
@@ -161,5 +200,11 @@ fn proposed(alloc: Global, dump: &[u8], slots: Option<u8>) -> Result<Option<Text
     let fitted = Fitted::new(found);
     let mut proposal = Proposal::new(alloc, &paths, &fitted);
     proposal.write(slots)?;
-    Ok(Some(proposal.into_text()))
+    let told = told(alloc, &proposal, slots)?;
+    let is_bus = is_bus(&proposal);
+    Ok(Some(FoundBinding {
+        text: proposal.into_text(),
+        told,
+        is_bus,
+    }))
 }

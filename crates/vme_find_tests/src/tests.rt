@@ -24,10 +24,11 @@ fn variables_are_listed(rt: HostRuntime) -> Result<(), Fail> {
 #[test]
 fn a_variable_is_found_by_its_name(rt: HostRuntime) -> Result<(), Fail> {
     match write_binding(rt.alloc(), DUMP.as_bytes(), Some(2)) {
-        Ok(text) => {
+        Ok(found) => {
             let head =
                 b"# Found by the names in the scope bus: look each line over.\nslots 2\nAS = bus.as_n\n";
-            assert!(rt; text.as_bytes().starts_with(head));
+            assert!(rt; found.text.as_bytes().starts_with(head));
+            assert!(rt; !found.is_bus);
         }
         Err(_) => assert!(rt; false),
     }
@@ -43,8 +44,10 @@ fn each_growth_fails_once(rt: HostRuntime) -> Result<(), Fail> {
         kind: FaultKind::Memory,
     };
     match write_binding(rt.alloc(), DUMP.as_bytes(), Some(2)) {
-        Ok(text) => assert!(rt;
-            text.as_bytes()
+        Ok(found) => assert!(rt;
+            found
+                .text
+                .as_bytes()
                 .starts_with(b"# Found by the names in the scope bus")
         ),
         Err(CaptureFault::Dump(fault)) => assert_eq!(rt; fault, no_memory),
@@ -56,9 +59,49 @@ fn each_growth_fails_once(rt: HostRuntime) -> Result<(), Fail> {
 /// Whether the binding that is found for a dump has a text.
 fn binding_has(alloc: Global, dump: &str, part: &str) -> bool {
     match write_binding(alloc, dump.as_bytes(), None) {
-        Ok(text) => memmem::find(text.as_bytes(), part.as_bytes()).is_some(),
+        Ok(found) => memmem::find(found.text.as_bytes(), part.as_bytes()).is_some(),
         Err(_) => false,
     }
+}
+
+/// Whether just this is said of the binding that is found for a dump, and whether it is said to be a bus's.
+fn binding_is_told(alloc: Global, dump: &str, told: &str, is_bus: bool) -> bool {
+    match write_binding(alloc, dump.as_bytes(), None) {
+        Ok(found) => found.told.as_bytes() == told.as_bytes() && found.is_bus == is_bus,
+        Err(_) => false,
+    }
+}
+
+/// A handshake, the address modifier without its upper bits, and BBSY, but no grant.
+const HANDSHAKE: &str = "$scope module bus $end\n$var wire 1 a AS $end\n$var wire 1 b DS0 $end\n\
+$var wire 1 c DTACK $end\n$var wire 1 d AM0 $end\n$var wire 1 e BBSY $end\n\
+$upscope $end\n$enddefinitions $end\n#0 1a 1b 1c 1d 1e\n#5 0a\n";
+
+#[test]
+fn what_is_bound_is_told(rt: HostRuntime) -> Result<(), Fail> {
+    let alloc = rt.alloc();
+    let told =
+        "vmecheck: bound 3 of 19 groups in scope bus, 1 slot; not found: DS1 BERR IACK LWORD WRITE A D \
+SYSRESET BR BG0 BG1 BG2 BG3 IA; in part: AM; found, but bound to constants: BBSY\n";
+    assert!(rt; binding_is_told(alloc, HANDSHAKE, told, true));
+    Ok(())
+}
+
+#[test]
+fn a_dump_without_a_bus_is_told(rt: HostRuntime) -> Result<(), Fail> {
+    let alloc = rt.alloc();
+    let clock = "$var wire 1 p clock $end\n$enddefinitions $end\n#0 1p\n";
+    let told =
+        "vmecheck: bound 0 of 19 groups: no variable of the dump is named as a line of a VMEbus: bind the \
+lines by hand, `vmecheck variables` lists the variables\n";
+    assert!(rt; binding_is_told(alloc, clock, told, false));
+    let still = "$var wire 1 a AS $end\n$var wire 1 b DS1 $end\n$var wire 1 c DTACK $end\n\
+$enddefinitions $end\n#0 1a 1b 1c\n#5 0c\n";
+    let told =
+        "vmecheck: bound 3 of 19 groups outside of all scopes, 1 slot; not found: DS0 BERR IACK LWORD WRITE \
+BBSY AM A D SYSRESET BR BG0 BG1 BG2 BG3 IA; AS never moves in the dump, so no cycle is judged\n";
+    assert!(rt; binding_is_told(alloc, still, told, false));
+    Ok(())
 }
 
 #[test]

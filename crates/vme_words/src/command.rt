@@ -35,7 +35,8 @@ Exit status:
   2  unreadable, or never idle
   3  an input is refused, or the words are wrong
   4  want of memory
-  5  standard output or a file can't be written";
+  5  standard output or a file can't be written
+  7  the binding that was written has no bus to judge";
 
 /// The program, with a subcommand for each task.
 pub fn vmecheck_command<'a>(alloc: Global) -> Result<Command<'a>, AllocError>
