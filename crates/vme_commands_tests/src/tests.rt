@@ -815,9 +815,16 @@ $upscope $end\n$enddefinitions $end\n#0 1p b111101 q\n#3 b111110 q\n#5 0p\n";
     };
     let text = str::from_utf8(viewer.as_bytes()).unwrap_or("");
     assert!(rt;
-        text.contains("\n[timestart] 0\n*-5.000000 50 -1 "),
+        text.contains("\n[timestart] 0\n*-6.000000 50 -1 "),
         "{text}"
     );
-    assert!(rt; text.contains("\n@28\nb.AS\n@22\nb.AM[5:0]\n"), "{text}");
+    assert!(rt;
+        text.contains("\n-the broken line\n@28\nb.AS\n@200\n-handshake\n@28\nb.AS\n"),
+        "{text}"
+    );
+    assert!(rt;
+        text.contains("\n-address and data\n@22\nb.AM[5:0]\n"),
+        "{text}"
+    );
     Ok(())
 }

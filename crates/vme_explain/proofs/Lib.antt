@@ -1,1 +1,2 @@
 pub mod ExcerptLemmas
+pub mod OtherLemmas

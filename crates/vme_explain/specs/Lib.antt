@@ -1,2 +1,5 @@
 pub mod Marks
+pub mod Others
 pub mod Rows
+pub mod Saving
+pub mod Visible

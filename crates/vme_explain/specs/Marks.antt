@@ -1,5 +1,5 @@
 -- The levels of a recording at some instants, as characters.
-use Rattle.std.specs.Prelude.{ℕ, ◌+◌, ◌-◌, List, map, if◌then◌else◌}
+use Rattle.std.specs.Prelude.{ℕ, ◌+◌, ◌-◌, ◌++◌, ◌∷◌, [], List, codes, map, if◌then◌else◌}
 use Rattle.std.specs.List.{range_with_len}
 use Rattle.vme_trace.specs.Levels.{Levels, level_at}
 use Rattle.vme_trace.specs.LineNumbers.{has_line}
@@ -20,3 +20,7 @@ mark_on l v = if has_line v.slots l then mark_of (level_at v l) else 32
 -- the levels at so many instants, from one on
 abbrev pub levels_of : Trace → ℕ → ℕ → List Levels
 levels_of t first count = map (levels_at t) (range_with_len first count)
+
+-- how a save file for the waveform viewer begins
+abbrev pub save_file_mark : List ℕ
+save_file_mark = codes "[*] written by vmecheck explain" ++ 10 ∷ []

@@ -32,7 +32,7 @@ fn levels_at(capture: &Capture, instant: usize) -> Lines
 }
 
 /// Makes the levels of an instant those of the next one.
-fn advance(capture: &Capture, lines: &mut Lines, instant: usize)
+pub(crate) fn advance(capture: &Capture, lines: &mut Lines, instant: usize)
     requires { lines.old ≡ levels_at capture.now instant }
     ensures { lines.new ≡ levels_at capture.now (instant + 1) }
 {

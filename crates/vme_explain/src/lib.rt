@@ -6,16 +6,26 @@
 //! proved. [`save_file`] writes a file for the waveform viewer GTKWave. Start reading at `page`.
 #![tactic(auto)]
 
+mod broken;
 mod excerpt;
 mod idle;
+mod other;
 mod page;
 mod rows;
+mod saving;
 mod shown;
 mod sources;
 mod summary;
+mod values;
 mod viewer;
+mod visible;
+mod wrapping;
 
 pub use excerpt::{levels_from, marks_of, time_at};
+pub use other::{
+    Occurrence, Other, StepEvent, asked_first, asked_second, first_of, instant_of, last_of,
+};
 pub use page::{Subject, explanation};
 pub use rows::{Part, RowKind, count_of, open_row};
-pub use viewer::save_file;
+pub use saving::{FileId, Present, SaveRefusal, save_refusal, save_refusal_text};
+pub use viewer::{is_save_file, save_file};

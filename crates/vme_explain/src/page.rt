@@ -1,10 +1,13 @@
 //! The text that explains a verdict.
 
+use crate::broken::{push_driver, push_others};
 use crate::excerpt::{levels_from, marks_of, time_at};
 use crate::rows::{Part, open_row};
 use crate::shown::lines_shown;
 use crate::sources::{bound_to, push_variable};
 use crate::summary::{push_never_idle, push_summary};
+use crate::values::{ValueRow, push_value, value_rows};
+use crate::wrapping::{LONGEST, wrapped};
 use std::alloc::{AllocError, Global};
 use vcd_read::Variable;
 use vme_listing::{AnswerLine, Direction, Row, data_digits};
@@ -16,6 +19,9 @@ use vme_trace::{Break, Capture, Class, Lanes, Line, Lines, Verdict};
 const BEFORE: u32 = 8;
 
 const BEHIND: u32 = 3;
+
+/// How many characters the names of rows take.
+const NAMES: usize = 8;
 
 /// What is explained.
 #[derive(Clone, Copy)]
@@ -44,7 +50,7 @@ pub fn explanation(alloc: Global, subject: &Subject<'_>) -> Result<Text, AllocEr
         Verdict::Conforming => push_summary(&mut text, alloc, subject)?,
         Verdict::NeverIdle => push_never_idle(&mut text, alloc, subject)?,
     }
-    Ok(text)
+    wrapped(alloc, text.as_bytes())
 }
 
 /// Why and where a rule is broken.
@@ -59,6 +65,7 @@ fn push_break(
     text.push(b"\nopen before the break:\n")?;
     push_open(text, alloc, subject)?;
     push_line_value(text, alloc, subject, found)?;
+    push_others(text, alloc, subject, found)?;
     text.push(b"\n")?;
     push_excerpt(text, alloc, subject, found)
 }
@@ -270,10 +277,11 @@ fn push_line_value(
         text.push(&[*now])?;
         text.push(b" at the break")?;
     }
+    push_driver(text, alloc, found.line)?;
     text.push(b"\n")
 }
 
-/// Appends the levels of some lines around a break.
+/// Appends the levels of some lines around a break, and the values of the buses.
 fn push_excerpt(
     text: &mut Text,
     alloc: Global,
@@ -285,34 +293,55 @@ fn push_excerpt(
     let last = found.instant.saturating_add(BEHIND).min(end);
     let first = found.instant.saturating_sub(BEFORE).min(last);
     let levels = levels_from(alloc, capture, first as usize, last as usize)?;
-    let width = column_width(alloc, time_at(capture, last))?;
+    let values = value_rows(alloc, subject.binding, levels.as_slice())?;
+    let width = column_width(alloc, time_at(capture, last), &values)?;
+    // as many of the instants as fit a line
+    let columns = ((LONGEST - NAMES) / width.max(1)).max(1);
+    let left_out = levels
+        .len()
+        .saturating_sub(columns)
+        .min(found.instant.saturating_sub(first) as usize);
+    let first = first.saturating_add(left_out as u32);
+    let levels = &levels.as_slice()[left_out.min(levels.len())..];
     push_header(text, alloc, capture, b"instant", first, last, width)?;
     push_header(text, alloc, capture, b"time", first, last, width)?;
     let slots = capture.opening().slots();
-    for line in &lines_shown(alloc, found.rule, found.line, slots, levels.as_slice())? {
-        push_levels(text, alloc, *line, levels.as_slice(), width)?;
+    for line in &lines_shown(alloc, found.rule, found.line, slots, levels)? {
+        push_levels(text, alloc, *line, levels, width)?;
+    }
+    for row in &values {
+        push_padded(text, row.name.as_bytes())?;
+        for place in left_out..left_out.saturating_add(levels.len()) {
+            push_value(text, row, place, width)?;
+        }
+        text.push(b"\n")?;
     }
     push_padded(text, b"")?;
-    let columns = found.instant.saturating_sub(first) as usize;
+    let before = found.instant.saturating_sub(first) as usize;
     text.push_spaces(
-        columns
+        before
             .saturating_mul(width)
             .saturating_add(width.saturating_sub(1)),
     )?;
     text.push(b"^\n")
 }
 
-/// How many characters a column takes, if this is the greatest time in it.
-fn column_width(alloc: Global, time: u64) -> Result<usize, AllocError> {
+/// How many characters a column takes, if this is the greatest time in it: one more than the longest value or time, and
+/// at least two more than the time.
+fn column_width(alloc: Global, time: u64, values: &[ValueRow]) -> Result<usize, AllocError> {
     let mut digits = Text::new(alloc);
     digits.push_decimal(alloc, time)?;
-    Ok(digits.as_bytes().len().saturating_add(2))
+    let mut width = digits.as_bytes().len().saturating_add(2);
+    for row in values {
+        width = width.max(row.width.saturating_add(1));
+    }
+    Ok(width)
 }
 
 /// Appends the name of a row, as wide as the longest.
 fn push_padded(text: &mut Text, name: &[u8]) -> Result<(), AllocError> {
     text.push(name)?;
-    text.push_spaces(8usize.saturating_sub(name.len()))
+    text.push_spaces(NAMES.saturating_sub(name.len()))
 }
 
 /// Appends the instants from a first to a last one, or their times.

@@ -175,3 +175,23 @@ pub(crate) fn last_reset(rows: &[Row]) -> Option<u32> {
         _ => None,
     }
 }
+
+/// The instant of the last start of a listing.
+pub(crate) fn last_start(rows: &[Row]) -> Option<u32> {
+    let found = rows
+        .iter()
+        .rev()
+        .copied()
+        .find(|row| matches!(row, Row::Start { .. }))?;
+    match found {
+        Row::Start { instant } => Some(instant),
+        _ => None,
+    }
+}
+
+/// The tenure that starts at an instant.
+pub(crate) fn tenure_at(rows: &[Row], instant: u32) -> Option<Row> {
+    rows.iter().rev().copied().find(
+        |row| matches!(row, Row::Tenure { start, .. } if *start == instant),
+    )
+}

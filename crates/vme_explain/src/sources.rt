@@ -1,5 +1,6 @@
 //! What the lines of a backplane are bound to, read off the text of a binding.
 
+use crate::visible::push_shown;
 use std::alloc::{AllocError, Global};
 use vcd_read::Variable;
 use vme_find::bit_number;
@@ -113,6 +114,43 @@ fn leftmost(selection: &[u8]) -> Option<(u32, bool)> {
     Some((numbers[0], at == 0 || numbers[0] >= numbers[1]))
 }
 
+/// The number of the bit of a variable that a line is bound to, if the variable has numbers, or some are selected.
+fn bit_of(bound: &Bound<'_>, variables: &[Variable]) -> Option<u32> {
+    let (path, selection) = path_of(bound.source);
+    if !selection.is_empty() {
+        if let Some((left, is_downwards)) = leftmost(selection) {
+            return Some(if is_downwards {
+                left.saturating_sub(bound.place)
+            } else {
+                left.saturating_add(bound.place)
+            });
+        }
+    }
+    match variable_of(path, variables) {
+        Some(variable) if variable.index.is_some() => Some(bit_number(variable, bound.place)),
+        _ => None,
+    }
+}
+
+/// The variable of a path.
+pub(crate) fn variable_of<'a>(path: &[u8], variables: &'a [Variable]) -> Option<&'a Variable> {
+    variables
+        .iter()
+        .find(|variable| variable.path.as_bytes() == path)
+}
+
+/// How many bits of its variable stand on the left of the one that a line is bound to.
+pub(crate) fn bits_before(bound: &Bound<'_>, variables: &[Variable]) -> u32 {
+    let (path, _) = path_of(bound.source);
+    match (bit_of(bound, variables), variable_of(path, variables)) {
+        (Some(bit), Some(variable)) => match variable.index {
+            Some((left, _)) => left.abs_diff(bit),
+            None => bound.place,
+        },
+        _ => bound.place,
+    }
+}
+
 /// Appends the variable of a line, with the index of its bit.
 pub(crate) fn push_variable(
     text: &mut Text,
@@ -120,18 +158,9 @@ pub(crate) fn push_variable(
     bound: &Bound<'_>,
     variables: &[Variable],
 ) -> Result<(), AllocError> {
-    let (path, selection) = path_of(bound.source);
-    text.push(path)?;
-    let declared = variables
-        .iter()
-        .find(|variable| variable.path.as_bytes() == path);
-    let bit = match (leftmost(selection), declared) {
-        (Some((left, true)), _) if !selection.is_empty() => Some(left.saturating_sub(bound.place)),
-        (Some((left, false)), _) if !selection.is_empty() => Some(left.saturating_add(bound.place)),
-        (_, Some(variable)) if variable.index.is_some() => Some(bit_number(variable, bound.place)),
-        _ => None,
-    };
-    match bit {
+    let (path, _) = path_of(bound.source);
+    push_shown(text, alloc, path)?;
+    match bit_of(bound, variables) {
         Some(bit) => {
             text.push(b"[")?;
             text.push_decimal(alloc, u64::from(bit))?;

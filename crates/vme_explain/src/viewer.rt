@@ -1,8 +1,13 @@
 //! A save file for the waveform viewer GTKWave.
 
+ghost use Rattle.std.specs.Prelude.{◌≡◌, ◌++◌, ℕ, IfOk, List, nat_eq};
+ghost use Rattle.std.specs.List.{starts_with};
+ghost use Rattle.vme_explain.specs.Marks.{save_file_mark};
+
 use crate::excerpt::time_at;
 use crate::page::Subject;
-use crate::sources::{assignment_in, path_of};
+use crate::sources::{assignment_in, bits_before, bound_to, path_of, variable_of};
+use crate::visible::push_shown;
 use std::alloc::{AllocError, Global};
 use vcd_read::Variable;
 use vme_text::Text;
@@ -11,29 +16,156 @@ use vme_trace::{Break, Verdict};
 /// How many instants before the break the picture begins.
 const BEFORE: u32 = 8;
 
-/// How many divisions of the time axis the picture is taken to have.
-const DIVISIONS: u64 = 3;
+/// The marker stands at most 300 points from the left edge of the picture: one and a half divisions of the time axis,
+/// of 200 points each. The names take 300 points, so that it is in view in a window 1,000 points wide.
+const HALF_DIVISIONS: u64 = 3;
+
+/// How a save file of this program begins.
+fn mark() -> &'static [u8]
+    ensures { result.now ≡ save_file_mark }
+{
+    b"[*] written by vmecheck explain\n"
+}
+
+/// Whether a file begins as a save file of this program.
+pub fn is_save_file(begin: &[u8]) -> bool
+    ensures { result ≡ starts_with nat_eq begin.now save_file_mark }
+{
+    begin.starts_with(mark())
+}
 
 /// The save file for a dump of this name: the bound variables, each once, and where a rule is broken a marker there.
-pub fn save_file(alloc: Global, subject: &Subject<'_>, dump: &[u8]) -> Result<Text, AllocError> {
+pub fn save_file(alloc: Global, subject: &Subject<'_>, dump: &[u8]) -> Result<Text, AllocError>
+    ensures { IfOk result (λ text. (rest : List ℕ) × (text ≡ save_file_mark ++ rest)) }
+{
     let mut text = Text::new(alloc);
-    text.push(b"[*] written by vmecheck explain\n[dumpfile] \"")?;
-    text.push(dump)?;
-    text.push(b"\"\n")?;
+    text.push(mark())?;
+    let rest = view_and_traces(alloc, subject, dump)?;
+    text.push(rest.as_bytes())?;
+    Ok(text)
+}
+
+/// Lines of one kind, which stand together in the viewer.
+struct TraceGroup {
+    name: &'static str,
+    /// How the names of a binding begin that are of this kind.
+    names: &'static [&'static str],
+}
+
+const GROUPS: [TraceGroup; 5] = [
+    TraceGroup {
+        name: "handshake",
+        names: &["AS", "DS0", "DS1", "DTACK", "BERR", "WRITE"],
+    },
+    TraceGroup {
+        name: "address and data",
+        names: &["AM", "A", "LWORD", "D"],
+    },
+    TraceGroup {
+        name: "arbitration",
+        names: &["BBSY", "BR", "BG"],
+    },
+    TraceGroup {
+        name: "interrupt acknowledge",
+        names: &["IACK", "IA"],
+    },
+    TraceGroup {
+        name: "reset",
+        names: &["SYSRESET"],
+    },
+];
+
+/// Which of the kinds a name of a binding is of: that of the longest beginning, since `BERR` begins as `B` does.
+fn group_of(name: &[u8]) -> Option<usize> {
+    let mut longest = 0;
+    let mut found = None;
+    for (place, group) in GROUPS.iter().enumerate() {
+        for begin in group.names {
+            if begin.len() > longest && name.starts_with(begin.as_bytes()) {
+                longest = begin.len();
+                found = Some(place);
+            }
+        }
+    }
+    found
+}
+
+/// What a save file has behind its mark: the variable of the broken line, and then all, by kinds, each once.
+fn view_and_traces(alloc: Global, subject: &Subject<'_>, dump: &[u8]) -> Result<Text, AllocError> {
+    let mut text = Text::new(alloc);
+    push_dump(&mut text, dump)?;
     push_view(&mut text, alloc, subject)?;
+    push_broken(&mut text, alloc, subject)?;
     let mut written: Vec<&[u8]> = Vec::new(alloc);
-    for line in subject.binding.split(|byte| *byte == b'\n') {
-        if let Some(found) = assignment_in(line) {
-            let (path, _) = path_of(found.source);
-            let is_new = !written.iter().any(|other| *other == path);
-            if is_new {
-                written.push(path)?;
-                push_traces(&mut text, alloc, subject.variables, path)?;
+    for (place, group) in GROUPS.iter().enumerate() {
+        let mut is_begun = false;
+        for line in subject.binding.split(|byte| *byte == b'\n') {
+            if let Some(found) = assignment_in(line) {
+                let (path, _) = path_of(found.source);
+                let is_new = group_of(found.name) == Some(place)
+                    && !written.iter().any(|other| *other == path)
+                    && variable_of(path, subject.variables).is_some();
+                if is_new {
+                    if !is_begun {
+                        push_heading(&mut text, group.name)?;
+                        is_begun = true;
+                    }
+                    written.push(path)?;
+                    push_traces(&mut text, alloc, subject.variables, path)?;
+                }
             }
         }
     }
     text.push(b"[pattern_trace] 1\n[pattern_trace] 0\n")?;
     Ok(text)
+}
+
+/// Appends the variable of the line of a break, if it is bound to one.
+fn push_broken(text: &mut Text, alloc: Global, subject: &Subject<'_>) -> Result<(), AllocError> {
+    let line = match subject.verdict {
+        Verdict::Broken(found) | Verdict::Unreadable(found) => found.line,
+        _ => return Ok(()),
+    };
+    let Some(bound) = bound_to(subject.binding, line, subject.capture.opening().slots()) else {
+        return Ok(());
+    };
+    let (path, _) = path_of(bound.source);
+    let Some(variable) = variable_of(path, subject.variables) else {
+        return Ok(());
+    };
+    push_heading(text, "the broken line")?;
+    if variable.size == 1 {
+        return push_traces(text, alloc, subject.variables, path);
+    }
+    // one bit of a vector
+    text.push(b"@28\n(")?;
+    let before = bits_before(&bound, subject.variables);
+    text.push_decimal(alloc, u64::from(before))?;
+    text.push(b")")?;
+    push_shown(text, alloc, path)?;
+    push_index(text, alloc, variable)?;
+    text.push(b"\n")
+}
+
+/// Appends a line that names what stands below it.
+fn push_heading(text: &mut Text, name: &str) -> Result<(), AllocError> {
+    text.push(b"@200\n-")?;
+    text.push(name.as_bytes())?;
+    text.push(b"\n")
+}
+
+/// Appends the name of the dump as it is, since the viewer opens it. A name with a quotation mark, a line feed or
+/// another control character is left out: the viewer can't read it in a save file, and is given the dump by hand.
+fn push_dump(text: &mut Text, name: &[u8]) -> Result<(), AllocError> {
+    if name
+        .iter()
+        .any(|byte| *byte < 0x20 || *byte == 0x7F || *byte == b'"')
+    {
+        return Ok(());
+    }
+    text.push(b"[dumpfile] \"")?;
+    text.push(name)?;
+    text.push(b"\"\n")
 }
 
 /// Appends where the picture begins, its scale, and the marker. The viewer counts them in the unit of the time scale.
@@ -54,7 +186,7 @@ fn push_view(text: &mut Text, alloc: Global, subject: &Subject<'_>) -> Result<()
     };
     let unit = subject.time_unit;
     let (from, to) = (from.saturating_mul(unit), to.saturating_mul(unit));
-    text.push(b"[timestart] ")?;
+    text.push(b"[sst_expanded] 0\n[signals_width] 300\n[timestart] ")?;
     text.push_decimal(alloc, from)?;
     text.push(b"\n*-")?;
     text.push_decimal(alloc, scale(to.saturating_sub(from)))?;
@@ -69,9 +201,15 @@ fn push_view(text: &mut Text, alloc: Global, subject: &Subject<'_>) -> Result<()
     text.push(b"\n")
 }
 
-/// By how many doublings of a division so much time fits into the picture.
+/// By how many doublings of a division, which is one unit of time at first, so much time fits into the picture.
 fn scale(span: u64) -> u64 {
-    u64::from(64u32.saturating_sub((span / DIVISIONS).leading_zeros()))
+    let mut doublings: u64 = 0;
+    for doubled in 0..63u32 {
+        if (HALF_DIVISIONS << doubled.min(61)) / 2 < span {
+            doublings = u64::from(doubled).saturating_add(1);
+        }
+    }
+    doublings
 }
 
 /// Appends the variables of a path, by their indices.
@@ -85,7 +223,7 @@ fn push_traces(
         if variable.path.as_bytes() == path {
             let form = if variable.size == 1 { "@28\n" } else { "@22\n" };
             text.push(form.as_bytes())?;
-            text.push(path)?;
+            push_shown(text, alloc, path)?;
             push_index(text, alloc, variable)?;
             text.push(b"\n")?;
         }

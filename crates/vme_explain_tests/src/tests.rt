@@ -1,8 +1,14 @@
+use smallvec::SmallVec;
+use std::alloc::Global;
 use std::test::Fail;
 use vcd_read::{Variables, read_definitions};
-use vme_explain::{Part, RowKind, Subject, count_of, open_row, save_file};
+use vme_explain::{
+    FileId, Occurrence, Other, Part, Present, RowKind, SaveRefusal, StepEvent, Subject,
+    asked_first, asked_second, count_of, first_of, instant_of, is_save_file, last_of, open_row,
+    save_file, save_refusal, save_refusal_text,
+};
 use vme_listing::{AnswerLine, Direction, Row};
-use vme_trace::{Break, Capture, Line, Lines, Rule, Verdict};
+use vme_trace::{Break, Capture, Change, Changes, Level, Line, Lines, Rule, Step, Verdict};
 
 /// The rows of a read that closed and of one that didn't, in a tenure of slot 2.
 const ROWS: [Row; 4] = [
@@ -98,9 +104,123 @@ fn the_viewer_counts_in_units_and_by_bits(rt: HostRuntime) -> Result<(), Fail> {
     };
     let text = save_file(rt.alloc(), &subject, b"b.vcd")?;
     let shown =
-        b"[*] written by vmecheck explain\n[dumpfile] \"b.vcd\"\n[timestart] 0\n*-5.000000 50 -1";
+        b"[*] written by vmecheck explain\n[dumpfile] \"b.vcd\"\n[sst_expanded] 0\n[signals_width] 300\n\
+[timestart] 0\n*-6.000000 50 -1";
     assert!(rt; text.as_bytes().starts_with(shown));
-    let traces = b"\n@28\nb.AS\n@22\nb.AM[5:0]\n[pattern_trace] 1\n[pattern_trace] 0\n";
+    let traces = b"\n@200\n-the broken line\n@28\nb.AS\n@200\n-handshake\n@28\nb.AS\n\
+@200\n-address and data\n@22\nb.AM[5:0]\n[pattern_trace] 1\n[pattern_trace] 0\n";
     assert!(rt; text.as_bytes().ends_with(traces));
+    assert!(rt; is_save_file(text.as_bytes()));
+    assert!(rt; !is_save_file(b"[*] GTKWave Analyzer\n"));
+    Ok(())
+}
+
+const BINDING: FileId = FileId {
+    device: 1,
+    number: 7,
+};
+
+const DUMP: FileId = FileId {
+    device: 1,
+    number: 8,
+};
+
+#[test]
+fn no_input_and_no_file_of_others_is_written_over(rt: HostRuntime) -> Result<(), Fail> {
+    let at = |device, number, is_ours| {
+        let id = FileId { device, number };
+        save_refusal(&Present::File { id, is_ours }, BINDING, DUMP)
+    };
+    assert!(rt; save_refusal(&Present::Nothing, BINDING, DUMP).is_none());
+    assert!(rt; save_refusal(&Present::Other, BINDING, DUMP) == Some(SaveRefusal::Foreign));
+    assert!(rt; at(1, 7, true) == Some(SaveRefusal::Binding));
+    assert!(rt; at(1, 8, true) == Some(SaveRefusal::Dump));
+    assert!(rt; at(2, 8, true).is_none());
+    assert!(rt; at(1, 9, false) == Some(SaveRefusal::Foreign));
+    let text = save_refusal_text(rt.alloc(), "a\u{202E}\u{1B}", SaveRefusal::Dump)?;
+    let shown = b"vmecheck: nothing is written over a\\xE2\\x80\\xAE\\x1B: it is the dump\n";
+    assert_eq!(rt; text.as_bytes(), shown.as_slice());
+    Ok(())
+}
+
+/// A recording of one slot whose lines of the handshake are High, and then change one by one, at each instant one.
+fn recorded(alloc: Global, changes: &[(Line, Level)]) -> Result<Option<Capture>, Fail> {
+    let Some(mut opening) = Lines::new(1) else {
+        return Ok(None);
+    };
+    for line in [Line::AS, Line::DS0, Line::DS1, Line::DTACK, Line::BERR] {
+        if opening.has(line) {
+            opening.set(line, Level::High);
+        }
+    }
+    let mut steps = Vec::new(alloc);
+    for (line, level) in changes {
+        let change = Change {
+            line: *line,
+            level: *level,
+        };
+        let time = (steps.len() as u64).saturating_mul(10);
+        let changes = Changes::new(SmallVec::from_slice(alloc, &[change])?);
+        steps.push(Step { time, changes })?;
+    }
+    Ok(Capture::new(opening, steps).ok())
+}
+
+#[test]
+fn the_other_event_of_a_break_is_found(rt: HostRuntime) -> Result<(), Fail> {
+    let found = recorded(
+        rt.alloc(),
+        &[
+            (Line::AS, Level::Low),
+            (Line::DS0, Level::Low),
+            (Line::DTACK, Level::Low),
+            (Line::DS0, Level::High),
+            (Line::DTACK, Level::High),
+            (Line::DS0, Level::Low),
+            (Line::BERR, Level::Low),
+            (Line::DS1, Level::Low),
+        ],
+    )?;
+    let Some(capture) = found else {
+        assert!(rt; false);
+        return Ok(());
+    };
+    // the strobe that falls at instant 8 is behind the answer at 7, of the transfer that started at 6
+    let Some(answer) = asked_first(Rule::H3, Line::DS1) else {
+        assert!(rt; false);
+        return Ok(());
+    };
+    assert!(rt; instant_of(&capture, &answer, 0, 8) == Some(7));
+    assert!(rt; instant_of(&capture, &answer, 0, 7).is_none());
+    let start = Other {
+        event: StepEvent::TransferStarts,
+        occurrence: Occurrence::Last,
+    };
+    assert!(rt; asked_first(Rule::H2, Line::DS0) == Some(start));
+    assert!(rt; instant_of(&capture, &start, 0, 8) == Some(6));
+    assert!(rt; instant_of(&capture, &start, 6, 8).is_none());
+    // the first answer of the cycle
+    let Some(first) = asked_first(Rule::C1, Line::BERR) else {
+        assert!(rt; false);
+        return Ok(());
+    };
+    assert!(rt; instant_of(&capture, &first, 0, 7) == Some(3));
+    assert!(rt;
+        asked_second(Rule::G5, Line::grant(2, 0))
+            == Some(Other {
+                event: StepEvent::Falls(Line::bus_request(2)),
+                occurrence: Occurrence::Last
+            })
+    );
+    assert!(rt; asked_second(Rule::H1, Line::DTACK).is_none());
+    // an acknowledge may start with its answer
+    let Some(acknowledge) = asked_first(Rule::I4, Line::DTACK) else {
+        assert!(rt; false);
+        return Ok(());
+    };
+    assert!(rt; instant_of(&capture, &acknowledge, 0, 1) == Some(1));
+    assert!(rt; instant_of(&capture, &acknowledge, 1, 2).is_none());
+    assert!(rt; last_of(&capture, &StepEvent::StrobeRises, 1, 9) == Some(4));
+    assert!(rt; first_of(&capture, &StepEvent::AnswerFalls, 4, 9) == Some(7));
     Ok(())
 }

@@ -8,6 +8,9 @@ ghost use Rattle.vme_words.specs.OrderFaults.{IsOfWords};
 ghost use Rattle.vme_answer.specs.Texts.{refusal_status};
 ghost use Rattle.vme_answer.specs.declared.refusal.Refusal.TheVariants.{CannotOpen};
 
+mod save;
+
+use crate::save::{InputIds, SaveFault, id_of, may_save, save};
 use std::env;
 use std::fs::{self, File};
 use std::io::{ErrorKind, IsTerminal};
@@ -23,7 +26,9 @@ use vme_commands::{
     BLOCK, BUILT_IN, READS_TERMINAL, place_of, tell_rules, tell_variables, unread_words,
     words_status,
 };
+use vme_explain::save_refusal_text;
 use vme_stream::{Bytes, Io, complain, write_all};
+use vme_text::Text;
 use vme_trace::Rule;
 use vme_words::words::order;
 use vme_words::{Order, OrderFault, Task, task_fault};
@@ -112,7 +117,7 @@ fn work<R: Threads + Sync>(rt: &HostRuntime, threads: &R, order: &Order) -> Resu
             ))
         }
         Task::Confirm => confirm_order(rt, order),
-        Task::Explain => explain_order(rt, order),
+        Task::Explain => Ok(explain_order(rt, order)),
         Task::Bind => bind_order(rt, order),
         Task::Variables => {
             let mut dump = open(rt, order, Input::Dump)?;
@@ -138,25 +143,86 @@ fn confirm_order(rt: &HostRuntime, order: &Order) -> Result<u8, Refusal> {
     ))
 }
 
-/// Says why and where a recording is judged as it is, and writes the waveform viewer's file, if one is wanted.
-fn explain_order(rt: &HostRuntime, order: &Order) -> Result<u8, Refusal> {
-    let (mut binding, mut dump) = open_recording(rt, order)?;
+/// Says why and where a recording is judged as it is, and writes the waveform viewer's file, if one is wanted. The
+/// answer is the exit status.
+fn explain_order(rt: &HostRuntime, order: &Order) -> u8 {
+    let Some(binding) = open_file(rt, order, Input::Binding) else {
+        return refuse(rt, &Refusal::CannotOpen(Input::Binding));
+    };
+    let Some(dump) = open_file(rt, order, Input::Dump) else {
+        return refuse(rt, &Refusal::CannotOpen(Input::Dump));
+    };
+    match order.names.get(2) {
+        Some(path) => explain_and_save(rt, order, path.as_str(), binding, dump),
+        None => {
+            let (status, _) = explain_files(rt, order, binding, dump);
+            status
+        }
+    }
+}
+
+/// Says why and where the recording of these files is judged as it is, and writes the waveform viewer's file at a path.
+/// Where that file may not be written, nothing is. The answer is the exit status.
+fn explain_and_save(rt: &HostRuntime, order: &Order, path: &str, binding: File, dump: File) -> u8 {
+    let Some(binding_id) = id_of(&binding) else {
+        return refuse(rt, &Refusal::CannotOpen(Input::Binding));
+    };
+    let Some(dump_id) = id_of(&dump) else {
+        return refuse(rt, &Refusal::CannotOpen(Input::Dump));
+    };
+    let inputs = InputIds {
+        binding: binding_id,
+        dump: dump_id,
+    };
+    if let Err(fault) = may_save(rt, path, inputs) {
+        return refuse_to_save(rt, path, &fault);
+    }
+    match explain_files(rt, order, binding, dump) {
+        (status, None) => status,
+        (status, Some(viewer)) => saved_status(rt, path, viewer.as_bytes(), inputs, status),
+    }
+}
+
+/// Writes a file at a path, if it may. The answer is this exit status, or another where the file isn't written.
+fn saved_status(rt: &HostRuntime, path: &str, bytes: &[u8], inputs: InputIds, status: u8) -> u8 {
+    match save(rt, path, bytes, inputs) {
+        Ok(()) => status,
+        Err(fault) => refuse_to_save(rt, path, &fault),
+    }
+}
+
+/// Says why and where the recording of these files is judged as it is. The answer is the status, and the waveform
+/// viewer's file.
+fn explain_files(rt: &HostRuntime, order: &Order, binding: File, dump: File) -> (u8, Option<Text>) {
     let name = match order.names.get(place_of(Task::Explain, Input::Dump)) {
         Some(name) => name.as_bytes(),
         None => b"",
     };
-    let (mut out, mut err) = (Io::new(rt.stdout()), Io::new(rt.stderr()));
-    let (status, viewer) = explain(
+    explain(
         rt.alloc(),
-        &mut binding,
-        &mut dump,
+        &mut Io::new(binding),
+        &mut Io::new(dump),
         name,
-        &mut out,
-        &mut err,
-    );
-    match (order.names.get(2), viewer) {
-        (Some(path), Some(viewer)) => Ok(save(rt, path.as_str(), viewer.as_bytes(), status)),
-        _ => Ok(status),
+        &mut Io::new(rt.stdout()),
+        &mut Io::new(rt.stderr()),
+    )
+}
+
+/// Says why a file isn't written. The answer is the exit status: 3 where it may not be, 5 where it can't be.
+fn refuse_to_save(rt: &HostRuntime, path: &str, fault: &SaveFault) -> u8 {
+    match fault {
+        SaveFault::Refused(refusal) => match save_refusal_text(rt.alloc(), path, *refusal) {
+            Ok(text) => {
+                let _ = write_all(&mut Io::new(rt.stderr()), text.as_bytes());
+                3
+            }
+            Err(_) => refuse(rt, &Refusal::Memory),
+        },
+        SaveFault::CannotWrite => {
+            complain(&mut Io::new(rt.stderr()), cannot_write_line());
+            5
+        }
+        SaveFault::Memory => refuse(rt, &Refusal::Memory),
     }
 }
 
@@ -200,30 +266,23 @@ fn open_recording(rt: &HostRuntime, order: &Order) -> Result<(Io<File>, Io<File>
     Ok((binding, dump))
 }
 
-/// The file that an order names for an input, opened.
+/// The file that an order names for an input, opened, as a source.
 fn open(rt: &HostRuntime, order: &Order, input: Input) -> Result<Io<File>, Refusal>
     ensures { IfErr result (λ refusal. refusal ≡ CannotOpen input) }
 {
-    let Some(name) = order.names.get(place_of(order.command, input)) else {
-        return Err(Refusal::CannotOpen(input));
-    };
-    match fs::open(rt, name.as_str()) {
-        Ok(file) => Ok(Io::new(file)),
-        Err(_) => Err(Refusal::CannotOpen(input)),
+    match open_file(rt, order, input) {
+        Some(file) => Ok(Io::new(file)),
+        None => Err(Refusal::CannotOpen(input)),
     }
 }
 
-/// Writes a file; the answer is this status, or 5 where it can't be written.
-fn save(rt: &HostRuntime, path: &str, bytes: &[u8], status: u8) -> u8 {
-    let is_written = match fs::create(rt, path) {
-        Ok(file) => write_all(&mut Io::new(file), bytes).is_ok(),
-        Err(_) => false,
-    };
-    if is_written {
-        return status;
+/// The file that an order names for an input, opened.
+fn open_file(rt: &HostRuntime, order: &Order, input: Input) -> Option<File> {
+    let name = order.names.get(place_of(order.command, input))?;
+    match fs::open(rt, name.as_str()) {
+        Ok(file) => Some(file),
+        Err(_) => None,
     }
-    complain(&mut Io::new(rt.stderr()), cannot_write_line());
-    5
 }
 
 /// Says why there is no verdict. The answer is the refusal's status.

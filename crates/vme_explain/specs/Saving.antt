@@ -1,0 +1,21 @@
+-- Which files are written, and which aren't.
+use Rattle.std.specs.Prelude.{ℕ, Bool, ◌==◌, ◌&&◌, if◌then◌else◌, Option, None, Some}
+use Rattle.vme_explain.specs.declared.saving.FileId.{FileId}
+use Rattle.vme_explain.specs.declared.saving.Present.{Present}
+use Rattle.vme_explain.specs.declared.saving.Present.TheVariants.{Nothing, File, Other}
+use Rattle.vme_explain.specs.declared.saving.SaveRefusal.{SaveRefusal}
+use Rattle.vme_explain.specs.declared.saving.SaveRefusal.TheVariants.{Binding, Dump, Foreign}
+
+-- two files are one: they have one number on one device
+abbrev pub is_same : FileId → FileId → Bool
+is_same one other = one.device == other.device && one.number == other.number
+
+-- A file isn't written over the binding or the dump, nor over what this program didn't write.
+abbrev pub save_refusal : Present → FileId → FileId → Option SaveRefusal
+save_refusal Nothing binding dump = None
+save_refusal (File id is_ours) binding dump =
+    if is_same id binding then Some Binding
+    else if is_same id dump then Some Dump
+    else if is_ours then None
+    else Some Foreign
+save_refusal Other binding dump = Some Foreign
