@@ -2,9 +2,9 @@
 """The second judge: what docs/PROTOCOL.md and docs/FORMATS.md say, in one file.
 
     reference/vmecheck.py < DUMP                                 the verdict, by the built-in binding
-    reference/vmecheck.py check [--block N] [--workers N] BINDING DUMP
-    reference/vmecheck.py list [--block N] [--workers N] BINDING DUMP
-    reference/vmecheck.py confirm BINDING DUMP LISTING
+    reference/vmecheck.py check [--block N] [--workers N] [--skew T] BINDING DUMP
+    reference/vmecheck.py list [--block N] [--workers N] [--skew T] BINDING DUMP
+    reference/vmecheck.py confirm [--skew T] BINDING DUMP LISTING
 
 It answers what the proved program answers, on standard output and by its status, and shares nothing with it: it was
 written by the two pages alone, keeps the whole recording, and looks each thing up by its definition. Nothing of it is
@@ -17,10 +17,12 @@ import sys
 
 HELP = """The second judge of vmecheck, in Python: nothing of it is proved, and it has these commands alone.
 
-Usage: vmecheck < DUMP                                             the verdict, by a binding of its own
-       vmecheck check [--block N] [--workers N] BINDING DUMP       the verdict
-       vmecheck list [--block N] [--workers N] BINDING DUMP        the listing
-       vmecheck confirm BINDING DUMP LISTING                       whether a listing is true
+Usage: vmecheck < DUMP                                      the verdict, by a binding of its own
+       vmecheck check [--block N] [--workers N] [--skew T] BINDING DUMP
+                                                            the verdict
+       vmecheck list [--block N] [--workers N] [--skew T] BINDING DUMP
+                                                            the listing
+       vmecheck confirm [--skew T] BINDING DUMP LISTING     whether a listing is true
 
 Examples:
   vmecheck check examples/backplane.bind examples/address_changed.vcd
@@ -346,6 +348,20 @@ class Recording:
                 self.levels.append(bytes(now))
                 self.changed.append([line for line in sorted(touched) if before[line] != now[line]])
                 self.times.append(time)
+
+    def settle(self, skew):
+        """Makes one step of each, and of those at most the skew later: of the lines that then have another level."""
+        levels, changed, times, first = self.levels[:1], self.changed[:1], self.times[:1], 1
+        while first < len(self.times):
+            behind = bisect.bisect_right(self.times, self.times[first] + skew, first)
+            before, now = self.levels[first - 1], self.levels[behind - 1]
+            if now != before:
+                touched = set().union(*self.changed[first:behind])
+                levels.append(now)
+                changed.append([line for line in sorted(touched) if before[line] != now[line]])
+                times.append(self.times[first])
+            first = behind
+        self.levels, self.changed, self.times = levels, changed, times
 
 
 # ---- what is judged (docs/PROTOCOL.md, from here on)
@@ -921,9 +937,9 @@ def text_of(version, rows):
 # ---- the commands
 
 class Inputs:
-    """A binding and a dump, and what the commands answer on them: the status and the bytes on the two streams."""
+    """A binding and a dump, and what the commands answer on them by a skew: the status, and the two streams."""
 
-    def __init__(self, binding, dump):
+    def __init__(self, binding, dump, skew=0):
         self.fault, self.unusable, self.judged = None, None, None
         try:
             parts = read_binding(binding), read_dump(dump)
@@ -931,7 +947,9 @@ class Inputs:
             self.fault = fault
             return
         try:
-            self.judged = Judged(Recording(*parts))
+            recording = Recording(*parts)
+            recording.settle(skew)
+            self.judged = Judged(recording)
         except Fault as fault:
             self.unusable = fault
 
@@ -976,11 +994,11 @@ class Usage(Exception):
 
 
 NAMED = {"check": ("BINDING", "DUMP"), "list": ("BINDING", "DUMP"), "confirm": ("BINDING", "DUMP", "LISTING")}
-MOST = {"--block": 65536, "--workers": 64}
+OPTIONS = {"--block": (1, 65536), "--workers": (1, 64), "--skew": (0, LATEST)}
 
 
 def order_of(words):
-    """The command, the files and the steps of a block that the words ask for."""
+    """The command, the files, the steps of a block and the skew that the words ask for."""
     command, names, given, rest = words[0], [], {}, iter(words[1:])
     if command not in NAMED:
         raise Usage(f"there is no command '{command}' here")
@@ -990,16 +1008,16 @@ def order_of(words):
             names += rest
         elif not word.startswith("-") or word == "-":
             names.append(word)
-        elif option not in MOST or command == "confirm" or option in given:
+        elif option not in OPTIONS or command == "confirm" and option != "--skew" or option in given:
             raise Usage(f"unexpected argument '{word}'")
         else:
-            value = value if equals else next(rest, "")
-            given[option] = number(value.encode(), MOST[option]) if re.fullmatch("[0-9]+", value) else None
-            if not given[option]:
-                raise Usage(f"invalid value '{value}' for '{option}': it takes 1 to {MOST[option]}")
+            value, (least, most) = value if equals else next(rest, ""), OPTIONS[option]
+            given[option] = number(value.encode(), most) if re.fullmatch("[0-9]+", value) else None
+            if given[option] is None or given[option] < least:
+                raise Usage(f"invalid value '{value}' for '{option}': it takes {least} to {most}")
     if len(names) != len(NAMED[command]):
         raise Usage(f"{command} takes {' '.join(NAMED[command])}")
-    return command, names, given.get("--block", 16384)
+    return command, names, given.get("--block", 16384), given.get("--skew", 0)
 
 
 def opened(names, inputs):
@@ -1029,13 +1047,13 @@ def whole(file, what):
         parts.append(part)
 
 
-def answer(command, names, block):
+def answer(command, names, block, skew):
     """What a command answers. An input is read only where those before it have no fault."""
     files = opened(names, ("binding", "dump", "listing"))
     binding = whole(files[0], "binding")
     read_binding(binding)
     dump = whole(files[1], "dump")
-    inputs = Inputs(binding, dump)
+    inputs = Inputs(binding, dump, skew)
     if command == "check":
         return inputs.check(block)
     if command == "list":

@@ -14,8 +14,9 @@ use Rattle.vme_cert.specs.declared.compare.Answer.{Answer as Confirmation}
 use Rattle.vme_cert.specs.declared.compare.Answer.TheVariants.{Yes, No}
 use Rattle.vme_answer.specs.Answers.{CommandAnswer, AnswerGives, binding_read, dump_read, recorded_by}
 use Rattle.vme_commands.specs.Confirmations.{Confirms, GivesConfirmation, GivesRows, IsConfirmation, IsFound, IsListing}
-use Rattle.vme_commands.specs.Confirmations.{compared, compared_with, confirmation_answer_by, confirmation_status}
-use Rattle.vme_commands.specs.Confirmations.{listing_text, TellsConfirmation}
+use Rattle.vme_commands.specs.Confirmations.{compared_settled, compared_with, confirmation_answer_by}
+use Rattle.vme_commands.specs.Confirmations.{confirmation_status, listing_text, TellsConfirmation}
+use Rattle.vme_commands.specs.Settled.{settled_recorded}
 use Rattle.vme_answer.specs.Ends.{Tells, Ends}
 use Rattle.vme_stream.specs.Inputs.{IsInTime, IsReading, TellsWhole, longest_input}
 use Rattle.vme_answer.specs.Refusals.{listing_refusal, refused}
@@ -29,37 +30,40 @@ use Rattle.vme_answer.proofs.EndLemmas.{not_both, read_is, refusal_status-small,
 use Rattle.vme_stream.proofs.InputLemmas.{in_time}
 use Rattle.vme_trace.specs.Streams.{Reading, Writing}
 
-pub binding_lacks : (binding : Result BoundLines Refusal) (dump : Result Contents Refusal)
-    (listing : Result Listed Refusal) (r : Refusal)
-    → AnswerGives (λ (b : BoundLines). b) (Err r) binding → GivesConfirmation (Err r) (compared binding dump listing)
-binding_lacks binding dump listing Memory is = tt
-binding_lacks binding dump listing r is = ap (λ (w : Result BoundLines Refusal). compared w dump listing) is
+pub binding_lacks : (skew : ℕ) (binding : Result BoundLines Refusal) (dump : Result Contents Refusal)
+    (listing : Result Listed Refusal) (r : Refusal) → AnswerGives (λ (b : BoundLines). b) (Err r) binding
+    → GivesConfirmation (Err r) (compared_settled skew binding dump listing)
+binding_lacks skew binding dump listing Memory is = tt
+binding_lacks skew binding dump listing r is = ap
+    (λ (w : Result BoundLines Refusal). compared_settled skew w dump listing) is
 
 abbrev with_listing : Result Listed Refusal → Result Trace BindFault → Result (Listed × Trace) Refusal
 with_listing listing recorded = compared_with recorded listing
 
-compared_is : (bound : BoundLines) (dump : Result Contents Refusal) (listing : Result Listed Refusal)
-    → compared (Ok bound) dump listing ≡ (recorded_by bound dump >>= with_listing listing)
-compared_is bound (Ok contents) listing = refl
-compared_is bound (Err r) listing = refl
+module _ (skew : ℕ) (bound : BoundLines) where
+  compared_is : (dump : Result Contents Refusal) (listing : Result Listed Refusal)
+      → compared_settled skew (Ok bound) dump listing
+      ≡ (settled_recorded skew (recorded_by bound dump) >>= with_listing listing)
+  compared_is (Ok contents) listing = refl
+  compared_is (Err r) listing = refl
 
-pub dump_recorded : (bound : BoundLines) (dump : Result Contents Refusal) (listing : Result Listed Refusal)
-    (recorded : Result Trace BindFault)
-    (found : Result Confirmation Refusal) → recorded_by bound dump ≡ Ok recorded → GivesConfirmation found
-    (compared_with recorded listing)
-    → GivesConfirmation found (compared (Ok bound) dump listing)
-dump_recorded bound dump listing recorded found is given =
-    let same : compared (Ok bound) dump listing ≡ compared_with recorded listing =
-    compared_is bound dump listing ∙ ap (λ (w : Result (Result Trace BindFault) Refusal). w >>= with_listing listing)
-    is in
-    subst (GivesConfirmation found) (sym same) given
+  pub dump_recorded : (dump : Result Contents Refusal) (listing : Result Listed Refusal)
+      (recorded : Result Trace BindFault) (found : Result Confirmation Refusal)
+      → settled_recorded skew (recorded_by bound dump) ≡ Ok recorded
+      → GivesConfirmation found (compared_with recorded listing)
+      → GivesConfirmation found (compared_settled skew (Ok bound) dump listing)
+  dump_recorded dump listing recorded found is given =
+      let same : compared_settled skew (Ok bound) dump listing ≡ compared_with recorded listing =
+      compared_is dump listing ∙ ap (λ (w : Result (Result Trace BindFault) Refusal). w >>= with_listing listing) is in
+      subst (GivesConfirmation found) (sym same) given
 
-pub dump_lacks : (bound : BoundLines) (dump : Result Contents Refusal) (listing : Result Listed Refusal) (r : Refusal)
-    → AnswerGives (λ (recorded : Result Trace BindFault). recorded) (Err r) (recorded_by bound dump) → GivesConfirmation
-    (Err r) (compared (Ok bound) dump listing)
-dump_lacks bound dump listing Memory is = tt
-dump_lacks bound dump listing r is = compared_is bound dump listing
-    ∙ ap (λ (w : Result (Result Trace BindFault) Refusal). w >>= with_listing listing) is
+  pub dump_lacks : (dump : Result Contents Refusal) (listing : Result Listed Refusal) (r : Refusal)
+      → AnswerGives (λ (recorded : Result Trace BindFault). recorded) (Err r)
+      (settled_recorded skew (recorded_by bound dump))
+      → GivesConfirmation (Err r) (compared_settled skew (Ok bound) dump listing)
+  dump_lacks dump listing Memory is = tt
+  dump_lacks dump listing r is =
+      compared_is dump listing ∙ ap (λ (w : Result (Result Trace BindFault) Refusal). w >>= with_listing listing) is
 
 pub listing_lacks : (recorded : Result Trace BindFault) (r : Refusal) → GivesConfirmation (Err r)
     (compared_with recorded (Err r))
@@ -100,10 +104,10 @@ confirmation_answer_by-small : (found : Result Confirmation Refusal) → (confir
 confirmation_answer_by-small (Ok found) = confirmation_status-small found
 confirmation_answer_by-small (Err r) = refusal_status-small r
 
-pub Confirms-unwritten : (binding dump listing : Reading × Reading) (out err : Writing × Writing) (status : ℕ)
-    → Confirms binding dump listing out err status
+pub Confirms-unwritten : (skew : ℕ) (binding dump listing : Reading × Reading) (out err : Writing × Writing)
+    (status : ℕ) → Confirms skew binding dump listing out err status
     → (status ≡ 5) ↔ (out.1.failures ≡ suc out.0.failures)
-Confirms-unwritten binding dump listing out err status confirms =
+Confirms-unwritten skew binding dump listing out err status confirms =
     let (
       binding_bytes,
       dump_bytes,
@@ -140,21 +144,23 @@ is_listing text (Ok rows) memory is = is
 is_listing text (Err Memory) memory is = absurd (memory refl)
 is_listing text (Err r) memory is = is
 
-is_confirmation : (binding : Result BoundLines Refusal) (dump : Result Contents Refusal)
+is_confirmation : (skew : ℕ) (binding : Result BoundLines Refusal) (dump : Result Contents Refusal)
     (text : Result (List ℕ) Refusal) (given : Result Listed Refusal)
     (found : Result Confirmation Refusal) → (found ≡ Err Memory → ⊥) → GivesRows text given → GivesConfirmation found
-    (compared binding dump given)
-    → IsConfirmation binding dump text found
-is_confirmation (Err r) dump text given found memory rows is = refused_alike found r (is_found found (Err r) memory is)
-is_confirmation (Ok bound) (Err r) text given found memory rows is = refused_alike found r
+    (compared_settled skew binding dump given)
+    → IsConfirmation skew binding dump text found
+is_confirmation skew (Err r) dump text given found memory rows is = refused_alike found r
     (is_found found (Err r) memory is)
-is_confirmation (Ok bound) (Ok contents) text given found memory rows is =
-    let said : IsFound found (compared (Ok bound) (Ok contents) given) = is_found found
-    (compared (Ok bound) (Ok contents) given) memory is in
+is_confirmation skew (Ok bound) (Err r) text given found memory rows is = refused_alike found r
+    (is_found found (Err r) memory is)
+is_confirmation skew (Ok bound) (Ok contents) text given found memory rows is =
+    let said : IsFound found (compared_settled skew (Ok bound) (Ok contents) given) = is_found found
+    (compared_settled skew (Ok bound) (Ok contents) given) memory is in
     let none : (given ≡ Err Memory → ⊥) =
     λ lacks. memory
     (refused_alike found Memory
-    (subst (λ (g : Result Listed Refusal). IsFound found (compared (Ok bound) (Ok contents) g)) lacks said)) in
+    (subst (λ (g : Result Listed Refusal). IsFound found (compared_settled skew (Ok bound) (Ok contents) g)) lacks
+    said)) in
     (given, none, is_listing text given none rows, said)
 
 was_told : (answer : CommandAnswer) (out err : Writing × Writing) (status : ℕ) → Ends answer out err status
@@ -163,13 +169,13 @@ was_told answer out err status (inl told) same = told
 was_told answer out err status (inr failed) same = absurd (not_both out.1.failures out.0.failures same failed.out_is.1)
 
 -- inputs that are told whole, and no failure, give exactly their answer
-pub Confirms-exact : (binding dump listing : Reading × Reading) (out err : Writing × Writing) (status : ℕ)
-    → Confirms binding dump listing out err status
+pub Confirms-exact : (skew : ℕ) (binding dump listing : Reading × Reading) (out err : Writing × Writing) (status : ℕ)
+    → Confirms skew binding dump listing out err status
     → (b d l : List ℕ) → TellsWhole binding.0 binding.1 b → TellsWhole dump.0 dump.1 d → TellsWhole listing.0 listing.1
     l
     → out.1.failures ≡ out.0.failures → (status ≡ 4 → ⊥)
-    → TellsConfirmation b d l out err status
-Confirms-exact binding dump listing out err status confirms b d l told_b told_d told_l same memory =
+    → TellsConfirmation skew b d l out err status
+Confirms-exact skew binding dump listing out err status confirms b d l told_b told_d told_l same memory =
     let (
       binding_bytes,
       dump_bytes,
@@ -188,15 +194,15 @@ Confirms-exact binding dump listing out err status confirms b d l told_b told_d 
     let none : (found ≡ Err Memory → ⊥) =
     λ lacks. memory (told.status_is ∙ ap (λ (f : Result Confirmation Refusal). (confirmation_answer_by f).status) lacks)
     in
-    let is = is_confirmation (binding_read binding_bytes) (dump_read dump_bytes) (listing_text listing_bytes) given
+    let is = is_confirmation skew (binding_read binding_bytes) (dump_read dump_bytes) (listing_text listing_bytes) given
     found none rows answered in
     let b_is : binding_bytes ≡ Some b = read_is binding.0 binding.1 binding_bytes b binding_reading told_b in
     let d_is : dump_bytes ≡ Some d = read_is dump.0 dump.1 dump_bytes d dump_reading told_d in
     let l_is : listing_bytes ≡ Some l = read_is listing.0 listing.1 listing_bytes l listing_reading told_l in
-    let with_b = subst (λ (x : Option (List ℕ)). IsConfirmation (binding_read x) (dump_read dump_bytes)
+    let with_b = subst (λ (x : Option (List ℕ)). IsConfirmation skew (binding_read x) (dump_read dump_bytes)
     (listing_text listing_bytes) found) b_is is in
-    let with_d = subst (λ (x : Option (List ℕ)). IsConfirmation (binding_read (Some b)) (dump_read x)
+    let with_d = subst (λ (x : Option (List ℕ)). IsConfirmation skew (binding_read (Some b)) (dump_read x)
     (listing_text listing_bytes) found) d_is with_b in
-    let with_l = subst (λ (x : Option (List ℕ)). IsConfirmation (binding_read (Some b)) (dump_read (Some d))
+    let with_l = subst (λ (x : Option (List ℕ)). IsConfirmation skew (binding_read (Some b)) (dump_read (Some d))
     (listing_text x) found) l_is with_d in
     (found, with_l, told)

@@ -1,6 +1,8 @@
+pub mod CheckLemmas
 pub mod ConfirmLemmas
 pub mod ExplainLemmas
 pub mod JudgedLemmas
 pub mod ListLemmas
+pub mod SettledLemmas
 pub mod ToldLemmas
 pub mod UnderwayLemmas

@@ -33,6 +33,7 @@ use Rattle.vme_stream.proofs.OutputLemmas.{front_is}
 use Rattle.vme_commands.specs.Judged.{in_blocks, limited_in_blocks}
 use Rattle.vme_commands.specs.Listings.{GivesListing, WritesListing, listing_answer_by, listing_answer_of}
 use Rattle.vme_commands.specs.Listings.{listing_status, outcome_status, recording_of, row_status, rows_status}
+use Rattle.vme_commands.specs.Settled.{settled_recording}
 
 -- ---- the status
 
@@ -132,21 +133,21 @@ listing_answer_by-small : (recording : Result Trace Refusal) → (listing_answer
 listing_answer_by-small (Ok t) = verdict_status-small (verdict_by rules_in_force t)
 listing_answer_by-small (Err r) = refusal_status-small r
 
-abbrev MayList : ℕ → Option (List ℕ) → Option (List ℕ) → Result Trace Refusal → Type 0
-MayList block b d recording = AnswerGives (λ (t : Trace). t) recording (recording_of b d block)
+abbrev MayList : ℕ → ℕ → Option (List ℕ) → Option (List ℕ) → Result Trace Refusal → Type 0
+MayList skew block b d recording = AnswerGives (λ (t : Trace). t) recording (settled_recording skew b d block)
 
-pub WritesListing-unwritten : (binding dump : Reading × Reading) (block : ℕ) (out err : Writing × Writing) (status : ℕ)
-    → WritesListing binding dump block out err status
+pub WritesListing-unwritten : (skew : ℕ) (binding dump : Reading × Reading) (block : ℕ) (out err : Writing × Writing)
+    (status : ℕ) → WritesListing skew binding dump block out err status
     → (status ≡ 5) ↔ (out.1.failures ≡ suc out.0.failures)
-WritesListing-unwritten binding dump block out err status = Does-unwritten listing_answer_by listing_answer_by-small
-    (MayList block) binding dump out err status
+WritesListing-unwritten skew binding dump block out err status = Does-unwritten listing_answer_by
+    listing_answer_by-small (MayList skew block) binding dump out err status
 
-pub WritesListing-exact : (binding dump : Reading × Reading) (block : ℕ) (out err : Writing × Writing) (status : ℕ)
-    → WritesListing binding dump block out err status
+pub WritesListing-exact : (skew : ℕ) (binding dump : Reading × Reading) (block : ℕ) (out err : Writing × Writing)
+    (status : ℕ) → WritesListing skew binding dump block out err status
     → (b d : List ℕ) → TellsWhole binding.0 binding.1 b → TellsWhole dump.0 dump.1 d
     → out.1.failures ≡ out.0.failures → (status ≡ 4 → ⊥)
-    → Tells (listing_answer_of (Some b) (Some d) block) out err status
-WritesListing-exact binding dump block out err status lists b d =
-    Does-exact listing_answer_by listing_answer_by-small (MayList block) binding dump out err status lists b d
-    (listing_answer_of (Some b) (Some d) block)
-    (λ found. given_is listing_answer_by refl found (recording_of (Some b) (Some d) block))
+    → Tells (listing_answer_of skew (Some b) (Some d) block) out err status
+WritesListing-exact skew binding dump block out err status lists b d =
+    Does-exact listing_answer_by listing_answer_by-small (MayList skew block) binding dump out err status lists b d
+    (listing_answer_of skew (Some b) (Some d) block)
+    (λ found. given_is listing_answer_by refl found (settled_recording skew (Some b) (Some d) block))

@@ -24,6 +24,7 @@ use Rattle.vme_answer.specs.Texts.{line_of}
 use Rattle.vme_answer.specs.declared.refusal.Input.TheVariants.{Listing}
 use Rattle.vme_answer.specs.declared.refusal.Refusal.{Refusal}
 use Rattle.vme_answer.specs.declared.refusal.Refusal.TheVariants.{Memory}
+use Rattle.vme_commands.specs.Settled.{settled_or}
 
 -- the bytes of a listing, where they can be read and aren't too many
 abbrev pub listing_text : Option (List ℕ) → Result (List ℕ) Refusal
@@ -52,7 +53,18 @@ compared binding dump listing = do
   t ← or_bad_binding (capture_of bound contents)
   Ok (given, t)
 
--- the same, where a dump was read and this is the recording that the binding makes of it, or why it makes none
+-- the same, of the recording settled by a skew
+abbrev pub compared_settled : ℕ → Result BoundLines Refusal → Result Contents Refusal → Result Listed Refusal
+    → Result (Listed × Trace) Refusal
+compared_settled skew binding dump listing = do
+  bound ← binding
+  contents ← dump
+  given ← listing
+  t ← or_bad_binding (settled_or skew (capture_of bound contents))
+  Ok (given, t)
+
+-- the same, where a dump was read and this is what the recording that the binding makes of it settles to, or why it
+-- makes none
 abbrev pub compared_with : Result Trace BindFault → Result Listed Refusal → Result (Listed × Trace) Refusal
 compared_with recorded listing = do
   given ← listing
@@ -71,16 +83,16 @@ abbrev pub GivesConfirmation : Result Confirmation Refusal → Result (Listed ×
 GivesConfirmation (Err Memory) said = Unit {0}
 GivesConfirmation found said = IsFound found said
 
--- This is the answer to a binding, a dump and the text of a listing, or the first reason that there is none: where
--- there are a binding and a dump, the text is read as a listing, or has a first fault.
-abbrev pub IsConfirmation : Result BoundLines Refusal → Result Contents Refusal → Result (List ℕ) Refusal
+-- This is the answer to a binding, a dump and the text of a listing by a skew, or the first reason that there is none:
+-- where there are a binding and a dump, the text is read as a listing, or has a first fault.
+abbrev pub IsConfirmation : ℕ → Result BoundLines Refusal → Result Contents Refusal → Result (List ℕ) Refusal
     → Result Confirmation Refusal → Type 0
-IsConfirmation (Err refusal) dump text found = found ≡ Err refusal
-IsConfirmation (Ok bound) (Err refusal) text found = found ≡ Err refusal
-IsConfirmation (Ok bound) (Ok contents) text found =
+IsConfirmation skew (Err refusal) dump text found = found ≡ Err refusal
+IsConfirmation skew (Ok bound) (Err refusal) text found = found ≡ Err refusal
+IsConfirmation skew (Ok bound) (Ok contents) text found =
     (given : Result Listed Refusal) × (given ≢ Err Memory)
     × IsListing text given
-    × IsFound found (compared (Ok bound) (Ok contents) given)
+    × IsFound found (compared_settled skew (Ok bound) (Ok contents) given)
 
 -- ---- the answer
 
@@ -99,23 +111,23 @@ confirmation_answer_by (Err refusal) = refusal_answer refusal
 
 -- ---- how it ends
 
--- The binding, the dump and the listing are read, or can't be; the listing is compared with that of the recording,
--- unless there was no memory; and the answer is told, unless a write of it fails.
-abbrev pub Confirms : Reading × Reading → Reading × Reading → Reading × Reading
+-- The binding, the dump and the listing are read, or can't be; the listing is compared with that of the recording
+-- settled by the skew, unless there was no memory; and the answer is told, unless a write of it fails.
+abbrev pub Confirms : ℕ → Reading × Reading → Reading × Reading → Reading × Reading
     → Writing × Writing → Writing × Writing → ℕ → Type 0
-Confirms binding dump listing out err status =
+Confirms skew binding dump listing out err status =
     (binding_bytes dump_bytes listing_bytes : Option (List ℕ)) × (given : Result Listed Refusal)
     × (found : Result Confirmation Refusal)
     × IsReading binding.0 binding.1 binding_bytes
     × IsReading dump.0 dump.1 dump_bytes
     × IsReading listing.0 listing.1 listing_bytes
     × GivesRows (listing_text listing_bytes) given
-    × GivesConfirmation found (compared (binding_read binding_bytes) (dump_read dump_bytes) given)
+    × GivesConfirmation found (compared_settled skew (binding_read binding_bytes) (dump_read dump_bytes) given)
     × Ends (confirmation_answer_by found) out err status
 
--- the answer to a binding, a dump and a listing of these bytes was told
-abbrev pub TellsConfirmation : List ℕ → List ℕ → List ℕ → Writing × Writing → Writing × Writing → ℕ → Type 0
-TellsConfirmation binding dump listing out err status =
+-- the answer to a binding, a dump and a listing of these bytes by a skew was told
+abbrev pub TellsConfirmation : ℕ → List ℕ → List ℕ → List ℕ → Writing × Writing → Writing × Writing → ℕ → Type 0
+TellsConfirmation skew binding dump listing out err status =
     (found : Result Confirmation Refusal)
-    × IsConfirmation (binding_read (Some binding)) (dump_read (Some dump)) (listing_text (Some listing)) found
+    × IsConfirmation skew (binding_read (Some binding)) (dump_read (Some dump)) (listing_text (Some listing)) found
     × Tells (confirmation_answer_by found) out err status

@@ -7,17 +7,18 @@ use Rattle.vme_trace.specs.Streams.{Reading, Writing}
 use Rattle.vme_trace.specs.declared.verdict.Verdict.{Verdict}
 use Rattle.vme_commands.specs.declared.explain.Explained.{Explained}
 use Rattle.vme_answer.specs.declared.refusal.Refusal.{Refusal}
-use Rattle.vme_answer.specs.Answers.{CommandAnswer, AnswerGives, capture_by, judgement_of, refusal_answer}
+use Rattle.vme_answer.specs.Answers.{CommandAnswer, AnswerGives, capture_by, refusal_answer}
 use Rattle.vme_answer.specs.Answers.{verdict_in_blocks}
 use Rattle.vme_answer.specs.Ends.{Ends}
 use Rattle.vme_stream.specs.Inputs.{IsReading}
 use Rattle.vme_answer.specs.Texts.{line_of, verdict_status, verdict_text}
+use Rattle.vme_commands.specs.Settled.{settled_judgement, settled_or}
 use Rattle.vme_commands.specs.TextAnswers.{text_answer}
 
--- the verdict on the recording that a binding makes of what reading the dump gave
-abbrev pub judged_by : BoundLines → Result Contents Refusal → Result Verdict Refusal
-judged_by bound dump = do
-  t ← capture_by bound dump
+-- the verdict on the recording that a binding makes of what reading the dump gave, settled by a skew
+abbrev pub judged_by : ℕ → BoundLines → Result Contents Refusal → Result Verdict Refusal
+judged_by skew bound dump = do
+  t ← settled_or skew (capture_by bound dump)
   verdict_in_blocks 16384 t
 
 -- the text begins with the line of the verdict, as a check writes it
@@ -32,13 +33,13 @@ abbrev pub explained_answer_by : Result Explained Refusal → CommandAnswer
 explained_answer_by (Ok told) = text_answer (verdict_status told.verdict) told.text
 explained_answer_by (Err refusal) = refusal_answer refusal
 
--- The binding and the dump are read, or can't be; the verdict is that of a check, unless there was no memory; what is
--- told begins with its line, and has its status, unless a write of it fails.
-abbrev pub Explains : Reading × Reading → Reading × Reading → Writing × Writing → Writing × Writing → ℕ → Type 0
-Explains binding dump out err status =
+-- The binding and the dump are read, or can't be; the verdict is that of a check by the skew, unless there was no
+-- memory; what is told begins with its line, and has its status, unless a write of it fails.
+abbrev pub Explains : ℕ → Reading × Reading → Reading × Reading → Writing × Writing → Writing × Writing → ℕ → Type 0
+Explains skew binding dump out err status =
     (binding_bytes dump_bytes : Option (List ℕ)) × (told : Result Explained Refusal)
     × IsReading binding.0 binding.1 binding_bytes
     × IsReading dump.0 dump.1 dump_bytes
-    × AnswerGives (λ (e : Explained). e.verdict) told (judgement_of binding_bytes dump_bytes 16384)
+    × AnswerGives (λ (e : Explained). e.verdict) told (settled_judgement skew binding_bytes dump_bytes 16384)
     × BeginsWithVerdict told
     × Ends (explained_answer_by told) out err status

@@ -2,6 +2,7 @@ pub mod Confirmations
 pub mod Explained
 pub mod Judged
 pub mod Listings
+pub mod Settled
 pub mod TextAnswers
 pub mod DumpJudge
 pub mod Wants

@@ -17,6 +17,7 @@ use Rattle.vme_answer.specs.Texts.{verdict_status}
 use Rattle.vme_answer.specs.declared.refusal.Refusal.{Refusal}
 use Rattle.vme_answer.specs.declared.refusal.Refusal.TheVariants.{Memory}
 use Rattle.vme_commands.specs.Judged.{in_blocks}
+use Rattle.vme_commands.specs.Settled.{settled_recording}
 use Rattle.vme_listing.specs.declared.row.ListedVerdict.{ListedVerdict}
 use Rattle.vme_listing.specs.declared.row.ListedVerdict.TheVariants.{Conforming, NeverIdle, Broken, Unreadable}
 use Rattle.vme_listing.specs.declared.row.Row.{Row}
@@ -73,15 +74,15 @@ listing_answer_by (Ok t) =
     record { out = text_of (listing_of t); error = []; status = verdict_status (verdict_by rules_in_force t) }
 listing_answer_by (Err refusal) = refusal_answer refusal
 
--- the answer to a binding and a dump that are to be listed, each by its bytes or unreadable
-abbrev pub listing_answer_of : Option (List ℕ) → Option (List ℕ) → ℕ → CommandAnswer
-listing_answer_of binding dump block = listing_answer_by (recording_of binding dump block)
+-- the answer to a binding and a dump that are to be listed by a skew, each by its bytes or unreadable
+abbrev pub listing_answer_of : ℕ → Option (List ℕ) → Option (List ℕ) → ℕ → CommandAnswer
+listing_answer_of skew binding dump block = listing_answer_by (settled_recording skew binding dump block)
 
--- what the inputs say is listed, unless there was no memory
-abbrev pub WritesListing : Reading × Reading → Reading × Reading → ℕ → Writing × Writing → Writing × Writing → ℕ
+-- what the inputs say is settled and listed, unless there was no memory
+abbrev pub WritesListing : ℕ → Reading × Reading → Reading × Reading → ℕ → Writing × Writing → Writing × Writing → ℕ
     → Type 0
-WritesListing binding dump block out err status =
-    Does listing_answer_by (λ b d recording. AnswerGives (λ t. t) recording (recording_of b d block))
+WritesListing skew binding dump block out err status =
+    Does listing_answer_by (λ b d recording. AnswerGives (λ t. t) recording (settled_recording skew b d block))
     binding dump out err status
 
 -- what was written is the text of rows that split the judged edges of the recording

@@ -6,23 +6,26 @@ ghost use Rattle.vme_answer.specs.Ends.{Checks, Tells};
 ghost use Rattle.vme_stream.specs.Inputs.{IsReading, TellsWhole};
 ghost use Rattle.vme_trace.specs.WellFormed.{malformed_step};
 ghost use Rattle.vme_commands.specs.Judged.{judged_in_blocks};
+ghost use Rattle.vme_commands.specs.Settled.{ChecksSettled, settled_answer_of, settled_judgement};
 
 use crate::judged_dump::judged_dump;
+use crate::settled::settled_from;
 use crate::workers::Workers;
 use std::alloc::Global;
 use std::thread::Threads;
-use vme_answer::{Refusal, refusal_line, tell_verdict};
+use vme_answer::{Refusal, refusal_line, tell_verdict, verdict_on};
 use vme_stream::complain;
 use vme_summary::Judge;
 use vme_trace::{Sink, Source, Verdict};
 
-/// Judges the recording that a binding makes of a dump, and writes its verdict to `out`, or why there is none to `err`.
-/// The answer is the exit status: 0 conforming, 1 broken, 2 unreadable or never idle, 3 where an input is refused, 4
-/// for want of memory, 5 where the verdict can't be written.
+/// Judges the recording that a binding makes of a dump, settled by a skew, and writes its verdict to `out`, or why
+/// there is none to `err`. The answer is the exit status: 0 conforming, 1 broken, 2 unreadable or never idle, 3 where
+/// an input is refused, 4 for want of memory, 5 where the verdict can't be written.
 ///
-/// The binding is read, and then the dump, piece by piece. Neither the dump nor the recording is kept: the steps are
-/// judged as they are made. A recording that fills more than 4,096 blocks of `block` steps is refused, and the verdict
-/// is otherwise the same for each size. A failure of `err` is ignored.
+/// The binding is read, and then the dump, piece by piece. Without a skew neither the dump nor the recording is kept:
+/// the steps are judged as they are made. With one both are, and one worker judges. A recording that fills more than
+/// 4,096 blocks of `block` steps is refused, and the verdict is otherwise the same for each size. A failure of `err` is
+/// ignored.
 pub fn check<R: Threads + Sync, B: Source, D: Source, O: Sink, E: Sink>(
     rt: &R,
     alloc: Global,
@@ -30,18 +33,29 @@ pub fn check<R: Threads + Sync, B: Source, D: Source, O: Sink, E: Sink>(
     dump: &mut D,
     block: u32,
     workers: u32,
+    skew: u64,
     out: &mut O,
     err: &mut E,
 ) -> u8
     requires block { (1 ≤ block) × (block ≤ 65536) }
     requires workers { (1 ≤ workers) × (workers ≤ 64) }
-    ensures answer { Checks
+    ensures answer { ChecksSettled skew
+        (B.reading binding.old, B.reading binding.new) (D.reading dump.old, D.reading dump.new) block
+        (O.writing out.old, O.writing out.new) (E.writing err.old, E.writing err.new) result }
+
+    // Without a skew what the binding makes of the dump is judged.
+    ensures unsettled { skew ≡ 0 → Checks
         (B.reading binding.old, B.reading binding.new) (D.reading dump.old, D.reading dump.new) block
         (O.writing out.old, O.writing out.new) (E.writing err.old, E.writing err.new) result }
     ensures unwritten { (result ≡ 5) ↔ ((O.writing out.new).failures ≡ suc (O.writing out.old).failures) }
 
     // Inputs that are told whole, no failure, and memory give exactly the answer that is defined.
     ensures exact { (b d : List ℕ) → TellsWhole (B.reading binding.old) (B.reading binding.new) b
+        → TellsWhole (D.reading dump.old) (D.reading dump.new) d
+        → (O.writing out.new).failures ≡ (O.writing out.old).failures → result ≢ 4
+        → Tells (settled_answer_of skew (Some b) (Some d) block)
+        (O.writing out.old, O.writing out.new) (E.writing err.old, E.writing err.new) result }
+    ensures exact_unsettled { (b d : List ℕ) → skew ≡ 0 → TellsWhole (B.reading binding.old) (B.reading binding.new) b
         → TellsWhole (D.reading dump.old) (D.reading dump.new) d
         → (O.writing out.new).failures ≡ (O.writing out.old).failures → result ≢ 4
         → Tells (answer_of (Some b) (Some d) block)
@@ -53,6 +67,7 @@ pub fn check<R: Threads + Sync, B: Source, D: Source, O: Sink, E: Sink>(
         binding,
         dump,
         block,
+        skew,
         out,
         err,
     )
@@ -65,20 +80,64 @@ pub fn check_by<R: Threads + Sync, B: Source, D: Source, O: Sink, E: Sink>(
     binding: &mut B,
     dump: &mut D,
     block: u32,
+    skew: u64,
     out: &mut O,
     err: &mut E,
 ) -> u8
     requires { (1 ≤ block) × (block ≤ 65536) }
-    ensures { Checks
+    ensures { ChecksSettled skew
         (B.reading binding.old, B.reading binding.new) (D.reading dump.old, D.reading dump.new) block
         (O.writing out.old, O.writing out.new) (E.writing err.old, E.writing err.new) result }
 {
-    match judge(alloc, workers, binding, dump, block) {
+    match judge_settled(alloc, workers, binding, dump, block, skew) {
         Ok(verdict) => tell_verdict(&verdict, out, err),
         Err(refusal) => {
             complain(err, refusal_line(&refusal));
             refusal.status()
         }
+    }
+}
+
+/// The verdict on the recording that a binding makes of a dump, settled by a skew, or the first reason that there is
+/// none.
+fn judge_settled<R: Threads + Sync, B: Source, D: Source>(
+    alloc: Global,
+    workers: &Workers<'_, R>,
+    binding: &mut B,
+    dump: &mut D,
+    block: u32,
+    skew: u64,
+) -> Result<Verdict, Refusal>
+    requires { (1 ≤ block) × (block ≤ 65536) }
+    ensures { (binding_bytes dump_bytes : Option (List ℕ))
+        × IsReading (B.reading binding.old) (B.reading binding.new) binding_bytes
+        × IsReading (D.reading dump.old) (D.reading dump.new) dump_bytes
+        × AnswerGives (λ verdict. verdict) result (settled_judgement skew binding_bytes dump_bytes block) }
+{
+    if skew == 0 {
+        judge(alloc, workers, binding, dump, block)
+    } else {
+        judge_whole(alloc, binding, dump, block, skew)
+    }
+}
+
+/// The same by one worker, of the whole recording.
+fn judge_whole<B: Source, D: Source>(
+    alloc: Global,
+    binding: &mut B,
+    dump: &mut D,
+    block: u32,
+    skew: u64,
+) -> Result<Verdict, Refusal>
+    requires { (1 ≤ block) × (block ≤ 65536) }
+    ensures { (binding_bytes dump_bytes : Option (List ℕ))
+        × IsReading (B.reading binding.old) (B.reading binding.new) binding_bytes
+        × IsReading (D.reading dump.old) (D.reading dump.new) dump_bytes
+        × AnswerGives (λ verdict. verdict) result (settled_judgement skew binding_bytes dump_bytes block) }
+{
+    match settled_from(alloc, binding, dump, skew) {
+        Ok(capture) => verdict_on(alloc, &capture, block),
+        Err(refusal) => Err(refusal),
     }
 }
 

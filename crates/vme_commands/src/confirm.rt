@@ -3,25 +3,26 @@
 ghost use Rattle.std.specs.Prelude.{◌≡◌, ◌≢◌, ◌↔◌, ℕ, suc, List, Option, Ok, Err, Result};
 ghost use Rattle.vme_listing.specs.Listed.{Listed};
 ghost use Rattle.vme_answer.specs.Answers.{binding_read, dump_read};
-ghost use Rattle.vme_commands.specs.Confirmations.{Confirms, GivesConfirmation, GivesRows, TellsConfirmation, compared};
-ghost use Rattle.vme_commands.specs.Confirmations.{compared_with, confirmation_answer_by, confirmation_status};
-ghost use Rattle.vme_commands.specs.Confirmations.{confirmation_text, listing_text};
+ghost use Rattle.vme_commands.specs.Confirmations.{Confirms, GivesConfirmation, GivesRows, TellsConfirmation};
+ghost use Rattle.vme_commands.specs.Confirmations.{compared_settled, compared_with, confirmation_answer_by};
+ghost use Rattle.vme_commands.specs.Confirmations.{confirmation_status, confirmation_text, listing_text};
 ghost use Rattle.vme_answer.specs.Ends.{Ends};
 ghost use Rattle.vme_answer.specs.Texts.{line_of};
 ghost use Rattle.vme_stream.specs.Inputs.{IsReading, TellsWhole};
 ghost use Rattle.vme_answer.specs.declared.refusal.Refusal.{Refusal};
 
+use crate::settled::recorded_settled;
 use std::alloc::Global;
-use vme_answer::{Input, Refusal, binding_from, cannot_write_line, recorded_from, refusal_line};
+use vme_answer::{Input, Refusal, binding_from, cannot_write_line, refusal_line};
 use vme_bind::{BindFault, Binding};
 use vme_cert::{Answer, confirm_text};
 use vme_listing::read_listing;
 use vme_stream::{Message, complain, read_all, write_message};
 use vme_trace::{Capture, Sink, Source};
 
-/// Whether a listing is that of the recording that a binding makes of a dump, in its version: writes the answer to
-/// `out`, or to `err` why there is none. The answer is the exit status: 0 confirmed, 1 not, 3 where an input is
-/// refused, 4 for want of memory, 5 where the answer can't be written.
+/// Whether a listing is that of the recording that a binding makes of a dump, settled by a skew, in its version: writes
+/// the answer to `out`, or to `err` why there is none. The answer is the exit status: 0 confirmed, 1 not, 3 where an
+/// input is refused, 4 for want of memory, 5 where the answer can't be written.
 ///
 /// The binding is read, then the dump, of which the recording is made, and then the listing: a binding that can't be
 /// used on the dump is told after the faults of these. The listing is compared by the definitions alone, by no monitor.
@@ -31,10 +32,11 @@ pub fn confirm_with<B: Source, D: Source, L: Source, O: Sink, E: Sink>(
     binding: &mut B,
     dump: &mut D,
     listing: &mut L,
+    skew: u64,
     out: &mut O,
     err: &mut E,
 ) -> u8
-    ensures answer { Confirms
+    ensures answer { Confirms skew
         (B.reading binding.old, B.reading binding.new) (D.reading dump.old, D.reading dump.new)
         (L.reading listing.old, L.reading listing.new)
         (O.writing out.old, O.writing out.new) (E.writing err.old, E.writing err.new) result }
@@ -45,10 +47,10 @@ pub fn confirm_with<B: Source, D: Source, L: Source, O: Sink, E: Sink>(
         → TellsWhole (D.reading dump.old) (D.reading dump.new) d
         → TellsWhole (L.reading listing.old) (L.reading listing.new) l
         → (O.writing out.new).failures ≡ (O.writing out.old).failures → result ≢ 4
-        → TellsConfirmation b d l
+        → TellsConfirmation skew b d l
         (O.writing out.old, O.writing out.new) (E.writing err.old, E.writing err.new) result }
 {
-    answer(alloc, binding, dump, listing, out, err)
+    answer(alloc, binding, dump, listing, skew, out, err)
 }
 
 fn answer<B: Source, D: Source, L: Source, O: Sink, E: Sink>(
@@ -56,15 +58,16 @@ fn answer<B: Source, D: Source, L: Source, O: Sink, E: Sink>(
     binding: &mut B,
     dump: &mut D,
     listing: &mut L,
+    skew: u64,
     out: &mut O,
     err: &mut E,
 ) -> u8
-    ensures { Confirms
+    ensures { Confirms skew
         (B.reading binding.old, B.reading binding.new) (D.reading dump.old, D.reading dump.new)
         (L.reading listing.old, L.reading listing.new)
         (O.writing out.old, O.writing out.new) (E.writing err.old, E.writing err.new) result }
 {
-    match comparison(alloc, binding, dump, listing) {
+    match comparison(alloc, binding, dump, listing, skew) {
         Ok(found) => tell(found, out, err),
         Err(refusal) => {
             complain(err, refusal_line(&refusal));
@@ -87,22 +90,24 @@ fn tell<O: Sink, E: Sink>(found: Answer, out: &mut O, err: &mut E) -> u8
     }
 }
 
-/// Compares a listing with that of the recording that a binding makes of a dump.
+/// Compares a listing with that of the recording that a binding makes of a dump, settled by a skew.
 fn comparison<B: Source, D: Source, L: Source>(
     alloc: Global,
     binding: &mut B,
     dump: &mut D,
     listing: &mut L,
+    skew: u64,
 ) -> Result<Answer, Refusal>
     ensures { (binding_bytes dump_bytes listing_bytes : Option (List ℕ)) × (given : Result Listed Refusal)
         × IsReading (B.reading binding.old) (B.reading binding.new) binding_bytes
         × IsReading (D.reading dump.old) (D.reading dump.new) dump_bytes
         × IsReading (L.reading listing.old) (L.reading listing.new) listing_bytes
         × GivesRows (listing_text listing_bytes) given
-        × GivesConfirmation result (compared (binding_read binding_bytes) (dump_read dump_bytes) given) }
+        × GivesConfirmation result
+        (compared_settled skew (binding_read binding_bytes) (dump_read dump_bytes) given) }
 {
     match binding_from(alloc, binding) {
-        Ok(bound) => comparison_bound(alloc, &bound, dump, listing),
+        Ok(bound) => comparison_bound(alloc, &bound, dump, listing, skew),
         Err(refusal) => Err(refusal),
     }
 }
@@ -112,14 +117,15 @@ fn comparison_bound<D: Source, L: Source>(
     bound: &Binding,
     dump: &mut D,
     listing: &mut L,
+    skew: u64,
 ) -> Result<Answer, Refusal>
     ensures { (dump_bytes listing_bytes : Option (List ℕ)) × (given : Result Listed Refusal)
         × IsReading (D.reading dump.old) (D.reading dump.new) dump_bytes
         × IsReading (L.reading listing.old) (L.reading listing.new) listing_bytes
         × GivesRows (listing_text listing_bytes) given
-        × GivesConfirmation result (compared (Ok bound.now) (dump_read dump_bytes) given) }
+        × GivesConfirmation result (compared_settled skew (Ok bound.now) (dump_read dump_bytes) given) }
 {
-    match recorded_from(alloc, bound, dump) {
+    match recorded_settled(alloc, bound, dump, skew) {
         Ok(recorded) => comparison_recorded(alloc, recorded, listing),
         Err(refusal) => Err(refusal),
     }

@@ -3,18 +3,19 @@
 ghost use Rattle.std.specs.Prelude.{◌≡◌, ◌++◌, ℕ, List, Option, IfOk, Result};
 ghost use Rattle.vcd_read.specs.Meaning.{dump_of};
 ghost use Rattle.vme_bind.specs.Binding.{binding_of};
-ghost use Rattle.vme_answer.specs.Answers.{AnswerGives, binding_read, dump_read, judgement_of, or_bad_binding};
-ghost use Rattle.vme_answer.specs.Answers.{or_bad_dump};
+ghost use Rattle.vme_answer.specs.Answers.{AnswerGives, binding_read, dump_read, or_bad_binding, or_bad_dump};
 ghost use Rattle.vme_answer.specs.Answers.{verdict_in_blocks};
 ghost use Rattle.vme_commands.specs.Explained.{BeginsWithLine, BeginsWithVerdict, Explains, judged_by};
+ghost use Rattle.vme_commands.specs.Settled.{settled_judgement};
 ghost use Rattle.vme_stream.specs.Inputs.{IsReading};
 ghost use Rattle.vme_answer.specs.Texts.{line_of, verdict_text};
 
+use crate::settled::settled_in;
 use crate::telling::tell_bytes;
 use std::alloc::{AllocError, Global};
 use vcd_read::{Variables, read_definitions};
 use vme_answer::{
-    Input, Refusal, binding_in, captured_in, refusal_line, verdict_line, verdict_on, verdict_status,
+    Input, Refusal, binding_in, refusal_line, verdict_line, verdict_on, verdict_status,
 };
 use vme_bind::Binding;
 use vme_explain::{Subject, explanation, save_file};
@@ -38,22 +39,23 @@ pub struct Explained {
     pub viewer: Text,
 }
 
-/// Writes to `out` the line of the verdict on the recording that a binding makes of a dump, as `check` does, and behind
-/// it why; or to `err` why there is none. The status is that of `check`. The save file is for a dump of this name;
-/// there is none where no verdict is written.
+/// Writes to `out` the line of the verdict on the recording that a binding makes of a dump, settled by a skew, as
+/// `check` does, and behind it why; or to `err` why there is none. The status is that of `check`. The save file is for
+/// a dump of this name; there is none where no verdict is written.
 pub fn explain<B: Source, D: Source, O: Sink, E: Sink>(
     alloc: Global,
     binding: &mut B,
     dump: &mut D,
     name: &[u8],
+    skew: u64,
     out: &mut O,
     err: &mut E,
 ) -> (u8, Option<Text>)
-    ensures { Explains
+    ensures { Explains skew
         (B.reading binding.old, B.reading binding.new) (D.reading dump.old, D.reading dump.new)
         (O.writing out.old, O.writing out.new) (E.writing err.old, E.writing err.new) result.0 }
 {
-    match explained_from(alloc, binding, dump, name) {
+    match explained_from(alloc, binding, dump, name, skew) {
         Ok(told) => {
             let Explained {
                 verdict,
@@ -70,21 +72,23 @@ pub fn explain<B: Source, D: Source, O: Sink, E: Sink>(
     }
 }
 
-/// The verdict on the recording that a binding makes of a dump, and what is told of it: the binding is read first.
+/// The verdict on the recording that a binding makes of a dump, settled by a skew, and what is told of it: the binding
+/// is read first.
 fn explained_from<B: Source, D: Source>(
     alloc: Global,
     binding: &mut B,
     dump: &mut D,
     name: &[u8],
+    skew: u64,
 ) -> Result<Explained, Refusal>
     ensures read { (binding_bytes dump_bytes : Option (List ℕ))
         × IsReading (B.reading binding.old) (B.reading binding.new) binding_bytes
         × IsReading (D.reading dump.old) (D.reading dump.new) dump_bytes
-        × AnswerGives (λ told. told.verdict) result (judgement_of binding_bytes dump_bytes 16384) }
+        × AnswerGives (λ told. told.verdict) result (settled_judgement skew binding_bytes dump_bytes 16384) }
     ensures begins { BeginsWithVerdict result }
 {
     match read_all(alloc, binding) {
-        Ok(text) => explained_bound(alloc, text.as_slice(), dump, name),
+        Ok(text) => explained_bound(alloc, text.as_slice(), dump, name, skew),
         Err(fault) => Err(Refusal::of_input(Input::Binding, fault)),
     }
 }
@@ -95,15 +99,16 @@ fn explained_bound<D: Source>(
     binding: &[u8],
     dump: &mut D,
     name: &[u8],
+    skew: u64,
 ) -> Result<Explained, Refusal>
     ensures read { (bytes : Option (List ℕ))
         × IsReading (D.reading dump.old) (D.reading dump.new) bytes
         × ((b : Option (List ℕ)) → binding_read b ≡ or_bad_binding (binding_of binding.now)
-        → AnswerGives (λ told. told.verdict) result (judgement_of b bytes 16384)) }
+        → AnswerGives (λ told. told.verdict) result (settled_judgement skew b bytes 16384)) }
     ensures begins { BeginsWithVerdict result }
 {
     match binding_in(alloc, binding) {
-        Ok(bound) => explained_by(alloc, binding, &bound, dump, name),
+        Ok(bound) => explained_by(alloc, binding, &bound, dump, name, skew),
         Err(refusal) => Err(refusal),
     }
 }
@@ -115,14 +120,15 @@ fn explained_by<D: Source>(
     bound: &Binding,
     dump: &mut D,
     name: &[u8],
+    skew: u64,
 ) -> Result<Explained, Refusal>
     ensures read { (bytes : Option (List ℕ))
         × IsReading (D.reading dump.old) (D.reading dump.new) bytes
-        × AnswerGives (λ told. told.verdict) result (judged_by bound.now (dump_read bytes)) }
+        × AnswerGives (λ told. told.verdict) result (judged_by skew bound.now (dump_read bytes)) }
     ensures begins { BeginsWithVerdict result }
 {
     match read_all(alloc, dump) {
-        Ok(text) => explained_in(alloc, binding, bound, text.as_slice(), name),
+        Ok(text) => explained_in(alloc, binding, bound, text.as_slice(), name, skew),
         Err(fault) => Err(Refusal::of_input(Input::Dump, fault)),
     }
 }
@@ -134,11 +140,12 @@ fn explained_in(
     bound: &Binding,
     dump: &[u8],
     name: &[u8],
+    skew: u64,
 ) -> Result<Explained, Refusal>
-    ensures read { AnswerGives (λ told. told.verdict) result (judged_by bound.now (or_bad_dump (dump_of dump.now))) }
+    ensures read { AnswerGives (λ told. told.verdict) result (judged_by skew bound.now (or_bad_dump (dump_of dump.now))) }
     ensures begins { BeginsWithVerdict result }
 {
-    match captured_in(alloc, bound, dump) {
+    match settled_in(alloc, bound, dump, skew) {
         Ok(capture) => explained_of(alloc, binding, &capture, dump, name),
         Err(refusal) => Err(refusal),
     }

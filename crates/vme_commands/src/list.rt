@@ -6,29 +6,31 @@ ghost use Rattle.vme_trace.specs.Trace.{Trace};
 ghost use Rattle.vme_trace.specs.WellFormed.{malformed_step};
 ghost use Rattle.vme_answer.specs.Ends.{Ends, Tells};
 ghost use Rattle.vme_stream.specs.Inputs.{IsReading, TellsWhole};
-ghost use Rattle.vme_commands.specs.Judged.{limited_in_blocks};
+ghost use Rattle.vme_commands.specs.Judged.{in_blocks, limited_in_blocks};
 ghost use Rattle.vme_commands.specs.Listings.{GivesListing, WritesListing, listing_answer_by, listing_answer_of};
 ghost use Rattle.vme_commands.specs.Listings.{recording_of};
 ghost use Rattle.vme_commands.specs.Listings.{listing_status, outcome_status, row_status, WritesSplit};
+ghost use Rattle.vme_commands.specs.Settled.{settled_recording};
 
 use crate::judged_dump::judged_dump;
+use crate::settled::settled_from;
 use crate::workers::Workers;
 use std::alloc::Global;
 use std::thread::Threads;
 use vme_answer::{Refusal, cannot_write_line, refusal_line};
 use vme_listing::{ListedVerdict, Listing, Row, write_listing};
 use vme_stream::complain;
-use vme_summary::Lister;
-use vme_trace::{Sink, Source};
+use vme_summary::{Lister, listing_by_blocks};
+use vme_trace::{Capture, CutFault, Sink, Source};
 
-/// Writes to `out` the listing of the recording that a binding makes of a dump, or to `err` why there is none. The
-/// answer is the exit status: that of the listing's verdict, 0 conforming, 1 broken, 2 unreadable or never idle; 3
-/// where an input is refused, 4 for want of memory, 5 where the listing can't be written.
+/// Writes to `out` the listing of the recording that a binding makes of a dump, settled by a skew, or to `err` why
+/// there is none. The answer is the exit status: that of the listing's verdict, 0 conforming, 1 broken, 2 unreadable or
+/// never idle; 3 where an input is refused, 4 for want of memory, 5 where the listing can't be written.
 ///
-/// The binding is read, and then the dump, piece by piece. Neither the dump nor the recording is kept: the steps are
-/// judged as they are made, and their marks are kept. A recording that fills more than 4,096 blocks of `block` steps is
-/// refused, and the listing is otherwise the same for each size. It is written in pieces of up to 4,096 bytes. A
-/// failure of `err` is ignored.
+/// The binding is read, and then the dump, piece by piece. Without a skew neither the dump nor the recording is kept:
+/// the steps are judged as they are made, and their marks are kept. With one both are, and one worker judges. A
+/// recording that fills more than 4,096 blocks of `block` steps is refused, and the listing is otherwise the same for
+/// each size. It is written in pieces of up to 4,096 bytes. A failure of `err` is ignored.
 pub fn list<R: Threads + Sync, B: Source, D: Source, O: Sink, E: Sink>(
     rt: &R,
     alloc: Global,
@@ -36,12 +38,13 @@ pub fn list<R: Threads + Sync, B: Source, D: Source, O: Sink, E: Sink>(
     dump: &mut D,
     block: u32,
     workers: u32,
+    skew: u64,
     out: &mut O,
     err: &mut E,
 ) -> u8
     requires block { (1 ≤ block) × (block ≤ 65536) }
     requires workers { (1 ≤ workers) × (workers ≤ 64) }
-    ensures answer { WritesListing
+    ensures answer { WritesListing skew
         (B.reading binding.old, B.reading binding.new) (D.reading dump.old, D.reading dump.new) block
         (O.writing out.old, O.writing out.new) (E.writing err.old, E.writing err.new) result }
     ensures unwritten { (result ≡ 5) ↔ ((O.writing out.new).failures ≡ suc (O.writing out.old).failures) }
@@ -50,14 +53,14 @@ pub fn list<R: Threads + Sync, B: Source, D: Source, O: Sink, E: Sink>(
     ensures exact { (b d : List ℕ) → TellsWhole (B.reading binding.old) (B.reading binding.new) b
         → TellsWhole (D.reading dump.old) (D.reading dump.new) d
         → (O.writing out.new).failures ≡ (O.writing out.old).failures → result ≢ 4
-        → Tells (listing_answer_of (Some b) (Some d) block)
+        → Tells (listing_answer_of skew (Some b) (Some d) block)
         (O.writing out.old, O.writing out.new) (E.writing err.old, E.writing err.new) result }
 
-    // Of a recording that is made of them, the judged edges split into exactly the rows whose text is written.
+    // Of the settled recording that is made of them, the judged edges split into exactly the rows whose text is written.
     ensures split { (b d : List ℕ) (t : Trace) → TellsWhole (B.reading binding.old) (B.reading binding.new) b
         → TellsWhole (D.reading dump.old) (D.reading dump.new) d
         → (O.writing out.new).failures ≡ (O.writing out.old).failures → result ≢ 4
-        → recording_of (Some b) (Some d) block ≡ Ok t → WritesSplit t (O.writing out.old, O.writing out.new) }
+        → settled_recording skew (Some b) (Some d) block ≡ Ok t → WritesSplit t (O.writing out.old, O.writing out.new) }
 {
     list_by(
         alloc,
@@ -65,6 +68,7 @@ pub fn list<R: Threads + Sync, B: Source, D: Source, O: Sink, E: Sink>(
         binding,
         dump,
         block,
+        skew,
         out,
         err,
     )
@@ -77,15 +81,16 @@ pub fn list_by<R: Threads + Sync, B: Source, D: Source, O: Sink, E: Sink>(
     binding: &mut B,
     dump: &mut D,
     block: u32,
+    skew: u64,
     out: &mut O,
     err: &mut E,
 ) -> u8
     requires { (1 ≤ block) × (block ≤ 65536) }
-    ensures { WritesListing
+    ensures { WritesListing skew
         (B.reading binding.old, B.reading binding.new) (D.reading dump.old, D.reading dump.new) block
         (O.writing out.old, O.writing out.new) (E.writing err.old, E.writing err.new) result }
 {
-    match listing(alloc, workers, binding, dump, block) {
+    match listing_settled(alloc, workers, binding, dump, block, skew) {
         Ok(listing) => tell(&listing, out, err),
         Err(refusal) => {
             complain(err, refusal_line(&refusal));
@@ -134,6 +139,61 @@ fn outcome_code(outcome: ListedVerdict) -> u8
         ListedVerdict::Conforming => 0,
         ListedVerdict::Broken(..) => 1,
         ListedVerdict::Unreadable(..) | ListedVerdict::NeverIdle => 2,
+    }
+}
+
+/// The listing of the recording that a binding makes of a dump, settled by a skew, or the first reason that there is
+/// none.
+fn listing_settled<R: Threads + Sync, B: Source, D: Source>(
+    alloc: Global,
+    workers: &Workers<'_, R>,
+    binding: &mut B,
+    dump: &mut D,
+    block: u32,
+    skew: u64,
+) -> Result<Listing, Refusal>
+    requires { (1 ≤ block) × (block ≤ 65536) }
+    ensures { (binding_bytes dump_bytes : Option (List ℕ))
+        × IsReading (B.reading binding.old) (B.reading binding.new) binding_bytes
+        × IsReading (D.reading dump.old) (D.reading dump.new) dump_bytes
+        × GivesListing result (settled_recording skew binding_bytes dump_bytes block) }
+{
+    if skew == 0 {
+        listing(alloc, workers, binding, dump, block)
+    } else {
+        listing_whole(alloc, binding, dump, block, skew)
+    }
+}
+
+/// The same by one worker, of the whole recording.
+fn listing_whole<B: Source, D: Source>(
+    alloc: Global,
+    binding: &mut B,
+    dump: &mut D,
+    block: u32,
+    skew: u64,
+) -> Result<Listing, Refusal>
+    requires { (1 ≤ block) × (block ≤ 65536) }
+    ensures { (binding_bytes dump_bytes : Option (List ℕ))
+        × IsReading (B.reading binding.old) (B.reading binding.new) binding_bytes
+        × IsReading (D.reading dump.old) (D.reading dump.new) dump_bytes
+        × GivesListing result (settled_recording skew binding_bytes dump_bytes block) }
+{
+    match settled_from(alloc, binding, dump, skew) {
+        Ok(capture) => listing_on(alloc, &capture, block),
+        Err(refusal) => Err(refusal),
+    }
+}
+
+/// The listing of a recording, in blocks of so many steps.
+fn listing_on(alloc: Global, capture: &Capture, block: u32) -> Result<Listing, Refusal>
+    requires { (1 ≤ block) × (block ≤ 65536) }
+    ensures { GivesListing result (in_blocks block capture.now) }
+{
+    match listing_by_blocks(alloc, capture, block) {
+        Ok(listing) => Ok(listing),
+        Err(CutFault::TooManyBlocks) => Err(Refusal::TooManyBlocks),
+        Err(CutFault::BadSize) | Err(CutFault::Memory) => Err(Refusal::Memory),
     }
 }
 

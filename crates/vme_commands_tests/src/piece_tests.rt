@@ -77,6 +77,7 @@ fn expect_verdict<R: Abort + AllocGlobal + Threads + Sync>(
         &mut Bytes::new(BUILT_IN),
         &mut Bytes::new(dump.as_bytes()),
         BLOCK,
+        0,
         &mut out,
         &mut err,
     );
@@ -99,6 +100,7 @@ fn expect_listing<R: Abort + AllocGlobal + Threads + Sync>(
         &mut Bytes::new(BUILT_IN),
         &mut Bytes::new(dump.as_bytes()),
         BLOCK,
+        0,
         &mut out,
         &mut err,
     );

@@ -184,9 +184,9 @@ fn ended<R: AllocGlobal + Threads + Sync, B: Source, D: Source, L: Source>(
     let (out, err) = (&mut out, &mut err);
     let alloc = rt.alloc();
     match command {
-        Command::Check => check(rt, alloc, binding, dump, BLOCK, 1, out, err),
-        Command::List => list(rt, alloc, binding, dump, BLOCK, 1, out, err),
-        Command::Confirm => confirm_with(alloc, binding, dump, listing, out, err),
+        Command::Check => check(rt, alloc, binding, dump, BLOCK, 1, 0, out, err),
+        Command::List => list(rt, alloc, binding, dump, BLOCK, 1, 0, out, err),
+        Command::Confirm => confirm_with(alloc, binding, dump, listing, 0, out, err),
     }
 }
 
@@ -311,6 +311,7 @@ fn a_writer_that_takes_nothing(rt: HostRuntime) {
         &mut Bytes::new(DUMP.as_bytes()),
         BLOCK,
         1,
+        0,
         &mut Io::new(Deaf),
         &mut Io::new(&mut err),
     );

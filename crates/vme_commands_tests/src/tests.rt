@@ -16,7 +16,7 @@ use vme_trace::{Failed, Sink, Source};
 use vme_words::words::order;
 use vme_words::{Order, OrderFault, Task, task_fault};
 
-const HEAD: &str = "$timescale 1 ns $end\n$scope module bus $end\n\
+pub(crate) const HEAD: &str = "$timescale 1 ns $end\n$scope module bus $end\n\
 $var wire 1 p AS $end\n$var wire 1 q DS0 $end\n$var wire 1 r DS1 $end\n\
 $var wire 1 s DTACK $end\n$var wire 1 t BERR $end\n$var wire 1 u IACK $end\n\
 $upscope $end\n$enddefinitions $end\n";
@@ -49,7 +49,7 @@ impl Page {
     }
 
     /// A sink whose memory is taken before the first write.
-    fn with_room(alloc: Global, room: usize) -> Result<Page, AllocError> {
+    pub fn with_room(alloc: Global, room: usize) -> Result<Page, AllocError> {
         Ok(Page {
             bytes: Vec::with_capacity(alloc, room)?,
             room,
@@ -106,6 +106,7 @@ fn check_text<R: AllocGlobal + Threads + Sync>(
         &mut Bytes::new(dump),
         block,
         1,
+        0,
         &mut out,
         &mut err,
     );
@@ -201,6 +202,7 @@ fn list_text<R: AllocGlobal + Threads + Sync>(
         &mut Bytes::new(dump),
         block,
         1,
+        0,
         &mut out,
         &mut err,
     );
@@ -273,6 +275,7 @@ fn a_reset_ends_what_is_judged(rt: HostRuntime) -> Result<(), Fail> {
         &mut Bytes::new(dump.as_bytes()),
         1,
         1,
+        0,
         &mut out,
         &mut err,
     );
@@ -319,6 +322,7 @@ fn confirm_text<L: Source>(
         &mut Bytes::new(binding),
         &mut Bytes::new(dump),
         listing,
+        0,
         &mut out,
         &mut err,
     );
@@ -455,6 +459,7 @@ fn want_of_memory_is_told(rt: HostRuntime) {
         &mut Bytes::new(BUILT_IN),
         &mut Bytes::new(dump.as_bytes()),
         &mut Bytes::new(LISTING.as_bytes()),
+        0,
         &mut out,
         &mut err,
     );
@@ -592,7 +597,7 @@ fn blocks(rt: HostRuntime) -> Result<(), Fail> {
 }
 
 /// The words of a line, the program's name first.
-fn words_of(alloc: Global, line: &str) -> Result<Vec<String>, AllocError> {
+pub(crate) fn words_of(alloc: Global, line: &str) -> Result<Vec<String>, AllocError> {
     let mut words = Vec::new(alloc);
     for word in line.split(' ') {
         words.push(String::from_str(alloc, word)?)?;
@@ -645,6 +650,7 @@ fn orders(rt: HostRuntime) -> Result<(), Fail> {
             Ok(order) => {
                 assert_eq!(rt; order.command, command);
                 assert_eq!(rt; (order.block, order.workers), numbers, "{line}");
+                assert_eq!(rt; order.skew, 0, "{line}");
                 let mut told = String::new(rt.alloc());
                 for name in &order.names {
                     told.push_str(name.as_str())?;
@@ -668,6 +674,7 @@ fn an_explanation_begins_with_the_verdict(rt: HostRuntime) -> Result<(), Fail> {
         &mut Bytes::new(BUILT_IN),
         &mut Bytes::new(dump.as_bytes()),
         b"bus.vcd",
+        0,
         &mut out,
         &mut err,
     );
@@ -800,6 +807,7 @@ $upscope $end\n$enddefinitions $end\n#0 1p b111101 q\n#3 b111110 q\n#5 0p\n";
         &mut Bytes::new(binding.as_bytes()),
         &mut Bytes::new(dump.as_bytes()),
         b"b.vcd",
+        0,
         &mut out,
         &mut err,
     );

@@ -6,13 +6,14 @@ use Rattle.std.specs.Borrow.{Bor}
 use Rattle.std.specs.Str.Parse.{ParsesUnsigned}
 use Rattle.clap.specs.Words.{HasKind, IsAmong, Row, Text, ReadsOne, fault_of, first_of, first_value, found_of, kind_of}
 use Rattle.clap.specs.Words.{one_text, rows_of, without_minus}
+use Rattle.clap.specs.Values.{IsUnsignedIn}
 use Rattle.clap.proofs.CallerReads.{signed_reads}
 use Rattle.clap.specs.declared.error.Error.{Error}
 use Rattle.clap.specs.declared.parser.matches.ArgMatches.{ArgMatches}
 use Rattle.clap.proofs.WalkLemmas.{first_value-rows, one_text-rows}
-use Rattle.vme_words.specs.Orders.{HasNumber, IsOrder, Says, SaysConfirmation, SaysOrder, SaysWords, if_given, names_in}
-use Rattle.vme_words.specs.Orders.{number_in, number_of, task_name}
-use Rattle.vme_words.specs.Commands.{vmecheck_app}
+use Rattle.vme_words.specs.Orders.{HasNumber, HasSkew, IsOrder, Says, SaysConfirmation, SaysOrder, SaysWords, if_given, names_in}
+use Rattle.vme_words.specs.Orders.{number_in, number_of, skew_in, task_name}
+use Rattle.vme_words.specs.Commands.{greatest_skew, vmecheck_app}
 use Rattle.vme_words.specs.OrderFaults.{ComesOf, IsFaultOf}
 use Rattle.vme_words.specs.declared.order_fault.OrderFault.{OrderFault}
 use Rattle.vme_words.specs.declared.order_fault.OrderFault.TheVariants.{Usage, Memory as no_memory}
@@ -47,6 +48,22 @@ pub number_there : (E : Type 0) (G : List ℕ → Result ℕ E → Type 0) (m : 
 number_there E G m id greatest r has small value only =
     signed_reads E G 32 1 greatest has.text r (value (without_minus has.text) (one_text-rows (found_of m) id
     ∙ has.read)) only small has.says
+
+-- a text that is a number of 64 bits is read as one
+unsigned_reads : (E : Type 0) (G : List ℕ → Result ℕ E → Type 0) (greatest : ℕ) (t : List ℕ) (r : Option ℕ)
+    → ReadsOne G t r → ((u : List ℕ) (x : Result ℕ E) → G u x → ParsesUnsigned 64 10 u x) → IsUnsignedIn 0 greatest t
+    → is_some r ≡ true
+unsigned_reads E G greatest t (Some n) read only says = refl
+unsigned_reads E G greatest t None read only says = absurd (only t (Err read.0) read.1 (says.0, says.1))
+
+-- and where the skew is one, the getter reads it
+pub skew_there : (E : Type 0) (G : List ℕ → Result ℕ E → Type 0) (m : ArgMatches) (r : Option ℕ)
+    → HasSkew (rows_of (found_of m))
+    → ((t : List ℕ) → one_text (found_of m) (codes "skew") ≡ Some t → ReadsOne G t r)
+    → ((t : List ℕ) (x : Result ℕ E) → G t x → ParsesUnsigned 64 10 t x) → is_some r ≡ true
+skew_there E G m r has value only =
+    unsigned_reads E G greatest_skew has.text r
+    (value has.text (one_text-rows (found_of m) (codes "skew") ∙ has.read)) only has.says
 
 -- a file that has a name is read
 pub named_file : (m : ArgMatches) (id : Text) (r : Option (Bor (List ℕ))) → option_map (λ (s : Bor (List ℕ)). s.now) r
@@ -111,7 +128,7 @@ is_confirmation order rows task says = record {
   says = subst (λ (t : Task). Says t order rows) (sym task) says;
 }
 
-pub is_rules : (order : Order) (rows : List Row) → order.command ≡ Rules → SaysWords order
+pub is_rules : (order : Order) (rows : List Row) → order.command ≡ Rules → SaysWords order (Some 0)
     (if_given (first_of (codes "RULE") rows)) → IsOrder order (Some (codes "rules", rows))
 is_rules order rows task says = record {
   rows = rows;
@@ -119,7 +136,7 @@ is_rules order rows task says = record {
   says = subst (λ (t : Task). Says t order rows) (sym task) says;
 }
 
-pub is_variables : (order : Order) (rows : List Row) → order.command ≡ Variables → SaysWords order
+pub is_variables : (order : Order) (rows : List Row) → order.command ≡ Variables → SaysWords order (Some 0)
     (first_of (codes "DUMP") rows ∷ []) → IsOrder order (Some (codes "variables", rows))
 is_variables order rows task says = record {
   rows = rows;
@@ -127,15 +144,15 @@ is_variables order rows task says = record {
   says = subst (λ (t : Task). Says t order rows) (sym task) says;
 }
 
-pub is_bind : (order : Order) (rows : List Row) → order.command ≡ Bind → SaysWords order (first_of (codes "DUMP") rows
-    ∷ if_given (first_of (codes "slots") rows)) → IsOrder order (Some (codes "bind", rows))
+pub is_bind : (order : Order) (rows : List Row) → order.command ≡ Bind → SaysWords order (Some 0)
+    (first_of (codes "DUMP") rows ∷ if_given (first_of (codes "slots") rows)) → IsOrder order (Some (codes "bind", rows))
 is_bind order rows task says = record {
   rows = rows;
   command = ap (λ (t : Task). Some (task_name t, rows)) (sym task);
   says = subst (λ (t : Task). Says t order rows) (sym task) says;
 }
 
-pub is_explain : (order : Order) (rows : List Row) → order.command ≡ Explain → SaysWords order
+pub is_explain : (order : Order) (rows : List Row) → order.command ≡ Explain → SaysWords order (skew_in rows)
     (names_in rows ++ if_given (first_of (codes "gtkw") rows)) → IsOrder order (Some (codes "explain", rows))
 is_explain order rows task says = record {
   rows = rows;

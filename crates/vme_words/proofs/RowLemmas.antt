@@ -2,15 +2,14 @@
 -- parser.
 use Rattle.std.proofs.Common.{◌≡◌, ◌∙◌, ◌<◌, ◌&&◌, ◌||◌, ℕ, Bool, true, false, zero, suc, refl, sym, ap, subst, arith}
 use Rattle.std.proofs.Common.{codes, List, [], ◌∷◌, ◌++◌, length, drop, Option, Some, None, is_some, true≢false}
-use Rattle.std.specs.Prelude.{cond, find, fold, if◌then◌else◌, pos, slice_get, unwrap_or, encode_utf8}
+use Rattle.std.specs.Prelude.{cond, find, fold, if◌then◌else◌, slice_get, unwrap_or, encode_utf8}
 use Rattle.std.specs.Option.{option_map_or}
 use Rattle.std.specs.List.{list_all}
 use Rattle.std.specs.Str.{bytes_eq, chars}
 use Rattle.std.proofs.lemmas.Slice.Eq.{bytes_eq-Decides}
 use Rattle.clap.specs.Lexer.{long_of, short_of}
-use Rattle.clap.specs.Values.{IsSignedIn}
+use Rattle.clap.specs.Values.{Accepts, read_as, reading_of}
 use Rattle.clap.specs.ValueTests.{accepts}
-use Rattle.clap.specs.Lexer.{without_minus}
 use Rattle.clap.specs.Facts.{parser_of_value, unwrap_or_range}
 use Rattle.clap.specs.Kinds.{Kinds, or_else, range_kinds, value_kinds, values_kinds}
 use Rattle.clap.specs.Takes.{is_given, values_pass}
@@ -31,7 +30,6 @@ use Rattle.clap.specs.Walk.{done, waits, plain, refused, idle, option, positiona
 use Rattle.clap.specs.declared.builder.action.ArgAction.{ArgAction}
 use Rattle.clap.specs.declared.builder.action.ArgAction.TheVariants as action
 use Rattle.clap.specs.declared.builder.value_parser.ValueParser.{ValueParser}
-use Rattle.clap.specs.declared.builder.value_parser.ValueParser.TheVariants.{Signed}
 use Rattle.clap.specs.declared.builder.value_parser.Reading.{Reading}
 use Rattle.clap.specs.declared.parser.matches.ValueSource.{ValueSource}
 use Rattle.clap.specs.declared.parser.matches.ValueSource.TheVariants.{CommandLine, DefaultValue}
@@ -429,17 +427,12 @@ given_text c rows a g own given = go (find (λ r. bytes_eq r.id a.id) rows) refl
     go None e = let bad = rw e at given in cc
     go (Some r) e = rw e (first_text r.values (row_good c rows a r g own e).some)
 
-row_number : (a : Rule) (r : Row) (greatest : ℕ) (vs : List Text) → r.values ≡ vs → IsGood a r → a.parser
-    ≡ Some (Signed (pos 1) (pos greatest))
-    → (text : Text) × (row_text r ≡ Some (without_minus text)) × IsSignedIn (pos 1) (pos greatest) text
-row_number a r greatest [] is g parser = let bad = rw is at g.some in absurd (omega arith)
-row_number a r greatest (v ∷ vs) is g parser =
-    let passes = rw (is, parser) at g.passes in (
-      v,
-      rw (is, g.reading, parser) refl,
-      accepts-Accepts a.ignore_case (Signed (pos 1) (pos greatest)) v
-          (both _ _ passes).0,
-    )
+row_passes : (a : Rule) (r : Row) (p : ValueParser) (vs : List Text) → r.values ≡ vs → IsGood a r → a.parser ≡ Some p
+    → (text : Text) × (row_text r ≡ Some (read_as (reading_of p) text)) × Accepts a.ignore_case p text
+row_passes a r p [] is g parser = let bad = rw is at g.some in absurd (omega arith)
+row_passes a r p (v ∷ vs) is g parser =
+    let passes = rw (is, parser) at g.passes in
+    (v, rw (is, g.reading, parser) refl, accepts-Accepts a.ignore_case p v (both _ _ passes).0)
 
 none_has : (rows : List Row) (id : Text) → find (λ r. bytes_eq r.id id) rows ≡ None → has_row id rows ≡ false
 none_has [] id e = refl
@@ -450,18 +443,17 @@ none_has (r ∷ rs) id e = go (bytes_eq r.id id) refl (λ f. none_has rs id f)
     go true is rest = let bad = rw is at e in cc
     go false is rest = rw is (rest (rw is at e))
 
--- an argument of a range that has a row says a number of the range
-pub row_says : (c : List Rule) (rows : List Row) (a : Rule) (greatest : ℕ) → AllGood c rows → arg_by_id c a.id ≡ Some a
-    → a.parser ≡ Some (Signed (pos 1) (pos greatest))
-    → has_row a.id rows ≡ true → (text : Text) × (one_of a.id rows ≡ Some (without_minus text)) × IsSignedIn (pos 1)
-    (pos greatest) text
-row_says c rows a greatest g own parser has = go (find (λ r. bytes_eq r.id a.id) rows) refl
+-- an argument with a parser that has a row has a text that passes it
+pub row_says : (c : List Rule) (rows : List Row) (a : Rule) (p : ValueParser) → AllGood c rows → arg_by_id c a.id
+    ≡ Some a → a.parser ≡ Some p → has_row a.id rows ≡ true
+    → (text : Text) × (one_of a.id rows ≡ Some (read_as (reading_of p) text)) × Accepts a.ignore_case p text
+row_says c rows a p g own parser has = go (find (λ r. bytes_eq r.id a.id) rows) refl
   where
     go : (o : Option Row) → find (λ r. bytes_eq r.id a.id) rows ≡ o
-        → (text : Text) × (one_of a.id rows ≡ Some (without_minus text)) × IsSignedIn (pos 1) (pos greatest) text
+        → (text : Text) × (one_of a.id rows ≡ Some (read_as (reading_of p) text)) × Accepts a.ignore_case p text
     go None e = absurd (true≢false (sym has ∙ none_has rows a.id e))
     go (Some r) e =
-        let n = row_number a r greatest r.values refl (row_good c rows a r g own e) parser in
+        let n = row_passes a r p r.values refl (row_good c rows a r g own e) parser in
         (n.0, rw e n.1, n.2)
 
 -- ---- rows of arguments with a default

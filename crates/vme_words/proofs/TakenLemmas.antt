@@ -1,7 +1,7 @@
 -- Words without a fault name a task, and give all that its order needs.
 use Rattle.std.proofs.Common.{◌≡◌, ◌∙◌, ◌⊎◌, ◌&&◌, ◌||◌, Bool, true, false, not, refl, sym, ap, subst, codes, List, []}
 use Rattle.std.proofs.Common.{◌∷◌, Option, Some, None, is_some, true≢false, inl, inr}
-use Rattle.std.specs.Prelude.{cond, find, drop, option_map, unwrap_or}
+use Rattle.std.specs.Prelude.{cond, find, drop, option_map, pos, unwrap_or}
 use Rattle.std.specs.Str.{bytes_eq}
 use Rattle.std.proofs.lemmas.Slice.Eq.{bytes_eq-Decides}
 use Rattle.clap.specs.Kinds.{check_kinds}
@@ -13,10 +13,12 @@ use Rattle.clap.specs.Simple.{label_of, marked_built, names_of, rows_at, subcomm
 use Rattle.clap.specs.Takes.{is_given}
 use Rattle.clap.specs.Walk.{Rule, Text, answers_to, finished, nothing_held, rows_after, settled, stop_after, walk}
 use Rattle.clap.specs.Walk.{walk_from, with_default}
+use Rattle.clap.specs.declared.builder.value_parser.ValueParser.TheVariants.{Signed, Unsigned}
 use Rattle.clap.proofs.OnLiterals.{clap_on_literals}
-use Rattle.vme_words.specs.Commands.{bind_app, confirm_app, explain_app, file_rule, number_rule, recording_app}
-use Rattle.vme_words.specs.Commands.{rules_app, slots_rule, variables_app, vmecheck_app, word_rule}
-use Rattle.vme_words.specs.Orders.{HasConfirmation, HasName, HasNames, HasOrder, HasRecording}
+use Rattle.vme_words.specs.Commands.{bind_app, confirm_app, explain_app, file_rule, greatest_skew, number_rule}
+use Rattle.vme_words.specs.Commands.{recording_app, rules_app, skew_rule, slots_rule, variables_app, vmecheck_app}
+use Rattle.vme_words.specs.Commands.{word_rule}
+use Rattle.vme_words.specs.Orders.{HasConfirmation, HasExplanation, HasName, HasOrder, HasRecording}
 use Rattle.vme_words.specs.declared.order.Task.TheVariants.{Check, List as Listing, Confirm, Rules, Variables, Bind}
 use Rattle.vme_words.specs.declared.order.Task.TheVariants.{Explain}
 use Rattle.vme_words.proofs.RowLemmas.{EachKnown, NamesNoHelp, both_free, default_adds, defaults_keep, given_text}
@@ -51,6 +53,9 @@ block = with_index 1 (filled (number_rule (codes "block") 65536 (codes "16384"))
 abbrev workers : Rule
 workers = with_index 1 (filled (number_rule (codes "workers") 64 (codes "4")))
 
+abbrev skew : Rule
+skew = with_index 1 (filled skew_rule)
+
 abbrev binding : Rule
 binding = with_index 1 (filled (file_rule (codes "BINDING")))
 
@@ -76,10 +81,10 @@ abbrev save_file : Rule
 save_file = with_index 1 (filled (word_rule (codes "gtkw")))
 
 abbrev recording_rules : List Rule
-recording_rules = block ∷ workers ∷ binding ∷ dump ∷ help ∷ []
+recording_rules = block ∷ workers ∷ skew ∷ binding ∷ dump ∷ help ∷ []
 
 abbrev confirmation_rules : List Rule
-confirmation_rules = binding ∷ dump ∷ listing ∷ help ∷ []
+confirmation_rules = skew ∷ binding ∷ dump ∷ listing ∷ help ∷ []
 
 abbrev rules_rules : List Rule
 rules_rules = rule ∷ help ∷ []
@@ -91,7 +96,7 @@ abbrev bind_rules : List Rule
 bind_rules = slots ∷ only_dump ∷ help ∷ []
 
 abbrev explain_rules : List Rule
-explain_rules = save_file ∷ binding ∷ dump ∷ help ∷ []
+explain_rules = save_file ∷ skew ∷ binding ∷ dump ∷ help ∷ []
 
 recording_known : EachKnown recording_rules recording_rules
 unfolding clap_on_literals
@@ -103,7 +108,10 @@ recording_known = (
       record { own = refl; acts = refl; defaults = refl },
       (
         record { own = refl; acts = refl; defaults = refl },
-        (record { own = refl; acts = tt; defaults = refl }, tt),
+        (
+          record { own = refl; acts = refl; defaults = refl },
+          (record { own = refl; acts = tt; defaults = refl }, tt),
+        ),
       ),
     ),
   ),
@@ -117,7 +125,10 @@ confirmation_known = (
     record { own = refl; acts = refl; defaults = refl },
     (
       record { own = refl; acts = refl; defaults = refl },
-      (record { own = refl; acts = tt; defaults = refl }, tt),
+      (
+        record { own = refl; acts = refl; defaults = refl },
+        (record { own = refl; acts = tt; defaults = refl }, tt),
+      ),
     ),
   ),
 )
@@ -157,7 +168,10 @@ explain_known = (
     record { own = refl; acts = refl; defaults = refl },
     (
       record { own = refl; acts = refl; defaults = refl },
-      (record { own = refl; acts = tt; defaults = refl }, tt),
+      (
+        record { own = refl; acts = refl; defaults = refl },
+        (record { own = refl; acts = tt; defaults = refl }, tt),
+      ),
     ),
   ),
 )
@@ -187,18 +201,24 @@ recording_has name words e =
     let rows = rows_after recording_rules [] words in
     let before = (settled recording_rules (walk recording_rules [] nothing_held words).held).rows in
     let given = two_given (is_given (codes "BINDING") rows) (is_given (codes "DUMP") rows) level.1 in
-    let in_block = row_says recording_rules rows block 65536 level.0 recording_known.0.own refl
-    (defaults_keep (codes "block") (workers ∷ binding ∷ dump ∷ help ∷ []) (with_default before block)
+    let behind_block = with_default before block in
+    let behind_workers = with_default behind_block workers in
+    let in_block = row_says recording_rules rows block (Signed (pos 1) (pos 65536)) level.0 recording_known.0.own refl
+    (defaults_keep (codes "block") (workers ∷ skew ∷ binding ∷ dump ∷ help ∷ []) behind_block
     (default_adds before block (codes "16384") [] refl)) in
-    let in_workers = row_says recording_rules rows workers 64 level.0 recording_known.1.0.own refl
-    (defaults_keep (codes "workers") (binding ∷ dump ∷ help ∷ []) (with_default (with_default before block) workers)
-    (default_adds (with_default before block) workers (codes "4") [] refl)) in
+    let in_workers = row_says recording_rules rows workers (Signed (pos 1) (pos 64)) level.0 recording_known.1.0.own
+    refl (defaults_keep (codes "workers") (skew ∷ binding ∷ dump ∷ help ∷ []) behind_workers
+    (default_adds behind_block workers (codes "4") [] refl)) in
+    let in_skew = row_says recording_rules rows skew (Unsigned 0 greatest_skew) level.0 recording_known.1.1.0.own refl
+    (defaults_keep (codes "skew") (binding ∷ dump ∷ help ∷ []) (with_default behind_workers skew)
+    (default_adds behind_workers skew (codes "0") [] refl)) in
     record {
       block = record { text = in_block.0; read = in_block.1; says = in_block.2 };
       workers = record { text = in_workers.0; read = in_workers.1; says = in_workers.2 };
+      skew = record { text = in_skew.0; read = in_skew.1; says = in_skew.2 };
       names = record {
-        binding = given_text recording_rules rows binding level.0 recording_known.1.1.0.own given.0;
-        dump = given_text recording_rules rows dump level.0 recording_known.1.1.1.0.own given.1;
+        binding = given_text recording_rules rows binding level.0 recording_known.1.1.1.0.own given.0;
+        dump = given_text recording_rules rows dump level.0 recording_known.1.1.1.1.0.own given.1;
       };
     }
 
@@ -207,14 +227,19 @@ confirmation_has : (words : List Text) → level_fault confirmation [] nothing_h
 confirmation_has words e =
     let level = level_good confirmation words confirmation_known e in
     let rows = rows_after confirmation_rules [] words in
+    let before = (settled confirmation_rules (walk confirmation_rules [] nothing_held words).held).rows in
     let given = three_given (is_given (codes "BINDING") rows) (is_given (codes "DUMP") rows)
     (is_given (codes "LISTING") rows) level.1 in
+    let in_skew = row_says confirmation_rules rows skew (Unsigned 0 greatest_skew) level.0 confirmation_known.0.own refl
+    (defaults_keep (codes "skew") (binding ∷ dump ∷ listing ∷ help ∷ []) (with_default before skew)
+    (default_adds before skew (codes "0") [] refl)) in
     record {
+      skew = record { text = in_skew.0; read = in_skew.1; says = in_skew.2 };
       names = record {
-        binding = given_text confirmation_rules rows binding level.0 confirmation_known.0.own given.0;
-        dump = given_text confirmation_rules rows dump level.0 confirmation_known.1.0.own given.1;
+        binding = given_text confirmation_rules rows binding level.0 confirmation_known.1.0.own given.0;
+        dump = given_text confirmation_rules rows dump level.0 confirmation_known.1.1.0.own given.1;
       };
-      listing = given_text confirmation_rules rows listing level.0 confirmation_known.1.1.0.own given.2;
+      listing = given_text confirmation_rules rows listing level.0 confirmation_known.1.1.1.0.own given.2;
     }
 
 variables_has : (words : List Text) → level_fault of_variables [] nothing_held words false [] ≡ []
@@ -233,14 +258,22 @@ bind_has words e =
     given_text bind_rules rows only_dump level.0 bind_known.1.0.own (one_given (is_given (codes "DUMP") rows) level.1)
 
 explain_has : (words : List Text) → level_fault of_explain [] nothing_held words false [] ≡ []
-    → HasNames (rows_after explain_rules [] words)
+    → HasExplanation (rows_after explain_rules [] words)
 explain_has words e =
     let level = level_good of_explain words explain_known e in
     let rows = rows_after explain_rules [] words in
+    let before = (settled explain_rules (walk explain_rules [] nothing_held words).held).rows in
     let given = two_given (is_given (codes "BINDING") rows) (is_given (codes "DUMP") rows) level.1 in
+    let behind_file = with_default before save_file in
+    let in_skew = row_says explain_rules rows skew (Unsigned 0 greatest_skew) level.0 explain_known.1.0.own refl
+    (defaults_keep (codes "skew") (binding ∷ dump ∷ help ∷ []) (with_default behind_file skew)
+    (default_adds behind_file skew (codes "0") [] refl)) in
     record {
-      binding = given_text explain_rules rows binding level.0 explain_known.1.0.own given.0;
-      dump = given_text explain_rules rows dump level.0 explain_known.1.1.0.own given.1;
+      skew = record { text = in_skew.0; read = in_skew.1; says = in_skew.2 };
+      names = record {
+        binding = given_text explain_rules rows binding level.0 explain_known.1.1.0.own given.0;
+        dump = given_text explain_rules rows dump level.0 explain_known.1.1.1.0.own given.1;
+      };
     }
 
 -- ---- the words

@@ -3,7 +3,7 @@ use Rattle.std.specs.Prelude.{◌≡◌, ℕ, pos, true, false, ◌∷◌, [], S
 use Rattle.clap.specs.Words.{App, Rule, Text, app_of, new_app, new_rule, with_rule, with_subcommand}
 use Rattle.clap.specs.declared.builder.command.Command.{Command}
 use Rattle.clap.specs.declared.builder.command.Command.TheViews.{out-Command}
-use Rattle.clap.specs.declared.builder.value_parser.ValueParser.TheVariants.{Signed}
+use Rattle.clap.specs.declared.builder.value_parser.ValueParser.TheVariants.{Signed, Unsigned}
 
 -- `--NAME N`, N from 1 to the greatest, with the number that it has by default
 abbrev pub number_rule : Text → ℕ → Text → Rule
@@ -14,21 +14,35 @@ number_rule name greatest default =
 abbrev pub file_rule : Text → Rule
 file_rule name = record (new_rule name) { required = true }
 
--- `NAME [--block N] [--workers N] BINDING DUMP`
+-- the greatest number of 64 bits
+abbrev pub greatest_skew : ℕ
+greatest_skew = 18446744073709551615
+
+-- `--skew T`, T any number of 64 bits, 0 by default
+abbrev pub skew_rule : Rule
+skew_rule = record (new_rule (codes "skew")) {
+  long = Some (codes "skew");
+  parser = Some (Unsigned 0 greatest_skew);
+  defaults = codes "0" ∷ [];
+}
+
+-- `NAME [--block N] [--workers N] [--skew T] BINDING DUMP`
 abbrev pub recording_app : Text → App
 recording_app name =
     with_rule
     (with_rule
     (with_rule
+    (with_rule
     (with_rule (new_app name) (number_rule (codes "block") 65536 (codes "16384")))
     (number_rule (codes "workers") 64 (codes "4")))
+    skew_rule)
     (file_rule (codes "BINDING")))
     (file_rule (codes "DUMP"))
 
--- `confirm BINDING DUMP LISTING`
+-- `confirm [--skew T] BINDING DUMP LISTING`
 abbrev pub confirm_app : App
 confirm_app =
-    with_rule (with_rule (with_rule (new_app (codes "confirm")) (file_rule (codes "BINDING")))
+    with_rule (with_rule (with_rule (with_rule (new_app (codes "confirm")) skew_rule) (file_rule (codes "BINDING")))
     (file_rule (codes "DUMP"))) (file_rule (codes "LISTING"))
 
 -- `--NAME WORD`, which need not be there
@@ -51,10 +65,10 @@ variables_app = with_rule (new_app (codes "variables")) (file_rule (codes "DUMP"
 abbrev pub bind_app : App
 bind_app = with_rule (with_rule (new_app (codes "bind")) slots_rule) (file_rule (codes "DUMP"))
 
--- `explain [--gtkw FILE] BINDING DUMP`
+-- `explain [--gtkw FILE] [--skew T] BINDING DUMP`
 abbrev pub explain_app : App
 explain_app =
-    with_rule (with_rule (with_rule (new_app (codes "explain")) (word_rule (codes "gtkw")))
+    with_rule (with_rule (with_rule (with_rule (new_app (codes "explain")) (word_rule (codes "gtkw"))) skew_rule)
     (file_rule (codes "BINDING"))) (file_rule (codes "DUMP"))
 
 -- the program, with the subcommands that judge recordings by a binding and nothing more

@@ -2,7 +2,9 @@
 use Rattle.std.specs.Prelude.{◌≡◌, ℕ, pos, true, List, [], ◌∷◌, ◌++◌, map, codes, Option, None, Some, is_some}
 use Rattle.std.specs.Prelude.{option_map, string_bytes}
 use Rattle.std.specs.Str.Parse.{digits_value, without_leading_plus}
+use Rattle.clap.specs.Values.{IsUnsignedIn}
 use Rattle.clap.specs.Words.{IsSignedIn, Row, Text, first_of, one_of, without_minus}
+use Rattle.vme_words.specs.Commands.{greatest_skew}
 use Rattle.vme_words.specs.declared.order.Order.{Order}
 use Rattle.vme_words.specs.declared.order.Task.{Task}
 use Rattle.vme_words.specs.declared.order.Task.TheVariants.{Check, List as Listing, Confirm, Rules, Variables, Bind}
@@ -15,6 +17,10 @@ number_of text = digits_value 10 (without_leading_plus text)
 -- the number of an option
 abbrev pub number_in : Text → List Row → Option ℕ
 number_in name rows = option_map number_of (one_of name rows)
+
+-- the skew
+abbrev pub skew_in : List Row → Option ℕ
+skew_in rows = number_in (codes "skew") rows
 
 -- the words that stand for the files
 abbrev pub names_in : List Row → List (Option Text)
@@ -39,29 +45,34 @@ task_name Explain = codes "explain"
 pub record SaysOrder (order : Order) (rows : List Row) : Type 0 where
   pub block : number_in (codes "block") rows ≡ Some order.block
   pub workers : number_in (codes "workers") rows ≡ Some order.workers
+  pub skew : skew_in rows ≡ Some order.skew
   pub names : map (λ name. Some (string_bytes name)) order.names.items ≡ names_in rows
 
--- the matches of the subcommand on a listing are this order, whose numbers are those that the others have by default
+-- the matches of the subcommand on a listing are this order, whose other numbers are those of others by default
 pub record SaysConfirmation (order : Order) (rows : List Row) : Type 0 where
   pub block : order.block ≡ 16384
   pub workers : order.workers ≡ 4
+  pub skew : skew_in rows ≡ Some order.skew
   pub names : map (λ name. Some (string_bytes name)) order.names.items ≡ names_in rows
       ++ first_of (codes "LISTING") rows ∷ []
 
--- an order of these words, whose numbers are those that the others have by default
-pub record SaysWords (order : Order) (words : List (Option Text)) : Type 0 where
+-- an order of this skew and these words, whose other numbers are those that the others have by default
+pub record SaysWords (order : Order) (skew : Option ℕ) (words : List (Option Text)) : Type 0 where
   pub block : order.block ≡ 16384
   pub workers : order.workers ≡ 4
+  pub skew_is : skew ≡ Some order.skew
   pub names : map (λ name. Some (string_bytes name)) order.names.items ≡ words
 
 abbrev pub Says : Task → Order → List Row → Type 0
 Says Check order rows = SaysOrder order rows
 Says Listing order rows = SaysOrder order rows
 Says Confirm order rows = SaysConfirmation order rows
-Says Rules order rows = SaysWords order (if_given (first_of (codes "RULE") rows))
-Says Variables order rows = SaysWords order (first_of (codes "DUMP") rows ∷ [])
-Says Bind order rows = SaysWords order (first_of (codes "DUMP") rows ∷ if_given (first_of (codes "slots") rows))
-Says Explain order rows = SaysWords order (names_in rows ++ if_given (first_of (codes "gtkw") rows))
+Says Rules order rows = SaysWords order (Some 0) (if_given (first_of (codes "RULE") rows))
+Says Variables order rows = SaysWords order (Some 0) (first_of (codes "DUMP") rows ∷ [])
+Says Bind order rows = SaysWords order (Some 0)
+    (first_of (codes "DUMP") rows ∷ if_given (first_of (codes "slots") rows))
+Says Explain order rows = SaysWords order (skew_in rows)
+    (names_in rows ++ if_given (first_of (codes "gtkw") rows))
 
 -- the subcommand that was met, with its matches, is this order
 pub record IsOrder (order : Order) (met : Option (Text × List Row)) : Type 0 where
@@ -78,6 +89,12 @@ pub record HasNumber (name : Text) (greatest : ℕ) (rows : List Row) : Type 0 w
   pub read : one_of name rows ≡ Some (without_minus text)
   pub says : IsSignedIn (pos 1) (pos greatest) text
 
+-- the option has a text that says a number of 64 bits
+pub record HasSkew (rows : List Row) : Type 0 where
+  pub text : Text
+  pub read : one_of (codes "skew") rows ≡ Some text
+  pub says : IsUnsignedIn 0 greatest_skew text
+
 -- the file is named
 abbrev pub HasName : Text → List Row → Type 0
 HasName name rows = is_some (first_of name rows) ≡ true
@@ -89,11 +106,17 @@ pub record HasNames (rows : List Row) : Type 0 where
 pub record HasRecording (rows : List Row) : Type 0 where
   pub block : HasNumber (codes "block") 65536 rows
   pub workers : HasNumber (codes "workers") 64 rows
+  pub skew : HasSkew rows
   pub names : HasNames rows
 
 pub record HasConfirmation (rows : List Row) : Type 0 where
+  pub skew : HasSkew rows
   pub names : HasNames rows
   pub listing : HasName (codes "LISTING") rows
+
+pub record HasExplanation (rows : List Row) : Type 0 where
+  pub skew : HasSkew rows
+  pub names : HasNames rows
 
 abbrev pub HasAll : Task → List Row → Type 0
 HasAll Check rows = HasRecording rows
@@ -102,7 +125,7 @@ HasAll Confirm rows = HasConfirmation rows
 HasAll Rules rows = Unit {0}
 HasAll Variables rows = HasName (codes "DUMP") rows
 HasAll Bind rows = HasName (codes "DUMP") rows
-HasAll Explain rows = HasNames rows
+HasAll Explain rows = HasExplanation rows
 
 -- a task was met, and its matches have all that its order needs
 pub record HasOrder (met : Option (Text × List Row)) : Type 0 where

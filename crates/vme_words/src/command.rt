@@ -3,7 +3,7 @@
 ghost use Rattle.std.specs.Prelude.{◌≡◌, IfOk, Some, codes, false};
 ghost use Rattle.clap.specs.Words.{App, Rule, app_of, new_app, rule_of, with_rule, with_subcommand};
 ghost use Rattle.vme_words.specs.Commands.{Makes, bind_app, confirm_app, explain_app, file_rule, number_rule};
-ghost use Rattle.vme_words.specs.Commands.{recording_app, recordings_app, rules_app, slots_rule, telling_app};
+ghost use Rattle.vme_words.specs.Commands.{recording_app, recordings_app, rules_app, skew_rule, slots_rule, telling_app};
 ghost use Rattle.vme_words.specs.Commands.{variables_app, vmecheck_app, word_rule};
 
 use clap::{Arg, Command, value_parser};
@@ -124,6 +124,7 @@ fn recording_command<'a>(
     let command = new_command(alloc, name, about);
     let command = with_arg(command, block_option(alloc));
     let command = with_arg(command, workers_option(alloc));
+    let command = with_arg(command, skew_option(alloc));
     let command = with_arg(command, binding_file(alloc));
     with_arg(command, dump_file(alloc))
 }
@@ -137,6 +138,7 @@ pub(crate) fn confirm_command<'a>(alloc: Global) -> Result<Command<'a>, AllocErr
         "confirm",
         "Says whether a listing is that of a recording",
     );
+    let command = with_arg(command, skew_option(alloc));
     let command = with_arg(command, binding_file(alloc));
     let command = with_arg(command, dump_file(alloc));
     with_arg(command, file(alloc, "LISTING", "The file of the listing"))
@@ -186,6 +188,7 @@ pub(crate) fn explain_command<'a>(alloc: Global) -> Result<Command<'a>, AllocErr
         "Judges a recording, and says why and where",
     );
     let command = with_arg(command, save_file_option(alloc));
+    let command = with_arg(command, skew_option(alloc));
     let command = with_arg(command, binding_file(alloc));
     with_arg(command, dump_file(alloc))
 }
@@ -252,6 +255,19 @@ fn workers_option<'a>(alloc: Global) -> Arg<'a>
         .default_value("4")
         .help(
             "How many workers read and judge, 1 to 64; what is answered is the same for each number",
+        )
+}
+
+fn skew_option<'a>(alloc: Global) -> Arg<'a>
+    ensures rule { rule_of result ≡ skew_rule }
+    ensures local { result.global ≡ false }
+{
+    Arg::new(alloc, "skew")
+        .long("skew")
+        .value_parser(value_parser!(u64))
+        .default_value("0")
+        .help(
+            "How far apart probes may tell one moment, 0 to 18446744073709551615 time units of the dump",
         )
 }
 

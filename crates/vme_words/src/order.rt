@@ -30,6 +30,8 @@ pub struct Order {
     pub block: u32,
     /// How many workers read and judge a dump, 1 to 64.
     pub workers: u32,
+    /// How far apart probes may tell one moment of the bus, in time units of the dump.
+    pub skew: u64,
     /// The words behind the task, by it: the binding and the dump, and for a confirmation the listing, or for an
     /// explanation the waveform viewer's file, if one is wanted; the dump, and for a binding the number of slots, if it
     /// is told; or a rule, if one is named.

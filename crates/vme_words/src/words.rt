@@ -6,8 +6,9 @@ ghost use Rattle.clap.specs.Words.{fault_of, first_of, found_of, kind_of, rows_o
 ghost use Rattle.vme_words.specs.Commands.{vmecheck_app};
 ghost use Rattle.vme_words.specs.OrderFaults.{HasUsageKind, IsFaultOf, IsOfWords};
 ghost use Rattle.vme_words.specs.declared.order.Task.{Task};
-ghost use Rattle.vme_words.specs.Orders.{HasAll, HasConfirmation, HasName, HasNames, HasNumber, HasOrder, HasRecording};
-ghost use Rattle.vme_words.specs.Orders.{IsOrder, SaysOrder, SaysWords, if_given, names_in, number_in, task_name};
+ghost use Rattle.vme_words.specs.Orders.{HasAll, HasConfirmation, HasExplanation, HasName, HasNames, HasNumber, HasOrder};
+ghost use Rattle.vme_words.specs.Orders.{HasRecording, HasSkew, IsOrder, SaysOrder, SaysWords, if_given, names_in};
+ghost use Rattle.vme_words.specs.Orders.{number_in, skew_in, task_name};
 
 use crate::command::{
     bind_command, check_command, confirm_command, explain_command, list_command, rules_command,
@@ -122,8 +123,11 @@ fn recording_order(
     ensures says { IfOk result (λ o. IfSome o (λ order. SaysOrder order (rows_of (found_of found.now)))) }
     ensures found { HasRecording (rows_of (found_of found.now)) → IfOk result (λ o. is_some o ≡ true) }
 {
-    let (Some(block), Some(workers)) = (number(found, "block", 65536), number(found, "workers", 64))
-    else {
+    let (Some(block), Some(workers), Some(skew)) = (
+        number(found, "block", 65536),
+        number(found, "workers", 64),
+        skew(found),
+    ) else {
         return Ok(None);
     };
     match names_in(alloc, found)? {
@@ -131,6 +135,7 @@ fn recording_order(
             command,
             block,
             workers,
+            skew,
             names,
         })),
         None => Ok(None),
@@ -144,11 +149,15 @@ fn confirm_order(alloc: Global, found: &ArgMatches<'_>) -> Result<Option<Order>,
         (Some (codes "confirm", rows_of (found_of found.now))))) }
     ensures found { HasConfirmation (rows_of (found_of found.now)) → IfOk result (λ o. is_some o ≡ true) }
 {
+    let Some(skew) = skew(found) else {
+        return Ok(None);
+    };
     match all_names_in(alloc, found)? {
         Some(names) => Ok(Some(Order {
             command: Task::Confirm,
             block: 16_384,
             workers: 4,
+            skew,
             names,
         })),
         None => Ok(None),
@@ -163,7 +172,7 @@ fn rules_order(alloc: Global, found: &ArgMatches<'_>) -> Result<Option<Order>, A
     ensures found { IfOk result (λ o. is_some o ≡ true) }
 {
     let names = with_given(alloc, Vec::new(alloc), found, "RULE")?;
-    Ok(Some(order_of_words(Task::Rules, names)))
+    Ok(Some(order_of_words(Task::Rules, 0, names)))
 }
 
 /// The order that the matches of `variables` are, if they are one.
@@ -174,7 +183,7 @@ fn variables_order(alloc: Global, found: &ArgMatches<'_>) -> Result<Option<Order
     ensures found { HasName (codes "DUMP") (rows_of (found_of found.now)) → IfOk result (λ o. is_some o ≡ true) }
 {
     match dump_in(alloc, found)? {
-        Some(names) => Ok(Some(order_of_words(Task::Variables, names))),
+        Some(names) => Ok(Some(order_of_words(Task::Variables, 0, names))),
         None => Ok(None),
     }
 }
@@ -189,7 +198,7 @@ fn bind_order(alloc: Global, found: &ArgMatches<'_>) -> Result<Option<Order>, Al
     match dump_in(alloc, found)? {
         Some(names) => {
             let names = with_given(alloc, names, found, "slots")?;
-            Ok(Some(order_of_words(Task::Bind, names)))
+            Ok(Some(order_of_words(Task::Bind, 0, names)))
         }
         None => Ok(None),
     }
@@ -200,26 +209,30 @@ fn bind_order(alloc: Global, found: &ArgMatches<'_>) -> Result<Option<Order>, Al
 fn explain_order(alloc: Global, found: &ArgMatches<'_>) -> Result<Option<Order>, AllocError>
     ensures said { IfOk result (λ o. IfSome o (λ order. IsOrder order
         (Some (codes "explain", rows_of (found_of found.now))))) }
-    ensures found { HasNames (rows_of (found_of found.now)) → IfOk result (λ o. is_some o ≡ true) }
+    ensures found { HasExplanation (rows_of (found_of found.now)) → IfOk result (λ o. is_some o ≡ true) }
 {
+    let Some(skew) = skew(found) else {
+        return Ok(None);
+    };
     match names_in(alloc, found)? {
         Some(names) => {
             let names = with_given(alloc, names, found, "gtkw")?;
-            Ok(Some(order_of_words(Task::Explain, names)))
+            Ok(Some(order_of_words(Task::Explain, skew, names)))
         }
         None => Ok(None),
     }
 }
 
-/// An order of these words, with the numbers that the others have by default.
-fn order_of_words(command: Task, names: Vec<String>) -> Order
+/// An order of this skew and these words, with the other numbers that the others have by default.
+fn order_of_words(command: Task, skew: u64, names: Vec<String>) -> Order
     ensures command { result.command ≡ command }
-    ensures says { SaysWords result (map (λ name. Some (string_bytes name)) names.items) }
+    ensures says { SaysWords result (Some skew) (map (λ name. Some (string_bytes name)) names.items) }
 {
     Order {
         command,
         block: 16_384,
         workers: 4,
+        skew,
         names,
     }
 }
@@ -301,6 +314,14 @@ fn number(found: &ArgMatches<'_>, name: &str, greatest: u32) -> Option<u32>
         Some(number) if 1 <= number && number <= greatest => Some(number),
         _ => None,
     }
+}
+
+/// The skew, if it is a number.
+fn skew(found: &ArgMatches<'_>) -> Option<u64>
+    ensures value { IfSome result (λ n. skew_in (rows_of (found_of found.now)) ≡ Some n) }
+    ensures found { HasSkew (rows_of (found_of found.now)) → is_some result ≡ true }
+{
+    found.get_one::<u64>("skew")
 }
 
 /// A fault of the words that the program finds itself.

@@ -78,6 +78,7 @@ fn check_input<R: Threads + Sync>(rt: &HostRuntime, threads: &R) -> u8 {
         &mut Io::new(rt.stdin()),
         BLOCK,
         1,
+        0,
         &mut Io::new(rt.stdout()),
         &mut Io::new(rt.stderr()),
     )
@@ -97,6 +98,7 @@ fn work<R: Threads + Sync>(rt: &HostRuntime, threads: &R, order: &Order) -> Resu
                 &mut dump,
                 block,
                 workers,
+                order.skew,
                 &mut out,
                 &mut err,
             ))
@@ -112,6 +114,7 @@ fn work<R: Threads + Sync>(rt: &HostRuntime, threads: &R, order: &Order) -> Resu
                 &mut dump,
                 block,
                 workers,
+                order.skew,
                 &mut out,
                 &mut err,
             ))
@@ -138,6 +141,7 @@ fn confirm_order(rt: &HostRuntime, order: &Order) -> Result<u8, Refusal> {
         &mut binding,
         &mut dump,
         &mut listing,
+        order.skew,
         &mut out,
         &mut err,
     ))
@@ -203,6 +207,7 @@ fn explain_files(rt: &HostRuntime, order: &Order, binding: File, dump: File) -> 
         &mut Io::new(binding),
         &mut Io::new(dump),
         name,
+        order.skew,
         &mut Io::new(rt.stdout()),
         &mut Io::new(rt.stderr()),
     )

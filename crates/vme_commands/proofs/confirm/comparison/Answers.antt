@@ -24,6 +24,6 @@ returns-in-Err g c =
       dump.1,
       listing.1,
       tt,
-      binding_lacks (binding_read bound)
+      binding_lacks c.args.skew (binding_read bound)
           (dump_read dump.0) (Err Memory) c.in-Err.refusal refused,
     )

@@ -15,7 +15,7 @@ returns-in-Ok g c =
       dump_reading,
       listing_reading,
       rows,
-      dump_recorded c.args.bound.now (dump_read dump) given
+      dump_recorded c.args.skew c.args.bound.now (dump_read dump) given
           c.in-Ok.recorded c.comparison_recorded.result is answered,
     )
 
@@ -29,6 +29,6 @@ returns-in-Err g c =
       dump_reading,
       listing.1,
       tt,
-      dump_lacks c.args.bound.now (dump_read dump) (Err Memory)
+      dump_lacks c.args.skew c.args.bound.now (dump_read dump) (Err Memory)
           c.in-Err.refusal refused,
     )

@@ -11,7 +11,7 @@ returns-clause-unwritten g c =
     in
     let out : Writing × Writing = (g.O.Sink.writing c.args.out.now, g.O.Sink.writing c.answer.new.out) in
     let err : Writing × Writing = (g.E.Sink.writing c.args.err.now, g.E.Sink.writing c.answer.new.err) in
-    Confirms-unwritten binding dump listing out err c.answer.result c.answer.ensures
+    Confirms-unwritten c.args.skew binding dump listing out err c.answer.result c.answer.ensures
 
 pub returns-clause-exact : goal.returns-clause-exact
 returns-clause-exact g c =
@@ -22,4 +22,4 @@ returns-clause-exact g c =
     in
     let out : Writing × Writing = (g.O.Sink.writing c.args.out.now, g.O.Sink.writing c.answer.new.out) in
     let err : Writing × Writing = (g.E.Sink.writing c.args.err.now, g.E.Sink.writing c.answer.new.err) in
-    Confirms-exact binding dump listing out err c.answer.result c.answer.ensures
+    Confirms-exact c.args.skew binding dump listing out err c.answer.result c.answer.ensures

@@ -20,4 +20,4 @@ returns-in-Err-clause-read g c =
     let (bytes, reading, refused) = binding_refused _ _ c.read_all.result c.in-Err.fault c.in-Err.is
     c.read_all.ensures.read c.read_all.ensures.too_long c.read_all.ensures.memory in
     let left = unread (g.D.Source.reading c.args.dump.now) in
-    rw c.of_input.ensures (bytes, left.0, reading, left.1, judged-refused bytes left.0 _ refused)
+    rw c.of_input.ensures (bytes, left.0, reading, left.1, judged-refused c.args.skew bytes left.0 _ refused)

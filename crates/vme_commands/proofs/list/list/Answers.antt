@@ -17,7 +17,7 @@ returns-clause-unwritten g c =
     let dump : Reading × Reading = (g.D.Source.reading c.args.dump.now, g.D.Source.reading c.list_by.new.dump) in
     let out : Writing × Writing = (g.O.Sink.writing c.args.out.now, g.O.Sink.writing c.list_by.new.out) in
     let err : Writing × Writing = (g.E.Sink.writing c.args.err.now, g.E.Sink.writing c.list_by.new.err) in
-    WritesListing-unwritten binding dump c.args.block out err c.list_by.result c.list_by.ensures
+    WritesListing-unwritten c.args.skew binding dump c.args.block out err c.list_by.result c.list_by.ensures
 
 pub returns-clause-exact : goal.returns-clause-exact
 returns-clause-exact g c =
@@ -26,7 +26,7 @@ returns-clause-exact g c =
     let dump : Reading × Reading = (g.D.Source.reading c.args.dump.now, g.D.Source.reading c.list_by.new.dump) in
     let out : Writing × Writing = (g.O.Sink.writing c.args.out.now, g.O.Sink.writing c.list_by.new.out) in
     let err : Writing × Writing = (g.E.Sink.writing c.args.err.now, g.E.Sink.writing c.list_by.new.err) in
-    WritesListing-exact binding dump c.args.block out err c.list_by.result c.list_by.ensures
+    WritesListing-exact c.args.skew binding dump c.args.block out err c.list_by.result c.list_by.ensures
 
 pub returns-clause-split : goal.returns-clause-split
 returns-clause-split g c b d t binding_told dump_told written enough is =
@@ -35,7 +35,7 @@ returns-clause-split g c b d t binding_told dump_told written enough is =
     let dump : Reading × Reading = (g.D.Source.reading c.args.dump.now, g.D.Source.reading c.list_by.new.dump) in
     let out : Writing × Writing = (g.O.Sink.writing c.args.out.now, g.O.Sink.writing c.list_by.new.out) in
     let err : Writing × Writing = (g.E.Sink.writing c.args.err.now, g.E.Sink.writing c.list_by.new.err) in
-    let told = WritesListing-exact binding dump c.args.block out err c.list_by.result c.list_by.ensures
+    let told = WritesListing-exact c.args.skew binding dump c.args.block out err c.list_by.result c.list_by.ensures
     b d binding_told dump_told written enough in
     let text = subst (λ (r : Result Trace Refusal). Writes out.0 out.1 (listing_answer_by r).out) is told.out_is in
     (recorded_rows t, listing_splits t, text)

@@ -1,0 +1,53 @@
+-- How a check by a skew ends.
+use Rattle.std.proofs.Common.{◌≡◌, ◌≤◌, ◌↔◌, ◌∙◌, ℕ, suc, List, refl, ap, subst}
+use Rattle.std.specs.Prelude.{Option, Some, Result, Ok, Err}
+use Rattle.vme_trace.specs.Streams.{Reading, Writing}
+use Rattle.vme_trace.specs.declared.verdict.Verdict.{Verdict}
+use Rattle.vme_answer.specs.Answers.{AnswerGives, answer_by}
+use Rattle.vme_answer.specs.Ends.{Checks, Tells}
+use Rattle.vme_answer.specs.declared.refusal.Refusal.{Refusal}
+use Rattle.vme_answer.proofs.EndLemmas.{Does-exact, Does-unwritten, given_is, refusal_status-small}
+use Rattle.vme_answer.proofs.EndLemmas.{verdict_status-small}
+use Rattle.vme_stream.specs.Inputs.{TellsWhole}
+use Rattle.vme_commands.specs.Settled.{ChecksSettled, settled_answer_of, settled_judgement}
+use Rattle.vme_commands.proofs.SettledLemmas.{judgement-stays}
+
+answer_by-small : (judged : Result Verdict Refusal) → (answer_by judged).status ≤ 4
+answer_by-small (Ok v) = verdict_status-small v
+answer_by-small (Err r) = refusal_status-small r
+
+abbrev MayJudge : ℕ → ℕ → Option (List ℕ) → Option (List ℕ) → Result Verdict Refusal → Type 0
+MayJudge skew block b d judged = AnswerGives (λ (v : Verdict). v) judged (settled_judgement skew b d block)
+
+module _ (skew : ℕ) where
+  pub ChecksSettled-unwritten : (binding dump : Reading × Reading) (block : ℕ) (out err : Writing × Writing) (status : ℕ)
+      → ChecksSettled skew binding dump block out err status
+      → (status ≡ 5) ↔ (out.1.failures ≡ suc out.0.failures)
+  ChecksSettled-unwritten binding dump block out err status = Does-unwritten answer_by answer_by-small
+      (MayJudge skew block) binding dump out err status
+
+  pub ChecksSettled-exact : (binding dump : Reading × Reading) (block : ℕ) (out err : Writing × Writing) (status : ℕ)
+      → ChecksSettled skew binding dump block out err status
+      → (b d : List ℕ) → TellsWhole binding.0 binding.1 b → TellsWhole dump.0 dump.1 d
+      → out.1.failures ≡ out.0.failures → (status ≡ 4 → ⊥)
+      → Tells (settled_answer_of skew (Some b) (Some d) block) out err status
+  ChecksSettled-exact binding dump block out err status checks b d =
+      Does-exact answer_by answer_by-small (MayJudge skew block) binding dump out err status checks b d
+      (settled_answer_of skew (Some b) (Some d) block)
+      (λ found. given_is answer_by refl found (settled_judgement skew (Some b) (Some d) block))
+
+  -- without a skew it is a check of what the binding makes of the dump
+  pub checks_unsettled : skew ≡ 0 → (binding dump : Reading × Reading) (block : ℕ) (out err : Writing × Writing)
+      (status : ℕ) → ChecksSettled skew binding dump block out err status
+      → Checks binding dump block out err status
+  checks_unsettled none binding dump block out err status checks =
+      let (b, d, judged, binding_reading, dump_reading, may, end) = checks in
+      let same = ap (λ (s : ℕ). settled_judgement s b d block) none ∙ judgement-stays b d block in (
+        b,
+        d,
+        judged,
+        binding_reading,
+        dump_reading,
+        subst (AnswerGives (λ (v : Verdict). v) judged) same may,
+        end,
+      )

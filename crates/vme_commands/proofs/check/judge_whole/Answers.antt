@@ -1,0 +1,22 @@
+use Rattle.vme_commands.proofs.SettledLemmas.{judgement-given, judgement-refused}
+use Rattle.vme_commands.proofs.check.judge_whole.Goals as goal
+
+pub returns-in-Ok : goal.returns-in-Ok
+returns-in-Ok g c =
+    let (bound, bytes, bound_reading, reading, is) = c.in-Ok.ensures in (
+      bound,
+      bytes,
+      bound_reading,
+      reading,
+      rw (judgement-given c.args.skew bound bytes c.args.block _ is) c.verdict_on.ensures,
+    )
+
+pub returns-in-Err : goal.returns-in-Err
+returns-in-Err g c =
+    let (bound, bytes, bound_reading, reading, refused) = c.in-Err.ensures in (
+      bound,
+      bytes,
+      bound_reading,
+      reading,
+      judgement-refused c.args.skew bound bytes c.args.block c.in-Err.refusal refused,
+    )

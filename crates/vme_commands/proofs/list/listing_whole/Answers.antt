@@ -1,0 +1,24 @@
+use Rattle.vme_commands.proofs.ListLemmas.{refused_listing}
+use Rattle.vme_commands.proofs.SettledLemmas.{recording-given, recording-refused}
+use Rattle.vme_commands.proofs.list.listing_whole.Goals as goal
+
+pub returns-in-Ok : goal.returns-in-Ok
+returns-in-Ok g c =
+    let (bound, bytes, bound_reading, reading, is) = c.in-Ok.ensures in (
+      bound,
+      bytes,
+      bound_reading,
+      reading,
+      rw (recording-given c.args.skew bound bytes c.args.block _ is) c.listing_on.ensures,
+    )
+
+pub returns-in-Err : goal.returns-in-Err
+returns-in-Err g c =
+    let (bound, bytes, bound_reading, reading, refused) = c.in-Err.ensures in (
+      bound,
+      bytes,
+      bound_reading,
+      reading,
+      refused_listing c.in-Err.refusal _
+          (recording-refused c.args.skew bound bytes c.args.block c.in-Err.refusal refused),
+    )
