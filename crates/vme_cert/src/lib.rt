@@ -29,8 +29,9 @@
 //! 7. `rows.rt` and `matcher.rt`: the rows, at each instant at which some may start, compared as they are found,
 //!    stretch by stretch up to the first that has a break (`proofs/Stretches.antt` says that these are the rows of the
 //!    listing).
-//! 8. `candidate.rt` and `compare.rt`: what they are compared with, rows or a text (`specs/Candidates.antt`). Of a text the
-//!    line of each right row is taken; it is read only where one of them isn't there, since it may be no listing's.
+//! 8. `candidate.rt` and `compare.rt`: what they are compared with, rows or a text (`specs/Candidates.antt`). Of a
+//!    text the line of each right row is taken; it is read only where one of them isn't there, since it may be no
+//!    listing's.
 #![tactic(auto)]
 
 mod bus;

@@ -20,8 +20,8 @@ abbrev MayJudge : ℕ → ℕ → Option (List ℕ) → Option (List ℕ) → Re
 MayJudge skew block b d judged = AnswerGives (λ (v : Verdict). v) judged (settled_judgement skew b d block)
 
 module _ (skew : ℕ) where
-  pub ChecksSettled-unwritten : (binding dump : Reading × Reading) (block : ℕ) (out err : Writing × Writing) (status : ℕ)
-      → ChecksSettled skew binding dump block out err status
+  pub ChecksSettled-unwritten : (binding dump : Reading × Reading) (block : ℕ) (out err : Writing × Writing)
+      (status : ℕ) → ChecksSettled skew binding dump block out err status
       → (status ≡ 5) ↔ (out.1.failures ≡ suc out.0.failures)
   ChecksSettled-unwritten binding dump block out err status = Does-unwritten answer_by answer_by-small
       (MayJudge skew block) binding dump out err status

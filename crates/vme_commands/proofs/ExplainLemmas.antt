@@ -47,7 +47,8 @@ module _ (skew : ℕ) (bound : BoundLines) (dump : Result Contents Refusal) wher
       → judged_by skew bound dump ≡ verdict_in_blocks 16384 t
   judged-captured t is = ap (λ (r : Result Trace Refusal). r >>= verdict_in_blocks 16384) is
 
-  pub judged-uncaptured : (r : Refusal) → AnswerGives (λ (t : Trace). t) (Err r) (settled_or skew (capture_by bound dump))
+  pub judged-uncaptured : (r : Refusal)
+      → AnswerGives (λ (t : Trace). t) (Err r) (settled_or skew (capture_by bound dump))
       → AnswerGives (λ (e : Explained). e.verdict) (Err r) (judged_by skew bound dump)
   judged-uncaptured r gives = untold r (judged_by skew bound dump)
       (passes_through r (settled_or skew (capture_by bound dump)) (verdict_in_blocks 16384) gives)

@@ -223,7 +223,8 @@ GivesRecorded found read = AnswerGives (λ (recorded : Result Trace BindFault). 
 pub recorded-gives : (skew : ℕ) (read : Recorded) (recorded : Result Trace BindFault) (found : Recorded)
     → read ≡ Ok recorded → GivesRecorded found (Ok (settled_or skew recorded))
     → GivesRecorded found (settled_recorded skew read)
-recorded-gives skew read recorded found is given = subst (GivesRecorded found) (sym (ap (settled_recorded skew) is)) given
+recorded-gives skew read recorded found is given =
+    subst (GivesRecorded found) (sym (ap (settled_recorded skew) is)) given
 
 pub recorded-refused : (skew : ℕ) (read : Recorded) (r : Refusal) → GivesRecorded (Err r) read
     → GivesRecorded (Err r) (settled_recorded skew read)

@@ -142,7 +142,8 @@ fn explained_in(
     name: &[u8],
     skew: u64,
 ) -> Result<Explained, Refusal>
-    ensures read { AnswerGives (λ told. told.verdict) result (judged_by skew bound.now (or_bad_dump (dump_of dump.now))) }
+    ensures read { AnswerGives (λ told. told.verdict) result
+        (judged_by skew bound.now (or_bad_dump (dump_of dump.now))) }
     ensures begins { BeginsWithVerdict result }
 {
     match settled_in(alloc, bound, dump, skew) {

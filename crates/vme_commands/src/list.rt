@@ -56,7 +56,8 @@ pub fn list<R: Threads + Sync, B: Source, D: Source, O: Sink, E: Sink>(
         → Tells (listing_answer_of skew (Some b) (Some d) block)
         (O.writing out.old, O.writing out.new) (E.writing err.old, E.writing err.new) result }
 
-    // Of the settled recording that is made of them, the judged edges split into exactly the rows whose text is written.
+    // Of the settled recording that is made of them, the judged edges split into exactly the rows whose text is
+    // written.
     ensures split { (b d : List ℕ) (t : Trace) → TellsWhole (B.reading binding.old) (B.reading binding.new) b
         → TellsWhole (D.reading dump.old) (D.reading dump.new) d
         → (O.writing out.new).failures ≡ (O.writing out.old).failures → result ≢ 4

@@ -13,7 +13,7 @@ use Rattle.vme_eval.specs.WriteData.{byte_settles_once_it_is_moved, long_word_un
 use Rattle.vme_eval.specs.WriteData.{no_byte_by_an_unknown_size, no_long_word_by_an_unknown_size}
 use Rattle.vme_eval.specs.WriteData.{no_long_word_at_an_unknown_address, data_known_as_the_strobe_falls}
 use Rattle.vme_eval.specs.WriteData.{second_byte_unknown_after_a_bus_error, highest_line_of_a_long_word_changes}
-use Rattle.vme_eval.specs.WriteData.{data_unknown_in_an_acknowledge, data_unknown_with_the_lowest_address_line_low}
+use Rattle.vme_eval.specs.WriteData.{data_unknown_in_an_acknowledge, data_unknown_with_lowest_address_line_low}
 use Rattle.vme_eval.specs.WriteData.{data_lost_with_a_bus_error}
 use Rattle.vme_eval.proofs.Everything.{everything, rows}
 
@@ -149,9 +149,9 @@ pub data_unknown_in_an_acknowledge_agrees : Agrees data_unknown_in_an_acknowledg
 unfolding everything rows data_unknown_in_an_acknowledge
 data_unknown_in_an_acknowledge_agrees = record { well_formed = refl; verdict = refl; rows = refl }
 
-pub data_unknown_with_the_lowest_address_line_low_agrees : Agrees data_unknown_with_the_lowest_address_line_low
-unfolding everything rows data_unknown_with_the_lowest_address_line_low
-data_unknown_with_the_lowest_address_line_low_agrees = record { well_formed = refl; verdict = refl; rows = refl }
+pub data_unknown_with_lowest_address_line_low_agrees : Agrees data_unknown_with_lowest_address_line_low
+unfolding everything rows data_unknown_with_lowest_address_line_low
+data_unknown_with_lowest_address_line_low_agrees = record { well_formed = refl; verdict = refl; rows = refl }
 
 pub data_lost_with_a_bus_error_agrees : Agrees data_lost_with_a_bus_error
 unfolding everything rows data_lost_with_a_bus_error
@@ -225,7 +225,7 @@ write_data_agree = (
                                                                 (
                                                                   data_unknown_in_an_acknowledge_agrees,
                                                                   (
-                                                                    data_unknown_with_the_lowest_address_line_low_agrees,
+                                                                    data_unknown_with_lowest_address_line_low_agrees,
                                                                     (data_lost_with_a_bus_error_agrees, tt),
                                                                   ),
                                                                 ),

@@ -403,8 +403,8 @@ data_unknown_in_an_acknowledge = record {
 }
 
 -- A01 has no part in what is moved where the long word line is high
-unfoldable pub data_unknown_with_the_lowest_address_line_low : Recording
-data_unknown_with_the_lowest_address_line_low = record {
+unfoldable pub data_unknown_with_lowest_address_line_low : Recording
+data_unknown_with_lowest_address_line_low = record {
   trace = from_idle_but BBSY ((low DS0 ∷ low WRITE ∷ low (A 1) ∷ unknown (D 2) ∷ []) ∷ []);
   verdict = Unreadable (record { instant = 2; time = 10; rule = U4; line = D 2 });
   rows = codes "start 1" ∷ codes "tenure 1 open end -" ∷ codes "verdict unreadable U4 2 D02" ∷ [];
@@ -431,4 +431,4 @@ write_data = data_unknown ∷ unmoved_data_unknown ∷ data_change_with_the_answ
     ∷ strobe_rises_with_the_answer_of_a_write ∷ byte_settles_once_it_is_moved ∷ long_word_unknown_by_the_second_strobe
     ∷ no_byte_by_an_unknown_size ∷ no_long_word_by_an_unknown_size ∷ no_long_word_at_an_unknown_address
     ∷ data_known_as_the_strobe_falls ∷ second_byte_unknown_after_a_bus_error ∷ highest_line_of_a_long_word_changes
-    ∷ data_unknown_in_an_acknowledge ∷ data_unknown_with_the_lowest_address_line_low ∷ data_lost_with_a_bus_error ∷ []
+    ∷ data_unknown_in_an_acknowledge ∷ data_unknown_with_lowest_address_line_low ∷ data_lost_with_a_bus_error ∷ []

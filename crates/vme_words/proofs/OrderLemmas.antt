@@ -11,8 +11,8 @@ use Rattle.clap.proofs.CallerReads.{signed_reads}
 use Rattle.clap.specs.declared.error.Error.{Error}
 use Rattle.clap.specs.declared.parser.matches.ArgMatches.{ArgMatches}
 use Rattle.clap.proofs.WalkLemmas.{first_value-rows, one_text-rows}
-use Rattle.vme_words.specs.Orders.{HasNumber, HasSkew, IsOrder, Says, SaysConfirmation, SaysOrder, SaysWords, if_given, names_in}
-use Rattle.vme_words.specs.Orders.{number_in, number_of, skew_in, task_name}
+use Rattle.vme_words.specs.Orders.{HasNumber, HasSkew, IsOrder, Says, SaysConfirmation, SaysOrder, SaysWords}
+use Rattle.vme_words.specs.Orders.{if_given, names_in, number_in, number_of, skew_in, task_name}
 use Rattle.vme_words.specs.Commands.{greatest_skew, vmecheck_app}
 use Rattle.vme_words.specs.OrderFaults.{ComesOf, IsFaultOf}
 use Rattle.vme_words.specs.declared.order_fault.OrderFault.{OrderFault}
@@ -144,8 +144,9 @@ is_variables order rows task says = record {
   says = subst (λ (t : Task). Says t order rows) (sym task) says;
 }
 
-pub is_bind : (order : Order) (rows : List Row) → order.command ≡ Bind → SaysWords order (Some 0)
-    (first_of (codes "DUMP") rows ∷ if_given (first_of (codes "slots") rows)) → IsOrder order (Some (codes "bind", rows))
+pub is_bind : (order : Order) (rows : List Row) → order.command ≡ Bind
+    → SaysWords order (Some 0) (first_of (codes "DUMP") rows ∷ if_given (first_of (codes "slots") rows))
+    → IsOrder order (Some (codes "bind", rows))
 is_bind order rows task says = record {
   rows = rows;
   command = ap (λ (t : Task). Some (task_name t, rows)) (sym task);

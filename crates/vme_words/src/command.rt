@@ -3,8 +3,8 @@
 ghost use Rattle.std.specs.Prelude.{◌≡◌, IfOk, Some, codes, false};
 ghost use Rattle.clap.specs.Words.{App, Rule, app_of, new_app, rule_of, with_rule, with_subcommand};
 ghost use Rattle.vme_words.specs.Commands.{Makes, bind_app, confirm_app, explain_app, file_rule, number_rule};
-ghost use Rattle.vme_words.specs.Commands.{recording_app, recordings_app, rules_app, skew_rule, slots_rule, telling_app};
-ghost use Rattle.vme_words.specs.Commands.{variables_app, vmecheck_app, word_rule};
+ghost use Rattle.vme_words.specs.Commands.{recording_app, recordings_app, rules_app, skew_rule, slots_rule};
+ghost use Rattle.vme_words.specs.Commands.{telling_app, variables_app, vmecheck_app, word_rule};
 
 use clap::{Arg, Command, value_parser};
 use std::alloc::{AllocError, Global};

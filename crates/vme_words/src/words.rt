@@ -6,9 +6,9 @@ ghost use Rattle.clap.specs.Words.{fault_of, first_of, found_of, kind_of, rows_o
 ghost use Rattle.vme_words.specs.Commands.{vmecheck_app};
 ghost use Rattle.vme_words.specs.OrderFaults.{HasUsageKind, IsFaultOf, IsOfWords};
 ghost use Rattle.vme_words.specs.declared.order.Task.{Task};
-ghost use Rattle.vme_words.specs.Orders.{HasAll, HasConfirmation, HasExplanation, HasName, HasNames, HasNumber, HasOrder};
-ghost use Rattle.vme_words.specs.Orders.{HasRecording, HasSkew, IsOrder, SaysOrder, SaysWords, if_given, names_in};
-ghost use Rattle.vme_words.specs.Orders.{number_in, skew_in, task_name};
+ghost use Rattle.vme_words.specs.Orders.{HasAll, HasConfirmation, HasExplanation, HasName, HasNames, HasNumber};
+ghost use Rattle.vme_words.specs.Orders.{HasOrder, HasRecording, HasSkew, IsOrder, SaysOrder, SaysWords, if_given};
+ghost use Rattle.vme_words.specs.Orders.{names_in, number_in, skew_in, task_name};
 
 use crate::command::{
     bind_command, check_command, confirm_command, explain_command, list_command, rules_command,

@@ -9,7 +9,8 @@ returns c =
     c.new_command-command.ensures c.block_option.ensures.rule c.block_option.ensures.local in
     let workers = c.with_arg-command-2.ensures _ (number_rule (codes "workers") 64 (codes "4")) block
     c.workers_option.ensures.rule c.workers_option.ensures.local in
-    let skew = c.with_arg-command-3.ensures _ skew_rule workers c.skew_option.ensures.rule c.skew_option.ensures.local in
+    let skew = c.with_arg-command-3.ensures _ skew_rule workers
+    c.skew_option.ensures.rule c.skew_option.ensures.local in
     let binding = c.with_arg-command-4.ensures _ (file_rule (codes "BINDING")) skew
     c.binding_file.ensures.rule c.binding_file.ensures.local in
     c.with_arg.ensures _ (file_rule (codes "DUMP")) binding c.dump_file.ensures.rule c.dump_file.ensures.local
