@@ -1,4 +1,48 @@
-//! A reader of four-state value change dumps (IEEE Std 1364-2005, clause 18).
+//! A reader of four-state value change dumps (IEEE Std 1364-2005, clause 18), read whole, piece by
+//! piece, or by pieces that are read apart and joined.
+//!
+//! # Parts
+//!
+//! - `read`, `dump`, `fault`: the whole dump of a text ([`read_vcd`]); its variables and their
+//!   values at its instants; the first fault, with its line.
+//! - `token`, `runs`, `shape`, `number`, `bits`: the tokens of a text; where runs of bytes end;
+//!   what a token of the body is; decimal numbers; digits as the bits of a value.
+//! - `header`, `reference`, `scopes`, `variables`, `codes`, `code_index`, `declaration_visitor`:
+//!   the definitions, and what takes them.
+//! - `body`, `body_state`, `body_piece`, `open_item`, `change_visitor`, `timed_visitor`,
+//!   `instant_collector`: the changes, and what takes them.
+//! - `head`, `pieces`, `detached_piece`: a text whose definitions are read; a body that comes in
+//!   pieces; pieces that are read before those in front of them.
+//! - `lines`: how many lines a text ends.
+//!
+//! # What is proved
+//!
+//! - [`read_vcd`] answers exactly the value that the grammar gives the text, or its first fault
+//!   with the fault's line (`dump_of`), or want of memory. [`read_definitions`] and
+//!   [`Head::read_body`] give the same value, part by part, to what takes it.
+//! - What [`read_front`] and [`Pieces`] answer of a part of a text, a fault included, holds of
+//!   every text that goes on so (`HeaderContinuesAs`, `BodyContinuesTo`).
+//! - A piece that is read apart is read as it is in its place, where it fits, and `may_join` says
+//!   yes exactly there (`IsReadApart`, `MayFollow`).
+//! - [`whole_tokens`] cuts a text where no token goes on (`apart`).
+//!
+//! # What isn't proved
+//!
+//! That memory suffices, how much of it is taken, and how long reading takes (docs/GROWTH.md
+//! measures both); the texts of `Debug` and `Display`.
+//!
+//! # Limits
+//!
+//! A variable has at most 65,536 bits, and a time is below 2^64; beyond that the fault is
+//! `NumberTooLarge`. There are at most 2^32 - 1 codes; beyond that memory is said to run out.
+//! Changes of reals (`r`) and strings (`s`) are read and skipped. Extended dumps (`$dumpports`)
+//! aren't read.
+//!
+//! # In which order to read
+//!
+//! `specs/Tokens`, `specs/Header`, `specs/Body` and `specs/Meaning` are the grammar,
+//! docs/FORMATS.md says it in words, and `specs/WorkedDumps` computes examples. Then `read`,
+//! `pieces` and `detached_piece`.
 #![tactic(auto)]
 
 mod bits;

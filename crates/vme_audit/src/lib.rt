@@ -1,9 +1,25 @@
-//! What the audit of a recording is, by definitions alone: all of its breaks and not the first alone, what was covered,
-//! and the outcome.
+//! What the audit of a recording is, by definitions alone: all of its breaks and not the first
+//! alone, what was covered, and the outcome.
 //!
-//! A recording is judged anew behind each break, as `specs/Parts` says, which is where to start reading. `specs/Asked`
-//! says of each rule what has to happen for it to be asked at all, `specs/Counted` what is counted, and `specs/Covered`
-//! when a recording is covered, and what the outcome is for some allowances (`specs/Allowances`).
+//! # Parts
+//!
+//! - `specs/Parts`: a recording is judged anew behind each break, from the first idle instant on;
+//!   all breaks of it.
+//! - `specs/Asked`: what has to happen for a rule to be asked at all. A rule that is never asked
+//!   can't be broken.
+//! - `specs/Counted`, and `counts`: what a recording has, in rows of the listings of its parts.
+//! - `specs/Covered`, and `outcome`: when a recording is covered, and what its audit comes to.
+//! - `specs/Allowances`, and `allowance`: breaks that are allowed.
+//!
+//! # What is proved
+//!
+//! Nothing here: this crate has types and definitions, and no function. vme_audit_eval computes
+//! what they say of worked recordings.
+//!
+//! # What isn't said
+//!
+//! That a covered recording asks enough of a bus for some purpose: `never_asked` has the rules that
+//! it never asks. Start reading at `specs/Parts`.
 #![tactic(auto)]
 
 pub mod allowance;

@@ -1,7 +1,14 @@
 //! What the definitions of an audit say of worked recordings, by computing them.
 //!
-//! Each function is a law: its contract is what it says of the recordings of one module of `specs/`, which ends in the
-//! list of them. Start reading in `specs/Audited`, then `specs/Breaks`.
+//! Each function is a law: its contract is what it says of the recordings of one module of
+//! `specs/`, which ends in the list of them, and the prover computes it.
+//!
+//! - [`several_breaks`]: all breaks, and what is judged behind each.
+//! - [`coverage`]: what is counted, and which recordings are covered.
+//! - [`asking`]: which rules are asked.
+//!
+//! Nothing is said of recordings that don't stand here. Start reading in `specs/Audited`, then
+//! `specs/Breaks`.
 #![tactic(auto)]
 
 ghost use Rattle.vme_audit_eval.specs.Asking.{asking};

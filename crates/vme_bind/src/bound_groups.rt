@@ -153,7 +153,7 @@ impl BitRange {
 }
 
 impl BoundGroup {
-    /// The wire of an assignment to these bits, which are to be as many as its lines.
+    /// The bound group of an assignment to these bits, which are to be as many as its lines.
     pub fn of_bits(assignment: &Assignment, bits: BitRange) -> Result<BoundGroup, BindFault>
         ensures { BindGives (λ bound_group. bound_group) result (bound_group_by assignment.now
             (source_by assignment.now.group.count (Ok bits))) }
@@ -171,7 +171,7 @@ impl BoundGroup {
         })
     }
 
-    /// The wire of an assignment, for a dump with these variables.
+    /// The bound group of an assignment, for a dump with these variables.
     fn of(assignment: &Assignment, variables: &[Variable]) -> Result<BoundGroup, BindFault>
         ensures { BindGives (λ bound_group. bound_group) result (bound_group_in variables.now assignment.now) }
     {
@@ -189,7 +189,7 @@ impl BoundGroup {
         }
     }
 
-    /// The wires of all assignments.
+    /// The bound groups of all assignments.
     pub fn all(
         alloc: Global,
         assignments: &[Assignment],
@@ -223,7 +223,7 @@ impl BoundGroup {
     }
 }
 
-/// Where the level of a line comes from, if some wire goes to it.
+/// Where the level of a line comes from, if it is in some bound group.
 pub(crate) fn bound_group_source(bound_groups: &[BoundGroup], line: Line) -> Option<LineSource>
     ensures { result ≡ bound_group_source bound_groups.now line }
 {

@@ -1,4 +1,51 @@
-//! Bindings of the lines of a VMEbus backplane to the variables of a dump, and the recordings that they make of dumps.
+//! Bindings of the lines of a VMEbus backplane to the variables of a dump, and the recordings that
+//! they make of dumps.
+//!
+//! # Parts
+//!
+//! - `binding`, `statements`, `words`, `group`, `assignment`, `source`, `selection`: a binding
+//!   ([`read_binding`]), and the lines of its text.
+//! - `fault`: why a text is no binding, or makes no recording of a dump.
+//! - `path_search`, `search`, `bound_groups`, `net_lines`: which variable a path means, and which
+//!   bits of a net the lines have their levels from.
+//! - `recorder`, `capture_builder`, `step_collector`, `pushing`: the levels as a dump goes on, and
+//!   the steps that they make.
+//! - `capture`, `text_capture`: the recording of a dump that was read, and of a text that is read
+//!   once and isn't kept.
+//! - `text_pieces`, `text_state`: the recording of a text that comes piece by piece.
+//! - `speculative_reader`, `assigned_lines`: pieces that are read before those in front of them, as
+//!   if these left given levels.
+//!
+//! # What is proved
+//!
+//! - [`read_binding`] answers exactly the binding that the text says, or its first fault with its
+//!   line (`binding_of`).
+//! - `Binding::capture` answers exactly the recording that binding and dump give, or the first
+//!   faulty line of the binding (`capture_of`). `Binding::capture_text` answers the same of the
+//!   dump's text; the dump's first fault goes before one of the binding.
+//! - `Binding::record_text` and [`TextPieces`] give that recording step by step to what takes it,
+//!   and keep none of it (`gives`, `formed`, `TextContinuesAs`).
+//! - A piece that [`SpeculativeReader`] reads ahead may be joined exactly where the levels before
+//!   it are those that it was read from (`MayFollowLevels`). Its steps are then those of reading it
+//!   in its place (`IsJoined`). `levels_behind` has exactly the levels that it leaves where others
+//!   stand before it.
+//!
+//! # What isn't proved
+//!
+//! That memory suffices; the texts of `Debug` and `Display`. That a variable is the line which it
+//! is bound to can't be known here: the binding says it.
+//!
+//! # Limits
+//!
+//! A backplane has 1 to 21 slots. The numbers of a selection have one to nine digits. A recording
+//! that is kept has at most 268,435,456 steps, else the fault is `TooManySteps`; one that is given
+//! away step by step may be longer. A bit z is High on a bused line and Unknown on a net of a daisy
+//! chain.
+//!
+//! # In which order to read
+//!
+//! docs/FORMATS.md, `specs/Binding`, `specs/Capture` and `specs/TextCapture`; then `binding`,
+//! `capture` and `text_pieces`; `speculative_reader` last.
 #![tactic(auto)]
 
 mod assigned_lines;

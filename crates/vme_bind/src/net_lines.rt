@@ -53,7 +53,7 @@ pub(crate) struct NetLines {
     nets: Vec<LinesOfNet>,
 }
 
-/// Where the level of a line comes from, if the backplane has it and some wire goes to it.
+/// Where the level of a line comes from, if the backplane has it and it is in some bound group.
 pub(crate) fn line_source(
     lines: &Lines,
     bound_groups: &[BoundGroup],

@@ -138,7 +138,7 @@ impl<'b> PathSearch<'b> {
         }
     }
 
-    /// The wire of the line.
+    /// The bound group of the line.
     pub fn bound_group(&self) -> Result<BoundGroup, BindFault>
         ensures { BindGives (λ bound_group. bound_group) result (bound_group_of (seen_in self.now)) }
     {

@@ -72,7 +72,7 @@ impl<'b> Search<'b> {
         })
     }
 
-    /// The wires of all lines of the binding.
+    /// The bound groups of all lines of the binding.
     pub fn bound_groups(&self, alloc: Global) -> Result<Vec<BoundGroup>, BindFault>
         ensures { BindGives (λ bound_groups. bound_groups.items) result
             (bound_groups_of (map seen_in self.now.sought.items)) }

@@ -129,7 +129,7 @@ impl SpeculativeReader {
     }
 
     /// Reads a piece that begins on this line and ends behind a space, or where the text does, ahead of what stands
-    /// before it: as if that left these levels, of the same backplane. Its steps are given to the follower, to which
+    /// before it: as if that left these levels, of the same backplane. Its steps are given to the visitor, to which
     /// none was given before. None is given of a piece that begins with no time, has a fault or ends within an item,
     /// for levels of another backplane, nor where memory runs out.
     pub fn read_ahead<F: StepVisitor>(

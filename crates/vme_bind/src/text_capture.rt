@@ -31,7 +31,7 @@ use std::alloc::{AllocError, Global};
 use vcd_read::{Head, read_definitions};
 use vme_trace::{Capture, Lines, StepVisitor};
 
-/// What takes the changes of a dump for a follower, and has taken none.
+/// What takes the changes of a dump for a visitor, and has taken none.
 pub(crate) fn making_of<F: StepVisitor>(
     alloc: Global,
     lines: &Lines,
@@ -64,7 +64,7 @@ fn record_body<F: StepVisitor>(
     }
 }
 
-/// The recording that wires make of the body behind some definitions.
+/// The recording that bound groups make of the body behind some definitions.
 fn record_bound_groups<F: StepVisitor>(
     alloc: Global,
     lines: &Lines,

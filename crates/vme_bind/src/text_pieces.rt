@@ -25,8 +25,8 @@ use std::alloc::Global;
 use vcd_read::{Front, read_front};
 use vme_trace::{Lines, StepVisitor};
 
-/// Begins to make the recording of a body by what the front of a text has of it, with these wires, or a fault of the
-/// binding.
+/// Begins to make the recording of a body by what the front of a text has of it, with these bound groups, or a fault of
+/// the binding.
 fn begin_bound_groups<F: StepVisitor>(
     alloc: Global,
     lines: &Lines,
@@ -53,7 +53,7 @@ fn begin_bound_groups<F: StepVisitor>(
 
 impl Binding {
     /// Begins to make the recording of a dump, by a front of its text that ends behind a space. Where the definitions
-    /// don't end in it, the follower is handed back.
+    /// don't end in it, the visitor is handed back.
     pub fn begin_text<F: StepVisitor>(
         &self,
         alloc: Global,

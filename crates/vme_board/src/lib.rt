@@ -1,14 +1,45 @@
-//! A board of numbered blocks that benches share, without a lock.
+//! A board of numbered blocks that benches share, from any threads, without a lock.
 //!
-//! A [`Board`] has a place for each number below its total. A [`Bench`] is what one worker steps with: it delivers
-//! blocks in any order ([`Bench::deliver`]), hands out draws ([`Bench::draw`]), looks how far a number has come
-//! ([`Bench::look`]) and takes filed blocks out ([`Bench::take`]). Benches are split off and folded together, and
-//! [`Board::close`] gives what was filed. No call takes a lock or waits for another bench.
+//! # Parts
 //!
-//! What a bench has filed, taken, drawn and seen is its view, which contracts alone see: `view_of` in
-//! `specs/Benches.antt`, with the fields of [`vme_core::View`]. `specs/Words.antt` says how the words and slots of
-//! the table are read; the rule that they keep is that of `vme_core`. `specs/Tells.antt` has what each atomic step
-//! tells, `proofs/Steps.antt` shows that each keeps the rule. Start reading at `bench.rt`.
+//! - `board`: a [`Board`] has a place for each number below its total. [`Board::close`] gives what
+//!   was filed.
+//! - `bench`: a [`Bench`] is what one worker steps with. It delivers blocks in any order
+//!   ([`Bench::deliver`]), hands out draws ([`Bench::draw`]), looks how far a number has come
+//!   ([`Bench::look`]) and takes filed blocks out ([`Bench::take`]). Benches are split off and
+//!   folded together.
+//! - `delivery`: what a delivery is answered.
+//! - `words`: where the bits of a number stand among the words of the table.
+//!
+//! What a bench has filed, taken, drawn and seen is its view, which contracts alone see: `view_of`
+//! in `specs/Benches.antt`, with the fields of [`vme_core::View`]. `specs/Words.antt` says how the
+//! words and slots of the table are read; the rule that they keep is that of vme_core.
+//! `specs/Tells.antt` has what each atomic step tells, and `proofs/Steps.antt` shows that each
+//! keeps the rule.
+//!
+//! # What is proved
+//!
+//! - [`Bench::deliver`] files a block once for its number (`new`, `listed`), or refuses it for a
+//!   reason that holds (`why`) and hands it back (`handed_back`).
+//! - [`Bench::draw`] wins a draw that nobody else has. [`Bench::take`] gives a filed block once.
+//!   [`Bench::look`] answers no less than the bench has seen (`at_least`).
+//! - [`Bench::fold`] shows that two benches filed, took and drew nothing twice (`lists`, `takes`,
+//!   `draws`).
+//! - [`Board::close`] gives each block that the bench filed and nobody took. For the bench that has
+//!   the whole share nothing was filed or taken by others, and what it has seen done it did
+//!   (`no_others`, `no_taken`, `did_all`).
+//! - No call takes a lock or waits for another bench: none is given the handle that waiting needs.
+//!   Each returns, whatever other threads do.
+//!
+//! # What isn't proved
+//!
+//! Which of two different deliveries of one number is filed; that a look sees what another bench
+//! has just done; that threads get their turns fairly; that memory suffices.
+//!
+//! # Limits
+//!
+//! A board has 1 to 4,096 numbers and at most 65,536 draws, and a block at most 65,536 steps. A
+//! bench that is dropped takes its share with it. Start reading at `bench`.
 #![tactic(auto)]
 
 mod bench;

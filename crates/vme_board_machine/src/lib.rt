@@ -1,19 +1,29 @@
-//! The board is the machine: each step that a call of `vme_board` makes is one event of the machine of `vme_core`.
+//! The board is the machine: each step that a call of vme_board makes is one event of the machine
+//! of vme_core.
 //!
-//! The machine has stages, contents and slots, and `every_run` of vme_core says what holds after each of its runs. The
-//! board has a table of words and slots. `specs/Steps.antt` has what benches do to it, event by event: the word that a
-//! call loads or sets a bit in, what that step tells (`Tells` of vme_board, which its calls name), and how far the
-//! bench is in its call then. A step may give its bench any view, and take or give back slots in any way, as long as
-//! it tells what it has to. `specs/ReadsAs.antt` says how such a state is read as one of the machine: the bits of a row
-//! are those of the stages, the slots at home are its slots, the views are its views.
+//! # Parts
 //!
-//! [`board_is_the_machine`] says that the board begins as the machine does, and that each step from a state that reads
-//! as a reachable one of the machine is the machine's event, and leads to a state that reads as what comes of it. So
-//! each run of benches, in whatever order they take their turns, is a run of the machine. [`worked_run`] is one: a
-//! number is filed and taken, a claim of it is lost, and a bench is dropped.
+//! - `specs/Steps.antt`: what benches do to the table, event by event: the word that a call loads
+//!   or sets a bit in, what that step tells (`Tells` of vme_board, which its calls name), and how
+//!   far the bench is in its call then. A step may give its bench any view, and take or give back
+//!   slots in any way, as long as it tells what it has to.
+//! - `specs/ReadsAs.antt`: how such a state is read as one of the machine: the bits of a row are
+//!   those of the stages, the slots at home are its slots, the views are its views.
+//! - `specs/Worked`: a worked run.
 //!
-//! That the calls make these steps, in this order and no others, is to be read in `bench.rt` of vme_board, beside
-//! `specs/Steps.antt`; that each of them keeps the rule of the table is proved there. Start reading at `specs/Steps`.
+//! # What is proved
+//!
+//! - [`board_is_the_machine`]: the board begins as the machine does (`begins`), and each step from
+//!   a state that reads as a reachable one of the machine is the machine's event, and leads to a
+//!   state that reads as what comes of it (`steps`). So each run of benches, in whatever order they
+//!   take their turns, is a run of the machine (`runs`), of which `every_run` of vme_core speaks.
+//! - [`worked_run`]: a number is filed and taken, a claim of it is lost, and a bench is dropped.
+//!
+//! # What isn't proved
+//!
+//! That the calls make these steps, in this order and no others: it is to be read in `bench.rt` of
+//! vme_board, beside `specs/Steps.antt`. That each of them keeps the rule of the table is proved
+//! there. Start reading at `specs/Steps`.
 #![tactic(auto)]
 
 ghost use Rattle.std.specs.Prelude.{◌≡◌, ℕ, List};

@@ -1,4 +1,34 @@
-//! The monitors of the daisy chains: bus grants, with the tenures that they lead to, and interrupt acknowledges.
+//! The monitors of the daisy chains (ANSI/IEEE Std 1014-1987, chapters 3 and 4): bus grants, with
+//! the tenures that they lead to, and interrupt acknowledges.
+//!
+//! # Parts
+//!
+//! - `grant`: [`grant::Grant`], the monitor of G1 to G5 and B1 to B4.
+//! - `grant_levels`, `grant_memory`: what the levels on both sides of a step show of grants,
+//!   requests and BBSY; what is remembered of requests and grants.
+//! - `acknowledge`: [`acknowledge::Iack`], the monitor of I1 to I3.
+//!
+//! # What is proved
+//!
+//! Over every recording, also where other rules are broken:
+//!
+//! - [`grant::grants_over_captures`]: the event is the least break of the nine rules of grants and
+//!   tenures (`event`). The marks are the tenures: an open one at the start, each start with its
+//!   level and slot, and each end (`marks`).
+//! - [`acknowledge::acknowledge_over_captures`]: the event is the least break of I1 to I3
+//!   (`event`), and there are no marks (`marks`).
+//!
+//! I4 and I5, of an acknowledge cycle's transfers, are rules of vme_dtb.
+//!
+//! # What isn't proved
+//!
+//! That memory suffices. That the rules say what the standard says is to be read in vme_trace; it
+//! has no rule on which of several requests an arbiter grants.
+//!
+//! # Limits
+//!
+//! There are 4 levels and 1 to 21 slots. `Grant` has 35 memories, and `Iack` 11. Start reading at
+//! `grant`, with `specs/GrantSpec`.
 #![tactic(auto)]
 
 pub mod acknowledge;

@@ -1,10 +1,45 @@
-//! What the program's commands do, over any sources and sinks: the program opens the files and streams, and no more.
+//! What the program's commands do, over any sources and sinks: the program opens the files and
+//! streams, and no more.
 //!
-//! [`check::check`] judges a recording and [`list::list`] lists it, by [`Workers`]; [`confirm::confirm_with`] compares
-//! a listing with that of a recording, [`explain::explain`] says why it is judged so, and [`bind::bind`] writes a
-//! binding for a dump. Each contract says what is written and which exit status is answered, by the bytes that were
-//! read, and by a skew, by which the recording settles first ([`unsettled`]: by 0 it is itself). Start reading at
-//! `check`.
+//! # Parts
+//!
+//! - `check`, `list`, `confirm`: [`check::check`] judges a recording and [`list::list`] lists it,
+//!   by [`Workers`]; [`confirm::confirm_with`] compares a listing with that of a recording.
+//! - `explain`, `bind`, `variables`, `rules`: [`explain::explain`] says why a recording is judged
+//!   so, [`bind::bind`] writes a binding for a dump, [`tell_variables`] the variables, and
+//!   [`tell_rules`] what the rules ask.
+//! - `dump_judge`, `judged_dump`, `workers`: a dump that is judged as it is read, in which pieces
+//!   and by how many.
+//! - `settled`: the recording settled by a skew ([`unsettled`]: by 0 it is itself).
+//! - `words`, `built_in`, `telling`, `input_fault`: what the words name and how a call without an
+//!   order ends; what is used where no words say it; how texts and faults are told.
+//!
+//! # What is proved
+//!
+//! - `check`, `list` and `confirm_with`: where the inputs are told whole, no write fails and memory
+//!   suffices, exactly the defined line or text is written, with its status, or exactly the first
+//!   fault (`exact`). The rows that `list` writes split the judged edges (`split`). Whatever is
+//!   told, `answer` says what is written, and `unwritten` when the status is 5.
+//! - No size of piece and no number of workers has a part in an answer. No size of block has one,
+//!   but that a recording may fill too many.
+//! - `explain` begins with the line that `check` writes, and has its status (`Explains`). `bind`
+//!   writes only a binding that makes a recording of that dump (`IsBindingFor`). [`words_status`]:
+//!   3 for wrong words; help and version 0, or 5 where they weren't written.
+//!
+//! # What isn't proved
+//!
+//! The texts of `rules`, `explain` and `variables`, and which lines `bind` finds (vme_rules,
+//! vme_explain, vme_find); that workers overlap; that memory suffices (status 4).
+//!
+//! # Limits
+//!
+//! Blocks of 1 to 65,536 steps, at most 4,096 of them; at most 268,435,456 steps and as many bytes
+//! of an input; 1 to 64 workers. With a skew over 0 dump and recording are kept, and one worker
+//! judges.
+//!
+//! # In which order to read
+//!
+//! `check`, `settled`, `judged_dump`; then the other commands.
 #![tactic(auto)]
 
 pub mod bind;

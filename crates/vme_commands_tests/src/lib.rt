@@ -1,5 +1,16 @@
-//! Tests of vme_commands: what its commands write and answer, on streams that fail at each place, and on dumps that are
-//! cut anywhere and read by several workers, by a skew or none; and the words that order them.
+//! Tests of vme_commands: what its commands write and answer, by inputs whose answers stand beside
+//! them; and the words that order them.
+//!
+//! - `tests`: verdicts, listings, comparisons, faults of each input, bindings, explanations, orders
+//!   and usage. `want_of_memory_is_told` is made for `tests/memory/run`, which refuses each of its
+//!   allocations in turn.
+//! - `stream_tests`: readers that fail or never end, and writers that fail, at each place; inputs
+//!   that are too long.
+//! - `piece_tests`: dumps that are cut anywhere and read by several workers.
+//! - `skew_tests`: commands by a skew.
+//!
+//! Not tried here: files, pipes and terminals, on which `./test` runs the program, and dumps of
+//! many megabytes that are hard to cut (`tests/workers/run`).
 #![tactic(auto)]
 
 #[cfg(test)]

@@ -1,19 +1,41 @@
 //! The board as a machine of single steps, and what holds after every run of it.
 //!
-//! Benches share a board of numbered blocks. One event of the machine is one atomic step of one bench: a bench is
-//! made, split or joined; a number is claimed, its block put into its slot, and filed; a word is looked at; a draw is
-//! tried; a filed block is taken, lifted out of its slot, and the slot given back. A run is any list of such events,
-//! of any benches in any order. [`every_run`] is the law of all runs.
+//! Benches share a board of numbered blocks. One event of the machine is one atomic step of one
+//! bench: a bench is made, split or joined; a number is claimed, its block put into its slot, and
+//! filed; a word is looked at; a draw is tried; a filed block is taken, lifted out of its slot, and
+//! the slot given back. A run is any list of such events, of any benches in any order.
 //!
-//! Each bench has a share of the board. The first has the whole; a split halves a part of it, and a join puts two
-//! shares together ([`shares_stay_whole`]). Whatever was claimed, filed, taken or drawn was so by a bench that has a
-//! share, so that the one which has the whole share has done all of it.
+//! Each bench has a share of the board. The first has the whole; a split halves a part of it, and a
+//! join puts two shares together. Whatever was claimed, filed, taken or drawn was so by a bench
+//! that has a share, so that the one which has the whole share has done all of it.
 //!
-//! `specs/Machine.antt` has the states and the events, `specs/Law.antt` what holds after them, `specs/Shares.antt` the
-//! shares. `specs/Rule.antt` is the invariant behind the law, over functions that say what is claimed, filed, taken,
-//! drawn and where.
-//! `proofs/RuleSteps.antt` shows that each step keeps it, whatever those functions are read from: the machine's state
-//! here, the words and slots of a shared table in the crate that stands on this one.
+//! # Parts
+//!
+//! - `stage`, `view`: how far a number has come; what a bench filed, took, drew and has seen, which
+//!   contracts alone see.
+//! - `specs/Machine.antt`: the states and the events. `specs/Shares.antt`: the shares.
+//! - `specs/Law.antt`: what holds after every run.
+//! - `specs/Rule.antt`: the invariant behind the law, over functions that say what is claimed,
+//!   filed, taken, drawn and where. `proofs/RuleSteps.antt` shows that each step keeps it, whatever
+//!   those functions are read from: the machine's state here, the words and slots of a shared table
+//!   in vme_board.
+//!
+//! # What is proved
+//!
+//! - [`every_run`]: what holds of the state after every run (`lawful`), of each step (`steps`), and
+//!   however a run goes on (`grows`). Its comment says it in words.
+//! - [`shares_stay_whole`]: the first bench has the whole share (`first`), and shares that are the
+//!   whole together are so in any order (`swapped`) and after a split (`halved`).
+//!
+//! # What isn't proved
+//!
+//! That some code does what this machine does: vme_board_machine says so of the board. Nothing is
+//! said of progress, nor of which of two benches wins.
+//!
+//! # Limits
+//!
+//! None: the laws are of every count of numbers, of draws and of benches. Start reading at
+//! `specs/Machine`.
 #![tactic(auto)]
 
 ghost use Rattle.std.specs.Prelude.{ℕ, List, [], ◌∷◌, ◌++◌};

@@ -1,11 +1,32 @@
-//! What the definitions of a break, of a verdict and of a listing say of worked recordings, by computing them.
+//! What the definitions of a break, of a verdict and of a listing say of worked recordings, by
+//! computing them.
 //!
-//! Each function is a law: its contract is what it says. `every_rule` says that each rule has an example that breaks it
-//! and recordings near to that which conform; `tables` which codes and lines the definitions single out;
-//! `malformed_steps` which steps may not stand where they stand; each of the others that the recordings of one module
-//! of `specs/`, which ends in the list of them, get the verdict and the listing that stand beside them.
-//! Start reading in `specs/Recording`, then `specs/Examples`. `./test` runs the program on dumps of the recordings,
-//! read off `specs/`, and `tests/definitions/try` edits the definitions, which a law has to refuse.
+//! Each function is a law: its contract is what it says, and the prover computes it. No code of the
+//! product stands on this crate; vme_audit_eval and vme_join_eval write their recordings as it
+//! does.
+//!
+//! # Parts
+//!
+//! - [`every_rule`]: each rule has an example that breaks it, and recordings nearest to that which
+//!   conform.
+//! - [`tables`]: which modifier codes, control lines and needed lines the definitions single out.
+//! - [`malformed_steps`], [`least_of_two`], [`judged_stretches`]: steps that may not stand where
+//!   they stand; the lesser of two levels and of two malformed steps; where judging starts and
+//!   ends.
+//! - [`leniencies`]: what conforms though the standard's order of edges forbids it.
+//! - Each of the others: the recordings of one module of `specs/`, which ends in the list of them,
+//!   have the verdict and the listing that stand beside them.
+//!
+//! # What isn't said
+//!
+//! Nothing is said of recordings that don't stand here. `tests/definitions/try` edits the
+//! definitions, and a law has to refuse each edit. `./test` runs the program on dumps of the
+//! recordings, read off `specs/`.
+//!
+//! # In which order to read
+//!
+//! `specs/Recording` and `specs/Steps` (how a recording is written), `specs/Examples`, then the
+//! module of interest.
 #![tactic(auto)]
 
 ghost use Rattle.std.specs.Prelude.{◌≡◌, ◌∷◌, [], Some};

@@ -1,9 +1,36 @@
-//! Why a recording is judged as it is, as a text for people.
+//! Why a recording is judged as it is, as a text for people, and a file for the waveform viewer
+//! GTKWave.
 //!
-//! What is told of it are values with contracts: [`count_of`] counts the rows of the listing of a kind, [`open_row`] is
-//! the last row of it that is open, [`levels_from`] gives the levels of the recording at some instants and [`marks_of`]
-//! their characters, [`time_at`] the time of an instant. [`explanation`] writes them; what it writes is tested, not
-//! proved. [`save_file`] writes a file for the waveform viewer GTKWave. Start reading at `page`.
+//! # Parts
+//!
+//! - `page`: [`explanation`], what is said behind the line of a verdict.
+//! - `broken`, `other`: what is said of a break; the other events of which its rule speaks.
+//! - `summary`, `idle`: what is told of a recording without a break; what keeps a bus from being
+//!   idle.
+//! - `rows`: what the rows of a listing say together.
+//! - `excerpt`, `shown`, `values`: the levels around an instant, which lines are shown, and several
+//!   lines as one value.
+//! - `sources`, `visible`, `wrapping`: what lines are bound to; names as they are shown; lines that
+//!   fit a page.
+//! - `viewer`, `saving`: the save file, and whether it may be written where something stands.
+//!
+//! # What is proved
+//!
+//! What is told are values with contracts: [`count_of`] counts the rows of a kind, [`open_row`] is
+//! the last row that is open, [`levels_from`] gives the levels of the recording at some instants
+//! and [`marks_of`] their characters, [`time_at`] the time of an instant. [`asked_first`] and
+//! [`asked_second`] say of which other events a rule speaks, and [`instant_of`] finds these by the
+//! definitions of vme_trace. [`save_refusal`] refuses to write over an input and over what this
+//! program didn't write; [`is_save_file`] knows what [`save_file`] writes.
+//!
+//! # What isn't proved
+//!
+//! How the text is arranged and what it says: `tests/texts` compares it with what is kept of each
+//! example. What GTKWave makes of a save file.
+//!
+//! # Limits
+//!
+//! An excerpt shows 8 instants before a break and 3 behind it. Start reading at `page`.
 #![tactic(auto)]
 
 mod broken;

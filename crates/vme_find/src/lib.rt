@@ -1,10 +1,43 @@
-//! What a dump has for those who want to bind it: its variables, and a binding for it, found by the variables' names.
+//! What a dump has for those who want to bind it: its variables, and a binding for it, found by the
+//! variables' names.
 //!
-//! [`write_binding`] is the crate's promise: what it writes is a binding by the format, so each line is bound once, and
-//! it makes a recording of the dump without a fault. Which variables it finds is only tested. [`variables_text`] lists
-//! the variables, how often each changes, the time scale and the last time. [`time_unit`] reads off the time scale what
-//! a time stands for. Start reading at `names`, which says what the name of a variable means, and go on with `finding`,
-//! `proposal` and `told`.
+//! # Parts
+//!
+//! - `names`, `affix`: what the name of a variable means, and what stands before and behind the
+//!   name of a line in it.
+//! - `declared`, `changes`, `levels_seen`, `timescale`: the variables as they are declared, how
+//!   often they change, which bits move, and the time scale.
+//! - `vote`, `finding`: by which style of names most lines are found in a scope; which variables
+//!   the lines are.
+//! - `groups`, `fitting`: the groups of lines; what the lines that weren't found are bound to, so
+//!   that it fits what was.
+//! - `paths`, `proposal`, `writing`: how a binding can name bits; its text; [`write_binding`].
+//! - `told`: what was found, in one line for people.
+//! - `variables`: [`variables_text`], the variables as text.
+//!
+//! # What is proved
+//!
+//! - [`write_binding`] writes a binding by the format, so each line is bound once, and it makes a
+//!   recording of the dump without a fault (`MakesRecording`), of the slots that are told
+//!   (`HasSlots`). A fault of the dump is its first, or want of memory (`err`).
+//! - [`variables_text`] comes only of a dump without a fault (`ok`), and else names the first
+//!   (`err`).
+//! - [`time_unit`] is at least 1.
+//!
+//! # What isn't proved
+//!
+//! Which variables are found, what is said of them, and what counts as a bus; that there is a
+//! binding for each dump without a fault; the counts of changes. `tests/bindings/run` tries the
+//! names of many styles.
+//!
+//! # Limits
+//!
+//! A variable whose name has over 64 bytes has no name of a line. Of a net the rightmost 64 bits
+//! are looked at for whether they move.
+//!
+//! # In which order to read
+//!
+//! `names`, `finding`, `proposal`, `told`.
 #![tactic(auto)]
 
 mod affix;

@@ -1,8 +1,16 @@
-//! What it is for blocks to join, shown on worked blocks: where they do, and each way in which they don't.
+//! What it is for blocks to join, shown on worked blocks: where they do, and each way in which they
+//! don't.
 //!
-//! The functions are laws about the definition `BlocksJoin`, computed from it for the blocks in `specs/Worked`; by
-//! their contracts `join` and `append` of vme_summary answer that spans are torn exactly where their blocks don't join.
-//! Start reading at `specs/Worked`.
+//! The functions are laws about the definition `BlocksJoin` of vme_summary, computed from it for
+//! the blocks in `specs/Worked`.
+//!
+//! - [`blocks_that_join`]: blocks that follow one another join, across a block without steps too.
+//! - [`blocks_that_are_torn`]: blocks are torn by number, by lines, by slots and by time, the last
+//!   across a block without steps too.
+//!
+//! By their contracts, `join` and `append` of vme_summary answer that spans are torn exactly where
+//! their blocks don't join; vme_summary_tests asks them about spans. Nothing is said of blocks that
+//! don't stand here. Start reading at `specs/Worked`.
 #![tactic(auto)]
 
 ghost use Rattle.std.specs.Prelude.{[], ◌∷◌};

@@ -1,5 +1,40 @@
-//! The listing of a recording of a VMEbus: its tenures, cycles and transfers, one row each, and the verdict. As
-//! values, as text, and what the listing of a recording is.
+//! The listing of a recording of a VMEbus: its tenures, cycles and transfers, one row each, and the
+//! verdict. As values, as text, and what the listing of a recording is.
+//!
+//! # Parts
+//!
+//! - `row`, `listing`: the rows and versions; a listing.
+//! - `place`: which rows there are, and where they may stand.
+//! - `text`, `write`: the text of rows; a listing written in pieces ([`write_listing`]).
+//! - `words`, `read`, `fault`: the row that a line may be; a listing from its text
+//!   ([`read_listing`]); the first fault of a text.
+//! - `listing_text`: a text from whose front the lines of known rows are taken.
+//!
+//! # What is proved
+//!
+//! - [`write_listing`] writes exactly the text of the listing (`whole`), and after a failure a
+//!   front of it (`front`).
+//! - [`read_listing`] answers a well placed listing exactly where the bytes are its text
+//!   (`listing`, `only`), and else names the first fault (`first`, `none`).
+//! - [`listings_are_well_placed`]: the listing of every recording is, so what is written of it is
+//!   read back as it was.
+//! - [`ListingText::take`] takes the line of a row exactly where it is at the front and the version
+//!   has it.
+//!
+//! # What isn't proved
+//!
+//! That memory suffices for reading; writing takes none. That the rows of a recording say what
+//! happens on the bus: vme_split proves it.
+//!
+//! # Limits
+//!
+//! There are versions 1 to 3: from 2 on a write has its data, and 3 has resets. The decimal numbers
+//! of a text are below 2^32. A listing is written in pieces of at most 4,096 bytes.
+//!
+//! # In which order to read
+//!
+//! docs/FORMATS.md; `specs/Recorded` (what the listing of a recording is), `specs/RowText`,
+//! `specs/Places`, `specs/Reading`; then `write` and `read`.
 #![tactic(auto)]
 
 pub mod fault;

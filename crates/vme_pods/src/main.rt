@@ -1,10 +1,33 @@
-//! Judges a recording as pods would deliver it: cut into blocks, which workers deliver in any order, some of them
-//! twice.
+//! Judges a recording as pods would deliver it: cut into blocks, which workers deliver in any
+//! order, some of them twice.
 //!
-//! `vme_pods [--block N] [--workers N] [--seed S] BINDING DUMP` writes the line that `vmecheck check` writes, with its
-//! status. It is there for those who embed the library, and shows that `run` judges real recordings;
-//! `check_by_pods` (in `check`) is what it does, and its contract says that what it writes and its status are those of
-//! a check, whatever the order, the repetition and the number of workers. Start reading there.
+//! `vme_pods [--block N] [--workers N] [--seed S] BINDING DUMP` writes the line that
+//! `vmecheck check` writes, with its status. It is there for those who embed the library, and shows
+//! that `run` of vme_floor judges real recordings.
+//!
+//! # Parts
+//!
+//! - `check`, `judge`: `check_by_pods`, which is what the program does; the verdict on a recording
+//!   by workers.
+//! - `deliveries`: the blocks of the recording, by a seed in another order and some of them twice.
+//! - `unjudged`: why a recording isn't judged by workers.
+//! - `words`: the words of the command line.
+//! - `tests`: plans that change nothing, seeds, two pods on threads of their own, refusals, words.
+//!
+//! # What is proved
+//!
+//! `check_by_pods`: what it writes and its status are exactly those of a check, whatever the order,
+//! the repetition and the number of workers (`exact`), but for want of memory and a thread that
+//! can't be started (never with one worker), which have status 4. The deliveries are of the
+//! recording's blocks, and all of them (`delivered`).
+//!
+//! # What isn't proved
+//!
+//! `main` with its files, and the words; that a seed gives another order, which is tested.
+//!
+//! # Limits
+//!
+//! Blocks of 1 to 65,536 steps, and 1 to 64 workers. Start reading at `check`.
 #![tactic(auto)]
 
 ghost use Rattle.std.specs.Prelude.{◌≡◌, ◌≤◌, IfErr, IfOk, IfSome};

@@ -1,8 +1,21 @@
-//! What the rules of the bus ask, in a sentence each, for people: where a rule is broken, the line that a break names,
-//! the chapter of the standard (ANSI/IEEE Std 1014-1987), and what is usually wrong on a board that breaks it.
+//! What the rules of the bus ask, in a sentence each, for people: where a rule is broken, the line
+//! that a break names, the chapter of the standard (ANSI/IEEE Std 1014-1987), and what is usually
+//! wrong on a board that breaks it.
 //!
-//! [`Guide::of`] is the only source of these: `vmecheck rules`, `vmecheck explain` and docs/PROTOCOL.md say what it
-//! says. Start reading there.
+//! # Parts
+//!
+//! - `guide`: [`Guide::of`], the only source of these. `vmecheck rules`, `vmecheck explain` and
+//!   docs/PROTOCOL.md say what it says.
+//! - `page`: the guides as text.
+//!
+//! # What is proved
+//!
+//! A guide is of the rule that was asked for.
+//!
+//! # What isn't proved
+//!
+//! What the sentences say: they are to be read beside `specs/Rules` of vme_trace, which decides.
+//! `tests/texts` compares docs/PROTOCOL.md with them. Start reading at `guide`.
 #![tactic(auto)]
 
 mod guide;

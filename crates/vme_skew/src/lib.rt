@@ -1,10 +1,34 @@
 //! Recordings by probes that tell one moment of the bus at several times, and what they settle to.
 //!
-//! A logic analyser samples each line a little earlier or later than another. What lies within the *skew* is taken as
-//! one moment: the steps of a recording are taken in groups, and each group makes one step, at the time of its first
-//! one, of the lines that have another level behind the group than before it. `specs/Settled` says so; start there.
-//! `settle` makes that recording. The functions of this file are laws of the definition, whose contracts are what they
-//! say.
+//! A logic analyser samples each line a little earlier or later than another. What lies within the
+//! *skew* is taken as one moment: the steps of a recording are taken in groups, and each group
+//! makes one step, at the time of its first one, of the lines that have another level behind the
+//! group than before it. A group begins with the first step that is more than the skew later than
+//! the beginning of the group before.
+//!
+//! # Parts
+//!
+//! - `specs/Settled`: the definition.
+//! - `settling`, `group`: [`settle`], which makes the settled recording in one pass, and the group
+//!   at hand.
+//! - The functions of this file: laws of the definition, whose contracts are what they say.
+//!
+//! # What is proved
+//!
+//! [`settle`] makes exactly the settled recording (`settled`); the only error is want of memory. By
+//! a skew of 0 a recording is itself ([`settled_by_zero`]). What is settled is a recording, and has
+//! no more steps than there were ([`settled_is_recording`]). The levels behind each group are those
+//! of the recording ([`levels_are_kept`]). [`worked_recordings`] computes recordings at the bounds
+//! of groups.
+//!
+//! # What isn't proved
+//!
+//! How much work [`settle`] takes. Which skew fits a probe is for its user to know: two edges of
+//! the bus that lie within the skew become one instant, and their order is lost.
+//!
+//! # Limits
+//!
+//! A skew is a number below 2^64, in the time unit of the dump. Start reading at `specs/Settled`.
 #![tactic(auto)]
 
 ghost use Rattle.std.specs.Prelude.{◌≡◌, ◌≤◌, ◌++◌, ℕ, length};

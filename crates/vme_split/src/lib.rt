@@ -1,47 +1,68 @@
 //! What a listing says of the edges of its recording: they split into exactly what is listed.
 //!
-//! A listing is made row by row, by definitions in `vme_listing`. Here stands what its rows mean, in the words of the
-//! bus alone: each judged fall and rise of AS and of BBSY, each instant at which the data strobes leave high or are
-//! both back, and each fall of an answer line belongs to one row, and each row to its edges. [`listings_split`] says so
-//! of every recording and every verdict. Where the recording conforms, all of its judged edges are split; where it is
-//! broken or unreadable, those before the break.
+//! A listing is made row by row, by definitions in `vme_listing`. Here stands what its rows mean,
+//! in the words of the bus alone: each judged fall and rise of AS and of BBSY, each instant at
+//! which the data strobes leave high or are both back, and each fall of an answer line belongs to
+//! one row, and each row to its edges. [`listings_split`] says so of every recording and every
+//! verdict. Where the recording conforms, all of its judged edges are split; where it is broken or
+//! unreadable, those before the break.
 //!
-//! A recording is judged in stretches: the first begins as the bus is idle, a reset ends one, and the next begins as
-//! the bus is idle again. For each stretch these hold, each a field of `SplitsStretch` in `specs/Split.antt`:
+//! # Parts
 //!
-//! | Part | What it says |
-//! |---|---|
-//! | `cycles` | the cycles start at the falls of AS and end at its rises, one for each, in turn |
-//! | `tenures` | so do the tenures at those of BBSY; one more is first, where it is low as the stretch begins |
-//! | `transfers` | a transfer starts where both strobes were high and one isn't, and closes where both are; in turn |
-//! | `answers` | the answers by DTACK are the falls of DTACK, one for each, and those by BERR the falls of BERR |
-//! | `keeps.tenures_of_slots` | a tenure is of a level from 0 to 3, and of one of the slots |
-//! | `keeps.open_at_start` | a tenure is open where it was there as the stretch began, and no other is |
-//! | `keeps.grants` | a tenure takes a grant: as it starts, or just before, its level's nets are low up to its slot |
-//! | `keeps.cycles_in_tenures` | a cycle starts in a tenure |
-//! | `keeps.answers_in_cycles` | an answer comes in its transfer, and in the cycle that the row names |
-//! | `keeps.cycles_of_classes` | a cycle has the transfers that its class allows |
-//! | `keeps.acknowledges` | an interrupt acknowledge is a cycle that starts with IACK low; others start with it high |
-//! | `keeps.codes_of_classes` | the class of another cycle is that of its modifier code |
-//! | `keeps.modifiers` | the modifier is what AM0 to AM5 show as the cycle starts: high for 1, low for 0, each known |
-//! | `keeps.addresses` | so do the lines of the address that the code makes meaningful, and A01 to A03 the level |
-//! | `keeps.directions` | a write starts with WRITE low, a read with it high |
-//! | `keeps.written_data` | a write has what its data lines say before its answer, or there if it starts there |
-//! | `keeps.strobe_awaits` | AS doesn't rise from the start of a transfer to its answer |
-//! | `keeps.nothing_else` | a stretch has no other rows |
+//! A recording is judged in stretches: the first begins as the bus is idle, a reset ends one, and
+//! the next begins as the bus is idle again. For each stretch these hold, each a field of
+//! `SplitsStretch` in `specs/Split.antt`:
 //!
-//! "In turn" says that each ends later than it starts, that the next starts later than that, and that only the last
-//! may lack an end. The sentences speak of lists of instants, and [`instants_are_exact`] says what these are: each
-//! instant at which something is so, once and in order. So a fall without a row, a row without a fall, and a row told
-//! twice are refused alike. [`split_is_unique`] says that nothing else splits the same edges: rows that do tell the
-//! same tenures, cycles, transfers and answers, each answer of the same transfer and in the same cycle. Of a cycle they
-//! tell the same kind, class, modifier and address, or level; of a transfer the same direction, and the same data where
-//! both tell data.
+//! - `cycles`: the cycles start at the falls of AS and end at its rises, one for each, in turn.
+//! - `tenures`: so do the tenures at those of BBSY; one more is first, where it is low as the
+//!   stretch begins.
+//! - `transfers`: a transfer starts where both strobes were high and one isn't, and closes where
+//!   both are; in turn.
+//! - `answers`: the answers by DTACK are the falls of DTACK, one for each, and those by BERR the
+//!   falls of BERR.
+//! - `keeps.tenures_of_slots`: a tenure is of a level from 0 to 3, and of one of the slots.
+//! - `keeps.open_at_start`: a tenure is open where it was there as the stretch began, and no other
+//!   is.
+//! - `keeps.grants`: a tenure takes a grant: as it starts, or just before, its level's nets are low
+//!   up to its slot.
+//! - `keeps.cycles_in_tenures`: a cycle starts in a tenure.
+//! - `keeps.answers_in_cycles`: an answer comes in its transfer, and in the cycle that the row
+//!   names.
+//! - `keeps.cycles_of_classes`: a cycle has the transfers that its class allows.
+//! - `keeps.acknowledges`: an interrupt acknowledge is a cycle that starts with IACK low; others
+//!   start with it high.
+//! - `keeps.codes_of_classes`: the class of another cycle is that of its modifier code.
+//! - `keeps.modifiers`: the modifier is what AM0 to AM5 show as the cycle starts: high for 1, low
+//!   for 0, each known.
+//! - `keeps.addresses`: so do the lines of the address that the code makes meaningful, and A01 to
+//!   A03 the level.
+//! - `keeps.directions`: a write starts with WRITE low, a read with it high.
+//! - `keeps.written_data`: a write has what its data lines say before its answer, or there if it
+//!   starts there.
+//! - `keeps.strobe_awaits`: AS doesn't rise from the start of a transfer to its answer.
+//! - `keeps.nothing_else`: a stretch has no other rows.
 //!
-//! [`older_listings_split`] says the same of the listings of earlier versions.
+//! "In turn" says that each ends later than it starts, that the next starts later than that, and
+//! that only the last may lack an end.
 //!
-//! What isn't said: the order of rows of different kinds, for which the definitions of `vme_listing` stand; and that
-//! each answered write has its data from version 2 on, which `listings_are_well_placed` of vme_listing says.
+//! # What is proved
+//!
+//! - [`listings_split`] and [`older_listings_split`]: the above of every recording, by its listing
+//!   of each version.
+//! - [`instants_are_exact`]: the lists of instants of which the sentences speak have each instant
+//!   at which something is so, once and in order. So a fall without a row, a row without a fall,
+//!   and a row told twice are refused alike.
+//! - [`split_is_unique`]: nothing else splits the same edges. Rows that do tell the same tenures,
+//!   cycles, transfers and answers, each answer of the same transfer and in the same cycle. Of a
+//!   cycle they tell the same kind, class, modifier and address, or level; of a transfer the same
+//!   direction, and the same data where both tell data.
+//!
+//! # What isn't said
+//!
+//! The order of rows of different kinds, for which the definitions of `vme_listing` stand; and that
+//! each answered write has its data from version 2 on, which `listings_are_well_placed` of
+//! vme_listing says. docs/PROTOCOL.md shows three sentences that one would say of a listing and
+//! that are false.
 #![tactic(auto)]
 
 ghost use Rattle.std.specs.Prelude.{◌≡◌, ◌<◌, ◌≤◌, ◌↔◌, ℕ, Bool, true, List, Contains};

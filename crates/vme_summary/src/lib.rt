@@ -1,24 +1,52 @@
-//! One summary of blocks of a recording, by all rules in force.
+//! One summary of blocks of a recording, by all rules in force; the verdict and the listing that it
+//! leads to.
 //!
-//! [`judge_block`] makes of a block a [`Judged`]: the block, and a [`Span`] that stands for it, whatever came before.
-//! [`join`] makes one span of two whose blocks follow one another; [`append`] does it with spans that are given away.
-//! However the blocks of a recording were joined, [`Span::verdict`] is the verdict of the recording, and
-//! [`Span::listing`] its listing, which is well placed.
+//! # Parts
 //!
-//! A recording that is judged in order needs no span: what judges goes on past some steps at once (`chunk_judge`),
-//! without marks for a verdict (`verdict_state`) and with them for a listing (`listing_state`). [`Judge`] and
-//! [`Lister`] take the steps as they are made; [`verdict_by_blocks`] and [`listing_by_blocks`] take a capture, and copy
-//! none of its blocks.
+//! - `judged`, `span`, `extent`, `summary`: [`judge_block`] makes of a block a [`Judged`]: the
+//!   block, and a [`Span`] that stands for it, whatever came before. [`join`] makes one span of two
+//!   whose blocks follow one another; [`append`] does it with spans that are given away.
+//! - `monitors`: the only place that knows which monitors there are; their tables stand beside one
+//!   another in `MonitorSummaries`. `monitor_states`: what they have come to from the opening on.
+//! - `rows`: the rows that marks make.
+//! - `chunk_judge`, `chunk_summary`, `verdict_state`, `listing_state`: what judges a recording in
+//!   order, some steps at once, without marks for a verdict and with them for a listing.
+//! - `stream_judge`, `judged_chunk`, `discard_steps`: [`Judge`] and [`Lister`] take the steps as
+//!   they are made, and parts that were judged apart ([`JudgedChunk`]), on any thread;
+//!   [`DiscardSteps`] takes steps and judges none.
+//! - `cut`: [`verdict_by_blocks`] and [`listing_by_blocks`] take a capture, and copy none of its
+//!   blocks.
+//! - `running_verdict`: [`RunningVerdict`] goes on past further blocks without a join and without
+//!   memory.
+//! - `ghost_steps`: the steps that were taken, which proofs alone read.
 //!
-//! What judges takes steps that were judged apart, too: a [`JudgedChunk`] is made of steps that follow some lines, on
-//! any thread, and the parts of a recording are passed in order to what judges it. [`DiscardSteps`] takes steps and
-//! judges none.
+//! # What is proved
 //!
-//! A [`RunningVerdict`] goes on past further blocks from where judging has come to, without a join and without memory.
+//! - However the blocks of a recording were joined, [`Span::verdict`] is its verdict by the
+//!   definitions, and [`Span::listing`] its listing (`listing`), which is well placed (`placed`)
+//!   and splits the judged edges (`split`).
+//! - [`join`] and [`append`] say that spans are torn exactly where their blocks don't join
+//!   (`torn`). [`judge_block`] and [`append`] hand back what they were given where they fail.
+//! - [`verdict_by_blocks`] and [`listing_by_blocks`] give the verdict and the listing of the
+//!   recording for every size of block. So do [`Judge`] and [`Lister`] of the steps that came, or
+//!   they answer that these are too many, or fill too many blocks (`too_many_steps`,
+//!   `too_many_blocks`).
+//! - [`joined_blocks_are_sound`]: blocks that join, each well formed, make a well-formed recording.
 //!
-//! Contracts have one word: `SpanStandsFor span blocks` (`specs/Stands`). Start there and with `span`. `Span` and
-//! `Judged` are plain types, so they go into tables, lists and threads. `monitors` is the only place that knows which
-//! monitors there are: their tables stand beside one another in a `Summary`.
+//! # What isn't proved
+//!
+//! That memory suffices, and how long judging takes.
+//!
+//! # Limits
+//!
+//! A block has at most 65,536 steps. Spans that are joined have at most 268,435,456 steps together.
+//! A cut has at most 4,096 blocks.
+//!
+//! # In which order to read
+//!
+//! Contracts about blocks have one word: `SpanStandsFor span blocks` (`specs/Stands`). Start there
+//! and with `span`. `Span` and `Judged` are plain types, so they go into tables, lists and threads.
+//! Then `monitors`, and `stream_judge`.
 #![tactic(auto)]
 
 pub mod chunk_judge;

@@ -1,5 +1,15 @@
-//! Tests of vme_summary: worked recordings judged in blocks of every size, their listings, spans that move between
-//! threads, and parts that are judged by themselves.
+//! Tests of vme_summary: worked recordings judged in blocks of every size, their listings, spans
+//! that move between threads, and parts that are judged by themselves.
+//!
+//! - `tests`: verdicts, spans of single steps and joins, against values that stand beside the
+//!   recordings. `each_growth_fails_once` is made for `tests/memory/run`, which refuses each of its
+//!   allocations in turn.
+//! - `listing_tests`: the rows of listings, as texts that are written and read back.
+//! - `moving_tests`: judged blocks in a list, in a table of atomic_table and through a thread.
+//! - `part_tests`: parts that are judged apart and passed in order, wherever the recording is cut.
+//!
+//! Not tried here: a break of each of the rules. vme_eval has one of each, and
+//! `tests/recordings/run` tries the program on them.
 #![tactic(auto)]
 
 #[cfg(test)]

@@ -1,11 +1,36 @@
 //! A dump's text that is read and judged by several workers, a piece of it at a time.
 //!
-//! [`read_by_workers`] does with a piece what `TextPieces::read` does. What stands before its first time and behind its
-//! last is read in order. The rest is cut where times begin (`cut`); each part of it is read ahead of those before it,
-//! from the levels that likely stand there, and judged as it is read (`speculative`, `chunks`), in a thread of its own
-//! (`detached`). Once these were guessed wrong (`speculation`), what the parts do to the lines is read first. They are
-//! joined in order (`joining`): a part that was read from other levels than really stand before it is read again, from
-//! those. From the first that doesn't fit on, they are read in order (`in_order`).
+//! # Parts
+//!
+//! - `wave`: [`read_by_workers`] does with a piece what `TextPieces::read` of vme_bind does. What
+//!   stands before its first time and behind its last is read in order.
+//! - `cut`: the rest is cut where times begin.
+//! - `speculative`, `chunks`: each part is read ahead of those before it, from the levels that
+//!   likely stand there, and judged as it is read.
+//! - `speculation`: whether these were guessed wrong. What the parts do to the lines is then read
+//!   first.
+//! - `detached`: calls that are made side by side, each in a thread of its own where one can be
+//!   made.
+//! - `joining`: the parts joined in order. One that was read from other levels than really stand
+//!   before it is read again, from those.
+//! - `in_order`: from the first part that doesn't fit on, they are read in order.
+//!
+//! # What is proved
+//!
+//! [`read_by_workers`]: for every number of workers, and whatever was guessed, what comes of the
+//! dump is what comes of it where the piece is read in order (`line`, `rest`), or want of memory is
+//! answered. A thread that can't be started changes no answer.
+//!
+//! # What isn't proved
+//!
+//! That workers overlap, how fast they are, how often a guess is right, and that memory suffices.
+//! `tests/workers/run` compares what the program answers by 1, 2, 3, 4 and 64 workers; this crate
+//! has no tests of its own.
+//!
+//! # Limits
+//!
+//! The levels before a part are guessed by the 16,384 bytes before it. Steps are judged 16,384 at a
+//! time. Start reading at `wave`; docs/ARCHITECTURE.md has the picture.
 #![tactic(auto)]
 
 mod chunks;

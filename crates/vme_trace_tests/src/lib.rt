@@ -1,4 +1,13 @@
-//! Tests of vme_trace: what a recording is, cuts and blocks, steps that are malformed, and memory that is refused.
+//! Tests of vme_trace: what a recording is, cuts and blocks, steps that are malformed, and memory
+//! that is refused.
+//!
+//! They compare what the public calls answer with values that stand beside them: names and numbers
+//! of lines, names of rules, the lines of a backplane, idle buses, the class and the address lines
+//! of modifier codes, moved data lines, the first malformed step by a block and by a capture, and
+//! the blocks of a read. `refused_memory` is made for `tests/memory/run`, which refuses each of its
+//! allocations in turn.
+//!
+//! Not tried here: the definitions themselves. vme_eval computes what they say.
 #![tactic(auto)]
 
 #[cfg(test)]

@@ -1,8 +1,26 @@
 //! What the words of the command line ask for.
 //!
-//! [`words::order`] reads the words by `clap`'s rules of one command with a subcommand for each task (`command`): its
-//! contract says that an [`Order`] is what those rules give the words, that it comes exactly where they find no fault,
-//! and which kind of fault wrong words have. Start reading there.
+//! # Parts
+//!
+//! - `command`: the command of the program, with a subcommand for each task, in `clap`'s terms.
+//! - `words`: [`words::order`] reads the words by `clap`'s rules of that command.
+//! - `order`: a task, and an [`Order`].
+//! - `order_fault`: why words are no order.
+//!
+//! # What is proved
+//!
+//! [`words::order`]: an [`Order`] is what `clap`'s meaning of the command gives the words (`ok`).
+//! It comes exactly where `clap`'s rules find no fault in them, unless memory runs out (`taken`,
+//! `faulty`). Wrong words are answered with a kind of fault that those rules give (`err`).
+//!
+//! # What isn't proved
+//!
+//! The texts of usage and help, and the words of a fault; vme_commands_tests tries them. This crate
+//! has no tests of its own.
+//!
+//! # Limits
+//!
+//! Blocks of 1 to 65,536 steps, 1 to 64 workers, and a skew below 2^64. Start reading at `words`.
 #![tactic(auto)]
 
 mod command;

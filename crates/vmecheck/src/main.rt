@@ -1,4 +1,35 @@
-//! A conformance checker for recordings of a VMEbus backplane.
+//! A conformance checker for recordings of a VMEbus backplane (ANSI/IEEE Std 1014-1987).
+//!
+//! The program opens what its words name, and vme_commands does the rest. README.md says how it is
+//! used.
+//!
+//! # Parts
+//!
+//! - this file: from the words of the command line to one call of vme_commands. Without words it
+//!   checks the dump on standard input by a built-in binding.
+//! - `save`: the file for the waveform viewer, which is written over no input and over nothing that
+//!   the program didn't write.
+//!
+//! # Exit statuses
+//!
+//! - 0: conforming, confirmed, or written.
+//! - 1: a rule is broken, or a listing isn't the recording's.
+//! - 2: the recording can't be read on (U1 to U4), or the bus is never idle.
+//! - 3: an input, the words, or the place of a file to write are refused.
+//! - 4: there is no memory.
+//! - 5: the answer can't be written.
+//! - 7: `bind` found no bus that a check judges.
+//!
+//! # What is proved
+//!
+//! A file that can't be opened is refused as the input that it is to be (`open`), each refusal has
+//! its status (`refuse`), and wrong words have status 3 (`explain_words`). What is written by the
+//! bytes of the inputs is proved of vme_commands.
+//!
+//! # What isn't proved
+//!
+//! `main` with its files and links, and that each word leads to its command: `./test` runs the
+//! program.
 #![tactic(auto)]
 
 ghost use Rattle.std.specs.Prelude.{◌≡◌, ◌≢◌, ◌⊎◌, IfErr};

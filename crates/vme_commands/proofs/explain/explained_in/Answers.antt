@@ -6,7 +6,7 @@ use Rattle.vme_commands.proofs.explain.explained_in.Goals as goal
 pub returns-in-Ok-clause-read : goal.returns-in-Ok-clause-read
 returns-in-Ok-clause-read c =
     rw (judged-captured c.args.skew c.args.bound.now (or_bad_dump (dump_of c.args.dump.now)) c.in-Ok.capture
-        c.in-Ok.ensures)
+    c.in-Ok.ensures)
     c.explained_of.ensures.read
 
 pub returns-in-Err-clause-read : goal.returns-in-Err-clause-read

@@ -6,8 +6,6 @@ use Rattle.vme_trace.specs.LineNumbers.{D}
 use Rattle.vme_stability.proofs.UndrivenLines.{next_line, not_moved, not_unknown, undriven_first, undriven_here}
 use Rattle.vme_stability.proofs.UndrivenLines.{undriven_known, undriven_more, undriven_none, undriven_there}
 use Rattle.vme_stability.proofs.observation.least_undriven.Goals as goal
-use Rattle.vme_stability.proofs.observation.least_undriven.Goals.{else-not-is_known-via-then-not-is_known+else-is_selected}
-use Rattle.vme_stability.proofs.observation.least_undriven.Goals.{else-not-is_known-via-else-not-is_known}
 
 pub loop-bit-init : goal.loop-bit-init
 loop-bit-init c = undriven_first c.args.lines.now
@@ -25,11 +23,11 @@ returns-then-is_selected c =
 pub loop-bit-preserved : goal.loop-bit-preserved
 loop-bit-preserved c = next_line c.args.lines.now c.loop-bit.bit (undriven_more c.args.lines.now (D c.loop-bit.bit)
     c.loop-bit.invariant (elim c.else-not-is_known.branch [
-      | else-not-is_known-via-then-not-is_known+else-is_selected w ↦
+      | goal.else-not-is_known-via-then-not-is_known+else-is_selected w ↦
           not_moved c.args.lines.now (D c.loop-bit.bit) c.data-line.result c.data-line.ensures
           (sym w.is_selected.ensures
           ∙ w.if-is_selected.false)
-      | else-not-is_known-via-else-not-is_known w ↦
+      | goal.else-not-is_known-via-else-not-is_known w ↦
           not_unknown c.args.lines.now (D c.loop-bit.bit) c.data-line.result c.data-line.ensures
           (ap is_known (sym c.level.ensures) ∙ (sym c.is_known.ensures ∙ w.if-not-is_known.false))
     ]))

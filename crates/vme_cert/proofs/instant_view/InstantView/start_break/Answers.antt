@@ -7,17 +7,16 @@ use Rattle.vme_cert.specs.Watching.{lines_of}
 use Rattle.vme_cert.proofs.Searching.{any-start, any-more}
 use Rattle.vme_cert.proofs.Watched.{start_lines, least-start, least-never, least-unstarted}
 use Rattle.vme_cert.proofs.instant_view.InstantView.start_break.Goals as goal
-use Rattle.vme_cert.proofs.instant_view.InstantView.start_break.Goals.{then-not-starts-via-then-not-starts}
-use Rattle.vme_cert.proofs.instant_view.InstantView.start_break.Goals.{then-not-starts-via-else-not-starts+then-lacks_nothing}
 
 pub returns-then-not-starts : goal.returns-then-not-starts
 returns-then-not-starts c =
     let self = c.args.self.now in
     elim c.then-not-starts.branch [
-      | then-not-starts-via-then-not-starts w ↦
+      | goal.then-not-starts-via-then-not-starts w ↦
           least-unstarted (trace self) (span self) (instant self) c.args.rule c.requires (sym c.starts.ensures
           ∙ w.if-not-starts.true)
-      | then-not-starts-via-else-not-starts+then-lacks_nothing w ↦ sym (w.lacks_nothing.ensures w.if-lacks_nothing.true)
+      | goal.then-not-starts-via-else-not-starts+then-lacks_nothing w ↦
+          sym (w.lacks_nothing.ensures w.if-lacks_nothing.true)
     ]
 
 pub loop-number-init : goal.loop-number-init
