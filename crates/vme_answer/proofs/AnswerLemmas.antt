@@ -1,7 +1,7 @@
 -- What the steps of a check give, by what the definitions say of the inputs.
-use Rattle.std.proofs.Common.{◌≡◌, ◌≤◌, ◌<◌, ℕ, List, length, refl, ap, sym, subst, ◌∙◌, inl, inr}
+use Rattle.std.proofs.Common.{◌≡◌, ◌≤◌, ◌<◌, ℕ, List, length, refl, ap, sym, subst, ◌∙◌}
 use Rattle.std.specs.Prelude.{Option, Some, None, Result, Ok, Err}
-use Rattle.std.proofs.lemmas.Bool.{cases_lt, le-leb, lt-leb, lt-ltb, le-ltb}
+use Rattle.std.proofs.lemmas.Bool.{le-leb, lt-leb}
 use Rattle.vcd_read.specs.Contents.{Contents}
 use Rattle.vcd_read.specs.Header.{◌>>=◌}
 use Rattle.vcd_read.specs.Meaning.{dump_of}
@@ -12,8 +12,6 @@ use Rattle.vme_bind.specs.Answers.{BindFailsAs}
 use Rattle.vme_bind.specs.Binding.{BoundLines, binding_of}
 use Rattle.vme_bind.specs.Capture.{capture_of, limited, recording, recording_of}
 use Rattle.vme_bind.specs.BoundGroups.{bound_groups_in}
-use Rattle.vme_bind.proofs.TextCaptureLemmas.{captured-by, fails-captured}
-use Rattle.vme_trace.specs.WellFormed.{capture_limit}
 use Rattle.vme_bind.specs.TextCapture.{or_binding}
 use Rattle.vme_bind.specs.TextCapture as text
 use Rattle.vme_bind.specs.declared.fault.CaptureFault.{CaptureFault}
@@ -21,16 +19,14 @@ use Rattle.vme_bind.specs.declared.fault.CaptureFault.TheVariants as capture
 use Rattle.vme_bind.specs.declared.fault.BindFault.{BindFault}
 use Rattle.vme_bind.specs.declared.fault.BindKind.{BindKind}
 use Rattle.vme_bind.specs.declared.fault.BindKind.TheVariants as bind
-use Rattle.vme_trace.specs.Blocks.{block_count}
 use Rattle.vme_trace.specs.Trace.{Trace}
-use Rattle.vme_trace.specs.Verdict.{verdict_by, rules_in_force}
 use Rattle.vme_trace.specs.declared.verdict.Verdict.{Verdict}
 use Rattle.vme_stream.specs.declared.input.InFault.{InFault}
 use Rattle.vme_stream.specs.declared.input.InFault.TheVariants as read
 use Rattle.vme_answer.specs.declared.refusal.Input.{Input}
 use Rattle.vme_answer.specs.declared.refusal.Input.TheVariants.{Binding, Dump}
 use Rattle.vme_answer.specs.declared.refusal.Refusal.{Refusal}
-use Rattle.vme_answer.specs.declared.refusal.Refusal.TheVariants.{TooLong, BadBinding, BadDump, TooManyBlocks, Memory}
+use Rattle.vme_answer.specs.declared.refusal.Refusal.TheVariants.{TooLong, BadBinding, BadDump, Memory}
 use Rattle.vme_answer.specs.Answers.{AnswerGives, whole, or_bad_binding, or_bad_dump, binding_read, dump_read}
 use Rattle.vme_answer.specs.Answers.{capture_by, capture_read, judgement_of, recorded_by, recording_by, recording_read}
 use Rattle.vme_answer.specs.Answers.{verdict_in_blocks}

@@ -8,7 +8,7 @@ use Rattle.vme_answer.specs.declared.refusal.Refusal.{Refusal}
 use Rattle.vme_answer.specs.declared.refusal.Refusal.TheVariants.{Memory}
 use Rattle.vme_answer.specs.Answers.{CommandAnswer, AnswerGives, answer_by, answer_of, judgement_of}
 use Rattle.vme_answer.specs.Ends.{Tells, Ends, Does, Checks}
-use Rattle.vme_stream.specs.Inputs.{IsReading, TellsWhole, most_reads}
+use Rattle.vme_stream.specs.Inputs.{IsReading, TellsWhole, fewest_short_reads, most_reads}
 use Rattle.vme_trace.specs.Streams.{Reading, Writing}
 use Rattle.vme_answer.specs.Texts.{verdict_status, refusal_status}
 
@@ -28,9 +28,11 @@ not_both a b same more = omega arith
 not_five : (status small : ℕ) → status ≡ small → small ≤ 4 → status ≡ 5 → ⊥
 not_five status small is le five = omega arith
 
-too_many : (k n reads made : ℕ) → k ≤ n → made ≡ reads + k → (n < k) ⊎ (made < reads + k) → ⊥
-too_many k n reads made least is (inl few) = omega arith
-too_many k n reads made least is (inr fewer) = omega arith
+too_many : (k n reads made least short all_short : ℕ) → k ≤ n → made ≡ reads + k → short + least ≤ all_short
+    → (n < k) ⊎ ((made < reads + k) ⊎ (all_short < short + least)) → ⊥
+too_many k n reads made least short all_short long is many (inl few) = omega arith
+too_many k n reads made least short all_short long is many (inr (inl fewer)) = omega arith
+too_many k n reads made least short all_short long is many (inr (inr fewer_short)) = omega arith
 
 told_in : (told : Option (List ℕ)) (n : ℕ) (bytes : List ℕ) → told ≡ Some bytes → IfSome told (λ t. n ≤ length t)
     → n ≤ length bytes
@@ -52,8 +54,8 @@ read_is old new (Some x) told reading whole = ap (λ (l : List ℕ). Some l) (to
     reading.1)
 read_is old new None told (inl failed) whole = absurd (not_both new.failures old.failures whole.failures failed)
 read_is old new None told (inr up) whole =
-    absurd (too_many most_reads (length told) old.reads new.reads (told_in old.left most_reads told whole.told up.told)
-    up.reads whole.in_time)
+    absurd (too_many most_reads (length told) old.reads new.reads fewest_short_reads old.short_reads new.short_reads
+    (told_in old.left most_reads told whole.told up.told) up.reads up.short_reads whole.in_time)
 
 -- ---- a command whose answers have a status of at most 4
 

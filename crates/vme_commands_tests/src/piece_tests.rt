@@ -1,13 +1,14 @@
 //! A dump that is judged in pieces: the verdict and the listing are those of the whole text, wherever it is cut.
 
 use crate::tests::{LISTING, Page};
+use std::io::{self, Read};
 use std::process::Abort;
 use std::test::Fail;
 use std::thread::Threads;
 use vme_commands::check::check_by;
 use vme_commands::list::list_by;
 use vme_commands::{BLOCK, BUILT_IN, Workers};
-use vme_stream::Bytes;
+use vme_stream::{Bytes, Io};
 
 const HEAD: &str = "$timescale 1 ns $end\n$scope module bus $end\n\
 $var wire 1 p AS $end\n$var wire 1 q DS0 $end\n$var wire 1 r DS1 $end\n\
@@ -19,6 +20,30 @@ const PIECES: [usize; 10] = [1, 2, 3, 5, 8, 13, 21, 34, 64, 4096];
 
 /// How many workers read each dump.
 const WORKERS: [u32; 3] = [1, 2, 5];
+
+/// A reader that gives so many bytes a read.
+#[derive(Drop)]
+struct Portions<'a> {
+    left: &'a [u8],
+    portion: usize,
+}
+
+impl Read for Portions<'_> {
+    fn read(&mut self, buffer: &mut [u8]) -> io::Result<usize> {
+        let count = self.left.len().min(buffer.len()).min(self.portion);
+        buffer[..count].copy_from_slice(&self.left[..count]);
+        self.left = &self.left[count..];
+        Ok(count)
+    }
+}
+
+/// A source of a dump, of which a read gives no more bytes than are looked at together.
+fn in_portions(dump: &str, portion: usize) -> Io<Portions<'_>> {
+    Io::new(Portions {
+        left: dump.as_bytes(),
+        portion,
+    })
+}
 
 /// What is told of a dump: the line of its verdict, its listing, or else its first fault, and the status.
 #[derive(Clone, Copy)]
@@ -75,7 +100,7 @@ fn expect_verdict<R: Abort + AllocGlobal + Threads + Sync>(
         rt.alloc(),
         workers,
         &mut Bytes::new(BUILT_IN),
-        &mut Bytes::new(dump.as_bytes()),
+        &mut in_portions(dump, workers.piece()),
         BLOCK,
         0,
         &mut out,
@@ -98,7 +123,7 @@ fn expect_listing<R: Abort + AllocGlobal + Threads + Sync>(
         rt.alloc(),
         workers,
         &mut Bytes::new(BUILT_IN),
-        &mut Bytes::new(dump.as_bytes()),
+        &mut in_portions(dump, workers.piece()),
         BLOCK,
         0,
         &mut out,

@@ -91,15 +91,17 @@ fn torn_at(text: &str, place: usize, piece: usize) -> Io<Torn<'_>> {
     })
 }
 
-/// A reader of so many line feeds, so many a read.
+/// A reader of so many line feeds, so many a read, and the least room that it was offered.
 #[derive(Drop)]
 struct LineFeeds {
     left: usize,
     piece: usize,
+    least_room: usize,
 }
 
 impl Read for LineFeeds {
     fn read(&mut self, buffer: &mut [u8]) -> io::Result<usize> {
+        self.least_room = self.least_room.min(buffer.len());
         let count = buffer.len().min(self.left).min(self.piece);
         buffer[..count].fill(b'\n');
         self.left -= count;
@@ -253,7 +255,7 @@ fn torn_listings(rt: HostRuntime) {
 }
 
 /// Dumps that are long, and too long to be read in pieces of this size or at all: 17,000,000 bytes, the most that there
-/// may be, one more, and as many as 64 bits can count.
+/// may be, one more, and as many as 64 bits can count. The reader with pieces of 1,000,000 fills its room.
 #[test]
 fn long_dumps(rt: HostRuntime) {
     for (left, piece, wanted) in [
@@ -273,14 +275,20 @@ fn long_dumps(rt: HostRuntime) {
     ] {
         let mut binding = Bytes::new(BUILT_IN);
         let mut listing = Bytes::new(LISTING.as_bytes());
+        let mut line_feeds = LineFeeds {
+            left,
+            piece,
+            least_room: usize::MAX,
+        };
         expect_refusal(
             &rt,
             Command::Check,
             &mut binding,
-            &mut Io::new(LineFeeds { left, piece }),
+            &mut Io::new(&mut line_feeds),
             &mut listing,
             wanted,
         );
+        assert!(rt; line_feeds.least_room >= 4_096, "{wanted}");
     }
 }
 

@@ -1,10 +1,13 @@
 -- What reading a source in pieces gives.
-use Rattle.std.proofs.Common.{◌≡◌, ◌≤◌, ◌<◌, ◌+◌, ℕ, List, [], ◌++◌, length, take, drop, Option, Some, None, IfSome}
-use Rattle.std.proofs.Common.{refl, sym, ap, subst, ◌∙◌, append-nil, length-append, length-take-le, arith, inr}
+use Rattle.std.proofs.Common.{◌≡◌, ◌≤◌, ◌<◌, ◌+◌, ◌*◌, ℕ, suc, List, [], ◌++◌, length, take, drop, Option, Some, None}
+use Rattle.std.proofs.Common.{IfSome, refl, sym, ap, subst, ◌∙◌, append-nil, length-append, length-take-le, arith}
+use Rattle.std.proofs.Common.{◌⊎◌, inl, inr}
+use Rattle.std.proofs.lemmas.Bool.{cases_lt}
 use Rattle.std.proofs.Math.Seq.{take-add}
 use Rattle.std.specs.Io.KnownBytes.{Consumes, IsAtEnd}
 use Rattle.std.proofs.KnownBytes.{Consumes-trans}
-use Rattle.vme_stream.specs.Inputs.{IsInTime, IsReading, most_reads}
+use Rattle.vme_stream.specs.Inputs.{IsInTime, IsReading, fewest_short_reads, least_room, longest_input, most_full_reads}
+use Rattle.vme_stream.specs.Inputs.{most_reads}
 use Rattle.vme_trace.specs.Streams.{Reading}
 
 -- the front of a list was read, and n bytes more behind it
@@ -55,18 +58,55 @@ reads_at_least None b bs k read long = tt
 reads_at_least (Some x) None bs k read long = absurd read
 reads_at_least (Some x) (Some y) bs k read long = at_least x y bs k read long
 
--- so many bytes were read by so many reads
-pub gives_more : (old new : Reading) (bytes : List ℕ) → Consumes old.left new.left bytes → most_reads ≤ length bytes
-    → new.reads ≡ old.reads + most_reads → new.failures ≡ old.failures → IsReading old new None
-gives_more old new bytes read long reads failures = inr
-    (record { failures = failures; reads = reads; told = reads_at_least old.left new.left bytes most_reads read long })
+-- So many reads gave so many bytes: each of them that was full gave 4,096 bytes at least, and few were full.
+pub record IsRoomy (old now : Reading) (reads bytes : ℕ) : Type 0 where
+  pub rooms : 4096 * (old.short_reads + reads) ≤ 4096 * now.short_reads + bytes
+  pub few : old.short_reads + reads ≤ now.short_reads + most_full_reads
 
--- so many reads gave bytes
-pub gives_up : (old new : Reading) (bytes : List ℕ) (filled : ℕ) → Consumes old.left new.left (take filled bytes)
-    → filled ≤ length bytes
-    → most_reads ≤ filled → new.reads ≡ old.reads + most_reads → new.failures ≡ old.failures → IsReading old new None
-gives_up old new bytes filled read fits many reads failures = gives_more old new (take filled bytes) read
-    (rw (length-take-le filled bytes fits) many) reads failures
+-- one more read gave bytes: it was short, or there weren't too many bytes before it
+roomy-by : (old now later : Reading) (reads bytes n room : ℕ) → IsRoomy old now reads bytes → bytes ≤ longest_input
+    → least_room ≤ room → (n < room → later.short_reads ≡ suc now.short_reads)
+    → (room ≤ n → later.short_reads ≡ now.short_reads) → (n < room) ⊎ (room ≤ n)
+    → IsRoomy old later (reads + 1) (bytes + n)
+roomy-by old now later reads bytes n room is limit enough short full (inl less) = record {
+  rooms = omega (arith, is.rooms, short less);
+  few = omega (arith, is.few, short less);
+}
+roomy-by old now later reads bytes n room is limit enough short full (inr all) = record {
+  rooms = omega (arith, is.rooms, full all, all, enough);
+  few = omega (arith, is.rooms, full all, limit);
+}
+
+-- one more read gave bytes, with room enough, and there weren't too many before
+pub roomy-on : (old now later : Reading) (reads bytes n room : ℕ) → IsRoomy old now reads bytes → bytes ≤ longest_input
+    → 0 < n → least_room ≤ room
+    → (n ≡ 0 → later.short_reads ≡ now.short_reads)
+    × (0 < n → n < room → later.short_reads ≡ suc now.short_reads)
+    × (room ≤ n → later.short_reads ≡ now.short_reads)
+    → IsRoomy old later (reads + 1) (bytes + n)
+roomy-on old now later reads bytes n room is limit some enough counts =
+    let (none, short, full) = counts in
+    roomy-by old now later reads bytes n room is limit enough (short some) full (cases_lt n room)
+
+-- so many bytes were read by so many reads, of which so many were short
+pub gives_more : (old new : Reading) (bytes : List ℕ) → Consumes old.left new.left bytes → most_reads ≤ length bytes
+    → new.reads ≡ old.reads + most_reads → old.short_reads + fewest_short_reads ≤ new.short_reads
+    → new.failures ≡ old.failures → IsReading old new None
+gives_more old new bytes read long reads short failures =
+    inr (record {
+      failures = failures;
+      reads = reads;
+      short_reads = short;
+      told = reads_at_least old.left new.left bytes most_reads read long;
+    })
+
+-- so many reads gave bytes, the first of a buffer
+pub gives_up : (old new : Reading) (bytes : List ℕ) (filled reads : ℕ) → Consumes old.left new.left (take filled bytes)
+    → filled ≤ length bytes → reads ≤ filled → IsRoomy old new reads filled → most_reads ≤ reads
+    → new.reads ≡ old.reads + most_reads → new.failures ≡ old.failures → IsReading old new None
+gives_up old new bytes filled reads read fits counted roomy many reads_are failures =
+    gives_more old new (take filled bytes) read (rw (length-take-le filled bytes fits) (omega arith)) reads_are
+    (omega (arith, roomy.few)) failures
 
 still : (n : ℕ) → n < n + most_reads
 still n = omega arith

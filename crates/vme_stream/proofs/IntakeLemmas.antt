@@ -1,28 +1,28 @@
 -- Reading a source by what takes its bytes.
-use Rattle.std.proofs.Common.{◌≡◌, ℕ, ◌+◌, ◌-◌, ◌≤◌, ◌<◌, List, ◌++◌, length, take, drop, Some, None, sym, ap, subst}
-use Rattle.std.proofs.Common.{◌∙◌, append_assoc, append-nil, length-append, length-take-le, arith}
+use Rattle.std.proofs.Common.{◌≡◌, ℕ, suc, ◌+◌, ◌-◌, ◌≤◌, ◌<◌, List, ◌++◌, length, take, drop, Some, None, sym, ap}
+use Rattle.std.proofs.Common.{subst, ◌∙◌, append_assoc, append-nil, length-append, length-take-le, arith}
 use Rattle.std.specs.List.{copy_within}
 use Rattle.std.proofs.Math.Nat.{zero-add}
 use Rattle.std.proofs.Math.Seq.{paste, take-add, take-append_seam}
-use Rattle.std.proofs.lemmas.List.{length-drop, take-append-drop, take-take, take_rest}
+use Rattle.std.proofs.lemmas.List.{drop-take, length-drop, take-append-drop, take-take, take_rest}
 use Rattle.std.proofs.lemmas.List.Edits.{take-paste}
 use Rattle.std.specs.Io.KnownBytes.{Consumes, IsAtEnd}
 use Rattle.std.proofs.KnownBytes.{Consumes-trans}
-use Rattle.vme_stream.specs.Inputs.{IsReading, longest_input, most_reads}
+use Rattle.vme_stream.specs.Inputs.{IsReading, least_room, longest_input, most_reads}
 use Rattle.vme_stream.specs.ByteConsumers.{ContinuesAs}
-use Rattle.vme_stream.proofs.InputLemmas.{gives_more, reads_more, read_to_end}
+use Rattle.vme_stream.proofs.InputLemmas.{IsRoomy, gives_more, reads_more, read_to_end, roomy-on}
 use Rattle.vme_trace.specs.Streams.{Reading}
 
 -- So many reads gave bytes: those that were taken, which are done, and those that are held, the first of a buffer.
 pub record IsUnderway {O : Type 0} (old now : Reading) (first here : List ℕ → O) (buffer done : List ℕ)
     (taken filled reads : ℕ) : Type 0 where
   pub within : filled ≤ length buffer
-  pub some : 0 < length buffer
   pub counted : reads ≤ taken + filled
   pub done_is : length done ≡ taken
   pub few : taken ≤ longest_input
   pub read : Consumes old.left now.left (done ++ take filled buffer)
   pub reads_are : now.reads ≡ old.reads + reads
+  pub roomy : IsRoomy old now reads (taken + filled)
   pub failures : now.failures ≡ old.failures
   pub passes : ContinuesAs first here done
 
@@ -44,7 +44,7 @@ module _ {O : Type 0} (old now : Reading) (first here : List ℕ → O) (buffer 
 
   -- some of what is held is taken
   module _ (limit : taken + filled ≤ longest_input) (next : List ℕ → O) (after : List ℕ) (count : ℕ)
-      (within : count ≤ filled) (room : filled - count < length after)
+      (within : count ≤ filled) (room : (filled - count) + least_room ≤ length after)
       (left : take (filled - count) after ≡ drop count (take filled buffer))
       (passed : ContinuesAs here next (take count buffer)) where
     same_read : all_read ≡ (done ++ take count buffer) ++ take (filled - count) after
@@ -58,7 +58,6 @@ module _ {O : Type 0} (old now : Reading) (first here : List ℕ → O) (buffer 
         reads
     given-on = record {
       within = omega (arith, room);
-      some = omega (arith, room);
       counted = omega (arith, u.counted, within);
       done_is = length-append done (take count buffer) ∙ omega (
         arith,
@@ -69,30 +68,38 @@ module _ {O : Type 0} (old now : Reading) (first here : List ℕ → O) (buffer 
       few = omega (arith, limit, within);
       read = subst (Consumes old.left now.left) same_read u.read;
       reads_are = u.reads_are;
+      roomy = record { rooms = omega (arith, u.roomy.rooms, within); few = u.roomy.few };
       failures = u.failures;
       passes = passes-on first here next done (take count buffer) u.passes passed;
     }
 
-  -- one more read gave bytes
+  -- one more read gave bytes, with room enough, and there weren't too many before
   pub read-on : (later : Reading) (after : List ℕ) (count : ℕ) → take filled after ≡ take filled buffer
-      → filled + count ≤ length after → 0 < count → 0 < length after
-      → Consumes now.left later.left (take count (drop filled after)) → later.reads ≡ now.reads + 1 → later.failures
-      ≡ now.failures
+      → filled + count ≤ length after → 0 < count → taken + filled ≤ longest_input
+      → filled + least_room ≤ length after
+      → Consumes now.left later.left (take count (drop filled after)) → later.reads ≡ now.reads + 1
+      → (count ≡ 0 → later.short_reads ≡ now.short_reads)
+      × (0 < count → count < length (drop filled after) → later.short_reads ≡ suc now.short_reads)
+      × (length (drop filled after) ≤ count → later.short_reads ≡ now.short_reads)
+      → later.failures ≡ now.failures
       → IsUnderway old later first here after done taken (filled + count) (reads + 1)
-  read-on later after count front fits some room read reads_are failures =
+  read-on later after count front fits some limit room read reads_are counts failures =
+      let enough : least_room ≤ length (drop filled after) = omega (arith, length-drop filled after, room) in
+      let on = roomy-on old now later reads (taken + filled) count (length (drop filled after)) u.roomy limit some
+      enough counts in
       let joined : done ++ take (filled + count) after ≡ all_read ++ take count (drop filled after) =
       ap (λ (xs : List ℕ). done ++ xs) (take-add filled count after
       ∙ ap (λ (xs : List ℕ). xs ++ take count (drop filled after)) front)
       ∙ sym (append_assoc done (take filled buffer) (take count (drop filled after))) in
       record {
         within = fits;
-        some = room;
         counted = omega (arith, u.counted, some);
         done_is = u.done_is;
         few = u.few;
         read = subst (Consumes old.left later.left) (sym joined) (Consumes-trans old.left now.left later.left _ _ u.read
             read);
         reads_are = omega (arith, reads_are, u.reads_are);
+        roomy = record { rooms = omega (arith, on.rooms); few = on.few };
         failures = failures ∙ u.failures;
         passes = u.passes;
       }
@@ -117,7 +124,7 @@ module _ {O : Type 0} (old now : Reading) (first here : List ℕ → O) (buffer 
   -- so many reads gave bytes that no more are made
   pub read-up : most_reads ≤ reads → now.reads ≡ old.reads + most_reads → IsReading old now None
   read-up many reads_are = gives_more old now all_read u.read (omega (arith, many, u.counted, read-length)) reads_are
-      u.failures
+      (omega (arith, many, u.roomy.few)) u.failures
 
 -- ---- bytes that are moved to the front of a buffer
 
@@ -127,6 +134,16 @@ moved_in xs from le =
     let k = length xs - from in
     subst (λ (j : ℕ). take j (paste xs 0 (drop from xs) k) ≡ drop from xs) (zero-add k)
     (take-paste xs 0 (drop from xs) k (omega arith) (omega (arith, length-drop from xs)) ∙ take_rest xs from)
+
+-- of the first bytes of a buffer some were taken, and those behind them stand at the front
+pub left_behind : (before moved after : List ℕ) (len filled count : ℕ) → filled ≤ len → count ≤ filled
+    → take (len - count) moved ≡ drop count before → take (filled - count) after ≡ take (filled - count) moved
+    → take (filled - count) after ≡ drop count (take filled before)
+left_behind before moved after len filled count within some left front =
+    let less : filled - count ≤ len - count = omega (arith, within) in
+    let all : count + (filled - count) ≡ filled = omega (arith, some) in
+    front ∙ sym (take-take (filled - count) (len - count) moved less) ∙ ap (take (filled - count)) left
+    ∙ sym (drop-take count (filled - count) before) ∙ ap (λ (n : ℕ). drop count (take n before)) all
 
 -- what is written back to a buffer as long as this one
 pub written_back : (xs given : List ℕ) (n : ℕ) → n ≡ length given → take n (given ++ drop (length given) xs) ≡ given

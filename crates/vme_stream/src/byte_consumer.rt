@@ -2,10 +2,10 @@
 
 ghost use Rattle.std.specs.Prelude.{◌≡◌, ℕ, ◌+◌, ◌*◌, ◌-◌, ◌≤◌, ◌<◌, List, length, take, drop, Some, None, Ok, Err};
 ghost use Rattle.std.specs.Prelude.{IfOk, vec_len};
-ghost use Rattle.vme_stream.specs.Inputs.{IsInTime, IsReading, longest_input, most_reads};
+ghost use Rattle.vme_stream.specs.Inputs.{HasFewFullReads, IsInTime, IsReading, least_room, longest_input, most_reads};
 ghost use Rattle.vme_stream.specs.ByteConsumers.{ContinuesAs};
 
-use crate::input::{InFault, LONGEST, MOST_READS, read_behind};
+use crate::input::{InFault, LEAST_ROOM, LONGEST, MOST_READS, lengthen, read_behind};
 use std::alloc::{AllocError, Global};
 use vme_trace::Source;
 
@@ -20,10 +20,12 @@ pub trait ByteConsumer: Drop + Sized {
 
 /// Reads a source to its end, and has its bytes taken, `piece` of them at once, or more where none of so many can be
 /// taken: `taker` takes some of the first of those that it is given, and says how many. The others come again, with
-/// more behind them. The answer is what all of them came to, and the last bytes, which were left.
+/// more behind them. The answer is what all of them came to, and the last bytes, which were left. Each read has room
+/// for 4,096 bytes at least.
 ///
 /// The answer is Read exactly where a read failed, or 16,777,216 gave bytes; else it is TooLong where there are more
-/// than 268,435,456 bytes, unless there is no memory.
+/// than 268,435,456 bytes, unless there is no memory. All but 65,537 of the reads that gave bytes gave fewer than they
+/// had room for.
 pub fn read_by<R: Source, T: ByteConsumer, M: Fn(T, &[u8]) -> Result<(T, usize), AllocError>>(
     alloc: Global,
     source: &mut R,
@@ -44,8 +46,9 @@ pub fn read_by<R: Source, T: ByteConsumer, M: Fn(T, &[u8]) -> Result<(T, usize),
         × IsReading (R.reading source.old) (R.reading source.new) (Some bytes) }
     ensures memory { result ≡ Err InFault.Memory → IsInTime (R.reading source.old) (R.reading source.new) }
     ensures bound { (R.reading source.new).reads ≤ (R.reading source.old).reads + most_reads }
+    ensures full_reads { HasFewFullReads (R.reading source.old) (R.reading source.new) }
 {
-    let mut bytes = Vec::from_elem(alloc, 0, piece)?;
+    let mut bytes = Vec::from_elem(alloc, 0, piece + LEAST_ROOM)?;
     let mut consumer = consumer;
     // How many bytes were taken, and how many are held behind them.
     let mut taken = 0;
@@ -71,8 +74,9 @@ pub fn read_by<R: Source, T: ByteConsumer, M: Fn(T, &[u8]) -> Result<(T, usize),
     Err(InFault::Read)
 }
 
-/// Makes room behind the first `filled` bytes: where there is none, some are taken, or if none can be there is as much
-/// room again. Says how many were taken: those behind them stand at the front then.
+/// Makes room for 4,096 bytes at least behind the first `filled` ones. Where there is less, some of a piece are taken,
+/// which is what stands before the last 4,096 of the buffer. If that is too little, the buffer is made longer, for a
+/// piece of twice the length. Says how many were taken: those behind them stand at the front then.
 fn make_room<T: ByteConsumer, M: Fn(T, &[u8]) -> Result<(T, usize), AllocError>>(
     consumer: T,
     bytes: &mut Vec<u8>,
@@ -83,25 +87,42 @@ fn make_room<T: ByteConsumer, M: Fn(T, &[u8]) -> Result<(T, usize), AllocError>>
     requires takes { (t : T) (bytes : _) (made : _) → M.post taker.now t bytes (Ok made)
         → (made.1 ≤ length bytes.now) × ContinuesAs (T.ahead t) (T.ahead made.0) (take made.1 bytes.now) }
     requires within { filled ≤ vec_len bytes.old }
-    requires some { 0 < vec_len bytes.old }
     requires short { filled ≤ longest_input }
     ensures within { IfOk result (λ made. made.1 ≤ filled) }
-    ensures room { IfOk result (λ made. filled - made.1 < vec_len bytes.new) }
+    ensures room { IfOk result (λ made. (filled - made.1) + least_room ≤ vec_len bytes.new) }
     ensures left { IfOk result (λ made.
         take (filled - made.1) bytes.new.items ≡ drop made.1 (take filled bytes.old.items)) }
     ensures taken { IfOk result (λ made. ContinuesAs (T.ahead consumer) (T.ahead made.0)
         (take made.1 bytes.old.items)) }
 {
-    if filled < bytes.len() {
+    if filled + LEAST_ROOM <= bytes.len() {
         return Ok((consumer, 0));
     }
-    let (consumer, count) = taker(consumer, bytes.as_slice())?;
-    if count == 0 {
-        bytes.resize(2 * filled, 0)?;
-    } else {
-        move_to_front(bytes, count);
-    }
-    Ok((consumer, count))
+    let piece = bytes.len().saturating_sub(LEAST_ROOM);
+    let (next, count) = take_first(consumer, bytes.as_slice(), piece, taker)?;
+    move_to_front(bytes, count);
+    let held = filled - count;
+    lengthen(bytes, held, (2 * piece).saturating_sub(held) + LEAST_ROOM)?;
+    Ok((next, count))
+}
+
+/// Has some of the first `piece` bytes taken, and says how many.
+fn take_first<T: ByteConsumer, M: Fn(T, &[u8]) -> Result<(T, usize), AllocError>>(
+    consumer: T,
+    bytes: &[u8],
+    piece: usize,
+    taker: &M,
+) -> Result<(T, usize), AllocError>
+    requires callable { M.IsAlwaysCallable taker.now }
+    requires takes { (t : T) (bytes : _) (made : _) → M.post taker.now t bytes (Ok made)
+        → (made.1 ≤ length bytes.now) × ContinuesAs (T.ahead t) (T.ahead made.0) (take made.1 bytes.now) }
+    requires within { piece ≤ length bytes.now }
+    ensures within { IfOk result (λ made. made.1 ≤ piece) }
+    ensures taken { IfOk result (λ made. ContinuesAs (T.ahead consumer) (T.ahead made.0)
+        (take made.1 (take piece bytes.now))) }
+{
+    let (next, count) = taker(consumer, &bytes[..piece])?;
+    Ok((next, count))
 }
 
 /// Moves the bytes from a place on to the front. What stands behind them then is left open.

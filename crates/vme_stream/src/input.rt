@@ -1,12 +1,12 @@
 //! Reading a source to its end.
 
-ghost use Rattle.std.specs.Prelude.{◌≡◌, ◌≢◌, ℕ, ◌+◌, ◌≤◌, ◌<◌, List, length, take, drop, Some, None, Err, IfOk, IfErr};
-ghost use Rattle.std.specs.Prelude.{OnOk, vec_len};
+ghost use Rattle.std.specs.Prelude.{◌≡◌, ◌≢◌, ℕ, ◌+◌, ◌*◌, ◌≤◌, ◌<◌, List, length, take, drop, Some, None, Err};
+ghost use Rattle.std.specs.Prelude.{IfOk, IfErr, OnOk, vec_len};
 ghost use Rattle.std.specs.Io.KnownBytes.{Consumes, IsAtEnd};
 ghost use Rattle.vme_stream.specs.declared.input.InFault.TheVariants.{Memory};
-ghost use Rattle.vme_stream.specs.Inputs.{IsInTime, IsReading, longest_input, most_reads};
+ghost use Rattle.vme_stream.specs.Inputs.{HasFewFullReads, IsInTime, IsReading, least_room, longest_input, most_reads};
 ghost use Rattle.vme_stream.specs.InFaults.{InputFailsBy};
-ghost use Rattle.vme_trace.specs.Streams.{CountsFailure, CountsRead};
+ghost use Rattle.vme_trace.specs.Streams.{CountsFailure, CountsRead, CountsShortRead};
 
 use std::alloc::{AllocError, Global};
 use thiserror::Error;
@@ -40,13 +40,17 @@ pub(crate) const LONGEST: usize = 268_435_456;
 /// After so many reads that gave bytes and didn't reach the end reading is given up.
 pub(crate) const MOST_READS: u32 = 16_777_216;
 
-/// How many bytes one read takes at most.
+/// How many bytes each read is offered room for, at least.
+pub(crate) const LEAST_ROOM: usize = 4_096;
+
+/// How much room is made where there is less than that.
 const CHUNK: usize = 131_072;
 
-/// Reads a source to its end. At most 16,777,216 reads are made.
+/// Reads a source to its end. At most 16,777,216 reads are made, each with room for 4,096 bytes at least.
 ///
 /// The answer is Read exactly where a read failed, or so many gave bytes; else it is TooLong where there are more than
-/// 268,435,456 bytes, and the bytes where there aren't, unless there is no memory.
+/// 268,435,456 bytes, and the bytes where there aren't, unless there is no memory. All but 65,537 of the reads that
+/// gave bytes gave fewer than they had room for.
 pub fn read_all<R: Source>(alloc: Global, source: &mut R) -> Result<Vec<u8>, InFault>
     ensures bytes { IfOk result (λ v. IsReading (R.reading source.old) (R.reading source.new) (Some v.items)) }
     ensures short { IfOk result (λ v. vec_len v ≤ longest_input) }
@@ -56,6 +60,7 @@ pub fn read_all<R: Source>(alloc: Global, source: &mut R) -> Result<Vec<u8>, InF
         × IsReading (R.reading source.old) (R.reading source.new) (Some bytes) }
     ensures memory { result ≡ Err InFault.Memory → IsInTime (R.reading source.old) (R.reading source.new) }
     ensures bound { (R.reading source.new).reads ≤ (R.reading source.old).reads + most_reads }
+    ensures full_reads { HasFewFullReads (R.reading source.old) (R.reading source.new) }
 {
     let mut bytes = Vec::new(alloc);
     let mut filled = 0;
@@ -90,10 +95,13 @@ fn read_chunk<R: Source>(
         Consumes (R.reading source.old).left (R.reading source.new).left (take n (drop filled bytes.new.items))) }
     ensures end { IfOk result (λ n. n ≡ 0 → IsAtEnd (R.reading source.new).left) }
     ensures reads { CountsRead (R.reading source.old).reads (R.reading source.new).reads result }
+    ensures room { OnOk result (filled + least_room ≤ vec_len bytes.new) }
+    ensures short_reads { CountsShortRead (length (drop filled bytes.new.items))
+        (R.reading source.old).short_reads (R.reading source.new).short_reads result }
     ensures ok { OnOk result ((R.reading source.new).failures ≡ (R.reading source.old).failures) }
     ensures err { IfErr result (InputFailsBy (R.reading source.old) (R.reading source.new)) }
 {
-    make_room(bytes, filled)?;
+    lengthen(bytes, filled, CHUNK)?;
     read_behind(source, bytes, filled)
 }
 
@@ -103,28 +111,32 @@ pub(crate) fn read_behind<R: Source>(
     bytes: &mut Vec<u8>,
     filled: usize,
 ) -> Result<usize, InFault>
-    requires { filled < vec_len bytes.old }
+    requires { filled + least_room ≤ vec_len bytes.old }
     ensures front { take filled bytes.new.items ≡ take filled bytes.old.items }
     ensures fits { IfOk result (λ n. filled + n ≤ vec_len bytes.new) }
     ensures bytes { IfOk result (λ n.
         Consumes (R.reading source.old).left (R.reading source.new).left (take n (drop filled bytes.new.items))) }
     ensures end { IfOk result (λ n. n ≡ 0 → IsAtEnd (R.reading source.new).left) }
     ensures reads { CountsRead (R.reading source.old).reads (R.reading source.new).reads result }
+    ensures room { OnOk result (filled + least_room ≤ vec_len bytes.new) }
+    ensures short_reads { CountsShortRead (length (drop filled bytes.new.items))
+        (R.reading source.old).short_reads (R.reading source.new).short_reads result }
     ensures ok { OnOk result ((R.reading source.new).failures ≡ (R.reading source.old).failures) }
     ensures err { IfErr result (InputFailsBy (R.reading source.old) (R.reading source.new)) }
 {
     read_at(source, bytes.as_mut_slice(), filled).map_err(|_| InFault::Read)
 }
 
-/// Makes the bytes more than the first `filled` ones, by zeros.
-fn make_room(bytes: &mut Vec<u8>, filled: usize) -> Result<(), AllocError>
+/// Has room for 4,096 bytes at least behind the first `filled` ones. Where there is less, so much is made, by zeros.
+pub(crate) fn lengthen(bytes: &mut Vec<u8>, filled: usize, room: usize) -> Result<(), AllocError>
     requires within { filled ≤ vec_len bytes.old }
     requires short { filled ≤ longest_input }
+    requires room { (least_room ≤ room) × (room ≤ 3 * longest_input) }
     ensures front { take filled bytes.new.items ≡ take filled bytes.old.items }
-    ensures room { OnOk result (filled < vec_len bytes.new) }
+    ensures room { OnOk result (filled + least_room ≤ vec_len bytes.new) }
 {
-    if bytes.len() == filled {
-        bytes.resize(filled + CHUNK, 0)?;
+    if bytes.len() < filled + LEAST_ROOM {
+        bytes.resize(filled + room, 0)?;
     }
     Ok(())
 }
@@ -137,6 +149,8 @@ fn read_at<R: Source>(source: &mut R, buffer: &mut [u8], at: usize) -> Result<us
         Consumes (R.reading source.old).left (R.reading source.new).left (take n (drop at buffer.new))) }
     ensures end { IfOk result (λ n. n ≡ 0 → IsAtEnd (R.reading source.new).left) }
     ensures reads { CountsRead (R.reading source.old).reads (R.reading source.new).reads result }
+    ensures short_reads { CountsShortRead (length (drop at buffer.new))
+        (R.reading source.old).short_reads (R.reading source.new).short_reads result }
     ensures failures { CountsFailure (R.reading source.old).failures (R.reading source.new).failures result }
 {
     source.read(&mut buffer[at..])

@@ -4,20 +4,21 @@ ghost use Rattle.std.specs.Prelude.{◌≡◌, ◌<◌, length, take, Some, IfOk
 ghost use Rattle.std.specs.Io.{ReadsAtMost, WritesAtMost};
 ghost use Rattle.std.specs.Io.KnownBytes.{Appends, Consumes, IsAtEnd, Keeps};
 
-use crate::count::GhostCount;
+use crate::count::{GhostCount, ReadCounts};
 use std::io::{ErrorKind, Read, Write};
 use vme_trace::{Failed, Sink, Source};
 
 /// How often a read or a write that a signal interrupts is tried.
 const MOST_TRIES: u32 = 1_000_000;
 
-/// A reader or a writer of std's, how many of its reads gave bytes, and how many of its calls have failed.
+/// A reader or a writer of std's, how many of its reads gave bytes, how many of these were short, and how many of its
+/// calls have failed.
 ///
 /// The bytes that it tells are those that the reader or the writer tells.
 #[derive(Drop)]
 pub struct Io<T> {
     inner: T,
-    reads: GhostCount,
+    counts: ReadCounts,
     failures: GhostCount,
 }
 
@@ -25,12 +26,13 @@ impl<T> Io<T> {
     /// A reader or a writer, of which no call was made.
     pub fn new(inner: T) -> Io<T>
         ensures inner { result.inner ≡ inner }
-        ensures reads { result.reads.number ≡ 0 }
+        ensures reads { result.counts.reads.number ≡ 0 }
+        ensures short_reads { result.counts.short_reads.number ≡ 0 }
         ensures failures { result.failures.number ≡ 0 }
     {
         Io {
             inner,
-            reads: GhostCount::new(),
+            counts: ReadCounts::new(),
             failures: GhostCount::new(),
         }
     }
@@ -39,16 +41,15 @@ impl<T> Io<T> {
 impl<T: Read> Source for Io<T> {
     ghost reading = { λ io. record {
       left = T.remaining io.inner;
-      reads = io.reads.number;
+      reads = io.counts.reads.number;
+      short_reads = io.counts.short_reads.number;
       failures = io.failures.number;
     } };
 
     fn read(&mut self, buffer: &mut [u8]) -> Result<usize, Failed> {
         match read_retrying(&mut self.inner, buffer) {
             Ok(count) => {
-                if count > 0 {
-                    self.reads = self.reads.next();
-                }
+                self.counts.add(count, buffer.len());
                 Ok(count)
             }
             Err(failed) => {
@@ -118,32 +119,36 @@ fn write_retrying<W: Write>(writer: &mut W, bytes: &[u8]) -> Result<usize, Faile
 #[derive(Drop)]
 pub struct Bytes<'a> {
     left: &'a [u8],
-    reads: GhostCount,
+    counts: ReadCounts,
 }
 
 impl<'a> Bytes<'a> {
     /// All bytes of the slice.
     pub fn new(bytes: &'a [u8]) -> Bytes<'a>
         ensures left { result.left.now ≡ bytes.entry.now }
-        ensures reads { result.reads.number ≡ 0 }
+        ensures reads { result.counts.reads.number ≡ 0 }
+        ensures short_reads { result.counts.short_reads.number ≡ 0 }
     {
         Bytes {
             left: bytes,
-            reads: GhostCount::new(),
+            counts: ReadCounts::new(),
         }
     }
 }
 
 impl Source for Bytes<'_> {
-    ghost reading = { λ s. record { left = Some s.left.now; reads = s.reads.number; failures = 0 } };
+    ghost reading = { λ s. record {
+      left = Some s.left.now;
+      reads = s.counts.reads.number;
+      short_reads = s.counts.short_reads.number;
+      failures = 0;
+    } };
 
     fn read(&mut self, buffer: &mut [u8]) -> Result<usize, Failed> {
         let count = self.left.len().min(buffer.len());
         buffer[..count].copy_from_slice(&self.left[..count]);
         self.left = &self.left[count..];
-        if count > 0 {
-            self.reads = self.reads.next();
-        }
+        self.counts.add(count, buffer.len());
         Ok(count)
     }
 }

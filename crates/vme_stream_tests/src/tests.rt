@@ -5,17 +5,32 @@ use vme_stream::{Bytes, InFault, Io, Message, complain, read_all, write_all, wri
 
 const TEXT: &[u8] = b"a line of some bytes\nand another\n";
 
-/// A reader that gives so many bytes a read, is interrupted before each, and ends or fails behind the last.
+/// A reader that gives so many bytes a read, is interrupted before each, and ends or fails behind the last; and the
+/// least room that it was offered.
 #[derive(Drop)]
 struct Pieces<'a> {
     left: &'a [u8],
     piece: usize,
     is_torn: bool,
     interrupted: bool,
+    least_room: usize,
+}
+
+impl<'a> Pieces<'a> {
+    fn new(left: &'a [u8], piece: usize, is_torn: bool) -> Pieces<'a> {
+        Pieces {
+            left,
+            piece,
+            is_torn,
+            interrupted: false,
+            least_room: usize::MAX,
+        }
+    }
 }
 
 impl Read for Pieces<'_> {
     fn read(&mut self, buffer: &mut [u8]) -> io::Result<usize> {
+        self.least_room = self.least_room.min(buffer.len());
         self.interrupted = !self.interrupted;
         if self.interrupted {
             return Err(Error::from(ErrorKind::Interrupted));
@@ -72,12 +87,7 @@ impl Write for Page {
 #[test]
 fn a_source_is_read_to_its_end(rt: HostRuntime) -> Result<(), Fail> {
     for piece in [1, 7, 1000] {
-        let mut source = Io::new(Pieces {
-            left: TEXT,
-            piece,
-            is_torn: false,
-            interrupted: false,
-        });
+        let mut source = Io::new(Pieces::new(TEXT, piece, false));
         let whole = read_all(rt.alloc(), &mut source).ok().ok_or("no text")?;
         assert!(rt; whole.as_slice() == TEXT, "{piece}");
         let rest = read_all(rt.alloc(), &mut source).ok().ok_or("no end")?;
@@ -90,15 +100,26 @@ fn a_source_is_read_to_its_end(rt: HostRuntime) -> Result<(), Fail> {
     Ok(())
 }
 
+/// Each read has room for 4,096 bytes, whether the reader gives one byte at once, or all that it has room for.
+#[test]
+fn each_read_has_room(rt: HostRuntime) -> Result<(), Fail> {
+    let text = Vec::from_elem(rt.alloc(), b'a', 300_000)?;
+    for piece in [1, 4_095, 131_071, 300_000] {
+        let mut pieces = Pieces::new(text.as_slice(), piece, false);
+        let whole = read_all(rt.alloc(), &mut Io::new(&mut pieces))
+            .ok()
+            .ok_or("no text")?;
+        assert!(rt; whole.as_slice() == text.as_slice(), "{piece}");
+        assert!(rt; pieces.least_room >= 4_096, "{piece}");
+    }
+    Ok(())
+}
+
 #[test]
 fn a_source_that_fails_cannot_be_read(rt: HostRuntime) {
     for place in 0..=TEXT.len() {
-        let mut source = Io::new(Pieces {
-            left: TEXT.get(..place).unwrap_or_default(),
-            piece: 3,
-            is_torn: true,
-            interrupted: false,
-        });
+        let left = TEXT.get(..place).unwrap_or_default();
+        let mut source = Io::new(Pieces::new(left, 3, true));
         let read = read_all(rt.alloc(), &mut source).err();
         assert!(rt; read == Some(InFault::Read), "{place}");
     }

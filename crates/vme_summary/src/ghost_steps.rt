@@ -9,8 +9,8 @@ use vme_trace::Step;
 
 /// Steps, one after the other. Clauses read them; in the program they are nothing.
 #[derive(Drop)]
-pub(crate) struct GhostSteps {
-    pub(crate) ghost items: { List Step },
+pub struct GhostSteps {
+    pub ghost items: { List Step },
 }
 
 impl Model for GhostSteps {
@@ -22,21 +22,21 @@ unsafe impl Send for GhostSteps {}
 
 impl GhostSteps {
     /// No step was taken.
-    pub(crate) fn new() -> GhostSteps
+    pub fn new() -> GhostSteps
         ensures { result.items ≡ [] }
     {
         GhostSteps {}
     }
 
     /// One more was taken.
-    pub(crate) fn and(&self, step: &Step) -> GhostSteps
+    pub fn and(&self, step: &Step) -> GhostSteps
         ensures { result.items ≡ self.now.items ++ step.now ∷ [] }
     {
         GhostSteps {}
     }
 
     /// These were taken.
-    pub(crate) fn of(steps: &[Step]) -> GhostSteps
+    pub fn of(steps: &[Step]) -> GhostSteps
         ensures { result.items ≡ steps.now }
     {
         let mut taken = GhostSteps::new();
@@ -47,7 +47,7 @@ impl GhostSteps {
     }
 
     /// And then others.
-    pub(crate) fn and_all(&self, more: &GhostSteps) -> GhostSteps
+    pub fn and_all(&self, more: &GhostSteps) -> GhostSteps
         ensures { result.items ≡ self.now.items ++ more.now.items }
     {
         GhostSteps {}

@@ -69,6 +69,7 @@ mod verdict_state;
 
 pub use cut::{listing_by_blocks, verdict_by_blocks};
 pub use discard_steps::DiscardSteps;
+pub use ghost_steps::GhostSteps;
 pub use judged::{Judged, judge_block};
 pub use judged_chunk::JudgedChunk;
 pub use running_verdict::RunningVerdict;

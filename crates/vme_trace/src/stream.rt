@@ -3,7 +3,7 @@
 ghost use Rattle.std.specs.Prelude.{◌<◌, length, IfOk};
 ghost use Rattle.std.specs.Io.{ReadsAtMost, WritesAtMost};
 ghost use Rattle.std.specs.Io.KnownBytes.{ReadConsumes, WriteAppends};
-ghost use Rattle.vme_trace.specs.Streams.{CountsFailure, CountsRead, Reading, Writing};
+ghost use Rattle.vme_trace.specs.Streams.{CountsFailure, CountsRead, CountsShortRead, Reading, Writing};
 
 /// A read or a write failed.
 #[derive(Clone, Copy, Debug, PartialEq, Eq)]
@@ -11,7 +11,8 @@ pub struct Failed;
 
 /// What bytes are read from.
 pub trait Source {
-    /// The bytes that reads give from here on, and how many reads gave bytes and failed.
+    /// The bytes that reads give from here on, how many reads gave bytes, how many of these gave fewer than they had
+    /// room for, and how many failed.
     ghost reading: { Self → Reading };
 
     /// Reads some of the next bytes into the front of `buffer`, and says how many: none only at the end, or where
@@ -20,6 +21,8 @@ pub trait Source {
         ensures bound { ReadsAtMost result buffer.new }
         ensures bytes { ReadConsumes (reading self.old).left (reading self.new).left result buffer.new }
         ensures reads { CountsRead (reading self.old).reads (reading self.new).reads result }
+        ensures short_reads { CountsShortRead (length buffer.new)
+            (reading self.old).short_reads (reading self.new).short_reads result }
         ensures failures { CountsFailure (reading self.old).failures (reading self.new).failures result };
 }
 

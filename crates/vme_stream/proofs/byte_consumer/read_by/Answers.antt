@@ -1,6 +1,6 @@
 use Rattle.std.proofs.Common.{◌≡◌, ◌<◌, ◌≤◌, ◌+◌, ◌-◌, ℕ, ◌++◌, length, take, drop, sym, ap, subst, ◌∙◌, arith}
 use Rattle.std.specs.Io.KnownBytes.{Consumes}
-use Rattle.vme_stream.specs.Inputs.{longest_input}
+use Rattle.vme_stream.specs.Inputs.{least_room, longest_input}
 use Rattle.vme_stream.proofs.IntakeLemmas.{all_read, given-on, read-length, read-long, read-on, read-out}
 use Rattle.vme_stream.proofs.byte_consumer.read_by.Goals as goal
 
@@ -36,7 +36,8 @@ returns-then-count-eq0-clause-bytes g c =
     let (done, u) = c.loop.invariant in
     let m = c.in_ok-next.ensures in
     let limit : c.loop.taken + c.loop.filled ≤ longest_input = omega (arith, c.if-taken-filled-gt-LONGEST.false) in
-    let roomy : held < length room = subst (λ (n : ℕ). held < n) c.make_room.new.bytes.ok.0 m.room in
+    let roomy : held + least_room ≤ length room = subst (λ (n : ℕ). held + least_room ≤ n) c.make_room.new.bytes.ok.0
+    m.room in
     let given = given-on old mid first here buffer done c.loop.taken c.loop.filled c.loop.counter u limit next room
     count m.within roomy m.left m.taken in
     let whole = all_read old mid first next room (done ++ take count buffer) (c.loop.taken + count) held c.loop.counter
@@ -71,15 +72,18 @@ loop-preserved g c =
     let (done, u) = c.loop.invariant in
     let m = c.in_ok-next.ensures in
     let limit : c.loop.taken + c.loop.filled ≤ longest_input = omega (arith, c.if-taken-filled-gt-LONGEST.false) in
-    let roomy : held < length room = subst (λ (n : ℕ). held < n) c.make_room.new.bytes.ok.0 m.room in
+    let roomy : held + least_room ≤ length room = subst (λ (n : ℕ). held + least_room ≤ n) c.make_room.new.bytes.ok.0
+    m.room in
     let given = given-on old mid first here buffer done c.loop.taken c.loop.filled c.loop.counter u limit next room
     count m.within roomy m.left m.taken in
     let some : 0 < c.in-Ok.count = omega (arith, c.if-count-eq0.false) in
     let fits : held + c.in-Ok.count ≤ length after = subst (λ (n : ℕ). held + c.in-Ok.count ≤ n)
     c.read_behind.new.bytes.ok.0 c.in-Ok.ensures.fits in
+    let wide : held + least_room ≤ length after = subst (λ (n : ℕ). held + least_room ≤ n)
+    c.read_behind.new.bytes.ok.0 c.in-Ok.ensures.room in
     let more : new.reads ≡ mid.reads + 1 = omega (arith, c.in-Ok.ensures.reads.1 some) in (
       done ++ take count buffer,
       read-on old mid first next room (done ++ take count buffer) (c.loop.taken + count) held c.loop.counter given new
-          after c.in-Ok.count c.in-Ok.ensures.front fits some (omega (arith, fits, some)) c.in-Ok.ensures.bytes more
-          c.in-Ok.ensures.ok,
+          after c.in-Ok.count c.in-Ok.ensures.front fits some (omega (arith, limit, m.within)) wide
+          c.in-Ok.ensures.bytes more c.in-Ok.ensures.short_reads c.in-Ok.ensures.ok,
     )

@@ -1,7 +1,7 @@
-use Rattle.std.proofs.Common.{◌≡◌, ◌+◌, ◌≤◌, ◌<◌, length, suc, take, arith, rules, ◌∙◌}
+use Rattle.std.proofs.Common.{◌≡◌, ◌+◌, ◌≤◌, ◌<◌, ℕ, length, suc, take, drop, length-drop, subst, arith, rules, ◌∙◌}
 use Rattle.std.proofs.lemmas.List.{places}
-use Rattle.vme_stream.specs.Inputs.{longest_input, most_reads}
-use Rattle.vme_stream.proofs.InputLemmas.{Consumes-grown, reads_more, front_longer}
+use Rattle.vme_stream.specs.Inputs.{least_room, longest_input, most_reads}
+use Rattle.vme_stream.proofs.InputLemmas.{Consumes-grown, reads_more, front_longer, roomy-on}
 use Rattle.vme_stream.proofs.input.read_all.Goals as goal
 
 pub returns-then-filled-gt-LONGEST-clause-too_long : goal.returns-then-filled-gt-LONGEST-clause-too_long
@@ -22,11 +22,18 @@ loop-preserved g c =
     let new = g.R.Source.reading c.read_chunk.new.source in
     let some : 0 < c.in-Ok.count = omega (arith, c.if-count-eq0.false) in
     let more : new.reads ≡ suc mid.reads = c.in-Ok.ensures.reads.1 some in
+    let bytes = c.read_chunk.new.bytes in
+    let wide : c.loop.filled + least_room ≤ length bytes.items = subst (λ (n : ℕ). c.loop.filled + least_room ≤ n)
+    bytes.ok.0 c.in-Ok.ensures.room in
+    let room = drop c.loop.filled bytes.items in
+    let enough : least_room ≤ length room = omega (arith, length-drop c.loop.filled bytes.items, wide) in
     record {
       within = c.in-Ok.ensures.fits;
       counted = omega (arith, c.loop.invariant.counted, some);
       read = Consumes-grown _ _ _ _ c.read_chunk.new.bytes.items c.loop.filled c.in-Ok.count c.in-Ok.ensures.front
           c.loop.invariant.read c.in-Ok.ensures.bytes;
       reads = omega (arith, more, c.loop.invariant.reads);
+      roomy = roomy-on old mid new c.loop.counter c.loop.filled c.in-Ok.count (length room) c.loop.invariant.roomy
+          c.if-filled-gt-LONGEST.false some enough c.in-Ok.ensures.short_reads;
       failures = c.in-Ok.ensures.ok ∙ c.loop.invariant.failures;
     }
