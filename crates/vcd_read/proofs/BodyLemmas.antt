@@ -1,5 +1,5 @@
 -- Reading the items of a body.
-use Rattle.std.proofs.Common.{◌≡◌, ℕ, List, [], ◌∷◌, ◌++◌, Bool, true, false, Option, Some, None, Result, Ok, Err, refl}
+use Rattle.std.proofs.Common.{◌≡◌, ℕ, List, [], ◌∷◌, ◌++◌, Bool, true, false, Option, Some, None, Result, Ok, Err, IfOk, IfErr, refl}
 use Rattle.std.proofs.Common.{sym, ap, subst, ◌∙◌}
 use Rattle.vcd_read.specs.declared.fault.FaultKind.{FaultKind}
 use Rattle.vcd_read.specs.declared.fault.FaultKind.TheVariants.{Memory, BadToken, UnfinishedSection}
@@ -18,8 +18,10 @@ use Rattle.vcd_read.specs.Body.{Shape, time_shape, scalar, vector, foreign, comm
 use Rattle.vcd_read.specs.Body.{code_of_vector, code_of_foreign, in_comment, body_from, shape_of}
 use Rattle.vcd_read.specs.Meaning.{ReadFails, ReadFailsAs, ReadGives}
 use Rattle.vcd_read.specs.declared.dump.Bit.{Bit}
-use Rattle.vcd_read.specs.Taking.{Taking, State, ended, state_of, step, steps}
-use Rattle.vcd_read.specs.Bodies.{BodyContinuesTo, BodyContinuesAs, finished, place_of, unfinished}
+use Rattle.vcd_read.specs.declared.stopped.Stopped.{Stopped}
+use Rattle.vcd_read.specs.Taking.{Taking, State, ended, reached_before, state_of, step, steps}
+use Rattle.vcd_read.specs.Bodies.{BodyContinuesAs, GivesOrStops, Keeps, KeepsAs, Stops, StoppedAs, UntilFault, finished}
+use Rattle.vcd_read.specs.Bodies.{place_of, unfinished, until_fault}
 
 -- ---- the cut, by what a token is
 
@@ -78,58 +80,73 @@ comment_more line before ts t cut e = ap (body_from (in_comment line)) cut ∙ c
 
 -- ---- what reading gives
 
--- what reading gives stays as it was, or is this fault
-abbrev LeavesOne : {A X : Type 0} → Result (State A) VcdFault → Result (State A) VcdFault → Result X VcdFault → Type 0
-LeavesOne before after (Ok _) = before ≡ after
-LeavesOne before after (Err fault) = ReadFails fault before
+-- what reading gives stays as it was, or it stops
+abbrev LeavesOne : {A X : Type 0} → UntilFault A → UntilFault A → A → Result X VcdFault → Type 0
+LeavesOne before after taken (Ok _) = before ≡ after
+LeavesOne before after taken (Err fault) = Stops fault taken before
 
-pub fails_same : {Y : Type 0} (fault : VcdFault) (a b : Result Y VcdFault) → a ≡ b → ReadFails fault b → ReadFails fault
-    a
-fails_same fault a b e h = fails_as_same fault.line fault.kind a b e h
-  where
-    fails_as_same : {Y : Type 0} (line : ℕ) (kind : FaultKind) (a b : Result Y VcdFault) → a ≡ b → ReadFailsAs line kind
-        b → ReadFailsAs line kind a
-    fails_as_same line Memory a b e h = h
-    fails_as_same line kind a b e h = e ∙ h
+pub stops_same : {A : Type 0} (fault : VcdFault) (taken : A) (a b : UntilFault A) → a ≡ b → Stops fault taken b
+    → Stops fault taken a
+stops_same {A = A} fault taken a b e h = subst (λ (read : UntilFault A). Stops fault taken read) (sym e) h
 
--- a fault that isn't want of memory
-pub fails_with : {Y : Type 0} (fault : VcdFault) (read : Result Y VcdFault) → read ≡ Err fault
-    → (fault.kind ≡ Memory → fault.line ≡ 0) → ReadFails fault read
-fails_with fault read e memory = from_kind fault.line fault.kind read e memory
-  where
-    from_kind : {Y : Type 0} (line : ℕ) (kind : FaultKind) (read : Result Y VcdFault) → read
-        ≡ Err (record { line = line; kind = kind }) → (kind ≡ Memory → line ≡ 0) → ReadFailsAs line kind read
-    from_kind line Memory read e memory = memory refl
-    from_kind line kind read e memory = e
+pub outcome_same : {A : Type 0} (a b : UntilFault A) → a ≡ b → a.outcome ≡ b.outcome
+outcome_same {A = A} a b e = ap (λ (read : UntilFault A). read.outcome) e
+
+-- where reading stops, it fails
+pub stopped_fails : {A Y : Type 0} (line : ℕ) (kind : FaultKind) (taken before : A) (read : Result Y VcdFault)
+    → StoppedAs line kind taken before read → ReadFailsAs line kind read
+stopped_fails line Memory taken before read h = h
+stopped_fails line kind taken before read h = h.0
 
 -- the same for each text that goes on
-leaves_each : {A X : Type 0} (before after : List Token → Result (State A) VcdFault) (r : Result X VcdFault)
-    → ((more : List Token) → LeavesOne (before more) (after more) r) → BodyContinuesAs before after r
-leaves_each before after (Ok x) h = h
-leaves_each before after (Err fault) h = h
+leaves_each : {A X : Type 0} (before after : List Token → UntilFault A) (taken : A) (r : Result X VcdFault)
+    → ((more : List Token) → LeavesOne (before more) (after more) taken r) → BodyContinuesAs before after taken r
+leaves_each before after taken (Ok x) h = h
+leaves_each before after taken (Err fault) h = h
 
-pub leaves_same : {A X : Type 0} (before before2 after : List Token → Result (State A) VcdFault) (r : Result X VcdFault)
-    → ((more : List Token) → before more ≡ before2 more) → BodyContinuesAs before2 after r → BodyContinuesAs before
-    after
-    r
-leaves_same before before2 after (Ok x) e h = λ more. e more ∙ h more
-leaves_same before before2 after (Err fault) e h = λ more. fails_same fault (before more) (before2 more) (e more)
-    (h more)
+pub leaves_same : {A X : Type 0} (before before2 after : List Token → UntilFault A) (taken : A) (r : Result X VcdFault)
+    → ((more : List Token) → before more ≡ before2 more) → BodyContinuesAs before2 after taken r
+    → BodyContinuesAs before after taken r
+leaves_same before before2 after taken (Ok x) e h = λ more. e more ∙ h more
+leaves_same before before2 after taken (Err fault) e h = λ more. stops_same fault taken (before more) (before2 more)
+    (e more) (h more)
 
 -- what a `?` returns
-pub leaves_err : {A X : Type 0} (before after : List Token → Result (State A) VcdFault) (r : Result X VcdFault)
-    (fault : VcdFault) → IsErrAnd r (λ e. e ≡ fault) → ((more : List Token) → ReadFails fault (before more))
-    → BodyContinuesAs before after r
-leaves_err before after (Ok x) fault is h = absurd is
-leaves_err before after (Err e) fault is h = subst (λ (f : VcdFault). (more : List Token) → ReadFails f (before more))
-    (sym is) h
+pub leaves_err : {A X : Type 0} (before after : List Token → UntilFault A) (taken : A) (r : Result X VcdFault)
+    (fault : VcdFault) → IsErrAnd r (λ e. e ≡ fault) → ((more : List Token) → Stops fault taken (before more))
+    → BodyContinuesAs before after taken r
+leaves_err before after taken (Ok x) fault is h = absurd is
+leaves_err before after taken (Err e) fault is h = subst (λ (f : VcdFault). (more : List Token) → Stops f taken
+    (before more)) (sym is) h
 
-pub leads_err : {A X : Type 0} (view : X → List Token → Result (State A) VcdFault) (before : List Token
-    → Result (State A) VcdFault) (r : Result X VcdFault) (fault : VcdFault) → IsErrAnd r (λ e. e ≡ fault)
-    → ((more : List Token) → ReadFails fault (before more)) → BodyContinuesTo view r before
-leads_err view before (Ok x) fault is h = absurd is
-leads_err view before (Err e) fault is h = subst (λ (f : VcdFault). (more : List Token) → ReadFails f (before more))
-    (sym is) h
+-- ---- what was taken
+
+-- a fault before anything was taken
+pub keeps_same : {A X : Type 0} (a : A) (r : Result X VcdFault) → Keeps a a r
+keeps_same a (Ok x) = tt
+keeps_same a (Err fault) = by_kind a fault.kind
+  where
+    by_kind : {A : Type 0} (a : A) (kind : FaultKind) → KeepsAs kind a a
+    by_kind a Memory = tt
+    by_kind a kind = refl
+
+pub keeps_equal : {A X : Type 0} (before taken : A) (r : Result X VcdFault) → taken ≡ before → Keeps before taken r
+keeps_equal {A = A} before taken r e = subst (λ (a : A). Keeps before a r) (sym e) (keeps_same before r)
+
+-- want of memory
+pub keeps_memory : {A X : Type 0} (before taken : A) (r : Result X VcdFault)
+    → IsErrAnd r (λ e. e ≡ record { line = 0; kind = Memory }) → Keeps before taken r
+keeps_memory before taken (Ok x) is = tt
+keeps_memory before taken (Err fault) is = subst (λ (f : VcdFault). KeepsAs f.kind before taken) (sym is) tt
+
+-- what the end of a body comes to, where only memory may run out
+pub gives_or_stops : {A T : Type 0} (taken : T → A) (before end : A) (r : Result T (Stopped T))
+    (read : Result A VcdFault) → IfOk r (λ visitor. taken visitor ≡ end)
+    → IfErr r (λ stopped. stopped.fault ≡ record { line = 0; kind = Memory }) → read ≡ Ok end
+    → GivesOrStops taken before r read
+gives_or_stops taken before end (Ok visitor) read is memory e = e ∙ ap Ok (sym is)
+gives_or_stops taken before end (Err stopped) read is memory e = subst (λ (f : VcdFault). StoppedAs f.line f.kind
+    (taken stopped.visitor) before read) (sym memory) refl
 
 same_some : (a b : ℕ) → Some a ≡ Some b → a ≡ b
 same_some a b e = cc
@@ -138,26 +155,59 @@ module _ {A : Type 0} (with_change : A → ℕ → List Bit → A) (with_instant
   abbrev unfinished_at : ℕ → Result A VcdFault
   unfinished_at line = Err (record { line = line; kind = UnfinishedSection })
 
-  steps_item : (nets : List Net) (s : State A) (item : BodyItem) (items : List BodyItem) → steps with_change
-      with_instant nets s (item ∷ items) ≡ (step with_change with_instant nets s item >>= λ next. steps with_change
-      with_instant nets next items)
-  unfolding steps
-  steps_item nets s item items = refl
+  item_is : (nets : List Net) (s next : State A) (item : BodyItem) (items : List BodyItem) → step with_change
+      with_instant nets s item ≡ Ok next
+      → until_fault with_change with_instant nets s (item ∷ items) ≡ until_fault with_change with_instant nets next items
+  unfolding steps reached_before
+  item_is nets s next item items e =
+      ap (λ (r : Result (State A) VcdFault). record {
+        outcome = r >>= λ next. steps with_change with_instant nets next items;
+        reached = elim r [
+          | Ok next ↦ reached_before with_change with_instant nets next items
+          | Err fault ↦ s
+        ];
+      }) e
+
+  item_stops : (nets : List Net) (s : State A) (item : BodyItem) (items : List BodyItem) (fault : VcdFault)
+      → step with_change with_instant nets s item ≡ Err fault
+      → until_fault with_change with_instant nets s (item ∷ items) ≡ record { outcome = Err fault; reached = s }
+  unfolding steps reached_before
+  item_stops nets s item items fault e =
+      ap (λ (r : Result (State A) VcdFault). record {
+        outcome = r >>= λ next. steps with_change with_instant nets next items;
+        reached = elim r [
+          | Ok next ↦ reached_before with_change with_instant nets next items
+          | Err fault ↦ s
+        ];
+      }) e
+
+  -- the state before a fault is what was taken
+  stops_at : (nets : List Net) (s : State A) (items : List BodyItem) (line : ℕ) (kind : FaultKind) (taken : A)
+      → until_fault with_change with_instant nets s items
+      ≡ record { outcome = Err (record { line = line; kind = kind }); reached = s }
+      → taken ≡ s.progress.taken
+      → (steps with_change with_instant nets s items ≡ Err (record { line = line; kind = kind }))
+      × (taken ≡ (reached_before with_change with_instant nets s items).progress.taken)
+  stops_at nets s items line kind taken e kept =
+      (outcome_same _ _ e, kept ∙ sym (ap (λ (read : UntilFault A). read.reached.progress.taken) e))
 
   fails_more : (nets : List Net) (s : State A) (item : BodyItem) (items : List BodyItem) (line : ℕ) (kind : FaultKind)
-      → ReadFailsAs line kind (step with_change with_instant nets s item) → ReadFailsAs line kind
+      (taken : A) → ReadFailsAs line kind (step with_change with_instant nets s item)
+      → KeepsAs kind s.progress.taken taken
+      → StoppedAs line kind taken (reached_before with_change with_instant nets s (item ∷ items)).progress.taken
       (steps with_change with_instant nets s (item ∷ items))
-  fails_more nets s item items line Memory h = h
-  fails_more nets s item items line kind h = steps_item nets s item items
-      ∙ ap (λ (r : Result (State A) VcdFault). r >>= λ next. steps with_change with_instant nets next items) h
+  fails_more nets s item items line Memory taken h kept = h
+  fails_more nets s item items line kind taken h kept = stops_at nets s (item ∷ items) line kind taken
+      (item_stops nets s item items (record { line = line; kind = kind }) h) kept
 
   item_leaves : {X : Type 0} (nets : List Net) (s s2 : State A) (item : BodyItem) (after : List BodyItem)
       (r : Result X VcdFault) → ReadGives (λ _. s2) r (step with_change with_instant nets s item)
-      → LeavesOne (steps with_change with_instant nets s (item ∷ after)) (steps with_change with_instant nets s2 after)
-      r
-  item_leaves nets s s2 item after (Ok x) h = steps_item nets s item after
-      ∙ ap (λ (r : Result (State A) VcdFault). r >>= λ next. steps with_change with_instant nets next after) h
-  item_leaves nets s s2 item after (Err fault) h = fails_more nets s item after fault.line fault.kind h
+      → Keeps s.progress.taken s2.progress.taken r
+      → LeavesOne (until_fault with_change with_instant nets s (item ∷ after))
+      (until_fault with_change with_instant nets s2 after) s2.progress.taken r
+  item_leaves nets s s2 item after (Ok x) h kept = item_is nets s s2 item after h
+  item_leaves nets s s2 item after (Err fault) h kept = fails_more nets s item after fault.line fault.kind
+      s2.progress.taken h kept
 
   -- one item is read by a function that leaves the reader where it was
   pub read_item : {X : Type 0} (nets nets2 : List Net) (s s2 : State A) (text text2 : BodyPiece) (at at2 : ℕ)
@@ -165,25 +215,31 @@ module _ {A : Type 0} (with_change : A → ℕ → List Bit → A) (with_instant
       → nets2 ≡ nets → text2 ≡ text → at2 ≡ at → place ≡ Ready
       → ((more : List Token) → before more ≡ item ∷ body_from ready (left_at text at ++ more))
       → ReadGives (λ _. s2) r (step with_change with_instant nets s item)
-      → BodyContinuesAs (λ more. steps with_change with_instant nets s (before more))
-      (λ more. steps with_change with_instant nets2 s2 (body_from (place_of place) (left_at text2 at2 ++ more))) r
-  read_item nets nets2 s s2 text text2 at at2 place item before r n t a p is h =
-      leaves_each (λ more. steps with_change with_instant nets s (before more)) (λ more. steps with_change with_instant
-      nets2 s2 (body_from (place_of place) (left_at text2 at2 ++ more))) r
-      (λ more. rw (n, t, a, p, is more) (item_leaves nets s s2 item (body_from ready (left_at text at ++ more)) r h))
+      → Keeps s.progress.taken s2.progress.taken r
+      → BodyContinuesAs (λ more. until_fault with_change with_instant nets s (before more))
+      (λ more. until_fault with_change with_instant nets2 s2 (body_from (place_of place) (left_at text2 at2 ++ more)))
+      s2.progress.taken r
+  read_item nets nets2 s s2 text text2 at at2 place item before r n t a p is h kept =
+      leaves_each (λ more. until_fault with_change with_instant nets s (before more))
+      (λ more. until_fault with_change with_instant nets2 s2 (body_from (place_of place) (left_at text2 at2 ++ more)))
+      s2.progress.taken r
+      (λ more. rw (n, t, a, p, is more)
+      (item_leaves nets s s2 item (body_from ready (left_at text at ++ more)) r h kept))
 
   -- an item that is none
   pub read_wrong : (nets : List Net) (s : State A) (line : ℕ) (kind : FaultKind) (before after : List BodyItem) → before
-      ≡ wrong line kind ∷ after → steps with_change with_instant nets s before
-      ≡ Err (record { line = line; kind = kind })
-  unfolding steps
-  read_wrong nets s line kind before after e = ap (steps with_change with_instant nets s) e
+      ≡ wrong line kind ∷ after
+      → (steps with_change with_instant nets s before ≡ Err (record { line = line; kind = kind }))
+      × (s.progress.taken ≡ (reached_before with_change with_instant nets s before).progress.taken)
+  read_wrong nets s line kind before after e =
+      rw e (stops_at nets s (wrong line kind ∷ after) line kind s.progress.taken
+      (item_stops nets s (wrong line kind) after (record { line = line; kind = kind }) refl) refl)
 
   -- a piece in which nothing is left leaves what is ahead
   pub nothing_left : (nets : List Net) (s : State A) (place : BodyPlace) (before after : List Token) → before ≡ []
       → after ≡ []
-      → (more : List Token) → steps with_change with_instant nets s (body_from place (before ++ more))
-      ≡ steps with_change with_instant nets s (body_from place (after ++ more))
+      → (more : List Token) → until_fault with_change with_instant nets s (body_from place (before ++ more))
+      ≡ until_fault with_change with_instant nets s (body_from place (after ++ more))
   nothing_left nets s place before after e e2 more = rw (e, e2) refl
 
   -- what is ahead where what was read to is the same
@@ -191,44 +247,44 @@ module _ {A : Type 0} (with_change : A → ℕ → List Bit → A) (with_instant
       (bracket bracket2 : Option Start) (place place2 : BodyPlace) (at : ℕ) → nets2 ≡ nets → text2 ≡ text → waves2
       ≡ timed
       → bracket2 ≡ bracket → place2 ≡ place
-      → (more : List Token) → steps with_change with_instant nets (state_of text timed bracket)
+      → (more : List Token) → until_fault with_change with_instant nets (state_of text timed bracket)
       (body_from place (left_at text at ++ more))
-      ≡ steps with_change with_instant nets2 (state_of text2 waves2 bracket2)
+      ≡ until_fault with_change with_instant nets2 (state_of text2 waves2 bracket2)
       (body_from place2 (left_at text2 at ++ more))
   same_left nets nets2 text text2 timed waves2 bracket bracket2 place place2 at n t w b p more = rw (n, t, w, b, p) refl
 
   -- a piece that is read to its end leaves what is behind it
   pub nothing_behind : (nets nets2 : List Net) (s : State A) (place : BodyPlace) (left : List Token) → nets2 ≡ nets
       → left ≡ []
-      → (more : List Token) → steps with_change with_instant nets2 s (body_from place (left ++ more))
-      ≡ steps with_change with_instant nets s (body_from place more)
+      → (more : List Token) → until_fault with_change with_instant nets2 s (body_from place (left ++ more))
+      ≡ until_fault with_change with_instant nets s (body_from place more)
   nothing_behind nets nets2 s place left n e more = rw (n, e) refl
 
   -- a token is at hand, and then it is read
   pub token_left : (nets : List Net) (text text2 : BodyPiece) (timed : Taking A) (bracket : Option Start)
       (at at2 after : ℕ) (bytes : List ℕ) → text2 ≡ text → at2 ≡ at
       → left_at text at ≡ token_at text at bytes ∷ left_at text after
-      → (more : List Token) → steps with_change with_instant nets (state_of text timed bracket)
+      → (more : List Token) → until_fault with_change with_instant nets (state_of text timed bracket)
       (body_from ready (left_at text at ++ more))
-      ≡ steps with_change with_instant nets (state_of text2 timed bracket)
+      ≡ until_fault with_change with_instant nets (state_of text2 timed bracket)
       (body_from ready (token_at text2 at2 bytes ∷ (left_at text2 after ++ more)))
   token_left nets text text2 timed bracket at at2 after bytes t a cut more =
-      rw (t, a) (ap (λ (ts : List Token). steps with_change with_instant nets (state_of text timed bracket)
+      rw (t, a) (ap (λ (ts : List Token). until_fault with_change with_instant nets (state_of text timed bracket)
       (body_from ready (ts ++ more))) cut)
 
   -- the digits of a vector are at hand, and then they are read
   pub vector_left : (nets : List Net) (text text2 : BodyPiece) (timed : Taking A) (bracket : Option Start)
       (at at2 after : ℕ) (bytes digits : List ℕ) → text2 ≡ text → at2 ≡ at
       → shape_of bytes ≡ vector digits → left_at text at ≡ token_at text at bytes ∷ left_at text after
-      → (more : List Token) → steps with_change with_instant nets (state_of text timed bracket)
+      → (more : List Token) → until_fault with_change with_instant nets (state_of text timed bracket)
       (body_from ready (left_at text at ++ more))
-      ≡ steps with_change with_instant nets (state_of text2 timed bracket)
+      ≡ until_fault with_change with_instant nets (state_of text2 timed bracket)
       (body_from (code_of_vector (line_of text2 (Here at2)) digits) (left_at text2 after ++ more))
   vector_left nets text text2 timed bracket at at2 after bytes digits t a shape cut more =
       rw (t, a)
-      (ap (λ (ts : List Token). steps with_change with_instant nets (state_of text timed bracket)
+      (ap (λ (ts : List Token). until_fault with_change with_instant nets (state_of text timed bracket)
       (body_from ready (ts ++ more))) cut
-      ∙ ap (steps with_change with_instant nets (state_of text timed bracket)) (shape_read (token_at text at bytes)
+      ∙ ap (until_fault with_change with_instant nets (state_of text timed bracket)) (shape_read (token_at text at bytes)
       (left_at text after ++ more) (vector digits) (sym shape)))
 
   -- what isn't ended is met at the end

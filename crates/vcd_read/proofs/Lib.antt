@@ -6,6 +6,7 @@ pub mod CodeIndexLemmas
 pub mod Fill
 pub mod WavesLemmas
 pub mod InstantsLaw
+pub mod BeforeFaultLemmas
 pub mod ReadLemmas
 pub mod TakingLemmas
 pub mod DumpLemmas

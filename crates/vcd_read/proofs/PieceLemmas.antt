@@ -1,9 +1,9 @@
 -- A text in pieces that end behind a space: its tokens are those of the pieces.
-use Rattle.std.proofs.Common.{◌≡◌, ℕ, Bool, true, false, ◌+◌, ◌<◌, cond, eqb, List, [], ◌∷◌, ◌++◌, length, get_or, take}
+use Rattle.std.proofs.Common.{◌≡◌, ℕ, Bool, true, false, ◌+◌, ◌<◌, cond, eqb, List, [], ◌∷◌, ◌++◌, length, get_or, take, drop}
 use Rattle.std.proofs.Common.{refl, sym, ap, ◌∙◌, arith, append_assoc, zero-add}
 use Rattle.std.proofs.lemmas.List.{take_more}
 use Rattle.std.specs.List.{count_by}
-use Rattle.std.proofs.lemmas.List.Sums.{sum_by-cons}
+use Rattle.std.proofs.lemmas.List.Sums.{sum_by-cons, sum_by-take-drop}
 use Rattle.vcd_read.specs.Tokens.{Cut, Token, all_of, cut_from, is_space, next_line, token_of, tokens_from, with_byte}
 use Rattle.vcd_read.specs.Reading.{line_behind}
 
@@ -35,6 +35,17 @@ line_behind-cons line b bytes =
 
 line_behind-one : (line b : ℕ) → line_behind line (b ∷ []) ≡ next_line line b
 line_behind-one line b = line_behind-cons line b [] ∙ zero-add (next_line line b)
+
+rest_more : (front rest all line : ℕ) → front + rest ≡ all → rest + (front + line) ≡ all + line
+rest_more front rest all line e = omega (arith, e)
+
+-- the line behind a text is that behind the rest of it
+pub line_behind-rest : (line : ℕ) (text : List ℕ) (at : ℕ) → line_behind (line_behind line (take at text)) (drop at text)
+    ≡ line_behind line text
+line_behind-rest line text at =
+    rest_more (count_by (λ (x : ℕ). eqb x 10) (take at text)) (count_by (λ (x : ℕ). eqb x 10) (drop at text))
+    (count_by (λ (x : ℕ). eqb x 10) text) line
+    (sum_by-take-drop (λ (x : ℕ). cond (eqb x 10) 1 0) text at)
 
 -- what stands behind a space
 abbrev spaced : List Token → Cut

@@ -16,8 +16,10 @@ use Rattle.vcd_read.specs.Meaning.{ReadFails, ReadFailsAs, instants_from}
 use Rattle.vcd_read.specs.DumpProgress.{DumpProgress, values_from, flushed}
 use Rattle.vcd_read.specs.DumpProgress.{DumpState as Whole, ended as instants_at, steps as whole_steps}
 use Rattle.vcd_read.specs.DumpProgress.{progress_after as whole_after}
-use Rattle.vcd_read.specs.Taking.{Taking, State, ended, at_end, at_first, progress_after, steps, taken_from}
+use Rattle.vcd_read.specs.Taking.{Taking, State, ended, at_end, at_first, progress_after, reached_before, steps}
+use Rattle.vcd_read.specs.Taking.{taken_from}
 use Rattle.vcd_read.specs.Collected.{Collected, collected_change, collected_instant}
+use Rattle.vcd_read.proofs.BeforeFaultLemmas.{whole_before}
 use Rattle.vcd_read.proofs.InstantsLaw.{at_start}
 use Rattle.vcd_read.proofs.CodesLemmas.{net_within}
 use Rattle.vcd_read.proofs.ReadLemmas.{read_whole}
@@ -139,6 +141,36 @@ module _ {A : Type 0} (with_change : A → ℕ → List Bit → A) (with_instant
   steps-follow [] s a r = (a, refl, r)
   steps-follow (item ∷ items) s a r = step-follows items item s a (stand_after nets s.standing item) refl r
       (λ s2 b kept. steps-follow items s2 b kept)
+
+  -- the same up to the first fault
+  abbrev KeepsBefore : Whole → State A → Type 0
+  KeepsBefore w t = (a : A) × (t ≡ state_at w a) × R w.progress.done w.progress.current a
+
+  before-follows : (items : List BodyItem) (item : BodyItem) (s : Whole) (a : A) (stood : Result Standing VcdFault)
+      → stand_after nets s.standing item ≡ stood → R s.progress.done s.progress.current a
+      → ((s2 : Whole) (b : A) → R s2.progress.done s2.progress.current b → KeepsBefore (whole_before nets s2 items)
+      (reached_before with_change with_instant nets (state_at s2 b) items))
+      → KeepsBefore (elim (whole_of (whole_after nets s.progress item) stood) [
+        | Ok next ↦ whole_before nets next items
+        | Err fault ↦ s
+      ])
+      (elim (taken_of (progress_after with_change with_instant nets (taking_at s.progress a) item) stood) [
+        | Ok next ↦ reached_before with_change with_instant nets next items
+        | Err fault ↦ state_at s a
+      ])
+  before-follows items item s a (Ok next) e r rest =
+      let kept = on_item item s.standing next s.progress a e r in
+      let after : Whole = record { standing = next; progress = whole_after nets s.progress item } in
+      subst (λ (t : Taking A). KeepsBefore (whole_before nets after items) (reached_before with_change with_instant nets
+      (record { standing = next; progress = t }) items)) (sym kept.1) (rest after kept.0 kept.2)
+  before-follows items item s a (Err fault) e r rest = (a, refl, r)
+
+  pub reached-follows : (items : List BodyItem) (s : Whole) (a : A) → R s.progress.done s.progress.current a
+      → KeepsBefore (whole_before nets s items) (reached_before with_change with_instant nets (state_at s a) items)
+  unfolding reached_before
+  reached-follows [] s a r = (a, refl, r)
+  reached-follows (item ∷ items) s a r = before-follows items item s a (stand_after nets s.standing item) refl r
+      (λ s2 b kept. reached-follows items s2 b kept)
 
   on_end : (begun : Bool) (p : DumpProgress) (a : A) → R p.done p.current a
       → (b : A) × (cond begun (with_instant a p.time) a ≡ b)

@@ -1,7 +1,10 @@
 -- How far a body is read, and what reading the rest gives.
 use Rattle.std.specs.Prelude.{◌≡◌, ℕ, List, [], ◌∷◌, ◌++◌, Option, Some, Result, Ok, Err}
 use Rattle.vcd_read.specs.declared.dump.Bit.{Bit}
+use Rattle.vcd_read.specs.declared.fault.FaultKind.{FaultKind}
+use Rattle.vcd_read.specs.declared.fault.FaultKind.TheVariants.{Memory}
 use Rattle.vcd_read.specs.declared.fault.VcdFault.{VcdFault}
+use Rattle.vcd_read.specs.declared.stopped.Stopped.{Stopped}
 use Rattle.vcd_read.specs.declared.token.Reader.{Reader}
 use Rattle.vcd_read.specs.declared.body_piece.Start.{Start}
 use Rattle.vcd_read.specs.declared.open_item.OpenItem.{OpenItem}
@@ -9,8 +12,8 @@ use Rattle.vcd_read.specs.declared.open_item.OpenItem.TheVariants.{Ready, Vector
 use Rattle.vcd_read.specs.Tokens.{Token}
 use Rattle.vcd_read.specs.Reading.{left_at, token_at}
 use Rattle.vcd_read.specs.Header.{◌>>=◌, Net}
-use Rattle.vcd_read.specs.Body.{BodyPlace, ready, code_of_vector, code_of_foreign, in_comment, body_from}
-use Rattle.vcd_read.specs.Taking.{Taking, State, at_end, state_at, state_of, steps}
+use Rattle.vcd_read.specs.Body.{BodyItem, BodyPlace, ready, code_of_vector, code_of_foreign, in_comment, body_from}
+use Rattle.vcd_read.specs.Taking.{Taking, State, at_end, state_at, state_of, steps, reached_before}
 use Rattle.vcd_read.specs.Meaning.{ReadFails}
 
 -- the place in the grammar
@@ -27,6 +30,11 @@ unfinished (Vector digits) bracket = Some digits.line
 unfinished (Foreign line) bracket = Some line
 unfinished (Comment line) bracket = Some line
 
+-- what reading gives, and how far it comes: up to the first fault, or behind all that is read
+pub record UntilFault (A : Type 0) : Type 0 where
+  pub outcome : Result (State A) VcdFault
+  pub reached : State A
+
 module _ {A : Type 0} (with_change : A → ℕ → List Bit → A) (with_instant : A → ℕ → A) where
   -- what reading gives from here on: these tokens, and more behind them
   abbrev pub ahead : List Net → Taking A → Option ℕ → BodyPlace → List Token → List Token → Result (State A) VcdFault
@@ -37,27 +45,68 @@ module _ {A : Type 0} (with_change : A → ℕ → List Bit → A) (with_instant
   abbrev pub finished : List Net → Taking A → Option ℕ → BodyPlace → Result A VcdFault
   finished nets timed bracket place = ahead nets timed bracket place [] [] >>= at_end with_instant
 
+  -- what reading these items gives, and how far it comes
+  abbrev pub until_fault : List Net → State A → List BodyItem → UntilFault A
+  until_fault nets s items = record {
+    outcome = steps with_change with_instant nets s items;
+    reached = reached_before with_change with_instant nets s items;
+  }
+
+  -- the same from here on: these tokens, and more behind them
+  abbrev pub ahead_until_fault : List Net → Taking A → Option ℕ → BodyPlace → List Token → List Token → UntilFault A
+  ahead_until_fault nets timed bracket place tokens more =
+      until_fault nets (state_at timed bracket) (body_from place (tokens ++ more))
+
   -- what reading the rest of a piece gives, from a place in the grammar on
-  abbrev pub remaining_in : BodyPlace → List Net → Reader → Taking A → Option Start → List Token
-      → Result (State A) VcdFault
+  abbrev pub remaining_in : BodyPlace → List Net → Reader → Taking A → Option Start → List Token → UntilFault A
   remaining_in place nets reader timed bracket more =
-      steps with_change with_instant nets (state_of reader.text timed bracket)
-      (body_from place (left_at reader.text reader.at ++ more))
+      until_fault nets (state_of reader.text timed bracket) (body_from place (left_at reader.text reader.at ++ more))
 
   -- the same with a token before it
-  abbrev pub from_token : ℕ → List ℕ → List Net → Reader → Taking A → Option Start → List Token
-      → Result (State A) VcdFault
+  abbrev pub from_token : ℕ → List ℕ → List Net → Reader → Taking A → Option Start → List Token → UntilFault A
   from_token at bytes nets reader timed bracket more =
-      steps with_change with_instant nets (state_of reader.text timed bracket)
+      until_fault nets (state_of reader.text timed bracket)
       (body_from ready (token_at reader.text at bytes ∷ (left_at reader.text reader.at ++ more)))
 
--- what reading gives stays as it was, whatever follows, or is this fault
-abbrev pub BodyContinuesAs : {A X : Type 0} → (List Token → Result (State A) VcdFault)
-    → (List Token → Result (State A) VcdFault) → Result X VcdFault → Type 0
-BodyContinuesAs before after (Ok _) = (more : List Token) → before more ≡ after more
-BodyContinuesAs before after (Err fault) = (more : List Token) → ReadFails fault (before more)
+-- ---- where reading stops
 
--- the same, where what was read to is returned
+-- the fault is what reading gives, and what was taken is what came of what stands before it, unless memory ran out
+abbrev pub StoppedAs : {A Y : Type 0} → ℕ → FaultKind → A → A → Result Y VcdFault → Type 0
+StoppedAs line Memory taken before read = line ≡ 0
+StoppedAs line kind taken before read = (read ≡ Err (record { line = line; kind = kind })) × (taken ≡ before)
+
+abbrev pub Stops : {A : Type 0} → VcdFault → A → UntilFault A → Type 0
+Stops fault taken read = StoppedAs fault.line fault.kind taken read.reached.progress.taken read.outcome
+
+-- a fault leaves what was taken as it was, unless memory ran out
+abbrev pub KeepsAs : {A : Type 0} → FaultKind → A → A → Type 0
+KeepsAs Memory before taken = Unit {0}
+KeepsAs kind before taken = taken ≡ before
+
+abbrev pub Keeps : {A X : Type 0} → A → A → Result X VcdFault → Type 0
+Keeps before taken (Ok _) = Unit {0}
+Keeps before taken (Err fault) = KeepsAs fault.kind before taken
+
+-- what reading gives stays as it was, whatever follows, or it stops
+abbrev pub BodyContinuesAs : {A X : Type 0} → (List Token → UntilFault A) → (List Token → UntilFault A) → A
+    → Result X VcdFault → Type 0
+BodyContinuesAs before after taken (Ok _) = (more : List Token) → before more ≡ after more
+BodyContinuesAs before after taken (Err fault) = (more : List Token) → Stops fault taken (before more)
+
+-- the same, where what was read to is returned, or what took what stands before a fault
+abbrev pub ContinuesOrStops : {A T X : Type 0} → (X → List Token → UntilFault A) → (T → A) → Result X (Stopped T)
+    → (List Token → UntilFault A) → Type 0
+ContinuesOrStops view taken (Ok x) before = (more : List Token) → before more ≡ view x more
+ContinuesOrStops view taken (Err stopped) before = (more : List Token) → Stops stopped.fault (taken stopped.visitor)
+    (before more)
+
+-- what a reading that ends comes to, where this was taken before its end
+abbrev pub GivesOrStops : {A T : Type 0} → (T → A) → A → Result T (Stopped T) → Result A VcdFault → Type 0
+GivesOrStops taken before (Ok visitor) read = read ≡ Ok (taken visitor)
+GivesOrStops taken before (Err stopped) read = StoppedAs stopped.fault.line stopped.fault.kind (taken stopped.visitor)
+    before read
+
+-- what reading gives stays as it was, where what was read to is returned, or is this fault
 abbrev pub BodyContinuesTo : {A X : Type 0} → (X → List Token → Result (State A) VcdFault) → Result X VcdFault
     → (List Token → Result (State A) VcdFault) → Type 0
 BodyContinuesTo view (Ok x) before = (more : List Token) → before more ≡ view x more

@@ -14,7 +14,7 @@ use Rattle.vcd_read.specs.Numbers.{number, extended}
 use Rattle.vcd_read.specs.Header.{◌>>=◌, Net, net_of, size_of, between, header_from, declare_all, nothing_declared}
 use Rattle.vcd_read.specs.Header.{appended}
 use Rattle.vcd_read.specs.Body.{BodyItem, time_item, change, ready, body_from, first_standing, stand_after_all}
-use Rattle.vcd_read.specs.Body.{at_the_end}
+use Rattle.vcd_read.specs.Body.{Standing, at_the_end, stand_after}
 
 -- ---- the instants
 
@@ -78,6 +78,18 @@ instants_from nets body = do
   end ← stand_after_all nets first_standing (body_from ready body)
   stood ← at_the_end end
   Ok (instants_of nets (body_from ready body))
+
+-- the items before the first that is a fault, or all of them
+unfoldable pub items_before_fault : List Net → Standing → List BodyItem → List BodyItem
+items_before_fault nets s [] = []
+items_before_fault nets s (item ∷ items) = elim (stand_after nets s item) [
+  | Ok next ↦ item ∷ items_before_fault nets next items
+  | Err fault ↦ []
+]
+
+-- the instants before the first fault of a body, or all of them
+abbrev pub instants_before_fault : List Net → List Token → List Instant
+instants_before_fault nets body = instants_of nets (items_before_fault nets first_standing (body_from ready body))
 
 -- the dump that a text is, or else its first fault
 unfoldable pub dump_of : List ℕ → Result Contents VcdFault

@@ -7,7 +7,7 @@ use Rattle.vcd_read.specs.Tokens.{Token}
 use Rattle.vcd_read.specs.Header.{Net}
 use Rattle.vcd_read.specs.Body.{BodyPlace}
 use Rattle.vcd_read.specs.Taking.{Taking, State, taking}
-use Rattle.vcd_read.specs.Bodies.{ahead, finished, place_of}
+use Rattle.vcd_read.specs.Bodies.{UntilFault, ahead, ahead_until_fault, finished, place_of}
 
 -- How far a body is read: what came of it, and where reading goes on.
 pub record Reached (A : Type 0) : Type 0 where
@@ -34,6 +34,11 @@ module _ {A : Type 0} (with_change : A → ℕ → List Bit → A) (with_instant
   -- what reading gives from there on: these tokens, and more behind them
   abbrev pub rest_of : Reached A → List Token → List Token → Result (State A) VcdFault
   rest_of r tokens more = ahead with_change with_instant r.nets r.progress r.bracket r.place tokens more
+
+  -- the same, and how far it comes
+  abbrev pub rest_until_fault : Reached A → List Token → List Token → UntilFault A
+  rest_until_fault r tokens more = ahead_until_fault with_change with_instant r.nets r.progress r.bracket r.place tokens
+      more
 
   -- what comes of it where nothing is left of the body
   abbrev pub outcome_of : Reached A → Result A VcdFault

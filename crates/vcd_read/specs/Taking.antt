@@ -1,6 +1,6 @@
 -- What comes of the items of a body, for whatever takes its changes: a fold, whose parts the taker says.
 use Rattle.std.specs.Prelude.{ℕ, Bool, true, false, ◌&&◌, not, ◌==◌, if◌then◌else◌, List, [], ◌∷◌, Option, None}
-use Rattle.std.specs.Prelude.{option_map, unwrap_or, Result, Ok}
+use Rattle.std.specs.Prelude.{option_map, unwrap_or, Result, Ok, Err}
 use Rattle.vcd_read.specs.declared.dump.Bit.{Bit}
 use Rattle.vcd_read.specs.declared.fault.VcdFault.{VcdFault}
 use Rattle.vcd_read.specs.declared.timed_visitor.Clock.{Clock}
@@ -73,6 +73,14 @@ module _ {A : Type 0} (with_change : A → ℕ → List Bit → A) (with_instant
   unfoldable pub steps : State A → List BodyItem → Result (State A) VcdFault
   steps s [] = Ok s
   steps s (item ∷ items) = step s item >>= λ next. steps next items
+
+  -- how far these items come: up to the first that is a fault, or all of them
+  unfoldable pub reached_before : State A → List BodyItem → State A
+  reached_before s [] = s
+  reached_before s (item ∷ items) = elim (step s item) [
+    | Ok next ↦ reached_before next items
+    | Err fault ↦ s
+  ]
 
   -- what comes of a whole body, or else its first fault
   abbrev pub taken_from : A → List Token → Result A VcdFault

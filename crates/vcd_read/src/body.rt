@@ -10,7 +10,8 @@ ghost use Rattle.vcd_read.specs.declared.body_piece.BodyPiece.{BodyPiece};
 ghost use Rattle.vcd_read.specs.Body.{time_item, change, skipped, bracket_open, bracket_end, ready, code_of_vector};
 ghost use Rattle.vcd_read.specs.Body.{code_of_foreign, in_comment};
 ghost use Rattle.vcd_read.specs.Taking.{taking, state_of, step};
-ghost use Rattle.vcd_read.specs.Bodies.{BodyContinuesTo, BodyContinuesAs, ahead, place_of, remaining_in, from_token};
+ghost use Rattle.vcd_read.specs.Bodies.{BodyContinuesTo, BodyContinuesAs, ContinuesOrStops, Keeps, ahead, place_of};
+ghost use Rattle.vcd_read.specs.Bodies.{ahead_until_fault, remaining_in, from_token};
 ghost use Rattle.vcd_read.specs.Meaning.{ReadGives};
 ghost use Rattle.vcd_read.specs.declared.open_item.OpenItem.TheVariants.{Ready};
 
@@ -22,6 +23,7 @@ use crate::fault::{FaultKind, VcdFault};
 use crate::number::decimal;
 use crate::open_item::{Digits, OpenItem};
 use crate::shape::{Shape, is_end, shape_of};
+use crate::stopped::Stopped;
 use crate::timed_visitor::TimedVisitor;
 use crate::token::{Reader, Token};
 use std::alloc::Global;
@@ -54,7 +56,8 @@ impl<'a, 'c, T: ChangeVisitor> Body<'a, 'c, T> {
             (remaining_in T.with_change T.with_instant (place_of self.old.place) self.old.codes.now self.old.reader
             (taking (T.taken self.old.timed.visitor) self.old.timed.clock) self.old.bracket)
             (remaining_in T.with_change T.with_instant (place_of self.new.place) self.new.codes.now self.new.reader
-            (taking (T.taken self.new.timed.visitor) self.new.timed.clock) self.new.bracket) result }
+            (taking (T.taken self.new.timed.visitor) self.new.timed.clock) self.new.bracket)
+            (T.taken self.new.timed.visitor) result }
     {
         let Some(at) = self.reader.start() else {
             return Ok(false);
@@ -79,7 +82,8 @@ impl<'a, 'c, T: ChangeVisitor> Body<'a, 'c, T> {
             (remaining_in T.with_change T.with_instant ready self.old.codes.now self.old.reader
             (taking (T.taken self.old.timed.visitor) self.old.timed.clock) self.old.bracket)
             (remaining_in T.with_change T.with_instant (place_of self.new.place) self.new.codes.now self.new.reader
-            (taking (T.taken self.new.timed.visitor) self.new.timed.clock) self.new.bracket) result }
+            (taking (T.taken self.new.timed.visitor) self.new.timed.clock) self.new.bracket)
+            (T.taken self.new.timed.visitor) result }
     {
         if let Some(short) = self.reader.short_time() {
             return self.go_to(alloc, Start::Here(at), short.time);
@@ -107,7 +111,8 @@ impl<'a, 'c, T: ChangeVisitor> Body<'a, 'c, T> {
             (from_token T.with_change T.with_instant token.entry.at token.entry.bytes.now self.old.codes.now
             self.old.reader (taking (T.taken self.old.timed.visitor) self.old.timed.clock) self.old.bracket)
             (remaining_in T.with_change T.with_instant (place_of self.new.place) self.new.codes.now self.new.reader
-            (taking (T.taken self.new.timed.visitor) self.new.timed.clock) self.new.bracket) result }
+            (taking (T.taken self.new.timed.visitor) self.new.timed.clock) self.new.bracket)
+            (T.taken self.new.timed.visitor) result }
     {
         let start = Start::Here(token.at);
         match shape_of(token.bytes) {
@@ -126,6 +131,7 @@ impl<'a, 'c, T: ChangeVisitor> Body<'a, 'c, T> {
         requires { IsStart self.old.reader.text start }
         ensures same { (self.new.reader ≡ self.old.reader) × (self.new.codes ≡ self.old.codes)
             × (self.new.place ≡ self.old.place) }
+        ensures kept { Keeps (T.taken self.old.timed.visitor) (T.taken self.new.timed.visitor) result }
         ensures goes_on { IfOk result (λ goes_on. goes_on ≡ true) }
         ensures step { ReadGives (λ _. state_of self.new.reader.text
             (taking (T.taken self.new.timed.visitor) self.new.timed.clock) self.new.bracket) result
@@ -145,6 +151,7 @@ impl<'a, 'c, T: ChangeVisitor> Body<'a, 'c, T> {
         requires { IsStart self.old.reader.text start }
         ensures same { (self.new.reader ≡ self.old.reader) × (self.new.codes ≡ self.old.codes)
             × (self.new.place ≡ self.old.place) }
+        ensures kept { Keeps (T.taken self.old.timed.visitor) (T.taken self.new.timed.visitor) result }
         ensures goes_on { IfOk result (λ goes_on. goes_on ≡ true) }
         ensures step { (digits : List ℕ) → time_of digits ≡ Ok time → ReadGives (λ _. state_of self.new.reader.text
             (taking (T.taken self.new.timed.visitor) self.new.timed.clock) self.new.bracket) result
@@ -171,6 +178,7 @@ impl<'a, 'c, T: ChangeVisitor> Body<'a, 'c, T> {
         requires digits { 0 < length digits.now }
         ensures same { (self.new.reader ≡ self.old.reader) × (self.new.codes ≡ self.old.codes)
             × (self.new.place ≡ self.old.place) }
+        ensures kept { Keeps (T.taken self.old.timed.visitor) (T.taken self.new.timed.visitor) result }
         ensures goes_on { IfOk result (λ goes_on. goes_on ≡ true) }
         ensures step { ReadGives (λ _. state_of self.new.reader.text
             (taking (T.taken self.new.timed.visitor) self.new.timed.clock) self.new.bracket) result
@@ -206,7 +214,8 @@ impl<'a, 'c, T: ChangeVisitor> Body<'a, 'c, T> {
             self.old.codes.now self.old.reader
             (taking (T.taken self.old.timed.visitor) self.old.timed.clock) self.old.bracket)
             (remaining_in T.with_change T.with_instant (place_of self.new.place) self.new.codes.now self.new.reader
-            (taking (T.taken self.new.timed.visitor) self.new.timed.clock) self.new.bracket) result }
+            (taking (T.taken self.new.timed.visitor) self.new.timed.clock) self.new.bracket)
+            (T.taken self.new.timed.visitor) result }
     {
         match self.reader.next() {
             Some(code) => self.change(alloc, start, digits, code.bytes),
@@ -232,7 +241,8 @@ impl<'a, 'c, T: ChangeVisitor> Body<'a, 'c, T> {
             self.old.codes.now self.old.reader
             (taking (T.taken self.old.timed.visitor) self.old.timed.clock) self.old.bracket)
             (remaining_in T.with_change T.with_instant (place_of self.new.place) self.new.codes.now self.new.reader
-            (taking (T.taken self.new.timed.visitor) self.new.timed.clock) self.new.bracket) result }
+            (taking (T.taken self.new.timed.visitor) self.new.timed.clock) self.new.bracket)
+            (T.taken self.new.timed.visitor) result }
     {
         match self.reader.next() {
             Some(code) => self.skip(start, code.bytes),
@@ -272,7 +282,8 @@ impl<'a, 'c, T: ChangeVisitor> Body<'a, 'c, T> {
             self.old.codes.now self.old.reader
             (taking (T.taken self.old.timed.visitor) self.old.timed.clock) self.old.bracket)
             (remaining_in T.with_change T.with_instant (place_of self.new.place) self.new.codes.now self.new.reader
-            (taking (T.taken self.new.timed.visitor) self.new.timed.clock) self.new.bracket) result }
+            (taking (T.taken self.new.timed.visitor) self.new.timed.clock) self.new.bracket)
+            (T.taken self.new.timed.visitor) result }
     {
         while let Some(word) = self.reader.next() {
             if is_end(word.bytes) {
@@ -287,6 +298,7 @@ impl<'a, 'c, T: ChangeVisitor> Body<'a, 'c, T> {
         requires { IsStart self.old.reader.text start }
         ensures same { (self.new.reader ≡ self.old.reader) × (self.new.codes ≡ self.old.codes)
             × (self.new.place ≡ self.old.place) }
+        ensures kept { Keeps (T.taken self.old.timed.visitor) (T.taken self.new.timed.visitor) result }
         ensures goes_on { IfOk result (λ goes_on. goes_on ≡ true) }
         ensures step { ReadGives (λ _. state_of self.new.reader.text
             (taking (T.taken self.new.timed.visitor) self.new.timed.clock) self.new.bracket) result
@@ -305,6 +317,7 @@ impl<'a, 'c, T: ChangeVisitor> Body<'a, 'c, T> {
         requires { IsStart self.old.reader.text start }
         ensures same { (self.new.reader ≡ self.old.reader) × (self.new.codes ≡ self.old.codes)
             × (self.new.place ≡ self.old.place) }
+        ensures kept { Keeps (T.taken self.old.timed.visitor) (T.taken self.new.timed.visitor) result }
         ensures goes_on { IfOk result (λ goes_on. goes_on ≡ true) }
         ensures step { ReadGives (λ _. state_of self.new.reader.text
             (taking (T.taken self.new.timed.visitor) self.new.timed.clock) self.new.bracket) result
@@ -329,7 +342,8 @@ impl<'a, 'c, T: ChangeVisitor> Body<'a, 'c, T> {
             (remaining_in T.with_change T.with_instant (place_of self.old.place) self.old.codes.now self.old.reader
             (taking (T.taken self.old.timed.visitor) self.old.timed.clock) self.old.bracket)
             (remaining_in T.with_change T.with_instant (place_of self.new.place) self.new.codes.now self.new.reader
-            (taking (T.taken self.new.timed.visitor) self.new.timed.clock) self.new.bracket) result }
+            (taking (T.taken self.new.timed.visitor) self.new.timed.clock) self.new.bracket)
+            (T.taken self.new.timed.visitor) result }
     {
         match mem::replace(&mut self.place, OpenItem::Ready) {
             OpenItem::Ready => Ok(true),
@@ -350,13 +364,21 @@ impl<'a, 'c, T: ChangeVisitor> Body<'a, 'c, T> {
             (remaining_in T.with_change T.with_instant (place_of self.old.place) self.old.codes.now self.old.reader
             (taking (T.taken self.old.timed.visitor) self.old.timed.clock) self.old.bracket)
             (remaining_in T.with_change T.with_instant (place_of self.new.place) self.new.codes.now self.new.reader
-            (taking (T.taken self.new.timed.visitor) self.new.timed.clock) self.new.bracket) result }
+            (taking (T.taken self.new.timed.visitor) self.new.timed.clock) self.new.bracket)
+            (T.taken self.new.timed.visitor) result }
     {
         if !self.resume(alloc)? {
             return Ok(());
         }
         while self.one(alloc)? {}
         Ok(())
+    }
+
+    /// What takes the changes of the body.
+    fn into_visitor(self) -> T
+        ensures { T.taken result ≡ T.taken self.entry.timed.visitor }
+    {
+        self.timed.visitor
     }
 
     /// How far the body is read, behind the piece.
@@ -389,17 +411,18 @@ fn on_line(line: Option<u64>) -> Option<Start>
     }
 }
 
-/// Reads what is left of a piece of a body, from where the body was read to.
-pub(crate) fn read_piece<T: ChangeVisitor>(
+/// Reads what is left of a piece of a body, from where the body was read to. With the first fault comes what took what
+/// stands before it.
+pub(crate) fn read_until_fault<T: ChangeVisitor>(
     alloc: Global,
     reader: Reader<'_>,
     codes: &Codes,
     underway: BodyState<T>,
-) -> Result<BodyState<T>, VcdFault>
-    ensures { BodyContinuesTo (λ u. ahead T.with_change T.with_instant codes.now
-        (taking (T.taken u.timed.visitor) u.timed.clock)
-        u.bracket (place_of u.place) []) result
-        (ahead T.with_change T.with_instant codes.now (taking (T.taken underway.timed.visitor) underway.timed.clock)
+) -> Result<BodyState<T>, Stopped<T>>
+    ensures { ContinuesOrStops (λ u. ahead_until_fault T.with_change T.with_instant codes.now
+        (taking (T.taken u.timed.visitor) u.timed.clock) u.bracket (place_of u.place) []) (λ t. T.taken t) result
+        (ahead_until_fault T.with_change T.with_instant codes.now
+        (taking (T.taken underway.timed.visitor) underway.timed.clock)
         underway.bracket (place_of underway.place) (left_at reader.entry.text reader.entry.at)) }
 {
     let BodyState {
@@ -414,6 +437,30 @@ pub(crate) fn read_piece<T: ChangeVisitor>(
         bracket: on_line(bracket),
         place,
     };
-    body.all(alloc)?;
-    Ok(body.end())
+    match body.all(alloc) {
+        Ok(()) => Ok(body.end()),
+        Err(fault) => Err(Stopped {
+            fault,
+            visitor: body.into_visitor(),
+        }),
+    }
+}
+
+/// Reads what is left of a piece of a body, from where the body was read to.
+pub(crate) fn read_piece<T: ChangeVisitor>(
+    alloc: Global,
+    reader: Reader<'_>,
+    codes: &Codes,
+    underway: BodyState<T>,
+) -> Result<BodyState<T>, VcdFault>
+    ensures { BodyContinuesTo (λ u. ahead T.with_change T.with_instant codes.now
+        (taking (T.taken u.timed.visitor) u.timed.clock)
+        u.bracket (place_of u.place) []) result
+        (ahead T.with_change T.with_instant codes.now (taking (T.taken underway.timed.visitor) underway.timed.clock)
+        underway.bracket (place_of underway.place) (left_at reader.entry.text reader.entry.at)) }
+{
+    match read_until_fault(alloc, reader, codes, underway) {
+        Ok(underway) => Ok(underway),
+        Err(stopped) => Err(stopped.fault),
+    }
 }

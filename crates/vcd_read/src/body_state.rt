@@ -2,7 +2,7 @@
 
 ghost use Rattle.std.specs.Prelude.{◌≡◌, false, List, None};
 ghost use Rattle.vcd_read.specs.Header.{Net};
-ghost use Rattle.vcd_read.specs.Bodies.{finished, place_of, unfinished};
+ghost use Rattle.vcd_read.specs.Bodies.{GivesOrStops, finished, place_of, unfinished};
 ghost use Rattle.vcd_read.specs.Taking.{taking};
 ghost use Rattle.vcd_read.specs.Meaning.{ReadGives};
 ghost use Rattle.vcd_read.specs.declared.open_item.OpenItem.TheVariants.{Ready};
@@ -10,6 +10,7 @@ ghost use Rattle.vcd_read.specs.declared.open_item.OpenItem.TheVariants.{Ready};
 use crate::change_visitor::ChangeVisitor;
 use crate::fault::{FaultKind, VcdFault};
 use crate::open_item::OpenItem;
+use crate::stopped::Stopped;
 use crate::timed_visitor::{Clock, TimedVisitor};
 use std::alloc::Global;
 
@@ -38,19 +39,34 @@ impl<T: ChangeVisitor> BodyState<T> {
     }
 
     /// What took the body, of which nothing is left. An item that isn't whole and a bracket that is still open are met
-    /// here.
+    /// here: the instant at hand isn't ended then, and what took those before it comes with the fault.
+    pub fn finish_or_stop(self, alloc: Global) -> Result<T, Stopped<T>>
+        ensures { (nets : List Net) → GivesOrStops (λ t. T.taken t) (T.taken self.timed.visitor) result
+            (finished T.with_change T.with_instant nets (taking (T.taken self.timed.visitor) self.timed.clock)
+            self.bracket (place_of self.place)) }
+    {
+        if let Some(line) = self.unfinished() {
+            return Err(Stopped {
+                fault: VcdFault {
+                    line,
+                    kind: FaultKind::UnfinishedSection,
+                },
+                visitor: self.timed.visitor,
+            });
+        }
+        self.timed.finish(alloc)
+    }
+
+    /// The same, where only the fault is told.
     pub fn finish(self, alloc: Global) -> Result<T, VcdFault>
         ensures { (nets : List Net) → ReadGives (λ t. T.taken t) result
             (finished T.with_change T.with_instant nets (taking (T.taken self.timed.visitor) self.timed.clock)
             self.bracket (place_of self.place)) }
     {
-        if let Some(line) = self.unfinished() {
-            return Err(VcdFault {
-                line,
-                kind: FaultKind::UnfinishedSection,
-            });
+        match self.finish_or_stop(alloc) {
+            Ok(visitor) => Ok(visitor),
+            Err(stopped) => Err(stopped.fault),
         }
-        Ok(self.timed.finish(alloc)?)
     }
 
     /// The line of what isn't ended: an item, or else a bracket.

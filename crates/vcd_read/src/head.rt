@@ -1,13 +1,11 @@
 //! A text whose definitions are read.
 
-ghost use Rattle.std.specs.Prelude.{◌≡◌, ◌++◌, [], length, IfOk};
+ghost use Rattle.std.specs.Prelude.{◌≡◌, [], length};
 ghost use Rattle.vcd_read.specs.Header.{nothing_declared};
 ghost use Rattle.vcd_read.specs.Tokens.{tokens};
 ghost use Rattle.vcd_read.specs.Meaning.{ReadGives};
 ghost use Rattle.vcd_read.specs.Sections.{defined, header_of};
-ghost use Rattle.vcd_read.specs.Body.{body_from, ready};
-ghost use Rattle.vcd_read.specs.Bodies.{BodyContinuesTo, ahead, place_of};
-ghost use Rattle.vcd_read.specs.Taking.{at_first, steps, taken_from, taking};
+ghost use Rattle.vcd_read.specs.Taking.{taken_from};
 
 use crate::body::read_piece;
 use crate::body_state::BodyState;
@@ -74,22 +72,5 @@ impl<'a> Head<'a> {
         };
         let underway = read_piece(alloc, reader, &self.codes, BodyState::new(visitor))?;
         underway.finish(alloc)
-    }
-
-    /// Gives the changes of what the text has of the body to a taker. The body may go on behind the text.
-    pub(crate) fn begin<T: ChangeVisitor>(
-        self,
-        alloc: Global,
-        visitor: T,
-    ) -> Result<(Codes, BodyState<T>), VcdFault>
-        ensures codes { IfOk result (λ made. made.0 ≡ self.entry.nets) }
-        ensures rest { BodyContinuesTo (λ made. ahead T.with_change T.with_instant self.entry.nets
-            (taking (T.taken made.1.timed.visitor) made.1.timed.clock) made.1.bracket (place_of made.1.place) []) result
-            (λ more. steps T.with_change T.with_instant self.entry.nets (at_first (T.taken visitor))
-            (body_from ready (self.entry.body ++ more))) }
-    {
-        let Head { reader, codes } = self;
-        let underway = read_piece(alloc, reader, &codes, BodyState::new(visitor))?;
-        Ok((codes, underway))
     }
 }

@@ -1,24 +1,24 @@
 //! A dump that is read piece by piece.
 
-ghost use Rattle.std.specs.Prelude.{◌≡◌, ◌++◌, [], IfOk, IfSome};
+ghost use Rattle.std.specs.Prelude.{◌≡◌, [], IfOk, IfSome, None, false};
 ghost use Rattle.vcd_read.specs.Header.{nothing_declared};
 ghost use Rattle.vcd_read.specs.Tokens.{tokens_from};
 ghost use Rattle.vcd_read.specs.Reading.{line_behind};
-ghost use Rattle.vcd_read.specs.Body.{body_from, ready};
-ghost use Rattle.vcd_read.specs.Bodies.{BodyContinuesTo};
+ghost use Rattle.vcd_read.specs.Body.{ready};
+ghost use Rattle.vcd_read.specs.Bodies.{BodyContinuesTo, ContinuesOrStops, GivesOrStops};
 ghost use Rattle.vcd_read.specs.Fronts.{HeaderContinuesAs};
 ghost use Rattle.vcd_read.specs.Meaning.{ReadGives};
-ghost use Rattle.vcd_read.specs.Reached.{outcome_of, reached, rest_of};
-ghost use Rattle.vcd_read.specs.Taking.{at_first, steps};
+ghost use Rattle.vcd_read.specs.Reached.{outcome_of, reached, rest_of, rest_until_fault};
 
-use crate::body::read_piece;
+use crate::body::read_until_fault;
 use crate::body_piece::{BodyPiece, Start};
 use crate::body_state::BodyState;
 use crate::change_visitor::ChangeVisitor;
 use crate::codes::Codes;
 use crate::declaration_visitor::DeclarationVisitor;
 use crate::fault::{FaultKind, VcdFault};
-use crate::head::{Head, read_definitions};
+use crate::header::{Definitions, read_header};
+use crate::stopped::Stopped;
 use crate::token::Reader;
 use std::alloc::Global;
 use std::marker::Model;
@@ -26,17 +26,23 @@ use std::marker::Model;
 /// The front of a text, whose definitions are read, and of whose body nothing is.
 #[derive(Drop)]
 pub struct Front<'a> {
-    pub(crate) head: Head<'a>,
-    /// The line that the front ends on.
-    line: u64,
+    codes: Codes,
+    text: &'a [u8],
+    /// Where the body begins in it.
+    at: usize,
 }
 
 impl<'a> Model for Front<'a> {
+    ghost use Rattle.std.specs.Prelude.{◌≤◌, length};
     ghost use Rattle.vcd_read.specs.Fronts.{ReadFront};
+    ghost use Rattle.vcd_read.specs.Reading.{left_from, line_behind};
 
     ghost Value = { ReadFront };
 
-    ghost view = { λ f. record { head = f.head; line = f.line } };
+    ghost view = { λ f. record
+        { head = record { nets = f.codes; body = left_from 1 f.text.now f.at }; line = line_behind 1 f.text.now } };
+
+    ghost invariant = { λ f. f.at ≤ length f.text.now };
 }
 
 /// A dump whose definitions are read, and its body as far as some pieces go.
@@ -61,10 +67,20 @@ pub fn read_front<D: DeclarationVisitor>(
         (λ made. made.0.head)
         (λ made. D.taken made.1) result }
 {
-    match read_definitions(alloc, front, declarations) {
-        Ok((head, declarations)) => {
-            let line = Reader::new(front).line(Start::Here(front.len()));
-            Ok(Some((Front { head, line }, declarations)))
+    let mut reader = Reader::new(front);
+    match read_header(alloc, &mut reader, declarations) {
+        Ok(
+            Definitions {
+                codes,
+                declarations,
+            },
+        ) => {
+            let front = Front {
+                codes,
+                text: front,
+                at: reader.at,
+            };
+            Ok(Some((front, declarations)))
         }
         Err(fault) => match fault.kind {
             FaultKind::NoEndDefinitions | FaultKind::UnfinishedSection => Ok(None),
@@ -74,27 +90,63 @@ pub fn read_front<D: DeclarationVisitor>(
 }
 
 impl<'a> Front<'a> {
-    /// Gives the changes that the front has to a taker.
-    pub fn pieces<T: ChangeVisitor>(self, alloc: Global, visitor: T) -> Result<Pieces<T>, VcdFault>
-        ensures line { IfOk result (λ pieces. (reached T.taken pieces).line ≡ self.entry.line) }
-        ensures rest { BodyContinuesTo (λ pieces. rest_of T.with_change T.with_instant
-            (reached T.taken pieces) []) result
-            (λ more. steps T.with_change T.with_instant self.entry.head.nets (at_first (T.taken visitor))
-            (body_from ready (self.entry.head.body ++ more))) }
+    /// Begins to read the body, of which nothing is read yet, and says what the front has of it: the first piece. So a
+    /// fault of the body is met in a piece.
+    pub fn before_body<T: ChangeVisitor>(self, visitor: T) -> (Pieces<T>, &'a [u8])
+        ensures nets { (reached T.taken result.0).nets ≡ self.entry.head.nets }
+        ensures progress { (reached T.taken result.0).progress
+            ≡ record { taken = T.taken visitor; time = 0; begun = false } }
+        ensures bracket { (reached T.taken result.0).bracket ≡ None }
+        ensures place { (reached T.taken result.0).place ≡ ready }
+        ensures body { tokens_from (reached T.taken result.0).line result.1.now ≡ self.entry.head.body }
+        ensures line { line_behind (reached T.taken result.0).line result.1.now ≡ self.entry.line }
     {
-        let Front { head, line } = self;
-        let (codes, underway) = head.begin(alloc, visitor)?;
-        Ok(Pieces {
+        let Front { codes, text, at } = self;
+        let pieces = Pieces {
             codes,
-            underway,
-            line,
-        })
+            underway: BodyState::new(visitor),
+            line: Reader::new(text).line(Start::Here(at)),
+        };
+        (pieces, &text[at..])
     }
 }
 
 impl<T: ChangeVisitor> Pieces<T> {
     /// Reads the next piece of the body, which ends behind a space, or where the text does. The first fault met is that
-    /// of every text that goes on so. Where lines could no longer be counted, memory is said to run out.
+    /// of every text that goes on so. With it comes what took all that stands before it: the changes of each item, and
+    /// the end of each instant that a later time follows. Where lines could no longer be counted, memory is said to run
+    /// out.
+    pub fn read_until_fault(self, alloc: Global, piece: &[u8]) -> Result<Pieces<T>, Stopped<T>>
+        ensures nets { IfOk result (λ pieces. (reached T.taken pieces).nets ≡ (reached T.taken self).nets) }
+        ensures line { IfOk result (λ pieces. (reached T.taken pieces).line
+            ≡ line_behind (reached T.taken self).line piece.now) }
+        ensures rest { ContinuesOrStops (λ pieces. rest_until_fault T.with_change T.with_instant
+            (reached T.taken pieces) []) (λ t. T.taken t) result
+            (rest_until_fault T.with_change T.with_instant (reached T.taken self)
+            (tokens_from (reached T.taken self).line piece.now)) }
+    {
+        let Pieces {
+            codes,
+            underway,
+            line,
+        } = self;
+        if u64::MAX - line <= piece.len() as u64 {
+            return Err(Stopped::out_of_memory(underway.timed.visitor));
+        }
+        let text = BodyPiece { bytes: piece, line };
+        let reader = Reader { text, at: 0 };
+        let line = reader.line(Start::Here(piece.len()));
+        match read_until_fault(alloc, reader, &codes, underway) {
+            Ok(underway) => Ok(Pieces {
+                codes,
+                underway,
+                line,
+            }),
+            Err(stopped) => Err(stopped),
+        }
+    }
+
+    /// The same, where only the fault is told.
     pub fn read(self, alloc: Global, piece: &[u8]) -> Result<Pieces<T>, VcdFault>
         ensures nets { IfOk result (λ pieces. (reached T.taken pieces).nets ≡ (reached T.taken self).nets) }
         ensures line { IfOk result (λ pieces. (reached T.taken pieces).line
@@ -104,30 +156,22 @@ impl<T: ChangeVisitor> Pieces<T> {
             (rest_of T.with_change T.with_instant (reached T.taken self)
             (tokens_from (reached T.taken self).line piece.now)) }
     {
-        let Pieces {
-            codes,
-            underway,
-            line,
-        } = self;
-        if u64::MAX - line <= piece.len() as u64 {
-            return Err(VcdFault {
-                line: 0,
-                kind: FaultKind::Memory,
-            });
+        match self.read_until_fault(alloc, piece) {
+            Ok(pieces) => Ok(pieces),
+            Err(stopped) => Err(stopped.fault),
         }
-        let text = BodyPiece { bytes: piece, line };
-        let reader = Reader { text, at: 0 };
-        let line = reader.line(Start::Here(piece.len()));
-        let underway = read_piece(alloc, reader, &codes, underway)?;
-        Ok(Pieces {
-            codes,
-            underway,
-            line,
-        })
     }
 
     /// What took the body, of which nothing is left. An item that isn't whole and a bracket that is still open are met
-    /// here.
+    /// here: the instant at hand isn't ended then, and what took those before it comes with the fault.
+    pub fn finish_or_stop(self, alloc: Global) -> Result<T, Stopped<T>>
+        ensures { GivesOrStops (λ t. T.taken t) (reached T.taken self).progress.taken result
+            (outcome_of T.with_change T.with_instant (reached T.taken self)) }
+    {
+        self.underway.finish_or_stop(alloc)
+    }
+
+    /// The same, where only the fault is told.
     pub fn finish(self, alloc: Global) -> Result<T, VcdFault>
         ensures { ReadGives (λ t. T.taken t) result
             (outcome_of T.with_change T.with_instant (reached T.taken self)) }

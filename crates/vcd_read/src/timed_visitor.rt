@@ -1,9 +1,11 @@
 //! The times of a body, and what takes its changes.
 
-ghost use Rattle.std.specs.Prelude.{◌≡◌, ◌<◌, ◌≤◌, length, false, OnOk, IfOk};
+ghost use Rattle.std.specs.Prelude.{◌≡◌, ◌<◌, ◌≤◌, length, false, OnOk, IfOk, IfErr};
 ghost use Rattle.vcd_read.specs.Numbers.{extended};
+ghost use Rattle.vcd_read.specs.declared.fault.FaultKind.TheVariants.{Memory};
 
 use crate::change_visitor::ChangeVisitor;
+use crate::stopped::Stopped;
 use std::alloc::{AllocError, Global};
 
 /// The current time.
@@ -72,13 +74,17 @@ impl<T: ChangeVisitor> TimedVisitor<T> {
     }
 
     /// What took all changes, the instant at the current time being ended.
-    pub fn finish(mut self, alloc: Global) -> Result<T, AllocError>
-        ensures { IfOk result (λ visitor. T.taken visitor
+    pub fn finish(mut self, alloc: Global) -> Result<T, Stopped<T>>
+        ensures visitor { IfOk result (λ visitor. T.taken visitor
             ≡ ended T.with_instant (taking (T.taken self.visitor) self.clock)) }
+        ensures memory { IfErr result (λ stopped. stopped.fault ≡ record { line = 0; kind = Memory }) }
     {
-        if self.clock.begun {
-            self.visitor.end_instant(alloc, self.clock.time)?;
+        if !self.clock.begun {
+            return Ok(self.visitor);
         }
-        Ok(self.visitor)
+        match self.visitor.end_instant(alloc, self.clock.time) {
+            Ok(()) => Ok(self.visitor),
+            Err(_) => Err(Stopped::out_of_memory(self.visitor)),
+        }
     }
 }

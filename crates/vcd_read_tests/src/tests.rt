@@ -2,8 +2,8 @@ use std::alloc::{AllocError, Global};
 use std::process::Abort;
 use std::test::Fail;
 use vcd_read::{
-    Bit, ChangeVisitor, DetachedPiece, Dump, FaultKind, Instant, Pieces, Variable, Variables,
-    VcdFault, line_feeds, read_front, read_vcd,
+    Bit, ChangeVisitor, DetachedPiece, Dump, FaultKind, Instant, Pieces, Stopped, Variable,
+    Variables, VcdFault, line_feeds, read_front, read_vcd,
 };
 
 /// What a dump says, a line for each variable and each instant.
@@ -209,7 +209,8 @@ fn begun(alloc: Global, front: &[u8]) -> Result<Option<(Pieces<Telling>, Variabl
         text: Vec::new(alloc),
         changed: Vec::new(alloc),
     };
-    Ok(Some((front.pieces(alloc, telling)?, variables)))
+    let (pieces, rest) = front.before_body(telling);
+    Ok(Some((pieces.read(alloc, rest)?, variables)))
 }
 
 /// What a dump says that is read in such pieces, if its definitions end.
@@ -604,6 +605,106 @@ fn assert_faults(
 #[test]
 fn faults_of_bodies(rt: HostRuntime) -> Result<(), Fail> {
     assert_faults(&rt, rt.alloc(), ONE_BIT, &OF_BODIES, &SIZES)
+}
+
+/// Where reading a body in such pieces stops, if it does.
+fn stopped_by_pieces(
+    alloc: Global,
+    text: &[u8],
+    size: usize,
+) -> Result<Option<Stopped<Telling>>, VcdFault> {
+    let Some((front, _)) = read_front(alloc, text, Variables::new(alloc))? else {
+        return Ok(None);
+    };
+    let telling = Telling {
+        text: Vec::new(alloc),
+        changed: Vec::new(alloc),
+    };
+    let (mut pieces, body) = front.before_body(telling);
+    let mut from = 0;
+    for end in ends_of(alloc, body, size)? {
+        let piece = body.get(from..end).unwrap_or(&[]);
+        pieces = match pieces.read_until_fault(alloc, piece) {
+            Ok(pieces) => pieces,
+            Err(stopped) => return Ok(Some(stopped)),
+        };
+        from = end;
+    }
+    Ok(pieces.finish_or_stop(alloc).err())
+}
+
+/// A body, the line and kind of its first fault, what is told of the instants that end before it, and how many nets
+/// change behind those.
+type Stopping = (&'static str, u64, FaultKind, &'static str, usize);
+
+/// Faults behind the definitions of one variable.
+const STOPS: [Stopping; 9] = [
+    ("2p", 3, FaultKind::BadToken, "", 0),
+    ("1p 1q", 3, FaultKind::UndeclaredCode, "", 1),
+    (
+        "#0 1p\n#10 0p\n#20 1p 1q\n#30 0p",
+        5,
+        FaultKind::UndeclaredCode,
+        "#0 0=1\n#10 0=0\n",
+        1,
+    ),
+    (
+        "#0 1p\n#10 0p\n#5 1p",
+        5,
+        FaultKind::TimeBackwards,
+        "#0 0=1\n",
+        1,
+    ),
+    (
+        "#0 1p\n#10 0p\n#20\n#20\n#30 b10 p",
+        7,
+        FaultKind::TooWide,
+        "#0 0=1\n#10 0=0\n#20\n",
+        0,
+    ),
+    (
+        "#0 1p #18446744073709551616",
+        3,
+        FaultKind::NumberTooLarge,
+        "",
+        1,
+    ),
+    (
+        "#0 1p\n#1 $dumpvars 0p",
+        4,
+        FaultKind::UnfinishedSection,
+        "#0 0=1\n",
+        1,
+    ),
+    (
+        "#0 1p\n#1 b1",
+        4,
+        FaultKind::UnfinishedSection,
+        "#0 0=1\n",
+        0,
+    ),
+    ("#0 1p #1 $end", 3, FaultKind::BadToken, "#0 0=1\n", 0),
+];
+
+#[test]
+fn a_fault_comes_with_what_stands_before_it(rt: HostRuntime) -> Result<(), Fail> {
+    let alloc = rt.alloc();
+    for (body, line, kind, told, changed) in STOPS {
+        let text = together(alloc, &[ONE_BIT, body])?;
+        for size in SIZES {
+            let Some(stopped) = stopped_by_pieces(alloc, &text, size)? else {
+                assert!(rt; false, "{body}: no fault");
+                continue;
+            };
+            let Stopped { fault, visitor } = stopped;
+            assert!(rt; fault == VcdFault { line, kind }, "{size}: {body}: {fault}");
+            assert!(rt;
+                visitor.text.as_slice() == told.as_bytes() && visitor.changed.len() == changed,
+                "{size}: {body}"
+            );
+        }
+    }
+    Ok(())
 }
 
 #[test]

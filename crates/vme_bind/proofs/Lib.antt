@@ -12,5 +12,6 @@ pub mod OpeningLemmas
 pub mod MakingLemmas
 pub mod TextCaptureLemmas
 pub mod TextPieceLemmas
+pub mod TextReadingLemmas
 pub mod ToldLemmas
 pub mod WaveLemmas

@@ -50,7 +50,7 @@ abbrev ok_trace : Trace → Result Trace CaptureFault
 ok_trace t = Ok t
 
 -- the instants of a body, if it has no fault
-abbrev instants_in : Result (List Instant) VcdFault → List Instant
+abbrev pub instants_in : Result (List Instant) VcdFault → List Instant
 instants_in (Ok instants) = instants
 instants_in (Err fault) = []
 
@@ -59,10 +59,10 @@ abbrev refused : BindFault → Result (List Instant) VcdFault → Result Trace C
 refused own r = or_dump r >>= λ instants. Err (Binding own)
 
 module _ (slots : ℕ) (bound_groups : List BoundGroup) (h : Headed) where
-  abbrev IsMadeOf : List Instant → Current → Made → Type 0
+  abbrev pub IsMadeOf : List Instant → Current → Made → Type 0
   IsMadeOf = Makes slots bound_groups (length h.nets) (instants_in (instants_from h.nets h.body))
 
-  builder-follows : (m : Made) → IsBegun slots bound_groups m → Follows (Ends IsMadeOf) (instants_from h.nets h.body)
+  pub builder-follows : (m : Made) → IsBegun slots bound_groups m → Follows (Ends IsMadeOf) (instants_from h.nets h.body)
       (taken_from made_change made_instant h.nets m h.body)
   builder-follows m begun =
       let all : List Instant = instants_in (instants_from h.nets h.body) in
@@ -101,7 +101,7 @@ module _ (slots : ℕ) (bound_groups : List BoundGroup) (h : Headed) where
 
   -- ---- what a body comes to
 
-  follow_err : (instants : Result (List Instant) VcdFault) (taken : Result Made VcdFault) (fault : VcdFault)
+  pub follow_err : (instants : Result (List Instant) VcdFault) (taken : Result Made VcdFault) (fault : VcdFault)
       → Follows (Ends IsMadeOf) instants taken → taken ≡ Err fault → instants ≡ Err fault
   follow_err (Ok xs) taken fault follows e = absurd (cc (follows.1, e))
   follow_err (Err first) taken fault follows e = let same : first ≡ fault = cc (follows, e) in
@@ -139,7 +139,7 @@ text-dump b text fault h = by_kind fault.line fault.kind h
     by_kind line kind e = ap (recording_read b) e
 
 -- a fault that stays, whatever comes of what is read
-fails_back : {X Y : Type 0} (line : ℕ) (kind : FaultKind) (r : Result X VcdFault) (f : X → Y) → ReadFailsAs line kind
+pub fails_back : {X Y : Type 0} (line : ℕ) (kind : FaultKind) (r : Result X VcdFault) (f : X → Y) → ReadFailsAs line kind
     (r >>= λ x. Ok (f x)) → ReadFailsAs line kind r
 fails_back line Memory r f h = h
 fails_back line kind (Ok x) f h = absurd (cc h)

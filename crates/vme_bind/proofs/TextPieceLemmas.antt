@@ -1,10 +1,12 @@
 -- The recording of a dump that is read piece by piece, from what is read of it.
-use Rattle.std.proofs.Common.{◌≡◌, ℕ, List, Option, Some, None, Result, Ok, Err, refl, sym, ap, subst, ◌∙◌}
+use Rattle.std.proofs.Common.{◌≡◌, ℕ, false, List, Option, Some, None, Result, Ok, Err, refl, sym, ap, subst, ◌∙◌}
 use Rattle.vme_trace.specs.Trace.{Trace}
-use Rattle.vcd_read.specs.Fronts.{IsMetAtTheEnd}
+use Rattle.vcd_read.specs.Body.{ready}
+use Rattle.vcd_read.specs.Fronts.{IsMetAtTheEnd, going_on}
 use Rattle.vcd_read.specs.Header.{◌>>=◌, nothing_declared}
 use Rattle.vcd_read.specs.Meaning.{ReadFails, ReadFailsAs, instants_from}
 use Rattle.vcd_read.specs.Sections.{Headed, defined, header_of}
+use Rattle.vcd_read.specs.Reached.{Reached, rest_of}
 use Rattle.vcd_read.specs.Taking.{State, at_end}
 use Rattle.vcd_read.specs.Tokens.{Token, tokens}
 use Rattle.vcd_read.specs.declared.dump.Variable.{Variable}
@@ -16,7 +18,7 @@ use Rattle.vme_bind.specs.declared.fault.BindKind.{BindKind}
 use Rattle.vme_bind.specs.declared.fault.BindKind.TheVariants.{Memory as NoMemory}
 use Rattle.vme_bind.specs.declared.fault.CaptureFault.{CaptureFault}
 use Rattle.vme_bind.specs.declared.fault.CaptureFault.TheVariants.{Dump, Binding}
-use Rattle.vme_bind.specs.Made.{Made, made_instant}
+use Rattle.vme_bind.specs.Made.{IsBegun, Made, made_change, made_instant}
 use Rattle.vme_bind.specs.declared.bound_groups.BoundGroup.{BoundGroup}
 use Rattle.vme_bind.specs.Answers.{BindFails as BindFails, BindFailsAs as BindFailsAs}
 use Rattle.vme_bind.specs.Binding.{BoundLines}
@@ -25,7 +27,7 @@ use Rattle.vme_bind.specs.BoundGroups.{bound_groups_in}
 use Rattle.vme_bind.specs.TextCapture.{CaptureFailsBy, DumpFails, BindingFails, IsOfBinding, recording_behind}
 use Rattle.vme_bind.specs.TextCapture.{recording_of_text}
 use Rattle.vme_bind.specs.TextPieces.{TextContinuesAs, body_outcome, outcome}
-use Rattle.vme_bind.proofs.TextCaptureLemmas.{by_instants, by_refusal, text-head}
+use Rattle.vme_bind.proofs.TextCaptureLemmas.{body-outcome, by_instants, by_refusal, text-head}
 
 -- a fault of the dump comes first, whatever the binding has
 dump_fails : (own : Option BindFault) (line : ℕ) (kind : FaultKind) (read : Result (State Made) VcdFault)
@@ -40,15 +42,7 @@ same_fails : (line : ℕ) (kind : FaultKind) (a b : Result Trace CaptureFault) �
 same_fails line Memory a b e h = h
 same_fails line kind a b e h = e ∙ h
 
--- what is read of a dump leads to what comes of it
-pub leads-outcome : {X : Type 0} (own : Option BindFault) (view : X → List Token → Result (State Made) VcdFault) (x : X)
-    (before : List Token → Result Trace CaptureFault) (read : List Token → Result (State Made) VcdFault)
-    → ((more : List Token) → before more ≡ outcome own (read more >>= at_end made_instant))
-    → ((more : List Token) → read more ≡ view x more)
-    → (more : List Token) → before more ≡ outcome own (view x more >>= at_end made_instant)
-leads-outcome own view x before read is leads more = is more ∙ ap (λ (r : Result (State Made) VcdFault). outcome own
-    (r >>= at_end made_instant)) (leads more)
-
+-- what fails in a dump, fails for what comes of it
 pub fails-outcome : (own : Option BindFault) (fault : VcdFault) (before : List Token → Result Trace CaptureFault)
     (read : List Token → Result (State Made) VcdFault)
     → ((more : List Token) → before more ≡ outcome own (read more >>= at_end made_instant))
@@ -57,9 +51,19 @@ pub fails-outcome : (own : Option BindFault) (fault : VcdFault) (before : List T
 fails-outcome own fault before read is fails more = same_fails fault.line fault.kind (before more) _ (is more)
     (dump_fails own fault.line fault.kind (read more) (fails more))
 
+-- a body of which nothing is read yet
+pub begun-outcome : (own : Option BindFault) (slots : ℕ) (bound_groups : List BoundGroup) (head : Headed) (made : Made)
+    (r : Reached Made) (first more : List Token) → IsBegun slots bound_groups made → r.nets ≡ head.nets
+    → r.progress ≡ record { taken = made; time = 0; begun = false } → r.bracket ≡ None → r.place ≡ ready
+    → first ≡ head.body
+    → body_outcome own slots bound_groups (going_on head more)
+    ≡ outcome own (rest_of made_change made_instant r first more >>= at_end made_instant)
+begun-outcome own slots bound_groups head made r first more begun nets progress bracket place body =
+    rw (nets, progress, bracket, place, body) (body-outcome slots bound_groups (going_on head more) own made begun)
+
 -- what it leads to where what comes of the text is the same
-pub leads-same : {X : Type 0} (view : X → List Token → Result Trace CaptureFault) (r : Result X CaptureFault)
-    (before before2 : List Token → Result Trace CaptureFault)
+pub leads-same : {X Y : Type 0} (view : X → List Token → Result Y CaptureFault) (r : Result X CaptureFault)
+    (before before2 : List Token → Result Y CaptureFault)
     → ((more : List Token) → before more ≡ before2 more) → TextContinuesAs view r before2 → TextContinuesAs view r
     before
 leads-same view (Ok x) before before2 e h = λ more. e more ∙ h more
@@ -88,7 +92,7 @@ refused-is own answer other fails = by_kind own.line own.kind other fails
     by_kind line kind other fails = fails
 
 -- want of memory is told of any answer
-pub wanting : {Y : Type 0} (own : BindFault) (answer : Result Y BindFault) (assigned : Result Trace CaptureFault)
+pub wanting : {Y Z : Type 0} (own : BindFault) (answer : Result Y BindFault) (assigned : Result Z CaptureFault)
     → own.kind ≡ NoMemory → BindFails own answer → CaptureFailsBy (Binding own) assigned
 wanting own answer assigned is fails = by_kind own.line own.kind is fails
   where

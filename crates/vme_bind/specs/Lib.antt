@@ -13,4 +13,5 @@ pub mod Made
 pub mod AssignedLines
 pub mod TextCapture
 pub mod TextPieces
+pub mod TextReading
 pub mod SpeculativeReading

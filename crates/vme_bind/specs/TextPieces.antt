@@ -1,5 +1,5 @@
 -- The recording that a binding makes of a dump that is read piece by piece.
-use Rattle.std.specs.Prelude.{◌≡◌, ℕ, List, ◌++◌, Option, None, Some, Result, Ok, Err}
+use Rattle.std.specs.Prelude.{◌≡◌, ℕ, List, [], ◌++◌, Option, None, Some, Result, Ok, Err}
 use Rattle.vme_trace.specs.Trace.{Trace}
 use Rattle.vme_trace.specs.declared.step_visitor.StepVisitor.{Ghosts}
 use Rattle.vcd_read.specs.Fronts.{IsMetAtTheEnd}
@@ -8,7 +8,7 @@ use Rattle.vcd_read.specs.Meaning.{instants_from}
 use Rattle.vcd_read.specs.Sections.{Headed}
 use Rattle.vcd_read.specs.Reached.{Reached, reached, rest_of}
 use Rattle.vcd_read.specs.Taking.{at_end}
-use Rattle.vcd_read.specs.Tokens.{Token, tokens}
+use Rattle.vcd_read.specs.Tokens.{Token, tokens, tokens_from}
 use Rattle.vcd_read.specs.declared.fault.VcdFault.{VcdFault}
 use Rattle.vme_bind.specs.declared.fault.BindFault.{BindFault}
 use Rattle.vme_bind.specs.declared.fault.CaptureFault.{CaptureFault}
@@ -43,19 +43,30 @@ abbrev pub outcome_ahead : TextReached → List Token → List Token → Result 
 outcome_ahead t tokens more = outcome t.fault (rest_of made_change made_instant t.body tokens more
     >>= at_end made_instant)
 
+-- the same where the front of the text has this of the body
+abbrev pub outcome_from : {F : Type 0} {follows : Ghosts F} → TextPieces F follows → List ℕ → List Token
+    → Result Trace CaptureFault
+outcome_from text piece more =
+    let reached = text_reached text in
+    outcome_ahead reached (tokens_from reached.body.line piece) more
+
 -- what was read to leaves what comes of the text, whatever follows, or this fault does
-abbrev pub TextContinuesAs : {X : Type 0} → (X → List Token → Result Trace CaptureFault) → Result X CaptureFault
-    → (List Token → Result Trace CaptureFault) → Type 0
+abbrev pub TextContinuesAs : {X Y : Type 0} → (X → List Token → Result Y CaptureFault) → Result X CaptureFault
+    → (List Token → Result Y CaptureFault) → Type 0
 TextContinuesAs view (Ok x) before = (more : List Token) → before more ≡ view x more
 TextContinuesAs view (Err fault) before = (more : List Token) → CaptureFailsBy fault (before more)
 
 -- what is begun of a text by its front is what comes of each text that goes on so, unless its definitions don't end in
 -- it
+abbrev pub BeginsAs : {X Y Z : Type 0} → (List ℕ → Result Z CaptureFault) → (X → List Token → Result Z CaptureFault)
+    → List ℕ → Result (Result X Y) CaptureFault → Type 0
+BeginsAs comes_of view front (Ok (Ok begun)) = (whole : List ℕ) (more : List Token) → tokens whole
+    ≡ tokens front ++ more → comes_of whole ≡ view begun more
+BeginsAs comes_of view front (Ok (Err back)) = (fault : VcdFault) × (comes_of front ≡ Err (Dump fault))
+    × IsMetAtTheEnd fault.kind
+BeginsAs comes_of view front (Err fault) = (whole : List ℕ) (more : List Token) → tokens whole ≡ tokens front ++ more
+    → CaptureFailsBy fault (comes_of whole)
+
 abbrev pub TextBeginsAs : {X Y : Type 0} → (X → List Token → Result Trace CaptureFault) → BoundLines → List ℕ
     → Result (Result X Y) CaptureFault → Type 0
-TextBeginsAs view b front (Ok (Ok begun)) = (whole : List ℕ) (more : List Token) → tokens whole ≡ tokens front ++ more
-    → recording_of_text b whole ≡ view begun more
-TextBeginsAs view b front (Ok (Err back)) = (fault : VcdFault) × (recording_of_text b front ≡ Err (Dump fault))
-    × IsMetAtTheEnd fault.kind
-TextBeginsAs view b front (Err fault) = (whole : List ℕ) (more : List Token) → tokens whole ≡ tokens front ++ more
-    → CaptureFailsBy fault (recording_of_text b whole)
+TextBeginsAs view b front begun = BeginsAs (recording_of_text b) view front begun

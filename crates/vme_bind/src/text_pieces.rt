@@ -14,40 +14,57 @@ ghost use Rattle.vcd_read.specs.Sections.{defined};
 ghost use Rattle.vme_bind.specs.PathSearch.{seen_in, unseen, with_variable};
 ghost use Rattle.vme_bind.specs.TextCapture.{GivesBy, IsOfBinding, recording_behind};
 ghost use Rattle.vme_bind.specs.TextPieces.{TextBeginsAs, TextContinuesAs, body_outcome, outcome_ahead, text_reached};
+ghost use Rattle.vme_bind.specs.TextPieces.{BeginsAs, outcome_from};
+ghost use Rattle.vme_bind.specs.TextReading.{ReadingContinuesAs, ReadingEndsAs, body_reading, or_fault, reading_ahead};
+ghost use Rattle.vme_bind.specs.TextReading.{reading_behind, reading_from, reading_of_text};
 
 use crate::binding::Binding;
 use crate::bound_groups::BoundGroup;
+use crate::capture_builder::CaptureBuilder;
 use crate::fault::{BindFault, BindKind, CaptureFault};
 use crate::search::Search;
 use crate::text_capture::{making_of, want_of_memory};
 use crate::text_state::TextPieces;
 use std::alloc::Global;
-use vcd_read::{Front, read_front};
+use vcd_read::{Front, Stopped, read_front};
 use vme_trace::{Lines, StepVisitor};
 
-/// Begins to make the recording of a body by what the front of a text has of it, with these bound groups, or a fault of
-/// the binding.
-fn begin_bound_groups<F: StepVisitor>(
+/// Begins to make the recording of a body, with these bound groups or a fault of the binding, and says what the front of
+/// the text has of it.
+fn begin_bound_groups<'a, F: StepVisitor>(
     alloc: Global,
     lines: &Lines,
     bound_groups: &[BoundGroup],
     fault: Option<BindFault>,
-    front: Front<'_>,
+    front: Front<'a>,
     visitor: F,
-) -> Result<TextPieces<F>, CaptureFault>
+) -> Result<(TextPieces<F>, &'a [u8]), CaptureFault>
     requires lines { lines.now.levels ≡ replicate line_count Unknown }
     requires own { ForSome fault IsOfBinding }
-    ensures line { IfOk result (λ text. (text_reached text).body.line ≡ front.entry.line) }
-    ensures rest { TextContinuesAs (λ text. outcome_ahead (text_reached text) []) result
+    ensures line { IfOk result (λ begun. line_behind (text_reached begun.0).body.line begun.1.now ≡ front.entry.line) }
+    ensures rest { TextContinuesAs (λ begun. outcome_from begun.0 begun.1.now) result
         (λ more. body_outcome fault lines.now.slots bound_groups.now (going_on front.entry.head more)) }
+    ensures reading { TextContinuesAs (λ begun. reading_from begun.0 begun.1.now) result
+        (λ more. or_fault fault (body_reading lines.now.slots bound_groups.now (going_on front.entry.head more))) }
 {
-    let made = match making_of(alloc, lines, bound_groups, visitor) {
-        Ok(made) => made,
-        Err(_) => return Err(CaptureFault::Binding(want_of_memory())),
-    };
-    match front.pieces(alloc, made) {
-        Ok(pieces) => Ok(TextPieces { pieces, fault }),
-        Err(fault) => Err(CaptureFault::Dump(fault)),
+    match making_of(alloc, lines, bound_groups, visitor) {
+        Ok(made) => {
+            let (pieces, rest) = front.before_body(made);
+            Ok((TextPieces { pieces, fault }, rest))
+        }
+        Err(_) => Err(CaptureFault::Binding(want_of_memory())),
+    }
+}
+
+/// The same fault, with what took the recording.
+fn visitor_of<F: StepVisitor>(stopped: Stopped<CaptureBuilder<F>>) -> Stopped<F>
+    ensures fault { result.fault ≡ stopped.fault }
+    ensures visitor { F.recorded result.visitor ≡ stopped.visitor.recorded }
+{
+    let Stopped { fault, visitor } = stopped;
+    Stopped {
+        fault,
+        visitor: visitor.into_visitor(),
     }
 }
 
@@ -64,6 +81,30 @@ impl Binding {
             ≡ line_behind 1 front.now)) }
         ensures begins { TextBeginsAs (λ text. outcome_ahead (text_reached text) []) self.now front.now result }
     {
+        match self.begin_before_body(alloc, front, visitor) {
+            Ok(Ok((text, rest))) => match text.read(alloc, rest) {
+                Ok(text) => Ok(Ok(text)),
+                Err(fault) => Err(fault),
+            },
+            Ok(Err(visitor)) => Ok(Err(visitor)),
+            Err(fault) => Err(fault),
+        }
+    }
+
+    /// The same, where nothing of the body is read: what the front has of it is told, and is the first piece. So a
+    /// fault of the definitions is met here, and one of the body is met in a piece.
+    pub fn begin_before_body<'a, F: StepVisitor>(
+        &self,
+        alloc: Global,
+        front: &'a [u8],
+        visitor: F,
+    ) -> Result<Result<(TextPieces<F>, &'a [u8]), F>, CaptureFault>
+        ensures line { IfOk result (λ found. IfOk found (λ begun.
+            line_behind (text_reached begun.0).body.line begun.1.now ≡ line_behind 1 front.now)) }
+        ensures begins { TextBeginsAs (λ begun. outcome_from begun.0 begun.1.now) self.now front.now result }
+        ensures reading { BeginsAs (reading_of_text self.now) (λ begun. reading_from begun.0 begun.1.now) front.now
+            result }
+    {
         let search = match Search::new(alloc, self.assignments()) {
             Ok(search) => search,
             Err(_) => return Err(CaptureFault::Binding(want_of_memory())),
@@ -71,7 +112,7 @@ impl Binding {
         match read_front(alloc, front, search) {
             Ok(Some((front, search))) => {
                 match self.begin_body(alloc, front, &search, visitor) {
-                    Ok(text) => Ok(Ok(text)),
+                    Ok(begun) => Ok(Ok(begun)),
                     Err(fault) => Err(fault),
                 }
             }
@@ -81,18 +122,23 @@ impl Binding {
     }
 
     /// Begins to make the recording of the body behind some definitions, of whose variables this was found.
-    fn begin_body<F: StepVisitor>(
+    fn begin_body<'a, F: StepVisitor>(
         &self,
         alloc: Global,
-        front: Front<'_>,
+        front: Front<'a>,
         search: &Search<'_>,
         visitor: F,
-    ) -> Result<TextPieces<F>, CaptureFault>
-        ensures line { IfOk result (λ text. (text_reached text).body.line ≡ front.entry.line) }
+    ) -> Result<(TextPieces<F>, &'a [u8]), CaptureFault>
+        ensures line { IfOk result (λ begun.
+            line_behind (text_reached begun.0).body.line begun.1.now ≡ front.entry.line) }
         ensures rest { (variables : List Variable)
             → map seen_in search.now.sought.items ≡ fold with_variable (map unseen self.now.assignments) variables
-            → TextContinuesAs (λ text. outcome_ahead (text_reached text) []) result
+            → TextContinuesAs (λ begun. outcome_from begun.0 begun.1.now) result
             (λ more. recording_behind self.now (defined (going_on front.entry.head more) variables)) }
+        ensures reading { (variables : List Variable)
+            → map seen_in search.now.sought.items ≡ fold with_variable (map unseen self.now.assignments) variables
+            → TextContinuesAs (λ begun. reading_from begun.0 begun.1.now) result
+            (λ more. reading_behind self.now (defined (going_on front.entry.head more) variables)) }
     {
         match search.bound_groups(alloc) {
             Ok(bound_groups) => begin_bound_groups(
@@ -112,6 +158,29 @@ impl Binding {
 }
 
 impl<F: StepVisitor> TextPieces<F> {
+    /// Why the binding makes no recording of the dump, if it makes none.
+    pub fn binding_fault(&self) -> Option<BindFault>
+        ensures { result ≡ (text_reached self.now).fault }
+    {
+        self.fault
+    }
+
+    /// Takes the next piece of the text, which ends behind a space, or where the text does. With the first fault comes
+    /// what took the steps of the instants that a later time before it follows.
+    pub fn read_until_fault(self, alloc: Global, piece: &[u8]) -> Result<TextPieces<F>, Stopped<F>>
+        ensures fault { IfOk result (λ text. (text_reached text).fault ≡ (text_reached self).fault) }
+        ensures line { IfOk result (λ text. (text_reached text).body.line
+            ≡ line_behind (text_reached self).body.line piece.now) }
+        ensures rest { ReadingContinuesAs (λ text. reading_ahead (text_reached text) []) (λ f. F.recorded f) result
+            (reading_ahead (text_reached self) (tokens_from (text_reached self).body.line piece.now)) }
+    {
+        let TextPieces { pieces, fault } = self;
+        match pieces.read_until_fault(alloc, piece) {
+            Ok(pieces) => Ok(TextPieces { pieces, fault }),
+            Err(stopped) => Err(visitor_of(stopped)),
+        }
+    }
+
     /// Takes the next piece of the text, which ends behind a space, or where the text does.
     pub fn read(self, alloc: Global, piece: &[u8]) -> Result<TextPieces<F>, CaptureFault>
         ensures line { IfOk result (λ text. (text_reached text).body.line
@@ -133,6 +202,17 @@ impl<F: StepVisitor> TextPieces<F> {
             × ((text_reached self.now).body.bracket ≡ None) }
     {
         self.pieces.is_between_items()
+    }
+
+    /// What took the recording of the dump, of which nothing is left, whatever its binding has. With a fault, an item or
+    /// a bracket that isn't ended, comes what took the steps of the instants that a later time follows.
+    pub fn finish_or_stop(self, alloc: Global) -> Result<F, Stopped<F>>
+        ensures { ReadingEndsAs (λ f. F.recorded f) result (reading_ahead (text_reached self) [] []) }
+    {
+        match self.pieces.finish_or_stop(alloc) {
+            Ok(made) => Ok(made.into_visitor()),
+            Err(stopped) => Err(visitor_of(stopped)),
+        }
     }
 
     /// What took the recording of the text, of which nothing is left. A fault of the dump comes before one of the

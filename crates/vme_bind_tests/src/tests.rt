@@ -3,8 +3,10 @@ ghost use Rattle.std.specs.Prelude.{◌≡◌, []};
 use std::alloc::{AllocError, Global};
 use std::process::Abort;
 use std::test::Fail;
-use vcd_read::{FaultKind, read_vcd};
-use vme_bind::{BindFault, BindKind, Binding, CaptureFault, SpeculativeReader, read_binding};
+use vcd_read::{FaultKind, Stopped, VcdFault, read_vcd};
+use vme_bind::{
+    BindFault, BindKind, Binding, CaptureFault, SpeculativeReader, TextPieces, read_binding,
+};
 use vme_trace::{Capture, Level, Line, Lines, Step, StepVisitor};
 
 /// A binding of six lines to variables, and of the others to levels.
@@ -792,5 +794,108 @@ fn a_text_is_between_items_outside_of_brackets(rt: HostRuntime) -> Result<(), Fa
         text = text.read(alloc, piece.as_bytes())?;
         assert!(rt; text.is_between_items() == wanted, "{piece}");
     }
+    Ok(())
+}
+
+/// Begins to read the body of a dump whose definitions end in a front, and reads what the front has of it.
+fn stopped_in_front(
+    alloc: Global,
+    binding: &Binding,
+    front: &[u8],
+) -> Result<Result<TextPieces<KeptSteps>, Stopped<KeptSteps>>, Fail> {
+    let kept = none_kept(alloc, Lines::new(1).ok_or("no slots")?);
+    let begun = binding.begin_before_body(alloc, front, kept)?;
+    let (text, rest) = begun.ok().ok_or("no definitions")?;
+    Ok(text.read_until_fault(alloc, rest))
+}
+
+/// Where reading a body in pieces stops, of which the first is in the front.
+fn stopped_by(alloc: Global, body: [&str; 3]) -> Result<Stopped<KeptSteps>, Fail> {
+    let [first, second, third] = body;
+    let binding = bound(alloc, &[BUS_LINES])?;
+    let front = together(alloc, &[BUS, DECLARED, first])?;
+    let text = match stopped_in_front(alloc, &binding, front.as_slice())? {
+        Ok(text) => text,
+        Err(stopped) => return Ok(stopped),
+    };
+    let text = match text.read_until_fault(alloc, second.as_bytes()) {
+        Ok(text) => text,
+        Err(stopped) => return Ok(stopped),
+    };
+    let text = match text.read_until_fault(alloc, third.as_bytes()) {
+        Ok(text) => text,
+        Err(stopped) => return Ok(stopped),
+    };
+    Ok(text.finish_or_stop(alloc).err().ok_or("no fault")?)
+}
+
+/// Pieces of a body, the line and kind of its first fault, and the steps of the instants that end before it.
+const STOPS: [([&str; 3], u64, FaultKind, &str); 4] = [
+    (
+        [
+            "#0 1p 1q 1r 1s 1t 1u\n",
+            "#10 0p\n#20 0q\n",
+            "#30 0s 1x\n#40 1p\n",
+        ],
+        13,
+        FaultKind::UndeclaredCode,
+        "#0 AS=1 DS0=1 DS1=1 DTACK=1 BERR=1 IACK=1\n#10 AS=0\n#20 DS0=0\n",
+    ),
+    (
+        ["#0 1p 1q 1r 1s 1t 1u 2p\n", "", ""],
+        10,
+        FaultKind::BadToken,
+        "",
+    ),
+    (
+        ["", "#0 1p 1q 1r 1s 1t 1u\n#10 0p\n", "#5 1p\n"],
+        12,
+        FaultKind::TimeBackwards,
+        "#0 AS=1 DS0=1 DS1=1 DTACK=1 BERR=1 IACK=1\n",
+    ),
+    (
+        ["#0 1p 1q 1r 1s 1t 1u\n", "#10 0p\n#20\n", "$dumpvars 0q\n"],
+        13,
+        FaultKind::UnfinishedSection,
+        "#0 AS=1 DS0=1 DS1=1 DTACK=1 BERR=1 IACK=1\n#10 AS=0\n",
+    ),
+];
+
+#[test]
+fn a_fault_comes_with_the_steps_before_it(rt: HostRuntime) -> Result<(), Fail> {
+    let alloc = rt.alloc();
+    for (body, line, kind, steps) in STOPS {
+        let Stopped { fault, visitor } = stopped_by(alloc, body)?;
+        assert!(rt; fault == VcdFault { line, kind }, "{fault}");
+        let found = written(alloc, &visitor.steps)?;
+        assert!(rt; found.as_slice() == steps.as_bytes(), "line {line}");
+    }
+    Ok(())
+}
+
+/// The fault of a binding is known before any of the body is read, which may have a fault of its own.
+#[test]
+fn the_fault_of_a_binding_is_known_before_the_body(rt: HostRuntime) -> Result<(), Fail> {
+    let alloc = rt.alloc();
+    let binding = bound(alloc, &[BUS_LINES])?;
+    let front = together(alloc, &["$scope module bus $end\n", DECLARED, "#0 1q 2p\n"])?;
+    let kept = none_kept(alloc, Lines::new(1).ok_or("no slots")?);
+    let begun = binding.begin_before_body(alloc, front.as_slice(), kept)?;
+    let (text, rest) = begun.ok().ok_or("no definitions")?;
+    let wanted = BindFault {
+        line: 2,
+        kind: BindKind::NoSuchPath,
+    };
+    assert!(rt; text.binding_fault() == Some(wanted) && rest == b"#0 1q 2p\n");
+    let fault = text
+        .read_until_fault(alloc, rest)
+        .err()
+        .ok_or("no fault")?
+        .fault;
+    let wanted = VcdFault {
+        line: 9,
+        kind: FaultKind::BadToken,
+    };
+    assert!(rt; fault == wanted, "{fault}");
     Ok(())
 }

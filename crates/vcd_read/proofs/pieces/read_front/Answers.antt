@@ -7,20 +7,22 @@ use Rattle.vcd_read.proofs.pieces.read_front.Goals as goal
 pub returns-in-Ok-clause-header : goal.returns-in-Ok-clause-header
 returns-in-Ok-clause-header g c =
     let front = c.args.front.now in
+    let h = rw (c.new-reader.ensures.at, c.new-reader.ensures.text, c.new-reader.ensures.line) at
+    c.in-Ok.ensures.header in
     λ text more.
     found-front g.D.DeclarationVisitor.with_variable front text more
-    (nothing_declared (g.D.DeclarationVisitor.taken c.args.declarations)) (tokens front)
-    (defined c.in-Ok.head (g.D.DeclarationVisitor.taken c.in-Ok.declarations)) c.in-Ok.ensures
+    (nothing_declared (g.D.DeclarationVisitor.taken c.args.declarations)) (tokens front) _ h
 
 pub returns-in_default : goal.returns-in_default
 returns-in_default g c =
     let front = c.args.front.now in
+    let h = rw (c.new-reader.ensures.at, c.new-reader.ensures.text, c.new-reader.ensures.line) at
+    c.in-Err.ensures.header in
     record {
       line = tt;
       header = λ text more.
           failed-front g.D.DeclarationVisitor.with_variable front text more
           (nothing_declared (g.D.DeclarationVisitor.taken c.args.declarations)) (tokens front) c.in-Err.fault.line
           c.in-Err.fault.kind
-          (goes_on-else c.in-Err.fault.kind c.in_default.not-UnfinishedSection c.in_default.not-NoEndDefinitions)
-          c.in-Err.ensures;
+          (goes_on-else c.in-Err.fault.kind c.in_default.not-UnfinishedSection c.in_default.not-NoEndDefinitions) h;
     }

@@ -1,34 +1,19 @@
-use Rattle.std.proofs.Common.{◌++◌, []}
-use Rattle.vcd_read.specs.Fronts.{going_on}
-use Rattle.vcd_read.specs.Body.{body_from, ready}
-use Rattle.vcd_read.specs.Bodies.{ahead, place_of}
-use Rattle.vcd_read.specs.Taking.{at_first, steps, taking}
-use Rattle.vme_bind.specs.Made.{made_change, made_instant}
-use Rattle.vme_bind.specs.TextPieces.{body_outcome}
-use Rattle.vme_bind.proofs.TextCaptureLemmas.{body-outcome}
-use Rattle.vme_bind.proofs.TextPieceLemmas.{leads-outcome, fails-outcome}
+use Rattle.vcd_read.specs.Reached.{reached}
+use Rattle.vme_bind.specs.Made.{Made}
+use Rattle.vme_bind.proofs.TextPieceLemmas.{begun-outcome}
+use Rattle.vme_bind.proofs.TextReadingLemmas.{begun_reading}
 use Rattle.vme_bind.proofs.text_pieces.begin_bound_groups.Goals as goal
 
-pub returns-in-Ok-pieces-clause-rest : goal.returns-in-Ok-pieces-clause-rest
-returns-in-Ok-pieces-clause-rest g c =
-    let slots = c.args.lines.now.slots in
-    let bound_groups = c.args.bound_groups.now in
-    let head = c.args.front.head in
-    let p = c.in-Ok-pieces.pieces in
-    leads-outcome c.args.fault (λ _ more. ahead made_change made_instant p.codes
-    (taking p.underway.timed.visitor p.underway.timed.clock) p.underway.bracket (place_of p.underway.place) [] more) p
-    (λ more. body_outcome c.args.fault slots bound_groups (going_on head more))
-    (λ more. steps made_change made_instant head.nets (at_first c.in-Ok.made) (body_from ready (head.body ++ more)))
-    (λ more. body-outcome slots bound_groups (going_on head more) c.args.fault c.in-Ok.made c.in-Ok.ensures)
-    c.in-Ok-pieces.ensures.rest
+pub returns-in-Ok-clause-rest : goal.returns-in-Ok-clause-rest
+returns-in-Ok-clause-rest g c = λ more.
+    let read = c.before_body-pieces.ensures in
+    begun-outcome c.args.fault c.args.lines.now.slots c.args.bound_groups.now c.args.front.head c.in-Ok.made
+    (reached (λ (made : Made). made) c.before_body-pieces.result.0) _ more
+    c.in-Ok.ensures read.nets read.progress read.bracket read.place read.body
 
-pub returns-in-Err-pieces-clause-rest : goal.returns-in-Err-pieces-clause-rest
-returns-in-Err-pieces-clause-rest g c =
-    let slots = c.args.lines.now.slots in
-    let bound_groups = c.args.bound_groups.now in
-    let head = c.args.front.head in
-    fails-outcome c.args.fault c.in-Err-pieces.fault
-    (λ more. body_outcome c.args.fault slots bound_groups (going_on head more))
-    (λ more. steps made_change made_instant head.nets (at_first c.in-Ok.made) (body_from ready (head.body ++ more)))
-    (λ more. body-outcome slots bound_groups (going_on head more) c.args.fault c.in-Ok.made c.in-Ok.ensures)
-    c.in-Err-pieces.ensures.rest
+pub returns-in-Ok-clause-reading : goal.returns-in-Ok-clause-reading
+returns-in-Ok-clause-reading g c = λ more.
+    let read = c.before_body-pieces.ensures in
+    begun_reading c.args.fault c.args.lines.now.slots c.args.bound_groups.now c.args.front.head c.in-Ok.made
+    (reached (λ (made : Made). made) c.before_body-pieces.result.0) _ more
+    c.in-Ok.ensures read.nets read.progress read.bracket read.place read.body

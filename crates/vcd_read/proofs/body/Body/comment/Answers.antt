@@ -1,10 +1,10 @@
 use Rattle.std.proofs.Common.{◌++◌, ◌∙◌, List, refl, sym, ap, arith}
 use Rattle.vcd_read.specs.Tokens.{Token}
 use Rattle.vcd_read.specs.Reading.{line_of, left_at, token_at}
-use Rattle.vcd_read.specs.Bodies.{place_of}
+use Rattle.vcd_read.specs.Bodies.{place_of, until_fault}
 use Rattle.vcd_read.specs.Body.{in_comment}
 use Rattle.vcd_read.specs.declared.body_piece.BodyPiece.{BodyPiece}
-use Rattle.vcd_read.specs.Taking.{taking, state_of, steps}
+use Rattle.vcd_read.specs.Taking.{taking, state_of}
 use Rattle.vcd_read.proofs.BodyLemmas.{comment_end, comment_more, nothing_left, same_left}
 use Rattle.vcd_read.proofs.body.Body.comment.Goals as goal
 
@@ -20,7 +20,7 @@ returns-then-is_end-clause-rest g c =
     λ more.
     let ended = comment_end line (left_at text c.loop-word.self.reader.at ++ more) (left_at text after ++ more) t
     (ap (λ (ts : List Token). ts ++ more) cut) (sym c.is_end.ensures ∙ c.if-is_end.true) in
-    ap (steps g.T.ChangeVisitor.with_change g.T.ChangeVisitor.with_instant old.codes.now
+    ap (until_fault g.T.ChangeVisitor.with_change g.T.ChangeVisitor.with_instant old.codes.now
     (state_of old.reader.text (taking (g.T.ChangeVisitor.taken old.timed.visitor) old.timed.clock) old.bracket))
     (inv.rest more ∙ ended)
     ∙ same_left g.T.ChangeVisitor.with_change g.T.ChangeVisitor.with_instant old.codes.now c.loop-word.self.codes.now
@@ -61,7 +61,7 @@ returns-clause-rest g c =
     let end = rw inv.text at c.in_default.ensures.end in
     let s = state_of text (taking (g.T.ChangeVisitor.taken old.timed.visitor) old.timed.clock) old.bracket in
     λ more.
-    ap (steps g.T.ChangeVisitor.with_change g.T.ChangeVisitor.with_instant old.codes.now s) (inv.rest more)
+    ap (until_fault g.T.ChangeVisitor.with_change g.T.ChangeVisitor.with_instant old.codes.now s) (inv.rest more)
     ∙ nothing_left g.T.ChangeVisitor.with_change g.T.ChangeVisitor.with_instant old.codes.now s place
     (left_at text c.loop-word.self.reader.at) (left_at text after) none end more
     ∙ same_left g.T.ChangeVisitor.with_change g.T.ChangeVisitor.with_instant old.codes.now c.loop-word.self.codes.now

@@ -5,7 +5,7 @@ use Rattle.vcd_read.specs.Body.{skipped}
 use Rattle.vcd_read.specs.Meaning.{ReadGives}
 use Rattle.vcd_read.specs.Taking.{taking, state_of, step}
 use Rattle.vcd_read.specs.declared.body_piece.BodyPiece.{BodyPiece}
-use Rattle.vcd_read.proofs.BodyLemmas.{read_item, foreign_read}
+use Rattle.vcd_read.proofs.BodyLemmas.{read_item, foreign_read, keeps_same}
 use Rattle.vcd_read.proofs.body.Body.foreign.Goals as goal
 
 pub returns-in-Some-clause-rest : goal.returns-in-Some-clause-rest
@@ -26,3 +26,4 @@ returns-in-Some-clause-rest g c =
     (state_of text timed old.bracket) (state_of later timed old.bracket) text later after after old.place
     (skipped line t.bytes) _ c.skip.result
     refl c.in-Some.ensures.text refl c.requires.between is h
+    (keeps_same (g.T.ChangeVisitor.taken old.timed.visitor) c.skip.result)

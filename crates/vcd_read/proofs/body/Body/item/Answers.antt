@@ -4,7 +4,8 @@ use Rattle.vcd_read.specs.Reading.{left_at, token_at}
 use Rattle.vcd_read.specs.Body.{time_item, change, bracket_open, bracket_end, time_shape, scalar, vector, foreign}
 use Rattle.vcd_read.specs.Body.{comment, open_shape, end_shape, none}
 use Rattle.vcd_read.specs.Shapes.{found_shape}
-use Rattle.vcd_read.specs.Taking.{taking, state_of, steps}
+use Rattle.vcd_read.specs.Bodies.{until_fault}
+use Rattle.vcd_read.specs.Taking.{taking, state_of}
 use Rattle.vcd_read.proofs.BodyLemmas.{read_item, shape_read, leaves_same, read_wrong}
 use Rattle.vcd_read.proofs.body.Body.item.Goals as goal
 
@@ -20,7 +21,7 @@ returns-in-Time-clause-rest g c =
     (state_of old.reader.text (taking (g.T.ChangeVisitor.taken old.timed.visitor) old.timed.clock) old.bracket)
     (state_of new.reader.text (taking (g.T.ChangeVisitor.taken new.timed.visitor) new.timed.clock) new.bracket) text
     new.reader.text old.reader.at new.reader.at new.place (time_item t.line c.in-Time.digits.now) _ c.time.result
-    (cc) (cc) (cc) (cc) is c.time.ensures.step
+    (cc) (cc) (cc) (cc) is c.time.ensures.step c.time.ensures.kept
 
 pub returns-in-Scalar-clause-rest : goal.returns-in-Scalar-clause-rest
 returns-in-Scalar-clause-rest g c =
@@ -35,7 +36,7 @@ returns-in-Scalar-clause-rest g c =
     (state_of new.reader.text (taking (g.T.ChangeVisitor.taken new.timed.visitor) new.timed.clock) new.bracket) text
     new.reader.text old.reader.at new.reader.at new.place (change t.line c.in-Scalar.digit.now c.in-Scalar.code.now) _
     c.change.result
-    (cc) (cc) (cc) (cc) is c.change.ensures.step
+    (cc) (cc) (cc) (cc) is c.change.ensures.step c.change.ensures.kept
 
 pub returns-in-Opens-clause-rest : goal.returns-in-Opens-clause-rest
 returns-in-Opens-clause-rest g c =
@@ -49,7 +50,7 @@ returns-in-Opens-clause-rest g c =
     (state_of old.reader.text (taking (g.T.ChangeVisitor.taken old.timed.visitor) old.timed.clock) old.bracket)
     (state_of new.reader.text (taking (g.T.ChangeVisitor.taken new.timed.visitor) new.timed.clock) new.bracket) text
     new.reader.text old.reader.at new.reader.at new.place (bracket_open t.line) _ c.open.result
-    (cc) (cc) (cc) (cc) is c.open.ensures.step
+    (cc) (cc) (cc) (cc) is c.open.ensures.step c.open.ensures.kept
 
 pub returns-in-Ends-clause-rest : goal.returns-in-Ends-clause-rest
 returns-in-Ends-clause-rest g c =
@@ -63,7 +64,7 @@ returns-in-Ends-clause-rest g c =
     (state_of old.reader.text (taking (g.T.ChangeVisitor.taken old.timed.visitor) old.timed.clock) old.bracket)
     (state_of new.reader.text (taking (g.T.ChangeVisitor.taken new.timed.visitor) new.timed.clock) new.bracket) text
     new.reader.text old.reader.at new.reader.at new.place (bracket_end t.line) _ c.close.result
-    (cc) (cc) (cc) (cc) is c.close.ensures.step
+    (cc) (cc) (cc) (cc) is c.close.ensures.step c.close.ensures.kept
 
 pub returns-in-Vector-clause-rest : goal.returns-in-Vector-clause-rest
 returns-in-Vector-clause-rest g c =
@@ -72,8 +73,8 @@ returns-in-Vector-clause-rest g c =
     let t = token_at text c.args.token.at c.args.token.bytes.now in
     let is = λ (more : List Token). shape_read t (left_at text old.reader.at ++ more) (vector c.in-Vector.digits.now)
     (sym (ap found_shape c.in-Vector.is) ∙ c.shape_of.ensures) in
-    leaves_same _ _ _ c.vector.result (λ more. ap (steps g.T.ChangeVisitor.with_change g.T.ChangeVisitor.with_instant
-    old.codes.now (state_of old.reader.text (taking (g.T.ChangeVisitor.taken old.timed.visitor) old.timed.clock)
+    leaves_same _ _ _ _ c.vector.result (λ more. ap (until_fault g.T.ChangeVisitor.with_change
+    g.T.ChangeVisitor.with_instant old.codes.now (state_of old.reader.text (taking (g.T.ChangeVisitor.taken old.timed.visitor) old.timed.clock)
     old.bracket)) (is more)) c.vector.ensures.rest
 
 pub returns-in-Foreign-clause-rest : goal.returns-in-Foreign-clause-rest
@@ -83,8 +84,8 @@ returns-in-Foreign-clause-rest g c =
     let t = token_at text c.args.token.at c.args.token.bytes.now in
     let is = λ (more : List Token). shape_read t (left_at text old.reader.at ++ more) foreign
     (sym (ap found_shape c.in-Foreign.is) ∙ c.shape_of.ensures) in
-    leaves_same _ _ _ c.foreign.result (λ more. ap (steps g.T.ChangeVisitor.with_change g.T.ChangeVisitor.with_instant
-    old.codes.now (state_of old.reader.text (taking (g.T.ChangeVisitor.taken old.timed.visitor) old.timed.clock)
+    leaves_same _ _ _ _ c.foreign.result (λ more. ap (until_fault g.T.ChangeVisitor.with_change
+    g.T.ChangeVisitor.with_instant old.codes.now (state_of old.reader.text (taking (g.T.ChangeVisitor.taken old.timed.visitor) old.timed.clock)
     old.bracket)) (is more)) c.foreign.ensures.rest
 
 pub returns-in-Comment-clause-rest : goal.returns-in-Comment-clause-rest
@@ -94,8 +95,8 @@ returns-in-Comment-clause-rest g c =
     let t = token_at text c.args.token.at c.args.token.bytes.now in
     let is = λ (more : List Token). shape_read t (left_at text old.reader.at ++ more) comment
     (sym (ap found_shape c.in-Comment.is) ∙ c.shape_of.ensures) in
-    leaves_same _ _ _ c.comment.result (λ more. ap (steps g.T.ChangeVisitor.with_change g.T.ChangeVisitor.with_instant
-    old.codes.now (state_of old.reader.text (taking (g.T.ChangeVisitor.taken old.timed.visitor) old.timed.clock)
+    leaves_same _ _ _ _ c.comment.result (λ more. ap (until_fault g.T.ChangeVisitor.with_change
+    g.T.ChangeVisitor.with_instant old.codes.now (state_of old.reader.text (taking (g.T.ChangeVisitor.taken old.timed.visitor) old.timed.clock)
     old.bracket)) (is more)) c.comment.ensures.rest
 
 pub returns-in-Unknown-clause-rest : goal.returns-in-Unknown-clause-rest

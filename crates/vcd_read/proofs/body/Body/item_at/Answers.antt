@@ -23,7 +23,7 @@ returns-in-Some-clause-rest g c =
     (state_of old.reader.text (taking (g.T.ChangeVisitor.taken old.timed.visitor) old.timed.clock) old.bracket)
     (state_of new.reader.text (taking (g.T.ChangeVisitor.taken new.timed.visitor) new.timed.clock) new.bracket) text
     new.reader.text after new.reader.at new.place (time_item t.line digits) _ c.go_to.result
-    (cc) (cc) (cc) (cc) is step
+    (cc) (cc) (cc) (cc) is step c.go_to.ensures.kept
 
 pub returns-in-Some-short_change-clause-rest : goal.returns-in-Some-short_change-clause-rest
 returns-in-Some-short_change-clause-rest g c =
@@ -48,7 +48,7 @@ returns-in-Some-short_change-clause-rest g c =
     (state_of old.reader.text (taking (g.T.ChangeVisitor.taken old.timed.visitor) old.timed.clock) old.bracket)
     (state_of new.reader.text (taking (g.T.ChangeVisitor.taken new.timed.visitor) new.timed.clock) new.bracket) text
     new.reader.text after new.reader.at new.place (change t.line digit code) _ c.change.result
-    (cc) (cc) (cc) (cc) is step
+    (cc) (cc) (cc) (cc) is step c.change.ensures.kept
 
 pub returns-in-Some-vector_digits-clause-rest : goal.returns-in-Some-vector_digits-clause-rest
 returns-in-Some-vector_digits-clause-rest g c =
@@ -61,7 +61,7 @@ returns-in-Some-vector_digits-clause-rest g c =
       c.in_default.ensures.text,
       c.in_default.ensures.none,
     ) at c.in-Some-vector_digits.ensures.token in
-    leaves_same _ _ _ c.vector.result
+    leaves_same _ _ _ _ c.vector.result
     (vector_left g.T.ChangeVisitor.with_change g.T.ChangeVisitor.with_instant old.codes.now text
     c.vector_digits.new.self.text (taking (g.T.ChangeVisitor.taken old.timed.visitor) old.timed.clock) old.bracket
     old.reader.at c.args.at c.vector_digits.new.self.at read.bytes.now read.digits.now
@@ -81,7 +81,7 @@ returns-clause-rest g c =
       c.in_default.ensures.text,
       c.in_default.ensures.none,
     ) at c.word-bytes.ensures.token in
-    leaves_same _ _ _ c.item.result
+    leaves_same _ _ _ _ c.item.result
     (token_left g.T.ChangeVisitor.with_change g.T.ChangeVisitor.with_instant old.codes.now text
     c.word-bytes.new.self.text (taking (g.T.ChangeVisitor.taken old.timed.visitor) old.timed.clock) old.bracket
     old.reader.at c.args.at c.word-bytes.new.self.at c.word-bytes.result.now

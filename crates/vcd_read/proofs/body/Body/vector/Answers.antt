@@ -21,4 +21,4 @@ returns-in-Some-clause-rest g c =
     (state_of old.reader.text (taking (g.T.ChangeVisitor.taken old.timed.visitor) old.timed.clock) old.bracket)
     (state_of new.reader.text (taking (g.T.ChangeVisitor.taken new.timed.visitor) new.timed.clock) new.bracket) text
     new.reader.text after new.reader.at new.place (change line c.args.digits.now t.bytes) _ c.change.result
-    (cc) (cc) (cc) (cc) is h
+    (cc) (cc) (cc) (cc) is h c.change.ensures.kept

@@ -1,14 +1,6 @@
-use Rattle.std.proofs.Common.{◌∙◌, Ok, ap, sym}
-use Rattle.vcd_read.specs.Taking.{taking}
-use Rattle.vcd_read.proofs.BodyLemmas.{finished-ok, unfinished_fails}
+use Rattle.vcd_read.proofs.BodyLemmas.{stopped_fails}
 use Rattle.vcd_read.proofs.body_state.BodyState.finish.Goals as goal
 
-pub returns-in-Some : goal.returns-in-Some
-returns-in-Some g c = λ nets. unfinished_fails g.T.ChangeVisitor.with_change g.T.ChangeVisitor.with_instant nets
-    (taking (g.T.ChangeVisitor.taken c.args.self.timed.visitor) c.args.self.timed.clock) c.args.self.bracket
-    c.args.self.place c.in-Some.line (sym c.in-Some.ensures)
-
-pub returns : goal.returns
-returns g c = λ nets. finished-ok g.T.ChangeVisitor.with_change g.T.ChangeVisitor.with_instant nets
-    (taking (g.T.ChangeVisitor.taken c.args.self.timed.visitor) c.args.self.timed.clock) c.args.self.bracket
-    c.args.self.place (sym c.in_default.ensures) ∙ ap Ok (sym c.in_ok-finish.ensures)
+pub returns-in-Err : goal.returns-in-Err
+returns-in-Err g c = λ nets. stopped_fails c.in-Err.stopped.fault.line c.in-Err.stopped.fault.kind _ _ _
+    (c.in-Err.ensures nets)

@@ -1,0 +1,23 @@
+use Rattle.std.proofs.Common.{◌∙◌, ap, List}
+use denote.Ref.{Bor}
+use Rattle.vcd_read.specs.Header.{Net}
+use Rattle.vcd_read.specs.Bodies.{place_of}
+use Rattle.vcd_read.specs.Reading.{left_at}
+use Rattle.vcd_read.specs.Taking.{taking, state_of}
+use Rattle.vcd_read.proofs.BodyLemmas.{nothing_behind}
+use Rattle.vcd_read.proofs.body.read_until_fault.Goals as goal
+
+pub returns-in-Ok : goal.returns-in-Ok
+returns-in-Ok g c =
+    let end = c.all.new.self in
+    λ more.
+    rw (c.end.ensures.taken, c.end.ensures.clock, c.end.ensures.bracket, c.end.ensures.place) (
+    (rw (c.on_line.ensures.line c.args.reader.text) at c.in-Ok.ensures.rest more)
+    ∙ nothing_behind g.T.ChangeVisitor.with_change g.T.ChangeVisitor.with_instant c.args.codes.now end.codes.now
+    (state_of end.reader.text (taking (g.T.ChangeVisitor.taken end.timed.visitor) end.timed.clock) end.bracket)
+    (place_of end.place) (left_at end.reader.text end.reader.at) (ap (λ (codes : Bor (List Net)). codes.now)
+    c.in-Ok.ensures.codes) c.in-Ok.ensures.end more)
+
+pub returns-in-Err : goal.returns-in-Err
+returns-in-Err g c = λ more.
+    rw c.into_visitor.ensures (rw (c.on_line.ensures.line c.args.reader.text) at c.in-Err.ensures.rest more)

@@ -1,0 +1,204 @@
+-- What reading the text of a dump by a binding comes to, from what is read of it.
+use Rattle.std.proofs.Common.{◌≡◌, ℕ, ◌-◌, List, [], ◌++◌, length, false, Option, Some, None, Result, Ok, Err, refl, sym}
+use Rattle.std.proofs.Common.{ap, ◌∙◌}
+use Rattle.std.specs.List.{fold}
+use Rattle.std.proofs.lemmas.List.{append-nil}
+use Rattle.vme_trace.specs.Trace.{Trace}
+use Rattle.vcd_read.specs.Body.{BodyItem, BodyPlace, ready, code_of_vector, code_of_foreign, in_comment, body_from}
+use Rattle.vcd_read.specs.Bodies.{StoppedAs, UntilFault, until_fault}
+use Rattle.vcd_read.specs.Fronts.{IsMetAtTheEnd, going_on}
+use Rattle.vcd_read.specs.Header.{◌>>=◌, Net, nothing_declared}
+use Rattle.vcd_read.specs.Meaning.{ReadFails, ReadFailsAs, instants_before_fault, instants_from}
+use Rattle.vcd_read.specs.Reached.{Reached, rest_until_fault}
+use Rattle.vcd_read.specs.Sections.{Headed, Defined, defined, header_of}
+use Rattle.vcd_read.specs.Taking.{State, Taking, at_end, at_first, reached_before, state_at, taken_from}
+use Rattle.vcd_read.specs.Tokens.{Token, tokens}
+use Rattle.vcd_read.specs.declared.dump.Bit.{Bit}
+use Rattle.vcd_read.specs.declared.dump.Instant.{Instant}
+use Rattle.vcd_read.specs.declared.dump.Variable.{Variable}
+use Rattle.vcd_read.specs.declared.fault.FaultKind.{FaultKind}
+use Rattle.vcd_read.specs.declared.fault.FaultKind.TheVariants.{Memory, NoEndDefinitions, UnfinishedSection}
+use Rattle.vcd_read.specs.declared.fault.VcdFault.{VcdFault}
+use Rattle.vcd_read.proofs.BeforeFaultLemmas.{before_fault}
+use Rattle.vcd_read.proofs.DumpLemmas.{whole_header}
+use Rattle.vcd_read.proofs.DefinedLemmas.{header_taken, taken_head}
+use Rattle.vcd_read.proofs.InstantsLaw.{at_start}
+use Rattle.vcd_read.proofs.TakingLemmas.{Ends, gives-followed, reached-follows}
+use Rattle.vme_bind.specs.declared.bound_groups.BoundGroup.{BoundGroup}
+use Rattle.vme_bind.specs.declared.fault.BindFault.{BindFault}
+use Rattle.vme_bind.specs.declared.fault.CaptureFault.{CaptureFault}
+use Rattle.vme_bind.specs.declared.fault.CaptureFault.TheVariants.{Dump, Binding}
+use Rattle.vme_bind.specs.Binding.{BoundLines}
+use Rattle.vme_bind.specs.BoundGroups.{bound_groups_in}
+use Rattle.vme_bind.specs.Capture.{recording}
+use Rattle.vme_bind.specs.Made.{IsBegun, Made, made_change, made_instant}
+use Rattle.vme_bind.specs.PathSearch.{Searched, with_variable}
+use Rattle.vme_bind.specs.TextCapture.{CaptureFailsBy, DumpFails, or_binding, or_dump}
+use Rattle.vme_bind.specs.TextReading.{StopsAs, TextReading, body_reading, or_fault, reading_behind, reading_by}
+use Rattle.vme_bind.specs.TextReading.{reading_made, reading_of_text, reading_until_fault}
+use Rattle.vme_bind.proofs.MakingLemmas.{Makes, makes-first, makes-change, makes-instant}
+use Rattle.vme_bind.proofs.TextCaptureLemmas.{IsMadeOf, builder-follows, fails_back, follow_err, instants_in}
+use Rattle.vme_bind.proofs.TextCaptureLemmas.{whole-of}
+
+-- ---- where a body stops
+
+-- a fault of a piece, and what took the recording before it
+pub piece_stops : (line : ℕ) (kind : FaultKind) (made : Made) (recorded : Trace) (read : UntilFault Made) → recorded
+    ≡ made.recorded
+    → StoppedAs line kind made read.reached.progress.taken read.outcome
+    → StopsAs line kind recorded (reading_until_fault read)
+piece_stops line Memory made recorded read e h = h
+piece_stops line kind made recorded read e h =
+    ap (λ (r : Result (State Made) VcdFault). reading_made read.reached.progress.taken.recorded
+    (r >>= at_end made_instant)) h.0
+    ∙ ap (λ (t : Trace). reading_made t (Err (record { line = line; kind = kind })))
+    (sym (e ∙ ap (λ (m : Made). m.recorded) h.1))
+
+-- nothing more is taken where nothing is left
+none_ahead : (nets : List Net) (timed : Taking Made) (bracket : Option ℕ) (place : BodyPlace)
+    → (reached_before made_change made_instant nets (state_at timed bracket) (body_from place [])).progress.taken
+    ≡ timed.taken
+unfolding reached_before body_from
+none_ahead nets timed bracket ready = refl
+none_ahead nets timed bracket (code_of_vector line digits) = refl
+none_ahead nets timed bracket (code_of_foreign line) = refl
+none_ahead nets timed bracket (in_comment line) = refl
+
+-- a fault at the end
+pub end_stops : (line : ℕ) (kind : FaultKind) (made : Made) (recorded : Trace) (r : Reached Made) → recorded
+    ≡ made.recorded
+    → StoppedAs line kind made r.progress.taken ((rest_until_fault made_change made_instant r [] []).outcome
+    >>= at_end made_instant)
+    → StopsAs line kind recorded (reading_until_fault (rest_until_fault made_change made_instant r [] []))
+end_stops line Memory made recorded r e h = h
+end_stops line kind made recorded r e h =
+    let read : UntilFault Made = rest_until_fault made_change made_instant r [] [] in
+    ap (reading_made read.reached.progress.taken.recorded) h.0
+    ∙ ap (λ (t : Trace). reading_made t (Err (record { line = line; kind = kind })))
+    (ap (λ (m : Made). m.recorded) (none_ahead r.nets r.progress r.bracket r.place ∙ sym h.1) ∙ sym e)
+
+-- no fault at the end
+pub ended_reading : (complete recorded : Trace) (made : Made) (r : Result Made VcdFault) → recorded ≡ made.recorded → r
+    ≡ Ok made
+    → reading_made complete r ≡ record { recorded = recorded; fault = None }
+ended_reading complete recorded made r e is = ap (reading_made complete) is
+    ∙ ap (λ (t : Trace). record { recorded = t; fault = None }) (sym e)
+
+-- ---- a body
+
+module _ (slots : ℕ) (bound_groups : List BoundGroup) (h : Headed) (m : Made) (begun : IsBegun slots bound_groups m)
+  where
+    abbrev items : List BodyItem
+    items = body_from ready h.body
+
+    abbrev read : UntilFault Made
+    read = until_fault made_change made_instant h.nets (at_first m) items
+
+    -- what is recorded before the first fault
+    recorded_before : (reached_before made_change made_instant h.nets (at_first m) items).progress.taken.recorded
+        ≡ recording slots bound_groups (instants_before_fault h.nets h.body)
+        (length (instants_before_fault h.nets h.body) - 1)
+    recorded_before =
+        let all : List Instant = instants_before_fault h.nets h.body in
+        let count = length h.nets in
+        let follows = reached-follows made_change made_instant h.nets (Makes slots bound_groups count all)
+        (λ done current a net bits lt made. makes-change slots bound_groups count all done current a net bits lt made)
+        (λ done current a time made. makes-instant slots bound_groups count all done current a time made)
+        items (at_start h.nets) m (makes-first slots bound_groups count all m begun) in
+        let before = before_fault h.nets items in
+        let made = follows.2 before.0 before.1 in
+        ap (λ (s : State Made). s.progress.taken.recorded) follows.1
+        ∙ made.recorded
+        ∙ ap (λ (n : ℕ). recording slots bound_groups all n) before.2
+
+    abbrev whole_reading : Trace → TextReading
+    whole_reading t = record { recorded = t; fault = None }
+
+    by_taken : (taken : Result Made VcdFault) → taken_from made_change made_instant h.nets m h.body ≡ taken
+        → body_reading slots bound_groups h ≡ reading_made read.reached.progress.taken.recorded taken
+    by_taken (Ok end) e =
+        let gives = gives-followed (Ends (IsMadeOf slots bound_groups h)) (instants_from h.nets h.body) _ end
+        (builder-follows slots bound_groups h m begun) e in
+        let instants : List Instant = gives.0 in
+        let all : instants_in (instants_from h.nets h.body) ≡ instants = ap instants_in gives.1 in
+        let made = gives.2.1 [] (all ∙ sym (append-nil instants)) in
+        ap (reading_by slots bound_groups h) gives.1
+        ∙ ap (λ (xs : List Instant). whole_reading (recording slots bound_groups xs (length instants))) (sym all)
+        ∙ ap whole_reading (sym made.recorded)
+    by_taken (Err fault) e =
+        ap (reading_by slots bound_groups h)
+        (follow_err slots bound_groups h (instants_from h.nets h.body) _ fault (builder-follows slots bound_groups h m
+        begun) e)
+        ∙ ap (λ (t : Trace). reading_made t (Err fault)) (sym recorded_before)
+
+    -- a body comes to what is made of it
+    pub body_read : body_reading slots bound_groups h ≡ reading_until_fault read
+    body_read = by_taken (taken_from made_change made_instant h.nets m h.body) refl
+
+-- the same, where nothing of it is read yet
+pub begun_reading : (own : Option BindFault) (slots : ℕ) (bound_groups : List BoundGroup) (head : Headed) (made : Made)
+    (r : Reached Made) (first more : List Token) → IsBegun slots bound_groups made → r.nets ≡ head.nets
+    → r.progress ≡ record { taken = made; time = 0; begun = false } → r.bracket ≡ None → r.place ≡ ready
+    → first ≡ head.body
+    → or_fault own (body_reading slots bound_groups (going_on head more))
+    ≡ or_fault own (reading_until_fault (rest_until_fault made_change made_instant r first more))
+begun_reading own slots bound_groups head made r first more begun nets progress bracket place body =
+    rw (nets, progress, bracket, place, body)
+    (ap (or_fault own) (body_read slots bound_groups (going_on head more) made begun))
+
+-- ---- a text
+
+-- a body whose binding fits, and one whose doesn't
+pub reading_fits : (b : BoundLines) (h : Headed) (variables : List Variable) (bound_groups : List BoundGroup)
+    → bound_groups_in variables b.assignments ≡ Ok bound_groups
+    → reading_behind b (defined h variables) ≡ or_fault None (body_reading b.slots bound_groups h)
+reading_fits b h variables bound_groups e = ap (λ (r : Result (List BoundGroup) BindFault). or_binding r
+    >>= λ bound_groups. Ok (body_reading b.slots bound_groups h)) e
+
+pub reading_refused : (b : BoundLines) (h : Headed) (variables : List Variable) (own : BindFault) → bound_groups_in
+    variables b.assignments ≡ Err own
+    → reading_behind b (defined h variables) ≡ Err (Binding own)
+reading_refused b h variables own e = ap (λ (r : Result (List BoundGroup) BindFault). or_binding r
+    >>= λ bound_groups. Ok (body_reading b.slots bound_groups h)) e
+
+abbrev read_of : BoundLines → Result (Defined (List Variable)) VcdFault → Result TextReading CaptureFault
+read_of b r = or_dump r >>= reading_behind b
+
+-- a fault of the definitions
+pub head_fails : (b : BoundLines) (text : List ℕ) (seen : List Searched) (fault : VcdFault) → ReadFails fault
+    (header_of with_variable text (nothing_declared seen) (tokens text)) → CaptureFailsBy (Dump fault)
+    (reading_of_text b text)
+unfolding reading_of_text
+head_fails b text seen fault h =
+    by_kind fault.line fault.kind
+    (fails_back fault.line fault.kind (whole_header text) (taken_head with_variable seen)
+    (rw (header_taken with_variable text seen) at h))
+  where
+    by_kind : (line : ℕ) (kind : FaultKind) → ReadFailsAs line kind (whole_header text) → DumpFails line kind
+        (reading_of_text b text)
+    by_kind line Memory e = e
+    by_kind line kind e = ap (read_of b) e
+
+-- definitions that don't end
+pub unfinished_reading : (b : BoundLines) (front : List ℕ) (seen : List Searched) (fault : VcdFault)
+    → header_of with_variable front (nothing_declared seen) (tokens front) ≡ Err fault
+    → IsMetAtTheEnd fault.kind → reading_of_text b front ≡ Err (Dump fault)
+unfinished_reading b front seen fault is met = by_kind fault.line fault.kind is met
+  where
+    by_kind : (line : ℕ) (kind : FaultKind) → header_of with_variable front (nothing_declared seen) (tokens front)
+        ≡ Err (record { line = line; kind = kind })
+        → IsMetAtTheEnd kind → reading_of_text b front ≡ Err (Dump (record { line = line; kind = kind }))
+    by_kind line NoEndDefinitions is met = head_fails b front seen (record { line = line; kind = NoEndDefinitions }) is
+    by_kind line UnfinishedSection is met = head_fails b front seen (record { line = line; kind = UnfinishedSection })
+        is
+    by_kind line kind is met = absurd met
+
+-- the body behind the definitions
+pub reading_is : (b : BoundLines) (text : List ℕ) (h : Headed) (first seen : List Searched) → header_of with_variable
+    text (nothing_declared first) (tokens text) ≡ Ok (defined h seen)
+    → (variables : List Variable) × (seen ≡ fold with_variable first variables)
+    × (reading_of_text b text ≡ reading_behind b (defined h variables))
+unfolding reading_of_text
+reading_is b text h first seen head =
+    let whole = whole-of text h first seen head in
+    (whole.0, whole.2, ap (read_of b) whole.1)

@@ -1,0 +1,102 @@
+-- What reading the text of a dump by a binding comes to, also where it has a fault.
+use Rattle.std.specs.Prelude.{◌≡◌, ℕ, ◌-◌, List, [], length, Option, None, Some, Result, Ok, Err}
+use Rattle.vme_trace.specs.Trace.{Trace}
+use Rattle.vme_trace.specs.declared.step_visitor.StepVisitor.{Ghosts}
+use Rattle.vcd_read.specs.Bodies.{UntilFault}
+use Rattle.vcd_read.specs.Header.{◌>>=◌, appended, nothing_declared}
+use Rattle.vcd_read.specs.Meaning.{instants_before_fault, instants_from}
+use Rattle.vcd_read.specs.Reached.{rest_until_fault}
+use Rattle.vcd_read.specs.Sections.{Defined, Headed, header_of}
+use Rattle.vcd_read.specs.Taking.{at_end}
+use Rattle.vcd_read.specs.Tokens.{Token, tokens, tokens_from}
+use Rattle.vcd_read.specs.declared.dump.Instant.{Instant}
+use Rattle.vcd_read.specs.declared.dump.Variable.{Variable}
+use Rattle.vcd_read.specs.declared.fault.FaultKind.{FaultKind}
+use Rattle.vcd_read.specs.declared.fault.FaultKind.TheVariants.{Memory}
+use Rattle.vcd_read.specs.declared.fault.VcdFault.{VcdFault}
+use Rattle.vcd_read.specs.declared.stopped.Stopped.{Stopped}
+use Rattle.vme_bind.specs.declared.bound_groups.BoundGroup.{BoundGroup}
+use Rattle.vme_bind.specs.declared.fault.BindFault.{BindFault}
+use Rattle.vme_bind.specs.declared.fault.CaptureFault.{CaptureFault}
+use Rattle.vme_bind.specs.declared.fault.CaptureFault.TheVariants.{Dump, Binding}
+use Rattle.vme_bind.specs.Binding.{BoundLines}
+use Rattle.vme_bind.specs.BoundGroups.{bound_groups_in}
+use Rattle.vme_bind.specs.Capture.{recording}
+use Rattle.vme_bind.specs.Made.{Made, made_change, made_instant}
+use Rattle.vme_bind.specs.TextCapture.{or_binding, or_dump}
+use Rattle.vme_bind.specs.TextPieces.{TextReached, text_reached}
+use Rattle.vme_bind.specs.declared.text_state.TextPieces.{TextPieces}
+
+-- The recording of the instants of a body that are complete, and the first fault of the body, if it has one.
+pub record TextReading : Type 0 where
+  pub recorded : Trace
+  pub fault : Option VcdFault
+
+-- all instants are complete where there is no fault; with one, those before it are, but for the last: no later time
+-- follows that
+abbrev pub reading_by : ℕ → List BoundGroup → Headed → Result (List Instant) VcdFault → TextReading
+reading_by slots bound_groups h (Ok instants) =
+    record { recorded = recording slots bound_groups instants (length instants); fault = None }
+reading_by slots bound_groups h (Err fault) =
+    let instants = instants_before_fault h.nets h.body in
+    record { recorded = recording slots bound_groups instants (length instants - 1); fault = Some fault }
+
+abbrev pub body_reading : ℕ → List BoundGroup → Headed → TextReading
+body_reading slots bound_groups h = reading_by slots bound_groups h (instants_from h.nets h.body)
+
+-- what comes of the body behind some definitions: a fault of the binding is met before it
+abbrev pub reading_behind : BoundLines → Defined (List Variable) → Result TextReading CaptureFault
+reading_behind b d = or_binding (bound_groups_in d.variables b.assignments) >>= λ bound_groups. Ok
+    (body_reading b.slots bound_groups d.head)
+
+-- what comes of a whole text: a fault of its definitions is met first
+unfoldable pub reading_of_text : BoundLines → List ℕ → Result TextReading CaptureFault
+reading_of_text b text = or_dump (header_of appended text (nothing_declared []) (tokens text)) >>= reading_behind b
+
+-- ---- the same, as it is made
+
+-- where this is recorded of the instants that a later time follows
+abbrev pub reading_made : Trace → Result Made VcdFault → TextReading
+reading_made complete (Ok made) = record { recorded = made.recorded; fault = None }
+reading_made complete (Err fault) = record { recorded = complete; fault = Some fault }
+
+-- what comes of a body that is read so
+abbrev pub reading_until_fault : UntilFault Made → TextReading
+reading_until_fault read = reading_made read.reached.progress.taken.recorded (read.outcome >>= at_end made_instant)
+
+-- what comes of these tokens, and more behind them, where the recording is made so far
+abbrev pub reading_ahead : TextReached → List Token → List Token → TextReading
+reading_ahead t tokens more = reading_until_fault (rest_until_fault made_change made_instant t.body tokens more)
+
+-- the same where the front of the text has this of the body: a fault of the binding is met before it
+abbrev pub or_fault : Option BindFault → TextReading → Result TextReading CaptureFault
+or_fault None reading = Ok reading
+or_fault (Some fault) reading = Err (Binding fault)
+
+abbrev pub reading_from : {F : Type 0} {follows : Ghosts F} → TextPieces F follows → List ℕ → List Token
+    → Result TextReading CaptureFault
+reading_from text piece more =
+    let reached = text_reached text in
+    or_fault reached.fault (reading_ahead reached (tokens_from reached.body.line piece) more)
+
+-- ---- what a reader answers
+
+-- this is the first fault, and this is recorded before it, unless memory ran out
+abbrev pub StopsAs : ℕ → FaultKind → Trace → TextReading → Type 0
+StopsAs line Memory recorded reading = line ≡ 0
+StopsAs line kind recorded reading =
+    reading ≡ record { recorded = recorded; fault = Some (record { line = line; kind = kind }) }
+
+abbrev pub IsStopped : {F : Type 0} → (F → Trace) → Stopped F → TextReading → Type 0
+IsStopped recorded stopped reading = StopsAs stopped.fault.line stopped.fault.kind (recorded stopped.visitor) reading
+
+-- what was read to leaves what comes of the text, whatever follows, or it is read up to its first fault
+abbrev pub ReadingContinuesAs : {F X : Type 0} → (X → List Token → TextReading) → (F → Trace) → Result X (Stopped F)
+    → (List Token → TextReading) → Type 0
+ReadingContinuesAs view recorded (Ok x) before = (more : List Token) → before more ≡ view x more
+ReadingContinuesAs view recorded (Err stopped) before = (more : List Token) → IsStopped recorded stopped (before more)
+
+-- what a text comes to whose end is met
+abbrev pub ReadingEndsAs : {F : Type 0} → (F → Trace) → Result F (Stopped F) → TextReading → Type 0
+ReadingEndsAs recorded (Ok visitor) reading = reading ≡ record { recorded = recorded visitor; fault = None }
+ReadingEndsAs recorded (Err stopped) reading = IsStopped recorded stopped reading
