@@ -10,7 +10,8 @@ use Rattle.vcd_read.specs.Header.{◌>>=◌, Net}
 use Rattle.vcd_read.specs.Body.{BodyItem, time_item, change, skipped, bracket_open, bracket_end, wrong, Standing}
 use Rattle.vcd_read.specs.Body.{first_standing, stand_after}
 use Rattle.vcd_read.specs.Meaning.{instants_of, items_before_fault}
-use Rattle.vcd_read.specs.DumpProgress.{DumpProgress, DumpState, ended, flushed, progress_after, step, steps, values_from}
+use Rattle.vcd_read.specs.DumpProgress.{DumpProgress, DumpState, ended, flushed, progress_after, step, steps}
+use Rattle.vcd_read.specs.DumpProgress.{values_from}
 use Rattle.vcd_read.proofs.InstantsLaw.{at_start, instants_law}
 
 -- how far these items come: up to the first that is a fault, or all of them

@@ -1,5 +1,6 @@
 -- Reading the items of a body.
-use Rattle.std.proofs.Common.{◌≡◌, ℕ, List, [], ◌∷◌, ◌++◌, Bool, true, false, Option, Some, None, Result, Ok, Err, IfOk, IfErr, refl}
+use Rattle.std.proofs.Common.{◌≡◌, ℕ, List, [], ◌∷◌, ◌++◌, Bool, true, false, Option, Some, None, Result, Ok, Err}
+use Rattle.std.proofs.Common.{IfOk, IfErr, refl}
 use Rattle.std.proofs.Common.{sym, ap, subst, ◌∙◌}
 use Rattle.vcd_read.specs.declared.fault.FaultKind.{FaultKind}
 use Rattle.vcd_read.specs.declared.fault.FaultKind.TheVariants.{Memory, BadToken, UnfinishedSection}
@@ -20,7 +21,8 @@ use Rattle.vcd_read.specs.Meaning.{ReadFails, ReadFailsAs, ReadGives}
 use Rattle.vcd_read.specs.declared.dump.Bit.{Bit}
 use Rattle.vcd_read.specs.declared.stopped.Stopped.{Stopped}
 use Rattle.vcd_read.specs.Taking.{Taking, State, ended, reached_before, state_of, step, steps}
-use Rattle.vcd_read.specs.Bodies.{BodyContinuesAs, GivesOrStops, Keeps, KeepsAs, Stops, StoppedAs, UntilFault, finished}
+use Rattle.vcd_read.specs.Bodies.{BodyContinuesAs, GivesOrStops, KeepsTaken, KeepsAs, Stops, StoppedAs, UntilFault}
+use Rattle.vcd_read.specs.Bodies.{finished}
 use Rattle.vcd_read.specs.Bodies.{place_of, unfinished, until_fault}
 
 -- ---- the cut, by what a token is
@@ -122,7 +124,7 @@ leaves_err before after taken (Err e) fault is h = subst (λ (f : VcdFault). (mo
 -- ---- what was taken
 
 -- a fault before anything was taken
-pub keeps_same : {A X : Type 0} (a : A) (r : Result X VcdFault) → Keeps a a r
+pub keeps_same : {A X : Type 0} (a : A) (r : Result X VcdFault) → KeepsTaken a a r
 keeps_same a (Ok x) = tt
 keeps_same a (Err fault) = by_kind a fault.kind
   where
@@ -130,12 +132,12 @@ keeps_same a (Err fault) = by_kind a fault.kind
     by_kind a Memory = tt
     by_kind a kind = refl
 
-pub keeps_equal : {A X : Type 0} (before taken : A) (r : Result X VcdFault) → taken ≡ before → Keeps before taken r
-keeps_equal {A = A} before taken r e = subst (λ (a : A). Keeps before a r) (sym e) (keeps_same before r)
+pub keeps_equal : {A X : Type 0} (before taken : A) (r : Result X VcdFault) → taken ≡ before → KeepsTaken before taken r
+keeps_equal {A = A} before taken r e = subst (λ (a : A). KeepsTaken before a r) (sym e) (keeps_same before r)
 
 -- want of memory
 pub keeps_memory : {A X : Type 0} (before taken : A) (r : Result X VcdFault)
-    → IsErrAnd r (λ e. e ≡ record { line = 0; kind = Memory }) → Keeps before taken r
+    → IsErrAnd r (λ e. e ≡ record { line = 0; kind = Memory }) → KeepsTaken before taken r
 keeps_memory before taken (Ok x) is = tt
 keeps_memory before taken (Err fault) is = subst (λ (f : VcdFault). KeepsAs f.kind before taken) (sym is) tt
 
@@ -157,7 +159,8 @@ module _ {A : Type 0} (with_change : A → ℕ → List Bit → A) (with_instant
 
   item_is : (nets : List Net) (s next : State A) (item : BodyItem) (items : List BodyItem) → step with_change
       with_instant nets s item ≡ Ok next
-      → until_fault with_change with_instant nets s (item ∷ items) ≡ until_fault with_change with_instant nets next items
+      → until_fault with_change with_instant nets s (item ∷ items)
+      ≡ until_fault with_change with_instant nets next items
   unfolding steps reached_before
   item_is nets s next item items e =
       ap (λ (r : Result (State A) VcdFault). record {
@@ -202,7 +205,7 @@ module _ {A : Type 0} (with_change : A → ℕ → List Bit → A) (with_instant
 
   item_leaves : {X : Type 0} (nets : List Net) (s s2 : State A) (item : BodyItem) (after : List BodyItem)
       (r : Result X VcdFault) → ReadGives (λ _. s2) r (step with_change with_instant nets s item)
-      → Keeps s.progress.taken s2.progress.taken r
+      → KeepsTaken s.progress.taken s2.progress.taken r
       → LeavesOne (until_fault with_change with_instant nets s (item ∷ after))
       (until_fault with_change with_instant nets s2 after) s2.progress.taken r
   item_leaves nets s s2 item after (Ok x) h kept = item_is nets s s2 item after h
@@ -215,7 +218,7 @@ module _ {A : Type 0} (with_change : A → ℕ → List Bit → A) (with_instant
       → nets2 ≡ nets → text2 ≡ text → at2 ≡ at → place ≡ Ready
       → ((more : List Token) → before more ≡ item ∷ body_from ready (left_at text at ++ more))
       → ReadGives (λ _. s2) r (step with_change with_instant nets s item)
-      → Keeps s.progress.taken s2.progress.taken r
+      → KeepsTaken s.progress.taken s2.progress.taken r
       → BodyContinuesAs (λ more. until_fault with_change with_instant nets s (before more))
       (λ more. until_fault with_change with_instant nets2 s2 (body_from (place_of place) (left_at text2 at2 ++ more)))
       s2.progress.taken r
@@ -284,7 +287,8 @@ module _ {A : Type 0} (with_change : A → ℕ → List Bit → A) (with_instant
       rw (t, a)
       (ap (λ (ts : List Token). until_fault with_change with_instant nets (state_of text timed bracket)
       (body_from ready (ts ++ more))) cut
-      ∙ ap (until_fault with_change with_instant nets (state_of text timed bracket)) (shape_read (token_at text at bytes)
+      ∙ ap (until_fault with_change with_instant nets (state_of text timed bracket)) (shape_read
+      (token_at text at bytes)
       (left_at text after ++ more) (vector digits) (sym shape)))
 
   -- what isn't ended is met at the end

@@ -1,5 +1,6 @@
 -- A text in pieces that end behind a space: its tokens are those of the pieces.
-use Rattle.std.proofs.Common.{◌≡◌, ℕ, Bool, true, false, ◌+◌, ◌<◌, cond, eqb, List, [], ◌∷◌, ◌++◌, length, get_or, take, drop}
+use Rattle.std.proofs.Common.{◌≡◌, ℕ, Bool, true, false, ◌+◌, ◌<◌, cond, eqb, List, [], ◌∷◌, ◌++◌, length, get_or}
+use Rattle.std.proofs.Common.{take, drop}
 use Rattle.std.proofs.Common.{refl, sym, ap, ◌∙◌, arith, append_assoc, zero-add}
 use Rattle.std.proofs.lemmas.List.{take_more}
 use Rattle.std.specs.List.{count_by}
@@ -40,7 +41,8 @@ rest_more : (front rest all line : ℕ) → front + rest ≡ all → rest + (fro
 rest_more front rest all line e = omega (arith, e)
 
 -- the line behind a text is that behind the rest of it
-pub line_behind-rest : (line : ℕ) (text : List ℕ) (at : ℕ) → line_behind (line_behind line (take at text)) (drop at text)
+pub line_behind-rest : (line : ℕ) (text : List ℕ) (at : ℕ)
+    → line_behind (line_behind line (take at text)) (drop at text)
     ≡ line_behind line text
 line_behind-rest line text at =
     rest_more (count_by (λ (x : ℕ). eqb x 10) (take at text)) (count_by (λ (x : ℕ). eqb x 10) (drop at text))

@@ -83,9 +83,9 @@ abbrev pub KeepsAs : {A : Type 0} → FaultKind → A → A → Type 0
 KeepsAs Memory before taken = Unit {0}
 KeepsAs kind before taken = taken ≡ before
 
-abbrev pub Keeps : {A X : Type 0} → A → A → Result X VcdFault → Type 0
-Keeps before taken (Ok _) = Unit {0}
-Keeps before taken (Err fault) = KeepsAs fault.kind before taken
+abbrev pub KeepsTaken : {A X : Type 0} → A → A → Result X VcdFault → Type 0
+KeepsTaken before taken (Ok _) = Unit {0}
+KeepsTaken before taken (Err fault) = KeepsAs fault.kind before taken
 
 -- what reading gives stays as it was, whatever follows, or it stops
 abbrev pub BodyContinuesAs : {A X : Type 0} → (List Token → UntilFault A) → (List Token → UntilFault A) → A

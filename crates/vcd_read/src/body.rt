@@ -10,7 +10,8 @@ ghost use Rattle.vcd_read.specs.declared.body_piece.BodyPiece.{BodyPiece};
 ghost use Rattle.vcd_read.specs.Body.{time_item, change, skipped, bracket_open, bracket_end, ready, code_of_vector};
 ghost use Rattle.vcd_read.specs.Body.{code_of_foreign, in_comment};
 ghost use Rattle.vcd_read.specs.Taking.{taking, state_of, step};
-ghost use Rattle.vcd_read.specs.Bodies.{BodyContinuesTo, BodyContinuesAs, ContinuesOrStops, Keeps, ahead, place_of};
+ghost use Rattle.vcd_read.specs.Bodies.{BodyContinuesTo, BodyContinuesAs, ContinuesOrStops, KeepsTaken, ahead};
+ghost use Rattle.vcd_read.specs.Bodies.{place_of};
 ghost use Rattle.vcd_read.specs.Bodies.{ahead_until_fault, remaining_in, from_token};
 ghost use Rattle.vcd_read.specs.Meaning.{ReadGives};
 ghost use Rattle.vcd_read.specs.declared.open_item.OpenItem.TheVariants.{Ready};
@@ -131,7 +132,7 @@ impl<'a, 'c, T: ChangeVisitor> Body<'a, 'c, T> {
         requires { IsStart self.old.reader.text start }
         ensures same { (self.new.reader ≡ self.old.reader) × (self.new.codes ≡ self.old.codes)
             × (self.new.place ≡ self.old.place) }
-        ensures kept { Keeps (T.taken self.old.timed.visitor) (T.taken self.new.timed.visitor) result }
+        ensures kept { KeepsTaken (T.taken self.old.timed.visitor) (T.taken self.new.timed.visitor) result }
         ensures goes_on { IfOk result (λ goes_on. goes_on ≡ true) }
         ensures step { ReadGives (λ _. state_of self.new.reader.text
             (taking (T.taken self.new.timed.visitor) self.new.timed.clock) self.new.bracket) result
@@ -151,7 +152,7 @@ impl<'a, 'c, T: ChangeVisitor> Body<'a, 'c, T> {
         requires { IsStart self.old.reader.text start }
         ensures same { (self.new.reader ≡ self.old.reader) × (self.new.codes ≡ self.old.codes)
             × (self.new.place ≡ self.old.place) }
-        ensures kept { Keeps (T.taken self.old.timed.visitor) (T.taken self.new.timed.visitor) result }
+        ensures kept { KeepsTaken (T.taken self.old.timed.visitor) (T.taken self.new.timed.visitor) result }
         ensures goes_on { IfOk result (λ goes_on. goes_on ≡ true) }
         ensures step { (digits : List ℕ) → time_of digits ≡ Ok time → ReadGives (λ _. state_of self.new.reader.text
             (taking (T.taken self.new.timed.visitor) self.new.timed.clock) self.new.bracket) result
@@ -178,7 +179,7 @@ impl<'a, 'c, T: ChangeVisitor> Body<'a, 'c, T> {
         requires digits { 0 < length digits.now }
         ensures same { (self.new.reader ≡ self.old.reader) × (self.new.codes ≡ self.old.codes)
             × (self.new.place ≡ self.old.place) }
-        ensures kept { Keeps (T.taken self.old.timed.visitor) (T.taken self.new.timed.visitor) result }
+        ensures kept { KeepsTaken (T.taken self.old.timed.visitor) (T.taken self.new.timed.visitor) result }
         ensures goes_on { IfOk result (λ goes_on. goes_on ≡ true) }
         ensures step { ReadGives (λ _. state_of self.new.reader.text
             (taking (T.taken self.new.timed.visitor) self.new.timed.clock) self.new.bracket) result
@@ -298,7 +299,7 @@ impl<'a, 'c, T: ChangeVisitor> Body<'a, 'c, T> {
         requires { IsStart self.old.reader.text start }
         ensures same { (self.new.reader ≡ self.old.reader) × (self.new.codes ≡ self.old.codes)
             × (self.new.place ≡ self.old.place) }
-        ensures kept { Keeps (T.taken self.old.timed.visitor) (T.taken self.new.timed.visitor) result }
+        ensures kept { KeepsTaken (T.taken self.old.timed.visitor) (T.taken self.new.timed.visitor) result }
         ensures goes_on { IfOk result (λ goes_on. goes_on ≡ true) }
         ensures step { ReadGives (λ _. state_of self.new.reader.text
             (taking (T.taken self.new.timed.visitor) self.new.timed.clock) self.new.bracket) result
@@ -317,7 +318,7 @@ impl<'a, 'c, T: ChangeVisitor> Body<'a, 'c, T> {
         requires { IsStart self.old.reader.text start }
         ensures same { (self.new.reader ≡ self.old.reader) × (self.new.codes ≡ self.old.codes)
             × (self.new.place ≡ self.old.place) }
-        ensures kept { Keeps (T.taken self.old.timed.visitor) (T.taken self.new.timed.visitor) result }
+        ensures kept { KeepsTaken (T.taken self.old.timed.visitor) (T.taken self.new.timed.visitor) result }
         ensures goes_on { IfOk result (λ goes_on. goes_on ≡ true) }
         ensures step { ReadGives (λ _. state_of self.new.reader.text
             (taking (T.taken self.new.timed.visitor) self.new.timed.clock) self.new.bracket) result

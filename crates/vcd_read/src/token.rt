@@ -10,7 +10,7 @@ ghost use Rattle.vcd_read.specs.Reading.{IsStart, left_at, left_from, line_behin
 use crate::body_piece::{BodyPiece, Start};
 use crate::fault::{FaultKind, VcdFault};
 use crate::lines::line_feeds;
-use crate::number::{Leading, leading_number};
+use crate::number::{Leading, SAFE_DIGITS, leading_number};
 use crate::runs::{above_space_end, bits_end};
 use crate::shape::is_bit;
 
@@ -224,6 +224,9 @@ impl<'a> Reader<'a> {
         let start = self.at + 1;
         let Leading { number, count } = leading_number(&self.text.bytes[start..]);
         let end = start + count;
+        if count > SAFE_DIGITS {
+            return None;
+        }
         if count == 0 || !ends_word(self.text.bytes, end) {
             return None;
         }

@@ -62,7 +62,8 @@ module _ (slots : ℕ) (bound_groups : List BoundGroup) (h : Headed) where
   abbrev pub IsMadeOf : List Instant → Current → Made → Type 0
   IsMadeOf = Makes slots bound_groups (length h.nets) (instants_in (instants_from h.nets h.body))
 
-  pub builder-follows : (m : Made) → IsBegun slots bound_groups m → Follows (Ends IsMadeOf) (instants_from h.nets h.body)
+  pub builder-follows : (m : Made) → IsBegun slots bound_groups m
+      → Follows (Ends IsMadeOf) (instants_from h.nets h.body)
       (taken_from made_change made_instant h.nets m h.body)
   builder-follows m begun =
       let all : List Instant = instants_in (instants_from h.nets h.body) in
@@ -139,7 +140,8 @@ text-dump b text fault h = by_kind fault.line fault.kind h
     by_kind line kind e = ap (recording_read b) e
 
 -- a fault that stays, whatever comes of what is read
-pub fails_back : {X Y : Type 0} (line : ℕ) (kind : FaultKind) (r : Result X VcdFault) (f : X → Y) → ReadFailsAs line kind
+pub fails_back : {X Y : Type 0} (line : ℕ) (kind : FaultKind) (r : Result X VcdFault) (f : X → Y)
+    → ReadFailsAs line kind
     (r >>= λ x. Ok (f x)) → ReadFailsAs line kind r
 fails_back line Memory r f h = h
 fails_back line kind (Ok x) f h = absurd (cc h)

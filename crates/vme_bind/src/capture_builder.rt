@@ -96,6 +96,9 @@ impl<F: StepVisitor> ChangeVisitor for CaptureBuilder<F> {
 
     #[inline(always)]
     fn end_instant(&mut self, alloc: Global, time: u64) -> Result<(), AllocError> {
+        if self.recorder.is_untouched() {
+            return Ok(());
+        }
         match self.recorder.end_instant(alloc, time)? {
             Some(step) => self.visitor.step(alloc, step),
             None => Ok(()),
@@ -187,6 +190,9 @@ impl<F: StepVisitor> ChangeVisitor for SpeculativeBuilder<'_, F> {
 
     #[inline(always)]
     fn end_instant(&mut self, alloc: Global, time: u64) -> Result<(), AllocError> {
+        if self.recorder.is_untouched() {
+            return Ok(());
+        }
         match self.recorder.end_instant(alloc, time)? {
             Some(made) => self.visitor.step(alloc, made),
             None => Ok(()),

@@ -1,7 +1,7 @@
 //! The levels of the lines as a dump goes on, and the step at which they change.
 
 ghost use Rattle.std.specs.Prelude.{◌≡◌, ◌≢◌, ◌≤◌, ◌<◌, ℕ, false, IfOk, OnOk, map, length};
-ghost use Rattle.std.specs.Prelude.{◌↔◌, IsTrue};
+ghost use Rattle.std.specs.Prelude.{◌↔◌, IsTrue, [], true};
 ghost use Rattle.vcd_read.specs.DetachedPieces.{entered};
 ghost use Rattle.std.specs.List.Sorted.{IsNonDecreasing};
 ghost use Rattle.vme_trace.specs.LineNumbers.{line_count};
@@ -202,6 +202,16 @@ impl Recorder {
             self.set_lines(line_bits.of(value.net), value.bits.as_slice())?;
         }
         Ok(())
+    }
+
+    /// Whether no line got another level since the last step: then no instant that ends is one.
+    #[inline(always)]
+    pub fn is_untouched(&self) -> bool
+        ensures shown { result ≡ true → self.entry.now ≡ all_of self.entry.now.now }
+        ensures none { result ≡ true → (time : ℕ)
+            → step_between time self.entry.now.shown self.entry.now.now ≡ [] }
+    {
+        self.touched.is_empty()
     }
 
     /// Ends an instant, which is a step if some line has another level than before.

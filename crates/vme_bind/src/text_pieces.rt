@@ -29,8 +29,8 @@ use std::alloc::Global;
 use vcd_read::{Front, Stopped, read_front};
 use vme_trace::{Lines, StepVisitor};
 
-/// Begins to make the recording of a body, with these bound groups or a fault of the binding, and says what the front of
-/// the text has of it.
+/// Begins to make the recording of a body, with these bound groups or a fault of the binding, and says what the front
+/// of the text has of it.
 fn begin_bound_groups<'a, F: StepVisitor>(
     alloc: Global,
     lines: &Lines,
@@ -204,8 +204,8 @@ impl<F: StepVisitor> TextPieces<F> {
         self.pieces.is_between_items()
     }
 
-    /// What took the recording of the dump, of which nothing is left, whatever its binding has. With a fault, an item or
-    /// a bracket that isn't ended, comes what took the steps of the instants that a later time follows.
+    /// What took the recording of the dump, of which nothing is left, whatever its binding has. With a fault, an item
+    /// or a bracket that isn't ended, comes what took the steps of the instants that a later time follows.
     pub fn finish_or_stop(self, alloc: Global) -> Result<F, Stopped<F>>
         ensures { ReadingEndsAs (λ f. F.recorded f) result (reading_ahead (text_reached self) [] []) }
     {

@@ -1,30 +1,15 @@
-use Rattle.std.proofs.Common.{arith}
-use Rattle.vcd_read.proofs.NumberLemmas.{digits_step, few_step}
+use Rattle.vcd_read.proofs.NumberLemmas.{leading_digits, leading_end, leading_number, leading_within}
 use Rattle.vcd_read.proofs.number.leading_number.Goals as goal
 
-pub overflow_mul-number : goal.overflow_mul-number
-overflow_mul-number c =
-    let step = few_step c.args.text.now c.loop-count.count (omega (arith, c.loop-count-test.true, c.min-most.ensures))
-    (omega (arith, c.loop-count-test.true, c.min-most.ensures)) c.loop-count.invariant.digits
-    c.if-not-is_ascii_digit.ensures.bound in
-    omega (arith, step.0, step.1, c.loop-count.invariant.number)
+pub returns-clause-within : goal.returns-clause-within
+returns-clause-within c = leading_within c.args.text.now c.read_digits-count.result.0 c.read_digits-count.ensures.end
 
-pub overflow_add-number : goal.overflow_add-number
-overflow_add-number c =
-    let step = few_step c.args.text.now c.loop-count.count (omega (arith, c.loop-count-test.true, c.min-most.ensures))
-    (omega (arith, c.loop-count-test.true, c.min-most.ensures)) c.loop-count.invariant.digits
-    c.if-not-is_ascii_digit.ensures.bound in
-    omega (arith, step.0, step.1, c.loop-count.invariant.number, c.from.ensures)
+pub returns-clause-digits : goal.returns-clause-digits
+returns-clause-digits c = leading_digits c.args.text.now c.read_digits-count.result.0 c.read_digits-count.ensures.end
 
-pub loop-count-preserved : goal.loop-count-preserved
-loop-count-preserved c =
-    let step = few_step c.args.text.now c.loop-count.count (omega (arith, c.loop-count-test.true, c.min-most.ensures))
-    (omega (arith, c.loop-count-test.true, c.min-most.ensures)) c.loop-count.invariant.digits
-    c.if-not-is_ascii_digit.ensures.bound in
-    record {
-      within = omega arith;
-      digits = digits_step c.args.text.now c.loop-count.count
-          (omega (arith, c.loop-count-test.true, c.min-most.ensures)) c.loop-count.invariant.digits
-          c.if-not-is_ascii_digit.ensures.bound;
-      number = omega (arith, step.0, c.loop-count.invariant.number, c.from.ensures);
-    }
+pub returns-clause-number : goal.returns-clause-number
+returns-clause-number c = leading_number c.args.text.now c.read_digits-count.result.0 c.read_digits-count.result.1
+    c.read_digits-count.ensures.end c.read_digits-count.ensures.value
+
+pub returns-clause-end : goal.returns-clause-end
+returns-clause-end c = leading_end c.args.text.now c.read_digits-count.result.0 c.read_digits-count.ensures.end

@@ -74,7 +74,8 @@ returns-in-Vector-clause-rest g c =
     let is = λ (more : List Token). shape_read t (left_at text old.reader.at ++ more) (vector c.in-Vector.digits.now)
     (sym (ap found_shape c.in-Vector.is) ∙ c.shape_of.ensures) in
     leaves_same _ _ _ _ c.vector.result (λ more. ap (until_fault g.T.ChangeVisitor.with_change
-    g.T.ChangeVisitor.with_instant old.codes.now (state_of old.reader.text (taking (g.T.ChangeVisitor.taken old.timed.visitor) old.timed.clock)
+    g.T.ChangeVisitor.with_instant old.codes.now (state_of old.reader.text (taking
+    (g.T.ChangeVisitor.taken old.timed.visitor) old.timed.clock)
     old.bracket)) (is more)) c.vector.ensures.rest
 
 pub returns-in-Foreign-clause-rest : goal.returns-in-Foreign-clause-rest
@@ -85,7 +86,8 @@ returns-in-Foreign-clause-rest g c =
     let is = λ (more : List Token). shape_read t (left_at text old.reader.at ++ more) foreign
     (sym (ap found_shape c.in-Foreign.is) ∙ c.shape_of.ensures) in
     leaves_same _ _ _ _ c.foreign.result (λ more. ap (until_fault g.T.ChangeVisitor.with_change
-    g.T.ChangeVisitor.with_instant old.codes.now (state_of old.reader.text (taking (g.T.ChangeVisitor.taken old.timed.visitor) old.timed.clock)
+    g.T.ChangeVisitor.with_instant old.codes.now (state_of old.reader.text (taking
+    (g.T.ChangeVisitor.taken old.timed.visitor) old.timed.clock)
     old.bracket)) (is more)) c.foreign.ensures.rest
 
 pub returns-in-Comment-clause-rest : goal.returns-in-Comment-clause-rest
@@ -96,7 +98,8 @@ returns-in-Comment-clause-rest g c =
     let is = λ (more : List Token). shape_read t (left_at text old.reader.at ++ more) comment
     (sym (ap found_shape c.in-Comment.is) ∙ c.shape_of.ensures) in
     leaves_same _ _ _ _ c.comment.result (λ more. ap (until_fault g.T.ChangeVisitor.with_change
-    g.T.ChangeVisitor.with_instant old.codes.now (state_of old.reader.text (taking (g.T.ChangeVisitor.taken old.timed.visitor) old.timed.clock)
+    g.T.ChangeVisitor.with_instant old.codes.now (state_of old.reader.text (taking
+    (g.T.ChangeVisitor.taken old.timed.visitor) old.timed.clock)
     old.bracket)) (is more)) c.comment.ensures.rest
 
 pub returns-in-Unknown-clause-rest : goal.returns-in-Unknown-clause-rest

@@ -9,7 +9,8 @@ use Rattle.vcd_read.proofs.body.Body.resume.Goals as goal
 pub returns-in-Ready-clause-rest : goal.returns-in-Ready-clause-rest
 returns-in-Ready-clause-rest g c =
     let old = c.args.self.now in
-    λ more. ap (λ (p : BodyPlace). until_fault g.T.ChangeVisitor.with_change g.T.ChangeVisitor.with_instant old.codes.now
+    λ more. ap (λ (p : BodyPlace). until_fault g.T.ChangeVisitor.with_change g.T.ChangeVisitor.with_instant
+    old.codes.now
     (state_of old.reader.text (taking (g.T.ChangeVisitor.taken old.timed.visitor) old.timed.clock) old.bracket)
     (body_from p (left_at old.reader.text old.reader.at ++ more)))
     (ap place_of (sym c.in-Ready.ensures.value ∙ sym c.replace.ensures.after))
@@ -18,7 +19,8 @@ pub returns-in-Vector-clause-rest : goal.returns-in-Vector-clause-rest
 returns-in-Vector-clause-rest g c =
     let old = c.args.self.now in
     leaves_same _ _ _ _ c.vector.result
-    (λ more. ap (λ (p : BodyPlace). until_fault g.T.ChangeVisitor.with_change g.T.ChangeVisitor.with_instant old.codes.now
+    (λ more. ap (λ (p : BodyPlace). until_fault g.T.ChangeVisitor.with_change g.T.ChangeVisitor.with_instant
+    old.codes.now
     (state_of old.reader.text (taking (g.T.ChangeVisitor.taken old.timed.visitor) old.timed.clock) old.bracket)
     (body_from p (left_at old.reader.text old.reader.at ++ more))) (ap place_of (sym c.in-Vector.ensures.value)
     ∙ ap (code_of_vector c.in-Vector.digits.line) (sym c.as_slice.ensures.value)))
@@ -28,7 +30,8 @@ pub returns-in-Foreign-clause-rest : goal.returns-in-Foreign-clause-rest
 returns-in-Foreign-clause-rest g c =
     let old = c.args.self.now in
     leaves_same _ _ _ _ c.foreign.result
-    (λ more. ap (λ (p : BodyPlace). until_fault g.T.ChangeVisitor.with_change g.T.ChangeVisitor.with_instant old.codes.now
+    (λ more. ap (λ (p : BodyPlace). until_fault g.T.ChangeVisitor.with_change g.T.ChangeVisitor.with_instant
+    old.codes.now
     (state_of old.reader.text (taking (g.T.ChangeVisitor.taken old.timed.visitor) old.timed.clock) old.bracket)
     (body_from p (left_at old.reader.text old.reader.at ++ more))) (ap place_of (sym c.in-Foreign.ensures.value)))
     c.foreign.ensures.rest
@@ -37,7 +40,8 @@ pub returns-in-Comment-clause-rest : goal.returns-in-Comment-clause-rest
 returns-in-Comment-clause-rest g c =
     let old = c.args.self.now in
     leaves_same _ _ _ _ c.comment.result
-    (λ more. ap (λ (p : BodyPlace). until_fault g.T.ChangeVisitor.with_change g.T.ChangeVisitor.with_instant old.codes.now
+    (λ more. ap (λ (p : BodyPlace). until_fault g.T.ChangeVisitor.with_change g.T.ChangeVisitor.with_instant
+    old.codes.now
     (state_of old.reader.text (taking (g.T.ChangeVisitor.taken old.timed.visitor) old.timed.clock) old.bracket)
     (body_from p (left_at old.reader.text old.reader.at ++ more))) (ap place_of (sym c.in-Comment.ensures.value)))
     c.comment.ensures.rest

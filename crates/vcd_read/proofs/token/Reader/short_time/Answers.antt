@@ -31,5 +31,6 @@ returns-clause-time c =
     let within = rw rest at c.leading_number-number.ensures.within in
     rw n (short_time_of (take count (drop (at + 1) text)) c.leading_number-number.result.number
     (omega (arith, length-take-le count (drop (at + 1) text) within, c.if-count-eq0.false))
-    (rw rest at c.leading_number-number.ensures.digits) (rw rest at c.leading_number-number.ensures.number)
+    (rw rest at c.leading_number-number.ensures.digits)
+    ((rw rest at c.leading_number-number.ensures.number) (omega arith))
     (omega arith))
