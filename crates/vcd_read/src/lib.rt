@@ -11,6 +11,7 @@
 //!   the definitions, and what takes them.
 //! - `body`, `body_state`, `body_piece`, `open_item`, `change_visitor`, `timed_visitor`,
 //!   `instant_collector`: the changes, and what takes them.
+//! - `stopped`: the first fault of a body, with what took what stands before it.
 //! - `head`, `pieces`, `detached_piece`: a text whose definitions are read; a body that comes in
 //!   pieces; pieces that are read before those in front of them.
 //! - `lines`: how many lines a text ends.
@@ -21,7 +22,8 @@
 //!   with the fault's line (`dump_of`), or want of memory. [`read_definitions`] and
 //!   [`Head::read_body`] give the same value, part by part, to what takes it.
 //! - What [`read_front`] and [`Pieces`] answer of a part of a text, a fault included, holds of
-//!   every text that goes on so (`HeaderContinuesAs`, `BodyContinuesTo`).
+//!   every text that goes on so (`HeaderContinuesAs`, `BodyContinuesTo`). With a fault of the body
+//!   comes what took all that stands before it ([`Stopped`], `ContinuesOrStops`).
 //! - A piece that is read apart is read as it is in its place, where it fits, and `may_join` says
 //!   yes exactly there (`IsReadApart`, `MayFollow`).
 //! - [`whole_tokens`] cuts a text where no token goes on (`apart`).

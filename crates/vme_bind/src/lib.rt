@@ -24,7 +24,9 @@
 //!   faulty line of the binding (`capture_of`). `Binding::capture_text` answers the same of the
 //!   dump's text; the dump's first fault goes before one of the binding.
 //! - `Binding::record_text` and [`TextPieces`] give that recording step by step to what takes it,
-//!   and keep none of it (`gives`, `formed`, `TextContinuesAs`).
+//!   and keep none of it (`gives`, `formed`, `TextContinuesAs`). With a fault of the dump what took
+//!   the steps of the instants that are complete before it can be had (`TextContinuesOrStops`), and
+//!   a fault of the binding is known before the body (`binding_fault`).
 //! - A piece that [`SpeculativeReader`] reads ahead may be joined exactly where the levels before
 //!   it are those that it was read from (`MayFollowLevels`). Its steps are then those of reading it
 //!   in its place (`IsJoined`). `levels_behind` has exactly the levels that it leaves where others

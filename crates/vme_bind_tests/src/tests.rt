@@ -886,7 +886,7 @@ fn the_fault_of_a_binding_is_known_before_the_body(rt: HostRuntime) -> Result<()
         line: 2,
         kind: BindKind::NoSuchPath,
     };
-    assert!(rt; text.binding_fault() == Some(wanted) && rest == b"#0 1q 2p\n");
+    assert!(rt; text.binding_fault() == Some(wanted) && rest == b"#0 1q 2p\n".as_slice());
     let fault = text
         .read_until_fault(alloc, rest)
         .err()

@@ -1,12 +1,18 @@
 -- Texts that a command writes.
-use Rattle.std.specs.Prelude.{◌≡◌, ℕ, [], List, Result, Ok, Err, if◌then◌else◌}
+use Rattle.std.specs.Prelude.{◌≡◌, ℕ, Bool, true, false, [], List, Option, Some, None, IfSome, Result, Ok, Err, codes}
+use Rattle.std.specs.Prelude.{if◌then◌else◌}
 use Rattle.vcd_read.specs.Contents.{Contents}
 use Rattle.vme_bind.specs.Binding.{BoundLines, binding_of}
+use Rattle.vme_find.specs.Scopes.{has_scope}
 use Rattle.vme_find.specs.declared.writing.FoundBinding.{FoundBinding}
 use Rattle.vme_trace.specs.Trace.{Trace}
 use Rattle.vme_answer.specs.Answers.{CommandAnswer, capture_by, refusal_answer}
+use Rattle.vme_answer.specs.Texts.{line_of}
 use Rattle.vme_answer.specs.declared.refusal.Refusal.{Refusal}
-use Rattle.vme_answer.specs.declared.refusal.Refusal.TheVariants.{BadBinding, Memory}
+use Rattle.vme_answer.specs.declared.refusal.Refusal.TheVariants.{Memory}
+use Rattle.vme_commands.specs.declared.bind.NoBinding.{NoBinding}
+use Rattle.vme_commands.specs.declared.bind.NoBinding.TheVariants.{Refused, NoSuchScope}
+use denote.Ref.{Bor}
 
 abbrev pub text_answer : ℕ → List ℕ → CommandAnswer
 text_answer status text = record { out = text; error = []; status = status }
@@ -27,19 +33,40 @@ IsTextOf read (Ok text) = (contents : Contents) × (read ≡ Ok contents)
 IsTextOf read (Err Memory) = Unit {0}
 IsTextOf read (Err refusal) = read ≡ Err refusal
 
+-- no variable of the dump stands in the scope that is asked
+abbrev pub no_scope_text : List ℕ
+no_scope_text =
+    codes "vmecheck: no variable of the dump stands in that scope: `vmecheck variables` lists their paths"
+
 -- the text of a binding is written, and what is said of it, with status 7 where a check by it judges nothing; or why
 -- there is none
-abbrev pub binding_answer : Result FoundBinding Refusal → CommandAnswer
+abbrev pub binding_answer : Result FoundBinding NoBinding → CommandAnswer
 binding_answer (Ok found) =
     record { out = found.text; error = found.told; status = if found.is_bus then 0 else 7 }
-binding_answer (Err refusal) = refusal_answer refusal
+binding_answer (Err (Refused refusal)) = refusal_answer refusal
+binding_answer (Err NoSuchScope) = record { out = []; error = line_of no_scope_text; status = 3 }
 
--- The text is a binding by the format, so that it binds each line of the backplane once, and it makes a recording of
--- the dump that was read. Else this is why there is no dump, unless there was no memory; a fault of the binding comes
--- only where even the binding that finds nothing makes no recording.
-abbrev pub IsBindingFor : Result Contents Refusal → Result FoundBinding Refusal → Type 0
-IsBindingFor read (Ok found) = (bound : BoundLines) × (t : Trace) × (binding_of found.text ≡ Ok bound)
-    × (capture_by bound read ≡ Ok t)
-IsBindingFor read (Err Memory) = Unit {0}
-IsBindingFor read (Err (BadBinding fault)) = Unit {0}
-IsBindingFor read (Err refusal) = read ≡ Err refusal
+-- the dump that was read has the scope, or lacks it
+abbrev pub ScopeIs : Bool → Result Contents Refusal → List ℕ → Type 0
+ScopeIs there read path = (contents : Contents) × (read ≡ Ok contents)
+    × (has_scope path contents.variables ≡ there)
+
+-- The text is a binding by the format, so that it binds each line of the backplane once, of so many slots, where they
+-- are told, and it makes a recording of the dump that was read, which has the scope that is asked.
+pub record BindsDump (read : Result Contents Refusal) (slots : Option ℕ) (scope : Option (Bor (List ℕ)))
+    (text : List ℕ) : Type 0 where
+  pub bound : BoundLines
+  pub recording : Trace
+  pub is_binding : binding_of text ≡ Ok bound
+  pub records : capture_by bound read ≡ Ok recording
+  pub slots_are : IfSome slots (λ n. bound.slots ≡ n)
+  pub scope_is : IfSome scope (λ path. ScopeIs true read path.now)
+
+-- There is such a binding. Else this is why there is no dump, or the dump lacks the scope, unless there was no memory.
+abbrev pub IsBindingFor : Result Contents Refusal → Option ℕ → Option (Bor (List ℕ)) → Result FoundBinding NoBinding
+    → Type 0
+IsBindingFor read slots scope (Ok found) = BindsDump read slots scope found.text
+IsBindingFor read slots scope (Err (Refused Memory)) = Unit {0}
+IsBindingFor read slots scope (Err (Refused refusal)) = read ≡ Err refusal
+IsBindingFor read slots None (Err NoSuchScope) = ⊥
+IsBindingFor read slots (Some path) (Err NoSuchScope) = ScopeIs false read path.now

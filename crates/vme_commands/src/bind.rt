@@ -7,20 +7,34 @@ ghost use Rattle.vme_answer.specs.Ends.{Ends};
 ghost use Rattle.vme_stream.specs.Inputs.{IsReading};
 ghost use Rattle.vme_stream.specs.Outputs.{TriesToWrite};
 ghost use Rattle.vme_commands.specs.TextAnswers.{IsBindingFor, binding_answer};
-ghost use Rattle.vme_answer.specs.declared.refusal.Refusal.{Refusal};
+ghost use Rattle.vme_commands.specs.declared.bind.NoBinding.{NoBinding as Without};
+ghost use Rattle.vme_find.specs.Recordings.{AreSlots};
 ghost use Rattle.vme_find.specs.declared.writing.FoundBinding.{FoundBinding as Found};
 
 use std::alloc::Global;
 use vme_answer::{Input, Refusal, cannot_write_line, refusal_line};
-use vme_find::{FoundBinding, write_binding};
+use vme_find::{FindFault, FoundBinding, write_binding};
 use vme_stream::{complain, read_all, write_all};
 use vme_trace::{Sink, Source};
 
-/// Writes to `out` a binding for a dump, of so many slots, 1 to 21, or of those that the daisy chains show, and to
-/// `err` one line that says what was bound; or to `err` why the dump can't be read, as `check` says it. The answer is
-/// the exit status: 0; 7 where AS, a strobe or DTACK wasn't found, or AS never moves, so that a check by the binding
-/// judges nothing, and the line says why; 3 where the dump is refused, 4 for want of memory, 5 where the binding
-/// can't be written.
+/// Why there is no binding for a dump.
+#[derive(Clone, Copy, Debug, PartialEq, Eq)]
+pub enum NoBinding {
+    /// The dump is refused, or there is no memory.
+    Refused(Refusal),
+    /// No variable of the dump stands in the scope that is asked, nor in one within it.
+    NoSuchScope,
+}
+
+/// What is said where the dump lacks the scope that is asked.
+const NO_SUCH_SCOPE: &[u8] =
+    b"vmecheck: no variable of the dump stands in that scope: `vmecheck variables` lists their paths\n";
+
+/// Writes to `out` a binding for a dump, of so many slots, 1 to 21, or of those that the daisy chains show, in the
+/// scope of a path, or in the best one, and to `err` one line that says what was bound; or to `err` why the dump can't
+/// be read, as `check` says it, or that it lacks the scope. The answer is the exit status: 0; 7 where AS, a strobe or
+/// DTACK wasn't found, or AS never moves, so that a check by the binding judges nothing, and the line says why; 3 where
+/// the dump is refused or lacks the scope, 4 for want of memory, 5 where the binding can't be written.
 ///
 /// What it writes is a binding by the format, and it makes a recording of the dump without a fault. A failure of `err`
 /// is ignored.
@@ -28,22 +42,24 @@ pub fn bind<D: Source, O: Sink, E: Sink>(
     alloc: Global,
     dump: &mut D,
     slots: Option<u8>,
+    scope: Option<&[u8]>,
     out: &mut O,
     err: &mut E,
 ) -> u8
-    ensures { (bytes : Option (List ℕ)) × (made : Result Found Refusal)
+    requires { AreSlots slots }
+    ensures { (bytes : Option (List ℕ)) × (made : Result Found Without)
         × IsReading (D.reading dump.old) (D.reading dump.new) bytes
-        × IsBindingFor (dump_read bytes) made
+        × IsBindingFor (dump_read bytes) slots scope.entry made
         × Ends (binding_answer made)
         (O.writing out.old, O.writing out.new) (E.writing err.old, E.writing err.new) result }
 {
-    let made = binding_for(alloc, dump, slots);
+    let made = binding_for(alloc, dump, slots, scope);
     tell_binding(&made, out, err)
 }
 
 /// Writes a binding to `out` and what is said of it to `err`, or to `err` why there is none.
 fn tell_binding<O: Sink, E: Sink>(
-    made: &Result<FoundBinding, Refusal>,
+    made: &Result<FoundBinding, NoBinding>,
     out: &mut O,
     err: &mut E,
 ) -> u8
@@ -61,9 +77,13 @@ fn tell_binding<O: Sink, E: Sink>(
                 5
             }
         },
-        Err(refusal) => {
+        Err(NoBinding::Refused(refusal)) => {
             complain(err, refusal_line(refusal));
             refusal.status()
+        }
+        Err(NoBinding::NoSuchScope) => {
+            say(err, NO_SUCH_SCOPE);
+            3
         }
     }
 }
@@ -79,22 +99,31 @@ fn binding_for<D: Source>(
     alloc: Global,
     dump: &mut D,
     slots: Option<u8>,
-) -> Result<FoundBinding, Refusal>
+    scope: Option<&[u8]>,
+) -> Result<FoundBinding, NoBinding>
+    requires { AreSlots slots }
     ensures { (bytes : Option (List ℕ))
         × IsReading (D.reading dump.old) (D.reading dump.new) bytes
-        × IsBindingFor (dump_read bytes) result }
+        × IsBindingFor (dump_read bytes) slots scope.entry result }
 {
     match read_all(alloc, dump) {
-        Ok(text) => binding_for_text(alloc, text.as_slice(), slots),
-        Err(fault) => Err(Refusal::of_input(Input::Dump, fault)),
+        Ok(text) => binding_for_text(alloc, text.as_slice(), slots, scope),
+        Err(fault) => Err(NoBinding::Refused(Refusal::of_input(Input::Dump, fault))),
     }
 }
 
-fn binding_for_text(alloc: Global, dump: &[u8], slots: Option<u8>) -> Result<FoundBinding, Refusal>
-    ensures { IsBindingFor (or_bad_dump (dump_of dump.now)) result }
+fn binding_for_text(
+    alloc: Global,
+    dump: &[u8],
+    slots: Option<u8>,
+    scope: Option<&[u8]>,
+) -> Result<FoundBinding, NoBinding>
+    requires { AreSlots slots }
+    ensures { IsBindingFor (or_bad_dump (dump_of dump.now)) slots scope.entry result }
 {
-    match write_binding(alloc, dump, slots) {
+    match write_binding(alloc, dump, slots, scope) {
         Ok(found) => Ok(found),
-        Err(fault) => Err(Refusal::of_capture(fault)),
+        Err(FindFault::Dump(fault)) => Err(NoBinding::Refused(Refusal::of_dump(fault))),
+        Err(FindFault::NoSuchScope) => Err(NoBinding::NoSuchScope),
     }
 }

@@ -665,6 +665,32 @@ fn orders(rt: HostRuntime) -> Result<(), Fail> {
 }
 
 #[test]
+fn scopes_are_ordered(rt: HostRuntime) -> Result<(), Fail> {
+    for (line, wanted) in [
+        ("vmecheck bind V", "none"),
+        ("vmecheck bind --slots 2 V", "none"),
+        ("vmecheck bind --scope top.bus V", "top.bus"),
+        ("vmecheck bind V --scope=2 --slots=3", "2"),
+        ("vmecheck bind --scope= V", ""),
+        ("vmecheck bind V --scope", "refused"),
+        ("vmecheck bind --scope a --scope b V", "refused"),
+        ("vmecheck check --scope a B V", "refused"),
+        ("vmecheck variables --scope a V", "refused"),
+    ] {
+        let words = words_of(rt.alloc(), line)?;
+        match order(rt.alloc(), words.as_slice()) {
+            Ok(order) => match &order.scope {
+                Some(path) => assert!(rt; path.as_str() == wanted, "{line}"),
+                None => assert!(rt; wanted == "none", "{line}"),
+            },
+            Err(OrderFault::Usage(_error)) => assert!(rt; wanted == "refused", "{line}"),
+            Err(OrderFault::Memory) => assert!(rt; false, "{line}"),
+        }
+    }
+    Ok(())
+}
+
+#[test]
 fn an_explanation_begins_with_the_verdict(rt: HostRuntime) -> Result<(), Fail> {
     let dump = dump_of(rt.alloc(), HEAD, BODY)?;
     let mut out = Page::new(rt.alloc(), 5000);
@@ -696,6 +722,7 @@ fn a_binding_is_written(rt: HostRuntime) -> Result<(), Fail> {
         rt.alloc(),
         &mut Bytes::new(dump.as_bytes()),
         None,
+        None,
         &mut out,
         &mut err,
     );
@@ -717,6 +744,7 @@ fn a_binding_without_a_bus_ends_with_a_status_of_its_own(rt: HostRuntime) -> Res
         rt.alloc(),
         &mut Bytes::new(UNBOUND.as_bytes()),
         None,
+        None,
         &mut out,
         &mut err,
     );
@@ -727,6 +755,42 @@ fn a_binding_without_a_bus_ends_with_a_status_of_its_own(rt: HostRuntime) -> Res
             .starts_with(b"vmecheck: bound 0 of 19 groups: ")
     );
     assert_eq!(rt; status, 7);
+    Ok(())
+}
+
+/// What the binding of a scope ends with, and what is written of it and told.
+fn expect_bound_in<R: Abort>(
+    rt: &R,
+    alloc: Global,
+    dump: &str,
+    path: &[u8],
+    head: &[u8],
+    told: &[u8],
+    status: u8,
+) {
+    let mut out = Page::new(alloc, 5000);
+    let mut err = Page::new(alloc, 200);
+    let mut dump = Bytes::new(dump.as_bytes());
+    let ended = bind(alloc, &mut dump, Some(2), Some(path), &mut out, &mut err);
+    assert_eq!(rt; ended, status);
+    assert!(rt; out.bytes.as_slice().starts_with(head));
+    assert!(rt; err.bytes.as_slice().starts_with(told));
+}
+
+#[test]
+fn a_binding_is_written_for_a_scope(rt: HostRuntime) -> Result<(), Fail> {
+    let dump = dump_of(rt.alloc(), HEAD, BODY)?;
+    let alloc = rt.alloc();
+    let head =
+        b"# Found by the names in the scope bus: look each line over.\nslots 2\nAS = bus.AS\n";
+    let told = b"vmecheck: bound 6 of 19 groups in scope bus, 2 slots; ";
+    expect_bound_in(&rt, alloc, dump.as_str(), b"bus", head, told, 0);
+    let nothing = b"# NOTHING IS BOUND: no variable outside of all scopes was found ";
+    let told = b"vmecheck: bound 0 of 19 groups: no variable outside of all scopes is named ";
+    expect_bound_in(&rt, alloc, dump.as_str(), b"", nothing, told, 7);
+    let told =
+        b"vmecheck: no variable of the dump stands in that scope: `vmecheck variables` lists their paths\n";
+    expect_bound_in(&rt, alloc, dump.as_str(), b"bus2", b"", told, 3);
     Ok(())
 }
 

@@ -1,2 +1,6 @@
-pub mod CountLemmas
+pub mod BodyLemmas
+pub mod ConstantLemmas
+pub mod ConstantTextLemmas
 pub mod FaultLemmas
+pub mod HeaderLemmas
+pub mod ScopeLemmas

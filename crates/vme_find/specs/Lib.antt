@@ -1,2 +1,4 @@
+pub mod Constants
 pub mod Counts
 pub mod Recordings
+pub mod Scopes

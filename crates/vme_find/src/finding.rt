@@ -5,6 +5,7 @@ use crate::declared::{DeclaredNames, DeclaredVariable, NOWHERE};
 use crate::groups::{Groups, TELLING, count, group_of};
 use crate::levels_seen::{LevelsSeen, MOST_BITS};
 use crate::names::{NameReading, Named, push_readings};
+use crate::paths::scopes_of;
 use crate::vote::{ScopeVote, VoteCounter};
 use std::alloc::{AllocError, Global};
 use vme_trace::{LINE_COUNT, Line, MOST_SLOTS};
@@ -39,6 +40,8 @@ pub(crate) struct Findings {
     moving: [bool; LINE_COUNT as usize],
     /// The path of the scope in which they stand.
     pub scope: Vec<u8>,
+    /// Whether that scope was asked by its path.
+    pub is_asked: bool,
     /// Other scopes that hold at least half as many of the names.
     pub others: Vec<Vec<u8>>,
     /// The groups of which a board's output was found beside the one that is taken.
@@ -52,6 +55,7 @@ impl Findings {
             taps: [None; LINE_COUNT as usize],
             moving: [false; LINE_COUNT as usize],
             scope: Vec::new(alloc),
+            is_asked: false,
             others: Vec::new(alloc),
             doubled: 0,
         }
@@ -163,22 +167,32 @@ impl Findings {
     }
 }
 
-/// The votes of the scopes, and the place of the best among them.
+/// The votes of the scopes, and the place of the best among those that are asked: those of a path, where one is told,
+/// or else all.
 fn all_votes(
     alloc: Global,
     declared: &DeclaredNames,
     levels: &LevelsSeen,
+    path: Option<&[u8]>,
 ) -> Result<(Vec<ScopeVote>, usize), AllocError> {
+    let asked = match path {
+        Some(path) => Some(scopes_of(alloc, declared, path)?),
+        None => None,
+    };
     let mut counter = VoteCounter::new(alloc);
     let mut votes: Vec<ScopeVote> = Vec::new(alloc);
     let mut best = NOWHERE;
     for scope in 0..declared.scopes().len() {
         if let Some(vote) = counter.vote(declared, levels, scope)? {
+            let is_asked = match &asked {
+                Some(asked) => asked.get(scope).copied().unwrap_or(false),
+                None => true,
+            };
             let is_better = match votes.get(best) {
                 Some(other) => vote.merit() > other.merit(),
                 None => true,
             };
-            if is_better {
+            if is_asked && is_better {
                 best = votes.len();
             }
             votes.push(vote)?;
@@ -280,14 +294,20 @@ fn all_candidates(
     Ok(candidates)
 }
 
-/// Finds the lines of a backplane among the variables: in the scope of the best vote.
+/// Finds the lines of a backplane among the variables: in the scope of the best vote, among those of a path, where one
+/// is told, or else among all.
 pub(crate) fn find(
     alloc: Global,
     declared: &DeclaredNames,
     levels: &LevelsSeen,
+    path: Option<&[u8]>,
 ) -> Result<Findings, AllocError> {
     let mut found = Findings::none(alloc);
-    let (votes, place) = all_votes(alloc, declared, levels)?;
+    if let Some(path) = path {
+        found.scope.extend_from_slice(path)?;
+        found.is_asked = true;
+    }
+    let (votes, place) = all_votes(alloc, declared, levels, path)?;
     let Some(best) = votes.get(place).copied() else {
         return Ok(found);
     };

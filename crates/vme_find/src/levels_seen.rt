@@ -1,7 +1,11 @@
 //! Which bits of a dump's nets move.
 
+ghost use Rattle.std.specs.Prelude.{◌≡◌, List, IfErr, Ok, OnOk};
+ghost use Rattle.vcd_read.specs.Meaning.{ReadFails, instants_from};
+ghost use Rattle.vcd_read.specs.declared.dump.Instant.{Instant};
+
 use std::alloc::{AllocError, Global};
-use vcd_read::ChangeVisitor;
+use vcd_read::{ChangeVisitor, FaultKind, Head, VcdFault};
 
 /// Of how many bits of a net, from the right, it is kept whether they move.
 pub(crate) const MOST_BITS: u32 = 64;
@@ -54,7 +58,7 @@ impl ChangeVisitor for LevelsSeen {
     ) -> Result<(), AllocError> {
         let _ = alloc;
         if let Some(levels) = self.nets.get_mut(net as usize) {
-            let (low, high) = levels_in(size, digits);
+            let (low, high) = levels_of(size, digits);
             levels.low |= low;
             levels.high |= high;
         }
@@ -67,8 +71,22 @@ impl ChangeVisitor for LevelsSeen {
     }
 }
 
+/// The levels that the nets have in the body behind some definitions.
+pub(crate) fn levels_in(alloc: Global, head: &Head<'_>) -> Result<LevelsSeen, VcdFault>
+    ensures ok { OnOk result ((instants : List Instant) × instants_from head.now.nets head.now.body ≡ Ok instants) }
+    ensures err { IfErr result (λ fault. ReadFails fault (instants_from head.now.nets head.now.body)) }
+{
+    match LevelsSeen::none(alloc, head.net_count()) {
+        Ok(none) => head.read_body(alloc, none),
+        Err(_) => Err(VcdFault {
+            line: 0,
+            kind: FaultKind::Memory,
+        }),
+    }
+}
+
 /// Which bits of a value are Low, and which High or without a driver, from the right.
-fn levels_in(size: u32, digits: &[u8]) -> (u64, u64) {
+fn levels_of(size: u32, digits: &[u8]) -> (u64, u64) {
     let mut low: u64 = 0;
     let mut high: u64 = 0;
     let mut bit: u64 = 1;

@@ -11,7 +11,9 @@
 //!   the lines are.
 //! - `groups`, `fitting`: the groups of lines; what the lines that weren't found are bound to, so
 //!   that it fits what was.
-//! - `paths`, `proposal`, `writing`: how a binding can name bits; its text; [`write_binding`].
+//! - `scope_search`: whether a dump has the scope that is asked.
+//! - `paths`, `proposal`, `constants`, `writing`: how a binding can name bits; its text; one that
+//!   binds all lines to constants; [`write_binding`].
 //! - `told`: what was found, in one line for people.
 //! - `variables`: [`variables_text`], the variables as text.
 //!
@@ -19,16 +21,17 @@
 //!
 //! - [`write_binding`] writes a binding by the format, so each line is bound once, and it makes a
 //!   recording of the dump without a fault (`MakesRecording`), of the slots that are told
-//!   (`HasSlots`). A fault of the dump is its first, or want of memory (`err`).
+//!   (`HasSlots`). A fault of the dump is its first, or want of memory; a scope is told to be
+//!   missing exactly where a dump without a fault lacks it (`err`). So any other dump has a
+//!   binding.
 //! - [`variables_text`] comes only of a dump without a fault (`ok`), and else names the first
 //!   (`err`).
 //! - [`time_unit`] is at least 1.
 //!
 //! # What isn't proved
 //!
-//! Which variables are found, what is said of them, and what counts as a bus; that there is a
-//! binding for each dump without a fault; the counts of changes. `tests/bindings/run` tries the
-//! names of many styles.
+//! Which variables are found, what is said of them, and what counts as a bus; the counts of
+//! changes. `tests/bindings/run` tries the names of many styles.
 //!
 //! # Limits
 //!
@@ -42,6 +45,7 @@
 
 mod affix;
 mod changes;
+mod constants;
 mod declared;
 mod finding;
 mod fitting;
@@ -50,6 +54,7 @@ mod levels_seen;
 mod names;
 mod paths;
 mod proposal;
+mod scope_search;
 mod timescale;
 mod told;
 mod variables;
@@ -59,4 +64,4 @@ mod writing;
 pub use names::bit_number;
 pub use timescale::time_unit;
 pub use variables::variables_text;
-pub use writing::{FoundBinding, write_binding};
+pub use writing::{FindFault, FoundBinding, write_binding};

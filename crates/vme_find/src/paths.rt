@@ -2,6 +2,7 @@
 
 use crate::declared::{DeclaredNames, DeclaredVariable, NOWHERE};
 use crate::names::number_of_bit;
+use crate::scope_search::front_of;
 use std::alloc::{AllocError, Global};
 use vme_text::Text;
 
@@ -48,11 +49,7 @@ impl<'a> Paths<'a> {
         declared: &'a DeclaredNames,
         path: &[u8],
     ) -> Result<Paths<'a>, AllocError> {
-        let mut dotted = Vec::new(alloc);
-        if !path.is_empty() {
-            dotted.extend_from_slice(path)?;
-            dotted.push(b'.')?;
-        }
+        let dotted = front_of(alloc, path)?;
         let begun = scopes_begun(alloc, declared, &dotted)?;
         let mut near = Vec::new(alloc);
         for (place, variable) in declared.variables().iter().enumerate() {
@@ -147,6 +144,20 @@ impl<'a> Paths<'a> {
             Naming::Unnumbered
         }
     }
+}
+
+/// For each scope, whether its path is this one.
+pub(crate) fn scopes_of(
+    alloc: Global,
+    declared: &DeclaredNames,
+    path: &[u8],
+) -> Result<Vec<bool>, AllocError> {
+    let dotted = front_of(alloc, path)?;
+    let mut named = Vec::new(alloc);
+    for begun in scopes_begun(alloc, declared, &dotted)?.iter() {
+        named.push(*begun == dotted.len())?;
+    }
+    Ok(named)
 }
 
 /// For each scope, how many bytes of a path its own is, or `NOWHERE`.

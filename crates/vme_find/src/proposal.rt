@@ -1,6 +1,6 @@
 //! The text of a binding for what was found.
 
-use crate::finding::VariableBit;
+use crate::finding::{Findings, VariableBit};
 use crate::fitting::{AtRest, Fitted};
 use crate::groups::group_of;
 use crate::paths::{Naming, Paths, selection_of};
@@ -77,9 +77,8 @@ const NOT_WHOLE: &str =
 const AMBIGUOUS: &str =
     ", which no binding tells apart: the lines that are missing are bound to constants";
 
-/// What is said where no line is bound.
-const NOTHING_BOUND: &str =
-    "# NOTHING IS BOUND: no variable of the dump was found for any line of the bus.\n\
+/// What is said where no line is bound, behind where it was looked for.
+const NOTHING_BOUND: &str = " was found for any line of the bus.\n\
 # Each line below is a constant: a check by this binding judges nothing of the dump.\n";
 
 /// What is said of BBSY, BR and the grants where arbitration isn't judged.
@@ -214,6 +213,8 @@ impl<'a> Proposal<'a> {
             push_scope(&mut self.text, &fitted.found.scope)?;
             self.text.push(b": look each line over.\n")?;
         } else {
+            self.text.push(b"# NOTHING IS BOUND: no variable ")?;
+            push_searched(&mut self.text, &fitted.found)?;
             self.text.push(NOTHING_BOUND.as_bytes())?;
         }
         for scope in &fitted.found.others {
@@ -478,5 +479,17 @@ fn push_scope(text: &mut Text, scope: &[u8]) -> Result<(), AllocError> {
         text.push(b"(none)")
     } else {
         text.push(scope)
+    }
+}
+
+/// Appends where lines were looked for: in the whole dump, or in the scope that was asked.
+pub(crate) fn push_searched(text: &mut Text, found: &Findings) -> Result<(), AllocError> {
+    if !found.is_asked {
+        text.push(b"of the dump")
+    } else if found.scope.is_empty() {
+        text.push(b"outside of all scopes")
+    } else {
+        text.push(b"in scope ")?;
+        text.push(&found.scope)
     }
 }

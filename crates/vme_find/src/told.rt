@@ -2,7 +2,7 @@
 
 use crate::fitting::Fitted;
 use crate::groups::group_of;
-use crate::proposal::Proposal;
+use crate::proposal::{Proposal, push_searched};
 use std::alloc::{AllocError, Global};
 use vme_text::Text;
 use vme_trace::{Line, MOST_SLOTS};
@@ -113,7 +113,9 @@ pub(crate) fn told(alloc: Global, proposal: &Proposal<'_>, slots: u8) -> Result<
     text.push_decimal(alloc, u64::from(GROUPS))?;
     text.push(b" groups")?;
     if proposal.fitted().named == 0 {
-        text.push(b": no variable of the dump is named as a line of a VMEbus")?;
+        text.push(b": no variable ")?;
+        push_searched(&mut text, &proposal.fitted().found)?;
+        text.push(b" is named as a line of a VMEbus")?;
         text.push(REMEDY.as_bytes())?;
         text.push(b"\n")?;
         return Ok(text);

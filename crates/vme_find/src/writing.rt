@@ -1,20 +1,25 @@
 //! A binding for a dump.
 
-ghost use Rattle.std.specs.Prelude.{◌≡◌, ◌≢◌, IfOk, IfErr, IfSome, OnOk, false, true};
-ghost use Rattle.vcd_read.specs.Meaning.{ReadFails, dump_of};
+ghost use Rattle.std.specs.Prelude.{◌≡◌, ℕ, List, IfErr, IfOk, IfSome, Ok, OnOk, Some, false, true};
+ghost use Rattle.vcd_read.specs.Meaning.{ReadFails, dump_of, instants_from};
+ghost use Rattle.vcd_read.specs.declared.dump.Instant.{Instant};
 ghost use Rattle.vcd_read.specs.declared.fault.FaultKind.TheVariants.{Memory};
-ghost use Rattle.vme_find.specs.Recordings.{HasSlots, IsDumpFault, MakesRecording};
+ghost use Rattle.vme_find.specs.Recordings.{AreSlots, HasSlots, IsDump, IsFindFault, MakesRecording};
+ghost use Rattle.vme_find.specs.Scopes.{HasScope};
+ghost use Rattle.vme_find.specs.declared.writing.FindFault.TheVariants.{Dump};
 
-use crate::declared::NamesReader;
+use crate::constants::constant_text;
+use crate::declared::{DeclaredNames, NamesReader};
 use crate::finding::find;
 use crate::fitting::Fitted;
-use crate::levels_seen::LevelsSeen;
+use crate::levels_seen::{LevelsSeen, levels_in};
 use crate::paths::Paths;
 use crate::proposal::Proposal;
+use crate::scope_search::has_scope;
 use crate::told::{is_bus, told, told_constants};
 use std::alloc::{AllocError, Global};
-use vcd_read::{FaultKind, VcdFault, read_definitions};
-use vme_bind::{BindFault, BindKind, Binding, CaptureFault, read_binding};
+use vcd_read::{FaultKind, Head, VcdFault, read_definitions};
+use vme_bind::{BindKind, Binding, CaptureFault, read_binding};
 use vme_text::Text;
 
 /// A binding for a dump, and what is to be said of it.
@@ -30,50 +35,98 @@ pub struct FoundBinding {
     pub is_bus: bool,
 }
 
+/// Why there is no binding for a dump.
+#[derive(Clone, Copy, Debug, PartialEq, Eq)]
+pub enum FindFault {
+    /// The text is no dump.
+    Dump(VcdFault),
+    /// No variable of the dump stands in the scope that is asked, nor in one within it.
+    NoSuchScope,
+}
+
+impl From<VcdFault> for FindFault {
+    ghost from_gives = { λ fault e. e ≡ Dump fault };
+
+    fn from(fault: VcdFault) -> FindFault {
+        FindFault::Dump(fault)
+    }
+}
+
 /// Finds a binding for the text of a dump: the lines that are found by the names of its variables, and the others as
-/// constants that fit these, with a comment. The slots are those that are told, or else those of the daisy chains.
+/// constants that fit these, with a comment. The slots are those that are told, or else those of the daisy chains. The
+/// scope is that of a path, where one is told, or else the best by what is found there; lines that it lacks are taken
+/// from the scopes around it.
 ///
 /// What it writes is a binding by the format, of so many slots, and it makes a recording of the dump. A fault of the
-/// dump is its first one; at line 0 it is want of memory. A fault of the binding comes only if even the binding of
-/// constants makes no recording.
+/// dump is its first one; at line 0 it is want of memory. So a dump without a fault that has the scope has a binding,
+/// unless memory runs out.
 pub fn write_binding(
     alloc: Global,
     dump: &[u8],
     slots: Option<u8>,
-) -> Result<FoundBinding, CaptureFault>
+    scope: Option<&[u8]>,
+) -> Result<FoundBinding, FindFault>
+    requires { AreSlots slots }
     ensures ok { IfOk result (λ found. MakesRecording found.text dump.now) }
     ensures slots { IfOk result (λ found. IfSome slots (λ n. HasSlots n found.text)) }
-    ensures err { IfErr result (IsDumpFault dump.now) }
+    ensures scope { OnOk result (IfSome scope.entry (λ path. HasScope path.now dump.now)) }
+    ensures err { IfErr result (IsFindFault dump.now scope.entry) }
 {
-    match found_binding(alloc, dump, slots) {
-        Ok(Some(found)) => Ok(found),
-        Ok(None) => Err(CaptureFault::Binding(BindFault {
-            line: 0,
-            kind: BindKind::TooManySteps,
-        })),
-        Err(fault) => Err(CaptureFault::Dump(fault)),
+    match scope {
+        Some(path) => binding_in(alloc, dump, slots, path),
+        None => Ok(found_binding(alloc, dump, slots, None)?),
     }
 }
 
-/// The same, by the fault of the dump; nothing where even the binding of constants makes no recording.
+/// The same in the scope of a path.
+fn binding_in(
+    alloc: Global,
+    dump: &[u8],
+    slots: Option<u8>,
+    path: &[u8],
+) -> Result<FoundBinding, FindFault>
+    requires { AreSlots slots }
+    ensures ok { IfOk result (λ found. MakesRecording found.text dump.now) }
+    ensures slots { IfOk result (λ found. IfSome slots (λ n. HasSlots n found.text)) }
+    ensures scope { OnOk result (HasScope path.now dump.now) }
+    ensures err { IfErr result (IsFindFault dump.now (Some path.entry)) }
+{
+    if !has_scope(alloc, dump, path)? {
+        return Err(FindFault::NoSuchScope);
+    }
+    Ok(found_binding(alloc, dump, slots, Some(path))?)
+}
+
+/// A binding for a dump, of the lines in the scope of a path, where one is told.
 fn found_binding(
     alloc: Global,
     dump: &[u8],
     slots: Option<u8>,
-) -> Result<Option<FoundBinding>, VcdFault>
-    ensures ok { IfOk result (λ o. IfSome o (λ found. MakesRecording found.text dump.now)) }
-    ensures slots { IfOk result (λ o. IfSome o (λ found. IfSome slots (λ n. HasSlots n found.text))) }
+    scope: Option<&[u8]>,
+) -> Result<FoundBinding, VcdFault>
+    requires { AreSlots slots }
+    ensures ok { IfOk result (λ found. MakesRecording found.text dump.now) }
+    ensures slots { IfOk result (λ found. IfSome slots (λ n. HasSlots n found.text)) }
     ensures err { IfErr result (λ fault. ReadFails fault (dump_of dump.now)) }
 {
-    match proposed(alloc, dump, slots) {
-        Ok(Some(found)) => match fits(alloc, &found.text, dump, slots) {
-            Ok(true) => Ok(Some(found)),
-            Ok(false) => constants(alloc, dump, slots),
-            Err(fault) => Err(fault),
-        },
-        Ok(None) => constants(alloc, dump, slots),
-        Err(_) => Err(no_memory()),
+    let found = proposed(alloc, dump, slots, scope)?;
+    if fits(alloc, &found.text, dump, slots)? {
+        return Ok(found);
     }
+    Ok(constant_binding(alloc, slots)?)
+}
+
+/// The binding of all lines to constants, and what is said of it.
+fn constant_binding(alloc: Global, slots: Option<u8>) -> Result<FoundBinding, AllocError>
+    requires { AreSlots slots }
+    ensures ok { IfOk result (λ found. (dump : List ℕ) → IsDump dump → MakesRecording found.text dump) }
+    ensures slots { IfOk result (λ found. IfSome slots (λ n. HasSlots n found.text)) }
+{
+    Ok(FoundBinding {
+        text: constant_text(alloc, slots.unwrap_or(1))?,
+        told: told_constants(alloc)?,
+        is_bus: false,
+    })
 }
 
 fn no_memory() -> VcdFault
@@ -122,77 +175,53 @@ fn or_memory(kind: BindKind) -> Result<bool, VcdFault>
     }
 }
 
-/// The binding of all lines to constants, if it makes a recording of the dump.
-fn constants(
-    alloc: Global,
-    dump: &[u8],
-    slots: Option<u8>,
-) -> Result<Option<FoundBinding>, VcdFault>
-    ensures ok { IfOk result (λ o. IfSome o (λ found. MakesRecording found.text dump.now)) }
-    ensures slots { IfOk result (λ o. IfSome o (λ found. IfSome slots (λ n. HasSlots n found.text))) }
-    ensures err { IfErr result (λ fault. ReadFails fault (dump_of dump.now)) }
-{
-    match constant_binding(alloc, slots.unwrap_or(1)) {
-        Ok(found) => match fits(alloc, &found.text, dump, slots) {
-            Ok(true) => Ok(Some(found)),
-            Ok(false) => Ok(None),
-            Err(fault) => Err(fault),
-        },
-        Err(_) => Err(no_memory()),
-    }
-}
-
-/// The text that binds all lines of a backplane of so many slots to constants, as a bus at rest that is busy for good.
-fn constant_text(alloc: Global, slots: u8) -> Result<Text, AllocError> {
-    let mut text = Text::new(alloc);
-    text.push(b"slots ")?;
-    text.push_decimal(alloc, u64::from(slots))?;
-    text.push(
-        b"\nAS = 1\nDS0 = 1\nDS1 = 1\nDTACK = 1\nBERR = 1\nIACK = 1\nLWORD = 1\nWRITE = 1\n",
-    )?;
-    text.push(b"BBSY = 0\nAM = 1\nA = 1\nBR = 1\nBG0 = 1\nBG1 = 1\nBG2 = 1\nBG3 = 1\nIA = 1\n")?;
-    Ok(text)
-}
-
-/// The same, and what is said of it.
-fn constant_binding(alloc: Global, slots: u8) -> Result<FoundBinding, AllocError> {
-    Ok(FoundBinding {
-        text: constant_text(alloc, slots)?,
-        told: told_constants(alloc)?,
-        is_bus: false,
-    })
-}
-
-/// Nothing is proposed for a dump with a fault. Where that is want of memory it stays so: constants don't stand for
-/// what couldn't be looked for.
-fn nothing_by(fault: VcdFault) -> Result<Option<FoundBinding>, AllocError>
-    ensures { OnOk result (fault.kind ≢ Memory) }
-{
-    match fault.kind {
-        FaultKind::Memory => Err(AllocError),
-        _ => Ok(None),
-    }
-}
-
-/// What is proposed for a dump, unless the dump has a fault.
+/// What is proposed for a dump. A fault is the first one of the dump; at line 0 it is want of memory.
 fn proposed(
     alloc: Global,
     dump: &[u8],
     slots: Option<u8>,
-) -> Result<Option<FoundBinding>, AllocError> {
+    scope: Option<&[u8]>,
+) -> Result<FoundBinding, VcdFault>
+    ensures ok { OnOk result (IsDump dump.now) }
+    ensures err { IfErr result (λ fault. ReadFails fault (dump_of dump.now)) }
+{
     let reader = NamesReader::new(alloc)?;
-    let (head, reader) = match read_definitions(alloc, dump, reader) {
-        Ok(read) => read,
-        Err(fault) => return nothing_by(fault),
-    };
-    let declared = reader.into_names();
-    let levels = LevelsSeen::none(alloc, head.net_count())?;
-    let levels = match head.read_body(alloc, levels) {
-        Ok(levels) => levels,
-        Err(fault) => return nothing_by(fault),
-    };
-    let found = find(alloc, &declared, &levels)?;
-    let paths = Paths::new(alloc, &declared, &found.scope)?;
+    match read_definitions(alloc, dump, reader) {
+        Ok((head, reader)) => proposed_behind(alloc, &head, &reader.into_names(), slots, scope),
+        Err(fault) => Err(fault),
+    }
+}
+
+/// The same, where the definitions are read.
+fn proposed_behind(
+    alloc: Global,
+    head: &Head<'_>,
+    declared: &DeclaredNames,
+    slots: Option<u8>,
+    scope: Option<&[u8]>,
+) -> Result<FoundBinding, VcdFault>
+    ensures ok { OnOk result ((instants : List Instant) × instants_from head.now.nets head.now.body ≡ Ok instants) }
+    ensures err { IfErr result (λ fault. ReadFails fault (instants_from head.now.nets head.now.body)) }
+{
+    match levels_in(alloc, head) {
+        Ok(levels) => match proposal_by(alloc, declared, &levels, slots, scope) {
+            Ok(found) => Ok(found),
+            Err(_) => Err(no_memory()),
+        },
+        Err(fault) => Err(fault),
+    }
+}
+
+/// What is proposed by the names of the variables and by which of them move.
+fn proposal_by(
+    alloc: Global,
+    declared: &DeclaredNames,
+    levels: &LevelsSeen,
+    slots: Option<u8>,
+    scope: Option<&[u8]>,
+) -> Result<FoundBinding, AllocError> {
+    let found = find(alloc, declared, levels, scope)?;
+    let paths = Paths::new(alloc, declared, &found.scope)?;
     let slots = match slots {
         Some(slots) => slots,
         None => found.slots(),
@@ -202,9 +231,9 @@ fn proposed(
     proposal.write(slots)?;
     let told = told(alloc, &proposal, slots)?;
     let is_bus = is_bus(&proposal);
-    Ok(Some(FoundBinding {
+    Ok(FoundBinding {
         text: proposal.into_text(),
         told,
         is_bus,
-    }))
+    })
 }

@@ -2,8 +2,7 @@ use memchr::memmem;
 use std::alloc::{AllocError, Global};
 use std::test::Fail;
 use vcd_read::{FaultKind, VcdFault};
-use vme_bind::CaptureFault;
-use vme_find::{time_unit, variables_text, write_binding};
+use vme_find::{FindFault, time_unit, variables_text, write_binding};
 
 /// A dump of one variable under a standard name, and of one that is none.
 const DUMP: &str = "$timescale 1 ns $end\n$scope module bus $end\n$var wire 1 p as_n $end\n\
@@ -23,7 +22,7 @@ fn variables_are_listed(rt: HostRuntime) -> Result<(), Fail> {
 
 #[test]
 fn a_variable_is_found_by_its_name(rt: HostRuntime) -> Result<(), Fail> {
-    match write_binding(rt.alloc(), DUMP.as_bytes(), Some(2)) {
+    match write_binding(rt.alloc(), DUMP.as_bytes(), Some(2), None) {
         Ok(found) => {
             let head =
                 b"# Found by the names in the scope bus: look each line over.\nslots 2\nAS = bus.as_n\n";
@@ -43,22 +42,30 @@ fn each_growth_fails_once(rt: HostRuntime) -> Result<(), Fail> {
         line: 0,
         kind: FaultKind::Memory,
     };
-    match write_binding(rt.alloc(), DUMP.as_bytes(), Some(2)) {
+    match write_binding(rt.alloc(), DUMP.as_bytes(), Some(2), Some(b"bus")) {
         Ok(found) => assert!(rt;
             found
                 .text
                 .as_bytes()
                 .starts_with(b"# Found by the names in the scope bus")
         ),
-        Err(CaptureFault::Dump(fault)) => assert_eq!(rt; fault, no_memory),
-        Err(CaptureFault::Binding(_)) => assert!(rt; false),
+        Err(FindFault::Dump(fault)) => assert_eq!(rt; fault, no_memory),
+        Err(FindFault::NoSuchScope) => assert!(rt; false),
     }
     Ok(())
 }
 
 /// Whether the binding that is found for a dump has a text.
 fn binding_has(alloc: Global, dump: &str, part: &str) -> bool {
-    match write_binding(alloc, dump.as_bytes(), None) {
+    match write_binding(alloc, dump.as_bytes(), None, None) {
+        Ok(found) => memmem::find(found.text.as_bytes(), part.as_bytes()).is_some(),
+        Err(_) => false,
+    }
+}
+
+/// Whether the binding that is found in a scope of a dump has a text.
+fn binding_in_has(alloc: Global, dump: &str, path: &str, part: &str) -> bool {
+    match write_binding(alloc, dump.as_bytes(), Some(1), Some(path.as_bytes())) {
         Ok(found) => memmem::find(found.text.as_bytes(), part.as_bytes()).is_some(),
         Err(_) => false,
     }
@@ -66,7 +73,7 @@ fn binding_has(alloc: Global, dump: &str, part: &str) -> bool {
 
 /// Whether just this is said of the binding that is found for a dump, and whether it is said to be a bus's.
 fn binding_is_told(alloc: Global, dump: &str, told: &str, is_bus: bool) -> bool {
-    match write_binding(alloc, dump.as_bytes(), None) {
+    match write_binding(alloc, dump.as_bytes(), None, None) {
         Ok(found) => found.told.as_bytes() == told.as_bytes() && found.is_bus == is_bus,
         Err(_) => false,
     }
@@ -261,5 +268,57 @@ fn what_is_not_found_fits_what_is(rt: HostRuntime) -> Result<(), Fail> {
         "$var wire 1 p AS $end $var wire 1 q BBSY $end $var wire 2 r BG3 [1:0] $end $var wire 23 a A [23:1] $end\n";
     assert!(rt; cycle_has(alloc, granted, "\nBBSY = BBSY\n")?);
     assert!(rt; cycle_has(alloc, granted, "\nBR3 = 0\nBR2 = 1\n")?);
+    Ok(())
+}
+
+/// Two boards on a bus, of which the first has more of its lines, and a scope that has none.
+const BOARDS: &str =
+    "$scope module top $end\n$var wire 1 e BBSY $end\n$scope module one $end\n$var wire 1 a AS $end\n\
+$var wire 1 b DS0 $end\n$var wire 1 c DTACK $end\n$upscope $end\n$scope module two $end\n$var wire 1 d AS $end\n\
+$upscope $end\n$scope module clock $end\n$var wire 1 f tick $end\n$upscope $end\n$upscope $end\n$enddefinitions $end\n\
+#0 1a 1b 1c 1d 1e 1f\n#5 0a 0d\n#6 0b\n";
+
+#[test]
+fn the_scope_that_is_named_is_bound(rt: HostRuntime) -> Result<(), Fail> {
+    let alloc = rt.alloc();
+    assert!(rt; binding_has(alloc, BOARDS, "\nAS = top.one.AS\nDS0 = top.one.DS0\n"));
+    assert!(rt;
+        binding_in_has(
+            alloc,
+            BOARDS,
+            "top.two",
+            "# Found by the names in the scope top.two: "
+        )
+    );
+    let two = "\nAS = top.two.AS\n# DS0 wasn't found: ";
+    assert!(rt; binding_in_has(alloc, BOARDS, "top.two", two));
+    assert!(rt; binding_in_has(alloc, BOARDS, "top", "\nAS = 1\n"));
+    let clock = "# NOTHING IS BOUND: no variable in scope top.clock was found ";
+    assert!(rt; binding_in_has(alloc, BOARDS, "top.clock", clock));
+    let none = "# NOTHING IS BOUND: no variable outside of all scopes was found ";
+    assert!(rt; binding_in_has(alloc, BOARDS, "", none));
+    Ok(())
+}
+
+#[test]
+fn a_scope_that_is_not_there_is_told(rt: HostRuntime) -> Result<(), Fail> {
+    let alloc = rt.alloc();
+    for path in [b"tw".as_slice(), b"top.tw", b"two", b"top.two.AS", b"top."] {
+        match write_binding(alloc, BOARDS.as_bytes(), None, Some(path)) {
+            Err(fault) => assert_eq!(rt; fault, FindFault::NoSuchScope),
+            Ok(_) => assert!(rt; false),
+        }
+    }
+    let faulty = "$var wire 1 a AS $end\n$enddefinitions $end\n#0 1q\n";
+    let undeclared = FindFault::Dump(VcdFault {
+        line: 3,
+        kind: FaultKind::UndeclaredCode,
+    });
+    for path in [b"".as_slice(), b"bus"] {
+        match write_binding(alloc, faulty.as_bytes(), None, Some(path)) {
+            Err(fault) => assert_eq!(rt; fault, undeclared),
+            Ok(_) => assert!(rt; false),
+        }
+    }
     Ok(())
 }

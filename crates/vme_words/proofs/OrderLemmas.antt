@@ -12,7 +12,7 @@ use Rattle.clap.specs.declared.error.Error.{Error}
 use Rattle.clap.specs.declared.parser.matches.ArgMatches.{ArgMatches}
 use Rattle.clap.proofs.WalkLemmas.{first_value-rows, one_text-rows}
 use Rattle.vme_words.specs.Orders.{HasNumber, HasSkew, IsOrder, Says, SaysConfirmation, SaysOrder, SaysWords}
-use Rattle.vme_words.specs.Orders.{if_given, names_in, number_in, number_of, skew_in, task_name}
+use Rattle.vme_words.specs.Orders.{if_given, names_in, number_in, number_of, scope_in, skew_in, task_name}
 use Rattle.vme_words.specs.Commands.{greatest_skew, vmecheck_app}
 use Rattle.vme_words.specs.OrderFaults.{ComesOf, IsFaultOf}
 use Rattle.vme_words.specs.declared.order_fault.OrderFault.{OrderFault}
@@ -128,7 +128,7 @@ is_confirmation order rows task says = record {
   says = subst (λ (t : Task). Says t order rows) (sym task) says;
 }
 
-pub is_rules : (order : Order) (rows : List Row) → order.command ≡ Rules → SaysWords order (Some 0)
+pub is_rules : (order : Order) (rows : List Row) → order.command ≡ Rules → SaysWords order (Some 0) None
     (if_given (first_of (codes "RULE") rows)) → IsOrder order (Some (codes "rules", rows))
 is_rules order rows task says = record {
   rows = rows;
@@ -136,7 +136,7 @@ is_rules order rows task says = record {
   says = subst (λ (t : Task). Says t order rows) (sym task) says;
 }
 
-pub is_variables : (order : Order) (rows : List Row) → order.command ≡ Variables → SaysWords order (Some 0)
+pub is_variables : (order : Order) (rows : List Row) → order.command ≡ Variables → SaysWords order (Some 0) None
     (first_of (codes "DUMP") rows ∷ []) → IsOrder order (Some (codes "variables", rows))
 is_variables order rows task says = record {
   rows = rows;
@@ -145,7 +145,7 @@ is_variables order rows task says = record {
 }
 
 pub is_bind : (order : Order) (rows : List Row) → order.command ≡ Bind
-    → SaysWords order (Some 0) (first_of (codes "DUMP") rows ∷ if_given (first_of (codes "slots") rows))
+    → SaysWords order (Some 0) (scope_in rows) (first_of (codes "DUMP") rows ∷ if_given (first_of (codes "slots") rows))
     → IsOrder order (Some (codes "bind", rows))
 is_bind order rows task says = record {
   rows = rows;
@@ -153,7 +153,7 @@ is_bind order rows task says = record {
   says = subst (λ (t : Task). Says t order rows) (sym task) says;
 }
 
-pub is_explain : (order : Order) (rows : List Row) → order.command ≡ Explain → SaysWords order (skew_in rows)
+pub is_explain : (order : Order) (rows : List Row) → order.command ≡ Explain → SaysWords order (skew_in rows) None
     (names_in rows ++ if_given (first_of (codes "gtkw") rows)) → IsOrder order (Some (codes "explain", rows))
 is_explain order rows task says = record {
   rows = rows;

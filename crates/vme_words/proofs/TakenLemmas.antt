@@ -77,6 +77,9 @@ only_dump = with_index 1 (filled (file_rule (codes "DUMP")))
 abbrev slots : Rule
 slots = with_index 1 (filled slots_rule)
 
+abbrev scope : Rule
+scope = with_index 1 (filled (word_rule (codes "scope")))
+
 abbrev save_file : Rule
 save_file = with_index 1 (filled (word_rule (codes "gtkw")))
 
@@ -93,7 +96,7 @@ abbrev variables_rules : List Rule
 variables_rules = only_dump ∷ help ∷ []
 
 abbrev bind_rules : List Rule
-bind_rules = slots ∷ only_dump ∷ help ∷ []
+bind_rules = slots ∷ scope ∷ only_dump ∷ help ∷ []
 
 abbrev explain_rules : List Rule
 explain_rules = save_file ∷ skew ∷ binding ∷ dump ∷ help ∷ []
@@ -156,7 +159,10 @@ bind_known = (
   record { own = refl; acts = refl; defaults = refl },
   (
     record { own = refl; acts = refl; defaults = refl },
-    (record { own = refl; acts = tt; defaults = refl }, tt),
+    (
+      record { own = refl; acts = refl; defaults = refl },
+      (record { own = refl; acts = tt; defaults = refl }, tt),
+    ),
   ),
 )
 
@@ -255,7 +261,7 @@ bind_has : (words : List Text) → level_fault of_bind [] nothing_held words fal
 bind_has words e =
     let level = level_good of_bind words bind_known e in
     let rows = rows_after bind_rules [] words in
-    given_text bind_rules rows only_dump level.0 bind_known.1.0.own (one_given (is_given (codes "DUMP") rows) level.1)
+    given_text bind_rules rows only_dump level.0 bind_known.1.1.0.own (one_given (is_given (codes "DUMP") rows) level.1)
 
 explain_has : (words : List Text) → level_fault of_explain [] nothing_held words false [] ≡ []
     → HasExplanation (rows_after explain_rules [] words)

@@ -61,9 +61,11 @@ rules_app = with_rule (new_app (codes "rules")) (new_rule (codes "RULE"))
 abbrev pub variables_app : App
 variables_app = with_rule (new_app (codes "variables")) (file_rule (codes "DUMP"))
 
--- `bind [--slots N] DUMP`
+-- `bind [--slots N] [--scope PATH] DUMP`
 abbrev pub bind_app : App
-bind_app = with_rule (with_rule (new_app (codes "bind")) slots_rule) (file_rule (codes "DUMP"))
+bind_app =
+    with_rule (with_rule (with_rule (new_app (codes "bind")) slots_rule) (word_rule (codes "scope")))
+    (file_rule (codes "DUMP"))
 
 -- `explain [--gtkw FILE] [--skew T] BINDING DUMP`
 abbrev pub explain_app : App

@@ -22,6 +22,10 @@ number_in name rows = option_map number_of (one_of name rows)
 abbrev pub skew_in : List Row → Option ℕ
 skew_in rows = number_in (codes "skew") rows
 
+-- the scope that is named, if one is
+abbrev pub scope_in : List Row → Option Text
+scope_in rows = first_of (codes "scope") rows
+
 -- the words that stand for the files
 abbrev pub names_in : List Row → List (Option Text)
 names_in rows = first_of (codes "BINDING") rows ∷ first_of (codes "DUMP") rows ∷ []
@@ -46,6 +50,7 @@ pub record SaysOrder (order : Order) (rows : List Row) : Type 0 where
   pub block : number_in (codes "block") rows ≡ Some order.block
   pub workers : number_in (codes "workers") rows ≡ Some order.workers
   pub skew : skew_in rows ≡ Some order.skew
+  pub scope : order.scope ≡ None
   pub names : map (λ name. Some (string_bytes name)) order.names.items ≡ names_in rows
 
 -- the matches of the subcommand on a listing are this order, whose other numbers are those of others by default
@@ -53,25 +58,27 @@ pub record SaysConfirmation (order : Order) (rows : List Row) : Type 0 where
   pub block : order.block ≡ 16384
   pub workers : order.workers ≡ 4
   pub skew : skew_in rows ≡ Some order.skew
+  pub scope : order.scope ≡ None
   pub names : map (λ name. Some (string_bytes name)) order.names.items ≡ names_in rows
       ++ first_of (codes "LISTING") rows ∷ []
 
--- an order of this skew and these words, whose other numbers are those that the others have by default
-pub record SaysWords (order : Order) (skew : Option ℕ) (words : List (Option Text)) : Type 0 where
+-- an order of this skew, this scope and these words, whose other numbers are those that the others have by default
+pub record SaysWords (order : Order) (skew : Option ℕ) (scope : Option Text) (words : List (Option Text)) : Type 0 where
   pub block : order.block ≡ 16384
   pub workers : order.workers ≡ 4
   pub skew_is : skew ≡ Some order.skew
+  pub scope_is : option_map string_bytes order.scope ≡ scope
   pub names : map (λ name. Some (string_bytes name)) order.names.items ≡ words
 
 abbrev pub Says : Task → Order → List Row → Type 0
 Says Check order rows = SaysOrder order rows
 Says Listing order rows = SaysOrder order rows
 Says Confirm order rows = SaysConfirmation order rows
-Says Rules order rows = SaysWords order (Some 0) (if_given (first_of (codes "RULE") rows))
-Says Variables order rows = SaysWords order (Some 0) (first_of (codes "DUMP") rows ∷ [])
-Says Bind order rows = SaysWords order (Some 0)
+Says Rules order rows = SaysWords order (Some 0) None (if_given (first_of (codes "RULE") rows))
+Says Variables order rows = SaysWords order (Some 0) None (first_of (codes "DUMP") rows ∷ [])
+Says Bind order rows = SaysWords order (Some 0) (scope_in rows)
     (first_of (codes "DUMP") rows ∷ if_given (first_of (codes "slots") rows))
-Says Explain order rows = SaysWords order (skew_in rows)
+Says Explain order rows = SaysWords order (skew_in rows) None
     (names_in rows ++ if_given (first_of (codes "gtkw") rows))
 
 -- the subcommand that was met, with its matches, is this order

@@ -175,6 +175,7 @@ pub(crate) fn bind_command<'a>(alloc: Global) -> Result<Command<'a>, AllocError>
         "Writes a binding for a dump, by the names of its variables",
     );
     let command = with_arg(command, slots_option(alloc));
+    let command = with_arg(command, scope_option(alloc));
     with_arg(command, dump_file(alloc))
 }
 
@@ -201,6 +202,15 @@ fn slots_option<'a>(alloc: Global) -> Arg<'a>
         .long("slots")
         .value_parser(value_parser!(u32).range(1..=21))
         .help("How many slots the backplane has, 1 to 21; else the daisy chains tell")
+}
+
+fn scope_option<'a>(alloc: Global) -> Arg<'a>
+    ensures rule { rule_of result ≡ word_rule (codes "scope") }
+    ensures local { result.global ≡ false }
+{
+    Arg::new(alloc, "scope").long("scope").help(
+        "The scope whose lines are bound, by its path; else the one that holds most of them",
+    )
 }
 
 fn save_file_option<'a>(alloc: Global) -> Arg<'a>

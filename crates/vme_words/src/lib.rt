@@ -4,7 +4,7 @@
 //!
 //! - `command`: the command of the program, with a subcommand for each task, in `clap`'s terms.
 //! - `words`: [`words::order`] reads the words by `clap`'s rules of that command.
-//! - `order`: a task, and an [`Order`].
+//! - `order`: a task, and an [`Order`]: its numbers, the scope that is named, and its other words.
 //! - `order_fault`: why words are no order.
 //!
 //! # What is proved

@@ -32,6 +32,8 @@ pub struct Order {
     pub workers: u32,
     /// How far apart probes may tell one moment of the bus, in time units of the dump.
     pub skew: u64,
+    /// The scope whose lines are bound, as its names joined by dots, if a binding is to be written and one is named.
+    pub scope: Option<String>,
     /// The words behind the task, by it: the binding and the dump, and for a confirmation the listing, or for an
     /// explanation the waveform viewer's file, if one is wanted; the dump, and for a binding the number of slots, if it
     /// is told; or a rule, if one is named.

@@ -1,14 +1,14 @@
 //! How the words of the command line are read.
 
 ghost use Rattle.std.specs.Prelude.{◌≡◌, ◌≤◌, ◌∷◌, ◌++◌, [], codes, IfErr, IfOk, IfSome, Some, is_some, map};
-ghost use Rattle.std.specs.Prelude.{string_bytes, true};
+ghost use Rattle.std.specs.Prelude.{option_map, string_bytes, true};
 ghost use Rattle.clap.specs.Words.{fault_of, first_of, found_of, kind_of, rows_of, subcommand_of, subcommand_rows_of};
 ghost use Rattle.vme_words.specs.Commands.{vmecheck_app};
 ghost use Rattle.vme_words.specs.OrderFaults.{HasUsageKind, IsFaultOf, IsOfWords};
 ghost use Rattle.vme_words.specs.declared.order.Task.{Task};
 ghost use Rattle.vme_words.specs.Orders.{HasAll, HasConfirmation, HasExplanation, HasName, HasNames, HasNumber};
 ghost use Rattle.vme_words.specs.Orders.{HasOrder, HasRecording, HasSkew, IsOrder, SaysOrder, SaysWords, if_given};
-ghost use Rattle.vme_words.specs.Orders.{names_in, number_in, skew_in, task_name};
+ghost use Rattle.vme_words.specs.Orders.{names_in, number_in, scope_in, skew_in, task_name};
 
 use crate::command::{
     bind_command, check_command, confirm_command, explain_command, list_command, rules_command,
@@ -136,6 +136,7 @@ fn recording_order(
             block,
             workers,
             skew,
+            scope: None,
             names,
         })),
         None => Ok(None),
@@ -158,6 +159,7 @@ fn confirm_order(alloc: Global, found: &ArgMatches<'_>) -> Result<Option<Order>,
             block: 16_384,
             workers: 4,
             skew,
+            scope: None,
             names,
         })),
         None => Ok(None),
@@ -172,7 +174,7 @@ fn rules_order(alloc: Global, found: &ArgMatches<'_>) -> Result<Option<Order>, A
     ensures found { IfOk result (λ o. is_some o ≡ true) }
 {
     let names = with_given(alloc, Vec::new(alloc), found, "RULE")?;
-    Ok(Some(order_of_words(Task::Rules, 0, names)))
+    Ok(Some(order_of_words(Task::Rules, 0, None, names)))
 }
 
 /// The order that the matches of `variables` are, if they are one.
@@ -183,7 +185,7 @@ fn variables_order(alloc: Global, found: &ArgMatches<'_>) -> Result<Option<Order
     ensures found { HasName (codes "DUMP") (rows_of (found_of found.now)) → IfOk result (λ o. is_some o ≡ true) }
 {
     match dump_in(alloc, found)? {
-        Some(names) => Ok(Some(order_of_words(Task::Variables, 0, names))),
+        Some(names) => Ok(Some(order_of_words(Task::Variables, 0, None, names))),
         None => Ok(None),
     }
 }
@@ -198,7 +200,8 @@ fn bind_order(alloc: Global, found: &ArgMatches<'_>) -> Result<Option<Order>, Al
     match dump_in(alloc, found)? {
         Some(names) => {
             let names = with_given(alloc, names, found, "slots")?;
-            Ok(Some(order_of_words(Task::Bind, 0, names)))
+            let scope = scope(alloc, found)?;
+            Ok(Some(order_of_words(Task::Bind, 0, scope, names)))
         }
         None => Ok(None),
     }
@@ -217,22 +220,24 @@ fn explain_order(alloc: Global, found: &ArgMatches<'_>) -> Result<Option<Order>,
     match names_in(alloc, found)? {
         Some(names) => {
             let names = with_given(alloc, names, found, "gtkw")?;
-            Ok(Some(order_of_words(Task::Explain, skew, names)))
+            Ok(Some(order_of_words(Task::Explain, skew, None, names)))
         }
         None => Ok(None),
     }
 }
 
-/// An order of this skew and these words, with the other numbers that the others have by default.
-fn order_of_words(command: Task, skew: u64, names: Vec<String>) -> Order
+/// An order of this skew, this scope and these words, with the other numbers that the others have by default.
+fn order_of_words(command: Task, skew: u64, scope: Option<String>, names: Vec<String>) -> Order
     ensures command { result.command ≡ command }
-    ensures says { SaysWords result (Some skew) (map (λ name. Some (string_bytes name)) names.items) }
+    ensures says { SaysWords result (Some skew) (option_map string_bytes scope)
+        (map (λ name. Some (string_bytes name)) names.items) }
 {
     Order {
         command,
         block: 16_384,
         workers: 4,
         skew,
+        scope,
         names,
     }
 }
@@ -322,6 +327,16 @@ fn skew(found: &ArgMatches<'_>) -> Option<u64>
     ensures found { HasSkew (rows_of (found_of found.now)) → is_some result ≡ true }
 {
     found.get_one::<u64>("skew")
+}
+
+/// The scope, if one is named.
+fn scope(alloc: Global, found: &ArgMatches<'_>) -> Result<Option<String>, AllocError>
+    ensures { IfOk result (λ scope. option_map string_bytes scope ≡ scope_in (rows_of (found_of found.now))) }
+{
+    match found.get_str("scope") {
+        Some(path) => Ok(Some(String::from_str(alloc, path)?)),
+        None => Ok(None),
+    }
 }
 
 /// A fault of the words that the program finds itself.

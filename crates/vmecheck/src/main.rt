@@ -32,11 +32,12 @@
 //! program.
 #![tactic(auto)]
 
-ghost use Rattle.std.specs.Prelude.{◌≡◌, ◌≢◌, ◌⊎◌, IfErr};
+ghost use Rattle.std.specs.Prelude.{◌≡◌, ◌≢◌, ◌⊎◌, IfErr, IfOk};
 ghost use Rattle.clap.specs.Words.{kind_of};
 ghost use Rattle.clap.specs.declared.error.kind.ErrorKind.TheVariants.{DisplayHelp, DisplayVersion};
 ghost use Rattle.vme_words.specs.OrderFaults.{IsOfWords};
 ghost use Rattle.vme_answer.specs.Texts.{refusal_status};
+ghost use Rattle.vme_find.specs.Recordings.{AreSlots};
 ghost use Rattle.vme_answer.specs.declared.refusal.Refusal.TheVariants.{CannotOpen};
 
 mod save;
@@ -264,19 +265,31 @@ fn refuse_to_save(rt: &HostRuntime, path: &str, fault: &SaveFault) -> u8 {
 
 /// Writes a binding for a dump.
 fn bind_order(rt: &HostRuntime, order: &Order) -> Result<u8, Refusal> {
-    let slots = match order.names.get(1) {
-        Some(text) => match text.as_str().parse::<u8>() {
-            Ok(slots) if 1 <= slots && slots <= 21 => Some(slots),
-            _ => {
-                let fault = task_fault(rt.alloc(), Task::Bind, "a backplane has 1 to 21 slots");
-                return Ok(refuse_words(rt, &fault));
-            }
-        },
-        None => None,
+    match slots_of(rt, order) {
+        Ok(slots) => {
+            let mut dump = open(rt, order, Input::Dump)?;
+            let scope = match &order.scope {
+                Some(path) => Some(path.as_bytes()),
+                None => None,
+            };
+            let (mut out, mut err) = (Io::new(rt.stdout()), Io::new(rt.stderr()));
+            Ok(bind(rt.alloc(), &mut dump, slots, scope, &mut out, &mut err))
+        }
+        Err(fault) => Ok(refuse_words(rt, &fault)),
+    }
+}
+
+/// The number of slots that an order tells, if it tells one: 1 to 21, or else the words are wrong.
+fn slots_of(rt: &HostRuntime, order: &Order) -> Result<Option<u8>, OrderFault>
+    ensures { IfOk result AreSlots }
+{
+    let Some(text) = order.names.get(1) else {
+        return Ok(None);
     };
-    let mut dump = open(rt, order, Input::Dump)?;
-    let (mut out, mut err) = (Io::new(rt.stdout()), Io::new(rt.stderr()));
-    Ok(bind(rt.alloc(), &mut dump, slots, &mut out, &mut err))
+    match text.as_str().parse::<u8>() {
+        Ok(slots) if 1 <= slots && slots <= 21 => Ok(Some(slots)),
+        _ => Err(task_fault(rt.alloc(), Task::Bind, "a backplane has 1 to 21 slots")),
+    }
 }
 
 /// Says what the rule that is named asks, or each of them.

@@ -1,5 +1,6 @@
--- The counts of a body follow its instants.
+-- What comes of a body follows its instants.
 use Rattle.std.proofs.Common.{◌≡◌, ℕ, List, Result, Ok, Err, IfErr, OnOk, ap, ◌∙◌}
+use Rattle.vcd_read.specs.declared.dump.Bit.{Bit}
 use Rattle.vcd_read.specs.declared.dump.Instant.{Instant}
 use Rattle.vcd_read.specs.declared.fault.VcdFault.{VcdFault}
 use Rattle.vcd_read.specs.declared.dump.Variable.{Variable}
@@ -10,25 +11,41 @@ use Rattle.vcd_read.specs.Taking.{taken_from}
 use Rattle.vcd_read.proofs.DumpLemmas.{contents_behind, with_variables, whole_header, dump_of-header, dump_behind}
 use Rattle.vcd_read.proofs.ReadLemmas.{fails_first}
 use Rattle.vcd_read.proofs.TakingLemmas.{Current, Ends, Follows, fails-followed, gives-followed, taken-follows}
-use Rattle.vme_find.specs.Counts.{Counts, counted, ended}
 use Rattle.vme_find.specs.Recordings.{IsDump}
 
-abbrev Counts-any : List Instant → Current → Counts → Type 0
-Counts-any done current c = Unit {0}
+module _ {T : Type 0} (with_change : T → ℕ → List Bit → T) (with_instant : T → ℕ → T) where
+  abbrev Any : List Instant → Current → T → Type 0
+  Any done current t = Unit {0}
 
-follows : (h : Headed) (c : Counts) → Follows (Ends Counts-any) (instants_from h.nets h.body)
-    (taken_from (λ c net bits. counted c net) ended h.nets c h.body)
-follows h c = taken-follows (λ c net bits. counted c net) ended h.nets Counts-any (λ done current a net bits lt made.
-    tt) (λ done current a time made. tt) h.body c tt
+  follows : (h : Headed) (t : T) → Follows (Ends Any) (instants_from h.nets h.body)
+      (taken_from with_change with_instant h.nets t h.body)
+  follows h t = taken-follows with_change with_instant h.nets Any (λ done current a net bits lt made. tt)
+      (λ done current a time made. tt) h.body t tt
 
-pub counts-fail : (h : Headed) (c : Counts) (fault : VcdFault) → ReadFails fault
-    (taken_from (λ c net bits. counted c net) ended h.nets c h.body) → ReadFails fault (instants_from h.nets h.body)
-counts-fail h c fault fails = fails-followed (Ends Counts-any) (instants_from h.nets h.body) _ fault (follows h c) fails
+  taking_fails : (h : Headed) (t : T) (fault : VcdFault) → ReadFails fault
+      (taken_from with_change with_instant h.nets t h.body) → ReadFails fault (instants_from h.nets h.body)
+  taking_fails h t fault fails = fails-followed (Ends Any) (instants_from h.nets h.body) _ fault (follows h t) fails
 
-pub counts-end : (h : Headed) (c end : Counts) → taken_from (λ c net bits. counted c net) ended h.nets c h.body ≡ Ok end
-    → (instants : List Instant) × (instants_from h.nets h.body ≡ Ok instants)
-counts-end h c end ok = let gives = gives-followed (Ends Counts-any) (instants_from h.nets h.body) _ end (follows h c)
-    ok in (gives.0, gives.1)
+  taking_ends : (h : Headed) (t end : T) → taken_from with_change with_instant h.nets t h.body ≡ Ok end
+      → (instants : List Instant) × (instants_from h.nets h.body ≡ Ok instants)
+  taking_ends h t end ok =
+      let gives = gives-followed (Ends Any) (instants_from h.nets h.body) _ end (follows h t) ok in
+      (gives.0, gives.1)
+
+  -- what reading the body answers
+  pub taken-ok : {X : Type 0} (view : X → T) (h : Headed) (t : T) (r : Result X VcdFault) → ReadGives view r
+      (taken_from with_change with_instant h.nets t h.body)
+      → OnOk r ((instants : List Instant) × (instants_from h.nets h.body ≡ Ok instants))
+  taken-ok view h t (Ok x) gives = taking_ends h t (view x) gives
+  taken-ok view h t (Err fault) gives = tt
+
+  pub taken-err : {X : Type 0} (view : X → T) (h : Headed) (t : T) (r : Result X VcdFault) → ReadGives view r
+      (taken_from with_change with_instant h.nets t h.body)
+      → IfErr r (λ fault. ReadFails fault (instants_from h.nets h.body))
+  taken-err view h t (Ok x) gives = tt
+  taken-err view h t (Err fault) gives = taking_fails h t fault gives
+
+-- ---- the whole text
 
 pub head-fails : (text : List ℕ) (fault : VcdFault) → ReadFails fault (whole_header text) → ReadFails fault
     (dump_of text)
@@ -46,20 +63,6 @@ body-ends text d e (instants, is) = (
   dump_behind text d e
       ∙ ap (λ (r : Result (List Instant) VcdFault). r >>= with_variables d.variables) is,
 )
-
--- ---- what reading the body answers
-
-pub counts-ok : (h : Headed) (c : Counts) (r : Result Counts VcdFault) → ReadGives (λ (x : Counts). x) r
-    (taken_from (λ c net bits. counted c net) ended h.nets c h.body)
-    → OnOk r ((instants : List Instant) × (instants_from h.nets h.body ≡ Ok instants))
-counts-ok h c (Ok end) gives = counts-end h c end gives
-counts-ok h c (Err fault) gives = tt
-
-pub counts-err : (h : Headed) (c : Counts) (r : Result Counts VcdFault) → ReadGives (λ (x : Counts). x) r
-    (taken_from (λ c net bits. counted c net) ended h.nets c h.body)
-    → IfErr r (λ fault. ReadFails fault (instants_from h.nets h.body))
-counts-err h c (Ok end) gives = tt
-counts-err h c (Err fault) gives = counts-fail h c fault gives
 
 -- ---- what was behind the definitions, of the whole text
 

@@ -1,0 +1,161 @@
+-- A binding of all lines to levels for good makes a recording of every dump without a fault.
+use Rattle.std.proofs.Common.{◌≡◌, ℕ, ◌+◌, ◌-◌, Bool, true, false, not, ◌&&◌, List, [], ◌∷◌, length, map, Some, None}
+use Rattle.std.proofs.Common.{Result, Ok, refl, ap, ◌∙◌}
+use Rattle.std.specs.Prelude.{if◌then◌else◌}
+use Rattle.std.specs.List.{list_all}
+use Rattle.vme_trace.specs.Levels.{same_level}
+use Rattle.vme_trace.specs.LineNumbers.{has_line, line_count}
+use Rattle.vme_trace.specs.Trace.{Trace}
+use Rattle.vme_trace.specs.declared.level.Level.{Level}
+use Rattle.vme_trace.specs.declared.level.Level.TheVariants.{Low, High, Unknown}
+use Rattle.vme_trace.proofs.Ranges.{fails-any, those-none}
+use Rattle.vcd_read.specs.Contents.{Contents}
+use Rattle.vcd_read.specs.Header.{◌>>=◌}
+use Rattle.vcd_read.specs.declared.dump.Instant.{Instant}
+use Rattle.vcd_read.specs.declared.dump.Variable.{Variable}
+use Rattle.vme_bind.specs.Binding.{BoundLines}
+use Rattle.vme_bind.specs.BoundGroups.{bound_group_by, bound_group_in, bound_group_source, bound_groups_in}
+use Rattle.vme_bind.specs.BoundGroups.{source_in, source_on}
+use Rattle.vme_bind.specs.Capture.{capture_of, changes_at, is_step, level_after, level_by, limited, recording, step_at}
+use Rattle.vme_bind.specs.Groups.{holds}
+use Rattle.vme_bind.specs.TextCapture.{capture_of_text, capture_read, or_binding}
+use Rattle.vme_bind.specs.declared.assignment.Assignment.{Assignment}
+use Rattle.vme_bind.specs.declared.fault.BindFault.{BindFault}
+use Rattle.vme_bind.specs.declared.source.LevelSource.{LevelSource}
+use Rattle.vme_bind.specs.declared.source.LevelSource.TheVariants.{Constant, Variable as Named}
+use Rattle.vme_find.specs.Constants.{BindsConstants, is_constant}
+use Rattle.vme_find.specs.Recordings.{IsDump, MakesRecording}
+
+-- ---- the sources of the lines
+
+-- what a function gives
+abbrev OkOf : {X A E : Type 0} → (X → Result A E) → Type 0
+OkOf {X} {A} {E} f = A
+
+-- lines, and where their levels come from
+abbrev Wired : Type 0
+Wired = OkOf (bound_group_in [])
+
+-- a line of this group has one level for good
+abbrev Stays : Wired → Type 0
+Stays w = (slots : ℕ) (ws : List Wired) (instants : List Instant) (n m l place : ℕ)
+    → level_by slots ws instants n l (Some (source_on place w.source))
+    ≡ level_by slots ws instants m l (Some (source_on place w.source))
+
+AllStay : List Wired → Type 0
+AllStay [] = Unit {0}
+AllStay (w ∷ ws) = Stays w × AllStay ws
+
+constant_group : (vs : List Variable) (a : Assignment) (level : Level) → a.source ≡ Constant level
+    → (w : Wired) × (bound_group_in vs a ≡ Ok w) × Stays w
+constant_group vs a level is = (
+  _,
+  ap (λ (s : LevelSource). bound_group_by a (source_in vs a.group.count s)) is,
+  λ slots ws instants n m l place. refl,
+)
+
+and_parts : (a b : Bool) → (a && b) ≡ true → (a ≡ true) × (b ≡ true)
+and_parts true b e = (refl, e)
+and_parts false b e = cc
+
+abbrev ConstantGroups : List Variable → List Assignment → Type 0
+ConstantGroups vs as' = (ws : List Wired) × (bound_groups_in vs as' ≡ Ok ws) × AllStay ws
+
+constant_groups : (vs : List Variable) (as' : List Assignment) → list_all is_constant as' ≡ true → ConstantGroups vs as'
+unfolding bound_groups_in AllStay
+constant_groups vs [] e = ([], refl, tt)
+constant_groups vs (a ∷ as') e =
+    let parts = and_parts (is_constant a) (list_all is_constant as') e in
+    by_source a.source refl parts.0 (constant_groups vs as' parts.1)
+  where
+    by_source : (s : LevelSource) → a.source ≡ s → is_constant a ≡ true → ConstantGroups vs as'
+        → ConstantGroups vs (a ∷ as')
+    by_source (Constant level) is constant (ws, are, stay) =
+        let (w, one, stays) = constant_group vs a level is in
+        (w ∷ ws, rw (one, are) refl, (stays, stay))
+    by_source (Named named) is constant more = let bad = rw is at constant in cc
+
+-- ---- no line changes
+
+same_itself : (level : Level) → same_level level level ≡ true
+same_itself Low = refl
+same_itself High = refl
+same_itself Unknown = refl
+
+module _ (slots : ℕ) (all : List Wired) (instants : List Instant) where
+  source_stays : (ws : List Wired) (n m l : ℕ) → AllStay ws
+      → level_by slots all instants n l (bound_group_source ws l)
+      ≡ level_by slots all instants m l (bound_group_source ws l)
+  unfolding AllStay
+  source_stays [] n m l stay = refl
+  source_stays (w ∷ ws) n m l (stays, stay) =
+      by_test (holds w.group l) (stays slots all instants n m l (w.group.first - l)) (source_stays ws n m l stay)
+    where
+      by_test : (b : Bool)
+          → level_by slots all instants n l (Some (source_on (w.group.first - l) w.source))
+          ≡ level_by slots all instants m l (Some (source_on (w.group.first - l) w.source))
+          → level_by slots all instants n l (bound_group_source ws l)
+          ≡ level_by slots all instants m l (bound_group_source ws l)
+          → level_by slots all instants n l
+          (if b then Some (source_on (w.group.first - l) w.source) else bound_group_source ws l)
+          ≡ level_by slots all instants m l
+          (if b then Some (source_on (w.group.first - l) w.source) else bound_group_source ws l)
+      by_test true here later = here
+      by_test false here later = later
+
+  level_stays : (n m l : ℕ) → AllStay all → level_after slots all instants n l ≡ level_after slots all instants m l
+  unfolding level_after
+  level_stays n m l stay = by_test (has_line slots l) (source_stays all n m l stay)
+    where
+      by_test : (b : Bool)
+          → level_by slots all instants n l (bound_group_source all l)
+          ≡ level_by slots all instants m l (bound_group_source all l)
+          → level_by slots all instants n l (if b then bound_group_source all l else None)
+          ≡ level_by slots all instants m l (if b then bound_group_source all l else None)
+      by_test true here = here
+      by_test false here = refl
+
+  never_changes : (n l : ℕ) → AllStay all → changes_at slots all instants n l ≡ false
+  unfolding changes_at
+  never_changes n l stay =
+      ap (λ (level : Level). not (same_level (level_after slots all instants n l) level)) (level_stays (n + 1) n l stay)
+      ∙ ap not (same_itself (level_after slots all instants n l))
+
+  no_step : (n : ℕ) → AllStay all → is_step slots all instants n ≡ false
+  unfolding is_step
+  no_step n stay = fails-any (changes_at slots all instants n) 0 line_count (λ l a b. never_changes n l stay)
+
+  no_steps : (n : ℕ) → AllStay all → (recording slots all instants n).steps ≡ []
+  unfolding recording
+  no_steps n stay = ap (map (step_at slots all instants)) (those-none (is_step slots all instants) 0 n
+      (fails-any (is_step slots all instants) 0 n (λ i a b. no_step i stay)))
+
+short_enough : (t : Trace) → t.steps ≡ [] → limited t ≡ Ok t
+short_enough t none = rw none refl
+
+-- ---- the recording
+
+captured : (b : BoundLines) (dump : Contents) → list_all is_constant b.assignments ≡ true
+    → (t : Trace) × (capture_of b dump ≡ Ok t)
+unfolding capture_of
+captured b dump constant =
+    let (ws, are, stay) = constant_groups dump.variables b.assignments constant in
+    let t = recording b.slots ws dump.instants (length dump.instants) in (
+      t,
+      ap (λ (r : Result (List Wired) BindFault). r >>= λ bound_groups. limited
+          (recording b.slots bound_groups dump.instants (length dump.instants))) are
+          ∙ short_enough t (no_steps b.slots ws dump.instants (length dump.instants) stay),
+    )
+
+captured_text : (b : BoundLines) (text : List ℕ) → list_all is_constant b.assignments ≡ true → IsDump text
+    → (t : Trace) × (capture_of_text b text ≡ Ok t)
+unfolding capture_of_text
+captured_text b text constant (dump, is) =
+    let (t, made) = captured b dump constant in
+    (t, ap (capture_read b) is ∙ ap or_binding made)
+
+pub constants-record : (slots : ℕ) (text : List ℕ) → BindsConstants slots text → (dump : List ℕ) → IsDump dump
+    → MakesRecording text dump
+constants-record slots text (b, is, slots_are, constant) dump there =
+    let (t, made) = captured_text b dump constant there in
+    record { bound = b; recording = t; is_binding = is; records = made }

@@ -1,0 +1,19 @@
+-- Bindings of all lines to levels for good.
+use Rattle.std.specs.Prelude.{◌≡◌, ℕ, Bool, true, false, List, Ok}
+use Rattle.std.specs.List.{list_all}
+use Rattle.vme_bind.specs.Binding.{BoundLines, binding_of}
+use Rattle.vme_bind.specs.declared.assignment.Assignment.{Assignment}
+use Rattle.vme_bind.specs.declared.source.LevelSource.{LevelSource}
+use Rattle.vme_bind.specs.declared.source.LevelSource.TheVariants.{Constant, Variable as Named}
+
+abbrev pub is_constant_source : LevelSource → Bool
+is_constant_source (Constant level) = true
+is_constant_source (Named named) = false
+
+abbrev pub is_constant : Assignment → Bool
+is_constant a = is_constant_source a.source
+
+-- the text is a binding of so many slots, and binds each line to a level for good
+abbrev pub BindsConstants : ℕ → List ℕ → Type 0
+BindsConstants slots text = (bound : BoundLines) × (binding_of text ≡ Ok bound) × (bound.slots ≡ slots)
+    × (list_all is_constant bound.assignments ≡ true)
