@@ -806,6 +806,64 @@ fn vectors_of_each_length_at_each_place(rt: HostRuntime) -> Result<(), Fail> {
     Ok(())
 }
 
+/// The digits of a time of this length, of which any 19 are below 2^64.
+fn time_of(alloc: Global, length: usize) -> Result<Vec<u8>, AllocError> {
+    let mut digits = Vec::new(alloc);
+    for place in 0..length {
+        digits.push(b'2' + (place % 8) as u8)?;
+    }
+    Ok(digits)
+}
+
+/// Whether a text is a dump with one instant, at this time.
+fn has_time(alloc: Global, text: &[u8], time: &[u8]) -> Result<bool, VcdFault> {
+    let dump = read_vcd(alloc, text)?;
+    let mut found = Vec::new(alloc);
+    for instant in dump.instants() {
+        show_instant(alloc, &mut found, instant)?;
+    }
+    let mut wanted = together(alloc, &["#"])?;
+    wanted.extend_from_slice(time)?;
+    wanted.push(b'\n')?;
+    Ok(found == wanted)
+}
+
+/// Times of each length, with so many spaces before and behind them. Up to 19 digits they fit; 20 are too large here,
+/// and zeros before them change nothing.
+#[test]
+fn times_of_each_length_at_each_place(rt: HostRuntime) -> Result<(), Fail> {
+    let alloc = rt.alloc();
+    let front = b"$var wire 1 p A $end\n$enddefinitions $end\n";
+    for length in 1..41 {
+        let digits = time_of(alloc, length)?;
+        let mut time = together(alloc, &["#"])?;
+        time.extend_from_slice(&digits)?;
+        let mut late = together(alloc, &["#000000000000000000000000"])?;
+        late.extend_from_slice(&digits)?;
+        for count in 0..16 {
+            let text = spaced(alloc, front, count, &time)?;
+            let zeros = spaced(alloc, front, count, &late)?;
+            if length < 20 {
+                assert!(rt; has_time(alloc, &text, &digits)?, "{length} behind {count}");
+                assert!(rt; has_time(alloc, &zeros, &digits)?, "{length} behind zeros");
+            } else {
+                assert!(rt;
+                    fails_with(alloc, &text, &[], 3, FaultKind::NumberTooLarge),
+                    "{length} behind {count}"
+                );
+            }
+            for place in 1..length + 1 {
+                let text = spoiled(alloc, front, count, &time, place, b':')?;
+                assert!(rt;
+                    fails_with(alloc, &text, &[], 3, FaultKind::BadToken),
+                    "{length} behind {count}, at {place}"
+                );
+            }
+        }
+    }
+    Ok(())
+}
+
 /// Changes of codes of each length, with so many spaces before and behind them.
 #[test]
 fn codes_of_each_length_at_each_place(rt: HostRuntime) -> Result<(), Fail> {

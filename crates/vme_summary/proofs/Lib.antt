@@ -22,3 +22,4 @@ pub mod Listed
 pub mod Marked
 pub mod Progressing
 pub mod Watching
+pub mod Leading

@@ -13,8 +13,8 @@ use vme_trace::{Lines, Step};
 /// How many steps a recording has at most.
 pub(crate) const MOST_STEPS: u32 = 268435456;
 
-/// What judges a recording from its opening on, some steps at once: they are judged whatever stood before them, and
-/// then it goes past them from where it has come to.
+/// What judges a recording from its opening on, some steps at once: from where it has come to, or whatever stood before
+/// them, and then it goes past them.
 pub trait ChunkJudge: Drop {
     /// It has come past these steps after that opening.
     ghost is_past: { Self → Levels → List Step → Type 0 };
@@ -44,21 +44,13 @@ pub trait ChunkJudge: Drop {
         ensures past { OnOk result ((o : Levels) (x y : List Step)
             → is_past self.old o x → is_made_of chunk_summary (levels_after o x) y → is_past self.new o (x ++ y)) }
         ensures stays { OnErr result ((o : Levels) (x : List Step) → is_past self.old o x → is_past self.new o x) };
-}
 
-/// Past the steps that follow, which are judged first: there are at most 268,435,456 in all. Without memory it stays
-/// where it is.
-pub(crate) fn go_on<J: ChunkJudge>(
-    judging: &mut J,
-    alloc: Global,
-    steps: &[Step],
-) -> Result<(), AllocError>
-    requires { (o : Levels) × (x : List Step) × J.is_past judging.old o x × (length x + length steps.now ≤ 268435456) }
-    ensures past { OnOk result ((o : Levels) (x : List Step)
-        → J.is_past judging.old o x → J.is_past judging.new o (x ++ steps.now)) }
-    ensures stays { OnErr result ((o : Levels) (x : List Step) → J.is_past judging.old o x
-        → J.is_past judging.new o x) }
-{
-    let chunk_summary = J::judge(alloc, judging.left(), steps)?;
-    judging.pass(alloc, chunk_summary)
+    /// Past the steps that follow, which are judged from where it has come to: there are at most 268,435,456 in all.
+    /// Without memory it stays where it is.
+    fn go_on(&mut self, alloc: Global, steps: &[Step]) -> Result<(), AllocError>
+        requires { (o : Levels) × (x : List Step) × is_past self.old o x
+            × (length x + length steps.now ≤ 268435456) }
+        ensures past { OnOk result ((o : Levels) (x : List Step)
+            → is_past self.old o x → is_past self.new o (x ++ steps.now)) }
+        ensures stays { OnErr result ((o : Levels) (x : List Step) → is_past self.old o x → is_past self.new o x) };
 }

@@ -7,7 +7,7 @@ ghost use Rattle.vme_listing.specs.Places.{is_well_placed};
 ghost use Rattle.vme_listing.specs.Recorded.{listing_of};
 ghost use Rattle.vme_summary.specs.CutFaults.{HasTooManyBlocks, IsBadSize};
 
-use crate::chunk_judge::{ChunkJudge, go_on};
+use crate::chunk_judge::ChunkJudge;
 use crate::listing_state::ListingState;
 use crate::verdict_state::VerdictState;
 use std::alloc::Global;
@@ -34,8 +34,7 @@ fn check_size(capture: &Capture, size: u32) -> Result<(), CutFault>
     Ok(())
 }
 
-/// What judged all steps of a capture, block by block: each is judged by itself, and judging goes on past one after the
-/// other.
+/// What judged all steps of a capture, block by block.
 fn judged_by_blocks<J: ChunkJudge>(
     alloc: Global,
     capture: &Capture,
@@ -50,7 +49,7 @@ fn judged_by_blocks<J: ChunkJudge>(
     let mut judging = J::at(capture.opening());
     let steps = capture.steps();
     for block in steps.chunks(size as usize) {
-        let Ok(()) = go_on(&mut judging, alloc, block) else {
+        let Ok(()) = judging.go_on(alloc, block) else {
             return Err(CutFault::Memory);
         };
     }
@@ -58,8 +57,8 @@ fn judged_by_blocks<J: ChunkJudge>(
 }
 
 /// The verdict on a capture by the rules in force: it is cut into blocks of `size` steps, 1 to 65,536, at most 4,096 of
-/// them, each is judged by itself, and judging goes on past one after the other. No marks are made, and nothing is
-/// kept of a block. Memory stands for want of memory in any of this.
+/// them, and judging goes on past one after the other. No marks are made, and nothing is kept of a block. Memory stands
+/// for want of memory in any of this.
 pub fn verdict_by_blocks(alloc: Global, capture: &Capture, size: u32) -> Result<Verdict, CutFault>
     ensures bad_size { (result ≡ Err CutFault.BadSize) ↔ IsBadSize size }
     ensures too_many { (result ≡ Err CutFault.TooManyBlocks) ↔ HasTooManyBlocks size capture.now }

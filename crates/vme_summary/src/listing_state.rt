@@ -54,6 +54,13 @@ impl ChunkJudge for ListingState {
         self.left = chunk_summary.left;
         Ok(())
     }
+
+    fn go_on(&mut self, alloc: Global, steps: &[Step]) -> Result<(), AllocError> {
+        let (summary, left) = MonitorSummaries::of_steps(alloc, &self.left, steps)?;
+        self.append(alloc, summary)?;
+        self.left = left;
+        Ok(())
+    }
 }
 
 impl ListingState {

@@ -1,11 +1,18 @@
 //! What monitors have come to that judge a recording from its opening on.
 
-ghost use Rattle.std.specs.Prelude.{◌≡◌, ◌+◌, ◌^◌, ◌<◌, None, option_map};
+ghost use Rattle.std.specs.Prelude.{◌≡◌, ◌+◌, ◌^◌, ◌<◌, ◌≤◌, ◌++◌, List, None, length, option_map};
 ghost use Rattle.vme_monitor.specs.Outcome.{earlier, shifted_break};
+ghost use Rattle.vme_monitor.specs.OverStretches.{noted, spanned};
+ghost use Rattle.vme_monitor.specs.Run.{break_at, noticed};
+ghost use Rattle.vme_monitor.specs.StepRuns.{seen_in};
 ghost use Rattle.vme_monitor.specs.Tables.{outcome};
-ghost use Rattle.vme_trace.specs.Trace.{Trace};
+ghost use Rattle.vme_monitor.specs.WithoutMarks.{silenced};
+ghost use Rattle.vme_monitor.specs.declared.over_stretches.StretchPhase.TheVariants.{Judging};
+ghost use Rattle.vme_trace.specs.Levels.{Levels};
+ghost use Rattle.vme_trace.specs.Trace.{Trace, levels_after};
 ghost use Rattle.vme_trace.specs.Verdict.{rules_in_force, verdict_by, verdict_on};
-ghost use Rattle.vme_summary.specs.Progressed.{HasFoundAll};
+ghost use Rattle.vme_trace.specs.declared.step.Step.{Step};
+ghost use Rattle.vme_summary.specs.Progressed.{HasFound, HasFoundAll};
 
 use vme_chains::acknowledge::Acknowledgement;
 use vme_chains::grant_memory::Arbitration;
@@ -13,10 +20,12 @@ use vme_dtb::memory::HandshakeMemory;
 use vme_monitor::known::Stateless;
 use vme_monitor::link::later_break;
 use vme_monitor::machine::Enumerable;
-use vme_monitor::over_stretches::StretchPhase;
+use vme_monitor::mark::{NOTHING, Next, quiet};
+use vme_monitor::over_stretches::{Rules, StretchPhase};
 use vme_monitor::table::Table;
+use vme_monitor::view::{End, StepView};
 use vme_stability::holding::Holding;
-use vme_trace::{Break, Verdict};
+use vme_trace::{Break, Change, Lines, Step, Verdict};
 
 /// What a monitor that began at an opening has come to: the memory that it is in, and the first break that it found.
 #[derive(Drop)]
@@ -57,6 +66,90 @@ impl<P: Enumerable> MonitorState<P> {
     }
 }
 
+/// What a step that ends no span gives to one who judges, but for what it shows.
+#[inline(always)]
+fn next_judging<R: Rules>(
+    memory: R::Memory,
+    view: &StepView,
+    changes: &[Change],
+) -> Next<StretchPhase<R::Memory>>
+    requires view { view.now ≡ seen_in view.now.before changes.now }
+    requires goes_on { view.now.end ≡ None }
+    ensures { result ≡ silenced (noticed (noted R.observation) (spanned R.begin R.opens R.resets R.ends R.next)
+        (Judging memory) view.now.before view.now.after changes.now) }
+{
+    let Some(seen) = R::observe(&view.before, &view.after, changes) else {
+        return quiet(StretchPhase::Judging(memory));
+    };
+    let next = R::step(memory, &view.before, &view.after, &seen);
+    Next {
+        memory: StretchPhase::Judging(next.memory),
+        fault: next.fault,
+        kinds: NOTHING,
+    }
+}
+
+/// What a step gives to one who is in this memory, but for what it shows. The memory is asked first: to most memories
+/// most steps give nothing.
+#[inline(always)]
+fn next_in<R: Rules>(
+    memory: StretchPhase<R::Memory>,
+    view: &StepView,
+    changes: &[Change],
+) -> Next<StretchPhase<R::Memory>>
+    requires { view.now ≡ seen_in view.now.before changes.now }
+    ensures { result ≡ silenced (noticed (noted R.observation) (spanned R.begin R.opens R.resets R.ends R.next)
+        memory view.now.before view.now.after changes.now) }
+{
+    match memory {
+        StretchPhase::Ended => quiet(memory),
+        StretchPhase::Waiting | StretchPhase::Reset => {
+            let noticed = view.control || R::observe(&view.before, &view.after, changes).is_some();
+            if noticed && view.after.is_idle() {
+                quiet(StretchPhase::Judging(R::at_start(&view.after)))
+            } else {
+                quiet(memory)
+            }
+        }
+        StretchPhase::Judging(inner) => match view.end {
+            None => next_judging::<R>(inner, view, changes),
+            Some(End::Reset) => quiet(StretchPhase::Reset),
+            Some(End::Lost(line)) => Next {
+                memory: StretchPhase::Ended,
+                fault: R::fault_at_end(line),
+                kinds: NOTHING,
+            },
+        },
+    }
+}
+
+/// Leads a monitor that began at an opening past the step that follows, at its instant after the opening.
+#[inline(always)]
+pub(crate) fn lead<R: Rules>(
+    state: &mut MonitorState<StretchPhase<R::Memory>>,
+    view: &StepView,
+    step: &Step,
+    instant: u32,
+)
+    requires { view.now ≡ seen_in view.now.before step.now.changes }
+    ensures memory { state.new.memory ≡ (noticed (noted R.observation) (spanned R.begin R.opens R.resets R.ends R.next)
+        state.old.memory view.now.before view.now.after step.now.changes).memory }
+    ensures event { state.new.event ≡ earlier state.old.event (option_map (break_at instant step.now.time)
+        (noticed (noted R.observation) (spanned R.begin R.opens R.resets R.ends R.next)
+        state.old.memory view.now.before view.now.after step.now.changes).fault) }
+{
+    let next = next_in::<R>(state.memory, view, step.changes.as_slice());
+    state.memory = next.memory;
+    if let (None, Some(fault)) = (state.event, next.fault) {
+        state.event = Some(Break {
+            instant,
+            time: step.time,
+            rule: fault.rule,
+            line: fault.line,
+        });
+    }
+}
+
 /// What all monitors that began at an opening have come to.
 #[derive(Drop)]
 pub(crate) struct MonitorStates {
@@ -79,6 +172,26 @@ fn verdict_of(found: Option<Break>) -> Verdict
 }
 
 impl MonitorStates {
+    /// Past the steps that follow some that leave these lines: so many were before them. The answer is the lines that
+    /// they leave.
+    pub(crate) fn lead_along(&mut self, opening: &Lines, before: u32, steps: &[Step]) -> Lines
+        requires { before + length steps.now ≤ 268435456 }
+        ensures found { (o : Levels) (x : List Step) → opening.now ≡ levels_after o x → before ≡ length x
+            → HasFound self.old o x → HasFound self.new o (x ++ steps.now) }
+        ensures left { result ≡ levels_after opening.now steps.now }
+    {
+        let mut view = StepView::new(opening);
+        let mut instant = before;
+        for step in steps {
+            let changes = step.changes.as_slice();
+            view.go_to(changes);
+            instant += 1;
+            self.lead(&view, step, instant);
+            view.go_past(changes);
+        }
+        view.before
+    }
+
     /// The verdict on a recording past whose steps the monitors have come.
     pub(crate) fn verdict(&self) -> Verdict
         ensures { (t : Trace) → HasFoundAll self.now t → verdict_by rules_in_force t ≡ result }

@@ -15,7 +15,7 @@ ghost use Rattle.vme_summary.specs.Progressed.{FoundAfter, HasFound, HasFoundAll
 ghost use Rattle.vme_summary.specs.Summaries.{first_break as first_break_of, StandAlike, StandsForAll, SummaryFindsFor};
 ghost use Rattle.vme_summary.specs.Summaries.{SummaryStandsFor, SummaryStandsForBoth, summary_steps};
 
-use crate::monitor_states::{MonitorState, MonitorStates};
+use crate::monitor_states::{MonitorState, MonitorStates, lead};
 use crate::summary::{MonitorSummaries, Room};
 use std::alloc::{AllocError, Global};
 use vme_chains::acknowledge::{AcknowledgeRules, Iack, acknowledge_over_captures};
@@ -322,6 +322,20 @@ impl MonitorStates {
             grant: MonitorState::at(Grant::start(opening)),
             acknowledge: MonitorState::at(Iack::start(opening)),
         }
+    }
+
+    /// Past the step that follows, at its instant after the opening.
+    #[inline(always)]
+    pub(crate) fn lead(&mut self, view: &StepView, step: &Step, instant: u32)
+        requires { view.now ≡ seen_in view.now.before step.now.changes }
+        ensures { (o : Levels) (x : List Step) → IsLed o x view.now.before instant
+            → HasFound self.old o x → HasFound self.new o (x ++ step.now ∷ []) }
+    {
+        lead::<KnownRules>(&mut self.known, view, step, instant);
+        lead::<HandshakeRules>(&mut self.handshake, view, step, instant);
+        lead::<StabilityRules>(&mut self.stability, view, step, instant);
+        lead::<GrantRules>(&mut self.grant, view, step, instant);
+        lead::<AcknowledgeRules>(&mut self.acknowledge, view, step, instant);
     }
 
     /// Whether anything is judged of a recording past whose steps the monitors have come.

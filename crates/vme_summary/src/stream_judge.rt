@@ -12,7 +12,7 @@ ghost use Rattle.vme_trace.specs.declared.step.Step.{Step};
 ghost use Rattle.vme_listing.specs.Places.{is_well_placed};
 ghost use Rattle.vme_listing.specs.Recorded.{listing_of};
 
-use crate::chunk_judge::{ChunkJudge, MOST_STEPS, go_on};
+use crate::chunk_judge::{ChunkJudge, MOST_STEPS};
 use crate::ghost_steps::GhostSteps;
 use crate::judged_chunk::JudgedChunk;
 use crate::listing_state::ListingState;
@@ -98,7 +98,7 @@ fn judge_waiting<J: ChunkJudge>(
         → J.is_past judging.old o x → J.is_past judging.new o x) }
     ensures kept { OnErr result (waiting.new.items ≡ waiting.old.items) }
 {
-    go_on(judging, alloc, waiting)?;
+    judging.go_on(alloc, waiting)?;
     waiting.clear();
     Ok(())
 }
@@ -127,7 +127,7 @@ impl<J: ChunkJudge> StreamJudge<J> {
         if self.count > MOST_STEPS {
             return Ok(false);
         }
-        go_on(&mut self.judging, alloc, &self.waiting)?;
+        self.judging.go_on(alloc, &self.waiting)?;
         self.waiting.clear();
         Ok(*self.judging.left() == *lines)
     }
@@ -144,7 +144,7 @@ impl<J: ChunkJudge> StreamJudge<J> {
             self.taken = taken;
             return Ok(());
         }
-        go_on(&mut self.judging, alloc, &self.waiting)?;
+        self.judging.go_on(alloc, &self.waiting)?;
         self.waiting.clear();
         self.judging.pass(alloc, part.chunk_summary)?;
         self.count = count;
@@ -168,7 +168,7 @@ impl<J: ChunkJudge> StreamJudge<J> {
             return Err(NoVerdict::TooManyBlocks);
         }
         let mut judging = self.judging;
-        match go_on(&mut judging, alloc, &self.waiting) {
+        match judging.go_on(alloc, &self.waiting) {
             Ok(()) => Ok(judging),
             Err(_) => Err(NoVerdict::Memory),
         }

@@ -53,6 +53,14 @@ impl ChunkJudge for VerdictState {
         self.left = chunk_summary.left;
         Ok(())
     }
+
+    fn go_on(&mut self, alloc: Global, steps: &[Step]) -> Result<(), AllocError> {
+        let _ = alloc;
+        let opening = self.left;
+        self.left = self.found.lead_along(&opening, self.steps, steps);
+        self.steps += steps.len() as u32;
+        Ok(())
+    }
 }
 
 impl VerdictState {

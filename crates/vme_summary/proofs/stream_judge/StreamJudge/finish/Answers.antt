@@ -16,6 +16,6 @@ returns-in-Ok-clause-past g c =
     let t : Trace = record { opening = i.opening; steps = i.taken.items } in
     let judged =
     all-judged (g.J.ChunkJudge.is_past i.judging) i.count i.opening i.taken.items i.waiting.items c.self.invariant
-    c.if-self-gt-MOST_STEPS.false (g.J.ChunkJudge.is_past c.go_on.new.judging)
+    c.if-self-gt-MOST_STEPS.false (g.J.ChunkJudge.is_past c.go_on.new.self)
     (rw c.deref.ensures.value at c.in-Ok.ensures.past) in
-    subst (λ (t : Trace). g.J.ChunkJudge.is_past c.go_on.new.judging t.opening t.steps) c.self.view_is judged
+    subst (λ (t : Trace). g.J.ChunkJudge.is_past c.go_on.new.self t.opening t.steps) c.self.view_is judged

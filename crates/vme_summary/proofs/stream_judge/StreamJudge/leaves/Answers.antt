@@ -10,7 +10,7 @@ returns-clause-leaves g c =
     let i = c.self.inside in
     let judged =
     all-judged (g.J.ChunkJudge.is_past i.judging) i.count i.opening i.taken.items i.waiting.items c.self.invariant
-    c.if-self-gt-MOST_STEPS.false (g.J.ChunkJudge.is_past c.go_on.new.judging)
+    c.if-self-gt-MOST_STEPS.false (g.J.ChunkJudge.is_past c.go_on.new.self)
     (rw c.deref.ensures.value at c.in_ok-go_on.ensures.past) in
     let left = c.left.ensures i.opening i.taken.items judged in
     λ same. ap (λ (t : Trace). levels_after t.opening t.steps) (sym c.self.view_is) ∙ sym left

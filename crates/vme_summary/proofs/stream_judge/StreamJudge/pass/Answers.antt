@@ -15,7 +15,7 @@ invariant_of-self-2 g c =
     let long : length all ≡ length i.taken.items + length p.taken.items = length-append i.taken.items p.taken.items in
     let judged =
     all-judged (g.J.ChunkJudge.is_past i.judging) i.count i.opening i.taken.items i.waiting.items c.self.invariant
-    (omega (arith, few)) (g.J.ChunkJudge.is_past c.go_on.new.judging)
+    (omega (arith, few)) (g.J.ChunkJudge.is_past c.go_on.new.self)
     (rw c.deref.ensures.value at c.in_ok-go_on.ensures.past) in
     let opens : p.opening ≡ levels_after i.opening i.taken.items = ap (λ (t : Trace). t.opening) c.part.view_is
     ∙ c.requires ∙ sym (ap (λ (t : Trace). levels_after t.opening t.steps) c.self.view_is) in
