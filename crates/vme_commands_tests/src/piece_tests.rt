@@ -204,3 +204,11 @@ fn definitions_in_pieces(rt: HostRuntime) {
         faulty("vmecheck: dump line 1: ScopeUnderflow\n"),
     );
 }
+
+/// Several workers look at a body once there is a share for each of them, and wait for no more; one waits for nothing.
+#[test]
+fn a_body_is_shared_once_it_is_enough(rt: HostRuntime) {
+    let four = Workers::new(&rt, 4);
+    assert!(rt; four.want_more(4_194_303) && !four.want_more(4_194_304));
+    assert!(rt; !Workers::new(&rt, 1).want_more(0));
+}

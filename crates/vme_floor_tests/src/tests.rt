@@ -1,6 +1,6 @@
 //! Runs on real threads, on a worked read over the bus and on recordings that go wrong.
 
-ghost use Rattle.std.specs.Prelude.{◌≡◌, IfOk};
+ghost use Rattle.std.specs.Prelude.{◌≡◌};
 ghost use Rattle.vme_summary.specs.Stands.{first_number};
 
 mod early;
@@ -9,10 +9,10 @@ mod hostile;
 mod recordings;
 mod short;
 
-use gates::{Holds, Listens, Waits};
+use gates::{Gathers, Listens, Waits};
 use recordings::{
-    READ_ROWS, RESET_ROWS, broken_recording, broken_rows, read_recording, reset_recording,
-    shuffled, wrong_twice,
+    READ_ROWS, RESET_ROWS, no_changes, picked, picked_of, read_blocks, read_by_fives, reset_blocks,
+    shuffled, wrong_blocks, wrong_rows, wrong_twice,
 };
 use std::alloc::Global;
 use std::process::Abort;
@@ -45,115 +45,154 @@ impl Sink for Page {
     }
 }
 
-/// Whether memory was short in a run, so that it says nothing of another one.
-fn was_short(outcome: &Result<Report, RunFault>) -> bool {
-    let answers = match outcome {
-        Ok(report) => &report.answers,
-        Err(RunFault::Missing { answers, .. }) => answers,
-        Err(RunFault::Torn { answers, .. }) => answers,
-        Err(RunFault::Memory) => return true,
-        Err(_) => return false,
-    };
-    answers.as_slice().contains(&Answer::Memory)
+/// What a run came to: a verdict, or why there is none.
+#[derive(Clone, Copy, PartialEq, Eq)]
+enum Outcome {
+    Judged(Verdict),
+    Missing(u32),
+    Torn(u32),
+    Memory,
+    NoWorker,
+    BadTotal,
+    BadDraws,
+    BadWorkers,
+    Stray,
 }
 
-/// A run. Where memory is short once, it is made again.
-fn run_of<R: Threads + Wait + Sync, G: Gate + Sync>(
-    rt: &R,
-    alloc: Global,
-    deliveries: &[Block],
-    total: u32,
-    workers: u32,
-    gate: &G,
-) -> Result<Report, RunFault>
-    ensures { IfOk result (λ report. first_number report.span ≡ 0) }
-{
-    let outcome = run(rt, alloc, deliveries, total, workers, gate);
-    if was_short(&outcome) {
-        return run(rt, alloc, deliveries, total, workers, gate);
-    }
-    outcome
-}
+/// The verdict on the read.
+const CONFORMING: Outcome = Outcome::Judged(Verdict::Conforming);
 
-/// The report of a run that gives one, at an open gate.
-fn report_of<R: Threads + Wait + Sync>(
-    rt: &R,
-    alloc: Global,
-    deliveries: &[Block],
-    total: u32,
-    workers: u32,
-) -> Result<Report, Fail>
-    ensures { IfOk result (λ report. first_number report.span ≡ 0) }
-{
-    Ok(
-        run_of(rt, alloc, deliveries, total, workers, &Open)
-            .ok()
-            .ok_or("no report")?,
-    )
+/// What a run told. It is smaller than its report, and so are the proofs of what owns it.
+#[derive(Drop)]
+struct Told {
+    outcome: Outcome,
+    answers: Vec<Answer>,
+    /// How many blocks were taken before the joins.
+    early: u32,
+    /// How many steps the recording has.
+    steps: usize,
+    /// The text of its listing.
+    listing: Vec<u8>,
 }
 
 /// The text of the listing of the recording for whose blocks the span stands.
-fn text_of(alloc: Global, span: &Span) -> Option<Page>
+fn text_of(alloc: Global, span: &Span) -> Option<Vec<u8>>
     requires { first_number span.now ≡ 0 }
 {
     let Ok(listing) = span.listing(alloc) else {
         return None;
     };
     let mut page = Page {
-        bytes: Vec::with_capacity(alloc, 4000).ok()?,
+        bytes: Vec::new(alloc),
         failures: 0,
     };
-    write_listing(&listing, &mut page).ok()?;
-    Some(page)
-}
-
-/// That listing has these rows. Where memory is short once, it is made again.
-fn assert_rows(rt: &impl Abort, alloc: Global, span: &Span, rows: &str) -> Result<(), Fail>
-    requires { first_number span.now ≡ 0 }
-{
-    let page = match text_of(alloc, span) {
-        Some(page) => page,
-        None => text_of(alloc, span).ok_or("not written")?,
-    };
-    assert!(rt;
-        page.bytes.as_slice().strip_prefix(b"vmecheck listing 3\n") == Some(rows.as_bytes())
-    );
-    Ok(())
-}
-
-/// Copies of the blocks with these places.
-fn picked(alloc: Global, blocks: &[Block], places: &[usize]) -> Result<Vec<Block>, &'static str> {
-    let room = Vec::with_capacity(alloc, places.len());
-    let mut picked = room.ok().ok_or("no memory")?;
-    for place in places {
-        let copy = blocks.get(*place).ok_or("no such block")?.copy(alloc);
-        picked
-            .push(copy.ok().ok_or("no memory")?)
-            .ok()
-            .ok_or("no memory")?;
+    match write_listing(&listing, &mut page) {
+        Ok(()) => Some(page.bytes),
+        Err(_) => None,
     }
-    Ok(picked)
 }
 
-fn broken(instant: u32, rule: Rule, name: &str) -> Result<Verdict, Fail> {
-    Ok(Verdict::Broken(Break {
-        instant,
-        time: 10 * u64::from(instant.saturating_sub(1)),
-        rule,
-        line: Line::from_name(name.as_bytes()).ok_or("no such line")?,
-    }))
+/// What a report tells. Where memory is short once, its listing is made again.
+fn told_by(alloc: Global, report: Report) -> Option<Told>
+    requires { first_number report.span ≡ 0 }
+{
+    let listing = match text_of(alloc, &report.span) {
+        Some(text) => Some(text),
+        None => text_of(alloc, &report.span),
+    };
+    Some(Told {
+        outcome: Outcome::Judged(report.verdict),
+        answers: report.answers.into_inner(),
+        early: report.early,
+        steps: report.capture.steps().len(),
+        listing: listing?,
+    })
+}
+
+/// What a fault tells.
+fn told_of_fault(alloc: Global, fault: RunFault) -> Told {
+    let (outcome, answers) = match fault {
+        RunFault::Missing { number, answers } => (Outcome::Missing(number), answers.into_inner()),
+        RunFault::Torn { number, answers } => (Outcome::Torn(number), answers.into_inner()),
+        RunFault::Memory => (Outcome::Memory, Vec::new(alloc)),
+        RunFault::NoWorker => (Outcome::NoWorker, Vec::new(alloc)),
+        RunFault::BadTotal => (Outcome::BadTotal, Vec::new(alloc)),
+        RunFault::BadDraws => (Outcome::BadDraws, Vec::new(alloc)),
+        RunFault::BadWorkers => (Outcome::BadWorkers, Vec::new(alloc)),
+        RunFault::Stray => (Outcome::Stray, Vec::new(alloc)),
+    };
+    Told {
+        outcome,
+        answers,
+        early: 0,
+        steps: 0,
+        listing: Vec::new(alloc),
+    }
+}
+
+/// What a run through a gate tells, if its listing can be made.
+fn told_through<R: Threads + Wait + Sync, G: Gate + Sync>(
+    rt: &R,
+    alloc: Global,
+    deliveries: &[Block],
+    total: u32,
+    workers: u32,
+    gate: &G,
+) -> Option<Told> {
+    match run(rt, alloc, deliveries, total, workers, gate) {
+        Ok(report) => told_by(alloc, report),
+        Err(fault) => Some(told_of_fault(alloc, fault)),
+    }
+}
+
+/// The same at an open gate.
+fn told_of<R: Threads + Wait + Sync>(
+    rt: &R,
+    alloc: Global,
+    deliveries: &[Block],
+    total: u32,
+    workers: u32,
+) -> Option<Told> {
+    told_through(rt, alloc, deliveries, total, workers, &Open)
+}
+
+/// What a run of these deliveries comes to, and its answers.
+fn assert_told<R: Threads + Wait + Abort + Sync>(
+    rt: &R,
+    alloc: Global,
+    deliveries: &[Block],
+    total: u32,
+    workers: u32,
+    outcome: &Outcome,
+    answers: &[Answer],
+) {
+    let Some(told) = told_of(rt, alloc, deliveries, total, workers) else {
+        panic!(rt; "not told")
+    };
+    assert!(rt; told.outcome == *outcome && told.answers.as_slice() == answers);
+}
+
+/// How many steps the recording of a run of these deliveries has, and its listing, which ends with the verdict.
+fn assert_listed<R: Threads + Wait + Abort + Sync>(
+    rt: &R,
+    alloc: Global,
+    deliveries: &[Block],
+    total: u32,
+    workers: u32,
+    steps: usize,
+    rows: &str,
+) {
+    let Some(told) = told_of(rt, alloc, deliveries, total, workers) else {
+        panic!(rt; "not told")
+    };
+    assert!(rt; told.steps == steps && told.listing.as_slice() == rows.as_bytes());
 }
 
 #[test]
 fn workers_change_nothing(rt: HostRuntime) -> Result<(), Fail> {
-    let alloc = rt.alloc();
-    let blocks = read_recording(alloc)?.cut(alloc, 1)?;
+    let blocks = read_blocks(rt.alloc(), 1).ok_or("no blocks")?;
     for workers in [1, 2, 64] {
-        let report = report_of(&rt, alloc, blocks.as_slice(), 14, workers)?;
-        assert!(rt; report.verdict == Verdict::Conforming);
-        assert!(rt; report.answers.as_slice() == [Answer::Filed; 14].as_slice());
-        assert!(rt; report.capture.steps().len() == 14);
-        assert_rows(&rt, alloc, &report.span, READ_ROWS)?;
+        assert_listed(&rt, rt.alloc(), &blocks, 14, workers, 14, READ_ROWS);
     }
     Ok(())
 }
@@ -162,75 +201,43 @@ fn workers_change_nothing(rt: HostRuntime) -> Result<(), Fail> {
 #[test]
 fn a_reset_in_any_order(rt: HostRuntime) -> Result<(), Fail> {
     let alloc = rt.alloc();
-    let blocks = reset_recording(alloc)?.cut(alloc, 1)?;
-    let deliveries = picked(
-        alloc,
-        blocks.as_slice(),
-        &[12, 11, 10, 9, 8, 7, 6, 5, 4, 3, 2, 1, 0],
-    )?;
-    let report = report_of(&rt, alloc, deliveries.as_slice(), 13, 3)?;
-    assert!(rt; report.verdict == Verdict::Conforming);
-    assert_rows(&rt, alloc, &report.span, RESET_ROWS)
-}
-
-/// The blocks of the read by fives, and then the second again with another last step.
-fn read_by_fives(alloc: Global) -> Result<Vec<Block>, Fail> {
-    let mut blocks = read_recording(alloc)?.cut(alloc, 5)?;
-    blocks.push(recordings::other_second(alloc)?)?;
-    Ok(blocks)
+    let blocks = reset_blocks(alloc).ok_or("no blocks")?;
+    let backwards = [12, 11, 10, 9, 8, 7, 6, 5, 4, 3, 2, 1, 0];
+    let deliveries = picked(alloc, &blocks, &backwards).ok_or("no blocks")?;
+    assert_listed(&rt, alloc, &deliveries, 13, 3, 13, RESET_ROWS);
+    Ok(())
 }
 
 #[test]
 fn doubled_torn_and_missing(rt: HostRuntime) -> Result<(), Fail> {
     let alloc = rt.alloc();
-    let blocks = read_by_fives(alloc)?;
-    let want = [Answer::Filed, Answer::Filed, Answer::Doubled, Answer::Filed];
-    let deliveries = picked(alloc, blocks.as_slice(), &[0, 1, 3, 2])?;
-    let report = report_of(&rt, alloc, deliveries.as_slice(), 3, 1)?;
-    assert!(rt;
-        report.verdict == Verdict::Conforming && report.answers.as_slice() == want.as_slice()
-    );
-    let deliveries = picked(alloc, blocks.as_slice(), &[0, 3, 1, 2])?;
-    let Err(RunFault::Torn { number, answers }) = run_of(
-        &rt,
-        alloc,
-        deliveries.as_slice(),
-        3,
-        1,
-        &Open,
-    ) else {
-        panic!(rt; "not torn")
-    };
-    assert!(rt; number == 2 && answers.as_slice() == want.as_slice());
-    let deliveries = picked(alloc, blocks.as_slice(), &[0, 1])?;
-    let Err(RunFault::Missing { number, answers }) = run_of(
-        &rt,
-        alloc,
-        deliveries.as_slice(),
-        3,
-        1,
-        &Open,
-    ) else {
-        panic!(rt; "nothing missing")
-    };
-    assert!(rt;
-        number == 2 && answers.into_inner().as_slice() == [Answer::Filed, Answer::Filed].as_slice()
-    );
+    let blocks = read_by_fives(alloc).ok_or("no blocks")?;
+    let filed = Answer::Filed;
+    let doubled = [filed, filed, Answer::Doubled, filed];
+    for (places, outcome, answers) in [
+        ([0, 1, 3, 2].as_slice(), CONFORMING, doubled.as_slice()),
+        (&[0, 3, 1, 2], Outcome::Torn(2), &doubled),
+        (&[0, 1], Outcome::Missing(2), &[filed, filed]),
+    ] {
+        let deliveries = picked(alloc, &blocks, places).ok_or("no blocks")?;
+        assert_told(&rt, alloc, &deliveries, 3, 1, &outcome, answers);
+    }
     Ok(())
 }
 
 /// A block of so many steps that change nothing.
-fn still(alloc: Global, number: u32, count: usize) -> Result<Block, Fail> {
-    let mut steps = Vec::with_capacity(alloc, count)?;
+fn still(alloc: Global, number: u32, count: usize) -> Option<Block> {
+    let mut steps = Vec::with_capacity(alloc, count).ok()?;
     for time in 0..count {
-        steps.push(Step {
+        let step = Step {
             time: time as u64,
-            changes: recordings::no_changes(alloc),
-        })?;
+            changes: no_changes(alloc),
+        };
+        steps.push(step).ok()?;
     }
-    Ok(Block {
+    Some(Block {
         number,
-        opening: Lines::new(3).ok_or("no such backplane")?,
+        opening: Lines::new(3)?,
         steps: Steps::new(steps),
     })
 }
@@ -239,21 +246,14 @@ fn still(alloc: Global, number: u32, count: usize) -> Result<Block, Fail> {
 fn each_refusal_of_a_delivery(rt: HostRuntime) -> Result<(), Fail> {
     let alloc = rt.alloc();
     let mut deliveries = Vec::new(alloc);
-    deliveries.push(still(alloc, 1, 65537)?)?;
-    deliveries.push(still(alloc, 0, 65537)?)?;
-    deliveries.push(still(alloc, 0, 1)?)?;
-    deliveries.push(still(alloc, 0, 0)?)?;
+    for (number, steps) in [(1, 65537), (0, 65537), (0, 1), (0, 0)] {
+        deliveries.push(still(alloc, number, steps).ok_or("no block")?)?;
+    }
+    let malformed = Answer::Malformed { step: 0 };
+    let answers = [Answer::Stranger, Answer::TooLong, malformed, Answer::Filed];
+    let outcome = Outcome::Judged(Verdict::NeverIdle);
     for workers in [1, 4] {
-        let report = report_of(&rt, alloc, deliveries.as_slice(), 1, workers)?;
-        let want = [
-            Answer::Stranger,
-            Answer::TooLong,
-            Answer::Malformed { step: 0 },
-            Answer::Filed,
-        ];
-        assert!(rt;
-            report.answers.as_slice() == want.as_slice() && report.verdict == Verdict::NeverIdle
-        );
+        assert_told(&rt, alloc, &deliveries, 1, workers, &outcome, &answers);
     }
     Ok(())
 }
@@ -263,34 +263,20 @@ fn numbers_out_of_range(rt: HostRuntime) -> Result<(), Fail> {
     let alloc = rt.alloc();
     let mut many = Vec::with_capacity(alloc, 65537)?;
     for _ in 0..65537 {
-        many.push(still(alloc, 0, 0)?)?;
+        many.push(still(alloc, 0, 0).ok_or("no block")?)?;
     }
     let one = many.get(0..1).ok_or("no block")?;
-    for total in [0, 4097] {
-        assert!(rt;
-            matches!(
-                run(&rt, alloc, many.as_slice(), total, 0, &Open),
-                Err(RunFault::BadTotal)
-            )
-        );
+    for (deliveries, total, workers, outcome) in [
+        (many.as_slice(), 0, 0, Outcome::BadTotal),
+        (many.as_slice(), 4097, 0, Outcome::BadTotal),
+        (many.as_slice(), 1, 0, Outcome::BadDraws),
+        (one, 1, 0, Outcome::BadWorkers),
+        (one, 1, 65, Outcome::BadWorkers),
+    ] {
+        assert_told(&rt, alloc, deliveries, total, workers, &outcome, &[]);
     }
-    assert!(rt;
-        matches!(
-            run(&rt, alloc, many.as_slice(), 1, 0, &Open),
-            Err(RunFault::BadDraws)
-        )
-    );
-    for workers in [0, 65] {
-        assert!(rt;
-            matches!(
-                run(&rt, alloc, one, 1, workers, &Open),
-                Err(RunFault::BadWorkers)
-            )
-        );
-    }
-    assert!(rt;
-        report_of(&rt, alloc, one, 1, 64)?.answers.as_slice() == [Answer::Filed].as_slice()
-    );
+    let outcome = Outcome::Judged(Verdict::NeverIdle);
+    assert_told(&rt, alloc, one, 1, 64, &outcome, &[Answer::Filed]);
     Ok(())
 }
 
@@ -300,40 +286,22 @@ fn assert_overlap<R: Threads + Wait + Abort + Sync>(
     alloc: Global,
     blocks: &[Block],
     held: u32,
-    verdict: &Verdict,
-) {
-    let gate = Holds::new(held, 1 - held.min(1));
-    let Ok(report) = run_of(rt, alloc, blocks, 2, 2, &gate) else {
-        panic!(rt; "no report")
-    };
-    assert!(rt; report.answers.as_slice() == [Answer::Filed, Answer::Filed].as_slice());
-    assert!(rt; report.verdict == *verdict);
-    assert!(rt; !gate.gave_up(), "delivery {held} was held too long");
-}
-
-/// The same by a gate that waits.
-fn assert_waits<R: Threads + Wait + Abort + Sync>(
-    rt: &R,
-    alloc: Global,
-    blocks: &[Block],
-    held: u32,
+    outcome: &Outcome,
 ) {
     let gate = Waits::new(rt, held, 1 - held.min(1));
-    let Ok(report) = run_of(rt, alloc, blocks, 2, 2, &gate) else {
-        panic!(rt; "no report")
+    let Some(told) = told_through(rt, alloc, blocks, 2, 2, &gate) else {
+        panic!(rt; "not told")
     };
-    assert!(rt; report.verdict == Verdict::Conforming);
+    assert!(rt; told.outcome == *outcome);
+    assert!(rt; told.answers.as_slice() == [Answer::Filed, Answer::Filed].as_slice());
 }
 
 #[test]
 fn workers_overlap(rt: HostRuntime) -> Result<(), Fail> {
-    let alloc = rt.alloc();
-    let blocks = read_recording(alloc)?.cut(alloc, 7)?;
+    let blocks = read_blocks(rt.alloc(), 7).ok_or("no blocks")?;
     for _ in 0..50 {
-        for held in [0, 1] {
-            assert_overlap(&rt, alloc, blocks.as_slice(), held, &Verdict::Conforming);
-            assert_waits(&rt, alloc, blocks.as_slice(), held);
-        }
+        assert_overlap(&rt, rt.alloc(), &blocks, 0, &CONFORMING);
+        assert_overlap(&rt, rt.alloc(), &blocks, 1, &CONFORMING);
     }
     Ok(())
 }
@@ -341,11 +309,40 @@ fn workers_overlap(rt: HostRuntime) -> Result<(), Fail> {
 /// The break of the block that is judged last is the least one.
 #[test]
 fn the_least_break_is_named(rt: HostRuntime) -> Result<(), Fail> {
-    let alloc = rt.alloc();
-    let blocks = wrong_twice(alloc)?.cut(alloc, 11)?;
-    let verdict = broken(10, Rule::H4, "DTACK")?;
-    for held in [0, 1] {
-        assert_overlap(&rt, alloc, blocks.as_slice(), held, &verdict);
+    let blocks = wrong_twice(rt.alloc()).ok_or("no blocks")?;
+    let outcome = Outcome::Judged(Verdict::Broken(Break {
+        instant: 10,
+        time: 90,
+        rule: Rule::H4,
+        line: Line::from_name(b"DTACK").ok_or("no such line")?,
+    }));
+    assert_overlap(&rt, rt.alloc(), &blocks, 0, &outcome);
+    assert_overlap(&rt, rt.alloc(), &blocks, 1, &outcome);
+    Ok(())
+}
+
+/// So many workers are at the gate at once, each by its number, and what the calling thread filed itself was taken
+/// before the joins.
+fn assert_meeting<R: Threads + Wait + Abort + Sync>(
+    rt: &R,
+    alloc: Global,
+    blocks: &[Block],
+    workers: u32,
+    numbers: u64,
+) {
+    let gate = Gathers::new(rt, workers.saturating_sub(1));
+    let Some(told) = told_through(rt, alloc, blocks, 67, workers, &gate) else {
+        panic!(rt; "not told")
+    };
+    assert!(rt; gate.workers() == (numbers, numbers));
+    assert!(rt; 2 <= told.early && told.early <= 67);
+}
+
+#[test]
+fn workers_meet_at_the_gate(rt: HostRuntime) -> Result<(), Fail> {
+    let blocks = wrong_blocks(rt.alloc(), 3).ok_or("no blocks")?;
+    for (workers, numbers) in [(2, 3), (3, 7), (64, u64::MAX)] {
+        assert_meeting(&rt, rt.alloc(), &blocks, workers, numbers);
     }
     Ok(())
 }
@@ -353,20 +350,15 @@ fn the_least_break_is_named(rt: HostRuntime) -> Result<(), Fail> {
 /// A gate is told the worker and the delivery, before and after it.
 #[test]
 fn gates_are_told(rt: HostRuntime) -> Result<(), Fail> {
-    let alloc = rt.alloc();
-    let blocks = read_recording(alloc)?.cut(alloc, 1)?;
+    let blocks = read_blocks(rt.alloc(), 1).ok_or("no blocks")?;
     let gate = Listens::new();
-    let Ok(_) = run(&rt, alloc, blocks.as_slice(), 14, 1, &gate) else {
-        return Ok(());
-    };
+    told_through(&rt, rt.alloc(), &blocks, 14, 1, &gate).ok_or("not told")?;
     assert!(rt; gate.heard_in_order(14));
     Ok(())
 }
 
 #[test]
 fn every_order(rt: HostRuntime) -> Result<(), Fail> {
-    let alloc = rt.alloc();
-    let blocks = read_recording(alloc)?.cut(alloc, 5)?;
     for order in [
         [0, 1, 2],
         [0, 2, 1],
@@ -375,56 +367,26 @@ fn every_order(rt: HostRuntime) -> Result<(), Fail> {
         [2, 0, 1],
         [2, 1, 0],
     ] {
-        let deliveries = picked(alloc, blocks.as_slice(), &order)?;
-        for _ in 0..100 {
-            let report = report_of(&rt, alloc, deliveries.as_slice(), 3, 3)?;
-            assert!(rt; report.verdict == Verdict::Conforming);
-            assert!(rt; report.answers.as_slice() == [Answer::Filed; 3].as_slice());
-            assert_rows(&rt, alloc, &report.span, READ_ROWS)?;
+        let deliveries = picked_of(rt.alloc(), 5, &order).ok_or("no blocks")?;
+        for _ in 0..25 {
+            assert_listed(&rt, rt.alloc(), &deliveries, 3, 3, 14, READ_ROWS);
         }
     }
     Ok(())
 }
 
-/// A recording of 200 steps that breaks a rule in its middle, cut by these sizes, each block delivered twice and
+/// A recording of 200 steps that breaks a rule in its middle, cut in several ways, each block delivered twice and
 /// shuffled.
-fn assert_cuts<R: Threads + Wait + Abort + Sync>(
-    rt: &R,
-    alloc: Global,
-    first: u32,
-    last: u32,
-) -> Result<(), Fail> {
-    let recording = broken_recording(alloc)?;
-    assert!(rt; recording.steps().len() == 200);
-    let verdict = broken(100, Rule::H4, "DTACK")?;
-    let rows = broken_rows(alloc)?;
-    for size in first..=last {
-        let blocks = recording.cut(alloc, size)?;
-        let total = u32::try_from(blocks.len()).ok().ok_or("too many blocks")?;
-        let deliveries = shuffled(alloc, blocks.as_slice(), size as usize)?;
-        for workers in [1, 2, 3, 64] {
-            let report = report_of(rt, alloc, deliveries.as_slice(), total, workers)?;
-            assert!(rt;
-                report.verdict == verdict,
-                "in blocks of {size} by {workers}"
-            );
-            assert_rows(rt, alloc, &report.span, rows.as_str())?;
+#[test]
+fn cuts(rt: HostRuntime) -> Result<(), Fail> {
+    let alloc = rt.alloc();
+    let rows = wrong_rows(alloc).ok_or("no rows")?;
+    for (size, total) in [(3, 67), (7, 29), (64, 4), (199, 2), (200, 1)] {
+        let blocks = wrong_blocks(alloc, size).ok_or("no blocks")?;
+        let deliveries = shuffled(alloc, &blocks, size).ok_or("no blocks")?;
+        for workers in [1, 3, 64] {
+            assert_listed(&rt, alloc, &deliveries, total, workers, 200, rows.as_str());
         }
     }
     Ok(())
-}
-
-#[test]
-fn cuts_by_few_steps(rt: HostRuntime) -> Result<(), Fail> {
-    assert_cuts(&rt, rt.alloc(), 1, 4)
-}
-
-#[test]
-fn cuts_by_some_steps(rt: HostRuntime) -> Result<(), Fail> {
-    assert_cuts(&rt, rt.alloc(), 5, 70)
-}
-
-#[test]
-fn cuts_by_many_steps(rt: HostRuntime) -> Result<(), Fail> {
-    assert_cuts(&rt, rt.alloc(), 71, 200)
 }

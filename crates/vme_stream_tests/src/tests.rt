@@ -1,7 +1,12 @@
-use std::alloc::Global;
+ghost use Rattle.std.specs.Prelude.{ℕ, ◌≤◌, length, IfOk};
+
+use std::alloc::{AllocError, Global};
 use std::io::{self, Error, ErrorKind, Read, Write};
 use std::test::Fail;
-use vme_stream::{Bytes, InFault, Io, Message, complain, read_all, write_all, write_message};
+use vme_stream::{
+    ByteConsumer, Bytes, InFault, Io, Message, complain, read_all, read_by, write_all,
+    write_message,
+};
 
 const TEXT: &[u8] = b"a line of some bytes\nand another\n";
 
@@ -123,6 +128,55 @@ fn a_source_that_fails_cannot_be_read(rt: HostRuntime) {
         let read = read_all(rt.alloc(), &mut source).err();
         assert!(rt; read == Some(InFault::Read), "{place}");
     }
+}
+
+/// Takes all but the last three of 1,000 bytes or more, and none of fewer. It counts them, and notes the most that it
+/// was given.
+#[derive(Drop)]
+struct Thousands {
+    taken: usize,
+    most: usize,
+}
+
+impl ByteConsumer for Thousands {
+    ghost Outcome = { ℕ };
+
+    ghost ahead = { λ _ _. 0 };
+}
+
+impl Thousands {
+    fn take(self, bytes: &[u8]) -> Result<(Thousands, usize), AllocError>
+        ensures { IfOk result (λ made. made.1 ≤ length bytes.now) }
+    {
+        let count = if bytes.len() < 1000 {
+            0
+        } else {
+            bytes.len() - 3
+        };
+        let next = Thousands {
+            taken: self.taken.saturating_add(count),
+            most: self.most.max(bytes.len()),
+        };
+        Ok((next, count))
+    }
+}
+
+/// A source is read in as much room as what is taken at once needs, however long it is.
+#[test]
+fn a_long_source_is_read_in_little_room(rt: HostRuntime) -> Result<(), Fail> {
+    let bytes = Vec::from_elem(rt.alloc(), 7u8, 1_000_000)?;
+    let none = Thousands { taken: 0, most: 0 };
+    let (made, rest) = read_by(
+        rt.alloc(),
+        &mut Bytes::new(&bytes),
+        none,
+        64,
+        &|all: Thousands, bytes: &[u8]| all.take(bytes),
+    )
+    .ok()
+    .ok_or("not read")?;
+    assert!(rt; made.taken + rest.len() == 1_000_000 && made.most <= 16_384);
+    Ok(())
 }
 
 #[test]

@@ -29,7 +29,8 @@ use Rattle.vme_summary.specs.Progressed.{HasMonitorState}
 use Rattle.vme_summary.specs.declared.monitor_states.MonitorState.{MonitorState}
 
 -- one step more
-pub led_on : {P : Type 0} (next : P → Levels → Levels → List Change → Next P) (begin : Levels → P) (a b : MonitorState P)
+pub led_on : {P : Type 0} (next : P → Levels → Levels → List Change → Next P) (begin : Levels
+    → P) (a b : MonitorState P)
     (o : Levels) (x : List Step) (s : Step) (before after : Levels) (n : ℕ) → before ≡ levels_after o x
     → after ≡ changed before s.changes → n ≡ length x + 1
     → b.memory ≡ (next a.memory before after s.changes).memory

@@ -1,50 +1,36 @@
 //! Blocks that the calling thread takes before the threads are joined.
 
-use super::recordings::read_recording;
-use super::{picked, report_of, run_of};
-use std::alloc::Global;
-use std::process::Abort;
-use std::sync::Wait;
+use super::gates::Listens;
+use super::recordings::{picked_of, read_blocks};
+use super::{CONFORMING, Outcome, assert_told, told_of, told_through};
 use std::test::Fail;
-use std::thread::Threads;
-use vme_floor::{Open, RunFault};
-use vme_trace::{Block, Verdict};
-
-/// One worker takes every block.
-fn assert_takes_all<R: Threads + Wait + Abort + Sync>(
-    rt: &R,
-    alloc: Global,
-    deliveries: &[Block],
-    total: u32,
-) -> Result<(), Fail> {
-    let report = report_of(rt, alloc, deliveries, total, 1)?;
-    assert!(rt; report.early == total && report.verdict == Verdict::Conforming);
-    Ok(())
-}
+use vme_floor::Answer;
 
 /// One worker takes every block as soon as it is filed, in whatever order they come.
 #[test]
 fn one_worker_takes_all(rt: HostRuntime) -> Result<(), Fail> {
-    let alloc = rt.alloc();
-    let recording = read_recording(alloc)?;
-    let by_fives = recording.cut(alloc, 5)?;
-    assert_takes_all(&rt, alloc, by_fives.as_slice(), 3)?;
-    let by_ones = recording.cut(alloc, 1)?;
-    assert_takes_all(&rt, alloc, by_ones.as_slice(), 14)?;
-    let backwards = [13, 12, 11, 10, 9, 8, 7, 6, 5, 4, 3, 2, 1, 0];
-    let deliveries = picked(alloc, by_ones.as_slice(), &backwards)?;
-    assert_takes_all(&rt, alloc, deliveries.as_slice(), 14)
+    for order in [
+        [0, 1, 2, 3, 4, 5, 6, 7, 8, 9, 10, 11, 12, 13],
+        [13, 12, 11, 10, 9, 8, 7, 6, 5, 4, 3, 2, 1, 0],
+    ] {
+        let deliveries = picked_of(rt.alloc(), 1, &order).ok_or("no blocks")?;
+        let told = told_of(&rt, rt.alloc(), &deliveries, 14, 1).ok_or("not told")?;
+        assert!(rt; told.early == 14 && told.outcome == CONFORMING);
+    }
+    Ok(())
 }
 
-/// Of several workers, the calling thread takes some blocks, and the others are inserted after the joins.
+/// The calling thread takes no block where it delivers none: so many workers share one delivery until another has it.
 #[test]
-fn no_more_are_early_than_there_are(rt: HostRuntime) -> Result<(), Fail> {
-    let alloc = rt.alloc();
-    let blocks = read_recording(alloc)?.cut(alloc, 1)?;
-    for workers in [2, 3, 64] {
-        for _ in 0..20 {
-            let report = report_of(&rt, alloc, blocks.as_slice(), 14, workers)?;
-            assert!(rt; report.early <= 14 && report.verdict == Verdict::Conforming);
+fn without_a_delivery_nothing_is_taken(rt: HostRuntime) -> Result<(), Fail> {
+    let blocks = read_blocks(rt.alloc(), 14).ok_or("no blocks")?;
+    for _ in rt.forever() {
+        let gate = Listens::new();
+        let told = told_through(&rt, rt.alloc(), &blocks, 1, 64, &gate).ok_or("not told")?;
+        let is_own = gate.heard_in_order(1);
+        assert!(rt; told.early == u32::from(is_own) && told.outcome == CONFORMING);
+        if !is_own {
+            break;
         }
     }
     Ok(())
@@ -53,21 +39,11 @@ fn no_more_are_early_than_there_are(rt: HostRuntime) -> Result<(), Fail> {
 /// A number that nobody delivers is missing, though blocks behind it were taken.
 #[test]
 fn missing_behind_a_gap(rt: HostRuntime) -> Result<(), Fail> {
-    let alloc = rt.alloc();
-    let blocks = read_recording(alloc)?.cut(alloc, 5)?;
-    let deliveries = picked(alloc, blocks.as_slice(), &[2, 0])?;
+    let deliveries = picked_of(rt.alloc(), 5, &[2, 0]).ok_or("no blocks")?;
+    let filed = [Answer::Filed, Answer::Filed];
     for workers in [1, 2] {
-        let Err(RunFault::Missing { number, .. }) = run_of(
-            &rt,
-            alloc,
-            deliveries.as_slice(),
-            3,
-            workers,
-            &Open,
-        ) else {
-            return Err("no number is missing".into());
-        };
-        assert_eq!(rt; number, 1);
+        let outcome = Outcome::Missing(1);
+        assert_told(&rt, rt.alloc(), &deliveries, 3, workers, &outcome, &filed);
     }
     Ok(())
 }

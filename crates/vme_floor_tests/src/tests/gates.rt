@@ -1,53 +1,8 @@
-//! Gates that hold, wait and listen.
+//! Gates that hold workers and listen to them.
 
 use std::sync::atomic::{AtomicBool, AtomicU32, Ordering};
 use std::sync::{Condvar, Mutex, Wait};
 use vme_floor::Gate;
-
-/// Holds one delivery until another is done, for 100,000,000 turns at most.
-#[derive(Drop)]
-pub(super) struct Holds {
-    held: u32,
-    until: u32,
-    done: AtomicBool,
-    gave_up: AtomicBool,
-}
-
-impl Holds {
-    pub(super) fn new(held: u32, until: u32) -> Holds {
-        Holds {
-            held,
-            until,
-            done: AtomicBool::new(false),
-            gave_up: AtomicBool::new(false),
-        }
-    }
-
-    /// Whether the delivery was held for all of the turns.
-    pub(super) fn gave_up(&self) -> bool {
-        self.gave_up.load(Ordering::SeqCst)
-    }
-}
-
-impl Gate for Holds {
-    fn pass(&self, _worker: u32, delivery: u32) {
-        if delivery != self.held {
-            return;
-        }
-        for _ in 0..100_000_000u32 {
-            if self.done.load(Ordering::SeqCst) {
-                return;
-            }
-        }
-        self.gave_up.store(true, Ordering::SeqCst);
-    }
-
-    fn done(&self, _worker: u32, delivery: u32) {
-        if delivery == self.until {
-            self.done.store(true, Ordering::SeqCst);
-        }
-    }
-}
 
 /// Holds one delivery until another is done, however long that takes.
 #[derive(Drop)]
@@ -83,6 +38,75 @@ impl<R: Wait> Gate for Waits<R> {
     fn done(&self, _worker: u32, delivery: u32) {
         if delivery == self.until {
             *self.done.lock(&self.rt) = true;
+            self.changed.notify_all();
+        }
+    }
+}
+
+/// Who came to a gate, and what was done there. A worker is the bit of its number.
+#[derive(Clone, Copy)]
+struct Seen {
+    came: u64,
+    done: u64,
+    /// How often other workers than the calling thread came.
+    others: u32,
+    /// How often the calling thread was done.
+    own: u32,
+}
+
+/// Holds each other worker until the calling thread was done twice, and that thread at its second delivery until so
+/// many others have come: then all of them are there at once.
+#[derive(Drop)]
+pub(super) struct Gathers<R: Wait> {
+    rt: R,
+    others: u32,
+    seen: Mutex<Seen>,
+    changed: Condvar,
+}
+
+impl<R: Wait> Gathers<R> {
+    pub(super) fn new(rt: R, others: u32) -> Gathers<R> {
+        let none = Seen {
+            came: 0,
+            done: 0,
+            others: 0,
+            own: 0,
+        };
+        Gathers {
+            rt,
+            others,
+            seen: Mutex::new(none),
+            changed: Condvar::new(),
+        }
+    }
+
+    /// The workers that came, and those that were done.
+    pub(super) fn workers(&self) -> (u64, u64) {
+        let seen = self.seen.lock(&self.rt);
+        (seen.came, seen.done)
+    }
+}
+
+impl<R: Wait> Gate for Gathers<R> {
+    fn pass(&self, worker: u32, _delivery: u32) {
+        let mut seen = self.seen.lock(&self.rt);
+        seen.came |= 1u64.wrapping_shl(worker);
+        if worker == 0 {
+            let _met = self.changed.wait_while(&self.rt, seen, |seen| {
+                seen.own == 1 && seen.others < self.others
+            });
+            return;
+        }
+        seen.others = seen.others.saturating_add(1);
+        self.changed.notify_all();
+        let _met = self.changed.wait_while(&self.rt, seen, |seen| seen.own < 2);
+    }
+
+    fn done(&self, worker: u32, _delivery: u32) {
+        let mut seen = self.seen.lock(&self.rt);
+        seen.done |= 1u64.wrapping_shl(worker);
+        if worker == 0 {
+            seen.own = seen.own.saturating_add(1);
             self.changed.notify_all();
         }
     }

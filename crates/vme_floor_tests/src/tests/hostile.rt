@@ -1,58 +1,54 @@
 //! Deliveries that a careful caller doesn't make, by four workers at once.
 
-use super::recordings::{READ_ROWS, no_changes, read_recording};
-use super::{assert_rows, picked, read_by_fives, report_of, run_of};
+use super::recordings::{READ_ROWS, block_of, no_changes, picked, read_blocks, read_by_fives};
+use super::{CONFORMING, Outcome, assert_told, told_of};
 use std::alloc::Global;
-use std::process::Abort;
-use std::sync::Wait;
 use std::test::Fail;
-use std::thread::Threads;
-use vme_floor::{Answer, Open, RunFault};
-use vme_trace::{Block, Steps, Verdict};
+use vme_floor::Answer;
+use vme_trace::{Block, Steps};
 
 /// How often each run is made.
-const TIMES: u32 = 200;
+const TIMES: u32 = 50;
 
 /// The first block of the read by fives, with a number that isn't below the total.
-fn stranger(alloc: Global) -> Result<Block, Fail> {
-    for block in read_recording(alloc)?.cut(alloc, 5)? {
-        if block.number == 0 {
-            return Ok(Block {
-                number: 7,
-                opening: block.opening,
-                steps: block.steps,
-            });
-        }
-    }
-    Err("no first block")?
+fn stranger(alloc: Global) -> Option<Block> {
+    let block = block_of(read_blocks(alloc, 5)?, 0)?;
+    Some(Block {
+        number: 7,
+        opening: block.opening,
+        steps: block.steps,
+    })
 }
 
 /// The second block of the read by fives, with no change in its first step.
-fn malformed(alloc: Global) -> Result<Block, Fail> {
-    for block in read_recording(alloc)?.cut(alloc, 5)? {
-        if block.number == 1 {
-            let mut steps = block.steps.into_inner();
-            if steps.is_empty() {
-                return Err("no step")?;
-            }
-            steps[0].changes = no_changes(alloc);
-            return Ok(Block {
-                number: 1,
-                opening: block.opening,
-                steps: Steps::new(steps),
-            });
-        }
+fn malformed(alloc: Global) -> Option<Block> {
+    let block = block_of(read_blocks(alloc, 5)?, 1)?;
+    let mut steps = block.steps.into_inner();
+    if let Some(first) = steps.first_mut() {
+        first.changes = no_changes(alloc);
     }
-    Err("no second block")?
+    Some(Block {
+        number: 1,
+        opening: block.opening,
+        steps: Steps::new(steps),
+    })
 }
 
-/// The answers to a stranger and a malformed block among the three of a read, the last of which came twice.
+/// A stranger, the first block, a malformed one, the second, and the last twice.
+fn hostile(alloc: Global) -> Option<Vec<Block>> {
+    let mut blocks = read_by_fives(alloc)?;
+    blocks.push(stranger(alloc)?).ok()?;
+    blocks.push(malformed(alloc)?).ok()?;
+    picked(alloc, &blocks, &[4, 0, 5, 1, 2, 2])
+}
+
+/// The answers to these.
 fn are_as_due(answers: &[Answer]) -> bool {
     let [first, second, third, fourth, fifth, sixth] = answers else {
         return false;
     };
     let last_two = (*fifth, *sixth);
-    (*first, *second) == (Answer::Filed, Answer::Stranger)
+    (*first, *second) == (Answer::Stranger, Answer::Filed)
         && (*third, *fourth) == (Answer::Malformed { step: 0 }, Answer::Filed)
         && (last_two == (Answer::Filed, Answer::Doubled)
             || last_two == (Answer::Doubled, Answer::Filed))
@@ -60,64 +56,34 @@ fn are_as_due(answers: &[Answer]) -> bool {
 
 #[test]
 fn a_stranger_a_malformed_and_a_doubled_block(rt: HostRuntime) -> Result<(), Fail> {
-    let alloc = rt.alloc();
-    let mut blocks = read_by_fives(alloc)?;
-    blocks.push(stranger(alloc)?)?;
-    blocks.push(malformed(alloc)?)?;
-    let deliveries = picked(alloc, blocks.as_slice(), &[0, 4, 5, 1, 2, 2])?;
+    let deliveries = hostile(rt.alloc()).ok_or("no blocks")?;
     for _ in 0..TIMES {
-        let report = report_of(&rt, alloc, deliveries.as_slice(), 3, 4)?;
-        assert!(rt; are_as_due(report.answers.as_slice()));
-        assert!(rt; report.verdict == Verdict::Conforming);
-        assert_rows(&rt, alloc, &report.span, READ_ROWS)?;
+        let told = told_of(&rt, rt.alloc(), &deliveries, 3, 4).ok_or("not told")?;
+        assert!(rt; told.outcome == CONFORMING && are_as_due(&told.answers));
+        assert!(rt; told.listing.as_slice() == READ_ROWS.as_bytes());
     }
     Ok(())
 }
 
-/// A run of these deliveries ends without block 0, and all that were made are filed.
-fn assert_first_missing<R: Threads + Wait + Abort + Sync>(
-    rt: &R,
-    alloc: Global,
-    deliveries: &[Block],
-    filed: &[Answer],
-) {
-    let Err(RunFault::Missing { number, answers }) = run_of(rt, alloc, deliveries, 3, 4, &Open)
-    else {
-        panic!(rt; "nothing missing")
-    };
-    assert!(rt; number == 0 && answers.as_slice() == filed);
-}
-
+/// No delivery at all, two without the first block, and three whose second block doesn't join.
 #[test]
-fn missing_blocks(rt: HostRuntime) -> Result<(), Fail> {
+fn missing_and_torn_blocks(rt: HostRuntime) -> Result<(), Fail> {
     let alloc = rt.alloc();
-    let blocks = read_by_fives(alloc)?;
-    let none = picked(alloc, blocks.as_slice(), &[])?;
-    let two = picked(alloc, blocks.as_slice(), &[2, 1])?;
-    for _ in 0..TIMES {
-        assert_first_missing(&rt, alloc, none.as_slice(), &[]);
-        assert_first_missing(&rt, alloc, two.as_slice(), &[Answer::Filed, Answer::Filed]);
-    }
-    Ok(())
-}
-
-#[test]
-fn a_torn_block(rt: HostRuntime) -> Result<(), Fail> {
-    let alloc = rt.alloc();
-    let blocks = read_by_fives(alloc)?;
-    let deliveries = picked(alloc, blocks.as_slice(), &[0, 3, 2])?;
-    for _ in 0..TIMES {
-        let Err(RunFault::Torn { number, answers }) = run_of(
-            &rt,
-            alloc,
-            deliveries.as_slice(),
-            3,
-            4,
-            &Open,
-        ) else {
-            panic!(rt; "not torn")
-        };
-        assert!(rt; number == 2 && answers.as_slice() == [Answer::Filed; 3].as_slice());
+    let blocks = read_by_fives(alloc).ok_or("no blocks")?;
+    let filed = [Answer::Filed; 3];
+    for (places, outcome, answers) in [
+        ([].as_slice(), Outcome::Missing(0), [].as_slice()),
+        (
+            &[2, 1],
+            Outcome::Missing(0),
+            &[Answer::Filed, Answer::Filed],
+        ),
+        (&[0, 3, 2], Outcome::Torn(2), &filed),
+    ] {
+        let deliveries = picked(alloc, &blocks, places).ok_or("no blocks")?;
+        for _ in 0..TIMES {
+            assert_told(&rt, alloc, &deliveries, 3, 4, &outcome, answers);
+        }
     }
     Ok(())
 }

@@ -1,8 +1,8 @@
-//! Recordings by texts: a step is the lines that change, with their new levels, and steps stand ten units apart.
+//! The blocks of recordings by texts: a step is the lines that change, with their new levels, and steps stand ten units
+//! apart. None is made where there is no memory.
 
 use smallvec::SmallVec;
 use std::alloc::Global;
-use std::test::Fail;
 use vme_trace::{Block, Capture, Change, Changes, LINE_COUNT, Level, Line, Lines, Step};
 
 /// Every line gets high but A24 to A31, and a requester in slot 2 takes the bus by level 3.
@@ -14,10 +14,18 @@ const ADDRESSED: &str = "AM1=0 AM2=0 A05=0";
 /// A read there, of five steps.
 const READ: &str = "AS=0;DS0=0 DS1=0;DTACK=0;AS=1 DS0=1 DS1=1;DTACK=1";
 
-/// What the listing of the read says.
+/// An answer that no strobe asks for.
+const WRONG: &str = "AS=0;DTACK=0;AS=1;DTACK=1";
+
+/// The listing of the read.
 pub(super) const READ_ROWS: &str =
-    "start 1\ntenure 5 level 3 slot 2 end 14\ncycle 9 S 39 FFFFDE end 12\ntransfer 10 of 9 read DTACK 11 close 12\n\
-        verdict conforming\n";
+    "vmecheck listing 3\nstart 1\ntenure 5 level 3 slot 2 end 14\ncycle 9 S 39 FFFFDE end 12\n\
+        transfer 10 of 9 read DTACK 11 close 12\nverdict conforming\n";
+
+/// The listing of the read that a reset ends.
+pub(super) const RESET_ROWS: &str =
+    "vmecheck listing 3\nstart 1\ntenure 5 level 3 slot 2 end -\ncycle 9 S 39 FFFFDE end -\n\
+        transfer 10 read pending\nreset 11\nstart 13\nverdict conforming\n";
 
 pub(super) fn no_changes(alloc: Global) -> Changes {
     Changes::new(SmallVec::new(alloc))
@@ -37,156 +45,146 @@ fn change_of(word: &str) -> Option<Change> {
 }
 
 /// Adds that each line but A24 to A31 gets high.
-fn push_quiet(changes: &mut Vec<Change>, lines: &Lines) -> Result<(), &'static str> {
+fn push_quiet(changes: &mut Vec<Change>, lines: &Lines) -> Option<()> {
     for number in 0..LINE_COUNT {
-        let line = Line::from_number(number).ok_or("no such line")?;
+        let line = Line::from_number(number)?;
         if lines.has(line) && !(37..=44).contains(&number) {
-            let change = Change {
-                line,
-                level: Level::High,
-            };
-            changes.push(change).ok().ok_or("no memory")?;
+            let level = Level::High;
+            changes.push(Change { line, level }).ok()?;
         }
     }
-    Ok(())
+    Some(())
 }
 
 /// The step that a text says.
-fn step_of(alloc: Global, lines: &Lines, time: u64, text: &str) -> Result<Step, &'static str> {
+fn step_of(alloc: Global, lines: &Lines, time: u64, text: &str) -> Option<Step> {
     let mut changes = Vec::new(alloc);
     for word in text.split_whitespace() {
         if word == "quiet" {
             push_quiet(&mut changes, lines)?;
         } else {
-            let change = change_of(word).ok_or("no change")?;
-            changes.push(change).ok().ok_or("no memory")?;
+            changes.push(change_of(word)?).ok()?;
         }
     }
-    let list = SmallVec::from_slice(alloc, changes.as_slice());
-    Ok(Step {
+    let list = SmallVec::from_slice(alloc, changes.as_slice()).ok()?;
+    Some(Step {
         time,
-        changes: Changes::new(list.ok().ok_or("no memory")?),
+        changes: Changes::new(list),
     })
 }
 
 /// Adds the steps of a text.
-fn push_steps(
-    alloc: Global,
-    steps: &mut Vec<Step>,
-    lines: &Lines,
-    text: &str,
-) -> Result<(), &'static str> {
+fn push_steps(alloc: Global, steps: &mut Vec<Step>, lines: &Lines, text: &str) -> Option<()> {
     for part in text.split(';') {
         let time = (steps.len() as u64).saturating_mul(10);
-        let step = step_of(alloc, lines, time, part)?;
-        steps.push(step).ok().ok_or("no memory")?;
+        steps.push(step_of(alloc, lines, time, part)?).ok()?;
     }
-    Ok(())
+    Some(())
 }
 
-/// The recording of these texts, one after the other, on a backplane of three slots whose lines are unknown before.
-fn recording_of(alloc: Global, texts: &[&str]) -> Result<Capture, &'static str> {
-    let opening = Lines::new(3).ok_or("no such backplane")?;
+/// The recording of these texts, one after the other, on a backplane of three slots whose lines are unknown before, cut
+/// into blocks of so many steps.
+fn blocks_of(alloc: Global, texts: &[&str], size: u32) -> Option<Vec<Block>> {
+    let opening = Lines::new(3)?;
     let mut steps = Vec::new(alloc);
     for text in texts {
         push_steps(alloc, &mut steps, &opening, text)?;
     }
-    Capture::new(opening, steps).ok().ok_or("malformed")
+    let recording = Capture::new(opening, steps).ok()?;
+    recording.cut(alloc, size).ok()
 }
 
 /// A read, after which the bus is given back: 14 steps.
-pub(super) fn read_recording(alloc: Global) -> Result<Capture, &'static str> {
-    recording_of(alloc, &[GRANTED, ADDRESSED, READ, "BBSY=1"])
+pub(super) fn read_blocks(alloc: Global, size: u32) -> Option<Vec<Block>> {
+    blocks_of(alloc, &[GRANTED, ADDRESSED, READ, "BBSY=1"], size)
 }
 
-/// A read that a reset leaves without an answer: 13 steps.
-pub(super) fn reset_recording(alloc: Global) -> Result<Capture, &'static str> {
-    recording_of(
-        alloc,
-        &[
-            GRANTED,
-            ADDRESSED,
-            "AS=0;DS0=0 DS1=0;SYSRESET=0",
-            "AS=1 DS0=1 DS1=1 BBSY=1;SYSRESET=1",
-        ],
-    )
-}
-
-/// What its listing says.
-pub(super) const RESET_ROWS: &str =
-    "start 1\ntenure 5 level 3 slot 2 end -\ncycle 9 S 39 FFFFDE end -\ntransfer 10 read pending\nreset 11\n\
-        start 13\nverdict conforming\n";
-
-/// The second block of the read cut by fives, with a fall of DS0 alone as its last step.
-pub(super) fn other_second(alloc: Global) -> Result<Block, Fail> {
-    let other = recording_of(alloc, &[GRANTED, ADDRESSED, "AS=0;DS0=0"])?;
-    for block in other.cut(alloc, 5)? {
-        if block.number == 1 {
-            return Ok(block);
+/// The block of a number among these.
+pub(super) fn block_of(blocks: Vec<Block>, number: u32) -> Option<Block> {
+    for block in blocks {
+        if block.number == number {
+            return Some(block);
         }
     }
-    Err("no second block")?
+    None
 }
 
-/// A recording of 22 steps with an answer and no strobe at instant 10, and again at instant 14.
-pub(super) fn wrong_twice(alloc: Global) -> Result<Capture, &'static str> {
-    recording_of(
+/// The blocks of the read by fives, and then the second again, with a fall of DS0 alone as its last step.
+pub(super) fn read_by_fives(alloc: Global) -> Option<Vec<Block>> {
+    let mut blocks = read_blocks(alloc, 5)?;
+    let other = blocks_of(alloc, &[GRANTED, ADDRESSED, "AS=0;DS0=0"], 5)?;
+    blocks.push(block_of(other, 1)?).ok()?;
+    Some(blocks)
+}
+
+/// A read that a reset leaves without an answer, by its 13 steps.
+pub(super) fn reset_blocks(alloc: Global) -> Option<Vec<Block>> {
+    let reset = "AS=0;DS0=0 DS1=0;SYSRESET=0;AS=1 DS0=1 DS1=1 BBSY=1;SYSRESET=1";
+    blocks_of(alloc, &[GRANTED, ADDRESSED, reset], 1)
+}
+
+/// The halves of a recording of 22 steps with an answer and no strobe at instant 10, and again at instant 14.
+pub(super) fn wrong_twice(alloc: Global) -> Option<Vec<Block>> {
+    blocks_of(
         alloc,
-        &[
-            GRANTED,
-            ADDRESSED,
-            "AS=0;DTACK=0;AS=1;DTACK=1",
-            "AS=0;DTACK=0;AS=1;DTACK=1",
-            READ,
-            "BBSY=1",
-        ],
+        &[GRANTED, ADDRESSED, WRONG, WRONG, READ, "BBSY=1"],
+        11,
     )
 }
 
-/// How many reads stand before the wrong answer.
-const READS_BEFORE: u32 = 18;
-
 /// A recording of 200 steps: 18 reads, an answer without a strobe at instant 100, and 19 more reads and a part of one.
-pub(super) fn broken_recording(alloc: Global) -> Result<Capture, Fail> {
-    let mut texts = Vec::new(alloc);
-    texts.push(GRANTED)?;
-    texts.push(ADDRESSED)?;
-    for _ in 0..READS_BEFORE {
-        texts.push(READ)?;
-    }
-    texts.push("AS=0;DTACK=0;AS=1;DTACK=1")?;
-    for _ in 0..19 {
-        texts.push(READ)?;
-    }
-    texts.push("AS=0;DS0=0 DS1=0;DTACK=0")?;
-    Ok(recording_of(alloc, texts.as_slice())?)
+pub(super) fn wrong_blocks(alloc: Global, size: u32) -> Option<Vec<Block>> {
+    let mut texts = [READ; 41];
+    texts[0] = GRANTED;
+    texts[1] = ADDRESSED;
+    texts[20] = WRONG;
+    texts[40] = "AS=0;DS0=0 DS1=0;DTACK=0";
+    blocks_of(alloc, &texts, size)
 }
 
-/// What its listing says.
-pub(super) fn broken_rows(alloc: Global) -> Result<String, Fail> {
-    let mut rows = String::new(alloc);
-    rows.push_str("start 1\ntenure 5 level 3 slot 2 end -\n")?;
-    for read in 0..READS_BEFORE {
-        let start = 9 + 5 * read;
+/// Its listing.
+pub(super) fn wrong_rows(alloc: Global) -> Option<String> {
+    let start = "vmecheck listing 3\nstart 1\ntenure 5 level 3 slot 2 end -\n";
+    let mut rows = String::from_str(alloc, start).ok()?;
+    for read in 0..18u32 {
+        let first = 9 + 5 * read;
         let row = format!(in alloc;
-            "cycle {start} S 39 FFFFDE end {}\ntransfer {} of {start} read DTACK {} close {}\n",
-            start + 3,
-            start + 1,
-            start + 2,
-            start + 3
-        )?;
-        rows.push_str(row.as_str())?;
+            "cycle {first} S 39 FFFFDE end {}\ntransfer {} of {first} read DTACK {} close {}\n",
+            first + 3,
+            first + 1,
+            first + 2,
+            first + 3
+        );
+        rows.push_str(row.ok()?.as_str()).ok()?;
     }
-    rows.push_str("cycle 99 S 39 FFFFDE end -\nverdict broken H4 100 DTACK\n")?;
-    Ok(rows)
+    rows.push_str("cycle 99 S 39 FFFFDE end -\nverdict broken H4 100 DTACK\n")
+        .ok()?;
+    Some(rows)
+}
+
+/// Copies of the blocks with these places.
+pub(super) fn picked(alloc: Global, blocks: &[Block], places: &[usize]) -> Option<Vec<Block>> {
+    let mut picked = Vec::with_capacity(alloc, places.len()).ok()?;
+    for place in places {
+        let copy = blocks.get(*place)?.copy(alloc).ok()?;
+        picked.push(copy).ok()?;
+    }
+    Some(picked)
+}
+
+/// The blocks of the read with these places, where it is cut into blocks of so many steps.
+pub(super) fn picked_of(alloc: Global, size: u32, places: &[usize]) -> Option<Vec<Block>> {
+    let blocks = read_blocks(alloc, size)?;
+    picked(alloc, &blocks, places)
 }
 
 /// Each of at most 200 blocks twice, in an order that the seed turns. The stride is a prime above 200.
-pub(super) fn shuffled(alloc: Global, blocks: &[Block], seed: usize) -> Result<Vec<Block>, Fail> {
+pub(super) fn shuffled(alloc: Global, blocks: &[Block], seed: u32) -> Option<Vec<Block>> {
     let mut all = Vec::new(alloc);
     for i in 0..blocks.len().saturating_mul(2) {
-        let place = i.saturating_mul(7919).saturating_add(seed) % blocks.len().max(1);
-        all.push(blocks.get(place).ok_or("no such block")?.copy(alloc)?)?;
+        let place = i.saturating_mul(7919).saturating_add(seed as usize) % blocks.len().max(1);
+        let copy = blocks.get(place)?.copy(alloc).ok()?;
+        all.push(copy).ok()?;
     }
-    Ok(all)
+    Some(all)
 }

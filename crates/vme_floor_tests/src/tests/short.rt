@@ -1,29 +1,11 @@
 //! Runs where memory is refused once.
 
-ghost use Rattle.std.specs.Prelude.{◌≡◌, IfOk};
-ghost use Rattle.vme_summary.specs.Stands.{first_number};
-
-use super::recordings::{READ_ROWS, read_recording};
-use super::{assert_rows, picked};
-use std::alloc::Global;
+use super::recordings::{READ_ROWS, picked_of};
+use super::{CONFORMING, Outcome, Told, told_of};
 use std::process::Abort;
 use std::test::Fail;
-use vme_floor::{Answer, Open, Report, RunFault, run};
-use vme_trace::{Block, Verdict};
-
-/// The blocks of the read by fives, in an order.
-fn in_order(alloc: Global, order: &[usize]) -> Result<Vec<Block>, &'static str> {
-    let blocks = read_recording(alloc)?.cut(alloc, 5);
-    picked(alloc, blocks.ok().ok_or("not cut")?.as_slice(), order)
-}
-
-/// The same. Where memory is refused once, they are made again.
-fn deliveries_of(alloc: Global, order: &[usize]) -> Result<Vec<Block>, &'static str> {
-    match in_order(alloc, order) {
-        Ok(deliveries) => Ok(deliveries),
-        Err(_) => in_order(alloc, order),
-    }
-}
+use vme_floor::Answer;
+use vme_trace::Block;
 
 /// Whether the delivery of a number was refused for want of memory.
 fn is_short(deliveries: &[Block], answers: &[Answer], number: u32) -> bool {
@@ -35,34 +17,23 @@ fn is_short(deliveries: &[Block], answers: &[Answer], number: u32) -> bool {
 
 /// Three workers tell what they tell with ample memory, or that it is short: never another verdict, nor that blocks are
 /// torn or stray.
-fn assert_run(
-    rt: &impl Abort,
-    alloc: Global,
-    deliveries: &[Block],
-    outcome: Result<Report, RunFault>,
-) -> Result<(), Fail>
-    requires { IfOk outcome (λ report. first_number report.span ≡ 0) }
-{
-    match outcome {
-        Ok(report) => {
-            assert!(rt; report.verdict == Verdict::Conforming);
-            assert!(rt; report.answers.as_slice() == [Answer::Filed; 3].as_slice());
-            assert!(rt; report.capture.steps().len() == 14);
-            assert_rows(rt, alloc, &report.span, READ_ROWS)?;
+fn assert_run(rt: &impl Abort, deliveries: &[Block], told: &Told) {
+    match told.outcome {
+        Outcome::Judged(_) => {
+            assert!(rt; told.outcome == CONFORMING && told.steps == 14);
+            assert!(rt; told.listing.as_slice() == READ_ROWS.as_bytes());
         }
-        Err(RunFault::Missing { number, answers }) => {
-            assert!(rt; is_short(deliveries, answers.as_slice(), number));
+        Outcome::Missing(number) => {
+            assert!(rt; is_short(deliveries, told.answers.as_slice(), number));
         }
-        Err(RunFault::Memory) | Err(RunFault::NoWorker) => {}
-        Err(_) => panic!(rt; "refused for another reason"),
+        Outcome::Memory | Outcome::NoWorker => {}
+        _ => panic!(rt; "refused for another reason"),
     }
-    Ok(())
 }
 
-/// `tests/memory/run` refuses each of its allocations in turn.
+/// `tests/memory/run` refuses each of its allocations in turn. Where deliveries can't be made, they are made again.
 #[test]
 fn each_growth_fails_once(rt: HostRuntime) -> Result<(), Fail> {
-    let alloc = rt.alloc();
     for order in [
         [0, 1, 2],
         [0, 2, 1],
@@ -71,9 +42,12 @@ fn each_growth_fails_once(rt: HostRuntime) -> Result<(), Fail> {
         [2, 0, 1],
         [2, 1, 0],
     ] {
-        let deliveries = deliveries_of(alloc, &order)?;
-        let outcome = run(&rt, alloc, deliveries.as_slice(), 3, 3, &Open);
-        assert_run(&rt, alloc, deliveries.as_slice(), outcome)?;
+        let deliveries = match picked_of(rt.alloc(), 5, &order) {
+            Some(deliveries) => deliveries,
+            None => picked_of(rt.alloc(), 5, &order).ok_or("no blocks")?,
+        };
+        let told = told_of(&rt, rt.alloc(), &deliveries, 3, 3).ok_or("not told")?;
+        assert_run(&rt, &deliveries, &told);
     }
     Ok(())
 }

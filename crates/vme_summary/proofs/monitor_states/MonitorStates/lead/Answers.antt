@@ -21,19 +21,27 @@ returns c =
     let after = c.args.view.now.after in
     let there = view_after c.args.view.now step.changes c.requires in
     record {
-      known = led_on (noticed (noted known_sight) (spanned known_begin known_opens known_resets known_ends known_next)) (start_in known_begin) _ _ o x step before after
+      known = led_on (noticed (noted known_sight)
+          (spanned known_begin known_opens known_resets known_ends known_next))
+          (start_in known_begin) _ _ o x step before after
           c.args.instant led.levels_are there led.instant_is c.lead.ensures.memory c.lead.ensures.event
           f.known;
-      handshake = led_on (noticed (noted dtb_sight) (spanned dtb_begin dtb_opens nothing dtb_ends dtb_step)) (start_in dtb_begin) _ _ o x step before after
+      handshake = led_on (noticed (noted dtb_sight) (spanned dtb_begin dtb_opens nothing dtb_ends dtb_step))
+          (start_in dtb_begin) _ _ o x step before after
           c.args.instant led.levels_are there led.instant_is c.lead-2.ensures.memory c.lead-2.ensures.event
           f.handshake;
-      stability = led_on (noticed (noted stability_sight) (spanned stability_begin stability_opens nothing stability_ends stability_next)) (start_in stability_begin) _ _ o x step before after
+      stability = led_on (noticed (noted stability_sight)
+          (spanned stability_begin stability_opens nothing stability_ends stability_next))
+          (start_in stability_begin) _ _ o x step before after
           c.args.instant led.levels_are there led.instant_is c.lead-3.ensures.memory c.lead-3.ensures.event
           f.stability;
-      grant = led_on (noticed (noted grant_sight) (spanned grant_begin grant_opens nothing grant_ends grant_next)) (start_in grant_begin) _ _ o x step before after
+      grant = led_on (noticed (noted grant_sight) (spanned grant_begin grant_opens nothing grant_ends grant_next))
+          (start_in grant_begin) _ _ o x step before after
           c.args.instant led.levels_are there led.instant_is c.lead-4.ensures.memory c.lead-4.ensures.event
           f.grant;
-      acknowledge = led_on (noticed (noted acknowledge_sight) (spanned acknowledge_begin acknowledge_opens nothing acknowledge_ends acknowledge_next)) (start_in acknowledge_begin) _ _ o x step before after
+      acknowledge = led_on (noticed (noted acknowledge_sight)
+          (spanned acknowledge_begin acknowledge_opens nothing acknowledge_ends acknowledge_next))
+          (start_in acknowledge_begin) _ _ o x step before after
           c.args.instant led.levels_are there led.instant_is c.lead-5.ensures.memory c.lead-5.ensures.event
           f.acknowledge;
     }

@@ -1,4 +1,5 @@
-use Rattle.std.proofs.Common.{◌≡◌, ◌<◌, ◌+◌, ◌∷◌, [], ◌++◌, List, ap, append-nil, append_assoc, arith, length, subst, sym}
+use Rattle.std.proofs.Common.{◌≡◌, ◌<◌, ◌+◌, ◌∷◌, [], ◌++◌, List, ap, append-nil, append_assoc, arith, length, subst}
+use Rattle.std.proofs.Common.{sym}
 use Rattle.std.proofs.Common.{take, length-append, ◌∙◌}
 use Rattle.std.proofs.lemmas.List.{length-take, take_all, take_more}
 use Rattle.vme_trace.specs.Levels.{Levels}
