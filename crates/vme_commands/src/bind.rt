@@ -1,12 +1,13 @@
 //! A binding for a dump.
 
-ghost use Rattle.std.specs.Prelude.{ℕ, List, Option, Result};
+ghost use Rattle.std.specs.Prelude.{◌≡◌, ℕ, List, Option, Result};
 ghost use Rattle.vcd_read.specs.Meaning.{dump_of};
 ghost use Rattle.vme_answer.specs.Answers.{dump_read, or_bad_dump};
 ghost use Rattle.vme_answer.specs.Ends.{Ends};
+ghost use Rattle.vme_answer.specs.Texts.{line_of};
 ghost use Rattle.vme_stream.specs.Inputs.{IsReading};
 ghost use Rattle.vme_stream.specs.Outputs.{TriesToWrite};
-ghost use Rattle.vme_commands.specs.TextAnswers.{IsBindingFor, binding_answer};
+ghost use Rattle.vme_commands.specs.TextAnswers.{IsBindingFor, binding_answer, no_scope_text};
 ghost use Rattle.vme_commands.specs.declared.bind.NoBinding.{NoBinding as Without};
 ghost use Rattle.vme_find.specs.Recordings.{AreSlots};
 ghost use Rattle.vme_find.specs.declared.writing.FoundBinding.{FoundBinding as Found};
@@ -14,7 +15,7 @@ ghost use Rattle.vme_find.specs.declared.writing.FoundBinding.{FoundBinding as F
 use std::alloc::Global;
 use vme_answer::{Input, Refusal, cannot_write_line, refusal_line};
 use vme_find::{FindFault, FoundBinding, write_binding};
-use vme_stream::{complain, read_all, write_all};
+use vme_stream::{Message, complain, read_all, write_all};
 use vme_trace::{Sink, Source};
 
 /// Why there is no binding for a dump.
@@ -26,9 +27,15 @@ pub enum NoBinding {
     NoSuchScope,
 }
 
-/// What is said where the dump lacks the scope that is asked.
-const NO_SUCH_SCOPE: &[u8] =
-    b"vmecheck: no variable of the dump stands in that scope: `vmecheck variables` lists their paths\n";
+/// The line that tells that a dump lacks the scope that is asked.
+fn no_scope_line() -> Message
+    ensures { result ≡ line_of no_scope_text }
+{
+    Message::new()
+        .with(b"vmecheck: no variable of the dump stands in that scope: ")
+        .with(b"`vmecheck variables` lists their paths")
+        .with_line_feed()
+}
 
 /// Writes to `out` a binding for a dump, of so many slots, 1 to 21, or of those that the daisy chains show, in the
 /// scope of a path, or in the best one, and to `err` one line that says what was bound; or to `err` why the dump can't
@@ -82,7 +89,7 @@ fn tell_binding<O: Sink, E: Sink>(
             refusal.status()
         }
         Err(NoBinding::NoSuchScope) => {
-            say(err, NO_SUCH_SCOPE);
+            complain(err, no_scope_line());
             3
         }
     }

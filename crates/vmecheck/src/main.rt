@@ -32,12 +32,11 @@
 //! program.
 #![tactic(auto)]
 
-ghost use Rattle.std.specs.Prelude.{◌≡◌, ◌≢◌, ◌⊎◌, IfErr, IfOk};
+ghost use Rattle.std.specs.Prelude.{◌≡◌, ◌≢◌, ◌⊎◌, ◌≤◌, IfErr, IfOk, IfSome};
 ghost use Rattle.clap.specs.Words.{kind_of};
 ghost use Rattle.clap.specs.declared.error.kind.ErrorKind.TheVariants.{DisplayHelp, DisplayVersion};
 ghost use Rattle.vme_words.specs.OrderFaults.{IsOfWords};
 ghost use Rattle.vme_answer.specs.Texts.{refusal_status};
-ghost use Rattle.vme_find.specs.Recordings.{AreSlots};
 ghost use Rattle.vme_answer.specs.declared.refusal.Refusal.TheVariants.{CannotOpen};
 
 mod save;
@@ -281,7 +280,7 @@ fn bind_order(rt: &HostRuntime, order: &Order) -> Result<u8, Refusal> {
 
 /// The number of slots that an order tells, if it tells one: 1 to 21, or else the words are wrong.
 fn slots_of(rt: &HostRuntime, order: &Order) -> Result<Option<u8>, OrderFault>
-    ensures { IfOk result AreSlots }
+    ensures { IfOk result (λ slots. IfSome slots (λ n. (1 ≤ n) × (n ≤ 21))) }
 {
     let Some(text) = order.names.get(1) else {
         return Ok(None);

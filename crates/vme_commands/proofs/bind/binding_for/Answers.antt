@@ -17,4 +17,4 @@ pub returns-in-Err : goal.returns-in-Err
 returns-in-Err g c =
     let (bytes, reading, refused) = dump_refused _ _ c.read_all.result c.in-Err.fault c.in-Err.is
     c.read_all.ensures.read c.read_all.ensures.too_long c.read_all.ensures.memory in
-    rw c.of_input.ensures (bytes, reading, binding_refused (dump_read bytes) _ _ _ refused)
+    rw c.of_input.ensures (bytes, reading, binding_refused (dump_read bytes) c.args.slots c.args.scope _ refused)
