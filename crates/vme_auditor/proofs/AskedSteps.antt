@@ -1,0 +1,446 @@
+-- What was asked up to an instant of a recording, by its steps and by what happens in the spans that have started.
+use Rattle.std.proofs.Common.{◌≡◌, ℕ, zero, suc, ◌+◌, ◌<◌, ◌≤◌, Bool, true, false, ◌||◌, List, [], ◌∷◌, ◌++◌, length}
+use Rattle.std.proofs.Common.{refl}
+use Rattle.std.proofs.Common.{sym, ◌∙◌, ap, subst, arith, cond, inl, inr, ◌⊎◌, Option, None, Some}
+use Rattle.std.specs.Prelude.{min, slice_get}
+use Rattle.std.specs.List.{list_any}
+use Rattle.std.specs.Option.{option_map_or}
+use Rattle.vme_trace.specs.Changes.{touches_control}
+use Rattle.vme_trace.specs.Instants.{any}
+use Rattle.vme_trace.specs.Judged.{IsSpanOf, Stretch, span_from, span_starts}
+use Rattle.vme_trace.specs.Levels.{Levels, is_idle}
+use Rattle.vme_trace.specs.Rules.{ends_span}
+use Rattle.vme_trace.specs.Trace.{Trace, levels_at}
+use Rattle.vme_trace.specs.WellFormed.{malformed_step}
+use Rattle.vme_trace.specs.declared.rule.Rule.{Rule}
+use Rattle.vme_trace.specs.declared.rule.Rule.TheVariants as rule
+use Rattle.vme_trace.specs.declared.step.Change.{Change}
+use Rattle.vme_trace.proofs.JudgedSpans.{spans_kept, spans_more}
+use Rattle.vme_trace.proofs.Ranges.{fails-any}
+use Rattle.vme_monitor.specs.Along.{changes_of, memory_from, next_at}
+use Rattle.vme_monitor.specs.Ends.{end_among}
+use Rattle.vme_monitor.specs.KnownSpec.{known_begin, known_ends, known_next, known_opens, known_resets}
+use Rattle.vme_monitor.specs.OverStretches.{has_started, judging, spanned, start_in}
+use Rattle.vme_monitor.specs.Run.{nothing, quiet}
+use Rattle.vme_monitor.specs.declared.known.Stateless.{Stateless}
+use Rattle.vme_monitor.specs.declared.mark.Next.{Next}
+use Rattle.vme_monitor.specs.declared.mark.StepMarks.{StepMarks}
+use Rattle.vme_monitor.specs.declared.over_stretches.StretchObservation.{StretchObservation}
+use Rattle.vme_monitor.specs.declared.over_stretches.StretchPhase.{StretchPhase}
+use Rattle.vme_monitor.specs.declared.over_stretches.StretchPhase.TheVariants as phase
+use Rattle.vme_monitor.specs.declared.view.End.{End}
+use Rattle.vme_monitor.specs.declared.view.End.TheVariants as end
+use Rattle.vme_monitor.proofs.Alongside.{not_before}
+use Rattle.vme_monitor.proofs.SpanFacts.{IsSpan, span_facts}
+use Rattle.vme_monitor.proofs.SpanLists.{AreOver, started, started_none, started_one}
+use Rattle.vme_monitor.proofs.Spans.{IsAtWork, JudgesOn, Loses, Resets, Stands, inner_at, moves, outer_next, stands}
+use Rattle.vme_monitor.proofs.Transitions.{outer_judging, waits}
+use Rattle.vme_dtb.specs.Machine.{dtb_begin, dtb_ends, dtb_opens, dtb_sight, dtb_step}
+use Rattle.vme_dtb.specs.declared.handshake.HandshakeEdge.{HandshakeEdge}
+use Rattle.vme_dtb.specs.declared.memory.HandshakeMemory.{HandshakeMemory}
+use Rattle.vme_dtb.proofs.Held.{Holds}
+use Rattle.vme_dtb.proofs.Holding.{holds_at}
+use Rattle.vme_dtb.proofs.Searches.{any_more}
+use Rattle.vme_dtb.proofs.StillSteps.{noticed_is}
+use Rattle.vme_audit.specs.Asked.{happens}
+use Rattle.vme_auditor.specs.Audited.{events_by, events_in, with_stretch}
+use Rattle.vme_auditor.specs.Events.{asks_by, at_step}
+use Rattle.vme_auditor.specs.Memories.{handshake_at, known_at}
+use Rattle.vme_auditor.specs.declared.asked.AskedEvents.{AskedEvents}
+use Rattle.vme_auditor.proofs.AskedAt.{asked_here, shown}
+use Rattle.vme_auditor.proofs.EventFields.{on_stretch}
+
+or_none : (b : Bool) → (b || false) ≡ b
+or_none true = refl
+or_none false = refl
+
+or_assoc : (a b c : Bool) → ((a || b) || c) ≡ (a || (b || c))
+or_assoc true b c = refl
+or_assoc false b c = refl
+
+pub any_both : {A : Type 0} (p : A → Bool) (xs ys : List A) → list_any p (xs ++ ys) ≡ (list_any p xs || list_any p ys)
+any_both p [] ys = refl
+any_both p (x ∷ xs) ys = ap (λ b. p x || b) (any_both p xs ys) ∙ sym (or_assoc (p x) (list_any p xs) (list_any p ys))
+
+-- a stretch is no other event
+pub stretch_alone : (r : Rule) (e : AskedEvents) (b : Bool) → ends_span r ≡ false → asks_by (with_stretch e b) r
+    ≡ asks_by e r
+stretch_alone rule.U1 e b h = absurd (cc)
+stretch_alone rule.U2 e b h = refl
+stretch_alone rule.U3 e b h = refl
+stretch_alone rule.U4 e b h = refl
+stretch_alone rule.H1 e b h = refl
+stretch_alone rule.H2 e b h = refl
+stretch_alone rule.H3 e b h = refl
+stretch_alone rule.H4 e b h = refl
+stretch_alone rule.H5 e b h = refl
+stretch_alone rule.H6 e b h = refl
+stretch_alone rule.H7 e b h = refl
+stretch_alone rule.H8 e b h = refl
+stretch_alone rule.S1 e b h = refl
+stretch_alone rule.S2 e b h = refl
+stretch_alone rule.S3 e b h = refl
+stretch_alone rule.C1 e b h = refl
+stretch_alone rule.C2 e b h = refl
+stretch_alone rule.G1 e b h = refl
+stretch_alone rule.G2 e b h = refl
+stretch_alone rule.G3 e b h = refl
+stretch_alone rule.G4 e b h = refl
+stretch_alone rule.G5 e b h = refl
+stretch_alone rule.B1 e b h = refl
+stretch_alone rule.B2 e b h = refl
+stretch_alone rule.B3 e b h = refl
+stretch_alone rule.B4 e b h = refl
+stretch_alone rule.I1 e b h = refl
+stretch_alone rule.I2 e b h = refl
+stretch_alone rule.I3 e b h = refl
+stretch_alone rule.I4 e b h = refl
+stretch_alone rule.I5 e b h = refl
+
+-- judging starts, or has started
+abbrev StartsBy : StretchPhase Stateless → Next (StretchPhase Stateless) → Type 0
+StartsBy m n = has_started n.memory ≡ (has_started m || n.kinds.start)
+
+abbrev known_spanned : StretchPhase Stateless → Levels → Levels → StretchObservation Stateless
+    → Next (StretchPhase Stateless)
+known_spanned = spanned known_begin known_opens known_resets known_ends known_next
+
+abbrev known_waiting : StretchPhase Stateless → Levels → Bool → Next (StretchPhase Stateless)
+known_waiting m w idle =
+    cond idle (record { memory = phase.Judging (known_begin w); fault = None; kinds = known_opens w }) (quiet m)
+
+waiting_starts : (w : Levels) (idle : Bool) → StartsBy phase.Waiting (known_waiting phase.Waiting w idle)
+waiting_starts w true = refl
+waiting_starts w false = refl
+
+reset_starts : (w : Levels) (idle : Bool) → StartsBy phase.Reset (known_waiting phase.Reset w idle)
+reset_starts w true = refl
+reset_starts w false = refl
+
+judging_starts : (p : Stateless) (v w : Levels) (e : Option End) → StartsBy (phase.Judging p)
+    (judging known_begin known_opens known_resets known_ends known_next p v w e None)
+judging_starts p v w (Some end.Reset) = refl
+judging_starts p v w (Some (end.Lost l)) = refl
+judging_starts p v w None = refl
+
+spanned_starts : (m : StretchPhase Stateless) (v w : Levels) (e : Option End) → StartsBy m
+    (known_spanned m v w (record { end = e; inner = None }))
+spanned_starts phase.Waiting v w e = waiting_starts w (is_idle w)
+spanned_starts (phase.Judging p) v w e = judging_starts p v w e
+spanned_starts phase.Reset v w e = reset_starts w (is_idle w)
+spanned_starts phase.Ended v w e = refl
+
+noted_starts : (m : StretchPhase Stateless) (v w : Levels) (e : Option End) (b : Bool) → StartsBy m
+    (option_map_or (known_spanned m v w) (cond b (Some (record { end = e; inner = None })) None) (quiet m))
+noted_starts m v w e true = spanned_starts m v w e
+noted_starts m v w e false = sym (or_none (has_started m))
+
+pub starts_shown : (m : StretchPhase Stateless) (v w : Levels) (cs : List Change) → StartsBy m (known_at m v w cs)
+starts_shown m v w cs = noted_starts m v w (end_among w cs) (touches_control w.slots cs || false)
+
+-- an event only happens in a phase that judges, where no span ends
+in_stretch : (e : AskedEvents) (m : StretchPhase HandshakeMemory) (o : Option End) (v w : Levels) (cs : List Change)
+    (kinds : StepMarks) → (events_in e m o v w cs kinds).stretch ≡ e.stretch
+in_stretch e (phase.Judging p) None v w cs kinds = on_stretch e p v w cs kinds
+in_stretch e (phase.Judging p) (Some o) v w cs kinds = refl
+in_stretch e phase.Waiting o v w cs kinds = refl
+in_stretch e phase.Reset o v w cs kinds = refl
+in_stretch e phase.Ended o v w cs kinds = refl
+
+waits_on : (e : AskedEvents) (m : StretchPhase HandshakeMemory) (o : Option End) (v w : Levels) (cs : List Change)
+    (kinds : StepMarks) → waits m ≡ true → events_in e m o v w cs kinds ≡ e
+waits_on e phase.Waiting o v w cs kinds h = refl
+waits_on e (phase.Judging p) o v w cs kinds h = absurd (cc)
+waits_on e phase.Reset o v w cs kinds h = refl
+waits_on e phase.Ended o v w cs kinds h = absurd (cc)
+
+-- what ends a span is what the step does to the phase
+ends_here : (p : HandshakeMemory) (v w : Levels) (o : Option End) (s : Option HandshakeEdge)
+    → waits (judging dtb_begin dtb_opens nothing dtb_ends dtb_step p v w o s).memory ≡ true
+    → (l : End) × (o ≡ Some l)
+ends_here p v w (Some e) s h = (e, refl)
+ends_here p v w None None h = absurd (cc)
+ends_here p v w None (Some s) h = absurd (cc)
+
+abbrev is_over : {P : Type 0} → StretchPhase P → Bool
+is_over phase.Waiting = false
+is_over (phase.Judging p) = false
+is_over phase.Reset = false
+is_over phase.Ended = true
+
+lost_here : (p : HandshakeMemory) (v w : Levels) (o : Option End) (s : Option HandshakeEdge)
+    → is_over (judging dtb_begin dtb_opens nothing dtb_ends dtb_step p v w o s).memory ≡ true
+    → (l : End) × (o ≡ Some l)
+lost_here p v w (Some e) s h = (e, refl)
+lost_here p v w None None h = absurd (cc)
+lost_here p v w None (Some s) h = absurd (cc)
+
+abbrev is_judging : {P : Type 0} → StretchPhase P → Bool
+is_judging phase.Waiting = false
+is_judging (phase.Judging p) = true
+is_judging phase.Reset = false
+is_judging phase.Ended = false
+
+goes_here : (p : HandshakeMemory) (v w : Levels) (o : Option End) (s : Option HandshakeEdge)
+    → is_judging (judging dtb_begin dtb_opens nothing dtb_ends dtb_step p v w o s).memory ≡ true → o ≡ None
+goes_here p v w (Some end.Reset) s h = absurd (cc)
+goes_here p v w (Some (end.Lost l)) s h = absurd (cc)
+goes_here p v w None s h = refl
+
+last_over : (n : ℕ) (past : List Stretch) (span : Stretch) → AreOver n (past ++ span ∷ []) → span.end ≤ n
+last_over n [] span h = h.0
+last_over n (s ∷ past) span h = last_over n past span h.1
+
+module _ (t : Trace) (ok : malformed_step t ≡ None) (few : t.opening.slots ≤ 21) where
+  abbrev pub cs_at : ℕ → List Change
+  cs_at n = changes_of (slice_get t.steps n)
+
+  abbrev pub known_phase : ℕ → StretchPhase Stateless
+  known_phase n = memory_from known_at t (start_in known_begin t.opening) 0 n
+
+  abbrev pub phase_at : ℕ → StretchPhase HandshakeMemory
+  phase_at n = memory_from handshake_at t (start_in dtb_begin t.opening) 0 n
+
+  -- the events of the step from an instant to the next
+  abbrev pub then_at : AskedEvents → ℕ → AskedEvents
+  then_at e n =
+      events_by e (phase_at n) (end_among (levels_at t (suc n)) (cs_at n)) (levels_at t n) (levels_at t (suc n))
+      (cs_at n)
+      (next_at known_at t (known_phase n) n).kinds (next_at handshake_at t (phase_at n) n).kinds
+
+  -- those up to an instant
+  abbrev pub asked_to : AskedEvents → ℕ → AskedEvents
+  asked_to e zero = e
+  asked_to e (suc n) = then_at (asked_to e n) n
+
+  -- a stretch is among them where one has started
+  pub stretch_to : (e : AskedEvents) (n : ℕ) → n ≤ length t.steps
+      → (asked_to (with_stretch e (has_started (start_in known_begin t.opening))) n).stretch
+      ≡ (e.stretch || has_started (known_phase n))
+  stretch_to e zero h = refl
+  stretch_to e (suc n) h =
+      let from = asked_to (with_stretch e (has_started (start_in known_begin t.opening))) n in
+      let kinds = (next_at known_at t (known_phase n) n).kinds in
+      ap (λ b. b || kinds.start)
+      (in_stretch from (phase_at n) (end_among (levels_at t (suc n)) (cs_at n)) (levels_at t n) (levels_at t (suc n))
+      (cs_at n) (next_at handshake_at t (phase_at n) n).kinds
+      ∙ stretch_to e n (omega arith))
+      ∙ or_assoc e.stretch (has_started (known_phase n)) kinds.start
+      ∙ ap (λ b. e.stretch || b)
+      (sym (rw (not_before n) (starts_shown (known_phase n) (levels_at t n) (levels_at t (suc n)) (cs_at n))))
+
+  module _ (r : Rule) (own : ends_span r ≡ false) where
+    -- the event of the rule happens in a span, up to an instant
+    abbrev pub heard : ℕ → Stretch → Bool
+    heard n span = any (happens t span r) (span.start + 1) (min span.end (suc n))
+
+    unheard : (n : ℕ) (span : Stretch) → n ≤ span.start → heard n span ≡ false
+    unheard n span h =
+        fails-any (happens t span r) (span.start + 1) (min span.end (suc n)) (λ i a b. absurd (omega arith))
+
+    heard_over : (n : ℕ) (span : Stretch) → span.end ≤ suc n → heard (suc n) span ≡ heard n span
+    heard_over n span h =
+        let same : min span.end (suc (suc n)) ≡ min span.end (suc n) = omega arith in
+        ap (any (happens t span r) (span.start + 1)) same
+
+    heard_on : (n : ℕ) (span : Stretch) → span.start ≤ n → suc n < span.end → heard (suc n) span
+        ≡ (heard n span || happens t span r (suc n))
+    heard_on n span from before =
+        let later : min span.end (suc (suc n)) ≡ suc (suc n) = omega arith in
+        let now : suc n ≡ min span.end (suc n) = omega arith in
+        ap (any (happens t span r) (span.start + 1)) later
+        ∙ any_more (happens t span r) (span.start + 1) (suc n) (omega arith)
+        ∙ ap (λ k. any (happens t span r) (span.start + 1) k || happens t span r (suc n)) now
+
+    all_over : (n : ℕ) (spans : List Stretch) → AreOver n spans → list_any (heard (suc n)) spans
+        ≡ list_any (heard n) spans
+    all_over n [] h = refl
+    all_over n (span ∷ spans) h =
+        ap (λ b. b || list_any (heard (suc n)) spans) (heard_over n span (omega (arith, h.0)))
+        ∙ ap (λ b. heard n span || b) (all_over n spans h.1)
+
+    -- a span that starts adds nothing yet
+    heard_more : (k n : ℕ) → k ≤ suc n → list_any (heard k) (started t (suc n)) ≡ list_any (heard k) (started t n)
+    heard_more k n h = by_start (span_starts t (suc n)) refl
+      where
+        by_start : (b : Bool) → span_starts t (suc n) ≡ b → list_any (heard k) (started t (suc n))
+            ≡ list_any (heard k) (started t n)
+        by_start true e =
+            ap (list_any (heard k)) (spans_more t (suc n) e)
+            ∙ any_both (heard k) (started t n) (span_from t (suc n) ∷ [])
+            ∙ ap (λ b. list_any (heard k) (started t n) || (b || false)) (unheard k (span_from t (suc n)) h)
+            ∙ or_none (list_any (heard k) (started t n))
+        by_start false e = ap (list_any (heard k)) (spans_kept t (suc n) e)
+
+    abbrev AreHeard : AskedEvents → ℕ → Type 0
+    AreHeard e n = asks_by (asked_to e n) r ≡ (asks_by e r || list_any (heard n) (started t n))
+
+    module _ (e : AskedEvents) (n : ℕ) (within : n < length t.steps) (so_far : AreHeard e n) where
+      abbrev v : Levels
+      v = levels_at t n
+
+      abbrev w : Levels
+      w = levels_at t (suc n)
+
+      abbrev ends : Option End
+      ends = end_among w (cs_at n)
+
+      abbrev kinds : StepMarks
+      kinds = (next_at handshake_at t (phase_at n) n).kinds
+
+      abbrev before : AskedEvents
+      before = asked_to e n
+
+      abbrev now : AskedEvents
+      now = events_in before (phase_at n) ends v w (cs_at n) kinds
+
+      next_is : asks_by (asked_to e (suc n)) r ≡ asks_by now r
+      next_is = stretch_alone r now (next_at known_at t (known_phase n) n).kinds.start own
+
+      -- nothing is judged at the next instant
+      unjudged : now ≡ before → list_any (heard (suc n)) (started t n) ≡ list_any (heard n) (started t n)
+          → AreHeard e (suc n)
+      unjudged quiet over =
+          next_is ∙ ap (λ (e : AskedEvents). asks_by e r) quiet ∙ so_far
+          ∙ ap (λ b. asks_by e r || b) (sym over ∙ sym (heard_more (suc n) n (omega arith)))
+
+      step_of : (p : HandshakeMemory) → phase_at n ≡ phase.Judging p
+          → outer_next dtb_begin dtb_opens nothing dtb_ends dtb_sight dtb_step t few ok n
+          ≡ judging dtb_begin dtb_opens nothing dtb_ends dtb_step p v w ends (dtb_sight v w (cs_at n))
+      step_of p at = rw at (outer_judging dtb_begin dtb_opens nothing dtb_ends dtb_sight dtb_step v w (cs_at n) p)
+
+      -- it ends the span
+      ended : (p : HandshakeMemory) (l : End) → phase_at n ≡ phase.Judging p → ends ≡ Some l → now ≡ before
+      ended p l at e = rw (at, e) refl
+
+      module _ (work : IsAtWork dtb_begin dtb_opens nothing dtb_ends dtb_sight dtb_step t few ok n) where
+        abbrev here : Stretch
+        here = span_from t work.start
+
+        abbrev p : HandshakeMemory
+        p = inner_at dtb_begin dtb_opens nothing dtb_ends dtb_sight dtb_step t few ok work.start n
+
+        past_and_here : (k : ℕ) → list_any (heard k) (started t n)
+            ≡ (list_any (heard k) work.past || heard k here)
+        past_and_here k =
+            ap (list_any (heard k)) work.spans ∙ any_both (heard k) work.past (here ∷ [])
+            ∙ ap (λ b. list_any (heard k) work.past || b) (or_none (heard k here))
+
+        stopped : (l : End) → ends ≡ Some l → here.end ≤ suc n → AreHeard e (suc n)
+        stopped l at last =
+            unjudged (ended p l work.memory at)
+            (past_and_here (suc n)
+            ∙ ap (λ b. b || heard (suc n) here) (all_over n work.past work.over)
+            ∙ ap (λ b. list_any (heard n) work.past || b) (heard_over n here last)
+            ∙ sym (past_and_here n))
+
+        is_span : IsSpanOf t here
+        is_span = record {
+          within = omega (arith, work.running.from, within);
+          starts = work.running.starts;
+          ends = refl;
+        }
+
+        module _ (on : JudgesOn dtb_begin dtb_opens nothing dtb_ends dtb_sight dtb_step t few ok n work) where
+          none_ends : ends ≡ None
+          none_ends =
+              goes_here p v w ends (dtb_sight v w (cs_at n))
+              (ap (λ (x : Next (StretchPhase HandshakeMemory)). is_judging x.memory)
+              (sym (step_of p work.memory) ∙ on.step))
+
+          facts : IsSpan t here
+          facts = span_facts t here is_span
+
+          holds : Holds t here n p
+          holds = holds_at t here facts n work.running.from (omega (arith, on.before))
+
+          kinds_are : kinds ≡ shown t ok few here facts n work.running.from on.before within p holds
+          kinds_are =
+              ap (λ (x : Next (StretchPhase HandshakeMemory)). x.kinds) on.step
+              ∙ ap (λ (x : Next HandshakeMemory). x.kinds) (noticed_is t here n p holds (cs_at n))
+
+          now_is : now ≡ at_step before p v w (cs_at n)
+              (shown t ok few here facts n work.running.from on.before within p holds)
+          now_is =
+              ap (λ (k : StepMarks). events_in before (phase_at n) ends v w (cs_at n) k) kinds_are
+              ∙ rw (work.memory, none_ends) refl
+
+          judged_on : AreHeard e (suc n)
+          judged_on =
+              next_is ∙ ap (λ (e : AskedEvents). asks_by e r) now_is
+              ∙ asked_here t ok few here facts n work.running.from on.before within p holds before r
+              ∙ ap (λ b. b || happens t here r (suc n)) (so_far ∙ ap (λ b. asks_by e r || b) (past_and_here n))
+              ∙ or_assoc (asks_by e r) (list_any (heard n) work.past || heard n here) (happens t here r (suc n))
+              ∙ ap (λ b. asks_by e r || b)
+              (or_assoc (list_any (heard n) work.past) (heard n here) (happens t here r (suc n))
+              ∙ ap (λ b. list_any (heard n) work.past || b)
+              (sym (heard_on n here work.running.from on.before))
+              ∙ ap (λ b. b || heard (suc n) here) (sym (all_over n work.past work.over))
+              ∙ sym (past_and_here (suc n)) ∙ sym (heard_more (suc n) n (omega arith)))
+
+        reset_on : Resets dtb_begin dtb_opens nothing dtb_ends dtb_sight dtb_step t few ok n work → AreHeard e (suc n)
+        reset_on reset =
+            let end = ends_here p v w ends (dtb_sight v w (cs_at n))
+            (ap (λ (x : Next (StretchPhase HandshakeMemory)). waits x.memory)
+            (sym (step_of p work.memory) ∙ reset.step)) in
+            stopped end.0 end.1 (omega (arith, reset.last))
+
+        lost_on : Loses dtb_begin dtb_opens nothing dtb_ends dtb_sight dtb_step t few ok n work → AreHeard e (suc n)
+        lost_on loses =
+            let end = lost_here p v w ends (dtb_sight v w (cs_at n))
+            (ap (λ (x : Next (StretchPhase HandshakeMemory)). is_over x.memory)
+            (sym (step_of p work.memory) ∙ loses.step)) in
+            stopped end.0 end.1 (omega (arith, loses.last))
+
+      -- no span runs
+      idle_on : AreOver n (started t n) → Stands dtb_begin dtb_opens nothing dtb_ends dtb_sight dtb_step t few ok n
+          → AreHeard e (suc n)
+      idle_on over (inl rest) =
+          unjudged (waits_on before (phase_at n) ends v w (cs_at n) kinds rest.waiting) (all_over n (started t n) over)
+      idle_on over (inr (inl work)) =
+          let past_end = last_over n work.past (span_from t work.start) (subst (AreOver n) work.spans over) in
+          absurd (omega (arith, past_end, work.running.before))
+      idle_on over (inr (inr ended)) = unjudged (rw ended.ended refl) (all_over n (started t n) over)
+
+      heard_next : AreHeard e (suc n)
+      heard_next =
+          elim (moves dtb_begin dtb_opens nothing dtb_ends dtb_sight dtb_step t few ok n within) [
+            | inl stays ↦ idle_on stays.over
+                (stands dtb_begin dtb_opens nothing dtb_ends dtb_sight dtb_step t few ok n (omega arith))
+            | inr moving ↦
+                elim moving [
+                  | inl starts ↦ idle_on starts.over
+                      (stands dtb_begin dtb_opens nothing dtb_ends dtb_sight dtb_step t few ok n (omega arith))
+                  | inr works ↦
+                      elim works.does [
+                        | inl on ↦ judged_on works.work on
+                        | inr ends ↦
+                            elim ends [
+                              | inl reset ↦ reset_on works.work reset
+                              | inr loses ↦ lost_on works.work loses
+                            ]
+                      ]
+                ]
+          ]
+
+    heard_first : (e : AskedEvents) → AreHeard e 0
+    heard_first e = sym (ap (λ b. asks_by e r || b) (none_heard (span_starts t 0) refl) ∙ or_none (asks_by e r))
+      where
+        none_heard : (b : Bool) → span_starts t 0 ≡ b → list_any (heard 0) (started t 0) ≡ false
+        none_heard true e = ap (list_any (heard 0)) (started_one t e)
+            ∙ ap (λ b. b || false) (unheard 0 (span_from t 0) (omega arith))
+        none_heard false e = ap (list_any (heard 0)) (started_none t e)
+
+    -- what was asked up to an instant
+    pub heard_to : (e : AskedEvents) (n : ℕ) → n ≤ length t.steps → AreHeard e n
+    heard_to e zero h = heard_first e
+    heard_to e (suc n) h = heard_next e n (omega arith) (heard_to e n (omega arith))
+
+    -- later spans add nothing
+    pub heard_last : (k d : ℕ) → list_any (heard k) (started t (k + d)) ≡ list_any (heard k) (started t k)
+    heard_last k zero =
+        let none : k + 0 ≡ k = omega arith in
+        ap (λ n. list_any (heard k) (started t n)) none
+    heard_last k (suc d) =
+        let one : k + suc d ≡ suc (k + d) = omega arith in
+        ap (λ n. list_any (heard k) (started t n)) one ∙ heard_more k (k + d) (omega arith) ∙ heard_last k d

@@ -1,0 +1,143 @@
+-- The marks of all monitors, merged, are those of each step, one step after the other.
+use Rattle.std.proofs.Common.{◌≡◌, ℕ, suc, ◌<◌, ◌≤◌, Bool, true, false, List, [], ◌∷◌, ◌++◌, length, map, refl, sym}
+use Rattle.std.proofs.Common.{◌∙◌}
+use Rattle.std.proofs.Common.{ap, arith, append-nil}
+use Rattle.std.specs.Prelude.{nat_lt}
+use Rattle.std.proofs.lemmas.Bool.Decides.{nat_tests}
+use Rattle.std.proofs.lemmas.List.{map-append}
+use Rattle.vme_trace.specs.Levels.{Levels}
+use Rattle.vme_trace.specs.Trace.{changed}
+use Rattle.vme_trace.specs.declared.step.Step.{Step}
+use Rattle.vme_monitor.specs.BothSpec.{both_within, front, kind_number, merged, merged_joined}
+use Rattle.vme_monitor.specs.BothSpec.{rest}
+use Rattle.vme_monitor.specs.Outcome.{MarksWithin, shifted_mark}
+use Rattle.vme_monitor.specs.RuleMonitors.{run_within}
+use Rattle.vme_monitor.specs.Run.{kinds_of, mark_at}
+use Rattle.vme_monitor.specs.declared.mark.Mark.{Mark}
+use Rattle.vme_monitor.specs.declared.mark.MarkKind.{MarkKind}
+use Rattle.vme_monitor.proofs.MergingMarks.{merged-nothing}
+use Rattle.vme_summary.specs.Runs.{acknowledge_run, grant_run, handshake_run, known_run, stability_run}
+use Rattle.vme_auditor.specs.JoinedMarks.{joined_marks, kinds_shown}
+use Rattle.vme_auditor.specs.Memories.{acknowledge_at, grant_at, handshake_at, known_at, memories_next, stability_at}
+use Rattle.vme_auditor.specs.declared.memories.Memories.{Memories}
+use Rattle.vme_auditor.proofs.ShownKinds.{AllBelow, AllFrom, acknowledge_own, from_both, grant_own, handshake_own}
+use Rattle.vme_auditor.proofs.ShownKinds.{known_own, stability_own, stretch_below, tenure_below, tenure_from}
+use Rattle.vme_auditor.proofs.ShownKinds.{transfer_from}
+
+abbrev pub marked : List MarkKind → List Mark
+marked ks = map (mark_at 1) ks
+
+pub marked_within : (ks : List MarkKind) → MarksWithin 1 (marked ks)
+marked_within [] = tt
+marked_within (k ∷ ks) = (omega arith, omega arith, marked_within ks)
+
+lt_holds : (a b : ℕ) → a < b → nat_lt a b ≡ true
+lt_holds a b h = grind (arith, nat_tests)
+
+lt_fails : (a b : ℕ) → b ≤ a → nat_lt a b ≡ false
+lt_fails a b h = grind (arith, nat_tests)
+
+-- kinds below others come before them
+module _ (n : ℕ) where
+  front_all : (k : MarkKind) (ls : List MarkKind) → n ≤ kind_number k → AllBelow n ls
+      → front (mark_at 1 k) (marked ls) ≡ marked ls
+  front_all k [] h b = refl
+  front_all k (l ∷ ls) h b = rw (lt_holds (kind_number l) (kind_number k) (omega (arith, b.0)))
+      (ap (λ x. mark_at 1 l ∷ x) (front_all k ls h b.1))
+
+  rest_none : (k : MarkKind) (ls : List MarkKind) → n ≤ kind_number k → AllBelow n ls
+      → rest (mark_at 1 k) (marked ls) ≡ []
+  rest_none k [] h b = refl
+  rest_none k (l ∷ ls) h b = rw (lt_holds (kind_number l) (kind_number k) (omega (arith, b.0))) (rest_none k ls h b.1)
+
+  front_none : (k : MarkKind) (ls : List MarkKind) → kind_number k < n → AllFrom n ls
+      → front (mark_at 1 k) (marked ls) ≡ []
+  front_none k [] h b = refl
+  front_none k (l ∷ ls) h b = rw (lt_fails (kind_number l) (kind_number k) (omega (arith, b.0))) refl
+
+  rest_all : (k : MarkKind) (ls : List MarkKind) → kind_number k < n → AllFrom n ls
+      → rest (mark_at 1 k) (marked ls) ≡ marked ls
+  rest_all k [] h b = refl
+  rest_all k (l ∷ ls) h b = rw (lt_fails (kind_number l) (kind_number k) (omega (arith, b.0))) refl
+
+  merged_behind : (ks ls : List MarkKind) → AllFrom n ks → AllBelow n ls → merged (marked ks) (marked ls)
+      ≡ marked (ls ++ ks)
+  merged_behind [] ls f b = ap marked (sym (append-nil ls))
+  merged_behind (k ∷ ks) ls f b =
+      rw (front_all k ls f.0 b, rest_none k ls f.0 b, merged-nothing (marked ks))
+      (sym (map-append (mark_at 1) ls (k ∷ ks)))
+
+  merged_before : (ks ls : List MarkKind) → AllBelow n ks → AllFrom n ls → merged (marked ks) (marked ls)
+      ≡ marked (ks ++ ls)
+  merged_before [] ls b f = refl
+  merged_before (k ∷ ks) ls b f =
+      rw (front_none k ls b.0 f, rest_all k ls b.0 f) (ap (λ x. mark_at 1 k ∷ x) (merged_before ks ls b.1 f))
+
+-- held lines and acknowledges show nothing
+stability_silent : (x : List Step) (m : Memories) (o : Levels) → (stability_run m.stability o x).marks ≡ []
+unfolding stability_run
+stability_silent [] m o = refl
+stability_silent (s ∷ x) m o =
+    let after = changed o s.changes in
+    let next = memories_next m o after s.changes in
+    rw (stability_own m o after s.changes) (ap (map (shifted_mark 1)) (stability_silent x next after))
+
+acknowledge_silent : (x : List Step) (m : Memories) (o : Levels) → (acknowledge_run m.acknowledge o x).marks ≡ []
+unfolding acknowledge_run
+acknowledge_silent [] m o = refl
+acknowledge_silent (s ∷ x) m o =
+    let after = changed o s.changes in
+    let next = memories_next m o after s.changes in
+    rw (acknowledge_own m o after s.changes) (ap (map (shifted_mark 1)) (acknowledge_silent x next after))
+
+-- the marks of the stretch, of the tenure, and of the cycle and the transfer
+three_joined : (x : List Step) (m : Memories) (o : Levels)
+    → merged (known_run m.known o x).marks (merged (handshake_run m.handshake o x).marks (grant_run m.grant o x).marks)
+    ≡ joined_marks m o x
+unfolding known_run handshake_run grant_run joined_marks
+three_joined [] m o = refl
+three_joined (s ∷ x) m o =
+    let after = changed o s.changes in
+    let next = memories_next m o after s.changes in
+    let k = (known_at m.known o after s.changes).kinds in
+    let d = (handshake_at m.handshake o after s.changes).kinds in
+    let g = (grant_at m.grant o after s.changes).kinds in
+    let known = known_run next.known after x in
+    let handshake = handshake_run next.handshake after x in
+    let grant = grant_run next.grant after x in
+    let known_within = run_within known_at x next.known after in
+    let handshake_within = run_within handshake_at x next.handshake after in
+    let grant_within = run_within grant_at x next.grant after in
+    let two_within = (both_within (length x) handshake grant handshake_within grant_within).1 in
+    let d_from : AllFrom 5 (kinds_of d) = transfer_from 5 (omega arith) d (handshake_own m o after s.changes) in
+    let g_below : AllBelow 5 (kinds_of g) = tenure_below g (grant_own m o after s.changes) in
+    let k_below : AllBelow 2 (kinds_of k) = stretch_below k (known_own m o after s.changes) in
+    let gd_from : AllFrom 2 (kinds_of g ++ kinds_of d) = from_both 2 (kinds_of g) (kinds_of d)
+    (tenure_from g (grant_own m o after s.changes))
+    (transfer_from 2 (omega arith) d (handshake_own m o after s.changes)) in
+    ap (merged (marked (kinds_of k) ++ map (shifted_mark 1) known.marks))
+    (merged_joined 1 (length x) (marked (kinds_of d)) (marked (kinds_of g)) handshake.marks grant.marks
+    (marked_within (kinds_of d)) (marked_within (kinds_of g)) handshake_within.1 grant_within.1
+    ∙ ap (λ (y : List Mark). y ++ map (shifted_mark 1) (merged handshake.marks grant.marks))
+    (merged_behind 5 (kinds_of d) (kinds_of g) d_from g_below))
+    ∙ merged_joined 1 (length x) (marked (kinds_of k)) (marked (kinds_of g ++ kinds_of d)) known.marks
+    (merged handshake.marks grant.marks) (marked_within (kinds_of k)) (marked_within (kinds_of g ++ kinds_of d))
+    known_within.1 two_within
+    ∙ ap (λ (y : List Mark). y ++ map (shifted_mark 1) (merged known.marks (merged handshake.marks grant.marks)))
+    (merged_before 2 (kinds_of k) (kinds_of g ++ kinds_of d) k_below gd_from)
+    ∙ ap (λ (y : List Mark). marked (kinds_shown m o after s.changes) ++ map (shifted_mark 1) y)
+    (three_joined x next after)
+
+-- and those of all five
+pub runs_joined : (x : List Step) (m : Memories) (o : Levels)
+    → merged (known_run m.known o x).marks
+    (merged (handshake_run m.handshake o x).marks
+    (merged (stability_run m.stability o x).marks
+    (merged (grant_run m.grant o x).marks (acknowledge_run m.acknowledge o x).marks)))
+    ≡ joined_marks m o x
+runs_joined x m o =
+    rw (
+      stability_silent x m o,
+      acknowledge_silent x m o,
+      merged-nothing (grant_run m.grant o x).marks,
+    ) (three_joined x m o)

@@ -1,0 +1,215 @@
+-- The rows of a part, as far as they are counted, are those that its marks make before its break.
+use Rattle.std.proofs.Common.{◌≡◌, ℕ, zero, suc, ◌+◌, ◌<◌, ◌≤◌, Bool, true, false, not, List, [], ◌∷◌, ◌++◌, length}
+use Rattle.std.proofs.Common.{map, refl}
+use Rattle.std.proofs.Common.{sym, ◌∙◌, ap, subst, arith, cond, take, filter, Option, None, Some, append-nil, add-one}
+use Rattle.std.specs.Prelude.{nat_lt}
+use Rattle.std.proofs.lemmas.Bool.Decides.{nat_tests}
+use Rattle.std.proofs.lemmas.List.Elements.{filter-append}
+use Rattle.vme_trace.specs.LineNumbers.{BBSY}
+use Rattle.vme_trace.specs.Levels.{Levels, is_idle, is_low, level_at}
+use Rattle.vme_trace.specs.Judged.{Stretch, judged_spans}
+use Rattle.vme_trace.specs.Trace.{Trace, changed}
+use Rattle.vme_trace.specs.Verdict.{least_of, rules_in_force, verdict}
+use Rattle.vme_trace.specs.WellFormed.{malformed_step}
+use Rattle.vme_trace.specs.declared.class.Class.{Class}
+use Rattle.vme_trace.specs.declared.class.Class.TheVariants as class
+use Rattle.vme_trace.specs.declared.step.Step.{Step}
+use Rattle.vme_trace.specs.declared.verdict.Break.{Break}
+use Rattle.vme_listing.specs.Places.{is_verdict}
+use Rattle.vme_listing.specs.Recorded.{outcome_of, recorded_rows}
+use Rattle.vme_listing.specs.declared.row.ListedVerdict.TheVariants.{NeverIdle}
+use Rattle.vme_listing.specs.declared.row.Row.{Row}
+use Rattle.vme_listing.specs.declared.row.Row.TheVariants as row
+use Rattle.vme_monitor.specs.Outcome.{shifted_mark}
+use Rattle.vme_monitor.specs.Run.{mark_at}
+use Rattle.vme_monitor.specs.Shows.{marks_over}
+use Rattle.vme_monitor.specs.Whole.{has_span}
+use Rattle.vme_monitor.specs.declared.mark.Mark.{Mark}
+use Rattle.vme_monitor.specs.declared.mark.MarkKind.{MarkKind}
+use Rattle.vme_monitor.specs.declared.mark.MarkKind.TheVariants as kind
+use Rattle.vme_summary.specs.AllShown.{all_marks, all_over}
+use Rattle.vme_summary.specs.MarkedRows.{cycle_after, first_instant, is_close, is_cycle_end, is_tenure_end, listed}
+use Rattle.vme_summary.specs.MarkedRows.{marked_cycle, marked_direction, marks_before, marks_listed, opening_marks}
+use Rattle.vme_summary.specs.MarkedRows.{rows_of as marked_rows}
+use Rattle.vme_summary.proofs.MarkedListing.{marked_is_listed}
+use Rattle.vme_audit.specs.Counted.{counts_of_rows, rows_of}
+use Rattle.vme_audit.specs.Covered.{hanging}
+use Rattle.vme_audit.specs.Parts.{named_break}
+use Rattle.vme_auditor.specs.JoinedMarks.{joined_marks, kinds_shown}
+use Rattle.vme_auditor.specs.Memories.{memories_at, memories_next}
+use Rattle.vme_auditor.specs.declared.memories.Memories.{Memories}
+use Rattle.vme_auditor.proofs.FirstBreaks.{named_is_least}
+use Rattle.vme_auditor.proofs.MarkHangs.{never_hangs, never_is}
+
+abbrev is_told : Row → Bool
+is_told row = not (is_verdict row)
+
+kept : (r : Row) (rows : List Row) → is_verdict r ≡ false → filter is_told rows ≡ rows → filter is_told (r ∷ rows)
+    ≡ r ∷ rows
+kept r rows e so_far = rw e (ap (λ rs. r ∷ rs) so_far)
+
+cycle_never : (i modifier address : ℕ) (end : Option ℕ) (c : Class) → is_verdict (marked_cycle i modifier address end c)
+    ≡ false
+cycle_never i modifier address end class.S = refl
+cycle_never i modifier address end class.K = refl
+cycle_never i modifier address end class.F = refl
+cycle_never i modifier address end class.I = refl
+
+-- marks make no verdict
+no_verdict : (ms : List Mark) (latest : Option ℕ) → filter is_told (marked_rows latest ms) ≡ marked_rows latest ms
+no_verdict [] latest = refl
+no_verdict (m ∷ ms) latest = by_kind (no_verdict ms) m.instant m.kind
+  where
+    by_kind : ((latest : Option ℕ) → filter is_told (marked_rows latest ms) ≡ marked_rows latest ms) → (i : ℕ)
+        (k : MarkKind) → filter is_told (marked_rows latest (record { instant = i; kind = k } ∷ ms))
+        ≡ marked_rows latest (record { instant = i; kind = k } ∷ ms)
+    by_kind so_far i kind.Reset = kept (row.Reset i) (marked_rows None ms) refl (so_far None)
+    by_kind so_far i kind.Start = kept (row.Start i) (marked_rows latest ms) refl (so_far latest)
+    by_kind so_far i kind.Open =
+        kept (row.OpenTenure i (first_instant is_tenure_end ms)) (marked_rows latest ms) refl (so_far latest)
+    by_kind so_far i (kind.Tenure level slot) =
+        kept (row.Tenure i level slot (first_instant is_tenure_end ms)) (marked_rows latest ms) refl (so_far latest)
+    by_kind so_far i kind.TenureEnd = so_far latest
+    by_kind so_far i (kind.Cycle c modifier address) =
+        kept (marked_cycle i modifier address (first_instant is_cycle_end ms) c) (marked_rows (Some i) ms)
+        (cycle_never i modifier address (first_instant is_cycle_end ms) c) (so_far (Some i))
+    by_kind so_far i kind.CycleEnd = so_far latest
+    by_kind so_far i (kind.Transfer write) =
+        kept _ (marked_rows latest ms)
+        (never_is i (marked_direction write) (first_instant is_close ms) is_verdict refl
+        (λ line cycle answer lanes. refl) ms latest) (so_far latest)
+    by_kind so_far i (kind.Answer line) = so_far latest
+    by_kind so_far i (kind.WriteAnswer line moved unknown value) = so_far latest
+    by_kind so_far i kind.Close = so_far latest
+
+-- rows count alike, and leave the same transfer without an answer
+pub record CountAlike (xs ys : List Row) : Type 0 where
+  pub counted : counts_of_rows xs ≡ counts_of_rows ys
+  pub hangs : hanging xs ≡ hanging ys
+
+-- what the opening shows isn't counted
+opening_uncounted : (v : Levels) (ms : List Mark) → CountAlike (marked_rows None (opening_marks v ++ ms))
+    (marked_rows None ms)
+unfolding counts_of_rows
+opening_uncounted v ms = by_tests (is_idle v) (is_low (level_at v BBSY))
+  where
+    by_tests : (idle low : Bool) → CountAlike
+        (marked_rows None
+        (cond idle (mark_at 0 kind.Start ∷ cond low (mark_at 0 kind.Open ∷ []) []) [] ++ ms))
+        (marked_rows None ms)
+    by_tests true true =
+        record {
+          counted = refl;
+          hangs =
+              never_hangs (row.Start 0) (row.OpenTenure 0 (first_instant is_tenure_end ms) ∷ marked_rows None ms) refl
+              ∙ never_hangs (row.OpenTenure 0 (first_instant is_tenure_end ms)) (marked_rows None ms) refl;
+        }
+    by_tests true false = record { counted = refl; hangs = never_hangs (row.Start 0) (marked_rows None ms) refl }
+    by_tests false low = record { counted = refl; hangs = refl }
+
+alike : (xs ys zs : List Row) → xs ≡ ys → CountAlike ys zs → CountAlike xs zs
+alike xs ys zs e a = record { counted = ap counts_of_rows e ∙ a.counted; hangs = ap hanging e ∙ a.hangs }
+
+-- the rows of a part, by what is judged, its break and its marks
+rows_alike : (v : Levels) (started : Bool) (event : Option Break) (ms : List Mark)
+    → (started ≡ false → ms ≡ [])
+    → CountAlike (filter is_told (listed v started event ms)) (marked_rows None (marks_listed event ms))
+rows_alike v true event ms silent =
+    let rows = marked_rows None (opening_marks v ++ marks_listed event ms) in
+    alike (filter is_told (rows ++ row.Verdict (outcome_of event) ∷ [])) rows (marked_rows None (marks_listed event ms))
+    (filter-append is_told rows (row.Verdict (outcome_of event) ∷ [])
+    ∙ append-nil (filter is_told rows) ∙ no_verdict (opening_marks v ++ marks_listed event ms) None)
+    (opening_uncounted v (marks_listed event ms))
+rows_alike v false event ms silent =
+    let none = silent refl in
+    subst (λ (ms : List Mark). CountAlike [] (marked_rows None (marks_listed event ms))) (sym none) (no_rows event)
+  where
+    no_rows : (event : Option Break) → CountAlike [] (marked_rows None (marks_listed event []))
+    no_rows None = record { counted = refl; hangs = refl }
+    no_rows (Some b) = record { counted = refl; hangs = refl }
+
+silent_unstarted : (t : Trace) (spans : List Stretch) → has_span spans ≡ false → marks_over (all_over t) t spans ≡ []
+silent_unstarted t [] e = refl
+silent_unstarted t (span ∷ spans) e = absurd (cc)
+
+-- the marks are those of the monitors
+abbrev pub ShowsMarks : Type 0
+ShowsMarks = (t : Trace) → malformed_step t ≡ None → t.opening.slots ≤ 21
+    → joined_marks (memories_at t.opening) t.opening t.steps ≡ all_marks t
+
+pub part_rows : ShowsMarks → (start : ℕ) (t : Trace) → malformed_step t ≡ None → t.opening.slots ≤ 21
+    → (event : Option Break) → named_break (verdict t) ≡ event
+    → CountAlike (rows_of (record { start = start; trace = t }))
+    (marked_rows None (marks_listed event (joined_marks (memories_at t.opening) t.opening t.steps)))
+part_rows shows start t ok few event e =
+    let least : least_of rules_in_force t (judged_spans t) ≡ event = sym (named_is_least t) ∙ e in
+    let rows = rows_alike t.opening (has_span (judged_spans t)) event (all_marks t)
+    (silent_unstarted t (judged_spans t)) in
+    alike (rows_of (record { start = start; trace = t }))
+    (filter is_told (listed t.opening (has_span (judged_spans t)) event (all_marks t)))
+    (marked_rows None (marks_listed event (joined_marks (memories_at t.opening) t.opening t.steps)))
+    (ap (filter is_told) (sym (marked_is_listed t)
+    ∙ ap (λ (event : Option Break). listed t.opening (has_span (judged_spans t)) event (all_marks t)) least))
+    (subst (λ (ms : List Mark). CountAlike
+    (filter is_told (listed t.opening (has_span (judged_spans t)) event (all_marks t)))
+    (marked_rows None (marks_listed event ms))) (sym (shows t ok few)) rows)
+
+-- ---- the marks before a break
+
+lt_holds : (a b : ℕ) → a < b → nat_lt a b ≡ true
+lt_holds a b h = grind (arith, nat_tests)
+
+lt_fails : (a b : ℕ) → b ≤ a → nat_lt a b ≡ false
+lt_fails a b h = grind (arith, nat_tests)
+
+-- marks of the first instant
+first_pass : (n : ℕ) (ks : List MarkKind) (ms : List Mark) → 1 < n → marks_before n (map (mark_at 1) ks ++ ms)
+    ≡ map (mark_at 1) ks ++ marks_before n ms
+first_pass n [] ms h = refl
+first_pass n (k ∷ ks) ms h = rw (lt_holds 1 n h) (ap (λ x. mark_at 1 k ∷ x) (first_pass n ks ms h))
+
+first_stop : (ks : List MarkKind) (ms : List Mark) → marks_before 1 ms ≡ [] → marks_before 1 (map (mark_at 1) ks ++ ms)
+    ≡ []
+first_stop [] ms h = h
+first_stop (k ∷ ks) ms h = refl
+
+-- later ones
+later_before : (n : ℕ) (ms : List Mark) → marks_before (suc n) (map (shifted_mark 1) ms)
+    ≡ map (shifted_mark 1) (marks_before n ms)
+later_before n [] = refl
+later_before n (m ∷ ms) = rw (same m.instant n) (by_test (nat_lt m.instant n) (later_before n ms))
+  where
+    same : (a n : ℕ) → nat_lt (a + 1) (suc n) ≡ nat_lt a n
+    same a n = grind (arith, nat_tests)
+
+    by_test : (b : Bool) → marks_before (suc n) (map (shifted_mark 1) ms) ≡ map (shifted_mark 1) (marks_before n ms)
+        → cond b (shifted_mark 1 m ∷ marks_before (suc n) (map (shifted_mark 1) ms)) []
+        ≡ map (shifted_mark 1) (cond b (m ∷ marks_before n ms) [])
+    by_test true e = ap (λ x. shifted_mark 1 m ∷ x) e
+    by_test false e = refl
+
+none_before : (ms : List Mark) → marks_before 0 ms ≡ []
+none_before [] = refl
+none_before (m ∷ ms) = rw (lt_fails m.instant 0 (omega arith)) refl
+
+-- before an instant stand the marks of the steps before it
+pub marks_cut : (k : ℕ) (x : List Step) (m : Memories) (o : Levels) → marks_before (suc k) (joined_marks m o x)
+    ≡ joined_marks m o (take k x)
+unfolding joined_marks
+marks_cut k [] m o = ap (λ (x : List Step). joined_marks m o x) (sym (take_none k))
+  where
+    take_none : (k : ℕ) → take {A = Step} k [] ≡ []
+    take_none zero = refl
+    take_none (suc k) = refl
+marks_cut zero (s ∷ x) m o =
+    let after = changed o s.changes in
+    let next = memories_next m o after s.changes in
+    first_stop (kinds_shown m o after s.changes) (map (shifted_mark 1) (joined_marks next after x))
+    (later_before 0 (joined_marks next after x) ∙ ap (map (shifted_mark 1)) (none_before (joined_marks next after x)))
+marks_cut (suc k) (s ∷ x) m o =
+    let after = changed o s.changes in
+    let next = memories_next m o after s.changes in
+    first_pass (suc (suc k)) (kinds_shown m o after s.changes) (map (shifted_mark 1) (joined_marks next after x))
+    (omega arith)
+    ∙ ap (λ (y : List Mark). map (mark_at 1) (kinds_shown m o after s.changes) ++ y)
+    (later_before (suc k) (joined_marks next after x) ∙ ap (map (shifted_mark 1)) (marks_cut k x next after))

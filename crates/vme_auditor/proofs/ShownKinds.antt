@@ -1,0 +1,224 @@
+-- What each monitor shows at a step is of its own kinds alone.
+use Rattle.std.proofs.Common.{◌≡◌, ℕ, ◌<◌, ◌≤◌, Bool, true, false, ◌||◌, List, [], ◌∷◌, ◌++◌, refl, sym, subst, arith}
+use Rattle.std.proofs.Common.{lit<, lit≤, cond, Option, None, Some}
+use Rattle.std.specs.Option.{is_some, option_map, option_map_or, option_to_list}
+use Rattle.vme_trace.specs.Changes.{touches_control}
+use Rattle.vme_trace.specs.Levels.{Levels, is_idle}
+use Rattle.vme_trace.specs.declared.data.Lanes.{Lanes}
+use Rattle.vme_trace.specs.declared.step.Change.{Change}
+use Rattle.vme_monitor.specs.BothSpec.{kind_number}
+use Rattle.vme_monitor.specs.Ends.{end_among}
+use Rattle.vme_monitor.specs.OverStretches.{judging, noted, spanned}
+use Rattle.vme_monitor.specs.Run.{answer_kind, answered_kind, cycle_kind, kinds_of, noticed, nothing, quiet}
+use Rattle.vme_monitor.specs.Run.{tenure_kind}
+use Rattle.vme_monitor.specs.Run.{when}
+use Rattle.vme_monitor.specs.KnownSpec.{known_begin, known_ends, known_next, known_opens, known_resets, known_sight}
+use Rattle.vme_monitor.specs.declared.mark.BusGrant.{BusGrant}
+use Rattle.vme_monitor.specs.declared.mark.CycleStart.{CycleStart}
+use Rattle.vme_monitor.specs.declared.mark.Fault.{Fault}
+use Rattle.vme_monitor.specs.declared.mark.MarkKind.{MarkKind}
+use Rattle.vme_monitor.specs.declared.mark.MarkKind.TheVariants.{Close, CycleEnd, Open, Reset, Start, TenureEnd}
+use Rattle.vme_monitor.specs.declared.mark.MarkKind.TheVariants.{Transfer}
+use Rattle.vme_monitor.specs.declared.mark.Next.{Next}
+use Rattle.vme_monitor.specs.declared.mark.StepMarks.{StepMarks}
+use Rattle.vme_monitor.specs.declared.mark.TransferAnswer.{TransferAnswer}
+use Rattle.vme_monitor.specs.declared.over_stretches.StretchPhase.{StretchPhase}
+use Rattle.vme_monitor.specs.declared.over_stretches.StretchPhase.TheVariants as phase
+use Rattle.vme_monitor.specs.declared.view.End.{End}
+use Rattle.vme_monitor.specs.declared.view.End.TheVariants as end
+use Rattle.vme_dtb.specs.Machine.{dtb_begin, dtb_ends, dtb_opens, dtb_sight, dtb_step}
+use Rattle.vme_stability.specs.StabilitySpec.{stability_begin, stability_ends, stability_next, stability_opens}
+use Rattle.vme_stability.specs.StabilitySpec.{stability_sight}
+use Rattle.vme_chains.specs.GrantSpec.{grant_begin, grant_ends, grant_next, grant_opens, grant_sight}
+use Rattle.vme_chains.specs.AcknowledgeSpec.{acknowledge_begin, acknowledge_ends, acknowledge_next, acknowledge_opens}
+use Rattle.vme_chains.specs.AcknowledgeSpec.{acknowledge_sight}
+use Rattle.vme_auditor.specs.Memories.{acknowledge_at, grant_at, handshake_at, known_at, stability_at}
+use Rattle.vme_auditor.specs.declared.memories.Memories.{Memories}
+
+-- what a machine shows that is led over stretches is what it shows as it starts, where it is reset, or by its rules
+module _ {P S : Type 0} (begin : Levels → P) (opens : Levels → StepMarks) (resets : StepMarks) (ends : ℕ → Option Fault)
+    (next : P → Levels → Levels → S → Next P) (IsOwn : StepMarks → Type 0) (none : IsOwn nothing)
+    (opened : (v : Levels) → IsOwn (opens v)) (reset : IsOwn resets)
+    (stepped : (p : P) (v w : Levels) (s : S) → IsOwn (next p v w s).kinds) where
+  waiting_own : (m : StretchPhase P) (w : Levels) (b : Bool)
+      → IsOwn (cond b (record { memory = phase.Judging (begin w); fault = None; kinds = opens w }) (quiet m)).kinds
+  waiting_own m w true = opened w
+  waiting_own m w false = none
+
+  seen_own : (p : P) (v w : Levels) (s : Option S) → IsOwn (option_map_or (next p v w) s (quiet p)).kinds
+  seen_own p v w None = none
+  seen_own p v w (Some s) = stepped p v w s
+
+  judging_own : (p : P) (v w : Levels) (e : Option End) (s : Option S)
+      → IsOwn (judging begin opens resets ends next p v w e s).kinds
+  judging_own p v w (Some end.Reset) s = reset
+  judging_own p v w (Some (end.Lost l)) s = none
+  judging_own p v w None s = seen_own p v w s
+
+  module _ (observation : Levels → Levels → List Change → Option S) (v w : Levels) (cs : List Change) where
+    spanned_own : (m : StretchPhase P)
+        → IsOwn (spanned begin opens resets ends next m v w
+        (record { end = end_among w cs; inner = observation v w cs })).kinds
+    spanned_own phase.Waiting = waiting_own phase.Waiting w (is_idle w)
+    spanned_own (phase.Judging p) = judging_own p v w (end_among w cs) (observation v w cs)
+    spanned_own phase.Reset = waiting_own phase.Reset w (is_idle w)
+    spanned_own phase.Ended = none
+
+    noted_own : (m : StretchPhase P) (b : Bool)
+        → IsOwn (option_map_or (spanned begin opens resets ends next m v w)
+        (cond b (Some (record { end = end_among w cs; inner = observation v w cs })) None) (quiet m)).kinds
+    noted_own m true = spanned_own m
+    noted_own m false = none
+
+    pub shown_own : (m : StretchPhase P)
+        → IsOwn (noticed (noted observation) (spanned begin opens resets ends next) m v w cs).kinds
+    shown_own m = noted_own m (touches_control w.slots cs || is_some (observation v w cs))
+
+-- the kinds of the stretch, of the tenure, and of the cycle and the transfer
+abbrev pub OfStretch : StepMarks → Type 0
+OfStretch k = k ≡ record nothing { reset = k.reset; start = k.start }
+
+abbrev pub OfTenure : StepMarks → Type 0
+OfTenure k = k ≡ record nothing { opened = k.opened; tenure = k.tenure; tenure_end = k.tenure_end }
+
+abbrev pub OfTransfer : StepMarks → Type 0
+OfTransfer k = k ≡ record nothing {
+  cycle = k.cycle;
+  cycle_end = k.cycle_end;
+  transfer = k.transfer;
+  answer = k.answer;
+  close = k.close;
+}
+
+abbrev IsNothing : StepMarks → Type 0
+IsNothing k = k ≡ nothing
+
+module _ (m : Memories) (v w : Levels) (cs : List Change) where
+  pub known_own : OfStretch (known_at m.known v w cs).kinds
+  known_own =
+      shown_own known_begin known_opens known_resets known_ends known_next OfStretch refl (λ v. refl) refl
+      (λ p v w s. refl) known_sight v w cs m.known
+
+  pub grant_own : OfTenure (grant_at m.grant v w cs).kinds
+  grant_own =
+      shown_own grant_begin grant_opens nothing grant_ends grant_next OfTenure refl (λ v. refl) refl (λ p v w s. refl)
+      grant_sight v w cs m.grant
+
+  pub handshake_own : OfTransfer (handshake_at m.handshake v w cs).kinds
+  handshake_own =
+      shown_own dtb_begin dtb_opens nothing dtb_ends dtb_step OfTransfer refl (λ v. refl) refl (λ p v w s. refl)
+      dtb_sight v w cs m.handshake
+
+  pub stability_own : IsNothing (stability_at m.stability v w cs).kinds
+  stability_own =
+      shown_own stability_begin stability_opens nothing stability_ends stability_next IsNothing refl (λ v. refl) refl
+      (λ p v w s. refl) stability_sight v w cs m.stability
+
+  pub acknowledge_own : IsNothing (acknowledge_at m.acknowledge v w cs).kinds
+  acknowledge_own =
+      shown_own acknowledge_begin acknowledge_opens nothing acknowledge_ends acknowledge_next IsNothing refl (λ v. refl)
+      refl (λ p v w s. refl) acknowledge_sight v w cs m.acknowledge
+
+-- numbers of kinds below a bound, and from one on
+abbrev pub AllBelow : ℕ → List MarkKind → Type 0
+AllBelow n [] = Unit {0}
+AllBelow n (k ∷ ks) = (kind_number k < n) × AllBelow n ks
+
+abbrev pub AllFrom : ℕ → List MarkKind → Type 0
+AllFrom n [] = Unit {0}
+AllFrom n (k ∷ ks) = (n ≤ kind_number k) × AllFrom n ks
+
+pub from_both : (n : ℕ) (ks ls : List MarkKind) → AllFrom n ks → AllFrom n ls → AllFrom n (ks ++ ls)
+from_both n [] ls p q = q
+from_both n (k ∷ ks) ls p q = (p.0, from_both n ks ls p.1 q)
+
+when_from : (n : ℕ) (b : Bool) (k : MarkKind) → n ≤ kind_number k → AllFrom n (option_to_list (when b k))
+when_from n true k h = (h, tt)
+when_from n false k h = tt
+
+map_from : {A : Type 0} (n : ℕ) (f : A → MarkKind) (o : Option A) → ((a : A) → n ≤ kind_number (f a))
+    → AllFrom n (option_to_list (option_map f o))
+map_from n f None h = tt
+map_from n f (Some a) h = (h a, tt)
+
+answer_from : (line : ℕ) (lanes : Option Lanes) → 5 ≤ kind_number (answer_kind line lanes)
+answer_from line None = lit≤ tt
+answer_from line (Some lanes) = lit≤ tt
+
+-- the kinds of the stretch come first
+stretch_pieces : (reset start : Bool) → AllBelow 2 (kinds_of (record nothing { reset = reset; start = start }))
+stretch_pieces true true = (lit< tt, (lit< tt, tt))
+stretch_pieces true false = (lit< tt, tt)
+stretch_pieces false true = (lit< tt, tt)
+stretch_pieces false false = tt
+
+pub stretch_below : (k : StepMarks) → OfStretch k → AllBelow 2 (kinds_of k)
+stretch_below k own = subst (λ (k : StepMarks). AllBelow 2 (kinds_of k)) (sym own) (stretch_pieces k.reset k.start)
+
+-- then those of the tenure
+abbrev of_tenure : Bool → Option BusGrant → Bool → StepMarks
+of_tenure opened tenure tenure_end =
+    record nothing { opened = opened; tenure = tenure; tenure_end = tenure_end }
+
+tenure_below_pieces : (opened : Bool) (tenure : Option BusGrant) (tenure_end : Bool)
+    → AllBelow 5 (kinds_of (of_tenure opened tenure tenure_end))
+tenure_below_pieces true (Some g) true = (lit< tt, (lit< tt, (lit< tt, tt)))
+tenure_below_pieces true (Some g) false = (lit< tt, (lit< tt, tt))
+tenure_below_pieces true None true = (lit< tt, (lit< tt, tt))
+tenure_below_pieces true None false = (lit< tt, tt)
+tenure_below_pieces false (Some g) true = (lit< tt, (lit< tt, tt))
+tenure_below_pieces false (Some g) false = (lit< tt, tt)
+tenure_below_pieces false None true = (lit< tt, tt)
+tenure_below_pieces false None false = tt
+
+pub tenure_below : (k : StepMarks) → OfTenure k → AllBelow 5 (kinds_of k)
+tenure_below k own = subst (λ (k : StepMarks). AllBelow 5 (kinds_of k)) (sym own)
+    (tenure_below_pieces k.opened k.tenure k.tenure_end)
+
+tenure_from_pieces : (opened : Bool) (tenure : Option BusGrant) (tenure_end : Bool)
+    → AllFrom 2 (kinds_of (of_tenure opened tenure tenure_end))
+tenure_from_pieces true (Some g) true = (lit≤ tt, (lit≤ tt, (lit≤ tt, tt)))
+tenure_from_pieces true (Some g) false = (lit≤ tt, (lit≤ tt, tt))
+tenure_from_pieces true None true = (lit≤ tt, (lit≤ tt, tt))
+tenure_from_pieces true None false = (lit≤ tt, tt)
+tenure_from_pieces false (Some g) true = (lit≤ tt, (lit≤ tt, tt))
+tenure_from_pieces false (Some g) false = (lit≤ tt, tt)
+tenure_from_pieces false None true = (lit≤ tt, tt)
+tenure_from_pieces false None false = tt
+
+pub tenure_from : (k : StepMarks) → OfTenure k → AllFrom 2 (kinds_of k)
+tenure_from k own = subst (λ (k : StepMarks). AllFrom 2 (kinds_of k)) (sym own)
+    (tenure_from_pieces k.opened k.tenure k.tenure_end)
+
+-- and those of the cycle and the transfer last
+module _ (n : ℕ) (few : n ≤ 5) where
+  enough : (k : ℕ) → 5 ≤ k → n ≤ k
+  enough k h = omega arith
+
+  transfer_pieces : (cycle : Option CycleStart) (cycle_end : Bool) (transfer : Option Bool)
+      (answer : Option TransferAnswer)
+      (close : Bool)
+      → AllFrom n (kinds_of (record nothing {
+        cycle = cycle;
+        cycle_end = cycle_end;
+        transfer = transfer;
+        answer = answer;
+        close = close;
+      }))
+  transfer_pieces cycle cycle_end transfer answer close =
+      let first = option_to_list (option_map cycle_kind cycle) in
+      let second = option_to_list (when cycle_end CycleEnd) in
+      let third = option_to_list (option_map Transfer transfer) in
+      let fourth = option_to_list (option_map answered_kind answer) in
+      from_both n (first ++ second ++ third ++ fourth) (option_to_list (when close Close))
+      (from_both n (first ++ second ++ third) fourth
+      (from_both n (first ++ second) third
+      (from_both n first second (map_from n cycle_kind cycle (λ a. enough 5 (lit≤ tt)))
+      (when_from n cycle_end CycleEnd (enough 6 (lit≤ tt))))
+      (map_from n Transfer transfer (λ a. enough 7 (lit≤ tt))))
+      (map_from n answered_kind answer (λ a. enough (kind_number (answered_kind a)) (answer_from a.line a.lanes))))
+      (when_from n close Close (enough 9 (lit≤ tt)))
+
+  pub transfer_from : (k : StepMarks) → OfTransfer k → AllFrom n (kinds_of k)
+  transfer_from k own = subst (λ (k : StepMarks). AllFrom n (kinds_of k)) (sym own)
+      (transfer_pieces k.cycle k.cycle_end k.transfer k.answer k.close)

@@ -1,0 +1,411 @@
+-- No count saturates: each is at most the number of the steps.
+use Rattle.std.proofs.Common.{◌≡◌, ℕ, zero, suc, ◌+◌, ◌-◌, ◌^◌, ◌<◌, ◌≤◌, Bool, true, false, List, [], ◌∷◌, length}
+use Rattle.std.proofs.Common.{refl}
+use Rattle.std.proofs.Common.{◌∙◌, ap, arith, cond, Option, None, Some}
+use Rattle.std.specs.Prelude.{◌==◌, min}
+use Rattle.std.specs.Option.{option_map_or}
+use Rattle.vme_trace.specs.Levels.{Levels}
+use Rattle.vme_trace.specs.LineNumbers.{DTACK}
+use Rattle.vme_trace.specs.Trace.{changed}
+use Rattle.vme_trace.specs.declared.class.Class.{Class}
+use Rattle.vme_trace.specs.declared.class.Class.TheVariants as class
+use Rattle.vme_trace.specs.declared.step.Step.{Step}
+use Rattle.vme_monitor.specs.declared.mark.BusGrant.{BusGrant}
+use Rattle.vme_monitor.specs.declared.mark.CycleStart.{CycleStart}
+use Rattle.vme_monitor.specs.declared.mark.Fault.{Fault}
+use Rattle.vme_monitor.specs.declared.mark.StepMarks.{StepMarks}
+use Rattle.vme_monitor.specs.declared.mark.TransferAnswer.{TransferAnswer}
+use Rattle.vme_audit.specs.declared.counts.Counts.{Counts}
+use Rattle.vme_auditor.specs.Memories.{first_fault_of, grant_at, handshake_at, known_at, memories_next}
+use Rattle.vme_auditor.specs.Tallied.{answered, at_answer, at_break, at_cycle, at_reset, at_tenure, at_transfer}
+use Rattle.vme_auditor.specs.Tallied.{by_line}
+use Rattle.vme_auditor.specs.Tallied.{counted, left_pending, of_class, of_direction, tallied, to_pending}
+use Rattle.vme_auditor.specs.declared.memories.Memories.{Memories}
+use Rattle.vme_auditor.specs.declared.tally.StartedTransfer.{StartedTransfer}
+use Rattle.vme_auditor.specs.declared.tally.Tally.{Tally}
+use Rattle.vme_auditor.proofs.TalliedSteps.{tally_behind, tally_by}
+use Rattle.vme_auditor.proofs.ToldBreaks.{memories_behind}
+
+counted_is : (k : ℕ) → k < 2 ^ 64 - 1 → counted k ≡ suc k
+counted_is k h = omega arith
+
+abbrev waiting_count : Option StartedTransfer → ℕ
+waiting_count None = 0
+waiting_count (Some s) = 1
+
+-- bounds of the resets, of the tenures, of the cycles and of the transfers. Each transfer has one outcome
+pub record Fits (r t c m : ℕ) (d : Counts) (w : Option StartedTransfer) : Type 0 where
+  pub resets : d.resets ≤ r
+  pub tenures : d.tenures ≤ t
+  pub single : d.single ≤ c
+  pub block : d.block ≤ c
+  pub free : d.free ≤ c
+  pub acknowledge : d.acknowledge ≤ c
+  pub moved : d.reads + d.writes ≤ m
+  pub served : d.pending + d.by_dtack + d.by_berr + waiting_count w ≤ d.reads + d.writes
+
+-- a tally that may saturate is one that doesn't, within bounds
+pub record IsExact (r t c m : ℕ) (a b : Tally) : Type 0 where
+  pub same : a ≡ b
+  pub fits : Fits r t c m b.counts b.waiting
+
+fits_more : (r t c m r' t' c' m' : ℕ) (d : Counts) (w : Option StartedTransfer) → r ≤ r' → t ≤ t' → c ≤ c' → m ≤ m'
+    → Fits r t c m d w → Fits r' t' c' m' d w
+fits_more r t c m r' t' c' m' d w p q u v f =
+    record {
+      resets = omega (arith, f.resets);
+      tenures = omega (arith, f.tenures);
+      single = omega (arith, f.single);
+      block = omega (arith, f.block);
+      free = omega (arith, f.free);
+      acknowledge = omega (arith, f.acknowledge);
+      moved = omega (arith, f.moved);
+      served = f.served;
+    }
+
+module _ (r t c m : ℕ) where
+  -- the transfer that waits stays without an answer
+  pub pending_exact : (a : Tally) → Fits r t c m a.counts a.waiting → m ≤ 2 ^ 64 - 1
+      → IsExact r t c m (to_pending counted a) (to_pending suc a)
+  pending_exact a f few = by_waiting a.waiting refl
+    where
+      by_waiting : (w : Option StartedTransfer) → a.waiting ≡ w
+          → IsExact r t c m (left_pending counted a w) (left_pending suc a w)
+      by_waiting None e = record { same = refl; fits = f }
+      by_waiting (Some s) e =
+          let served : a.counts.pending + a.counts.by_dtack + a.counts.by_berr + 1 ≤ a.counts.reads + a.counts.writes =
+          rw e at f.served in
+          record {
+            same = rw (counted_is a.counts.pending (omega (arith, f.moved))) refl;
+            fits = record {
+              resets = f.resets;
+              tenures = f.tenures;
+              single = f.single;
+              block = f.block;
+              free = f.free;
+              acknowledge = f.acknowledge;
+              moved = f.moved;
+              served = omega arith;
+            };
+          }
+
+  break_exact : (a : Tally) → Fits r t c m a.counts a.waiting → m ≤ 2 ^ 64 - 1
+      → IsExact r t c m (at_break counted a) (at_break suc a)
+  break_exact a f few =
+      let p = pending_exact a f few in
+      record {
+        same = ap (λ (b : Tally). record b { has_cycle = false; unanswered = None }) p.same;
+        fits = p.fits;
+      }
+
+  reset_exact : (b : Bool) (a : Tally) → Fits r t c m a.counts a.waiting → r < 2 ^ 64 - 1 → m ≤ 2 ^ 64 - 1
+      → IsExact (suc r) t c m (cond b (at_reset counted a) a) (cond b (at_reset suc a) a)
+  reset_exact false a f below few =
+      record {
+        same = refl;
+        fits = fits_more r t c m (suc r) t c m a.counts a.waiting (omega arith) (omega arith) (omega arith)
+            (omega arith)
+            f;
+      }
+  reset_exact true a f below few =
+      let p = break_exact a f few in
+      let d = (at_break suc a).counts in
+      record {
+        same =
+            ap (λ (b : Tally). record b { counts = record b.counts { resets = counted b.counts.resets } }) p.same
+            ∙ ap (λ n. record (at_break suc a) { counts = record d { resets = n } })
+            (counted_is d.resets (omega (arith, p.fits.resets)));
+        fits = record {
+          resets = omega (arith, p.fits.resets);
+          tenures = p.fits.tenures;
+          single = p.fits.single;
+          block = p.fits.block;
+          free = p.fits.free;
+          acknowledge = p.fits.acknowledge;
+          moved = p.fits.moved;
+          served = p.fits.served;
+        };
+      }
+
+  tenure_exact : (o : Option BusGrant) (a b : Tally) → IsExact r t c m a b → t < 2 ^ 64 - 1
+      → IsExact r (suc t) c m (option_map_or (at_tenure counted a) o a) (option_map_or (at_tenure suc b) o b)
+  tenure_exact None a b e below =
+      record {
+        same = e.same;
+        fits = fits_more r t c m r (suc t) c m b.counts b.waiting (omega arith) (omega arith) (omega arith)
+            (omega arith)
+            e.fits;
+      }
+  tenure_exact (Some g) a b e below =
+      record {
+        same =
+            ap (λ (a : Tally). at_tenure counted a g) e.same
+            ∙ ap (λ n. record b { counts = record b.counts { tenures = n } })
+            (counted_is b.counts.tenures (omega (arith, e.fits.tenures)));
+        fits = record {
+          resets = e.fits.resets;
+          tenures = omega (arith, e.fits.tenures);
+          single = e.fits.single;
+          block = e.fits.block;
+          free = e.fits.free;
+          acknowledge = e.fits.acknowledge;
+          moved = e.fits.moved;
+          served = e.fits.served;
+        };
+      }
+
+  class_is : (d : Counts) (w : Option StartedTransfer) (k : Class) → Fits r t c m d w → c < 2 ^ 64 - 1
+      → of_class counted d k ≡ of_class suc d k
+  class_is d w class.S f below =
+      ap (λ n. record d { single = n }) (counted_is d.single (omega (arith, f.single)))
+  class_is d w class.K f below = ap (λ n. record d { block = n }) (counted_is d.block (omega (arith, f.block)))
+  class_is d w class.F f below = ap (λ n. record d { free = n }) (counted_is d.free (omega (arith, f.free)))
+  class_is d w class.I f below =
+      ap (λ n. record d { acknowledge = n }) (counted_is d.acknowledge (omega (arith, f.acknowledge)))
+
+  class_fits : (d : Counts) (w : Option StartedTransfer) (k : Class) → Fits r t c m d w
+      → Fits r t (suc c) m (of_class suc d k) w
+  class_fits d w class.S f =
+      record {
+        resets = f.resets;
+        tenures = f.tenures;
+        single = omega (arith, f.single);
+        block = omega (arith, f.block);
+        free = omega (arith, f.free);
+        acknowledge = omega (arith, f.acknowledge);
+        moved = f.moved;
+        served = f.served;
+      }
+  class_fits d w class.K f =
+      record {
+        resets = f.resets;
+        tenures = f.tenures;
+        single = omega (arith, f.single);
+        block = omega (arith, f.block);
+        free = omega (arith, f.free);
+        acknowledge = omega (arith, f.acknowledge);
+        moved = f.moved;
+        served = f.served;
+      }
+  class_fits d w class.F f =
+      record {
+        resets = f.resets;
+        tenures = f.tenures;
+        single = omega (arith, f.single);
+        block = omega (arith, f.block);
+        free = omega (arith, f.free);
+        acknowledge = omega (arith, f.acknowledge);
+        moved = f.moved;
+        served = f.served;
+      }
+  class_fits d w class.I f =
+      record {
+        resets = f.resets;
+        tenures = f.tenures;
+        single = omega (arith, f.single);
+        block = omega (arith, f.block);
+        free = omega (arith, f.free);
+        acknowledge = omega (arith, f.acknowledge);
+        moved = f.moved;
+        served = f.served;
+      }
+
+  cycle_exact : (o : Option CycleStart) (a b : Tally) → IsExact r t c m a b → c < 2 ^ 64 - 1
+      → IsExact r t (suc c) m (option_map_or (at_cycle counted a) o a) (option_map_or (at_cycle suc b) o b)
+  cycle_exact None a b e below =
+      record {
+        same = e.same;
+        fits = fits_more r t c m r t (suc c) m b.counts b.waiting (omega arith) (omega arith) (omega arith)
+            (omega arith)
+            e.fits;
+      }
+  cycle_exact (Some s) a b e below =
+      record {
+        same =
+            ap (λ (a : Tally). at_cycle counted a s) e.same
+            ∙ ap (λ (d : Counts). record b { has_cycle = true; counts = d })
+            (class_is b.counts b.waiting s.class e.fits below);
+        fits = class_fits b.counts b.waiting s.class e.fits;
+      }
+
+  direction_is : (d : Counts) (w : Option StartedTransfer) (write : Bool) → Fits r t c m d w → m < 2 ^ 64 - 1
+      → of_direction counted d write ≡ of_direction suc d write
+  direction_is d w true f below =
+      ap (λ n. record d { writes = n }) (counted_is d.writes (omega (arith, f.moved)))
+  direction_is d w false f below = ap (λ n. record d { reads = n }) (counted_is d.reads (omega (arith, f.moved)))
+
+  direction_fits : (d : Counts) (s : StartedTransfer) (write : Bool) → Fits r t c m d None
+      → Fits r t c (suc m) (of_direction suc d write) (Some s)
+  direction_fits d s true f =
+      record {
+        resets = f.resets;
+        tenures = f.tenures;
+        single = f.single;
+        block = f.block;
+        free = f.free;
+        acknowledge = f.acknowledge;
+        moved = omega (arith, f.moved);
+        served = omega (arith, f.served);
+      }
+  direction_fits d s false f =
+      record {
+        resets = f.resets;
+        tenures = f.tenures;
+        single = f.single;
+        block = f.block;
+        free = f.free;
+        acknowledge = f.acknowledge;
+        moved = omega (arith, f.moved);
+        served = omega (arith, f.served);
+      }
+
+  -- nothing waits any more
+  none_waits : (a : Tally) → (to_pending suc a).waiting ≡ None
+  none_waits a = by_waiting a.waiting refl
+    where
+      by_waiting : (w : Option StartedTransfer) → a.waiting ≡ w → (left_pending suc a w).waiting ≡ None
+      by_waiting None e = e
+      by_waiting (Some s) e = refl
+
+  transfer_exact : (o : Option Bool) (a b : Tally) (s : StartedTransfer) → IsExact r t c m a b → m < 2 ^ 64 - 1
+      → IsExact r t c (suc m) (option_map_or (at_transfer counted a s) o a) (option_map_or (at_transfer suc b s) o b)
+  transfer_exact None a b s e below =
+      record {
+        same = e.same;
+        fits = fits_more r t c m r t c (suc m) b.counts b.waiting (omega arith) (omega arith) (omega arith)
+            (omega arith)
+            e.fits;
+      }
+  transfer_exact (Some write) a b s e below =
+      let p = pending_exact b e.fits (omega arith) in
+      let left = to_pending suc b in
+      let unfinished : Fits r t c m left.counts None = rw (none_waits b) at p.fits in
+      record {
+        same =
+            ap (λ (a : Tally). at_transfer counted a s write) e.same
+            ∙ ap (λ (b : Tally). record b { waiting = Some s; counts = of_direction counted b.counts write }) p.same
+            ∙ ap (λ (d : Counts). record left { waiting = Some s; counts = d })
+            (direction_is left.counts left.waiting write p.fits below);
+        fits = direction_fits left.counts s write unfinished;
+      }
+
+  line_exact : (b : Tally) (s : StartedTransfer) (dtack : Bool) → Fits r t c m b.counts (Some s) → m ≤ 2 ^ 64 - 1
+      → IsExact r t c m
+      (record b {
+        waiting = None;
+        counts = cond dtack (record b.counts { by_dtack = counted b.counts.by_dtack })
+            (record b.counts { by_berr = counted b.counts.by_berr });
+      })
+      (record b {
+        waiting = None;
+        counts = cond dtack (record b.counts { by_dtack = suc b.counts.by_dtack })
+            (record b.counts { by_berr = suc b.counts.by_berr });
+      })
+  line_exact b s true f few =
+      record {
+        same = ap (λ n. record b { waiting = None; counts = record b.counts { by_dtack = n } })
+            (counted_is b.counts.by_dtack (omega (arith, f.served, f.moved)));
+        fits = record {
+          resets = f.resets;
+          tenures = f.tenures;
+          single = f.single;
+          block = f.block;
+          free = f.free;
+          acknowledge = f.acknowledge;
+          moved = f.moved;
+          served = omega (arith, f.served);
+        };
+      }
+  line_exact b s false f few =
+      record {
+        same = ap (λ n. record b { waiting = None; counts = record b.counts { by_berr = n } })
+            (counted_is b.counts.by_berr (omega (arith, f.served, f.moved)));
+        fits = record {
+          resets = f.resets;
+          tenures = f.tenures;
+          single = f.single;
+          block = f.block;
+          free = f.free;
+          acknowledge = f.acknowledge;
+          moved = f.moved;
+          served = omega (arith, f.served);
+        };
+      }
+
+  answered_exact : (b : Tally) (line : ℕ) → Fits r t c m b.counts b.waiting → m ≤ 2 ^ 64 - 1
+      → IsExact r t c m (answered counted b line b.waiting) (answered suc b line b.waiting)
+  answered_exact b line f few = by_waiting b.waiting refl
+    where
+      by_waiting : (w : Option StartedTransfer) → b.waiting ≡ w
+          → IsExact r t c m (answered counted b line w) (answered suc b line w)
+      by_waiting None e = record { same = refl; fits = f }
+      by_waiting (Some s) e = line_exact b s (line == DTACK) (rw e at f) few
+
+  answer_here : (b : Tally) (line : ℕ) (cycle : Bool) → Fits r t c m b.counts b.waiting → m ≤ 2 ^ 64 - 1
+      → IsExact r t c m (cond cycle (answered counted b line b.waiting) (to_pending counted b))
+      (cond cycle (answered suc b line b.waiting) (to_pending suc b))
+  answer_here b line true f few = answered_exact b line f few
+  answer_here b line false f few = pending_exact b f few
+
+  answer_exact : (o : Option TransferAnswer) (a b : Tally) → IsExact r t c m a b → m ≤ 2 ^ 64 - 1
+      → IsExact r t c m (option_map_or (at_answer counted a) o a) (option_map_or (at_answer suc b) o b)
+  answer_exact None a b e few = e
+  answer_exact (Some x) a b e few =
+      let p = answer_here b x.line b.has_cycle e.fits few in
+      record { same = ap (λ (a : Tally). at_answer counted a x) e.same ∙ p.same; fits = p.fits }
+
+tallied_exact : (k : ℕ) (a : Tally) (instant time : ℕ) (p q u : StepMarks) → Fits k k k k a.counts a.waiting
+    → k < 2 ^ 64 - 1
+    → IsExact (suc k) (suc k) (suc k) (suc k) (tallied counted a instant time p q u) (tallied suc a instant time p q u)
+tallied_exact k a instant time p q u f below =
+    let first = reset_exact k k k k p.reset a f below (omega arith) in
+    let second = tenure_exact (suc k) k k k q.tenure _ _ first below in
+    let third = cycle_exact (suc k) (suc k) k k u.cycle _ _ second below in
+    let fourth = transfer_exact (suc k) (suc k) (suc k) k u.transfer _ _
+    (record { instant = instant; time = time }) third
+    below in
+    answer_exact (suc k) (suc k) (suc k) (suc k) u.answer _ _ fourth (omega arith)
+
+behind_exact : (k : ℕ) (fault : Option Fault) (a : Tally) (instant time : ℕ) (p q u : StepMarks)
+    → Fits k k k k a.counts a.waiting → k < 2 ^ 64 - 1
+    → IsExact (suc k) (suc k) (suc k) (suc k) (tally_behind counted fault a instant time p q u)
+    (tally_behind suc fault a instant time p q u)
+behind_exact k None a instant time p q u f below = tallied_exact k a instant time p q u f below
+behind_exact k (Some fault) a instant time p q u f below =
+    let e = break_exact k k k k a f (omega arith) in
+    record {
+      same = e.same;
+      fits = fits_more k k k k (suc k) (suc k) (suc k) (suc k) (at_break suc a).counts (at_break suc a).waiting
+          (omega arith) (omega arith) (omega arith) (omega arith) e.fits;
+    }
+
+-- so it is of the tally behind any steps
+pub tally_exact : (x : List Step) (m : Memories) (o : Levels) (n : ℕ) (a : Tally) (k : ℕ)
+    → Fits k k k k a.counts a.waiting → k + length x ≤ 2 ^ 64 - 1
+    → IsExact (k + length x) (k + length x) (k + length x) (k + length x) (tally_by counted m o n a x)
+    (tally_by suc m o n a x)
+unfolding tally_by
+tally_exact [] m o n a k f few =
+    record {
+      same = refl;
+      fits = fits_more k k k k (k + 0) (k + 0) (k + 0) (k + 0) a.counts a.waiting (omega arith) (omega arith)
+          (omega arith)
+          (omega arith) f;
+    }
+tally_exact (s ∷ x) m o n a k f few =
+    let after = changed o s.changes in
+    let fault = first_fault_of m o after s.changes in
+    let next = memories_behind fault after (memories_next m o after s.changes) in
+    let p = (known_at m.known o after s.changes).kinds in
+    let q = (grant_at m.grant o after s.changes).kinds in
+    let u = (handshake_at m.handshake o after s.changes).kinds in
+    let e = behind_exact k fault a (n + 1) s.time p q u f (omega arith) in
+    let b = tally_behind suc fault a (n + 1) s.time p q u in
+    let rest = tally_exact x next after (n + 1) b (suc k) e.fits (omega arith) in
+    let long : suc k + length x ≤ k + suc (length x) = omega arith in
+    record {
+      same = ap (λ (a : Tally). tally_by counted next after (n + 1) a x) e.same ∙ rest.same;
+      fits = fits_more (suc k + length x) (suc k + length x) (suc k + length x) (suc k + length x) (k + suc (length x))
+          (k + suc (length x)) (k + suc (length x)) (k + suc (length x)) (tally_by suc next after (n + 1) b x).counts
+          (tally_by suc next after (n + 1) b x).waiting long long long long rest.fits;
+    }

@@ -1,0 +1,8 @@
+-- The changes that are left make of the events what all of them do.
+use Rattle.std.proofs.Common.{◌≡◌, drop}
+use Rattle.vme_auditor.specs.Events.{nets_taken}
+use Rattle.vme_auditor.proofs.asked.AskedEvents.take_nets.Given as goal
+
+abbrev pub invariant-loop-change : goal.invariant-loop-change
+invariant-loop-change l = nets_taken l.before l.after l.self (drop l.change-index l.changes)
+    ≡ nets_taken l.before l.after l.fn.self l.changes

@@ -1,0 +1,16 @@
+-- A break of a recording of any length, as the definitions have it.
+use Rattle.std.specs.Prelude.{ℕ, List, [], ◌∷◌, Option, None, Some}
+use Rattle.vme_trace.specs.declared.verdict.Break.{Break}
+use Rattle.vme_auditor.specs.declared.audit_break.AuditBreak.{AuditBreak}
+
+abbrev pub as_break : AuditBreak → Break
+as_break b = record { instant = b.instant; time = b.time; rule = b.rule; line = b.line }
+
+-- the instant of the last break
+abbrev pub last_instant_of : List Break → Option ℕ
+last_instant_of [] = None
+last_instant_of (b ∷ bs) = Some (behind b bs)
+  where
+    behind : Break → List Break → ℕ
+    behind b [] = b.instant
+    behind b (c ∷ cs) = behind c cs

@@ -1,0 +1,163 @@
+-- Which events happened of which rules speak, by the steps at which they do.
+use Rattle.std.specs.Prelude.{ℕ, Bool, true, false, ◌&&◌, ◌||◌, List, Option, None, Some, is_some}
+use Rattle.std.specs.List.{fold}
+use Rattle.std.specs.Option.{option_map_or}
+use Rattle.vme_trace.specs.Edges.{answer_between, falls_between, rises_between, strobe_falls_between}
+use Rattle.vme_trace.specs.Edges.{strobe_rises_between}
+use Rattle.vme_trace.specs.Levels.{Levels}
+use Rattle.vme_trace.specs.LineNumbers.{AS, DTACK, BERR, BBSY, has_line, is_arbiter_grant, is_slot_grant}
+use Rattle.vme_trace.specs.LineNumbers.{is_slot_iack}
+use Rattle.vme_trace.specs.Rules.{is_interrupt}
+use Rattle.vme_trace.specs.declared.rule.Rule.{Rule}
+use Rattle.vme_trace.specs.declared.rule.Rule.TheVariants as rule
+use Rattle.vme_trace.specs.declared.step.Change.{Change}
+use Rattle.vme_monitor.specs.Tracking.{is_within}
+use Rattle.vme_monitor.specs.declared.mark.CycleStart.{CycleStart}
+use Rattle.vme_monitor.specs.declared.mark.StepMarks.{StepMarks}
+use Rattle.vme_monitor.specs.declared.mark.TransferAnswer.{TransferAnswer}
+use Rattle.vme_monitor.specs.declared.tracking.Pending.{Pending}
+use Rattle.vme_dtb.specs.declared.cycle.Cycle.{Cycle}
+use Rattle.vme_dtb.specs.declared.cycle.Cycle.TheVariants.{SingleRead, SingleDone, BlockReading, BlockWriting}
+use Rattle.vme_dtb.specs.declared.cycle.Cycle.TheVariants.{Interrupt, InterruptDone}
+use Rattle.vme_dtb.specs.declared.memory.HandshakeMemory.{HandshakeMemory}
+use Rattle.vme_auditor.specs.declared.asked.AskedEvents.{AskedEvents}
+
+abbrev pub nothing_happened : AskedEvents
+nothing_happened =
+    record {
+      stretch = false;
+      cycle = false;
+      cycle_end = false;
+      transfer = false;
+      write = false;
+      strobe_rise = false;
+      strobe_fall = false;
+      answer_fall = false;
+      answer_rise = false;
+      answer = false;
+      single_again = false;
+      block_again = false;
+      interrupt = false;
+      interrupt_again = false;
+      slot_grant_fall = false;
+      slot_grant_rise = false;
+      arbiter_fall = false;
+      tenure = false;
+      acknowledge_fall = false;
+    }
+
+-- the event of each rule
+abbrev pub asks_by : AskedEvents → Rule → Bool
+asks_by e rule.U1 = e.stretch
+asks_by e rule.U2 = e.cycle
+asks_by e rule.S1 = e.cycle
+asks_by e rule.B3 = e.cycle
+asks_by e rule.U3 = e.transfer
+asks_by e rule.H1 = e.transfer
+asks_by e rule.S2 = e.transfer
+asks_by e rule.U4 = e.write
+asks_by e rule.S3 = e.write
+asks_by e rule.H2 = e.strobe_rise
+asks_by e rule.H3 = e.strobe_fall
+asks_by e rule.H4 = e.answer_fall
+asks_by e rule.H5 = e.answer_fall
+asks_by e rule.H6 = e.answer_rise
+asks_by e rule.H7 = e.cycle_end
+asks_by e rule.H8 = e.answer
+asks_by e rule.C1 = e.single_again
+asks_by e rule.C2 = e.block_again
+asks_by e rule.I4 = e.interrupt
+asks_by e rule.I5 = e.interrupt_again
+asks_by e rule.G1 = e.slot_grant_fall
+asks_by e rule.G2 = e.slot_grant_rise
+asks_by e rule.G3 = e.arbiter_fall
+asks_by e rule.G5 = e.arbiter_fall
+asks_by e rule.G4 = e.arbiter_fall || e.slot_grant_fall
+asks_by e rule.B1 = e.tenure
+asks_by e rule.B2 = e.tenure
+asks_by e rule.B4 = e.tenure
+asks_by e rule.I1 = e.acknowledge_fall
+asks_by e rule.I2 = e.acknowledge_fall
+asks_by e rule.I3 = e.acknowledge_fall
+
+-- the class of a cycle that says which answers may follow
+abbrev pub is_interrupt_cycle : Cycle → Bool
+is_interrupt_cycle Interrupt = true
+is_interrupt_cycle InterruptDone = true
+is_interrupt_cycle cycle = false
+
+abbrev pub is_interrupt_entered : Cycle → Option CycleStart → Bool
+is_interrupt_entered cycle None = is_interrupt_cycle cycle
+is_interrupt_entered cycle (Some start) = is_interrupt start.class
+
+-- an edge of a net that the backplane has
+abbrev pub net_falls : Levels → Levels → ℕ → Bool
+net_falls before after l = has_line before.slots l && has_line after.slots l && falls_between before after l
+
+abbrev pub net_rises : Levels → Levels → ℕ → Bool
+net_rises before after l = has_line before.slots l && has_line after.slots l && rises_between before after l
+
+-- ---- the events with those of one step more
+
+abbrev pub cycle_taken : AskedEvents → Levels → Levels → StepMarks → AskedEvents
+cycle_taken e before after kinds = record e {
+  cycle = e.cycle || is_some kinds.cycle;
+  cycle_end = e.cycle_end || rises_between before after AS;
+  transfer = e.transfer || is_some kinds.transfer;
+  write = e.write || option_map_or (λ write. write) kinds.transfer false;
+}
+
+abbrev pub strobes_taken : AskedEvents → Pending → Levels → Levels → AskedEvents
+strobes_taken e pending before after = record e {
+  strobe_rise = e.strobe_rise || (is_within pending && strobe_rises_between before after);
+  strobe_fall = e.strobe_fall || (is_within pending && strobe_falls_between before after);
+}
+
+-- an answer in a cycle that started before, which another may have had
+abbrev pub further_taken : AskedEvents → Cycle → AskedEvents
+further_taken e SingleRead = record e { single_again = true }
+further_taken e SingleDone = record e { single_again = true }
+further_taken e BlockReading = record e { block_again = true }
+further_taken e BlockWriting = record e { block_again = true }
+further_taken e InterruptDone = record e { interrupt_again = true }
+further_taken e cycle = e
+
+abbrev pub further_unless : AskedEvents → Cycle → Option CycleStart → AskedEvents
+further_unless e cycle None = further_taken e cycle
+further_unless e cycle (Some start) = e
+
+abbrev pub answer_taken : AskedEvents → Cycle → Option CycleStart → Option TransferAnswer → AskedEvents
+answer_taken e cycle starts None = e
+answer_taken e cycle starts (Some answer) =
+    further_unless
+    (record e { answer = true; interrupt = e.interrupt || is_interrupt_entered cycle starts }) cycle starts
+
+abbrev pub answers_taken : AskedEvents → Cycle → Levels → Levels → StepMarks → AskedEvents
+answers_taken e cycle before after kinds =
+    answer_taken
+    (record e {
+      answer_fall = e.answer_fall || answer_between before after;
+      answer_rise = e.answer_rise || rises_between before after DTACK || rises_between before after BERR;
+    })
+    cycle kinds.cycle kinds.answer
+
+abbrev pub net_taken : Levels → Levels → AskedEvents → Change → AskedEvents
+net_taken before after e c = record e {
+  slot_grant_fall = e.slot_grant_fall || (is_slot_grant c.line && net_falls before after c.line);
+  slot_grant_rise = e.slot_grant_rise || (is_slot_grant c.line && net_rises before after c.line);
+  arbiter_fall = e.arbiter_fall || (is_arbiter_grant c.line && net_falls before after c.line);
+  acknowledge_fall = e.acknowledge_fall || (is_slot_iack c.line && net_falls before after c.line);
+}
+
+abbrev pub nets_taken : Levels → Levels → AskedEvents → List Change → AskedEvents
+nets_taken before after e changes = fold (net_taken before after) e changes
+
+abbrev pub tenure_taken : AskedEvents → Levels → Levels → AskedEvents
+tenure_taken e before after = record e { tenure = e.tenure || falls_between before after BBSY }
+
+abbrev pub at_step : AskedEvents → HandshakeMemory → Levels → Levels → List Change → StepMarks → AskedEvents
+at_step e entered before after changes kinds =
+    let a = cycle_taken e before after kinds in
+    let b = strobes_taken a entered.pending before after in
+    let c = answers_taken b entered.cycle before after kinds in
+    nets_taken before after (tenure_taken c before after) changes

@@ -1,0 +1,17 @@
+-- The first rule that steps break, by monitors that are led from step to step.
+use Rattle.std.specs.Prelude.{List, [], ◌∷◌, Option, None, option_map}
+use Rattle.vme_trace.specs.Levels.{Levels}
+use Rattle.vme_trace.specs.Trace.{changed}
+use Rattle.vme_trace.specs.declared.step.Step.{Step}
+use Rattle.vme_trace.specs.declared.verdict.Break.{Break}
+use Rattle.vme_monitor.specs.Outcome.{earlier, shifted_break}
+use Rattle.vme_auditor.specs.Memories.{fault_at, memories_next}
+use Rattle.vme_auditor.specs.declared.memories.Memories.{Memories}
+
+-- the first break of steps after an opening, from these memories on
+unfoldable pub first_event : Memories → Levels → List Step → Option Break
+first_event m o [] = None
+first_event m o (s ∷ ss) =
+    let after = changed o s.changes in
+    earlier (fault_at m o after s.changes 1 s.time)
+    (option_map (shifted_break 1) (first_event (memories_next m o after s.changes) after ss))

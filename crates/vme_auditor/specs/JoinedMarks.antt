@@ -1,0 +1,28 @@
+-- What the monitors of all rules show, led from step to step: at each step the stretch, the tenure, and then the cycle
+-- and the transfer.
+use Rattle.std.specs.Prelude.{List, [], ◌∷◌, ◌++◌, map}
+use Rattle.vme_trace.specs.Levels.{Levels}
+use Rattle.vme_trace.specs.Trace.{changed}
+use Rattle.vme_trace.specs.declared.step.Change.{Change}
+use Rattle.vme_trace.specs.declared.step.Step.{Step}
+use Rattle.vme_monitor.specs.Outcome.{shifted_mark}
+use Rattle.vme_monitor.specs.Run.{kinds_of, mark_at}
+use Rattle.vme_monitor.specs.declared.mark.Mark.{Mark}
+use Rattle.vme_monitor.specs.declared.mark.MarkKind.{MarkKind}
+use Rattle.vme_auditor.specs.Memories.{grant_at, handshake_at, known_at, memories_next}
+use Rattle.vme_auditor.specs.declared.memories.Memories.{Memories}
+
+-- what is shown at a step
+abbrev pub kinds_shown : Memories → Levels → Levels → List Change → List MarkKind
+kinds_shown m before after changes =
+    kinds_of (known_at m.known before after changes).kinds
+    ++ (kinds_of (grant_at m.grant before after changes).kinds
+    ++ kinds_of (handshake_at m.handshake before after changes).kinds)
+
+-- the marks of steps after an opening, from these memories on
+unfoldable pub joined_marks : Memories → Levels → List Step → List Mark
+joined_marks m o [] = []
+joined_marks m o (s ∷ x) =
+    let after = changed o s.changes in
+    map (mark_at 1) (kinds_shown m o after s.changes)
+    ++ map (shifted_mark 1) (joined_marks (memories_next m o after s.changes) after x)

@@ -1,0 +1,101 @@
+-- The monitors of all rules, led from step to step.
+use Rattle.std.specs.Prelude.{◌≡◌, ℕ, Bool, ◌&&◌, ◌||◌, ◌==◌, List, Option, None, Some, nat_lt, option_map}
+use Rattle.std.specs.Prelude.{if◌then◌else◌}
+use Rattle.vme_trace.specs.Levels.{Levels}
+use Rattle.vme_trace.specs.declared.step.Change.{Change}
+use Rattle.vme_trace.specs.Names.{rule_number}
+use Rattle.vme_trace.specs.declared.verdict.Break.{Break}
+use Rattle.vme_monitor.specs.OverStretches.{noted, spanned, start_in}
+use Rattle.vme_monitor.specs.Run.{break_at, nothing, noticed}
+use Rattle.vme_monitor.specs.KnownSpec.{known_begin, known_ends, known_next, known_opens, known_resets, known_sight}
+use Rattle.vme_monitor.specs.declared.known.Stateless.{Stateless}
+use Rattle.vme_monitor.specs.declared.mark.Fault.{Fault}
+use Rattle.vme_monitor.specs.declared.mark.Next.{Next}
+use Rattle.vme_monitor.specs.declared.over_stretches.StretchPhase.{StretchPhase}
+use Rattle.vme_dtb.specs.Machine.{dtb_begin, dtb_ends, dtb_opens, dtb_sight, dtb_step}
+use Rattle.vme_dtb.specs.declared.memory.HandshakeMemory.{HandshakeMemory}
+use Rattle.vme_stability.specs.StabilitySpec.{stability_begin, stability_ends, stability_next, stability_opens}
+use Rattle.vme_stability.specs.StabilitySpec.{stability_sight}
+use Rattle.vme_stability.specs.declared.holding.Holding.{Holding}
+use Rattle.vme_chains.specs.GrantSpec.{grant_begin, grant_ends, grant_next, grant_opens, grant_sight}
+use Rattle.vme_chains.specs.declared.grant_memory.Arbitration.{Arbitration}
+use Rattle.vme_chains.specs.AcknowledgeSpec.{acknowledge_begin, acknowledge_ends, acknowledge_next, acknowledge_opens}
+use Rattle.vme_chains.specs.AcknowledgeSpec.{acknowledge_sight}
+use Rattle.vme_chains.specs.declared.acknowledge.Acknowledgement.{Acknowledgement}
+use Rattle.vme_auditor.specs.declared.memories.AllShown.{AllShown}
+use Rattle.vme_auditor.specs.declared.memories.Memories.{Memories}
+
+-- what a step is to each monitor
+abbrev pub known_at : StretchPhase Stateless → Levels → Levels → List Change → Next (StretchPhase Stateless)
+known_at = noticed (noted known_sight) (spanned known_begin known_opens known_resets known_ends known_next)
+
+abbrev pub handshake_at : StretchPhase HandshakeMemory → Levels → Levels → List Change
+    → Next (StretchPhase HandshakeMemory)
+handshake_at = noticed (noted dtb_sight) (spanned dtb_begin dtb_opens nothing dtb_ends dtb_step)
+
+abbrev pub stability_at : StretchPhase Holding → Levels → Levels → List Change → Next (StretchPhase Holding)
+stability_at =
+    noticed (noted stability_sight) (spanned stability_begin stability_opens nothing stability_ends stability_next)
+
+abbrev pub grant_at : StretchPhase Arbitration → Levels → Levels → List Change → Next (StretchPhase Arbitration)
+grant_at = noticed (noted grant_sight) (spanned grant_begin grant_opens nothing grant_ends grant_next)
+
+abbrev pub acknowledge_at : StretchPhase Acknowledgement → Levels → Levels → List Change
+    → Next (StretchPhase Acknowledgement)
+acknowledge_at =
+    noticed (noted acknowledge_sight)
+    (spanned acknowledge_begin acknowledge_opens nothing acknowledge_ends acknowledge_next)
+
+-- where the monitors begin
+abbrev pub memories_at : Levels → Memories
+memories_at o =
+    record {
+      known = start_in known_begin o;
+      handshake = start_in dtb_begin o;
+      stability = start_in stability_begin o;
+      grant = start_in grant_begin o;
+      acknowledge = start_in acknowledge_begin o;
+    }
+
+-- where they are after a step
+abbrev pub memories_next : Memories → Levels → Levels → List Change → Memories
+memories_next m before after changes =
+    record {
+      known = (known_at m.known before after changes).memory;
+      handshake = (handshake_at m.handshake before after changes).memory;
+      stability = (stability_at m.stability before after changes).memory;
+      grant = (grant_at m.grant before after changes).memory;
+      acknowledge = (acknowledge_at m.acknowledge before after changes).memory;
+    }
+
+-- a fault is named before another of the same step by its rule, then by its line
+abbrev pub comes_before : Fault → Fault → Bool
+comes_before f g = nat_lt (rule_number f.rule) (rule_number g.rule)
+    || ((rule_number f.rule == rule_number g.rule) && nat_lt f.line g.line)
+
+abbrev pub first_fault : Option Fault → Option Fault → Option Fault
+first_fault None b = b
+first_fault (Some a) None = Some a
+first_fault (Some a) (Some b) = if comes_before b a then Some b else Some a
+
+-- the first rule that a step breaks
+abbrev pub first_fault_of : Memories → Levels → Levels → List Change → Option Fault
+first_fault_of m before after changes =
+    first_fault (known_at m.known before after changes).fault
+    (first_fault (handshake_at m.handshake before after changes).fault
+    (first_fault (stability_at m.stability before after changes).fault
+    (first_fault (grant_at m.grant before after changes).fault
+    (acknowledge_at m.acknowledge before after changes).fault)))
+
+-- the same as a break, at an instant and a time
+abbrev pub fault_at : Memories → Levels → Levels → List Change → ℕ → ℕ → Option Break
+fault_at m before after changes n time = option_map (break_at n time) (first_fault_of m before after changes)
+
+-- all monitors go on past a step, and this is what it shows to them
+pub record AllGoOn (old : Memories) (before after : Levels) (changes : List Change) (new : Memories) (shown : AllShown)
+    : Type 0 where
+  pub memories : new ≡ memories_next old before after changes
+  pub fault : shown.fault ≡ first_fault_of old before after changes
+  pub stretch : shown.stretch ≡ (known_at old.known before after changes).kinds
+  pub tenure : shown.tenure ≡ (grant_at old.grant before after changes).kinds
+  pub transfer : shown.transfer ≡ (handshake_at old.handshake before after changes).kinds

@@ -1,0 +1,110 @@
+-- What a recording has, counted as its steps come: by the marks of each.
+use Rattle.std.specs.Prelude.{ℕ, ◌+◌, ◌-◌, ◌^◌, ◌==◌, Bool, true, false, Option, None, Some, min, if◌then◌else◌}
+use Rattle.std.specs.Option.{option_map_or, option_or}
+use Rattle.vme_trace.specs.LineNumbers.{DTACK}
+use Rattle.vme_trace.specs.declared.class.Class.{Class}
+use Rattle.vme_trace.specs.declared.class.Class.TheVariants as class
+use Rattle.vme_monitor.specs.declared.mark.BusGrant.{BusGrant}
+use Rattle.vme_monitor.specs.declared.mark.CycleStart.{CycleStart}
+use Rattle.vme_monitor.specs.declared.mark.StepMarks.{StepMarks}
+use Rattle.vme_monitor.specs.declared.mark.TransferAnswer.{TransferAnswer}
+use Rattle.vme_audit.specs.declared.counts.Counts.{Counts}
+use Rattle.vme_auditor.specs.declared.tally.StartedTransfer.{StartedTransfer}
+use Rattle.vme_auditor.specs.declared.tally.Tally.{Tally}
+
+-- one more, as far as 64 bits go
+abbrev pub counted : ℕ → ℕ
+counted n = min (n + 1) (2 ^ 64 - 1)
+
+abbrev pub no_counts : Tally
+no_counts =
+    record {
+      counts = record {
+        resets = 0;
+        tenures = 0;
+        single = 0;
+        block = 0;
+        free = 0;
+        acknowledge = 0;
+        reads = 0;
+        writes = 0;
+        by_dtack = 0;
+        by_berr = 0;
+        pending = 0;
+      };
+      has_cycle = false;
+      waiting = None;
+      unanswered = None;
+    }
+
+-- what is counted, by what one more is
+module _ (more : ℕ → ℕ) where
+  -- the transfer that waits stays without an answer
+  abbrev pub left_pending : Tally → Option StartedTransfer → Tally
+  left_pending a None = a
+  left_pending a (Some started) = record a {
+    counts = record a.counts { pending = more a.counts.pending };
+    waiting = None;
+    unanswered = option_or a.unanswered (Some started);
+  }
+
+  abbrev pub to_pending : Tally → Tally
+  to_pending a = left_pending a a.waiting
+
+  -- the part ends with a break, and another begins
+  abbrev pub at_break : Tally → Tally
+  at_break a = record (to_pending a) { has_cycle = false; unanswered = None }
+
+  abbrev pub at_reset : Tally → Tally
+  at_reset a =
+      let b = at_break a in
+      record b { counts = record b.counts { resets = more b.counts.resets } }
+
+  abbrev pub at_tenure : Tally → BusGrant → Tally
+  at_tenure a grant = record a { counts = record a.counts { tenures = more a.counts.tenures } }
+
+  abbrev pub of_class : Counts → Class → Counts
+  of_class c class.S = record c { single = more c.single }
+  of_class c class.K = record c { block = more c.block }
+  of_class c class.F = record c { free = more c.free }
+  of_class c class.I = record c { acknowledge = more c.acknowledge }
+
+  abbrev pub at_cycle : Tally → CycleStart → Tally
+  at_cycle a start = record a { has_cycle = true; counts = of_class a.counts start.class }
+
+  abbrev pub of_direction : Counts → Bool → Counts
+  of_direction c true = record c { writes = more c.writes }
+  of_direction c false = record c { reads = more c.reads }
+
+  abbrev pub at_transfer : Tally → StartedTransfer → Bool → Tally
+  at_transfer a started write =
+      let b = to_pending a in
+      record b { waiting = Some started; counts = of_direction b.counts write }
+
+  abbrev pub by_line : Counts → ℕ → Counts
+  by_line c line = if line == DTACK then record c { by_dtack = more c.by_dtack }
+      else record c { by_berr = more c.by_berr }
+
+  -- the transfer that waits is answered in a cycle
+  abbrev pub answered : Tally → ℕ → Option StartedTransfer → Tally
+  answered a line None = a
+  answered a line (Some started) = record a { waiting = None; counts = by_line a.counts line }
+
+  -- before any cycle an answer counts as none
+  abbrev pub at_answer : Tally → TransferAnswer → Tally
+  at_answer a answer = if a.has_cycle then answered a answer.line a.waiting else to_pending a
+
+  -- what happens at a step that breaks no rule, in order
+  abbrev pub tallied : Tally → ℕ → ℕ → StepMarks → StepMarks → StepMarks → Tally
+  tallied a instant time stretch tenure transfer =
+      let b = if stretch.reset then at_reset a else a in
+      let c = option_map_or (at_tenure b) tenure.tenure b in
+      let d = option_map_or (at_cycle c) transfer.cycle c in
+      let e = option_map_or (at_transfer d (record { instant = instant; time = time })) transfer.transfer d in
+      option_map_or (at_answer e) transfer.answer e
+
+  abbrev pub counts_so_far : Tally → Counts
+  counts_so_far a = (to_pending a).counts
+
+abbrev pub hang_so_far : Tally → Option StartedTransfer
+hang_so_far a = option_or a.unanswered a.waiting

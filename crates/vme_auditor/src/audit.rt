@@ -1,0 +1,130 @@
+//! What an audit has come to.
+
+ghost use Rattle.std.specs.Prelude.{◌≡◌, option_map};
+ghost use Rattle.vme_monitor.specs.Run.{break_at};
+ghost use Rattle.vme_monitor.specs.StepRuns.{seen_in};
+ghost use Rattle.vme_auditor.specs.Audited.{begun_anew, begun_at, ended_with, events_by, stepped};
+ghost use Rattle.vme_auditor.specs.Breaks.{as_break};
+ghost use Rattle.vme_auditor.specs.Memories.{fault_at};
+
+use crate::asked::AskedEvents;
+use crate::audit_break::AuditBreak;
+use crate::memories::{AllShown, Memories};
+use crate::tally::Tally;
+use vme_dtb::memory::HandshakeMemory;
+use vme_monitor::mark::Fault;
+use vme_monitor::over_stretches::StretchPhase;
+use vme_monitor::view::StepView;
+use vme_trace::{Change, Lines};
+
+/// The memories of the monitors, and what was counted and asked so far.
+#[derive(Clone, Copy, Debug, PartialEq, Eq)]
+pub(crate) struct Audit {
+    pub memories: Memories,
+    pub tally: Tally,
+    pub events: AskedEvents,
+    /// The instant of the last break.
+    pub last_break: Option<u64>,
+}
+
+impl Audit {
+    /// Before the first step.
+    pub fn at(opening: &Lines) -> Audit
+        ensures { result ≡ begun_at opening.now }
+    {
+        let memories = Memories::at(opening);
+        let mut events = AskedEvents::none();
+        events.stretch = memories.have_started();
+        Audit {
+            memories,
+            tally: Tally::new(),
+            events,
+            last_break: None,
+        }
+    }
+
+    /// Goes on past a step, at its instant and time, and finds whether it breaks a rule.
+    pub fn go_on(
+        &mut self,
+        view: &StepView,
+        changes: &[Change],
+        instant: u64,
+        time: u64,
+    ) -> Option<AuditBreak>
+        requires { view.now ≡ seen_in view.now.before changes.now }
+        ensures audit { self.new ≡ stepped self.old view.now.before view.now.after changes.now instant time }
+        ensures found { option_map as_break result
+            ≡ fault_at self.old.memories view.now.before view.now.after changes.now instant time }
+    {
+        let entered = self.memories.handshake;
+        let shown = self.memories.go_on(view, changes);
+        self.take_events(entered, view, changes, &shown);
+        self.end_step(&view.after, instant, time, &shown)
+    }
+
+    /// Takes the events of a step, if its instant is judged.
+    fn take_events(
+        &mut self,
+        entered: StretchPhase<HandshakeMemory>,
+        view: &StepView,
+        changes: &[Change],
+        shown: &AllShown,
+    )
+        ensures { self.new ≡ record self.old {
+          events = events_by self.old.events entered view.now.end view.now.before
+              view.now.after changes.now shown.now.stretch shown.now.transfer;
+        } }
+    {
+        if let StretchPhase::Judging(memory) = entered {
+            if view.end.is_none() {
+                self.events.take(memory, &view.before, &view.after, changes, &shown.transfer);
+            }
+        }
+        self.events.stretch = self.events.stretch || shown.stretch.start;
+    }
+
+    /// Counts what happens at a step, or begins anew at its break.
+    fn end_step(
+        &mut self,
+        after: &Lines,
+        instant: u64,
+        time: u64,
+        shown: &AllShown,
+    ) -> Option<AuditBreak>
+        ensures audit { self.new ≡ ended_with self.old after.now instant time shown.now.stretch shown.now.tenure
+            shown.now.transfer shown.now.fault }
+        ensures found { option_map as_break result ≡ option_map (break_at instant time) shown.now.fault }
+    {
+        match shown.fault {
+            Some(Fault { rule, line }) => {
+                self.begin_anew(after, instant);
+                Some(AuditBreak {
+                    instant,
+                    time,
+                    rule,
+                    line,
+                })
+            }
+            None => {
+                self.tally.take(
+                    instant,
+                    time,
+                    &shown.stretch,
+                    &shown.tenure,
+                    &shown.transfer,
+                );
+                None
+            }
+        }
+    }
+
+    /// Judging begins anew at the break of an instant: what the bus did before is forgotten.
+    fn begin_anew(&mut self, after: &Lines, instant: u64)
+        ensures { self.new ≡ begun_anew self.old after.now instant }
+    {
+        self.memories = Memories::at(after);
+        self.events.stretch = self.events.stretch || self.memories.have_started();
+        self.tally.end_at_break();
+        self.last_break = Some(instant);
+    }
+}

@@ -1,0 +1,70 @@
+//! What an audit found, and its outcome.
+
+ghost use Rattle.std.specs.Prelude.{◌≡◌, ◌+◌, ◌^◌, ◌<◌};
+ghost use Rattle.vme_auditor.specs.Findings.{gap_by, outcome_by};
+
+use crate::asked::AskedEvents;
+use vme_audit::{Counts, CoverageGap, Outcome};
+
+/// What an audit of a recording found, but for its breaks.
+#[derive(Clone, Copy, Debug, PartialEq, Eq)]
+pub struct AuditFindings {
+    pub counts: Counts,
+    pub events: AskedEvents,
+    /// Whether anything is judged behind the last break, or at all where there is none.
+    pub is_judged: bool,
+    /// The instant of the last break.
+    pub last_break: Option<u64>,
+    /// The instant and the time of the start of a transfer that is still without an answer.
+    pub hang: Option<(u64, u64)>,
+}
+
+/// How many breaks of a recording there are: those that aren't allowed, by whether they say that it is wrong or that it
+/// can't be read, and those that are.
+#[derive(Clone, Copy, Debug, Default, PartialEq, Eq)]
+pub struct BreakCounts {
+    pub broken: u64,
+    pub unreadable: u64,
+    pub allowed: u64,
+}
+
+/// Why a recording isn't covered, where so many answered transfers are wanted, if so.
+fn gap(findings: &AuditFindings, wanted: u64) -> Option<CoverageGap>
+    ensures { result ≡ gap_by findings.now wanted }
+{
+    let answered = findings
+        .counts
+        .by_dtack
+        .saturating_add(findings.counts.by_berr);
+    if !findings.is_judged {
+        match findings.last_break {
+            Some(instant) => Some(CoverageGap::NeverIdleBehind { instant }),
+            None => Some(CoverageGap::NeverIdle),
+        }
+    } else if answered < wanted {
+        Some(CoverageGap::FewAnswers { answered, wanted })
+    } else {
+        match findings.hang {
+            Some((instant, time)) => Some(CoverageGap::Hang { instant, time }),
+            None => None,
+        }
+    }
+}
+
+/// What the audit of a recording comes to, where so many answered transfers are wanted.
+pub fn outcome(findings: &AuditFindings, breaks: BreakCounts, wanted: u64) -> Outcome
+    ensures { result ≡ outcome_by findings.now breaks wanted }
+{
+    if breaks.broken > 0 {
+        Outcome::Broken
+    } else if breaks.unreadable > 0 {
+        Outcome::Unreadable
+    } else {
+        match gap(findings, wanted) {
+            Some(gap) => Outcome::NotCovered { gap },
+            None => Outcome::Conforming {
+                allowed: breaks.allowed,
+            },
+        }
+    }
+}

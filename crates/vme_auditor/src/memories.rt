@@ -1,0 +1,158 @@
+//! The monitors of all rules, led from step to step.
+
+ghost use Rattle.std.specs.Prelude.{◌≡◌};
+ghost use Rattle.vme_monitor.specs.OverStretches.{has_started};
+ghost use Rattle.vme_monitor.specs.Run.{noticed};
+ghost use Rattle.vme_monitor.specs.StepRuns.{seen_in};
+ghost use Rattle.vme_auditor.specs.Memories.{AllGoOn, comes_before as comes_before_by, first_fault as first_fault_by};
+ghost use Rattle.vme_auditor.specs.Memories.{memories_at};
+
+use vme_chains::acknowledge::{AcknowledgeRules, Acknowledgement};
+use vme_chains::grant::GrantRules;
+use vme_chains::grant_memory::Arbitration;
+use vme_dtb::handshake::HandshakeRules;
+use vme_dtb::memory::HandshakeMemory;
+use vme_monitor::known::{KnownRules, Stateless};
+use vme_monitor::machine::Machine;
+use vme_monitor::mark::{Fault, NOTHING, StepMarks};
+use vme_monitor::over_stretches::{OverStretches, StretchPhase};
+use vme_monitor::view::StepView;
+use vme_stability::holding::Holding;
+use vme_stability::stability::StabilityRules;
+use vme_trace::{Change, Lines};
+
+type KnownMachine = OverStretches<KnownRules>;
+
+type HandshakeMachine = OverStretches<HandshakeRules>;
+
+type StabilityMachine = OverStretches<StabilityRules>;
+
+type GrantMachine = OverStretches<GrantRules>;
+
+type AcknowledgeMachine = OverStretches<AcknowledgeRules>;
+
+/// The memory in which each monitor is.
+#[derive(Clone, Copy, Debug, PartialEq, Eq)]
+pub(crate) struct Memories {
+    pub known: StretchPhase<Stateless>,
+    pub handshake: StretchPhase<HandshakeMemory>,
+    pub stability: StretchPhase<Holding>,
+    pub grant: StretchPhase<Arbitration>,
+    pub acknowledge: StretchPhase<Acknowledgement>,
+}
+
+/// What a step shows to one monitor.
+#[derive(Clone, Copy, Debug, PartialEq, Eq)]
+struct StepOutcome {
+    fault: Option<Fault>,
+    kinds: StepMarks,
+}
+
+/// What a step shows to all monitors: the first rule that it breaks, and what happens to the stretch, to the tenure,
+/// and to the cycle and the transfer. Held lines and acknowledge outputs show nothing.
+#[derive(Clone, Copy, Debug, PartialEq, Eq)]
+pub(crate) struct AllShown {
+    pub fault: Option<Fault>,
+    pub stretch: StepMarks,
+    pub tenure: StepMarks,
+    pub transfer: StepMarks,
+}
+
+/// Whether a fault is named before another of the same step: by its rule, then by its line.
+fn comes_before(f: &Fault, g: &Fault) -> bool
+    ensures { result ≡ comes_before_by f.now g.now }
+{
+    let a = f.rule.number();
+    let b = g.rule.number();
+    a < b || (a == b && f.line.number() < g.line.number())
+}
+
+/// The fault of two at one step that is named.
+fn first_fault(first: Option<Fault>, second: Option<Fault>) -> Option<Fault>
+    ensures { result ≡ first_fault_by first second }
+{
+    match first {
+        None => second,
+        Some(a) => match second {
+            None => Some(a),
+            Some(b) => {
+                if comes_before(&b, &a) {
+                    Some(b)
+                } else {
+                    Some(a)
+                }
+            }
+        },
+    }
+}
+
+/// Leads a machine past a step.
+#[inline(always)]
+fn lead<M: Machine>(memory: &mut M::Memory, view: &StepView, changes: &[Change]) -> StepOutcome
+    requires { view.now ≡ seen_in view.now.before changes.now }
+    ensures memory { memory.new
+        ≡ (noticed M.observation M.next memory.old view.now.before view.now.after changes.now).memory }
+    ensures fault { result.fault
+        ≡ (noticed M.observation M.next memory.old view.now.before view.now.after changes.now).fault }
+    ensures kinds { result.kinds
+        ≡ (noticed M.observation M.next memory.old view.now.before view.now.after changes.now).kinds }
+{
+    match M::observe_step(view, changes) {
+        Some(seen) => {
+            let next = M::step(*memory, &view.before, &view.after, &seen);
+            *memory = next.memory;
+            StepOutcome {
+                fault: next.fault,
+                kinds: next.kinds,
+            }
+        }
+        None => StepOutcome {
+            fault: None,
+            kinds: NOTHING,
+        },
+    }
+}
+
+impl Memories {
+    /// Where the monitors begin, by the levels of an opening.
+    pub fn at(opening: &Lines) -> Memories
+        ensures { result ≡ memories_at opening.now }
+    {
+        Memories {
+            known: KnownMachine::start(opening),
+            handshake: HandshakeMachine::start(opening),
+            stability: StabilityMachine::start(opening),
+            grant: GrantMachine::start(opening),
+            acknowledge: AcknowledgeMachine::start(opening),
+        }
+    }
+
+    /// Leads all monitors past a step.
+    #[inline(always)]
+    pub fn go_on(&mut self, view: &StepView, changes: &[Change]) -> AllShown
+        requires { view.now ≡ seen_in view.now.before changes.now }
+        ensures { AllGoOn self.old view.now.before view.now.after changes.now self.new result }
+    {
+        let known = lead::<KnownMachine>(&mut self.known, view, changes);
+        let handshake = lead::<HandshakeMachine>(&mut self.handshake, view, changes);
+        let stability = lead::<StabilityMachine>(&mut self.stability, view, changes);
+        let grant = lead::<GrantMachine>(&mut self.grant, view, changes);
+        let acknowledge = lead::<AcknowledgeMachine>(&mut self.acknowledge, view, changes);
+        let chains = first_fault(grant.fault, acknowledge.fault);
+        let held = first_fault(stability.fault, chains);
+        let started = first_fault(handshake.fault, held);
+        AllShown {
+            fault: first_fault(known.fault, started),
+            stretch: known.kinds,
+            tenure: grant.kinds,
+            transfer: handshake.kinds,
+        }
+    }
+
+    /// Whether a stretch has started.
+    pub fn have_started(&self) -> bool
+        ensures { result ≡ has_started self.now.known }
+    {
+        !matches!(self.known, StretchPhase::Waiting)
+    }
+}
