@@ -5,6 +5,8 @@
     reference/vmecheck.py check [--block N] [--workers N] [--skew T] BINDING DUMP
     reference/vmecheck.py list [--block N] [--workers N] [--skew T] BINDING DUMP
     reference/vmecheck.py confirm [--skew T] BINDING DUMP LISTING
+    reference/vmecheck.py audit [--transfers N] [--allow RULE[=LINE]].. [--stop N] [--skew T] [--workers N] [--quiet]
+                                [--junit FILE] BINDING DUMP..
 
 It answers what the proved program answers, on standard output and by its status, and shares nothing with it: it was
 written by the two pages alone, keeps the whole recording, and looks each thing up by its definition. Nothing of it is
@@ -23,6 +25,8 @@ Usage: vmecheck < DUMP                                      the verdict, by a bi
        vmecheck list [--block N] [--workers N] [--skew T] BINDING DUMP
                                                             the listing
        vmecheck confirm [--skew T] BINDING DUMP LISTING     whether a listing is true
+       vmecheck audit [--transfers N] [--allow RULE[=LINE]].. [--stop N] [--skew T] [--workers N] [--quiet]
+                      [--junit FILE] BINDING DUMP..         each break of each dump, and what was covered
 
 Examples:
   vmecheck check examples/backplane.bind examples/address_changed.vcd
@@ -34,7 +38,8 @@ Exit status:
   2  unreadable, or never idle
   3  an input is refused, or the words are wrong
   4  want of memory
-  5  standard output can't be written
+  5  standard output or a file can't be written
+  6  not covered
 """
 LONGEST = 268_435_456
 LIMIT = (1 << 32) - 1
@@ -43,6 +48,10 @@ LATEST = (1 << 64) - 1
 
 class Fault(Exception):
     """A fault of an input: the text that tells it."""
+
+
+class CannotWrite(Exception):
+    """Standard output can't be written."""
 
 
 # ---- the lines
@@ -126,11 +135,19 @@ def dump_fault(kind, line):
     raise Fault(f"dump line {line}: {kind}")
 
 
+class Body:
+    """What is read of a body: its instants, each with the last value of each code that changes there, and the time."""
+
+    def __init__(self):
+        self.instants, self.time = [], 0
+
+
 def read_dump(text):
-    """The variables of a dump, and its instants: their times, each with the last value of each code that changes there."""
-    tokens = tokens_of(text)
+    """The variables of a dump, and its instants."""
+    tokens, body = tokens_of(text), Body()
     variables, sizes = read_header(text, tokens)
-    return variables, read_body(tokens, sizes)
+    read_body(tokens, sizes, body)
+    return variables, body.instants
 
 
 def read_header(text, tokens):
@@ -173,9 +190,9 @@ def read_header(text, tokens):
     return dump_fault("NoEndDefinitions", text.count(b"\n") + 1)
 
 
-def read_body(tokens, sizes):
-    """The instants of the body."""
-    time, values, instants, bracket = 0, {}, [], None
+def read_body(tokens, sizes, body):
+    """Reads the body, as far as it has no fault."""
+    values, bracket = {}, None
     for token, line in tokens:
         first, rest = token[:1], token[1:]
         if first == b"#":
@@ -184,12 +201,12 @@ def read_body(tokens, sizes):
             later = number(rest, LATEST)
             if later is None:
                 dump_fault("NumberTooLarge", line)
-            if later < time:
+            if later < body.time:
                 dump_fault("TimeBackwards", line)
-            if later > time and values:
-                instants.append((time, values))
+            if later > body.time and values:
+                body.instants.append((body.time, values))
                 values = {}
-            time = later
+            body.time = later
         elif first in (b"0", b"1", b"x", b"X", b"z", b"Z", b"b", b"B", b"r", b"R", b"s"):
             is_scalar, is_vector = first in b"01xXzZ", first in b"bB"
             if is_scalar and not rest or is_vector and not re.fullmatch(rb"[01xXzZ]+", rest):
@@ -216,8 +233,7 @@ def read_body(tokens, sizes):
     if bracket is not None:
         dump_fault("UnfinishedSection", bracket)
     if values:
-        instants.append((time, values))
-    return instants
+        body.instants.append((body.time, values))
 
 
 # ---- the binding (docs/FORMATS.md)
@@ -362,6 +378,14 @@ class Recording:
                 times.append(self.times[first])
             first = behind
         self.levels, self.changed, self.times = levels, changed, times
+
+    def between(self, first, behind):
+        """The recording that opens with the levels of an instant, and has the steps after it before another."""
+        part = Recording.__new__(Recording)
+        part.slots = self.slots
+        part.levels, part.times = self.levels[first:behind], self.times[first:behind]
+        part.changed = [[], *self.changed[first + 1:behind]]
+        return part
 
 
 # ---- what is judged (docs/PROTOCOL.md, from here on)
@@ -934,6 +958,295 @@ def text_of(version, rows):
     return "".join(f"{row}\n" for row in (f"vmecheck listing {version}", *in_version(version, rows))).encode()
 
 
+# ---- the audit (docs/PROTOCOL.md, docs/FORMATS.md)
+
+# the event of each rule but U1, which is the stretch itself
+EVENTS = {
+    "U2 S1 B3": lambda s, j: s.falls(AS, j),
+    "U3 H1 S2": lambda s, j: s.starts(j),
+    "U4 S3": lambda s, j: s.starts(j) and s.inside[j].write,
+    "H2": lambda s, j: s.goes_on(j) and any(s.rises(line, j) for line in STROBES),
+    "H3": lambda s, j: s.goes_on(j) and any(s.falls(line, j) for line in STROBES),
+    "H4 H5": lambda s, j: s.falling_answers(j),
+    "H6": lambda s, j: any(s.rises(line, j) for line in ANSWERS),
+    "H7": lambda s, j: s.rises(AS, j),
+    "H8": lambda s, j: j in s.answers,
+    "C1": lambda s, j: s.earlier_answers(j, "S"),
+    "C2": lambda s, j: s.earlier_answers(j, "K"),
+    "I5": lambda s, j: s.earlier_answers(j, "I"),
+    "I4": lambda s, j: s.earlier_answers(j, "I") is not None,
+    "G1": lambda s, j: s.edges_of_nets(s.falls, j, True),
+    "G2": lambda s, j: s.edges_of_nets(s.rises, j, True),
+    "G3 G5": lambda s, j: s.arbiter_falls(j),
+    "G4": lambda s, j: any(is_grant(net) and s.falls(net, j) for net in s.changed[j]),
+    "B1 B2 B4": lambda s, j: s.falls(BBSY, j),
+    "I1 I2 I3": lambda s, j: s.edges_of_nets(s.falls, j, False),
+}
+
+
+class Part:
+    """A part of a recording, judged: where it opens, its break, its rows without the verdict, and the rules it asks."""
+
+    def __init__(self, recording, start, behind):
+        self.start, self.judged = start, Judged(recording.between(start, behind))
+        found = self.judged.found
+        self.found = found and (start + found[0], recording.times[start + found[0]], *found[1:])
+        self.rows = [row.split(" ") for row in self.judged.rows()[:-1]]
+
+    def asked(self):
+        """The rules that are asked: their event happens at a judged instant that isn't behind the break."""
+        behind = self.judged.found[0] + 1 if self.judged.found else len(self.judged.recording.levels)
+        rules = {"U1"} if self.judged.stretches else set()
+        for rule_names, happens in EVENTS.items():
+            if any(happens(stretch, j) for stretch in self.judged.stretches
+                   for j in range(stretch.start + 1, min(stretch.end, behind))):
+                rules.update(rule_names.split(" "))
+        return rules
+
+    def hang(self):
+        """The instant of the first transfer that is pending with no reset behind it."""
+        resets = [at for at, row in enumerate(self.rows) if row[0] == "reset"]
+        open_rows = self.rows[resets[-1] + 1:] if resets else self.rows
+        return next((int(row[1]) for row in open_rows if row[0] == "transfer" and row[-1] == "pending"), None)
+
+
+def parts_of(recording, behind):
+    """The parts of a recording that ends before an instant, one by one."""
+    part = Part(recording, 0, behind)
+    yield part
+    while part.found:
+        part = Part(recording, part.found[0], behind)
+        yield part
+
+
+class Asked:
+    """What the words of an audit ask for."""
+
+    def __init__(self, names, transfers, allowances, stop, skew, quiet, junit):
+        self.binding, self.dumps, self.transfers, self.allowances = names[0], names[1:], transfers, allowances
+        self.stop, self.skew, self.quiet, self.junit = stop, skew, quiet, junit
+
+    def allows(self, found):
+        return (found[2], None) in self.allowances or (found[2], NAMES[found[3]]) in self.allowances
+
+
+def shown(name):
+    """A name as it is told."""
+    return re.sub("[\0-\x1f\x7f]", "?", name)
+
+
+class Audited:
+    """A dump that is audited: its status, and the texts without its name: of breaks, of counts, and why it isn't good."""
+
+    def __init__(self, name, asked):
+        self.name = name
+        self.asked, self.status = asked, 0
+        self.failures, self.allowed, self.counts, self.error = [], [], [], None
+
+    def tell(self, text):
+        if not write(1, f"{shown(self.name)}: {text}\n".encode()):
+            raise CannotWrite
+
+    def refuse(self, fault):
+        self.error, self.status = str(fault), 3
+        write(2, f"vmecheck: {shown(self.name)}: {fault}\n".encode())
+
+    def tell_break(self, found):
+        """Tells a break, and whether it isn't allowed."""
+        is_allowed = self.asked.allows(found)
+        word = "allowed" if is_allowed else "unreadable" if found[2][0] == "U" else "broken"
+        text = f"{word} {found[2]} at instant {found[0]} time {found[1]} line {NAMES[found[3]]}"
+        (self.allowed if is_allowed else self.failures).append(text)
+        self.tell(text)
+        return not is_allowed
+
+    def audit(self, binding, file):
+        """Audits the dump."""
+        text, unread = read_until_error(file)
+        if unread:
+            text = text[:whole_tokens(text)]
+        tokens, body, met = tokens_of(text), Body(), unread
+        try:
+            variables, sizes = read_header(text, tokens)
+            Recording(binding, (variables, []))
+        except Fault as fault:
+            self.refuse(first_met(fault, unread))
+            return
+        try:
+            read_body(tokens, sizes, body)
+        except Fault as fault:
+            met = first_met(fault, unread)
+        recording = Recording(binding, (variables, body.instants))
+        recording.settle(self.asked.skew)
+        behind = len(recording.levels)
+        while met and behind > 1 and recording.times[behind - 1] + self.asked.skew >= body.time:
+            behind -= 1
+        self.judge(recording, behind, met)
+
+    def judge(self, recording, behind, met):
+        """Tells the breaks of what comes before an instant, and then the fault that was met, or counts and outcome."""
+        parts, count = [], 0
+        for part in parts_of(recording, behind):
+            parts.append(part)
+            count += bool(part.found) and self.tell_break(part.found)
+            if count == self.asked.stop:
+                parts[-1:] = [Part(recording, part.start, part.found[0] + 1)]
+                parts.append(Part(recording, part.found[0], part.found[0] + 1))
+                met = None
+                break
+        if met:
+            self.refuse(met)
+            return
+        self.count(parts)
+        self.end(recording, parts)
+
+    def count(self, parts):
+        rows = [row for part in parts for row in part.rows]
+
+        def number_of(*words, at=0):
+            return sum(row[at:at + len(words)] == [*words] for row in rows)
+
+        tenures = sum(row[0] == "tenure" and row[2] == "level" for row in rows)
+        kinds = [sum(row[0] == "cycle" and row[2] == kind for row in rows) for kind in "SKFI"]
+        transfers = [row for row in rows if row[0] == "transfer"]
+        ways = [sum(way in row for row in transfers) for way in ("read", "write")]
+        answers = [sum(answer in row for row in transfers) for answer in ("DTACK", "BERR", "pending")]
+        self.answered = answers[0] + answers[1]
+        asked = set().union(*(part.asked() for part in parts))
+        never = [rule for rule in ("U1", *RULES) if rule not in asked]
+        unreadable = sum(text.startswith("unreadable") for text in self.failures)
+        self.counts = [
+            f"{len(self.failures) - unreadable} broken, {unreadable} unreadable, {len(self.allowed)} allowed",
+            f"{number_of('reset')} resets, {tenures} tenures, {sum(kinds)} cycles "
+            f"({kinds[0]} single, {kinds[1]} block, {kinds[2]} free, {kinds[3]} acknowledge)",
+            f"{len(transfers)} transfers ({ways[0]} read, {ways[1]} write; "
+            f"{answers[0]} by DTACK, {answers[1]} by BERR, {answers[2]} pending)",
+            *([f"never asked: {' '.join(never)}"] if never else []),
+        ]
+        if not self.asked.quiet:
+            for text in self.counts:
+                self.tell(text)
+
+    def end(self, recording, parts):
+        """Tells the outcome."""
+        gap = self.gap(recording, parts)
+        if any(text.startswith("broken") for text in self.failures):
+            self.status, text = 1, "broken"
+        elif self.failures:
+            self.status, text = 2, "unreadable"
+        elif gap:
+            self.status, text = 6, f"not covered: {gap}"
+            self.failures.append(text)
+        else:
+            text = f"conforming with {len(self.allowed)} allowed" if self.allowed else "conforming"
+        self.tell(text)
+
+    def gap(self, recording, parts):
+        """Why the recording isn't covered."""
+        if not parts[-1].judged.stretches:
+            return f"never idle behind instant {parts[-2].found[0]}" if len(parts) > 1 else "never idle"
+        if self.answered < self.asked.transfers:
+            return f"{self.answered} of {self.asked.transfers} transfers answered"
+        start = parts[-1].hang()
+        if start is None:
+            return None
+        start += parts[-1].start
+        return f"transfer at instant {start} time {recording.times[start]} without an answer"
+
+    def test_case(self):
+        """Its element of a JUnit file."""
+        lines = [*self.allowed[:100], *self.counts]
+        elements = [f"<failure message={quoted(text)}/>" for text in self.failures[:100]]
+        elements += [f"<error message={quoted(text)}/>" for text in [self.error] if text is not None]
+        elements += ["<system-out>" + "".join(f"{text}\n" for text in lines) + "</system-out>"] * bool(lines)
+        return f"<testcase name={quoted(self.name)}>{''.join(elements)}</testcase>\n"
+
+
+def quoted(text):
+    """A text as the value of an attribute; what XML can't have is a question mark."""
+    def is_character(letter):
+        return letter in "\t\n\r" or " " <= letter <= "\ud7ff" or "\ue000" <= letter <= "\ufffd" or letter > "\uffff"
+
+    written = "".join(letter if is_character(letter) else "?" for letter in text)
+    for letter, name in {"&": "&amp;", "<": "&lt;", ">": "&gt;", '"': "&quot;", "\t": "&#9;", "\n": "&#10;",
+                         "\r": "&#13;"}.items():
+        written = written.replace(letter, name)
+    return f'"{written}"'
+
+
+def first_met(fault, unread):
+    """The fault that is met first. Where reading fails, a text has no end, and so none of the faults of one."""
+    return unread if unread and str(fault).endswith(("UnfinishedSection", "NoEndDefinitions")) else fault
+
+
+def whole_tokens(text):
+    """How many bytes the whole tokens are."""
+    return max(text.rfind(space) for space in (b" ", b"\t", b"\r", b"\n")) + 1
+
+
+def read_until_error(file):
+    """All bytes of an input, and why there are no more of them, if reading fails."""
+    parts = []
+    while True:
+        try:
+            part = os.read(file, 1 << 20)
+        except OSError:
+            return b"".join(parts), Fault("cannot read")
+        if not part:
+            return b"".join(parts), None
+        parts.append(part)
+
+
+def is_same_file(name, files):
+    """Whether a name is that of an input."""
+    try:
+        there = os.stat(name)
+    except (OSError, ValueError):
+        return False
+    return any(os.path.samestat(there, os.fstat(file)) for file in files)
+
+
+def audit(asked):
+    """What an audit answers: its status. It writes as it goes."""
+    files = opened([asked.binding], ("binding",))
+    for name in asked.dumps:
+        files.append(0 if name == "-" else opened_dump(name))
+    if asked.junit is not None and is_same_file(asked.junit, files):
+        raise Fault(f"{shown(asked.junit)}: is an input")
+    binding = read_binding(whole(files[0], "binding"))
+    told = [Audited(name, asked) for name in asked.dumps]
+    statuses = []
+    try:
+        for one, file in zip(told, files[1:]):
+            one.audit(binding, file)
+            statuses.append(one.status)
+    except CannotWrite:
+        write(2, b"vmecheck: cannot write\n")
+        statuses.append(5)
+    if asked.junit is not None and not save(asked.junit, [one.test_case() for one in told]):
+        write(2, f"vmecheck: {shown(asked.junit)}: cannot write\n".encode())
+        statuses.append(5)
+    return next(status for status in (5, 4, 3, 1, 2, 6, 0) if status in statuses)
+
+
+def opened_dump(name):
+    try:
+        return os.open(name, os.O_RDONLY)
+    except (OSError, ValueError):
+        raise Fault(f"{shown(name)}: cannot open") from None
+
+
+def save(name, cases):
+    """Whether the JUnit file could be written."""
+    text = f"<?xml version=\"1.0\" encoding=\"UTF-8\"?>\n<testsuite name=\"vmecheck\">\n{''.join(cases)}</testsuite>\n"
+    try:
+        with open(name, "wb") as file:
+            file.write(text.encode())
+    except (OSError, ValueError):
+        return False
+    return True
+
+
 # ---- the commands
 
 class Inputs:
@@ -995,6 +1308,44 @@ class Usage(Exception):
 
 NAMED = {"check": ("BINDING", "DUMP"), "list": ("BINDING", "DUMP"), "confirm": ("BINDING", "DUMP", "LISTING")}
 OPTIONS = {"--block": (1, 65536), "--workers": (1, 64), "--skew": (0, LATEST)}
+AUDIT_OPTIONS = {"--transfers": (0, LATEST), "--stop": (1, LATEST), "--workers": (1, 64), "--skew": (0, LATEST)}
+
+
+def number_for(option, value, least, most):
+    given = number(value.encode(), most) if re.fullmatch("[0-9]+", value) else None
+    if given is None or given < least:
+        raise Usage(f"invalid value '{value}' for '{option}': it takes {least} to {most}")
+    return given
+
+
+def audit_order(words):
+    """What the words of an audit ask for."""
+    names, given, allowances, rest = [], {}, set(), iter(words)
+    for word in rest:
+        option, equals, value = word.partition("=")
+        if word == "--":
+            names += rest
+        elif not word.startswith("-") or word == "-":
+            names.append(word)
+        elif word == "--quiet" and word not in given:
+            given[word] = True
+        elif option not in (*AUDIT_OPTIONS, "--allow", "--junit") or option in given:
+            raise Usage(f"unexpected argument '{word}'")
+        else:
+            value = value if equals else next(rest, None)
+            if value is None:
+                raise Usage(f"a value is required for '{option}'")
+            if option == "--allow":
+                rule, equals, line = value.partition("=")
+                if rule not in ("U1", *RULES) or equals and line not in NUMBERS:
+                    raise Usage(f"invalid value '{value}' for '--allow': it takes RULE or RULE=LINE")
+                allowances.add((rule, line if equals else None))
+            else:
+                given[option] = value if option == "--junit" else number_for(option, value, *AUDIT_OPTIONS[option])
+    if len(names) < 2 or names[1:].count("-") > 1:
+        raise Usage("audit takes BINDING DUMP.., and standard input once at most")
+    return Asked(names, given.get("--transfers", 1), allowances, given.get("--stop"), given.get("--skew", 0),
+                 "--quiet" in given, given.get("--junit"))
 
 
 def order_of(words):
@@ -1011,10 +1362,7 @@ def order_of(words):
         elif option not in OPTIONS or command == "confirm" and option != "--skew" or option in given:
             raise Usage(f"unexpected argument '{word}'")
         else:
-            value, (least, most) = value if equals else next(rest, ""), OPTIONS[option]
-            given[option] = number(value.encode(), most) if re.fullmatch("[0-9]+", value) else None
-            if given[option] is None or given[option] < least:
-                raise Usage(f"invalid value '{value}' for '{option}': it takes {least} to {most}")
+            given[option] = number_for(option, value if equals else next(rest, ""), *OPTIONS[option])
     if len(names) != len(NAMED[command]):
         raise Usage(f"{command} takes {' '.join(NAMED[command])}")
     return command, names, given.get("--block", 16384), given.get("--skew", 0)
@@ -1071,6 +1419,8 @@ def answer_words(words):
         raise Usage("a word is no text")
     if words[0] == "help" or not {"-h", "--help"}.isdisjoint(words):
         return 0, HELP.encode(), b""
+    if words[0] == "audit":
+        return audit(audit_order(words[1:])), b"", b""
     return answer(*order_of(words))
 
 

@@ -17,9 +17,9 @@ use Rattle.vcd_read.specs.Bodies.{place_of}
 use Rattle.vcd_read.specs.Header.{◌>>=◌, at_line, is_end, Net, net_of, size_of}
 use Rattle.vcd_read.specs.Body.{BodyItem, time_item, change, skipped, bracket_open, bracket_end, wrong, BodyPlace}
 use Rattle.vcd_read.specs.Body.{ready, code_of_vector, code_of_foreign, in_comment, Shape, time_shape, scalar, vector}
-use Rattle.vcd_read.specs.Body.{foreign, comment, open_shape, end_shape, none, Standing, stand_after, time_after}
+use Rattle.vcd_read.specs.Body.{foreign, comment, open_shape, end_shape, none, BodyStanding, stand_after, time_after}
 use Rattle.vcd_read.specs.Body.{body_from, shape_of}
-use Rattle.vcd_read.specs.Taking.{Taking, State, advanced, progress_after, state_at, step, steps}
+use Rattle.vcd_read.specs.Taking.{Taking, State, advanced, progress_after, reached_before, state_at, step, steps}
 use Rattle.vcd_read.specs.Reached.{Reached, rest_of}
 use Rattle.vcd_read.specs.DetachedPieces.{MayFollow, IsReadApart, ReadApart, before_piece, behind_piece, ended_at}
 use Rattle.vcd_read.specs.DetachedPieces.{entered, items_apart, time_first, with_taken}
@@ -103,7 +103,7 @@ module _ {A : Type 0} (with_change : A → ℕ → List Bit → A) (with_instant
     item-keeps p (bracket_end line) r = r
     item-keeps p (wrong line kind) r = r
 
-    then-keeps : (items : List BodyItem) (p : Taking A) (stood : Result Standing VcdFault) (end : State A)
+    then-keeps : (items : List BodyItem) (p : Taking A) (stood : Result BodyStanding VcdFault) (end : State A)
         → ((next : State A) → R next.progress.taken → steps with_change with_instant nets next items ≡ Ok end
         → R end.progress.taken)
         → R p.taken → ((stood >>= λ next. Ok (record { standing = next; progress = p })) >>= λ next. steps with_change
@@ -199,7 +199,7 @@ module _ {A : Type 0} (with_change : A → ℕ → List Bit → A) (with_instant
 
   -- ---- a first time
 
-  time-met : (s : Standing) (line : ℕ) (digits : List ℕ) (p : Taking A) (items : List BodyItem) (end : State A)
+  time-met : (s : BodyStanding) (line : ℕ) (digits : List ℕ) (p : Taking A) (items : List BodyItem) (end : State A)
       (read : Result ℕ FaultKind) → time_of digits ≡ read
       → ((at_line line (read >>= λ n. time_after s.now n >>= λ now. Ok (record s { now = now })) >>= λ next. Ok
       (record { standing = next; progress = p })) >>= λ next. steps with_change with_instant nets next items) ≡ Ok end
@@ -217,7 +217,8 @@ module _ {A : Type 0} (with_change : A → ℕ → List Bit → A) (with_instant
   not_below : (now n : ℕ) → now ≤ n → nat_lt n now ≡ false
   not_below now n low = grind (arith, nat_tests)
 
-  stand-time : (s : Standing) (line n : ℕ) (digits : List ℕ) → time_of digits ≡ Ok n → s.now ≤ n → stand_after nets s
+  stand-time : (s : BodyStanding) (line n : ℕ) (digits : List ℕ) → time_of digits ≡ Ok n → s.now ≤ n
+      → stand_after nets s
       (time_item line digits) ≡ Ok (record s { now = n })
   stand-time s line n digits is low =
       ap (λ (read : Result ℕ FaultKind). at_line line (read >>= λ n. time_after s.now n >>= λ now. Ok
@@ -235,7 +236,7 @@ module _ {A : Type 0} (with_change : A → ℕ → List Bit → A) (with_instant
       }) items
   unfolding steps
   time-step s line n digits items is low =
-      ap (λ (stood : Result Standing VcdFault).
+      ap (λ (stood : Result BodyStanding VcdFault).
       (stood >>= λ next. Ok (record { standing = next; progress = advanced with_instant s.progress (number digits) }))
       >>= λ next. steps with_change with_instant nets next items) (stand-time s.standing line n digits is low)
 
@@ -274,7 +275,7 @@ module _ {A B : Type 0} (with_change : A → ℕ → List Bit → A) (with_insta
     item-learned p (bracket_end line) = refl
     item-learned p (wrong line kind) = refl
 
-    then-learned : (items : List BodyItem) (p : Taking A) (stood : Result Standing VcdFault)
+    then-learned : (items : List BodyItem) (p : Taking A) (stood : Result BodyStanding VcdFault)
         → ((s : State A) → steps other_change other_instant nets (learned_state s) items
         ≡ (steps with_change with_instant nets s items >>= λ end. Ok (learned_state end)))
         → ((stood >>= λ next. Ok (record { standing = next; progress = learned_taking p })) >>= λ next. steps
@@ -296,6 +297,37 @@ module _ {A B : Type 0} (with_change : A → ℕ → List Bit → A) (with_insta
         (item-learned s.progress item)
         ∙ then-learned items (progress_after with_change with_instant nets s.progress item)
         (stand_after nets s.standing item) (λ s2. steps-learned s2 items)
+
+    abbrev stand_at : {C : Type 0} → Taking C → Result BodyStanding VcdFault → Result (State C) VcdFault
+    stand_at p stood = stood >>= λ next. Ok (record { standing = next; progress = p })
+
+    before-learned : (items : List BodyItem) (s : State A) (p : Taking A) (stood : Result BodyStanding VcdFault)
+        → ((s2 : State A) → reached_before other_change other_instant nets (learned_state s2) items
+        ≡ learned_state (reached_before with_change with_instant nets s2 items))
+        → elim (stand_at (learned_taking p) stood) as (λ _. State B) [
+          | Ok next ↦ reached_before other_change other_instant nets next items
+          | Err fault ↦ learned_state s
+        ]
+        ≡ learned_state (elim (stand_at p stood) as (λ _. State A) [
+          | Ok next ↦ reached_before with_change with_instant nets next items
+          | Err fault ↦ s
+        ])
+    before-learned items s p (Ok next) rest = rest (record { standing = next; progress = p })
+    before-learned items s p (Err fault) rest = refl
+
+    -- the same up to the first fault
+    pub reached-learned : (s : State A) (items : List BodyItem)
+        → reached_before other_change other_instant nets (learned_state s) items
+        ≡ learned_state (reached_before with_change with_instant nets s items)
+    unfolding reached_before
+    reached-learned s [] = refl
+    reached-learned s (item ∷ items) =
+        ap (λ (p : Taking B). elim (stand_at p (stand_after nets s.standing item)) as (λ _. State B) [
+          | Ok next ↦ reached_before other_change other_instant nets next items
+          | Err fault ↦ learned_state s
+        ]) (item-learned s.progress item)
+        ∙ before-learned items s (progress_after with_change with_instant nets s.progress item)
+        (stand_after nets s.standing item) (λ s2. reached-learned s2 items)
 
     entered-by : (p : Taking B) (time : ℕ) (test : Bool)
         → cond test (record { taken = other_instant p.taken p.time; time = time; begun = true })

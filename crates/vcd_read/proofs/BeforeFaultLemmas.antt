@@ -5,14 +5,15 @@ use Rattle.std.specs.Prelude.{not, ◌==◌}
 use Rattle.std.proofs.lemmas.List.{append-nil, length_push}
 use Rattle.vcd_read.specs.declared.dump.Instant.{Instant}
 use Rattle.vcd_read.specs.declared.fault.VcdFault.{VcdFault}
+use Rattle.vcd_read.specs.Contents.{TimesAscend}
 use Rattle.vcd_read.specs.Numbers.{number}
 use Rattle.vcd_read.specs.Header.{◌>>=◌, Net}
-use Rattle.vcd_read.specs.Body.{BodyItem, time_item, change, skipped, bracket_open, bracket_end, wrong, Standing}
+use Rattle.vcd_read.specs.Body.{BodyItem, time_item, change, skipped, bracket_open, bracket_end, wrong, BodyStanding}
 use Rattle.vcd_read.specs.Body.{first_standing, stand_after}
 use Rattle.vcd_read.specs.Meaning.{instants_of, items_before_fault}
 use Rattle.vcd_read.specs.DumpProgress.{DumpProgress, DumpState, ended, flushed, progress_after, step, steps}
 use Rattle.vcd_read.specs.DumpProgress.{values_from}
-use Rattle.vcd_read.proofs.InstantsLaw.{at_start, instants_law}
+use Rattle.vcd_read.proofs.InstantsLaw.{at_start, instants_law, instants_rise}
 
 -- how far these items come: up to the first that is a fault, or all of them
 abbrev pub whole_before : List Net → DumpState → List BodyItem → DumpState
@@ -22,13 +23,13 @@ whole_before nets s (item ∷ items) = elim (step nets s item) [
   | Err fault ↦ s
 ]
 
-abbrev whole_of : DumpProgress → Result Standing VcdFault → Result DumpState VcdFault
+abbrev whole_of : DumpProgress → Result BodyStanding VcdFault → Result DumpState VcdFault
 whole_of p r = r >>= λ next. Ok (record { standing = next; progress = p })
 
 -- ---- the items before the first fault have none
 
 before_step : (nets : List Net) (s : DumpState) (item : BodyItem) (items : List BodyItem)
-    (stood : Result Standing VcdFault) → stand_after nets s.standing item ≡ stood
+    (stood : Result BodyStanding VcdFault) → stand_after nets s.standing item ≡ stood
     → ((next : DumpState) → steps nets next (items_before_fault nets next.standing items)
     ≡ Ok (whole_before nets next items))
     → steps nets s (elim stood [
@@ -70,7 +71,7 @@ item_starts nets p (bracket_end line) h = h
 item_starts nets p (wrong line kind) h = h
 
 begins_step : (nets : List Net) (s : DumpState) (item : BodyItem) (items : List BodyItem)
-    (stood : Result Standing VcdFault) → Starts s.progress
+    (stood : Result BodyStanding VcdFault) → Starts s.progress
     → ((next : DumpState) → Starts next.progress → Starts (whole_before nets next items).progress)
     → Starts (elim (whole_of (progress_after nets s.progress item) stood) as (λ _. DumpState) [
       | Ok next ↦ whole_before nets next items
@@ -113,3 +114,9 @@ before_fault nets items =
       sym law ∙ hand.1,
       hand.2 ∙ ap (λ (xs : List Instant). length xs - 1) law,
     )
+
+-- their times ascend
+pub before_fault_rises : (nets : List Net) (items : List BodyItem) → TimesAscend
+    (instants_of nets (items_before_fault nets first_standing items))
+before_fault_rises nets items = instants_rise nets (items_before_fault nets first_standing items)
+    (whole_before nets (at_start nets) items) (steps_before nets (at_start nets) items)

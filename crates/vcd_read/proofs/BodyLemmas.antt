@@ -17,7 +17,7 @@ use Rattle.vcd_read.specs.Header.{◌>>=◌, Net, is_end}
 use Rattle.vcd_read.specs.Body.{BodyItem, time_item, change, skipped, bracket_open, bracket_end, wrong, BodyPlace}
 use Rattle.vcd_read.specs.Body.{Shape, time_shape, scalar, vector, foreign, comment, open_shape, end_shape, none, ready}
 use Rattle.vcd_read.specs.Body.{code_of_vector, code_of_foreign, in_comment, body_from, shape_of}
-use Rattle.vcd_read.specs.Meaning.{ReadFails, ReadFailsAs, ReadGives}
+use Rattle.vcd_read.specs.Meaning.{ReadFailsAs, ReadGives}
 use Rattle.vcd_read.specs.declared.dump.Bit.{Bit}
 use Rattle.vcd_read.specs.declared.stopped.Stopped.{Stopped}
 use Rattle.vcd_read.specs.Taking.{Taking, State, ended, reached_before, state_of, step, steps}
@@ -83,43 +83,45 @@ comment_more line before ts t cut e = ap (body_from (in_comment line)) cut ∙ c
 -- ---- what reading gives
 
 -- what reading gives stays as it was, or it stops
-abbrev LeavesOne : {A X : Type 0} → UntilFault A → UntilFault A → A → Result X VcdFault → Type 0
-LeavesOne before after taken (Ok _) = before ≡ after
-LeavesOne before after taken (Err fault) = Stops fault taken before
+abbrev LeavesOne : {A X : Type 0} → UntilFault A → UntilFault A → Taking A → Result X VcdFault → Type 0
+LeavesOne before after timed (Ok _) = before ≡ after
+LeavesOne before after timed (Err fault) = Stops fault timed.taken timed.time before
 
-pub stops_same : {A : Type 0} (fault : VcdFault) (taken : A) (a b : UntilFault A) → a ≡ b → Stops fault taken b
-    → Stops fault taken a
-stops_same {A = A} fault taken a b e h = subst (λ (read : UntilFault A). Stops fault taken read) (sym e) h
+pub stops_same : {A : Type 0} (fault : VcdFault) (taken : A) (time : ℕ) (a b : UntilFault A) → a ≡ b
+    → Stops fault taken time b → Stops fault taken time a
+stops_same {A = A} fault taken time a b e h = subst (λ (read : UntilFault A). Stops fault taken time read) (sym e) h
 
 pub outcome_same : {A : Type 0} (a b : UntilFault A) → a ≡ b → a.outcome ≡ b.outcome
 outcome_same {A = A} a b e = ap (λ (read : UntilFault A). read.outcome) e
 
 -- where reading stops, it fails
-pub stopped_fails : {A Y : Type 0} (line : ℕ) (kind : FaultKind) (taken before : A) (read : Result Y VcdFault)
-    → StoppedAs line kind taken before read → ReadFailsAs line kind read
-stopped_fails line Memory taken before read h = h
-stopped_fails line kind taken before read h = h.0
+pub stopped_fails : {A Y : Type 0} (line : ℕ) (kind : FaultKind) (taken : A) (time : ℕ) (before : Taking A)
+    (read : Result Y VcdFault) → StoppedAs line kind taken time before read → ReadFailsAs line kind read
+stopped_fails line Memory taken time before read h = h
+stopped_fails line kind taken time before read h = h.0
 
 -- the same for each text that goes on
-leaves_each : {A X : Type 0} (before after : List Token → UntilFault A) (taken : A) (r : Result X VcdFault)
-    → ((more : List Token) → LeavesOne (before more) (after more) taken r) → BodyContinuesAs before after taken r
-leaves_each before after taken (Ok x) h = h
-leaves_each before after taken (Err fault) h = h
+leaves_each : {A X : Type 0} (before after : List Token → UntilFault A) (timed : Taking A) (r : Result X VcdFault)
+    → ((more : List Token) → LeavesOne (before more) (after more) timed r)
+    → BodyContinuesAs before after timed.taken timed.time r
+leaves_each before after timed (Ok x) h = h
+leaves_each before after timed (Err fault) h = h
 
-pub leaves_same : {A X : Type 0} (before before2 after : List Token → UntilFault A) (taken : A) (r : Result X VcdFault)
-    → ((more : List Token) → before more ≡ before2 more) → BodyContinuesAs before2 after taken r
-    → BodyContinuesAs before after taken r
-leaves_same before before2 after taken (Ok x) e h = λ more. e more ∙ h more
-leaves_same before before2 after taken (Err fault) e h = λ more. stops_same fault taken (before more) (before2 more)
-    (e more) (h more)
+pub leaves_same : {A X : Type 0} (before before2 after : List Token → UntilFault A) (taken : A) (time : ℕ)
+    (r : Result X VcdFault)
+    → ((more : List Token) → before more ≡ before2 more) → BodyContinuesAs before2 after taken time r
+    → BodyContinuesAs before after taken time r
+leaves_same before before2 after taken time (Ok x) e h = λ more. e more ∙ h more
+leaves_same before before2 after taken time (Err fault) e h = λ more. stops_same fault taken time (before more)
+    (before2 more) (e more) (h more)
 
 -- what a `?` returns
-pub leaves_err : {A X : Type 0} (before after : List Token → UntilFault A) (taken : A) (r : Result X VcdFault)
-    (fault : VcdFault) → IsErrAnd r (λ e. e ≡ fault) → ((more : List Token) → Stops fault taken (before more))
-    → BodyContinuesAs before after taken r
-leaves_err before after taken (Ok x) fault is h = absurd is
-leaves_err before after taken (Err e) fault is h = subst (λ (f : VcdFault). (more : List Token) → Stops f taken
-    (before more)) (sym is) h
+pub leaves_err : {A X : Type 0} (before after : List Token → UntilFault A) (taken : A) (time : ℕ)
+    (r : Result X VcdFault) (fault : VcdFault) → IsErrAnd r (λ e. e ≡ fault)
+    → ((more : List Token) → Stops fault taken time (before more)) → BodyContinuesAs before after taken time r
+leaves_err before after taken time (Ok x) fault is h = absurd is
+leaves_err before after taken time (Err e) fault is h = subst (λ (f : VcdFault). (more : List Token) → Stops f taken
+    time (before more)) (sym is) h
 
 -- ---- what was taken
 
@@ -142,13 +144,13 @@ keeps_memory before taken (Ok x) is = tt
 keeps_memory before taken (Err fault) is = subst (λ (f : VcdFault). KeepsAs f.kind before taken) (sym is) tt
 
 -- what the end of a body comes to, where only memory may run out
-pub gives_or_stops : {A T : Type 0} (taken : T → A) (before end : A) (r : Result T (Stopped T))
+pub gives_or_stops : {A T : Type 0} (taken : T → A) (before : Taking A) (end : A) (r : Result T (Stopped T))
     (read : Result A VcdFault) → IfOk r (λ visitor. taken visitor ≡ end)
     → IfErr r (λ stopped. stopped.fault ≡ record { line = 0; kind = Memory }) → read ≡ Ok end
     → GivesOrStops taken before r read
 gives_or_stops taken before end (Ok visitor) read is memory e = e ∙ ap Ok (sym is)
 gives_or_stops taken before end (Err stopped) read is memory e = subst (λ (f : VcdFault). StoppedAs f.line f.kind
-    (taken stopped.visitor) before read) (sym memory) refl
+    (taken stopped.visitor) stopped.time before read) (sym memory) refl
 
 same_some : (a b : ℕ) → Some a ≡ Some b → a ≡ b
 same_some a b e = cc
@@ -185,32 +187,39 @@ module _ {A : Type 0} (with_change : A → ℕ → List Bit → A) (with_instant
       }) e
 
   -- the state before a fault is what was taken
-  stops_at : (nets : List Net) (s : State A) (items : List BodyItem) (line : ℕ) (kind : FaultKind) (taken : A)
+  stops_at : (nets : List Net) (s : State A) (items : List BodyItem) (line : ℕ) (kind : FaultKind) (timed : Taking A)
       → until_fault with_change with_instant nets s items
       ≡ record { outcome = Err (record { line = line; kind = kind }); reached = s }
-      → taken ≡ s.progress.taken
+      → timed ≡ s.progress
       → (steps with_change with_instant nets s items ≡ Err (record { line = line; kind = kind }))
-      × (taken ≡ (reached_before with_change with_instant nets s items).progress.taken)
-  stops_at nets s items line kind taken e kept =
-      (outcome_same _ _ e, kept ∙ sym (ap (λ (read : UntilFault A). read.reached.progress.taken) e))
+      × (timed.taken ≡ (reached_before with_change with_instant nets s items).progress.taken)
+      × (timed.time ≡ (reached_before with_change with_instant nets s items).progress.time)
+  stops_at nets s items line kind timed e kept =
+      let same : timed ≡ (reached_before with_change with_instant nets s items).progress =
+      kept ∙ sym (ap (λ (read : UntilFault A). read.reached.progress) e) in (
+        outcome_same _ _ e,
+        ap (λ (p : Taking A). p.taken) same,
+        ap (λ (p : Taking A). p.time) same,
+      )
 
   fails_more : (nets : List Net) (s : State A) (item : BodyItem) (items : List BodyItem) (line : ℕ) (kind : FaultKind)
-      (taken : A) → ReadFailsAs line kind (step with_change with_instant nets s item)
-      → KeepsAs kind s.progress.taken taken
-      → StoppedAs line kind taken (reached_before with_change with_instant nets s (item ∷ items)).progress.taken
+      (timed : Taking A) → ReadFailsAs line kind (step with_change with_instant nets s item)
+      → KeepsAs kind s.progress timed
+      → StoppedAs line kind timed.taken timed.time
+      (reached_before with_change with_instant nets s (item ∷ items)).progress
       (steps with_change with_instant nets s (item ∷ items))
-  fails_more nets s item items line Memory taken h kept = h
-  fails_more nets s item items line kind taken h kept = stops_at nets s (item ∷ items) line kind taken
+  fails_more nets s item items line Memory timed h kept = h
+  fails_more nets s item items line kind timed h kept = stops_at nets s (item ∷ items) line kind timed
       (item_stops nets s item items (record { line = line; kind = kind }) h) kept
 
   item_leaves : {X : Type 0} (nets : List Net) (s s2 : State A) (item : BodyItem) (after : List BodyItem)
       (r : Result X VcdFault) → ReadGives (λ _. s2) r (step with_change with_instant nets s item)
-      → KeepsTaken s.progress.taken s2.progress.taken r
+      → KeepsTaken s.progress s2.progress r
       → LeavesOne (until_fault with_change with_instant nets s (item ∷ after))
-      (until_fault with_change with_instant nets s2 after) s2.progress.taken r
+      (until_fault with_change with_instant nets s2 after) s2.progress r
   item_leaves nets s s2 item after (Ok x) h kept = item_is nets s s2 item after h
   item_leaves nets s s2 item after (Err fault) h kept = fails_more nets s item after fault.line fault.kind
-      s2.progress.taken h kept
+      s2.progress h kept
 
   -- one item is read by a function that leaves the reader where it was
   pub read_item : {X : Type 0} (nets nets2 : List Net) (s s2 : State A) (text text2 : BodyPiece) (at at2 : ℕ)
@@ -218,14 +227,14 @@ module _ {A : Type 0} (with_change : A → ℕ → List Bit → A) (with_instant
       → nets2 ≡ nets → text2 ≡ text → at2 ≡ at → place ≡ Ready
       → ((more : List Token) → before more ≡ item ∷ body_from ready (left_at text at ++ more))
       → ReadGives (λ _. s2) r (step with_change with_instant nets s item)
-      → KeepsTaken s.progress.taken s2.progress.taken r
+      → KeepsTaken s.progress s2.progress r
       → BodyContinuesAs (λ more. until_fault with_change with_instant nets s (before more))
       (λ more. until_fault with_change with_instant nets2 s2 (body_from (place_of place) (left_at text2 at2 ++ more)))
-      s2.progress.taken r
+      s2.progress.taken s2.progress.time r
   read_item nets nets2 s s2 text text2 at at2 place item before r n t a p is h kept =
       leaves_each (λ more. until_fault with_change with_instant nets s (before more))
       (λ more. until_fault with_change with_instant nets2 s2 (body_from (place_of place) (left_at text2 at2 ++ more)))
-      s2.progress.taken r
+      s2.progress r
       (λ more. rw (n, t, a, p, is more)
       (item_leaves nets s s2 item (body_from ready (left_at text at ++ more)) r h kept))
 
@@ -234,8 +243,9 @@ module _ {A : Type 0} (with_change : A → ℕ → List Bit → A) (with_instant
       ≡ wrong line kind ∷ after
       → (steps with_change with_instant nets s before ≡ Err (record { line = line; kind = kind }))
       × (s.progress.taken ≡ (reached_before with_change with_instant nets s before).progress.taken)
+      × (s.progress.time ≡ (reached_before with_change with_instant nets s before).progress.time)
   read_wrong nets s line kind before after e =
-      rw e (stops_at nets s (wrong line kind ∷ after) line kind s.progress.taken
+      rw e (stops_at nets s (wrong line kind ∷ after) line kind s.progress
       (item_stops nets s (wrong line kind) after (record { line = line; kind = kind }) refl) refl)
 
   -- a piece in which nothing is left leaves what is ahead

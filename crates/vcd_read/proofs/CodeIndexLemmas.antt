@@ -1,6 +1,7 @@
 -- What one more code changes in an index.
 use Rattle.std.proofs.Common.{◌≡◌, ℕ, ◌+◌, ◌-◌, ◌*◌, ◌≤◌, Bool, true, false, ◌&&◌, cond, eqb, leb, List, [], ◌∷◌}
-use Rattle.std.proofs.Common.{length, get_or, Option, Some, None, refl, sym, ap, ◌∙◌, arith, inl, inr, ◌⊎◌}
+use Rattle.std.proofs.Common.{zero, suc, ◌<◌, ◌++◌, length, get_or, set, Option, Some, None, refl, sym, ap, ◌∙◌, arith}
+use Rattle.std.proofs.Common.{inl, inr, ◌⊎◌}
 use Rattle.std.specs.Global.{Vec}
 use Rattle.std.specs.Prelude.{bytes_eq, nat_eq}
 use Rattle.std.specs.Map.{update, lookup}
@@ -10,14 +11,16 @@ use Rattle.std.proofs.lemmas.Map.Lookups.{exact_bytes}
 use Rattle.std.specs.Cmp.Lexicographic.{slice_cmp}
 use Rattle.std.specs.declared.cmp.Ordering.{Ordering}
 use Rattle.std.specs.declared.cmp.Ordering.TheVariants.{Less, Equal, Greater}
-use Rattle.std.proofs.lemmas.Bool.{cases_Bool, eq-eqb, ne_eqb, cond-true, cond-false, false_from_ne_true, false≢true}
+use Rattle.std.proofs.lemmas.Bool.{cases_Bool, eq-eqb, eqb-true, cond-true, cond-false, false_from_ne_true, false≢true}
 use Rattle.std.proofs.lemmas.Bool.Decides.{nat_tests}
+use Rattle.std.proofs.Math.Dec.{eqb-suc-zero, eqb-zero-suc, eqb-suc-suc}
 use Rattle.std.proofs.lemmas.Slice.Eq.{bytes_eq-Decides}
 use Rattle.std.proofs.lemmas.Map.Text.{is_eq-slice_cmp}
 use Rattle.std.proofs.lemmas.Option.{none-some}
 use Rattle.vcd_read.specs.Header.{is_code_byte, is_code}
-use Rattle.vcd_read.specs.CodeNumbers.{code_number, short_number}
-use Rattle.vcd_read.specs.CodeIndexes.{found}
+use Rattle.vcd_read.specs.declared.code_index.CodePlace.{CodePlace}
+use Rattle.vcd_read.specs.CodeNumbers.{code_number, code_place, short_place}
+use Rattle.vcd_read.specs.CodeIndexes.{found, net_on}
 
 -- ---- no two codes have one number
 
@@ -40,17 +43,105 @@ code_number-same (b ∷ code) (c ∷ other) h k e =
     let rest = code_number-same code other p.2 q.2 both.1 in
     cc
 
-short_some : (p q : Bool) (x n : ℕ) → cond (p && q) (Some x) None ≡ Some n → (q ≡ true) × (x ≡ n)
+code_place-same : (code other : List ℕ) → is_code code ≡ true → is_code other ≡ true → (code_place code).page
+    ≡ (code_place other).page → (code_place code).entry ≡ (code_place other).entry → code ≡ other
+code_place-same [] [] h k e f = refl
+code_place-same [] (c ∷ other) h k e f = let q = byte_bounds c (is_code other) k in absurd (omega (arith, q.0, f))
+code_place-same (b ∷ code) [] h k e f = let p = byte_bounds b (is_code code) h in absurd (omega (arith, p.0, f))
+code_place-same (b ∷ code) (c ∷ other) h k e f =
+    let p = byte_bounds b (is_code code) h in
+    let q = byte_bounds c (is_code other) k in
+    let first : b ≡ c = omega (arith, p.0, q.0, f) in
+    let rest = code_number-same code other p.2 q.2 e in
+    cc
+
+short_some : {X : Type 0} (p q : Bool) (x n : X) → cond (p && q) (Some x) None ≡ Some n → (q ≡ true) × (x ≡ n)
 short_some true true x n e = (refl, cc)
 short_some true false x n e = absurd cc
 short_some false q x n e = absurd cc
 
-short_number-same : (code other : List ℕ) (n : ℕ) → short_number code ≡ Some n → short_number other ≡ Some n → code
-    ≡ other
-short_number-same code other n h k =
-    let p = short_some (leb (length code) 3) (is_code code) (code_number code) n h in
-    let q = short_some (leb (length other) 3) (is_code other) (code_number other) n k in
-    code_number-same code other p.0 q.0 (p.1 ∙ sym q.1)
+short_place-same : (code other : List ℕ) (a b : CodePlace) → short_place code ≡ Some a → short_place other ≡ Some b
+    → a.page ≡ b.page → a.entry ≡ b.entry → code ≡ other
+short_place-same code other a b h k page entry =
+    let p = short_some (leb (length code) 3) (is_code code) (code_place code) a h in
+    let q = short_some (leb (length other) 3) (is_code other) (code_place other) b k in
+    code_place-same code other p.0 q.0
+    (ap (λ (x : CodePlace). x.page) p.1 ∙ page ∙ sym (ap (λ (x : CodePlace). x.page) q.1))
+    (ap (λ (x : CodePlace). x.entry) p.1 ∙ entry ∙ sym (ap (λ (x : CodePlace). x.entry) q.1))
+
+-- ---- the pages
+
+-- what a page that is there has
+pub net_on-at : (pages : List (Vec (Option ℕ))) (page entry : ℕ) (p : Vec (Option ℕ)) → page < length pages
+    → p ≡ get_or pages page p → net_on pages page entry ≡ get_or p.items entry None
+unfolding net_on
+net_on-at [] page entry p lt e = absurd (omega (arith, lt))
+net_on-at (x ∷ pages) zero entry p lt e = ap (λ (v : Vec (Option ℕ)). get_or v.items entry None) (sym e)
+net_on-at (x ∷ pages) (suc page) entry p lt e = net_on-at pages page entry p (omega (arith, lt)) e
+
+-- no net is on a page that isn't there
+pub net_on-past : (pages : List (Vec (Option ℕ))) (page entry : ℕ) → length pages ≤ page → net_on pages page entry
+    ≡ None
+unfolding net_on
+net_on-past [] page entry le = refl
+net_on-past (x ∷ pages) zero entry le = absurd (omega (arith, le))
+net_on-past (x ∷ pages) (suc page) entry le = net_on-past pages page entry (omega (arith, le))
+
+none_on_empty : (items : List (Option ℕ)) (entry : ℕ) → items ≡ [] → get_or items entry None ≡ None
+none_on_empty items entry e = ap (λ (items : List (Option ℕ)). get_or items entry None) e
+
+-- one more page, with no net on it
+pub net_on-push : (pages : List (Vec (Option ℕ))) (p : Vec (Option ℕ)) (page entry : ℕ) → p.items ≡ []
+    → net_on (pages ++ p ∷ []) page entry ≡ net_on pages page entry
+unfolding net_on
+net_on-push [] p zero entry e = none_on_empty p.items entry e
+net_on-push [] p (suc page) entry e = refl
+net_on-push (x ∷ pages) p zero entry e = refl
+net_on-push (x ∷ pages) p (suc page) entry e = net_on-push pages p page entry e
+
+elsewhere : {X : Type 0} (b c : Bool) (x y : X) → b ≡ false → y ≡ cond (b && c) x y
+elsewhere true c x y e = absurd cc
+elsewhere false c x y e = refl
+
+-- one page is changed at one entry
+pub net_on-set : (pages : List (Vec (Option ℕ))) (at : ℕ) (old new : Vec (Option ℕ)) (place : ℕ) (net : Option ℕ)
+    → at < length pages → old ≡ get_or pages at old
+    → ((k : ℕ) → get_or new.items k None ≡ update nat_eq (λ j. get_or old.items j None) place net k)
+    → (page entry : ℕ) → net_on (set pages at new) page entry
+    ≡ cond (eqb at page && eqb place entry) net (net_on pages page entry)
+unfolding net_on
+net_on-set [] at old new place net lt is changed page entry = absurd (omega (arith, lt))
+net_on-set (x ∷ pages) zero old new place net lt is changed zero entry =
+    changed entry ∙ ap (λ (v : Vec (Option ℕ)). cond (eqb place entry) net (get_or v.items entry None)) is
+net_on-set (x ∷ pages) zero old new place net lt is changed (suc page) entry = elsewhere (eqb 0 (suc page))
+    (eqb place entry) net (net_on pages page entry) (eqb-zero-suc page)
+net_on-set (x ∷ pages) (suc at) old new place net lt is changed zero entry = elsewhere (eqb (suc at) 0)
+    (eqb place entry) net (get_or x.items entry None) (eqb-suc-zero at)
+net_on-set (x ∷ pages) (suc at) old new place net lt is changed (suc page) entry =
+    net_on-set pages at old new place net (omega (arith, lt)) is changed page entry
+    ∙ ap (λ (b : Bool). cond (b && eqb place entry) net (net_on pages page entry)) (sym (eqb-suc-suc at page))
+
+-- one page is as it was
+pub net_on-same : (pages : List (Vec (Option ℕ))) (at : ℕ) (old new : Vec (Option ℕ)) → at < length pages
+    → old ≡ get_or pages at old → new.items ≡ old.items → (page entry : ℕ) → net_on (set pages at new) page entry
+    ≡ net_on pages page entry
+unfolding net_on
+net_on-same [] at old new lt is same page entry = absurd (omega (arith, lt))
+net_on-same (x ∷ pages) zero old new lt is same zero entry =
+    ap (λ (items : List (Option ℕ)). get_or items entry None) (same ∙ ap (λ (v : Vec (Option ℕ)). v.items) is)
+net_on-same (x ∷ pages) zero old new lt is same (suc page) entry = refl
+net_on-same (x ∷ pages) (suc at) old new lt is same zero entry = refl
+net_on-same (x ∷ pages) (suc at) old new lt is same (suc page) entry =
+    net_on-same pages at old new (omega (arith, lt)) is same page entry
+
+-- no page, and nothing in the map
+pub none_found : (pages : List (Vec (Option ℕ))) (entries : List (Vec ℕ × ℕ)) → pages ≡ [] → entries ≡ []
+    → (code : List ℕ) (place : Option CodePlace) → found pages entries code place ≡ None
+unfolding net_on
+none_found pages entries none empty code (Some place) =
+    ap (λ (pages : List (Vec (Option ℕ))). net_on pages place.page place.entry) none
+none_found pages entries none empty code None =
+    ap (lookup (is_at (λ (key : Vec ℕ). slice_cmp nat_cmp code key.items))) empty
 
 -- ---- a map ordered by bytes
 
@@ -117,46 +208,58 @@ module _ {K X : Type 0} (bytes : K → List ℕ) where
 
 -- ---- the index
 
--- a net in the table
-pub table_change : (old new : List (Option ℕ)) (entries : List (Vec ℕ × ℕ)) (code : List ℕ) (number net : ℕ)
-    → Some number ≡ short_number code
-    → ((k : ℕ) → get_or new k None ≡ update nat_eq (λ j. get_or old j None) number (Some net) k)
-    → (other : List ℕ) → found new entries other (short_number other) ≡ update bytes_eq
-    (λ code. found old entries code (short_number code)) code (Some net) other
-table_change old new entries code number net is set other =
+both_are : (a b : Bool) → (a && b) ≡ true → (a ≡ true) × (b ≡ true)
+both_are true b e = (refl, e)
+both_are false b e = absurd cc
+
+-- a net on a page
+pub page_change : (old new : List (Vec (Option ℕ))) (entries : List (Vec ℕ × ℕ)) (code : List ℕ) (place : CodePlace)
+    (net : ℕ) → Some place ≡ short_place code
+    → ((page entry : ℕ) → net_on new page entry
+    ≡ cond (eqb place.page page && eqb place.entry entry) (Some net) (net_on old page entry))
+    → (other : List ℕ) → found new entries other (short_place other) ≡ update bytes_eq
+    (λ code. found old entries code (short_place code)) code (Some net) other
+page_change old new entries code place net is set other =
     elim (same_or_not code other) [
       | inl s ↦
-          ap (λ (code : List ℕ). found new entries code (short_number code)) (sym s.1) ∙ ap (found new entries code)
+          ap (λ (code : List ℕ). found new entries code (short_place code)) (sym s.1) ∙ ap (found new entries code)
           (sym is)
-          ∙ set number ∙ cond-true (eqb number number) _ _ (eq-eqb number number refl)
+          ∙ set place.page place.entry
+          ∙ cond-true (eqb place.page place.page && eqb place.entry place.entry) _ _ itself
           ∙ sym (cond-true (bytes_eq code other) (Some net) _ s.0)
-      | inr o ↦ go (short_number other) refl o.1
-          ∙ sym (cond-false (bytes_eq code other) (Some net) (found old entries other (short_number other)) o.0)
+      | inr o ↦ go (short_place other) refl o.1
+          ∙ sym (cond-false (bytes_eq code other) (Some net) (found old entries other (short_place other)) o.0)
     ]
   where
-    go : (n : Option ℕ) → short_number other ≡ n → (code ≡ other → ⊥) → found new entries other n ≡ found old entries
-        other n
-    go (Some k) at apart =
-        set k ∙ cond-false (eqb number k) _ _
-        (ne_eqb number k
-        (λ e. apart (short_number-same code other number (sym is) (at ∙ ap (λ (n : ℕ). Some n) (sym e)))))
-    go None at apart = refl
+    itself : (eqb place.page place.page && eqb place.entry place.entry) ≡ true
+    itself = rw (eq-eqb place.page place.page refl) (eq-eqb place.entry place.entry refl)
+
+    go : (n : Option CodePlace) → short_place other ≡ n → (code ≡ other → ⊥) → found new entries other n
+        ≡ found old entries other n
+    go (Some at) is_at_place apart =
+        set at.page at.entry ∙ cond-false (eqb place.page at.page && eqb place.entry at.entry) _ _
+        (false_from_ne_true (eqb place.page at.page && eqb place.entry at.entry)
+        (λ e.
+        let same = both_are (eqb place.page at.page) (eqb place.entry at.entry) e in
+        apart (short_place-same code other place at (sym is) is_at_place (eqb-true place.page at.page same.0)
+        (eqb-true place.entry at.entry same.1))))
+    go None is_at_place apart = refl
 
 -- a net in the map
-pub map_change : (table : List (Option ℕ)) (old new : List (Vec ℕ × ℕ)) (code : List ℕ) (key : Vec ℕ) (net : ℕ) → None
-    ≡ short_number code → key.items ≡ code
+pub map_change : (pages : List (Vec (Option ℕ))) (old new : List (Vec ℕ × ℕ)) (code : List ℕ) (key : Vec ℕ)
+    (net : ℕ) → None ≡ short_place code → key.items ≡ code
     → new ≡ insert_entry (λ x y. slice_cmp nat_cmp x.items y.items) old key net
-    → (other : List ℕ) → found table new other (short_number other) ≡ update bytes_eq
-    (λ code. found table old code (short_number code)) code (Some net) other
-map_change table old new code key net is bytes set other = go (short_number other) refl
+    → (other : List ℕ) → found pages new other (short_place other) ≡ update bytes_eq
+    (λ code. found pages old code (short_place code)) code (Some net) other
+map_change pages old new code key net is bytes set other = go (short_place other) refl
   where
-    go : (n : Option ℕ) → short_number other ≡ n → found table new other n ≡ cond (bytes_eq code other) (Some net)
-        (found table old other n)
+    go : (n : Option CodePlace) → short_place other ≡ n → found pages new other n
+        ≡ cond (bytes_eq code other) (Some net) (found pages old other n)
     go (Some k) at =
         let apart : bytes_eq code other ≡ false = false_from_ne_true (bytes_eq code other)
-        (λ e. none-some k (is ∙ ap short_number ((bytes_eq-Decides code other).0 e) ∙ at)) in
+        (λ e. none-some k (is ∙ ap short_place ((bytes_eq-Decides code other).0 e) ∙ at)) in
         sym (cond-false (bytes_eq code other) (Some net) _ apart)
     go None at =
         ap (lookup (is_at (by_bytes (λ (key : Vec ℕ). key.items) other))) set
         ∙ lookup-insert_entry (λ (key : Vec ℕ). key.items) old key net other
-        ∙ ap (λ (code : List ℕ). cond (bytes_eq code other) (Some net) (found table old other None)) bytes
+        ∙ ap (λ (code : List ℕ). cond (bytes_eq code other) (Some net) (found pages old other None)) bytes

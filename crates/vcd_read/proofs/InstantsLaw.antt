@@ -16,7 +16,7 @@ use Rattle.vcd_read.specs.declared.fault.VcdFault.{VcdFault}
 use Rattle.vcd_read.specs.Contents.{TimesAscend}
 use Rattle.vcd_read.specs.Numbers.{number, time_of}
 use Rattle.vcd_read.specs.Header.{◌>>=◌, at_line, Net, net_of}
-use Rattle.vcd_read.specs.Body.{BodyItem, time_item, change, skipped, bracket_open, bracket_end, wrong, Standing}
+use Rattle.vcd_read.specs.Body.{BodyItem, time_item, change, skipped, bracket_open, bracket_end, wrong, BodyStanding}
 use Rattle.vcd_read.specs.Body.{stand_after, time_after, fitting, opened_at, closed}
 use Rattle.vcd_read.specs.Meaning.{NetChange, change_of, changes_from, times_from, last_at, value_of, value_at}
 use Rattle.vcd_read.specs.Meaning.{instant_at, instants_of}
@@ -49,15 +49,15 @@ abbrev now_after : ℕ → BodyItem → ℕ
 now_after now (time_item line digits) = number digits
 now_after now item = now
 
-stays : {A : Type 0} (r : Result A FaultKind) (line : ℕ) (s next : Standing) (f : A → Standing)
+stays : {A : Type 0} (r : Result A FaultKind) (line : ℕ) (s next : BodyStanding) (f : A → BodyStanding)
     → ((x : A) → (f x).now ≡ s.now) → at_line line (r >>= λ x. Ok (f x)) ≡ Ok next → (next.now ≡ s.now)
     × (s.now ≤ s.now)
 stays r line s next f same h =
     let a = bind_ok r _ next (at_line_ok line _ next h) in
     let e : f a.0 ≡ next = cc in
-    (sym (ap (λ (s : Standing). s.now) e) ∙ same a.0, omega arith)
+    (sym (ap (λ (s : BodyStanding). s.now) e) ∙ same a.0, omega arith)
 
-stands : (nets : List Net) (s next : Standing) (item : BodyItem) → stand_after nets s item ≡ Ok next
+stands : (nets : List Net) (s next : BodyStanding) (item : BodyItem) → stand_after nets s item ≡ Ok next
     → (next.now ≡ now_after s.now item) × (s.now ≤ now_after s.now item)
 stands nets s next (time_item line digits) h =
     let a = bind_ok (time_of digits) _ next (at_line_ok line _ next h) in
@@ -65,7 +65,7 @@ stands nets s next (time_item line digits) h =
     let n : number digits ≡ a.0 = passed _ _ _ _ _ _ a.1 in
     let t = not_before (ltb a.0 s.now) a.0 b.0 _ b.1 in
     let e : record s { now = b.0 } ≡ next = cc in
-    (sym (ap (λ (s : Standing). s.now) e) ∙ sym (n ∙ t.1), omega (arith, ltb-false a.0 s.now t.0, n))
+    (sym (ap (λ (s : BodyStanding). s.now) e) ∙ sym (n ∙ t.1), omega (arith, ltb-false a.0 s.now t.0, n))
 stands nets s next (change line digits code) h = stays (fitting nets (length digits) (net_of nets code)) line s next
     (λ net. s) (λ net. refl) h
 stands nets s next (skipped line code) h = stays (fitting nets 0 (net_of nets code)) line s next (λ net. s)

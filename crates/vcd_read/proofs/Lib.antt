@@ -9,6 +9,7 @@ pub mod InstantsLaw
 pub mod BeforeFaultLemmas
 pub mod ReadLemmas
 pub mod TakingLemmas
+pub mod TimeLemmas
 pub mod DumpLemmas
 pub mod DefinedLemmas
 pub mod ScopesLemmas

@@ -1,8 +1,8 @@
 -- A text in pieces that end behind a space: its tokens are those of the pieces.
-use Rattle.std.proofs.Common.{◌≡◌, ℕ, Bool, true, false, ◌+◌, ◌<◌, cond, eqb, List, [], ◌∷◌, ◌++◌, length, get_or}
-use Rattle.std.proofs.Common.{take, drop}
-use Rattle.std.proofs.Common.{refl, sym, ap, ◌∙◌, arith, append_assoc, zero-add}
-use Rattle.std.proofs.lemmas.List.{take_more}
+use Rattle.std.proofs.Common.{◌≡◌, ℕ, zero, suc, Bool, true, false, ◌+◌, ◌-◌, ◌<◌, ◌≤◌, cond, eqb, List, [], ◌∷◌, ◌++◌}
+use Rattle.std.proofs.Common.{length, get_or, take, drop}
+use Rattle.std.proofs.Common.{refl, sym, ap, subst, ◌∙◌, arith, append_assoc, zero-add}
+use Rattle.std.proofs.lemmas.List.{drop_all, get_or-drop, length-drop, take_all, take_more}
 use Rattle.std.specs.List.{count_by}
 use Rattle.std.proofs.lemmas.List.Sums.{sum_by-cons, sum_by-take-drop}
 use Rattle.vcd_read.specs.Tokens.{Cut, Token, all_of, cut_from, is_space, next_line, token_of, tokens_from, with_byte}
@@ -89,3 +89,30 @@ space_behind text rest end line lt space =
     let joined : (take end text ++ get_or text end 0 ∷ []) ++ rest ≡ take end text ++ get_or text end 0
     ∷ rest = append_assoc (take end text) (get_or text end 0 ∷ []) rest in
     rw (front, joined) (tokens_behind (take end text) (get_or text end 0) rest line space)
+
+-- what is left of a text from a place on, by its length
+pub left_is : (text : List ℕ) (at : ℕ) → at ≤ length text → drop at text
+    ≡ drop (length text - length (drop at text)) text
+left_is text at le = ap (λ (n : ℕ). drop n text) (omega (arith, length-drop at text, le))
+
+-- what is left of a text that ends behind a space, and what follows
+pub left_behind : (text rest : List ℕ) (at line : ℕ)
+    → (0 < length text → is_space (get_or text (length text - 1) 0) ≡ true)
+    → tokens_from line (drop at text ++ rest) ≡ tokens_from line (drop at text)
+    ++ tokens_from (line_behind line (drop at text)) rest
+left_behind text rest at line space = by_length (length text - at) (sym (length-drop at text))
+  where
+    part : List ℕ
+    part = drop at text
+
+    Apart : List ℕ → Type 0
+    Apart bytes = tokens_from line (bytes ++ rest) ≡ tokens_from line bytes ++ tokens_from (line_behind line bytes) rest
+
+    by_length : (n : ℕ) → n ≡ length part → Apart part
+    by_length zero e = subst Apart (sym (drop_all at text (omega (arith, e, length-drop at text))))
+        (none_behind [] rest line)
+    by_length (suc n) e =
+        subst Apart (take_all (n + 1) part (omega (arith, e)))
+        (space_behind part rest n line (omega (arith, e))
+        (ap is_space (get_or-drop at text n 0 ∙ ap (λ (i : ℕ). get_or text i 0) (omega (arith, e, length-drop at text)))
+        ∙ space (omega (arith, e, length-drop at text))))

@@ -7,7 +7,7 @@ use Rattle.vcd_read.specs.declared.fault.FaultKind.TheVariants.{Memory}
 use Rattle.vcd_read.specs.declared.fault.VcdFault.{VcdFault}
 use Rattle.vcd_read.specs.Tokens.{Token}
 use Rattle.vcd_read.specs.Header.{◌>>=◌, Net}
-use Rattle.vcd_read.specs.Body.{BodyItem, Standing, ready, body_from, stand_after, stand_after_all, at_the_end}
+use Rattle.vcd_read.specs.Body.{BodyItem, BodyStanding, ready, body_from, stand_after, stand_after_all, at_the_end}
 use Rattle.vcd_read.specs.Body.{first_standing}
 use Rattle.vcd_read.specs.Meaning.{ReadFails, ReadFailsAs, ReadGives, instants_from, instants_of}
 use Rattle.vcd_read.specs.DumpProgress.{DumpProgress, DumpState, steps, progress_after, ended}
@@ -18,10 +18,10 @@ use Rattle.vcd_read.proofs.InstantsLaw.{at_start, instants_law, instants_rise}
 abbrev pub at_end : DumpState → Result (List Instant) VcdFault
 at_end s = at_the_end s.standing >>= λ stood. Ok (ended s.progress)
 
-abbrev with_standing : DumpProgress → Standing → DumpState
+abbrev with_standing : DumpProgress → BodyStanding → DumpState
 with_standing progress standing = record { standing = standing; progress = progress }
 
-stand_step : (nets : List Net) (items : List BodyItem) (progress : DumpProgress) (r : Result Standing VcdFault)
+stand_step : (nets : List Net) (items : List BodyItem) (progress : DumpProgress) (r : Result BodyStanding VcdFault)
     → ((s : DumpState) → stand_after_all nets s.standing items ≡ (steps nets s items >>= λ end. Ok end.standing))
     → (r >>= λ next. stand_after_all nets next items)
     ≡ (((r >>= λ next. Ok (with_standing progress next)) >>= λ next. steps nets next items) >>= λ end. Ok
@@ -80,7 +80,7 @@ pub gives_err : {X Y : Type 0} (view : X → Y) (r : Result X VcdFault) (fault :
 gives_err view (Ok x) fault read is h = absurd is
 gives_err view (Err e) fault read is h = rw is h
 
-same_ok : (r : Result Standing VcdFault) (xs ys : List Instant) → (r >>= λ stood. Ok xs) ≡ Ok ys → xs ≡ ys
+same_ok : (r : Result BodyStanding VcdFault) (xs ys : List Instant) → (r >>= λ stood. Ok xs) ≡ Ok ys → xs ≡ ys
 same_ok (Ok stood) xs ys h = cc
 same_ok (Err fault) xs ys h = absurd cc
 

@@ -10,7 +10,7 @@ use Rattle.vcd_read.specs.declared.fault.VcdFault.{VcdFault}
 use Rattle.vcd_read.specs.Tokens.{Token}
 use Rattle.vcd_read.specs.Numbers.{number, extended}
 use Rattle.vcd_read.specs.Header.{◌>>=◌, at_line, Net, net_of, size_of}
-use Rattle.vcd_read.specs.Body.{BodyItem, time_item, change, skipped, bracket_open, bracket_end, wrong, Standing}
+use Rattle.vcd_read.specs.Body.{BodyItem, time_item, change, skipped, bracket_open, bracket_end, wrong, BodyStanding}
 use Rattle.vcd_read.specs.Body.{stand_after, at_the_end, fitting, ready, body_from}
 use Rattle.vcd_read.specs.Meaning.{ReadFails, ReadFailsAs, instants_from}
 use Rattle.vcd_read.specs.DumpProgress.{DumpProgress, values_from, flushed}
@@ -27,7 +27,7 @@ use Rattle.vcd_read.proofs.ReadLemmas.{read_whole}
 abbrev pub Current : Type 0
 Current = List (Option (List Bit))
 
-some_net : (nets : List Net) (digits line : ℕ) (found : Option ℕ) (s next : Standing)
+some_net : (nets : List Net) (digits line : ℕ) (found : Option ℕ) (s next : BodyStanding)
     → at_line line (fitting nets digits found >>= λ net. Ok s) ≡ Ok next → IsSome found
 some_net nets digits line None s next h = absurd cc
 some_net nets digits line (Some net) s next h = refl
@@ -97,7 +97,7 @@ module _ {A : Type 0} (with_change : A → ℕ → List Bit → A) (with_instant
   on_time true p a t r = (with_instant a p.time, refl, on_instant p.done p.current a p.time r)
   on_time false p a t r = (a, refl, r)
 
-  on_item : (item : BodyItem) (s next : Standing) (p : DumpProgress) (a : A) → stand_after nets s item ≡ Ok next
+  on_item : (item : BodyItem) (s next : BodyStanding) (p : DumpProgress) (a : A) → stand_after nets s item ≡ Ok next
       → R p.done p.current a
       → Keeps (whole_after nets p item) (progress_after with_change with_instant nets (taking_at p a) item)
   on_item (time_item line digits) s next p a ok r = on_time (p.begun && not (number digits == p.time)) p a
@@ -115,13 +115,13 @@ module _ {A : Type 0} (with_change : A → ℕ → List Bit → A) (with_instant
   on_item (bracket_end line) s next p a ok r = (a, refl, r)
   on_item (wrong line kind) s next p a ok r = (a, refl, r)
 
-  abbrev whole_of : DumpProgress → Result Standing VcdFault → Result Whole VcdFault
+  abbrev whole_of : DumpProgress → Result BodyStanding VcdFault → Result Whole VcdFault
   whole_of p r = r >>= λ next. Ok (record { standing = next; progress = p })
 
-  abbrev taken_of : Taking A → Result Standing VcdFault → Result (State A) VcdFault
+  abbrev taken_of : Taking A → Result BodyStanding VcdFault → Result (State A) VcdFault
   taken_of t r = r >>= λ next. Ok (record { standing = next; progress = t })
 
-  step-follows : (items : List BodyItem) (item : BodyItem) (s : Whole) (a : A) (stood : Result Standing VcdFault)
+  step-follows : (items : List BodyItem) (item : BodyItem) (s : Whole) (a : A) (stood : Result BodyStanding VcdFault)
       → stand_after nets s.standing item ≡ stood → R s.progress.done s.progress.current a
       → ((s2 : Whole) (b : A) → R s2.progress.done s2.progress.current b → KeepsState (whole_steps nets s2 items)
       (steps with_change with_instant nets (state_at s2 b) items))
@@ -146,7 +146,7 @@ module _ {A : Type 0} (with_change : A → ℕ → List Bit → A) (with_instant
   abbrev KeepsBefore : Whole → State A → Type 0
   KeepsBefore w t = (a : A) × (t ≡ state_at w a) × R w.progress.done w.progress.current a
 
-  before-follows : (items : List BodyItem) (item : BodyItem) (s : Whole) (a : A) (stood : Result Standing VcdFault)
+  before-follows : (items : List BodyItem) (item : BodyItem) (s : Whole) (a : A) (stood : Result BodyStanding VcdFault)
       → stand_after nets s.standing item ≡ stood → R s.progress.done s.progress.current a
       → ((s2 : Whole) (b : A) → R s2.progress.done s2.progress.current b → KeepsBefore (whole_before nets s2 items)
       (reached_before with_change with_instant nets (state_at s2 b) items))
@@ -186,7 +186,7 @@ module _ {A : Type 0} (with_change : A → ℕ → List Bit → A) (with_instant
   )
   on_end false p a r = (a, refl, (p.current, r))
 
-  end-follows : (s : Whole) (a : A) (stood : Result Standing VcdFault) → R s.progress.done s.progress.current a
+  end-follows : (s : Whole) (a : A) (stood : Result BodyStanding VcdFault) → R s.progress.done s.progress.current a
       → Follows (Ends R) (stood >>= λ end. Ok (instants_at s.progress))
       (stood >>= λ end. Ok (ended with_instant (taking_at s.progress a)))
   end-follows s a (Ok stood) r = let e = on_end s.progress.begun s.progress a r in (e.0, ap Ok e.1, e.2)

@@ -70,13 +70,15 @@ module _ {A : Type 0} (with_change : A → ℕ → List Bit → A) (with_instant
 
 -- ---- where reading stops
 
--- the fault is what reading gives, and what was taken is what came of what stands before it, unless memory ran out
-abbrev pub StoppedAs : {A Y : Type 0} → ℕ → FaultKind → A → A → Result Y VcdFault → Type 0
-StoppedAs line Memory taken before read = line ≡ 0
-StoppedAs line kind taken before read = (read ≡ Err (record { line = line; kind = kind })) × (taken ≡ before)
+-- the fault is what reading gives, and what was taken, and the time, are those of what stands before it, unless memory
+-- ran out
+abbrev pub StoppedAs : {A Y : Type 0} → ℕ → FaultKind → A → ℕ → Taking A → Result Y VcdFault → Type 0
+StoppedAs line Memory taken time before read = line ≡ 0
+StoppedAs line kind taken time before read =
+    (read ≡ Err (record { line = line; kind = kind })) × (taken ≡ before.taken) × (time ≡ before.time)
 
-abbrev pub Stops : {A : Type 0} → VcdFault → A → UntilFault A → Type 0
-Stops fault taken read = StoppedAs fault.line fault.kind taken read.reached.progress.taken read.outcome
+abbrev pub Stops : {A : Type 0} → VcdFault → A → ℕ → UntilFault A → Type 0
+Stops fault taken time read = StoppedAs fault.line fault.kind taken time read.reached.progress read.outcome
 
 -- a fault leaves what was taken as it was, unless memory ran out
 abbrev pub KeepsAs : {A : Type 0} → FaultKind → A → A → Type 0
@@ -88,23 +90,23 @@ KeepsTaken before taken (Ok _) = Unit {0}
 KeepsTaken before taken (Err fault) = KeepsAs fault.kind before taken
 
 -- what reading gives stays as it was, whatever follows, or it stops
-abbrev pub BodyContinuesAs : {A X : Type 0} → (List Token → UntilFault A) → (List Token → UntilFault A) → A
+abbrev pub BodyContinuesAs : {A X : Type 0} → (List Token → UntilFault A) → (List Token → UntilFault A) → A → ℕ
     → Result X VcdFault → Type 0
-BodyContinuesAs before after taken (Ok _) = (more : List Token) → before more ≡ after more
-BodyContinuesAs before after taken (Err fault) = (more : List Token) → Stops fault taken (before more)
+BodyContinuesAs before after taken time (Ok _) = (more : List Token) → before more ≡ after more
+BodyContinuesAs before after taken time (Err fault) = (more : List Token) → Stops fault taken time (before more)
 
 -- the same, where what was read to is returned, or what took what stands before a fault
 abbrev pub ContinuesOrStops : {A T X : Type 0} → (X → List Token → UntilFault A) → (T → A) → Result X (Stopped T)
     → (List Token → UntilFault A) → Type 0
 ContinuesOrStops view taken (Ok x) before = (more : List Token) → before more ≡ view x more
 ContinuesOrStops view taken (Err stopped) before = (more : List Token) → Stops stopped.fault (taken stopped.visitor)
-    (before more)
+    stopped.time (before more)
 
 -- what a reading that ends comes to, where this was taken before its end
-abbrev pub GivesOrStops : {A T : Type 0} → (T → A) → A → Result T (Stopped T) → Result A VcdFault → Type 0
+abbrev pub GivesOrStops : {A T : Type 0} → (T → A) → Taking A → Result T (Stopped T) → Result A VcdFault → Type 0
 GivesOrStops taken before (Ok visitor) read = read ≡ Ok (taken visitor)
 GivesOrStops taken before (Err stopped) read = StoppedAs stopped.fault.line stopped.fault.kind (taken stopped.visitor)
-    before read
+    stopped.time before read
 
 -- what reading gives stays as it was, where what was read to is returned, or is this fault
 abbrev pub BodyContinuesTo : {A X : Type 0} → (X → List Token → Result (State A) VcdFault) → Result X VcdFault

@@ -96,7 +96,7 @@ body_from (in_comment line) (t ∷ ts) = elim (is_end t.bytes) [
 -- ---- the first fault
 
 -- the current time, and the line of the bracket that is open
-pub record Standing : Type 0 where
+pub record BodyStanding : Type 0 where
   pub now : ℕ
   pub bracket : Option ℕ
 
@@ -116,7 +116,7 @@ abbrev pub fitting : List Net → ℕ → Option ℕ → Result ℕ FaultKind
 fitting nets digits None = Err UndeclaredCode
 fitting nets digits (Some net) = if nat_lt (size_of nets net) digits then Err TooWide else Ok net
 
-abbrev pub stand_after : List Net → Standing → BodyItem → Result Standing VcdFault
+abbrev pub stand_after : List Net → BodyStanding → BodyItem → Result BodyStanding VcdFault
 stand_after nets s (time_item line digits) = at_line line
     (time_of digits >>= λ n. time_after s.now n >>= λ now. Ok (record s { now = now }))
 stand_after nets s (change line digits code) = at_line line
@@ -128,14 +128,14 @@ stand_after nets s (bracket_end line) = at_line line
     (closed s.bracket >>= λ bracket. Ok (record s { bracket = bracket }))
 stand_after nets s (wrong line kind) = Err (record { line = line; kind = kind })
 
-unfoldable pub stand_after_all : List Net → Standing → List BodyItem → Result Standing VcdFault
+unfoldable pub stand_after_all : List Net → BodyStanding → List BodyItem → Result BodyStanding VcdFault
 stand_after_all nets s [] = Ok s
 stand_after_all nets s (item ∷ items) = stand_after nets s item >>= λ next. stand_after_all nets next items
 
 -- an open bracket is met at the end of the text
-abbrev pub at_the_end : Standing → Result Standing VcdFault
+abbrev pub at_the_end : BodyStanding → Result BodyStanding VcdFault
 at_the_end s = elim s.bracket [ None ↦ Ok s | Some line ↦ Err (record { line = line; kind = UnfinishedSection }) ]
 
 -- a body is read from time 0, with no bracket open
-abbrev pub first_standing : Standing
+abbrev pub first_standing : BodyStanding
 first_standing = record { now = 0; bracket = None }

@@ -7,7 +7,7 @@ use Rattle.vcd_read.specs.declared.dump.Instant.{Instant}
 use Rattle.vcd_read.specs.declared.fault.VcdFault.{VcdFault}
 use Rattle.vcd_read.specs.Numbers.{number, extended}
 use Rattle.vcd_read.specs.Header.{◌>>=◌, Net, net_of, size_of}
-use Rattle.vcd_read.specs.Body.{BodyItem, time_item, change, Standing, stand_after}
+use Rattle.vcd_read.specs.Body.{BodyItem, time_item, change, BodyStanding, stand_after}
 
 -- The instants before the current time, and the last value of each net at it.
 pub record DumpProgress : Type 0 where
@@ -51,7 +51,7 @@ progress_after nets p item = p
 -- ---- both together
 
 pub record DumpState : Type 0 where
-  pub standing : Standing
+  pub standing : BodyStanding
   pub progress : DumpProgress
 
 abbrev pub step : List Net → DumpState → BodyItem → Result DumpState VcdFault

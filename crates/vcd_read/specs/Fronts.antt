@@ -9,9 +9,10 @@ use Rattle.vcd_read.specs.Header.{Declared}
 use Rattle.vcd_read.specs.Sections.{Headed, defined, header_of}
 use Rattle.vcd_read.specs.Meaning.{ReadFails}
 
--- The header that a front has, and the line that the front ends on.
+-- The header that a front has, the bytes behind it, and the line that the front ends on.
 pub record ReadFront : Type 0 where
   pub head : Headed
+  pub left : List ℕ
   pub line : ℕ
 
 -- a header whose text goes on

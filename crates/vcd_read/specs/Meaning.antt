@@ -14,7 +14,7 @@ use Rattle.vcd_read.specs.Numbers.{number, extended}
 use Rattle.vcd_read.specs.Header.{◌>>=◌, Net, net_of, size_of, between, header_from, declare_all, nothing_declared}
 use Rattle.vcd_read.specs.Header.{appended}
 use Rattle.vcd_read.specs.Body.{BodyItem, time_item, change, ready, body_from, first_standing, stand_after_all}
-use Rattle.vcd_read.specs.Body.{Standing, at_the_end, stand_after}
+use Rattle.vcd_read.specs.Body.{BodyStanding, at_the_end, stand_after}
 
 -- ---- the instants
 
@@ -80,7 +80,7 @@ instants_from nets body = do
   Ok (instants_of nets (body_from ready body))
 
 -- the items before the first that is a fault, or all of them
-unfoldable pub items_before_fault : List Net → Standing → List BodyItem → List BodyItem
+unfoldable pub items_before_fault : List Net → BodyStanding → List BodyItem → List BodyItem
 items_before_fault nets s [] = []
 items_before_fault nets s (item ∷ items) = elim (stand_after nets s item) [
   | Ok next ↦ item ∷ items_before_fault nets next items
@@ -90,6 +90,16 @@ items_before_fault nets s (item ∷ items) = elim (stand_after nets s item) [
 -- the instants before the first fault of a body, or all of them
 abbrev pub instants_before_fault : List Net → List Token → List Instant
 instants_before_fault nets body = instants_of nets (items_before_fault nets first_standing (body_from ready body))
+
+-- the last time that these items tell, or else this one
+unfoldable pub last_time : ℕ → List BodyItem → ℕ
+last_time now [] = now
+last_time now (time_item line digits ∷ items) = last_time (number digits) items
+last_time now (item ∷ items) = last_time now items
+
+-- the last time that a body tells before its first fault, or its end; 0 where it tells none
+abbrev pub last_time_before_fault : List Net → List Token → ℕ
+last_time_before_fault nets body = last_time 0 (items_before_fault nets first_standing (body_from ready body))
 
 -- the dump that a text is, or else its first fault
 unfoldable pub dump_of : List ℕ → Result Contents VcdFault

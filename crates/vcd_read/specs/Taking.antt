@@ -10,7 +10,7 @@ use Rattle.vcd_read.specs.Reading.{line_of}
 use Rattle.vcd_read.specs.declared.body_piece.BodyPiece.{BodyPiece}
 use Rattle.vcd_read.specs.declared.body_piece.Start.{Start}
 use Rattle.vcd_read.specs.Header.{◌>>=◌, Net, net_of, size_of}
-use Rattle.vcd_read.specs.Body.{BodyItem, time_item, change, Standing, stand_after, at_the_end, ready, body_from}
+use Rattle.vcd_read.specs.Body.{BodyItem, time_item, change, BodyStanding, stand_after, at_the_end, ready, body_from}
 
 -- what came of the changes, with the current time
 pub record Taking (A : Type 0) : Type 0 where
@@ -23,7 +23,7 @@ abbrev pub taking : {A : Type 0} → A → Clock → Taking A
 taking a clock = record { taken = a; time = clock.time; begun = clock.begun }
 
 pub record State (A : Type 0) : Type 0 where
-  pub standing : Standing
+  pub standing : BodyStanding
   pub progress : Taking A
 
 -- how far a body is read, with the line of the bracket that is open

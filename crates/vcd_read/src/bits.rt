@@ -30,6 +30,7 @@ pub(crate) fn extended(alloc: Global, size: u32, digits: &[u8]) -> Result<Bits, 
 
 /// One bit of the value of this size that digits are, by its place from the left: x where the value has no such bit.
 #[tactic(auto, using(crate::proofs::Fill::bit_fill, crate::proofs::Fill::bit_digit, crate::proofs::Fill::bit_past))]
+#[inline(always)]
 pub fn bit_at(size: u32, digits: &[u8], place: usize) -> Bit
     requires some { 0 < length digits.now }
     requires fits { length digits.now ≤ size }
@@ -45,12 +46,14 @@ pub fn bit_at(size: u32, digits: &[u8], place: usize) -> Bit
     }
 }
 
+/// Most digits are 0 or 1.
 fn bit_of(digit: u8) -> Bit
     ensures { result ≡ bit_of digit }
 {
+    if b'0' <= digit && digit <= b'1' {
+        return if digit == b'0' { Bit::Zero } else { Bit::One };
+    }
     match digit {
-        b'0' => Bit::Zero,
-        b'1' => Bit::One,
         b'x' | b'X' => Bit::X,
         _ => Bit::Z,
     }

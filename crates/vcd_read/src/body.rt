@@ -58,7 +58,7 @@ impl<'a, 'c, T: ChangeVisitor> Body<'a, 'c, T> {
             (taking (T.taken self.old.timed.visitor) self.old.timed.clock) self.old.bracket)
             (remaining_in T.with_change T.with_instant (place_of self.new.place) self.new.codes.now self.new.reader
             (taking (T.taken self.new.timed.visitor) self.new.timed.clock) self.new.bracket)
-            (T.taken self.new.timed.visitor) result }
+            (T.taken self.new.timed.visitor) self.new.timed.clock.time result }
     {
         let Some(at) = self.reader.start() else {
             return Ok(false);
@@ -84,7 +84,7 @@ impl<'a, 'c, T: ChangeVisitor> Body<'a, 'c, T> {
             (taking (T.taken self.old.timed.visitor) self.old.timed.clock) self.old.bracket)
             (remaining_in T.with_change T.with_instant (place_of self.new.place) self.new.codes.now self.new.reader
             (taking (T.taken self.new.timed.visitor) self.new.timed.clock) self.new.bracket)
-            (T.taken self.new.timed.visitor) result }
+            (T.taken self.new.timed.visitor) self.new.timed.clock.time result }
     {
         if let Some(short) = self.reader.short_time() {
             return self.go_to(alloc, Start::Here(at), short.time);
@@ -113,7 +113,7 @@ impl<'a, 'c, T: ChangeVisitor> Body<'a, 'c, T> {
             self.old.reader (taking (T.taken self.old.timed.visitor) self.old.timed.clock) self.old.bracket)
             (remaining_in T.with_change T.with_instant (place_of self.new.place) self.new.codes.now self.new.reader
             (taking (T.taken self.new.timed.visitor) self.new.timed.clock) self.new.bracket)
-            (T.taken self.new.timed.visitor) result }
+            (T.taken self.new.timed.visitor) self.new.timed.clock.time result }
     {
         let start = Start::Here(token.at);
         match shape_of(token.bytes) {
@@ -132,7 +132,8 @@ impl<'a, 'c, T: ChangeVisitor> Body<'a, 'c, T> {
         requires { IsStart self.old.reader.text start }
         ensures same { (self.new.reader ≡ self.old.reader) × (self.new.codes ≡ self.old.codes)
             × (self.new.place ≡ self.old.place) }
-        ensures kept { KeepsTaken (T.taken self.old.timed.visitor) (T.taken self.new.timed.visitor) result }
+        ensures kept { KeepsTaken (taking (T.taken self.old.timed.visitor) self.old.timed.clock)
+            (taking (T.taken self.new.timed.visitor) self.new.timed.clock) result }
         ensures goes_on { IfOk result (λ goes_on. goes_on ≡ true) }
         ensures step { ReadGives (λ _. state_of self.new.reader.text
             (taking (T.taken self.new.timed.visitor) self.new.timed.clock) self.new.bracket) result
@@ -152,7 +153,8 @@ impl<'a, 'c, T: ChangeVisitor> Body<'a, 'c, T> {
         requires { IsStart self.old.reader.text start }
         ensures same { (self.new.reader ≡ self.old.reader) × (self.new.codes ≡ self.old.codes)
             × (self.new.place ≡ self.old.place) }
-        ensures kept { KeepsTaken (T.taken self.old.timed.visitor) (T.taken self.new.timed.visitor) result }
+        ensures kept { KeepsTaken (taking (T.taken self.old.timed.visitor) self.old.timed.clock)
+            (taking (T.taken self.new.timed.visitor) self.new.timed.clock) result }
         ensures goes_on { IfOk result (λ goes_on. goes_on ≡ true) }
         ensures step { (digits : List ℕ) → time_of digits ≡ Ok time → ReadGives (λ _. state_of self.new.reader.text
             (taking (T.taken self.new.timed.visitor) self.new.timed.clock) self.new.bracket) result
@@ -179,7 +181,8 @@ impl<'a, 'c, T: ChangeVisitor> Body<'a, 'c, T> {
         requires digits { 0 < length digits.now }
         ensures same { (self.new.reader ≡ self.old.reader) × (self.new.codes ≡ self.old.codes)
             × (self.new.place ≡ self.old.place) }
-        ensures kept { KeepsTaken (T.taken self.old.timed.visitor) (T.taken self.new.timed.visitor) result }
+        ensures kept { KeepsTaken (taking (T.taken self.old.timed.visitor) self.old.timed.clock)
+            (taking (T.taken self.new.timed.visitor) self.new.timed.clock) result }
         ensures goes_on { IfOk result (λ goes_on. goes_on ≡ true) }
         ensures step { ReadGives (λ _. state_of self.new.reader.text
             (taking (T.taken self.new.timed.visitor) self.new.timed.clock) self.new.bracket) result
@@ -216,7 +219,7 @@ impl<'a, 'c, T: ChangeVisitor> Body<'a, 'c, T> {
             (taking (T.taken self.old.timed.visitor) self.old.timed.clock) self.old.bracket)
             (remaining_in T.with_change T.with_instant (place_of self.new.place) self.new.codes.now self.new.reader
             (taking (T.taken self.new.timed.visitor) self.new.timed.clock) self.new.bracket)
-            (T.taken self.new.timed.visitor) result }
+            (T.taken self.new.timed.visitor) self.new.timed.clock.time result }
     {
         match self.reader.next() {
             Some(code) => self.change(alloc, start, digits, code.bytes),
@@ -243,7 +246,7 @@ impl<'a, 'c, T: ChangeVisitor> Body<'a, 'c, T> {
             (taking (T.taken self.old.timed.visitor) self.old.timed.clock) self.old.bracket)
             (remaining_in T.with_change T.with_instant (place_of self.new.place) self.new.codes.now self.new.reader
             (taking (T.taken self.new.timed.visitor) self.new.timed.clock) self.new.bracket)
-            (T.taken self.new.timed.visitor) result }
+            (T.taken self.new.timed.visitor) self.new.timed.clock.time result }
     {
         match self.reader.next() {
             Some(code) => self.skip(start, code.bytes),
@@ -284,7 +287,7 @@ impl<'a, 'c, T: ChangeVisitor> Body<'a, 'c, T> {
             (taking (T.taken self.old.timed.visitor) self.old.timed.clock) self.old.bracket)
             (remaining_in T.with_change T.with_instant (place_of self.new.place) self.new.codes.now self.new.reader
             (taking (T.taken self.new.timed.visitor) self.new.timed.clock) self.new.bracket)
-            (T.taken self.new.timed.visitor) result }
+            (T.taken self.new.timed.visitor) self.new.timed.clock.time result }
     {
         while let Some(word) = self.reader.next() {
             if is_end(word.bytes) {
@@ -299,7 +302,8 @@ impl<'a, 'c, T: ChangeVisitor> Body<'a, 'c, T> {
         requires { IsStart self.old.reader.text start }
         ensures same { (self.new.reader ≡ self.old.reader) × (self.new.codes ≡ self.old.codes)
             × (self.new.place ≡ self.old.place) }
-        ensures kept { KeepsTaken (T.taken self.old.timed.visitor) (T.taken self.new.timed.visitor) result }
+        ensures kept { KeepsTaken (taking (T.taken self.old.timed.visitor) self.old.timed.clock)
+            (taking (T.taken self.new.timed.visitor) self.new.timed.clock) result }
         ensures goes_on { IfOk result (λ goes_on. goes_on ≡ true) }
         ensures step { ReadGives (λ _. state_of self.new.reader.text
             (taking (T.taken self.new.timed.visitor) self.new.timed.clock) self.new.bracket) result
@@ -318,7 +322,8 @@ impl<'a, 'c, T: ChangeVisitor> Body<'a, 'c, T> {
         requires { IsStart self.old.reader.text start }
         ensures same { (self.new.reader ≡ self.old.reader) × (self.new.codes ≡ self.old.codes)
             × (self.new.place ≡ self.old.place) }
-        ensures kept { KeepsTaken (T.taken self.old.timed.visitor) (T.taken self.new.timed.visitor) result }
+        ensures kept { KeepsTaken (taking (T.taken self.old.timed.visitor) self.old.timed.clock)
+            (taking (T.taken self.new.timed.visitor) self.new.timed.clock) result }
         ensures goes_on { IfOk result (λ goes_on. goes_on ≡ true) }
         ensures step { ReadGives (λ _. state_of self.new.reader.text
             (taking (T.taken self.new.timed.visitor) self.new.timed.clock) self.new.bracket) result
@@ -344,7 +349,7 @@ impl<'a, 'c, T: ChangeVisitor> Body<'a, 'c, T> {
             (taking (T.taken self.old.timed.visitor) self.old.timed.clock) self.old.bracket)
             (remaining_in T.with_change T.with_instant (place_of self.new.place) self.new.codes.now self.new.reader
             (taking (T.taken self.new.timed.visitor) self.new.timed.clock) self.new.bracket)
-            (T.taken self.new.timed.visitor) result }
+            (T.taken self.new.timed.visitor) self.new.timed.clock.time result }
     {
         match mem::replace(&mut self.place, OpenItem::Ready) {
             OpenItem::Ready => Ok(true),
@@ -366,7 +371,7 @@ impl<'a, 'c, T: ChangeVisitor> Body<'a, 'c, T> {
             (taking (T.taken self.old.timed.visitor) self.old.timed.clock) self.old.bracket)
             (remaining_in T.with_change T.with_instant (place_of self.new.place) self.new.codes.now self.new.reader
             (taking (T.taken self.new.timed.visitor) self.new.timed.clock) self.new.bracket)
-            (T.taken self.new.timed.visitor) result }
+            (T.taken self.new.timed.visitor) self.new.timed.clock.time result }
     {
         if !self.resume(alloc)? {
             return Ok(());
@@ -375,11 +380,17 @@ impl<'a, 'c, T: ChangeVisitor> Body<'a, 'c, T> {
         Ok(())
     }
 
-    /// What takes the changes of the body.
-    fn into_visitor(self) -> T
-        ensures { T.taken result ≡ T.taken self.entry.timed.visitor }
+    /// Where reading stops by this fault.
+    fn stopped(self, fault: VcdFault) -> Stopped<T>
+        ensures fault { result.fault ≡ fault }
+        ensures visitor { T.taken result.visitor ≡ T.taken self.entry.timed.visitor }
+        ensures time { result.time ≡ self.entry.timed.clock.time }
     {
-        self.timed.visitor
+        Stopped {
+            fault,
+            visitor: self.timed.visitor,
+            time: self.timed.clock.time,
+        }
     }
 
     /// How far the body is read, behind the piece.
@@ -440,10 +451,7 @@ pub(crate) fn read_until_fault<T: ChangeVisitor>(
     };
     match body.all(alloc) {
         Ok(()) => Ok(body.end()),
-        Err(fault) => Err(Stopped {
-            fault,
-            visitor: body.into_visitor(),
-        }),
+        Err(fault) => Err(body.stopped(fault)),
     }
 }
 

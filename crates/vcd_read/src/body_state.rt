@@ -41,7 +41,8 @@ impl<T: ChangeVisitor> BodyState<T> {
     /// What took the body, of which nothing is left. An item that isn't whole and a bracket that is still open are met
     /// here: the instant at hand isn't ended then, and what took those before it comes with the fault.
     pub fn finish_or_stop(self, alloc: Global) -> Result<T, Stopped<T>>
-        ensures { (nets : List Net) → GivesOrStops (λ t. T.taken t) (T.taken self.timed.visitor) result
+        ensures { (nets : List Net) → GivesOrStops (λ t. T.taken t)
+            (taking (T.taken self.timed.visitor) self.timed.clock) result
             (finished T.with_change T.with_instant nets (taking (T.taken self.timed.visitor) self.timed.clock)
             self.bracket (place_of self.place)) }
     {
@@ -51,6 +52,7 @@ impl<T: ChangeVisitor> BodyState<T> {
                     line,
                     kind: FaultKind::UnfinishedSection,
                 },
+                time: self.timed.clock.time,
                 visitor: self.timed.visitor,
             });
         }

@@ -1,19 +1,27 @@
 //! The nets of codes, found in constant or logarithmic time whatever the codes are.
 
-ghost use Rattle.std.specs.Prelude.{◌≡◌, ◌<◌, ◌≤◌, ◌^◌, ℕ, List, Some, None, IfSome, OnOk, OnErr, bytes_eq, nat_eq};
-ghost use Rattle.std.specs.Prelude.{slice_index_or};
+ghost use Rattle.std.specs.Prelude.{◌≡◌, ◌==◌, ◌&&◌, if◌then◌else◌, ◌<◌, ◌≤◌, ◌^◌, ℕ, List, Some, None, IfSome, OnOk};
+ghost use Rattle.std.specs.Prelude.{OnErr, bytes_eq, nat_eq, length, slice_index_or};
 ghost use Rattle.std.specs.Map.{update};
-ghost use Rattle.vcd_read.specs.CodeNumbers.{digit, short_number};
+ghost use Rattle.vcd_read.specs.CodeNumbers.{digit, short_place};
+ghost use Rattle.vcd_read.specs.CodeIndexes.{net_on};
 
 use std::alloc::{AllocError, Global};
 use std::collections::BTreeMap;
 
-/// The net of each code that has one. Codes of at most three bytes have places of their own, in a table that is no
+/// Where the net of a code of at most three bytes stands: the page is that of the bytes behind the first.
+#[derive(Clone, Copy)]
+pub(crate) struct CodePlace {
+    pub page: usize,
+    pub entry: usize,
+}
+
+/// The net of each code that has one. Codes of at most three bytes have places of their own, on pages that are no
 /// longer than they need, and the others are ordered, so no choice of codes makes a look-up slow.
 #[derive(Drop)]
 pub(crate) struct CodeIndex {
-    /// The nets of the codes of at most three bytes, by their numbers.
-    short: Vec<Option<u32>>,
+    /// The pages of the nets of the codes of at most three bytes.
+    short: Vec<Vec<Option<u32>>>,
     /// The nets of the other codes.
     long: BTreeMap<Vec<u8>, u32>,
 }
@@ -36,13 +44,13 @@ impl CodeIndex {
     pub fn get(&self, code: &[u8]) -> Option<u32>
         ensures { result ≡ net_at self.now code.now }
     {
-        match short_number(code) {
-            Some(number) => self.short.get(number).copied().flatten(),
+        match short_place(code) {
+            Some(place) => net_on(&self.short, place),
             None => self.get_long(code),
         }
     }
 
-    /// The net of a code without a number, where it has one.
+    /// The net of a code without a place, where it has one.
     #[inline(never)]
     fn get_long(&self, code: &[u8]) -> Option<u32>
         ensures { result ≡ found self.now.short.items self.now.long.entries code.now None }
@@ -56,8 +64,8 @@ impl CodeIndex {
             → net_at self.new other ≡ update bytes_eq (net_at self.old) code.now (Some net) other) }
         ensures err { OnErr result ((other : List ℕ) → net_at self.new other ≡ net_at self.old other) }
     {
-        match short_number(code) {
-            Some(number) => set_net(&mut self.short, number, net)?,
+        match short_place(code) {
+            Some(place) => set_net(alloc, &mut self.short, place, net)?,
             None => {
                 self.long.insert(Vec::from_slice(alloc, code)?, net)?;
             }
@@ -66,17 +74,70 @@ impl CodeIndex {
     }
 }
 
-/// Sets the net at a place of a table, which grows as far as that.
-fn set_net(nets: &mut Vec<Option<u32>>, number: usize, net: u32) -> Result<(), AllocError>
-    requires { number < 2 ^ 32 }
+/// The net at a place, where it has one.
+#[inline(always)]
+fn net_on(pages: &[Vec<Option<u32>>], place: CodePlace) -> Option<u32>
+    ensures { result ≡ net_on pages.now place.page place.entry }
+{
+    match pages.get(place.page) {
+        Some(page) => net_on_page(page, place.entry),
+        None => None,
+    }
+}
+
+/// The net at an entry of a page, where it has one.
+#[inline(always)]
+fn net_on_page(nets: &[Option<u32>], entry: usize) -> Option<u32>
+    ensures { result ≡ slice_index_or nets.now entry None }
+{
+    nets.get(entry).copied().flatten()
+}
+
+/// Sets the net at a place, and makes its page first. Where memory runs out, each place has the net that it had.
+fn set_net(
+    alloc: Global,
+    pages: &mut Vec<Vec<Option<u32>>>,
+    place: CodePlace,
+    net: u32,
+) -> Result<(), AllocError>
+    requires { (place.page < 2 ^ 32) × (place.entry < 2 ^ 32) }
+    ensures ok { OnOk result ((page entry : ℕ) → net_on pages.new.items page entry
+        ≡ (if place.page == page && place.entry == entry then Some net else net_on pages.old.items page entry)) }
+    ensures err { OnErr result ((page entry : ℕ) → net_on pages.new.items page entry
+        ≡ net_on pages.old.items page entry) }
+{
+    make_page(alloc, pages, place.page)?;
+    set_on_page(&mut pages[place.page], place.entry, net)?;
+    Ok(())
+}
+
+/// Makes the pages up to one, with no net on those that weren't there.
+fn make_page(
+    alloc: Global,
+    pages: &mut Vec<Vec<Option<u32>>>,
+    page: usize,
+) -> Result<(), AllocError>
+    ensures made { OnOk result (page < length pages.new.items) }
+    ensures same { (page entry : ℕ) → net_on pages.new.items page entry ≡ net_on pages.old.items page entry }
+{
+    while pages.len() <= page {
+        pages.reserve(1)?;
+        pages.push_reserved(Vec::new(alloc));
+    }
+    Ok(())
+}
+
+/// Sets a net on a page, which grows as far as that.
+fn set_on_page(nets: &mut Vec<Option<u32>>, entry: usize, net: u32) -> Result<(), AllocError>
+    requires { entry < 2 ^ 32 }
     ensures ok { OnOk result ((k : ℕ) → slice_index_or nets.new.items k None
-        ≡ update nat_eq (λ j. slice_index_or nets.old.items j None) number (Some net) k) }
+        ≡ update nat_eq (λ j. slice_index_or nets.old.items j None) entry (Some net) k) }
     ensures err { OnErr result (nets.new.items ≡ nets.old.items) }
 {
-    if number >= nets.len() {
-        nets.resize(number + 1, None)?;
+    if entry >= nets.len() {
+        nets.resize(entry + 1, None)?;
     }
-    nets[number] = Some(net);
+    nets[entry] = Some(net);
     Ok(())
 }
 
@@ -92,17 +153,26 @@ fn digit(byte: u8) -> Option<usize>
     }
 }
 
-/// The number of a code of at most three bytes.
+/// The place of a code of at most three bytes.
 #[inline(always)]
-fn short_number(code: &[u8]) -> Option<usize>
-    ensures is { result ≡ short_number code.now }
-    ensures small { IfSome result (λ number. number ≤ 839514) }
+fn short_place(code: &[u8]) -> Option<CodePlace>
+    ensures is { result ≡ short_place code.now }
+    ensures small { IfSome result (λ place. (place.page ≤ 8930) × (place.entry ≤ 94)) }
 {
     match code {
-        [] => Some(0),
-        [a] => digit(*a),
-        [a, b] => Some(digit(*a)? + 94 * digit(*b)?),
-        [a, b, c] => Some(digit(*a)? + 94 * (digit(*b)? + 94 * digit(*c)?)),
+        [] => Some(CodePlace { page: 0, entry: 0 }),
+        [a] => Some(CodePlace {
+            page: 0,
+            entry: digit(*a)?,
+        }),
+        [a, b] => Some(CodePlace {
+            page: digit(*b)?,
+            entry: digit(*a)?,
+        }),
+        [a, b, c] => Some(CodePlace {
+            page: digit(*b)? + 94 * digit(*c)?,
+            entry: digit(*a)?,
+        }),
         _ => None,
     }
 }

@@ -233,6 +233,13 @@ impl<T: ChangeVisitor> Pieces<T> {
         &self.underway.timed.visitor
     }
 
+    /// The last time that was read, or 0.
+    pub fn time(&self) -> u64
+        ensures { result ≡ (reached T.taken self.now).progress.time }
+    {
+        self.underway.timed.clock.time
+    }
+
     /// The line that the next piece begins on, from 1.
     pub fn line(&self) -> u64
         ensures { result ≡ (reached T.taken self.now).line }

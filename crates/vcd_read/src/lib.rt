@@ -23,7 +23,8 @@
 //!   [`Head::read_body`] give the same value, part by part, to what takes it.
 //! - What [`read_front`] and [`Pieces`] answer of a part of a text, a fault included, holds of
 //!   every text that goes on so (`HeaderContinuesAs`, `BodyContinuesTo`). With a fault of the body
-//!   comes what took all that stands before it ([`Stopped`], `ContinuesOrStops`).
+//!   comes what took all that stands before it, and the last time there ([`Stopped`],
+//!   `ContinuesOrStops`).
 //! - A piece that is read apart is read as it is in its place, where it fits, and `may_join` says
 //!   yes exactly there (`IsReadApart`, `MayFollow`).
 //! - [`whole_tokens`] cuts a text where no token goes on (`apart`).

@@ -1,6 +1,6 @@
 //! A dump that is read piece by piece.
 
-ghost use Rattle.std.specs.Prelude.{◌≡◌, [], IfOk, IfSome, None, false};
+ghost use Rattle.std.specs.Prelude.{◌≡◌, ◌-◌, [], IfOk, IfSome, None, drop, false, length};
 ghost use Rattle.vcd_read.specs.Header.{nothing_declared};
 ghost use Rattle.vcd_read.specs.Tokens.{tokens_from};
 ghost use Rattle.vcd_read.specs.Reading.{line_behind};
@@ -33,14 +33,17 @@ pub struct Front<'a> {
 }
 
 impl<'a> Model for Front<'a> {
-    ghost use Rattle.std.specs.Prelude.{◌≤◌, length};
+    ghost use Rattle.std.specs.Prelude.{◌≤◌, drop, length};
     ghost use Rattle.vcd_read.specs.Fronts.{ReadFront};
     ghost use Rattle.vcd_read.specs.Reading.{left_from, line_behind};
 
     ghost Value = { ReadFront };
 
-    ghost view = { λ f. record
-        { head = record { nets = f.codes; body = left_from 1 f.text.now f.at }; line = line_behind 1 f.text.now } };
+    ghost view = { λ f. record {
+      head = record { nets = f.codes; body = left_from 1 f.text.now f.at };
+      left = drop f.at f.text.now;
+      line = line_behind 1 f.text.now;
+    } };
 
     ghost invariant = { λ f. f.at ≤ length f.text.now };
 }
@@ -63,6 +66,8 @@ pub fn read_front<D: DeclarationVisitor>(
 ) -> Result<Option<(Front<'_>, D)>, VcdFault>
     requires { D.scopes declarations ≡ [] }
     ensures line { IfOk result (λ found. IfSome found (λ made. made.0.line ≡ line_behind 1 front.now)) }
+    ensures left { IfOk result (λ found. IfSome found (λ made.
+        made.0.left ≡ drop (length front.now - length made.0.left) front.now)) }
     ensures header { HeaderContinuesAs D.with_variable (nothing_declared (D.taken declarations)) front.now
         (λ made. made.0.head)
         (λ made. D.taken made.1) result }
@@ -99,6 +104,7 @@ impl<'a> Front<'a> {
         ensures bracket { (reached T.taken result.0).bracket ≡ None }
         ensures place { (reached T.taken result.0).place ≡ ready }
         ensures body { tokens_from (reached T.taken result.0).line result.1.now ≡ self.entry.head.body }
+        ensures left { result.1.now ≡ self.entry.left }
         ensures line { line_behind (reached T.taken result.0).line result.1.now ≡ self.entry.line }
     {
         let Front { codes, text, at } = self;
@@ -131,7 +137,8 @@ impl<T: ChangeVisitor> Pieces<T> {
             line,
         } = self;
         if u64::MAX - line <= piece.len() as u64 {
-            return Err(Stopped::out_of_memory(underway.timed.visitor));
+            let time = underway.timed.clock.time;
+            return Err(Stopped::out_of_memory(underway.timed.visitor, time));
         }
         let text = BodyPiece { bytes: piece, line };
         let reader = Reader { text, at: 0 };
@@ -165,7 +172,7 @@ impl<T: ChangeVisitor> Pieces<T> {
     /// What took the body, of which nothing is left. An item that isn't whole and a bracket that is still open are met
     /// here: the instant at hand isn't ended then, and what took those before it comes with the fault.
     pub fn finish_or_stop(self, alloc: Global) -> Result<T, Stopped<T>>
-        ensures { GivesOrStops (λ t. T.taken t) (reached T.taken self).progress.taken result
+        ensures { GivesOrStops (λ t. T.taken t) (reached T.taken self).progress result
             (outcome_of T.with_change T.with_instant (reached T.taken self)) }
     {
         self.underway.finish_or_stop(alloc)

@@ -98,8 +98,12 @@ fn all_bits(digits: &[u8]) -> bool
     digits.iter().all(|digit| is_bit(*digit))
 }
 
+/// Whether it is a digit of a value: nearly all are 0 or 1, and are asked for first.
 pub(crate) fn is_bit(digit: u8) -> bool
     ensures { result ≡ is_bit digit }
 {
-    matches!(digit, b'0' | b'1' | b'x' | b'X' | b'z' | b'Z')
+    if b'0' <= digit && digit <= b'1' {
+        return true;
+    }
+    matches!(digit, b'x' | b'X' | b'z' | b'Z')
 }

@@ -5,16 +5,17 @@ ghost use Rattle.vcd_read.specs.declared.fault.FaultKind.TheVariants.{Memory};
 
 use crate::fault::{FaultKind, VcdFault};
 
-/// The first fault of a body, and what took what stands before it. Of what was taken nothing is said where memory ran
-/// out.
+/// The first fault of a body, what took what stands before it, and the last time that stands there, or 0. Of what was
+/// taken, and of the time, nothing is said where memory ran out.
 #[derive(Drop)]
 pub struct Stopped<T> {
     pub fault: VcdFault,
     pub visitor: T,
+    pub time: u64,
 }
 
 impl<T> Stopped<T> {
-    pub(crate) fn out_of_memory(visitor: T) -> Stopped<T>
+    pub(crate) fn out_of_memory(visitor: T, time: u64) -> Stopped<T>
         ensures { result.fault ≡ record { line = 0; kind = Memory } }
     {
         Stopped {
@@ -23,6 +24,7 @@ impl<T> Stopped<T> {
                 kind: FaultKind::Memory,
             },
             visitor,
+            time,
         }
     }
 }

@@ -84,7 +84,7 @@ impl<T: ChangeVisitor> TimedVisitor<T> {
         }
         match self.visitor.end_instant(alloc, self.clock.time) {
             Ok(()) => Ok(self.visitor),
-            Err(_) => Err(Stopped::out_of_memory(self.visitor)),
+            Err(_) => Err(Stopped::out_of_memory(self.visitor, self.clock.time)),
         }
     }
 }

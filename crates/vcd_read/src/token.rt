@@ -1,7 +1,7 @@
 //! The tokens of a text, from the left.
 
 ghost use Rattle.std.specs.Prelude.{◌≡◌, ℕ, true, false, ◌+◌, ◌∷◌, ◌++◌, List, [], ◌<◌, ◌≤◌, length, slice_index, take};
-ghost use Rattle.std.specs.Prelude.{◌==◌, ◌||◌, Ok, IfSome, IfNone, MatchOption};
+ghost use Rattle.std.specs.Prelude.{◌==◌, ◌||◌, ◌-◌, Ok, IfSome, IfNone, MatchOption, get_or};
 ghost use Rattle.vcd_read.specs.Tokens.{is_space, tokens_from};
 ghost use Rattle.vcd_read.specs.Numbers.{time_of};
 ghost use Rattle.vcd_read.specs.Body.{shape_of, scalar, vector};
@@ -50,7 +50,7 @@ pub(crate) struct Reader<'a> {
     ghost within: { at ≤ length text.bytes.now },
 }
 
-/// Nearly all bytes are above the space, so that one test tells most of them.
+/// Nearly all bytes are above the space, so that one test tells most of them, and many others are line feeds.
 #[tactic(auto, using(crate::proofs::TokenLemmas::above_space))]
 fn is_space(b: u8) -> bool
     ensures { result ≡ is_space b }
@@ -58,7 +58,10 @@ fn is_space(b: u8) -> bool
     if b > b' ' {
         return false;
     }
-    matches!(b, b' ' | b'\t' | b'\n' | b'\r')
+    if b'\t' <= b && b <= b'\n' {
+        return true;
+    }
+    matches!(b, b' ' | b'\r')
 }
 
 /// Whether a token with this first byte is to be the digits of a vector.
@@ -71,6 +74,7 @@ fn begins_vector(b: u8) -> bool
 /// How many of the first bytes of a text end behind a space, so that no token goes on behind them.
 pub fn whole_tokens(text: &[u8]) -> usize
     ensures within { result ≤ length text.now }
+    ensures space { 0 < result → is_space (get_or text.now (result - 1) 0) ≡ true }
     ensures apart { (line : ℕ) (rest : List ℕ) → tokens_from line (take result text.now ++ rest)
         ≡ tokens_from line (take result text.now) ++ tokens_from (line_behind line (take result text.now)) rest }
 {
@@ -237,7 +241,8 @@ impl<'a> Reader<'a> {
         })
     }
 
-    /// Reads the token at hand where it is a scalar change of a code of one byte.
+    /// Reads the token at hand where it is a scalar change of a code of one byte above the space, behind which the text
+    /// goes on.
     #[inline(always)]
     pub fn short_change(&mut self) -> Option<ShortChange<'a>>
         requires { self.old.at < length self.old.text.bytes.now }
@@ -250,14 +255,14 @@ impl<'a> Reader<'a> {
         ensures some { IfSome result (λ c. 0 < length c.digit.now) }
     {
         let start = self.at;
-        if !is_bit(self.text.bytes[start]) || ends_word(self.text.bytes, start + 1) {
+        if self.text.bytes.len() - start < 3 || !is_bit(self.text.bytes[start]) {
             return None;
         }
         let end = start + 2;
-        if !ends_word(self.text.bytes, end) {
+        if self.text.bytes[start + 1] <= b' ' || !is_space(self.text.bytes[end]) {
             return None;
         }
-        self.at = behind_word(self.text.bytes, end);
+        self.at = end + 1;
         Some(ShortChange {
             digit: &self.text.bytes[start..start + 1],
             code: &self.text.bytes[start + 1..end],

@@ -633,20 +633,21 @@ fn stopped_by_pieces(
     Ok(pieces.finish_or_stop(alloc).err())
 }
 
-/// A body, the line and kind of its first fault, what is told of the instants that end before it, and how many nets
-/// change behind those.
-type Stopping = (&'static str, u64, FaultKind, &'static str, usize);
+/// A body, the line and kind of its first fault, what is told of the instants that end before it, how many nets change
+/// behind those, and the last time.
+type Stopping = (&'static str, u64, FaultKind, &'static str, usize, u64);
 
 /// Faults behind the definitions of one variable.
 const STOPS: [Stopping; 9] = [
-    ("2p", 3, FaultKind::BadToken, "", 0),
-    ("1p 1q", 3, FaultKind::UndeclaredCode, "", 1),
+    ("2p", 3, FaultKind::BadToken, "", 0, 0),
+    ("1p 1q", 3, FaultKind::UndeclaredCode, "", 1, 0),
     (
         "#0 1p\n#10 0p\n#20 1p 1q\n#30 0p",
         5,
         FaultKind::UndeclaredCode,
         "#0 0=1\n#10 0=0\n",
         1,
+        20,
     ),
     (
         "#0 1p\n#10 0p\n#5 1p",
@@ -654,6 +655,7 @@ const STOPS: [Stopping; 9] = [
         FaultKind::TimeBackwards,
         "#0 0=1\n",
         1,
+        10,
     ),
     (
         "#0 1p\n#10 0p\n#20\n#20\n#30 b10 p",
@@ -661,6 +663,7 @@ const STOPS: [Stopping; 9] = [
         FaultKind::TooWide,
         "#0 0=1\n#10 0=0\n#20\n",
         0,
+        30,
     ),
     (
         "#0 1p #18446744073709551616",
@@ -668,12 +671,14 @@ const STOPS: [Stopping; 9] = [
         FaultKind::NumberTooLarge,
         "",
         1,
+        0,
     ),
     (
         "#0 1p\n#1 $dumpvars 0p",
         4,
         FaultKind::UnfinishedSection,
         "#0 0=1\n",
+        1,
         1,
     ),
     (
@@ -682,27 +687,53 @@ const STOPS: [Stopping; 9] = [
         FaultKind::UnfinishedSection,
         "#0 0=1\n",
         0,
+        1,
     ),
-    ("#0 1p #1 $end", 3, FaultKind::BadToken, "#0 0=1\n", 0),
+    ("#0 1p #1 $end", 3, FaultKind::BadToken, "#0 0=1\n", 0, 1),
 ];
 
 #[test]
 fn a_fault_comes_with_what_stands_before_it(rt: HostRuntime) -> Result<(), Fail> {
     let alloc = rt.alloc();
-    for (body, line, kind, told, changed) in STOPS {
+    for (body, line, kind, told, changed, last) in STOPS {
         let text = together(alloc, &[ONE_BIT, body])?;
         for size in SIZES {
             let Some(stopped) = stopped_by_pieces(alloc, &text, size)? else {
                 assert!(rt; false, "{body}: no fault");
                 continue;
             };
-            let Stopped { fault, visitor } = stopped;
+            let Stopped {
+                fault,
+                visitor,
+                time,
+            } = stopped;
             assert!(rt; fault == VcdFault { line, kind }, "{size}: {body}: {fault}");
+            assert!(rt; time == last, "{size}: {body}: {time}");
             assert!(rt;
                 visitor.text.as_slice() == told.as_bytes() && visitor.changed.len() == changed,
                 "{size}: {body}"
             );
         }
+    }
+    Ok(())
+}
+
+/// The last time that was read is known between pieces.
+#[test]
+fn the_last_time_is_known_between_pieces(rt: HostRuntime) -> Result<(), Fail> {
+    let alloc = rt.alloc();
+    let text = together(alloc, &[ONE_BIT, "1p\n"])?;
+    let (mut pieces, _) = begun(alloc, text.as_slice())?.ok_or("no definitions")?;
+    assert!(rt; pieces.time() == 0);
+    for (piece, time) in [
+        ("#10 0p\n", 10),
+        ("1p\n", 10),
+        ("#10 #20 \n", 20),
+        ("$comment #30 \n", 20),
+        ("$end #40\n", 40),
+    ] {
+        pieces = pieces.read(alloc, piece.as_bytes())?;
+        assert!(rt; pieces.time() == time, "{piece}");
     }
     Ok(())
 }

@@ -5,6 +5,7 @@ use Rattle.std.proofs.Common.{sym, ◌∙◌, ap, arith, cond, Option, None, Som
 use Rattle.std.specs.Prelude.{is_some, nat_lt, slice_get}
 use Rattle.std.specs.List.{list_any}
 use Rattle.std.specs.Option.{option_map, option_map_or}
+use Rattle.std.proofs.Math.Bool.{and_comm, or-false}
 use Rattle.vme_trace.specs.Cycles.{answers_of, class_at, cycle_of, cycle_starts, in_cycle}
 use Rattle.vme_trace.specs.Edges.{answer_between, falls_between, rises_between, starts_between, strobe_falls_between}
 use Rattle.vme_trace.specs.Edges.{strobe_rises_between}
@@ -17,8 +18,8 @@ use Rattle.vme_trace.specs.LineNumbers.{is_slot_iack, line_count}
 use Rattle.vme_trace.specs.Rules.{is_block_class, is_interrupt, is_later, is_single}
 use Rattle.vme_trace.specs.Signals.{falls, low, rises}
 use Rattle.vme_trace.specs.Tenures.{grant_falls, tenure_starts}
-use Rattle.vme_trace.specs.Trace.{Trace, changed, levels_at}
-use Rattle.vme_trace.specs.Transfers.{answer_falls, answers_write, in_transfer, is_answer, is_write, strobe_falls}
+use Rattle.vme_trace.specs.Trace.{Trace, changed}
+use Rattle.vme_trace.specs.Transfers.{answer_falls, answers_write, is_answer, is_write, strobe_falls}
 use Rattle.vme_trace.specs.Transfers.{strobe_rises}
 use Rattle.vme_trace.specs.Transfers.{transfer_starts}
 use Rattle.vme_trace.specs.WellFormed.{malformed_step}
@@ -50,8 +51,8 @@ use Rattle.vme_dtb.proofs.HandshakeBreaks.{answer_is}
 use Rattle.vme_dtb.proofs.Held.{Holds}
 use Rattle.vme_dtb.proofs.OpenState.{started_is}
 use Rattle.vme_dtb.proofs.StepFacts.{falls_is, judged, new, old, rises_is, starts_is}
-use Rattle.vme_audit.specs.Asked.{acknowledge_falls, any_grant_falls, answer_rises, answered_again_in_class}
-use Rattle.vme_audit.specs.Asked.{answered_in_class, happens, slot_grant_falls, slot_grant_rises, within_transfer}
+use Rattle.vme_audit.specs.Asked.{any_grant_falls, answer_rises, answered_again_in_class}
+use Rattle.vme_audit.specs.Asked.{answered_in_class, happens, within_transfer}
 use Rattle.vme_audit.specs.Asked.{write_starts}
 use Rattle.vme_auditor.specs.Events.{asks_by, at_step, is_interrupt_cycle, is_interrupt_entered}
 use Rattle.vme_auditor.specs.declared.asked.AskedEvents.{AskedEvents}
@@ -62,29 +63,13 @@ use Rattle.vme_auditor.proofs.EventFields.{on_interrupt, on_interrupt_again, on_
 use Rattle.vme_auditor.proofs.EventFields.{on_slot_grant_rise, on_stretch, on_strobe_fall, on_strobe_rise, on_tenure}
 use Rattle.vme_auditor.proofs.EventFields.{on_transfer, on_write}
 use Rattle.vme_auditor.proofs.NetEvents.{arbiter_any, falls_any, grants_any, rises_any}
-
-or_none : (b : Bool) → (b || false) ≡ b
-or_none true = refl
-or_none false = refl
-
-and_swap : (a b : Bool) → (a && b) ≡ (b && a)
-and_swap true true = refl
-and_swap true false = refl
-and_swap false true = refl
-and_swap false false = refl
+use Rattle.vme_auditor.proofs.Truth.{or_swapped}
 
 and_both : (a b c d : Bool) → a ≡ c → b ≡ d → (a && b) ≡ (c && d)
 and_both a b c d e f = rw (e, f) refl
 
 or_both : (a b c d : Bool) → a ≡ c → b ≡ d → (a || b) ≡ (c || d)
 or_both a b c d e f = rw (e, f) refl
-
-or_swapped : (a b c d : Bool) → ((a || b) || (c || d)) ≡ ((a || c) || (b || d))
-or_swapped true b c d = refl
-or_swapped false true true d = refl
-or_swapped false true false d = refl
-or_swapped false false true d = refl
-or_swapped false false false d = refl
 
 some_if : {A : Type 0} (b : Bool) (a : A) → is_some (cond b (Some a) None) ≡ b
 some_if true a = refl
@@ -217,8 +202,8 @@ module _ (t : Trace) (span : Stretch) where
       by_cycle None = refl
       by_cycle (Some i) = block_later (class_at t span i) (answers_of t span i j)
 
-module _ (t : Trace) (ok : malformed_step t
-    ≡ None) (few : t.opening.slots ≤ 21) (span : Stretch) (facts : IsSpan t span)
+module _ (t : Trace) (ok : malformed_step t ≡ None) (few : t.opening.slots ≤ 21) (span : Stretch)
+    (facts : IsSpan t span)
     (n : ℕ) (from : span.start ≤ n) (before : suc n < span.end) (within : n < length t.steps) (m : HandshakeMemory)
     (holds : Holds t span n m) where
   abbrev v : Levels
@@ -262,13 +247,13 @@ module _ (t : Trace) (ok : malformed_step t
   strobe_rise_event : (is_within m.pending && strobe_rises_between v w)
       ≡ (strobe_rises t (suc n) && within_transfer t span (suc n))
   strobe_rise_event =
-      and_swap (is_within m.pending) (strobe_rises_between v w)
+      and_comm (is_within m.pending) (strobe_rises_between v w)
       ∙ and_both _ _ _ _ (or_both _ _ _ _ (sym (rises_is t n DS0)) (sym (rises_is t n DS1))) within_event
 
   strobe_fall_event : (is_within m.pending && strobe_falls_between v w)
       ≡ (strobe_falls t (suc n) && within_transfer t span (suc n))
   strobe_fall_event =
-      and_swap (is_within m.pending) (strobe_falls_between v w)
+      and_comm (is_within m.pending) (strobe_falls_between v w)
       ∙ and_both _ _ _ _ (or_both _ _ _ _ (sym (falls_is t n DS0)) (sym (falls_is t n DS1))) within_event
 
   answer_fall_event : answer_between v w ≡ answer_falls t (suc n)
@@ -347,7 +332,7 @@ module _ (t : Trace) (ok : malformed_step t
 
     pub asked_here : (r : Rule) → asks_by more r ≡ (asks_by e r || happens t span r (suc n))
     unfolding happens
-    asked_here rule.U1 = on_stretch e m v w cs shown ∙ sym (or_none e.stretch)
+    asked_here rule.U1 = on_stretch e m v w cs shown ∙ sym (or-false e.stretch)
     asked_here rule.U2 = add _ _ _ _ (on_cycle e m v w cs shown) cycle_event
     asked_here rule.S1 = add _ _ _ _ (on_cycle e m v w cs shown) cycle_event
     asked_here rule.B3 = add _ _ _ _ (on_cycle e m v w cs shown) cycle_event

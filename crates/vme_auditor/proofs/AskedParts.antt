@@ -6,11 +6,12 @@ use Rattle.std.proofs.lemmas.List.{length-drop, take-append-drop, take_all}
 use Rattle.std.specs.Prelude.{min, slice_get}
 use Rattle.std.specs.List.{fold, list_any}
 use Rattle.std.specs.Option.{option_map, option_map_or}
+use Rattle.std.proofs.Math.Bool.{or-false, or_assoc}
 use Rattle.vme_trace.specs.Instants.{any}
 use Rattle.vme_trace.specs.Judged.{Stretch, judged_spans}
 use Rattle.vme_trace.specs.Levels.{Levels}
 use Rattle.vme_trace.specs.Rules.{all_rules, ends_span}
-use Rattle.vme_trace.specs.Trace.{Trace, changed, last_instant, levels_after, levels_at}
+use Rattle.vme_trace.specs.Trace.{Trace, changed, levels_after, levels_at}
 use Rattle.vme_trace.specs.Verdict.{judge, verdict, verdict_by}
 use Rattle.vme_trace.specs.WellFormed.{malformed_step}
 use Rattle.vme_trace.specs.declared.rule.Rule.{Rule}
@@ -18,7 +19,7 @@ use Rattle.vme_trace.specs.declared.rule.Rule.TheVariants as rule
 use Rattle.vme_trace.specs.declared.step.Change.{Change}
 use Rattle.vme_trace.specs.declared.step.Step.{Step}
 use Rattle.vme_trace.specs.declared.verdict.Break.{Break}
-use Rattle.vme_monitor.specs.Along.{changes_of, memory_from, next_at}
+use Rattle.vme_monitor.specs.Along.{changes_of, memory_from}
 use Rattle.vme_monitor.specs.Ends.{end_among}
 use Rattle.vme_monitor.specs.KnownSpec.{known_begin}
 use Rattle.vme_monitor.specs.Outcome.{EventWithin, earlier, shifted_break}
@@ -42,20 +43,13 @@ use Rattle.vme_auditor.specs.FirstEvent.{first_event}
 use Rattle.vme_auditor.specs.Memories.{first_fault_of, handshake_at, known_at, memories_at, memories_next}
 use Rattle.vme_auditor.specs.declared.asked.AskedEvents.{AskedEvents}
 use Rattle.vme_auditor.specs.declared.memories.Memories.{Memories}
-use Rattle.vme_auditor.proofs.AskedSteps.{any_both, asked_to, heard, heard_last, heard_to, known_phase, phase_at}
-use Rattle.vme_auditor.proofs.AskedSteps.{stretch_alone, stretch_to, then_at}
+use Rattle.vme_auditor.proofs.AskedSteps.{asked_to, heard, heard_last, heard_to, known_phase, phase_at}
+use Rattle.vme_auditor.proofs.AskedSteps.{stretch_alone, stretch_to}
 use Rattle.vme_auditor.proofs.FirstBreaks.{first_within}
 use Rattle.vme_auditor.proofs.ToldBreaks.{FindsFirst, levels_next, memories_behind, memories_stepped, recorded}
 use Rattle.vme_auditor.proofs.ToldBreaks.{rest_slots}
 use Rattle.vme_auditor.proofs.ToldBreaks.{rest_sound}
-
-or_assoc : (a b c : Bool) → ((a || b) || c) ≡ (a || (b || c))
-or_assoc true b c = refl
-or_assoc false b c = refl
-
-or_none : (b : Bool) → (b || false) ≡ b
-or_none true = refl
-or_none false = refl
+use Rattle.vme_auditor.proofs.Truth.{or_fails}
 
 -- the events of one step more
 abbrev then_step : Memories → Levels → AskedEvents → Step → AskedEvents
@@ -265,9 +259,6 @@ any_alike : {A : Type 0} (p q : A → Bool) (xs : List A) → ((a : A) → p a �
 any_alike p q [] h = refl
 any_alike p q (x ∷ xs) h = ap (λ b. b || list_any p xs) (h x) ∙ ap (λ b. q x || b) (any_alike p q xs h)
 
-or_before : (b c : Bool) → b ≡ false → (b || c) ≡ c
-or_before b c e = rw e refl
-
 module _ (o : Levels) (x : List Step) (ok : malformed_step (recorded o x) ≡ None) (few : o.slots ≤ 21)
     (found : Option Break) (k : ℕ) (within : k ≤ length x) (asking : asking_end (recorded o x) found ≡ suc k) where
   abbrev whole : Trace
@@ -280,7 +271,7 @@ module _ (o : Levels) (x : List Step) (ok : malformed_step (recorded o x) ≡ No
   asks_heard r own =
       let far : k + (length x - k) ≡ length x = omega arith in
       any_alike (asks_in whole found r) (heard whole ok few r own k) (judged_spans whole)
-      (λ span. or_before (ends_span r) (any (happens whole span r) (span.start + 1)
+      (λ span. or_fails (ends_span r) (any (happens whole span r) (span.start + 1)
       (min span.end (asking_end whole found))) own
       ∙ ap (λ j. any (happens whole span r) (span.start + 1) (min span.end j)) asking)
       ∙ ap (list_any (heard whole ok few r own k)) (spans_started whole
@@ -416,7 +407,7 @@ module _ (finds : FindsFirst) (starts : KnowsStart) where
           (sym (take_all (length x) x (omega arith)))
           ∙ part_asked o x ok few None (length x) (omega arith) (add-one (length x)) e (begun_last o x ok few) r
           ∙ ap (λ b. asks_by e r || b)
-          (sym (or_none (list_any (asks_in (recorded o x) None r) (judged_spans (recorded o x)))))
+          (sym (or-false (list_any (asks_in (recorded o x) None r) (judged_spans (recorded o x)))))
 
       module _ (n : ℕ) (short : length x ≤ suc n) (b : Break) (w : EventWithin (length x) (Some b)) where
         abbrev left : Levels

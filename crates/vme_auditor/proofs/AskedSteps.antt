@@ -5,6 +5,7 @@ use Rattle.std.proofs.Common.{sym, ◌∙◌, ap, subst, arith, cond, inl, inr, 
 use Rattle.std.specs.Prelude.{min, slice_get}
 use Rattle.std.specs.List.{list_any}
 use Rattle.std.specs.Option.{option_map_or}
+use Rattle.std.proofs.Math.Bool.{or-false, or_assoc}
 use Rattle.vme_trace.specs.Changes.{touches_control}
 use Rattle.vme_trace.specs.Instants.{any}
 use Rattle.vme_trace.specs.Judged.{IsSpanOf, Stretch, span_from, span_starts}
@@ -49,14 +50,6 @@ use Rattle.vme_auditor.specs.Memories.{handshake_at, known_at}
 use Rattle.vme_auditor.specs.declared.asked.AskedEvents.{AskedEvents}
 use Rattle.vme_auditor.proofs.AskedAt.{asked_here, shown}
 use Rattle.vme_auditor.proofs.EventFields.{on_stretch}
-
-or_none : (b : Bool) → (b || false) ≡ b
-or_none true = refl
-or_none false = refl
-
-or_assoc : (a b c : Bool) → ((a || b) || c) ≡ (a || (b || c))
-or_assoc true b c = refl
-or_assoc false b c = refl
 
 pub any_both : {A : Type 0} (p : A → Bool) (xs ys : List A) → list_any p (xs ++ ys) ≡ (list_any p xs || list_any p ys)
 any_both p [] ys = refl
@@ -133,7 +126,7 @@ spanned_starts phase.Ended v w e = refl
 noted_starts : (m : StretchPhase Stateless) (v w : Levels) (e : Option End) (b : Bool) → StartsBy m
     (option_map_or (known_spanned m v w) (cond b (Some (record { end = e; inner = None })) None) (quiet m))
 noted_starts m v w e true = spanned_starts m v w e
-noted_starts m v w e false = sym (or_none (has_started m))
+noted_starts m v w e false = sym (or-false (has_started m))
 
 pub starts_shown : (m : StretchPhase Stateless) (v w : Levels) (cs : List Change) → StartsBy m (known_at m v w cs)
 starts_shown m v w cs = noted_starts m v w (end_among w cs) (touches_control w.slots cs || false)
@@ -269,7 +262,7 @@ module _ (t : Trace) (ok : malformed_step t ≡ None) (few : t.opening.slots ≤
             ap (list_any (heard k)) (spans_more t (suc n) e)
             ∙ any_both (heard k) (started t n) (span_from t (suc n) ∷ [])
             ∙ ap (λ b. list_any (heard k) (started t n) || (b || false)) (unheard k (span_from t (suc n)) h)
-            ∙ or_none (list_any (heard k) (started t n))
+            ∙ or-false (list_any (heard k) (started t n))
         by_start false e = ap (list_any (heard k)) (spans_kept t (suc n) e)
 
     abbrev AreHeard : AskedEvents → ℕ → Type 0
@@ -324,7 +317,7 @@ module _ (t : Trace) (ok : malformed_step t ≡ None) (few : t.opening.slots ≤
             ≡ (list_any (heard k) work.past || heard k here)
         past_and_here k =
             ap (list_any (heard k)) work.spans ∙ any_both (heard k) work.past (here ∷ [])
-            ∙ ap (λ b. list_any (heard k) work.past || b) (or_none (heard k here))
+            ∙ ap (λ b. list_any (heard k) work.past || b) (or-false (heard k here))
 
         stopped : (l : End) → ends ≡ Some l → here.end ≤ suc n → AreHeard e (suc n)
         stopped l at last =
@@ -424,7 +417,7 @@ module _ (t : Trace) (ok : malformed_step t ≡ None) (few : t.opening.slots ≤
           ]
 
     heard_first : (e : AskedEvents) → AreHeard e 0
-    heard_first e = sym (ap (λ b. asks_by e r || b) (none_heard (span_starts t 0) refl) ∙ or_none (asks_by e r))
+    heard_first e = sym (ap (λ b. asks_by e r || b) (none_heard (span_starts t 0) refl) ∙ or-false (asks_by e r))
       where
         none_heard : (b : Bool) → span_starts t 0 ≡ b → list_any (heard 0) (started t 0) ≡ false
         none_heard true e = ap (list_any (heard 0)) (started_one t e)

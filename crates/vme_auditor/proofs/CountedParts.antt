@@ -10,8 +10,7 @@ use Rattle.std.specs.Prelude.{flat_map}
 use Rattle.std.specs.List.{fold}
 use Rattle.std.specs.Option.{option_map, option_map_or, option_or}
 use Rattle.vme_trace.specs.Levels.{Levels}
-use Rattle.vme_trace.specs.Trace.{Trace, levels_at, time_at}
-use Rattle.vme_trace.specs.Verdict.{verdict}
+use Rattle.vme_trace.specs.Trace.{levels_at, time_at}
 use Rattle.vme_trace.specs.WellFormed.{malformed_step}
 use Rattle.vme_trace.specs.declared.step.Step.{Step}
 use Rattle.vme_trace.specs.declared.verdict.Break.{Break}
@@ -22,7 +21,7 @@ use Rattle.vme_summary.specs.MarkedRows.{marks_before, marks_listed}
 use Rattle.vme_summary.specs.MarkedRows.{rows_of as marked_rows}
 use Rattle.vme_audit.specs.Counted.{count_of, counts_of_rows, rows_of}
 use Rattle.vme_audit.specs.Covered.{hanging}
-use Rattle.vme_audit.specs.Parts.{Part, last_from, named_break, own_break, part_behind, parts_from}
+use Rattle.vme_audit.specs.Parts.{Part, last_from, own_break, part_behind, parts_from}
 use Rattle.vme_audit.specs.declared.counts.Counts.{Counts}
 use Rattle.vme_auditor.specs.FirstEvent.{first_event}
 use Rattle.vme_auditor.specs.JoinedMarks.{joined_marks}

@@ -4,6 +4,7 @@ use Rattle.std.proofs.Common.{None, Some}
 use Rattle.std.specs.Prelude.{is_some}
 use Rattle.std.specs.List.{list_any}
 use Rattle.std.specs.Option.{option_map_or}
+use Rattle.std.proofs.Math.Bool.{or-false, or-true, or_assoc}
 use Rattle.vme_trace.specs.Edges.{answer_between, falls_between, rises_between, strobe_falls_between}
 use Rattle.vme_trace.specs.Edges.{strobe_rises_between}
 use Rattle.vme_trace.specs.Levels.{Levels}
@@ -21,21 +22,9 @@ use Rattle.vme_auditor.specs.Events.{answer_taken, at_step, cycle_taken, further
 use Rattle.vme_auditor.specs.Events.{net_falls, net_rises, net_taken, nets_taken, strobes_taken, tenure_taken}
 use Rattle.vme_auditor.specs.declared.asked.AskedEvents.{AskedEvents}
 
-or_none : (b : Bool) → (b || false) ≡ b
-or_none true = refl
-or_none false = refl
-
-or_all : (b : Bool) → (b || true) ≡ true
-or_all true = refl
-or_all false = refl
-
-or_assoc : (a b c : Bool) → ((a || b) || c) ≡ (a || (b || c))
-or_assoc true b c = refl
-or_assoc false b c = refl
-
 -- what nets don't touch
-nets_kept : (v w : Levels) (get : AskedEvents → Bool) → ((e : AskedEvents) (c : Change)
-    → get (net_taken v w e c) ≡ get e)
+nets_kept : (v w : Levels) (get : AskedEvents → Bool)
+    → ((e : AskedEvents) (c : Change) → get (net_taken v w e c) ≡ get e)
     → (cs : List Change) (e : AskedEvents) → get (nets_taken v w e cs) ≡ get e
 nets_kept v w get kept [] e = refl
 nets_kept v w get kept (c ∷ cs) e = nets_kept v w get kept cs (net_taken v w e c) ∙ kept e c
@@ -45,7 +34,7 @@ nets_any : (v w : Levels) (get : AskedEvents → Bool) (now : Change → Bool)
     → ((e : AskedEvents) (c : Change) → get (net_taken v w e c) ≡ (get e || now c))
     → (cs : List Change) (e : AskedEvents)
     → get (nets_taken v w e cs) ≡ (get e || list_any now cs)
-nets_any v w get now taken [] e = sym (or_none (get e))
+nets_any v w get now taken [] e = sym (or-false (get e))
 nets_any v w get now taken (c ∷ cs) e =
     nets_any v w get now taken cs (net_taken v w e c) ∙ ap (λ b. b || list_any now cs) (taken e c)
     ∙ or_assoc (get e) (now c) (list_any now cs)
@@ -95,64 +84,64 @@ goes_on is cycle starts answer = is_some answer && (not (is_some starts) && is c
 
 single_further : (e : AskedEvents) (cycle : Cycle) → (further_taken e cycle).single_again
     ≡ (e.single_again || is_single_answered cycle)
-single_further e Free = sym (or_none e.single_again)
-single_further e Single = sym (or_none e.single_again)
-single_further e SingleRead = sym (or_all e.single_again)
-single_further e SingleDone = sym (or_all e.single_again)
-single_further e Block = sym (or_none e.single_again)
-single_further e BlockReading = sym (or_none e.single_again)
-single_further e BlockWriting = sym (or_none e.single_again)
-single_further e Interrupt = sym (or_none e.single_again)
-single_further e InterruptDone = sym (or_none e.single_again)
+single_further e Free = sym (or-false e.single_again)
+single_further e Single = sym (or-false e.single_again)
+single_further e SingleRead = sym (or-true e.single_again)
+single_further e SingleDone = sym (or-true e.single_again)
+single_further e Block = sym (or-false e.single_again)
+single_further e BlockReading = sym (or-false e.single_again)
+single_further e BlockWriting = sym (or-false e.single_again)
+single_further e Interrupt = sym (or-false e.single_again)
+single_further e InterruptDone = sym (or-false e.single_again)
 
 block_further : (e : AskedEvents) (cycle : Cycle) → (further_taken e cycle).block_again
     ≡ (e.block_again || is_block_answered cycle)
-block_further e Free = sym (or_none e.block_again)
-block_further e Single = sym (or_none e.block_again)
-block_further e SingleRead = sym (or_none e.block_again)
-block_further e SingleDone = sym (or_none e.block_again)
-block_further e Block = sym (or_none e.block_again)
-block_further e BlockReading = sym (or_all e.block_again)
-block_further e BlockWriting = sym (or_all e.block_again)
-block_further e Interrupt = sym (or_none e.block_again)
-block_further e InterruptDone = sym (or_none e.block_again)
+block_further e Free = sym (or-false e.block_again)
+block_further e Single = sym (or-false e.block_again)
+block_further e SingleRead = sym (or-false e.block_again)
+block_further e SingleDone = sym (or-false e.block_again)
+block_further e Block = sym (or-false e.block_again)
+block_further e BlockReading = sym (or-true e.block_again)
+block_further e BlockWriting = sym (or-true e.block_again)
+block_further e Interrupt = sym (or-false e.block_again)
+block_further e InterruptDone = sym (or-false e.block_again)
 
 interrupt_further : (e : AskedEvents) (cycle : Cycle) → (further_taken e cycle).interrupt_again
     ≡ (e.interrupt_again || is_interrupt_answered cycle)
-interrupt_further e Free = sym (or_none e.interrupt_again)
-interrupt_further e Single = sym (or_none e.interrupt_again)
-interrupt_further e SingleRead = sym (or_none e.interrupt_again)
-interrupt_further e SingleDone = sym (or_none e.interrupt_again)
-interrupt_further e Block = sym (or_none e.interrupt_again)
-interrupt_further e BlockReading = sym (or_none e.interrupt_again)
-interrupt_further e BlockWriting = sym (or_none e.interrupt_again)
-interrupt_further e Interrupt = sym (or_none e.interrupt_again)
-interrupt_further e InterruptDone = sym (or_all e.interrupt_again)
+interrupt_further e Free = sym (or-false e.interrupt_again)
+interrupt_further e Single = sym (or-false e.interrupt_again)
+interrupt_further e SingleRead = sym (or-false e.interrupt_again)
+interrupt_further e SingleDone = sym (or-false e.interrupt_again)
+interrupt_further e Block = sym (or-false e.interrupt_again)
+interrupt_further e BlockReading = sym (or-false e.interrupt_again)
+interrupt_further e BlockWriting = sym (or-false e.interrupt_again)
+interrupt_further e Interrupt = sym (or-false e.interrupt_again)
+interrupt_further e InterruptDone = sym (or-true e.interrupt_again)
 
 module _ (cycle : Cycle) where
   single_taken : (e : AskedEvents) (starts : Option CycleStart) (answer : Option TransferAnswer)
       → (answer_taken e cycle starts answer).single_again
       ≡ (e.single_again || goes_on is_single_answered cycle starts answer)
-  single_taken e starts None = sym (or_none e.single_again)
+  single_taken e starts None = sym (or-false e.single_again)
   single_taken e None (Some a) =
       single_further (record e { answer = true; interrupt = e.interrupt || is_interrupt_entered cycle None }) cycle
-  single_taken e (Some s) (Some a) = sym (or_none e.single_again)
+  single_taken e (Some s) (Some a) = sym (or-false e.single_again)
 
   block_taken : (e : AskedEvents) (starts : Option CycleStart) (answer : Option TransferAnswer)
       → (answer_taken e cycle starts answer).block_again
       ≡ (e.block_again || goes_on is_block_answered cycle starts answer)
-  block_taken e starts None = sym (or_none e.block_again)
+  block_taken e starts None = sym (or-false e.block_again)
   block_taken e None (Some a) =
       block_further (record e { answer = true; interrupt = e.interrupt || is_interrupt_entered cycle None }) cycle
-  block_taken e (Some s) (Some a) = sym (or_none e.block_again)
+  block_taken e (Some s) (Some a) = sym (or-false e.block_again)
 
   interrupt_again_taken : (e : AskedEvents) (starts : Option CycleStart) (answer : Option TransferAnswer)
       → (answer_taken e cycle starts answer).interrupt_again
       ≡ (e.interrupt_again || goes_on is_interrupt_answered cycle starts answer)
-  interrupt_again_taken e starts None = sym (or_none e.interrupt_again)
+  interrupt_again_taken e starts None = sym (or-false e.interrupt_again)
   interrupt_again_taken e None (Some a) =
       interrupt_further (record e { answer = true; interrupt = e.interrupt || is_interrupt_entered cycle None }) cycle
-  interrupt_again_taken e (Some s) (Some a) = sym (or_none e.interrupt_again)
+  interrupt_again_taken e (Some s) (Some a) = sym (or-false e.interrupt_again)
 
   further_answer : (e : AskedEvents) (c : Cycle) → (further_taken e c).answer ≡ e.answer
   further_answer e Free = refl
@@ -178,16 +167,16 @@ module _ (cycle : Cycle) where
 
   answer_answer : (e : AskedEvents) (starts : Option CycleStart) (answer : Option TransferAnswer)
       → (answer_taken e cycle starts answer).answer ≡ (e.answer || is_some answer)
-  answer_answer e starts None = sym (or_none e.answer)
+  answer_answer e starts None = sym (or-false e.answer)
   answer_answer e None (Some a) =
       further_answer (record e { answer = true; interrupt = e.interrupt || is_interrupt_entered cycle None }) cycle
-      ∙ sym (or_all e.answer)
-  answer_answer e (Some s) (Some a) = sym (or_all e.answer)
+      ∙ sym (or-true e.answer)
+  answer_answer e (Some s) (Some a) = sym (or-true e.answer)
 
   answer_interrupt : (e : AskedEvents) (starts : Option CycleStart) (answer : Option TransferAnswer)
       → (answer_taken e cycle starts answer).interrupt
       ≡ (e.interrupt || (is_some answer && is_interrupt_entered cycle starts))
-  answer_interrupt e starts None = sym (or_none e.interrupt)
+  answer_interrupt e starts None = sym (or-false e.interrupt)
   answer_interrupt e None (Some a) =
       further_interrupt (record e { answer = true; interrupt = e.interrupt || is_interrupt_entered cycle None }) cycle
   answer_interrupt e (Some s) (Some a) = refl

@@ -1,5 +1,5 @@
 -- The least of what the monitors find is what their first steps find that break a rule.
-use Rattle.std.proofs.Common.{◌≡◌, ℕ, suc, ◌+◌, ◌<◌, ◌≤◌, Bool, true, false, List, [], ◌∷◌, length, refl, sym, ◌∙◌, ap}
+use Rattle.std.proofs.Common.{◌≡◌, ℕ, suc, Bool, true, false, List, [], ◌∷◌, length, refl, ◌∙◌, ap}
 use Rattle.std.proofs.Common.{arith, cond, Option, None, Some}
 use Rattle.std.specs.Option.{option_map}
 use Rattle.vme_trace.specs.Levels.{Levels}
@@ -13,7 +13,7 @@ use Rattle.vme_trace.specs.declared.verdict.Verdict.TheVariants.{Broken, Unreada
 use Rattle.vme_monitor.specs.BothSpec.{least, least_joined, sooner}
 use Rattle.vme_monitor.specs.Outcome.{EventWithin, earlier, shifted_break}
 use Rattle.vme_monitor.specs.RuleMonitors.{run_within}
-use Rattle.vme_monitor.specs.Run.{break_at, run_of}
+use Rattle.vme_monitor.specs.Run.{break_at}
 use Rattle.vme_monitor.specs.declared.mark.Fault.{Fault}
 use Rattle.vme_audit.specs.Parts.{named_break}
 use Rattle.vme_summary.specs.Runs.{acknowledge_run, grant_run, handshake_run, known_run, stability_run}
@@ -125,7 +125,7 @@ first_within (s ∷ x) m o =
     (later_within (length x) (first_event next after x) (first_within x next after))
 
 -- the break that a verdict names is the least
-named_on : (found : Option Break) → named_break (verdict_on found) ≡ found
+pub named_on : (found : Option Break) → named_break (verdict_on found) ≡ found
 named_on None = refl
 named_on (Some b) = by_rule (is_unreadable b.rule)
   where

@@ -39,8 +39,8 @@ recorded o x = record { opening = o; steps = x }
 
 -- one step more: the view goes to it from the levels so far
 module _ (o : Levels) (x : List Step) (s : Step) (n : ℕ) (v : StepView) (a : Audit) (k : HasAudited o x n v a)
-    (cs : List Change) (own : cs ≡ s.changes) (u : StepView) (seen : u ≡ seen_in u.before cs) (same : u.before
-    ≡ v.before)
+    (cs : List Change) (own : cs ≡ s.changes) (u : StepView) (seen : u ≡ seen_in u.before cs)
+    (same : u.before ≡ v.before)
     (later : ℕ) (next : later ≡ n + 1) where
   abbrev r : AuditReached
   r = reached_after o x

@@ -3,7 +3,7 @@ use Rattle.std.proofs.Common.{◌≡◌, ℕ, ◌+◌, ◌-◌, ◌^◌, ◌≤�
 use Rattle.std.proofs.Common.{arith, Option, None, Some}
 use Rattle.std.specs.Option.{option_map}
 use Rattle.vme_trace.specs.Levels.{Levels}
-use Rattle.vme_trace.specs.Trace.{time_at}
+use Rattle.vme_trace.specs.Trace.{Trace}
 use Rattle.vme_trace.specs.WellFormed.{malformed_step}
 use Rattle.vme_trace.specs.declared.rule.Rule.{Rule}
 use Rattle.vme_trace.specs.declared.rule.Rule.TheVariants as rule
@@ -13,10 +13,11 @@ use Rattle.vme_monitor.specs.declared.view.StepView.{StepView}
 use Rattle.vme_audit.specs.Asked.{is_asked}
 use Rattle.vme_audit.specs.Counted.{counts, rows_of}
 use Rattle.vme_audit.specs.Covered.{hang, hanging, is_judged_part}
-use Rattle.vme_audit.specs.Parts.{Part, breaks, last_part, parts, whole}
+use Rattle.vme_audit.specs.Parts.{breaks, last_part, parts}
 use Rattle.vme_auditor.specs.Audited.{AuditReached, HasAudited, reached_after, reached_at}
 use Rattle.vme_auditor.specs.Breaks.{last_instant_of}
 use Rattle.vme_auditor.specs.Events.{asks_by, nothing_happened}
+use Rattle.vme_auditor.specs.Findings.{started_at}
 use Rattle.vme_auditor.specs.Memories.{memories_at}
 use Rattle.vme_auditor.specs.Tallied.{counted, counts_so_far, hang_so_far, no_counts}
 use Rattle.vme_auditor.specs.declared.asked.AskedEvents.{AskedEvents}
@@ -80,11 +81,11 @@ nothing_fits =
       served = omega arith;
     }
 
-same_hang : (p : Part) (h : Option ℕ) → option_map {U = ℕ × ℕ} (λ (s : StartedTransfer). (s.instant, s.time))
-    (option_map (started_of p) h)
-    ≡ option_map {U = ℕ × ℕ} (λ start. (p.start + start, time_at p.trace start)) h
-same_hang p None = refl
-same_hang p (Some start) = refl
+same_hang : (t : Trace) (h : Option ℕ) → option_map {U = ℕ × ℕ} (λ (s : StartedTransfer). (s.instant, s.time))
+    (option_map (started_of (last_part t)) h)
+    ≡ option_map (started_at t) h
+same_hang t None = refl
+same_hang t (Some start) = refl
 
 module _ (finds : FindsFirst) (o : Levels) (x : List Step) (n : ℕ) (view : StepView) (a : Audit)
     (keeps : HasAudited o x n view a) (ok : malformed_step (recorded o x) ≡ None) (few : o.slots ≤ 21) where
@@ -141,16 +142,11 @@ module _ (finds : FindsFirst) (o : Levels) (x : List Step) (n : ℕ) (view : Ste
         ∙ sum_nothing (counts (recorded o x))
 
     pub finds_hang : option_map {U = ℕ × ℕ} (λ (s : StartedTransfer). (s.instant, s.time)) (hang_so_far a.tally)
-        ≡ option_map {U = ℕ × ℕ} (λ start. (
-          (last_part (recorded o x)).start + start,
-          time_at (last_part
-              (recorded o x)).trace start,
-        ))
-        (hang (recorded o x))
+        ≡ option_map (started_at (recorded o x)) (hang (recorded o x))
     unfolding parts hang
     finds_hang =
-        ap (λ (a : Tally). option_map {U = ℕ
-        × ℕ} (λ (s : StartedTransfer). (s.instant, s.time)) (hang_so_far a)) tally_is
+        ap (λ (a : Tally). option_map {U = ℕ × ℕ} (λ (s : StartedTransfer). (s.instant, s.time))
+        (hang_so_far a)) tally_is
         ∙ ap (option_map {U = ℕ × ℕ} (λ (s : StartedTransfer). (s.instant, s.time)))
         (parts_hung finds shows (length x) 0 o x nothing_counted (omega arith) ok few)
-        ∙ same_hang (last_part (recorded o x)) (hanging (rows_of (last_part (recorded o x))))
+        ∙ same_hang (recorded o x) (hanging (rows_of (last_part (recorded o x))))

@@ -18,11 +18,12 @@ use Rattle.vme_monitor.specs.declared.mark.MarkKind.{MarkKind}
 use Rattle.vme_monitor.proofs.MergingMarks.{merged-nothing}
 use Rattle.vme_summary.specs.Runs.{acknowledge_run, grant_run, handshake_run, known_run, stability_run}
 use Rattle.vme_auditor.specs.JoinedMarks.{joined_marks, kinds_shown}
-use Rattle.vme_auditor.specs.Memories.{acknowledge_at, grant_at, handshake_at, known_at, memories_next, stability_at}
+use Rattle.vme_auditor.specs.Memories.{grant_at, handshake_at, known_at, memories_next}
 use Rattle.vme_auditor.specs.declared.memories.Memories.{Memories}
 use Rattle.vme_auditor.proofs.ShownKinds.{AllBelow, AllFrom, acknowledge_own, from_both, grant_own, handshake_own}
 use Rattle.vme_auditor.proofs.ShownKinds.{known_own, stability_own, stretch_below, tenure_below, tenure_from}
 use Rattle.vme_auditor.proofs.ShownKinds.{transfer_from}
+use Rattle.vme_auditor.proofs.Truth.{lt_fails, lt_holds}
 
 abbrev pub marked : List MarkKind → List Mark
 marked ks = map (mark_at 1) ks
@@ -30,12 +31,6 @@ marked ks = map (mark_at 1) ks
 pub marked_within : (ks : List MarkKind) → MarksWithin 1 (marked ks)
 marked_within [] = tt
 marked_within (k ∷ ks) = (omega arith, omega arith, marked_within ks)
-
-lt_holds : (a b : ℕ) → a < b → nat_lt a b ≡ true
-lt_holds a b h = grind (arith, nat_tests)
-
-lt_fails : (a b : ℕ) → b ≤ a → nat_lt a b ≡ false
-lt_fails a b h = grind (arith, nat_tests)
 
 -- kinds below others come before them
 module _ (n : ℕ) where

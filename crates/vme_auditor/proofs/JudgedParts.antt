@@ -4,26 +4,24 @@ use Rattle.std.proofs.Common.{refl}
 use Rattle.std.proofs.Common.{sym, ◌∙◌, ap, subst, arith, add-one, append-nil, Option, None, Some}
 use Rattle.std.proofs.lemmas.List.{length-drop}
 use Rattle.std.specs.List.{fold}
-use Rattle.std.specs.Option.{option_map, option_map_or, option_to_list}
+use Rattle.std.specs.Option.{option_map, option_map_or}
 use Rattle.vme_trace.specs.Judged.{Stretch, judged_spans}
 use Rattle.vme_trace.specs.Levels.{Levels}
 use Rattle.vme_trace.specs.Trace.{changed, levels_at}
 use Rattle.vme_trace.specs.WellFormed.{malformed_step}
 use Rattle.vme_trace.specs.declared.step.Step.{Step}
 use Rattle.vme_trace.specs.declared.verdict.Break.{Break}
-use Rattle.vme_monitor.specs.KnownSpec.{known_begin}
 use Rattle.vme_monitor.specs.Outcome.{EventWithin, earlier, shifted_break}
-use Rattle.vme_monitor.specs.OverStretches.{has_started, start_in}
+use Rattle.vme_monitor.specs.OverStretches.{has_started}
 use Rattle.vme_monitor.specs.Run.{break_at}
 use Rattle.vme_monitor.specs.Whole.{has_span}
 use Rattle.vme_monitor.specs.declared.mark.Fault.{Fault}
-use Rattle.vme_summary.specs.Runs.{known_run}
 use Rattle.vme_audit.specs.Covered.{has_stretch, is_judged_part}
 use Rattle.vme_audit.specs.Parts.{Part, last_from, own_break, part_behind, parts_from}
 use Rattle.vme_auditor.specs.Audited.{AuditReached, with_step}
 use Rattle.vme_auditor.specs.Breaks.{last_instant_of}
 use Rattle.vme_auditor.specs.FirstEvent.{first_event}
-use Rattle.vme_auditor.specs.Memories.{fault_at, first_fault_of, memories_at, memories_next}
+use Rattle.vme_auditor.specs.Memories.{first_fault_of, memories_at, memories_next}
 use Rattle.vme_auditor.specs.declared.memories.Memories.{Memories}
 use Rattle.vme_auditor.proofs.AskedParts.{KnowsStart, known_left, quiet_memories}
 use Rattle.vme_auditor.proofs.CountedParts.{last_behind}
@@ -96,8 +94,8 @@ module _ (finds : FindsFirst) (starts : KnowsStart) where
       → let p : Part = record { start = start; trace = recorded o x } in
       has_started (memories_from (memories_at o) o x).known ≡ is_judged_part (last_from p (parts_from n p))
 
-  module _ (start : ℕ) (o : Levels) (x : List Step) (ok : malformed_step (recorded o x)
-      ≡ None) (few : o.slots ≤ 21) where
+  module _ (start : ℕ) (o : Levels) (x : List Step) (ok : malformed_step (recorded o x) ≡ None)
+      (few : o.slots ≤ 21) where
     abbrev here : Part
     here = record { start = start; trace = recorded o x }
 
@@ -137,8 +135,8 @@ abbrev KeepsLast : AuditReached → Type 0
 KeepsLast r = r.audit.last_break ≡ last_instant_of r.told
 
 last_stepped : (r : AuditReached) (s : Step) → KeepsLast r → KeepsLast (with_step r s)
-last_stepped r s so_far = by_fault (first_fault_of r.audit.memories r.levels
-    (changed r.levels s.changes) s.changes) refl
+last_stepped r s so_far =
+    by_fault (first_fault_of r.audit.memories r.levels (changed r.levels s.changes) s.changes) refl
   where
     by_fault : (f : Option Fault) → first_fault_of r.audit.memories r.levels (changed r.levels s.changes) s.changes ≡ f
         → KeepsLast (with_step r s)

@@ -1,3 +1,4 @@
+pub mod Truth
 pub mod FirstBreaks
 pub mod ToldBreaks
 pub mod Folds
@@ -16,3 +17,7 @@ pub mod AskedSteps
 pub mod AskedParts
 pub mod JudgedParts
 pub mod Found
+pub mod Outcomes
+pub mod WholeRecordings
+pub mod SaidVerdicts
+pub mod GrowingBreaks

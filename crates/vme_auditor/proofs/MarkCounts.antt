@@ -2,7 +2,6 @@
 use Rattle.std.proofs.Common.{◌≡◌, ℕ, zero, suc, ◌+◌, Bool, true, false, ◌||◌, List, [], ◌∷◌, ◌++◌, length, refl, sym}
 use Rattle.std.proofs.Common.{◌∙◌}
 use Rattle.std.proofs.Common.{ap, arith, cond, Option, None, Some}
-use Rattle.std.proofs.Math.Nat.{add-suc, suc-add}
 use Rattle.std.specs.Prelude.{◌==◌, is_some}
 use Rattle.std.specs.List.{fold}
 use Rattle.std.specs.Option.{option_map_or, option_or}
@@ -367,10 +366,8 @@ module _ (at : ℕ → StartedTransfer) where
     cycle_counted w class.S modifier address =
         counted (record c { single = suc c.single }) (Some i) w u
         ∙ single_moved c (still_counts w (Some i) ms) (rest (Some i) ms)
-        ∙ ap (λ (d : Counts). sum_of c (sum_of d (record (rest (Some i) ms) {
-          single = suc (rest
-              (Some i) ms).single;
-        })))
+        ∙ ap (λ (d : Counts). sum_of c
+        (sum_of d (record (rest (Some i) ms) { single = suc (rest (Some i) ms).single })))
         (sym (still_same w latest (record { instant = i; kind = kind.Cycle class.S modifier address }) ms refl refl))
     cycle_counted w class.K modifier address =
         counted (record c { block = suc c.block }) (Some i) w u

@@ -27,6 +27,7 @@ use Rattle.vme_auditor.specs.Tallied.{at_answer, by_line, hang_so_far, of_class,
 use Rattle.vme_auditor.specs.declared.tally.StartedTransfer.{StartedTransfer}
 use Rattle.vme_auditor.specs.declared.tally.Tally.{Tally}
 use Rattle.vme_auditor.proofs.MarkCounts.{mark_tallied, tally}
+use Rattle.vme_auditor.proofs.Truth.{or_fails}
 
 abbrev pub has_reset : List Mark → Bool
 has_reset [] = false
@@ -129,9 +130,6 @@ cycle_not_pending i modifier address end class.K = refl
 cycle_not_pending i modifier address end class.F = refl
 cycle_not_pending i modifier address end class.I = refl
 
-or_same : (b c : Bool) → b ≡ false → (b || c) ≡ c
-or_same b c e = rw e refl
-
 rows_reset : (ms : List Mark) (latest : Option ℕ) → list_any is_reset_row (rows_of latest ms) ≡ has_reset ms
 rows_reset [] latest = refl
 rows_reset (m ∷ ms) latest = by_kind (rows_reset ms) m.instant m.kind
@@ -145,10 +143,10 @@ rows_reset (m ∷ ms) latest = by_kind (rows_reset ms) m.instant m.kind
     by_kind so_far i (kind.Tenure level slot) = so_far latest
     by_kind so_far i kind.TenureEnd = so_far latest
     by_kind so_far i (kind.Cycle c modifier address) =
-        or_same _ _ (cycle_no_reset i modifier address _ c) ∙ so_far (Some i)
+        or_fails _ _ (cycle_no_reset i modifier address _ c) ∙ so_far (Some i)
     by_kind so_far i kind.CycleEnd = so_far latest
     by_kind so_far i (kind.Transfer write) =
-        or_same _ _ (never_is i (marked_direction write) _ is_reset_row refl
+        or_fails _ _ (never_is i (marked_direction write) _ is_reset_row refl
         (λ line cycle answer lanes. refl) ms latest) ∙ so_far latest
     by_kind so_far i (kind.Answer line) = so_far latest
     by_kind so_far i (kind.WriteAnswer line moved unknown value) = so_far latest
@@ -204,7 +202,7 @@ module _ (at : ℕ → StartedTransfer) where
         ∙ sym (still_same w latest (record { instant = i; kind = k }) ms e f))
         ∙ ap (λ (b : Bool). option_or (cond b None
         (option_or u (still_waits w latest (record { instant = i; kind = k } ∷ ms)))) (hanging_among next ms))
-        (sym (or_same (is_reset k) (has_reset ms) h))
+        (sym (or_fails (is_reset k) (has_reset ms) h))
         ∙ ap (λ (o : Option ℕ). option_or (hanging_before u w latest (record { instant = i; kind = k } ∷ ms))
         (option_map at o)) (sym same)
 

@@ -1,9 +1,10 @@
 -- A net has an edge at an instant where a change of the step to it says so.
-use Rattle.std.proofs.Common.{◌≡◌, ℕ, zero, suc, ◌+◌, ◌-◌, ◌*◌, ◌/◌, ◌<◌, ◌≤◌, Bool, true, false, not, ◌&&◌, ◌||◌, List}
-use Rattle.std.proofs.Common.{[], ◌∷◌, refl, sym, ◌∙◌, ap, subst, arith, Option, None, Some}
-use Rattle.std.specs.Prelude.{◌==◌, nat_lt}
+use Rattle.std.proofs.Common.{◌≡◌, ℕ, zero, suc, ◌+◌, ◌-◌, ◌/◌, ◌<◌, ◌≤◌, Bool, true, false, ◌&&◌, ◌||◌, List}
+use Rattle.std.proofs.Common.{[], ◌∷◌, refl, sym, ◌∙◌, ap, arith}
+use Rattle.std.specs.Prelude.{◌==◌}
 use Rattle.std.specs.List.{list_any}
 use Rattle.std.proofs.lemmas.Bool.Decides.{nat_tests}
+use Rattle.std.proofs.Math.Bool.{and-false, or-true}
 use Rattle.vme_trace.specs.Changes.{is_changed}
 use Rattle.vme_trace.specs.Edges.{falls_between, rises_between}
 use Rattle.vme_trace.specs.Instants.{any}
@@ -14,13 +15,10 @@ use Rattle.vme_trace.specs.WellFormed.{are_changes}
 use Rattle.vme_trace.specs.declared.level.Level.{Level}
 use Rattle.vme_trace.specs.declared.step.Change.{Change}
 use Rattle.vme_trace.proofs.Changing.{level-kept, slots-kept}
-use Rattle.vme_trace.proofs.Ranges.{any-alike, any-holds, any-least, clash, least-found}
+use Rattle.vme_trace.proofs.Ranges.{any-holds, any-least, clash, least-found}
 use Rattle.vme_dtb.proofs.StillSteps.{never_falls, never_rises}
 use Rattle.vme_auditor.specs.Events.{net_falls, net_rises}
-
-or_all : (b : Bool) → (b || true) ≡ true
-or_all true = refl
-or_all false = refl
+use Rattle.vme_auditor.proofs.Truth.{or_swapped}
 
 and_left : (a b : Bool) → (a && b) ≡ true → a ≡ true
 and_left true b h = refl
@@ -29,10 +27,6 @@ and_left false b h = absurd (cc)
 and_right : (a b : Bool) → (a && b) ≡ true → b ≡ true
 and_right true b h = h
 and_right false b h = absurd (cc)
-
-and_none : (a : Bool) → (a && false) ≡ false
-and_none true = refl
-and_none false = refl
 
 equal : (a b : ℕ) → (a == b) ≡ true → a ≡ b
 equal a b h = grind (arith, nat_tests)
@@ -93,7 +87,7 @@ module _ (p q : ℕ → Bool) (v : Levels) (few : v.slots ≤ 21)
           let exists = (first_exists lowest c cs h).0 in
           rw (there c.line exists ∙ ap p (equal c.line l here) ∙ holds) refl
       by_line false here others =
-          rw (others (ap (λ b. b || is_changed cs l) (sym here) ∙ e) holds) (or_all (q c.line))
+          rw (others (ap (λ b. b || is_changed cs l) (sym here) ∙ e) holds) (or-true (q c.line))
 
   pub lines_any : (cs : List Change) → are_changes v 0 cs ≡ true
       → ((l : ℕ) → is_changed cs l ≡ false → p l ≡ false) → any p 0 line_count ≡ list_any (λ c. q c.line) cs
@@ -110,16 +104,13 @@ module _ (p q : ℕ → Bool) (v : Levels) (few : v.slots ≤ 21)
           listed l (least-found p 0 line_count l found.1).holds (is_changed cs l) refl
 
 -- edges between the levels on both sides of a step
-module _ (v : Levels) (few : v.slots ≤ 21) (cs : List Change) (fit : are_changes v 0 cs ≡ true) (chosen : ℕ
-    → Bool) where
+module _ (v : Levels) (few : v.slots ≤ 21) (cs : List Change) (fit : are_changes v 0 cs ≡ true)
+    (chosen : ℕ → Bool) where
   abbrev after : Levels
   after = changed v cs
 
-  same_and : (a b : Bool) → a ≡ b → (chosen' : Bool) → (chosen' && a) ≡ (chosen' && b)
-  same_and a b e chosen' = ap (λ x. chosen' && x) e
-
   still : (l : ℕ) (b : Bool) → b ≡ false → (chosen l && b) ≡ false
-  still l b e = ap (λ x. chosen l && x) e ∙ and_none (chosen l)
+  still l b e = ap (λ x. chosen l && x) e ∙ and-false (chosen l)
 
   pub falls_any : any (λ l. chosen l && falls_between v after l) 0 line_count
       ≡ list_any (λ c. chosen c.line && net_falls v after c.line) cs
@@ -194,20 +185,13 @@ either : (l : ℕ) (x : Bool) → ((is_arbiter_grant l && x) || (is_slot_grant l
 either l true = grind (arith, nat_tests)
 either l false = grind (arith, nat_tests)
 
-swapped : (a b c d : Bool) → ((a || b) || (c || d)) ≡ ((a || c) || (b || d))
-swapped true b c d = refl
-swapped false true true d = refl
-swapped false true false d = refl
-swapped false false true d = refl
-swapped false false false d = refl
-
 pub grants_any : (v w : Levels) (cs : List Change)
     → (list_any (λ c. is_arbiter_grant c.line && net_falls v w c.line) cs
     || list_any (λ c. is_slot_grant c.line && net_falls v w c.line) cs)
     ≡ list_any (λ c. is_grant c.line && net_falls v w c.line) cs
 grants_any v w [] = refl
 grants_any v w (c ∷ cs) =
-    swapped (is_arbiter_grant c.line && net_falls v w c.line)
+    or_swapped (is_arbiter_grant c.line && net_falls v w c.line)
     (list_any (λ c. is_arbiter_grant c.line && net_falls v w c.line) cs) (is_slot_grant c.line && net_falls v w c.line)
     (list_any (λ c. is_slot_grant c.line && net_falls v w c.line) cs)
     ∙ ap (λ b. b || (list_any (λ c. is_arbiter_grant c.line && net_falls v w c.line) cs

@@ -16,8 +16,7 @@ use Rattle.vme_trace.specs.declared.class.Class.TheVariants as class
 use Rattle.vme_trace.specs.declared.step.Step.{Step}
 use Rattle.vme_trace.specs.declared.verdict.Break.{Break}
 use Rattle.vme_listing.specs.Places.{is_verdict}
-use Rattle.vme_listing.specs.Recorded.{outcome_of, recorded_rows}
-use Rattle.vme_listing.specs.declared.row.ListedVerdict.TheVariants.{NeverIdle}
+use Rattle.vme_listing.specs.Recorded.{outcome_of}
 use Rattle.vme_listing.specs.declared.row.Row.{Row}
 use Rattle.vme_listing.specs.declared.row.Row.TheVariants as row
 use Rattle.vme_monitor.specs.Outcome.{shifted_mark}
@@ -28,7 +27,7 @@ use Rattle.vme_monitor.specs.declared.mark.Mark.{Mark}
 use Rattle.vme_monitor.specs.declared.mark.MarkKind.{MarkKind}
 use Rattle.vme_monitor.specs.declared.mark.MarkKind.TheVariants as kind
 use Rattle.vme_summary.specs.AllShown.{all_marks, all_over}
-use Rattle.vme_summary.specs.MarkedRows.{cycle_after, first_instant, is_close, is_cycle_end, is_tenure_end, listed}
+use Rattle.vme_summary.specs.MarkedRows.{first_instant, is_close, is_cycle_end, is_tenure_end, listed}
 use Rattle.vme_summary.specs.MarkedRows.{marked_cycle, marked_direction, marks_before, marks_listed, opening_marks}
 use Rattle.vme_summary.specs.MarkedRows.{rows_of as marked_rows}
 use Rattle.vme_summary.proofs.MarkedListing.{marked_is_listed}
@@ -40,6 +39,7 @@ use Rattle.vme_auditor.specs.Memories.{memories_at, memories_next}
 use Rattle.vme_auditor.specs.declared.memories.Memories.{Memories}
 use Rattle.vme_auditor.proofs.FirstBreaks.{named_is_least}
 use Rattle.vme_auditor.proofs.MarkHangs.{never_hangs, never_is}
+use Rattle.vme_auditor.proofs.Truth.{lt_fails, lt_holds}
 
 abbrev is_told : Row → Bool
 is_told row = not (is_verdict row)
@@ -155,12 +155,6 @@ part_rows shows start t ok few event e =
     (marked_rows None (marks_listed event ms))) (sym (shows t ok few)) rows)
 
 -- ---- the marks before a break
-
-lt_holds : (a b : ℕ) → a < b → nat_lt a b ≡ true
-lt_holds a b h = grind (arith, nat_tests)
-
-lt_fails : (a b : ℕ) → b ≤ a → nat_lt a b ≡ false
-lt_fails a b h = grind (arith, nat_tests)
 
 -- marks of the first instant
 first_pass : (n : ℕ) (ks : List MarkKind) (ms : List Mark) → 1 < n → marks_before n (map (mark_at 1) ks ++ ms)

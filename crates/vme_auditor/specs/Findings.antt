@@ -1,11 +1,22 @@
 -- What an audit found of a recording, and its outcome by that.
-use Rattle.std.specs.Prelude.{ℕ, ◌+◌, ◌-◌, ◌^◌, Bool, not, Option, None, Some, min, nat_lt, option_map}
+use Rattle.std.specs.Prelude.{◌≡◌, List, length}
+use Rattle.std.specs.Prelude.{ℕ, ◌+◌, ◌-◌, ◌^◌, not, Option, None, Some, min, nat_lt, option_map}
 use Rattle.std.specs.Prelude.{if◌then◌else◌}
 use Rattle.std.specs.Option.{option_map_or}
+use Rattle.vme_trace.specs.Trace.{Trace, time_at}
+use Rattle.vme_trace.specs.declared.rule.Rule.{Rule}
+use Rattle.vme_audit.specs.Allowances.{unreadables, wrongs}
+use Rattle.vme_audit.specs.Asked.{is_asked}
+use Rattle.vme_audit.specs.Counted.{counts as counts_of}
+use Rattle.vme_audit.specs.Covered.{allowed_count, hang as hang_of, is_judged_part}
+use Rattle.vme_audit.specs.Parts.{breaks, last_part}
+use Rattle.vme_audit.specs.declared.allowance.Allowance.{Allowance}
 use Rattle.vme_audit.specs.declared.outcome.CoverageGap.{CoverageGap}
 use Rattle.vme_audit.specs.declared.outcome.CoverageGap.TheVariants.{NeverIdle, NeverIdleBehind, FewAnswers, Hang}
 use Rattle.vme_audit.specs.declared.outcome.Outcome.{Outcome}
 use Rattle.vme_audit.specs.declared.outcome.Outcome.TheVariants.{Conforming, NotCovered, Broken, Unreadable}
+use Rattle.vme_auditor.specs.Breaks.{last_instant_of}
+use Rattle.vme_auditor.specs.Events.{asks_by}
 use Rattle.vme_auditor.specs.declared.findings.AuditFindings.{AuditFindings}
 use Rattle.vme_auditor.specs.declared.findings.BreakCounts.{BreakCounts}
 
@@ -30,3 +41,21 @@ outcome_by f breaks wanted =
     if nat_lt 0 breaks.broken then Broken
     else if nat_lt 0 breaks.unreadable then Unreadable
     else option_map_or NotCovered (gap_by f wanted) (Conforming breaks.allowed)
+
+-- when a transfer of the last part starts, by its instant there
+abbrev pub started_at : Trace → ℕ → (ℕ × ℕ)
+started_at t start = ((last_part t).start + start, time_at (last_part t).trace start)
+
+-- this was found of a recording
+pub record AreFindingsOf (f : AuditFindings) (t : Trace) : Type 0 where
+  pub counts : f.counts ≡ counts_of t
+  pub asked : (r : Rule) → asks_by f.events r ≡ is_asked t r
+  pub judged : f.is_judged ≡ is_judged_part (last_part t)
+  pub behind : f.last_break ≡ last_instant_of (breaks t)
+  pub hang : f.hang ≡ option_map (started_at t) (hang_of t)
+
+-- so many of its breaks aren't allowed, by what they say, and are
+pub record AreBreakCountsOf (c : BreakCounts) (allowances : List Allowance) (t : Trace) : Type 0 where
+  pub broken : c.broken ≡ length (wrongs allowances (breaks t))
+  pub unreadable : c.unreadable ≡ length (unreadables allowances (breaks t))
+  pub allowed : c.allowed ≡ allowed_count allowances t

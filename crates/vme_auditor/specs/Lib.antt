@@ -3,6 +3,7 @@ pub mod Breaks
 pub mod Events
 pub mod Findings
 pub mod FirstEvent
+pub mod Growth
 pub mod JoinedMarks
 pub mod Memories
 pub mod Tallied

@@ -4,15 +4,10 @@ ghost use Rattle.std.specs.Prelude.{◌≡◌, ◌↔◌, ◌+◌, ◌-◌, ◌^
 ghost use Rattle.std.specs.Prelude.{option_map};
 ghost use Rattle.std.specs.Option.{option_to_list};
 ghost use Rattle.vme_trace.specs.Followed.{with_steps};
-ghost use Rattle.vme_trace.specs.Trace.{time_at};
 ghost use Rattle.vme_trace.specs.WellFormed.{malformed_step};
-ghost use Rattle.vme_trace.specs.declared.rule.Rule.{Rule};
-ghost use Rattle.vme_audit.specs.Asked.{is_asked};
-ghost use Rattle.vme_audit.specs.Counted.{counts};
-ghost use Rattle.vme_audit.specs.Covered.{hang, is_judged_part};
-ghost use Rattle.vme_audit.specs.Parts.{breaks, last_part};
-ghost use Rattle.vme_auditor.specs.Breaks.{as_break, last_instant_of};
-ghost use Rattle.vme_auditor.specs.Events.{asks_by};
+ghost use Rattle.vme_audit.specs.Parts.{breaks};
+ghost use Rattle.vme_auditor.specs.Breaks.{as_break};
+ghost use Rattle.vme_auditor.specs.Findings.{AreFindingsOf};
 
 use crate::audit::Audit;
 use crate::audit_break::AuditBreak;
@@ -102,13 +97,7 @@ impl Auditor {
 
     /// What was found of the recording, where it ends here.
     pub fn audited(&self) -> AuditFindings
-        ensures counts { malformed_step self.now ≡ None → result.counts ≡ counts self.now }
-        ensures asked { malformed_step self.now ≡ None → (r : Rule) → asks_by result.events r ≡ is_asked self.now r }
-        ensures judged { malformed_step self.now ≡ None → result.is_judged ≡ is_judged_part (last_part self.now) }
-        ensures behind { malformed_step self.now ≡ None → result.last_break ≡ last_instant_of (breaks self.now) }
-        ensures hang { malformed_step self.now ≡ None → result.hang
-            ≡ option_map (λ start. ((last_part self.now).start + start, time_at (last_part self.now).trace start))
-            (hang self.now) }
+        ensures { malformed_step self.now ≡ None → AreFindingsOf result self.now }
     {
         prove!(self.opening.slots() <= 21);
         prove!(self.steps <= u64::MAX);

@@ -1,7 +1,10 @@
 //! What an audit found, and its outcome.
 
-ghost use Rattle.std.specs.Prelude.{◌≡◌, ◌+◌, ◌^◌, ◌<◌};
-ghost use Rattle.vme_auditor.specs.Findings.{gap_by, outcome_by};
+ghost use Rattle.std.specs.Prelude.{◌≡◌, List};
+ghost use Rattle.vme_trace.specs.Trace.{Trace};
+ghost use Rattle.vme_audit.specs.Covered.{outcome as outcome_of};
+ghost use Rattle.vme_audit.specs.declared.allowance.Allowance.{Allowance};
+ghost use Rattle.vme_auditor.specs.Findings.{AreBreakCountsOf, AreFindingsOf, gap_by, outcome_by};
 
 use crate::asked::AskedEvents;
 use vme_audit::{Counts, CoverageGap, Outcome};
@@ -53,7 +56,9 @@ fn gap(findings: &AuditFindings, wanted: u64) -> Option<CoverageGap>
 
 /// What the audit of a recording comes to, where so many answered transfers are wanted.
 pub fn outcome(findings: &AuditFindings, breaks: BreakCounts, wanted: u64) -> Outcome
-    ensures { result ≡ outcome_by findings.now breaks wanted }
+    ensures found { result ≡ outcome_by findings.now breaks wanted }
+    ensures defined { (allowances : List Allowance) (t : Trace) → AreFindingsOf findings.now t
+        → AreBreakCountsOf breaks allowances t → result ≡ outcome_of allowances wanted t }
 {
     if breaks.broken > 0 {
         Outcome::Broken

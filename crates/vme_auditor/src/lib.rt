@@ -11,17 +11,27 @@
 //! - `tally`, `asked`: what is counted, and which events happened of which rules speak.
 //! - `audit_break`, `findings`: a break with numbers of 64 bits; what was found, and the
 //!   [`outcome`] by it.
-//! - `laws`: the first break, and what each step shows to a listing, are what the definitions say.
+//! - `laws`: what an audit has in common with a verdict and a listing; and that the first break, and
+//!   what each step shows to a listing, are what the definitions say. `growth`: how the breaks of a
+//!   recording grow as its steps come.
 //!
 //! # What is proved
 //!
 //! - [`Auditor::step`]: the breaks that are told are exactly those of the recording so far, each
 //!   with its own step (`told`).
-//! - [`Auditor::audited`]: the counts are those over the rows of all parts (`counts`), the rules
-//!   that are asked are those of the definitions (`asked`), and so are whether anything is judged
-//!   behind the last break (`judged`), that break (`behind`) and the transfer that is without an
-//!   answer (`hang`).
-//! - [`outcome`] is that of vme_audit by these findings and by how many breaks count as what.
+//! - [`Auditor::audited`]: all of it is what the definitions say of the recording, where it ends
+//!   there (`AreFindingsOf`): the counts are those over the rows of all parts, the rules that are
+//!   asked are those of the definitions, and so are whether anything is judged behind the last
+//!   break, the instant of that break, and the transfer that is without an answer.
+//! - [`outcome`] is that of vme_audit for every recording of which these are the findings, and so
+//!   many breaks of each kind (`defined`).
+//! - [`first_break_is_named`]: the first break is the one that the verdict names.
+//! - [`unbroken_is_listed`]: there is none exactly where the verdict names none; what is judged then
+//!   conforms, and the counts are those of the listing's rows.
+//! - [`outcome_has_verdict`]: a recording that conforms without an allowed break conforms by its
+//!   verdict, and is never idle exactly where its verdict says so.
+//! - [`breaks_grow`]: each step breaks one rule at most, at its own instant, and the breaks before it
+//!   stay.
 //!
 //! # What isn't proved
 //!
@@ -30,12 +40,12 @@
 //! # Limits
 //!
 //! A recording has at most 18,446,744,073,709,551,615 steps; the next one is refused
-//! ([`TooManySteps`]). No command stands on this crate yet.
+//! ([`TooManySteps`]).
 //!
 //! # In which order to read
 //!
-//! `specs/Parts`, `Counted` and `Asked` of vme_audit; then `auditor`; `specs/Audited` says how an
-//! audit goes on, as a fold over the steps.
+//! `specs/Parts`, `Counted` and `Asked` of vme_audit; `specs/Findings`; then `auditor`.
+//! `specs/Audited` says how an audit goes on, as a fold over the steps.
 #![tactic(auto)]
 
 mod asked;
@@ -43,6 +53,7 @@ mod audit;
 mod audit_break;
 mod auditor;
 mod findings;
+mod growth;
 mod laws;
 mod memories;
 mod tally;
@@ -51,4 +62,5 @@ pub use asked::AskedEvents;
 pub use audit_break::AuditBreak;
 pub use auditor::{Auditor, TooManySteps};
 pub use findings::{AuditFindings, BreakCounts, outcome};
-pub use laws::first_break_is_found;
+pub use growth::breaks_grow;
+pub use laws::{first_break_is_named, outcome_has_verdict, unbroken_is_listed};

@@ -60,8 +60,8 @@ const RECORDINGS: [WorkedRecording; 22] = [
     WorkedRecording {
         slots: 3,
         opening: "",
-        steps: "quiet;BR3=0;BG3.0=0;BG3.1=0;BBSY=0 BR3=1;BG3.0=1;BG3.1=1;AM1=0 AM2=0 A05=0;AS=0;DS0=0
-            DS1=0;DTACK=0;AS=1 DS0=1 DS1=1;DTACK=1;BBSY=1",
+        steps: "quiet;BR3=0;BG3.0=0;BG3.1=0;BBSY=0 BR3=1;BG3.0=1;BG3.1=1;AM1=0 AM2=0 A05=0;AS=0;\
+            DS0=0 DS1=0;DTACK=0;AS=1 DS0=1 DS1=1;DTACK=1;BBSY=1",
         breaks: &[],
         counts: [0, 1, 1, 0, 0, 0, 1, 0, 1, 0, 0],
         never_asked: "U4 H3 S3 C1 C2 I1 I2 I3 I4 I5",
@@ -122,9 +122,8 @@ const RECORDINGS: [WorkedRecording; 22] = [
     WorkedRecording {
         slots: 3,
         opening: "quiet",
-        steps: "BBSY=0;AM1=0 WRITE=0;AS=0;DS0=0 DS1=0;SYSRESET=0;AS=1 DS0=1
-            DS1=1;SYSRESET=1;DTACK=0;SYSRESET=0;DTACK=1 SYSRESET=1;BERR=0;BERR=1
-                SYSRESET=0;SYSRESET=1;SYSRESET=0;SYSRESET=1",
+        steps: "BBSY=0;AM1=0 WRITE=0;AS=0;DS0=0 DS1=0;SYSRESET=0;AS=1 DS0=1 DS1=1;SYSRESET=1;\
+            DTACK=0;SYSRESET=0;DTACK=1 SYSRESET=1;BERR=0;BERR=1 SYSRESET=0;SYSRESET=1;SYSRESET=0;SYSRESET=1",
         breaks: &[
             (1, 0, Rule::B1, "BBSY"),
             (8, 70, Rule::H4, "DTACK"),
@@ -146,8 +145,9 @@ const RECORDINGS: [WorkedRecording; 22] = [
     WorkedRecording {
         slots: 2,
         opening: "high BBSY=0",
-        steps: "AS=0;DS0=0 DS1=0;DTACK=0;DS0=1 DS1=1;DTACK=1;DS0=0 DS1=0;DTACK=0;DS0=1 DS1=1;DTACK=1;WRITE=0;DS0=0
-            DS1=0;DTACK=0;AS=1 DS0=1 DS1=1;DTACK=1;AM1=0;AS=0;DS0=0;BERR=0;AS=1 DS0=1;BERR=1",
+        steps: "AS=0;DS0=0 DS1=0;DTACK=0;DS0=1 DS1=1;DTACK=1;DS0=0 DS1=0;DTACK=0;DS0=1 DS1=1;\
+            DTACK=1;WRITE=0;DS0=0 DS1=0;DTACK=0;AS=1 DS0=1 DS1=1;DTACK=1;AM1=0;AS=0;DS0=0;BERR=0;AS=1 DS0=1;\
+            BERR=1",
         breaks: &[(12, 110, Rule::C2, "DTACK")],
         counts: [0, 0, 1, 1, 0, 0, 2, 2, 2, 1, 1],
         never_asked: "H3 C1 G1 G2 G3 G4 G5 B1 B2 B4 I1 I2 I3 I4 I5",
@@ -160,8 +160,8 @@ const RECORDINGS: [WorkedRecording; 22] = [
     WorkedRecording {
         slots: 2,
         opening: "high BBSY=0",
-        steps: "AM1=0 AM2=0;AS=0;DS0=0 DS1=0;DTACK=0;DS0=1 DS1=1;DTACK=1;WRITE=0 D03=0;DS0=0 DS1=0;DTACK=0;DS0=1
-            DS1=1;DTACK=1;DS0=0 DS1=0;DTACK=0;AS=1 DS0=1 DS1=1;DTACK=1",
+        steps: "AM1=0 AM2=0;AS=0;DS0=0 DS1=0;DTACK=0;DS0=1 DS1=1;DTACK=1;WRITE=0 D03=0;DS0=0 DS1=0;\
+            DTACK=0;DS0=1 DS1=1;DTACK=1;DS0=0 DS1=0;DTACK=0;AS=1 DS0=1 DS1=1;DTACK=1",
         breaks: &[(13, 120, Rule::C1, "DTACK")],
         counts: [0, 0, 1, 0, 0, 0, 1, 2, 2, 0, 1],
         never_asked: "H3 H7 C2 G1 G2 G3 G4 G5 B1 B2 B4 I1 I2 I3 I4 I5",
@@ -174,8 +174,8 @@ const RECORDINGS: [WorkedRecording; 22] = [
     WorkedRecording {
         slots: 3,
         opening: "high BBSY=0",
-        steps: "IACK=0 A01=0;AS=0;DS0=0;IA.1=0;IA.2=0;DTACK=0;DS0=1;DTACK=1;DS0=0;DTACK=0;AS=1 DS0=1;DTACK=1 IA.1=1
-            IA.2=1;IACK=1",
+        steps: "IACK=0 A01=0;AS=0;DS0=0;IA.1=0;IA.2=0;DTACK=0;DS0=1;DTACK=1;DS0=0;DTACK=0;\
+            AS=1 DS0=1;DTACK=1 IA.1=1 IA.2=1;IACK=1",
         breaks: &[(10, 90, Rule::I5, "DTACK")],
         counts: [0, 0, 0, 0, 0, 1, 2, 0, 1, 0, 1],
         never_asked: "U4 H3 H7 S3 C1 C2 G1 G2 G3 G4 G5 B1 B2 B4",
@@ -282,8 +282,8 @@ const RECORDINGS: [WorkedRecording; 22] = [
     WorkedRecording {
         slots: 3,
         opening: "quiet",
-        steps: "BR3=0;BG3.0=0;BG3.1=0;BG3.2=0;BG3.3=0;BBSY=0
-            BR3=1;BG3.0=1;BG3.1=1;BG3.2=1;BG3.3=1;BR0=0;BBSY=1;BG0.0=0;BG0.1=0;BBSY=0;BG0.0=1;BG0.1=1",
+        steps: "BR3=0;BG3.0=0;BG3.1=0;BG3.2=0;BG3.3=0;BBSY=0 BR3=1;BG3.0=1;BG3.1=1;BG3.2=1;BG3.3=1;\
+            BR0=0;BBSY=1;BG0.0=0;BG0.1=0;BBSY=0;BG0.0=1;BG0.1=1",
         breaks: &[(6, 50, Rule::B4, "BBSY")],
         counts: [0, 1, 0, 0, 0, 0, 0, 0, 0, 0, 0],
         never_asked: "U2 U3 U4 H1 H2 H3 H4 H5 H6 H7 H8 S1 S2 S3 C1 C2 B3 I1 I2 I3 I4 I5",
@@ -337,8 +337,8 @@ const RECORDINGS: [WorkedRecording; 22] = [
     WorkedRecording {
         slots: 2,
         opening: "high BBSY=0",
-        steps: "AM5=0;AS=0;DS0=0;DTACK=0;AS=1 DS0=1;DTACK=1;AM1=0 AM5=1;AS=0;A05=0;AS=1;AS=0;DS0=0;DTACK=0;AS=1
-            DS0=1;DTACK=1;WRITE=0 D01=x;AS=0;DS0=0;DTACK=0;D01=0;AS=1 DS0=1;DTACK=1",
+        steps: "AM5=0;AS=0;DS0=0;DTACK=0;AS=1 DS0=1;DTACK=1;AM1=0 AM5=1;AS=0;A05=0;AS=1;AS=0;DS0=0;\
+            DTACK=0;AS=1 DS0=1;DTACK=1;WRITE=0 D01=x;AS=0;DS0=0;DTACK=0;D01=0;AS=1 DS0=1;DTACK=1",
         breaks: &[(9, 80, Rule::S1, "A05"), (18, 170, Rule::U4, "D01")],
         counts: [0, 0, 3, 0, 1, 0, 2, 0, 2, 0, 0],
         never_asked: "H3 C1 C2 G1 G2 G3 G4 G5 B1 B2 B4 I1 I2 I3 I4 I5",
@@ -385,8 +385,8 @@ const RECORDINGS: [WorkedRecording; 22] = [
     WorkedRecording {
         slots: 2,
         opening: "high BBSY=0",
-        steps: "AM1=0;AS=0;DS0=0;DTACK=0;DS1=0;DTACK=1;AS=1 DS0=1 DS1=1;AS=0;DS0=0;DS1=0;DTACK=0 BERR=0;DS0=1;AS=1
-            DS1=1;DTACK=1 BERR=1",
+        steps: "AM1=0;AS=0;DS0=0;DTACK=0;DS1=0;DTACK=1;AS=1 DS0=1 DS1=1;AS=0;DS0=0;DS1=0;\
+            DTACK=0 BERR=0;DS0=1;AS=1 DS1=1;DTACK=1 BERR=1",
         breaks: &[(5, 40, Rule::H3, "DS1"), (11, 100, Rule::H5, "DTACK")],
         counts: [0, 0, 2, 0, 0, 0, 2, 0, 1, 0, 1],
         never_asked: "U4 H2 H6 H7 S3 C1 C2 G1 G2 G3 G4 G5 B1 B2 B4 I1 I2 I3 I4 I5",

@@ -3,6 +3,7 @@ pub mod BindingLemmas
 pub mod WiresLemmas
 pub mod SoughtLemmas
 pub mod FoundLemmas
+pub mod SameLevel
 pub mod RecorderLemmas
 pub mod CaptureLemmas
 pub mod StepsLemmas
@@ -15,3 +16,4 @@ pub mod TextPieceLemmas
 pub mod TextReadingLemmas
 pub mod ToldLemmas
 pub mod WaveLemmas
+pub mod FollowingLemmas

@@ -237,7 +237,7 @@ whole-is b dump bound_groups made e is =
 pub whole-formed : (slots : ℕ) (bound_groups : List BoundGroup) (instants : List Instant) (made : Trace)
     → TimesAscend instants → recording slots bound_groups instants (length instants) ≡ made → malformed_step made ≡ None
 whole-formed slots bound_groups instants made up is = sym (ap malformed_step is) ∙ well_formed slots bound_groups
-    instants up
+    instants (length instants) (omega arith) up
 
 pub gives_limited : (t : Trace) (r answer : Result Trace BindFault) → r ≡ limited t → answer ≡ limited t
     → BindGives (λ (t : Trace). t) r answer

@@ -405,89 +405,93 @@ module _ (slots : ℕ) (bound_groups : List BoundGroup) (instants : List Instant
         (levels-at slots bound_groups instants n l lt) ∙ not_true _ h;
   }
 
-  abbrev whole : Trace
-  whole = recording slots bound_groups instants (length instants)
-
   abbrev count : ℕ → ℕ
   count i = length (those (is_step slots bound_groups instants) 0 i)
 
-  -- the steps at the first i instants may stand where they stand
-  record IsSound (i : ℕ) : Type 0 where
-    clock : ℕ
-    checked : HasChecked whole (count i) (levels_after slots bound_groups instants i) clock
-    earlier : (count i ≡ 0) ⊎ ((j : ℕ) × (j < i) × (clock ≡ time_of (slice_get instants j)))
+  -- the recording of the first instants, up to one or all of them
+  module _ (end : ℕ) (within : end ≤ length instants) where
+    abbrev whole : Trace
+    whole = recording slots bound_groups instants end
 
-  sound-first : IsSound 0
-  unfolding levels_at recording those
-  sound-first = record {
-    clock = 0;
-    checked = record { levels = refl; time = refl; sound = any-empty _ 0 };
-    earlier = inl refl;
-  }
+    -- the steps at the first i instants may stand where they stand
+    record IsSound (i : ℕ) : Type 0 where
+      clock : ℕ
+      checked : HasChecked whole (count i) (levels_after slots bound_groups instants i) clock
+      earlier : (count i ≡ 0) ⊎ ((j : ℕ) × (j < i) × (clock ≡ time_of (slice_get instants j)))
 
-  step-found : (i : ℕ) → i < length instants → is_step slots bound_groups instants i ≡ true → slice_get whole.steps
-      (count i) ≡ Some (step_at slots bound_groups instants i)
-  unfolding recording
-  step-found i lt h = get-map (step_at slots bound_groups instants) (those (is_step slots bound_groups instants) 0
-      (length instants)) (count i) i (those-place (is_step slots bound_groups instants) (length instants) i lt h)
+    sound-first : IsSound 0
+    unfolding levels_at recording those
+    sound-first = record {
+      clock = 0;
+      checked = record { levels = refl; time = refl; sound = any-empty _ 0 };
+      earlier = inl refl;
+    }
 
-  step-may : TimesAscend instants → (i : ℕ) → i < length instants → is_step slots bound_groups instants i ≡ true
-      → (s : IsSound i) → may_follow (levels_after slots bound_groups instants i) (count i) s.clock
-      (step_at slots bound_groups instants i) ≡ true
-  unfolding step_at is_step
-  step-may up i lt h s =
-      may-follow (levels_after slots bound_groups instants i) (count i) s.clock (step_at slots bound_groups instants i)
-      (first_or_later (count i) s.clock (time_of (slice_get instants i)) (elim s.earlier [
-        | inl none ↦ inl none
-        | inr at ↦ inr (let rises = time-rises instants up at.0 i at.1 lt in omega (arith, at.2, rises))
-      ]))
-      (not_empty _ (omega (
-        arith,
-        some_of (changes_at slots bound_groups instants i) line_count h,
-        length-map (those (changes_at slots bound_groups instants i) 0 line_count)
-            (change_at slots bound_groups instants i),
-      )))
-      (changes-those (levels_after slots bound_groups instants i) (changes_at slots bound_groups instants i)
-      (level_after slots bound_groups instants (i + 1)) line_count (λ l l-lt c. is-change i l l-lt c)).sound
+    step-found : (i : ℕ) → i < end → is_step slots bound_groups instants i ≡ true → slice_get whole.steps
+        (count i) ≡ Some (step_at slots bound_groups instants i)
+    unfolding recording
+    step-found i lt h = get-map (step_at slots bound_groups instants) (those (is_step slots bound_groups instants) 0
+        (end)) (count i) i (those-place (is_step slots bound_groups instants) (end) i lt h)
 
-  sound-more : TimesAscend instants → (i : ℕ) → i < length instants → (b : Bool) → is_step slots bound_groups instants i
-      ≡ b → IsSound i → IsSound (i + 1)
-  unfolding step_at
-  sound-more up i lt true h s =
-      let more : count (i + 1) ≡ count i + 1 = ap length (those-yes (is_step slots bound_groups instants) i h)
-      ∙ length-append (those (is_step slots bound_groups instants) 0 i) (i ∷ []) in
-      let next = HasChecked-step whole (count i) (levels_after slots bound_groups instants i) s.clock
-      (step_at slots bound_groups instants i) s.checked (step-found i lt h) (step-may up i lt h s) in
-      record {
-        clock = time_of (slice_get instants i);
-        checked = subst (λ (n : ℕ). HasChecked whole n (levels_after slots bound_groups instants (i + 1))
-            (time_of (slice_get instants i))) (sym more)
-            (subst (λ (v : Levels). HasChecked whole (count i + 1) v (time_of (slice_get instants i))) (levels-step i)
-            next);
-        earlier = inr (i, omega arith, refl);
-      }
-  sound-more up i lt false h s =
-      let same : count (i + 1) ≡ count i = ap length (those-no (is_step slots bound_groups instants) i h) in
-      record {
-        clock = s.clock;
-        checked = subst (λ (n : ℕ). HasChecked whole n (levels_after slots bound_groups instants (i + 1)) s.clock)
-            (sym same)
-            (subst (λ (v : Levels). HasChecked whole (count i) v s.clock) (levels-kept i h) s.checked);
-        earlier = elim s.earlier [ inl none ↦ inl (same ∙ none) | inr at ↦ inr (at.0, omega (arith, at.1), at.2) ];
-      }
+    step-may : TimesAscend instants → (i : ℕ) → i < end → is_step slots bound_groups instants i ≡ true
+        → (s : IsSound i) → may_follow (levels_after slots bound_groups instants i) (count i) s.clock
+        (step_at slots bound_groups instants i) ≡ true
+    unfolding step_at is_step
+    step-may up i lt h s =
+        may-follow (levels_after slots bound_groups instants i) (count i) s.clock
+        (step_at slots bound_groups instants i)
+        (first_or_later (count i) s.clock (time_of (slice_get instants i)) (elim s.earlier [
+          | inl none ↦ inl none
+          | inr at ↦ inr
+              (let rises = time-rises instants up at.0 i at.1 (omega (arith, lt, within)) in omega (arith, at.2, rises))
+        ]))
+        (not_empty _ (omega (
+          arith,
+          some_of (changes_at slots bound_groups instants i) line_count h,
+          length-map (those (changes_at slots bound_groups instants i) 0 line_count)
+              (change_at slots bound_groups instants i),
+        )))
+        (changes-those (levels_after slots bound_groups instants i) (changes_at slots bound_groups instants i)
+        (level_after slots bound_groups instants (i + 1)) line_count (λ l l-lt c. is-change i l l-lt c)).sound
 
-  sound-all : TimesAscend instants → (i : ℕ) → i ≤ length instants → IsSound i
-  sound-all up zero le = sound-first
-  sound-all up (suc i) le =
-      let more : i + 1 ≡ suc i = omega arith in
-      subst IsSound more (sound-more up i (omega (arith, le)) (is_step slots bound_groups instants i) refl
-      (sound-all up i (omega (arith, le))))
+    sound-more : TimesAscend instants → (i : ℕ) → i < end → (b : Bool) → is_step slots bound_groups instants i
+        ≡ b → IsSound i → IsSound (i + 1)
+    unfolding step_at
+    sound-more up i lt true h s =
+        let more : count (i + 1) ≡ count i + 1 = ap length (those-yes (is_step slots bound_groups instants) i h)
+        ∙ length-append (those (is_step slots bound_groups instants) 0 i) (i ∷ []) in
+        let next = HasChecked-step whole (count i) (levels_after slots bound_groups instants i) s.clock
+        (step_at slots bound_groups instants i) s.checked (step-found i lt h) (step-may up i lt h s) in
+        record {
+          clock = time_of (slice_get instants i);
+          checked = subst (λ (n : ℕ). HasChecked whole n (levels_after slots bound_groups instants (i + 1))
+              (time_of (slice_get instants i))) (sym more)
+              (subst (λ (v : Levels). HasChecked whole (count i + 1) v (time_of (slice_get instants i))) (levels-step i)
+              next);
+          earlier = inr (i, omega arith, refl);
+        }
+    sound-more up i lt false h s =
+        let same : count (i + 1) ≡ count i = ap length (those-no (is_step slots bound_groups instants) i h) in
+        record {
+          clock = s.clock;
+          checked = subst (λ (n : ℕ). HasChecked whole n (levels_after slots bound_groups instants (i + 1)) s.clock)
+              (sym same)
+              (subst (λ (v : Levels). HasChecked whole (count i) v s.clock) (levels-kept i h) s.checked);
+          earlier = elim s.earlier [ inl none ↦ inl (same ∙ none) | inr at ↦ inr (at.0, omega (arith, at.1), at.2) ];
+        }
 
-  pub well_formed : TimesAscend instants → malformed_step (recording slots bound_groups instants (length instants))
-      ≡ None
-  unfolding recording
-  well_formed up =
-      let s = sound-all up (length instants) (omega arith) in
-      malformed_step-none whole (count (length instants)) (levels_after slots bound_groups instants (length instants))
-      s.clock s.checked (sym (length-map (those (is_step slots bound_groups instants) 0 (length instants))
-      (step_at slots bound_groups instants)))
+    sound-all : TimesAscend instants → (i : ℕ) → i ≤ end → IsSound i
+    sound-all up zero le = sound-first
+    sound-all up (suc i) le =
+        let more : i + 1 ≡ suc i = omega arith in
+        subst IsSound more (sound-more up i (omega (arith, le)) (is_step slots bound_groups instants i) refl
+        (sound-all up i (omega (arith, le))))
+
+    pub well_formed : TimesAscend instants → malformed_step (recording slots bound_groups instants (end))
+        ≡ None
+    unfolding recording
+    well_formed up =
+        let s = sound-all up (end) (omega arith) in
+        malformed_step-none whole (count (end)) (levels_after slots bound_groups instants (end))
+        s.clock s.checked (sym (length-map (those (is_step slots bound_groups instants) 0 (end))
+        (step_at slots bound_groups instants)))

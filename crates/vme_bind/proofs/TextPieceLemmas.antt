@@ -102,7 +102,8 @@ wanting own answer assigned is fails = by_kind own.line own.kind is fails
     by_kind line kind is fails = absurd (cc is)
 
 -- the binding's fault is told at the end
-pub assigned-own : (own : BindFault) (answer : Result Trace CaptureFault) → IsOfBinding own → answer ≡ Err (Binding own)
+pub assigned-own : {Y : Type 0} (own : BindFault) (answer : Result Y CaptureFault) → IsOfBinding own → answer
+    ≡ Err (Binding own)
     → CaptureFailsBy (Binding own) answer
 assigned-own own answer other is = by_kind own.line own.kind other is
   where

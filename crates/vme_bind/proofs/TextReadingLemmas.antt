@@ -1,30 +1,33 @@
 -- What reading the text of a dump by a binding comes to, from what is read of it.
-use Rattle.std.proofs.Common.{◌≡◌, ℕ, ◌-◌, List, [], ◌++◌, length, false, Option, Some, None, Result, Ok, Err, refl}
+use Rattle.std.proofs.Common.{◌≡◌, ℕ, ◌-◌, List, [], length, false, Option, None, Result, Ok, Err, refl}
 use Rattle.std.proofs.Common.{sym}
-use Rattle.std.proofs.Common.{ap, ◌∙◌}
+use Rattle.std.proofs.Common.{ap, ◌∙◌, ◌++◌, arith, subst}
 use Rattle.std.specs.List.{fold}
 use Rattle.std.proofs.lemmas.List.{append-nil}
 use Rattle.vme_trace.specs.Trace.{Trace}
+use Rattle.vme_trace.specs.WellFormed.{malformed_step}
 use Rattle.vcd_read.specs.Body.{BodyItem, BodyPlace, ready, code_of_vector, code_of_foreign, in_comment, body_from}
 use Rattle.vcd_read.specs.Bodies.{StoppedAs, UntilFault, until_fault}
 use Rattle.vcd_read.specs.Fronts.{IsMetAtTheEnd, going_on}
 use Rattle.vcd_read.specs.Header.{◌>>=◌, Net, nothing_declared}
 use Rattle.vcd_read.specs.Meaning.{ReadFails, ReadFailsAs, instants_before_fault, instants_from}
+use Rattle.vcd_read.specs.Meaning.{last_time_before_fault}
 use Rattle.vcd_read.specs.Reached.{Reached, rest_until_fault}
 use Rattle.vcd_read.specs.Sections.{Headed, Defined, defined, header_of}
 use Rattle.vcd_read.specs.Taking.{State, Taking, at_end, at_first, reached_before, state_at, taken_from}
 use Rattle.vcd_read.specs.Tokens.{Token, tokens}
-use Rattle.vcd_read.specs.declared.dump.Bit.{Bit}
 use Rattle.vcd_read.specs.declared.dump.Instant.{Instant}
 use Rattle.vcd_read.specs.declared.dump.Variable.{Variable}
 use Rattle.vcd_read.specs.declared.fault.FaultKind.{FaultKind}
 use Rattle.vcd_read.specs.declared.fault.FaultKind.TheVariants.{Memory, NoEndDefinitions, UnfinishedSection}
 use Rattle.vcd_read.specs.declared.fault.VcdFault.{VcdFault}
-use Rattle.vcd_read.proofs.BeforeFaultLemmas.{before_fault}
+use Rattle.vcd_read.proofs.BeforeFaultLemmas.{before_fault, before_fault_rises}
 use Rattle.vcd_read.proofs.DumpLemmas.{whole_header}
 use Rattle.vcd_read.proofs.DefinedLemmas.{header_taken, taken_head}
 use Rattle.vcd_read.proofs.InstantsLaw.{at_start}
 use Rattle.vcd_read.proofs.TakingLemmas.{Ends, gives-followed, reached-follows}
+use Rattle.vcd_read.proofs.ReadLemmas.{body_rises}
+use Rattle.vcd_read.proofs.TimeLemmas.{reached_time}
 use Rattle.vme_bind.specs.declared.bound_groups.BoundGroup.{BoundGroup}
 use Rattle.vme_bind.specs.declared.fault.BindFault.{BindFault}
 use Rattle.vme_bind.specs.declared.fault.CaptureFault.{CaptureFault}
@@ -37,28 +40,33 @@ use Rattle.vme_bind.specs.PathSearch.{Searched, with_variable}
 use Rattle.vme_bind.specs.TextCapture.{CaptureFailsBy, DumpFails, or_binding, or_dump}
 use Rattle.vme_bind.specs.TextReading.{StopsAs, TextReading, body_reading, or_fault, reading_behind, reading_by}
 use Rattle.vme_bind.specs.TextReading.{reading_made, reading_of_text, reading_until_fault}
+use Rattle.vme_bind.proofs.StepsLemmas.{well_formed}
 use Rattle.vme_bind.proofs.MakingLemmas.{Makes, makes-first, makes-change, makes-instant}
 use Rattle.vme_bind.proofs.TextCaptureLemmas.{IsMadeOf, builder-follows, fails_back, follow_err, instants_in}
 use Rattle.vme_bind.proofs.TextCaptureLemmas.{whole-of}
 
 -- ---- where a body stops
 
+-- a reading with this fault
+stopped_as : (fault : VcdFault) (t t2 : Trace) (time time2 : ℕ) → t ≡ t2 → time ≡ time2
+    → reading_made t time (Err fault) ≡ reading_made t2 time2 (Err fault)
+stopped_as fault t t2 time time2 e e2 = rw (e, e2) refl
+
 -- a fault of a piece, and what took the recording before it
-pub piece_stops : (line : ℕ) (kind : FaultKind) (made : Made) (recorded : Trace) (read : UntilFault Made) → recorded
-    ≡ made.recorded
-    → StoppedAs line kind made read.reached.progress.taken read.outcome
-    → StopsAs line kind recorded (reading_until_fault read)
-piece_stops line Memory made recorded read e h = h
-piece_stops line kind made recorded read e h =
+pub piece_stops : (line : ℕ) (kind : FaultKind) (made : Made) (recorded : Trace) (time : ℕ) (read : UntilFault Made)
+    → recorded ≡ made.recorded
+    → StoppedAs line kind made time read.reached.progress read.outcome
+    → StopsAs line kind recorded time (reading_until_fault read)
+piece_stops line Memory made recorded time read e h = h
+piece_stops line kind made recorded time read e h =
     ap (λ (r : Result (State Made) VcdFault). reading_made read.reached.progress.taken.recorded
-    (r >>= at_end made_instant)) h.0
-    ∙ ap (λ (t : Trace). reading_made t (Err (record { line = line; kind = kind })))
-    (sym (e ∙ ap (λ (m : Made). m.recorded) h.1))
+    read.reached.progress.time (r >>= at_end made_instant)) h.0
+    ∙ stopped_as (record { line = line; kind = kind }) _ _ _ _ (sym (e ∙ ap (λ (m : Made). m.recorded) h.1)) (sym h.2)
 
 -- nothing more is taken where nothing is left
-none_ahead : (nets : List Net) (timed : Taking Made) (bracket : Option ℕ) (place : BodyPlace)
-    → (reached_before made_change made_instant nets (state_at timed bracket) (body_from place [])).progress.taken
-    ≡ timed.taken
+pub none_ahead : (nets : List Net) (timed : Taking Made) (bracket : Option ℕ) (place : BodyPlace)
+    → (reached_before made_change made_instant nets (state_at timed bracket) (body_from place [])).progress
+    ≡ timed
 unfolding reached_before body_from
 none_ahead nets timed bracket ready = refl
 none_ahead nets timed bracket (code_of_vector line digits) = refl
@@ -66,24 +74,31 @@ none_ahead nets timed bracket (code_of_foreign line) = refl
 none_ahead nets timed bracket (in_comment line) = refl
 
 -- a fault at the end
-pub end_stops : (line : ℕ) (kind : FaultKind) (made : Made) (recorded : Trace) (r : Reached Made) → recorded
+pub end_stops : (line : ℕ) (kind : FaultKind) (made : Made) (recorded : Trace) (time : ℕ) (r : Reached Made) → recorded
     ≡ made.recorded
-    → StoppedAs line kind made r.progress.taken ((rest_until_fault made_change made_instant r [] []).outcome
+    → StoppedAs line kind made time r.progress ((rest_until_fault made_change made_instant r [] []).outcome
     >>= at_end made_instant)
-    → StopsAs line kind recorded (reading_until_fault (rest_until_fault made_change made_instant r [] []))
-end_stops line Memory made recorded r e h = h
-end_stops line kind made recorded r e h =
+    → StopsAs line kind recorded time (reading_until_fault (rest_until_fault made_change made_instant r [] []))
+end_stops line Memory made recorded time r e h = h
+end_stops line kind made recorded time r e h =
     let read : UntilFault Made = rest_until_fault made_change made_instant r [] [] in
-    ap (reading_made read.reached.progress.taken.recorded) h.0
-    ∙ ap (λ (t : Trace). reading_made t (Err (record { line = line; kind = kind })))
-    (ap (λ (m : Made). m.recorded) (none_ahead r.nets r.progress r.bracket r.place ∙ sym h.1) ∙ sym e)
+    let none : read.reached.progress ≡ r.progress = none_ahead r.nets r.progress r.bracket r.place in
+    ap (reading_made read.reached.progress.taken.recorded read.reached.progress.time) h.0
+    ∙ stopped_as (record { line = line; kind = kind }) _ _ _ _
+    (ap (λ (p : Taking Made). p.taken.recorded) none ∙ ap (λ (m : Made). m.recorded) (sym h.1) ∙ sym e)
+    (ap (λ (p : Taking Made). p.time) none ∙ sym h.2)
 
 -- no fault at the end
-pub ended_reading : (complete recorded : Trace) (made : Made) (r : Result Made VcdFault) → recorded ≡ made.recorded → r
-    ≡ Ok made
-    → reading_made complete r ≡ record { recorded = recorded; fault = None }
-ended_reading complete recorded made r e is = ap (reading_made complete) is
-    ∙ ap (λ (t : Trace). record { recorded = t; fault = None }) (sym e)
+pub ended_reading : (recorded : Trace) (made : Made) (r : Reached Made) → recorded ≡ made.recorded
+    → ((rest_until_fault made_change made_instant r [] []).outcome >>= at_end made_instant) ≡ Ok made
+    → reading_until_fault (rest_until_fault made_change made_instant r [] [])
+    ≡ record { recorded = recorded; fault = None; time = r.progress.time }
+ended_reading recorded made r e is =
+    let read : UntilFault Made = rest_until_fault made_change made_instant r [] [] in
+    ap (reading_made read.reached.progress.taken.recorded read.reached.progress.time) is
+    ∙ ap (λ (p : Taking Made). record { recorded = made.recorded; fault = None; time = p.time })
+    (none_ahead r.nets r.progress r.bracket r.place)
+    ∙ ap (λ (t : Trace). record { recorded = t; fault = None; time = r.progress.time }) (sym e)
 
 -- ---- a body
 
@@ -112,11 +127,16 @@ module _ (slots : ℕ) (bound_groups : List BoundGroup) (h : Headed) (m : Made) 
         ∙ made.recorded
         ∙ ap (λ (n : ℕ). recording slots bound_groups all n) before.2
 
-    abbrev whole_reading : Trace → TextReading
-    whole_reading t = record { recorded = t; fault = None }
+    -- the last time before it
+    time_before : read.reached.progress.time ≡ last_time_before_fault h.nets h.body
+    time_before = reached_time made_change made_instant h.nets (at_first m) items
+
+    abbrev whole_reading : Trace → ℕ → TextReading
+    whole_reading t time = record { recorded = t; fault = None; time = time }
 
     by_taken : (taken : Result Made VcdFault) → taken_from made_change made_instant h.nets m h.body ≡ taken
-        → body_reading slots bound_groups h ≡ reading_made read.reached.progress.taken.recorded taken
+        → body_reading slots bound_groups h
+        ≡ reading_made read.reached.progress.taken.recorded read.reached.progress.time taken
     by_taken (Ok end) e =
         let gives = gives-followed (Ends (IsMadeOf slots bound_groups h)) (instants_from h.nets h.body) _ end
         (builder-follows slots bound_groups h m begun) e in
@@ -124,17 +144,43 @@ module _ (slots : ℕ) (bound_groups : List BoundGroup) (h : Headed) (m : Made) 
         let all : instants_in (instants_from h.nets h.body) ≡ instants = ap instants_in gives.1 in
         let made = gives.2.1 [] (all ∙ sym (append-nil instants)) in
         ap (reading_by slots bound_groups h) gives.1
-        ∙ ap (λ (xs : List Instant). whole_reading (recording slots bound_groups xs (length instants))) (sym all)
-        ∙ ap whole_reading (sym made.recorded)
+        ∙ ap (λ (xs : List Instant). whole_reading (recording slots bound_groups xs (length instants))
+        (last_time_before_fault h.nets h.body)) (sym all)
+        ∙ ap (λ (t : Trace). whole_reading t (last_time_before_fault h.nets h.body)) (sym made.recorded)
+        ∙ ap (whole_reading end.recorded) (sym time_before)
     by_taken (Err fault) e =
         ap (reading_by slots bound_groups h)
         (follow_err slots bound_groups h (instants_from h.nets h.body) _ fault (builder-follows slots bound_groups h m
         begun) e)
-        ∙ ap (λ (t : Trace). reading_made t (Err fault)) (sym recorded_before)
+        ∙ stopped_as fault _ _ _ _ (sym recorded_before) (sym time_before)
 
     -- a body comes to what is made of it
     pub body_read : body_reading slots bound_groups h ≡ reading_until_fault read
     body_read = by_taken (taken_from made_change made_instant h.nets m h.body) refl
+
+-- what it comes to are steps that follow one another
+body_formed : (slots : ℕ) (bound_groups : List BoundGroup) (h : Headed) → malformed_step
+    (body_reading slots bound_groups h).recorded ≡ None
+body_formed slots bound_groups h = by_instants (instants_from h.nets h.body) refl
+  where
+    by_instants : (r : Result (List Instant) VcdFault) → instants_from h.nets h.body ≡ r → malformed_step
+        (reading_by slots bound_groups h r).recorded ≡ None
+    by_instants (Ok instants) is = well_formed slots bound_groups instants (length instants) (omega arith)
+        (body_rises h.nets h.body instants is)
+    by_instants (Err fault) is =
+        let all : List Instant = instants_before_fault h.nets h.body in
+        well_formed slots bound_groups all (length all - 1) (omega arith) (before_fault_rises h.nets
+        (body_from ready h.body))
+
+-- so are they whatever follows a place of which nothing is read yet
+pub begun_formed : (slots : ℕ) (bound_groups : List BoundGroup) (made : Made) (r : Reached Made)
+    (tokens more : List Token) → IsBegun slots bound_groups made
+    → r.progress ≡ record { taken = made; time = 0; begun = false } → r.bracket ≡ None → r.place ≡ ready
+    → malformed_step (reading_until_fault (rest_until_fault made_change made_instant r tokens more)).recorded ≡ None
+begun_formed slots bound_groups made r tokens more begun progress bracket place =
+    let h : Headed = record { nets = r.nets; body = tokens ++ more } in
+    rw (progress, bracket, place) (subst (λ (reading : TextReading). malformed_step reading.recorded ≡ None)
+    (body_read slots bound_groups h made begun) (body_formed slots bound_groups h))
 
 -- the same, where nothing of it is read yet
 pub begun_reading : (own : Option BindFault) (slots : ℕ) (bound_groups : List BoundGroup) (head : Headed) (made : Made)

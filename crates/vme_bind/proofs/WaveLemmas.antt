@@ -69,14 +69,14 @@ end-leads p shown now touched (Some time) is h =
 
 -- ---- what is made behind another recording
 
-abbrev behind : Trace → Made → Made
+abbrev pub behind : Trace → Made → Made
 behind t m = record m { recorded = with_steps t m.recorded.steps }
 
-behind-change : (t : Trace) (m : Made) (net : ℕ) (bits : List Bit) → behind t (made_change m net bits)
+pub behind-change : (t : Trace) (m : Made) (net : ℕ) (bits : List Bit) → behind t (made_change m net bits)
     ≡ made_change (behind t m) net bits
 behind-change t m net bits = refl
 
-behind-instant : (t : Trace) (m : Made) (time : ℕ) → behind t (made_instant m time) ≡ made_instant (behind t m) time
+pub behind-instant : (t : Trace) (m : Made) (time : ℕ) → behind t (made_instant m time) ≡ made_instant (behind t m) time
 behind-instant t m time =
     let step : List Step = step_between time m.progress.shown m.progress.now in
     ap (λ (ss : List Step). record (made_instant m time) { recorded = record t { steps = ss } })

@@ -1,5 +1,5 @@
 -- The recording that a binding makes of a dump that is read piece by piece.
-use Rattle.std.specs.Prelude.{◌≡◌, ℕ, List, [], ◌++◌, Option, None, Some, Result, Ok, Err}
+use Rattle.std.specs.Prelude.{◌≡◌, ℕ, List, ◌++◌, Option, None, Some, Result, Ok, Err}
 use Rattle.vme_trace.specs.Trace.{Trace}
 use Rattle.vme_trace.specs.declared.step_visitor.StepVisitor.{Ghosts}
 use Rattle.vcd_read.specs.Fronts.{IsMetAtTheEnd}

@@ -1,10 +1,11 @@
 -- What reading the text of a dump by a binding comes to, also where it has a fault.
 use Rattle.std.specs.Prelude.{◌≡◌, ℕ, ◌-◌, List, [], length, Option, None, Some, Result, Ok, Err}
+use Rattle.vme_trace.specs.Followed.{with_steps}
 use Rattle.vme_trace.specs.Trace.{Trace}
 use Rattle.vme_trace.specs.declared.step_visitor.StepVisitor.{Ghosts}
 use Rattle.vcd_read.specs.Bodies.{UntilFault}
 use Rattle.vcd_read.specs.Header.{◌>>=◌, appended, nothing_declared}
-use Rattle.vcd_read.specs.Meaning.{instants_before_fault, instants_from}
+use Rattle.vcd_read.specs.Meaning.{instants_before_fault, instants_from, last_time_before_fault}
 use Rattle.vcd_read.specs.Reached.{rest_until_fault}
 use Rattle.vcd_read.specs.Sections.{Defined, Headed, header_of}
 use Rattle.vcd_read.specs.Taking.{at_end}
@@ -18,7 +19,7 @@ use Rattle.vcd_read.specs.declared.stopped.Stopped.{Stopped}
 use Rattle.vme_bind.specs.declared.bound_groups.BoundGroup.{BoundGroup}
 use Rattle.vme_bind.specs.declared.fault.BindFault.{BindFault}
 use Rattle.vme_bind.specs.declared.fault.CaptureFault.{CaptureFault}
-use Rattle.vme_bind.specs.declared.fault.CaptureFault.TheVariants.{Dump, Binding}
+use Rattle.vme_bind.specs.declared.fault.CaptureFault.TheVariants.{Binding}
 use Rattle.vme_bind.specs.Binding.{BoundLines}
 use Rattle.vme_bind.specs.BoundGroups.{bound_groups_in}
 use Rattle.vme_bind.specs.Capture.{recording}
@@ -27,19 +28,29 @@ use Rattle.vme_bind.specs.TextCapture.{or_binding, or_dump}
 use Rattle.vme_bind.specs.TextPieces.{TextReached, text_reached}
 use Rattle.vme_bind.specs.declared.text_state.TextPieces.{TextPieces}
 
--- The recording of the instants of a body that are complete, and the first fault of the body, if it has one.
+-- The recording of the instants of a body that are complete, the first fault of the body, if it has one, and the last
+-- time that the body tells before that or its end: 0 where it tells none.
 pub record TextReading : Type 0 where
   pub recorded : Trace
   pub fault : Option VcdFault
+  pub time : ℕ
 
 -- all instants are complete where there is no fault; with one, those before it are, but for the last: no later time
 -- follows that
 abbrev pub reading_by : ℕ → List BoundGroup → Headed → Result (List Instant) VcdFault → TextReading
 reading_by slots bound_groups h (Ok instants) =
-    record { recorded = recording slots bound_groups instants (length instants); fault = None }
+    record {
+      recorded = recording slots bound_groups instants (length instants);
+      fault = None;
+      time = last_time_before_fault h.nets h.body;
+    }
 reading_by slots bound_groups h (Err fault) =
     let instants = instants_before_fault h.nets h.body in
-    record { recorded = recording slots bound_groups instants (length instants - 1); fault = Some fault }
+    record {
+      recorded = recording slots bound_groups instants (length instants - 1);
+      fault = Some fault;
+      time = last_time_before_fault h.nets h.body;
+    }
 
 abbrev pub body_reading : ℕ → List BoundGroup → Headed → TextReading
 body_reading slots bound_groups h = reading_by slots bound_groups h (instants_from h.nets h.body)
@@ -55,14 +66,15 @@ reading_of_text b text = or_dump (header_of appended text (nothing_declared []) 
 
 -- ---- the same, as it is made
 
--- where this is recorded of the instants that a later time follows
-abbrev pub reading_made : Trace → Result Made VcdFault → TextReading
-reading_made complete (Ok made) = record { recorded = made.recorded; fault = None }
-reading_made complete (Err fault) = record { recorded = complete; fault = Some fault }
+-- where this is recorded of the instants that a later time follows, and this is the last time
+abbrev pub reading_made : Trace → ℕ → Result Made VcdFault → TextReading
+reading_made complete time (Ok made) = record { recorded = made.recorded; fault = None; time = time }
+reading_made complete time (Err fault) = record { recorded = complete; fault = Some fault; time = time }
 
 -- what comes of a body that is read so
 abbrev pub reading_until_fault : UntilFault Made → TextReading
-reading_until_fault read = reading_made read.reached.progress.taken.recorded (read.outcome >>= at_end made_instant)
+reading_until_fault read = reading_made read.reached.progress.taken.recorded read.reached.progress.time
+    (read.outcome >>= at_end made_instant)
 
 -- what comes of these tokens, and more behind them, where the recording is made so far
 abbrev pub reading_ahead : TextReached → List Token → List Token → TextReading
@@ -79,16 +91,21 @@ reading_from text piece more =
     let reached = text_reached text in
     or_fault reached.fault (reading_ahead reached (tokens_from reached.body.line piece) more)
 
+-- the same reading, where this was recorded before it
+abbrev pub following : Trace → TextReading → TextReading
+following t reading = record reading { recorded = with_steps t reading.recorded.steps }
+
 -- ---- what a reader answers
 
--- this is the first fault, and this is recorded before it, unless memory ran out
-abbrev pub StopsAs : ℕ → FaultKind → Trace → TextReading → Type 0
-StopsAs line Memory recorded reading = line ≡ 0
-StopsAs line kind recorded reading =
-    reading ≡ record { recorded = recorded; fault = Some (record { line = line; kind = kind }) }
+-- this is the first fault, and this is recorded before it, up to this time, unless memory ran out
+abbrev pub StopsAs : ℕ → FaultKind → Trace → ℕ → TextReading → Type 0
+StopsAs line Memory recorded time reading = line ≡ 0
+StopsAs line kind recorded time reading =
+    reading ≡ record { recorded = recorded; fault = Some (record { line = line; kind = kind }); time = time }
 
 abbrev pub IsStopped : {F : Type 0} → (F → Trace) → Stopped F → TextReading → Type 0
-IsStopped recorded stopped reading = StopsAs stopped.fault.line stopped.fault.kind (recorded stopped.visitor) reading
+IsStopped recorded stopped reading = StopsAs stopped.fault.line stopped.fault.kind (recorded stopped.visitor)
+    stopped.time reading
 
 -- what was read to leaves what comes of the text, whatever follows, or it is read up to its first fault
 abbrev pub ReadingContinuesAs : {F X : Type 0} → (X → List Token → TextReading) → (F → Trace) → Result X (Stopped F)
@@ -96,7 +113,8 @@ abbrev pub ReadingContinuesAs : {F X : Type 0} → (X → List Token → TextRea
 ReadingContinuesAs view recorded (Ok x) before = (more : List Token) → before more ≡ view x more
 ReadingContinuesAs view recorded (Err stopped) before = (more : List Token) → IsStopped recorded stopped (before more)
 
--- what a text comes to whose end is met
-abbrev pub ReadingEndsAs : {F : Type 0} → (F → Trace) → Result F (Stopped F) → TextReading → Type 0
-ReadingEndsAs recorded (Ok visitor) reading = reading ≡ record { recorded = recorded visitor; fault = None }
-ReadingEndsAs recorded (Err stopped) reading = IsStopped recorded stopped reading
+-- what a text comes to whose end is met, up to this time
+abbrev pub ReadingEndsAs : {F : Type 0} → (F → Trace) → ℕ → Result F (Stopped F) → TextReading → Type 0
+ReadingEndsAs recorded time (Ok visitor) reading =
+    reading ≡ record { recorded = recorded visitor; fault = None; time = time }
+ReadingEndsAs recorded time (Err stopped) reading = IsStopped recorded stopped reading

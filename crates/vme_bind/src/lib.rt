@@ -13,6 +13,7 @@
 //! - `capture`, `text_capture`: the recording of a dump that was read, and of a text that is read
 //!   once and isn't kept.
 //! - `text_pieces`, `text_state`: the recording of a text that comes piece by piece.
+//! - `laws`: what was recorded before a place is only the front of what is recorded.
 //! - `speculative_reader`, `assigned_lines`: pieces that are read before those in front of them, as
 //!   if these left given levels.
 //!
@@ -25,8 +26,10 @@
 //!   dump's text; the dump's first fault goes before one of the binding.
 //! - `Binding::record_text` and [`TextPieces`] give that recording step by step to what takes it,
 //!   and keep none of it (`gives`, `formed`, `TextContinuesAs`). With a fault of the dump what took
-//!   the steps of the instants that are complete before it can be had (`TextContinuesOrStops`), and
-//!   a fault of the binding is known before the body (`binding_fault`).
+//!   the steps of the instants that are complete before it can be had, with the last time there
+//!   (`ReadingContinuesAs`), and a fault of the binding is known before the body (`binding_fault`).
+//! - What was recorded before a place of a text has no part in what follows it
+//!   ([`recorded_before_is_a_front`]).
 //! - A piece that [`SpeculativeReader`] reads ahead may be joined exactly where the levels before
 //!   it are those that it was read from (`MayFollowLevels`). Its steps are then those of reading it
 //!   in its place (`IsJoined`). `levels_behind` has exactly the levels that it leaves where others
@@ -58,6 +61,7 @@ mod capture;
 mod capture_builder;
 mod fault;
 mod group;
+mod laws;
 mod net_lines;
 mod path_search;
 mod pushing;
@@ -75,5 +79,7 @@ mod words;
 
 pub use binding::{Binding, read_binding};
 pub use fault::{BindFault, BindKind, CaptureFault};
+pub use laws::recorded_before_is_a_front;
 pub use speculative_reader::{SpeculativeChunk, SpeculativeReader};
+pub use step_collector::StepCollector;
 pub use text_state::TextPieces;

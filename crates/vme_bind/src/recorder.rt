@@ -5,7 +5,7 @@ ghost use Rattle.std.specs.Prelude.{◌↔◌, IsTrue, [], true};
 ghost use Rattle.vcd_read.specs.DetachedPieces.{entered};
 ghost use Rattle.std.specs.List.Sorted.{IsNonDecreasing};
 ghost use Rattle.vme_trace.specs.LineNumbers.{line_count};
-ghost use Rattle.vme_trace.specs.Levels.{set_level};
+ghost use Rattle.vme_trace.specs.Levels.{same_level, set_level};
 ghost use Rattle.vme_trace.specs.Trace.{changed, levels_after};
 ghost use Rattle.vcd_read.specs.Numbers.{extended};
 ghost use Rattle.vme_bind.specs.Capture.{level_of, level_in};
@@ -72,12 +72,22 @@ fn level_in(line_bit: LineBit, bits: &[Bit]) -> Level
 }
 
 /// What the digits of a value say of the line of a tap.
+#[inline(always)]
 pub(crate) fn level_by_digits(line_bit: LineBit, size: u32, digits: &[u8]) -> Level
     requires some { 0 < length digits.now }
     requires fits { length digits.now ≤ size }
     ensures { result ≡ level_in line_bit.line line_bit.place (extended size digits.now) }
 {
     level_of(line_bit.line, bit_at(size, digits, line_bit.place))
+}
+
+/// Whether the two are one level: they are compared by their variants, at once.
+#[tactic(auto, using(crate::proofs::SameLevel::same))]
+#[inline(always)]
+fn is_same(first: Level, second: Level) -> bool
+    ensures { result ≡ same_level first second }
+{
+    first == second
 }
 
 /// The changes from the levels that were shown to those of now, on the lines that were touched, in the order of their
@@ -97,7 +107,7 @@ fn show(
     let mut changes = SmallVec::with_capacity(alloc, touched.len())?;
     for line in touched {
         let level = now.level(*line);
-        if !shown.level(*line).is_same(level) {
+        if !is_same(shown.level(*line), level) {
             changes.push_reserved(Change { line: *line, level });
             shown.set(*line, level);
         }
@@ -125,7 +135,7 @@ impl Recorder {
         ensures slots { self.new.now.slots ≡ self.old.now.slots }
         ensures ok { OnOk result (self.new ≡ record self.old { now = set_level self.old.now line level }) }
     {
-        if !self.shown.level(line).is_same(level) {
+        if !is_same(self.shown.level(line), level) {
             push(&mut self.touched, line)?;
         }
         self.now.set(line, level);
@@ -241,17 +251,16 @@ impl Recorder {
         ensures step { step_in result ≡ step_between time self.old.shown self.old.now }
     {
         let level = self.now.level(line);
-        let is_shown = self.shown.level(line).is_same(level);
+        let is_shown = is_same(self.shown.level(line), level);
         self.shown.set(line, level);
         self.touched.clear();
         if is_shown {
             return None;
         }
-        let mut changes = SmallVec::new(alloc);
-        changes.push_reserved(Change { line, level });
+        let change = Change { line, level };
         Some(Step {
             time,
-            changes: Changes::new(changes),
+            changes: Changes::new(SmallVec::from_buf_and_len(alloc, [change; 8], 1)),
         })
     }
 

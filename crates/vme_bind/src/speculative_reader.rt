@@ -113,6 +113,13 @@ impl SpeculativeReader {
         self.pieces.line()
     }
 
+    /// The last time that was read, or 0.
+    pub fn time(&self) -> u64
+        ensures { result ≡ self.now.body.progress.time }
+    {
+        self.pieces.time()
+    }
+
     /// The levels after the steps so far.
     pub fn shown(&self) -> &Lines
         ensures { result.now ≡ self.now.body.progress.taken.shown }

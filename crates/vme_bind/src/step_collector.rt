@@ -5,9 +5,9 @@ use vme_trace::{Lines, Step, StepVisitor};
 
 /// The opening and the steps of a recording, which are kept.
 #[derive(Drop)]
-pub(crate) struct StepCollector {
-    pub(crate) opening: Lines,
-    pub(crate) steps: Vec<Step>,
+pub struct StepCollector {
+    pub opening: Lines,
+    pub steps: Vec<Step>,
 }
 
 impl StepVisitor for StepCollector {

@@ -1,13 +1,15 @@
 //! The recording of a dump that is read piece by piece.
 
-ghost use Rattle.std.specs.Prelude.{◌≡◌, ◌↔◌, ◌++◌, ℕ, IsTrue, List, [], IfOk, None, Some, map, replicate};
+ghost use Rattle.std.specs.Prelude.{◌≡◌, ◌↔◌, ◌++◌, ◌-◌, ℕ, IsTrue, List, [], IfOk, None, Some, drop, length, map};
+ghost use Rattle.std.specs.Prelude.{replicate};
 ghost use Rattle.std.specs.List.{fold};
 ghost use Rattle.std.specs.Option.{ForSome};
 ghost use Rattle.vme_trace.specs.LineNumbers.{line_count};
+ghost use Rattle.vme_trace.specs.WellFormed.{malformed_step};
 ghost use Rattle.vme_trace.specs.declared.level.Level.TheVariants.{Unknown};
 ghost use Rattle.vcd_read.specs.Body.{ready};
 ghost use Rattle.vcd_read.specs.Reading.{line_behind};
-ghost use Rattle.vcd_read.specs.Tokens.{tokens_from};
+ghost use Rattle.vcd_read.specs.Tokens.{Token, tokens_from};
 ghost use Rattle.vcd_read.specs.declared.dump.Variable.{Variable};
 ghost use Rattle.vcd_read.specs.Fronts.{going_on};
 ghost use Rattle.vcd_read.specs.Sections.{defined};
@@ -42,6 +44,10 @@ fn begin_bound_groups<'a, F: StepVisitor>(
     requires lines { lines.now.levels ≡ replicate line_count Unknown }
     requires own { ForSome fault IsOfBinding }
     ensures line { IfOk result (λ begun. line_behind (text_reached begun.0).body.line begun.1.now ≡ front.entry.line) }
+    ensures left { IfOk result (λ begun. begun.1.now ≡ front.entry.left) }
+    ensures none { IfOk result (λ begun. (text_reached begun.0).body.progress.taken.recorded.steps ≡ []) }
+    ensures formed { IfOk result (λ begun. (ts more : List Token)
+        → malformed_step (reading_ahead (text_reached begun.0) ts more).recorded ≡ None) }
     ensures rest { TextContinuesAs (λ begun. outcome_from begun.0 begun.1.now) result
         (λ more. body_outcome fault lines.now.slots bound_groups.now (going_on front.entry.head more)) }
     ensures reading { TextContinuesAs (λ begun. reading_from begun.0 begun.1.now) result
@@ -60,11 +66,17 @@ fn begin_bound_groups<'a, F: StepVisitor>(
 fn visitor_of<F: StepVisitor>(stopped: Stopped<CaptureBuilder<F>>) -> Stopped<F>
     ensures fault { result.fault ≡ stopped.fault }
     ensures visitor { F.recorded result.visitor ≡ stopped.visitor.recorded }
+    ensures time { result.time ≡ stopped.time }
 {
-    let Stopped { fault, visitor } = stopped;
+    let Stopped {
+        fault,
+        visitor,
+        time,
+    } = stopped;
     Stopped {
         fault,
         visitor: visitor.into_visitor(),
+        time,
     }
 }
 
@@ -101,6 +113,12 @@ impl Binding {
     ) -> Result<Result<(TextPieces<F>, &'a [u8]), F>, CaptureFault>
         ensures line { IfOk result (λ found. IfOk found (λ begun.
             line_behind (text_reached begun.0).body.line begun.1.now ≡ line_behind 1 front.now)) }
+        ensures left { IfOk result (λ found. IfOk found (λ begun.
+            begun.1.now ≡ drop (length front.now - length begun.1.now) front.now)) }
+        ensures none { IfOk result (λ found. IfOk found (λ begun.
+            (text_reached begun.0).body.progress.taken.recorded.steps ≡ [])) }
+        ensures formed { IfOk result (λ found. IfOk found (λ begun. (ts more : List Token)
+            → malformed_step (reading_ahead (text_reached begun.0) ts more).recorded ≡ None)) }
         ensures begins { TextBeginsAs (λ begun. outcome_from begun.0 begun.1.now) self.now front.now result }
         ensures reading { BeginsAs (reading_of_text self.now) (λ begun. reading_from begun.0 begun.1.now) front.now
             result }
@@ -131,6 +149,10 @@ impl Binding {
     ) -> Result<(TextPieces<F>, &'a [u8]), CaptureFault>
         ensures line { IfOk result (λ begun.
             line_behind (text_reached begun.0).body.line begun.1.now ≡ front.entry.line) }
+        ensures left { IfOk result (λ begun. begun.1.now ≡ front.entry.left) }
+        ensures none { IfOk result (λ begun. (text_reached begun.0).body.progress.taken.recorded.steps ≡ []) }
+        ensures formed { IfOk result (λ begun. (ts more : List Token)
+            → malformed_step (reading_ahead (text_reached begun.0) ts more).recorded ≡ None) }
         ensures rest { (variables : List Variable)
             → map seen_in search.now.sought.items ≡ fold with_variable (map unseen self.now.assignments) variables
             → TextContinuesAs (λ begun. outcome_from begun.0 begun.1.now) result
@@ -207,7 +229,8 @@ impl<F: StepVisitor> TextPieces<F> {
     /// What took the recording of the dump, of which nothing is left, whatever its binding has. With a fault, an item
     /// or a bracket that isn't ended, comes what took the steps of the instants that a later time follows.
     pub fn finish_or_stop(self, alloc: Global) -> Result<F, Stopped<F>>
-        ensures { ReadingEndsAs (λ f. F.recorded f) result (reading_ahead (text_reached self) [] []) }
+        ensures { ReadingEndsAs (λ f. F.recorded f) (text_reached self).body.progress.time result
+            (reading_ahead (text_reached self) [] []) }
     {
         match self.pieces.finish_or_stop(alloc) {
             Ok(made) => Ok(made.into_visitor()),

@@ -829,8 +829,9 @@ fn stopped_by(alloc: Global, body: [&str; 3]) -> Result<Stopped<KeptSteps>, Fail
     Ok(text.finish_or_stop(alloc).err().ok_or("no fault")?)
 }
 
-/// Pieces of a body, the line and kind of its first fault, and the steps of the instants that end before it.
-const STOPS: [([&str; 3], u64, FaultKind, &str); 4] = [
+/// Pieces of a body, the line and kind of its first fault, the steps of the instants that end before it, and the last
+/// time before it.
+const STOPS: [([&str; 3], u64, FaultKind, &str, u64); 4] = [
     (
         [
             "#0 1p 1q 1r 1s 1t 1u\n",
@@ -840,35 +841,44 @@ const STOPS: [([&str; 3], u64, FaultKind, &str); 4] = [
         13,
         FaultKind::UndeclaredCode,
         "#0 AS=1 DS0=1 DS1=1 DTACK=1 BERR=1 IACK=1\n#10 AS=0\n#20 DS0=0\n",
+        30,
     ),
     (
         ["#0 1p 1q 1r 1s 1t 1u 2p\n", "", ""],
         10,
         FaultKind::BadToken,
         "",
+        0,
     ),
     (
         ["", "#0 1p 1q 1r 1s 1t 1u\n#10 0p\n", "#5 1p\n"],
         12,
         FaultKind::TimeBackwards,
         "#0 AS=1 DS0=1 DS1=1 DTACK=1 BERR=1 IACK=1\n",
+        10,
     ),
     (
         ["#0 1p 1q 1r 1s 1t 1u\n", "#10 0p\n#20\n", "$dumpvars 0q\n"],
         13,
         FaultKind::UnfinishedSection,
         "#0 AS=1 DS0=1 DS1=1 DTACK=1 BERR=1 IACK=1\n#10 AS=0\n",
+        20,
     ),
 ];
 
 #[test]
 fn a_fault_comes_with_the_steps_before_it(rt: HostRuntime) -> Result<(), Fail> {
     let alloc = rt.alloc();
-    for (body, line, kind, steps) in STOPS {
-        let Stopped { fault, visitor } = stopped_by(alloc, body)?;
+    for (body, line, kind, steps, last) in STOPS {
+        let Stopped {
+            fault,
+            visitor,
+            time,
+        } = stopped_by(alloc, body)?;
         assert!(rt; fault == VcdFault { line, kind }, "{fault}");
         let found = written(alloc, &visitor.steps)?;
         assert!(rt; found.as_slice() == steps.as_bytes(), "line {line}");
+        assert!(rt; time == last, "line {line}: {time}");
     }
     Ok(())
 }

@@ -1,3 +1,4 @@
+pub mod AllowanceLemmas
 pub mod CheckLemmas
 pub mod ConfirmLemmas
 pub mod ExplainLemmas

@@ -11,8 +11,9 @@
 //! - `dump_judge`, `judged_dump`, `workers`: a dump that is judged as it is read, in which pieces
 //!   and by how many.
 //! - `settled`: the recording settled by a skew ([`unsettled`]: by 0 it is itself).
-//! - `words`, `built_in`, `telling`, `input_fault`: what the words name and how a call without an
-//!   order ends; what is used where no words say it; how texts and faults are told.
+//! - `allowance`, `words`, `built_in`, `telling`, `input_fault`: which breaks the words of an audit
+//!   allow; what the words name and how a call without an order ends; what is used where no words
+//!   say it; how texts and faults are told. The audit itself is vme_audit_command's.
 //!
 //! # What is proved
 //!
@@ -25,6 +26,7 @@
 //! - `explain` begins with the line that `check` writes, and has its status (`Explains`). `bind`
 //!   writes only a binding that makes a recording of that dump (`IsBindingFor`). [`words_status`]:
 //!   3 for wrong words; help and version 0, or 5 where they weren't written.
+//! - [`allowance_of`] reads each allowance from its text, and nothing else from any text.
 //!
 //! # What isn't proved
 //!
@@ -42,6 +44,7 @@
 //! `check`, `settled`, `judged_dump`; then the other commands.
 #![tactic(auto)]
 
+mod allowance;
 pub mod bind;
 mod built_in;
 pub mod check;
@@ -58,6 +61,7 @@ mod variables;
 mod words;
 mod workers;
 
+pub use allowance::{allowance_of, allowances_of};
 pub use built_in::{BLOCK, BUILT_IN, READS_TERMINAL};
 pub use rules::tell_rules;
 pub use settled::unsettled;

@@ -10,9 +10,9 @@ use vme_commands::check::check;
 use vme_commands::confirm::confirm_with;
 use vme_commands::explain::explain;
 use vme_commands::list::list;
-use vme_commands::{BLOCK, BUILT_IN};
+use vme_commands::{BLOCK, BUILT_IN, allowance_of, allowances_of};
 use vme_stream::{Bytes, Io};
-use vme_trace::{Failed, Sink, Source};
+use vme_trace::{Failed, Line, Rule, Sink, Source};
 use vme_words::words::order;
 use vme_words::{Order, OrderFault, Task, task_fault};
 
@@ -664,6 +664,115 @@ fn orders(rt: HostRuntime) -> Result<(), Fail> {
     Ok(())
 }
 
+/// The texts, each with a space behind it.
+fn joined(alloc: Global, texts: &[String]) -> Result<String, AllocError> {
+    let mut all = String::new(alloc);
+    for text in texts {
+        all.push_str(text.as_str())?;
+        all.push_str(" ")?;
+    }
+    Ok(all)
+}
+
+#[test]
+fn audits_are_ordered(rt: HostRuntime) -> Result<(), Fail> {
+    for (line, numbers, stop, is_quiet, texts) in [
+        (
+            "vmecheck audit B V",
+            (1, 0, 4),
+            None,
+            false,
+            ("B V ", "", "none"),
+        ),
+        (
+            "vmecheck audit --allow H4 B V --quiet --stop 2 - --allow=C2=AS W --junit=F --workers 64",
+            (1, 0, 64),
+            Some(2),
+            true,
+            ("B V - W ", "H4 C2=AS ", "F"),
+        ),
+        (
+            "vmecheck audit --transfers 18446744073709551615 --skew=7 --stop=1 -- B --quiet",
+            (u64::MAX, 7, 4),
+            Some(1),
+            false,
+            ("B --quiet ", "", "none"),
+        ),
+    ] {
+        let words = words_of(rt.alloc(), line)?;
+        let Ok(order) = order(rt.alloc(), words.as_slice()) else {
+            assert!(rt; false, "{line}");
+            return Ok(());
+        };
+        let Some(audit) = &order.audit else {
+            assert!(rt; false, "{line}");
+            return Ok(());
+        };
+        assert_eq!(rt; order.command, Task::Audit, "{line}");
+        assert_eq!(rt;
+            (audit.transfers, order.skew, order.workers),
+            numbers,
+            "{line}"
+        );
+        assert_eq!(rt; (audit.stop, audit.is_quiet), (stop, is_quiet), "{line}");
+        let (names, allowed, junit) = texts;
+        assert!(rt;
+            joined(rt.alloc(), &order.names)?.as_str() == names,
+            "{line}"
+        );
+        assert!(rt;
+            joined(rt.alloc(), &audit.allowed)?.as_str() == allowed,
+            "{line}"
+        );
+        match &audit.junit {
+            Some(path) => assert!(rt; path.as_str() == junit, "{line}"),
+            None => assert!(rt; junit == "none", "{line}"),
+        }
+    }
+    Ok(())
+}
+
+#[test]
+fn allowances_are_read(rt: HostRuntime) -> Result<(), Fail> {
+    for (text, rule, line) in [
+        (b"H4".as_slice(), Rule::H4, None),
+        (b"U1=AS".as_slice(), Rule::U1, Line::from_name(b"AS")),
+        (
+            b"G3=BG3.21".as_slice(),
+            Rule::G3,
+            Line::from_name(b"BG3.21"),
+        ),
+    ] {
+        match allowance_of(text) {
+            Some(read) => assert!(rt; read.rule == rule && read.line == line),
+            None => assert!(rt; false),
+        }
+    }
+    for text in [
+        b"".as_slice(),
+        b"H9",
+        b"h4",
+        b"H4=",
+        b"=AS",
+        b"H4=AS=",
+        b"H4 =AS",
+    ] {
+        assert!(rt; allowance_of(text).is_none());
+    }
+    for (line, count) in [
+        ("H4", Some(1)),
+        ("H4=AS H4 U1=DS0", Some(3)),
+        ("H4 H9 U1", None),
+    ] {
+        let texts = words_of(rt.alloc(), line)?;
+        match allowances_of(rt.alloc(), texts.as_slice())? {
+            Some(all) => assert_eq!(rt; Some(all.len()), count, "{line}"),
+            None => assert_eq!(rt; None, count, "{line}"),
+        }
+    }
+    Ok(())
+}
+
 #[test]
 fn scopes_are_ordered(rt: HostRuntime) -> Result<(), Fail> {
     for (line, wanted) in [
@@ -827,12 +936,21 @@ fn usage(rt: HostRuntime) -> Result<(), Fail> {
         ("vmecheck bind --slots 22 V", false),
         ("vmecheck explain B", false),
         ("vmecheck explain --gtkw B V", false),
+        ("vmecheck audit", false),
+        ("vmecheck audit B", false),
+        ("vmecheck audit --stop 0 B V", false),
+        ("vmecheck audit --stop 1 --stop 2 B V", false),
+        ("vmecheck audit --quiet --quiet B V", false),
+        ("vmecheck audit --block 5 B V", false),
+        ("vmecheck audit --allow B V", false),
+        ("vmecheck audit --transfers -1 B V", false),
         ("vmecheck help", true),
         ("vmecheck --version", true),
         ("vmecheck --help", true),
         ("vmecheck check -h", true),
         ("vmecheck list --help", true),
         ("vmecheck confirm -h", true),
+        ("vmecheck audit --help", true),
     ] {
         let words = words_of(rt.alloc(), line)?;
         let answer = order(rt.alloc(), words.as_slice());

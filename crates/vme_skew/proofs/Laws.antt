@@ -173,7 +173,7 @@ pub step_to-first : (skew : ℕ) (t : Trace) → step_to skew t 0 ≡ []
 unfolding group_start
 step_to-first skew t = nothing-between (time_at t 0) (levels_at t 0)
 
-few : (skew : ℕ) (t : Trace) (n : ℕ) → (length (steps_before skew t n) ≤ n - 1)
+pub few : (skew : ℕ) (t : Trace) (n : ℕ) → (length (steps_before skew t n) ≤ n - 1)
     × (length (steps_before skew t n ++ step_to skew t n) ≤ n)
 unfolding steps_before
 few skew t zero = (omega arith, omega (arith, ap length (step_to-first skew t)))
@@ -219,7 +219,7 @@ no_longer skew t = (few skew t (length t.steps)).1
 later_than : (a b : ℕ) → nat_lt a b ≡ true → nat_lt (a + 0) b ≡ true
 later_than a b h = grind (arith, nat_tests)
 
-first_or : (n : ℕ) (b c : Bool) → ((n == 0) || b) ≡ true → (b ≡ true → c ≡ true) → ((n == 0) || c) ≡ true
+pub first_or : (n : ℕ) (b c : Bool) → ((n == 0) || b) ≡ true → (b ≡ true → c ≡ true) → ((n == 0) || c) ≡ true
 first_or n b c h more = by_test (n == 0) h
   where
     by_test : (first : Bool) → (first || b) ≡ true → (first || c) ≡ true
@@ -400,7 +400,7 @@ one-more o xs v w time leads h = by_test (any (differs v w) 0 line_count) refl
           earlier = elim h.earlier [ inl e ↦ inl e | inr lt ↦ inr (omega (arith, lt)) ];
         })
 
-begins_is : (i a b : ℕ) → ((i == 0) || nat_lt a b) ≡ true → (i ≡ 0) ⊎ (a < b)
+pub begins_is : (i a b : ℕ) → ((i == 0) || nat_lt a b) ≡ true → (i ≡ 0) ⊎ (a < b)
 begins_is zero a b h = inl refl
 begins_is (suc i) a b h = inr (less a b (no_first (suc i == 0) (nat_lt a b) (not_first i) h))
   where

@@ -1,6 +1,9 @@
 pub mod Between
+pub mod Complete
 pub mod Grouping
 pub mod Growing
+pub mod Grown
 pub mod Laws
+pub mod SettlerSteps
 pub mod StepByStep
 pub mod WorkedAgree

@@ -2,11 +2,19 @@
 use Rattle.std.proofs.Common.{refl}
 use Rattle.vme_trace.specs.Instants.{any, those}
 use Rattle.vme_trace.specs.Trace.{changed, levels_at}
-use Rattle.vme_skew.specs.Settled.{group_start, settled, steps_before}
+use Rattle.vme_skew.specs.Settled.{group_start, settled, settled_until, steps_before}
 use Rattle.vme_skew.specs.Worked.{AllSettle, worked, just_within, just_past, by_nothing, over_all, greatest, glitch}
 use Rattle.vme_skew.specs.Worked.{ends_as_it_began, reset_and_loss_within, reset_and_loss_last, nothing}
+use Rattle.vme_skew.specs.Worked.{AllComplete, worked_times, later_by_the_skew, later_by_more, first_by_the_skew}
+use Rattle.vme_skew.specs.Worked.{first_by_more, reaches_none, never_over, by_nothing_at_last, by_nothing_behind}
+use Rattle.vme_skew.specs.Worked.{over_without_step}
 
 pub worked_settle : AllSettle worked
 unfolding settled steps_before group_start levels_at changed any those just_within just_past by_nothing over_all
     greatest glitch ends_as_it_began reset_and_loss_within reset_and_loss_last nothing
 worked_settle = (refl, (refl, (refl, (refl, (refl, (refl, (refl, (refl, (refl, (refl, tt))))))))))
+
+pub worked_complete : AllComplete worked_times
+unfolding settled_until settled steps_before group_start levels_at changed any those later_by_the_skew later_by_more
+    first_by_the_skew first_by_more reaches_none never_over by_nothing_at_last by_nothing_behind over_without_step
+worked_complete = (refl, (refl, (refl, (refl, (refl, (refl, (refl, (refl, (refl, tt)))))))))

@@ -1,3 +1,4 @@
 pub mod Settled
 pub mod Worked
 pub mod Group
+pub mod Settling

@@ -1,7 +1,7 @@
 -- A recording by probes that tell one moment of the bus at several times, and what it settles to: its instants are
 -- taken in groups, of which each makes one step.
 use Rattle.std.specs.Prelude.{◌≡◌, ℕ, zero, suc, Bool, ◌+◌, ◌-◌, ◌==◌, ◌||◌, List, [], ◌++◌, length, nat_lt, None}
-use Rattle.std.specs.Prelude.{if◌then◌else◌}
+use Rattle.std.specs.Prelude.{filter, if◌then◌else◌}
 use Rattle.vme_trace.specs.LineNumbers.{line_count}
 use Rattle.vme_trace.specs.Trace.{Trace, levels_at, time_at, last_instant}
 use Rattle.vme_trace.specs.WellFormed.{malformed_step}
@@ -39,3 +39,12 @@ module _ (skew : ℕ) (t : Trace) where
 unfoldable pub settled : ℕ → Trace → Trace
 settled skew t =
     record t { steps = steps_before skew t (last_instant t) ++ step_to skew t (last_instant t) }
+
+-- an instant of a settled recording is complete once a time is read that is more than the skew later: no step that
+-- follows belongs to its group
+abbrev pub is_complete : ℕ → ℕ → Step → Bool
+is_complete skew time step = nat_lt (step.time + skew) time
+
+-- a recording settled by a skew as far as it is complete once a time is read
+unfoldable pub settled_until : ℕ → ℕ → Trace → Trace
+settled_until skew time t = record t { steps = filter (is_complete skew time) (settled skew t).steps }

@@ -6,7 +6,7 @@ use Rattle.vme_trace.specs.declared.level.Level.{Level}
 use Rattle.vme_trace.specs.declared.level.Level.TheVariants.{Low, High, Unknown}
 use Rattle.vme_trace.specs.declared.step.Change.{Change}
 use Rattle.vme_trace.specs.declared.step.Step.{Step}
-use Rattle.vme_skew.specs.Settled.{settled}
+use Rattle.vme_skew.specs.Settled.{settled, settled_until}
 
 -- the steps behind an opening of which every line is high, a skew, and the steps that they settle to
 pub record WorkedGroups : Type 0 where
@@ -117,3 +117,74 @@ abbrev pub worked : List WorkedGroups
 worked =
     just_within ∷ just_past ∷ by_nothing ∷ over_all ∷ greatest ∷ glitch ∷ ends_as_it_began ∷ reset_and_loss_within
     ∷ reset_and_loss_last ∷ nothing ∷ []
+
+-- ---- what is complete once a time is read
+
+-- the steps behind an opening of which every line is high, a skew, a time, and the settled steps that are complete once
+-- it is read
+pub record WorkedTime : Type 0 where
+  pub steps : List Step
+  pub skew : ℕ
+  pub time : ℕ
+  pub complete : List Step
+
+-- so much is complete of each of these
+abbrev pub AllComplete : List WorkedTime → Type 0
+AllComplete [] = Unit {0}
+AllComplete (w ∷ ws) =
+    (settled_until w.skew w.time (from_high w.steps) ≡ from_high w.complete) × AllComplete ws
+
+abbrev first_group : List Step
+first_group = at 10 (low AS ∷ low DTACK ∷ []) ∷ []
+
+abbrev both_groups : List Step
+both_groups = at 10 (low AS ∷ low DTACK ∷ []) ∷ at 15 (low BBSY ∷ []) ∷ []
+
+-- a time that is later than a group by just the skew doesn't end it: a step at that time belongs to it
+unfoldable pub later_by_the_skew : WorkedTime
+later_by_the_skew = record { steps = three_falls; skew = 3; time = 18; complete = first_group }
+
+-- one that is later by one more ends it
+unfoldable pub later_by_more : WorkedTime
+later_by_more = record { steps = three_falls; skew = 3; time = 19; complete = both_groups }
+
+-- so it is of the group before
+unfoldable pub first_by_the_skew : WorkedTime
+first_by_the_skew = record { steps = three_falls; skew = 3; time = 13; complete = [] }
+
+unfoldable pub first_by_more : WorkedTime
+first_by_more = record { steps = three_falls; skew = 3; time = 14; complete = first_group }
+
+-- a time that reaches no group
+unfoldable pub reaches_none : WorkedTime
+reaches_none = record { steps = three_falls; skew = 3; time = 0; complete = [] }
+
+-- by the greatest skew no time ends a group
+unfoldable pub never_over : WorkedTime
+never_over = record { steps = three_falls; skew = 2 ^ 64 - 1; time = 2 ^ 64 - 1; complete = [] }
+
+-- by no skew all is complete that is earlier than the time
+unfoldable pub by_nothing_at_last : WorkedTime
+by_nothing_at_last = record {
+  steps = three_falls;
+  skew = 0;
+  time = 15;
+  complete = at 10 (low DTACK ∷ []) ∷ at 13 (low AS ∷ []) ∷ [];
+}
+
+unfoldable pub by_nothing_behind : WorkedTime
+by_nothing_behind = record { steps = three_falls; skew = 0; time = 16; complete = three_falls }
+
+-- a group that ends as it began is over without a step
+unfoldable pub over_without_step : WorkedTime
+over_without_step = record {
+  steps = at 4 (low AS ∷ []) ∷ at 5 (high AS ∷ []) ∷ [];
+  skew = 1;
+  time = 20;
+  complete = [];
+}
+
+abbrev pub worked_times : List WorkedTime
+worked_times =
+    later_by_the_skew ∷ later_by_more ∷ first_by_the_skew ∷ first_by_more ∷ reaches_none ∷ never_over
+    ∷ by_nothing_at_last ∷ by_nothing_behind ∷ over_without_step ∷ []

@@ -1,6 +1,8 @@
 //! The group of steps at hand.
 
-ghost use Rattle.std.specs.Prelude.{◌≡◌, ◌+◌, IfOk, OnOk, false, true, get_or, length, nat_lt, replicate, slice_set};
+ghost use Rattle.std.specs.Prelude.{◌≡◌, ◌+◌, [], IfOk, OnOk, false, true, get_or, length, nat_lt, replicate};
+ghost use Rattle.std.specs.Prelude.{if◌then◌else◌, slice_set};
+ghost use Rattle.std.specs.Option.{option_to_list};
 ghost use Rattle.std.specs.List.Sorted.{IsNonDecreasing};
 ghost use Rattle.vme_trace.specs.LineNumbers.{line_count};
 ghost use Rattle.vme_trace.specs.Levels.{set_level};
@@ -152,6 +154,20 @@ impl StepGroup {
         Ok(())
     }
 
+    /// Takes the changes of the step that follows, of which nothing is known: those of lines that the backplane hasn't
+    /// are left out.
+    pub fn take_any(&mut self, changes: &[Change]) -> Result<(), AllocError>
+        ensures { ChangeLines self.old.now.slots changes.now
+            → OnOk result (self.new ≡ record self.old { now = changed self.old.now changes.now }) }
+    {
+        for change in changes {
+            if self.now.has(change.line) {
+                self.set_line(*change)?;
+            }
+        }
+        Ok(())
+    }
+
     /// Ends the group, which makes a step if some line has another level behind it than before it. The next one begins
     /// at this time.
     pub fn end(&mut self, alloc: Global, next: u64) -> Result<Option<Step>, AllocError>
@@ -172,5 +188,23 @@ impl StepGroup {
             time,
             changes: Changes::new(changes),
         }))
+    }
+
+    /// Ends the group if it is said to end: then the next one begins at this time.
+    pub fn end_if(
+        &mut self,
+        alloc: Global,
+        is_last: bool,
+        next: u64,
+    ) -> Result<Option<Step>, AllocError>
+        ensures begun { OnOk result (self.new ≡ (if is_last then begun next self.old.now else self.old)) }
+        ensures step { IfOk result (λ step. option_to_list step
+            ≡ (if is_last then step_between self.old.start self.old.before self.old.now else [])) }
+    {
+        if is_last {
+            self.end(alloc, next)
+        } else {
+            Ok(None)
+        }
     }
 }

@@ -11,6 +11,8 @@
 //! - `specs/Settled`: the definition.
 //! - `settling`, `group`: [`settle`], which makes the settled recording in one pass, and the group
 //!   at hand.
+//! - `step_settler`: [`StepSettler`], which settles steps as they come and keeps none of them;
+//!   `specs/Settling` says what it has come to.
 //! - The functions of this file: laws of the definition, whose contracts are what they say.
 //!
 //! # What is proved
@@ -21,25 +23,38 @@
 //! of the recording ([`levels_are_kept`]). [`worked_recordings`] computes recordings at the bounds
 //! of groups.
 //!
+//! A group is complete once a time is read that is more than the skew later than its beginning
+//! (`settled_until`). That much is a front of the settled recording ([`settled_until_is_front`]),
+//! and a recording ([`settled_until_is_recording`]); it stays so as the recording goes on
+//! ([`settled_until_grows`]); by a skew of 0 it is all that is earlier
+//! ([`settled_until_by_zero`]). What comes out of a [`StepSettler`] is at any time exactly what is
+//! complete (`settled`), and all once it ends, for steps of a recording that come no earlier than a
+//! time that is known.
+//!
 //! # What isn't proved
 //!
-//! How much work [`settle`] takes. Which skew fits a probe is for its user to know: two edges of
-//! the bus that lie within the skew become one instant, and their order is lost.
+//! How much work [`settle`] takes, and a [`StepSettler`]. Which skew fits a probe is for its user
+//! to know: two edges of the bus that lie within the skew become one instant, and their order is
+//! lost.
 //!
 //! # Limits
 //!
 //! A skew is a number below 2^64, in the time unit of the dump. Start reading at `specs/Settled`.
 #![tactic(auto)]
 
-ghost use Rattle.std.specs.Prelude.{◌≡◌, ◌≤◌, ◌++◌, ℕ, length};
+ghost use Rattle.std.specs.Prelude.{◌≡◌, ◌≤◌, ◌<◌, ◌++◌, ℕ, All, List, length};
+ghost use Rattle.vme_trace.specs.Followed.{with_steps};
 ghost use Rattle.vme_trace.specs.Trace.{Trace, levels_after, levels_at};
-ghost use Rattle.vme_skew.specs.Settled.{IsRecording, settled, step_to, steps_before};
-ghost use Rattle.vme_skew.specs.Worked.{AllSettle, worked};
+ghost use Rattle.vme_trace.specs.declared.step.Step.{Step};
+ghost use Rattle.vme_skew.specs.Settled.{IsRecording, settled, settled_until, step_to, steps_before};
+ghost use Rattle.vme_skew.specs.Worked.{AllComplete, AllSettle, worked, worked_times};
 
 mod group;
 mod settling;
+mod step_settler;
 
 pub use settling::settle;
+pub use step_settler::StepSettler;
 
 /// Settled by 0 a recording is itself.
 pub fn settled_by_zero()
@@ -59,7 +74,38 @@ pub fn levels_are_kept()
         → levels_after t.opening (steps_before skew t n ++ step_to skew t n) ≡ levels_at t n }
 {}
 
-/// Worked recordings at the bounds of groups.
+/// What is complete once a time is read is a front of the settled recording.
+pub fn settled_until_is_front()
+    ensures { (skew time : ℕ) (t : Trace)
+        → (rest : List Step) × (settled skew t ≡ with_steps (settled_until skew time t) rest) }
+{}
+
+/// It is a recording.
+pub fn settled_until_is_recording()
+    ensures { (skew time : ℕ) (t : Trace) → IsRecording t → IsRecording (settled_until skew time t) }
+{}
+
+/// What is complete stays so and comes first while the recording goes on with steps that aren't earlier, at any later
+/// time, and once the recording ends.
+pub fn settled_until_grows()
+    ensures kept { (skew time : ℕ) (t : Trace) (more : List Step) → All (λ (step : Step). time ≤ step.time) more
+        → settled_until skew time (with_steps t more) ≡ settled_until skew time t }
+    ensures later { (skew time later : ℕ) (t : Trace) (more : List Step) → time ≤ later
+        → All (λ (step : Step). time ≤ step.time) more
+        → (rest : List Step)
+        × (settled_until skew later (with_steps t more) ≡ with_steps (settled_until skew time t) rest) }
+    ensures whole { (skew time : ℕ) (t : Trace) (more : List Step) → All (λ (step : Step). time ≤ step.time) more
+        → (rest : List Step) × (settled skew (with_steps t more) ≡ with_steps (settled_until skew time t) rest) }
+{}
+
+/// Without a skew all is complete that is earlier than the time.
+pub fn settled_until_by_zero()
+    ensures { (time : ℕ) (t : Trace) → IsRecording t → All (λ (step : Step). step.time < time) t.steps
+        → settled_until 0 time t ≡ t }
+{}
+
+/// Worked recordings at the bounds of groups, and times at which groups are complete.
 pub fn worked_recordings()
-    ensures { AllSettle worked }
+    ensures settle { AllSettle worked }
+    ensures complete { AllComplete worked_times }
 {}

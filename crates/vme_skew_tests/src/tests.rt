@@ -1,7 +1,7 @@
 use smallvec::SmallVec;
 use std::alloc::{AllocError, Global};
 use std::test::Fail;
-use vme_skew::settle;
+use vme_skew::{StepSettler, settle};
 use vme_trace::{Capture, Change, Changes, LINE_COUNT, Level, Line, Lines, Step};
 
 /// The numbers of the lines that change at a time, with their new levels.
@@ -164,6 +164,24 @@ const WORKED: [(&[Row], u64, &[Row]); 17] = [
     (&MANY, 4, &MANY_AT_ONCE),
 ];
 
+/// A skew and a time, and what is complete of the three falls once that time is reached.
+const TIMES: [(u64, u64, &[Row]); 6] = [
+    // a time that is later than a group by just the skew doesn't end it
+    (3, 18, &[(10, &[(AS, LOW), (DTACK, LOW)])]),
+    // one that is later by one more does
+    (
+        3,
+        19,
+        &[(10, &[(AS, LOW), (DTACK, LOW)]), (15, &[(BBSY, LOW)])],
+    ),
+    (5, 15, &[]),
+    (5, 16, &ALL_AT_ONCE),
+    // by no skew all is complete that is earlier
+    (0, 16, &THREE_FALLS),
+    // by the greatest nothing is
+    (u64::MAX, u64::MAX, &[]),
+];
+
 fn step((time, row): Row, alloc: Global) -> Result<Step, AllocError> {
     let mut changes = SmallVec::new(alloc);
     for (number, level) in row {
@@ -218,10 +236,9 @@ fn has_changes(step: &Step, row: &[(u8, Level)]) -> bool {
     true
 }
 
-/// Whether a recording has this opening and these steps.
-fn is_recorded(capture: &Capture, opening: &Lines, rows: &[Row]) -> bool {
-    let steps = capture.steps();
-    if *capture.opening() != *opening || steps.len() != rows.len() {
+/// Whether these are the steps.
+fn are_steps(steps: &[Step], rows: &[Row]) -> bool {
+    if steps.len() != rows.len() {
         return false;
     }
     for (step, (time, row)) in steps.iter().zip(rows) {
@@ -230,6 +247,62 @@ fn is_recorded(capture: &Capture, opening: &Lines, rows: &[Row]) -> bool {
         }
     }
     true
+}
+
+/// Whether a recording has this opening and these steps.
+fn is_recorded(capture: &Capture, opening: &Lines, rows: &[Row]) -> bool {
+    *capture.opening() == *opening && are_steps(capture.steps(), rows)
+}
+
+/// Keeps a step that came out of a settler, if one did.
+fn keep(out: &mut Vec<Step>, settled: Option<Step>) -> Result<(), AllocError> {
+    if let Some(step) = settled {
+        out.push(step)?;
+    }
+    Ok(())
+}
+
+/// Gives these steps to a settler, and keeps what comes out.
+fn take_all(
+    alloc: Global,
+    settler: &mut StepSettler,
+    rows: &[Row],
+    out: &mut Vec<Step>,
+) -> Result<(), AllocError> {
+    for row in rows {
+        let settled = settler.take(alloc, &step(*row, alloc)?)?;
+        keep(out, settled)?;
+    }
+    Ok(())
+}
+
+/// What comes out of a settler that takes these steps.
+fn settled_as_they_come(
+    alloc: Global,
+    opening: Lines,
+    rows: &[Row],
+    skew: u64,
+) -> Result<Vec<Step>, AllocError> {
+    let mut settler = StepSettler::new(alloc, opening, skew);
+    let mut out = Vec::new(alloc);
+    take_all(alloc, &mut settler, rows, &mut out)?;
+    keep(&mut out, settler.end(alloc)?)?;
+    Ok(out)
+}
+
+/// What has come out of it once a time is reached.
+fn complete_at(
+    alloc: Global,
+    opening: Lines,
+    rows: &[Row],
+    skew: u64,
+    time: u64,
+) -> Result<Vec<Step>, AllocError> {
+    let mut settler = StepSettler::new(alloc, opening, skew);
+    let mut out = Vec::new(alloc);
+    take_all(alloc, &mut settler, rows, &mut out)?;
+    keep(&mut out, settler.reach(alloc, time)?)?;
+    Ok(out)
 }
 
 #[test]
@@ -248,6 +321,26 @@ fn worked_recordings_settle(rt: HostRuntime) -> Result<(), Fail> {
             "{skew} {}",
             rows.len()
         );
+    }
+    Ok(())
+}
+
+#[test]
+fn steps_settle_as_they_come(rt: HostRuntime) -> Result<(), Fail> {
+    let opening = high_lines().ok_or("no such lines")?;
+    for (rows, skew, settled) in WORKED {
+        let out = settled_as_they_come(rt.alloc(), opening, rows, skew)?;
+        assert!(rt; are_steps(&out, settled), "{skew} {}", rows.len());
+    }
+    Ok(())
+}
+
+#[test]
+fn times_end_groups(rt: HostRuntime) -> Result<(), Fail> {
+    let opening = high_lines().ok_or("no such lines")?;
+    for (skew, time, complete) in TIMES {
+        let out = complete_at(rt.alloc(), opening, &THREE_FALLS, skew, time)?;
+        assert!(rt; are_steps(&out, complete), "{skew} {time}");
     }
     Ok(())
 }
@@ -274,5 +367,8 @@ fn want_of_memory_is_the_error(rt: HostRuntime) {
     };
     if let Ok(made) = settle(rt.alloc(), &capture, 4) {
         assert!(rt; is_recorded(&made, &opening, &MANY_AT_ONCE));
+    }
+    if let Ok(out) = settled_as_they_come(rt.alloc(), opening, &MANY, 4) {
+        assert!(rt; are_steps(&out, &MANY_AT_ONCE));
     }
 }

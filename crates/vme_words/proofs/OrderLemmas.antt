@@ -1,26 +1,32 @@
 -- What the typed getters of a parse read.
 use Rattle.std.proofs.Common.{◌≡◌, ℕ, ◌<◌, ◌≤◌, ◌^◌, List, [], ◌∷◌, ◌++◌, refl, ap, sym, subst, ◌∙◌, IfErr, IsErrAnd}
-use Rattle.std.proofs.Common.{inl, inr, is_some, true, true≢false}
-use Rattle.std.specs.Prelude.{Option, Some, None, Result, Ok, Err, codes, option_map}
+use Rattle.std.proofs.Common.{false, inl, inr, is_some, true, true≢false}
+use Rattle.std.specs.Prelude.{IfSome, Option, Some, None, Result, Ok, Err, codes, find, option_map, slice_get}
+use Rattle.std.specs.Prelude.{unwrap_or}
+use Rattle.std.specs.Str.{bytes_eq}
 use Rattle.std.specs.Borrow.{Bor}
 use Rattle.std.specs.Str.Parse.{ParsesUnsigned}
 use Rattle.clap.specs.Words.{HasKind, IsAmong, Row, Text, ReadsOne, fault_of, first_of, first_value, found_of, kind_of}
 use Rattle.clap.specs.Words.{one_text, rows_of, without_minus}
-use Rattle.clap.specs.Values.{IsUnsignedIn}
+use Rattle.clap.specs.Values.{IsUnsignedIn, read_as}
+use Rattle.clap.specs.declared.builder.value_parser.Reading.{Reading}
 use Rattle.clap.proofs.CallerReads.{signed_reads}
 use Rattle.clap.specs.declared.error.Error.{Error}
 use Rattle.clap.specs.declared.parser.matches.ArgMatches.{ArgMatches}
 use Rattle.clap.proofs.WalkLemmas.{first_value-rows, one_text-rows}
-use Rattle.vme_words.specs.Orders.{HasNumber, HasSkew, IsOrder, Says, SaysConfirmation, SaysOrder, SaysWords}
-use Rattle.vme_words.specs.Orders.{if_given, names_in, number_in, number_of, scope_in, skew_in, task_name}
-use Rattle.vme_words.specs.Commands.{greatest_skew, vmecheck_app}
+use Rattle.clap.specs.Words.{subcommand_name_of, subcommand_rows_of}
+use Rattle.clap.specs.declared.parser.matches.ArgMatches.TheViews.{out-ArgMatches}
+use Rattle.vme_words.specs.Orders.{HasAll, HasOrder}
+use Rattle.vme_words.specs.Orders.{HasNumber, HasUnsigned, IsOrder, Says, SaysAudit, SaysConfirmation, SaysOrder}
+use Rattle.vme_words.specs.Orders.{SaysWords, if_given, names_in, number_in, number_of, scope_in, skew_in, task_name}
+use Rattle.vme_words.specs.Commands.{greatest_number, vmecheck_app}
 use Rattle.vme_words.specs.OrderFaults.{ComesOf, IsFaultOf}
 use Rattle.vme_words.specs.declared.order_fault.OrderFault.{OrderFault}
 use Rattle.vme_words.specs.declared.order_fault.OrderFault.TheVariants.{Usage, Memory as no_memory}
 use Rattle.vme_words.specs.declared.order.Order.{Order}
 use Rattle.vme_words.specs.declared.order.Task.{Task}
 use Rattle.vme_words.specs.declared.order.Task.TheVariants.{Check, List as Listing, Confirm, Rules, Variables, Bind}
-use Rattle.vme_words.specs.declared.order.Task.TheVariants.{Explain}
+use Rattle.vme_words.specs.declared.order.Task.TheVariants.{Explain, Audit}
 
 -- the number that a getter reads of an option is the number of its text
 pub number_read : (E : Type 0) (G : List ℕ → Result ℕ E → Type 0) (m : ArgMatches) (id : Text) (n : ℕ) (r : Option ℕ)
@@ -49,21 +55,33 @@ number_there E G m id greatest r has small value only =
     signed_reads E G 32 1 greatest has.text r (value (without_minus has.text) (one_text-rows (found_of m) id
     ∙ has.read)) only small has.says
 
--- a text that is a number of 64 bits is read as one
-unsigned_reads : (E : Type 0) (G : List ℕ → Result ℕ E → Type 0) (greatest : ℕ) (t : List ℕ) (r : Option ℕ)
-    → ReadsOne G t r → ((u : List ℕ) (x : Result ℕ E) → G u x → ParsesUnsigned 64 10 u x) → IsUnsignedIn 0 greatest t
-    → is_some r ≡ true
-unsigned_reads E G greatest t (Some n) read only says = refl
-unsigned_reads E G greatest t None read only says = absurd (only t (Err read.0) read.1 (says.0, says.1))
+-- a text that is a number of 64 bits from the least on is read as one
+unsigned_reads : (E : Type 0) (G : List ℕ → Result ℕ E → Type 0) (least : ℕ) (t : List ℕ) (r : Option ℕ)
+    → ReadsOne G t r → ((u : List ℕ) (x : Result ℕ E) → G u x → ParsesUnsigned 64 10 u x)
+    → IsUnsignedIn least greatest_number t → (n : ℕ) × (r ≡ Some n) × (least ≤ n)
+unsigned_reads E G least t (Some n) read only says =
+    let parsed = only t (Ok n) read in
+    (n, refl, rw parsed.1 says.2)
+unsigned_reads E G least t None read only says = absurd (only t (Err read.0) read.1 (says.0, says.1))
 
--- and where the skew is one, the getter reads it
-pub skew_there : (E : Type 0) (G : List ℕ → Result ℕ E → Type 0) (m : ArgMatches) (r : Option ℕ)
-    → HasSkew (rows_of (found_of m))
-    → ((t : List ℕ) → one_text (found_of m) (codes "skew") ≡ Some t → ReadsOne G t r)
-    → ((t : List ℕ) (x : Result ℕ E) → G t x → ParsesUnsigned 64 10 t x) → is_some r ≡ true
-skew_there E G m r has value only =
-    unsigned_reads E G greatest_skew has.text r
-    (value has.text (one_text-rows (found_of m) (codes "skew") ∙ has.read)) only has.says
+-- and where an option has one, the getter reads it
+pub unsigned_there : (E : Type 0) (G : List ℕ → Result ℕ E → Type 0) (m : ArgMatches) (id : Text) (least : ℕ)
+    (r : Option ℕ) → HasUnsigned id least (rows_of (found_of m))
+    → ((t : List ℕ) → one_text (found_of m) id ≡ Some t → ReadsOne G t r)
+    → ((t : List ℕ) (x : Result ℕ E) → G t x → ParsesUnsigned 64 10 t x) → (n : ℕ) × (r ≡ Some n) × (least ≤ n)
+unsigned_there E G m id least r has value only =
+    unsigned_reads E G least has.text r (value has.text (one_text-rows (found_of m) id ∙ has.read)) only has.says
+
+-- an option that isn't there has no number
+pub no_number : (id : Text) (rows : List Row) → first_of id rows ≡ None → number_in id rows ≡ None
+no_number id rows none = go (find (λ r. bytes_eq r.id id) rows) refl
+  where
+    text : (o : Option Text) (how : Reading) → o ≡ None → option_map number_of (option_map (read_as how) o) ≡ None
+    text o how e = rw e refl
+
+    go : (o : Option Row) → find (λ r. bytes_eq r.id id) rows ≡ o → number_in id rows ≡ None
+    go None e = rw e refl
+    go (Some r) e = rw e (text (slice_get r.values 0) r.reading (rw e at none))
 
 -- a file that has a name is read
 pub named_file : (m : ArgMatches) (id : Text) (r : Option (Bor (List ℕ))) → option_map (λ (s : Bor (List ℕ)). s.now) r
@@ -73,6 +91,28 @@ named_file m id r gives none has =
     let first : first_of id (rows_of (found_of m)) ≡ None = sym (first_value-rows (found_of m) id) ∙ sym gives
     ∙ ap (λ (o : Option (Bor (List ℕ))). option_map (λ (s : Bor (List ℕ)). s.now) o) none in
     true≢false (sym has ∙ ap is_some first)
+
+-- where a word isn't there, the getter reads none, and where it reads none, there is none
+pub not_given : (m : ArgMatches) (id : Text) (r : Option (Bor (List ℕ))) → option_map (λ (s : Bor (List ℕ)). s.now) r
+    ≡ first_value (found_of m) id → first_of id (rows_of (found_of m)) ≡ None → is_some r ≡ false
+not_given m id None gives none = refl
+not_given m id (Some s) gives none =
+    let bad : Some s.now ≡ None = gives ∙ first_value-rows (found_of m) id ∙ none in
+    cc
+
+pub none_given : (m : ArgMatches) (id : Text) (r : Option (Bor (List ℕ))) → option_map (λ (s : Bor (List ℕ)). s.now) r
+    ≡ first_value (found_of m) id → is_some r ≡ false → first_of id (rows_of (found_of m)) ≡ None
+none_given m id None gives e = sym (first_value-rows (found_of m) id) ∙ sym gives
+none_given m id (Some s) gives e = absurd (true≢false e)
+
+-- a number that an option may have is the one that was read
+pub none_read : (r x : Option ℕ) → is_some r ≡ false → x ≡ None → r ≡ x
+none_read None x e none = sym none
+none_read (Some n) x e none = absurd (true≢false e)
+
+pub some_read : (r x : Option ℕ) → IfSome r (λ n. x ≡ Some n) → is_some r ≡ true → r ≡ x
+some_read None x value e = absurd (true≢false (sym e))
+some_read (Some n) x value e = sym value
 
 -- ---- an error of a parse
 
@@ -103,6 +143,23 @@ passed_up (Ok x) error words comes has = tt
 passed_up (Err fault) error words comes has = comes_of_words words error fault comes has
 
 -- ---- an order by its task
+
+maps : {A B C : Type 0} (f : A → B) (g : B → C) (o : Option A) → option_map (λ a. g (f a)) o
+    ≡ option_map g (option_map f o)
+maps f g None = refl
+maps f g (Some a) = refl
+
+-- the task by the name of the subcommand that was met, whose rows have what the order needs
+pub order_met : (m : ArgMatches) (name : Text) (rows : List Row) (task : Task) → subcommand_name_of m ≡ Some name
+    → option_map (λ (p : Text × List Row). p.1) (subcommand_rows_of m) ≡ Some rows
+    → ((t : Task) → name ≡ task_name t → task ≡ t) → HasOrder (subcommand_rows_of m) → HasAll task rows
+order_met m name rows task named its only has =
+    let both = ap (option_map (λ (p : Text × List Row). p.0)) has.command in
+    let called : name ≡ task_name has.task = ap (λ (o : Option Text). unwrap_or o [])
+    (sym named ∙ maps _ (λ (p : Text × List Row). p.0) (out-ArgMatches m).subcommand ∙ both) in
+    let same : rows ≡ has.rows = ap (λ (o : Option (List Row)). unwrap_or o [])
+    (sym its ∙ ap (option_map (λ (p : Text × List Row). p.1)) has.command) in
+    rw (only has.task called, same) has.has
 
 pub is_check : (order : Order) (rows : List Row) → order.command ≡ Check → SaysOrder order rows
     → IsOrder order (Some (codes "check", rows))
@@ -156,6 +213,14 @@ is_bind order rows task says = record {
 pub is_explain : (order : Order) (rows : List Row) → order.command ≡ Explain → SaysWords order (skew_in rows) None
     (names_in rows ++ if_given (first_of (codes "gtkw") rows)) → IsOrder order (Some (codes "explain", rows))
 is_explain order rows task says = record {
+  rows = rows;
+  command = ap (λ (t : Task). Some (task_name t, rows)) (sym task);
+  says = subst (λ (t : Task). Says t order rows) (sym task) says;
+}
+
+pub is_audit : (order : Order) (rows : List Row) → order.command ≡ Audit → SaysAudit order rows
+    → IsOrder order (Some (codes "audit", rows))
+is_audit order rows task says = record {
   rows = rows;
   command = ap (λ (t : Task). Some (task_name t, rows)) (sym task);
   says = subst (λ (t : Task). Says t order rows) (sym task) says;

@@ -1,6 +1,7 @@
 -- The rows that a parse without a fault leaves: each row of an argument has a text, and its texts pass the argument's
 -- parser.
-use Rattle.std.proofs.Common.{◌≡◌, ◌∙◌, ◌<◌, ◌&&◌, ◌||◌, ℕ, Bool, true, false, zero, suc, refl, sym, ap, subst, arith}
+use Rattle.std.proofs.Common.{◌≡◌, ◌∙◌, ◌⊎◌, inl, inr, ◌<◌, ◌&&◌, ◌||◌, ℕ, Bool, true, false, zero, suc, refl, sym}
+use Rattle.std.proofs.Common.{ap, subst, arith}
 use Rattle.std.proofs.Common.{codes, List, [], ◌∷◌, ◌++◌, length, drop, Option, Some, None, is_some, true≢false}
 use Rattle.std.specs.Prelude.{cond, find, fold, if◌then◌else◌, slice_get, unwrap_or, encode_utf8}
 use Rattle.std.specs.Option.{option_map_or}
@@ -26,6 +27,7 @@ use Rattle.clap.specs.Walk.{option_word, plain_word, reacted, reading_by, row_te
 use Rattle.clap.specs.Walk.{short_met, short_or_plain, bundle, subcommand_met, subcommand_or_other, takes_several}
 use Rattle.clap.specs.Walk.{takes_values, to_positional, used, used_as, used_by_id, values_or_missing, walk, walk_from}
 use Rattle.clap.specs.Walk.{walked, walked_from, with_default, with_values, without, word_met}
+use Rattle.clap.specs.Walk.{is_empty}
 use Rattle.clap.specs.Walk.{done, waits, plain, refused, idle, option, positional, next, trailing, subcommand, value}
 use Rattle.clap.specs.declared.builder.action.ArgAction.{ArgAction}
 use Rattle.clap.specs.declared.builder.action.ArgAction.TheVariants as action
@@ -126,13 +128,15 @@ good_with c a s values rows own some passes h =
 
 -- ---- the arguments of a command
 
--- an argument that takes one text, or asks for a text
+-- an argument that takes a text at least, is a flag that stands for one, or asks for a text
 abbrev pub Acts : ArgAction → Rule → Type 0
 Acts action.Set a = (unwrap_or_range a.range).start_inclusive ≡ 1
+Acts action.Append a = (unwrap_or_range a.range).start_inclusive ≡ 1
+Acts action.SetTrue a = is_empty a.missing ≡ false
 Acts action.Help a = Unit {0}
 Acts _ a = ⊥
 
--- the argument is the one of its id, takes one text or asks for help, and its defaults pass
+-- the argument is the one of its id, takes a text or asks for help, and its defaults pass
 pub record Known (c : List Rule) (a : Rule) : Type 0 where
   pub own : arg_by_id c a.id ≡ Some a
   pub acts : Acts (action_of a) a
@@ -169,6 +173,12 @@ has_some : (a : Rule) (values : List Text) (least most : ℕ) → least ≡ 1 �
 has_some a [] least most one e = let bad = rw one at e in cc
 has_some a (v ∷ vs) least most one e = omega arith
 
+missing_some : (a : Rule) (values missing : List Text) → a.missing ≡ missing → is_empty missing ≡ false
+    → 0 < length (values_or_missing a values)
+missing_some a [] [] is e = cc
+missing_some a [] (v ∷ vs) is e = rw is (omega arith)
+missing_some a (v ∷ vs) missing is e = omega arith
+
 acted : (c : List Rule) (again : Bool) (x : ArgAction) (a : Rule) (values : List Text) (rows : List Row) → Acts x a
     → arg_by_id c a.id ≡ Some a
     → range_kinds (unwrap_or_range a.range).start_inclusive (most_values a) (length values) ≡ []
@@ -177,6 +187,14 @@ acted : (c : List Rule) (again : Bool) (x : ArgAction) (a : Rule) (values : List
 acted c again action.Set a values rows acts own range free h =
     good_with c a CommandLine (values_or_missing a values) (without a.id rows) own (has_some a values _ (most_values a)
     acts range)
+    (free_passes a.ignore_case (parser_of_value a.parser) (values_or_missing a values) (both_free _ _ free).1)
+    (good_without c a.id rows h)
+acted c again action.Append a values rows acts own range free h =
+    good_with c a CommandLine (values_or_missing a values) rows own (has_some a values _ (most_values a) acts range)
+    (free_passes a.ignore_case (parser_of_value a.parser) (values_or_missing a values) free) h
+acted c again action.SetTrue a values rows acts own range free h =
+    good_with c a CommandLine (values_or_missing a values) (without a.id rows) own
+    (missing_some a values a.missing refl acts)
     (free_passes a.ignore_case (parser_of_value a.parser) (values_or_missing a values) (both_free _ _ free).1)
     (good_without c a.id rows h)
 acted c again action.Help a values rows acts own range free h = cc
@@ -455,6 +473,19 @@ row_says c rows a p g own parser has = go (find (λ r. bytes_eq r.id a.id) rows)
     go (Some r) e =
         let n = row_passes a r p r.values refl (row_good c rows a r g own e) parser in
         (n.0, rw e n.1, n.2)
+
+-- an argument with a parser wasn't given, or has a text that passes it
+pub row_may_say : (c : List Rule) (rows : List Row) (a : Rule) (p : ValueParser) → AllGood c rows → arg_by_id c a.id
+    ≡ Some a → a.parser ≡ Some p → (first_of a.id rows ≡ None)
+    ⊎ ((text : Text) × (one_of a.id rows ≡ Some (read_as (reading_of p) text)) × Accepts a.ignore_case p text)
+row_may_say c rows a p g own parser = go (find (λ r. bytes_eq r.id a.id) rows) refl
+  where
+    go : (o : Option Row) → find (λ r. bytes_eq r.id a.id) rows ≡ o → (first_of a.id rows ≡ None)
+        ⊎ ((text : Text) × (one_of a.id rows ≡ Some (read_as (reading_of p) text)) × Accepts a.ignore_case p text)
+    go None e = inl (rw e refl)
+    go (Some r) e =
+        let n = row_passes a r p r.values refl (row_good c rows a r g own e) parser in
+        inr (n.0, rw e n.1, n.2)
 
 -- ---- rows of arguments with a default
 

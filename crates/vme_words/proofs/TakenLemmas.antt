@@ -15,14 +15,15 @@ use Rattle.clap.specs.Walk.{Rule, Text, answers_to, finished, nothing_held, rows
 use Rattle.clap.specs.Walk.{walk_from, with_default}
 use Rattle.clap.specs.declared.builder.value_parser.ValueParser.TheVariants.{Signed, Unsigned}
 use Rattle.clap.proofs.OnLiterals.{clap_on_literals}
-use Rattle.vme_words.specs.Commands.{bind_app, confirm_app, explain_app, file_rule, greatest_skew, number_rule}
-use Rattle.vme_words.specs.Commands.{recording_app, rules_app, skew_rule, slots_rule, variables_app, vmecheck_app}
-use Rattle.vme_words.specs.Commands.{word_rule}
-use Rattle.vme_words.specs.Orders.{HasConfirmation, HasExplanation, HasName, HasOrder, HasRecording}
+use Rattle.vme_words.specs.Commands.{allow_rule, audit_app, bind_app, confirm_app, explain_app, file_rule, files_rule}
+use Rattle.vme_words.specs.Commands.{flag_rule, greatest_number, number_rule, recording_app, rules_app, skew_rule}
+use Rattle.vme_words.specs.Commands.{slots_rule, stop_rule, transfers_rule, variables_app, vmecheck_app, word_rule}
+use Rattle.vme_words.specs.Orders.{HasAudit, HasConfirmation, HasExplanation, HasName, HasOrder, HasRecording}
+use Rattle.vme_words.specs.Orders.{MayHaveUnsigned}
 use Rattle.vme_words.specs.declared.order.Task.TheVariants.{Check, List as Listing, Confirm, Rules, Variables, Bind}
-use Rattle.vme_words.specs.declared.order.Task.TheVariants.{Explain}
+use Rattle.vme_words.specs.declared.order.Task.TheVariants.{Explain, Audit}
 use Rattle.vme_words.proofs.RowLemmas.{EachKnown, NamesNoHelp, both_free, default_adds, defaults_keep, given_text}
-use Rattle.vme_words.proofs.RowLemmas.{level_good, row_says, walk_stops}
+use Rattle.vme_words.proofs.RowLemmas.{level_good, row_may_say, row_says, walk_stops}
 
 -- ---- what the program's command comes to
 
@@ -34,6 +35,9 @@ recording name = built_leaf (inherited above (recording_app name).top)
 
 abbrev confirmation : Shape
 confirmation = built_leaf (inherited above confirm_app.top)
+
+abbrev of_audit : Shape
+of_audit = built_leaf (inherited above audit_app.top)
 
 abbrev of_rules : Shape
 of_rules = built_leaf (inherited above rules_app.top)
@@ -83,11 +87,32 @@ scope = with_index 1 (filled (word_rule (codes "scope")))
 abbrev save_file : Rule
 save_file = with_index 1 (filled (word_rule (codes "gtkw")))
 
+abbrev transfers : Rule
+transfers = with_index 1 (filled transfers_rule)
+
+abbrev allow : Rule
+allow = with_index 1 (filled allow_rule)
+
+abbrev stop : Rule
+stop = with_index 1 (filled stop_rule)
+
+abbrev quiet : Rule
+quiet = with_index 1 (filled (flag_rule (codes "quiet")))
+
+abbrev junit : Rule
+junit = with_index 1 (filled (word_rule (codes "junit")))
+
+abbrev dumps : Rule
+dumps = with_index 2 (filled (files_rule (codes "DUMP")))
+
 abbrev recording_rules : List Rule
 recording_rules = block ∷ workers ∷ skew ∷ binding ∷ dump ∷ help ∷ []
 
 abbrev confirmation_rules : List Rule
 confirmation_rules = skew ∷ binding ∷ dump ∷ listing ∷ help ∷ []
+
+abbrev audit_rules : List Rule
+audit_rules = transfers ∷ allow ∷ stop ∷ skew ∷ workers ∷ quiet ∷ junit ∷ binding ∷ dumps ∷ help ∷ []
 
 abbrev rules_rules : List Rule
 rules_rules = rule ∷ help ∷ []
@@ -131,6 +156,37 @@ confirmation_known = (
       (
         record { own = refl; acts = refl; defaults = refl },
         (record { own = refl; acts = tt; defaults = refl }, tt),
+      ),
+    ),
+  ),
+)
+
+audit_known : EachKnown audit_rules audit_rules
+unfolding clap_on_literals
+audit_known = (
+  record { own = refl; acts = refl; defaults = refl },
+  (
+    record { own = refl; acts = refl; defaults = refl },
+    (
+      record { own = refl; acts = refl; defaults = refl },
+      (
+        record { own = refl; acts = refl; defaults = refl },
+        (
+          record { own = refl; acts = refl; defaults = refl },
+          (
+            record { own = refl; acts = refl; defaults = refl },
+            (
+              record { own = refl; acts = refl; defaults = refl },
+              (
+                record { own = refl; acts = refl; defaults = refl },
+                (
+                  record { own = refl; acts = refl; defaults = refl },
+                  (record { own = refl; acts = tt; defaults = refl }, tt),
+                ),
+              ),
+            ),
+          ),
+        ),
       ),
     ),
   ),
@@ -215,7 +271,7 @@ recording_has name words e =
     let in_workers = row_says recording_rules rows workers (Signed (pos 1) (pos 64)) level.0 recording_known.1.0.own
     refl (defaults_keep (codes "workers") (skew ∷ binding ∷ dump ∷ help ∷ []) behind_workers
     (default_adds behind_block workers (codes "4") [] refl)) in
-    let in_skew = row_says recording_rules rows skew (Unsigned 0 greatest_skew) level.0 recording_known.1.1.0.own refl
+    let in_skew = row_says recording_rules rows skew (Unsigned 0 greatest_number) level.0 recording_known.1.1.0.own refl
     (defaults_keep (codes "skew") (binding ∷ dump ∷ help ∷ []) (with_default behind_workers skew)
     (default_adds behind_workers skew (codes "0") [] refl)) in
     record {
@@ -236,7 +292,8 @@ confirmation_has words e =
     let before = (settled confirmation_rules (walk confirmation_rules [] nothing_held words).held).rows in
     let given = three_given (is_given (codes "BINDING") rows) (is_given (codes "DUMP") rows)
     (is_given (codes "LISTING") rows) level.1 in
-    let in_skew = row_says confirmation_rules rows skew (Unsigned 0 greatest_skew) level.0 confirmation_known.0.own refl
+    let in_skew = row_says confirmation_rules rows skew (Unsigned 0 greatest_number) level.0 confirmation_known.0.own
+    refl
     (defaults_keep (codes "skew") (binding ∷ dump ∷ listing ∷ help ∷ []) (with_default before skew)
     (default_adds before skew (codes "0") [] refl)) in
     record {
@@ -246,6 +303,41 @@ confirmation_has words e =
         dump = given_text confirmation_rules rows dump level.0 confirmation_known.1.1.0.own given.1;
       };
       listing = given_text confirmation_rules rows listing level.0 confirmation_known.1.1.1.0.own given.2;
+    }
+
+audit_has : (words : List Text) → level_fault of_audit [] nothing_held words false [] ≡ [] → HasAudit
+    (rows_after audit_rules [] words)
+audit_has words e =
+    let level = level_good of_audit words audit_known e in
+    let rows = rows_after audit_rules [] words in
+    let before = (settled audit_rules (walk audit_rules [] nothing_held words).held).rows in
+    let given = two_given (is_given (codes "BINDING") rows) (is_given (codes "DUMP") rows) level.1 in
+    let behind_transfers = with_default before transfers in
+    let before_skew = with_default (with_default behind_transfers allow) stop in
+    let behind_skew = with_default before_skew skew in
+    let in_transfers = row_says audit_rules rows transfers (Unsigned 0 greatest_number) level.0 audit_known.0.own refl
+    (defaults_keep (codes "transfers")
+    (allow ∷ stop ∷ skew ∷ workers ∷ quiet ∷ junit ∷ binding ∷ dumps ∷ help ∷ []) behind_transfers
+    (default_adds before transfers (codes "1") [] refl)) in
+    let in_skew = row_says audit_rules rows skew (Unsigned 0 greatest_number) level.0 audit_known.1.1.1.0.own refl
+    (defaults_keep (codes "skew") (workers ∷ quiet ∷ junit ∷ binding ∷ dumps ∷ help ∷ []) behind_skew
+    (default_adds before_skew skew (codes "0") [] refl)) in
+    let in_workers = row_says audit_rules rows workers (Signed (pos 1) (pos 64)) level.0 audit_known.1.1.1.1.0.own refl
+    (defaults_keep (codes "workers") (quiet ∷ junit ∷ binding ∷ dumps ∷ help ∷ []) (with_default behind_skew workers)
+    (default_adds behind_skew workers (codes "4") [] refl)) in
+    let may_stop : MayHaveUnsigned (codes "stop") 1 rows = elim
+    (row_may_say audit_rules rows stop (Unsigned 1 greatest_number) level.0 audit_known.1.1.0.own refl) [
+      | inl none ↦ inl none
+      | inr n ↦ inr (record { text = n.0; read = n.1; says = n.2 })
+    ] in
+    record {
+      workers = record { text = in_workers.0; read = in_workers.1; says = in_workers.2 };
+      skew = record { text = in_skew.0; read = in_skew.1; says = in_skew.2 };
+      binding = given_text audit_rules rows binding level.0 audit_known.1.1.1.1.1.1.1.0.own given.0;
+      words = record {
+        transfers = record { text = in_transfers.0; read = in_transfers.1; says = in_transfers.2 };
+        stop = may_stop;
+      };
     }
 
 variables_has : (words : List Text) → level_fault of_variables [] nothing_held words false [] ≡ []
@@ -271,7 +363,7 @@ explain_has words e =
     let before = (settled explain_rules (walk explain_rules [] nothing_held words).held).rows in
     let given = two_given (is_given (codes "BINDING") rows) (is_given (codes "DUMP") rows) level.1 in
     let behind_file = with_default before save_file in
-    let in_skew = row_says explain_rules rows skew (Unsigned 0 greatest_skew) level.0 explain_known.1.0.own refl
+    let in_skew = row_says explain_rules rows skew (Unsigned 0 greatest_number) level.0 explain_known.1.0.own refl
     (defaults_keep (codes "skew") (binding ∷ dump ∷ help ∷ []) (with_default behind_file skew)
     (default_adds behind_file skew (codes "0") [] refl)) in
     record {
@@ -377,6 +469,15 @@ confirm_makes words e = inl (record {
       = confirmation_has words e;
 })
 
+audit_makes : Makes of_audit
+audit_makes words e = inl (record {
+  task = Audit;
+  rows = rows_after audit_rules [] words;
+  command = refl;
+  has
+      = audit_has words e;
+})
+
 rules_makes : Makes of_rules
 rules_makes words e = inl (record { task = Rules; rows = rows_after rules_rules [] words; command = refl; has = tt })
 
@@ -414,6 +515,12 @@ pub words_have_order : (words : List Text) → fault_of vmecheck_app words ≡ [
     → HasOrder (subcommand_of vmecheck_app words)
 words_have_order words e = order_of_app (built vmecheck_app) (drop 1 words) (
   check_makes,
-  (list_makes, (confirm_makes, (rules_makes, (variables_makes, (bind_makes, (explain_makes, (help_makes, tt))))))),
+  (
+    list_makes,
+    (
+      confirm_makes,
+      (audit_makes, (rules_makes, (variables_makes, (bind_makes, (explain_makes, (help_makes, tt)))))),
+    ),
+  ),
 ) refl
     refl e

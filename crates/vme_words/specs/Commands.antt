@@ -1,6 +1,8 @@
 -- The command line of the program, as a parse reads it.
-use Rattle.std.specs.Prelude.{◌≡◌, ℕ, pos, true, false, ◌∷◌, [], Some, codes, Result, IfOk}
+use Rattle.std.specs.Prelude.{◌≡◌, ℕ, pos, true, false, List, ◌∷◌, [], Some, codes, Result, IfOk}
+use Rattle.clap.specs.Lexer.{usize_max}
 use Rattle.clap.specs.Words.{App, Rule, Text, app_of, new_app, new_rule, with_rule, with_subcommand}
+use Rattle.clap.specs.declared.builder.action.ArgAction.TheVariants.{Append, SetTrue}
 use Rattle.clap.specs.declared.builder.command.Command.{Command}
 use Rattle.clap.specs.declared.builder.command.Command.TheViews.{out-Command}
 use Rattle.clap.specs.declared.builder.value_parser.ValueParser.TheVariants.{Signed, Unsigned}
@@ -14,17 +16,39 @@ number_rule name greatest default =
 abbrev pub file_rule : Text → Rule
 file_rule name = record (new_rule name) { required = true }
 
+-- files, at least one of which has to be named
+abbrev pub files_rule : Text → Rule
+files_rule name = record (file_rule name) {
+  range = Some (record { start_inclusive = 1; end_inclusive = usize_max });
+}
+
 -- the greatest number of 64 bits
-abbrev pub greatest_skew : ℕ
-greatest_skew = 18446744073709551615
+abbrev pub greatest_number : ℕ
+greatest_number = 18446744073709551615
+
+-- `--NAME N`, N any number of 64 bits from the least on, with what it has by default
+abbrev pub unsigned_rule : Text → ℕ → List Text → Rule
+unsigned_rule name least defaults = record (new_rule name) {
+  long = Some name;
+  parser = Some (Unsigned least greatest_number);
+  defaults = defaults;
+}
 
 -- `--skew T`, T any number of 64 bits, 0 by default
 abbrev pub skew_rule : Rule
-skew_rule = record (new_rule (codes "skew")) {
-  long = Some (codes "skew");
-  parser = Some (Unsigned 0 greatest_skew);
-  defaults = codes "0" ∷ [];
-}
+skew_rule = unsigned_rule (codes "skew") 0 (codes "0" ∷ [])
+
+-- `--transfers N`, N any number of 64 bits, 1 by default
+abbrev pub transfers_rule : Rule
+transfers_rule = unsigned_rule (codes "transfers") 0 (codes "1" ∷ [])
+
+-- `--stop N`, N a number of 64 bits from 1 on, which need not be there
+abbrev pub stop_rule : Rule
+stop_rule = unsigned_rule (codes "stop") 1 []
+
+-- `--NAME`, which need not be there
+abbrev pub flag_rule : Text → Rule
+flag_rule name = record (new_rule name) { long = Some name; action = Some SetTrue }
 
 -- `NAME [--block N] [--workers N] [--skew T] BINDING DUMP`
 abbrev pub recording_app : Text → App
@@ -49,9 +73,32 @@ confirm_app =
 abbrev pub word_rule : Text → Rule
 word_rule name = record (new_rule name) { long = Some name }
 
+-- `--allow WORD`, which may be there several times
+abbrev pub allow_rule : Rule
+allow_rule = record (word_rule (codes "allow")) { action = Some Append }
+
 -- `--slots N`, N from 1 to 21, which need not be there
 abbrev pub slots_rule : Rule
 slots_rule = record (new_rule (codes "slots")) { long = Some (codes "slots"); parser = Some (Signed (pos 1) (pos 21)) }
+
+-- `audit [--transfers N] [--allow WORD].. [--stop N] [--skew T] [--workers N] [--quiet] [--junit FILE] BINDING DUMP..`
+abbrev pub audit_app : App
+audit_app =
+    with_rule
+    (with_rule
+    (with_rule
+    (with_rule
+    (with_rule
+    (with_rule
+    (with_rule
+    (with_rule (with_rule (new_app (codes "audit")) transfers_rule) allow_rule)
+    stop_rule)
+    skew_rule)
+    (number_rule (codes "workers") 64 (codes "4")))
+    (flag_rule (codes "quiet")))
+    (word_rule (codes "junit")))
+    (file_rule (codes "BINDING")))
+    (files_rule (codes "DUMP"))
 
 -- `rules [RULE]`
 abbrev pub rules_app : App
@@ -78,7 +125,8 @@ abbrev pub recordings_app : App
 recordings_app =
     let check = recording_app (codes "check") in
     let list = recording_app (codes "list") in
-    with_subcommand (with_subcommand (with_subcommand (new_app (codes "vmecheck")) check.top) list.top) confirm_app.top
+    let two = with_subcommand (with_subcommand (new_app (codes "vmecheck")) check.top) list.top in
+    with_subcommand (with_subcommand two confirm_app.top) audit_app.top
 
 -- the program, with these, and with those that tell of rules and of variables
 abbrev pub telling_app : App

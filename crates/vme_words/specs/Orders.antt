@@ -1,14 +1,17 @@
 -- The order that the matches of the words are.
-use Rattle.std.specs.Prelude.{◌≡◌, ℕ, pos, true, List, [], ◌∷◌, ◌++◌, map, codes, Option, None, Some, is_some}
-use Rattle.std.specs.Prelude.{option_map, string_bytes}
+use Rattle.std.specs.Prelude.{◌≡◌, ◌⊎◌, ℕ, pos, Bool, true, false, List, [], ◌∷◌, ◌++◌, map, codes, Option, None, Some}
+use Rattle.std.specs.Prelude.{IsSomeAnd, is_some, option_map, string_bytes, unwrap_or}
+use Rattle.std.specs.Option.{option_map_or}
+use Rattle.std.specs.Str.{bytes_eq}
 use Rattle.std.specs.Str.Parse.{digits_value, without_leading_plus}
 use Rattle.clap.specs.Values.{IsUnsignedIn}
-use Rattle.clap.specs.Words.{IsSignedIn, Row, Text, first_of, one_of, without_minus}
-use Rattle.vme_words.specs.Commands.{greatest_skew}
+use Rattle.clap.specs.Words.{IsSignedIn, Row, Text, all_of, first_of, one_of, without_minus}
+use Rattle.vme_words.specs.Commands.{greatest_number}
+use Rattle.vme_words.specs.declared.order.AuditWords.{AuditWords}
 use Rattle.vme_words.specs.declared.order.Order.{Order}
 use Rattle.vme_words.specs.declared.order.Task.{Task}
 use Rattle.vme_words.specs.declared.order.Task.TheVariants.{Check, List as Listing, Confirm, Rules, Variables, Bind}
-use Rattle.vme_words.specs.declared.order.Task.TheVariants.{Explain}
+use Rattle.vme_words.specs.declared.order.Task.TheVariants.{Explain, Audit}
 
 -- the number that a text says, which may begin with a plus sign
 abbrev pub number_of : Text → ℕ
@@ -25,6 +28,14 @@ skew_in rows = number_in (codes "skew") rows
 -- the scope that is named, if one is
 abbrev pub scope_in : List Row → Option Text
 scope_in rows = first_of (codes "scope") rows
+
+-- the texts of an option or of files, those of each use behind those before it
+abbrev pub texts_in : Text → List Row → List Text
+texts_in name rows = unwrap_or (all_of name rows) []
+
+-- the flag is there
+abbrev pub has_flag : Text → List Row → Bool
+has_flag name rows = option_map_or (λ text. bytes_eq text (codes "true")) (first_of name rows) false
 
 -- the words that stand for the files
 abbrev pub names_in : List Row → List (Option Text)
@@ -44,6 +55,7 @@ task_name Rules = codes "rules"
 task_name Variables = codes "variables"
 task_name Bind = codes "bind"
 task_name Explain = codes "explain"
+task_name Audit = codes "audit"
 
 -- the matches of a subcommand on a recording are this order
 pub record SaysOrder (order : Order) (rows : List Row) : Type 0 where
@@ -51,6 +63,7 @@ pub record SaysOrder (order : Order) (rows : List Row) : Type 0 where
   pub workers : number_in (codes "workers") rows ≡ Some order.workers
   pub skew : skew_in rows ≡ Some order.skew
   pub scope : order.scope ≡ None
+  pub audit : order.audit ≡ None
   pub names : map (λ name. Some (string_bytes name)) order.names.items ≡ names_in rows
 
 -- the matches of the subcommand on a listing are this order, whose other numbers are those of others by default
@@ -59,6 +72,7 @@ pub record SaysConfirmation (order : Order) (rows : List Row) : Type 0 where
   pub workers : order.workers ≡ 4
   pub skew : skew_in rows ≡ Some order.skew
   pub scope : order.scope ≡ None
+  pub audit : order.audit ≡ None
   pub names : map (λ name. Some (string_bytes name)) order.names.items ≡ names_in rows
       ++ first_of (codes "LISTING") rows ∷ []
 
@@ -68,7 +82,27 @@ pub record SaysWords (order : Order) (skew : Option ℕ) (scope : Option Text) (
   pub workers : order.workers ≡ 4
   pub skew_is : skew ≡ Some order.skew
   pub scope_is : option_map string_bytes order.scope ≡ scope
+  pub audit : order.audit ≡ None
   pub names : map (λ name. Some (string_bytes name)) order.names.items ≡ words
+
+-- the matches are what an audit is told
+pub record SaysAuditWords (words : AuditWords) (rows : List Row) : Type 0 where
+  pub transfers : number_in (codes "transfers") rows ≡ Some words.transfers
+  pub allowed : map string_bytes words.allowed.items ≡ texts_in (codes "allow") rows
+  pub stop : words.stop ≡ number_in (codes "stop") rows
+  pub quiet : words.is_quiet ≡ has_flag (codes "quiet") rows
+  pub junit : option_map string_bytes words.junit ≡ first_of (codes "junit") rows
+
+-- the matches of the subcommand on several dumps are this order, whose block is that of others by default
+pub record SaysAudit (order : Order) (rows : List Row) : Type 0 where
+  pub block : order.block ≡ 16384
+  pub workers : number_in (codes "workers") rows ≡ Some order.workers
+  pub skew : skew_in rows ≡ Some order.skew
+  pub scope : order.scope ≡ None
+  pub audit : IsSomeAnd order.audit (λ words. SaysAuditWords words rows)
+  pub binding : Text
+  pub binding_is : first_of (codes "BINDING") rows ≡ Some binding
+  pub names : map string_bytes order.names.items ≡ binding ∷ texts_in (codes "DUMP") rows
 
 abbrev pub Says : Task → Order → List Row → Type 0
 Says Check order rows = SaysOrder order rows
@@ -80,6 +114,7 @@ Says Bind order rows = SaysWords order (Some 0) (scope_in rows)
     (first_of (codes "DUMP") rows ∷ if_given (first_of (codes "slots") rows))
 Says Explain order rows = SaysWords order (skew_in rows) None
     (names_in rows ++ if_given (first_of (codes "gtkw") rows))
+Says Audit order rows = SaysAudit order rows
 
 -- the subcommand that was met, with its matches, is this order
 pub record IsOrder (order : Order) (met : Option (Text × List Row)) : Type 0 where
@@ -96,11 +131,18 @@ pub record HasNumber (name : Text) (greatest : ℕ) (rows : List Row) : Type 0 w
   pub read : one_of name rows ≡ Some (without_minus text)
   pub says : IsSignedIn (pos 1) (pos greatest) text
 
--- the option has a text that says a number of 64 bits
-pub record HasSkew (rows : List Row) : Type 0 where
+-- the option has a text that says a number of 64 bits from the least on
+pub record HasUnsigned (name : Text) (least : ℕ) (rows : List Row) : Type 0 where
   pub text : Text
-  pub read : one_of (codes "skew") rows ≡ Some text
-  pub says : IsUnsignedIn 0 greatest_skew text
+  pub read : one_of name rows ≡ Some text
+  pub says : IsUnsignedIn least greatest_number text
+
+abbrev pub HasSkew : List Row → Type 0
+HasSkew rows = HasUnsigned (codes "skew") 0 rows
+
+-- the option isn't there, or has such a text
+abbrev pub MayHaveUnsigned : Text → ℕ → List Row → Type 0
+MayHaveUnsigned name least rows = (first_of name rows ≡ None) ⊎ HasUnsigned name least rows
 
 -- the file is named
 abbrev pub HasName : Text → List Row → Type 0
@@ -125,6 +167,16 @@ pub record HasExplanation (rows : List Row) : Type 0 where
   pub skew : HasSkew rows
   pub names : HasNames rows
 
+pub record HasAuditWords (rows : List Row) : Type 0 where
+  pub transfers : HasUnsigned (codes "transfers") 0 rows
+  pub stop : MayHaveUnsigned (codes "stop") 1 rows
+
+pub record HasAudit (rows : List Row) : Type 0 where
+  pub workers : HasNumber (codes "workers") 64 rows
+  pub skew : HasSkew rows
+  pub binding : HasName (codes "BINDING") rows
+  pub words : HasAuditWords rows
+
 abbrev pub HasAll : Task → List Row → Type 0
 HasAll Check rows = HasRecording rows
 HasAll Listing rows = HasRecording rows
@@ -133,6 +185,7 @@ HasAll Rules rows = Unit {0}
 HasAll Variables rows = HasName (codes "DUMP") rows
 HasAll Bind rows = HasName (codes "DUMP") rows
 HasAll Explain rows = HasExplanation rows
+HasAll Audit rows = HasAudit rows
 
 -- a task was met, and its matches have all that its order needs
 pub record HasOrder (met : Option (Text × List Row)) : Type 0 where

@@ -2,11 +2,12 @@
 
 ghost use Rattle.std.specs.Prelude.{◌≡◌, IfOk, Some, codes, false};
 ghost use Rattle.clap.specs.Words.{App, Rule, app_of, new_app, rule_of, with_rule, with_subcommand};
-ghost use Rattle.vme_words.specs.Commands.{Makes, bind_app, confirm_app, explain_app, file_rule, number_rule};
-ghost use Rattle.vme_words.specs.Commands.{recording_app, recordings_app, rules_app, skew_rule, slots_rule};
-ghost use Rattle.vme_words.specs.Commands.{telling_app, variables_app, vmecheck_app, word_rule};
+ghost use Rattle.vme_words.specs.Commands.{Makes, allow_rule, audit_app, bind_app, confirm_app, explain_app};
+ghost use Rattle.vme_words.specs.Commands.{file_rule, files_rule, flag_rule, number_rule, recording_app};
+ghost use Rattle.vme_words.specs.Commands.{recordings_app, rules_app, skew_rule, slots_rule, stop_rule, telling_app};
+ghost use Rattle.vme_words.specs.Commands.{transfers_rule, variables_app, vmecheck_app, word_rule};
 
-use clap::{Arg, Command, value_parser};
+use clap::{Arg, ArgAction, Command, value_parser};
 use std::alloc::{AllocError, Global};
 
 /// The version of the program, and the commit that it was built from: `release` puts that in the place of these forty
@@ -25,6 +26,7 @@ Examples:
   vmecheck bind bus.vcd > bus.bind      a binding for a dump: look it over
   vmecheck check bus.bind bus.vcd       the verdict
   vmecheck explain bus.bind bus.vcd     why and where
+  vmecheck audit bus.bind 1.vcd 2.vcd   each break, and what was covered
   vmecheck rules H4                     what a rule asks
   zcat bus.vcd.gz | vmecheck check bus.bind /dev/stdin
                                         the verdict on a dump that comes by a pipe
@@ -36,6 +38,7 @@ Exit status:
   3  an input is refused, or the words are wrong
   4  want of memory
   5  standard output or a file can't be written
+  6  nothing is broken in an audit, but not enough is covered
   7  the binding that was written has no bus to judge";
 
 /// The program, with a subcommand for each task.
@@ -63,7 +66,8 @@ fn recording_commands<'a>(alloc: Global) -> Result<Command<'a>, AllocError>
     let command = Ok(Command::new(alloc, "vmecheck"));
     let command = with_task(command, check_command(alloc));
     let command = with_task(command, list_command(alloc));
-    with_task(command, confirm_command(alloc))
+    let command = with_task(command, confirm_command(alloc));
+    with_task(command, audit_command(alloc))
 }
 
 /// A command of this name, and what is said of it.
@@ -142,6 +146,26 @@ pub(crate) fn confirm_command<'a>(alloc: Global) -> Result<Command<'a>, AllocErr
     let command = with_arg(command, binding_file(alloc));
     let command = with_arg(command, dump_file(alloc));
     with_arg(command, file(alloc, "LISTING", "The file of the listing"))
+}
+
+/// The command that tells each break of recordings, and what they cover.
+pub(crate) fn audit_command<'a>(alloc: Global) -> Result<Command<'a>, AllocError>
+    ensures { Makes audit_app result }
+{
+    let command = new_command(
+        alloc,
+        "audit",
+        "Tells each break of recordings as they are read, and what they cover",
+    );
+    let command = with_arg(command, transfers_option(alloc));
+    let command = with_arg(command, allow_option(alloc));
+    let command = with_arg(command, stop_option(alloc));
+    let command = with_arg(command, skew_option(alloc));
+    let command = with_arg(command, workers_option(alloc));
+    let command = with_arg(command, quiet_flag(alloc));
+    let command = with_arg(command, junit_option(alloc));
+    let command = with_arg(command, binding_file(alloc));
+    with_arg(command, dump_files(alloc))
 }
 
 /// The command that says what the rules ask.
@@ -279,6 +303,70 @@ fn skew_option<'a>(alloc: Global) -> Arg<'a>
         .help(
             "How far apart probes may tell one moment, 0 to 18446744073709551615 time units of the dump",
         )
+}
+
+fn transfers_option<'a>(alloc: Global) -> Arg<'a>
+    ensures rule { rule_of result ≡ transfers_rule }
+    ensures local { result.global ≡ false }
+{
+    Arg::new(alloc, "transfers")
+        .long("transfers")
+        .value_parser(value_parser!(u64))
+        .default_value("1")
+        .help("How many transfers have to be answered for a recording to be covered")
+}
+
+fn allow_option<'a>(alloc: Global) -> Arg<'a>
+    ensures rule { rule_of result ≡ allow_rule }
+    ensures local { result.global ≡ false }
+{
+    Arg::new(alloc, "allow")
+        .long("allow")
+        .action(ArgAction::Append)
+        .help(
+            "A known deviation: RULE or RULE=LINE, as H4 or H4=DTACK; it may be told several times",
+        )
+}
+
+fn stop_option<'a>(alloc: Global) -> Arg<'a>
+    ensures rule { rule_of result ≡ stop_rule }
+    ensures local { result.global ≡ false }
+{
+    Arg::new(alloc, "stop")
+        .long("stop")
+        .value_parser(value_parser!(u64).range(1..))
+        .help("Behind how many breaks that aren't allowed no more of a dump is read; else all is")
+}
+
+fn quiet_flag<'a>(alloc: Global) -> Arg<'a>
+    ensures rule { rule_of result ≡ flag_rule (codes "quiet") }
+    ensures local { result.global ≡ false }
+{
+    Arg::new(alloc, "quiet")
+        .long("quiet")
+        .action(ArgAction::SetTrue)
+        .help("Tells the breaks and the outcome, and no counts")
+}
+
+fn junit_option<'a>(alloc: Global) -> Arg<'a>
+    ensures rule { rule_of result ≡ word_rule (codes "junit") }
+    ensures local { result.global ≡ false }
+{
+    Arg::new(alloc, "junit").long("junit").help(
+        "A JUnit file to write at the end, with a test case a dump",
+    )
+}
+
+fn dump_files<'a>(alloc: Global) -> Arg<'a>
+    ensures rule { rule_of result ≡ files_rule (codes "DUMP") }
+    ensures local { result.global ≡ false }
+{
+    file(
+        alloc,
+        "DUMP",
+        "The files of the recordings, value change dumps; - is standard input",
+    )
+    .num_args(1..)
 }
 
 fn file<'a>(alloc: Global, name: &'a str, help: &'a str) -> Arg<'a>

@@ -4,7 +4,8 @@
 //!
 //! - `command`: the command of the program, with a subcommand for each task, in `clap`'s terms.
 //! - `words`: [`words::order`] reads the words by `clap`'s rules of that command.
-//! - `order`: a task, and an [`Order`]: its numbers, the scope that is named, and its other words.
+//! - `order`: a task, and an [`Order`]: its numbers, the scope that is named, what an audit is told,
+//!   and its other words.
 //! - `order_fault`: why words are no order.
 //!
 //! # What is proved
@@ -20,7 +21,8 @@
 //!
 //! # Limits
 //!
-//! Blocks of 1 to 65,536 steps, 1 to 64 workers, and a skew below 2^64. Start reading at `words`.
+//! Blocks of 1 to 65,536 steps, 1 to 64 workers, and a skew, a number of transfers and a number of
+//! breaks below 2^64. Rules and lines aren't names yet, but texts. Start reading at `words`.
 #![tactic(auto)]
 
 mod command;
@@ -29,6 +31,6 @@ mod order_fault;
 pub mod words;
 
 pub use command::{VERSION, vmecheck_command};
-pub use order::{Order, Task};
+pub use order::{AuditWords, Order, Task};
 pub use order_fault::OrderFault;
 pub use words::{task_fault, usage_fault};

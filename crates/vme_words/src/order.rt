@@ -1,6 +1,7 @@
 //! What a command line asks for.
 
-ghost use Rattle.std.specs.Prelude.{◌≤◌};
+ghost use Rattle.std.specs.Prelude.{◌≤◌, IfSome};
+ghost use Rattle.std.proofs.Props.{props};
 
 /// What the program is to do.
 #[derive(Clone, Copy, Debug, PartialEq, Eq)]
@@ -11,6 +12,8 @@ pub enum Task {
     List,
     /// Compare a listing with that of a recording.
     Confirm,
+    /// Tell each break of recordings, and what they cover.
+    Audit,
     /// Say what the rules ask.
     Rules,
     /// Write the variables of a dump.
@@ -35,9 +38,27 @@ pub struct Order {
     /// The scope whose lines are bound, as its names joined by dots, if a binding is to be written and one is named.
     pub scope: Option<String>,
     /// The words behind the task, by it: the binding and the dump, and for a confirmation the listing, or for an
-    /// explanation the waveform viewer's file, if one is wanted; the dump, and for a binding the number of slots, if it
-    /// is told; or a rule, if one is named.
+    /// explanation the waveform viewer's file, if one is wanted; the binding and each dump of an audit; the dump, and
+    /// for a binding the number of slots, if it is told; or a rule, if one is named.
     pub names: Vec<String>,
+    /// What an audit is told beside these, if that is the task.
+    pub audit: Option<AuditWords>,
     ghost block_in_range: { (1 ≤ block) × (block ≤ 65536) },
     ghost workers_in_range: { (1 ≤ workers) × (workers ≤ 64) },
+}
+
+/// What an audit is told.
+#[derive(Debug, Drop)]
+pub struct AuditWords {
+    /// How many transfers have to be answered.
+    pub transfers: u64,
+    /// The breaks that are allowed, each as it is written: a rule, or a rule and a line.
+    pub allowed: Vec<String>,
+    /// The break behind which no more of a dump is read, if one is told: those that aren't allowed count, from 1 on.
+    pub stop: Option<u64>,
+    /// Whether no counts are told.
+    pub is_quiet: bool,
+    /// The file of test cases to write, if one is wanted.
+    pub junit: Option<String>,
+    ghost stop_in_range: { IfSome stop (λ n. 1 ≤ n) } by { Prim.hlevel props },
 }

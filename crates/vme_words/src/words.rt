@@ -6,15 +6,16 @@ ghost use Rattle.clap.specs.Words.{fault_of, first_of, found_of, kind_of, rows_o
 ghost use Rattle.vme_words.specs.Commands.{vmecheck_app};
 ghost use Rattle.vme_words.specs.OrderFaults.{HasUsageKind, IsFaultOf, IsOfWords};
 ghost use Rattle.vme_words.specs.declared.order.Task.{Task};
-ghost use Rattle.vme_words.specs.Orders.{HasAll, HasConfirmation, HasExplanation, HasName, HasNames, HasNumber};
-ghost use Rattle.vme_words.specs.Orders.{HasOrder, HasRecording, HasSkew, IsOrder, SaysOrder, SaysWords, if_given};
-ghost use Rattle.vme_words.specs.Orders.{names_in, number_in, scope_in, skew_in, task_name};
+ghost use Rattle.vme_words.specs.Orders.{HasAll, HasAudit, HasAuditWords, HasConfirmation, HasExplanation, HasName};
+ghost use Rattle.vme_words.specs.Orders.{HasNames, HasNumber, HasOrder, HasRecording, HasUnsigned, IsOrder};
+ghost use Rattle.vme_words.specs.Orders.{SaysAuditWords, SaysOrder, SaysWords, has_flag, if_given, names_in};
+ghost use Rattle.vme_words.specs.Orders.{number_in, task_name, texts_in};
 
 use crate::command::{
-    bind_command, check_command, confirm_command, explain_command, list_command, rules_command,
-    variables_command, vmecheck_command,
+    audit_command, bind_command, check_command, confirm_command, explain_command, list_command,
+    rules_command, variables_command, vmecheck_command,
 };
-use crate::order::{Order, Task};
+use crate::order::{AuditWords, Order, Task};
 use crate::order_fault::OrderFault;
 use clap::error::ErrorKind;
 use clap::{ArgMatches, Command};
@@ -71,6 +72,8 @@ fn task_named(name: &str) -> Option<Task>
         Some(Task::Bind)
     } else if name == "explain" {
         Some(Task::Explain)
+    } else if name == "audit" {
+        Some(Task::Audit)
     } else {
         None
     }
@@ -90,6 +93,7 @@ fn order_to(alloc: Global, task: Task, found: &ArgMatches<'_>) -> Result<Option<
         Task::Variables => variables_order(alloc, found),
         Task::Bind => bind_order(alloc, found),
         Task::Explain => explain_order(alloc, found),
+        Task::Audit => audit_order(alloc, found),
     }
 }
 
@@ -126,7 +130,7 @@ fn recording_order(
     let (Some(block), Some(workers), Some(skew)) = (
         number(found, "block", 65536),
         number(found, "workers", 64),
-        skew(found),
+        unsigned(found, "skew", 0),
     ) else {
         return Ok(None);
     };
@@ -138,6 +142,7 @@ fn recording_order(
             skew,
             scope: None,
             names,
+            audit: None,
         })),
         None => Ok(None),
     }
@@ -150,7 +155,7 @@ fn confirm_order(alloc: Global, found: &ArgMatches<'_>) -> Result<Option<Order>,
         (Some (codes "confirm", rows_of (found_of found.now))))) }
     ensures found { HasConfirmation (rows_of (found_of found.now)) → IfOk result (λ o. is_some o ≡ true) }
 {
-    let Some(skew) = skew(found) else {
+    let Some(skew) = unsigned(found, "skew", 0) else {
         return Ok(None);
     };
     match all_names_in(alloc, found)? {
@@ -161,6 +166,7 @@ fn confirm_order(alloc: Global, found: &ArgMatches<'_>) -> Result<Option<Order>,
             skew,
             scope: None,
             names,
+            audit: None,
         })),
         None => Ok(None),
     }
@@ -200,7 +206,7 @@ fn bind_order(alloc: Global, found: &ArgMatches<'_>) -> Result<Option<Order>, Al
     match dump_in(alloc, found)? {
         Some(names) => {
             let names = with_given(alloc, names, found, "slots")?;
-            let scope = scope(alloc, found)?;
+            let scope = word_of(alloc, found, "scope")?;
             Ok(Some(order_of_words(Task::Bind, 0, scope, names)))
         }
         None => Ok(None),
@@ -214,7 +220,7 @@ fn explain_order(alloc: Global, found: &ArgMatches<'_>) -> Result<Option<Order>,
         (Some (codes "explain", rows_of (found_of found.now))))) }
     ensures found { HasExplanation (rows_of (found_of found.now)) → IfOk result (λ o. is_some o ≡ true) }
 {
-    let Some(skew) = skew(found) else {
+    let Some(skew) = unsigned(found, "skew", 0) else {
         return Ok(None);
     };
     match names_in(alloc, found)? {
@@ -224,6 +230,60 @@ fn explain_order(alloc: Global, found: &ArgMatches<'_>) -> Result<Option<Order>,
         }
         None => Ok(None),
     }
+}
+
+/// The order that the matches of `audit` are, if they are one.
+#[tactic(auto, using(crate::proofs::OrderLemmas::is_audit))]
+fn audit_order(alloc: Global, found: &ArgMatches<'_>) -> Result<Option<Order>, AllocError>
+    ensures said { IfOk result (λ o. IfSome o (λ order. IsOrder order
+        (Some (codes "audit", rows_of (found_of found.now))))) }
+    ensures found { HasAudit (rows_of (found_of found.now)) → IfOk result (λ o. is_some o ≡ true) }
+{
+    let (Some(workers), Some(skew), Some(binding)) = (
+        number(found, "workers", 64),
+        unsigned(found, "skew", 0),
+        found.get_str("BINDING"),
+    ) else {
+        return Ok(None);
+    };
+    let Some(audit) = audit_words(alloc, found)? else {
+        return Ok(None);
+    };
+    let mut names = Vec::new(alloc);
+    names.push(String::from_str(alloc, binding)?)?;
+    let names = with_each(alloc, names, found, "DUMP")?;
+    Ok(Some(Order {
+        command: Task::Audit,
+        block: 16_384,
+        workers,
+        skew,
+        scope: None,
+        names,
+        audit: Some(audit),
+    }))
+}
+
+/// What an audit is told, if its numbers are some.
+fn audit_words(alloc: Global, found: &ArgMatches<'_>) -> Result<Option<AuditWords>, AllocError>
+    ensures said { IfOk result (λ o. IfSome o (λ words. SaysAuditWords words (rows_of (found_of found.now)))) }
+    ensures found { HasAuditWords (rows_of (found_of found.now)) → IfOk result (λ o. is_some o ≡ true) }
+{
+    let Some(transfers) = unsigned(found, "transfers", 0) else {
+        return Ok(None);
+    };
+    let stop = unsigned(found, "stop", 1);
+    if stop.is_none() && found.get_str("stop").is_some() {
+        return Ok(None);
+    }
+    let allowed = with_each(alloc, Vec::new(alloc), found, "allow")?;
+    let junit = word_of(alloc, found, "junit")?;
+    Ok(Some(AuditWords {
+        transfers,
+        allowed,
+        stop,
+        is_quiet: has_flag(found, "quiet"),
+        junit,
+    }))
 }
 
 /// An order of this skew, this scope and these words, with the other numbers that the others have by default.
@@ -239,6 +299,7 @@ fn order_of_words(command: Task, skew: u64, scope: Option<String>, names: Vec<St
         skew,
         scope,
         names,
+        audit: None,
     }
 }
 
@@ -255,6 +316,43 @@ fn with_given(
     match found.get_str(id) {
         Some(name) => with_name(alloc, names, name),
         None => Ok(names),
+    }
+}
+
+/// The texts, with those that the words have for an option or for files behind them.
+fn with_each(
+    alloc: Global,
+    texts: Vec<String>,
+    found: &ArgMatches<'_>,
+    id: &str,
+) -> Result<Vec<String>, AllocError>
+    ensures { IfOk result (λ all. map string_bytes all.items
+        ≡ map string_bytes texts.items ++ texts_in id.now (rows_of (found_of found.now))) }
+{
+    match found.get_strs(id) {
+        Some(more) => with_all(alloc, texts, more),
+        None => Ok(texts),
+    }
+}
+
+/// The texts, with these behind them.
+fn with_all(alloc: Global, mut texts: Vec<String>, more: &[&str]) -> Result<Vec<String>, AllocError>
+    ensures { IfOk result (λ all. map string_bytes all.items
+        ≡ map string_bytes texts.items ++ map (λ text. text.now) more.now) }
+{
+    for text in more {
+        texts.push(String::from_str(alloc, text)?)?;
+    }
+    Ok(texts)
+}
+
+/// Whether a flag is there.
+fn has_flag(found: &ArgMatches<'_>, name: &str) -> bool
+    ensures { result ≡ has_flag name.now (rows_of (found_of found.now)) }
+{
+    match found.get_str(name) {
+        Some(text) => text == "true",
+        None => false,
     }
 }
 
@@ -321,20 +419,24 @@ fn number(found: &ArgMatches<'_>, name: &str, greatest: u32) -> Option<u32>
     }
 }
 
-/// The skew, if it is a number.
-fn skew(found: &ArgMatches<'_>) -> Option<u64>
-    ensures value { IfSome result (λ n. skew_in (rows_of (found_of found.now)) ≡ Some n) }
-    ensures found { HasSkew (rows_of (found_of found.now)) → is_some result ≡ true }
+/// The number of an option, if it has one from the least on.
+fn unsigned(found: &ArgMatches<'_>, name: &str, least: u64) -> Option<u64>
+    ensures value { IfSome result (λ n. number_in name.now (rows_of (found_of found.now)) ≡ Some n) }
+    ensures range { IfSome result (λ n. least ≤ n) }
+    ensures found { HasUnsigned name.now least (rows_of (found_of found.now)) → is_some result ≡ true }
 {
-    found.get_one::<u64>("skew")
+    match found.get_one::<u64>(name) {
+        Some(number) if least <= number => Some(number),
+        _ => None,
+    }
 }
 
-/// The scope, if one is named.
-fn scope(alloc: Global, found: &ArgMatches<'_>) -> Result<Option<String>, AllocError>
-    ensures { IfOk result (λ scope. option_map string_bytes scope ≡ scope_in (rows_of (found_of found.now))) }
+/// The word of an option, if it has one.
+fn word_of(alloc: Global, found: &ArgMatches<'_>, name: &str) -> Result<Option<String>, AllocError>
+    ensures { IfOk result (λ word. option_map string_bytes word ≡ first_of name.now (rows_of (found_of found.now))) }
 {
-    match found.get_str("scope") {
-        Some(path) => Ok(Some(String::from_str(alloc, path)?)),
+    match found.get_str(name) {
+        Some(word) => Ok(Some(String::from_str(alloc, word)?)),
         None => Ok(None),
     }
 }
@@ -391,6 +493,7 @@ fn command_of<'a>(alloc: Global, task: Task) -> Result<Command<'a>, AllocError> 
         Task::Variables => variables_command(alloc),
         Task::Bind => bind_command(alloc),
         Task::Explain => explain_command(alloc),
+        Task::Audit => audit_command(alloc),
     }
 }
 
@@ -404,5 +507,6 @@ fn words_of(task: Task) -> &'static str {
         Task::Variables => "vmecheck variables",
         Task::Bind => "vmecheck bind",
         Task::Explain => "vmecheck explain",
+        Task::Audit => "vmecheck audit",
     }
 }

@@ -7,6 +7,8 @@
 //!
 //! - this file: from the words of the command line to one call of vme_commands. Without words it
 //!   checks the dump on standard input by a built-in binding.
+//! - `audit`: the files of an audit, all of which are opened before one is read, and the file of
+//!   test cases that it writes.
 //! - `save`: the file for the waveform viewer, which is written over no input and over nothing that
 //!   the program didn't write.
 //!
@@ -18,6 +20,7 @@
 //! - 3: an input, the words, or the place of a file to write are refused.
 //! - 4: there is no memory.
 //! - 5: the answer can't be written.
+//! - 6: no rule is broken in an audit, and not enough is covered.
 //! - 7: `bind` found no bus that a check judges.
 //!
 //! # What is proved
@@ -39,8 +42,10 @@ ghost use Rattle.vme_words.specs.OrderFaults.{IsOfWords};
 ghost use Rattle.vme_answer.specs.Texts.{refusal_status};
 ghost use Rattle.vme_answer.specs.declared.refusal.Refusal.TheVariants.{CannotOpen};
 
+mod audit;
 mod save;
 
+use crate::audit::audit_order;
 use crate::save::{InputIds, SaveFault, id_of, may_save, save};
 use std::env;
 use std::fs::{self, File};
@@ -151,6 +156,7 @@ fn work<R: Threads + Sync>(rt: &HostRuntime, threads: &R, order: &Order) -> Resu
             ))
         }
         Task::Confirm => confirm_order(rt, order),
+        Task::Audit => Ok(audit_order(rt, order)),
         Task::Explain => Ok(explain_order(rt, order)),
         Task::Bind => bind_order(rt, order),
         Task::Variables => {

@@ -46,6 +46,15 @@ pub(crate) fn id_of(file: &File) -> Option<FileId> {
     })
 }
 
+/// Which file a path leads to, if it leads to one.
+pub(crate) fn id_at(rt: &HostRuntime, path: &str) -> Option<FileId> {
+    let found = fs::metadata(rt, path).ok()?;
+    Some(FileId {
+        device: found.dev(),
+        number: found.ino(),
+    })
+}
+
 /// What stands at a path, whatever links lead to it.
 fn present(rt: &HostRuntime, path: &str) -> Present {
     if let Err(error) = fs::symlink_metadata(rt, path) {

@@ -20,4 +20,5 @@ returns-in-Ok g c =
 
 pub returns-in-Err : goal.returns-in-Err
 returns-in-Err g c = λ more.
-    rw c.into_visitor.ensures (rw (c.on_line.ensures.line c.args.reader.text) at c.in-Err.ensures.rest more)
+    rw (c.stopped.ensures.fault, c.stopped.ensures.visitor, c.stopped.ensures.time)
+    (rw (c.on_line.ensures.line c.args.reader.text) at c.in-Err.ensures.rest more)

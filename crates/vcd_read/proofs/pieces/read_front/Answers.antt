@@ -1,7 +1,9 @@
+use Rattle.std.proofs.Common.{◌≡◌, ◌≤◌, ◌∙◌, ℕ, List, ap, length, subst}
+use Rattle.vcd_read.specs.declared.body_piece.BodyPiece.{BodyPiece}
 use Rattle.vcd_read.specs.Header.{nothing_declared}
-use Rattle.vcd_read.specs.Sections.{defined}
 use Rattle.vcd_read.specs.Tokens.{tokens}
 use Rattle.vcd_read.proofs.FrontLemmas.{failed-front, found-front, goes_on-else}
+use Rattle.vcd_read.proofs.PieceLemmas.{left_is}
 use Rattle.vcd_read.proofs.pieces.read_front.Goals as goal
 
 pub returns-in-Ok-clause-header : goal.returns-in-Ok-clause-header
@@ -13,6 +15,13 @@ returns-in-Ok-clause-header g c =
     found-front g.D.DeclarationVisitor.with_variable front text more
     (nothing_declared (g.D.DeclarationVisitor.taken c.args.declarations)) (tokens front) _ h
 
+pub returns-in-Ok-clause-left : goal.returns-in-Ok-clause-left
+returns-in-Ok-clause-left g c =
+    let reader = c.read_header.new.reader in
+    let text : reader.text.bytes.now ≡ c.args.front.now =
+    ap (λ (text : BodyPiece). text.bytes.now) c.in-Ok.ensures.text ∙ c.new-reader.ensures.text in
+    left_is c.args.front.now reader.at (subst (λ (bytes : List ℕ). reader.at ≤ length bytes) text reader.within)
+
 pub returns-in_default : goal.returns-in_default
 returns-in_default g c =
     let front = c.args.front.now in
@@ -20,6 +29,7 @@ returns-in_default g c =
     c.in-Err.ensures.header in
     record {
       line = tt;
+      left = tt;
       header = λ text more.
           failed-front g.D.DeclarationVisitor.with_variable front text more
           (nothing_declared (g.D.DeclarationVisitor.taken c.args.declarations)) (tokens front) c.in-Err.fault.line

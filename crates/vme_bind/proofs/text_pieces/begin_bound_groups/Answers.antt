@@ -1,7 +1,7 @@
 use Rattle.vcd_read.specs.Reached.{reached}
 use Rattle.vme_bind.specs.Made.{Made}
 use Rattle.vme_bind.proofs.TextPieceLemmas.{begun-outcome}
-use Rattle.vme_bind.proofs.TextReadingLemmas.{begun_reading}
+use Rattle.vme_bind.proofs.TextReadingLemmas.{begun_formed, begun_reading}
 use Rattle.vme_bind.proofs.text_pieces.begin_bound_groups.Goals as goal
 
 pub returns-in-Ok-clause-rest : goal.returns-in-Ok-clause-rest
@@ -17,3 +17,10 @@ returns-in-Ok-clause-reading g c = λ more.
     begun_reading c.args.fault c.args.lines.now.slots c.args.bound_groups.now c.args.front.head c.in-Ok.made
     (reached (λ (made : Made). made) c.before_body-pieces.result.0) _ more
     c.in-Ok.ensures read.nets read.progress read.bracket read.place read.body
+
+pub returns-in-Ok-clause-formed : goal.returns-in-Ok-clause-formed
+returns-in-Ok-clause-formed g c = λ ts more.
+    let read = c.before_body-pieces.ensures in
+    begun_formed c.args.lines.now.slots c.args.bound_groups.now c.in-Ok.made
+    (reached (λ (made : Made). made) c.before_body-pieces.result.0) ts more
+    c.in-Ok.ensures read.progress read.bracket read.place

@@ -3,14 +3,14 @@ use Rattle.vcd_read.proofs.BodyLemmas.{stops_same, leaves_err}
 use Rattle.vcd_read.proofs.body.Body.all.Goals as goal
 
 pub returns-in_err-resume-clause-rest : goal.returns-in_err-resume-clause-rest
-returns-in_err-resume-clause-rest g c = leaves_err _ _ _ c.from_residual.result c.in_err-resume.field-0.0
+returns-in_err-resume-clause-rest g c = leaves_err _ _ _ _ c.from_residual.result c.in_err-resume.field-0.0
     c.from_residual.ensures.1 c.in_err-resume.ensures.rest
 
 pub returns-in_err-one-clause-rest : goal.returns-in_err-one-clause-rest
 returns-in_err-one-clause-rest g c =
     let fault = c.in_err-one.field-0.0 in
-    leaves_err _ _ _ c.from_residual-in_err-one.result fault c.from_residual-in_err-one.ensures.1
-    (λ more. stops_same fault _ _ _ (c.loop.invariant.rest more) (c.in_err-one.ensures.rest more))
+    leaves_err _ _ _ _ c.from_residual-in_err-one.result fault c.from_residual-in_err-one.ensures.1
+    (λ more. stops_same fault _ _ _ _ (c.loop.invariant.rest more) (c.in_err-one.ensures.rest more))
 
 pub loop-preserved : goal.loop-preserved
 loop-preserved g c = record {

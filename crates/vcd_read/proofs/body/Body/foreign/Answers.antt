@@ -26,4 +26,4 @@ returns-in-Some-clause-rest g c =
     (state_of text timed old.bracket) (state_of later timed old.bracket) text later after after old.place
     (skipped line t.bytes) _ c.skip.result
     refl c.in-Some.ensures.text refl c.requires.between is h
-    (keeps_same (g.T.ChangeVisitor.taken old.timed.visitor) c.skip.result)
+    (keeps_same timed c.skip.result)

@@ -73,7 +73,7 @@ returns-in-Vector-clause-rest g c =
     let t = token_at text c.args.token.at c.args.token.bytes.now in
     let is = λ (more : List Token). shape_read t (left_at text old.reader.at ++ more) (vector c.in-Vector.digits.now)
     (sym (ap found_shape c.in-Vector.is) ∙ c.shape_of.ensures) in
-    leaves_same _ _ _ _ c.vector.result (λ more. ap (until_fault g.T.ChangeVisitor.with_change
+    leaves_same _ _ _ _ _ c.vector.result (λ more. ap (until_fault g.T.ChangeVisitor.with_change
     g.T.ChangeVisitor.with_instant old.codes.now (state_of old.reader.text (taking
     (g.T.ChangeVisitor.taken old.timed.visitor) old.timed.clock)
     old.bracket)) (is more)) c.vector.ensures.rest
@@ -85,7 +85,7 @@ returns-in-Foreign-clause-rest g c =
     let t = token_at text c.args.token.at c.args.token.bytes.now in
     let is = λ (more : List Token). shape_read t (left_at text old.reader.at ++ more) foreign
     (sym (ap found_shape c.in-Foreign.is) ∙ c.shape_of.ensures) in
-    leaves_same _ _ _ _ c.foreign.result (λ more. ap (until_fault g.T.ChangeVisitor.with_change
+    leaves_same _ _ _ _ _ c.foreign.result (λ more. ap (until_fault g.T.ChangeVisitor.with_change
     g.T.ChangeVisitor.with_instant old.codes.now (state_of old.reader.text (taking
     (g.T.ChangeVisitor.taken old.timed.visitor) old.timed.clock)
     old.bracket)) (is more)) c.foreign.ensures.rest
@@ -97,7 +97,7 @@ returns-in-Comment-clause-rest g c =
     let t = token_at text c.args.token.at c.args.token.bytes.now in
     let is = λ (more : List Token). shape_read t (left_at text old.reader.at ++ more) comment
     (sym (ap found_shape c.in-Comment.is) ∙ c.shape_of.ensures) in
-    leaves_same _ _ _ _ c.comment.result (λ more. ap (until_fault g.T.ChangeVisitor.with_change
+    leaves_same _ _ _ _ _ c.comment.result (λ more. ap (until_fault g.T.ChangeVisitor.with_change
     g.T.ChangeVisitor.with_instant old.codes.now (state_of old.reader.text (taking
     (g.T.ChangeVisitor.taken old.timed.visitor) old.timed.clock)
     old.bracket)) (is more)) c.comment.ensures.rest

@@ -61,7 +61,7 @@ returns-in-Some-vector_digits-clause-rest g c =
       c.in_default.ensures.text,
       c.in_default.ensures.none,
     ) at c.in-Some-vector_digits.ensures.token in
-    leaves_same _ _ _ _ c.vector.result
+    leaves_same _ _ _ _ _ c.vector.result
     (vector_left g.T.ChangeVisitor.with_change g.T.ChangeVisitor.with_instant old.codes.now text
     c.vector_digits.new.self.text (taking (g.T.ChangeVisitor.taken old.timed.visitor) old.timed.clock) old.bracket
     old.reader.at c.args.at c.vector_digits.new.self.at read.bytes.now read.digits.now
@@ -81,7 +81,7 @@ returns-clause-rest g c =
       c.in_default.ensures.text,
       c.in_default.ensures.none,
     ) at c.word-bytes.ensures.token in
-    leaves_same _ _ _ _ c.item.result
+    leaves_same _ _ _ _ _ c.item.result
     (token_left g.T.ChangeVisitor.with_change g.T.ChangeVisitor.with_instant old.codes.now text
     c.word-bytes.new.self.text (taking (g.T.ChangeVisitor.taken old.timed.visitor) old.timed.clock) old.bracket
     old.reader.at c.args.at c.word-bytes.new.self.at c.word-bytes.result.now

@@ -22,7 +22,7 @@ returns-in_default-clause-rest g c =
 pub returns-clause-rest : goal.returns-clause-rest
 returns-clause-rest g c =
     let old = c.args.self.now in
-    leaves_same _ _ _ _ c.item_at.result
+    leaves_same _ _ _ _ _ c.item_at.result
     (λ more. rw (c.requires, c.in-Some.ensures.text)
     (ap (λ (ts : List Token). until_fault g.T.ChangeVisitor.with_change g.T.ChangeVisitor.with_instant old.codes.now
     (state_of old.reader.text (taking (g.T.ChangeVisitor.taken old.timed.visitor) old.timed.clock) old.bracket)

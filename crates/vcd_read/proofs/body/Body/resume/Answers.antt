@@ -18,7 +18,7 @@ returns-in-Ready-clause-rest g c =
 pub returns-in-Vector-clause-rest : goal.returns-in-Vector-clause-rest
 returns-in-Vector-clause-rest g c =
     let old = c.args.self.now in
-    leaves_same _ _ _ _ c.vector.result
+    leaves_same _ _ _ _ _ c.vector.result
     (λ more. ap (λ (p : BodyPlace). until_fault g.T.ChangeVisitor.with_change g.T.ChangeVisitor.with_instant
     old.codes.now
     (state_of old.reader.text (taking (g.T.ChangeVisitor.taken old.timed.visitor) old.timed.clock) old.bracket)
@@ -29,7 +29,7 @@ returns-in-Vector-clause-rest g c =
 pub returns-in-Foreign-clause-rest : goal.returns-in-Foreign-clause-rest
 returns-in-Foreign-clause-rest g c =
     let old = c.args.self.now in
-    leaves_same _ _ _ _ c.foreign.result
+    leaves_same _ _ _ _ _ c.foreign.result
     (λ more. ap (λ (p : BodyPlace). until_fault g.T.ChangeVisitor.with_change g.T.ChangeVisitor.with_instant
     old.codes.now
     (state_of old.reader.text (taking (g.T.ChangeVisitor.taken old.timed.visitor) old.timed.clock) old.bracket)
@@ -39,7 +39,7 @@ returns-in-Foreign-clause-rest g c =
 pub returns-in-Comment-clause-rest : goal.returns-in-Comment-clause-rest
 returns-in-Comment-clause-rest g c =
     let old = c.args.self.now in
-    leaves_same _ _ _ _ c.comment.result
+    leaves_same _ _ _ _ _ c.comment.result
     (λ more. ap (λ (p : BodyPlace). until_fault g.T.ChangeVisitor.with_change g.T.ChangeVisitor.with_instant
     old.codes.now
     (state_of old.reader.text (taking (g.T.ChangeVisitor.taken old.timed.visitor) old.timed.clock) old.bracket)

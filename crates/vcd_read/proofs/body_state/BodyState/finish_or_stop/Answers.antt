@@ -9,6 +9,7 @@ returns-in-Some g c = λ nets. (
       (taking (g.T.ChangeVisitor.taken c.args.self.timed.visitor) c.args.self.timed.clock) c.args.self.bracket
       c.args.self.place c.in-Some.line (sym c.in-Some.ensures),
   refl,
+  refl,
 )
 
 pub returns : goal.returns

@@ -1,10 +1,10 @@
-use Rattle.vcd_read.proofs.CodeIndexLemmas.{table_change, map_change}
+use Rattle.vcd_read.proofs.CodeIndexLemmas.{page_change, map_change}
 use Rattle.vcd_read.proofs.code_index.CodeIndex.insert.Goals as goal
 
 pub returns-in_ok-set_net-in-Some-clause-ok : goal.returns-in_ok-set_net-in-Some-clause-ok
 returns-in_ok-set_net-in-Some-clause-ok c =
     let index = c.args.self.now in
-    table_change index.short.items c.set_net.new.nets.items index.long.entries c.args.code.now c.in-Some.number
+    page_change index.short.items c.set_net.new.pages.items index.long.entries c.args.code.now c.in-Some.place
     c.args.net c.in-Some.ensures.is (c.in_ok-set_net-in-Some.ensures.ok)
 
 pub returns-in_ok-insert-in-None-clause-ok : goal.returns-in_ok-insert-in-None-clause-ok

@@ -5,5 +5,5 @@ pub returns-in-Ok-clause-rest : goal.returns-in-Ok-clause-rest
 returns-in-Ok-clause-rest g c = λ more. outcome_same _ _ (c.in-Ok.ensures.rest more)
 
 pub returns-in-Err-clause-rest : goal.returns-in-Err-clause-rest
-returns-in-Err-clause-rest g c = λ more. stopped_fails c.in-Err.stopped.fault.line c.in-Err.stopped.fault.kind _ _ _
+returns-in-Err-clause-rest g c = λ more. stopped_fails c.in-Err.stopped.fault.line c.in-Err.stopped.fault.kind _ _ _ _
     (c.in-Err.ensures.rest more)

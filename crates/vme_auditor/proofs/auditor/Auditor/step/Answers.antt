@@ -1,5 +1,5 @@
 -- An audit keeps up with one step more, and tells its break.
-use Rattle.std.proofs.Common.{◌≡◌, ℕ, ◌+◌, ◌≤◌, List, [], ◌∷◌, ◌++◌, sym, ◌∙◌, ap, subst, arith, None}
+use Rattle.std.proofs.Common.{◌≡◌, ◌+◌, ◌≤◌, List, ◌++◌, sym, ◌∙◌, ap, subst, arith, None}
 use Rattle.std.specs.Option.{option_map, option_to_list}
 use Rattle.vme_trace.specs.Trace.{Trace}
 use Rattle.vme_trace.specs.WellFormed.{malformed_step}

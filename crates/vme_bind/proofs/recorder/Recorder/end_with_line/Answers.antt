@@ -45,8 +45,7 @@ returns-clause-step c =
     in
     let list : c.new.result ≡ change_to inside.now c.args.line ∷ [] = rw (
       c.new.ensures,
-      c.push_reserved.ensures.items,
-      c.new-changes.ensures.items,
+      c.from_buf_and_len.ensures.items,
       c.level-level.ensures,
     ) refl in
     line-step c.args.self.now inside.shown inside.now inside.touched.items c.args.line (search rules) c.self.invariant

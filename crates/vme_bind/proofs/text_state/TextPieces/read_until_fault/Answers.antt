@@ -17,5 +17,6 @@ returns-in-Err-clause-rest g c = λ more.
     let fault = c.in-Err.stopped.fault in
     let body = (text_reached c.args.self).body in
     let read = rest_until_fault made_change made_instant body (tokens_from body.line c.args.piece.now) more in
-    rw c.visitor_of.ensures.fault (piece_stops fault.line fault.kind c.in-Err.stopped.visitor _ read
+    rw (c.visitor_of.ensures.fault, c.visitor_of.ensures.time) (piece_stops fault.line fault.kind
+    c.in-Err.stopped.visitor _ c.in-Err.stopped.time read
     c.visitor_of.ensures.visitor (c.in-Err.ensures.rest more))

@@ -1,0 +1,66 @@
+-- The last time that is read.
+use Rattle.std.proofs.Common.{◌≡◌, ℕ, Bool, true, false, cond, ◌&&◌, List, [], ◌∷◌, Result, Ok, Err, refl, ap}
+use Rattle.std.proofs.Common.{◌∙◌}
+use Rattle.std.specs.Prelude.{not, ◌==◌}
+use Rattle.vcd_read.specs.declared.dump.Bit.{Bit}
+use Rattle.vcd_read.specs.declared.fault.VcdFault.{VcdFault}
+use Rattle.vcd_read.specs.Numbers.{number}
+use Rattle.vcd_read.specs.Header.{◌>>=◌, Net}
+use Rattle.vcd_read.specs.Body.{BodyItem, time_item, change, skipped, bracket_open, bracket_end, wrong, BodyStanding}
+use Rattle.vcd_read.specs.Body.{stand_after}
+use Rattle.vcd_read.specs.Meaning.{items_before_fault, last_time}
+use Rattle.vcd_read.specs.Taking.{State, Taking, progress_after, reached_before}
+
+module _ {A : Type 0} (with_change : A → ℕ → List Bit → A) (with_instant : A → ℕ → A) (nets : List Net) where
+  abbrev time_in : Taking A → ℕ
+  time_in p = p.time
+
+  at_time : (test : Bool) (p : Taking A) (t : ℕ) → time_in (cond test
+      (record { taken = with_instant p.taken p.time; time = t; begun = true }) (record p { time = t; begun = true }))
+      ≡ t
+  at_time true p t = refl
+  at_time false p t = refl
+
+  item_time : (p : Taking A) (item : BodyItem) (items : List BodyItem)
+      → last_time (progress_after with_change with_instant nets p item).time items
+      ≡ last_time p.time (item ∷ items)
+  unfolding last_time
+  item_time p (time_item line digits) items = ap (λ (t : ℕ). last_time t items)
+      (at_time (p.begun && not (number digits == p.time)) p (number digits))
+  item_time p (change line digits code) items = refl
+  item_time p (skipped line code) items = refl
+  item_time p (bracket_open line) items = refl
+  item_time p (bracket_end line) items = refl
+  item_time p (wrong line kind) items = refl
+
+  abbrev state_of : Taking A → Result BodyStanding VcdFault → Result (State A) VcdFault
+  state_of p stood = stood >>= λ next. Ok (record { standing = next; progress = p })
+
+  time_step : (s : State A) (item : BodyItem) (items : List BodyItem) (stood : Result BodyStanding VcdFault)
+      → ((next : State A) → (reached_before with_change with_instant nets next items).progress.time
+      ≡ last_time next.progress.time (items_before_fault nets next.standing items))
+      → (elim (state_of (progress_after with_change with_instant nets s.progress item) stood) as (λ _. State A) [
+        | Ok next ↦ reached_before with_change with_instant nets next items
+        | Err fault ↦ s
+      ]).progress.time
+      ≡ last_time s.progress.time (elim stood [
+        | Ok next ↦ item ∷ items_before_fault nets next items
+        | Err fault ↦ []
+      ])
+  unfolding last_time
+  time_step s item items (Ok next) rest =
+      let after : State A = record {
+        standing = next;
+        progress = progress_after with_change with_instant nets s.progress item;
+      } in
+      rest after ∙ item_time s.progress item (items_before_fault nets next items)
+  time_step s item items (Err fault) rest = refl
+
+  -- how far items come, up to the first that is a fault, is where the last time before it is told
+  pub reached_time : (s : State A) (items : List BodyItem)
+      → (reached_before with_change with_instant nets s items).progress.time
+      ≡ last_time s.progress.time (items_before_fault nets s.standing items)
+  unfolding reached_before items_before_fault last_time
+  reached_time s [] = refl
+  reached_time s (item ∷ items) = time_step s item items (stand_after nets s.standing item)
+      (λ next. reached_time next items)

@@ -1,0 +1,254 @@
+-- The answer to a dump.
+use Rattle.std.proofs.Common.{◌≡◌, ◌≤◌, ℕ, Bool, true, false, List, [], ◌++◌, Option, None, Some, IfSome, Result, Ok}
+use Rattle.std.proofs.Common.{Err}
+use Rattle.std.proofs.Common.{sym, ap, subst, ◌∙◌, append_assoc, append-nil, flat_map, refl}
+use Rattle.std.specs.Io.KnownBytes.{Consumes}
+use Rattle.vme_trace.specs.Streams.{Reading, Writing}
+use Rattle.vme_trace.specs.Trace.{Trace}
+use Rattle.vme_bind.specs.Binding.{BoundLines}
+use Rattle.vme_bind.specs.TextReading.{TextReading, reading_of_text}
+use Rattle.vme_bind.specs.declared.fault.CaptureFault.{CaptureFault}
+use Rattle.vme_answer.specs.declared.refusal.Refusal.{Refusal}
+use Rattle.vme_audit.specs.Covered.{outcome as outcome_of}
+use Rattle.vme_audit.specs.Parts.{breaks}
+use Rattle.vme_audit.specs.declared.allowance.Allowance.{Allowance}
+use Rattle.vme_stream.specs.Outputs.{FailsToWrite, Writes}
+use Rattle.vme_step_auditor.specs.ReadBy.{GivenSteps, read_by, read_of}
+use Rattle.vme_step_reader.specs.StepReading.{StepReading, whole_reading}
+use Rattle.vme_audit_command.specs.Bodies.{AuditsRest, EndsBehind, HasGiven, IsLater, IsWholeBody, ended_at}
+use Rattle.vme_audit_command.specs.Definitions.{AreAll, IsBodyBegun, NotBegun, ReadsDefinitions}
+use Rattle.vme_audit_command.specs.DumpAnswers.{AuditsBehind, AuditsDump, DumpAnswer, DumpRules, EndsAs, answer_by}
+use Rattle.vme_audit_command.specs.DumpAnswers.{dump_answer, dump_outcome, last_lines}
+use Rattle.vme_audit_command.specs.DumpAudits.{WritesSome, break_lines, line_of_break, lines_of}
+use Rattle.vme_audit_command.specs.LastLines.{TellsOutcome, counts_unless, outcome_line_of}
+use Rattle.vme_audit_command.specs.declared.told.NoOutcome.{NoOutcome}
+use Rattle.vme_audit_command.specs.declared.told.NoOutcome.TheVariants.{CannotRead, Refused, Untold}
+use Rattle.vme_audit_command.specs.declared.told.TellFault.{TellFault}
+use Rattle.vme_audit_command.specs.declared.told.TellFault.TheVariants.{Memory, CannotWrite}
+use Rattle.vme_audit_command.proofs.LastLemmas.{some-of}
+use Rattle.vme_audit_command.proofs.Underway.{all-left, left_of}
+use Rattle.vme_audit_command.proofs.WriteLemmas.{fails-after, fails-longer, some-after, some-longer, writes-both}
+use Rattle.vme_audit_command.proofs.WriteLemmas.{writes-nothing}
+
+-- before the first step there are no lines
+pub no-lines : (head : List ℕ) (audit : GivenSteps) → breaks (read_of audit) ≡ [] → lines_of head audit ≡ []
+unfolding break_lines
+no-lines head audit none = ap (flat_map (line_of_break audit.allowances audit.stop head)) none
+
+-- what is told of an audit with these allowances, this stop
+abbrev pub rules_by : List Allowance → Option ℕ → ℕ → Bool → DumpRules
+rules_by allowances stop transfers is_quiet =
+    record { allowances = allowances; transfers = transfers; stop = stop; is_quiet = is_quiet }
+
+-- the first of an answer are the lines of its breaks
+lines-first : (rules : DumpRules) (head lines : List ℕ) (ended : Result Trace Refusal)
+    → (more : List ℕ) × ((answer_by rules head lines ended).out ≡ lines ++ more)
+lines-first rules head lines (Ok a) = (last_lines rules head a, refl)
+lines-first rules head lines (Err refusal) = ([], sym (append-nil lines))
+
+-- the lines of all breaks are those that were told from the first on
+all-told : (all before text : List ℕ) → before ≡ [] → all ≡ before ++ text → all ≡ text
+all-told all before text none is = is ∙ ap (λ (l : List ℕ). l ++ text) none
+
+module _ (transfers : ℕ) (is_quiet : Bool) (head : List ℕ) (first later : GivenSteps) (none : lines_of head first ≡ [])
+    (reading : TextReading) (u v : Writing) where
+  -- a body without an outcome
+  pub ends-without : (why : NoOutcome)
+      → EndsBehind {A = Unit {0}} head first (lines_of head first) reading later.recording u v (Err why)
+      → EndsAs (dump_answer (rules_by first.allowances first.stop transfers is_quiet) head (Ok reading)) u v (Err why)
+  ends-without (Refused refusal) ends =
+      let rules = rules_by first.allowances first.stop transfers is_quiet in
+      let (text, same, (writes, ended)) = ends in
+      let lines = break_lines first.allowances first.stop head reading.recorded in
+      let is = all-told lines (lines_of head first) text none same in
+      let answer : dump_answer rules head (Ok reading) ≡ record { out = text; ended = Err refusal } =
+      ap (λ (l : List ℕ). answer_by rules head l (ended_at first.allowances first.stop reading.recorded
+      reading.fault)) is
+      ∙ ap (answer_by rules head text) ended in
+      subst (λ (a : DumpAnswer). EndsAs a u v (Err (Refused refusal))) (sym answer) (writes, refl)
+  ends-without CannotRead ends =
+      let rules = rules_by first.allowances first.stop transfers is_quiet in
+      let (text, same, some) = ends in
+      let lines = break_lines first.allowances first.stop head reading.recorded in
+      let (more, is) = lines-first rules head lines (ended_at first.allowances first.stop reading.recorded
+      reading.fault)
+      in
+      let all = is ∙ ap (λ (l : List ℕ). l ++ more) (all-told lines (lines_of head first) text none same) in
+      subst (λ (l : List ℕ). WritesSome u v l) (sym all) (some-longer u v text more some)
+  ends-without (Untold CannotWrite) ends =
+      let rules = rules_by first.allowances first.stop transfers is_quiet in
+      let (text, same, fails) = ends in
+      let lines = break_lines first.allowances first.stop head reading.recorded in
+      let (more, is) = lines-first rules head lines (ended_at first.allowances first.stop reading.recorded
+      reading.fault)
+      in
+      let all = is ∙ ap (λ (l : List ℕ). l ++ more) (all-told lines (lines_of head first) text none same) in
+      subst (λ (l : List ℕ). FailsToWrite u v l) (sym all) (fails-longer u v text more fails)
+  ends-without (Untold Memory) ends =
+      let rules = rules_by first.allowances first.stop transfers is_quiet in
+      let (text, same, some) = ends in
+      let lines = break_lines first.allowances first.stop head reading.recorded in
+      let (more, is) = lines-first rules head lines (ended_at first.allowances first.stop reading.recorded
+      reading.fault)
+      in
+      let all = is ∙ ap (λ (l : List ℕ). l ++ more) (all-told lines (lines_of head first) text none same) in
+      subst (λ (l : List ℕ). WritesSome u v l) (sym all) (some-longer u v text more some)
+
+  -- behind the lines of its breaks the last lines are told
+  module _ (w : Writing) (kept : IsLater first later)
+      (ends : EndsBehind {A = Unit {0}} head first (lines_of head first) reading later.recording u v (Ok tt)) where
+    -- what the last lines are told of
+    abbrev TellsLast : GivenSteps → Result ℕ TellFault → Type 0
+    TellsLast a result = TellsOutcome (counts_unless is_quiet a.allowances head (read_of a)
+        ++ outcome_line_of head (outcome_of a.allowances transfers (read_of a)))
+        (outcome_of a.allowances transfers (read_of a)) v w result
+
+    tells-ours : (result : Result ℕ TellFault) → TellsLast later result
+        → TellsLast (record first { recording = later.recording }) result
+    tells-ours result tells = subst (λ (a : GivenSteps). TellsLast a result) kept.same tells
+
+    answer-is : (text : List ℕ)
+        × (dump_answer (rules_by first.allowances first.stop transfers is_quiet) head (Ok reading)
+        ≡ answer_by (rules_by first.allowances first.stop transfers is_quiet) head text
+        (Ok (read_by first.allowances first.stop later.recording)))
+        × Writes u v text
+    answer-is =
+        let rules = rules_by first.allowances first.stop transfers is_quiet in
+        let (text, same, (writes, ended)) = ends in
+        let lines = break_lines first.allowances first.stop head reading.recorded in
+        let is = all-told lines (lines_of head first) text none same in (
+          text,
+          ap (λ (l : List ℕ). answer_by rules head l (ended_at first.allowances first.stop reading.recorded
+              reading.fault)) is ∙ ap (answer_by rules head text) ended,
+          writes,
+        )
+
+    pub ends-with : (status : ℕ) → TellsLast later (Ok status)
+        → EndsAs (dump_answer (rules_by first.allowances first.stop transfers is_quiet) head (Ok reading)) u w
+        (Ok status)
+    ends-with status tells =
+        let (text, answer, writes) = answer-is in
+        let (last, is) = tells-ours (Ok status) tells in
+        subst (λ (a : DumpAnswer). EndsAs a u w (Ok status)) (sym answer)
+        (writes-both u v w text _ writes last, ap Ok (sym is))
+
+    pub ends-untold : (fault : TellFault) → TellsLast later (Err fault)
+        → EndsAs (dump_answer (rules_by first.allowances first.stop transfers is_quiet) head (Ok reading)) u w
+        (Err (Untold fault))
+    ends-untold CannotWrite tells =
+        let (text, answer, writes) = answer-is in
+        subst (λ (a : DumpAnswer). EndsAs a u w (Err (Untold CannotWrite))) (sym answer)
+        (fails-after u v w text _ writes (tells-ours (Err CannotWrite) tells))
+    ends-untold Memory tells =
+        let (text, answer, writes) = answer-is in
+        subst (λ (a : DumpAnswer). EndsAs a u w (Err (Untold Memory))) (sym answer)
+        (some-after u v w text _ writes (tells-ours (Err Memory) tells))
+
+-- ---- behind the definitions
+
+module _ (allowances : List Allowance) (stop : Option ℕ) (transfers : ℕ) (is_quiet : Bool) (head : List ℕ)
+    (first later : GivenSteps) (fits : first.allowances ≡ allowances) (stops : first.stop ≡ stop)
+    (none : lines_of head first ≡ []) (r : StepReading) (held : List ℕ) (is_more : Bool) (source : Reading)
+    (u : Writing) where
+  -- by the rules that the audit has
+  behind-by : (w : Writing) (result : Result ℕ NoOutcome)
+      → AuditsBehind (rules_by first.allowances first.stop transfers is_quiet) head r held is_more source u w result
+      → AuditsBehind (rules_by allowances stop transfers is_quiet) head r held is_more source u w result
+  behind-by w result behind =
+      subst (λ (s : Option ℕ). AuditsBehind (rules_by allowances s transfers is_quiet) head r held is_more source u w
+      result) stops
+      (subst (λ (a : List Allowance). AuditsBehind (rules_by a first.stop transfers is_quiet) head r held is_more source
+      u w result) fits behind)
+
+  pub behind-without : (v : Writing) (why : NoOutcome)
+      → AuditsRest {A = Unit {0}} head first later r held is_more source u v (Err why)
+      → AuditsBehind (rules_by allowances stop transfers is_quiet) head r held is_more source u v (Err why)
+  behind-without v why rest =
+      let (whole, body, ends) = rest in
+      behind-by v (Err why) (
+        whole,
+        body,
+        ends-without transfers is_quiet head first later none (whole_reading r whole) u v why ends,
+      )
+
+  pub behind-with : (v w : Writing) (status : ℕ) → IsLater first later
+      → AuditsRest {A = Unit {0}} head first later r held is_more source u v (Ok tt)
+      → TellsOutcome (counts_unless is_quiet later.allowances head (read_of later)
+      ++ outcome_line_of head (outcome_of later.allowances transfers (read_of later)))
+      (outcome_of later.allowances transfers (read_of later)) v w (Ok status)
+      → AuditsBehind (rules_by allowances stop transfers is_quiet) head r held is_more source u w (Ok status)
+  behind-with v w status kept rest tells =
+      let (whole, body, ends) = rest in
+      behind-by w (Ok status) (
+        whole,
+        body,
+        ends-with transfers is_quiet head first later none (whole_reading r whole) u v w kept ends status tells,
+      )
+
+  pub behind-untold : (v w : Writing) (fault : TellFault) → IsLater first later
+      → AuditsRest {A = Unit {0}} head first later r held is_more source u v (Ok tt)
+      → TellsOutcome (counts_unless is_quiet later.allowances head (read_of later)
+      ++ outcome_line_of head (outcome_of later.allowances transfers (read_of later)))
+      (outcome_of later.allowances transfers (read_of later)) v w (Err fault)
+      → AuditsBehind (rules_by allowances stop transfers is_quiet) head r held is_more source u w (Err (Untold fault))
+  behind-untold v w fault kept rest tells =
+      let (whole, body, ends) = rest in
+      behind-by w (Err (Untold fault)) (
+        whole,
+        body,
+        ends-untold transfers is_quiet head first later none (whole_reading r whole) u v w kept ends fault tells,
+      )
+
+-- ---- a whole dump
+
+-- the audit of a body before its first step
+pub given-first : {S : Type 0} (settler : Option S) (first : GivenSteps) (r : StepReading) → settler ≡ None
+    → first.recording ≡ r.given → r.given.opening.slots ≤ 21 → IsBodyBegun r → HasGiven settler first r
+given-first settler first r unsettled given few begun =
+    record { unsettled = unsettled; given = given; few = few; formed = begun.formed }
+
+all-behind : (a b : Option (List ℕ)) (done more : List ℕ) → Consumes a b done → IfSome b (λ told. more ≡ told)
+    → IfSome a (λ told. done ++ more ≡ told)
+all-behind None b done more read all = tt
+all-behind (Some x) None done more read all = absurd read
+all-behind (Some x) (Some y) done more read all = ap (λ (l : List ℕ). done ++ l) all ∙ sym read
+
+module _ (rules : DumpRules) (head : List ℕ) (bound : BoundLines) (source : Reading) (u : Writing) where
+  -- nothing is read of a dump
+  pub unread-answers : AuditsDump rules head bound source u u (Err (Untold Memory))
+  unread-answers = (left_of source.left, all-left source.left, some-of u _)
+
+  pub unbegun-answers : (new : Reading) (left : List ℕ) (why : NoOutcome)
+      → ReadsDefinitions bound source new left (Err why) → AuditsDump rules head bound source u u (Err why)
+  unbegun-answers new left (Refused refusal) reads =
+      let (text, all, (fault, is, same)) = reads in (
+        text,
+        all,
+        subst (λ (x : Result TextReading CaptureFault). EndsAs (dump_answer rules head x) u u (Err (Refused refusal)))
+            (sym is) (writes-nothing u, ap Err same),
+      )
+  unbegun-answers new left CannotRead reads = (left_of source.left, all-left source.left, some-of u _)
+  unbegun-answers new left (Untold CannotWrite) reads = absurd reads.2
+  unbegun-answers new left (Untold Memory) reads = (left_of source.left, all-left source.left, some-of u _)
+
+  -- all of it
+  pub dump-answers : (new : Reading) (left : List ℕ) (r : StepReading) (is_more : Bool) (w : Writing)
+      (result : Result ℕ NoOutcome) → ReadsDefinitions bound source new left (Ok (r, is_more))
+      → (IsBodyBegun r → AuditsBehind rules head r left is_more new u w result)
+      → AuditsDump rules head bound source u w result
+  dump-answers new left r true w result reads behind =
+      let (begun, (done, read, whole)) = reads in
+      let (all, (more, are, is), ends) = behind begun in (
+        done ++ more,
+        all-behind source.left new.left done more read are,
+        subst (λ (x : Result TextReading CaptureFault). EndsAs (dump_answer rules head x) u w result)
+            (ap (λ (l : List ℕ). Ok (whole_reading r l)) is ∙ sym (whole more)) ends,
+      )
+  dump-answers new left r false w result reads behind =
+      let (begun, (text, all, whole)) = reads in
+      let (body, is, ends) = behind begun in (
+        text,
+        all,
+        subst (λ (x : Result TextReading CaptureFault). EndsAs (dump_answer rules head x) u w result)
+            (ap (λ (l : List ℕ). Ok (whole_reading r l)) is ∙ sym whole) ends,
+      )

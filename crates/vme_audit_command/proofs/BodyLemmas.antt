@@ -1,0 +1,208 @@
+-- What the audit of a body comes to piece by piece.
+use Rattle.std.proofs.Common.{◌≡◌, ◌≤◌, ℕ, List, [], ◌∷◌, ◌++◌, Option, None, Result, Ok, Err, flat_map, length}
+use Rattle.std.proofs.Common.{sym, ap, subst, ◌∙◌, append_assoc, append-nil, refl, take}
+use Rattle.std.proofs.Common.{◌+◌, ◌<◌, drop, get_or, take-append-drop}
+use Rattle.std.proofs.lemmas.List.{take_more}
+use Rattle.vme_summary.proofs.Sound.{sound_apart}
+use Rattle.std.proofs.lemmas.Grind.{flat_map-append}
+use Rattle.vme_trace.specs.Followed.{with_steps}
+use Rattle.vme_trace.specs.Streams.{Writing}
+use Rattle.vme_trace.specs.Trace.{Trace}
+use Rattle.vme_trace.specs.WellFormed.{malformed_step}
+use Rattle.vme_trace.specs.declared.step.Step.{Step}
+use Rattle.vme_trace.specs.declared.verdict.Break.{Break}
+use Rattle.vme_stream.specs.Outputs.{Writes}
+use Rattle.vme_audit.specs.Parts.{breaks}
+use Rattle.vme_audit.specs.declared.allowance.Allowance.{Allowance}
+use Rattle.vme_audit_command.specs.DumpAudits.{AuditGoesOn, GoesOn, TellsText, break_lines, given_too}
+use Rattle.vme_audit_command.specs.DumpAudits.{line_of_break, lines_of}
+use Rattle.vme_step_auditor.specs.ReadBy.{BreaksGoOn, GivenSteps, read_by, read_of}
+use Rattle.vme_audit_command.specs.declared.told.TellFault.{TellFault}
+use Rattle.vme_audit_command.specs.declared.told.TellFault.TheVariants.{Memory, CannotWrite}
+use Rattle.vme_audit_command.proofs.WriteLemmas.{fails-after, fails-longer, some-after, some-longer, writes-as-some}
+use Rattle.vme_audit_command.proofs.WriteLemmas.{writes-both, writes-nothing}
+
+-- the breaks stay where a recording goes on
+abbrev pub ReadGoesOn : Type 0
+ReadGoesOn = (allowances : List Allowance) (stop : Option ℕ) (t : Trace) (more : List Step)
+    → malformed_step (with_steps t more) ≡ None → t.opening.slots ≤ 21
+    → BreaksGoOn allowances stop t (with_steps t more)
+
+-- so do their lines
+pub lines-go-on : ReadGoesOn → (head : List ℕ) (allowances : List Allowance) (stop : Option ℕ) (t : Trace)
+    (more : List Step) → malformed_step (with_steps t more) ≡ None → t.opening.slots ≤ 21
+    → (text : List ℕ) × (break_lines allowances stop head (with_steps t more) ≡ break_lines allowances stop head t
+    ++ text)
+unfolding break_lines
+lines-go-on law head allowances stop t more formed few =
+    let on = law allowances stop t more formed few in
+    let line = line_of_break allowances stop head in (
+      flat_map line on.more,
+      ap (flat_map line) on.grown ∙ flat_map-append line (breaks (read_by allowances stop t)) on.more,
+    )
+
+pub steps-both : (t : Trace) (x y : List Step) → with_steps (with_steps t x) y ≡ with_steps t (x ++ y)
+steps-both t x y = ap (λ (s : List Step). record t { steps = s }) (append_assoc t.steps x y)
+
+-- no memory for a step
+pub no-memory : (A : Type 0) → ReadGoesOn → (head : List ℕ) (audit : GivenSteps) (steps : List Step) (w : Writing)
+    → malformed_step (with_steps audit.recording steps) ≡ None → audit.recording.opening.slots ≤ 21
+    → AuditGoesOn {A = A} head audit steps w w (Err Memory)
+no-memory A law head audit steps w formed few =
+    let (text, same) = lines-go-on law head audit.allowances audit.stop audit.recording steps formed few in
+    (text, same, some-longer w w [] text (writes-as-some w w [] (writes-nothing w)))
+
+-- ---- a step
+
+-- the lines that a text tells were told, as far as it was
+pub tells-on : {A : Type 0} (before after text : List ℕ) (u v : Writing) (result : Result A TellFault)
+    → after ≡ before ++ text → TellsText u v result text → GoesOn before after u v result
+tells-on before after text u v (Ok x) same tells = (text, same, tells)
+tells-on before after text u v (Err CannotWrite) same tells = (text, same, tells)
+tells-on before after text u v (Err Memory) same tells = (text, same, tells)
+
+-- the line of a break that a step makes
+pub break-told : (head : List ℕ) (audit later : GivenSteps) (steps : List Step) (b : Break) (line : List ℕ)
+    → later ≡ given_too audit steps → breaks (read_of later) ≡ breaks (read_of audit) ++ b ∷ []
+    → line ≡ line_of_break audit.allowances audit.stop head b
+    → lines_of head (given_too audit steps) ≡ lines_of head audit ++ line
+unfolding break_lines
+break-told head audit later steps b line is more told =
+    let f = line_of_break audit.allowances audit.stop head in
+    let grown : breaks (read_of (given_too audit steps)) ≡ breaks (read_of audit) ++ b ∷ [] =
+    subst (λ (l : GivenSteps). breaks (read_of l) ≡ breaks (read_of audit) ++ b ∷ []) is more in
+    ap (flat_map f) grown ∙ flat_map-append f (breaks (read_of audit)) (b ∷ [])
+    ∙ ap (λ (l : List ℕ). flat_map f (breaks (read_of audit)) ++ l) (append-nil (f b) ∙ sym told)
+
+-- a step that makes no break
+pub nothing-told : (head : List ℕ) (audit later : GivenSteps) (steps : List Step) → later ≡ given_too audit steps
+    → breaks (read_of later) ≡ breaks (read_of audit) ++ []
+    → lines_of head (given_too audit steps) ≡ lines_of head audit ++ []
+unfolding break_lines
+nothing-told head audit later steps is more =
+    let f = line_of_break audit.allowances audit.stop head in
+    let grown : breaks (read_of (given_too audit steps)) ≡ breaks (read_of audit) ++ [] =
+    subst (λ (l : GivenSteps). breaks (read_of l) ≡ breaks (read_of audit) ++ []) is more in
+    ap (flat_map f) grown ∙ flat_map-append f (breaks (read_of audit)) []
+
+-- ---- steps one after the other
+
+pub goes-after : {A : Type 0} (before middle after : List ℕ) (u v w : Writing) (result : Result A TellFault)
+    → (text : List ℕ) × (middle ≡ before ++ text) × Writes u v text → GoesOn middle after v w result
+    → GoesOn before after u w result
+goes-after before middle after u v w (Ok x) one two =
+    let (first, is, writes) = one in
+    let (second, more, told) = two in (
+      first ++ second,
+      more ∙ ap (λ (l : List ℕ). l ++ second) is ∙ append_assoc before first second,
+      writes-both u v w first second writes told,
+    )
+goes-after before middle after u v w (Err CannotWrite) one two =
+    let (first, is, writes) = one in
+    let (second, more, told) = two in (
+      first ++ second,
+      more ∙ ap (λ (l : List ℕ). l ++ second) is ∙ append_assoc before first second,
+      fails-after u v w first second writes told,
+    )
+goes-after before middle after u v w (Err Memory) one two =
+    let (first, is, writes) = one in
+    let (second, more, told) = two in (
+      first ++ second,
+      more ∙ ap (λ (l : List ℕ). l ++ second) is ∙ append_assoc before first second,
+      some-after u v w first second writes told,
+    )
+
+-- an early end leaves lines that weren't told
+pub goes-further : (A B : Type 0) (before after all : List ℕ) (u v : Writing) (fault : TellFault)
+    → GoesOn {A = A} before after u v (Err fault) → (later : List ℕ) × (all ≡ after ++ later)
+    → GoesOn {A = B} before all u v (Err fault)
+goes-further A B before after all u v CannotWrite goes more =
+    let (text, is, fails) = goes in
+    let (later, same) = more in (
+      text ++ later,
+      same ∙ ap (λ (l : List ℕ). l ++ later) is ∙ append_assoc before text later,
+      fails-longer u v text later fails,
+    )
+goes-further A B before after all u v Memory goes more =
+    let (text, is, some) = goes in
+    let (later, same) = more in (
+      text ++ later,
+      same ∙ ap (λ (l : List ℕ). l ++ later) is ∙ append_assoc before text later,
+      some-longer u v text later some,
+    )
+
+-- ---- steps one by one
+
+-- the front of steps that may stand where they stand
+pub front-formed : (t : Trace) (steps : List Step) (n : ℕ) → malformed_step (with_steps t steps) ≡ None
+    → malformed_step (with_steps t (take n steps)) ≡ None
+front-formed t steps n formed =
+    let split : t.steps ++ steps ≡ (t.steps ++ take n steps) ++ drop n steps =
+    ap (λ (x : List Step). t.steps ++ x) (sym (take-append-drop n steps))
+    ∙ sym (append_assoc t.steps (take n steps) (drop n steps)) in
+    (sound_apart t.opening (t.steps ++ take n steps) (drop n steps)
+    (subst (λ (x : List Step). malformed_step (record { opening = t.opening; steps = x }) ≡ None) split formed)).first
+
+-- one more was given
+pub one-more : (first audit later : GivenSteps) (steps : List Step) (i : ℕ) (step : Step)
+    → audit ≡ given_too first (take i steps) → later ≡ given_too audit (step ∷ []) → i < length steps
+    → step ≡ get_or steps i step → later ≡ given_too first (take (i + 1) steps)
+one-more first audit later steps i step so_far next lt is =
+    let all : List Step = first.recording.steps in
+    next ∙ ap (λ (a : GivenSteps). given_too a (step ∷ [])) so_far
+    ∙ ap (λ (x : List Step). record first { recording = record first.recording { steps = x } })
+    (append_assoc all (take i steps) (step ∷ [])
+    ∙ ap (λ (x : List Step). all ++ x)
+    (ap (λ (d : Step). take i steps ++ d ∷ []) is ∙ sym (take_more steps i step lt)))
+
+-- a step of some that may stand where they stand
+pub next-formed : (first audit later : GivenSteps) (steps : List Step) (i : ℕ) (step : Step)
+    → audit ≡ given_too first (take i steps) → i < length steps → step ≡ get_or steps i step
+    → malformed_step (with_steps first.recording steps) ≡ None
+    → malformed_step (with_steps audit.recording (step ∷ [])) ≡ None
+next-formed first audit later steps i step so_far lt is formed =
+    let one = one-more first audit (given_too audit (step ∷ [])) steps i step so_far refl lt is in
+    ap (λ (a : GivenSteps). malformed_step a.recording) one ∙ front-formed first.recording steps (i + 1) formed
+
+-- the lines of more steps
+pub lines-next : (head : List ℕ) (first audit later : GivenSteps) (step : Step) (u v w : Writing)
+    → later ≡ given_too audit (step ∷ [])
+    → (text : List ℕ) × (lines_of head audit ≡ lines_of head first ++ text) × Writes u v text
+    → (text : List ℕ) × (lines_of head (given_too audit (step ∷ [])) ≡ lines_of head audit ++ text)
+    × Writes v w text
+    → (text : List ℕ) × (lines_of head later ≡ lines_of head first ++ text) × Writes u w text
+lines-next head first audit later step u v w is one two =
+    let (text, same, writes) = one in
+    let (more, grown, told) = two in (
+      text ++ more,
+      ap (lines_of head) is ∙ grown ∙ ap (λ (l : List ℕ). l ++ more) same
+          ∙ append_assoc (lines_of head first) text more,
+      writes-both u v w text more writes told,
+    )
+
+-- the rest of the steps wasn't audited
+pub rest-untold : (A B : Type 0) → ReadGoesOn → (head : List ℕ) (first audit : GivenSteps) (steps : List Step) (i : ℕ)
+    (step : Step) (u v w : Writing) (fault : TellFault) → audit ≡ given_too first (take i steps) → i < length steps
+    → step ≡ get_or steps i step → malformed_step (with_steps first.recording steps) ≡ None
+    → first.recording.opening.slots ≤ 21
+    → (text : List ℕ) × (lines_of head audit ≡ lines_of head first ++ text) × Writes u v text
+    → AuditGoesOn {A = A} head audit (step ∷ []) v w (Err fault)
+    → AuditGoesOn {A = B} head first steps u w (Err fault)
+rest-untold A B law head first audit steps i step u v w fault so_far lt is formed few one two =
+    let t = first.recording in
+    let front = take (i + 1) steps in
+    let here : malformed_step (with_steps (with_steps t front) (drop (i + 1) steps)) ≡ None =
+    ap malformed_step (steps-both t front (drop (i + 1) steps)
+    ∙ ap (with_steps t) (take-append-drop (i + 1) steps)) ∙ formed in
+    let (later, grown) = lines-go-on law head first.allowances first.stop (with_steps t front) (drop (i + 1) steps)
+    here few in
+    let reached = one-more first audit (given_too audit (step ∷ [])) steps i step so_far refl lt is in
+    let all : lines_of head (given_too first steps) ≡ lines_of head (given_too audit (step ∷ [])) ++ later =
+    ap (break_lines first.allowances first.stop head) (sym (ap (with_steps t) (take-append-drop (i + 1) steps))
+    ∙ sym (steps-both t front (drop (i + 1) steps)))
+    ∙ grown ∙ ap (λ (l : List ℕ). l ++ later) (sym (ap (lines_of head) reached)) in
+    goes-further A B (lines_of head first) (lines_of head (given_too audit (step ∷ [])))
+    (lines_of head (given_too first steps)) u w fault
+    (goes-after {A = A} (lines_of head first) (lines_of head audit) (lines_of head (given_too audit (step ∷ []))) u v w
+    (Err fault) one two)
+    (later, all)

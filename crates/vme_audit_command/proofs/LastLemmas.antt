@@ -1,0 +1,59 @@
+-- The last lines about a dump, one after the other.
+use Rattle.std.proofs.Common.{◌≡◌, ℕ, List, [], ◌++◌, Result, Ok, Err, refl, IfErr, IfOk}
+use Rattle.vme_trace.specs.Streams.{Writing}
+use Rattle.vme_trace.specs.Trace.{Trace}
+use Rattle.vme_audit.specs.Asked.{never_asked}
+use Rattle.vme_audit.specs.declared.allowance.Allowance.{Allowance}
+use Rattle.vme_audit.specs.declared.outcome.Outcome.{Outcome}
+use Rattle.vme_auditor.specs.Findings.{AreBreakCountsOf, AreFindingsOf}
+use Rattle.vme_auditor.specs.declared.findings.AuditFindings.{AuditFindings}
+use Rattle.vme_auditor.specs.declared.findings.BreakCounts.{BreakCounts}
+use Rattle.vme_audit_lines.specs.AuditLines.{count_lines, outcome_status, unasked}
+use Rattle.vme_stream.specs.Outputs.{Writes}
+use Rattle.vme_audit_command.specs.DumpAudits.{TellsText, WritesSome}
+use Rattle.vme_audit_command.specs.LastLines.{TellsOutcome, count_lines_of}
+use Rattle.vme_audit_command.specs.declared.told.TellFault.{TellFault}
+use Rattle.vme_audit_command.specs.declared.told.TellFault.TheVariants.{Memory, CannotWrite}
+use Rattle.vme_audit_command.proofs.WriteLemmas.{fails-after, fails-longer, some-after, some-longer, writes-as-some}
+use Rattle.vme_audit_command.proofs.WriteLemmas.{writes-both, writes-nothing}
+
+-- what was counted is what the recording has
+pub counts-are : (allowances : List Allowance) (head : List ℕ) (a : Trace) (c : BreakCounts) (f : AuditFindings)
+    → AreBreakCountsOf c allowances a → AreFindingsOf f a → unasked f.events ≡ never_asked a
+    → count_lines head c f ≡ count_lines_of allowances head a
+counts-are allowances head a c f counted found asked =
+    rw (counted.broken, counted.unreadable, counted.allowed, found.counts, asked) refl
+
+-- nothing of a text was told
+pub some-of : (w : Writing) (text : List ℕ) → WritesSome w w text
+some-of w text = some-longer w w [] text (writes-as-some w w [] (writes-nothing w))
+
+-- an outcome is kept once it was told
+pub outcome-told : (o : Outcome) (u v : Writing) (text : List ℕ) (result : Result ℕ TellFault)
+    → Writes u v text → IfOk result (λ status. status ≡ outcome_status o) → IfErr result (λ fault. fault ≡ Memory)
+    → TellsOutcome text o u v result
+outcome-told o u v text (Ok status) writes ok err = (writes, ok)
+outcome-told o u v text (Err CannotWrite) writes ok err = absurd (differ err)
+  where
+    differ : CannotWrite ≡ Memory → ⊥
+    differ same = cc
+outcome-told o u v text (Err Memory) writes ok err = writes-as-some u v text writes
+
+-- an outcome that isn't told
+pub outcome-untold : (A : Type 0) (o : Outcome) (u v : Writing) (text : List ℕ) (fault : TellFault)
+    → TellsText {A = A} u v (Err fault) text → TellsOutcome text o u v (Err fault)
+outcome-untold A o u v text CannotWrite tells = tells
+outcome-untold A o u v text Memory tells = tells
+
+-- a text before it
+pub outcome-after : (o : Outcome) (u v w : Writing) (text more : List ℕ) (result : Result ℕ TellFault)
+    → Writes u v text → TellsOutcome more o v w result → TellsOutcome (text ++ more) o u w result
+outcome-after o u v w text more (Ok status) one two = (writes-both u v w text more one two.0, two.1)
+outcome-after o u v w text more (Err CannotWrite) one two = fails-after u v w text more one two
+outcome-after o u v w text more (Err Memory) one two = some-after u v w text more one two
+
+-- a text before it that isn't told
+pub outcome-unreached : (A : Type 0) (o : Outcome) (u v : Writing) (text more : List ℕ) (fault : TellFault)
+    → TellsText {A = A} u v (Err fault) text → TellsOutcome (text ++ more) o u v (Err fault)
+outcome-unreached A o u v text more CannotWrite tells = fails-longer u v text more tells
+outcome-unreached A o u v text more Memory tells = some-longer u v text more tells

@@ -1,0 +1,10 @@
+pub mod WriteLemmas
+pub mod BodyLemmas
+pub mod LastLemmas
+pub mod PieceLemmas
+pub mod Underway
+pub mod Given
+pub mod Refused
+pub mod DefinitionLemmas
+pub mod Later
+pub mod AnswerLemmas

@@ -1,0 +1,209 @@
+-- A piece of a body, and where a body ends.
+use Rattle.std.proofs.Common.{◌≡◌, ◌≤◌, ℕ, List, [], ◌++◌, Bool, true, false, if◌then◌else◌, Option, None, Some, Result}
+use Rattle.std.proofs.Common.{Ok, Err, take, drop}
+use Rattle.std.proofs.Common.{IfErr, OnOk, sym, ap, subst, ◌∙◌, append_assoc, append-nil, take-append-drop, refl}
+use Rattle.std.proofs.Common.{flat_map}
+use Rattle.vme_trace.specs.Followed.{with_steps}
+use Rattle.vme_trace.specs.Streams.{Writing}
+use Rattle.vme_trace.specs.Trace.{Trace}
+use Rattle.vme_trace.specs.WellFormed.{malformed_step}
+use Rattle.vme_trace.specs.declared.step.Step.{Step}
+use Rattle.vcd_read.specs.declared.fault.FaultKind.{FaultKind}
+use Rattle.vcd_read.specs.declared.fault.FaultKind.TheVariants as vcd
+use Rattle.vcd_read.specs.declared.fault.VcdFault.{VcdFault}
+use Rattle.vme_bind.specs.TextReading.{StopsAs, TextReading}
+use Rattle.vme_stream.specs.Outputs.{Writes}
+use Rattle.vme_answer.specs.Refusals.{dump_refusal}
+use Rattle.vme_answer.specs.declared.refusal.Refusal.{Refusal}
+use Rattle.vme_answer.specs.declared.refusal.Refusal.TheVariants.{BadDump}
+use Rattle.vme_audit.specs.Parts.{breaks}
+use Rattle.vme_audit.specs.declared.allowance.Allowance.{Allowance}
+use Rattle.vme_audit_command.specs.Bodies.{EndsBehind, HasGiven, WritesUntil, ended_at}
+use Rattle.vme_audit_command.specs.Definitions.{GivenIsFront}
+use Rattle.vme_audit_command.specs.DumpAudits.{AuditGoesOn, GoesOn, break_lines, given_too, line_of_break}
+use Rattle.vme_audit_command.specs.DumpAudits.{lines_of}
+use Rattle.vme_step_auditor.specs.ReadBy.{GivenSteps, is_stopped, read_by}
+use Rattle.vme_step_reader.specs.StepReading.{StepReading, whole_reading}
+use Rattle.vme_audit_command.specs.declared.told.NoOutcome.{NoOutcome}
+use Rattle.vme_audit_command.specs.declared.told.NoOutcome.TheVariants.{CannotRead, Refused, Untold}
+use Rattle.vme_audit_command.specs.declared.told.TellFault.{TellFault}
+use Rattle.vme_audit_command.specs.declared.told.TellFault.TheVariants.{CannotWrite, Memory}
+use Rattle.vme_audit_command.proofs.BodyLemmas.{ReadGoesOn, lines-go-on, steps-both}
+use Rattle.vme_audit_command.proofs.WriteLemmas.{fails-after, fails-longer, some-after, some-longer, writes-as-some}
+use Rattle.vme_audit_command.proofs.WriteLemmas.{writes-both, writes-nothing}
+
+-- ---- one body after another
+
+-- what was written before a part of a body
+pub until-after : {A : Type 0} (ended : Result Trace Refusal) (a : Trace) (u v w : Writing) (x y : List ℕ)
+    (result : Result A NoOutcome) → Writes u v x → WritesUntil ended a v w y result
+    → WritesUntil ended a u w (x ++ y) result
+until-after ended a u v w x y (Ok _) one two = (writes-both u v w x y one two.0, two.1)
+until-after ended a u v w x y (Err (Refused refusal)) one two = (writes-both u v w x y one two.0, two.1)
+until-after ended a u v w x y (Err CannotRead) one two = some-after u v w x y one two
+until-after ended a u v w x y (Err (Untold CannotWrite)) one two = fails-after u v w x y one two
+until-after ended a u v w x y (Err (Untold Memory)) one two = some-after u v w x y one two
+
+pub ends-after : {A : Type 0} (head : List ℕ) (audit : GivenSteps) (told more : List ℕ) (reading : TextReading)
+    (t : Trace) (u v w : Writing) (result : Result A NoOutcome) → Writes u v more
+    → EndsBehind head audit (told ++ more) reading t v w result → EndsBehind head audit told reading t u w result
+ends-after head audit told more reading t u v w result one two =
+    let (text, same, until) = two in
+    (more ++ text, same ∙ append_assoc told more text, until-after _ _ u v w more text result one until)
+
+-- ---- steps before the end of a body
+
+-- not all steps could be told: some of all lines were written
+pub untold-ends : (A B : Type 0) (ended : Result Trace Refusal) (a : Trace) (before after all later : List ℕ)
+    (u v : Writing) (fault : TellFault) → GoesOn {A = A} before after u v (Err fault) → all ≡ after ++ later
+    → (text : List ℕ) × (all ≡ before ++ text) × WritesUntil {A = B} ended a u v text (Err (Untold fault))
+untold-ends A B ended a before after all later u v CannotWrite goes more =
+    let (text, same, fails) = goes in (
+      text ++ later,
+      more ∙ ap (λ (l : List ℕ). l ++ later) same ∙ append_assoc before text later,
+      fails-longer u v text later fails,
+    )
+untold-ends A B ended a before after all later u v Memory goes more =
+    let (text, same, some) = goes in (
+      text ++ later,
+      more ∙ ap (λ (l : List ℕ). l ++ later) same ∙ append_assoc before text later,
+      some-longer u v text later some,
+    )
+
+-- no memory before the end of a body
+pub memory-ends : (A : Type 0) → ReadGoesOn → (head : List ℕ) (audit : GivenSteps) (reading : TextReading)
+    (more : List Step) (t : Trace) (w : Writing) → reading.recorded ≡ with_steps audit.recording more
+    → malformed_step reading.recorded ≡ None → audit.recording.opening.slots ≤ 21
+    → EndsBehind {A = A} head audit (lines_of head audit) reading t w w (Err (Untold Memory))
+memory-ends A law head audit reading more t w is formed few =
+    let here : malformed_step (with_steps audit.recording more) ≡ None = sym (ap malformed_step is) ∙ formed in
+    let (text, same) = lines-go-on law head audit.allowances audit.stop audit.recording more here few in (
+      text,
+      ap (break_lines audit.allowances audit.stop head) is ∙ same,
+      some-longer w w [] text (writes-as-some w w [] (writes-nothing w)),
+    )
+
+-- ---- a fault
+
+pub stops-at : (line : ℕ) (kind : FaultKind) (t : Trace) (time : ℕ) (reading : TextReading)
+    → StopsAs line kind t time reading
+    → (kind ≡ vcd.Memory → ⊥)
+    → (reading.recorded ≡ t) × (reading.fault ≡ Some (record { line = line; kind = kind }))
+stops-at line vcd.Memory t time reading stops other = absurd (other refl)
+stops-at line kind t time reading stops other =
+    (ap (λ (r : TextReading). r.recorded) stops, ap (λ (r : TextReading). r.fault) stops)
+
+pub refused-as : (line : ℕ) (kind : FaultKind) → (kind ≡ vcd.Memory → ⊥)
+    → dump_refusal (record { line = line; kind = kind }) ≡ BadDump (record { line = line; kind = kind })
+refused-as line vcd.Memory other = absurd (other refl)
+refused-as line kind other = refl
+
+ended-stopped : (allowances : List Allowance) (stop : Option ℕ) (t : Trace) (fault : VcdFault)
+    → is_stopped allowances stop t ≡ true → ended_at allowances stop t (Some fault) ≡ Ok (read_by allowances stop t)
+ended-stopped allowances stop t fault stopped =
+    ap (λ (b : Bool). if b then Ok (read_by allowances stop t) else Err (dump_refusal fault)) stopped
+
+ended-refused : (allowances : List Allowance) (stop : Option ℕ) (t : Trace) (fault : VcdFault)
+    → is_stopped allowances stop t ≡ false → (fault.kind ≡ vcd.Memory → ⊥)
+    → ended_at allowances stop t (Some fault) ≡ Err (BadDump fault)
+ended-refused allowances stop t fault stopped other =
+    ap (λ (b : Bool). if b then Ok (read_by allowances stop t) else Err (dump_refusal fault)) stopped
+    ∙ ap Err (refused-as fault.line fault.kind other)
+
+-- what a body that is read so ends with
+ended-there : (audit : GivenSteps) (reading : TextReading) (t : Trace) (fault : VcdFault) → reading.recorded ≡ t
+    → reading.fault ≡ Some fault → ended_at audit.allowances audit.stop reading.recorded reading.fault
+    ≡ ended_at audit.allowances audit.stop t (Some fault)
+ended-there audit reading t fault is faulty =
+    ap (λ (f : Option VcdFault). ended_at audit.allowances audit.stop reading.recorded f) faulty
+    ∙ ap (λ (r : Trace). ended_at audit.allowances audit.stop r (Some fault)) is
+
+-- a fault, or a stop before it
+pub fault-ends : (head : List ℕ) (audit : GivenSteps) (reading : TextReading) (steps : List Step) (u v : Writing)
+    (fault : VcdFault) (t : Trace) (result : Result (Unit {0}) NoOutcome)
+    → reading.recorded ≡ with_steps audit.recording steps → reading.fault ≡ Some fault
+    → (fault.kind ≡ vcd.Memory → ⊥) → t ≡ with_steps audit.recording steps
+    → OnOk result (is_stopped audit.allowances audit.stop t ≡ true)
+    → IfErr result (λ why. (why ≡ Refused (BadDump fault)) × (is_stopped audit.allowances audit.stop t ≡ false))
+    → AuditGoesOn {A = Unit {0}} head audit steps u v (Ok tt)
+    → EndsBehind {A = Unit {0}} head audit (lines_of head audit) reading t u v result
+fault-ends head audit reading steps u v fault t (Ok x) is faulty other same stopped refused goes =
+    let (text, grown, writes) = goes in (
+      text,
+      ap (break_lines audit.allowances audit.stop head) is ∙ grown,
+      (
+        writes,
+        ended-there audit reading t fault (is ∙ sym same) faulty
+            ∙ ended-stopped audit.allowances audit.stop t fault stopped,
+      ),
+    )
+fault-ends head audit reading steps u v fault t (Err why) is faulty other same stopped refused goes =
+    let (text, grown, writes) = goes in
+    let ended = ended-there audit reading t fault (is ∙ sym same) faulty
+    ∙ ended-refused audit.allowances audit.stop t fault refused.1 other in
+    subst (λ (e : NoOutcome). EndsBehind {A = Unit {0}} head audit (lines_of head audit) reading t u v (Err e))
+    (sym refused.0)
+    (text, ap (break_lines audit.allowances audit.stop head) is ∙ grown, (writes, ended))
+
+-- not all steps before an end were told
+pub cut-ends : (A B : Type 0) → ReadGoesOn → (head : List ℕ) (audit : GivenSteps) (reading : TextReading)
+    (steps more : List Step) (u v : Writing) (fault : TellFault) (t : Trace)
+    → reading.recorded ≡ with_steps audit.recording (steps ++ more)
+    → malformed_step reading.recorded ≡ None → audit.recording.opening.slots ≤ 21
+    → AuditGoesOn {A = A} head audit steps u v (Err fault)
+    → EndsBehind {A = B} head audit (lines_of head audit) reading t u v (Err (Untold fault))
+cut-ends A B law head audit reading steps more u v fault t is formed few goes =
+    let middle = with_steps audit.recording steps in
+    let whole : reading.recorded ≡ with_steps middle more = is ∙ sym (steps-both audit.recording steps more) in
+    let here : malformed_step (with_steps middle more) ≡ None = sym (ap malformed_step whole) ∙ formed in
+    let (later, grown) = lines-go-on law head audit.allowances audit.stop middle more here few in
+    let all = ap (break_lines audit.allowances audit.stop head) whole ∙ grown in
+    untold-ends A B (ended_at audit.allowances audit.stop reading.recorded reading.fault)
+    (read_by audit.allowances audit.stop t) (lines_of head audit) (lines_of head (given_too audit steps))
+    (break_lines audit.allowances audit.stop head reading.recorded) later u v fault goes all
+
+-- ---- a stop
+
+-- what follows where an audit stops changes nothing
+abbrev pub StopStays : Type 0
+StopStays = (allowances : List Allowance) (stop : Option ℕ) (t : Trace) (steps : List Step)
+    → malformed_step (with_steps t steps) ≡ None → t.opening.slots ≤ 21 → is_stopped allowances stop t ≡ true
+    → is_stopped allowances stop (with_steps t steps) ≡ true
+
+abbrev pub StopIsRead : Type 0
+StopIsRead = (allowances : List Allowance) (stop : Option ℕ) (t : Trace) (steps : List Step)
+    → malformed_step (with_steps t steps) ≡ None → t.opening.slots ≤ 21 → is_stopped allowances stop t ≡ true
+    → read_by allowances stop (with_steps t steps) ≡ read_by allowances stop t
+
+ended-at : (allowances : List Allowance) (stop : Option ℕ) (t : Trace) (fault : Option VcdFault)
+    → is_stopped allowances stop t ≡ true → ended_at allowances stop t fault ≡ Ok (read_by allowances stop t)
+ended-at allowances stop t None stopped = refl
+ended-at allowances stop t (Some fault) stopped = ended-stopped allowances stop t fault stopped
+
+-- the audit stopped before the end of a body
+pub final-ends : StopStays → StopIsRead → (head : List ℕ) (audit : GivenSteps) (reading : TextReading)
+    (steps more : List Step) (u v : Writing)
+    → reading.recorded ≡ with_steps audit.recording (steps ++ more)
+    → malformed_step reading.recorded ≡ None → audit.recording.opening.slots ≤ 21
+    → is_stopped audit.allowances audit.stop (with_steps audit.recording steps) ≡ true
+    → AuditGoesOn {A = Unit {0}} head audit steps u v (Ok tt)
+    → EndsBehind {A = Unit {0}} head audit (lines_of head audit) reading (with_steps audit.recording steps) u v
+    (Ok tt)
+unfolding break_lines
+final-ends stays read head audit reading steps more u v is formed few stopped goes =
+    let (text, same, writes) = goes in
+    let middle = with_steps audit.recording steps in
+    let whole : reading.recorded ≡ with_steps middle more = is ∙ sym (steps-both audit.recording steps more) in
+    let here : malformed_step (with_steps middle more) ≡ None = sym (ap malformed_step whole) ∙ formed in
+    let alike = read audit.allowances audit.stop middle more here few stopped in
+    let still = stays audit.allowances audit.stop middle more here few stopped in
+    let line = line_of_break audit.allowances audit.stop head in (
+      text,
+      ap (break_lines audit.allowances audit.stop head) whole ∙ ap (λ (a : Trace). flat_map line (breaks a)) alike
+          ∙ same,
+      (
+        writes,
+        ap (λ (r : Trace). ended_at audit.allowances audit.stop r reading.fault) whole
+            ∙ ended-at audit.allowances audit.stop (with_steps middle more) reading.fault still ∙ ap Ok alike,
+      ),
+    )

@@ -1,0 +1,12 @@
+use Rattle.std.proofs.Common.{subst, ◌∙◌}
+use Rattle.vme_audit_command.specs.DumpAudits.{TellsText}
+use Rattle.vme_audit_command.proofs.LastLemmas.{some-of}
+use Rattle.vme_audit_command.proofs.dump_audit.tell_line.Goals as goal
+
+pub returns-in-Ok : goal.returns-in-Ok
+returns-in-Ok g c =
+    subst (TellsText (g.O.Sink.writing c.args.out.now) (g.O.Sink.writing c.tell.new.out) c.tell.result)
+    (c.as_bytes.ensures ∙ c.in-Ok.ensures) c.tell.ensures
+
+pub returns-in-Err : goal.returns-in-Err
+returns-in-Err g c = some-of (g.O.Sink.writing c.args.out.now) _

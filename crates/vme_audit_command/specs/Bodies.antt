@@ -1,0 +1,94 @@
+-- What the audit of a dump's body comes to, as it is read.
+use Rattle.std.specs.Prelude.{◌≡◌, ◌≤◌, ℕ, List, [], ◌++◌, length, take, Option, None, Some, Result, Ok, Err}
+use Rattle.vme_trace.specs.Streams.{Reading, Writing}
+use Rattle.vme_trace.specs.Trace.{Trace}
+use Rattle.vcd_read.specs.declared.fault.VcdFault.{VcdFault}
+use Rattle.vme_answer.specs.Refusals.{dump_refusal}
+use Rattle.vme_audit.specs.declared.allowance.Allowance.{Allowance}
+use Rattle.std.specs.Prelude.{Bool, true, false, if◌then◌else◌}
+use Rattle.vme_trace.specs.WellFormed.{malformed_step}
+use Rattle.vme_bind.specs.TextReading.{TextReading}
+use Rattle.vme_stream.specs.Outputs.{Writes, FailsToWrite}
+use Rattle.vme_answer.specs.declared.refusal.Refusal.{Refusal}
+use Rattle.vme_audit_command.specs.Definitions.{AreAll, IsFormed}
+use Rattle.vme_audit_command.specs.DumpAudits.{WritesSome, break_lines, lines_of}
+use Rattle.vme_step_auditor.specs.ReadBy.{GivenSteps, is_stopped, read_by}
+use Rattle.vme_step_reader.specs.StepReading.{StepReading, whole_reading}
+use Rattle.vme_audit_command.specs.declared.told.NoOutcome.{NoOutcome}
+use Rattle.vme_audit_command.specs.declared.told.NoOutcome.TheVariants.{CannotRead, Refused, Untold}
+use Rattle.vme_audit_command.specs.declared.told.TellFault.TheVariants.{Memory, CannotWrite}
+
+module _ (allowances : List Allowance) (stop : Option ℕ) where
+  -- where this is recorded of a dump before its end, or before a fault: the recording, as far as it is audited; a fault
+  -- isn't met where the audit stopped before it
+  abbrev pub ended_at : Trace → Option VcdFault → Result Trace Refusal
+  ended_at t None = Ok (read_by allowances stop t)
+  ended_at t (Some fault) =
+      if is_stopped allowances stop t then Ok (read_by allowances stop t) else Err (dump_refusal fault)
+
+-- an audit has been given just what a reader has given, with no skew between them
+pub record HasGiven {S : Type 0} (settler : Option S) (audit : GivenSteps) (r : StepReading) : Type 0 where
+  pub unsettled : settler ≡ None
+  pub given : audit.recording ≡ r.given
+  pub few : r.given.opening.slots ≤ 21
+  pub formed : IsFormed r
+
+-- What of a text was written where a body ends so: all of it, where this is the recording as far as it is audited, or
+-- this the refusal; or some of the first of it.
+abbrev pub WritesUntil : {A : Type 0} → Result Trace Refusal → Trace → Writing → Writing → List ℕ
+    → Result A NoOutcome → Type 0
+WritesUntil ended a old new text (Ok _) = Writes old new text × (ended ≡ Ok a)
+WritesUntil ended a old new text (Err (Refused refusal)) = Writes old new text × (ended ≡ Err refusal)
+WritesUntil ended a old new text (Err CannotRead) = WritesSome old new text
+WritesUntil ended a old new text (Err (Untold CannotWrite)) = FailsToWrite old new text
+WritesUntil ended a old new text (Err (Untold Memory)) = WritesSome old new text
+
+-- These lines were told, and the others of what is recorded were until its end.
+abbrev pub EndsBehind : {A : Type 0} → List ℕ → GivenSteps → List ℕ → TextReading → Trace → Writing → Writing
+    → Result A NoOutcome → Type 0
+EndsBehind head audit told reading t old new result =
+    (text : List ℕ)
+    × (break_lines audit.allowances audit.stop head reading.recorded ≡ told ++ text)
+    × WritesUntil (ended_at audit.allowances audit.stop reading.recorded reading.fault)
+    (read_by audit.allowances audit.stop t) old new text result
+
+-- An audit takes these bytes: some of the first of them, whatever follows; or
+-- it ends.
+abbrev pub TakesPiece : List ℕ → GivenSteps → GivenSteps → StepReading → List ℕ → Writing → Writing
+    → Result (Option (StepReading × ℕ)) NoOutcome → Type 0
+TakesPiece head audit later r bytes old new (Ok (Some (next, n))) =
+    (n ≤ length bytes) × ((rest : List ℕ) → whole_reading r (take n bytes ++ rest) ≡ whole_reading next rest)
+    × IsFormed next × (later ≡ record audit { recording = next.given })
+    × ((text : List ℕ) × (lines_of head later ≡ lines_of head audit ++ text) × Writes old new text)
+TakesPiece head audit later r bytes old new (Ok None) =
+    (rest : List ℕ)
+    → EndsBehind {A = Unit {0}} head audit (lines_of head audit) (whole_reading r (bytes ++ rest)) later.recording old
+    new (Ok tt)
+TakesPiece head audit later r bytes old new (Err why) =
+    (rest : List ℕ)
+    → EndsBehind {A = Unit {0}} head audit (lines_of head audit) (whole_reading r (bytes ++ rest)) later.recording old
+    new (Err why)
+
+-- the body that what is held begins and a source goes on with was audited until it ends
+abbrev pub AuditsBody : {A : Type 0} → List ℕ → GivenSteps → GivenSteps → StepReading → List ℕ → Reading → Writing
+    → Writing → Result A NoOutcome → Type 0
+AuditsBody head audit later r held source old new result =
+    (more : List ℕ) × AreAll source more
+    × EndsBehind head audit (lines_of head audit) (whole_reading r (held ++ more)) later.recording old new result
+
+-- these are all bytes of a body whose first are held, and of which a source may tell more
+abbrev pub IsWholeBody : Bool → Reading → List ℕ → List ℕ → Type 0
+IsWholeBody true source held whole = (more : List ℕ) × AreAll source more × (whole ≡ held ++ more)
+IsWholeBody false source held whole = whole ≡ held
+
+-- a body whose first bytes are held was audited until it ends
+abbrev pub AuditsRest : {A : Type 0} → List ℕ → GivenSteps → GivenSteps → StepReading → List ℕ → Bool → Reading
+    → Writing → Writing → Result A NoOutcome → Type 0
+AuditsRest head audit later r held is_more source old new result =
+    (whole : List ℕ) × IsWholeBody is_more source held whole
+    × EndsBehind head audit (lines_of head audit) (whole_reading r whole) later.recording old new result
+
+-- an audit by the same rules, of a recording whose steps may stand where they stand
+pub record IsLater (first later : GivenSteps) : Type 0 where
+  pub same : later ≡ record first { recording = later.recording }
+  pub formed : malformed_step later.recording ≡ None

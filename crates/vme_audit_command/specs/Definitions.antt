@@ -1,0 +1,75 @@
+-- What reading the definitions of a dump comes to.
+use Rattle.std.specs.Prelude.{◌≡◌, ℕ, Bool, true, false, List, [], ◌++◌, Option, None, Some, Result, Ok, Err, IfSome}
+use Rattle.std.specs.Io.KnownBytes.{Consumes}
+use Rattle.vme_trace.specs.Followed.{with_steps}
+use Rattle.vme_trace.specs.Streams.{Reading}
+use Rattle.vme_trace.specs.WellFormed.{malformed_step}
+use Rattle.vme_trace.specs.declared.step.Step.{Step}
+use Rattle.vme_bind.specs.Binding.{BoundLines}
+use Rattle.vme_bind.specs.TextReading.{TextReading, reading_of_text}
+use Rattle.vme_bind.specs.declared.fault.CaptureFault.{CaptureFault}
+use Rattle.vme_answer.specs.Refusals.{capture_refusal}
+use Rattle.vme_answer.specs.declared.refusal.Refusal.{Refusal}
+use Rattle.vme_step_reader.specs.StepReading.{StepReading, whole_reading}
+use Rattle.vme_audit_command.specs.declared.dump_input.ReadFault.{ReadFault}
+use Rattle.vme_audit_command.specs.declared.dump_input.ReadFault.TheVariants as read
+use Rattle.vme_audit_command.specs.declared.told.NoOutcome.{NoOutcome}
+use Rattle.vme_audit_command.specs.declared.told.NoOutcome.TheVariants.{CannotRead, Refused, Untold}
+use Rattle.vme_audit_command.specs.declared.told.TellFault.TheVariants.{Memory, CannotWrite}
+
+-- what is given is a front of what is recorded, whatever follows
+abbrev pub GivenIsFront : Type 0
+GivenIsFront = (r : StepReading) (rest : List ℕ)
+    → (more : List Step) × ((whole_reading r rest).recorded ≡ with_steps r.given more)
+
+-- whatever follows, each step that is recorded may stand where it stands
+abbrev pub IsFormed : StepReading → Type 0
+IsFormed r = (rest : List ℕ) → malformed_step (whole_reading r rest).recorded ≡ None
+
+-- the body is begun with, and nothing of it is given
+pub record IsBodyBegun (r : StepReading) : Type 0 where
+  pub nothing : r.given.steps ≡ []
+  pub formed : IsFormed r
+
+-- reading a text gives this refusal
+abbrev pub IsRefused : Result TextReading CaptureFault → Refusal → Type 0
+IsRefused reading refusal = (fault : CaptureFault) × (reading ≡ Err fault) × (capture_refusal fault ≡ refusal)
+
+-- a read gave no bytes, or they couldn't be held
+abbrev pub unread : ReadFault → NoOutcome
+unread read.Failed = CannotRead
+unread read.Memory = Untold Memory
+
+-- a text that isn't read to its body has this fault; nothing is said where there is no memory
+abbrev pub NotBegun : Result TextReading CaptureFault → NoOutcome → Type 0
+NotBegun reading (Refused refusal) = IsRefused reading refusal
+NotBegun reading CannotRead = ⊥
+NotBegun reading (Untold CannotWrite) = ⊥
+NotBegun reading (Untold Memory) = Unit {0}
+
+-- The definitions of a dump end in what is held, of which this is left then; or they don't, or there is a fault.
+abbrev pub BeginsBody : BoundLines → List ℕ → List ℕ → Result (Option StepReading) NoOutcome → Type 0
+BeginsBody bound held left (Ok (Some r)) =
+    IsBodyBegun r × ((rest : List ℕ) → reading_of_text bound (held ++ rest) ≡ Ok (whole_reading r (left ++ rest)))
+BeginsBody bound held left (Ok None) = left ≡ held
+BeginsBody bound held left (Err why) = (rest : List ℕ) → NotBegun (reading_of_text bound (held ++ rest)) why
+
+-- the same at the end of the dump
+abbrev pub BeginsLast : BoundLines → List ℕ → List ℕ → Result StepReading NoOutcome → Type 0
+BeginsLast bound held left (Ok r) = IsBodyBegun r × (reading_of_text bound held ≡ Ok (whole_reading r left))
+BeginsLast bound held left (Err why) = NotBegun (reading_of_text bound held) why
+
+-- these are all bytes that a source told
+abbrev pub AreAll : Reading → List ℕ → Type 0
+AreAll old text = IfSome old.left (λ told. text ≡ told)
+
+-- The definitions of a dump were read. Where there may be more of it, whatever follows is the rest of a body.
+abbrev pub ReadsDefinitions : BoundLines → Reading → Reading → List ℕ → Result (StepReading × Bool) NoOutcome → Type 0
+ReadsDefinitions bound old new left (Ok (r, true)) =
+    IsBodyBegun r × ((done : List ℕ) × Consumes old.left new.left done
+    × ((rest : List ℕ) → reading_of_text bound (done ++ rest) ≡ Ok (whole_reading r (left ++ rest))))
+ReadsDefinitions bound old new left (Ok (r, false)) =
+    IsBodyBegun r × ((text : List ℕ) × AreAll old text × (reading_of_text bound text ≡ Ok (whole_reading r left)))
+ReadsDefinitions bound old new left (Err CannotRead) = Unit {0}
+ReadsDefinitions bound old new left (Err why) =
+    (text : List ℕ) × AreAll old text × NotBegun (reading_of_text bound text) why

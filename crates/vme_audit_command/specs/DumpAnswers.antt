@@ -1,0 +1,76 @@
+-- What the audit of a dump writes, and how it ends.
+use Rattle.std.specs.Prelude.{◌≡◌, ℕ, Bool, List, [], ◌++◌, Option, Result, Ok, Err}
+use Rattle.vme_trace.specs.Streams.{Reading, Writing}
+use Rattle.vme_trace.specs.Trace.{Trace}
+use Rattle.vme_bind.specs.Binding.{BoundLines}
+use Rattle.vme_bind.specs.TextReading.{TextReading, reading_of_text}
+use Rattle.vme_bind.specs.declared.fault.CaptureFault.{CaptureFault}
+use Rattle.vme_stream.specs.Outputs.{Writes, FailsToWrite}
+use Rattle.vme_answer.specs.Refusals.{capture_refusal}
+use Rattle.vme_answer.specs.declared.refusal.Refusal.{Refusal}
+use Rattle.vme_audit.specs.Covered.{outcome}
+use Rattle.vme_audit.specs.declared.allowance.Allowance.{Allowance}
+use Rattle.vme_audit.specs.declared.outcome.Outcome.{Outcome}
+use Rattle.vme_audit_lines.specs.AuditLines.{outcome_status}
+use Rattle.vme_step_reader.specs.StepReading.{StepReading, whole_reading}
+use Rattle.vme_audit_command.specs.Bodies.{IsWholeBody, ended_at}
+use Rattle.vme_audit_command.specs.Definitions.{AreAll}
+use Rattle.vme_audit_command.specs.DumpAudits.{WritesSome, break_lines}
+use Rattle.vme_audit_command.specs.LastLines.{counts_unless, outcome_line_of}
+use Rattle.vme_audit_command.specs.declared.told.NoOutcome.{NoOutcome}
+use Rattle.vme_audit_command.specs.declared.told.NoOutcome.TheVariants.{CannotRead, Refused, Untold}
+use Rattle.vme_audit_command.specs.declared.told.TellFault.TheVariants.{Memory, CannotWrite}
+
+-- how a dump is audited
+pub record DumpRules : Type 0 where
+  pub allowances : List Allowance
+  pub transfers : ℕ
+  pub stop : Option ℕ
+  pub is_quiet : Bool
+
+-- what is written to standard output; and the status by the outcome, or why there is no outcome
+pub record DumpAnswer : Type 0 where
+  pub out : List ℕ
+  pub ended : Result ℕ Refusal
+
+module _ (rules : DumpRules) (head : List ℕ) where
+  abbrev pub dump_outcome : Trace → Outcome
+  dump_outcome a = outcome rules.allowances rules.transfers a
+
+  -- the lines behind those of the breaks
+  abbrev pub last_lines : Trace → List ℕ
+  last_lines a = counts_unless rules.is_quiet rules.allowances head a ++ outcome_line_of head (dump_outcome a)
+
+  -- behind the lines of the breaks, by the recording as far as it is audited; or why there is no outcome
+  abbrev pub answer_by : List ℕ → Result Trace Refusal → DumpAnswer
+  answer_by lines (Ok a) = record { out = lines ++ last_lines a; ended = Ok (outcome_status (dump_outcome a)) }
+  answer_by lines (Err refusal) = record { out = lines; ended = Err refusal }
+
+  -- the answer to a dump by what reading it comes to, where there is no skew
+  abbrev pub dump_answer : Result TextReading CaptureFault → DumpAnswer
+  dump_answer (Ok reading) = answer_by (break_lines rules.allowances rules.stop head reading.recorded)
+      (ended_at rules.allowances rules.stop reading.recorded reading.fault)
+  dump_answer (Err fault) = record { out = []; ended = Err (capture_refusal fault) }
+
+-- how the audit of a dump ended: it has an outcome, or none; or the dump couldn't be read to its end, a write
+-- failed, or
+-- there was no memory, and then the first of the text was written
+abbrev pub EndsAs : DumpAnswer → Writing → Writing → Result ℕ NoOutcome → Type 0
+EndsAs answer old new (Ok status) = Writes old new answer.out × (answer.ended ≡ Ok status)
+EndsAs answer old new (Err (Refused refusal)) = Writes old new answer.out × (answer.ended ≡ Err refusal)
+EndsAs answer old new (Err CannotRead) = WritesSome old new answer.out
+EndsAs answer old new (Err (Untold CannotWrite)) = FailsToWrite old new answer.out
+EndsAs answer old new (Err (Untold Memory)) = WritesSome old new answer.out
+
+-- a dump was audited behind its definitions
+abbrev pub AuditsBehind : DumpRules → List ℕ → StepReading → List ℕ → Bool → Reading → Writing → Writing
+    → Result ℕ NoOutcome → Type 0
+AuditsBehind rules head r held is_more source old new result =
+    (whole : List ℕ) × IsWholeBody is_more source held whole
+    × EndsAs (dump_answer rules head (Ok (whole_reading r whole))) old new result
+
+-- a dump was audited, whose bytes its source tells
+abbrev pub AuditsDump : DumpRules → List ℕ → BoundLines → Reading → Writing → Writing → Result ℕ NoOutcome → Type 0
+AuditsDump rules head bound source old new result =
+    (text : List ℕ) × AreAll source text
+    × EndsAs (dump_answer rules head (reading_of_text bound text)) old new result

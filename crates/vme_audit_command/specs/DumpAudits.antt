@@ -1,0 +1,56 @@
+-- The lines of the breaks of a recording, as they are told.
+use Rattle.std.specs.Prelude.{◌≡◌, ℕ, List, ◌++◌, flat_map, take, Option, Result, Ok, Err}
+use Rattle.std.specs.Io.KnownBytes.{Appends}
+use Rattle.vme_trace.specs.Followed.{with_steps}
+use Rattle.vme_trace.specs.Streams.{Writing}
+use Rattle.vme_trace.specs.Trace.{Trace}
+use Rattle.vme_trace.specs.declared.step.Step.{Step}
+use Rattle.vme_trace.specs.declared.verdict.Break.{Break}
+use Rattle.vme_stream.specs.Outputs.{Writes, FailsToWrite}
+use Rattle.vme_answer.specs.Texts.{line_of}
+use Rattle.vme_audit.specs.Parts.{breaks}
+use Rattle.vme_audit.specs.declared.allowance.Allowance.{Allowance}
+use Rattle.vme_audit_lines.specs.AuditLines.{audit_break_text, standing_of}
+use Rattle.vme_step_auditor.specs.ReadBy.{GivenSteps, read_by}
+use Rattle.vme_audit_command.specs.declared.told.TellFault.{TellFault}
+use Rattle.vme_audit_command.specs.declared.told.TellFault.TheVariants.{Memory, CannotWrite}
+
+module _ (allowances : List Allowance) (stop : Option ℕ) (head : List ℕ) where
+  -- the line that tells a break
+  abbrev pub line_of_break : Break → List ℕ
+  line_of_break b = head ++ line_of (audit_break_text (standing_of allowances b) b)
+
+  -- the lines of the breaks of a recording, as far as it is audited
+  unfoldable pub break_lines : Trace → List ℕ
+  break_lines t = flat_map line_of_break (breaks (read_by allowances stop t))
+
+-- some of the first of a text was taken, and no write failed
+abbrev pub WritesSome : Writing → Writing → List ℕ → Type 0
+WritesSome old new text = ((n : ℕ) × Appends old.taken new.taken (take n text)) × (new.failures ≡ old.failures)
+
+-- a text was told, or a write of it failed, or there was no memory for all of it
+abbrev pub TellsText : {A : Type 0} → Writing → Writing → Result A TellFault → List ℕ → Type 0
+TellsText old new (Ok _) text = Writes old new text
+TellsText old new (Err CannotWrite) text = FailsToWrite old new text
+TellsText old new (Err Memory) text = WritesSome old new text
+
+-- the lines of the breaks are told that more steps make
+abbrev pub GoesOn : {A : Type 0} → List ℕ → List ℕ → Writing → Writing → Result A TellFault → Type 0
+GoesOn before after old new (Ok _) = (text : List ℕ) × (after ≡ before ++ text) × Writes old new text
+GoesOn before after old new (Err CannotWrite) =
+    (text : List ℕ) × (after ≡ before ++ text) × FailsToWrite old new text
+GoesOn before after old new (Err Memory) = (text : List ℕ) × (after ≡ before ++ text) × WritesSome old new text
+
+-- the lines of the breaks that an audit has found
+abbrev pub lines_of : List ℕ → GivenSteps → List ℕ
+lines_of head audit = break_lines audit.allowances audit.stop head audit.recording
+
+-- an audit that goes on with these steps
+abbrev pub given_too : GivenSteps → List Step → GivenSteps
+given_too audit steps = record audit { recording = with_steps audit.recording steps }
+
+-- the same of an audit
+abbrev pub AuditGoesOn : {A : Type 0} → List ℕ → GivenSteps → List Step → Writing → Writing → Result A TellFault
+    → Type 0
+AuditGoesOn head audit steps old new result =
+    GoesOn (lines_of head audit) (lines_of head (given_too audit steps)) old new result

@@ -1,0 +1,6 @@
+pub mod DumpAudits
+pub mod Audits
+pub mod LastLines
+pub mod Bodies
+pub mod Definitions
+pub mod DumpAnswers

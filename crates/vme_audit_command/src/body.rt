@@ -1,0 +1,270 @@
+//! The body of a dump, audited as it is read.
+
+ghost use Rattle.std.specs.Prelude.{◌≡◌, ◌≢◌, ◌≤◌, List, false, true, None, IfErr, IfNone, IfOk, IfSome, OnOk, length};
+ghost use Rattle.vcd_read.specs.declared.fault.FaultKind.TheVariants as vcd;
+ghost use Rattle.vme_answer.specs.declared.refusal.Refusal.TheVariants.{BadDump};
+ghost use Rattle.vme_step_auditor.specs.ReadBy.{has_stopped};
+ghost use Rattle.vme_audit_command.specs.declared.told.NoOutcome.TheVariants.{Refused};
+ghost use Rattle.vme_trace.specs.Followed.{with_steps};
+ghost use Rattle.vme_trace.specs.declared.step.Step.{Step};
+ghost use Rattle.vme_trace.specs.WellFormed.{malformed_step};
+ghost use Rattle.vme_bind.specs.TextReading.{TextReading};
+ghost use Rattle.vme_audit_command.specs.Bodies.{AuditsBody, EndsBehind, HasGiven, IsLater, TakesPiece};
+ghost use Rattle.vme_audit_command.specs.DumpAudits.{AuditGoesOn, given_too, lines_of};
+ghost use Rattle.vme_step_reader.specs.StepReading.{whole_reading};
+ghost use Rattle.vme_step_reader.specs.Stops.{StopsBehind};
+
+use crate::definitions::not_read;
+use crate::dump_input::DumpInput;
+use crate::junit::TestCase;
+use crate::settling::{last_steps, settled_steps};
+use crate::told::{NoOutcome, TellFault, audit_steps};
+use std::alloc::Global;
+use vcd_read::{FaultKind, VcdFault};
+use vme_answer::Refusal;
+use vme_skew::StepSettler;
+use vme_step_auditor::{StepAuditor, reading_goes_on, stop_is_final};
+use vme_step_reader::{StepReader, StoppedSteps, given_is_a_front};
+use vme_trace::{Sink, Source, Step};
+
+/// Audits the steps that follow once the dump has told a time.
+fn audit_settled<O: Sink>(
+    alloc: Global,
+    auditor: &mut StepAuditor<'_>,
+    settler: &mut Option<StepSettler>,
+    steps: Vec<Step>,
+    time: u64,
+    head: &[u8],
+    case: &mut TestCase,
+    out: &mut O,
+) -> Result<(), TellFault>
+    ensures none { settler.old ≡ None → settler.new ≡ None }
+    ensures given { settler.old ≡ None → OnOk result (auditor.new ≡ given_too auditor.old steps.items) }
+    ensures told { settler.old ≡ None → malformed_step (with_steps auditor.old.recording steps.items) ≡ None
+        → auditor.old.recording.opening.slots ≤ 21
+        → AuditGoesOn head.now auditor.old steps.items (O.writing out.old) (O.writing out.new) result }
+{
+    reading_goes_on();
+    match settled_steps(alloc, settler, steps, time) {
+        Ok(steps) => audit_steps(alloc, auditor, steps.as_slice(), head, case, out),
+        Err(_) => Err(TellFault::Memory),
+    }
+}
+
+/// What a fault of the dump is to its audit, which may have stopped before it: then it isn't met.
+fn at_fault(auditor: &StepAuditor<'_>, fault: VcdFault) -> Result<(), NoOutcome>
+    ensures stopped { malformed_step auditor.now.recording ≡ None
+        → OnOk result (has_stopped auditor.now ≡ true) }
+    ensures refused { malformed_step auditor.now.recording ≡ None
+        → IfErr result (λ why. (why ≡ Refused (BadDump fault)) × (has_stopped auditor.now ≡ false)) }
+{
+    if auditor.is_stopped() {
+        Ok(())
+    } else {
+        Err(NoOutcome::Refused(Refusal::BadDump(fault)))
+    }
+}
+
+/// Audits the steps before a fault of the dump.
+fn audit_faulty<O: Sink>(
+    alloc: Global,
+    auditor: &mut StepAuditor<'_>,
+    settler: &mut Option<StepSettler>,
+    stopped: StoppedSteps,
+    head: &[u8],
+    case: &mut TestCase,
+    out: &mut O,
+) -> Result<(), NoOutcome>
+    requires { stopped.fault.kind ≢ vcd.Memory }
+    ensures none { settler.old ≡ None → settler.new ≡ None }
+    ensures kept { settler.old ≡ None → malformed_step (with_steps auditor.old.recording stopped.steps.items) ≡ None
+        → OnOk result (IsLater auditor.old auditor.new) }
+    ensures ends { settler.old ≡ None → (reading : TextReading) → malformed_step reading.recorded ≡ None
+        → auditor.old.recording.opening.slots ≤ 21 → StopsBehind auditor.old.recording stopped reading
+        → EndsBehind head.now auditor.old (lines_of head.now auditor.old) reading auditor.new.recording
+        (O.writing out.old) (O.writing out.new) result }
+{
+    reading_goes_on();
+    let StoppedSteps { steps, fault, time } = stopped;
+    match audit_settled(alloc, auditor, settler, steps, time, head, case, out) {
+        Ok(()) => at_fault(auditor, fault),
+        Err(fault) => Err(NoOutcome::Untold(fault)),
+    }
+}
+
+/// Audits what stands before a fault. Where the audit stopped before it, it isn't met.
+fn audit_stopped<O: Sink>(
+    alloc: Global,
+    auditor: &mut StepAuditor<'_>,
+    settler: &mut Option<StepSettler>,
+    stopped: StoppedSteps,
+    head: &[u8],
+    case: &mut TestCase,
+    out: &mut O,
+) -> Result<(), NoOutcome>
+    ensures none { settler.old ≡ None → settler.new ≡ None }
+    ensures kept { settler.old ≡ None → (stopped.fault.kind ≢ vcd.Memory
+        → malformed_step (with_steps auditor.old.recording stopped.steps.items) ≡ None)
+        → OnOk result (IsLater auditor.old auditor.new) }
+    ensures ends { settler.old ≡ None → (reading : TextReading) (more : List Step)
+        → malformed_step reading.recorded ≡ None → auditor.old.recording.opening.slots ≤ 21
+        → reading.recorded ≡ with_steps auditor.old.recording more
+        → StopsBehind auditor.old.recording stopped reading
+        → EndsBehind head.now auditor.old (lines_of head.now auditor.old) reading auditor.new.recording
+        (O.writing out.old) (O.writing out.new) result }
+{
+    reading_goes_on();
+    match stopped.fault.kind {
+        FaultKind::Memory => Err(NoOutcome::Untold(TellFault::Memory)),
+        _ => audit_faulty(alloc, auditor, settler, stopped, head, case, out),
+    }
+}
+
+/// What reads on, unless the audit stopped.
+fn going_on(
+    auditor: &StepAuditor<'_>,
+    reader: StepReader,
+    count: usize,
+) -> Option<(StepReader, usize)>
+    ensures goes { IfSome result (λ next. (next.0 ≡ reader) × (next.1 ≡ count)) }
+    ensures stopped { malformed_step auditor.now.recording ≡ None
+        → IfNone result (has_stopped auditor.now ≡ true) }
+{
+    if auditor.is_stopped() {
+        None
+    } else {
+        Some((reader, count))
+    }
+}
+
+/// Audits the first of some bytes, as many as are whole tokens, and says how many. There is none of it where no more of
+/// the dump is audited.
+fn audit_piece<O: Sink>(
+    alloc: Global,
+    reader: StepReader,
+    bytes: &[u8],
+    auditor: &mut StepAuditor<'_>,
+    settler: &mut Option<StepSettler>,
+    head: &[u8],
+    case: &mut TestCase,
+    out: &mut O,
+) -> Result<Option<(StepReader, usize)>, NoOutcome>
+    ensures none { settler.old ≡ None → settler.new ≡ None }
+    ensures within { IfOk result (λ going. IfSome going (λ next. next.1 ≤ length bytes.now)) }
+    ensures kept { HasGiven settler.old auditor.old reader
+        → IfOk result (λ going. IfNone going (IsLater auditor.old auditor.new)) }
+    ensures takes { HasGiven settler.old auditor.old reader → TakesPiece head.now auditor.old auditor.new reader
+        bytes.now (O.writing out.old) (O.writing out.new) result }
+{
+    reading_goes_on();
+    given_is_a_front();
+    stop_is_final();
+    match reader.take(alloc, bytes) {
+        Ok((reader, steps, count)) => {
+            let time = reader.time();
+            match audit_settled(alloc, auditor, settler, steps, time, head, case, out) {
+                Ok(()) => Ok(going_on(auditor, reader, count)),
+                Err(fault) => Err(NoOutcome::Untold(fault)),
+            }
+        }
+        Err(stopped) => {
+            match audit_stopped(alloc, auditor, settler, stopped, head, case, out) {
+                Ok(()) => Ok(None),
+                Err(why) => Err(why),
+            }
+        }
+    }
+}
+
+/// Audits the last bytes of a body.
+pub(crate) fn audit_last<O: Sink>(
+    alloc: Global,
+    reader: StepReader,
+    bytes: &[u8],
+    auditor: &mut StepAuditor<'_>,
+    settler: &mut Option<StepSettler>,
+    head: &[u8],
+    case: &mut TestCase,
+    out: &mut O,
+) -> Result<(), NoOutcome>
+    ensures none { settler.old ≡ None → settler.new ≡ None }
+    ensures kept { HasGiven settler.old auditor.old reader → OnOk result (IsLater auditor.old auditor.new) }
+    ensures ends { HasGiven settler.old auditor.old reader → EndsBehind head.now auditor.old
+        (lines_of head.now auditor.old) (whole_reading reader bytes.now) auditor.new.recording
+        (O.writing out.old) (O.writing out.new) result }
+{
+    reading_goes_on();
+    given_is_a_front();
+    match reader.finish(alloc, bytes) {
+        Ok(steps) => match audit_ended(alloc, auditor, settler, steps, head, case, out) {
+            Ok(()) => Ok(()),
+            Err(fault) => Err(NoOutcome::Untold(fault)),
+        },
+        Err(stopped) => audit_stopped(alloc, auditor, settler, stopped, head, case, out),
+    }
+}
+
+/// Audits the last steps.
+fn audit_ended<O: Sink>(
+    alloc: Global,
+    auditor: &mut StepAuditor<'_>,
+    settler: &mut Option<StepSettler>,
+    steps: Vec<Step>,
+    head: &[u8],
+    case: &mut TestCase,
+    out: &mut O,
+) -> Result<(), TellFault>
+    ensures none { settler.old ≡ None → settler.new ≡ None }
+    ensures given { settler.old ≡ None → OnOk result (auditor.new ≡ given_too auditor.old steps.items) }
+    ensures told { settler.old ≡ None → malformed_step (with_steps auditor.old.recording steps.items) ≡ None
+        → auditor.old.recording.opening.slots ≤ 21
+        → AuditGoesOn head.now auditor.old steps.items (O.writing out.old) (O.writing out.new) result }
+{
+    reading_goes_on();
+    match last_steps(alloc, settler, steps) {
+        Ok(steps) => audit_steps(alloc, auditor, steps.as_slice(), head, case, out),
+        Err(_) => Err(TellFault::Memory),
+    }
+}
+
+/// Audits a body to its end, or as far as it is to be audited: what is held of it, and then what is read.
+pub(crate) fn audit_body<D: Source, O: Sink>(
+    alloc: Global,
+    dump: &mut D,
+    input: &mut DumpInput,
+    reader: StepReader,
+    auditor: &mut StepAuditor<'_>,
+    settler: &mut Option<StepSettler>,
+    head: &[u8],
+    case: &mut TestCase,
+    out: &mut O,
+) -> Result<(), NoOutcome>
+    ensures kept { HasGiven settler.old auditor.old reader → OnOk result (IsLater auditor.old auditor.new) }
+    ensures audits { HasGiven settler.old auditor.old reader → AuditsBody head.now auditor.old auditor.new reader
+        input.old (D.reading dump.old) (O.writing out.old) (O.writing out.new) result }
+{
+    reading_goes_on();
+    given_is_a_front();
+    let mut reader = reader;
+    for _ in 0..u64::MAX {
+        let held = input.bytes();
+        let count = match audit_piece(alloc, reader, held, auditor, settler, head, case, out) {
+            Ok(Some((next, count))) => {
+                reader = next;
+                count
+            }
+            Ok(None) => return Ok(()),
+            Err(why) => return Err(why),
+        };
+        input.drop_first(count);
+        match input.read(dump) {
+            Ok(true) => {}
+            Ok(false) => {
+                let held = input.bytes();
+                return audit_last(alloc, reader, held, auditor, settler, head, case, out);
+            }
+            Err(fault) => return Err(not_read(fault)),
+        }
+    }
+    Err(NoOutcome::CannotRead)
+}

@@ -1,0 +1,153 @@
+//! The definitions of a dump, of which nothing is kept but where the lines of the backplane stand.
+
+ghost use Rattle.std.specs.Prelude.{◌≡◌, [], Result, Err};
+ghost use Rattle.vme_bind.specs.TextCapture.{CaptureFailsBy};
+ghost use Rattle.vme_bind.specs.TextReading.{TextReading};
+ghost use Rattle.vme_bind.specs.declared.fault.CaptureFault.{CaptureFault};
+ghost use Rattle.vme_audit_command.specs.Definitions.{BeginsBody, BeginsLast, NotBegun, ReadsDefinitions, unread};
+
+use crate::dump_input::{DumpInput, ReadFault};
+use crate::told::{NoOutcome, TellFault};
+use memchr::memmem;
+use std::alloc::Global;
+use vcd_read::whole_tokens;
+use vme_answer::Refusal;
+use vme_bind::{Binding, CaptureFault};
+use vme_step_reader::{StepReader, begin_last_steps, begin_steps};
+use vme_trace::Source;
+
+/// What ends the definitions of a dump.
+const END_OF_DEFINITIONS: &[u8] = b"$enddefinitions";
+
+/// How often the definitions may seem to end where they don't, before that costs time.
+const MOST_TRIES: u32 = 64;
+
+/// Looks for where the definitions of a dump may end, in bytes that grow at their end.
+#[derive(Clone, Copy)]
+struct DefinitionsEnd {
+    /// No end is looked for before this place.
+    searched: usize,
+    /// How often there seemed to be one.
+    tries: u32,
+    /// Where there are fewer bytes, none is looked for once that was often: so that all searches together take time in
+    /// proportion to the bytes.
+    least: usize,
+}
+
+impl DefinitionsEnd {
+    fn new() -> DefinitionsEnd {
+        DefinitionsEnd {
+            searched: 0,
+            tries: 0,
+            least: 0,
+        }
+    }
+
+    /// Whether the definitions may end in these bytes, and no earlier than it was asked before.
+    fn may_end(&mut self, bytes: &[u8]) -> bool {
+        let from = self.searched.min(bytes.len());
+        let Some(at) = memmem::find(&bytes[from..], END_OF_DEFINITIONS) else {
+            self.searched = bytes.len().saturating_sub(END_OF_DEFINITIONS.len());
+            return false;
+        };
+        let behind = from + at + END_OF_DEFINITIONS.len();
+        let is_late = self.tries < MOST_TRIES || bytes.len() >= self.least;
+        if !is_late || memmem::find(&bytes[behind..], b"$end").is_none() {
+            return false;
+        }
+        self.searched = behind;
+        self.tries = self.tries.saturating_add(1);
+        self.least = bytes.len().saturating_mul(2);
+        true
+    }
+}
+
+/// What a fault that is met in a dump's definitions, or of the binding, is to its audit.
+fn no_outcome(fault: CaptureFault) -> NoOutcome
+    ensures { (reading : Result TextReading CaptureFault) → CaptureFailsBy fault reading → NotBegun reading result }
+{
+    match Refusal::of_capture(fault) {
+        Refusal::Memory => NoOutcome::Untold(TellFault::Memory),
+        refusal => NoOutcome::Refused(refusal),
+    }
+}
+
+/// What a read that gives no bytes is to an audit.
+pub(crate) fn not_read(fault: ReadFault) -> NoOutcome
+    ensures { result ≡ unread fault }
+{
+    match fault {
+        ReadFault::Failed => NoOutcome::CannotRead,
+        ReadFault::Memory => NoOutcome::Untold(TellFault::Memory),
+    }
+}
+
+/// Begins with the body, if the definitions end in what is held.
+fn begin(
+    alloc: Global,
+    bound: &Binding,
+    input: &mut DumpInput,
+) -> Result<Option<StepReader>, NoOutcome>
+    ensures { BeginsBody bound.now input.old input.new result }
+{
+    match begin_steps(alloc, bound, input.bytes()) {
+        Ok(Some((reader, count))) => {
+            input.drop_first(count);
+            Ok(Some(reader))
+        }
+        Ok(None) => Ok(None),
+        Err(fault) => Err(no_outcome(fault)),
+    }
+}
+
+/// Begins with the body where the dump ends.
+fn begin_last(
+    alloc: Global,
+    bound: &Binding,
+    input: &mut DumpInput,
+) -> Result<StepReader, NoOutcome>
+    ensures { BeginsLast bound.now input.old input.new result }
+{
+    match begin_last_steps(alloc, bound, input.bytes()) {
+        Ok((reader, count)) => {
+            input.drop_first(count);
+            Ok(reader)
+        }
+        Err(fault) => Err(no_outcome(fault)),
+    }
+}
+
+/// Reads the definitions of a dump. The answer is what reads its body, and whether there may be more of it than is
+/// held.
+pub(crate) fn read_definitions<D: Source>(
+    alloc: Global,
+    bound: &Binding,
+    dump: &mut D,
+    input: &mut DumpInput,
+) -> Result<(StepReader, bool), NoOutcome>
+    requires { input.old ≡ [] }
+    ensures { ReadsDefinitions bound.now (D.reading dump.old) (D.reading dump.new) input.new result }
+{
+    let mut search = DefinitionsEnd::new();
+    for _ in 0..u64::MAX {
+        match input.read(dump) {
+            Ok(true) => {}
+            Ok(false) => {
+                return match begin_last(alloc, bound, input) {
+                    Ok(reader) => Ok((reader, false)),
+                    Err(why) => Err(why),
+                };
+            }
+            Err(fault) => return Err(not_read(fault)),
+        }
+        let held = input.bytes();
+        if search.may_end(&held[..whole_tokens(held)]) {
+            match begin(alloc, bound, input) {
+                Ok(Some(reader)) => return Ok((reader, true)),
+                Ok(None) => {}
+                Err(why) => return Err(why),
+            }
+        }
+    }
+    Err(NoOutcome::CannotRead)
+}

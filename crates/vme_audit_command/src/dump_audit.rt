@@ -1,0 +1,268 @@
+//! The audit of one dump.
+
+ghost use Rattle.std.specs.Prelude.{◌≡◌, ◌≤◌, ◌++◌, [], IfErr, IfOk, None, OnOk};
+ghost use Rattle.vme_trace.specs.WellFormed.{malformed_step};
+ghost use Rattle.vme_audit.specs.Covered.{outcome as outcome_of};
+ghost use Rattle.vme_audit.specs.Parts.{breaks};
+ghost use Rattle.vme_audit_lines.specs.AuditLines.{head_of, outcome_status};
+ghost use Rattle.vme_step_auditor.specs.ReadBy.{read_of};
+ghost use Rattle.vme_audit_command.specs.Bodies.{AuditsRest, HasGiven, IsLater};
+ghost use Rattle.vme_audit_command.specs.Definitions.{IsBodyBegun};
+ghost use Rattle.vme_audit_command.specs.DumpAnswers.{AuditsBehind, AuditsDump};
+ghost use Rattle.vme_audit_command.specs.DumpAudits.{TellsText};
+ghost use Rattle.vme_audit_command.specs.LastLines.{TellsOutcome, counts_unless, outcome_line_of};
+ghost use Rattle.vme_audit_command.specs.declared.told.TellFault.TheVariants.{Memory as NoMemory};
+
+use crate::body::{audit_body, audit_last};
+use crate::command::AuditOptions;
+use crate::definitions::read_definitions;
+use crate::dump_input::DumpInput;
+use crate::junit::TestCase;
+use crate::told::{NoOutcome, TellFault, tell};
+use std::alloc::Global;
+use vme_audit::Outcome;
+use vme_audit_lines::{
+    count_lines, dump_head, outcome_line, outcome_status, unasked_is_never_asked,
+};
+use vme_bind::Binding;
+use vme_skew::StepSettler;
+use vme_step_auditor::{AuditRules, StepAuditor};
+use vme_step_reader::StepReader;
+use vme_trace::{Lines, Sink, Source};
+
+/// Tells what a recording has, unless that isn't wanted.
+fn tell_counts<O: Sink>(
+    alloc: Global,
+    auditor: &StepAuditor<'_>,
+    is_quiet: bool,
+    head: &[u8],
+    out: &mut O,
+) -> Result<(), TellFault>
+    ensures { malformed_step auditor.now.recording ≡ None
+        → TellsText (O.writing out.old) (O.writing out.new) result
+        (counts_unless is_quiet auditor.now.allowances head.now (read_of auditor.now)) }
+{
+    unasked_is_never_asked();
+    if is_quiet {
+        return Ok(());
+    }
+    match count_lines(alloc, head, auditor.break_counts(), &auditor.audited()) {
+        Ok(lines) => tell(out, lines.as_bytes()),
+        Err(_) => Err(TellFault::Memory),
+    }
+}
+
+/// Tells the outcome.
+fn tell_line<O: Sink>(
+    alloc: Global,
+    outcome: &Outcome,
+    head: &[u8],
+    out: &mut O,
+) -> Result<(), TellFault>
+    ensures { TellsText (O.writing out.old) (O.writing out.new) result (outcome_line_of head.now outcome.now) }
+{
+    match outcome_line(alloc, head, outcome) {
+        Ok(line) => tell(out, line.as_bytes()),
+        Err(_) => Err(TellFault::Memory),
+    }
+}
+
+/// Keeps what a test case says of the outcome, whose exit status is the answer.
+fn end_case(
+    alloc: Global,
+    auditor: &StepAuditor<'_>,
+    outcome: &Outcome,
+    case: &mut TestCase,
+) -> Result<u8, TellFault>
+    ensures ok { IfOk result (λ status. status ≡ outcome_status outcome.now) }
+    ensures err { IfErr result (λ fault. fault ≡ NoMemory) }
+{
+    match case.end(alloc, auditor.break_counts(), &auditor.audited(), outcome) {
+        Ok(()) => Ok(outcome_status(outcome)),
+        Err(_) => Err(TellFault::Memory),
+    }
+}
+
+/// Tells the outcome of the audit, of which the answer is the exit status.
+fn tell_end<O: Sink>(
+    alloc: Global,
+    auditor: &StepAuditor<'_>,
+    transfers: u64,
+    head: &[u8],
+    case: &mut TestCase,
+    out: &mut O,
+) -> Result<u8, TellFault>
+    ensures { malformed_step auditor.now.recording ≡ None
+        → TellsOutcome (outcome_line_of head.now (outcome_of auditor.now.allowances transfers (read_of auditor.now)))
+        (outcome_of auditor.now.allowances transfers (read_of auditor.now))
+        (O.writing out.old) (O.writing out.new) result }
+{
+    let outcome = auditor.outcome(transfers);
+    match tell_line(alloc, &outcome, head, out) {
+        Ok(()) => end_case(alloc, auditor, &outcome, case),
+        Err(fault) => Err(fault),
+    }
+}
+
+/// Tells what a recording has, and the outcome of its audit, of which this is the exit status.
+fn tell_outcome<O: Sink>(
+    alloc: Global,
+    auditor: &StepAuditor<'_>,
+    options: AuditOptions<'_>,
+    head: &[u8],
+    case: &mut TestCase,
+    out: &mut O,
+) -> Result<u8, TellFault>
+    ensures { malformed_step auditor.now.recording ≡ None
+        → TellsOutcome (counts_unless options.entry.is_quiet auditor.now.allowances head.now (read_of auditor.now)
+        ++ outcome_line_of head.now
+        (outcome_of auditor.now.allowances options.entry.transfers (read_of auditor.now)))
+        (outcome_of auditor.now.allowances options.entry.transfers (read_of auditor.now))
+        (O.writing out.old) (O.writing out.new) result }
+{
+    match tell_counts(alloc, auditor, options.is_quiet, head, out) {
+        Ok(()) => tell_end(alloc, auditor, options.transfers, head, case, out),
+        Err(fault) => Err(fault),
+    }
+}
+
+/// What settles the steps of a dump, if there is a skew.
+fn settler_for(alloc: Global, opening: &Lines, skew: u64) -> Option<StepSettler>
+    ensures { skew ≡ 0 → result ≡ None }
+{
+    if skew == 0 {
+        None
+    } else {
+        Some(StepSettler::new(alloc, *opening, skew))
+    }
+}
+
+/// The audit of a body before its first step.
+fn first_audit<'a>(reader: &StepReader, rules: AuditRules<'a>) -> StepAuditor<'a>
+    ensures few { reader.now.given.opening.slots ≤ 21 }
+    ensures given { reader.now.given.steps ≡ [] → result.recording ≡ reader.now.given }
+    ensures allowances { result.allowances ≡ rules.entry.allowances.now }
+    ensures stop { result.stop ≡ rules.entry.stop }
+    ensures nothing { breaks (read_of result) ≡ [] }
+{
+    prove!(reader.opening().slots() <= 21);
+    StepAuditor::new(reader.opening(), rules)
+}
+
+/// Audits the body of a dump, of which there may be more than is held.
+fn audit_rest<D: Source, O: Sink>(
+    alloc: Global,
+    dump: &mut D,
+    input: &mut DumpInput,
+    reader: StepReader,
+    is_more: bool,
+    auditor: &mut StepAuditor<'_>,
+    settler: &mut Option<StepSettler>,
+    head: &[u8],
+    case: &mut TestCase,
+    out: &mut O,
+) -> Result<(), NoOutcome>
+    ensures kept { HasGiven settler.old auditor.old reader → OnOk result (IsLater auditor.old auditor.new) }
+    ensures audits { HasGiven settler.old auditor.old reader → AuditsRest head.now auditor.old auditor.new reader
+        input.old is_more (D.reading dump.old) (O.writing out.old) (O.writing out.new) result }
+{
+    if is_more {
+        audit_body(
+            alloc, dump, input, reader, auditor, settler, head, case, out,
+        )
+    } else {
+        audit_last(
+            alloc,
+            reader,
+            input.bytes(),
+            auditor,
+            settler,
+            head,
+            case,
+            out,
+        )
+    }
+}
+
+/// Audits the body of a dump behind its definitions, and tells it.
+fn audit_behind<D: Source, O: Sink>(
+    alloc: Global,
+    dump: &mut D,
+    input: &mut DumpInput,
+    reader: StepReader,
+    is_more: bool,
+    options: AuditOptions<'_>,
+    head: &[u8],
+    case: &mut TestCase,
+    out: &mut O,
+) -> Result<u8, NoOutcome>
+    ensures { options.entry.skew ≡ 0 → IsBodyBegun reader → AuditsBehind (record {
+      allowances = options.entry.allowances.now;
+      transfers = options.entry.transfers;
+      stop = options.entry.stop;
+      is_quiet = options.entry.is_quiet;
+    })
+        head.now reader input.old is_more (D.reading dump.old) (O.writing out.old) (O.writing out.new) result }
+{
+    let rules = AuditRules {
+        allowances: options.allowances,
+        stop: options.stop,
+    };
+    let mut auditor = first_audit(&reader, rules);
+    let mut settler = settler_for(alloc, reader.opening(), options.skew);
+    match audit_rest(
+        alloc,
+        dump,
+        input,
+        reader,
+        is_more,
+        &mut auditor,
+        &mut settler,
+        head,
+        case,
+        out,
+    ) {
+        Ok(()) => match tell_outcome(alloc, &auditor, options, head, case, out) {
+            Ok(status) => Ok(status),
+            Err(fault) => Err(NoOutcome::Untold(fault)),
+        },
+        Err(why) => Err(why),
+    }
+}
+
+/// Audits a dump by a binding, and tells it line by line to `out`. The answer is the exit status by its outcome.
+pub(crate) fn audit_dump<D: Source, O: Sink>(
+    alloc: Global,
+    bound: &Binding,
+    dump: &mut D,
+    name: &[u8],
+    options: AuditOptions<'_>,
+    case: &mut TestCase,
+    out: &mut O,
+) -> Result<u8, NoOutcome>
+    ensures { options.entry.skew ≡ 0 → AuditsDump (record {
+      allowances = options.entry.allowances.now;
+      transfers = options.entry.transfers;
+      stop = options.entry.stop;
+      is_quiet = options.entry.is_quiet;
+    })
+        (head_of name.now) bound.now (D.reading dump.old) (O.writing out.old) (O.writing out.new) result }
+{
+    let (Ok(head), Ok(mut input)) = (dump_head(alloc, name), DumpInput::new(alloc)) else {
+        return Err(NoOutcome::Untold(TellFault::Memory));
+    };
+    match read_definitions(alloc, bound, dump, &mut input) {
+        Ok((reader, is_more)) => audit_behind(
+            alloc,
+            dump,
+            &mut input,
+            reader,
+            is_more,
+            options,
+            head.as_bytes(),
+            case,
+            out,
+        ),
+        Err(why) => Err(why),
+    }
+}

@@ -1,0 +1,189 @@
+//! What an audit found, as a JUnit file: one test suite, with a test case a dump.
+
+use std::alloc::{AllocError, Global};
+use vme_answer::Refusal;
+use vme_audit::Outcome;
+use vme_audit_lines::{Standing, break_line, count_lines, outcome_line, refusal_text};
+use vme_auditor::{AuditBreak, AuditFindings, BreakCounts};
+use vme_text::Text;
+
+/// How many breaks of a kind a test case names.
+const MOST_NAMED: u32 = 100;
+
+/// Appends a text as the value of an attribute: escaped as XML asks, with `?` for what XML can't have.
+fn push_quoted(text: &mut Text, value: &[u8]) -> Result<(), AllocError> {
+    text.push(b"\"")?;
+    let mut at = 0;
+    while at < value.len() {
+        let byte = value[at];
+        // The two characters above U+FFFD that have three bytes are none of XML.
+        if value[at..].starts_with(b"\xEF\xBF\xBE") || value[at..].starts_with(b"\xEF\xBF\xBF") {
+            text.push(b"?")?;
+            at += 3;
+            continue;
+        }
+        match byte {
+            b'&' => text.push(b"&amp;")?,
+            b'<' => text.push(b"&lt;")?,
+            b'>' => text.push(b"&gt;")?,
+            b'"' => text.push(b"&quot;")?,
+            b'\t' => text.push(b"&#9;")?,
+            b'\n' => text.push(b"&#10;")?,
+            b'\r' => text.push(b"&#13;")?,
+            0..b' ' => text.push(b"?")?,
+            _ => text.push(&[byte])?,
+        }
+        at += 1;
+    }
+    text.push(b"\"")
+}
+
+/// A line without its line feed.
+fn without_line_feed(line: &[u8]) -> &[u8] {
+    match line.split_last() {
+        Some((b'\n', rest)) => rest,
+        _ => line,
+    }
+}
+
+/// An element of this name that has a message, and nothing else.
+fn push_message(text: &mut Text, element: &[u8], line: &[u8]) -> Result<(), AllocError> {
+    text.push(b"<")?;
+    text.push(element)?;
+    text.push(b" message=")?;
+    push_quoted(text, without_line_feed(line))?;
+    text.push(b"/>")
+}
+
+/// What is told of a dump.
+#[derive(Debug, Drop)]
+pub(crate) struct TestCase {
+    is_wanted: bool,
+    /// Its breaks that aren't allowed, or else why it isn't covered, as elements.
+    failures: Text,
+    failed: u32,
+    /// Its breaks that are allowed, and its counts, in lines.
+    told: Text,
+    allowed: u32,
+}
+
+impl TestCase {
+    /// Of a dump of which nothing was audited. Where no file is wanted, nothing is kept.
+    pub fn new(alloc: Global, is_wanted: bool) -> TestCase {
+        TestCase {
+            is_wanted,
+            failures: Text::new(alloc),
+            failed: 0,
+            told: Text::new(alloc),
+            allowed: 0,
+        }
+    }
+
+    /// Takes a break.
+    pub fn take(
+        &mut self,
+        alloc: Global,
+        standing: Standing,
+        found: &AuditBreak,
+    ) -> Result<(), AllocError> {
+        if !self.is_wanted {
+            return Ok(());
+        }
+        match standing {
+            Standing::Allowed => {
+                if self.allowed < MOST_NAMED {
+                    self.allowed += 1;
+                    let line = break_line(alloc, b"", standing, found)?;
+                    self.told.push(line.as_bytes())?;
+                }
+            }
+            Standing::Broken | Standing::Unreadable => {
+                if self.failed < MOST_NAMED {
+                    self.failed += 1;
+                    let line = break_line(alloc, b"", standing, found)?;
+                    push_message(&mut self.failures, b"failure", line.as_bytes())?;
+                }
+            }
+        }
+        Ok(())
+    }
+
+    /// Takes what the dump's audit came to.
+    pub fn end(
+        &mut self,
+        alloc: Global,
+        counts: BreakCounts,
+        findings: &AuditFindings,
+        outcome: &Outcome,
+    ) -> Result<(), AllocError> {
+        if !self.is_wanted {
+            return Ok(());
+        }
+        let lines = count_lines(alloc, b"", counts, findings)?;
+        self.told.push(lines.as_bytes())?;
+        if let Outcome::NotCovered { .. } = outcome {
+            let line = outcome_line(alloc, b"", outcome)?;
+            push_message(&mut self.failures, b"failure", line.as_bytes())?;
+        }
+        Ok(())
+    }
+}
+
+/// The test cases of the dumps that were audited.
+#[derive(Debug, Drop)]
+pub struct TestSuite {
+    is_wanted: bool,
+    cases: Text,
+}
+
+impl TestSuite {
+    /// Before the first dump. Where no file is wanted, nothing is kept.
+    pub fn new(alloc: Global, is_wanted: bool) -> TestSuite {
+        TestSuite {
+            is_wanted,
+            cases: Text::new(alloc),
+        }
+    }
+
+    /// What is to be told of the next dump.
+    pub(crate) fn case(&self, alloc: Global) -> TestCase {
+        TestCase::new(alloc, self.is_wanted)
+    }
+
+    /// Takes what is told of a dump of this name, which was refused or not.
+    pub(crate) fn take(
+        &mut self,
+        alloc: Global,
+        name: &[u8],
+        case: &TestCase,
+        refusal: Option<&Refusal>,
+    ) -> Result<(), AllocError> {
+        if !self.is_wanted {
+            return Ok(());
+        }
+        let text = &mut self.cases;
+        text.push(b"<testcase name=")?;
+        push_quoted(text, name)?;
+        text.push(b">")?;
+        text.push(case.failures.as_bytes())?;
+        if let Some(refusal) = refusal {
+            let line = refusal_text(alloc, refusal)?;
+            push_message(text, b"error", line.as_bytes())?;
+        }
+        if !case.told.as_bytes().is_empty() {
+            text.push(b"<system-out>")?;
+            text.push(case.told.as_bytes())?;
+            text.push(b"</system-out>")?;
+        }
+        text.push(b"</testcase>\n")
+    }
+}
+
+/// The JUnit file of a suite.
+pub fn junit_file(alloc: Global, suite: &TestSuite) -> Result<Text, AllocError> {
+    let mut text = Text::new(alloc);
+    text.push(b"<?xml version=\"1.0\" encoding=\"UTF-8\"?>\n<testsuite name=\"vmecheck\">\n")?;
+    text.push(suite.cases.as_bytes())?;
+    text.push(b"</testsuite>\n")?;
+    Ok(text)
+}

@@ -1,0 +1,16 @@
+use Rattle.std.proofs.Common.{◌≡◌, ℕ, false, arith, refl, append_assoc}
+use Rattle.std.specs.Prelude.{◌==◌}
+use Rattle.std.proofs.lemmas.Bool.Decides.{nat_tests}
+use Rattle.vme_audit_lines.proofs.Lines.{on_ok}
+use Rattle.vme_audit_lines.proofs.outcome.push_conforming.Goals as goal
+
+not_zero : (n : ℕ) → (n ≡ 0 → ⊥) → (n == 0) ≡ false
+not_zero n some = grind (arith, nat_tests)
+
+pub returns-then-allowed-eq0 : goal.returns-then-allowed-eq0
+returns-then-allowed-eq0 c = on_ok c.push.result _ _ c.push.ensures.ok (λ last. rw (last, c.if-allowed-eq0.true) refl)
+
+pub returns-else-allowed-eq0 : goal.returns-else-allowed-eq0
+returns-else-allowed-eq0 c =
+    on_ok c.push_allowed.result _ _ c.push_allowed.ensures (λ last.
+    rw (last, not_zero c.args.allowed c.if-allowed-eq0.false) (simp append_assoc))

@@ -1,0 +1,20 @@
+use Rattle.std.proofs.Common.{◌≡◌, List, not, ap}
+use Rattle.std.specs.Prelude.{filter}
+use Rattle.std.proofs.lemmas.List.Elements.{filter_agree}
+use Rattle.vme_trace.specs.Rules.{all_rules}
+use Rattle.vme_trace.specs.Trace.{Trace}
+use Rattle.vme_trace.specs.declared.rule.Rule.{Rule}
+use Rattle.vme_audit.specs.Asked.{is_asked}
+use Rattle.vme_auditor.specs.Events.{asks_by}
+use Rattle.vme_auditor.specs.declared.asked.AskedEvents.{AskedEvents}
+use Rattle.vme_audit_lines.specs.AuditLines.{unasked_among}
+use Rattle.vme_audit_lines.proofs.unasked_is_never_asked.Goals as goal
+
+among : (e : AskedEvents) (t : Trace) → ((r : Rule) → asks_by e r ≡ is_asked t r) → (rules : List Rule)
+    → unasked_among e rules ≡ filter (λ (r : Rule). not (is_asked t r)) rules
+unfolding unasked_among
+among e t same rules =
+    filter_agree (λ (r : Rule). not (asks_by e r)) (λ (r : Rule). not (is_asked t r)) (λ r. ap not (same r)) rules
+
+pub returns : goal.returns
+returns c = λ e t same. among e t same all_rules

@@ -1,0 +1,108 @@
+//! The lines about a dump: what each begins with, its breaks, and why there is no outcome.
+
+ghost use Rattle.std.specs.Prelude.{◌≡◌, ◌++◌, IfOk, OnOk};
+ghost use Rattle.vme_answer.specs.Texts.{line_of};
+ghost use Rattle.vme_auditor.specs.Breaks.{as_break};
+ghost use Rattle.vme_audit_lines.specs.AuditLines.{audit_break_text, cannot_text, head_of, refusal_behind};
+ghost use Rattle.vme_audit_lines.specs.AuditLines.{shown as shown_byte, standing_name as name_of};
+
+use crate::standing::Standing;
+use std::alloc::{AllocError, Global};
+use vme_answer::{Input, Refusal, refusal_line};
+use vme_auditor::AuditBreak;
+use vme_text::Text;
+
+/// A byte of a name as it is shown: `?` for one that a line of text can't have.
+fn shown(byte: u8) -> u8
+    ensures { result ≡ shown_byte byte }
+{
+    if byte < b' ' || byte == 0x7F {
+        b'?'
+    } else {
+        byte
+    }
+}
+
+/// What each line about a dump of this name begins with. Bytes below 20 and 7F, in hexadecimal, are written as `?`.
+pub fn dump_head(alloc: Global, name: &[u8]) -> Result<Text, AllocError>
+    ensures { IfOk result (λ text. text ≡ head_of name.now) }
+{
+    let mut text = Text::new(alloc);
+    for byte in name {
+        text.push(&[shown(*byte)])?;
+    }
+    text.push(b": ")?;
+    Ok(text)
+}
+
+/// The word for how a break counts, and a space.
+fn standing_name(standing: Standing) -> &'static [u8]
+    ensures { result.now ≡ name_of standing }
+{
+    match standing {
+        Standing::Broken => b"broken ",
+        Standing::Unreadable => b"unreadable ",
+        Standing::Allowed => b"allowed ",
+    }
+}
+
+/// The line that tells a break, behind a head.
+pub fn break_line(
+    alloc: Global,
+    head: &[u8],
+    standing: Standing,
+    found: &AuditBreak,
+) -> Result<Text, AllocError>
+    ensures { IfOk result (λ text. text ≡ head.now ++ line_of (audit_break_text standing (as_break found.now))) }
+{
+    let rule = found.rule.name();
+    let line = found.line.name();
+    let mut text = Text::new(alloc);
+    text.push(head)?;
+    text.push(standing_name(standing))?;
+    text.push(rule.as_bytes())?;
+    text.push(b" at instant ")?;
+    text.push_decimal(alloc, found.instant)?;
+    text.push(b" time ")?;
+    text.push_decimal(alloc, found.time)?;
+    text.push(b" line ")?;
+    text.push(line.as_bytes())?;
+    text.push(b"\n")?;
+    Ok(text)
+}
+
+/// Appends what can't be done with an input. Without memory the text ends somewhere in that.
+fn push_cannot(text: &mut Text, reason: &[u8], input: Input) -> Result<(), AllocError>
+    ensures { OnOk result (text.new ≡ text.old ++ line_of (cannot_text reason.now input)) }
+{
+    text.push(reason)?;
+    match input {
+        Input::Binding => text.push(b" binding\n"),
+        Input::Dump => text.push(b"\n"),
+        Input::Listing => text.push(b" listing\n"),
+    }
+}
+
+/// Appends why there is no outcome of a dump. Without memory the text ends somewhere in that.
+fn push_refusal(text: &mut Text, refusal: &Refusal) -> Result<(), AllocError>
+    ensures { OnOk result (text.new ≡ text.old ++ line_of (refusal_behind refusal.now)) }
+{
+    match refusal {
+        Refusal::CannotOpen(input) => push_cannot(text, b"cannot open", *input),
+        Refusal::CannotRead(input) => push_cannot(text, b"cannot read", *input),
+        _ => {
+            let line = refusal_line(refusal);
+            text.push(&line.as_bytes()[b"vmecheck: ".len()..])
+        }
+    }
+}
+
+/// Why there is no outcome of a dump, behind its name: the line that [`refusal_line`] has behind the name of the
+/// program, but that a dump that can't be opened or read isn't called one.
+pub fn refusal_text(alloc: Global, refusal: &Refusal) -> Result<Text, AllocError>
+    ensures { IfOk result (λ text. text ≡ line_of (refusal_behind refusal.now)) }
+{
+    let mut text = Text::new(alloc);
+    push_refusal(&mut text, refusal)?;
+    Ok(text)
+}

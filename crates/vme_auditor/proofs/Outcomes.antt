@@ -1,0 +1,103 @@
+-- The outcome by what was found is that of the definitions.
+use Rattle.std.proofs.Common.{◌≡◌, ℕ, suc, ◌-◌, ◌^◌, ◌<◌, ◌≤◌, Bool, true, false, not, List, [], ◌∷◌, length, refl, ◌∙◌}
+use Rattle.std.proofs.Common.{ap, arith, cond, Option, None, Some}
+use Rattle.std.specs.Prelude.{min, nat_lt}
+use Rattle.std.specs.Option.{option_map, option_map_or}
+use Rattle.std.proofs.lemmas.Bool.Decides.{nat_tests}
+use Rattle.vme_trace.specs.Trace.{Trace}
+use Rattle.vme_trace.specs.declared.verdict.Break.{Break}
+use Rattle.vme_audit.specs.Allowances.{unreadables, wrongs}
+use Rattle.vme_audit.specs.Covered.{allowed_count, any_of, gap, hang, hang_from, never_idle, outcome}
+use Rattle.vme_audit.specs.Covered.{answered}
+use Rattle.vme_audit.specs.Parts.{breaks, last_part}
+use Rattle.vme_audit.specs.declared.allowance.Allowance.{Allowance}
+use Rattle.vme_audit.specs.declared.outcome.CoverageGap.{CoverageGap}
+use Rattle.vme_audit.specs.declared.outcome.CoverageGap.TheVariants.{FewAnswers}
+use Rattle.vme_audit.specs.declared.outcome.Outcome.TheVariants.{Broken, Conforming, NotCovered, Unreadable}
+use Rattle.vme_auditor.specs.Breaks.{last_instant_of}
+use Rattle.vme_auditor.specs.Findings.{AreBreakCountsOf, AreFindingsOf, gap_by, hang_by, never_idle_by}
+use Rattle.vme_auditor.specs.Findings.{outcome_by, started_at}
+use Rattle.vme_auditor.specs.declared.findings.AuditFindings.{AuditFindings}
+use Rattle.vme_auditor.specs.declared.findings.BreakCounts.{BreakCounts}
+use Rattle.vme_auditor.proofs.Truth.{lt_fails, lt_holds}
+
+-- the outcome, case by case
+module _ (f : AuditFindings) (c : BreakCounts) (wanted : ℕ) where
+  pub by_broken : 0 < c.broken → Broken ≡ outcome_by f c wanted
+  by_broken h = rw (lt_holds 0 c.broken h) refl
+
+  pub by_unreadable : c.broken ≤ 0 → 0 < c.unreadable → Unreadable ≡ outcome_by f c wanted
+  by_unreadable none h = rw (lt_fails 0 c.broken none, lt_holds 0 c.unreadable h) refl
+
+  pub by_gap : c.broken ≤ 0 → c.unreadable ≤ 0 → (gap : Option CoverageGap) → gap ≡ gap_by f wanted
+      → option_map_or NotCovered gap (Conforming c.allowed) ≡ outcome_by f c wanted
+  by_gap none no_more gap e =
+      rw (lt_fails 0 c.broken none, lt_fails 0 c.unreadable no_more)
+      (ap (λ (gap : Option CoverageGap). option_map_or NotCovered gap (Conforming c.allowed)) e)
+
+-- there are some breaks where their number is over 0
+some_breaks : (bs : List Break) → nat_lt 0 (length bs) ≡ any_of bs
+some_breaks [] = refl
+some_breaks (b ∷ bs) = lt_holds 0 (suc (length bs)) (omega arith)
+
+idle_behind : (bs : List Break) → never_idle_by (last_instant_of bs) ≡ never_idle bs
+idle_behind [] = refl
+idle_behind (b ∷ []) = refl
+idle_behind (b ∷ c ∷ bs) = idle_behind (c ∷ bs)
+
+-- a sum that saturates is compared with a number of 64 bits as the sum is
+few_answers : (answers wanted : ℕ) (other : Option CoverageGap) → wanted ≤ 2 ^ 64 - 1
+    → cond (nat_lt (min answers (2 ^ 64 - 1)) wanted) (Some (FewAnswers (min answers (2 ^ 64 - 1)) wanted)) other
+    ≡ cond (nat_lt answers wanted) (Some (FewAnswers answers wanted)) other
+few_answers answers wanted other fits = by_test (nat_lt answers wanted) refl
+  where
+    below : (a w : ℕ) → nat_lt a w ≡ true → a < w
+    below a w h = grind (arith, nat_tests)
+
+    above : (a w : ℕ) → nat_lt a w ≡ false → w ≤ a
+    above a w h = grind (arith, nat_tests)
+
+    by_test : (b : Bool) → nat_lt answers wanted ≡ b
+        → cond (nat_lt (min answers (2 ^ 64 - 1)) wanted) (Some (FewAnswers (min answers (2 ^ 64 - 1)) wanted)) other
+        ≡ cond b (Some (FewAnswers answers wanted)) other
+    by_test true e =
+        let few = below answers wanted e in
+        let same : min answers (2 ^ 64 - 1) ≡ answers = omega arith in
+        rw (same, e) refl
+    by_test false e =
+        let enough = above answers wanted e in
+        let still : wanted ≤ min answers (2 ^ 64 - 1) = omega arith in
+        rw (lt_fails (min answers (2 ^ 64 - 1)) wanted still) refl
+
+same_hang : (t : Trace) (h : Option ℕ) → option_map hang_by (option_map (started_at t) h)
+    ≡ option_map (hang_from (last_part t)) h
+same_hang t None = refl
+same_hang t (Some start) = refl
+
+module _ (f : AuditFindings) (t : Trace) (found : AreFindingsOf f t) (wanted : ℕ) (fits : wanted ≤ 2 ^ 64 - 1) where
+  gap_is : gap_by f wanted ≡ gap wanted t
+  unfolding gap
+  gap_is =
+      few_or (not f.is_judged) (answered f.counts) (Some (never_idle_by f.last_break)) (option_map hang_by f.hang)
+      ∙ rw (found.judged, found.behind, found.counts, found.hang, idle_behind (breaks t), same_hang t (hang t)) refl
+    where
+      few_or : (b : Bool) (answers : ℕ) (first other : Option CoverageGap)
+          → cond b first (cond (nat_lt (min answers (2 ^ 64 - 1)) wanted)
+          (Some (FewAnswers (min answers (2 ^ 64 - 1)) wanted)) other)
+          ≡ cond b first (cond (nat_lt answers wanted) (Some (FewAnswers answers wanted)) other)
+      few_or b answers first other = ap (cond b first) (few_answers answers wanted other fits)
+
+  pub outcome_is : (c : BreakCounts) (allowances : List Allowance) → AreBreakCountsOf c allowances t
+      → outcome_by f c wanted ≡ outcome allowances wanted t
+  unfolding outcome
+  outcome_is c allowances counted =
+      rw (
+        counted.broken,
+        counted.unreadable,
+        counted.allowed,
+        some_breaks (wrongs allowances (breaks t)),
+        some_breaks (unreadables allowances (breaks t)),
+      )
+      (ap (λ (gap : Option CoverageGap). cond (any_of (wrongs allowances (breaks t))) Broken
+      (cond (any_of (unreadables allowances (breaks t))) Unreadable
+      (option_map_or NotCovered gap (Conforming (allowed_count allowances t))))) gap_is)

@@ -1,0 +1,145 @@
+-- What an audit has in common with the verdict and with the listing of a recording.
+use Rattle.std.proofs.Common.{◌≡◌, ℕ, zero, suc, ◌+◌, Bool, true, false, not, List, [], ◌∷◌, ◌++◌, length, filter, refl}
+use Rattle.std.proofs.Common.{sym, ◌∙◌, ap, arith, append-nil, cond, Option, None, Some}
+use Rattle.std.specs.Prelude.{flat_map, slice_get}
+use Rattle.std.specs.Option.{option_map, option_map_or, option_to_list}
+use Rattle.vme_trace.specs.Judged.{Stretch, judged_spans}
+use Rattle.vme_trace.specs.Rules.{all_rules, is_unreadable}
+use Rattle.vme_trace.specs.Trace.{Trace}
+use Rattle.vme_trace.specs.Verdict.{judge, least_of, verdict, verdict_by, verdict_on}
+use Rattle.vme_trace.specs.declared.verdict.Break.{Break}
+use Rattle.vme_trace.specs.declared.verdict.Verdict.TheVariants.{Broken, Conforming, NeverIdle, Unreadable}
+use Rattle.vme_listing.specs.Places.{is_verdict}
+use Rattle.vme_listing.specs.Recorded.{recorded_rows}
+use Rattle.vme_listing.specs.declared.row.ListedVerdict.{ListedVerdict}
+use Rattle.vme_listing.specs.declared.row.Row.{Row}
+use Rattle.vme_listing.specs.declared.row.Row.TheVariants as row
+use Rattle.vme_audit.specs.Counted.{count_of, counts, counts_of_rows, rows_of}
+use Rattle.vme_audit.specs.Covered.{has_stretch, is_judged_part}
+use Rattle.vme_audit.specs.Parts.{Part, breaks, breaks_of, last_from, last_part, moved_by, named_break, own_break}
+use Rattle.vme_audit.specs.Parts.{part_behind, parts, parts_from, whole}
+use Rattle.vme_auditor.proofs.FirstBreaks.{named_on}
+use Rattle.vme_auditor.proofs.MarkCounts.{same_counts}
+
+moved_none : (b : Break) → moved_by 0 b ≡ b
+moved_none b = ap (λ i. record { instant = i; time = b.time; rule = b.rule; line = b.line }) (nothing b.instant)
+  where
+    nothing : (i : ℕ) → 0 + i ≡ i
+    nothing i = omega arith
+
+-- the first break of a part is its own
+module _ (t : Trace) where
+  abbrev here : Part
+  here = whole t
+
+  own_first : (e : Option Break) (behind : Break → List Break)
+      → slice_get (option_to_list (option_map (moved_by 0) e) ++ option_map_or behind e []) 0 ≡ e
+  own_first None behind = refl
+  own_first (Some b) behind = ap Some (moved_none b)
+
+  breaks_behind : (n : ℕ) (e : Option Break)
+      → breaks_of (option_map_or (λ b. parts_from n (part_behind here b)) e [])
+      ≡ option_map_or (λ b. breaks_of (parts_from n (part_behind here b))) e []
+  breaks_behind n None = refl
+  breaks_behind n (Some b) = refl
+
+  first_from : (n : ℕ) → slice_get (breaks_of (parts_from n here)) 0 ≡ named_break (verdict t)
+  unfolding parts_from own_break
+  first_from zero =
+      ap (λ (bs : List Break). slice_get bs 0) (append-nil (option_to_list (option_map (moved_by 0) (own_break here))))
+      ∙ alone (own_break here)
+    where
+      alone : (e : Option Break) → slice_get (option_to_list (option_map (moved_by 0) e)) 0 ≡ e
+      alone None = refl
+      alone (Some b) = ap Some (moved_none b)
+  first_from (suc n) =
+      ap (λ (bs : List Break). slice_get (option_to_list (option_map (moved_by 0) (own_break here)) ++ bs) 0)
+      (breaks_behind n (own_break here))
+      ∙ own_first (own_break here) (λ b. breaks_of (parts_from n (part_behind here b)))
+
+  pub first_is : slice_get (breaks t) 0 ≡ named_break (verdict t)
+  unfolding parts
+  first_is = first_from (length t.steps)
+
+  -- and by its rule the verdict says so
+  pub first_told : (b : Break) → slice_get (breaks t) 0 ≡ Some b
+      → verdict t ≡ cond (is_unreadable b.rule) (Unreadable b) (Broken b)
+  unfolding verdict_by
+  first_told b e = told_of (judged_spans t) (sym first_is ∙ e)
+    where
+      told_of : (spans : List Stretch) → named_break (judge all_rules t spans) ≡ Some b
+          → judge all_rules t spans ≡ cond (is_unreadable b.rule) (Unreadable b) (Broken b)
+      told_of [] e = absurd (cc)
+      told_of (span ∷ spans) e =
+          ap verdict_on (sym (named_on (least_of all_rules t (span ∷ spans))) ∙ e)
+
+  -- where it has none, the recording is its only part
+  one_part : (n : ℕ) → named_break (verdict t) ≡ None → parts_from n here ≡ here ∷ []
+  unfolding parts_from own_break
+  one_part zero e = refl
+  one_part (suc n) e = rw e refl
+
+  pub none_named : breaks t ≡ [] → named_break (verdict t) ≡ None
+  none_named e = sym first_is ∙ ap (λ (bs : List Break). slice_get bs 0) e
+
+  -- what is judged in it conforms
+  pub unbroken_verdict : named_break (verdict t) ≡ None
+      → verdict t ≡ cond (is_judged_part (last_part t)) Conforming NeverIdle
+  unfolding parts verdict_by is_judged_part
+  unbroken_verdict e =
+      conforms (judged_spans t) e
+      ∙ ap (λ (ps : List Part). cond (is_judged_part (last_from here ps)) Conforming NeverIdle)
+      (sym (one_part (length t.steps) e))
+    where
+      conforms : (spans : List Stretch) → named_break (judge all_rules t spans) ≡ None
+          → judge all_rules t spans ≡ cond (has_stretch spans) Conforming NeverIdle
+      conforms [] e = refl
+      conforms (span ∷ spans) e =
+          ap verdict_on (sym (named_on (least_of all_rules t (span ∷ spans))) ∙ e)
+
+  pub no_breaks : named_break (verdict t) ≡ None → breaks t ≡ []
+  unfolding parts own_break
+  no_breaks e = ap breaks_of (one_part (length t.steps) e) ∙ rw e refl
+
+-- a verdict isn't counted
+verdict_only : (r : Row) → is_verdict r ≡ true → (v : ListedVerdict) × (r ≡ row.Verdict v)
+verdict_only (row.Start i) h = absurd (cc)
+verdict_only (row.Reset i) h = absurd (cc)
+verdict_only (row.OpenTenure i end) h = absurd (cc)
+verdict_only (row.Tenure i level slot end) h = absurd (cc)
+verdict_only (row.AddressedCycle i class modifier address end) h = absurd (cc)
+verdict_only (row.FreeCycle i modifier end) h = absurd (cc)
+verdict_only (row.InterruptCycle i level end) h = absurd (cc)
+verdict_only (row.Transfer direction line i cycle answer close lanes) h = absurd (cc)
+verdict_only (row.PendingTransfer i direction) h = absurd (cc)
+verdict_only (row.Verdict v) h = (v, refl)
+
+module _ (is : Row → Bool) (no : (v : ListedVerdict) → is (row.Verdict v) ≡ false) where
+  one_more : (r : Row) (kept rows : List Row) (b c : Bool) → is_verdict r ≡ b → is r ≡ c
+      → count_of is kept ≡ count_of is rows → count_of is (cond (not b) (r ∷ kept) kept) ≡ count_of is (r ∷ rows)
+  one_more r kept rows true c h e so_far =
+      let verdict = verdict_only r h in
+      let none : is r ≡ false = ap is verdict.1 ∙ no verdict.0 in
+      rw none so_far
+  one_more r kept rows false true h e so_far = rw e (ap suc so_far)
+  one_more r kept rows false false h e so_far = rw e so_far
+
+  uncounted : (rows : List Row) → count_of is (filter (λ row. not (is_verdict row)) rows) ≡ count_of is rows
+  uncounted [] = refl
+  uncounted (r ∷ rows) =
+      one_more r (filter (λ row. not (is_verdict row)) rows) rows (is_verdict r) (is r) refl refl (uncounted rows)
+
+uncounted_all : (rows : List Row) → counts_of_rows (filter (λ row. not (is_verdict row)) rows) ≡ counts_of_rows rows
+unfolding counts_of_rows
+uncounted_all rows =
+    same_counts (counts_of_rows (filter (λ row. not (is_verdict row)) rows)) (counts_of_rows rows)
+    (uncounted _ (λ v. refl) rows) (uncounted _ (λ v. refl) rows) (uncounted _ (λ v. refl) rows)
+    (uncounted _ (λ v. refl) rows) (uncounted _ (λ v. refl) rows) (uncounted _ (λ v. refl) rows)
+    (uncounted _ (λ v. refl) rows) (uncounted _ (λ v. refl) rows) (uncounted _ (λ v. refl) rows)
+    (uncounted _ (λ v. refl) rows) (uncounted _ (λ v. refl) rows)
+
+pub listed_counts : (t : Trace) → named_break (verdict t) ≡ None → counts t ≡ counts_of_rows (recorded_rows t)
+unfolding parts
+listed_counts t e =
+    ap (λ (ps : List Part). counts_of_rows (flat_map rows_of ps)) (one_part t (length t.steps) e)
+    ∙ ap counts_of_rows (append-nil (rows_of (whole t))) ∙ uncounted_all (recorded_rows t)

@@ -1,0 +1,12 @@
+-- Where nothing is broken the verdict is by what is judged.
+use Rattle.vme_auditor.proofs.SaidVerdicts.{conforming_is, never_idle_is, never_idle_told}
+use Rattle.vme_auditor.proofs.laws.outcome_has_verdict.Goals as goal
+
+pub returns-clause-conforming : goal.returns-clause-conforming
+returns-clause-conforming c = λ allowances wanted t e. conforming_is allowances wanted t e
+
+pub returns-clause-never_idle : goal.returns-clause-never_idle
+returns-clause-never_idle c = λ allowances wanted t. (
+  never_idle_is allowances wanted t,
+  never_idle_told allowances wanted t,
+)

@@ -1,0 +1,136 @@
+-- The text of an allowance is cut at its `=`, since no rule has one in its name.
+use Rattle.std.proofs.Common.{◌≡◌, ◌∙◌, ◌<◌, ◌+◌, ◌==◌, ℕ, zero, suc, refl, sym, ap, arith, false}
+use Rattle.std.proofs.Common.{true≢false}
+use Rattle.std.proofs.Common.{List, [], ◌∷◌, ◌++◌, ◌-◌, append-nil, length, take, drop, Option, Some, None}
+use Rattle.std.proofs.lemmas.Bool.{eqb-true}
+use Rattle.std.proofs.lemmas.List.{drop_more, length-drop, take-append-drop, take_all}
+use Rattle.std.specs.Prelude.{IfSome, get_or, unwrap_or}
+use Rattle.memchr.specs.Find.{IsFirstByte, is_byte}
+use Rattle.vme_audit.specs.declared.allowance.Allowance.{Allowance}
+use Rattle.vme_trace.specs.LineNumbers.{line_count}
+use Rattle.vme_trace.specs.Names.{line_name}
+use Rattle.vme_trace.specs.Rules.{rule_name}
+use Rattle.vme_trace.specs.declared.rule.Rule.{Rule}
+use Rattle.vme_trace.specs.declared.rule.Rule.TheVariants as rule
+use Rattle.vme_commands.specs.AllowanceTexts.{allowance_text}
+
+-- a rule has two bytes in its name, neither of which is a `=`
+record TwoBytes (r : Rule) : Type 0 where
+  x : ℕ
+  y : ℕ
+  name : rule_name r ≡ x ∷ y ∷ []
+  x_is : (x == 61) ≡ false
+  y_is : (y == 61) ≡ false
+
+two_bytes : (r : Rule) → TwoBytes r
+two_bytes rule.U1 = record { x = 85; y = 49; name = refl; x_is = refl; y_is = refl }
+two_bytes rule.U2 = record { x = 85; y = 50; name = refl; x_is = refl; y_is = refl }
+two_bytes rule.U3 = record { x = 85; y = 51; name = refl; x_is = refl; y_is = refl }
+two_bytes rule.U4 = record { x = 85; y = 52; name = refl; x_is = refl; y_is = refl }
+two_bytes rule.H1 = record { x = 72; y = 49; name = refl; x_is = refl; y_is = refl }
+two_bytes rule.H2 = record { x = 72; y = 50; name = refl; x_is = refl; y_is = refl }
+two_bytes rule.H3 = record { x = 72; y = 51; name = refl; x_is = refl; y_is = refl }
+two_bytes rule.H4 = record { x = 72; y = 52; name = refl; x_is = refl; y_is = refl }
+two_bytes rule.H5 = record { x = 72; y = 53; name = refl; x_is = refl; y_is = refl }
+two_bytes rule.H6 = record { x = 72; y = 54; name = refl; x_is = refl; y_is = refl }
+two_bytes rule.H7 = record { x = 72; y = 55; name = refl; x_is = refl; y_is = refl }
+two_bytes rule.H8 = record { x = 72; y = 56; name = refl; x_is = refl; y_is = refl }
+two_bytes rule.S1 = record { x = 83; y = 49; name = refl; x_is = refl; y_is = refl }
+two_bytes rule.S2 = record { x = 83; y = 50; name = refl; x_is = refl; y_is = refl }
+two_bytes rule.S3 = record { x = 83; y = 51; name = refl; x_is = refl; y_is = refl }
+two_bytes rule.C1 = record { x = 67; y = 49; name = refl; x_is = refl; y_is = refl }
+two_bytes rule.C2 = record { x = 67; y = 50; name = refl; x_is = refl; y_is = refl }
+two_bytes rule.G1 = record { x = 71; y = 49; name = refl; x_is = refl; y_is = refl }
+two_bytes rule.G2 = record { x = 71; y = 50; name = refl; x_is = refl; y_is = refl }
+two_bytes rule.G3 = record { x = 71; y = 51; name = refl; x_is = refl; y_is = refl }
+two_bytes rule.G4 = record { x = 71; y = 52; name = refl; x_is = refl; y_is = refl }
+two_bytes rule.G5 = record { x = 71; y = 53; name = refl; x_is = refl; y_is = refl }
+two_bytes rule.B1 = record { x = 66; y = 49; name = refl; x_is = refl; y_is = refl }
+two_bytes rule.B2 = record { x = 66; y = 50; name = refl; x_is = refl; y_is = refl }
+two_bytes rule.B3 = record { x = 66; y = 51; name = refl; x_is = refl; y_is = refl }
+two_bytes rule.B4 = record { x = 66; y = 52; name = refl; x_is = refl; y_is = refl }
+two_bytes rule.I1 = record { x = 73; y = 49; name = refl; x_is = refl; y_is = refl }
+two_bytes rule.I2 = record { x = 73; y = 50; name = refl; x_is = refl; y_is = refl }
+two_bytes rule.I3 = record { x = 73; y = 51; name = refl; x_is = refl; y_is = refl }
+two_bytes rule.I4 = record { x = 73; y = 52; name = refl; x_is = refl; y_is = refl }
+two_bytes rule.I5 = record { x = 73; y = 53; name = refl; x_is = refl; y_is = refl }
+
+cut_at : (x y : ℕ) (name : List ℕ) (end : ℕ) → (x == 61) ≡ false → (y == 61) ≡ false
+    → IsFirstByte (is_byte 61) (x ∷ y ∷ 61 ∷ name) (Some end) → end ≡ 2
+cut_at x y name zero x_is y_is first = absurd (true≢false (sym first.1 ∙ x_is))
+cut_at x y name (suc zero) x_is y_is first = absurd (true≢false (sym first.1 ∙ y_is))
+cut_at x y name (suc (suc zero)) x_is y_is first = refl
+cut_at x y name (suc (suc (suc k))) x_is y_is first = absurd (first.0.before 2 (omega arith) (omega arith) refl)
+
+uncut : (x y : ℕ) (end : ℕ) → (x == 61) ≡ false → (y == 61) ≡ false
+    → IsFirstByte (is_byte 61) (x ∷ y ∷ []) (Some end) → ⊥
+uncut x y zero x_is y_is first = absurd (true≢false (sym first.1 ∙ x_is))
+uncut x y (suc zero) x_is y_is first = absurd (true≢false (sym first.1 ∙ y_is))
+uncut x y (suc (suc k)) x_is y_is first =
+    let high = first.0.high in
+    omega arith
+
+-- an allowance whose text is cut at a place has a line, and the names of its rule and line stand around it
+pub record IsCut (text : List ℕ) (end : ℕ) (a : Allowance) : Type 0 where
+  pub line : ℕ
+  pub line_is : a.line ≡ Some line
+  pub small : line < line_count
+  pub before : rule_name a.rule ≡ take end text
+  pub behind : line_name line ≡ take (length text - (end + 1)) (drop (end + 1) text)
+
+pub is_cut : (text : List ℕ) (end : ℕ) (a : Allowance) → IfSome a.line (λ line. line < line_count)
+    → allowance_text a ≡ text → IsFirstByte (is_byte 61) text (Some end) → IsCut text end a
+is_cut text end a small is first = go a.line refl
+  where
+    two : TwoBytes a.rule
+    two = two_bytes a.rule
+
+    go : (o : Option ℕ) → a.line ≡ o → IsCut text end a
+    go None none =
+        let whole : text ≡ two.x ∷ two.y ∷ [] = sym is ∙ rw (none, two.name) refl in
+        absurd (uncut two.x two.y end two.x_is two.y_is (rw whole at first))
+    go (Some line) some =
+        let whole : text ≡ two.x ∷ two.y ∷ 61 ∷ line_name line = sym is ∙ rw (some, two.name) refl in
+        let at : end ≡ 2 = cut_at two.x two.y (line_name line) end two.x_is two.y_is (rw whole at first) in
+        let rest : take (length (two.x ∷ two.y ∷ 61 ∷ line_name line) - (2 + 1)) (line_name line) ≡ line_name line =
+        take_all (length (two.x ∷ two.y ∷ 61 ∷ line_name line) - (2 + 1)) (line_name line) (omega arith) in
+        record {
+          line = line;
+          line_is = some;
+          small = rw some at small;
+          before = rw (at, whole) two.name;
+          behind = rw (at, whole) (sym rest);
+        }
+
+-- and one whose text isn't cut has none
+pub is_whole : (text : List ℕ) (a : Allowance) → allowance_text a ≡ text → IsFirstByte (is_byte 61) text None
+    → (a.line ≡ None) × (rule_name a.rule ≡ text)
+is_whole text a is nowhere = go a.line refl
+  where
+    two : TwoBytes a.rule
+    two = two_bytes a.rule
+
+    go : (o : Option ℕ) → a.line ≡ o → (a.line ≡ None) × (rule_name a.rule ≡ text)
+    go None none = (none, sym (append-nil (rule_name a.rule)) ∙ (rw none at is))
+    go (Some line) some =
+        let whole : text ≡ two.x ∷ two.y ∷ 61 ∷ line_name line = sym is ∙ rw (some, two.name) refl in
+        absurd ((rw whole at nowhere) 2 (omega arith) (omega arith) refl)
+
+-- the text is what stands around a `=`
+pub around : (text : List ℕ) (end : ℕ) → IsFirstByte (is_byte 61) text (Some end)
+    → take end text ++ 61 ∷ take (length text - (end + 1)) (drop (end + 1) text) ≡ text
+around text end first =
+    let at : get_or text end 0 ≡ 61 = eqb-true (get_or text end 0) 61 first.1 in
+    let low : end < length text = first.0.high in
+    let rest : take (length text - (end + 1)) (drop (end + 1) text) ≡ drop (end + 1) text =
+    take_all (length text - (end + 1)) (drop (end + 1) text) (rw (length-drop (end + 1) text) (omega arith)) in
+    let back : drop end text ≡ 61 ∷ drop (end + 1) text = drop_more text end 0 low
+    ∙ ap (λ x. x ∷ drop (end + 1) text) at in
+    rw (rest, ← back) (take-append-drop end text)
+
+-- an allowance of the same rule and line is the same
+pub same_allowance : (r : Rule) (line : Option ℕ) (a : Allowance) → Some r ≡ Some a.rule → line ≡ a.line
+    → ◌≡◌ {A = Option Allowance} (Some (record { rule = r; line = line })) (Some a)
+same_allowance r line a rule_is line_is =
+    let same : r ≡ a.rule = ap (λ (o : Option Rule). unwrap_or o r) rule_is in
+    rw (same, line_is) refl

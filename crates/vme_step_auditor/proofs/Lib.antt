@@ -1,0 +1,3 @@
+pub mod ReadOn
+pub mod Tallying
+pub mod Taking

@@ -1,0 +1,34 @@
+//! How what is read of a recording goes on with its steps.
+
+ghost use Rattle.std.specs.Prelude.{◌≡◌, ℕ, ◌≤◌, true, false, List, Option, None};
+ghost use Rattle.vme_trace.specs.Followed.{with_steps};
+ghost use Rattle.vme_trace.specs.Trace.{Trace};
+ghost use Rattle.vme_trace.specs.WellFormed.{malformed_step};
+ghost use Rattle.vme_trace.specs.declared.step.Step.{Step};
+ghost use Rattle.vme_audit.specs.declared.allowance.Allowance.{Allowance};
+ghost use Rattle.vme_step_auditor.specs.ReadBy.{BreaksGoOn, is_stopped, read_by};
+
+use vme_auditor::breaks_grow;
+
+/// What follows where an audit stops changes nothing of what is read.
+pub fn stop_is_final()
+    ensures stays { (allowances : List Allowance) (stop : Option ℕ) (t : Trace) (steps : List Step)
+        → malformed_step (with_steps t steps) ≡ None → t.opening.slots ≤ 21 → is_stopped allowances stop t ≡ true
+        → is_stopped allowances stop (with_steps t steps) ≡ true }
+    ensures read { (allowances : List Allowance) (stop : Option ℕ) (t : Trace) (steps : List Step)
+        → malformed_step (with_steps t steps) ≡ None → t.opening.slots ≤ 21 → is_stopped allowances stop t ≡ true
+        → read_by allowances stop (with_steps t steps) ≡ read_by allowances stop t }
+{
+    breaks_grow();
+}
+
+/// Until an audit stops all is read. Whatever follows, the breaks of what is read stay, and others may come.
+pub fn reading_goes_on()
+    ensures all { (allowances : List Allowance) (stop : Option ℕ) (t : Trace)
+        → is_stopped allowances stop t ≡ false → read_by allowances stop t ≡ t }
+    ensures breaks { (allowances : List Allowance) (stop : Option ℕ) (t : Trace) (steps : List Step)
+        → malformed_step (with_steps t steps) ≡ None → t.opening.slots ≤ 21
+        → BreaksGoOn allowances stop t (with_steps t steps) }
+{
+    breaks_grow();
+}

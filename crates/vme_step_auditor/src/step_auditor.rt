@@ -1,0 +1,151 @@
+//! The breaks of a recording as its steps come, and how they count.
+
+ghost use Rattle.std.specs.Prelude.{◌≡◌, ◌-◌, ◌^◌, ◌≤◌, [], ◌∷◌, ◌++◌, length, None, IfOk, IfSome, OnErr, OnOk};
+ghost use Rattle.std.specs.Prelude.{option_map};
+ghost use Rattle.std.specs.Option.{option_to_list};
+ghost use Rattle.vme_trace.specs.Followed.{with_steps};
+ghost use Rattle.vme_trace.specs.WellFormed.{malformed_step};
+ghost use Rattle.vme_audit.specs.Covered.{outcome as outcome_of};
+ghost use Rattle.vme_audit.specs.Parts.{breaks};
+ghost use Rattle.vme_auditor.specs.Breaks.{as_break};
+ghost use Rattle.vme_auditor.specs.Findings.{AreBreakCountsOf, AreFindingsOf};
+ghost use Rattle.vme_audit_lines.specs.AuditLines.{standing_of};
+ghost use Rattle.vme_step_auditor.specs.ReadBy.{has_stopped, read_of, stops_by};
+ghost use Rattle.vme_step_auditor.specs.Counting.{faults_counted, told_break};
+
+use crate::standing_break::{StandingBreak, count};
+use std::marker::Model;
+use vme_audit::{Allowance, Outcome};
+use vme_audit_lines::Standing;
+use vme_auditor::{AuditFindings, Auditor, BreakCounts, TooManySteps, breaks_grow, outcome};
+use vme_summary::GhostSteps;
+use vme_trace::{Lines, Step};
+
+/// How the breaks of a recording count, and how far it is read.
+#[derive(Clone, Copy, Debug)]
+pub struct AuditRules<'a> {
+    /// The deviations that are allowed.
+    pub allowances: &'a [Allowance],
+    /// Behind how many breaks that aren't allowed nothing more is read, if so. 0 is as 1.
+    pub stop: Option<u64>,
+}
+
+/// Finds the breaks of a recording as its steps come, and how they count. Of the steps nothing is kept.
+#[derive(Drop)]
+pub struct StepAuditor<'a> {
+    rules: AuditRules<'a>,
+    opening: Lines,
+    auditor: Auditor,
+    counts: BreakCounts,
+    given: GhostSteps,
+}
+
+impl<'a> Model for StepAuditor<'a> {
+    ghost use Rattle.vme_step_auditor.specs.ReadBy.{GivenSteps};
+    ghost use Rattle.vme_step_auditor.specs.Taken.{HasAuditedSteps};
+
+    ghost Value = { GivenSteps };
+
+    ghost view = { λ a. record {
+      allowances = a.rules.allowances.now;
+      stop = a.rules.stop;
+      recording = record { opening = a.opening; steps = a.given.items };
+    } };
+
+    ghost invariant = { λ a. HasAuditedSteps a.rules.allowances.now a.rules.stop
+        (record { opening = a.opening; steps = a.given.items }) a.auditor a.counts };
+}
+
+/// Whether an audit stops by so many breaks.
+fn stops(stop: Option<u64>, counts: BreakCounts) -> bool
+    requires { faults_counted counts ≤ 2 ^ 64 - 1 }
+    ensures { result ≡ stops_by stop (faults_counted counts) }
+{
+    match stop {
+        Some(count) => count.saturating_sub(1) < counts.broken + counts.unreadable,
+        None => false,
+    }
+}
+
+impl<'a> StepAuditor<'a> {
+    /// Before the first step.
+    pub fn new(opening: &Lines, rules: AuditRules<'a>) -> StepAuditor<'a>
+        ensures given { result ≡ record {
+          allowances = rules.entry.allowances.now;
+          stop = rules.entry.stop;
+          recording = record { opening = opening.now; steps = [] };
+        } }
+        ensures nothing { breaks (read_of result) ≡ [] }
+    {
+        prove!(opening.slots() <= 21);
+        breaks_grow();
+        StepAuditor {
+            rules,
+            opening: *opening,
+            auditor: Auditor::new(opening),
+            counts: BreakCounts::default(),
+            given: GhostSteps::new(),
+        }
+    }
+
+    /// Takes the step that follows, and finds whether it breaks a rule. Once the audit is stopped nothing is found.
+    pub fn take(&mut self, step: &Step) -> Result<Option<StandingBreak>, TooManySteps>
+        ensures given { OnOk result (self.new
+            ≡ record self.old { recording = with_steps self.old.recording (step.now ∷ []) }) }
+        ensures told { malformed_step self.new.recording ≡ None
+            → IfOk result (λ told. breaks (read_of self.new)
+            ≡ breaks (read_of self.old) ++ option_to_list (option_map told_break told)) }
+        ensures standing { IfOk result (λ told. IfSome told (λ s.
+            s.standing ≡ standing_of self.old.allowances (as_break s.found))) }
+        ensures too_many { OnErr result (length self.old.recording.steps ≡ 2 ^ 64 - 1) }
+        ensures stays { OnErr result (self.new ≡ self.old) }
+    {
+        prove!(self.opening.slots() <= 21);
+        breaks_grow();
+        let given = self.given.and(step);
+        if stops(self.rules.stop, self.counts) {
+            self.given = given;
+            return Ok(None);
+        }
+        let found = self.auditor.step(step)?;
+        self.given = given;
+        match found {
+            Some(found) => {
+                let standing = Standing::of(self.rules.allowances, &found);
+                count(&mut self.counts, standing);
+                Ok(Some(StandingBreak { standing, found }))
+            }
+            None => Ok(None),
+        }
+    }
+
+    /// Whether as many breaks were found as end the audit: no step that follows is looked at.
+    pub fn is_stopped(&self) -> bool
+        ensures { malformed_step self.now.recording ≡ None → result ≡ has_stopped self.now }
+    {
+        stops(self.rules.stop, self.counts)
+    }
+
+    /// How many breaks there are, of what is read.
+    pub fn break_counts(&self) -> BreakCounts
+        ensures { malformed_step self.now.recording ≡ None
+            → AreBreakCountsOf result self.now.allowances (read_of self.now) }
+    {
+        self.counts
+    }
+
+    /// What was found of what is read.
+    pub fn audited(&self) -> AuditFindings
+        ensures { malformed_step self.now.recording ≡ None → AreFindingsOf result (read_of self.now) }
+    {
+        self.auditor.audited()
+    }
+
+    /// What the audit comes to, where so many answered transfers are wanted.
+    pub fn outcome(&self, wanted: u64) -> Outcome
+        ensures { malformed_step self.now.recording ≡ None
+            → result ≡ outcome_of self.now.allowances wanted (read_of self.now) }
+    {
+        outcome(&self.audited(), self.break_counts(), wanted)
+    }
+}

@@ -1,0 +1,2 @@
+pub mod PieceSteps
+pub mod Beginnings

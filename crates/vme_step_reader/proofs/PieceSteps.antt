@@ -1,0 +1,215 @@
+-- The steps of a piece, whatever was recorded before it.
+use Rattle.std.proofs.Common.{◌≡◌, ℕ, List, [], ◌++◌, None, Result, Ok, Err, refl, sym, ap, subst, ◌∙◌}
+use Rattle.std.proofs.Common.{append_assoc, drop, take}
+use Rattle.std.proofs.lemmas.List.{append-nil, take-append-drop}
+use Rattle.vme_trace.specs.Followed.{with_steps}
+use Rattle.vme_trace.specs.Instants.{least}
+use Rattle.vme_trace.specs.Levels.{Levels}
+use Rattle.vme_trace.specs.Trace.{Trace}
+use Rattle.vme_trace.specs.WellFormed.{malformed_step}
+use Rattle.vme_trace.specs.declared.step.Step.{Step}
+use Rattle.vcd_read.specs.Bodies.{until_fault}
+use Rattle.vcd_read.specs.Body.{body_from}
+use Rattle.vcd_read.specs.Reading.{line_behind}
+use Rattle.vcd_read.specs.Taking.{state_at}
+use Rattle.vcd_read.specs.Tokens.{Token, cut_from, tokens_from}
+use Rattle.vcd_read.specs.declared.fault.FaultKind.{FaultKind}
+use Rattle.vcd_read.specs.declared.fault.FaultKind.TheVariants.{Memory}
+use Rattle.vcd_read.specs.declared.fault.VcdFault.{VcdFault}
+use Rattle.vme_bind.specs.Made.{Made, made_change, made_instant}
+use Rattle.vme_bind.specs.SpeculativeReading.{WaveReached, with_recording}
+use Rattle.vme_bind.specs.TextPieces.{TextReached}
+use Rattle.vme_bind.specs.TextReading.{StopsAs, TextReading, following, reading_ahead, reading_made}
+use Rattle.vme_bind.specs.TextReading.{reading_until_fault}
+use Rattle.vme_bind.proofs.TextReadingLemmas.{none_ahead}
+use Rattle.vme_summary.proofs.Sound.{sound_apart}
+use Rattle.vme_step_reader.specs.StepReading.{StepReading, whole_reading}
+
+-- what was recorded before is only the front
+abbrev pub IsFront : Type 0
+IsFront = (w : WaveReached) (t : Trace) (opening : Levels) (ts more : List Token)
+    → reading_ahead (with_recording t w) ts more
+    ≡ following t (reading_ahead (with_recording (record { opening = opening; steps = [] }) w) ts more)
+
+following-twice : (given r : Trace) (x : TextReading) → following given (following r x)
+    ≡ following (with_steps given r.steps) x
+following-twice given r x = ap (λ (steps : List Step). record x { recorded = record given { steps = steps } })
+    (sym (append_assoc given.steps r.steps x.recorded.steps))
+
+-- ---- a piece that is read for its steps alone
+
+module _ (is_front : IsFront) (w : WaveReached) (none : Trace) (empty : none.steps ≡ []) where
+  alone : (given : Trace) (ts more : List Token) → reading_ahead (with_recording given w) ts more
+      ≡ following given (reading_ahead (with_recording none w) ts more)
+  alone given ts more =
+      is_front w given none.opening ts more
+      ∙ ap (λ (steps : List Step). following given (reading_ahead
+      (with_recording (record { opening = none.opening; steps = steps }) w) ts more)) (sym empty)
+
+  -- it leaves its steps behind whatever was recorded
+  pub piece-leaves : (w2 : WaveReached) (r : Trace) (ts : List Token)
+      → ((more : List Token) → reading_ahead (with_recording none w) ts more
+      ≡ reading_ahead (with_recording r w2) [] more)
+      → (given : Trace) (more : List Token) → reading_ahead (with_recording given w) ts more
+      ≡ reading_ahead (with_recording (with_steps given r.steps) w2) [] more
+  piece-leaves w2 r ts leaves given more =
+      alone given ts more
+      ∙ ap (following given) (leaves more ∙ is_front w2 r none.opening [] more)
+      ∙ following-twice given r (reading_ahead (with_recording (record { opening = none.opening; steps = [] }) w2) []
+      more)
+      ∙ sym (is_front w2 (with_steps given r.steps) none.opening [] more)
+
+  -- where it stops, it stops behind whatever was recorded
+  pub piece-stops : (line : ℕ) (kind : FaultKind) (r : Trace) (time : ℕ) (ts : List Token) (given : Trace)
+      (more : List Token) → StopsAs line kind r time (reading_ahead (with_recording none w) ts more)
+      → StopsAs line kind (with_steps given r.steps) time (reading_ahead (with_recording given w) ts more)
+  piece-stops line Memory r time ts given more stops = stops
+  piece-stops line kind r time ts given more stops = alone given ts more ∙ ap (following given) stops
+
+  -- and so does its end
+  pub piece-ends : (r : Trace) (time : ℕ) (ts more : List Token) → reading_ahead (with_recording none w) ts more
+      ≡ record { recorded = r; fault = None; time = time }
+      → (given : Trace) → reading_ahead (with_recording given w) ts more
+      ≡ record { recorded = with_steps given r.steps; fault = None; time = time }
+  piece-ends r time ts more ends given = alone given ts more ∙ ap (following given) ends
+
+-- ---- bytes as tokens
+
+abbrev ahead_of : TextReached → List Token → TextReading
+ahead_of t ts = reading_until_fault (until_fault made_change made_instant t.body.nets
+    (state_at t.body.progress t.body.bracket) (body_from t.body.place ts))
+
+-- a piece that no token goes on behind, and the rest
+pub pieces-joined : (t : TextReached) (line : ℕ) (piece rest : List ℕ)
+    → tokens_from line (piece ++ rest) ≡ tokens_from line piece ++ tokens_from (line_behind line piece) rest
+    → reading_ahead t (tokens_from line (piece ++ rest)) []
+    ≡ reading_ahead t (tokens_from line piece) (tokens_from (line_behind line piece) rest)
+pieces-joined t line piece rest apart =
+    ap (ahead_of t) (append-nil (tokens_from line (piece ++ rest)) ∙ apart)
+
+-- the rest alone
+pub rest-alone : (t : TextReached) (ts : List Token) → reading_ahead t [] ts ≡ reading_ahead t ts []
+rest-alone t ts = ap (ahead_of t) (sym (append-nil ts))
+
+-- the first n of some bytes, behind which no token goes on
+module _ (given : Trace) (w : WaveReached) (bytes : List ℕ) (n : ℕ)
+    (apart : (line : ℕ) (rest : List ℕ) → tokens_from line (take n bytes ++ rest)
+    ≡ tokens_from line (take n bytes) ++ tokens_from (line_behind line (take n bytes)) rest) where
+  abbrev so_far : StepReading
+  so_far = record { given = given; wave = w }
+
+  first-joined : (rest : List ℕ) → whole_reading so_far (take n bytes ++ rest)
+      ≡ reading_ahead (with_recording given w) (tokens_from w.body.line (take n bytes))
+      (tokens_from (line_behind w.body.line (take n bytes)) rest)
+  first-joined rest = pieces-joined (with_recording given w) w.body.line (take n bytes) rest (apart w.body.line rest)
+
+  -- they leave what the whole text comes to
+  pub first-taken : (w2 : WaveReached) (steps : List Step) → w2.body.line ≡ line_behind w.body.line (take n bytes)
+      → ((more : List Token) → reading_ahead (with_recording given w) (tokens_from w.body.line (take n bytes)) more
+      ≡ reading_ahead (with_recording (with_steps given steps) w2) [] more)
+      → (rest : List ℕ) → whole_reading so_far (take n bytes ++ rest)
+      ≡ whole_reading (record { given = with_steps given steps; wave = w2 }) rest
+  first-taken w2 steps line leaves rest =
+      first-joined rest
+      ∙ leaves (tokens_from (line_behind w.body.line (take n bytes)) rest)
+      ∙ rest-alone (with_recording (with_steps given steps) w2) (tokens_from
+      (line_behind w.body.line (take n bytes)) rest)
+      ∙ ap (λ (line : ℕ). reading_ahead (with_recording (with_steps given steps) w2) (tokens_from line rest) [])
+      (sym line)
+
+  -- and so does what was given stay well formed, whatever follows
+  pub next-formed : (w2 : WaveReached) (steps items : List Step)
+      → w2.body.line ≡ line_behind w.body.line (take n bytes)
+      → ((more : List Token) → reading_ahead (with_recording given w) (tokens_from w.body.line (take n bytes)) more
+      ≡ reading_ahead (with_recording (with_steps given steps) w2) [] more)
+      → items ≡ given.steps ++ steps
+      → ((rest : List ℕ) → malformed_step (whole_reading so_far rest).recorded ≡ None)
+      → (rest : List ℕ) → malformed_step (whole_reading (record {
+        given = record { opening = given.opening; steps = items };
+        wave = w2;
+      }) rest).recorded ≡ None
+  next-formed w2 steps items line leaves e formed rest =
+      subst (λ (items : List Step). malformed_step (whole_reading (record {
+        given = record { opening = given.opening; steps = items };
+        wave = w2;
+      }) rest).recorded ≡ None) (sym e)
+      (subst (λ (x : TextReading). malformed_step x.recorded ≡ None) (first-taken w2 steps line leaves rest)
+      (formed (take n bytes ++ rest)))
+
+  -- what is so of them and of whatever follows, is so of all bytes
+  pub first-stops : (P : TextReading → Type 0)
+      → ((more : List Token) → P (reading_ahead (with_recording given w) (tokens_from w.body.line (take n bytes)) more))
+      → (rest : List ℕ) → P (whole_reading so_far (bytes ++ rest))
+  first-stops P stops rest =
+      subst P (sym (ap (whole_reading so_far)
+      (ap (λ (bs : List ℕ). bs ++ rest) (sym (take-append-drop n bytes))
+      ∙ append_assoc (take n bytes) (drop n bytes) rest)
+      ∙ first-joined (drop n bytes ++ rest)))
+      (stops (tokens_from (line_behind w.body.line (take n bytes)) (drop n bytes ++ rest)))
+
+-- ---- what is said of a text that ends here
+
+made-time : (complete : Trace) (time : ℕ) (made : Result Made VcdFault) → (reading_made complete time made).time ≡ time
+made-time complete time (Ok made) = refl
+made-time complete time (Err fault) = refl
+
+-- its last time is that so far
+pub time-here : (r : StepReading) → (whole_reading r []).time ≡ r.wave.body.progress.time
+unfolding cut_from
+time-here r =
+    made-time _ _ _
+    ∙ ap (λ p. p.time) (none_ahead r.wave.body.nets (with_recording r.given r.wave).body.progress r.wave.body.bracket
+    r.wave.body.place)
+
+-- what was given is the front of what is recorded, so it is well formed where that is
+pub given-formed : IsFront → (r : StepReading) (rest : List ℕ) → malformed_step (whole_reading r rest).recorded ≡ None
+    → malformed_step r.given ≡ None
+given-formed is_front r rest formed =
+    let ts : List Token = tokens_from r.wave.body.line rest in
+    let more : TextReading = reading_ahead (with_recording (record { opening = r.given.opening; steps = [] }) r.wave) ts
+    [] in
+    (sound_apart r.given.opening r.given.steps more.recorded.steps
+    (sym (ap (λ (x : TextReading). malformed_step x.recorded) (is_front r.wave r.given r.given.opening ts []))
+    ∙ formed)).first
+
+-- steps before a fault
+pub stopped-formed : (line : ℕ) (kind : FaultKind) (t : Trace) (time : ℕ) (reading : TextReading)
+    → StopsAs line kind t time reading → malformed_step reading.recorded ≡ None → (kind ≡ Memory → ⊥)
+    → malformed_step t ≡ None
+stopped-formed line Memory t time reading stops formed other = absurd (other refl)
+stopped-formed line kind t time reading stops formed other =
+    sym (ap (λ (x : TextReading). malformed_step x.recorded) stops) ∙ formed
+
+-- before the first step
+pub none-formed : (opening : Levels) (steps : List Step) → steps ≡ [] → malformed_step
+    (record { opening = opening; steps = steps }) ≡ None
+unfolding malformed_step least
+none-formed opening steps e = ap (λ (steps : List Step). malformed_step (record { opening = opening; steps = steps })) e
+
+-- whatever follows it
+pub begun-sound : (t : TextReached) (w : WaveReached) (opening : Levels) (made steps : List Step)
+    → with_recording (record { opening = opening; steps = made }) w ≡ t → t.body.progress.taken.recorded.steps ≡ []
+    → steps ≡ []
+    → ((ts more : List Token) → malformed_step (reading_ahead t ts more).recorded ≡ None)
+    → (rest : List ℕ)
+    → malformed_step (whole_reading (record { given = record { opening = opening; steps = steps }; wave = w })
+    rest).recorded ≡ None
+begun-sound t w opening made steps is none empty formed rest =
+    let same : made ≡ steps = ap (λ (t : TextReached). t.body.progress.taken.recorded.steps) is ∙ none ∙ sym empty in
+    subst (λ (steps : List Step). malformed_step (whole_reading (record {
+      given = record { opening = opening; steps = steps };
+      wave = w;
+    }) rest).recorded ≡ None) same
+    (subst (λ (t : TextReached). malformed_step (reading_ahead t (tokens_from w.body.line rest) []).recorded ≡ None)
+    (sym is) (formed (tokens_from w.body.line rest) []))
+
+-- what was given is a front of what is recorded
+pub given-front : IsFront → (r : StepReading) (rest : List ℕ) → (steps : List Step)
+    × ((whole_reading r rest).recorded ≡ with_steps r.given steps)
+given-front is_front r rest =
+    let ts : List Token = tokens_from r.wave.body.line rest in
+    let more : TextReading = reading_ahead (with_recording (record { opening = r.given.opening; steps = [] }) r.wave) ts
+    [] in (
+      more.recorded.steps,
+      ap (λ (x : TextReading). x.recorded) (is_front r.wave r.given r.given.opening ts []),
+    )

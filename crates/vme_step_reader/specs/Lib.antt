@@ -1,0 +1,2 @@
+pub mod StepReading
+pub mod Stops

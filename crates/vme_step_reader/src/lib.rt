@@ -1,0 +1,43 @@
+//! The steps of a dump, as its text comes piece by piece: what a command has to do with each step
+//! is done by itself, between the pieces.
+//!
+//! # Parts
+//!
+//! - `begin`: [`begin_steps`] begins with the definitions of a text, and [`begin_last_steps`] where
+//!   no more bytes follow.
+//! - `step_reader`: [`StepReader`] takes one piece of the body after the other, and hands out the
+//!   steps that became complete.
+//! - `pieces`: a piece is read for its steps alone, whatever was recorded before it.
+//! - `laws`: what was given is the front of what is recorded.
+//! - `stopped_steps`: the first fault of a body, with the steps before it and the last time.
+//!
+//! # What is proved
+//!
+//! - The steps that come out, one piece's behind the other's, are those of the text
+//!   (`reading_of_text` of vme_bind): each piece leaves what the whole text comes to as it was
+//!   (`taken`, `given`), and so does the end (`recorded`, `whole`).
+//! - At the first fault of the body the last of the steps come that are complete before it, with
+//!   the fault and the last time before it (`stopped`). A fault of the definitions, or of the
+//!   binding, is met before any step.
+//! - What was given at any time is a well formed recording (`formed`).
+//!
+//! # What isn't proved
+//!
+//! That memory suffices, and how much is taken: that of the definitions, and that of a piece and
+//! its steps. No step is kept.
+//!
+//! # In which order to read
+//!
+//! `specs/StepReading`, then `step_reader` and `begin`.
+#![tactic(auto)]
+
+mod begin;
+mod laws;
+mod pieces;
+mod step_reader;
+mod stopped_steps;
+
+pub use begin::{begin_last_steps, begin_steps};
+pub use laws::given_is_a_front;
+pub use step_reader::StepReader;
+pub use stopped_steps::StoppedSteps;

@@ -1,0 +1,96 @@
+//! The steps of a piece, whatever was recorded before it.
+
+ghost use Rattle.std.specs.Prelude.{◌≡◌, List, [], IfErr, IfOk, None};
+ghost use Rattle.vme_trace.specs.Followed.{with_steps};
+ghost use Rattle.vme_trace.specs.Trace.{Trace};
+ghost use Rattle.vcd_read.specs.Reading.{line_behind};
+ghost use Rattle.vcd_read.specs.Tokens.{Token, tokens_from};
+ghost use Rattle.vme_bind.specs.SpeculativeReading.{with_recording};
+ghost use Rattle.vme_bind.specs.TextReading.{reading_ahead};
+ghost use Rattle.vme_step_reader.specs.Stops.{StopsBehind};
+
+use crate::stopped_steps::StoppedSteps;
+use std::alloc::Global;
+use vcd_read::Stopped;
+use vme_bind::{SpeculativeReader, StepCollector, recorded_before_is_a_front};
+use vme_trace::{Lines, Step};
+
+/// The steps before a fault.
+fn steps_before(stopped: Stopped<StepCollector>) -> StoppedSteps
+    ensures fault { result.fault ≡ stopped.fault }
+    ensures time { result.time ≡ stopped.time }
+    ensures steps { result.steps ≡ stopped.visitor.steps }
+{
+    let Stopped {
+        fault,
+        visitor,
+        time,
+    } = stopped;
+    StoppedSteps {
+        fault,
+        time,
+        steps: visitor.steps,
+    }
+}
+
+/// What takes steps, and has taken none.
+pub(crate) fn none_taken(alloc: Global, opening: &Lines) -> StepCollector
+    ensures opening { result.opening ≡ opening.now }
+    ensures none { result.steps.items ≡ [] }
+{
+    StepCollector {
+        opening: *opening,
+        steps: Vec::new(alloc),
+    }
+}
+
+/// Reads a piece that ends behind a space, and the steps that become complete by it.
+pub(crate) fn read_piece(
+    alloc: Global,
+    wave: SpeculativeReader,
+    opening: &Lines,
+    piece: &[u8],
+) -> Result<(SpeculativeReader, Vec<Step>), StoppedSteps>
+    ensures line { IfOk result (λ made. made.0.body.line ≡ line_behind wave.body.line piece.now) }
+    ensures rest { IfOk result (λ made. (given : Trace) (more : List Token)
+        → reading_ahead (with_recording given wave) (tokens_from wave.body.line piece.now) more
+        ≡ reading_ahead (with_recording (with_steps given made.1.items) made.0) [] more) }
+    ensures stopped { IfErr result (λ stopped. (given : Trace) (more : List Token) → StopsBehind given stopped
+        (reading_ahead (with_recording given wave) (tokens_from wave.body.line piece.now) more)) }
+{
+    recorded_before_is_a_front();
+    let text = wave.with_step_visitor(none_taken(alloc, opening));
+    match text.read_until_fault(alloc, piece) {
+        Ok(text) => {
+            let (wave, taken) = text.into_wave();
+            Ok((wave, taken.steps))
+        }
+        Err(stopped) => Err(steps_before(stopped)),
+    }
+}
+
+/// Reads the last piece, and the steps that become complete by it and by the end.
+pub(crate) fn read_last_piece(
+    alloc: Global,
+    wave: SpeculativeReader,
+    opening: &Lines,
+    piece: &[u8],
+) -> Result<Vec<Step>, StoppedSteps>
+    ensures recorded { IfOk result (λ steps. (given : Trace)
+        → (reading_ahead (with_recording given wave) (tokens_from wave.body.line piece.now) []).recorded
+        ≡ with_steps given steps.items) }
+    ensures whole { IfOk result (λ steps. (given : Trace)
+        → (reading_ahead (with_recording given wave) (tokens_from wave.body.line piece.now) []).fault ≡ None) }
+    ensures stopped { IfErr result (λ stopped. (given : Trace) → StopsBehind given stopped
+        (reading_ahead (with_recording given wave) (tokens_from wave.body.line piece.now) [])) }
+{
+    recorded_before_is_a_front();
+    let text = wave.with_step_visitor(none_taken(alloc, opening));
+    match text.read_until_fault(alloc, piece) {
+        Ok(text) => match text.finish_or_stop(alloc) {
+            Ok(taken) => Ok(taken.steps),
+            Err(stopped) => Err(steps_before(stopped)),
+        },
+        Err(stopped) => Err(steps_before(stopped)),
+    }
+}

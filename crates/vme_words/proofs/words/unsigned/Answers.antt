@@ -1,0 +1,34 @@
+use Rattle.std.proofs.Common.{◌≡◌, ◌∙◌, ℕ, Option, Some, None, ap, sym, arith}
+use Rattle.std.specs.Prelude.{unwrap_or}
+use Rattle.std.specs.Str.Parse.{ParsesUnsigned, ExplainsUnsignedError, HasUnsignedDigitsIfOk}
+use Rattle.vme_words.proofs.OrderLemmas.{number_read, unsigned_there}
+use Rattle.vme_words.proofs.words.unsigned.Goals as goal
+
+number_is : (r : Option ℕ) (n m : ℕ) → r ≡ Some n → r ≡ Some m → n ≡ m
+number_is r n m is same = ap (λ (o : Option ℕ). unwrap_or o 0) (sym is ∙ same)
+
+none_is : (r : Option ℕ) (n : ℕ) → r ≡ Some n → r ≡ None → ⊥
+none_is r n is none =
+    let bad : Some n ≡ None = sym is ∙ none in
+    cc
+
+pub returns-in-Some-clause-value : goal.returns-in-Some-clause-value
+returns-in-Some-clause-value c =
+    number_read _ (λ bs r. ParsesUnsigned 64 10 bs r × ExplainsUnsignedError 10 bs r × HasUnsignedDigitsIfOk bs r)
+    c.args.found.now c.args.name.now
+    c.in-Some.number c.get_one.result c.get_one.ensures.none c.get_one.ensures.value (λ t v h. h.0.1) c.in-Some.is
+
+pub returns-in_default-clause-found : goal.returns-in_default-clause-found
+returns-in_default-clause-found c has =
+    let got = unsigned_there _ (λ bs r. ParsesUnsigned 64 10 bs r × ExplainsUnsignedError 10 bs r
+    × HasUnsignedDigitsIfOk bs r) c.args.found.now c.args.name.now
+    c.args.least c.get_one.result has c.get_one.ensures.value (λ t x h. h.0) in
+    let same = number_is c.get_one.result got.0 c.in-Some.number got.1 c.in-Some.is in
+    absurd (omega (arith, got.2, same, c.if-least-number.false))
+
+pub returns-in_default-2-clause-found : goal.returns-in_default-2-clause-found
+returns-in_default-2-clause-found c has =
+    let got = unsigned_there _ (λ bs r. ParsesUnsigned 64 10 bs r × ExplainsUnsignedError 10 bs r
+    × HasUnsignedDigitsIfOk bs r) c.args.found.now c.args.name.now
+    c.args.least c.get_one.result has c.get_one.ensures.value (λ t x h. h.0) in
+    absurd (none_is c.get_one.result got.0 got.1 c.in_default.is)
