@@ -1,2 +1,3 @@
 pub mod PieceSteps
 pub mod Beginnings
+pub mod StepTimes

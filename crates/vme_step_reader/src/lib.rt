@@ -8,7 +8,7 @@
 //! - `step_reader`: [`StepReader`] takes one piece of the body after the other, and hands out the
 //!   steps that became complete.
 //! - `pieces`: a piece is read for its steps alone, whatever was recorded before it.
-//! - `laws`: what was given is the front of what is recorded.
+//! - `laws`: what was given is the front of what is recorded, and the times go on from there.
 //! - `stopped_steps`: the first fault of a body, with the steps before it and the last time.
 //!
 //! # What is proved
@@ -19,7 +19,8 @@
 //! - At the first fault of the body the last of the steps come that are complete before it, with
 //!   the fault and the last time before it (`stopped`). A fault of the definitions, or of the
 //!   binding, is met before any step.
-//! - What was given at any time is a well formed recording (`formed`).
+//! - What was given at any time is a well formed recording (`formed`). The steps that are still to
+//!   come are no earlier than the last time that was read ([`times_go_on`]).
 //!
 //! # What isn't proved
 //!
@@ -38,6 +39,6 @@ mod step_reader;
 mod stopped_steps;
 
 pub use begin::{begin_last_steps, begin_steps};
-pub use laws::given_is_a_front;
+pub use laws::{given_is_a_front, times_go_on};
 pub use step_reader::StepReader;
 pub use stopped_steps::StoppedSteps;
