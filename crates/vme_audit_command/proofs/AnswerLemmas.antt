@@ -1,12 +1,19 @@
 -- The answer to a dump.
 use Rattle.std.proofs.Common.{◌≡◌, ◌≤◌, ℕ, Bool, true, false, List, [], ◌++◌, Option, None, Some, IfSome, Result, Ok}
-use Rattle.std.proofs.Common.{Err}
-use Rattle.std.proofs.Common.{sym, ap, subst, ◌∙◌, append_assoc, append-nil, flat_map, refl}
+use Rattle.std.proofs.Common.{Err, zero, suc, ◌∷◌, length, arith}
+use Rattle.std.proofs.Common.{sym, ap, subst, ◌∙◌, append-nil, flat_map, refl}
 use Rattle.std.specs.Io.KnownBytes.{Consumes}
+use Rattle.std.specs.Prelude.{filter}
+use Rattle.vme_trace.specs.Levels.{Levels}
+use Rattle.vme_trace.specs.LineNumbers.{line_count}
+use Rattle.vme_trace.specs.declared.step.Step.{Step}
+use Rattle.vme_skew.specs.Settled.{is_complete, settled, settled_until}
+use Rattle.vme_skew.specs.Settling.{Settling}
+use Rattle.vme_skew.proofs.Laws.{no_longer}
 use Rattle.vme_trace.specs.Streams.{Reading, Writing}
 use Rattle.vme_trace.specs.Trace.{Trace}
 use Rattle.vme_bind.specs.Binding.{BoundLines}
-use Rattle.vme_bind.specs.TextReading.{TextReading, reading_of_text}
+use Rattle.vme_bind.specs.TextReading.{TextReading}
 use Rattle.vme_bind.specs.declared.fault.CaptureFault.{CaptureFault}
 use Rattle.vme_answer.specs.declared.refusal.Refusal.{Refusal}
 use Rattle.vme_audit.specs.Covered.{outcome as outcome_of}
@@ -15,10 +22,12 @@ use Rattle.vme_audit.specs.declared.allowance.Allowance.{Allowance}
 use Rattle.vme_stream.specs.Outputs.{FailsToWrite, Writes}
 use Rattle.vme_step_auditor.specs.ReadBy.{GivenSteps, read_by, read_of}
 use Rattle.vme_step_reader.specs.StepReading.{StepReading, whole_reading}
-use Rattle.vme_audit_command.specs.Bodies.{AuditsRest, EndsBehind, HasGiven, IsLater, IsWholeBody, ended_at}
-use Rattle.vme_audit_command.specs.Definitions.{AreAll, IsBodyBegun, NotBegun, ReadsDefinitions}
+use Rattle.vme_audit_command.specs.Bodies.{AuditsRest, EndsBehind, HasGiven, IsLater, ended_at}
+use Rattle.vme_audit_command.specs.SettledReadings.{settled_by, skew_of}
+use Rattle.vme_audit_command.specs.SettledSteps.{ComesOut, IsSettlerFor}
+use Rattle.vme_audit_command.specs.Definitions.{IsBodyBegun, ReadsDefinitions}
 use Rattle.vme_audit_command.specs.DumpAnswers.{AuditsBehind, AuditsDump, DumpAnswer, DumpRules, EndsAs, answer_by}
-use Rattle.vme_audit_command.specs.DumpAnswers.{dump_answer, dump_outcome, last_lines}
+use Rattle.vme_audit_command.specs.DumpAnswers.{reading_answer, dump_answer, last_lines}
 use Rattle.vme_audit_command.specs.DumpAudits.{WritesSome, break_lines, line_of_break, lines_of}
 use Rattle.vme_audit_command.specs.LastLines.{TellsOutcome, counts_unless, outcome_line_of}
 use Rattle.vme_audit_command.specs.declared.told.NoOutcome.{NoOutcome}
@@ -35,10 +44,10 @@ pub no-lines : (head : List ℕ) (audit : GivenSteps) → breaks (read_of audit)
 unfolding break_lines
 no-lines head audit none = ap (flat_map (line_of_break audit.allowances audit.stop head)) none
 
--- what is told of an audit with these allowances, this stop
-abbrev pub rules_by : List Allowance → Option ℕ → ℕ → Bool → DumpRules
-rules_by allowances stop transfers is_quiet =
-    record { allowances = allowances; transfers = transfers; stop = stop; is_quiet = is_quiet }
+-- what is told of an audit with these allowances, this stop, this skew
+abbrev pub rules_by : List Allowance → Option ℕ → ℕ → ℕ → Bool → DumpRules
+rules_by allowances stop skew transfers is_quiet =
+    record { allowances = allowances; transfers = transfers; stop = stop; skew = skew; is_quiet = is_quiet }
 
 -- the first of an answer are the lines of its breaks
 lines-first : (rules : DumpRules) (head lines : List ℕ) (ended : Result Trace Refusal)
@@ -50,24 +59,25 @@ lines-first rules head lines (Err refusal) = ([], sym (append-nil lines))
 all-told : (all before text : List ℕ) → before ≡ [] → all ≡ before ++ text → all ≡ text
 all-told all before text none is = is ∙ ap (λ (l : List ℕ). l ++ text) none
 
-module _ (transfers : ℕ) (is_quiet : Bool) (head : List ℕ) (first later : GivenSteps) (none : lines_of head first ≡ [])
+module _ (skew transfers : ℕ) (is_quiet : Bool) (head : List ℕ) (first later : GivenSteps)
+    (none : lines_of head first ≡ [])
     (reading : TextReading) (u v : Writing) where
   -- a body without an outcome
   pub ends-without : (why : NoOutcome)
       → EndsBehind {A = Unit {0}} head first (lines_of head first) reading later.recording u v (Err why)
-      → EndsAs (dump_answer (rules_by first.allowances first.stop transfers is_quiet) head (Ok reading)) u v (Err why)
+      → EndsAs (reading_answer (rules_by first.allowances first.stop skew transfers is_quiet) head reading) u v (Err why)
   ends-without (Refused refusal) ends =
-      let rules = rules_by first.allowances first.stop transfers is_quiet in
+      let rules = rules_by first.allowances first.stop skew transfers is_quiet in
       let (text, same, (writes, ended)) = ends in
       let lines = break_lines first.allowances first.stop head reading.recorded in
       let is = all-told lines (lines_of head first) text none same in
-      let answer : dump_answer rules head (Ok reading) ≡ record { out = text; ended = Err refusal } =
+      let answer : reading_answer rules head reading ≡ record { out = text; ended = Err refusal } =
       ap (λ (l : List ℕ). answer_by rules head l (ended_at first.allowances first.stop reading.recorded
       reading.fault)) is
       ∙ ap (answer_by rules head text) ended in
       subst (λ (a : DumpAnswer). EndsAs a u v (Err (Refused refusal))) (sym answer) (writes, refl)
   ends-without CannotRead ends =
-      let rules = rules_by first.allowances first.stop transfers is_quiet in
+      let rules = rules_by first.allowances first.stop skew transfers is_quiet in
       let (text, same, some) = ends in
       let lines = break_lines first.allowances first.stop head reading.recorded in
       let (more, is) = lines-first rules head lines (ended_at first.allowances first.stop reading.recorded
@@ -76,7 +86,7 @@ module _ (transfers : ℕ) (is_quiet : Bool) (head : List ℕ) (first later : Gi
       let all = is ∙ ap (λ (l : List ℕ). l ++ more) (all-told lines (lines_of head first) text none same) in
       subst (λ (l : List ℕ). WritesSome u v l) (sym all) (some-longer u v text more some)
   ends-without (Untold CannotWrite) ends =
-      let rules = rules_by first.allowances first.stop transfers is_quiet in
+      let rules = rules_by first.allowances first.stop skew transfers is_quiet in
       let (text, same, fails) = ends in
       let lines = break_lines first.allowances first.stop head reading.recorded in
       let (more, is) = lines-first rules head lines (ended_at first.allowances first.stop reading.recorded
@@ -85,7 +95,7 @@ module _ (transfers : ℕ) (is_quiet : Bool) (head : List ℕ) (first later : Gi
       let all = is ∙ ap (λ (l : List ℕ). l ++ more) (all-told lines (lines_of head first) text none same) in
       subst (λ (l : List ℕ). FailsToWrite u v l) (sym all) (fails-longer u v text more fails)
   ends-without (Untold Memory) ends =
-      let rules = rules_by first.allowances first.stop transfers is_quiet in
+      let rules = rules_by first.allowances first.stop skew transfers is_quiet in
       let (text, same, some) = ends in
       let lines = break_lines first.allowances first.stop head reading.recorded in
       let (more, is) = lines-first rules head lines (ended_at first.allowances first.stop reading.recorded
@@ -108,12 +118,12 @@ module _ (transfers : ℕ) (is_quiet : Bool) (head : List ℕ) (first later : Gi
     tells-ours result tells = subst (λ (a : GivenSteps). TellsLast a result) kept.same tells
 
     answer-is : (text : List ℕ)
-        × (dump_answer (rules_by first.allowances first.stop transfers is_quiet) head (Ok reading)
-        ≡ answer_by (rules_by first.allowances first.stop transfers is_quiet) head text
+        × (reading_answer (rules_by first.allowances first.stop skew transfers is_quiet) head reading
+        ≡ answer_by (rules_by first.allowances first.stop skew transfers is_quiet) head text
         (Ok (read_by first.allowances first.stop later.recording)))
         × Writes u v text
     answer-is =
-        let rules = rules_by first.allowances first.stop transfers is_quiet in
+        let rules = rules_by first.allowances first.stop skew transfers is_quiet in
         let (text, same, (writes, ended)) = ends in
         let lines = break_lines first.allowances first.stop head reading.recorded in
         let is = all-told lines (lines_of head first) text none same in (
@@ -124,7 +134,7 @@ module _ (transfers : ℕ) (is_quiet : Bool) (head : List ℕ) (first later : Gi
         )
 
     pub ends-with : (status : ℕ) → TellsLast later (Ok status)
-        → EndsAs (dump_answer (rules_by first.allowances first.stop transfers is_quiet) head (Ok reading)) u w
+        → EndsAs (reading_answer (rules_by first.allowances first.stop skew transfers is_quiet) head reading) u w
         (Ok status)
     ends-with status tells =
         let (text, answer, writes) = answer-is in
@@ -133,7 +143,7 @@ module _ (transfers : ℕ) (is_quiet : Bool) (head : List ℕ) (first later : Gi
         (writes-both u v w text _ writes last, ap Ok (sym is))
 
     pub ends-untold : (fault : TellFault) → TellsLast later (Err fault)
-        → EndsAs (dump_answer (rules_by first.allowances first.stop transfers is_quiet) head (Ok reading)) u w
+        → EndsAs (reading_answer (rules_by first.allowances first.stop skew transfers is_quiet) head reading) u w
         (Err (Untold fault))
     ends-untold CannotWrite tells =
         let (text, answer, writes) = answer-is in
@@ -146,66 +156,108 @@ module _ (transfers : ℕ) (is_quiet : Bool) (head : List ℕ) (first later : Gi
 
 -- ---- behind the definitions
 
-module _ (allowances : List Allowance) (stop : Option ℕ) (transfers : ℕ) (is_quiet : Bool) (head : List ℕ)
+module _ (allowances : List Allowance) (stop : Option ℕ) (skew transfers : ℕ) (is_quiet : Bool) (head : List ℕ)
     (first later : GivenSteps) (fits : first.allowances ≡ allowances) (stops : first.stop ≡ stop)
     (none : lines_of head first ≡ []) (r : StepReading) (held : List ℕ) (is_more : Bool) (source : Reading)
     (u : Writing) where
   -- by the rules that the audit has
   behind-by : (w : Writing) (result : Result ℕ NoOutcome)
-      → AuditsBehind (rules_by first.allowances first.stop transfers is_quiet) head r held is_more source u w result
-      → AuditsBehind (rules_by allowances stop transfers is_quiet) head r held is_more source u w result
+      → AuditsBehind (rules_by first.allowances first.stop skew transfers is_quiet) head r held is_more source u w
+      result
+      → AuditsBehind (rules_by allowances stop skew transfers is_quiet) head r held is_more source u w result
   behind-by w result behind =
-      subst (λ (s : Option ℕ). AuditsBehind (rules_by allowances s transfers is_quiet) head r held is_more source u w
+      subst (λ (s : Option ℕ). AuditsBehind (rules_by allowances s skew transfers is_quiet) head r held is_more source u
+      w
       result) stops
-      (subst (λ (a : List Allowance). AuditsBehind (rules_by a first.stop transfers is_quiet) head r held is_more source
+      (subst (λ (a : List Allowance). AuditsBehind (rules_by a first.stop skew transfers is_quiet) head r held is_more
+      source
       u w result) fits behind)
 
   pub behind-without : (v : Writing) (why : NoOutcome)
-      → AuditsRest {A = Unit {0}} head first later r held is_more source u v (Err why)
-      → AuditsBehind (rules_by allowances stop transfers is_quiet) head r held is_more source u v (Err why)
+      → AuditsRest {A = Unit {0}} (skew_of skew) head first later r held is_more source u v (Err why)
+      → AuditsBehind (rules_by allowances stop skew transfers is_quiet) head r held is_more source u v (Err why)
   behind-without v why rest =
       let (whole, body, ends) = rest in
       behind-by v (Err why) (
         whole,
         body,
-        ends-without transfers is_quiet head first later none (whole_reading r whole) u v why ends,
+        ends-without skew transfers is_quiet head first later none (settled_by (skew_of skew) (whole_reading r whole)) u
+            v why ends,
       )
 
   pub behind-with : (v w : Writing) (status : ℕ) → IsLater first later
-      → AuditsRest {A = Unit {0}} head first later r held is_more source u v (Ok tt)
+      → AuditsRest {A = Unit {0}} (skew_of skew) head first later r held is_more source u v (Ok tt)
       → TellsOutcome (counts_unless is_quiet later.allowances head (read_of later)
       ++ outcome_line_of head (outcome_of later.allowances transfers (read_of later)))
       (outcome_of later.allowances transfers (read_of later)) v w (Ok status)
-      → AuditsBehind (rules_by allowances stop transfers is_quiet) head r held is_more source u w (Ok status)
+      → AuditsBehind (rules_by allowances stop skew transfers is_quiet) head r held is_more source u w (Ok status)
   behind-with v w status kept rest tells =
       let (whole, body, ends) = rest in
       behind-by w (Ok status) (
         whole,
         body,
-        ends-with transfers is_quiet head first later none (whole_reading r whole) u v w kept ends status tells,
+        ends-with skew transfers is_quiet head first later none (settled_by (skew_of skew) (whole_reading r whole)) u v
+            w kept ends status tells,
       )
 
   pub behind-untold : (v w : Writing) (fault : TellFault) → IsLater first later
-      → AuditsRest {A = Unit {0}} head first later r held is_more source u v (Ok tt)
+      → AuditsRest {A = Unit {0}} (skew_of skew) head first later r held is_more source u v (Ok tt)
       → TellsOutcome (counts_unless is_quiet later.allowances head (read_of later)
       ++ outcome_line_of head (outcome_of later.allowances transfers (read_of later)))
       (outcome_of later.allowances transfers (read_of later)) v w (Err fault)
-      → AuditsBehind (rules_by allowances stop transfers is_quiet) head r held is_more source u w (Err (Untold fault))
+      → AuditsBehind (rules_by allowances stop skew transfers is_quiet) head r held is_more source u w
+      (Err (Untold fault))
   behind-untold v w fault kept rest tells =
       let (whole, body, ends) = rest in
       behind-by w (Err (Untold fault)) (
         whole,
         body,
-        ends-untold transfers is_quiet head first later none (whole_reading r whole) u v w kept ends fault tells,
+        ends-untold skew transfers is_quiet head first later none (settled_by (skew_of skew) (whole_reading r whole)) u
+            v w kept ends fault tells,
       )
 
 -- ---- a whole dump
 
 -- the audit of a body before its first step
-pub given-first : {S : Type 0} (settler : Option S) (first : GivenSteps) (r : StepReading) → settler ≡ None
-    → first.recording ≡ r.given → r.given.opening.slots ≤ 21 → IsBodyBegun r → HasGiven settler first r
-given-first settler first r unsettled given few begun =
-    record { unsettled = unsettled; given = given; few = few; formed = begun.formed }
+pub given-first : (skew : Option ℕ) (settler : Option Settling) (first : GivenSteps) (r : StepReading)
+    → ComesOut skew settler r.given (whole_reading r []).time r.given
+    → first.recording ≡ r.given → r.given.opening.slots ≤ 21 → length r.given.opening.levels ≡ line_count
+    → IsBodyBegun r → HasGiven skew settler first r
+given-first skew settler first r comes given few whole begun = record {
+  comes = subst (ComesOut skew settler r.given (whole_reading r []).time) (sym given) comes;
+  few = few;
+  whole = whole;
+  formed = begun.formed;
+}
+
+-- nothing comes out before the first step
+none-first : (skew : ℕ) (given : Trace) → given.steps ≡ [] → given ≡ settled_until skew 0 given
+unfolding settled_until settled
+none-first skew given none =
+    ap (λ (l : List Step). record given { steps = l })
+    (none ∙ sym (ap (filter (is_complete skew 0)) (no-steps (settled skew given).steps
+    (omega (arith, no_longer skew given, ap (λ (l : List Step). length l) none)))))
+  where
+    no-steps : (l : List Step) → length l ≤ 0 → l ≡ []
+    no-steps [] le = refl
+    no-steps (x ∷ xs) le = absurd (omega (arith, le))
+
+pub comes-first : (skew : ℕ) (opening : Levels) (time : ℕ) (given : Trace) → given.opening ≡ opening
+    → given.steps ≡ [] → (settler : Option Settling)
+    → IsSettlerFor skew opening settler → ComesOut (skew_of skew) settler given time given
+comes-first zero opening time given opens none None is = refl
+comes-first (suc n) opening time given opens none (Some s) is = record {
+  by = ap (λ (x : Settling). x.skew) is;
+  took = ap (λ (x : Settling). x.given) is ∙ ap (λ (v : Levels). record { opening = v; steps = [] }) (sym opens)
+      ∙ ap (λ (l : List Step). record { opening = given.opening; steps = l }) (sym none);
+  in_order = ap (λ (x : Settling). x.in_order) is;
+  known = omega (arith, ap (λ (x : Settling). x.reached) is);
+  settled = none-first (suc n) given none
+      ∙ ap (λ (k : ℕ). settled_until (suc n) k given) (sym (ap (λ (x : Settling). x.reached) is));
+  came = ap (λ (x : Settling). x.out) is ∙ sym none;
+}
+comes-first zero opening time given opens none (Some s) is = absurd is
+comes-first (suc n) opening time given opens none None is = absurd is
 
 all-behind : (a b : Option (List ℕ)) (done more : List ℕ) → Consumes a b done → IfSome b (λ told. more ≡ told)
     → IfSome a (λ told. done ++ more ≡ told)

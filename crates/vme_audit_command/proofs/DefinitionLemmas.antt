@@ -1,10 +1,10 @@
 -- The definitions of a dump, as it is read.
-use Rattle.std.proofs.Common.{◌≡◌, ℕ, List, ◌++◌, true, Option, Some, Result, Ok, Err, sym, subst}
+use Rattle.std.proofs.Common.{◌≡◌, ℕ, List, ◌++◌, true, Option, Some, Ok, Err, sym, subst}
 use Rattle.std.specs.Io.KnownBytes.{Consumes, IsAtEnd}
 use Rattle.std.proofs.KnownBytes.{Consumes-trans}
 use Rattle.vme_trace.specs.Streams.{Reading}
 use Rattle.vme_bind.specs.Binding.{BoundLines}
-use Rattle.vme_bind.specs.TextReading.{TextReading, reading_of_text}
+use Rattle.vme_bind.specs.TextReading.{reading_of_text}
 use Rattle.vme_step_reader.specs.StepReading.{StepReading}
 use Rattle.vme_audit_command.specs.Definitions.{AreAll, BeginsBody, NotBegun, ReadsDefinitions, unread}
 use Rattle.vme_audit_command.specs.declared.dump_input.ReadFault.{ReadFault}

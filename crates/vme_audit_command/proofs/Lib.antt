@@ -1,4 +1,6 @@
 pub mod WriteLemmas
+pub mod SettlingLemmas
+pub mod Onward
 pub mod BodyLemmas
 pub mod LastLemmas
 pub mod PieceLemmas
@@ -8,3 +10,5 @@ pub mod Refused
 pub mod DefinitionLemmas
 pub mod Later
 pub mod AnswerLemmas
+pub mod SeveralLemmas
+pub mod EndLemmas

@@ -1,7 +1,7 @@
 -- A piece of a body, and where a body ends.
 use Rattle.std.proofs.Common.{◌≡◌, ◌≤◌, ℕ, List, [], ◌++◌, Bool, true, false, if◌then◌else◌, Option, None, Some, Result}
-use Rattle.std.proofs.Common.{Ok, Err, take, drop}
-use Rattle.std.proofs.Common.{IfErr, OnOk, sym, ap, subst, ◌∙◌, append_assoc, append-nil, take-append-drop, refl}
+use Rattle.std.proofs.Common.{Ok, Err}
+use Rattle.std.proofs.Common.{IfErr, OnOk, sym, ap, subst, ◌∙◌, append_assoc, refl}
 use Rattle.std.proofs.Common.{flat_map}
 use Rattle.vme_trace.specs.Followed.{with_steps}
 use Rattle.vme_trace.specs.Streams.{Writing}
@@ -11,24 +11,23 @@ use Rattle.vme_trace.specs.declared.step.Step.{Step}
 use Rattle.vcd_read.specs.declared.fault.FaultKind.{FaultKind}
 use Rattle.vcd_read.specs.declared.fault.FaultKind.TheVariants as vcd
 use Rattle.vcd_read.specs.declared.fault.VcdFault.{VcdFault}
-use Rattle.vme_bind.specs.TextReading.{StopsAs, TextReading}
+use Rattle.vme_bind.specs.TextReading.{TextReading}
 use Rattle.vme_stream.specs.Outputs.{Writes}
 use Rattle.vme_answer.specs.Refusals.{dump_refusal}
 use Rattle.vme_answer.specs.declared.refusal.Refusal.{Refusal}
 use Rattle.vme_answer.specs.declared.refusal.Refusal.TheVariants.{BadDump}
 use Rattle.vme_audit.specs.Parts.{breaks}
 use Rattle.vme_audit.specs.declared.allowance.Allowance.{Allowance}
-use Rattle.vme_audit_command.specs.Bodies.{EndsBehind, HasGiven, WritesUntil, ended_at}
-use Rattle.vme_audit_command.specs.Definitions.{GivenIsFront}
-use Rattle.vme_audit_command.specs.DumpAudits.{AuditGoesOn, GoesOn, break_lines, given_too, line_of_break}
-use Rattle.vme_audit_command.specs.DumpAudits.{lines_of}
+use Rattle.vme_audit_command.specs.Bodies.{EndsBehind, WritesUntil, ended_at}
+use Rattle.vme_audit_command.specs.DumpAudits.{AuditGoesOn, AuditGoesTo, GoesOn, break_lines, given_all}
+use Rattle.vme_audit_command.specs.DumpAudits.{line_of_break, lines_of}
 use Rattle.vme_step_auditor.specs.ReadBy.{GivenSteps, is_stopped, read_by}
-use Rattle.vme_step_reader.specs.StepReading.{StepReading, whole_reading}
 use Rattle.vme_audit_command.specs.declared.told.NoOutcome.{NoOutcome}
 use Rattle.vme_audit_command.specs.declared.told.NoOutcome.TheVariants.{CannotRead, Refused, Untold}
 use Rattle.vme_audit_command.specs.declared.told.TellFault.{TellFault}
 use Rattle.vme_audit_command.specs.declared.told.TellFault.TheVariants.{CannotWrite, Memory}
-use Rattle.vme_audit_command.proofs.BodyLemmas.{ReadGoesOn, lines-go-on, steps-both}
+use Rattle.vme_audit_command.proofs.BodyLemmas.{ReadGoesOn, lines-go-on, no-memory}
+use Rattle.vme_audit_command.proofs.Onward.{GoesOnWith}
 use Rattle.vme_audit_command.proofs.WriteLemmas.{fails-after, fails-longer, some-after, some-longer, writes-as-some}
 use Rattle.vme_audit_command.proofs.WriteLemmas.{writes-both, writes-nothing}
 
@@ -71,29 +70,63 @@ untold-ends A B ended a before after all later u v Memory goes more =
     )
 
 -- no memory before the end of a body
-pub memory-ends : (A : Type 0) → ReadGoesOn → (head : List ℕ) (audit : GivenSteps) (reading : TextReading)
-    (more : List Step) (t : Trace) (w : Writing) → reading.recorded ≡ with_steps audit.recording more
-    → malformed_step reading.recorded ≡ None → audit.recording.opening.slots ≤ 21
+pub memory-ends : (A : Type 0) → ReadGoesOn → (head : List ℕ) (audit : GivenSteps) (reading : TextReading) (t : Trace)
+    (w : Writing) → GoesOnWith audit.recording reading.recorded
     → EndsBehind {A = A} head audit (lines_of head audit) reading t w w (Err (Untold Memory))
-memory-ends A law head audit reading more t w is formed few =
-    let here : malformed_step (with_steps audit.recording more) ≡ None = sym (ap malformed_step is) ∙ formed in
-    let (text, same) = lines-go-on law head audit.allowances audit.stop audit.recording more here few in (
+memory-ends A law head audit reading t w on =
+    let here : malformed_step (with_steps audit.recording on.more) ≡ None = sym (ap malformed_step on.is) ∙ on.formed in
+    let (text, same) = lines-go-on law head audit.allowances audit.stop audit.recording on.more here on.few in (
       text,
-      ap (break_lines audit.allowances audit.stop head) is ∙ same,
+      ap (break_lines audit.allowances audit.stop head) on.is ∙ same,
       some-longer w w [] text (writes-as-some w w [] (writes-nothing w)),
+    )
+
+-- ---- steps that come out
+
+-- they were told
+pub goes-to : {A : Type 0} (head : List ℕ) (audit : GivenSteps) (t : Trace) (steps : List Step) (u v : Writing)
+    (result : Result A TellFault) → with_steps audit.recording steps ≡ t
+    → AuditGoesOn head audit steps u v result → AuditGoesTo head audit t u v result
+goes-to head audit t steps u v result is goes = subst (λ (x : Trace). AuditGoesTo head audit x u v result) is goes
+
+-- there was no memory for them
+pub memory-goes : (A : Type 0) → ReadGoesOn → (head : List ℕ) (audit : GivenSteps) (t : Trace) (w : Writing)
+    → GoesOnWith audit.recording t → AuditGoesTo {A = A} head audit t w w (Err Memory)
+memory-goes A law head audit t w on =
+    goes-to {A = A} head audit t on.more w w (Err Memory) (sym on.is)
+    (no-memory A law head audit on.more w (sym (ap malformed_step on.is) ∙ on.formed) on.few)
+
+-- not all of them were told
+pub cut-ends : (A B : Type 0) → ReadGoesOn → (head : List ℕ) (audit : GivenSteps) (reading : TextReading) (t : Trace)
+    (u v : Writing) (fault : TellFault) (x : Trace) → GoesOnWith t reading.recorded
+    → AuditGoesTo {A = A} head audit t u v (Err fault)
+    → EndsBehind {A = B} head audit (lines_of head audit) reading x u v (Err (Untold fault))
+cut-ends A B law head audit reading t u v fault x on goes =
+    let here : malformed_step (with_steps t on.more) ≡ None = sym (ap malformed_step on.is) ∙ on.formed in
+    let (later, grown) = lines-go-on law head audit.allowances audit.stop t on.more here on.few in
+    let all = ap (break_lines audit.allowances audit.stop head) on.is ∙ grown in
+    untold-ends A B (ended_at audit.allowances audit.stop reading.recorded reading.fault)
+    (read_by audit.allowances audit.stop x) (lines_of head audit) (lines_of head (given_all audit t))
+    (break_lines audit.allowances audit.stop head reading.recorded) later u v fault goes all
+
+-- all of a dump was told
+pub whole-ends : (head : List ℕ) (audit : GivenSteps) (reading : TextReading) (t : Trace) (u v : Writing)
+    → reading.recorded ≡ t → reading.fault ≡ None → AuditGoesTo {A = Unit {0}} head audit t u v (Ok tt)
+    → EndsBehind {A = Unit {0}} head audit (lines_of head audit) reading t u v (Ok tt)
+whole-ends head audit reading t u v is whole goes =
+    let (text, grown, writes) = goes in (
+      text,
+      ap (break_lines audit.allowances audit.stop head) is ∙ grown,
+      (
+        writes,
+        ap (λ (f : Option VcdFault). ended_at audit.allowances audit.stop reading.recorded f) whole
+            ∙ ap (λ (r : Trace). Ok (read_by audit.allowances audit.stop r)) is,
+      ),
     )
 
 -- ---- a fault
 
-pub stops-at : (line : ℕ) (kind : FaultKind) (t : Trace) (time : ℕ) (reading : TextReading)
-    → StopsAs line kind t time reading
-    → (kind ≡ vcd.Memory → ⊥)
-    → (reading.recorded ≡ t) × (reading.fault ≡ Some (record { line = line; kind = kind }))
-stops-at line vcd.Memory t time reading stops other = absurd (other refl)
-stops-at line kind t time reading stops other =
-    (ap (λ (r : TextReading). r.recorded) stops, ap (λ (r : TextReading). r.fault) stops)
-
-pub refused-as : (line : ℕ) (kind : FaultKind) → (kind ≡ vcd.Memory → ⊥)
+refused-as : (line : ℕ) (kind : FaultKind) → (kind ≡ vcd.Memory → ⊥)
     → dump_refusal (record { line = line; kind = kind }) ≡ BadDump (record { line = line; kind = kind })
 refused-as line vcd.Memory other = absurd (other refl)
 refused-as line kind other = refl
@@ -119,48 +152,29 @@ ended-there audit reading t fault is faulty =
     ∙ ap (λ (r : Trace). ended_at audit.allowances audit.stop r (Some fault)) is
 
 -- a fault, or a stop before it
-pub fault-ends : (head : List ℕ) (audit : GivenSteps) (reading : TextReading) (steps : List Step) (u v : Writing)
-    (fault : VcdFault) (t : Trace) (result : Result (Unit {0}) NoOutcome)
-    → reading.recorded ≡ with_steps audit.recording steps → reading.fault ≡ Some fault
-    → (fault.kind ≡ vcd.Memory → ⊥) → t ≡ with_steps audit.recording steps
+pub fault-ends : (head : List ℕ) (audit : GivenSteps) (reading : TextReading) (u v : Writing) (fault : VcdFault)
+    (t : Trace) (result : Result (Unit {0}) NoOutcome)
+    → reading.recorded ≡ t → reading.fault ≡ Some fault → (fault.kind ≡ vcd.Memory → ⊥)
     → OnOk result (is_stopped audit.allowances audit.stop t ≡ true)
     → IfErr result (λ why. (why ≡ Refused (BadDump fault)) × (is_stopped audit.allowances audit.stop t ≡ false))
-    → AuditGoesOn {A = Unit {0}} head audit steps u v (Ok tt)
+    → AuditGoesTo {A = Unit {0}} head audit t u v (Ok tt)
     → EndsBehind {A = Unit {0}} head audit (lines_of head audit) reading t u v result
-fault-ends head audit reading steps u v fault t (Ok x) is faulty other same stopped refused goes =
+fault-ends head audit reading u v fault t (Ok x) is faulty other stopped refused goes =
     let (text, grown, writes) = goes in (
       text,
       ap (break_lines audit.allowances audit.stop head) is ∙ grown,
       (
         writes,
-        ended-there audit reading t fault (is ∙ sym same) faulty
-            ∙ ended-stopped audit.allowances audit.stop t fault stopped,
+        ended-there audit reading t fault is faulty ∙ ended-stopped audit.allowances audit.stop t fault stopped,
       ),
     )
-fault-ends head audit reading steps u v fault t (Err why) is faulty other same stopped refused goes =
+fault-ends head audit reading u v fault t (Err why) is faulty other stopped refused goes =
     let (text, grown, writes) = goes in
-    let ended = ended-there audit reading t fault (is ∙ sym same) faulty
+    let ended = ended-there audit reading t fault is faulty
     ∙ ended-refused audit.allowances audit.stop t fault refused.1 other in
     subst (λ (e : NoOutcome). EndsBehind {A = Unit {0}} head audit (lines_of head audit) reading t u v (Err e))
     (sym refused.0)
     (text, ap (break_lines audit.allowances audit.stop head) is ∙ grown, (writes, ended))
-
--- not all steps before an end were told
-pub cut-ends : (A B : Type 0) → ReadGoesOn → (head : List ℕ) (audit : GivenSteps) (reading : TextReading)
-    (steps more : List Step) (u v : Writing) (fault : TellFault) (t : Trace)
-    → reading.recorded ≡ with_steps audit.recording (steps ++ more)
-    → malformed_step reading.recorded ≡ None → audit.recording.opening.slots ≤ 21
-    → AuditGoesOn {A = A} head audit steps u v (Err fault)
-    → EndsBehind {A = B} head audit (lines_of head audit) reading t u v (Err (Untold fault))
-cut-ends A B law head audit reading steps more u v fault t is formed few goes =
-    let middle = with_steps audit.recording steps in
-    let whole : reading.recorded ≡ with_steps middle more = is ∙ sym (steps-both audit.recording steps more) in
-    let here : malformed_step (with_steps middle more) ≡ None = sym (ap malformed_step whole) ∙ formed in
-    let (later, grown) = lines-go-on law head audit.allowances audit.stop middle more here few in
-    let all = ap (break_lines audit.allowances audit.stop head) whole ∙ grown in
-    untold-ends A B (ended_at audit.allowances audit.stop reading.recorded reading.fault)
-    (read_by audit.allowances audit.stop t) (lines_of head audit) (lines_of head (given_too audit steps))
-    (break_lines audit.allowances audit.stop head reading.recorded) later u v fault goes all
 
 -- ---- a stop
 
@@ -181,29 +195,23 @@ ended-at allowances stop t None stopped = refl
 ended-at allowances stop t (Some fault) stopped = ended-stopped allowances stop t fault stopped
 
 -- the audit stopped before the end of a body
-pub final-ends : StopStays → StopIsRead → (head : List ℕ) (audit : GivenSteps) (reading : TextReading)
-    (steps more : List Step) (u v : Writing)
-    → reading.recorded ≡ with_steps audit.recording (steps ++ more)
-    → malformed_step reading.recorded ≡ None → audit.recording.opening.slots ≤ 21
-    → is_stopped audit.allowances audit.stop (with_steps audit.recording steps) ≡ true
-    → AuditGoesOn {A = Unit {0}} head audit steps u v (Ok tt)
-    → EndsBehind {A = Unit {0}} head audit (lines_of head audit) reading (with_steps audit.recording steps) u v
-    (Ok tt)
+pub final-ends : StopStays → StopIsRead → (head : List ℕ) (audit : GivenSteps) (reading : TextReading) (t : Trace)
+    (u v : Writing) → GoesOnWith t reading.recorded → is_stopped audit.allowances audit.stop t ≡ true
+    → AuditGoesTo {A = Unit {0}} head audit t u v (Ok tt)
+    → EndsBehind {A = Unit {0}} head audit (lines_of head audit) reading t u v (Ok tt)
 unfolding break_lines
-final-ends stays read head audit reading steps more u v is formed few stopped goes =
+final-ends stays read head audit reading t u v on stopped goes =
     let (text, same, writes) = goes in
-    let middle = with_steps audit.recording steps in
-    let whole : reading.recorded ≡ with_steps middle more = is ∙ sym (steps-both audit.recording steps more) in
-    let here : malformed_step (with_steps middle more) ≡ None = sym (ap malformed_step whole) ∙ formed in
-    let alike = read audit.allowances audit.stop middle more here few stopped in
-    let still = stays audit.allowances audit.stop middle more here few stopped in
+    let here : malformed_step (with_steps t on.more) ≡ None = sym (ap malformed_step on.is) ∙ on.formed in
+    let alike = read audit.allowances audit.stop t on.more here on.few stopped in
+    let still = stays audit.allowances audit.stop t on.more here on.few stopped in
     let line = line_of_break audit.allowances audit.stop head in (
       text,
-      ap (break_lines audit.allowances audit.stop head) whole ∙ ap (λ (a : Trace). flat_map line (breaks a)) alike
+      ap (break_lines audit.allowances audit.stop head) on.is ∙ ap (λ (a : Trace). flat_map line (breaks a)) alike
           ∙ same,
       (
         writes,
-        ap (λ (r : Trace). ended_at audit.allowances audit.stop r reading.fault) whole
-            ∙ ended-at audit.allowances audit.stop (with_steps middle more) reading.fault still ∙ ap Ok alike,
+        ap (λ (r : Trace). ended_at audit.allowances audit.stop r reading.fault) on.is
+            ∙ ended-at audit.allowances audit.stop (with_steps t on.more) reading.fault still ∙ ap Ok alike,
       ),
     )

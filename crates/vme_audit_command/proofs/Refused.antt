@@ -1,5 +1,5 @@
 -- What a text that has a fault isn't begun by.
-use Rattle.std.proofs.Common.{◌≡◌, ℕ, Result, sym, refl}
+use Rattle.std.proofs.Common.{◌≡◌, ℕ, Result, sym}
 use Rattle.vcd_read.specs.declared.fault.FaultKind.{FaultKind}
 use Rattle.vcd_read.specs.declared.fault.FaultKind.TheVariants as vcd
 use Rattle.vme_bind.specs.TextCapture.{BindingFails, CaptureFailsBy, DumpFails}

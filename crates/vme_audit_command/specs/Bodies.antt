@@ -11,7 +11,11 @@ use Rattle.vme_bind.specs.TextReading.{TextReading}
 use Rattle.vme_stream.specs.Outputs.{Writes, FailsToWrite}
 use Rattle.vme_answer.specs.declared.refusal.Refusal.{Refusal}
 use Rattle.vme_audit_command.specs.Definitions.{AreAll, IsFormed}
-use Rattle.vme_audit_command.specs.DumpAudits.{WritesSome, break_lines, lines_of}
+use Rattle.vme_audit_command.specs.DumpAudits.{WritesSome, break_lines, given_all, lines_of}
+use Rattle.vme_audit_command.specs.SettledReadings.{settled_by}
+use Rattle.vme_audit_command.specs.SettledSteps.{ComesOut}
+use Rattle.vme_skew.specs.Settling.{Settling}
+use Rattle.vme_trace.specs.LineNumbers.{line_count}
 use Rattle.vme_step_auditor.specs.ReadBy.{GivenSteps, is_stopped, read_by}
 use Rattle.vme_step_reader.specs.StepReading.{StepReading, whole_reading}
 use Rattle.vme_audit_command.specs.declared.told.NoOutcome.{NoOutcome}
@@ -26,11 +30,11 @@ module _ (allowances : List Allowance) (stop : Option ℕ) where
   ended_at t (Some fault) =
       if is_stopped allowances stop t then Ok (read_by allowances stop t) else Err (dump_refusal fault)
 
--- an audit has been given just what a reader has given, with no skew between them
-pub record HasGiven {S : Type 0} (settler : Option S) (audit : GivenSteps) (r : StepReading) : Type 0 where
-  pub unsettled : settler ≡ None
-  pub given : audit.recording ≡ r.given
+-- an audit has been given what a settler let out of what a reader has given, or all of that where there is no skew
+pub record HasGiven (skew : Option ℕ) (settler : Option Settling) (audit : GivenSteps) (r : StepReading) : Type 0 where
+  pub comes : ComesOut skew settler r.given (whole_reading r []).time audit.recording
   pub few : r.given.opening.slots ≤ 21
+  pub whole : length r.given.opening.levels ≡ line_count
   pub formed : IsFormed r
 
 -- What of a text was written where a body ends so: all of it, where this is the recording as far as it is audited, or
@@ -52,29 +56,30 @@ EndsBehind head audit told reading t old new result =
     × WritesUntil (ended_at audit.allowances audit.stop reading.recorded reading.fault)
     (read_by audit.allowances audit.stop t) old new text result
 
--- An audit takes these bytes: some of the first of them, whatever follows; or
--- it ends.
-abbrev pub TakesPiece : List ℕ → GivenSteps → GivenSteps → StepReading → List ℕ → Writing → Writing
-    → Result (Option (StepReading × ℕ)) NoOutcome → Type 0
-TakesPiece head audit later r bytes old new (Ok (Some (next, n))) =
+-- An audit takes these bytes: some of the first of them, whatever follows, and then it has been given what comes out of
+-- this settler; or it ends.
+abbrev pub TakesPiece : Option ℕ → List ℕ → GivenSteps → GivenSteps → Option Settling → StepReading → List ℕ → Writing
+    → Writing → Result (Option (StepReading × ℕ)) NoOutcome → Type 0
+TakesPiece skew head audit later settler r bytes old new (Ok (Some (next, n))) =
     (n ≤ length bytes) × ((rest : List ℕ) → whole_reading r (take n bytes ++ rest) ≡ whole_reading next rest)
-    × IsFormed next × (later ≡ record audit { recording = next.given })
+    × HasGiven skew settler later next × (later ≡ given_all audit later.recording)
     × ((text : List ℕ) × (lines_of head later ≡ lines_of head audit ++ text) × Writes old new text)
-TakesPiece head audit later r bytes old new (Ok None) =
+TakesPiece skew head audit later settler r bytes old new (Ok None) =
     (rest : List ℕ)
-    → EndsBehind {A = Unit {0}} head audit (lines_of head audit) (whole_reading r (bytes ++ rest)) later.recording old
-    new (Ok tt)
-TakesPiece head audit later r bytes old new (Err why) =
+    → EndsBehind {A = Unit {0}} head audit (lines_of head audit) (settled_by skew (whole_reading r (bytes ++ rest)))
+    later.recording old new (Ok tt)
+TakesPiece skew head audit later settler r bytes old new (Err why) =
     (rest : List ℕ)
-    → EndsBehind {A = Unit {0}} head audit (lines_of head audit) (whole_reading r (bytes ++ rest)) later.recording old
-    new (Err why)
+    → EndsBehind {A = Unit {0}} head audit (lines_of head audit) (settled_by skew (whole_reading r (bytes ++ rest)))
+    later.recording old new (Err why)
 
 -- the body that what is held begins and a source goes on with was audited until it ends
-abbrev pub AuditsBody : {A : Type 0} → List ℕ → GivenSteps → GivenSteps → StepReading → List ℕ → Reading → Writing
-    → Writing → Result A NoOutcome → Type 0
-AuditsBody head audit later r held source old new result =
+abbrev pub AuditsBody : {A : Type 0} → Option ℕ → List ℕ → GivenSteps → GivenSteps → StepReading → List ℕ → Reading
+    → Writing → Writing → Result A NoOutcome → Type 0
+AuditsBody skew head audit later r held source old new result =
     (more : List ℕ) × AreAll source more
-    × EndsBehind head audit (lines_of head audit) (whole_reading r (held ++ more)) later.recording old new result
+    × EndsBehind head audit (lines_of head audit) (settled_by skew (whole_reading r (held ++ more))) later.recording old
+    new result
 
 -- these are all bytes of a body whose first are held, and of which a source may tell more
 abbrev pub IsWholeBody : Bool → Reading → List ℕ → List ℕ → Type 0
@@ -82,13 +87,14 @@ IsWholeBody true source held whole = (more : List ℕ) × AreAll source more × 
 IsWholeBody false source held whole = whole ≡ held
 
 -- a body whose first bytes are held was audited until it ends
-abbrev pub AuditsRest : {A : Type 0} → List ℕ → GivenSteps → GivenSteps → StepReading → List ℕ → Bool → Reading
-    → Writing → Writing → Result A NoOutcome → Type 0
-AuditsRest head audit later r held is_more source old new result =
+abbrev pub AuditsRest : {A : Type 0} → Option ℕ → List ℕ → GivenSteps → GivenSteps → StepReading → List ℕ → Bool
+    → Reading → Writing → Writing → Result A NoOutcome → Type 0
+AuditsRest skew head audit later r held is_more source old new result =
     (whole : List ℕ) × IsWholeBody is_more source held whole
-    × EndsBehind head audit (lines_of head audit) (whole_reading r whole) later.recording old new result
+    × EndsBehind head audit (lines_of head audit) (settled_by skew (whole_reading r whole)) later.recording old new
+    result
 
 -- an audit by the same rules, of a recording whose steps may stand where they stand
 pub record IsLater (first later : GivenSteps) : Type 0 where
-  pub same : later ≡ record first { recording = later.recording }
+  pub same : later ≡ given_all first later.recording
   pub formed : malformed_step later.recording ≡ None

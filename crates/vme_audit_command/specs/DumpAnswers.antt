@@ -17,6 +17,7 @@ use Rattle.vme_audit_command.specs.Bodies.{IsWholeBody, ended_at}
 use Rattle.vme_audit_command.specs.Definitions.{AreAll}
 use Rattle.vme_audit_command.specs.DumpAudits.{WritesSome, break_lines}
 use Rattle.vme_audit_command.specs.LastLines.{counts_unless, outcome_line_of}
+use Rattle.vme_audit_command.specs.SettledReadings.{settled_by, skew_of}
 use Rattle.vme_audit_command.specs.declared.told.NoOutcome.{NoOutcome}
 use Rattle.vme_audit_command.specs.declared.told.NoOutcome.TheVariants.{CannotRead, Refused, Untold}
 use Rattle.vme_audit_command.specs.declared.told.TellFault.TheVariants.{Memory, CannotWrite}
@@ -26,6 +27,7 @@ pub record DumpRules : Type 0 where
   pub allowances : List Allowance
   pub transfers : ℕ
   pub stop : Option ℕ
+  pub skew : ℕ
   pub is_quiet : Bool
 
 -- what is written to standard output; and the status by the outcome, or why there is no outcome
@@ -46,10 +48,14 @@ module _ (rules : DumpRules) (head : List ℕ) where
   answer_by lines (Ok a) = record { out = lines ++ last_lines a; ended = Ok (outcome_status (dump_outcome a)) }
   answer_by lines (Err refusal) = record { out = lines; ended = Err refusal }
 
-  -- the answer to a dump by what reading it comes to, where there is no skew
-  abbrev pub dump_answer : Result TextReading CaptureFault → DumpAnswer
-  dump_answer (Ok reading) = answer_by (break_lines rules.allowances rules.stop head reading.recorded)
+  -- the answer to what a dump comes to
+  abbrev pub reading_answer : TextReading → DumpAnswer
+  reading_answer reading = answer_by (break_lines rules.allowances rules.stop head reading.recorded)
       (ended_at rules.allowances rules.stop reading.recorded reading.fault)
+
+  -- the answer to a dump by what reading it comes to, settled by the skew
+  abbrev pub dump_answer : Result TextReading CaptureFault → DumpAnswer
+  dump_answer (Ok reading) = reading_answer (settled_by (skew_of rules.skew) reading)
   dump_answer (Err fault) = record { out = []; ended = Err (capture_refusal fault) }
 
 -- how the audit of a dump ended: it has an outcome, or none; or the dump couldn't be read to its end, a write

@@ -54,3 +54,12 @@ abbrev pub AuditGoesOn : {A : Type 0} → List ℕ → GivenSteps → List Step 
     → Type 0
 AuditGoesOn head audit steps old new result =
     GoesOn (lines_of head audit) (lines_of head (given_too audit steps)) old new result
+
+-- an audit by the same rules that was given this recording
+abbrev pub given_all : GivenSteps → Trace → GivenSteps
+given_all audit t = record audit { recording = t }
+
+-- the same of an audit that goes on to this recording
+abbrev pub AuditGoesTo : {A : Type 0} → List ℕ → GivenSteps → Trace → Writing → Writing → Result A TellFault → Type 0
+AuditGoesTo head audit t old new result =
+    GoesOn (lines_of head audit) (lines_of head (given_all audit t)) old new result

@@ -7,7 +7,7 @@ use Rattle.vme_answer.specs.Texts.{line_of}
 use Rattle.vme_audit.specs.Allowances.{unreadables, wrongs}
 use Rattle.vme_audit.specs.Asked.{never_asked}
 use Rattle.vme_audit.specs.Counted.{counts}
-use Rattle.vme_audit.specs.Covered.{allowed_count, outcome}
+use Rattle.vme_audit.specs.Covered.{allowed_count}
 use Rattle.vme_audit.specs.Parts.{breaks}
 use Rattle.vme_audit.specs.declared.allowance.Allowance.{Allowance}
 use Rattle.vme_audit.specs.declared.outcome.Outcome.{Outcome}

@@ -1,6 +1,10 @@
 pub mod DumpAudits
 pub mod Audits
 pub mod LastLines
+pub mod SettledReadings
+pub mod SettledSteps
 pub mod Bodies
 pub mod Definitions
 pub mod DumpAnswers
+pub mod SeveralDumps
+pub mod DumpEnds

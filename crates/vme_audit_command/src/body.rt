@@ -1,17 +1,19 @@
 //! The body of a dump, audited as it is read.
 
-ghost use Rattle.std.specs.Prelude.{◌≡◌, ◌≢◌, ◌≤◌, List, false, true, None, IfErr, IfNone, IfOk, IfSome, OnOk, length};
+ghost use Rattle.std.specs.Prelude.{◌≡◌, ◌≢◌, ◌≤◌, ℕ, List, false, true, None, Option, IfErr, IfNone, IfOk, IfSome};
+ghost use Rattle.std.specs.Prelude.{OnOk, length};
 ghost use Rattle.vcd_read.specs.declared.fault.FaultKind.TheVariants as vcd;
 ghost use Rattle.vme_answer.specs.declared.refusal.Refusal.TheVariants.{BadDump};
 ghost use Rattle.vme_step_auditor.specs.ReadBy.{has_stopped};
 ghost use Rattle.vme_audit_command.specs.declared.told.NoOutcome.TheVariants.{Refused};
 ghost use Rattle.vme_trace.specs.Followed.{with_steps};
-ghost use Rattle.vme_trace.specs.declared.step.Step.{Step};
+ghost use Rattle.vme_trace.specs.Trace.{Trace};
 ghost use Rattle.vme_trace.specs.WellFormed.{malformed_step};
-ghost use Rattle.vme_bind.specs.TextReading.{TextReading};
 ghost use Rattle.vme_audit_command.specs.Bodies.{AuditsBody, EndsBehind, HasGiven, IsLater, TakesPiece};
-ghost use Rattle.vme_audit_command.specs.DumpAudits.{AuditGoesOn, given_too, lines_of};
-ghost use Rattle.vme_step_reader.specs.StepReading.{whole_reading};
+ghost use Rattle.vme_audit_command.specs.DumpAudits.{AuditGoesTo, given_all, lines_of};
+ghost use Rattle.vme_audit_command.specs.SettledReadings.{settled_by, settled_so_far, settled_whole};
+ghost use Rattle.vme_audit_command.specs.SettledSteps.{ComesOut, GoOnFrom, GoOnTo};
+ghost use Rattle.vme_step_reader.specs.StepReading.{StepReading, whole_reading};
 ghost use Rattle.vme_step_reader.specs.Stops.{StopsBehind};
 
 use crate::definitions::not_read;
@@ -24,7 +26,7 @@ use vcd_read::{FaultKind, VcdFault};
 use vme_answer::Refusal;
 use vme_skew::StepSettler;
 use vme_step_auditor::{StepAuditor, reading_goes_on, stop_is_final};
-use vme_step_reader::{StepReader, StoppedSteps, given_is_a_front};
+use vme_step_reader::{StepReader, StoppedSteps, given_is_a_front, times_go_on};
 use vme_trace::{Sink, Source, Step};
 
 /// Audits the steps that follow once the dump has told a time.
@@ -38,11 +40,17 @@ fn audit_settled<O: Sink>(
     case: &mut TestCase,
     out: &mut O,
 ) -> Result<(), TellFault>
-    ensures none { settler.old ≡ None → settler.new ≡ None }
-    ensures given { settler.old ≡ None → OnOk result (auditor.new ≡ given_too auditor.old steps.items) }
-    ensures told { settler.old ≡ None → malformed_step (with_steps auditor.old.recording steps.items) ≡ None
-        → auditor.old.recording.opening.slots ≤ 21
-        → AuditGoesOn head.now auditor.old steps.items (O.writing out.old) (O.writing out.new) result }
+    ensures comes { (skew : Option ℕ) (given : Trace) (from : ℕ)
+        → ComesOut skew settler.old given from auditor.old.recording → GoOnTo given from steps.items time
+        → OnOk result (ComesOut skew settler.new (with_steps given steps.items) time auditor.new.recording) }
+    ensures given { (skew : Option ℕ) (given : Trace) (from : ℕ)
+        → ComesOut skew settler.old given from auditor.old.recording → GoOnTo given from steps.items time
+        → OnOk result (auditor.new
+        ≡ given_all auditor.old (settled_so_far skew time (with_steps given steps.items))) }
+    ensures told { (skew : Option ℕ) (given : Trace) (from : ℕ)
+        → ComesOut skew settler.old given from auditor.old.recording → GoOnTo given from steps.items time
+        → AuditGoesTo head.now auditor.old (settled_so_far skew time (with_steps given steps.items))
+        (O.writing out.old) (O.writing out.new) result }
 {
     reading_goes_on();
     match settled_steps(alloc, settler, steps, time) {
@@ -76,15 +84,15 @@ fn audit_faulty<O: Sink>(
     out: &mut O,
 ) -> Result<(), NoOutcome>
     requires { stopped.fault.kind ≢ vcd.Memory }
-    ensures none { settler.old ≡ None → settler.new ≡ None }
-    ensures kept { settler.old ≡ None → malformed_step (with_steps auditor.old.recording stopped.steps.items) ≡ None
-        → OnOk result (IsLater auditor.old auditor.new) }
-    ensures ends { settler.old ≡ None → (reading : TextReading) → malformed_step reading.recorded ≡ None
-        → auditor.old.recording.opening.slots ≤ 21 → StopsBehind auditor.old.recording stopped reading
-        → EndsBehind head.now auditor.old (lines_of head.now auditor.old) reading auditor.new.recording
-        (O.writing out.old) (O.writing out.new) result }
+    ensures kept { (skew : Option ℕ) (r : StepReading) (rest : List ℕ) → HasGiven skew settler.old auditor.old r
+        → StopsBehind r.given stopped (whole_reading r rest) → OnOk result (IsLater auditor.old auditor.new) }
+    ensures ends { (skew : Option ℕ) (r : StepReading) (rest : List ℕ) → HasGiven skew settler.old auditor.old r
+        → StopsBehind r.given stopped (whole_reading r rest)
+        → EndsBehind head.now auditor.old (lines_of head.now auditor.old) (settled_by skew (whole_reading r rest))
+        auditor.new.recording (O.writing out.old) (O.writing out.new) result }
 {
     reading_goes_on();
+    times_go_on();
     let StoppedSteps { steps, fault, time } = stopped;
     match audit_settled(alloc, auditor, settler, steps, time, head, case, out) {
         Ok(()) => at_fault(auditor, fault),
@@ -102,18 +110,16 @@ fn audit_stopped<O: Sink>(
     case: &mut TestCase,
     out: &mut O,
 ) -> Result<(), NoOutcome>
-    ensures none { settler.old ≡ None → settler.new ≡ None }
-    ensures kept { settler.old ≡ None → (stopped.fault.kind ≢ vcd.Memory
-        → malformed_step (with_steps auditor.old.recording stopped.steps.items) ≡ None)
-        → OnOk result (IsLater auditor.old auditor.new) }
-    ensures ends { settler.old ≡ None → (reading : TextReading) (more : List Step)
-        → malformed_step reading.recorded ≡ None → auditor.old.recording.opening.slots ≤ 21
-        → reading.recorded ≡ with_steps auditor.old.recording more
-        → StopsBehind auditor.old.recording stopped reading
-        → EndsBehind head.now auditor.old (lines_of head.now auditor.old) reading auditor.new.recording
-        (O.writing out.old) (O.writing out.new) result }
+    ensures kept { (skew : Option ℕ) (r : StepReading) (rest : List ℕ) → HasGiven skew settler.old auditor.old r
+        → StopsBehind r.given stopped (whole_reading r rest) → OnOk result (IsLater auditor.old auditor.new) }
+    ensures ends { (skew : Option ℕ) (r : StepReading) (rest : List ℕ) → HasGiven skew settler.old auditor.old r
+        → StopsBehind r.given stopped (whole_reading r rest)
+        → EndsBehind head.now auditor.old (lines_of head.now auditor.old) (settled_by skew (whole_reading r rest))
+        auditor.new.recording (O.writing out.old) (O.writing out.new) result }
 {
     reading_goes_on();
+    given_is_a_front();
+    times_go_on();
     match stopped.fault.kind {
         FaultKind::Memory => Err(NoOutcome::Untold(TellFault::Memory)),
         _ => audit_faulty(alloc, auditor, settler, stopped, head, case, out),
@@ -149,15 +155,16 @@ fn audit_piece<O: Sink>(
     case: &mut TestCase,
     out: &mut O,
 ) -> Result<Option<(StepReader, usize)>, NoOutcome>
-    ensures none { settler.old ≡ None → settler.new ≡ None }
     ensures within { IfOk result (λ going. IfSome going (λ next. next.1 ≤ length bytes.now)) }
-    ensures kept { HasGiven settler.old auditor.old reader
+    ensures kept { (skew : Option ℕ) → HasGiven skew settler.old auditor.old reader
         → IfOk result (λ going. IfNone going (IsLater auditor.old auditor.new)) }
-    ensures takes { HasGiven settler.old auditor.old reader → TakesPiece head.now auditor.old auditor.new reader
-        bytes.now (O.writing out.old) (O.writing out.new) result }
+    ensures takes { (skew : Option ℕ) → HasGiven skew settler.old auditor.old reader
+        → TakesPiece skew head.now auditor.old auditor.new settler.new reader bytes.now (O.writing out.old)
+        (O.writing out.new) result }
 {
     reading_goes_on();
     given_is_a_front();
+    times_go_on();
     stop_is_final();
     match reader.take(alloc, bytes) {
         Ok((reader, steps, count)) => {
@@ -187,14 +194,16 @@ pub(crate) fn audit_last<O: Sink>(
     case: &mut TestCase,
     out: &mut O,
 ) -> Result<(), NoOutcome>
-    ensures none { settler.old ≡ None → settler.new ≡ None }
-    ensures kept { HasGiven settler.old auditor.old reader → OnOk result (IsLater auditor.old auditor.new) }
-    ensures ends { HasGiven settler.old auditor.old reader → EndsBehind head.now auditor.old
-        (lines_of head.now auditor.old) (whole_reading reader bytes.now) auditor.new.recording
-        (O.writing out.old) (O.writing out.new) result }
+    ensures kept { (skew : Option ℕ) → HasGiven skew settler.old auditor.old reader
+        → OnOk result (IsLater auditor.old auditor.new) }
+    ensures ends { (skew : Option ℕ) → HasGiven skew settler.old auditor.old reader
+        → EndsBehind head.now auditor.old (lines_of head.now auditor.old)
+        (settled_by skew (whole_reading reader bytes.now)) auditor.new.recording (O.writing out.old)
+        (O.writing out.new) result }
 {
     reading_goes_on();
     given_is_a_front();
+    times_go_on();
     match reader.finish(alloc, bytes) {
         Ok(steps) => match audit_ended(alloc, auditor, settler, steps, head, case, out) {
             Ok(()) => Ok(()),
@@ -214,11 +223,13 @@ fn audit_ended<O: Sink>(
     case: &mut TestCase,
     out: &mut O,
 ) -> Result<(), TellFault>
-    ensures none { settler.old ≡ None → settler.new ≡ None }
-    ensures given { settler.old ≡ None → OnOk result (auditor.new ≡ given_too auditor.old steps.items) }
-    ensures told { settler.old ≡ None → malformed_step (with_steps auditor.old.recording steps.items) ≡ None
-        → auditor.old.recording.opening.slots ≤ 21
-        → AuditGoesOn head.now auditor.old steps.items (O.writing out.old) (O.writing out.new) result }
+    ensures given { (skew : Option ℕ) (given : Trace) (from : ℕ)
+        → ComesOut skew settler.old given from auditor.old.recording → GoOnFrom given from steps.items
+        → OnOk result (auditor.new ≡ given_all auditor.old (settled_whole skew (with_steps given steps.items))) }
+    ensures told { (skew : Option ℕ) (given : Trace) (from : ℕ)
+        → ComesOut skew settler.old given from auditor.old.recording → GoOnFrom given from steps.items
+        → AuditGoesTo head.now auditor.old (settled_whole skew (with_steps given steps.items)) (O.writing out.old)
+        (O.writing out.new) result }
 {
     reading_goes_on();
     match last_steps(alloc, settler, steps) {
@@ -239,12 +250,15 @@ pub(crate) fn audit_body<D: Source, O: Sink>(
     case: &mut TestCase,
     out: &mut O,
 ) -> Result<(), NoOutcome>
-    ensures kept { HasGiven settler.old auditor.old reader → OnOk result (IsLater auditor.old auditor.new) }
-    ensures audits { HasGiven settler.old auditor.old reader → AuditsBody head.now auditor.old auditor.new reader
-        input.old (D.reading dump.old) (O.writing out.old) (O.writing out.new) result }
+    ensures kept { (skew : Option ℕ) → HasGiven skew settler.old auditor.old reader
+        → OnOk result (IsLater auditor.old auditor.new) }
+    ensures audits { (skew : Option ℕ) → HasGiven skew settler.old auditor.old reader
+        → AuditsBody skew head.now auditor.old auditor.new reader input.old (D.reading dump.old) (O.writing out.old)
+        (O.writing out.new) result }
 {
     reading_goes_on();
     given_is_a_front();
+    times_go_on();
     let mut reader = reader;
     for _ in 0..u64::MAX {
         let held = input.bytes();

@@ -1,10 +1,13 @@
 //! The audit of several dumps by one binding.
 
-ghost use Rattle.std.specs.Prelude.{◌≡◌, false};
+ghost use Rattle.std.specs.Prelude.{◌≡◌, false, true, [], ◌∷◌, map, IfOk};
+ghost use Rattle.vme_stream.specs.Outputs.{TriesToWrite};
 ghost use Rattle.vme_audit_command.specs.Audits.{RefusesBinding};
+ghost use Rattle.vme_audit_command.specs.DumpEnds.{AuditsNamed, EndsWith, RefusesAs, TellsEnd, TellsWhy};
+ghost use Rattle.vme_audit_command.specs.SeveralDumps.{AuditsByBinding, AuditsDumps, audit_status, refusal_line_of};
 
 use crate::dump_audit::audit_dump;
-use crate::junit::TestSuite;
+use crate::junit::{TestCase, TestSuite};
 use crate::told::{NoOutcome, TellFault};
 use std::alloc::{AllocError, Global};
 use vme_answer::{Input, Refusal, binding_from, cannot_write_line, refusal_line};
@@ -37,17 +40,25 @@ pub struct NamedDump<'a, D> {
     pub dump: D,
 }
 
-/// How an audit ends where some dumps ended so and so: the first of these statuses that occurred.
-const STATUSES: [u8; 6] = [5, 4, 3, 1, 2, 6];
-
-/// The status of two audits.
-fn worse(one: u8, other: u8) -> u8 {
-    for status in STATUSES {
-        if one == status || other == status {
-            return status;
-        }
+/// The one of two statuses that counts.
+fn worse(one: u8, other: u8) -> u8
+    ensures { result ≡ audit_status (one ∷ other ∷ []) }
+{
+    if one == 5 || other == 5 {
+        5
+    } else if one == 4 || other == 4 {
+        4
+    } else if one == 3 || other == 3 {
+        3
+    } else if one == 1 || other == 1 {
+        1
+    } else if one == 2 || other == 2 {
+        2
+    } else if one == 6 || other == 6 {
+        6
+    } else {
+        0
     }
-    0
 }
 
 /// Audits dumps by a binding, one after the other, and tells their breaks and outcomes to `out`, and why one has no
@@ -63,7 +74,17 @@ pub fn audit<B: Source, D: Source, O: Sink, E: Sink>(
     out: &mut O,
     err: &mut E,
 ) -> (bool, u8)
-    ensures { result.0 ≡ false → RefusesBinding (B.reading binding.old, B.reading binding.new)
+    ensures refused { result.0 ≡ false → RefusesBinding (B.reading binding.old, B.reading binding.new)
+        (O.writing out.old, O.writing out.new) (E.writing err.old, E.writing err.new) result.1 }
+    ensures audited { result.0 ≡ true → AuditsByBinding (record {
+      allowances = options.entry.allowances.now;
+      transfers = options.entry.transfers;
+      stop = options.entry.stop;
+      skew = options.entry.skew;
+      is_quiet = options.entry.is_quiet;
+    })
+        (B.reading binding.old, B.reading binding.new)
+        (map (λ d. record { name = d.name.now; dump = D.reading d.dump }) dumps.old)
         (O.writing out.old, O.writing out.new) (E.writing err.old, E.writing err.new) result.1 }
 {
     match binding_from(alloc, binding) {
@@ -87,14 +108,24 @@ fn audit_all<D: Source, O: Sink, E: Sink>(
     suite: &mut TestSuite,
     out: &mut O,
     err: &mut E,
-) -> u8 {
+) -> u8
+    ensures { AuditsDumps (record {
+      allowances = options.entry.allowances.now;
+      transfers = options.entry.transfers;
+      stop = options.entry.stop;
+      skew = options.entry.skew;
+      is_quiet = options.entry.is_quiet;
+    })
+        bound.now (map (λ d. record { name = d.name.now; dump = D.reading d.dump }) dumps.old)
+        (O.writing out.old, O.writing out.new) (E.writing err.old, E.writing err.new) result }
+{
     let mut status = 0;
-    for named in dumps {
+    for named in dumps.iter_mut() {
         let ended = audit_named(alloc, bound, named, options, suite, out, err);
-        status = worse(status, ended);
         if ended == 5 {
-            return status;
+            return 5;
         }
+        status = worse(status, ended);
     }
     status
 }
@@ -108,31 +139,80 @@ fn audit_named<D: Source, O: Sink, E: Sink>(
     suite: &mut TestSuite,
     out: &mut O,
     err: &mut E,
-) -> u8 {
+) -> u8
+    ensures { AuditsNamed (record {
+      allowances = options.entry.allowances.now;
+      transfers = options.entry.transfers;
+      stop = options.entry.stop;
+      skew = options.entry.skew;
+      is_quiet = options.entry.is_quiet;
+    })
+        bound.now (record { name = named.old.name.now; dump = D.reading named.old.dump })
+        (O.writing out.old, O.writing out.new) (E.writing err.old, E.writing err.new) result }
+{
     let mut case = suite.case(alloc);
     let name = named.name;
-    let (status, refusal) = match audit_dump(
-        alloc,
-        bound,
-        &mut named.dump,
-        name,
-        options,
-        &mut case,
-        out,
-    ) {
-        Ok(status) => (status, None),
-        Err(NoOutcome::Refused(refusal)) => (3, Some(refusal)),
-        Err(NoOutcome::CannotRead) => (3, Some(Refusal::CannotRead(Input::Dump))),
-        Err(NoOutcome::Untold(TellFault::Memory)) => (4, Some(Refusal::Memory)),
+    let ended = audit_dump(alloc, bound, &mut named.dump, name, options, &mut case, out);
+    tell_end(alloc, name, &case, ended, suite, err)
+}
+
+/// Tells why a dump has no outcome, if it has none, and keeps its test case. The answer is its exit status.
+fn tell_end<E: Sink>(
+    alloc: Global,
+    name: &[u8],
+    case: &TestCase,
+    ended: Result<u8, NoOutcome>,
+    suite: &mut TestSuite,
+    err: &mut E,
+) -> u8
+    ensures { TellsEnd name.now ended (E.writing err.old) (E.writing err.new) result }
+{
+    match ended {
+        Ok(status) => keep(alloc, name, case, None, status, suite, err),
+        Err(NoOutcome::Refused(refusal)) => refuse(alloc, name, case, refusal, suite, err),
+        Err(NoOutcome::CannotRead) => {
+            let refusal = Refusal::CannotRead(Input::Dump);
+            refuse(alloc, name, case, refusal, suite, err)
+        }
+        Err(NoOutcome::Untold(TellFault::Memory)) => {
+            refuse(alloc, name, case, Refusal::Memory, suite, err)
+        }
         Err(NoOutcome::Untold(TellFault::CannotWrite)) => {
             complain(err, cannot_write_line());
-            return 5;
+            5
         }
-    };
-    if let Some(refusal) = &refusal {
-        tell_refusal(alloc, name, refusal, err);
     }
-    match suite.take(alloc, name, &case, refusal.as_ref()) {
+}
+
+/// Tells why a dump has no outcome, and keeps its test case. The answer is its exit status.
+fn refuse<E: Sink>(
+    alloc: Global,
+    name: &[u8],
+    case: &TestCase,
+    refusal: Refusal,
+    suite: &mut TestSuite,
+    err: &mut E,
+) -> u8
+    ensures { RefusesAs name.now refusal (E.writing err.old) (E.writing err.new) result }
+{
+    let status = tell_refusal(alloc, name, &refusal, err);
+    keep(alloc, name, case, Some(&refusal), status, suite, err)
+}
+
+/// Keeps the test case of a dump whose exit status is this, unless there is no memory for it. The answer is the exit
+/// status then.
+fn keep<E: Sink>(
+    alloc: Global,
+    name: &[u8],
+    case: &TestCase,
+    refusal: Option<&Refusal>,
+    status: u8,
+    suite: &mut TestSuite,
+    err: &mut E,
+) -> u8
+    ensures { EndsWith status (E.writing err.old) (E.writing err.new) result }
+{
+    match suite.take(alloc, name, case, refusal) {
         Ok(()) => status,
         Err(_) => {
             complain(err, refusal_line(&Refusal::Memory));
@@ -141,17 +221,33 @@ fn audit_named<D: Source, O: Sink, E: Sink>(
     }
 }
 
-/// Tells why a dump has no outcome.
-fn tell_refusal<E: Sink>(alloc: Global, name: &[u8], refusal: &Refusal, err: &mut E) {
+/// Tells why a dump has no outcome. The answer is the exit status.
+fn tell_refusal<E: Sink>(alloc: Global, name: &[u8], refusal: &Refusal, err: &mut E) -> u8
+    ensures { TellsWhy name.now refusal.now (E.writing err.old) (E.writing err.new) result }
+{
     match refusal_of(alloc, name, refusal) {
         Ok(text) => {
-            let _ = write_all(err, text.as_bytes());
+            try_to_tell(text.as_bytes(), err);
+            refusal.status()
         }
-        Err(_) => complain(err, refusal_line(&Refusal::Memory)),
+        Err(_) => {
+            complain(err, refusal_line(&Refusal::Memory));
+            4
+        }
     }
 }
 
-fn refusal_of(alloc: Global, name: &[u8], refusal: &Refusal) -> Result<Text, AllocError> {
+/// Tells a line. Where that fails, its first bytes went out.
+fn try_to_tell<E: Sink>(line: &[u8], err: &mut E)
+    ensures { TriesToWrite (E.writing err.old) (E.writing err.new) line.now }
+{
+    let _ = write_all(err, line);
+}
+
+/// The line that tells it.
+fn refusal_of(alloc: Global, name: &[u8], refusal: &Refusal) -> Result<Text, AllocError>
+    ensures { IfOk result (λ text. text ≡ refusal_line_of name.now refusal.now) }
+{
     let head = dump_head(alloc, name)?;
     let behind = refusal_text(alloc, refusal)?;
     let mut text = Text::new(alloc);

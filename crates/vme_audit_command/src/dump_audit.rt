@@ -1,6 +1,7 @@
 //! The audit of one dump.
 
-ghost use Rattle.std.specs.Prelude.{◌≡◌, ◌≤◌, ◌++◌, [], IfErr, IfOk, None, OnOk};
+ghost use Rattle.std.specs.Prelude.{◌≡◌, ◌≤◌, ◌++◌, ℕ, [], IfErr, IfOk, None, OnOk, Option, length};
+ghost use Rattle.vme_trace.specs.LineNumbers.{line_count};
 ghost use Rattle.vme_trace.specs.WellFormed.{malformed_step};
 ghost use Rattle.vme_audit.specs.Covered.{outcome as outcome_of};
 ghost use Rattle.vme_audit.specs.Parts.{breaks};
@@ -11,6 +12,7 @@ ghost use Rattle.vme_audit_command.specs.Definitions.{IsBodyBegun};
 ghost use Rattle.vme_audit_command.specs.DumpAnswers.{AuditsBehind, AuditsDump};
 ghost use Rattle.vme_audit_command.specs.DumpAudits.{TellsText};
 ghost use Rattle.vme_audit_command.specs.LastLines.{TellsOutcome, counts_unless, outcome_line_of};
+ghost use Rattle.vme_audit_command.specs.SettledSteps.{IsSettlerFor};
 ghost use Rattle.vme_audit_command.specs.declared.told.TellFault.TheVariants.{Memory as NoMemory};
 
 use crate::body::{audit_body, audit_last};
@@ -128,7 +130,7 @@ fn tell_outcome<O: Sink>(
 
 /// What settles the steps of a dump, if there is a skew.
 fn settler_for(alloc: Global, opening: &Lines, skew: u64) -> Option<StepSettler>
-    ensures { skew ≡ 0 → result ≡ None }
+    ensures { IsSettlerFor skew opening.now result }
 {
     if skew == 0 {
         None
@@ -140,6 +142,7 @@ fn settler_for(alloc: Global, opening: &Lines, skew: u64) -> Option<StepSettler>
 /// The audit of a body before its first step.
 fn first_audit<'a>(reader: &StepReader, rules: AuditRules<'a>) -> StepAuditor<'a>
     ensures few { reader.now.given.opening.slots ≤ 21 }
+    ensures whole { length reader.now.given.opening.levels ≡ line_count }
     ensures given { reader.now.given.steps ≡ [] → result.recording ≡ reader.now.given }
     ensures allowances { result.allowances ≡ rules.entry.allowances.now }
     ensures stop { result.stop ≡ rules.entry.stop }
@@ -162,9 +165,11 @@ fn audit_rest<D: Source, O: Sink>(
     case: &mut TestCase,
     out: &mut O,
 ) -> Result<(), NoOutcome>
-    ensures kept { HasGiven settler.old auditor.old reader → OnOk result (IsLater auditor.old auditor.new) }
-    ensures audits { HasGiven settler.old auditor.old reader → AuditsRest head.now auditor.old auditor.new reader
-        input.old is_more (D.reading dump.old) (O.writing out.old) (O.writing out.new) result }
+    ensures kept { (skew : Option ℕ) → HasGiven skew settler.old auditor.old reader
+        → OnOk result (IsLater auditor.old auditor.new) }
+    ensures audits { (skew : Option ℕ) → HasGiven skew settler.old auditor.old reader
+        → AuditsRest skew head.now auditor.old auditor.new reader input.old is_more (D.reading dump.old)
+        (O.writing out.old) (O.writing out.new) result }
 {
     if is_more {
         audit_body(
@@ -196,10 +201,11 @@ fn audit_behind<D: Source, O: Sink>(
     case: &mut TestCase,
     out: &mut O,
 ) -> Result<u8, NoOutcome>
-    ensures { options.entry.skew ≡ 0 → IsBodyBegun reader → AuditsBehind (record {
+    ensures { IsBodyBegun reader → AuditsBehind (record {
       allowances = options.entry.allowances.now;
       transfers = options.entry.transfers;
       stop = options.entry.stop;
+      skew = options.entry.skew;
       is_quiet = options.entry.is_quiet;
     })
         head.now reader input.old is_more (D.reading dump.old) (O.writing out.old) (O.writing out.new) result }
@@ -240,10 +246,11 @@ pub(crate) fn audit_dump<D: Source, O: Sink>(
     case: &mut TestCase,
     out: &mut O,
 ) -> Result<u8, NoOutcome>
-    ensures { options.entry.skew ≡ 0 → AuditsDump (record {
+    ensures { AuditsDump (record {
       allowances = options.entry.allowances.now;
       transfers = options.entry.transfers;
       stop = options.entry.stop;
+      skew = options.entry.skew;
       is_quiet = options.entry.is_quiet;
     })
         (head_of name.now) bound.now (D.reading dump.old) (O.writing out.old) (O.writing out.new) result }

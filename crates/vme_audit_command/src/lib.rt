@@ -15,23 +15,24 @@
 //! # What is proved
 //!
 //! - [`audit`]: a binding that can't be read or is refused is told by its line and its status, and
-//!   nothing is audited.
-//! - `audit_dump` in `dump_audit`, where there is no skew: what it writes is exactly the text that
-//!   the definitions give the dump's bytes, however they come: the lines of the breaks with their
-//!   standing, the counts, the rules that are never asked, and the outcome; and so is the status, or
-//!   the refusal. With `stop` it is that of the recording as far as it is audited, and a fault behind
-//!   is not met (`specs/DumpAnswers`). Where a write or a read fails, or for want of memory, it is
-//!   the first bytes of that text.
-//! - By a skew: of the steps that are settled, `audit_steps` in `told` writes exactly the lines of
-//!   their breaks, and `tell_outcome` those of the counts and of the outcome of what was audited.
+//!   nothing is audited (`refused`).
+//! - [`audit`] (`audited`, `specs/SeveralDumps`): standard output is exactly the texts that the
+//!   definitions give the dumps' bytes, however these come, one dump after the other: a line for each
+//!   break with its standing, the counts, the rules that are never asked, and the outcome
+//!   (`specs/DumpAnswers`). By a skew a text is of what the recording settles to, and before a fault
+//!   of what is complete of that by the last time that is told before it (`specs/SettledReadings`).
+//!   With `stop` it is that of the recording as far as it is audited, and a fault behind is not met.
+//!   Standard error is exactly the lines that tell why dumps have no outcome, in the same order. The
+//!   exit status is the first of 5, 4, 3, 1, 2, 6 that occurred, of all dumps, or else 0. Where a dump
+//!   can't be read to its end, or memory runs out, the first bytes of its text are written, and that
+//!   is told. Where a write fails, the first bytes of all texts are written, and no dump behind is
+//!   audited.
 //! - No index is out of range, no sum wraps, and each call ends.
 //!
 //! # What isn't proved
 //!
-//! - By a skew, that the steps which are audited are what the dump settles to: `StepSettler` of
-//!   vme_skew is proved to settle, and not that `body` hands on just a dump's steps. How several
-//!   dumps come to one status. Where a read fails, which breaks are told before. Tests try these, in
-//!   portions of any length, and with readers and writers that fail anywhere.
+//! - Where a read fails, which breaks are told before. Tests try this, in portions of any length, and
+//!   with readers and writers that fail anywhere.
 //! - The JUnit file, which tests try. That memory suffices.
 //!
 //! # Limits

@@ -531,17 +531,11 @@ never asked: U2 U3 U4 H1 H2 H3 H6 H7 H8 S1 S2 S3 C1 C2 G1 G2 G3 G4 G5 B1 B2 B3 B
     );
 }
 
-/// Without memory the first of what is told stands there, and the status is 4.
-#[test]
-fn want_of_memory_is_told(rt: HostRuntime) {
-    let rt = &rt;
-    let Ok(text) = format!(in rt.alloc(); "{HEAD}{ANSWERS}") else {
+/// A dump of this body is told so; or, without memory, the first of it is, and the status is 4.
+fn expect_unless_out_of_memory<R: Abort + AllocGlobal>(rt: &R, body: &str, wanted: WantedAudit) {
+    let Ok(text) = format!(in rt.alloc(); "{HEAD}{body}") else {
         return;
     };
-    let whole = "d: broken H4 at instant 2 time 10 line DTACK
-d: broken H4 at instant 4 time 30 line BERR
-d: broken
-";
     let (Ok(mut out), Ok(mut err)) = (
         Page::with_room(rt.alloc(), 1_000),
         Page::with_room(rt.alloc(), 1_000),
@@ -562,12 +556,33 @@ d: broken
         &mut out,
         &mut err,
     );
-    assert!(rt; whole.as_bytes().starts_with(&out.bytes));
-    if status == 1 {
-        assert_eq!(rt; str::from_utf8(&out.bytes), Ok(whole));
-        assert_eq!(rt; str::from_utf8(&err.bytes), Ok(""));
-    } else {
-        assert_eq!(rt; status, 4);
+    assert!(rt; wanted.out.as_bytes().starts_with(&out.bytes));
+    if status == 4 {
         assert!(rt; err.bytes.ends_with(b"out of memory\n"));
+    } else {
+        assert_eq!(rt; status, wanted.status);
+        assert_eq!(rt; str::from_utf8(&out.bytes), Ok(wanted.out));
+        assert_eq!(rt; str::from_utf8(&err.bytes), Ok(wanted.err));
     }
+}
+
+/// Want of memory is told, and its status is 4, also where there is none for the line of a refusal.
+#[test]
+fn want_of_memory_is_told(rt: HostRuntime) {
+    let rt = &rt;
+    let broken = WantedAudit {
+        out: "d: broken H4 at instant 2 time 10 line DTACK
+d: broken H4 at instant 4 time 30 line BERR
+d: broken
+",
+        err: "",
+        status: 1,
+    };
+    let refused = WantedAudit {
+        out: "",
+        err: "vmecheck: d: dump line 12: BadToken\n",
+        status: 3,
+    };
+    expect_unless_out_of_memory(rt, ANSWERS, broken);
+    expect_unless_out_of_memory(rt, "nonsense\n", refused);
 }

@@ -1,7 +1,8 @@
-use Rattle.std.proofs.Common.{◌≡◌, ◌++◌, Err, Ok, ap, subst}
+use Rattle.std.proofs.Common.{◌++◌, Err, Ok, ap, subst}
 use Rattle.vme_audit_command.specs.declared.told.NoOutcome.TheVariants.{CannotRead}
 use Rattle.vme_audit_command.specs.Bodies.{EndsBehind}
 use Rattle.vme_audit_command.specs.DumpAudits.{lines_of}
+use Rattle.vme_audit_command.specs.SettledReadings.{settled_by}
 use Rattle.vme_step_reader.specs.StepReading.{whole_reading}
 use Rattle.vme_audit_command.proofs.Underway.{given-next, no-more-ends, takes-some, underway-ends, underway-fails}
 use Rattle.vme_audit_command.proofs.Underway.{underway-first, underway-last, underway-on, underway-read, underway-stops}
@@ -10,34 +11,34 @@ use Rattle.vme_audit_command.proofs.Later.{kept-none, later-both, later-ok}
 use Rattle.vme_audit_command.proofs.body.audit_body.Goals as goal
 
 pub loop-init : goal.loop-init
-loop-init g c = λ h. (
+loop-init g c = λ skew h. (
   h,
   underway-first c.args.head.now (g.D.Source.reading c.args.dump.now) (g.O.Sink.writing c.args.out.now)
-      c.args.settler.now
-      c.args.auditor.now c.args.reader c.args.input.now h,
+      c.args.auditor.now c.args.reader c.args.input.now,
 )
 
 pub returns-in-Ok-None-clause-audits : goal.returns-in-Ok-None-clause-audits
-returns-in-Ok-None-clause-audits g c = λ first.
-    let (h, u) = c.loop.invariant first in
-    underway-stops c.args.head.now (g.D.Source.reading c.args.dump.now) (g.D.Source.reading c.loop.dump)
+returns-in-Ok-None-clause-audits g c = λ skew first.
+    let (h, u) = c.loop.invariant skew first in
+    underway-stops skew c.args.head.now (g.D.Source.reading c.args.dump.now) (g.D.Source.reading c.loop.dump)
     (g.O.Sink.writing c.args.out.now) (g.O.Sink.writing c.loop.out) c.args.auditor.now c.loop.auditor c.args.reader
     c.loop.reader c.args.input.now c.loop.input c.bytes-held.result.now u c.bytes-held.ensures
-    c.audit_piece.new.auditor (g.O.Sink.writing c.audit_piece.new.out) c.in-Ok-None.field-0 c.in-Ok-None.field-0-is
-    (c.in-Ok-None.ensures.takes h)
+    c.audit_piece.new.auditor c.audit_piece.new.settler (g.O.Sink.writing c.audit_piece.new.out) c.in-Ok-None.field-0
+    c.in-Ok-None.field-0-is
+    (c.in-Ok-None.ensures.takes skew h)
 
 pub returns-in-Err-clause-audits : goal.returns-in-Err-clause-audits
-returns-in-Err-clause-audits g c = λ first.
-    let (h, u) = c.loop.invariant first in
-    underway-fails c.args.head.now (g.D.Source.reading c.args.dump.now) (g.D.Source.reading c.loop.dump)
+returns-in-Err-clause-audits g c = λ skew first.
+    let (h, u) = c.loop.invariant skew first in
+    underway-fails skew c.args.head.now (g.D.Source.reading c.args.dump.now) (g.D.Source.reading c.loop.dump)
     (g.O.Sink.writing c.args.out.now) (g.O.Sink.writing c.loop.out) c.args.auditor.now c.loop.auditor c.args.reader
     c.loop.reader c.args.input.now c.loop.input c.bytes-held.result.now u c.bytes-held.ensures
-    c.audit_piece.new.auditor (g.O.Sink.writing c.audit_piece.new.out) c.in-Err.why
-    (c.in-Err.ensures.takes h)
+    c.audit_piece.new.auditor c.audit_piece.new.settler (g.O.Sink.writing c.audit_piece.new.out) c.in-Err.why
+    (c.in-Err.ensures.takes skew h)
 
 pub returns-in-Ok-false-clause-audits : goal.returns-in-Ok-false-clause-audits
-returns-in-Ok-false-clause-audits g c = λ first.
-    let (h, u) = c.loop.invariant first in
+returns-in-Ok-false-clause-audits g c = λ skew first.
+    let (h, u) = c.loop.invariant skew first in
     let head = c.args.head.now in
     let source = g.D.Source.reading c.args.dump.now in
     let now = g.D.Source.reading c.loop.dump in
@@ -48,29 +49,31 @@ returns-in-Ok-false-clause-audits g c = λ first.
     let audit = c.loop.auditor in
     let later = c.audit_piece.new.auditor in
     let next = c.in-Ok-Some.next in
-    let takes = takes-some head audit later c.loop.reader c.bytes-held.result.now new then c.in-Ok-Some.field-0 next
-    c.in-Ok-Some.count c.in-Ok-Some.field-0-is (c.in-Ok-Some.ensures.takes h) in
-    let given = given-next c.given_is_a_front.ensures head c.loop.settler c.audit_piece.new.settler audit later
-    c.loop.reader next c.in-Ok-Some.count c.bytes-held.result.now new then h (c.in-Ok-Some.ensures.none h.unsettled)
-    takes
-    in
-    let on = underway-on head source now old new c.args.auditor.now audit c.args.reader c.loop.reader c.args.input.now
-    c.loop.input c.bytes-held.result.now u c.bytes-held.ensures later then next c.in-Ok-Some.count
+    let takes = takes-some skew head audit later c.audit_piece.new.settler c.loop.reader c.bytes-held.result.now new
+    then c.in-Ok-Some.field-0 next
+    c.in-Ok-Some.count c.in-Ok-Some.field-0-is (c.in-Ok-Some.ensures.takes skew h) in
+    let given = given-next skew head audit later c.audit_piece.new.settler c.loop.reader next c.in-Ok-Some.count
+    c.bytes-held.result.now new then takes in
+    let on = underway-on skew head source now old new c.args.auditor.now audit c.args.reader c.loop.reader
+    c.args.input.now
+    c.loop.input c.bytes-held.result.now u c.bytes-held.ensures later c.audit_piece.new.settler then next
+    c.in-Ok-Some.count
     c.drop_first.new.self c.drop_first.ensures takes in
     let (more, read, grown) = c.in-Ok-false.ensures.more in
-    let held = underway-read head source now old then c.args.auditor.now later c.args.reader next c.args.input.now
+    let held = underway-read skew head source now old then c.args.auditor.now later c.args.reader next c.args.input.now
     c.drop_first.new.self on after more c.read.new.self read grown in
-    underway-last head source after old then c.args.auditor.now later c.args.reader next c.args.input.now
+    underway-last skew head source after old then c.args.auditor.now later c.args.reader next c.args.input.now
     c.read.new.self
     held c.audit_last.new.auditor (g.O.Sink.writing c.audit_last.new.out) c.audit_last.result
     (c.in-Ok-false.ensures.end (ap Ok c.in-Ok-false.field-0-test))
-    (subst (λ l. EndsBehind head later (lines_of head later) (whole_reading next l) c.audit_last.new.auditor.recording
+    (subst (λ l. EndsBehind head later (lines_of head later) (settled_by skew (whole_reading next l))
+    c.audit_last.new.auditor.recording
     then (g.O.Sink.writing c.audit_last.new.out) c.audit_last.result) c.bytes-held-in-Ok-false.ensures
-    (c.audit_last.ensures.ends given))
+    (c.audit_last.ensures.ends skew given))
 
 pub returns-in-Err-read-clause-audits : goal.returns-in-Err-read-clause-audits
-returns-in-Err-read-clause-audits g c = λ first.
-    let (h, u) = c.loop.invariant first in
+returns-in-Err-read-clause-audits g c = λ skew first.
+    let (h, u) = c.loop.invariant skew first in
     let head = c.args.head.now in
     let source = g.D.Source.reading c.args.dump.now in
     let now = g.D.Source.reading c.loop.dump in
@@ -80,25 +83,26 @@ returns-in-Err-read-clause-audits g c = λ first.
     let audit = c.loop.auditor in
     let later = c.audit_piece.new.auditor in
     let next = c.in-Ok-Some.next in
-    let takes = takes-some head audit later c.loop.reader c.bytes-held.result.now new then c.in-Ok-Some.field-0 next
-    c.in-Ok-Some.count c.in-Ok-Some.field-0-is (c.in-Ok-Some.ensures.takes h) in
-    let given = given-next c.given_is_a_front.ensures head c.loop.settler c.audit_piece.new.settler audit later
-    c.loop.reader next c.in-Ok-Some.count c.bytes-held.result.now new then h (c.in-Ok-Some.ensures.none h.unsettled)
-    takes
-    in
-    let on = underway-on head source now old new c.args.auditor.now audit c.args.reader c.loop.reader c.args.input.now
-    c.loop.input c.bytes-held.result.now u c.bytes-held.ensures later then next c.in-Ok-Some.count
+    let takes = takes-some skew head audit later c.audit_piece.new.settler c.loop.reader c.bytes-held.result.now new
+    then c.in-Ok-Some.field-0 next
+    c.in-Ok-Some.count c.in-Ok-Some.field-0-is (c.in-Ok-Some.ensures.takes skew h) in
+    let given = given-next skew head audit later c.audit_piece.new.settler c.loop.reader next c.in-Ok-Some.count
+    c.bytes-held.result.now new then takes in
+    let on = underway-on skew head source now old new c.args.auditor.now audit c.args.reader c.loop.reader
+    c.args.input.now
+    c.loop.input c.bytes-held.result.now u c.bytes-held.ensures later c.audit_piece.new.settler then next
+    c.in-Ok-Some.count
     c.drop_first.new.self c.drop_first.ensures takes in
-    underway-ends head source now old then c.args.auditor.now later c.args.reader next c.args.input.now
+    underway-ends skew head source now old then c.args.auditor.now later c.args.reader next c.args.input.now
     c.drop_first.new.self on {A = Unit {0}} later then (Err c.not_read.result)
-    (λ rest. no-more-ends c.reading_goes_on.ensures.breaks c.given_is_a_front.ensures head c.audit_piece.new.settler
-    later
-    next given then c.in-Err-read.fault c.not_read.result later.recording c.not_read.ensures
+    (λ rest. no-more-ends c.reading_goes_on.ensures.breaks c.given_is_a_front.ensures c.times_go_on.ensures.follows
+    c.times_go_on.ensures.on head skew c.audit_piece.new.settler later next given then c.in-Err-read.fault
+    c.not_read.result later.recording c.not_read.ensures
     (c.drop_first.new.self ++ rest))
 
 pub loop-preserved : goal.loop-preserved
-loop-preserved g c = λ first.
-    let (h, u) = c.loop.invariant first in
+loop-preserved g c = λ skew first.
+    let (h, u) = c.loop.invariant skew first in
     let head = c.args.head.now in
     let source = g.D.Source.reading c.args.dump.now in
     let now = g.D.Source.reading c.loop.dump in
@@ -109,42 +113,44 @@ loop-preserved g c = λ first.
     let audit = c.loop.auditor in
     let later = c.audit_piece.new.auditor in
     let next = c.in-Ok-Some.next in
-    let takes = takes-some head audit later c.loop.reader c.bytes-held.result.now new then c.in-Ok-Some.field-0 next
-    c.in-Ok-Some.count c.in-Ok-Some.field-0-is (c.in-Ok-Some.ensures.takes h) in
-    let given = given-next c.given_is_a_front.ensures head c.loop.settler c.audit_piece.new.settler audit later
-    c.loop.reader next c.in-Ok-Some.count c.bytes-held.result.now new then h (c.in-Ok-Some.ensures.none h.unsettled)
-    takes
-    in
-    let on = underway-on head source now old new c.args.auditor.now audit c.args.reader c.loop.reader c.args.input.now
-    c.loop.input c.bytes-held.result.now u c.bytes-held.ensures later then next c.in-Ok-Some.count
+    let takes = takes-some skew head audit later c.audit_piece.new.settler c.loop.reader c.bytes-held.result.now new
+    then c.in-Ok-Some.field-0 next
+    c.in-Ok-Some.count c.in-Ok-Some.field-0-is (c.in-Ok-Some.ensures.takes skew h) in
+    let given = given-next skew head audit later c.audit_piece.new.settler c.loop.reader next c.in-Ok-Some.count
+    c.bytes-held.result.now new then takes in
+    let on = underway-on skew head source now old new c.args.auditor.now audit c.args.reader c.loop.reader
+    c.args.input.now
+    c.loop.input c.bytes-held.result.now u c.bytes-held.ensures later c.audit_piece.new.settler then next
+    c.in-Ok-Some.count
     c.drop_first.new.self c.drop_first.ensures takes in
     let (more, read, grown) = c.in-Ok-true.ensures.more in (
       given,
-      underway-read head source now old then c.args.auditor.now later c.args.reader next c.args.input.now
+      underway-read skew head source now old then c.args.auditor.now later c.args.reader next c.args.input.now
           c.drop_first.new.self on after more c.read.new.self read grown,
     )
 
 pub returns-clause-audits : goal.returns-clause-audits
-returns-clause-audits g c = λ first.
-    let (h, u) = c.loop.invariant first in
+returns-clause-audits g c = λ skew first.
+    let (h, u) = c.loop.invariant skew first in
     let head = c.args.head.now in
     let new = g.O.Sink.writing c.loop.out in
-    underway-ends head (g.D.Source.reading c.args.dump.now) (g.D.Source.reading c.loop.dump)
+    underway-ends skew head (g.D.Source.reading c.args.dump.now) (g.D.Source.reading c.loop.dump)
     (g.O.Sink.writing c.args.out.now) new c.args.auditor.now c.loop.auditor c.args.reader c.loop.reader
     c.args.input.now c.loop.input u {A = Unit {0}} c.loop.auditor new (Err CannotRead)
-    (λ rest. unread-ends c.reading_goes_on.ensures.breaks c.given_is_a_front.ensures head c.loop.settler c.loop.auditor
+    (λ rest. unread-ends c.reading_goes_on.ensures.breaks c.given_is_a_front.ensures c.times_go_on.ensures.follows
+    c.times_go_on.ensures.on head skew c.loop.settler c.loop.auditor
     c.loop.reader h new (Unit {0}) c.loop.auditor.recording (c.loop.input ++ rest))
 
 pub returns-in-Ok-None-clause-kept : goal.returns-in-Ok-None-clause-kept
-returns-in-Ok-None-clause-kept g c = λ first.
-    let (h, u) = c.loop.invariant first in
-    later-both c.args.auditor.now c.loop.auditor c.audit_piece.new.auditor c.loop.reader.given u.same
+returns-in-Ok-None-clause-kept g c = λ skew first.
+    let (h, u) = c.loop.invariant skew first in
+    later-both c.args.auditor.now c.loop.auditor c.audit_piece.new.auditor c.loop.auditor.recording u.same
     (kept-none c.loop.auditor c.audit_piece.new.auditor c.in-Ok-None.field-0 c.in-Ok-None.field-0-is
-    (c.in-Ok-None.ensures.kept h))
+    (c.in-Ok-None.ensures.kept skew h))
 
 pub returns-in-Ok-false-clause-kept : goal.returns-in-Ok-false-clause-kept
-returns-in-Ok-false-clause-kept g c = λ first.
-    let (h, u) = c.loop.invariant first in
+returns-in-Ok-false-clause-kept g c = λ skew first.
+    let (h, u) = c.loop.invariant skew first in
     let head = c.args.head.now in
     let source = g.D.Source.reading c.args.dump.now in
     let now = g.D.Source.reading c.loop.dump in
@@ -154,14 +160,15 @@ returns-in-Ok-false-clause-kept g c = λ first.
     let audit = c.loop.auditor in
     let later = c.audit_piece.new.auditor in
     let next = c.in-Ok-Some.next in
-    let takes = takes-some head audit later c.loop.reader c.bytes-held.result.now new then c.in-Ok-Some.field-0 next
-    c.in-Ok-Some.count c.in-Ok-Some.field-0-is (c.in-Ok-Some.ensures.takes h) in
-    let given = given-next c.given_is_a_front.ensures head c.loop.settler c.audit_piece.new.settler audit later
-    c.loop.reader next c.in-Ok-Some.count c.bytes-held.result.now new then h (c.in-Ok-Some.ensures.none h.unsettled)
-    takes
-    in
-    let on = underway-on head source now old new c.args.auditor.now audit c.args.reader c.loop.reader c.args.input.now
-    c.loop.input c.bytes-held.result.now u c.bytes-held.ensures later then next c.in-Ok-Some.count
+    let takes = takes-some skew head audit later c.audit_piece.new.settler c.loop.reader c.bytes-held.result.now new
+    then c.in-Ok-Some.field-0 next
+    c.in-Ok-Some.count c.in-Ok-Some.field-0-is (c.in-Ok-Some.ensures.takes skew h) in
+    let given = given-next skew head audit later c.audit_piece.new.settler c.loop.reader next c.in-Ok-Some.count
+    c.bytes-held.result.now new then takes in
+    let on = underway-on skew head source now old new c.args.auditor.now audit c.args.reader c.loop.reader
+    c.args.input.now
+    c.loop.input c.bytes-held.result.now u c.bytes-held.ensures later c.audit_piece.new.settler then next
+    c.in-Ok-Some.count
     c.drop_first.new.self c.drop_first.ensures takes in
-    later-ok c.args.auditor.now later c.audit_last.new.auditor next.given on.same c.audit_last.result
-    (c.audit_last.ensures.kept given)
+    later-ok c.args.auditor.now later c.audit_last.new.auditor later.recording on.same c.audit_last.result
+    (c.audit_last.ensures.kept skew given)

@@ -1,30 +1,71 @@
-use Rattle.std.proofs.Common.{◌≡◌, ap, ◌∙◌}
+use Rattle.std.proofs.Common.{[], Ok, ap, subst, sym}
 use Rattle.vme_trace.specs.Followed.{with_steps}
-use Rattle.vme_trace.specs.WellFormed.{malformed_step}
 use Rattle.vme_step_reader.specs.StepReading.{whole_reading}
+use Rattle.vme_audit_command.specs.Bodies.{EndsBehind}
+use Rattle.vme_audit_command.specs.DumpAudits.{lines_of}
+use Rattle.vme_audit_command.specs.SettledReadings.{settled_by, settled_whole}
 use Rattle.vme_audit_command.proofs.Later.{later-by}
-use Rattle.vme_audit_command.proofs.Given.{given-few, given-more, given-stops}
+use Rattle.vme_audit_command.proofs.Onward.{last-from, last-is, last-on, to-end}
+use Rattle.vme_audit_command.proofs.PieceLemmas.{cut-ends, whole-ends}
 use Rattle.vme_audit_command.proofs.body.audit_last.Goals as goal
 
 pub returns-in-Err-clause-ends : goal.returns-in-Err-clause-ends
-returns-in-Err-clause-ends g c = λ h.
+returns-in-Err-clause-ends g c = λ skew h.
+    c.audit_stopped.ensures.ends skew c.args.reader c.args.bytes.now h c.in-Err.ensures.stopped
+
+pub returns-in-Err-clause-kept : goal.returns-in-Err-clause-kept
+returns-in-Err-clause-kept g c = λ skew h.
+    c.audit_stopped.ensures.kept skew c.args.reader c.args.bytes.now h c.in-Err.ensures.stopped
+
+pub returns-in-Ok-audit_ended-clause-kept : goal.returns-in-Ok-audit_ended-clause-kept
+returns-in-Ok-audit_ended-clause-kept g c = λ skew h.
+    let law = c.times_go_on.ensures in
+    let r = c.args.reader in
+    let audit = c.args.auditor.now in
+    let settler = c.args.settler.now in
+    let steps = c.in-Ok.steps.items in
+    let from = (whole_reading r []).time in
+    let last = last-from law.follows law.within law.on skew settler audit r h c.args.bytes.now steps
+    c.in-Ok.ensures.recorded in
+    let on = to-end skew settler r.given from audit.recording h.comes steps last in
+    later-by audit c.audit_ended.new.auditor (settled_whole skew (with_steps r.given steps))
+    (c.in-Ok-audit_ended.ensures.given skew r.given from h.comes last) on.formed
+
+pub returns-in-Ok-audit_ended-clause-ends : goal.returns-in-Ok-audit_ended-clause-ends
+returns-in-Ok-audit_ended-clause-ends g c = λ skew h.
+    let law = c.times_go_on.ensures in
     let r = c.args.reader in
     let bytes = c.args.bytes.now in
     let audit = c.args.auditor.now in
-    let reading = whole_reading r bytes in
-    let (more, is) = c.given_is_a_front.ensures r bytes in
-    c.audit_stopped.ensures.ends h.unsettled reading more (h.formed bytes)
-    (given-few c.args.settler.now audit r h) (given-more c.args.settler.now audit r h reading.recorded more is)
-    (given-stops c.args.settler.now audit r h c.in-Err.stopped reading c.in-Err.ensures.stopped)
-
-pub returns-in-Err-clause-kept : goal.returns-in-Err-clause-kept
-returns-in-Err-clause-kept g c = λ h.
-    c.audit_stopped.ensures.kept h.unsettled (λ other. ap (λ t. malformed_step
-    (with_steps t c.in-Err.stopped.steps.items))
-    h.given ∙ c.in-Err.ensures.formed_before other)
-
-pub returns-in-Ok-audit_ended-clause-kept : goal.returns-in-Ok-audit_ended-clause-kept
-returns-in-Ok-audit_ended-clause-kept g c = λ h.
+    let settler = c.args.settler.now in
     let steps = c.in-Ok.steps.items in
-    later-by c.args.auditor.now c.audit_ended.new.auditor steps (c.in-Ok-audit_ended.ensures.given h.unsettled)
-    (ap (λ t. malformed_step (with_steps t steps)) h.given ∙ c.in-Ok.ensures.formed)
+    let from = (whole_reading r []).time in
+    let t = settled_whole skew (with_steps r.given steps) in
+    let last = last-from law.follows law.within law.on skew settler audit r h bytes steps c.in-Ok.ensures.recorded in
+    let is = last-is law.follows law.within law.on skew settler audit r h bytes steps c.in-Ok.ensures.recorded
+    c.in-Ok.ensures.whole in
+    subst (λ x. EndsBehind {A = Unit {0}} c.args.head.now audit (lines_of c.args.head.now audit)
+    (settled_by skew (whole_reading r bytes)) x (g.O.Sink.writing c.args.out.now)
+    (g.O.Sink.writing c.audit_ended.new.out) (Ok tt))
+    (sym (ap (λ a. a.recording) (c.in-Ok-audit_ended.ensures.given skew r.given from h.comes last)))
+    (whole-ends c.args.head.now audit (settled_by skew (whole_reading r bytes)) t (g.O.Sink.writing c.args.out.now)
+    (g.O.Sink.writing c.audit_ended.new.out) is c.in-Ok.ensures.whole
+    (c.in-Ok-audit_ended.ensures.told skew r.given from h.comes last))
+
+pub returns-in-Err-audit_ended-clause-ends : goal.returns-in-Err-audit_ended-clause-ends
+returns-in-Err-audit_ended-clause-ends g c = λ skew h.
+    let law = c.times_go_on.ensures in
+    let r = c.args.reader in
+    let bytes = c.args.bytes.now in
+    let audit = c.args.auditor.now in
+    let settler = c.args.settler.now in
+    let steps = c.in-Ok.steps.items in
+    let from = (whole_reading r []).time in
+    let t = settled_whole skew (with_steps r.given steps) in
+    let last = last-from law.follows law.within law.on skew settler audit r h bytes steps c.in-Ok.ensures.recorded in
+    cut-ends (Unit {0}) (Unit {0}) c.reading_goes_on.ensures.breaks c.args.head.now audit
+    (settled_by skew (whole_reading r bytes)) t (g.O.Sink.writing c.args.out.now)
+    (g.O.Sink.writing c.audit_ended.new.out) c.in-Err-audit_ended.fault c.audit_ended.new.auditor.recording
+    (last-on law.follows law.within law.on skew settler audit r h bytes steps c.in-Ok.ensures.recorded
+    c.in-Ok.ensures.whole)
+    (c.in-Err-audit_ended.ensures.told skew r.given from h.comes last)

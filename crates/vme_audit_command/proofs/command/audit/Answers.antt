@@ -1,8 +1,8 @@
 use Rattle.vme_audit_command.proofs.WriteLemmas.{writes-nothing}
 use Rattle.vme_audit_command.proofs.command.audit.Goals as goal
 
-pub returns-in-Err : goal.returns-in-Err
-returns-in-Err g c =
+pub returns-in-Err-clause-refused : goal.returns-in-Err-clause-refused
+returns-in-Err-clause-refused g c =
     let (bytes, read, gives) = c.in-Err.ensures in
     λ _. record {
       bytes = bytes;
@@ -12,4 +12,15 @@ returns-in-Err g c =
       out_is = writes-nothing (g.O.Sink.writing c.args.out.now);
       err_is = rw c.refusal_line.ensures at c.complain.ensures;
       status_is = c.status.ensures;
+    }
+
+pub returns-in-Ok-clause-audited : goal.returns-in-Ok-clause-audited
+returns-in-Ok-clause-audited g c =
+    let (bytes, read, gives) = c.in-Ok.ensures in
+    λ _. record {
+      bytes = bytes;
+      bound = c.in-Ok.bound;
+      read = read;
+      is = gives;
+      audits = c.audit_all.ensures;
     }

@@ -1,0 +1,185 @@
+-- How the audit of a dump ends.
+use Rattle.std.proofs.Common.{◌≡◌, ◌⊎◌, ℕ, List, [], ◌∷◌, ◌++◌, All, length, take, Result, Ok, Err, inl, inr}
+use Rattle.std.proofs.Common.{refl, sym, ap, subst, ◌∙◌}
+use Rattle.std.proofs.Math.Seq.{take-length}
+use Rattle.std.proofs.lemmas.List.Elements.{All-cons, All-nil}
+use Rattle.vme_trace.specs.Streams.{Writing}
+use Rattle.vme_trace.specs.Trace.{Trace}
+use Rattle.vme_bind.specs.Binding.{BoundLines}
+use Rattle.vme_bind.specs.TextReading.{TextReading, reading_of_text}
+use Rattle.vme_bind.specs.declared.fault.CaptureFault.{CaptureFault}
+use Rattle.vme_stream.specs.Outputs.{Writes}
+use Rattle.vme_answer.specs.Texts.{refusal_status}
+use Rattle.vme_answer.specs.declared.refusal.Input.TheVariants.{Dump}
+use Rattle.vme_answer.specs.declared.refusal.Refusal.{Refusal}
+use Rattle.vme_answer.specs.declared.refusal.Refusal.TheVariants as refusal
+use Rattle.vme_audit.specs.declared.outcome.Outcome.{Outcome}
+use Rattle.vme_audit.specs.declared.outcome.Outcome.TheVariants as outcome
+use Rattle.vme_audit_lines.specs.AuditLines.{head_of, outcome_status}
+use Rattle.vme_audit_command.specs.Bodies.{ended_at}
+use Rattle.vme_audit_command.specs.Definitions.{AreAll}
+use Rattle.vme_audit_command.specs.DumpAudits.{break_lines}
+use Rattle.vme_audit_command.specs.SettledReadings.{settled_by, skew_of}
+use Rattle.vme_audit_command.specs.DumpAnswers.{AuditsDump, DumpAnswer, DumpRules, answer_by, dump_answer, dump_outcome}
+use Rattle.vme_audit_command.specs.DumpEnds.{AuditsNamed, EndsWith, RefusesAs, TellsEnd}
+use Rattle.vme_audit_command.specs.SeveralDumps.{IsEndOf, IsErrorLine, IsFront, NamedReading}
+use Rattle.vme_audit_command.specs.SeveralDumps.{TriesEach, answer_to, end_by, memory_line, refusal_line_of}
+use Rattle.vme_audit_command.specs.declared.told.NoOutcome.{NoOutcome}
+use Rattle.vme_audit_command.specs.declared.told.NoOutcome.TheVariants.{CannotRead, Refused, Untold}
+use Rattle.vme_audit_command.specs.declared.told.TellFault.TheVariants.{Memory, CannotWrite}
+use Rattle.vme_audit_command.proofs.SeveralLemmas.{not-five}
+
+-- ---- no status but that of a write that fails is 5
+
+outcome-other : (o : Outcome) → outcome_status o ≡ 5 → ⊥
+outcome-other (outcome.Conforming n) is = not-five 0 refl is
+outcome-other outcome.Broken is = not-five 1 refl is
+outcome-other outcome.Unreadable is = not-five 2 refl is
+outcome-other (outcome.NotCovered gap) is = not-five 6 refl is
+
+refusal-other : (why : Refusal) → refusal_status why ≡ 5 → ⊥
+refusal-other refusal.Memory is = not-five 4 refl is
+refusal-other why is = not-five 3 refl is
+
+abbrev status_or_zero : Result ℕ Refusal → ℕ
+status_or_zero (Ok status) = status
+status_or_zero (Err why) = 0
+
+ended-by : (rules : DumpRules) (head lines : List ℕ) (ended : Result Trace Refusal) (status : ℕ)
+    → (answer_by rules head lines ended).ended ≡ Ok status → status ≡ 5 → ⊥
+ended-by rules head lines (Ok a) status is five =
+    outcome-other (dump_outcome rules head a) (ap status_or_zero is ∙ five)
+ended-by rules head lines (Err why) status is five = not-five 0 refl (ap status_or_zero is ∙ five)
+
+ended-other : (rules : DumpRules) (head : List ℕ) (reading : Result TextReading CaptureFault) (status : ℕ)
+    → (dump_answer rules head reading).ended ≡ Ok status → status ≡ 5 → ⊥
+ended-other rules head (Ok reading) status is five =
+    let settled = settled_by (skew_of rules.skew) reading in
+    ended-by rules head (break_lines rules.allowances rules.stop head settled.recorded)
+    (ended_at rules.allowances rules.stop settled.recorded settled.fault) status is five
+ended-other rules head (Err fault) status is five = not-five 0 refl (ap status_or_zero is ∙ five)
+
+-- ---- what is told of a dump without an outcome
+
+pub whole-is-front : (text : List ℕ) → IsFront text text
+whole-is-front text = (length text, sym (take-length text))
+
+module _ (name : List ℕ) (answer : DumpAnswer) (out : List ℕ) (is_front : IsFront out answer.out) where
+  -- there was no memory
+  lacks : (before : List (List ℕ)) (last : List ℕ) (status : ℕ) → All (IsErrorLine name) before
+      → (last ≡ memory_line) ⊎ (last ≡ refusal_line_of name refusal.Memory) → status ≡ 4
+      → (errors : List (List ℕ)) → errors ≡ before ++ last ∷ []
+      → IsEndOf name answer (record { out = out; errors = errors; status = status })
+  lacks before last status others tells four errors is = inr (inr (record {
+    out = is_front;
+    before = before;
+    last = last;
+    errors = is;
+    others = others;
+    tells = tells;
+    status = four;
+  }))
+
+  one-line : (line : List ℕ) → IsErrorLine name line → All (IsErrorLine name) (line ∷ [])
+  one-line line is = All-cons (IsErrorLine name) line [] is (All-nil (IsErrorLine name))
+
+  -- what is told on standard error, and how the dump ends so
+  abbrev EndsSo : Writing → Writing → ℕ → Type 0
+  EndsSo e p status =
+      (errors : List (List ℕ)) × IsEndOf name answer (record { out = out; errors = errors; status = status })
+      × TriesEach e p errors × (status ≡ 5 → ⊥)
+
+  -- it has an outcome
+  kept-so : (e p : Writing) (ended status : ℕ)
+      → IsEndOf name answer (record { out = out; errors = []; status = ended }) → (ended ≡ 5 → ⊥)
+      → EndsWith ended e p status → EndsSo e p status
+  kept-so e p ended status told other (inl (nothing, is)) = (
+    [],
+    subst (λ (n : ℕ). IsEndOf name answer (record { out = out; errors = []; status = n })) (sym is) told,
+    nothing,
+    λ five. other (sym is ∙ five),
+  )
+  kept-so e p ended status told other (inr (tries, four)) = (
+    memory_line ∷ [],
+    lacks [] memory_line status (All-nil (IsErrorLine name)) (inl refl) four (memory_line ∷ []) refl,
+    (p, tries, refl),
+    λ five. not-five 4 refl (sym four ∙ five),
+  )
+
+  -- it has none
+  refused-so : (why : Refusal) (e p : Writing) (status : ℕ) → IsEndOf name answer (end_by name out (Err why))
+      → RefusesAs name why e p status → EndsSo e p status
+  refused-so why e p status told (w, ended, inl (tries, from), inl (nothing, is)) = (
+    refusal_line_of name why ∷ [],
+    subst (λ (n : ℕ). IsEndOf name answer
+        (record { out = out; errors = refusal_line_of name why ∷ []; status = n })) (sym (is ∙ from)) told,
+    (w, tries, nothing),
+    λ five. refusal-other why (sym (is ∙ from) ∙ five),
+  )
+  refused-so why e p status told (w, ended, inl (tries, from), inr (others, four)) = (
+    refusal_line_of name why ∷ memory_line ∷ [],
+    lacks (refusal_line_of name why ∷ []) memory_line status
+        (one-line (refusal_line_of name why) (inr (why, refl))) (inl refl) four
+        (refusal_line_of name why ∷ memory_line ∷ []) refl,
+    (w, tries, (p, others, refl)),
+    λ five. not-five 4 refl (sym four ∙ five),
+  )
+  refused-so why e p status told (w, ended, inr (tries, from), inl (nothing, is)) = (
+    memory_line ∷ [],
+    lacks [] memory_line status (All-nil (IsErrorLine name)) (inl refl) (is ∙ from) (memory_line ∷ []) refl,
+    (w, tries, nothing),
+    λ five. not-five 4 refl (sym (is ∙ from) ∙ five),
+  )
+  refused-so why e p status told (w, ended, inr (tries, from), inr (others, four)) = (
+    memory_line ∷ memory_line ∷ [],
+    lacks (memory_line ∷ []) memory_line status (one-line memory_line (inl refl)) (inl refl) four
+        (memory_line ∷ memory_line ∷ []) refl,
+    (w, tries, (p, others, refl)),
+    λ five. not-five 4 refl (sym four ∙ five),
+  )
+
+-- ---- a dump
+
+module _ (rules : DumpRules) (bound : BoundLines) (named : NamedReading) (u v e p : Writing) (status : ℕ) where
+  ends-so : (bytes : List ℕ) → AreAll named.dump bytes → (out : List ℕ) → Writes u v out
+      → (is_front : IsFront out (answer_to rules bound named.name bytes).out)
+      → EndsSo named.name (answer_to rules bound named.name bytes) out is_front e p status
+      → AuditsNamed rules bound named (u, v) (e, p) status
+  ends-so bytes all out writes is_front (errors, is, tries, other) = inl (record {
+    end = record { out = out; errors = errors; status = status };
+    may = (bytes, all, is);
+    out_is = writes;
+    err_is = tries;
+    status_is = refl;
+    other = other;
+  })
+
+  pub audits-named : (ended : Result ℕ NoOutcome)
+      → AuditsDump rules (head_of named.name) bound named.dump u v ended → TellsEnd named.name ended e p status
+      → AuditsNamed rules bound named (u, v) (e, p) status
+  audits-named (Ok n) (bytes, all, (writes, is)) tells =
+      let answer = answer_to rules bound named.name bytes in
+      ends-so bytes all answer.out writes (whole-is-front answer.out)
+      (kept-so named.name answer answer.out (whole-is-front answer.out) e p n status
+      (inl (ap (end_by named.name answer.out) (sym is)))
+      (ended-other rules (head_of named.name) (reading_of_text bound bytes) n is) tells)
+  audits-named (Err (Refused why)) (bytes, all, (writes, is)) tells =
+      let answer = answer_to rules bound named.name bytes in
+      ends-so bytes all answer.out writes (whole-is-front answer.out)
+      (refused-so named.name answer answer.out (whole-is-front answer.out) why e p status
+      (inl (ap (end_by named.name answer.out) (sym is))) tells)
+  audits-named (Err CannotRead) (bytes, all, ((n, appends), same)) tells =
+      let answer = answer_to rules bound named.name bytes in
+      let front = take n answer.out in
+      ends-so bytes all front (appends, same) (n, refl)
+      (refused-so named.name answer front (n, refl) (refusal.CannotRead Dump) e p status
+      (inr (inl (front, (n, refl), refl))) tells)
+  audits-named (Err (Untold Memory)) (bytes, all, ((n, appends), same)) tells =
+      let answer = answer_to rules bound named.name bytes in
+      let front = take n answer.out in
+      ends-so bytes all front (appends, same) (n, refl)
+      (refused-so named.name answer front (n, refl) refusal.Memory e p status
+      (lacks named.name answer front (n, refl) [] (refusal_line_of named.name refusal.Memory) 4
+      (All-nil (IsErrorLine named.name)) (inr refl) refl (refusal_line_of named.name refusal.Memory ∷ []) refl) tells)
+  audits-named (Err (Untold CannotWrite)) (bytes, all, fails) (tries, is) =
+      inr (record { bytes = bytes; all = all; out_is = fails; err_is = tries; status_is = is })

@@ -1,0 +1,208 @@
+-- One dump after the other.
+use Rattle.std.proofs.Common.{◌≡◌, ◌⊎◌, ℕ, ◌+◌, ◌<◌, ◌≤◌, Bool, true, false, ◌||◌, if◌then◌else◌, nat_eq, List, [], ◌∷◌}
+use Rattle.std.proofs.Common.{◌++◌, flat_map, length, get_or, take, drop, map, inl, inr}
+use Rattle.std.proofs.Common.{refl, sym, ap, subst, ◌∙◌, add-zero, append-nil, append_assoc, take-append-drop}
+use Rattle.std.specs.List.{AllZip, list_any}
+use Rattle.std.proofs.lemmas.Bool.{eq-eqb}
+use Rattle.std.proofs.lemmas.Grind.{flat_map-append}
+use Rattle.std.proofs.lemmas.List.{get_or-drop, map-append, take_all, take_more}
+use Rattle.std.proofs.lemmas.List.Folds.{list_any-append}
+use Rattle.vme_trace.specs.Streams.{Writing}
+use Rattle.vme_bind.specs.Binding.{BoundLines}
+use Rattle.vme_stream.specs.Outputs.{TriesToWrite, Writes}
+use Rattle.vme_audit_command.specs.DumpAnswers.{DumpRules}
+use Rattle.vme_audit_command.specs.DumpEnds.{CannotTellDump, TellsDump}
+use Rattle.vme_audit_command.specs.SeveralDumps.{AuditsDumps, CannotTell, DumpEnd, MayEnd, NamedReading, TellsDumps}
+use Rattle.vme_audit_command.specs.SeveralDumps.{TriesEach, audit_status, cannot_write_line, first_occurred}
+use Rattle.vme_audit_command.proofs.WriteLemmas.{fails-after, writes-both, writes-nothing}
+
+-- ---- the status
+
+-- this is none of some statuses
+abbrev Apart : ℕ → List ℕ → Type 0
+Apart s statuses = (occurred : List ℕ) → nat_eq (first_occurred statuses occurred) s ≡ false
+
+apart-none : (s : ℕ) → nat_eq 0 s ≡ false → Apart s []
+apart-none s other occurred = other
+
+apart-then : (s t : ℕ) (statuses : List ℕ) → nat_eq t s ≡ false → Apart s statuses → Apart s (t ∷ statuses)
+apart-then s t statuses other apart occurred = by (list_any (λ n. nat_eq n t) occurred)
+  where
+    by : (b : Bool) → nat_eq (if b then t else first_occurred statuses occurred) s ≡ false
+    by true = other
+    by false = apart occurred
+
+-- what is first of all is first of the first of those before, and of the last
+abbrev IsFirst : List ℕ → Type 0
+IsFirst statuses = (occurred : List ℕ) (last : ℕ)
+    → first_occurred statuses (occurred ++ last ∷ [])
+    ≡ first_occurred statuses (first_occurred statuses occurred ∷ last ∷ [])
+
+first-then : (s : ℕ) (statuses : List ℕ) → Apart s statuses → IsFirst statuses → IsFirst (s ∷ statuses)
+first-then s statuses apart first occurred last =
+    ap (λ (b : Bool). if b then s else first_occurred statuses (occurred ++ last ∷ []))
+    (list_any-append (λ n. nat_eq n s) occurred (last ∷ []))
+    ∙ by (list_any (λ n. nat_eq n s) occurred) (nat_eq last s)
+  where
+    r : ℕ
+    r = first_occurred statuses occurred
+
+    both : Bool → ℕ → ℕ
+    both b f = if nat_eq f s || (b || false) then s else first_occurred statuses (f ∷ last ∷ [])
+
+    by : (a b : Bool) → (if a || (b || false) then s else first_occurred statuses (occurred ++ last ∷ []))
+        ≡ both b (if a then s else r)
+    by true b = ap (λ (e : Bool). if e || (b || false) then s else first_occurred statuses (s ∷ last ∷ []))
+        (sym (eq-eqb s s refl))
+    by false true = ap (λ (e : Bool). if e || true then s else first_occurred statuses (r ∷ last ∷ []))
+        (sym (apart occurred))
+    by false false = first occurred last
+        ∙ ap (λ (e : Bool). if e || false then s else first_occurred statuses (r ∷ last ∷ [])) (sym (apart occurred))
+
+-- a dump more
+pub status-then : (occurred : List ℕ) (last : ℕ)
+    → audit_status (occurred ++ last ∷ []) ≡ audit_status (audit_status occurred ∷ last ∷ [])
+status-then =
+    let n0 : (s : ℕ) → nat_eq 0 s ≡ false → Apart s [] = apart-none in
+    let l6 = 6 ∷ [] in
+    let l2 = 2 ∷ l6 in
+    let l1 = 1 ∷ l2 in
+    let l3 = 3 ∷ l1 in
+    let l4 = 4 ∷ l3 in
+    first-then 5 l4 (apart-then 5 4 l3 refl (apart-then 5 3 l1 refl (apart-then 5 1 l2 refl
+    (apart-then 5 2 l6 refl (apart-then 5 6 [] refl (n0 5 refl))))))
+    (first-then 4 l3 (apart-then 4 3 l1 refl (apart-then 4 1 l2 refl (apart-then 4 2 l6 refl
+    (apart-then 4 6 [] refl (n0 4 refl)))))
+    (first-then 3 l1 (apart-then 3 1 l2 refl (apart-then 3 2 l6 refl (apart-then 3 6 [] refl (n0 3 refl))))
+    (first-then 1 l2 (apart-then 1 2 l6 refl (apart-then 1 6 [] refl (n0 1 refl)))
+    (first-then 2 l6 (apart-then 2 6 [] refl (n0 2 refl))
+    (first-then 6 [] (n0 6 refl) (λ occurred last. refl))))))
+
+-- ---- standard error
+
+pub tries-then : (a b c : Writing) (xs ys : List (List ℕ)) → TriesEach a b xs → TriesEach b c ys
+    → TriesEach a c (xs ++ ys)
+tries-then a b c [] ys none two = subst (λ (w : Writing). TriesEach w c ys) none two
+tries-then a b c (x ∷ xs) ys one two =
+    let (next, first, others) = one in
+    (next, first, tries-then next b c xs ys others two)
+
+pub tries-one : (a b : Writing) (x : List ℕ) → TriesToWrite a b x → TriesEach a b (x ∷ [])
+tries-one a b x one = (b, one, refl)
+
+-- ---- each dump
+
+zip-then : {A B : Type 0} (R : A → B → Type 0) (xs : List A) (ys : List B) (x : A) (y : B) → AllZip R xs ys → R x y
+    → AllZip R (xs ++ x ∷ []) (ys ++ y ∷ [])
+zip-then R [] [] x y none is = (is, tt)
+zip-then R [] (y ∷ ys) u v none is = absurd none
+zip-then R (x ∷ xs) [] u v none is = absurd none
+zip-then R (x ∷ xs) (y ∷ ys) u v each is = (each.0, zip-then R xs ys u v each.1 is)
+
+flat-then : {X A : Type 0} (f : X → List A) (xs : List X) (x : X) → flat_map f xs ++ f x ≡ flat_map f (xs ++ x ∷ [])
+flat-then f xs x = ap (λ l. flat_map f xs ++ l) (sym (append-nil (f x))) ∙ sym (flat_map-append f xs (x ∷ []))
+
+pub not-five : (n : ℕ) → nat_eq n 5 ≡ false → n ≡ 5 → ⊥
+not-five n other is = differ (sym (eq-eqb n 5 is) ∙ other)
+  where
+    differ : true ≡ false → ⊥
+    differ same = cc
+
+module _ (rules : DumpRules) (bound : BoundLines) where
+  pub tells-none : (out err : Writing) → TellsDumps rules bound [] (out, out) (err, err) 0
+  tells-none out err = record {
+    ends = [];
+    each = tt;
+    out_is = writes-nothing out;
+    err_is = refl;
+    status_is = refl;
+  }
+
+  module _ (dumps : List NamedReading) (named : NamedReading) (a b c e p h : Writing) (so_far ended : ℕ)
+      (before : TellsDumps rules bound dumps (a, b) (e, p) so_far) where
+    -- a dump more
+    tells-then : TellsDump rules bound named (b, c) (p, h) ended
+        → TellsDumps rules bound (dumps ++ named ∷ []) (a, c) (e, h) (audit_status (so_far ∷ ended ∷ []))
+    tells-then one = record {
+      ends = before.ends ++ one.end ∷ [];
+      each = zip-then (MayEnd rules bound) dumps before.ends named one.end before.each one.may;
+      out_is = subst (Writes a c) (flat-then (λ (x : DumpEnd). x.out) before.ends one.end)
+          (writes-both a b c _ one.end.out before.out_is one.out_is);
+      err_is = subst (TriesEach e h) (flat-then (λ (x : DumpEnd). x.errors) before.ends one.end)
+          (tries-then e p h _ one.end.errors before.err_is one.err_is);
+      status_is = ap (λ (n : ℕ). audit_status (n ∷ ended ∷ [])) before.status_is
+          ∙ ap (λ (n : ℕ). audit_status (audit_status (map (λ (x : DumpEnd). x.status) before.ends) ∷ n ∷ []))
+          one.status_is
+          ∙ sym (status-then (map (λ (x : DumpEnd). x.status) before.ends) one.end.status)
+          ∙ ap audit_status (sym (map-append (λ (x : DumpEnd). x.status) before.ends (one.end ∷ [])));
+    }
+
+    -- a dump whose text can't be written
+    cannot-then : (others : List NamedReading) → CannotTellDump rules bound named (b, c) (p, h) ended
+        → CannotTell rules bound (dumps ++ named ∷ others) (a, c) (e, h) 5
+    cannot-then others one = record {
+      before = dumps;
+      named = named;
+      others = others;
+      split = refl;
+      ends = before.ends;
+      each = before.each;
+      bytes = one.bytes;
+      all = one.all;
+      out_is = fails-after a b c _ _ before.out_is one.out_is;
+      err_is = tries-then e p h _ (cannot_write_line ∷ []) before.err_is (tries-one p h cannot_write_line one.err_is);
+      status_is = refl;
+    }
+
+  module _ {A : Type 0} (f : A → NamedReading) (now dumps : List A) (i : ℕ) (x : A) (within : i < length now)
+      (same : length now ≡ length dumps) (is : x ≡ get_or now i x) (rest : drop i now ≡ drop i dumps) where
+    here : x ≡ get_or dumps i x
+    here =
+        is ∙ ap (λ (n : ℕ). get_or now n x) (sym (add-zero i)) ∙ sym (get_or-drop i now 0 x)
+        ∙ ap (λ (l : List A). get_or l 0 x) rest ∙ get_or-drop i dumps 0 x
+        ∙ ap (λ (n : ℕ). get_or dumps n x) (add-zero i)
+
+    one-more : map f (take i dumps) ++ f x ∷ [] ≡ map f (take (i + 1) dumps)
+    one-more =
+        sym (map-append f (take i dumps) (x ∷ []))
+        ∙ ap (map f) (ap (λ (d : A). take i dumps ++ d ∷ []) here
+        ∙ sym (take_more dumps i x (subst (λ (n : ℕ). i < n) same within)))
+
+    module _ (a b c e p h : Writing) (so_far ended : ℕ)
+        (before : TellsDumps rules bound (map f (take i dumps)) (a, b) (e, p) so_far) where
+      -- the audit of the dump that stands there
+      abbrev Audits : A → Type 0
+      Audits d = TellsDump rules bound (f d) (b, c) (p, h) ended ⊎ CannotTellDump rules bound (f d) (b, c) (p, h) ended
+
+      tells-this : (ended ≡ 5 → ⊥) → Audits x
+          → TellsDumps rules bound (map f (take (i + 1) dumps)) (a, c) (e, h) (audit_status (so_far ∷ ended ∷ []))
+      tells-this other (inl one) =
+          subst (λ (l : List NamedReading). TellsDumps rules bound l (a, c) (e, h)
+          (audit_status (so_far ∷ ended ∷ []))) one-more
+          (tells-then (map f (take i dumps)) (f x) a b c e p h so_far ended before one)
+      tells-this other (inr one) = absurd (other one.status_is)
+
+      cannot-this : ended ≡ 5 → Audits x → AuditsDumps rules bound (map f dumps) (a, c) (e, h) 5
+      cannot-this five (inl one) = absurd (one.other five)
+      cannot-this five (inr one) =
+          let later = drop (i + 1) dumps in
+          let split : map f dumps ≡ map f (take i dumps) ++ f x ∷ map f later =
+          ap (map f) (sym (take-append-drop (i + 1) dumps)) ∙ map-append f (take (i + 1) dumps) later
+          ∙ ap (λ (l : List NamedReading). l ++ map f later) (sym one-more)
+          ∙ append_assoc (map f (take i dumps)) (f x ∷ []) (map f later) in
+          inr (subst (λ (l : List NamedReading). CannotTell rules bound l (a, c) (e, h) 5) (sym split)
+          (cannot-then (map f (take i dumps)) (f x) a b c e p h so_far ended before (map f later) one))
+
+      pub tells-on : (ended ≡ 5 → ⊥) → Audits (get_or now i x)
+          → TellsDumps rules bound (map f (take (i + 1) dumps)) (a, c) (e, h) (audit_status (so_far ∷ ended ∷ []))
+      tells-on other audits = tells-this other (subst Audits (sym is) audits)
+
+      pub cannot-on : ended ≡ 5 → Audits (get_or now i x) → AuditsDumps rules bound (map f dumps) (a, c) (e, h) 5
+      cannot-on five audits = cannot-this five (subst Audits (sym is) audits)
+
+  -- all of them
+  pub tells-all : {A : Type 0} (f : A → NamedReading) (dumps : List A) (i : ℕ) → length dumps ≤ i
+      → (status : ℕ) (a b e p : Writing) → TellsDumps rules bound (map f (take i dumps)) (a, b) (e, p) status
+      → AuditsDumps rules bound (map f dumps) (a, b) (e, p) status
+  tells-all {A} f dumps i within status a b e p each =
+      inl (subst (λ (l : List A). TellsDumps rules bound (map f l) (a, b) (e, p) status) (take_all i dumps within) each)

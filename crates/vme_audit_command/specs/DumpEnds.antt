@@ -1,0 +1,65 @@
+-- What is told at the end of the audit of a dump.
+use Rattle.std.specs.Prelude.{◌≡◌, ◌≢◌, ◌⊎◌, ℕ, List, Result, Ok, Err}
+use Rattle.vme_trace.specs.Streams.{Writing}
+use Rattle.vme_bind.specs.Binding.{BoundLines}
+use Rattle.vme_stream.specs.Outputs.{FailsToWrite, TriesToWrite, Writes}
+use Rattle.vme_answer.specs.Texts.{refusal_status}
+use Rattle.vme_answer.specs.declared.refusal.Input.TheVariants.{Dump}
+use Rattle.vme_answer.specs.declared.refusal.Refusal.{Refusal}
+use Rattle.vme_answer.specs.declared.refusal.Refusal.TheVariants as refusal
+use Rattle.vme_audit_command.specs.Definitions.{AreAll}
+use Rattle.vme_audit_command.specs.DumpAnswers.{DumpRules}
+use Rattle.vme_audit_command.specs.SeveralDumps.{DumpEnd, MayEnd, NamedReading, TriesEach, answer_to, cannot_write_line}
+use Rattle.vme_audit_command.specs.SeveralDumps.{memory_line, refusal_line_of}
+use Rattle.vme_audit_command.specs.declared.told.NoOutcome.{NoOutcome}
+use Rattle.vme_audit_command.specs.declared.told.NoOutcome.TheVariants.{CannotRead, Refused, Untold}
+use Rattle.vme_audit_command.specs.declared.told.TellFault.TheVariants.{Memory, CannotWrite}
+
+-- want of memory is told, and is the status
+abbrev pub TellsMemory : Writing → Writing → ℕ → Type 0
+TellsMemory old new status = TriesToWrite old new memory_line × (status ≡ 4)
+
+-- why there is no outcome is told, and gives the status; or there is no memory for its line
+abbrev pub TellsWhy : List ℕ → Refusal → Writing → Writing → ℕ → Type 0
+TellsWhy name why old new status =
+    (TriesToWrite old new (refusal_line_of name why) × (status ≡ refusal_status why)) ⊎ TellsMemory old new status
+
+-- this is the status; or there is no memory for what is kept of the dump
+abbrev pub EndsWith : ℕ → Writing → Writing → ℕ → Type 0
+EndsWith ended old new status = ((new ≡ old) × (status ≡ ended)) ⊎ TellsMemory old new status
+
+-- why there is no outcome is told, and the dump is kept
+abbrev pub RefusesAs : List ℕ → Refusal → Writing → Writing → ℕ → Type 0
+RefusesAs name why old new status =
+    (told : Writing) × (ended : ℕ) × TellsWhy name why old told ended × EndsWith ended told new status
+
+-- what is told of a dump whose audit ended so, beside its lines, and its status
+abbrev pub TellsEnd : List ℕ → Result ℕ NoOutcome → Writing → Writing → ℕ → Type 0
+TellsEnd name (Ok ended) old new status = EndsWith ended old new status
+TellsEnd name (Err (Refused why)) old new status = RefusesAs name why old new status
+TellsEnd name (Err CannotRead) old new status = RefusesAs name (refusal.CannotRead Dump) old new status
+TellsEnd name (Err (Untold Memory)) old new status = RefusesAs name refusal.Memory old new status
+TellsEnd name (Err (Untold CannotWrite)) old new status =
+    TriesToWrite old new cannot_write_line × (status ≡ 5)
+
+module _ (rules : DumpRules) (bound : BoundLines) (named : NamedReading) (out err : Writing × Writing)
+    (status : ℕ) where
+  -- a dump is told as it ends
+  pub record TellsDump : Type 0 where
+    pub end : DumpEnd
+    pub may : MayEnd rules bound named end
+    pub out_is : Writes out.0 out.1 end.out
+    pub err_is : TriesEach err.0 err.1 end.errors
+    pub status_is : status ≡ end.status
+    pub other : status ≢ 5
+
+  -- a write of its text fails
+  pub record CannotTellDump : Type 0 where
+    pub bytes : List ℕ
+    pub all : AreAll named.dump bytes
+    pub out_is : FailsToWrite out.0 out.1 (answer_to rules bound named.name bytes).out
+    pub err_is : TriesToWrite err.0 err.1 cannot_write_line
+    pub status_is : status ≡ 5
+
+  abbrev pub AuditsNamed : Type 0
+  AuditsNamed = TellsDump ⊎ CannotTellDump

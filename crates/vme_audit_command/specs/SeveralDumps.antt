@@ -1,0 +1,145 @@
+-- What the audit of several dumps writes, one dump after the other, and its exit status.
+use Rattle.std.specs.Prelude.{◌≡◌, ◌⊎◌, ℕ, ◌==◌, if◌then◌else◌, List, [], ◌∷◌, ◌++◌, All, codes, flat_map, map, take}
+use Rattle.std.specs.Prelude.{Option, Result, Ok, Err}
+use Rattle.std.specs.List.{AllZip, list_any}
+use Rattle.vme_trace.specs.Streams.{Reading, Writing}
+use Rattle.vme_bind.specs.Binding.{BoundLines}
+use Rattle.vme_bind.specs.TextReading.{reading_of_text}
+use Rattle.vme_stream.specs.Inputs.{IsReading}
+use Rattle.vme_stream.specs.Outputs.{FailsToWrite, TriesToWrite, Writes}
+use Rattle.vme_answer.specs.Answers.{binding_read}
+use Rattle.vme_answer.specs.Texts.{cannot_write_text, line_of, refusal_status, refusal_text}
+use Rattle.vme_answer.specs.declared.refusal.Input.TheVariants.{Dump}
+use Rattle.vme_answer.specs.declared.refusal.Refusal.{Refusal}
+use Rattle.vme_answer.specs.declared.refusal.Refusal.TheVariants.{CannotRead, Memory}
+use Rattle.vme_audit_lines.specs.AuditLines.{head_of, refusal_behind}
+use Rattle.vme_audit_command.specs.Definitions.{AreAll}
+use Rattle.vme_audit_command.specs.DumpAnswers.{DumpAnswer, DumpRules, dump_answer}
+
+-- ---- the status
+
+-- the first of these statuses that occurred, or else 0
+abbrev pub first_occurred : List ℕ → List ℕ → ℕ
+first_occurred [] occurred = 0
+first_occurred (s ∷ statuses) occurred =
+    if list_any (λ n. n == s) occurred then s else first_occurred statuses occurred
+
+-- of the statuses of all dumps the one that counts
+abbrev pub audit_status : List ℕ → ℕ
+audit_status occurred = first_occurred (5 ∷ 4 ∷ 3 ∷ 1 ∷ 2 ∷ 6 ∷ []) occurred
+
+-- ---- standard error
+
+-- the line that tells why there is no outcome of a dump of this name
+abbrev pub refusal_line_of : List ℕ → Refusal → List ℕ
+refusal_line_of name why = codes "vmecheck: " ++ head_of name ++ line_of (refusal_behind why)
+
+-- the line that tells that memory runs out
+abbrev pub memory_line : List ℕ
+memory_line = line_of (refusal_text Memory)
+
+-- the line that tells that a write fails
+abbrev pub cannot_write_line : List ℕ
+cannot_write_line = line_of cannot_write_text
+
+-- each of these lines was taken, or the first of it before a write failed
+abbrev pub TriesEach : Writing → Writing → List (List ℕ) → Type 0
+TriesEach old new [] = new ≡ old
+TriesEach old new (line ∷ lines) = (next : Writing) × TriesToWrite old next line × TriesEach next new lines
+
+-- ---- one dump
+
+-- a dump by its name, and what tells its bytes
+pub record NamedReading : Type 0 where
+  pub name : List ℕ
+  pub dump : Reading
+
+-- what is written of a dump to standard output, the lines on standard error, and its status
+pub record DumpEnd : Type 0 where
+  pub out : List ℕ
+  pub errors : List (List ℕ)
+  pub status : ℕ
+
+-- a dump has an outcome with this status, or none, and then why is told
+abbrev pub end_by : List ℕ → List ℕ → Result ℕ Refusal → DumpEnd
+end_by name out (Ok status) = record { out = out; errors = []; status = status }
+end_by name out (Err why) =
+    record { out = out; errors = refusal_line_of name why ∷ []; status = refusal_status why }
+
+-- the first bytes of a text, however many
+abbrev pub IsFront : List ℕ → List ℕ → Type 0
+IsFront front text = (n : ℕ) × (front ≡ take n text)
+
+-- all of an answer is told
+abbrev pub IsTold : List ℕ → DumpAnswer → DumpEnd → Type 0
+IsTold name answer end = end ≡ end_by name answer.out answer.ended
+
+-- the dump can't be read to its end: the first bytes of the text are told, and why there is no outcome
+abbrev pub IsUnread : List ℕ → DumpAnswer → DumpEnd → Type 0
+IsUnread name answer end =
+    (front : List ℕ) × IsFront front answer.out × (end ≡ end_by name front (Err (CannotRead Dump)))
+
+-- a line says why there is no outcome of a dump, or that there is no memory
+abbrev pub IsErrorLine : List ℕ → List ℕ → Type 0
+IsErrorLine name line = (line ≡ memory_line) ⊎ ((why : Refusal) × (line ≡ refusal_line_of name why))
+
+-- memory runs out: the first bytes of the text are told, and the last line on standard error says so
+pub record LacksMemory (name : List ℕ) (answer : DumpAnswer) (end : DumpEnd) : Type 0 where
+  pub out : IsFront end.out answer.out
+  pub before : List (List ℕ)
+  pub last : List ℕ
+  pub errors : end.errors ≡ before ++ last ∷ []
+  pub others : All (IsErrorLine name) before
+  pub tells : (last ≡ memory_line) ⊎ (last ≡ refusal_line_of name Memory)
+  pub status : end.status ≡ 4
+
+-- how a dump may end that has this answer
+abbrev pub IsEndOf : List ℕ → DumpAnswer → DumpEnd → Type 0
+IsEndOf name answer end = IsTold name answer end ⊎ (IsUnread name answer end ⊎ LacksMemory name answer end)
+
+module _ (rules : DumpRules) (bound : BoundLines) where
+  -- what there is to tell of the bytes of a dump
+  abbrev pub answer_to : List ℕ → List ℕ → DumpAnswer
+  answer_to name bytes = dump_answer rules (head_of name) (reading_of_text bound bytes)
+
+  -- how a dump may end whose bytes its source tells
+  abbrev pub MayEnd : NamedReading → DumpEnd → Type 0
+  MayEnd named end =
+      (bytes : List ℕ) × AreAll named.dump bytes × IsEndOf named.name (answer_to named.name bytes) end
+
+  -- ---- all of them
+
+  -- each dump is told as it ends, one after the other
+  pub record TellsDumps (dumps : List NamedReading) (out err : Writing × Writing) (status : ℕ) : Type 0 where
+    pub ends : List DumpEnd
+    pub each : AllZip MayEnd dumps ends
+    pub out_is : Writes out.0 out.1 (flat_map (λ (e : DumpEnd). e.out) ends)
+    pub err_is : TriesEach err.0 err.1 (flat_map (λ (e : DumpEnd). e.errors) ends)
+    pub status_is : status ≡ audit_status (map (λ (e : DumpEnd). e.status) ends)
+
+  -- a write to standard output fails in the text of a dump: that is told, the first bytes of all texts are, and the
+  -- others aren't audited
+  pub record CannotTell (dumps : List NamedReading) (out err : Writing × Writing) (status : ℕ) : Type 0 where
+    pub before : List NamedReading
+    pub named : NamedReading
+    pub others : List NamedReading
+    pub split : dumps ≡ before ++ named ∷ others
+    pub ends : List DumpEnd
+    pub each : AllZip MayEnd before ends
+    pub bytes : List ℕ
+    pub all : AreAll named.dump bytes
+    pub out_is : FailsToWrite out.0 out.1 (flat_map (λ (e : DumpEnd). e.out) ends ++ (answer_to named.name bytes).out)
+    pub err_is : TriesEach err.0 err.1 (flat_map (λ (e : DumpEnd). e.errors) ends ++ cannot_write_line ∷ [])
+    pub status_is : status ≡ 5
+
+  abbrev pub AuditsDumps : List NamedReading → Writing × Writing → Writing × Writing → ℕ → Type 0
+  AuditsDumps dumps out err status = TellsDumps dumps out err status ⊎ CannotTell dumps out err status
+
+-- the bytes of the binding were read, and are a binding, and the dumps were audited by it
+pub record AuditsByBinding (rules : DumpRules) (binding : Reading × Reading) (dumps : List NamedReading)
+    (out err : Writing × Writing) (status : ℕ) : Type 0 where
+  pub bytes : Option (List ℕ)
+  pub bound : BoundLines
+  pub read : IsReading binding.0 binding.1 bytes
+  pub is : binding_read bytes ≡ Ok bound
+  pub audits : AuditsDumps rules bound dumps out err status
