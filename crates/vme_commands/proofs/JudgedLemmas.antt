@@ -1,5 +1,5 @@
 -- What is judged of a recording, and why it isn't.
-use Rattle.std.proofs.Common.{◌≡◌, ◌<◌, ◌≤◌, ◌↔◌, ℕ, Bool, true, false, List, length, refl, ap, ◌∙◌, inl, inr, arith}
+use Rattle.std.proofs.Common.{◌≡◌, ◌<◌, ◌≤◌, ◌↔◌, ℕ, Bool, true, false, List, length, refl, sym, ap, ◌∙◌, inl, inr}
 use Rattle.std.specs.Prelude.{Option, Result, Ok, Err, nat_lt, if◌then◌else◌}
 use Rattle.std.proofs.lemmas.Bool.{cases_lt, le-ltb, lt-ltb}
 use Rattle.vcd_read.specs.Header.{◌>>=◌}
@@ -7,9 +7,6 @@ use Rattle.vme_trace.specs.Blocks.{block_count}
 use Rattle.vme_trace.specs.Trace.{Trace}
 use Rattle.vme_trace.specs.Verdict.{rules_in_force, verdict_by}
 use Rattle.vme_trace.specs.WellFormed.{capture_limit}
-use Rattle.vme_trace.specs.declared.capture.CutFault.{CutFault}
-use Rattle.vme_trace.specs.declared.capture.CutFault.TheVariants as cut
-use Rattle.vme_summary.specs.CutFaults.{HasTooManyBlocks}
 use Rattle.vme_summary.specs.declared.stream_judge.NoVerdict.{NoVerdict}
 use Rattle.vme_summary.specs.declared.stream_judge.NoVerdict.TheVariants.{TooManySteps, TooManyBlocks, Memory}
 use Rattle.vme_answer.specs.Answers.{AnswerGives, judgement_of, or_bad_binding, recording_read, verdict_in_blocks}
@@ -43,18 +40,6 @@ module _ {X : Type 0} (t : Trace) (block : ℕ) (r : Result X NoVerdict)
       rw (le-ltb capture_limit (length t.steps) short) (rw (lt-ltb 4096 (block_count block t) over) refl)
   judged-refused Memory is = tt
 
--- the same, of a recording that is cut
-module _ {X : Type 0} (t : Trace) (block : ℕ) (r : Result X CutFault) (least : 1 ≤ block) (most : block ≤ 65536)
-    (many : (r ≡ Err cut.TooManyBlocks) ↔ HasTooManyBlocks block t) where
-  pub cut-fits : (x : X) → r ≡ Ok x → in_blocks block t ≡ Ok t
-  cut-fits x is =
-      let few : block_count block t ≤ 4096 = at_most 4096 (block_count block t)
-      (λ over. let no = many.1 (omega (arith, least), most, over) in absurd (cc)) in
-      rw (le-ltb 4096 (block_count block t) few) refl
-
-  pub cut-refused : r ≡ Err cut.TooManyBlocks → in_blocks block t ≡ Err refusal.TooManyBlocks
-  cut-refused is = rw (lt-ltb 4096 (block_count block t) (many.0 is).2) refl
-
 verdict_in : (block : ℕ) (r : Result Trace Refusal) → (r >>= verdict_in_blocks block)
     ≡ ((r >>= in_blocks block) >>= λ t. Ok (verdict_by rules_in_force t))
 verdict_in block (Err r) = refl
@@ -75,3 +60,15 @@ unfolding judgement_of
 judgement_of-recorded binding dump block t is =
     ap (λ (r : Result Trace Refusal). r >>= verdict_in_blocks block) (capture_read-recorded binding dump t is)
     ∙ verdict_in block (or_bad_binding _)
+
+-- ---- a recording that isn't too long
+
+pub limited-short : (t : Trace) (block : ℕ) → length t.steps ≤ capture_limit → limited_in_blocks block t
+    ≡ in_blocks block t
+limited-short t block short = rw (le-ltb capture_limit (length t.steps) short) refl
+
+pub judged-short : (t : Trace) (block : ℕ) → length t.steps ≤ capture_limit → judged_in_blocks block t
+    ≡ verdict_in_blocks block t
+judged-short t block short =
+    ap (λ (r : Result Trace Refusal). r >>= λ t. Ok (verdict_by rules_in_force t)) (limited-short t block short)
+    ∙ sym (verdict_in block (Ok t))

@@ -1,5 +1,6 @@
 -- What settles of what a binding makes of a dump, and that by 0 all of it stays.
-use Rattle.std.proofs.Common.{◌≡◌, ℕ, Bool, true, false, List, length, refl, sym, ap, subst, ◌∙◌}
+use Rattle.std.proofs.Common.{◌≡◌, ◌≤◌, ℕ, Bool, true, false, List, length, refl, sym, ap, subst, ◌∙◌, arith}
+use Rattle.std.proofs.lemmas.Bool.Decides.{nat_tests}
 use Rattle.std.specs.Prelude.{Option, Some, None, Result, Ok, Err, nat_le, nat_lt, if◌then◌else◌}
 use Rattle.vcd_read.specs.Contents.{Contents}
 use Rattle.vcd_read.specs.Header.{◌>>=◌}
@@ -18,15 +19,17 @@ use Rattle.vme_bind.specs.declared.fault.BindKind.TheVariants.{TooManySteps}
 use Rattle.vme_bind.proofs.CaptureLemmas.{levels-all}
 use Rattle.vme_bind.proofs.TextCaptureLemmas.{recorded-formed}
 use Rattle.vme_skew.specs.Settled.{IsRecording, settled}
-use Rattle.vme_skew.proofs.Laws.{by_zero}
+use Rattle.vme_skew.proofs.Laws.{by_zero, no_longer}
 use Rattle.vme_stream.specs.Inputs.{longest_input}
 use Rattle.vme_listing.specs.Listed.{Listed}
 use Rattle.vme_answer.specs.Answers.{AnswerGives, binding_read, capture_by, capture_read, dump_read, judgement_of}
-use Rattle.vme_answer.specs.Answers.{or_bad_binding, or_bad_dump, recorded_by, verdict_in_blocks}
+use Rattle.vme_answer.specs.Answers.{or_bad_binding, or_bad_dump, recorded_by, recording_read, verdict_in_blocks}
+use Rattle.vme_answer.specs.Refusals.{judging_refusal}
 use Rattle.vme_answer.specs.declared.refusal.Input.TheVariants.{Dump}
 use Rattle.vme_answer.specs.declared.refusal.Refusal.{Refusal}
 use Rattle.vme_answer.specs.declared.refusal.Refusal.TheVariants.{Memory, TooLong}
-use Rattle.vme_answer.proofs.AnswerLemmas.{passes_through}
+use Rattle.vme_answer.proofs.AnswerLemmas.{capture_read-recorded, passes_through}
+use Rattle.vme_summary.specs.declared.stream_judge.NoVerdict.TheVariants as NoVerdict
 use Rattle.vme_commands.specs.Confirmations.{compared, compared_settled}
 use Rattle.vme_commands.specs.Judged.{in_blocks}
 use Rattle.vme_commands.specs.Listings.{recording_of as listed_recording}
@@ -204,11 +207,6 @@ pub settled-refused : (skew : ℕ) (read : Result Trace Refusal) (r : Refusal) �
 settled-refused skew read Memory is = tt
 settled-refused skew read r is = ap (settled_or skew) is
 
-pub read-gives : (skew : ℕ) (b d : Option (List ℕ)) (t : Trace) (found : Result Trace Refusal) → capture_read b d ≡ Ok t
-    → GivesTrace found (Ok (settled skew t)) → GivesTrace found (settled_read skew b d)
-unfolding settled_read
-read-gives skew b d t found is given = settled-gives skew (capture_read b d) t found is given
-
 pub read-refused : (skew : ℕ) (b d : Option (List ℕ)) (r : Refusal) → GivesTrace (Err r) (capture_read b d)
     → GivesTrace (Err r) (settled_read skew b d)
 unfolding settled_read
@@ -253,3 +251,30 @@ pub recording-refused : (skew : ℕ) (b d : Option (List ℕ)) (block : ℕ) (r 
     → GivesTrace (Err r) (settled_read skew b d) → GivesTrace (Err r) (settled_recording skew b d block)
 unfolding settled_recording
 recording-refused skew b d block r is = passes_through r (settled_read skew b d) (in_blocks block) is
+
+-- ---- what settles as it is judged
+
+-- a recording that isn't too long settles
+pub settled-fits : (skew : ℕ) (t made : Trace) → nat_lt capture_limit (length t.steps) ≡ false → made ≡ settled skew t
+    → settled_or skew (or_bad_binding (limited t)) ≡ Ok made
+settled-fits skew t made within is = rw within (ap Ok (sym is))
+
+short-by : (n m : ℕ) → nat_lt capture_limit n ≡ false → m ≤ n → m ≤ capture_limit
+short-by n m within few = grind (arith, nat_tests)
+
+-- and has no more steps than before
+pub settled-short : (skew : ℕ) (t made : Trace) → nat_lt capture_limit (length t.steps) ≡ false → made ≡ settled skew t
+    → length made.steps ≤ capture_limit
+settled-short skew t made within is =
+    short-by (length t.steps) (length made.steps) within
+    (subst (λ (u : Trace). length u.steps ≤ length t.steps) (sym is) (no_longer skew t))
+
+-- one that is too long is refused before it settles
+pub settled-long : (skew : ℕ) (t : Trace) → nat_lt capture_limit (length t.steps) ≡ true
+    → settled_or skew (or_bad_binding (limited t)) ≡ Err (judging_refusal NoVerdict.TooManySteps)
+settled-long skew t long = rw long refl
+
+pub read-recorded : (skew : ℕ) (b d : Option (List ℕ)) (t : Trace) → recording_read b d ≡ Ok t
+    → settled_read skew b d ≡ settled_or skew (or_bad_binding (limited t))
+unfolding settled_read
+read-recorded skew b d t is = ap (settled_or skew) (capture_read-recorded b d t is)

@@ -3,17 +3,17 @@
 ghost use Rattle.std.specs.Prelude.{◌≡◌, ◌≢◌, ◌≤◌, ◌↔◌, ℕ, suc, List, Option, Some, None};
 ghost use Rattle.vme_answer.specs.Answers.{AnswerGives, answer_of, judgement_of};
 ghost use Rattle.vme_answer.specs.Ends.{Checks, Tells};
-ghost use Rattle.vme_stream.specs.Inputs.{IsReading, TellsWhole};
+ghost use Rattle.vme_stream.specs.Inputs.{IsReading, TellsWhole, longest_input};
 ghost use Rattle.vme_trace.specs.WellFormed.{malformed_step};
 ghost use Rattle.vme_commands.specs.Judged.{judged_in_blocks};
 ghost use Rattle.vme_commands.specs.Settled.{ChecksSettled, settled_answer_of, settled_judgement};
 
 use crate::judged_dump::judged_dump;
-use crate::settled::settled_from;
+use crate::judged_settled::judged_settled;
 use crate::workers::Workers;
 use std::alloc::Global;
 use std::thread::Threads;
-use vme_answer::{Refusal, refusal_line, tell_verdict, verdict_on};
+use vme_answer::{Refusal, refusal_line, tell_verdict};
 use vme_stream::complain;
 use vme_summary::Judge;
 use vme_trace::{Sink, Source, Verdict};
@@ -22,10 +22,9 @@ use vme_trace::{Sink, Source, Verdict};
 /// there is none to `err`. The answer is the exit status: 0 conforming, 1 broken, 2 unreadable or never idle, 3 where
 /// an input is refused, 4 for want of memory, 5 where the verdict can't be written.
 ///
-/// The binding is read, and then the dump, piece by piece. Without a skew neither the dump nor the recording is kept:
-/// the steps are judged as they are made. With one both are, and one worker judges. A recording that fills more than
-/// 4,096 blocks of `block` steps is refused, and the verdict is otherwise the same for each size. A failure of `err` is
-/// ignored.
+/// The binding is read, and then the dump, piece by piece. Neither the dump nor the recording is kept: the steps settle
+/// and are judged as they are made, with a skew over 0 by one worker. A recording that fills more than 4,096 blocks of
+/// `block` steps is refused, and the verdict is otherwise the same for each size. A failure of `err` is ignored.
 pub fn check<R: Threads + Sync, B: Source, D: Source, O: Sink, E: Sink>(
     rt: &R,
     alloc: Global,
@@ -117,26 +116,28 @@ fn judge_settled<R: Threads + Sync, B: Source, D: Source>(
     if skew == 0 {
         judge(alloc, workers, binding, dump, block)
     } else {
-        judge_whole(alloc, binding, dump, block, skew)
+        judge_in_order(alloc, workers.piece(), binding, dump, block, skew)
     }
 }
 
-/// The same by one worker, of the whole recording.
-fn judge_whole<B: Source, D: Source>(
+/// The same by one worker, whose steps settle as they come.
+fn judge_in_order<B: Source, D: Source>(
     alloc: Global,
+    piece: usize,
     binding: &mut B,
     dump: &mut D,
     block: u32,
     skew: u64,
 ) -> Result<Verdict, Refusal>
-    requires { (1 ≤ block) × (block ≤ 65536) }
+    requires piece { (1 ≤ piece) × (piece ≤ longest_input) }
+    requires block { (1 ≤ block) × (block ≤ 65536) }
     ensures { (binding_bytes dump_bytes : Option (List ℕ))
         × IsReading (B.reading binding.old) (B.reading binding.new) binding_bytes
         × IsReading (D.reading dump.old) (D.reading dump.new) dump_bytes
         × AnswerGives (λ verdict. verdict) result (settled_judgement skew binding_bytes dump_bytes block) }
 {
-    match settled_from(alloc, binding, dump, skew) {
-        Ok(capture) => verdict_on(alloc, &capture, block),
+    match judged_settled(alloc, piece, binding, dump, skew) {
+        Ok(judge) => verdict_of(alloc, judge, block),
         Err(refusal) => Err(refusal),
     }
 }

@@ -21,7 +21,7 @@ use vme_trace::StepVisitor;
 
 /// How far a dump is read.
 #[derive(Drop)]
-enum ReadStage<F: StepVisitor> {
+pub(crate) enum ReadStage<F: StepVisitor> {
     /// Its definitions don't end in what was seen, of which nothing was taken.
     Definitions(F),
     Body(TextPieces<F>),

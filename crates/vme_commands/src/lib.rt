@@ -10,7 +10,8 @@
 //!   [`tell_rules`] what the rules ask.
 //! - `dump_judge`, `judged_dump`, `workers`: a dump that is judged as it is read, in which pieces
 //!   and by how many.
-//! - `settled`: the recording settled by a skew ([`unsettled`]: by 0 it is itself).
+//! - `ordered_dump`, `judged_settled`: the same by one, in order, whose steps settle by a skew;
+//!   `settled`: a recording that is kept, settled by one ([`unsettled`]: by 0 it is itself).
 //! - `allowance`, `words`, `built_in`, `telling`, `input_fault`: which breaks the words of an audit
 //!   allow; what the words name and how a call without an order ends; what is used where no words
 //!   say it; how texts and faults are told. The audit itself is vme_audit_command's.
@@ -36,8 +37,7 @@
 //! # Limits
 //!
 //! Blocks of 1 to 65,536 steps, at most 4,096 of them; at most 268,435,456 steps and as many bytes
-//! of an input; 1 to 64 workers. With a skew over 0 dump and recording are kept, and one worker
-//! judges.
+//! of an input; 1 to 64 workers. With a skew over 0 one worker settles and judges.
 //!
 //! # In which order to read
 //!
@@ -53,7 +53,9 @@ mod dump_judge;
 pub mod explain;
 mod input_fault;
 mod judged_dump;
+mod judged_settled;
 pub mod list;
+mod ordered_dump;
 mod rules;
 mod settled;
 mod telling;

@@ -5,32 +5,32 @@ ghost use Rattle.vme_listing.specs.Recorded.{listing_of};
 ghost use Rattle.vme_trace.specs.Trace.{Trace};
 ghost use Rattle.vme_trace.specs.WellFormed.{malformed_step};
 ghost use Rattle.vme_answer.specs.Ends.{Ends, Tells};
-ghost use Rattle.vme_stream.specs.Inputs.{IsReading, TellsWhole};
-ghost use Rattle.vme_commands.specs.Judged.{in_blocks, limited_in_blocks};
+ghost use Rattle.vme_stream.specs.Inputs.{IsReading, TellsWhole, longest_input};
+ghost use Rattle.vme_commands.specs.Judged.{limited_in_blocks};
 ghost use Rattle.vme_commands.specs.Listings.{GivesListing, WritesListing, listing_answer_by, listing_answer_of};
 ghost use Rattle.vme_commands.specs.Listings.{recording_of};
 ghost use Rattle.vme_commands.specs.Listings.{listing_status, outcome_status, row_status, WritesSplit};
 ghost use Rattle.vme_commands.specs.Settled.{settled_recording};
 
 use crate::judged_dump::judged_dump;
-use crate::settled::settled_from;
+use crate::judged_settled::judged_settled;
 use crate::workers::Workers;
 use std::alloc::Global;
 use std::thread::Threads;
 use vme_answer::{Refusal, cannot_write_line, refusal_line};
 use vme_listing::{ListedVerdict, Listing, Row, write_listing};
 use vme_stream::complain;
-use vme_summary::{Lister, listing_by_blocks};
-use vme_trace::{Capture, CutFault, Sink, Source};
+use vme_summary::Lister;
+use vme_trace::{Sink, Source};
 
 /// Writes to `out` the listing of the recording that a binding makes of a dump, settled by a skew, or to `err` why
 /// there is none. The answer is the exit status: that of the listing's verdict, 0 conforming, 1 broken, 2 unreadable or
 /// never idle; 3 where an input is refused, 4 for want of memory, 5 where the listing can't be written.
 ///
-/// The binding is read, and then the dump, piece by piece. Without a skew neither the dump nor the recording is kept:
-/// the steps are judged as they are made, and their marks are kept. With one both are, and one worker judges. A
-/// recording that fills more than 4,096 blocks of `block` steps is refused, and the listing is otherwise the same for
-/// each size. It is written in pieces of up to 4,096 bytes. A failure of `err` is ignored.
+/// The binding is read, and then the dump, piece by piece. Neither the dump nor the recording is kept: the steps settle
+/// and are judged as they are made, with a skew over 0 by one worker, and their marks are kept. A recording that fills
+/// more than 4,096 blocks of `block` steps is refused, and the listing is otherwise the same for each size. It is
+/// written in pieces of up to 4,096 bytes. A failure of `err` is ignored.
 pub fn list<R: Threads + Sync, B: Source, D: Source, O: Sink, E: Sink>(
     rt: &R,
     alloc: Global,
@@ -162,39 +162,29 @@ fn listing_settled<R: Threads + Sync, B: Source, D: Source>(
     if skew == 0 {
         listing(alloc, workers, binding, dump, block)
     } else {
-        listing_whole(alloc, binding, dump, block, skew)
+        listing_in_order(alloc, workers.piece(), binding, dump, block, skew)
     }
 }
 
-/// The same by one worker, of the whole recording.
-fn listing_whole<B: Source, D: Source>(
+/// The same by one worker, whose steps settle as they come.
+fn listing_in_order<B: Source, D: Source>(
     alloc: Global,
+    piece: usize,
     binding: &mut B,
     dump: &mut D,
     block: u32,
     skew: u64,
 ) -> Result<Listing, Refusal>
-    requires { (1 ≤ block) × (block ≤ 65536) }
+    requires piece { (1 ≤ piece) × (piece ≤ longest_input) }
+    requires block { (1 ≤ block) × (block ≤ 65536) }
     ensures { (binding_bytes dump_bytes : Option (List ℕ))
         × IsReading (B.reading binding.old) (B.reading binding.new) binding_bytes
         × IsReading (D.reading dump.old) (D.reading dump.new) dump_bytes
         × GivesListing result (settled_recording skew binding_bytes dump_bytes block) }
 {
-    match settled_from(alloc, binding, dump, skew) {
-        Ok(capture) => listing_on(alloc, &capture, block),
+    match judged_settled(alloc, piece, binding, dump, skew) {
+        Ok(lister) => listing_of_steps(alloc, lister, block),
         Err(refusal) => Err(refusal),
-    }
-}
-
-/// The listing of a recording, in blocks of so many steps.
-fn listing_on(alloc: Global, capture: &Capture, block: u32) -> Result<Listing, Refusal>
-    requires { (1 ≤ block) × (block ≤ 65536) }
-    ensures { GivesListing result (in_blocks block capture.now) }
-{
-    match listing_by_blocks(alloc, capture, block) {
-        Ok(listing) => Ok(listing),
-        Err(CutFault::TooManyBlocks) => Err(Refusal::TooManyBlocks),
-        Err(CutFault::BadSize) | Err(CutFault::Memory) => Err(Refusal::Memory),
     }
 }
 

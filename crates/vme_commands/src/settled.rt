@@ -14,7 +14,7 @@ ghost use Rattle.vme_commands.specs.Settled.{settled_judgement, settled_or, sett
 ghost use Rattle.vme_commands.specs.Settled.{settled_recording};
 
 use std::alloc::Global;
-use vme_answer::{Refusal, capture_from, captured_in, recorded_from};
+use vme_answer::{Refusal, captured_in, recorded_from};
 use vme_bind::{BindFault, Binding};
 use vme_skew::settle;
 use vme_trace::{Capture, Source};
@@ -29,25 +29,7 @@ pub fn unsettled()
         → compared_settled 0 (binding_read b) (dump_read d) given ≡ compared (binding_read b) (dump_read d) given }
 {}
 
-/// The recording that a binding makes of a dump, settled by a skew: the binding is read first.
-pub(crate) fn settled_from<B: Source, D: Source>(
-    alloc: Global,
-    binding: &mut B,
-    dump: &mut D,
-    skew: u64,
-) -> Result<Capture, Refusal>
-    ensures { (binding_bytes dump_bytes : Option (List ℕ))
-        × IsReading (B.reading binding.old) (B.reading binding.new) binding_bytes
-        × IsReading (D.reading dump.old) (D.reading dump.new) dump_bytes
-        × AnswerGives (λ capture. capture) result (settled_read skew binding_bytes dump_bytes) }
-{
-    match capture_from(alloc, binding, dump) {
-        Ok(capture) => settled_by(alloc, &capture, skew),
-        Err(refusal) => Err(refusal),
-    }
-}
-
-/// The same, by a binding, of the text of a dump. Without a skew nothing is settled.
+/// The recording that a binding makes of the text of a dump, settled by a skew. Without a skew nothing is settled.
 pub(crate) fn settled_in(
     alloc: Global,
     bound: &Binding,

@@ -21,6 +21,9 @@ const PIECES: [usize; 10] = [1, 2, 3, 5, 8, 13, 21, 34, 64, 4096];
 /// How many workers read each dump.
 const WORKERS: [u32; 3] = [1, 2, 5];
 
+/// By which skews it settles. No steps lie so near.
+const SKEWS: [u64; 2] = [0, 1];
+
 /// A reader that gives so many bytes a read.
 #[derive(Drop)]
 struct Portions<'a> {
@@ -82,8 +85,10 @@ fn expect_pieces<R: Abort + AllocGlobal + Threads + Sync>(rt: &R, dump: &str, wa
     for piece in PIECES {
         for count in WORKERS {
             let workers = Workers::with_pieces(rt, count, piece, 4 * piece);
-            expect_verdict(rt, dump, &workers, wanted);
-            expect_listing(rt, dump, &workers, wanted);
+            for skew in SKEWS {
+                expect_verdict(rt, dump, &workers, skew, wanted);
+                expect_listing(rt, dump, &workers, skew, wanted);
+            }
         }
     }
 }
@@ -92,6 +97,7 @@ fn expect_verdict<R: Abort + AllocGlobal + Threads + Sync>(
     rt: &R,
     dump: &str,
     workers: &Workers<'_, R>,
+    skew: u64,
     wanted: Wanted,
 ) {
     let mut out = Page::new(rt.alloc(), 1000);
@@ -102,7 +108,7 @@ fn expect_verdict<R: Abort + AllocGlobal + Threads + Sync>(
         &mut Bytes::new(BUILT_IN),
         &mut in_portions(dump, workers.piece()),
         BLOCK,
-        0,
+        skew,
         &mut out,
         &mut err,
     );
@@ -115,6 +121,7 @@ fn expect_listing<R: Abort + AllocGlobal + Threads + Sync>(
     rt: &R,
     dump: &str,
     workers: &Workers<'_, R>,
+    skew: u64,
     wanted: Wanted,
 ) {
     let mut out = Page::new(rt.alloc(), 1000);
@@ -125,7 +132,7 @@ fn expect_listing<R: Abort + AllocGlobal + Threads + Sync>(
         &mut Bytes::new(BUILT_IN),
         &mut in_portions(dump, workers.piece()),
         BLOCK,
-        0,
+        skew,
         &mut out,
         &mut err,
     );

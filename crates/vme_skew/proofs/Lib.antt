@@ -1,5 +1,6 @@
 pub mod Between
 pub mod Complete
+pub mod GivenOnLemmas
 pub mod Grouping
 pub mod Growing
 pub mod Grown

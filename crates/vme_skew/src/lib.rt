@@ -13,6 +13,9 @@
 //!   at hand.
 //! - `step_settler`: [`StepSettler`], which settles steps as they come and keeps none of them;
 //!   `specs/Settling` says what it has come to.
+//! - `settling_visitor`: [`SettlingVisitor`], which does so in front of what takes a recording;
+//!   `specs/GivenOn` says what it has given on. Its skew is a parameter of its type,
+//!   [`GhostSkew`].
 //! - The functions of this file: laws of the definition, whose contracts are what they say.
 //!
 //! # What is proved
@@ -29,13 +32,14 @@
 //! ([`settled_until_grows`]); by a skew of 0 it is all that is earlier
 //! ([`settled_until_by_zero`]). What comes out of a [`StepSettler`] is at any time exactly what is
 //! complete (`settled`), and all once it ends, for steps of a recording that come no earlier than a
-//! time that is known.
+//! time that is known. What a [`SettlingVisitor`] gives on is the whole settled recording once it
+//! ends (`settled`), which is a recording (`formed`), whatever recording it takes.
 //!
 //! # What isn't proved
 //!
-//! How much work [`settle`] takes, and a [`StepSettler`]. Which skew fits a probe is for its user
-//! to know: two edges of the bus that lie within the skew become one instant, and their order is
-//! lost.
+//! How much work [`settle`] takes, a [`StepSettler`], and a [`SettlingVisitor`]. Which skew fits a
+//! probe is for its user to know: two edges of the bus that lie within the skew become one instant,
+//! and their order is lost.
 //!
 //! # Limits
 //!
@@ -51,9 +55,11 @@ ghost use Rattle.vme_skew.specs.Worked.{AllComplete, AllSettle, worked, worked_t
 
 mod group;
 mod settling;
+mod settling_visitor;
 mod step_settler;
 
 pub use settling::settle;
+pub use settling_visitor::{GhostSkew, SettlingVisitor};
 pub use step_settler::StepSettler;
 
 /// Settled by 0 a recording is itself.

@@ -1,8 +1,12 @@
+ghost use Rattle.std.specs.Prelude.{◌≡◌};
+
 use smallvec::SmallVec;
 use std::alloc::{AllocError, Global};
+use std::marker::Brand;
 use std::test::Fail;
-use vme_skew::{StepSettler, settle};
-use vme_trace::{Capture, Change, Changes, LINE_COUNT, Level, Line, Lines, Step};
+use vme_bind::StepCollector;
+use vme_skew::{GhostSkew, SettlingVisitor, StepSettler, settle};
+use vme_trace::{Capture, Change, Changes, LINE_COUNT, Level, Line, Lines, Step, StepVisitor};
 
 /// The numbers of the lines that change at a time, with their new levels.
 type Row = (u64, &'static [(u8, Level)]);
@@ -305,6 +309,47 @@ fn complete_at(
     Ok(out)
 }
 
+/// What is given on of these steps by a skew that types name, and whether there are too many. Others come first, which
+/// an opening ends.
+fn given_on_by<K: GhostSkew>(
+    alloc: Global,
+    opening: &Lines,
+    rows: &[Row],
+    skew: u64,
+) -> Result<(StepCollector, bool), AllocError>
+    requires { skew ≡ K.skew }
+{
+    let low = Lines::new(2);
+    let first = match &low {
+        Some(lines) => lines,
+        None => opening,
+    };
+    let taker = StepCollector {
+        opening: *first,
+        steps: Vec::new(alloc),
+    };
+    let mut visitor: SettlingVisitor<K, StepCollector> = SettlingVisitor::new(
+        alloc, first, skew, taker,
+    );
+    visitor.step(alloc, step(LATEST[0], alloc)?)?;
+    visitor.open(opening);
+    for row in rows {
+        visitor.step(alloc, step(*row, alloc)?)?;
+    }
+    let is_too_long = visitor.is_too_long();
+    Ok((visitor.finish(alloc)?, is_too_long))
+}
+
+/// The same by any skew.
+fn given_on(
+    alloc: Global,
+    opening: &Lines,
+    rows: &[Row],
+    skew: u64,
+) -> Result<(StepCollector, bool), AllocError> {
+    given_on_by::<Brand>(alloc, opening, rows, skew)
+}
+
 #[test]
 fn worked_recordings_settle(rt: HostRuntime) -> Result<(), Fail> {
     let opening = high_lines().ok_or("no such lines")?;
@@ -331,6 +376,18 @@ fn steps_settle_as_they_come(rt: HostRuntime) -> Result<(), Fail> {
     for (rows, skew, settled) in WORKED {
         let out = settled_as_they_come(rt.alloc(), opening, rows, skew)?;
         assert!(rt; are_steps(&out, settled), "{skew} {}", rows.len());
+    }
+    Ok(())
+}
+
+#[test]
+fn settled_steps_are_given_on(rt: HostRuntime) -> Result<(), Fail> {
+    let opening = high_lines().ok_or("no such lines")?;
+    for (rows, skew, settled) in WORKED {
+        let (taken, is_too_long) = given_on(rt.alloc(), &opening, rows, skew)?;
+        assert!(rt; taken.opening == opening, "{skew} {}", rows.len());
+        assert!(rt; are_steps(&taken.steps, settled), "{skew} {}", rows.len());
+        assert!(rt; !is_too_long, "{skew} {}", rows.len());
     }
     Ok(())
 }
@@ -370,5 +427,8 @@ fn want_of_memory_is_the_error(rt: HostRuntime) {
     }
     if let Ok(out) = settled_as_they_come(rt.alloc(), opening, &MANY, 4) {
         assert!(rt; are_steps(&out, &MANY_AT_ONCE));
+    }
+    if let Ok((taken, _)) = given_on(rt.alloc(), &opening, &MANY, 4) {
+        assert!(rt; are_steps(&taken.steps, &MANY_AT_ONCE));
     }
 }

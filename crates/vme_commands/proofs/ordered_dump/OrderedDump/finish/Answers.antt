@@ -1,0 +1,21 @@
+use Rattle.std.proofs.Common.{[], Result, Err, refl, sym, subst}
+use Rattle.vme_trace.specs.Trace.{Trace}
+use Rattle.vme_bind.specs.TextCapture.{GivesBy}
+use Rattle.vme_bind.specs.declared.fault.CaptureFault.{CaptureFault}
+use Rattle.vme_commands.proofs.UnderwayLemmas.{is-told}
+use Rattle.vme_commands.proofs.ordered_dump.OrderedDump.finish.Goals as goal
+
+pub returns-in-Definitions : goal.returns-in-Definitions
+returns-in-Definitions g c = rw c.in-Definitions.is c.record_text.ensures.gives
+
+pub returns-in-Ok : goal.returns-in-Ok
+returns-in-Ok g c = rw c.in-Body.is (subst (λ (r : Result Trace CaptureFault). GivesBy (λ w. g.F.StepVisitor.recorded w)
+    c.finish.result r) (sym (c.in-Ok.ensures.rest [])) c.finish.ensures)
+
+pub returns-in-Err : goal.returns-in-Err
+returns-in-Err g c = rw c.in-Body.is (c.in-Err.ensures.rest [])
+
+pub returns-in-Failed : goal.returns-in-Failed
+returns-in-Failed g c =
+    let told = c.in-Failed.told in
+    rw c.in-Failed.is (is-told told.fault (Err told.fault) told.told refl)

@@ -1,0 +1,139 @@
+//! The recording that a binding makes of a dump, settled by a skew and judged as the dump is read.
+
+ghost use Rattle.std.specs.Prelude.{◌≡◌, ◌≤◌, ℕ, List, Option, None, IfOk, length};
+ghost use Rattle.vme_bind.specs.Capture.{limited};
+ghost use Rattle.vme_answer.specs.Answers.{AnswerGives, dump_read, or_bad_binding, recording_by, recording_read};
+ghost use Rattle.vme_stream.specs.Inputs.{IsReading, longest_input};
+ghost use Rattle.vme_trace.specs.WellFormed.{capture_limit, malformed_step};
+ghost use Rattle.vme_commands.specs.Settled.{settled_or, settled_read};
+
+use crate::ordered_dump::OrderedDump;
+use std::alloc::Global;
+use std::marker::Brand;
+use vme_answer::{Input, Refusal, binding_from};
+use vme_bind::Binding;
+use vme_skew::{GhostSkew, SettlingVisitor};
+use vme_stream::read_by;
+use vme_summary::NoVerdict;
+use vme_summary::chunk_judge::ChunkJudge;
+use vme_summary::stream_judge::StreamJudge;
+use vme_trace::{Source, StepVisitor};
+
+/// What judged the recording that a binding makes of a dump, settled by a skew, or the first reason that there is none.
+/// The binding is read, and then the dump, piece by piece: of its text nothing is kept, and neither are its steps.
+pub(crate) fn judged_settled<B: Source, D: Source, J: ChunkJudge>(
+    alloc: Global,
+    piece: usize,
+    binding: &mut B,
+    dump: &mut D,
+    skew: u64,
+) -> Result<StreamJudge<J>, Refusal>
+    requires { (1 ≤ piece) × (piece ≤ longest_input) }
+    ensures gives { (binding_bytes dump_bytes : Option (List ℕ))
+        × IsReading (B.reading binding.old) (B.reading binding.new) binding_bytes
+        × IsReading (D.reading dump.old) (D.reading dump.new) dump_bytes
+        × AnswerGives (λ w. w) result (settled_read skew binding_bytes dump_bytes) }
+    ensures formed { IfOk result (λ w. malformed_step w ≡ None) }
+    ensures short { IfOk result (λ w. length w.steps ≤ capture_limit) }
+{
+    judged_by_skew::<Brand, B, D, J>(alloc, piece, binding, dump, skew)
+}
+
+/// The same by a skew that types name.
+fn judged_by_skew<K: GhostSkew, B: Source, D: Source, J: ChunkJudge>(
+    alloc: Global,
+    piece: usize,
+    binding: &mut B,
+    dump: &mut D,
+    skew: u64,
+) -> Result<StreamJudge<J>, Refusal>
+    requires piece { (1 ≤ piece) × (piece ≤ longest_input) }
+    requires skew { skew ≡ K.skew }
+    ensures gives { (binding_bytes dump_bytes : Option (List ℕ))
+        × IsReading (B.reading binding.old) (B.reading binding.new) binding_bytes
+        × IsReading (D.reading dump.old) (D.reading dump.new) dump_bytes
+        × AnswerGives (λ w. w) result (settled_read K.skew binding_bytes dump_bytes) }
+    ensures formed { IfOk result (λ w. malformed_step w ≡ None) }
+    ensures short { IfOk result (λ w. length w.steps ≤ capture_limit) }
+{
+    match settled_dump::<K, B, D, J>(alloc, piece, binding, dump, skew) {
+        Ok(settling) => settled_judge(alloc, settling),
+        Err(refusal) => Err(refusal),
+    }
+}
+
+/// What settled that recording as far as it is complete, in front of what judges it.
+fn settled_dump<K: GhostSkew, B: Source, D: Source, J: ChunkJudge>(
+    alloc: Global,
+    piece: usize,
+    binding: &mut B,
+    dump: &mut D,
+    skew: u64,
+) -> Result<SettlingVisitor<K, StreamJudge<J>>, Refusal>
+    requires piece { (1 ≤ piece) × (piece ≤ longest_input) }
+    requires skew { skew ≡ K.skew }
+    ensures gives { (binding_bytes dump_bytes : Option (List ℕ))
+        × IsReading (B.reading binding.old) (B.reading binding.new) binding_bytes
+        × IsReading (D.reading dump.old) (D.reading dump.new) dump_bytes
+        × AnswerGives (λ w. w) result (recording_read binding_bytes dump_bytes) }
+    ensures formed { IfOk result (λ w. malformed_step w ≡ None) }
+{
+    match binding_from(alloc, binding) {
+        Ok(bound) => {
+            let lines = bound.lines();
+            let watch = StreamJudge::new(alloc, lines);
+            let settling = SettlingVisitor::new(alloc, lines, skew, watch);
+            taken_in_order(alloc, piece, &bound, dump, settling)
+        }
+        Err(refusal) => Err(refusal),
+    }
+}
+
+/// What took the recording that a binding makes of a dump, which is read in order, so many bytes at once.
+fn taken_in_order<F: StepVisitor, D: Source>(
+    alloc: Global,
+    piece: usize,
+    bound: &Binding,
+    dump: &mut D,
+    taker: F,
+) -> Result<F, Refusal>
+    requires { (1 ≤ piece) × (piece ≤ longest_input) }
+    ensures gives { (bytes : Option (List ℕ))
+        × IsReading (D.reading dump.old) (D.reading dump.new) bytes
+        × AnswerGives (λ w. F.recorded w) result (recording_by bound.now (dump_read bytes)) }
+    ensures formed { IfOk result (λ w. malformed_step (F.recorded w) ≡ None) }
+{
+    let ordered = OrderedDump::new(bound, taker);
+    match read_by(
+        alloc,
+        dump,
+        ordered,
+        piece,
+        &|ordered: OrderedDump<'_, F>, bytes: &[u8]| ordered.take(alloc, bytes),
+    ) {
+        Ok((ordered, rest)) => match ordered.finish(alloc, rest.as_slice()) {
+            Ok(taker) => Ok(taker),
+            Err(fault) => Err(Refusal::of_capture(fault)),
+        },
+        Err(fault) => Err(Refusal::of_input(Input::Dump, fault)),
+    }
+}
+
+/// What judged a settled recording, whose last group ends. The limit holds on the steps before they settle.
+fn settled_judge<K: GhostSkew, J: ChunkJudge>(
+    alloc: Global,
+    settling: SettlingVisitor<K, StreamJudge<J>>,
+) -> Result<StreamJudge<J>, Refusal>
+    ensures gives { malformed_step settling ≡ None
+        → AnswerGives (λ w. w) result (settled_or K.skew (or_bad_binding (limited settling))) }
+    ensures formed { malformed_step settling ≡ None → IfOk result (λ w. malformed_step w ≡ None) }
+    ensures short { malformed_step settling ≡ None → IfOk result (λ w. length w.steps ≤ capture_limit) }
+{
+    if settling.is_too_long() {
+        return Err(Refusal::of_judging(NoVerdict::TooManySteps));
+    }
+    match settling.finish(alloc) {
+        Ok(judge) => Ok(judge),
+        Err(_) => Err(Refusal::Memory),
+    }
+}
