@@ -1306,65 +1306,74 @@ class Usage(Exception):
     """Wrong words: what is wrong with them."""
 
 
-NAMED = {"check": ("BINDING", "DUMP"), "list": ("BINDING", "DUMP"), "confirm": ("BINDING", "DUMP", "LISTING")}
-OPTIONS = {"--block": (1, 65536), "--workers": (1, 64), "--skew": (0, LATEST)}
-AUDIT_OPTIONS = {"--transfers": (0, LATEST), "--stop": (1, LATEST), "--workers": (1, 64), "--skew": (0, LATEST)}
+def number_between(least, most):
+    """What an option says that takes a number between these."""
+    def read(option, value):
+        given = number(value.encode(), most) if re.fullmatch("[0-9]+", value) else None
+        if given is None or given < least:
+            raise Usage(f"invalid value '{value}' for '{option}': it takes {least} to {most}")
+        return given
+    return read
 
 
-def number_for(option, value, least, most):
-    given = number(value.encode(), most) if re.fullmatch("[0-9]+", value) else None
-    if given is None or given < least:
-        raise Usage(f"invalid value '{value}' for '{option}': it takes {least} to {most}")
-    return given
+def allowance(option, value):
+    """What an option says that takes a rule, or a rule and the line that breaks it."""
+    rule, equals, line = value.partition("=")
+    if rule not in ("U1", *RULES) or equals and line not in NUMBERS:
+        raise Usage(f"invalid value '{value}' for '{option}': it takes RULE or RULE=LINE")
+    return rule, line if equals else None
 
 
-def audit_order(words):
-    """What the words of an audit ask for."""
-    names, given, allowances, rest = [], {}, set(), iter(words)
+SKEW, WORKERS = {"--skew": number_between(0, LATEST)}, {"--workers": number_between(1, 64)}
+BLOCK = {"--block": number_between(1, 65536)}
+COMMANDS = {"check": (("BINDING", "DUMP"), {**SKEW, **WORKERS, **BLOCK}),
+            "list": (("BINDING", "DUMP"), {**SKEW, **WORKERS, **BLOCK}),
+            "confirm": (("BINDING", "DUMP", "LISTING"), SKEW)}
+AUDIT_OPTIONS = {**SKEW, **WORKERS, "--transfers": number_between(0, LATEST), "--stop": number_between(1, LATEST),
+                 "--junit": lambda option, value: value, "--allow": allowance, "--quiet": None}
+
+
+def words_apart(words, options):
+    """The names among the words, and what each option that stands there says: of those that take no value, None. But for
+    allowances, which are gathered, it stands once."""
+    names, given, rest = [], {"--allow": set()}, iter(words)
     for word in rest:
         option, equals, value = word.partition("=")
         if word == "--":
             names += rest
         elif not word.startswith("-") or word == "-":
             names.append(word)
-        elif word == "--quiet" and word not in given:
-            given[word] = True
-        elif option not in (*AUDIT_OPTIONS, "--allow", "--junit") or option in given:
+        elif option not in options or option in given and option != "--allow" or equals and not options[option]:
             raise Usage(f"unexpected argument '{word}'")
+        elif not options[option]:
+            given[option] = None
         else:
             value = value if equals else next(rest, None)
             if value is None:
                 raise Usage(f"a value is required for '{option}'")
-            if option == "--allow":
-                rule, equals, line = value.partition("=")
-                if rule not in ("U1", *RULES) or equals and line not in NUMBERS:
-                    raise Usage(f"invalid value '{value}' for '--allow': it takes RULE or RULE=LINE")
-                allowances.add((rule, line if equals else None))
-            else:
-                given[option] = value if option == "--junit" else number_for(option, value, *AUDIT_OPTIONS[option])
+            said = options[option](option, value)
+            given[option] = given[option] | {said} if option == "--allow" else said
+    return names, given
+
+
+def audit_order(words):
+    """What the words of an audit ask for."""
+    names, given = words_apart(words, AUDIT_OPTIONS)
     if len(names) < 2 or names[1:].count("-") > 1:
         raise Usage("audit takes BINDING DUMP.., and standard input once at most")
-    return Asked(names, given.get("--transfers", 1), allowances, given.get("--stop"), given.get("--skew", 0),
+    return Asked(names, given.get("--transfers", 1), given["--allow"], given.get("--stop"), given.get("--skew", 0),
                  "--quiet" in given, given.get("--junit"))
 
 
 def order_of(words):
     """The command, the files, the steps of a block and the skew that the words ask for."""
-    command, names, given, rest = words[0], [], {}, iter(words[1:])
-    if command not in NAMED:
+    command = words[0]
+    if command not in COMMANDS:
         raise Usage(f"there is no command '{command}' here")
-    for word in rest:
-        option, equals, value = word.partition("=")
-        if word == "--":
-            names += rest
-        elif not word.startswith("-") or word == "-":
-            names.append(word)
-        elif option not in OPTIONS or command == "confirm" and option != "--skew" or option in given:
-            raise Usage(f"unexpected argument '{word}'")
-        else:
-            given[option] = number_for(option, value if equals else next(rest, ""), *OPTIONS[option])
-    if len(names) != len(NAMED[command]):
-        raise Usage(f"{command} takes {' '.join(NAMED[command])}")
+    wanted, options = COMMANDS[command]
+    names, given = words_apart(words[1:], options)
+    if len(names) != len(wanted):
+        raise Usage(f"{command} takes {' '.join(wanted)}")
     return command, names, given.get("--block", 16384), given.get("--skew", 0)
 
 

@@ -65,7 +65,8 @@ module _ (skew transfers : ℕ) (is_quiet : Bool) (head : List ℕ) (first later
   -- a body without an outcome
   pub ends-without : (why : NoOutcome)
       → EndsBehind {A = Unit {0}} head first (lines_of head first) reading later.recording u v (Err why)
-      → EndsAs (reading_answer (rules_by first.allowances first.stop skew transfers is_quiet) head reading) u v (Err why)
+      → EndsAs (reading_answer (rules_by first.allowances first.stop skew transfers is_quiet) head reading) u v
+      (Err why)
   ends-without (Refused refusal) ends =
       let rules = rules_by first.allowances first.stop skew transfers is_quiet in
       let (text, same, (writes, ended)) = ends in

@@ -67,8 +67,8 @@ end_by name out (Err why) =
     record { out = out; errors = refusal_line_of name why ∷ []; status = refusal_status why }
 
 -- the first bytes of a text, however many
-abbrev pub IsFront : List ℕ → List ℕ → Type 0
-IsFront front text = (n : ℕ) × (front ≡ take n text)
+abbrev pub IsTextFront : List ℕ → List ℕ → Type 0
+IsTextFront front text = (n : ℕ) × (front ≡ take n text)
 
 -- all of an answer is told
 abbrev pub IsTold : List ℕ → DumpAnswer → DumpEnd → Type 0
@@ -77,15 +77,15 @@ IsTold name answer end = end ≡ end_by name answer.out answer.ended
 -- the dump can't be read to its end: the first bytes of the text are told, and why there is no outcome
 abbrev pub IsUnread : List ℕ → DumpAnswer → DumpEnd → Type 0
 IsUnread name answer end =
-    (front : List ℕ) × IsFront front answer.out × (end ≡ end_by name front (Err (CannotRead Dump)))
+    (front : List ℕ) × IsTextFront front answer.out × (end ≡ end_by name front (Err (CannotRead Dump)))
 
 -- a line says why there is no outcome of a dump, or that there is no memory
 abbrev pub IsErrorLine : List ℕ → List ℕ → Type 0
 IsErrorLine name line = (line ≡ memory_line) ⊎ ((why : Refusal) × (line ≡ refusal_line_of name why))
 
 -- memory runs out: the first bytes of the text are told, and the last line on standard error says so
-pub record LacksMemory (name : List ℕ) (answer : DumpAnswer) (end : DumpEnd) : Type 0 where
-  pub out : IsFront end.out answer.out
+pub record EndsWithoutMemory (name : List ℕ) (answer : DumpAnswer) (end : DumpEnd) : Type 0 where
+  pub out : IsTextFront end.out answer.out
   pub before : List (List ℕ)
   pub last : List ℕ
   pub errors : end.errors ≡ before ++ last ∷ []
@@ -95,7 +95,7 @@ pub record LacksMemory (name : List ℕ) (answer : DumpAnswer) (end : DumpEnd) :
 
 -- how a dump may end that has this answer
 abbrev pub IsEndOf : List ℕ → DumpAnswer → DumpEnd → Type 0
-IsEndOf name answer end = IsTold name answer end ⊎ (IsUnread name answer end ⊎ LacksMemory name answer end)
+IsEndOf name answer end = IsTold name answer end ⊎ (IsUnread name answer end ⊎ EndsWithoutMemory name answer end)
 
 module _ (rules : DumpRules) (bound : BoundLines) where
   -- what there is to tell of the bytes of a dump

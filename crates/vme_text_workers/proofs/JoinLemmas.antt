@@ -1,6 +1,6 @@
 -- Pieces that are joined in order, and what comes of the text.
 use Rattle.std.proofs.Common.{◌≡◌, ℕ, suc, ◌+◌, ◌<◌, add-one, drop, List, [], ◌∷◌, ◌++◌, length, get_or, Option, None}
-use Rattle.std.proofs.Common.{refl, sym, ap, subst, ◌∙◌, arith, append_assoc}
+use Rattle.std.proofs.Common.{Some, ◌⊎◌, inl, inr, refl, sym, ap, subst, ◌∙◌, arith, append_assoc}
 use Rattle.std.specs.Prelude.{IfSome}
 use Rattle.std.proofs.Math.Seq.{drop-cons}
 use Rattle.vme_trace.specs.Followed.{with_steps}
@@ -119,6 +119,20 @@ next-ahead nets taps pieces left piece (one ∷ all) rest next are at (same, is)
           a.0)) (sym is) both.0,
       subst (AreAhead nets taps left) (sym same) both.1,
     )
+
+-- what was read of the next piece, ahead or again
+pub next-judged : (nets : List Net) (taps : NetLines) (pieces left : List DumpPiece) (piece : DumpPiece)
+    (all rest all2 rest2 : List (Option (ReadSpeculatively × Trace))) (one next : Option (ReadSpeculatively × Trace))
+    (a : ReadSpeculatively × Trace) → AreAhead nets taps pieces all → AreAhead nets taps pieces all2
+    → pieces ≡ piece ∷ left → all ≡ one ∷ rest → IsNextOf all2 rest2 next → (one ≡ Some a) ⊎ (next ≡ Some a)
+    → IsJudgedAhead nets taps piece.bytes.now a.1 a.0
+next-judged nets taps pieces left piece all rest all2 rest2 one next a are are2 at of is same =
+    let P : Option (ReadSpeculatively × Trace) → Type 0 =
+    λ o. IfSome o (λ b. IsJudgedAhead nets taps piece.bytes.now b.1 b.0) in
+    elim same [
+      | inl e ↦ subst P e (one-ahead nets taps pieces left piece all rest one are at of)
+      | inr e ↦ subst P e (next-ahead nets taps pieces left piece all2 rest2 next are2 at is).0
+    ]
 
 pub same-nets : (nets nets2 : List Net) (taps taps2 : NetLines) (pieces : List DumpPiece)
     (all : List (Option (ReadSpeculatively × Trace)))

@@ -84,6 +84,7 @@ impl<J: ChunkJudge> ChunkBuffer<J> {
     }
 
     /// All steps came. The only error is want of memory.
+    #[inline(never)]
     pub fn finish(self, alloc: Global) -> Result<JudgedChunks<J>, AllocError>
         ensures { IfOk result (λ judged. judged ≡ self) }
     {

@@ -1,15 +1,14 @@
 //! Pieces that were read ahead, joined in order as far as they fit.
 
-ghost use Rattle.std.specs.Prelude.{◌≡◌, ◌≤◌, drop, length, IfOk, IfSome, Some};
+ghost use Rattle.std.specs.Prelude.{◌≡◌, ◌≤◌, ◌⊎◌, drop, length, IfOk, IfSome, Some};
 ghost use Rattle.std.specs.Vec.Iter.{into_iter_items};
 ghost use Rattle.vme_trace.specs.Followed.{with_steps};
 ghost use Rattle.vme_bind.specs.Recording.{step_in};
 ghost use Rattle.vme_bind.specs.SpeculativeReading.{MayFollowLevels, with_recording};
-ghost use Rattle.vme_text_workers.specs.SpeculativeChunks.{AreAhead, AreTaken, IsJudgedAhead, IsNextOf};
+ghost use Rattle.vme_text_workers.specs.SpeculativeChunks.{AreAhead, AreTaken, IsNextOf};
 
 use crate::chunks::JudgedChunks;
 use crate::cut::DumpPiece;
-use crate::speculative::read_ahead;
 use std::alloc::{AllocError, Global};
 use std::vec::IntoIter;
 use vme_bind::{SpeculativeChunk, SpeculativeReader};
@@ -44,28 +43,19 @@ fn if_fits<J: ChunkJudge>(
     }
 }
 
-/// The piece as it was read ahead, or again, if it fits so, or else as it is read from the levels that really stand
-/// before it, if it fits then.
+/// The piece as it was read ahead, or again, if it fits so.
 fn fitting<J: ChunkJudge>(
-    alloc: Global,
     wave: &SpeculativeReader,
-    piece: DumpPiece<'_>,
     ahead: Option<(SpeculativeChunk, JudgedChunks<J>)>,
     again: Option<(SpeculativeChunk, JudgedChunks<J>)>,
 ) -> Option<(SpeculativeChunk, JudgedChunks<J>)>
-    requires ahead { IfSome ahead (λ a. IsJudgedAhead wave.now.body.nets wave.now.line_bits piece.bytes.now a.1 a.0) }
-    requires again { IfSome again (λ a. IsJudgedAhead wave.now.body.nets wave.now.line_bits piece.bytes.now a.1 a.0) }
-    ensures read { IfSome result (λ a.
-        IsJudgedAhead wave.now.body.nets wave.now.line_bits piece.entry.bytes.now a.1 a.0) }
+    ensures same { IfSome result (λ a. (ahead ≡ Some a) ⊎ (again ≡ Some a)) }
     ensures fits { IfSome result (λ a. MayFollowLevels wave.now a.0) }
 {
     if let Some(fit) = if_fits(wave, ahead) {
         return Some(fit);
     }
-    if let Some(fit) = if_fits(wave, again) {
-        return Some(fit);
-    }
-    if_fits(wave, read_ahead(alloc, wave, piece, wave.now()))
+    if_fits(wave, again)
 }
 
 /// Goes past a step, if there is one. The only error is want of memory.
@@ -94,7 +84,8 @@ fn next_of<X: Drop>(pieces: &mut IntoIter<Option<X>>) -> Option<X>
 }
 
 /// Joins the pieces in order, up to the first that doesn't fit, and judges their steps. Some were read again. The only
-/// error is want of memory.
+/// error is want of memory. It stands apart, so that the threads are started where the stack has no room for it yet.
+#[inline(never)]
 pub(crate) fn join_in_order<J: ChunkJudge>(
     alloc: Global,
     wave: SpeculativeReader,
@@ -118,7 +109,7 @@ pub(crate) fn join_in_order<J: ChunkJudge>(
             break;
         }
         let anew = next_of(&mut again);
-        let Some((ahead, chunks)) = fitting(alloc, &wave, pieces[count], ahead, anew) else {
+        let Some((ahead, chunks)) = fitting(&wave, ahead, anew) else {
             break;
         };
         let (behind, step) = wave.join(alloc, ahead)?;

@@ -57,7 +57,7 @@ fn likely_behind(alloc: Global, wave: &SpeculativeReader, piece: DumpPiece<'_>) 
 
 /// Reads a piece ahead, from these levels, and judges it. None is given where `SpeculativeReader::read_ahead` gives
 /// none.
-pub(crate) fn read_ahead<J: ChunkJudge>(
+fn read_ahead<J: ChunkJudge>(
     alloc: Global,
     wave: &SpeculativeReader,
     piece: DumpPiece<'_>,

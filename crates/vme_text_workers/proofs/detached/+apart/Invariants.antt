@@ -1,8 +1,11 @@
-use Rattle.std.proofs.Common.{◌+◌, ◌*◌}
+use Rattle.std.proofs.Common.{◌+◌, ◌*◌, length}
 use Rattle.vme_text_workers.proofs.detached.+apart.Given as goal
 
-abbrev pub decreases-map_places : goal.decreases-map_places
-decreases-map_places g l = 2 * l.count
+abbrev pub decreases-call_both : goal.decreases-call_both
+decreases-call_both g l = 3 * length l.before.now + 2
 
-abbrev pub decreases-here : goal.decreases-here
-decreases-here g l = 2 * l.last + 1
+abbrev pub decreases-call_each : goal.decreases-call_each
+decreases-call_each g l = 3 * length l.all.now
+
+abbrev pub decreases-call_both-here : goal.decreases-call_both-here
+decreases-call_both-here g l = 3 * length l.before.now + 1

@@ -5,8 +5,8 @@ use Rattle.vme_bind.specs.Recording.{step_in}
 use Rattle.vme_bind.specs.SpeculativeReading.{WaveReached, with_recording}
 use Rattle.vme_text_workers.specs.SpeculativeChunks.{AreAhead, AreTaken}
 use Rattle.vme_text_workers.specs.declared.cut.DumpPiece.{DumpPiece}
-use Rattle.vme_text_workers.proofs.JoinLemmas.{joined-taken, left-more, next-ahead, one-ahead, rest-ahead, same-nets}
-use Rattle.vme_text_workers.proofs.JoinLemmas.{steps-follow, taken-none}
+use Rattle.vme_text_workers.proofs.JoinLemmas.{joined-taken, left-more, next-ahead, next-judged, rest-ahead}
+use Rattle.vme_text_workers.proofs.JoinLemmas.{same-nets, steps-follow, taken-none}
 use Rattle.vme_text_workers.proofs.joining.join_in_order.Goals as goal
 
 abbrev no_piece : DumpPiece
@@ -28,38 +28,22 @@ loop-ahead-init g c = record {
   taken = taken-none c.args.pieces.now (with_recording c.args.watch c.args.wave);
 }
 
-pub fitting-requires-clause-ahead : goal.fitting-requires-clause-ahead
-fitting-requires-clause-ahead g c =
-    let pieces = c.args.pieces.now in
-    let count = c.loop-ahead.count in
-    let w : WaveReached = c.loop-ahead.wave in
-    let at : drop count pieces ≡ get_or pieces count no_piece ∷ drop (count + 1) pieces = left-more pieces count
-    no_piece (omega arith) in
-    one-ahead w.body.nets w.line_bits (drop count pieces) (drop (count + 1) pieces) (get_or pieces count no_piece)
-    (into_iter_items c.loop-ahead.ahead-iterator)
-    (into_iter_items c.next.new.self) c.in-Some.ahead c.loop-ahead.invariant.ahead at c.in-Some.ensures.steps.0
-
-pub fitting-requires-clause-again : goal.fitting-requires-clause-again
-fitting-requires-clause-again g c =
-    let pieces = c.args.pieces.now in
-    let count = c.loop-ahead.count in
-    let w : WaveReached = c.loop-ahead.wave in
-    let at : drop count pieces ≡ get_or pieces count no_piece ∷ drop (count + 1) pieces = left-more pieces count
-    no_piece (omega arith) in
-    (next-ahead w.body.nets w.line_bits (drop count pieces) (drop (count + 1) pieces) (get_or pieces count no_piece)
-    (into_iter_items c.loop-ahead.again)
-    (into_iter_items c.next_of-anew.new.pieces) c.next_of-anew.result c.loop-ahead.invariant.again at
-    c.next_of-anew.ensures).0
-
 pub pass-requires : goal.pass-requires
 pass-requires g c =
+    let pieces = c.args.pieces.now in
+    let count = c.loop-ahead.count in
     let w : WaveReached = c.loop-ahead.wave in
     let v : WaveReached = c.in_ok-behind.behind in
     let chunks : Trace = c.in-Some-fitting.chunks in
-    let read = c.in-Some-fitting.ensures.read in
+    let read = next-judged w.body.nets w.line_bits (drop count pieces) (drop (count + 1) pieces)
+    (get_or pieces count no_piece) (into_iter_items c.loop-ahead.ahead-iterator) (into_iter_items c.next.new.self)
+    (into_iter_items c.loop-ahead.again) (into_iter_items c.next_of-anew.new.pieces) c.in-Some.ahead
+    c.next_of-anew.result (c.in-Some-fitting.ahead, chunks) c.loop-ahead.invariant.ahead c.loop-ahead.invariant.again
+    (left-more pieces count no_piece (omega arith)) c.in-Some.ensures.steps.0 c.next_of-anew.ensures
+    c.in-Some-fitting.ensures.same in
     let watch : Trace = c.leaves.new.self in
     let same : watch ≡ c.loop-ahead.watch = c.in_ok-leaves.ensures.same in
-    let bytes = (get_or c.args.pieces.now c.loop-ahead.count no_piece).bytes.now in
+    let bytes = (get_or pieces count no_piece).bytes.now in
     let leaves : levels_after watch.opening watch.steps ≡ w.body.progress.taken.shown =
     ap (λ (t : Trace). levels_after t.opening t.steps) same ∙ c.in_ok-leaves.ensures.leaves c.if-not-branch.false
     ∙ c.shown.ensures in
@@ -74,7 +58,12 @@ loop-ahead-preserved g c =
     let w : WaveReached = c.loop-ahead.wave in
     let v : WaveReached = c.in_ok-behind.behind in
     let chunks : Trace = c.in-Some-fitting.chunks in
-    let read = c.in-Some-fitting.ensures.read in
+    let read = next-judged w.body.nets w.line_bits (drop count pieces) (drop (count + 1) pieces)
+    (get_or pieces count no_piece) (into_iter_items c.loop-ahead.ahead-iterator) (into_iter_items c.next.new.self)
+    (into_iter_items c.loop-ahead.again) (into_iter_items c.next_of-anew.new.pieces) c.in-Some.ahead
+    c.next_of-anew.result (c.in-Some-fitting.ahead, chunks) c.loop-ahead.invariant.ahead c.loop-ahead.invariant.again
+    (left-more pieces count no_piece (omega arith)) c.in-Some.ensures.steps.0 c.next_of-anew.ensures
+    c.in-Some-fitting.ensures.same in
     let watch : Trace = c.leaves.new.self in
     let same : watch ≡ c.loop-ahead.watch = c.in_ok-leaves.ensures.same in
     let piece = get_or pieces count no_piece in
