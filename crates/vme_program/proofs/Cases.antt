@@ -1,0 +1,15 @@
+-- What holds of a case that is known.
+use Rattle.std.proofs.Common.{◌≡◌, ℕ, sym, subst}
+use Rattle.std.specs.Prelude.{Option, Some, None, MatchOption, Result, Ok, Err, IfOk}
+
+pub match_some : {X : Type 0} (w : Option X) (x : X) (A : Type 0) (B : X → Type 0) → w ≡ Some x → B x
+    → MatchOption w A B
+match_some {X} w x A B is holds = let P : Option X → Type 0 = λ v. MatchOption v A B in subst P (sym is) holds
+
+pub match_none : {X : Type 0} (w : Option X) (A : Type 0) (B : X → Type 0) → w ≡ None → A → MatchOption w A B
+match_none {X} w A B is holds = let P : Option X → Type 0 = λ v. MatchOption v A B in subst P (sym is) holds
+
+pub ok_with : {F A : Type 0} (IsIt : A → Type 0) (Did : A → ℕ → Type 0) (a : A) (r : Result ℕ F) → IsIt a
+    → IfOk r (Did a) → IfOk r (λ status. (x : A) × IsIt x × Did x status)
+ok_with IsIt Did a (Ok status) is did = (a, is, did)
+ok_with IsIt Did a (Err e) is did = tt

@@ -1,0 +1,9 @@
+pub mod Audits
+pub mod Bindings
+pub mod Explanations
+pub mod Inputs
+pub mod Openings
+pub mod Programs
+pub mod Recordings
+pub mod Saves
+pub mod Texts

@@ -1,0 +1,43 @@
+-- What the commands tell that write a text.
+use Rattle.std.specs.Prelude.{◌≡◌, ℕ, List, Option, None, Result, MatchOption, IsSomeAnd, option_map, slice_get}
+use Rattle.std.specs.Prelude.{string_bytes}
+use Rattle.vme_trace.specs.Names.{rule_named}
+use Rattle.vme_trace.specs.Streams.{Reading, Writing}
+use Rattle.vme_trace.specs.declared.rule.Rule.{Rule}
+use Rattle.vme_answer.specs.Answers.{dump_read}
+use Rattle.vme_answer.specs.Ends.{Ends}
+use Rattle.vme_answer.specs.declared.refusal.Input.TheVariants.{Dump}
+use Rattle.vme_answer.specs.declared.refusal.Refusal.{Refusal}
+use Rattle.vme_commands.specs.TextAnswers.{IsText, IsTextOf, text_answer_by}
+use Rattle.vme_stream.specs.Inputs.{IsReading}
+use Rattle.vme_words.specs.declared.order.Order.{Order}
+use Rattle.vme_program.specs.Openings.{WithInput}
+
+-- the variables of a dump are told
+abbrev pub TellsVariables : Reading × Reading → Writing × Writing → Writing × Writing → ℕ → Type 0
+TellsVariables dump out err status = (bytes : Option (List ℕ)) × (made : Result (List ℕ) Refusal)
+    × IsReading dump.0 dump.1 bytes
+    × IsTextOf (dump_read bytes) made
+    × Ends (text_answer_by 0 made) out err status
+
+-- those of the dump that an order names
+abbrev pub TellsFile : (List ℕ → Option Reading → Type 0) → Order → Writing × Writing → Writing × Writing → ℕ → Type 0
+TellsFile opens order = WithInput opens order Dump TellsVariables
+
+-- ---- rules
+
+-- the word that names a rule
+abbrev pub rule_word : Order → Option (List ℕ)
+rule_word order = option_map string_bytes (slice_get order.names.items 0)
+
+-- the rule that an order names, if it names one
+abbrev pub IsRuleOf : Order → Option Rule → Type 0
+IsRuleOf order rule = MatchOption (rule_word order) (rule ≡ None) (λ name. rule_named name ≡ rule)
+
+-- it names none that there is
+abbrev pub NamesNoRule : Order → Type 0
+NamesNoRule order = IsSomeAnd (rule_word order) (λ name. rule_named name ≡ None)
+
+-- what rules ask is told
+abbrev pub TellsRules : Writing × Writing → Writing × Writing → ℕ → Type 0
+TellsRules out err status = (made : Result (List ℕ) Refusal) × IsText made × Ends (text_answer_by 0 made) out err status

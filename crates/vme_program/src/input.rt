@@ -1,0 +1,48 @@
+//! The check of a dump on standard input.
+
+ghost use Rattle.vme_program.specs.Inputs.{ChecksInput, SaysFirst};
+
+use crate::surroundings::Surroundings;
+use std::alloc::Global;
+use std::thread::Threads;
+use vme_commands::check::check;
+use vme_commands::{BLOCK, BUILT_IN, READS_TERMINAL};
+use vme_stream::{Bytes, write_all};
+use vme_trace::Sink;
+
+/// Judges the dump on standard input by the built-in binding. Where standard input is a terminal, it says first that it
+/// reads there. The answer is the exit status.
+#[inline(never)]
+pub fn check_input<R: Threads + Sync, S: Surroundings, O: Sink, E: Sink>(
+    rt: &R,
+    alloc: Global,
+    surroundings: &S,
+    out: &mut O,
+    err: &mut E,
+) -> u8
+    ensures { ChecksInput (S.is_input surroundings.now) (S.on_terminal surroundings.now)
+        (O.writing out.old, O.writing out.new) (E.writing err.old, E.writing err.new) result }
+{
+    say_first(surroundings.is_terminal(), err);
+    let mut input = surroundings.input();
+    check(
+        rt,
+        alloc,
+        &mut Bytes::new(BUILT_IN),
+        &mut input,
+        BLOCK,
+        1,
+        0,
+        out,
+        err,
+    )
+}
+
+/// Says that a dump is read from standard input, where that is a terminal.
+fn say_first<E: Sink>(is_terminal: bool, err: &mut E)
+    ensures { SaysFirst is_terminal (E.writing err.old) (E.writing err.new) }
+{
+    if is_terminal {
+        let _ = write_all(err, READS_TERMINAL);
+    }
+}

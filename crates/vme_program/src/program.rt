@@ -1,0 +1,83 @@
+//! From the words of the command line to one command.
+
+ghost use Rattle.std.specs.Prelude.{◌≡◌, ◌<◌, ◌≤◌, IfErr, IfOk, OnErr, length, map, string_bytes};
+ghost use Rattle.clap.specs.Words.{subcommand_of};
+ghost use Rattle.vme_program.specs.Inputs.{ChecksInput};
+ghost use Rattle.vme_program.specs.Programs.{DoesOrder};
+ghost use Rattle.vme_words.specs.Commands.{vmecheck_app};
+ghost use Rattle.vme_words.specs.OrderFaults.{IsOfWords};
+ghost use Rattle.vme_words.specs.Orders.{IsOrder};
+ghost use Rattle.vme_words.specs.declared.order.Order.{Order as OrderIs};
+
+use crate::audit::audit_files;
+use crate::bind::bind_file;
+use crate::check::check_files;
+use crate::confirm::confirm_files;
+use crate::explain::explain_files;
+use crate::input::check_input;
+use crate::list::list_files;
+use crate::rules::rules_named;
+use crate::surroundings::Surroundings;
+use crate::variables::variables_file;
+use std::alloc::Global;
+use std::thread::Threads;
+use vme_trace::Sink;
+use vme_words::words::order;
+use vme_words::{Order, OrderFault, Task};
+
+/// Does what the words of the command line ask for, the program's name first. Without words it checks the dump on
+/// standard input. The answer is the exit status, or what is wrong with the words: then nothing is opened or written.
+pub fn run_words<R: Threads + Sync, S: Surroundings, O: Sink, E: Sink>(
+    rt: &R,
+    alloc: Global,
+    surroundings: &S,
+    words: &[String],
+    out: &mut O,
+    err: &mut E,
+) -> Result<u8, OrderFault>
+    ensures none { length words.now ≤ 1 → IfOk result (λ status. ChecksInput
+        (S.is_input surroundings.now) (S.on_terminal surroundings.now)
+        (O.writing out.old, O.writing out.new) (E.writing err.old, E.writing err.new) status) }
+    ensures some { 1 < length words.now → IfOk result (λ status. (asked : OrderIs)
+        × IsOrder asked (subcommand_of vmecheck_app (map string_bytes words.now))
+        × DoesOrder S.Surroundings surroundings.now asked
+        (O.writing out.old, O.writing out.new) (E.writing err.old, E.writing err.new) status) }
+    ensures of_words { IfErr result IsOfWords }
+    ensures out_stays { OnErr result (O.writing out.new ≡ O.writing out.old) }
+    ensures err_stays { OnErr result (E.writing err.new ≡ E.writing err.old) }
+{
+    if words.len() <= 1 {
+        return Ok(check_input(rt, alloc, surroundings, out, err));
+    }
+    match order(alloc, words) {
+        Ok(asked) => run_order(rt, alloc, surroundings, &asked, out, err),
+        Err(fault) => Err(fault),
+    }
+}
+
+/// Does what an order asks for. The answer is the exit status, or what is wrong with the words.
+fn run_order<R: Threads + Sync, S: Surroundings, O: Sink, E: Sink>(
+    rt: &R,
+    alloc: Global,
+    surroundings: &S,
+    order: &Order,
+    out: &mut O,
+    err: &mut E,
+) -> Result<u8, OrderFault>
+    ensures done { IfOk result (λ status. DoesOrder S.Surroundings surroundings.now order.now
+        (O.writing out.old, O.writing out.new) (E.writing err.old, E.writing err.new) status) }
+    ensures of_words { IfErr result IsOfWords }
+    ensures out_stays { OnErr result (O.writing out.new ≡ O.writing out.old) }
+    ensures err_stays { OnErr result (E.writing err.new ≡ E.writing err.old) }
+{
+    match order.command {
+        Task::Check => Ok(check_files(rt, alloc, surroundings, order, out, err)),
+        Task::List => Ok(list_files(rt, alloc, surroundings, order, out, err)),
+        Task::Confirm => Ok(confirm_files(alloc, surroundings, order, out, err)),
+        Task::Audit => audit_files(alloc, surroundings, order, out, err),
+        Task::Explain => Ok(explain_files(alloc, surroundings, order, out, err)),
+        Task::Bind => bind_file(alloc, surroundings, order, out, err),
+        Task::Variables => Ok(variables_file(alloc, surroundings, order, out, err)),
+        Task::Rules => rules_named(alloc, order, out, err),
+    }
+}

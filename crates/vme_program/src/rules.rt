@@ -1,0 +1,47 @@
+//! The rule that an order names, or each of them.
+
+ghost use Rattle.std.specs.Prelude.{◌≡◌, IfErr, IfOk, OnErr};
+ghost use Rattle.vme_program.specs.Texts.{IsRuleOf, NamesNoRule, TellsRules};
+ghost use Rattle.vme_words.specs.OrderFaults.{IsOfWords};
+
+use std::alloc::Global;
+use vme_commands::tell_rules;
+use vme_trace::{Rule, Sink};
+use vme_words::{Order, OrderFault, Task, task_fault};
+
+/// Says what the rule asks that an order names, or each of them where it names none. The answer is the exit status, or
+/// that there is no such rule.
+#[inline(never)]
+pub fn rules_named<O: Sink, E: Sink>(
+    alloc: Global,
+    order: &Order,
+    out: &mut O,
+    err: &mut E,
+) -> Result<u8, OrderFault>
+    ensures told { IfOk result (λ status. TellsRules
+        (O.writing out.old, O.writing out.new) (E.writing err.old, E.writing err.new) status) }
+    ensures faulty { OnErr result (NamesNoRule order.now) }
+    ensures of_words { IfErr result IsOfWords }
+    ensures out_stays { OnErr result (O.writing out.new ≡ O.writing out.old) }
+    ensures err_stays { OnErr result (E.writing err.new ≡ E.writing err.old) }
+{
+    match rule_of(alloc, order) {
+        Ok(only) => Ok(tell_rules(alloc, only, out, err)),
+        Err(fault) => Err(fault),
+    }
+}
+
+/// The rule that an order names, if it names one.
+fn rule_of(alloc: Global, order: &Order) -> Result<Option<Rule>, OrderFault>
+    ensures rule { IfOk result (IsRuleOf order.now) }
+    ensures faulty { OnErr result (NamesNoRule order.now) }
+    ensures of_words { IfErr result IsOfWords }
+{
+    let Some(name) = order.names.get(0) else {
+        return Ok(None);
+    };
+    match Rule::from_name(name.as_bytes()) {
+        Some(rule) => Ok(Some(rule)),
+        None => Err(task_fault(alloc, Task::Rules, "there is no such rule")),
+    }
+}

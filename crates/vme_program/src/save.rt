@@ -1,0 +1,91 @@
+//! The file of the waveform viewer: over no input, and over nothing that the program didn't write itself.
+
+ghost use Rattle.vme_program.specs.Saves.{EndsWritten, MayBeSaved, RefusesPlace, Saves};
+ghost use Rattle.vme_stream.specs.Outputs.{TriesToWrite};
+
+use crate::opening::refuse;
+use crate::surroundings::{Surroundings, Written};
+use std::alloc::Global;
+use vme_answer::{Refusal, cannot_write_line};
+use vme_explain::{FileId, SaveRefusal, save_refusal, save_refusal_text};
+use vme_stream::{complain, write_all};
+use vme_trace::Sink;
+
+/// The files of the inputs.
+#[derive(Clone, Copy, Debug, PartialEq, Eq)]
+pub struct InputIds {
+    /// That of the binding.
+    pub binding: FileId,
+    /// That of the dump.
+    pub dump: FileId,
+}
+
+/// Why no file is written at a path, if none may be.
+pub(crate) fn refusal_at<S: Surroundings>(
+    surroundings: &S,
+    path: &str,
+    inputs: InputIds,
+) -> Option<SaveRefusal>
+    ensures { MayBeSaved (S.stands_at surroundings.now) path.now inputs result }
+{
+    save_refusal(&surroundings.present_at(path), inputs.binding, inputs.dump)
+}
+
+/// Writes a file at a path, if it may. The answer is this exit status, or another where the file isn't written.
+#[inline(never)]
+pub(crate) fn save<S: Surroundings, E: Sink>(
+    alloc: Global,
+    surroundings: &S,
+    path: &str,
+    bytes: &[u8],
+    inputs: InputIds,
+    status: u8,
+    err: &mut E,
+) -> u8
+    ensures { Saves (S.stands_at surroundings.now) (S.puts surroundings.now) path.now inputs bytes.now status
+        (E.writing err.old, E.writing err.new) result }
+{
+    match refusal_at(surroundings, path, inputs) {
+        Some(refusal) => refuse_place(alloc, path, refusal, err),
+        None => end_written(surroundings.put_file(alloc, path, bytes), status, err),
+    }
+}
+
+/// Says that a file isn't written, if it isn't. The answer is this exit status, or another where it isn't.
+fn end_written<E: Sink>(written: Written, status: u8, err: &mut E) -> u8
+    ensures { EndsWritten written status (E.writing err.old, E.writing err.new) result }
+{
+    match written {
+        Written::Whole => status,
+        Written::Failed => {
+            complain(err, cannot_write_line());
+            5
+        }
+        Written::Memory => refuse(&Refusal::Memory, err),
+    }
+}
+
+/// Says why no file is written at a path. The answer is the exit status.
+pub(crate) fn refuse_place<E: Sink>(
+    alloc: Global,
+    path: &str,
+    refusal: SaveRefusal,
+    err: &mut E,
+) -> u8
+    ensures { RefusesPlace (E.writing err.old, E.writing err.new) result }
+{
+    match save_refusal_text(alloc, path, refusal) {
+        Ok(text) => {
+            say(text.as_bytes(), err);
+            3
+        }
+        Err(_) => refuse(&Refusal::Memory, err),
+    }
+}
+
+/// Writes a text. Where that fails, nothing else is done.
+fn say<E: Sink>(text: &[u8], err: &mut E)
+    ensures { TriesToWrite (E.writing err.old) (E.writing err.new) text.now }
+{
+    let _ = write_all(err, text);
+}

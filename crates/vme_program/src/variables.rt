@@ -1,0 +1,29 @@
+//! The variables of the dump that an order names.
+
+ghost use Rattle.vme_program.specs.Texts.{TellsFile};
+
+use crate::opening::{open_input, refuse_input};
+use crate::surroundings::Surroundings;
+use std::alloc::Global;
+use vme_answer::Input;
+use vme_commands::tell_variables;
+use vme_trace::Sink;
+use vme_words::Order;
+
+/// Writes the variables of the dump that an order names. The answer is the exit status.
+#[inline(never)]
+pub fn variables_file<S: Surroundings, O: Sink, E: Sink>(
+    alloc: Global,
+    surroundings: &S,
+    order: &Order,
+    out: &mut O,
+    err: &mut E,
+) -> u8
+    ensures { TellsFile (S.opens surroundings.now) order.now
+        (O.writing out.old, O.writing out.new) (E.writing err.old, E.writing err.new) result }
+{
+    match open_input(surroundings, order, Input::Dump) {
+        Some(mut dump) => tell_variables(alloc, &mut dump, out, err),
+        None => refuse_input(Input::Dump, err),
+    }
+}

@@ -1,0 +1,167 @@
+//! The files of the system and standard input, as the program asks for them.
+
+use crate::save::put;
+use std::alloc::Global;
+use std::fs::{self, File, Metadata};
+use std::io::{self, ErrorKind, IsTerminal, Read, Stdin, Write};
+use std::os::unix::fs::MetadataExt;
+use vme_explain::{FileId, Present, is_save_file};
+use vme_program::{Surroundings, Written};
+use vme_stream::Io;
+use vme_trace::{Failed, Source};
+
+/// How many bytes of a file tell whether the program wrote it.
+const BEGIN: usize = 64;
+
+/// What bytes are read from.
+#[derive(Drop)]
+enum Stream {
+    /// A file.
+    File(File),
+    /// Standard input.
+    Input(Stdin),
+}
+
+impl Read for Stream {
+    fn read(&mut self, buffer: &mut [u8]) -> io::Result<usize> {
+        match self {
+            Stream::File(file) => file.read(buffer),
+            Stream::Input(input) => input.read(buffer),
+        }
+    }
+}
+
+/// What reads a file, or standard input.
+#[derive(Drop)]
+pub(crate) struct HostReader {
+    source: Io<Stream>,
+    /// Which file it is, if it can be told.
+    id: Option<FileId>,
+}
+
+impl Source for HostReader {
+    ghost reading = { λ reader. ⟦<Io<Stream> as Source>⟧.reading reader.source };
+
+    fn read(&mut self, buffer: &mut [u8]) -> Result<usize, Failed> {
+        self.source.read(buffer)
+    }
+}
+
+/// The files of the system and standard input.
+#[derive(Drop)]
+pub(crate) struct Host<'a> {
+    rt: &'a HostRuntime,
+}
+
+impl<'a> Host<'a> {
+    pub(crate) fn new(rt: &'a HostRuntime) -> Host<'a> {
+        Host { rt }
+    }
+}
+
+// What a file, standard input or a path gives is nothing that a contract can say.
+impl Surroundings for Host<'_> {
+    type Reader = HostReader;
+
+    ghost opens = { λ _ _ _. Unit {0} };
+
+    ghost is_input = { λ _ _. Unit {0} };
+
+    ghost on_terminal = { λ _ _. Unit {0} };
+
+    ghost is_file = { λ _ _ _. Unit {0} };
+
+    ghost leads_to = { λ _ _ _. Unit {0} };
+
+    ghost stands_at = { λ _ _ _. Unit {0} };
+
+    ghost puts = { λ _ _ _ _. Unit {0} };
+
+    ghost writes = { λ _ _ _ _. Unit {0} };
+
+    fn open_file(&self, name: &str) -> Option<HostReader> {
+        match fs::open(self.rt, name) {
+            Ok(file) => {
+                let id = id_of(file.metadata());
+                Some(HostReader {
+                    source: Io::new(Stream::File(file)),
+                    id,
+                })
+            }
+            Err(_) => None,
+        }
+    }
+
+    fn input(&self) -> HostReader {
+        HostReader {
+            source: Io::new(Stream::Input(self.rt.stdin())),
+            id: None,
+        }
+    }
+
+    fn is_terminal(&self) -> bool {
+        self.rt.stdin().is_terminal()
+    }
+
+    fn id_of(&self, reader: &HostReader) -> Option<FileId> {
+        reader.id
+    }
+
+    fn id_at(&self, path: &str) -> Option<FileId> {
+        id_of(fs::metadata(self.rt, path))
+    }
+
+    fn present_at(&self, path: &str) -> Present {
+        if let Err(error) = fs::symlink_metadata(self.rt, path) {
+            return match error.kind() {
+                ErrorKind::NotFound => Present::Nothing,
+                _ => Present::Other,
+            };
+        }
+        match fs::metadata(self.rt, path) {
+            Ok(found) if found.is_file() => Present::File {
+                id: FileId {
+                    device: found.dev(),
+                    number: found.ino(),
+                },
+                is_ours: is_ours(self.rt, path),
+            },
+            _ => Present::Other,
+        }
+    }
+
+    fn put_file(&self, alloc: Global, path: &str, bytes: &[u8]) -> Written {
+        put(self.rt, alloc, path, bytes)
+    }
+
+    fn write_file(&self, path: &str, bytes: &[u8]) -> Written {
+        match fs::create(self.rt, path) {
+            Ok(mut file) => match file.write_all(bytes) {
+                Ok(()) => Written::Whole,
+                Err(_) => Written::Failed,
+            },
+            Err(_) => Written::Failed,
+        }
+    }
+}
+
+/// Which file this tells of.
+fn id_of(found: io::Result<Metadata>) -> Option<FileId> {
+    let found = found.ok()?;
+    Some(FileId {
+        device: found.dev(),
+        number: found.ino(),
+    })
+}
+
+/// Whether a file begins as one that the program writes.
+fn is_ours(rt: &HostRuntime, path: &str) -> bool {
+    let Ok(mut file) = fs::open(rt, path) else {
+        return false;
+    };
+    let mut begin = [0; BEGIN];
+    match file.read(&mut begin) {
+        Ok(count) => is_save_file(&begin[..count]),
+        Err(_) => false,
+    }
+}
