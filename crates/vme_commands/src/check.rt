@@ -121,6 +121,7 @@ fn judge_settled<R: Threads + Sync, B: Source, D: Source>(
 }
 
 /// The same by one worker, whose steps settle as they come.
+#[inline(never)]
 fn judge_in_order<B: Source, D: Source>(
     alloc: Global,
     piece: usize,
@@ -143,6 +144,7 @@ fn judge_in_order<B: Source, D: Source>(
 }
 
 /// The verdict on the recording that a binding makes of a dump, or the first reason that there is none.
+#[inline(never)]
 fn judge<R: Threads + Sync, B: Source, D: Source>(
     alloc: Global,
     workers: &Workers<'_, R>,
@@ -163,6 +165,7 @@ fn judge<R: Threads + Sync, B: Source, D: Source>(
 }
 
 /// The verdict on a recording whose steps were judged.
+#[inline(never)]
 fn verdict_of(alloc: Global, judge: Judge, block: u32) -> Result<Verdict, Refusal>
     requires { (1 ≤ block) × (block ≤ 65536) }
     ensures { malformed_step judge ≡ None → AnswerGives (λ verdict. verdict) result (judged_in_blocks block judge) }

@@ -101,6 +101,7 @@ pub fn list_by<R: Threads + Sync, B: Source, D: Source, O: Sink, E: Sink>(
 }
 
 /// Writes a listing.
+#[inline(never)]
 fn tell<O: Sink, E: Sink>(listing: &Listing, out: &mut O, err: &mut E) -> u8
     ensures { (t : Trace) → listing.now ≡ listing_of t → Ends (listing_answer_by (Ok t))
         (O.writing out.old, O.writing out.new) (E.writing err.old, E.writing err.new) result }
@@ -167,6 +168,7 @@ fn listing_settled<R: Threads + Sync, B: Source, D: Source>(
 }
 
 /// The same by one worker, whose steps settle as they come.
+#[inline(never)]
 fn listing_in_order<B: Source, D: Source>(
     alloc: Global,
     piece: usize,
@@ -189,6 +191,7 @@ fn listing_in_order<B: Source, D: Source>(
 }
 
 /// The listing of the recording that a binding makes of a dump, or the first reason that there is none.
+#[inline(never)]
 fn listing<R: Threads + Sync, B: Source, D: Source>(
     alloc: Global,
     workers: &Workers<'_, R>,
@@ -209,6 +212,7 @@ fn listing<R: Threads + Sync, B: Source, D: Source>(
 }
 
 /// The listing of a recording whose steps were judged.
+#[inline(never)]
 fn listing_of_steps(alloc: Global, lister: Lister, block: u32) -> Result<Listing, Refusal>
     requires { (1 ≤ block) × (block ≤ 65536) }
     ensures { malformed_step lister ≡ None → GivesListing result (limited_in_blocks block lister) }
