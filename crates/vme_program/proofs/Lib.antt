@@ -1,2 +1,3 @@
+pub mod AuditLemmas
 pub mod Cases
 pub mod Refusals

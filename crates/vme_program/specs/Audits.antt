@@ -1,9 +1,181 @@
--- Why nothing is audited.
+-- What an audit does with the files that an order names.
+use Rattle.std.specs.Prelude.{◌≡◌, ◌≢◌, ◌⊎◌, ◌==◌, ℕ, if◌then◌else◌, List, ◌++◌, All, Contains, codes, drop, map}
+use Rattle.std.specs.Prelude.{take, Option, None, Some, IfSome, MatchOption, option_map, slice_get, string_bytes}
+use Rattle.std.specs.List.{AllZip}
+use Rattle.vme_trace.specs.Streams.{Reading, Writing}
+use Rattle.vme_answer.specs.Answers.{refusal_answer}
+use Rattle.vme_answer.specs.Ends.{Tells}
+use Rattle.vme_answer.specs.Texts.{line_of, refusal_text}
+use Rattle.vme_answer.specs.declared.refusal.Input.TheVariants.{Binding}
+use Rattle.vme_answer.specs.declared.refusal.Refusal.TheVariants.{CannotOpen, Memory}
+use Rattle.vme_audit.specs.declared.allowance.Allowance.{Allowance}
+use Rattle.vme_audit_command.specs.Audits.{RefusesBinding}
+use Rattle.vme_audit_command.specs.DumpAnswers.{DumpRules}
+use Rattle.vme_audit_command.specs.SeveralDumps.{AuditsByBinding, NamedReading}
+use Rattle.vme_audit_lines.specs.AuditLines.{head_of}
+use Rattle.vme_commands.specs.AllowanceTexts.{allowance_text}
+use Rattle.vme_explain.specs.declared.saving.FileId.{FileId}
+use Rattle.vme_stream.specs.Outputs.{TriesToWrite}
 use Rattle.vme_words.specs.OrderFaults.{IsOfWords}
-use Rattle.vme_program.specs.declared.audit.NoAudit.{NoAudit}
-use Rattle.vme_program.specs.declared.audit.NoAudit.TheVariants.{Words}
+use Rattle.vme_words.specs.declared.order.AuditWords.{AuditWords}
+use Rattle.vme_words.specs.declared.order.Order.{Order}
+use Rattle.vme_program.specs.Openings.{WithInput}
+use Rattle.vme_program.specs.Saves.{TellsNoMemory}
+use Rattle.vme_program.specs.declared.audit.NoWords.{NoWords}
+use Rattle.vme_program.specs.declared.audit.NoWords.TheVariants.{Faulty}
+use Rattle.vme_program.specs.declared.surroundings.Surroundings.{Ghosts as Surroundings}
+use Rattle.vme_program.specs.declared.surroundings.Written.{Written}
+use Rattle.vme_program.specs.declared.surroundings.Written.TheVariants as written
+
+-- ---- the words
 
 -- where the words are wrong, there was memory
-abbrev pub IsOfWordsIfAny : NoAudit → Type 0
-IsOfWordsIfAny (Words fault) = IsOfWords fault
+abbrev pub IsOfWordsIfAny : NoWords → Type 0
+IsOfWordsIfAny (Faulty fault) = IsOfWords fault
 IsOfWordsIfAny other = Unit {0}
+
+-- the breaks that the words allow, each as it is written
+abbrev pub AreAllowed : AuditWords → List Allowance → Type 0
+AreAllowed words allowances = map allowance_text allowances ≡ map string_bytes words.allowed.items
+
+-- how the dumps of an order are audited
+abbrev pub rules_of : Order → AuditWords → List Allowance → DumpRules
+rules_of order words allowances = record {
+  allowances = allowances;
+  transfers = words.transfers;
+  stop = words.stop;
+  skew = order.skew;
+  is_quiet = words.is_quiet;
+}
+
+-- the words that name the dumps: those behind the binding
+abbrev pub dump_words : Order → List (List ℕ)
+dump_words order = map string_bytes (drop 1 order.names.items)
+
+-- the name by which standard input is a dump
+abbrev pub input_name : List ℕ
+input_name = codes "-"
+
+-- where the system has standard input as a file
+abbrev pub input_path : List ℕ
+input_path = codes "/dev/stdin"
+
+-- ---- what is said of a file
+
+-- the line that says what is wrong with the file of this name
+abbrev pub file_line : List ℕ → List ℕ → List ℕ
+file_line name why = codes "vmecheck: " ++ head_of name ++ why ++ codes "\n"
+
+-- that line is tried, and this is the status; or there is no memory for it
+abbrev pub RefusesFile : List ℕ → List ℕ → ℕ → Writing × Writing → ℕ → Type 0
+RefusesFile name why first err status =
+    (TriesToWrite err.0 err.1 (file_line name why) × (status ≡ first)) ⊎ TellsNoMemory err status
+
+-- nothing is written to standard output, and for want of memory that is told
+abbrev pub EndsForMemory : Writing × Writing → Writing × Writing → ℕ → Type 0
+EndsForMemory out err status = (out.1 ≡ out.0) × TellsNoMemory err status
+
+-- the status by how the writing of the file ended, where it would be this one
+abbrev pub EndsCases : List ℕ → Written → ℕ → Writing × Writing → ℕ → Type 0
+EndsCases path written.Whole first err status = (err.1 ≡ err.0) × (status ≡ first)
+EndsCases path other first err status = RefusesFile path (codes "cannot write") 5 err status
+
+module _ {S R : Type 0} (outside : Surroundings S R) (s : S) where
+  -- ---- the dumps
+
+  -- a dump by its name: standard input, or a file that was opened
+  abbrev pub IsDumpOf : List ℕ → NamedReading → Type 0
+  IsDumpOf name named =
+      (named.name ≡ name)
+      × (((name ≡ input_name) × outside.is_input s named.dump)
+      ⊎ ((name ≢ input_name) × outside.opens s name (Some named.dump)))
+
+  -- the first of these names that can't be opened
+  abbrev pub IsFirstUnopened : List (List ℕ) → List ℕ → Type 0
+  IsFirstUnopened names name =
+      (n : ℕ) × (before : List NamedReading)
+      × (slice_get names n ≡ Some name) × AllZip IsDumpOf (take n names) before
+      × (name ≢ input_name) × outside.opens s name None
+
+  -- which file a dump is, if it can be told
+  abbrev pub IsFileOf : NamedReading → Option FileId → Type 0
+  IsFileOf named id =
+      ((named.name ≡ input_name) × outside.leads_to s input_path id)
+      ⊎ ((named.name ≢ input_name) × outside.is_file s named.dump id)
+
+  -- ---- the file of test cases
+
+  -- a dump is another file than this
+  abbrev pub IsOther : FileId → NamedReading → Type 0
+  IsOther id named = (other : Option FileId) × IsFileOf named other × (other ≢ Some id)
+
+  -- a path leads to the binding, which is this file, or to a dump
+  abbrev pub LeadsToInput : List ℕ → FileId → List NamedReading → Type 0
+  LeadsToInput path binding dumps =
+      (id : FileId) × outside.leads_to s path (Some id)
+      × ((id ≡ binding) ⊎ ((named : NamedReading) × Contains dumps named × IsFileOf named (Some id)))
+
+  -- or to none of them
+  abbrev pub LeadsToNoInput : List ℕ → FileId → List NamedReading → Type 0
+  LeadsToNoInput path binding dumps =
+      (led : Option FileId) × outside.leads_to s path led
+      × IfSome led (λ id. (id ≢ binding) × All (IsOther id) dumps)
+
+  -- test cases are written into the file at a path, behind an audit with this status; for want of memory they aren't
+  abbrev pub SavesCases : List ℕ → ℕ → Writing × Writing → ℕ → Type 0
+  SavesCases path first err status =
+      ((text : List ℕ) × (ended : Written)
+      × outside.writes s path text ended × EndsCases path ended first err status)
+      ⊎ (TriesToWrite err.0 err.1 (line_of (refusal_text Memory)) × (status ≡ (if first == 5 then 5 else 4)))
+
+  -- ---- the audit
+
+  module _ (order : Order) (words : AuditWords) (allowances : List Allowance) where
+    -- the binding is refused, or the dumps are audited by it
+    abbrev pub AuditsBy : Reading × Reading → List NamedReading → Writing × Writing → Writing × Writing → ℕ → Type 0
+    AuditsBy binding dumps out err status =
+        RefusesBinding binding out err status
+        ⊎ AuditsByBinding (rules_of order words allowances) binding dumps out err status
+
+    -- the same, and behind an audit test cases are written
+    abbrev pub AuditsThenSaves : List ℕ → Reading × Reading → List NamedReading
+        → Writing × Writing → Writing × Writing → ℕ → Type 0
+    AuditsThenSaves path binding dumps out err status =
+        RefusesBinding binding out err status
+        ⊎ ((said : Writing) × (first : ℕ)
+        × AuditsByBinding (rules_of order words allowances) binding dumps out (err.0, said) first
+        × SavesCases path first (said, err.1) status)
+
+    -- unless they would be written over an input, or it can't be told which file the binding is: then nothing is read
+    abbrev pub AuditsAndSaves : List ℕ → Reading × Reading → List NamedReading
+        → Writing × Writing → Writing × Writing → ℕ → Type 0
+    AuditsAndSaves path binding dumps out err status =
+        (outside.is_file s binding.0 None × Tells (refusal_answer (CannotOpen Binding)) out err status)
+        ⊎ ((id : FileId) × outside.is_file s binding.0 (Some id)
+        × ((LeadsToInput path id dumps × (out.1 ≡ out.0) × RefusesFile path (codes "is an input") 3 err status)
+        ⊎ (LeadsToNoInput path id dumps × AuditsThenSaves path binding dumps out err status)))
+
+    -- the inputs were opened: test cases are written where a word says where
+    abbrev pub AuditsOpened : Reading × Reading → List NamedReading
+        → Writing × Writing → Writing × Writing → ℕ → Type 0
+    AuditsOpened binding dumps out err status =
+        MatchOption (option_map string_bytes words.junit)
+        (AuditsBy binding dumps out err status)
+        (λ path. AuditsAndSaves path binding dumps out err status)
+
+    -- behind the binding each dump is opened; the first that can't be is told, and nothing is read
+    abbrev pub AuditsNamed : Reading × Reading → Writing × Writing → Writing × Writing → ℕ → Type 0
+    AuditsNamed binding out err status =
+        EndsForMemory out err status
+        ⊎ (((name : List ℕ) × IsFirstUnopened (dump_words order) name
+        × (out.1 ≡ out.0) × RefusesFile name (codes "cannot open") 3 err status)
+        ⊎ ((dumps : List NamedReading) × AllZip IsDumpOf (dump_words order) dumps
+        × AuditsOpened binding dumps out err status))
+
+  -- the binding is opened, and then the dumps, by what the order tells an audit
+  abbrev pub AuditsFiles : Order → Writing × Writing → Writing × Writing → ℕ → Type 0
+  AuditsFiles order out err status =
+      EndsForMemory out err status
+      ⊎ ((words : AuditWords) × (allowances : List Allowance)
+      × (order.audit ≡ Some words) × AreAllowed words allowances
+      × WithInput (outside.opens s) order Binding (AuditsNamed order words allowances) out err status)

@@ -1,11 +1,20 @@
 //! The audit of the files that an order names, all of which are opened before one is read, and the file of test cases.
 
-ghost use Rattle.std.specs.Prelude.{◌≡◌, IfErr, OnErr};
-ghost use Rattle.vme_program.specs.Audits.{IsOfWordsIfAny};
-ghost use Rattle.vme_program.specs.declared.audit.NoAudit.TheVariants.{Memory};
+ghost use Rattle.std.specs.Prelude.{◌≡◌, ◌≢◌, All, Contains, false, true, IfErr, IfOk, OnErr, MatchOption};
+ghost use Rattle.std.specs.Prelude.{Err, None, Some, map, string_bytes};
+ghost use Rattle.std.specs.List.{AllZip};
+ghost use Rattle.vme_audit_command.specs.SeveralDumps.{NamedReading};
+ghost use Rattle.vme_program.specs.Audits.{AreAllowed, AuditsAndSaves, AuditsFiles, AuditsNamed, AuditsOpened};
+ghost use Rattle.vme_program.specs.Audits.{AuditsThenSaves, EndsCases, IsDumpOf, IsFileOf, IsFirstUnopened, IsOfWordsIfAny};
+ghost use Rattle.vme_program.specs.Audits.{IsOther, LeadsToInput, LeadsToNoInput, RefusesFile, SavesCases, dump_words};
+ghost use Rattle.vme_program.specs.Audits.{file_line, input_name};
+ghost use Rattle.vme_program.specs.Openings.{WithInput};
+ghost use Rattle.vme_program.specs.declared.audit.NoDumps.TheVariants.{Memory as LackedMemory, Unopened};
+ghost use Rattle.vme_program.specs.declared.audit.NoWords.TheVariants.{Memory};
 ghost use Rattle.vme_words.specs.OrderFaults.{IsOfWords};
 
-use crate::opening::{refuse, refuse_input};
+use crate::opening::{open_input, refuse, refuse_input};
+use crate::save::say;
 use crate::surroundings::{Surroundings, Written};
 use std::alloc::{AllocError, AllocFailed, Global};
 use vme_answer::{Input, Refusal};
@@ -14,7 +23,6 @@ use vme_audit_command::{AuditOptions, NamedDump, TestSuite, audit, junit_file};
 use vme_audit_lines::dump_head;
 use vme_commands::allowances_of;
 use vme_explain::FileId;
-use vme_stream::write_all;
 use vme_text::Text;
 use vme_trace::Sink;
 use vme_words::{AuditWords, Order, OrderFault, Task, task_fault};
@@ -22,45 +30,42 @@ use vme_words::{AuditWords, Order, OrderFault, Task, task_fault};
 /// The name by which standard input is a dump.
 const STANDARD_INPUT: &str = "-";
 
-/// Why nothing is audited.
+/// Why words don't say how to audit.
 #[derive(Drop)]
-enum NoAudit<'a> {
-    /// The words are wrong.
-    Words(OrderFault),
-    /// The binding can't be opened.
-    NoBinding,
-    /// A file can't be opened, or may not be written.
-    Refused { name: &'a str, why: &'static str },
+enum NoWords {
+    /// They are wrong.
+    Faulty(OrderFault),
     /// There is no memory.
     Memory,
 }
 
-impl<'a> From<AllocError> for NoAudit<'a> {
+impl From<AllocError> for NoWords {
     ghost from_gives = { λ _ none. none ≡ Memory };
 
-    fn from(_: AllocError) -> NoAudit<'a> {
-        NoAudit::Memory
+    fn from(_: AllocError) -> NoWords {
+        NoWords::Memory
     }
 }
 
-impl<'a, T: Drop> From<AllocFailed<T>> for NoAudit<'a> {
-    ghost from_gives = { λ _ none. none ≡ Memory };
-
-    fn from(_: AllocFailed<T>) -> NoAudit<'a> {
-        NoAudit::Memory
-    }
-}
-
-/// The inputs of an audit, opened, and which files they are.
+/// Why there are no dumps to audit.
 #[derive(Drop)]
-struct AuditInputs<'a, R> {
-    binding: R,
-    dumps: Vec<NamedDump<'a, R>>,
-    ids: Vec<FileId>,
+enum NoDumps<'a> {
+    /// The one of this name can't be opened.
+    Unopened(&'a str),
+    /// There is no memory.
+    Memory,
 }
 
-/// Audits the files that an order names, as it asks for it. The answer is the exit status, or what is wrong with the
-/// words.
+impl<'a, T: Drop> From<AllocFailed<T>> for NoDumps<'a> {
+    ghost from_gives = { λ _ none. none ≡ LackedMemory };
+
+    fn from(_: AllocFailed<T>) -> NoDumps<'a> {
+        NoDumps::Memory
+    }
+}
+
+/// Audits the files that an order names, as it asks for it: the binding is opened, and then the dumps. The answer is
+/// the exit status, or what is wrong with the words.
 #[inline(never)]
 pub fn audit_files<S: Surroundings, O: Sink, E: Sink>(
     alloc: Global,
@@ -69,130 +74,175 @@ pub fn audit_files<S: Surroundings, O: Sink, E: Sink>(
     out: &mut O,
     err: &mut E,
 ) -> Result<u8, OrderFault>
+    ensures audited { IfOk result (λ status. AuditsFiles S.Surroundings surroundings.now order.now
+        (O.writing out.old, O.writing out.new) (E.writing err.old, E.writing err.new) status) }
     ensures of_words { IfErr result IsOfWords }
     ensures out_stays { OnErr result (O.writing out.new ≡ O.writing out.old) }
     ensures err_stays { OnErr result (E.writing err.new ≡ E.writing err.old) }
 {
-    let Some(words) = &order.audit else {
-        return Err(task_fault(alloc, Task::Audit, "nothing is told"));
-    };
-    match opened(alloc, surroundings, order, words) {
-        Ok((allowances, inputs)) => {
-            let allowances = allowances.as_slice();
-            Ok(audit_opened(
-                alloc,
-                surroundings,
-                order,
-                words,
-                allowances,
-                inputs,
-                out,
-                err,
-            ))
+    match told(alloc, order) {
+        Ok((words, allowances)) => {
+            let allowed = allowances.as_slice();
+            Ok(audit_binding(alloc, surroundings, order, words, allowed, out, err))
         }
-        Err(NoAudit::Words(fault)) => Err(fault),
-        Err(NoAudit::NoBinding) => Ok(refuse_input(Input::Binding, err)),
-        Err(NoAudit::Refused { name, why }) => Ok(refuse_file(alloc, name, why, 3, err)),
-        Err(NoAudit::Memory) => Ok(refuse(&Refusal::Memory, err)),
+        Err(NoWords::Faulty(fault)) => Err(fault),
+        Err(NoWords::Memory) => Ok(refuse(&Refusal::Memory, err)),
     }
 }
 
-/// The breaks that the words allow, and the inputs, opened; or why nothing is audited.
-fn opened<'a, S: Surroundings>(
-    alloc: Global,
-    surroundings: &S,
-    order: &'a Order,
-    words: &'a AuditWords,
-) -> Result<(Vec<Allowance>, AuditInputs<'a, S::Reader>), NoAudit<'a>>
-    ensures { IfErr result IsOfWordsIfAny }
+/// What an order tells an audit, and the breaks that it allows; or what is wrong with the words. Standard input is one
+/// dump at most.
+fn told(alloc: Global, order: &Order) -> Result<(&AuditWords, Vec<Allowance>), NoWords>
+    ensures words { IfOk result (λ told. order.now.audit ≡ Some told.0.now) }
+    ensures allowed { IfOk result (λ told. AreAllowed told.0.now told.1.items) }
+    ensures of_words { IfErr result IsOfWordsIfAny }
 {
+    let Some(words) = &order.audit else {
+        return Err(wrong_words(alloc, "nothing is told"));
+    };
     let Some(allowances) = allowances_of(alloc, words.allowed.as_slice())? else {
         return Err(wrong_words(alloc, "--allow takes a rule, or a rule and a line"));
     };
-    let inputs = open_inputs(alloc, surroundings, order.names.as_slice())?;
-    if let Some(path) = &words.junit {
-        if let Some(id) = surroundings.id_at(path.as_str()) {
-            if inputs.ids.contains(&id) {
-                return Err(NoAudit::Refused {
-                    name: path.as_str(),
-                    why: "is an input",
-                });
-            }
-        }
+    let inputs = dump_names(order)
+        .iter()
+        .filter(|name| name.as_str() == STANDARD_INPUT);
+    if inputs.count() > 1 {
+        return Err(wrong_words(alloc, "standard input is one dump at most"));
     }
-    Ok((allowances, inputs))
+    Ok((words, allowances))
 }
 
-fn wrong_words<'a>(alloc: Global, message: &str) -> NoAudit<'a>
+fn wrong_words(alloc: Global, message: &str) -> NoWords
     ensures { IsOfWordsIfAny result }
 {
-    NoAudit::Words(task_fault(alloc, Task::Audit, message))
+    NoWords::Faulty(task_fault(alloc, Task::Audit, message))
 }
 
-/// The binding and the dumps, opened in this order. Standard input is one dump at most.
-fn open_inputs<'a, S: Surroundings>(
+/// The words that name the dumps.
+fn dump_names(order: &Order) -> &[String]
+    ensures { map string_bytes result.now ≡ dump_words order.now }
+{
+    match order.names.as_slice().split_first() {
+        Some((_, names)) => names,
+        None => &[],
+    }
+}
+
+/// Audits those files, as the words tell.
+#[inline(never)]
+fn audit_binding<S: Surroundings, O: Sink, E: Sink>(
+    alloc: Global,
+    surroundings: &S,
+    order: &Order,
+    words: &AuditWords,
+    allowances: &[Allowance],
+    out: &mut O,
+    err: &mut E,
+) -> u8
+    ensures { WithInput (S.opens surroundings.now) order.now Input.Binding
+        (AuditsNamed S.Surroundings surroundings.now order.now words.now allowances.now)
+        (O.writing out.old, O.writing out.new) (E.writing err.old, E.writing err.new) result }
+{
+    match open_input(surroundings, order, Input::Binding) {
+        Some(mut binding) => audit_named(
+            alloc,
+            surroundings,
+            order,
+            words,
+            allowances,
+            &mut binding,
+            out,
+            err,
+        ),
+        None => refuse_input(Input::Binding, err),
+    }
+}
+
+/// The same, by a binding that was opened.
+#[inline(never)]
+fn audit_named<S: Surroundings, O: Sink, E: Sink>(
+    alloc: Global,
+    surroundings: &S,
+    order: &Order,
+    words: &AuditWords,
+    allowances: &[Allowance],
+    binding: &mut S::Reader,
+    out: &mut O,
+    err: &mut E,
+) -> u8
+    ensures { AuditsNamed S.Surroundings surroundings.now order.now words.now allowances.now
+        (S.Reader.reading binding.old, S.Reader.reading binding.new)
+        (O.writing out.old, O.writing out.new) (E.writing err.old, E.writing err.new) result }
+{
+    match open_dumps(alloc, surroundings, dump_names(order)) {
+        Ok(mut dumps) => audit_opened(
+            alloc,
+            surroundings,
+            order,
+            words,
+            allowances,
+            binding,
+            dumps.as_mut_slice(),
+            out,
+            err,
+        ),
+        Err(NoDumps::Unopened(name)) => refuse_file(alloc, name, b"cannot open", 3, err),
+        Err(NoDumps::Memory) => refuse(&Refusal::Memory, err),
+    }
+}
+
+/// The dumps by their names, opened in this order.
+fn open_dumps<'a, S: Surroundings>(
     alloc: Global,
     surroundings: &S,
     names: &'a [String],
-) -> Result<AuditInputs<'a, S::Reader>, NoAudit<'a>>
-    ensures { IfErr result IsOfWordsIfAny }
+) -> Result<Vec<NamedDump<'a, S::Reader>>, NoDumps<'a>>
+    ensures opened { IfOk result (λ dumps. AllZip (IsDumpOf S.Surroundings surroundings.now)
+        (map string_bytes names.now) (map (λ d. record { name = d.name.now; dump = S.Reader.reading d.dump }) dumps.items)) }
+    ensures unopened { (name : _) → result ≡ Err (Unopened name)
+        → IsFirstUnopened S.Surroundings surroundings.now (map string_bytes names.now) name.now }
 {
-    let Some((binding, names)) = names.split_first() else {
-        return Err(NoAudit::NoBinding);
-    };
-    if names
-        .iter()
-        .filter(|name| name.as_str() == STANDARD_INPUT)
-        .count()
-        > 1
-    {
-        return Err(wrong_words(alloc, "standard input is one dump at most"));
-    }
-    let Some(binding) = surroundings.open_file(binding.as_str()) else {
-        return Err(NoAudit::NoBinding);
-    };
-    let mut ids = Vec::new(alloc);
-    match surroundings.id_of(&binding) {
-        Some(id) => ids.push(id)?,
-        None => return Err(NoAudit::NoBinding),
-    }
     let mut dumps = Vec::new(alloc);
     for name in names {
-        let (dump, id) = open_dump(surroundings, name.as_str())?;
-        if let Some(id) = id {
-            ids.push(id)?;
+        let name = name.as_str();
+        match open_dump(surroundings, name) {
+            Some(named) => dumps.push(named)?,
+            None => return Err(NoDumps::Unopened(name)),
         }
-        dumps.push(NamedDump {
-            name: name.as_bytes(),
-            dump,
-        })?;
     }
-    Ok(AuditInputs {
-        binding,
-        dumps,
-        ids,
-    })
+    Ok(dumps)
 }
 
-/// A dump by its name, opened, and which file it is, if it is one.
+/// A dump by its name, opened.
 fn open_dump<'a, S: Surroundings>(
     surroundings: &S,
     name: &'a str,
-) -> Result<(S::Reader, Option<FileId>), NoAudit<'a>>
-    ensures { IfErr result IsOfWordsIfAny }
+) -> Option<NamedDump<'a, S::Reader>>
+    ensures { MatchOption result
+        ((name.now ≢ input_name) × S.opens surroundings.now name.now None)
+        (λ named. IsDumpOf S.Surroundings surroundings.now name.now
+        (record { name = named.name.now; dump = S.Reader.reading named.dump })) }
+{
+    match open_reader(surroundings, name) {
+        Some(dump) => Some(NamedDump {
+            name: name.as_bytes(),
+            dump,
+        }),
+        None => None,
+    }
+}
+
+/// What reads it.
+fn open_reader<S: Surroundings>(surroundings: &S, name: &str) -> Option<S::Reader>
+    ensures { MatchOption result
+        ((name.now ≢ input_name) × S.opens surroundings.now name.now None)
+        (λ dump. IsDumpOf S.Surroundings surroundings.now name.now
+        (record { name = name.now; dump = S.Reader.reading dump })) }
 {
     if name == STANDARD_INPUT {
-        return Ok((surroundings.input(), surroundings.id_at("/dev/stdin")));
-    }
-    match surroundings.open_file(name) {
-        Some(file) => {
-            let id = surroundings.id_of(&file);
-            Ok((file, id))
-        }
-        None => Err(NoAudit::Refused {
-            name,
-            why: "cannot open",
-        }),
+        Some(surroundings.input())
+    } else {
+        surroundings.open_file(name)
     }
 }
 
@@ -204,54 +254,196 @@ fn audit_opened<S: Surroundings, O: Sink, E: Sink>(
     order: &Order,
     words: &AuditWords,
     allowances: &[Allowance],
-    inputs: AuditInputs<'_, S::Reader>,
+    binding: &mut S::Reader,
+    dumps: &mut [NamedDump<'_, S::Reader>],
     out: &mut O,
     err: &mut E,
-) -> u8 {
-    let AuditInputs {
-        mut binding,
-        mut dumps,
-        ids: _,
-    } = inputs;
-    let mut suite = TestSuite::new(alloc, words.junit.is_some());
-    let (is_audited, status) = audit(
-        alloc,
-        &mut binding,
-        dumps.as_mut_slice(),
-        AuditOptions {
-            allowances,
-            transfers: words.transfers,
-            stop: words.stop,
-            skew: order.skew,
-            is_quiet: words.is_quiet,
-        },
-        &mut suite,
-        out,
-        err,
-    );
+) -> u8
+    ensures { AuditsOpened S.Surroundings surroundings.now order.now words.now allowances.now
+        (S.Reader.reading binding.old, S.Reader.reading binding.new)
+        (map (λ d. record { name = d.name.now; dump = S.Reader.reading d.dump }) dumps.old)
+        (O.writing out.old, O.writing out.new) (E.writing err.old, E.writing err.new) result }
+{
     match &words.junit {
-        Some(path) if is_audited => {
-            saved_status(alloc, surroundings, path.as_str(), &suite, status, err)
+        Some(path) => audit_and_save(
+            alloc,
+            surroundings,
+            order,
+            words,
+            allowances,
+            path.as_str(),
+            binding,
+            dumps,
+            out,
+            err,
+        ),
+        None => {
+            let mut suite = TestSuite::new(alloc, false);
+            let options = options_of(order, words, allowances);
+            let (_, status) = audit(alloc, binding, dumps, options, &mut suite, out, err);
+            status
         }
-        _ => status,
+    }
+}
+
+/// How the dumps of an order are audited.
+fn options_of<'a>(
+    order: &Order,
+    words: &AuditWords,
+    allowances: &'a [Allowance],
+) -> AuditOptions<'a>
+    ensures allowances { result.allowances.now ≡ allowances.now }
+    ensures transfers { result.transfers ≡ words.now.transfers }
+    ensures stop { result.stop ≡ words.now.stop }
+    ensures skew { result.skew ≡ order.now.skew }
+    ensures is_quiet { result.is_quiet ≡ words.now.is_quiet }
+{
+    AuditOptions {
+        allowances,
+        transfers: words.transfers,
+        stop: words.stop,
+        skew: order.skew,
+        is_quiet: words.is_quiet,
+    }
+}
+
+/// The same, where test cases are wanted at a path: they are written over no input.
+#[inline(never)]
+fn audit_and_save<S: Surroundings, O: Sink, E: Sink>(
+    alloc: Global,
+    surroundings: &S,
+    order: &Order,
+    words: &AuditWords,
+    allowances: &[Allowance],
+    path: &str,
+    binding: &mut S::Reader,
+    dumps: &mut [NamedDump<'_, S::Reader>],
+    out: &mut O,
+    err: &mut E,
+) -> u8
+    ensures { AuditsAndSaves S.Surroundings surroundings.now order.now words.now allowances.now path.now
+        (S.Reader.reading binding.old, S.Reader.reading binding.new)
+        (map (λ d. record { name = d.name.now; dump = S.Reader.reading d.dump }) dumps.old)
+        (O.writing out.old, O.writing out.new) (E.writing err.old, E.writing err.new) result }
+{
+    let Some(id) = surroundings.id_of(binding) else {
+        return refuse_input(Input::Binding, err);
+    };
+    if leads_to_input(surroundings, path, id, dumps) {
+        refuse_file(alloc, path, b"is an input", 3, err)
+    } else {
+        audit_then_save(
+            alloc,
+            surroundings,
+            order,
+            words,
+            allowances,
+            path,
+            binding,
+            dumps,
+            out,
+            err,
+        )
+    }
+}
+
+/// Whether a path leads to the binding, which is this file, or to a dump.
+fn leads_to_input<S: Surroundings>(
+    surroundings: &S,
+    path: &str,
+    binding: FileId,
+    dumps: &[NamedDump<'_, S::Reader>],
+) -> bool
+    ensures yes { result ≡ true → LeadsToInput S.Surroundings surroundings.now path.now binding
+        (map (λ d. record { name = d.name.now; dump = S.Reader.reading d.dump }) dumps.now) }
+    ensures no { result ≡ false → LeadsToNoInput S.Surroundings surroundings.now path.now binding
+        (map (λ d. record { name = d.name.now; dump = S.Reader.reading d.dump }) dumps.now) }
+{
+    match surroundings.id_at(path) {
+        Some(id) => id == binding || is_a_dump(surroundings, id, dumps),
+        None => false,
+    }
+}
+
+/// Whether a dump is this file.
+fn is_a_dump<S: Surroundings>(
+    surroundings: &S,
+    id: FileId,
+    dumps: &[NamedDump<'_, S::Reader>],
+) -> bool
+    ensures yes { result ≡ true → (named : NamedReading)
+        × Contains (map (λ d. record { name = d.name.now; dump = S.Reader.reading d.dump }) dumps.now) named
+        × IsFileOf S.Surroundings surroundings.now named (Some id) }
+    ensures no { result ≡ false → All (IsOther S.Surroundings surroundings.now id)
+        (map (λ d. record { name = d.name.now; dump = S.Reader.reading d.dump }) dumps.now) }
+{
+    for named in dumps {
+        if id_of_dump(surroundings, named) == Some(id) {
+            return true;
+        }
+    }
+    false
+}
+
+/// Which file a dump is, if it can be told.
+fn id_of_dump<S: Surroundings>(surroundings: &S, named: &NamedDump<'_, S::Reader>) -> Option<FileId>
+    ensures { IsFileOf S.Surroundings surroundings.now
+        (record { name = named.now.name.now; dump = S.Reader.reading named.now.dump }) result }
+{
+    if named.name == STANDARD_INPUT.as_bytes() {
+        surroundings.id_at("/dev/stdin")
+    } else {
+        surroundings.id_of(&named.dump)
+    }
+}
+
+/// Audits those inputs, and then writes test cases at a path.
+#[inline(never)]
+fn audit_then_save<S: Surroundings, O: Sink, E: Sink>(
+    alloc: Global,
+    surroundings: &S,
+    order: &Order,
+    words: &AuditWords,
+    allowances: &[Allowance],
+    path: &str,
+    binding: &mut S::Reader,
+    dumps: &mut [NamedDump<'_, S::Reader>],
+    out: &mut O,
+    err: &mut E,
+) -> u8
+    ensures { AuditsThenSaves S.Surroundings surroundings.now order.now words.now allowances.now path.now
+        (S.Reader.reading binding.old, S.Reader.reading binding.new)
+        (map (λ d. record { name = d.name.now; dump = S.Reader.reading d.dump }) dumps.old)
+        (O.writing out.old, O.writing out.new) (E.writing err.old, E.writing err.new) result }
+{
+    let mut suite = TestSuite::new(alloc, true);
+    let options = options_of(order, words, allowances);
+    let (is_audited, status) = audit(alloc, binding, dumps, options, &mut suite, out, err);
+    if is_audited {
+        save_cases(alloc, surroundings, path, &suite, status, err)
+    } else {
+        status
     }
 }
 
 /// Writes the file of test cases. The answer is this exit status, or another where it isn't written.
 #[inline(never)]
-fn saved_status<S: Surroundings, E: Sink>(
+fn save_cases<S: Surroundings, E: Sink>(
     alloc: Global,
     surroundings: &S,
     path: &str,
     suite: &TestSuite,
     status: u8,
     err: &mut E,
-) -> u8 {
+) -> u8
+    ensures { SavesCases S.Surroundings surroundings.now path.now status
+        (E.writing err.old, E.writing err.new) result }
+{
     match junit_file(alloc, suite) {
-        Ok(text) => match surroundings.write_file(path, text.as_bytes()) {
-            Written::Whole => status,
-            _ => refuse_file(alloc, path, "cannot write", 5, err),
-        },
+        Ok(text) => {
+            let written = surroundings.write_file(path, text.as_bytes());
+            end_cases(alloc, path, written, status, err)
+        }
         Err(_) => {
             let memory = refuse(&Refusal::Memory, err);
             if status == 5 { 5 } else { memory }
@@ -259,22 +451,38 @@ fn saved_status<S: Surroundings, E: Sink>(
     }
 }
 
+/// Says that test cases aren't written, if they aren't. The answer is this exit status, or another where they aren't.
+fn end_cases<E: Sink>(alloc: Global, path: &str, written: Written, status: u8, err: &mut E) -> u8
+    ensures { EndsCases path.now written status (E.writing err.old, E.writing err.new) result }
+{
+    match written {
+        Written::Whole => status,
+        _ => refuse_file(alloc, path, b"cannot write", 5, err),
+    }
+}
+
 /// Says what is wrong with a file. The answer is this exit status, or that of want of memory.
-fn refuse_file<E: Sink>(alloc: Global, name: &str, why: &str, status: u8, err: &mut E) -> u8 {
+fn refuse_file<E: Sink>(alloc: Global, name: &str, why: &[u8], status: u8, err: &mut E) -> u8
+    ensures { RefusesFile name.now why.now status (E.writing err.old, E.writing err.new) result }
+{
     match file_text(alloc, name, why) {
         Ok(text) => {
-            let _ = write_all(err, text.as_bytes());
+            say(text.as_bytes(), err);
             status
         }
         Err(_) => refuse(&Refusal::Memory, err),
     }
 }
 
-fn file_text(alloc: Global, name: &str, why: &str) -> Result<Text, AllocError> {
+/// The line that says it.
+fn file_text(alloc: Global, name: &str, why: &[u8]) -> Result<Text, AllocError>
+    ensures { IfOk result (λ text. text ≡ file_line name.now why.now) }
+{
+    let head = dump_head(alloc, name.as_bytes())?;
     let mut text = Text::new(alloc);
     text.push(b"vmecheck: ")?;
-    text.push(dump_head(alloc, name.as_bytes())?.as_bytes())?;
-    text.push(why.as_bytes())?;
+    text.push(head.as_bytes())?;
+    text.push(why)?;
     text.push(b"\n")?;
     Ok(text)
 }

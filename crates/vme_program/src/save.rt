@@ -84,7 +84,7 @@ pub(crate) fn refuse_place<E: Sink>(
 }
 
 /// Writes a text. Where that fails, nothing else is done.
-fn say<E: Sink>(text: &[u8], err: &mut E)
+pub(crate) fn say<E: Sink>(text: &[u8], err: &mut E)
     ensures { TriesToWrite (E.writing err.old) (E.writing err.new) text.now }
 {
     let _ = write_all(err, text);

@@ -1,0 +1,322 @@
+use std::alloc::{AllocError, Global};
+use std::cell::Cell;
+use std::process::Abort;
+use std::test::Fail;
+use std::thread::Threads;
+use vme_explain::{FileId, Present};
+use vme_program::{Surroundings, Written, run_words};
+use vme_stream::Bytes;
+use vme_trace::{Failed, Sink};
+
+const BINDING: &str =
+    "slots 1\nAS = bus.AS\nDS0 = bus.DS0\nDS1 = bus.DS1\nDTACK = bus.DTACK\nBERR = bus.BERR\n\
+IACK = bus.IACK\nAM0 = 1\nAM1 = 0\nAM2 = 1\nAM3 = 1\nAM4 = 1\nAM5 = 1\nLWORD = 1\nWRITE = 1\nA = 1\nBBSY = 0\nBR = 1\n\
+BG0 = 1\nBG1 = 1\nBG2 = 1\nBG3 = 1\nIA = 1\n";
+
+const DUMP: &str = "$timescale 1 ns $end\n$scope module bus $end\n\
+$var wire 1 p AS $end\n$var wire 1 q DS0 $end\n$var wire 1 r DS1 $end\n\
+$var wire 1 s DTACK $end\n$var wire 1 t BERR $end\n$var wire 1 u IACK $end\n\
+$upscope $end\n$enddefinitions $end\n\
+#0 1p 1q 1r 1s 1t 1u\n#10 0p\n#20 0q\n#30 0s\n#40 1p 1q\n#50 1s\n";
+
+const LISTING: &str =
+    "vmecheck listing 3\nstart 1\ntenure 1 open end -\ncycle 2 S 3D FFFFFE end 5\n\
+transfer 3 of 2 read DTACK 4 close 5\nverdict conforming\n";
+
+/// A binding, a dump and a listing by their names, a dump on standard input, and how often a file was written.
+struct Shelf {
+    is_terminal: bool,
+    puts: Cell<u32>,
+    writes: Cell<u32>,
+}
+
+impl Surroundings for Shelf {
+    type Reader = Bytes<'static>;
+
+    ghost opens = { λ _ _ _. Unit {0} };
+
+    ghost is_input = { λ _ _. Unit {0} };
+
+    ghost on_terminal = { λ _ _. Unit {0} };
+
+    ghost is_file = { λ _ _ _. Unit {0} };
+
+    ghost leads_to = { λ _ _ _. Unit {0} };
+
+    ghost stands_at = { λ _ _ _. Unit {0} };
+
+    ghost puts = { λ _ _ _ _. Unit {0} };
+
+    ghost writes = { λ _ _ _ _. Unit {0} };
+
+    fn open_file(&self, name: &str) -> Option<Bytes<'static>> {
+        if name == "binding" {
+            Some(Bytes::new(BINDING.as_bytes()))
+        } else if name == "dump" {
+            Some(Bytes::new(DUMP.as_bytes()))
+        } else if name == "listing" {
+            Some(Bytes::new(LISTING.as_bytes()))
+        } else {
+            None
+        }
+    }
+
+    fn input(&self) -> Bytes<'static> {
+        Bytes::new(DUMP.as_bytes())
+    }
+
+    fn is_terminal(&self) -> bool {
+        self.is_terminal
+    }
+
+    fn id_of(&self, _reader: &Bytes<'static>) -> Option<FileId> {
+        Some(FileId {
+            device: 1,
+            number: 1,
+        })
+    }
+
+    fn id_at(&self, path: &str) -> Option<FileId> {
+        if path == "dump" {
+            Some(FileId {
+                device: 1,
+                number: 1,
+            })
+        } else {
+            None
+        }
+    }
+
+    fn present_at(&self, path: &str) -> Present {
+        if path == "dump" {
+            Present::File {
+                id: FileId {
+                    device: 1,
+                    number: 1,
+                },
+                is_ours: false,
+            }
+        } else {
+            Present::Nothing
+        }
+    }
+
+    fn put_file(&self, _alloc: Global, path: &str, _bytes: &[u8]) -> Written {
+        self.puts.set(self.puts.get().wrapping_add(1));
+        if path == "full" {
+            Written::Failed
+        } else {
+            Written::Whole
+        }
+    }
+
+    fn write_file(&self, path: &str, _bytes: &[u8]) -> Written {
+        self.writes.set(self.writes.get().wrapping_add(1));
+        if path == "full" {
+            Written::Failed
+        } else {
+            Written::Whole
+        }
+    }
+}
+
+/// A sink that holds what it took.
+#[derive(Drop)]
+struct Page {
+    bytes: Vec<u8>,
+}
+
+impl Sink for Page {
+    ghost writing = { λ _. record { taken = None; failures = 0 } };
+
+    fn write(&mut self, bytes: &[u8]) -> Result<usize, Failed> {
+        let _ = self.bytes.extend_from_slice(bytes);
+        Ok(bytes.len())
+    }
+}
+
+/// The words of a line, the program's name first.
+fn words_of(alloc: Global, line: &str) -> Result<Vec<String>, AllocError> {
+    let mut words = Vec::new(alloc);
+    for word in line.split(' ') {
+        words.push(String::from_str(alloc, word)?)?;
+    }
+    Ok(words)
+}
+
+/// Runs the words of a line, and compares the status, how standard output and standard error begin, and how often a
+/// file was put in a place or written.
+fn expect<R: Abort + AllocGlobal + Threads + Sync>(
+    rt: &R,
+    line: &str,
+    is_terminal: bool,
+    texts: (&str, &str),
+    ended: (u8, u32, u32),
+) -> Result<(), AllocError> {
+    let words = words_of(rt.alloc(), line)?;
+    let shelf = Shelf {
+        is_terminal,
+        puts: Cell::new(0),
+        writes: Cell::new(0),
+    };
+    let mut out = Page {
+        bytes: Vec::new(rt.alloc()),
+    };
+    let mut err = Page {
+        bytes: Vec::new(rt.alloc()),
+    };
+    let status = run_words(rt, rt.alloc(), &shelf, words.as_slice(), &mut out, &mut err);
+    match status {
+        Ok(status) => assert_eq!(rt;
+            (status, shelf.puts.get(), shelf.writes.get()),
+            ended,
+            "{line}"
+        ),
+        Err(_) => assert!(rt; false, "{line}"),
+    }
+    assert!(rt;
+        out.bytes.as_slice().starts_with(texts.0.as_bytes()),
+        "{line}"
+    );
+    assert!(rt; out.bytes.is_empty() == texts.0.is_empty(), "{line}");
+    assert!(rt;
+        err.bytes.as_slice().starts_with(texts.1.as_bytes()),
+        "{line}"
+    );
+    assert!(rt; err.bytes.is_empty() == texts.1.is_empty(), "{line}");
+    Ok(())
+}
+
+#[test]
+fn happy_paths(rt: HostRuntime) -> Result<(), Fail> {
+    for (line, out, ended) in [
+        ("vmecheck", "conforming\n", (0, 0, 0)),
+        ("vmecheck check binding dump", "conforming\n", (0, 0, 0)),
+        ("vmecheck list binding dump", LISTING, (0, 0, 0)),
+        (
+            "vmecheck confirm binding dump listing",
+            "confirmed\n",
+            (0, 0, 0),
+        ),
+        ("vmecheck explain binding dump", "conforming\n", (0, 0, 0)),
+        (
+            "vmecheck explain --gtkw new binding dump",
+            "conforming\n",
+            (0, 1, 0),
+        ),
+        ("vmecheck variables dump", "time scale 1 ns\n", (0, 0, 0)),
+        ("vmecheck rules H4", "H4", (0, 0, 0)),
+        ("vmecheck audit binding dump", "dump: ", (0, 0, 0)),
+        ("vmecheck audit --junit new binding -", "-: ", (0, 0, 1)),
+    ] {
+        expect(&rt, line, false, (out, ""), ended)?;
+    }
+    expect(
+        &rt,
+        "vmecheck bind --slots 3 dump",
+        false,
+        ("slots 3\n", "vmecheck: "),
+        (0, 0, 0),
+    )?;
+    Ok(())
+}
+
+#[test]
+fn what_is_refused(rt: HostRuntime) -> Result<(), Fail> {
+    for (line, err, ended) in [
+        (
+            "vmecheck check none dump",
+            "vmecheck: cannot open binding\n",
+            (3, 0, 0),
+        ),
+        (
+            "vmecheck check none none",
+            "vmecheck: cannot open binding\n",
+            (3, 0, 0),
+        ),
+        (
+            "vmecheck check binding none",
+            "vmecheck: cannot open dump\n",
+            (3, 0, 0),
+        ),
+        (
+            "vmecheck check dump binding",
+            "vmecheck: binding line 1: SlotsFirst\n",
+            (3, 0, 0),
+        ),
+        (
+            "vmecheck list binding none",
+            "vmecheck: cannot open dump\n",
+            (3, 0, 0),
+        ),
+        (
+            "vmecheck confirm binding dump none",
+            "vmecheck: cannot open listing\n",
+            (3, 0, 0),
+        ),
+        (
+            "vmecheck confirm binding dump dump",
+            "vmecheck: listing header\n",
+            (3, 0, 0),
+        ),
+        (
+            "vmecheck explain none dump",
+            "vmecheck: cannot open binding\n",
+            (3, 0, 0),
+        ),
+        (
+            "vmecheck explain --gtkw dump binding dump",
+            "vmecheck: nothing is written over dump",
+            (3, 0, 0),
+        ),
+        (
+            "vmecheck variables none",
+            "vmecheck: cannot open dump\n",
+            (3, 0, 0),
+        ),
+        (
+            "vmecheck bind none",
+            "vmecheck: cannot open dump\n",
+            (3, 0, 0),
+        ),
+        (
+            "vmecheck audit none dump",
+            "vmecheck: cannot open binding\n",
+            (3, 0, 0),
+        ),
+        (
+            "vmecheck audit binding none",
+            "vmecheck: none: cannot open\n",
+            (3, 0, 0),
+        ),
+        (
+            "vmecheck audit --junit dump binding dump",
+            "vmecheck: dump: is an input\n",
+            (3, 0, 0),
+        ),
+    ] {
+        expect(&rt, line, false, ("", err), ended)?;
+    }
+    Ok(())
+}
+
+#[test]
+fn what_is_said_first_and_last(rt: HostRuntime) -> Result<(), Fail> {
+    let reads = "vmecheck: reads a dump from standard input;";
+    expect(&rt, "vmecheck", true, ("conforming\n", reads), (0, 0, 0))?;
+    for (line, out, ended) in [
+        (
+            "vmecheck explain --gtkw full binding dump",
+            "conforming\n",
+            (5, 1, 0),
+        ),
+        (
+            "vmecheck audit --junit full binding dump",
+            "dump: ",
+            (5, 0, 1),
+        ),
+    ] {
+        expect(&rt, line, false, (out, "vmecheck: "), ended)?;
+    }
+    Ok(())
+}
