@@ -5,9 +5,9 @@ ghost use Rattle.std.specs.Prelude.{Err, None, Some, map, string_bytes};
 ghost use Rattle.std.specs.List.{AllZip};
 ghost use Rattle.vme_audit_command.specs.SeveralDumps.{NamedReading};
 ghost use Rattle.vme_program.specs.Audits.{AreAllowed, AuditsAndSaves, AuditsFiles, AuditsNamed, AuditsOpened};
-ghost use Rattle.vme_program.specs.Audits.{AuditsThenSaves, EndsCases, IsDumpOf, IsFileOf, IsFirstUnopened, IsOfWordsIfAny};
-ghost use Rattle.vme_program.specs.Audits.{IsOther, LeadsToInput, LeadsToNoInput, RefusesFile, SavesCases, dump_words};
-ghost use Rattle.vme_program.specs.Audits.{file_line, input_name};
+ghost use Rattle.vme_program.specs.Audits.{AuditsThenSaves, EndsCases, IsDumpOf, IsFileOf, IsFirstUnopened};
+ghost use Rattle.vme_program.specs.Audits.{IsOfWordsIfAny, IsOther, LeadsToInput, LeadsToNoInput, RefusesFile};
+ghost use Rattle.vme_program.specs.Audits.{SavesCases, dump_words, file_line, input_name};
 ghost use Rattle.vme_program.specs.Openings.{WithInput};
 ghost use Rattle.vme_program.specs.declared.audit.NoDumps.TheVariants.{Memory as LackedMemory, Unopened};
 ghost use Rattle.vme_program.specs.declared.audit.NoWords.TheVariants.{Memory};
@@ -198,7 +198,8 @@ fn open_dumps<'a, S: Surroundings>(
     names: &'a [String],
 ) -> Result<Vec<NamedDump<'a, S::Reader>>, NoDumps<'a>>
     ensures opened { IfOk result (λ dumps. AllZip (IsDumpOf S.Surroundings surroundings.now)
-        (map string_bytes names.now) (map (λ d. record { name = d.name.now; dump = S.Reader.reading d.dump }) dumps.items)) }
+        (map string_bytes names.now)
+        (map (λ d. record { name = d.name.now; dump = S.Reader.reading d.dump }) dumps.items)) }
     ensures unopened { (name : _) → result ≡ Err (Unopened name)
         → IsFirstUnopened S.Surroundings surroundings.now (map string_bytes names.now) name.now }
 {

@@ -23,14 +23,19 @@
 //! - With `--gtkw` nothing is written where the file may not be written, by what stands
 //!   there; else the explanation is that without it, and the file is put at its path or the status
 //!   says that it isn't (`ExplainsAndSaves`).
+//! - In an audit the binding is opened, and then each dump in order; the first that can't be is told
+//!   by its name, with status 3, and nothing is read. What is written of the dumps, by which binding
+//!   and by what the words tell, is what vme_audit_command says of these files. Test cases go into
+//!   the file that a word names, which is none of the inputs, and only behind an audit
+//!   (`AuditsFiles`).
 //! - Words that are wrong behind their command leave standard output and standard error alone
 //!   (`out_stays`, `err_stays`): the caller says what is wrong.
 //!
 //! # What isn't proved
 //!
 //! That `rules RULE` tells of that rule, and that `--gtkw` writes a file for that dump's name: the
-//! contracts of vme_commands don't say what these texts tell. Which files an audit opens, what it
-//! writes of them, and the file of test cases. Tests try these.
+//! contracts of vme_commands don't say what these texts tell; what the file of test cases tells, and
+//! that an audit reads standard input once. Tests try these.
 //!
 //! What a [`Surroundings`] answers is what its ghost members say, and no more: that a file of that
 //! name has those bytes is a matter of who implements it.
