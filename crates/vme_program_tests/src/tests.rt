@@ -24,6 +24,7 @@ const LISTING: &str =
 transfer 3 of 2 read DTACK 4 close 5\nverdict conforming\n";
 
 /// A binding, a dump and a listing by their names, a dump on standard input, and how often a file was written.
+#[derive(Drop)]
 struct Shelf {
     is_terminal: bool,
     puts: Cell<u32>,
