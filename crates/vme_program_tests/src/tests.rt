@@ -205,9 +205,22 @@ fn happy_paths(rt: HostRuntime) -> Result<(), Fail> {
             "conforming\n",
             (0, 1, 0),
         ),
-        ("vmecheck variables dump", "time scale 1 ns\n", (0, 0, 0)),
+        (
+            "vmecheck variables dump",
+            "time scale 1ns\nlast time 50\nchanges bits variable\n      3     1 bus.AS\n",
+            (0, 0, 0),
+        ),
         ("vmecheck rules H4", "H4", (0, 0, 0)),
-        ("vmecheck audit binding dump", "dump: ", (0, 0, 0)),
+        (
+            "vmecheck audit binding dump",
+            "dump: 0 broken, 0 unreadable, 0 allowed\n",
+            (0, 0, 0),
+        ),
+        (
+            "vmecheck audit --quiet binding dump -",
+            "dump: conforming\n-: conforming\n",
+            (0, 0, 0),
+        ),
         ("vmecheck audit --junit new binding -", "-: ", (0, 0, 1)),
     ] {
         expect(&rt, line, false, (out, ""), ended)?;
@@ -216,7 +229,10 @@ fn happy_paths(rt: HostRuntime) -> Result<(), Fail> {
         &rt,
         "vmecheck bind --slots 3 dump",
         false,
-        ("slots 3\n", "vmecheck: "),
+        (
+            "# Found by the names in the scope bus: look each line over.\nslots 3\nAS = bus.AS\n",
+            "vmecheck: bound 6 of 19 groups in scope bus, 3 slots",
+        ),
         (0, 0, 0),
     )?;
     Ok(())
