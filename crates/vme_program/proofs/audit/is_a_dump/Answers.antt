@@ -1,4 +1,4 @@
-use Rattle.std.proofs.Common.{rules, ◌≡◌, ◌≤◌, Some, All, map, length, take, subst, sym}
+use Rattle.std.proofs.Common.{rules, ◌≡◌, ◌≤◌, Some, All, map, length, subst, sym}
 use Rattle.std.proofs.lemmas.List.{length-map, take_all}
 use Rattle.vme_program.specs.Audits.{IsFileOf, IsOther}
 use Rattle.vme_program.proofs.AuditLemmas.{all-on, contains-mapped}

@@ -1,6 +1,5 @@
 -- The dumps so far are other files.
 use Rattle.std.proofs.Common.{All, map, take}
-use Rattle.vme_audit_command.specs.SeveralDumps.{NamedReading}
 use Rattle.vme_program.specs.Audits.{IsOther}
 use Rattle.vme_program.proofs.audit.is_a_dump.Given as goal
 

@@ -1,7 +1,6 @@
 use Rattle.std.proofs.Common.{rules, [], ◌∷◌, map, take, string_bytes, sym, subst, ◌+◌}
 use Rattle.std.specs.List.{AllZip}
 use Rattle.std.proofs.lemmas.List.{map-append}
-use Rattle.vme_audit_command.specs.SeveralDumps.{NamedReading}
 use Rattle.vme_program.specs.Audits.{IsDumpOf}
 use Rattle.vme_program.proofs.AuditLemmas.{zip-on}
 use Rattle.vme_program.proofs.audit.open_dumps.Goals as goal
