@@ -12,6 +12,8 @@ use Rattle.vme_answer.specs.declared.refusal.Refusal.{Refusal}
 use Rattle.vme_answer.specs.declared.refusal.Refusal.TheVariants.{Memory}
 use Rattle.vme_commands.specs.declared.bind.NoBinding.{NoBinding}
 use Rattle.vme_commands.specs.declared.bind.NoBinding.TheVariants.{Refused, NoSuchScope}
+use Rattle.vme_faults.specs.Pages.{pages_of}
+use Rattle.vme_faults.specs.declared.kind.Kind.{Kind}
 use denote.Ref.{Bor}
 
 abbrev pub text_answer : ℕ → List ℕ → CommandAnswer
@@ -26,6 +28,11 @@ text_answer_by status (Err refusal) = refusal_answer refusal
 abbrev pub IsText : Result (List ℕ) Refusal → Type 0
 IsText (Ok text) = Unit {0}
 IsText (Err refusal) = refusal ≡ Memory
+
+-- these are the pages of a kind, or of each, unless there was no memory
+abbrev pub ArePages : Option Kind → Result (List ℕ) Refusal → Type 0
+ArePages only (Ok text) = text ≡ pages_of only
+ArePages only (Err refusal) = refusal ≡ Memory
 
 -- there is a text of what was read of a dump, or else why there is no dump, unless there was no memory
 abbrev pub IsTextOf : Result Contents Refusal → Result (List ℕ) Refusal → Type 0

@@ -5,9 +5,9 @@
 //!
 //! - `check`, `list`, `confirm`: [`check::check`] judges a recording and [`list::list`] lists it,
 //!   by [`Workers`]; [`confirm::confirm_with`] compares a listing with that of a recording.
-//! - `explain`, `bind`, `variables`, `rules`: [`explain::explain`] says why a recording is judged
-//!   so, [`bind::bind`] writes a binding for a dump, [`tell_variables`] the variables, and
-//!   [`tell_rules`] what the rules ask.
+//! - `explain`, `bind`, `variables`, `rules`, `faults`: [`explain::explain`] says why a recording is
+//!   judged so, [`bind::bind`] writes a binding for a dump, [`tell_variables`] the variables,
+//!   [`tell_rules`] what the rules ask, and [`tell_faults`] what the refusals of inputs mean.
 //! - `dump_judge`, `judged_dump`, `workers`: a dump that is judged as it is read, in which pieces
 //!   and by how many.
 //! - `ordered_dump`, `judged_settled`: the same by one, in order, whose steps settle by a skew;
@@ -25,8 +25,9 @@
 //! - No size of piece and no number of workers has a part in an answer. No size of block has one,
 //!   but that a recording may fill too many.
 //! - `explain` begins with the line that `check` writes, and has its status (`Explains`). `bind`
-//!   writes only a binding that makes a recording of that dump (`IsBindingFor`). [`words_status`]:
-//!   3 for wrong words; help and version 0, or 5 where they weren't written.
+//!   writes only a binding that makes a recording of that dump (`IsBindingFor`). `faults` writes
+//!   exactly the page of a kind, or of each (`ArePages`). [`words_status`]: 3 for wrong words; help
+//!   and version 0, or 5 where they weren't written.
 //! - [`allowance_of`] reads each allowance from its text, and nothing else from any text.
 //!
 //! # What isn't proved
@@ -51,6 +52,7 @@ pub mod check;
 pub mod confirm;
 mod dump_judge;
 pub mod explain;
+mod faults;
 mod input_fault;
 mod judged_dump;
 mod judged_settled;
@@ -65,6 +67,7 @@ mod workers;
 
 pub use allowance::{allowance_of, allowances_of};
 pub use built_in::{BLOCK, BUILT_IN, READS_TERMINAL};
+pub use faults::tell_faults;
 pub use rules::tell_rules;
 pub use settled::unsettled;
 pub use variables::tell_variables;

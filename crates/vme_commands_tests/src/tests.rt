@@ -10,7 +10,8 @@ use vme_commands::check::check;
 use vme_commands::confirm::confirm_with;
 use vme_commands::explain::explain;
 use vme_commands::list::list;
-use vme_commands::{BLOCK, BUILT_IN, allowance_of, allowances_of};
+use vme_commands::{BLOCK, BUILT_IN, allowance_of, allowances_of, tell_faults};
+use vme_faults::Kind;
 use vme_stream::{Bytes, Io};
 use vme_trace::{Failed, Line, Rule, Sink, Source};
 use vme_words::words::order;
@@ -629,6 +630,13 @@ fn orders(rt: HostRuntime) -> Result<(), Fail> {
         ),
         ("vmecheck rules", Task::Rules, (16384, 4), ""),
         ("vmecheck rules H4", Task::Rules, (16384, 4), "H4 "),
+        ("vmecheck faults", Task::Faults, (16384, 4), ""),
+        (
+            "vmecheck faults BadVar",
+            Task::Faults,
+            (16384, 4),
+            "BadVar ",
+        ),
         ("vmecheck variables V", Task::Variables, (16384, 4), "V "),
         ("vmecheck bind V", Task::Bind, (16384, 4), "V "),
         (
@@ -931,6 +939,7 @@ fn usage(rt: HostRuntime) -> Result<(), Fail> {
         ("vmecheck B V", false),
         ("vmecheck check --blocks 5 B V", false),
         ("vmecheck rules H1 H2", false),
+        ("vmecheck faults BadVar TooWide", false),
         ("vmecheck variables", false),
         ("vmecheck bind --slots 0 V", false),
         ("vmecheck bind --slots 22 V", false),
@@ -956,6 +965,18 @@ fn usage(rt: HostRuntime) -> Result<(), Fail> {
         let answer = order(rt.alloc(), words.as_slice());
         assert_eq!(rt; goes_to_errors(answer), Some(!is_help), "{line}");
     }
+    Ok(())
+}
+
+#[test]
+fn a_kind_of_refusal_is_told(rt: HostRuntime) -> Result<(), Fail> {
+    let mut out = Page::new(rt.alloc(), 5000);
+    let mut err = Page::new(rt.alloc(), 100);
+    let status = tell_faults(rt.alloc(), Some(Kind::BadVar), &mut out, &mut err);
+    let told =
+        b"BadVar: a declaration that is none\n  expected: `$var`, a type, a size in digits, ";
+    assert!(rt; out.bytes.as_slice().starts_with(told));
+    assert!(rt; err.bytes.is_empty() && status == 0);
     Ok(())
 }
 

@@ -4,12 +4,12 @@ use Rattle.vme_trace.specs.Streams.{Writing}
 use Rattle.vme_words.specs.declared.order.Order.{Order}
 use Rattle.vme_words.specs.declared.order.Task.{Task}
 use Rattle.vme_words.specs.declared.order.Task.TheVariants.{Check, List, Confirm, Rules, Variables, Bind}
-use Rattle.vme_words.specs.declared.order.Task.TheVariants.{Explain, Audit}
+use Rattle.vme_words.specs.declared.order.Task.TheVariants.{Explain, Audit, Faults}
 use Rattle.vme_program.specs.Audits.{AuditsFiles}
 use Rattle.vme_program.specs.Bindings.{BindsFile}
 use Rattle.vme_program.specs.Explanations.{ExplainsFiles}
 use Rattle.vme_program.specs.Recordings.{ChecksFiles, ConfirmsFiles, ListsFiles}
-use Rattle.vme_program.specs.Texts.{TellsFile, TellsRules}
+use Rattle.vme_program.specs.Texts.{TellsFaults, TellsFile, TellsRules}
 use Rattle.vme_program.specs.declared.surroundings.Surroundings.{Ghosts as Surroundings}
 
 module _ {S R : Type 0} (outside : Surroundings S R) (s : S) (order : Order) where
@@ -22,6 +22,7 @@ module _ {S R : Type 0} (outside : Surroundings S R) (s : S) (order : Order) whe
   DoesTask Bind = BindsFile (outside.opens s) order
   DoesTask Variables = TellsFile (outside.opens s) order
   DoesTask Rules = λ out err status. TellsRules out err status
+  DoesTask Faults = TellsFaults order
   DoesTask Audit = AuditsFiles outside s order
 
   abbrev pub DoesOrder : Writing × Writing → Writing × Writing → ℕ → Type 0

@@ -8,7 +8,9 @@ use Rattle.vme_answer.specs.Answers.{dump_read}
 use Rattle.vme_answer.specs.Ends.{Ends}
 use Rattle.vme_answer.specs.declared.refusal.Input.TheVariants.{Dump}
 use Rattle.vme_answer.specs.declared.refusal.Refusal.{Refusal}
-use Rattle.vme_commands.specs.TextAnswers.{IsText, IsTextOf, text_answer_by}
+use Rattle.vme_commands.specs.TextAnswers.{ArePages, IsText, IsTextOf, text_answer_by}
+use Rattle.vme_faults.specs.Kinds.{kind_named}
+use Rattle.vme_faults.specs.declared.kind.Kind.{Kind}
 use Rattle.vme_stream.specs.Inputs.{IsReading}
 use Rattle.vme_words.specs.declared.order.Order.{Order}
 use Rattle.vme_program.specs.Openings.{WithInput}
@@ -41,3 +43,20 @@ NamesNoRule order = IsSomeAnd (rule_word order) (λ name. rule_named name ≡ No
 -- what rules ask is told
 abbrev pub TellsRules : Writing × Writing → Writing × Writing → ℕ → Type 0
 TellsRules out err status = (made : Result (List ℕ) Refusal) × IsText made × Ends (text_answer_by 0 made) out err status
+
+-- ---- kinds of refusals
+
+-- the kind of refusal that an order names, if it names one
+abbrev pub IsKindOf : Order → Option Kind → Type 0
+IsKindOf order kind = MatchOption (option_map string_bytes (slice_get order.names.items 0)) (kind ≡ None)
+    (λ name. kind_named name ≡ kind)
+
+-- it names none that there is
+abbrev pub NamesNoKind : Order → Type 0
+NamesNoKind order =
+    IsSomeAnd (option_map string_bytes (slice_get order.names.items 0)) (λ name. kind_named name ≡ None)
+
+-- the page of the kind that an order names is told, or that of each
+abbrev pub TellsFaults : Order → Writing × Writing → Writing × Writing → ℕ → Type 0
+TellsFaults order out err status = (only : Option Kind) × (made : Result (List ℕ) Refusal)
+    × IsKindOf order only × ArePages only made × Ends (text_answer_by 0 made) out err status

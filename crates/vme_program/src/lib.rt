@@ -7,8 +7,8 @@
 //! - `surroundings`: [`Surroundings`], what the program uses of what is outside of it: files by their
 //!   names, and standard input. Standard output and standard error are sinks that the caller brings.
 //! - `opening`: the file that an order names for an input, or that it can't be opened.
-//! - `check`, `list`, `confirm`, `explain`, `bind`, `variables`, `rules`, `audit`: one command each,
-//!   over the files that its order names. `input`: a dump on standard input.
+//! - `check`, `list`, `confirm`, `explain`, `bind`, `variables`, `rules`, `faults`, `audit`: one
+//!   command each, over the files that its order names. `input`: a dump on standard input.
 //! - `save`: the waveform viewer's file, which is written over no input and over nothing that the
 //!   program didn't write.
 //!
@@ -28,6 +28,8 @@
 //!   and by what the words tell, is what vme_audit_command says of these files. Test cases go into
 //!   the file that a word names, which is none of the inputs, and only behind an audit
 //!   (`AuditsFiles`).
+//! - `faults` writes exactly the page of the kind of refusal that the words name, or that of each
+//!   (`TellsFaults`).
 //! - Words that are wrong behind their command leave standard output and standard error alone
 //!   (`out_stays`, `err_stays`): the caller says what is wrong.
 //!
@@ -48,6 +50,7 @@ mod bind;
 mod check;
 mod confirm;
 mod explain;
+mod faults;
 mod input;
 mod list;
 mod opening;

@@ -14,6 +14,7 @@ use crate::bind::bind_file;
 use crate::check::check_files;
 use crate::confirm::confirm_files;
 use crate::explain::explain_files;
+use crate::faults::faults_named;
 use crate::input::check_input;
 use crate::list::list_files;
 use crate::rules::rules_named;
@@ -79,5 +80,6 @@ fn run_order<R: Threads + Sync, S: Surroundings, O: Sink, E: Sink>(
         Task::Bind => bind_file(alloc, surroundings, order, out, err),
         Task::Variables => Ok(variables_file(alloc, surroundings, order, out, err)),
         Task::Rules => rules_named(alloc, order, out, err),
+        Task::Faults => faults_named(alloc, order, out, err),
     }
 }

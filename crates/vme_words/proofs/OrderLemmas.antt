@@ -26,7 +26,7 @@ use Rattle.vme_words.specs.declared.order_fault.OrderFault.TheVariants.{Usage, M
 use Rattle.vme_words.specs.declared.order.Order.{Order}
 use Rattle.vme_words.specs.declared.order.Task.{Task}
 use Rattle.vme_words.specs.declared.order.Task.TheVariants.{Check, List as Listing, Confirm, Rules, Variables, Bind}
-use Rattle.vme_words.specs.declared.order.Task.TheVariants.{Explain, Audit}
+use Rattle.vme_words.specs.declared.order.Task.TheVariants.{Explain, Audit, Faults}
 
 -- the number that a getter reads of an option is the number of its text
 pub number_read : (E : Type 0) (G : List ℕ → Result ℕ E → Type 0) (m : ArgMatches) (id : Text) (n : ℕ) (r : Option ℕ)
@@ -188,6 +188,14 @@ is_confirmation order rows task says = record {
 pub is_rules : (order : Order) (rows : List Row) → order.command ≡ Rules → SaysWords order (Some 0) None
     (if_given (first_of (codes "RULE") rows)) → IsOrder order (Some (codes "rules", rows))
 is_rules order rows task says = record {
+  rows = rows;
+  command = ap (λ (t : Task). Some (task_name t, rows)) (sym task);
+  says = subst (λ (t : Task). Says t order rows) (sym task) says;
+}
+
+pub is_faults : (order : Order) (rows : List Row) → order.command ≡ Faults → SaysWords order (Some 0) None
+    (if_given (first_of (codes "KIND") rows)) → IsOrder order (Some (codes "faults", rows))
+is_faults order rows task says = record {
   rows = rows;
   command = ap (λ (t : Task). Some (task_name t, rows)) (sym task);
   says = subst (λ (t : Task). Says t order rows) (sym task) says;

@@ -15,13 +15,14 @@ use Rattle.clap.specs.Walk.{Rule, Text, answers_to, finished, nothing_held, rows
 use Rattle.clap.specs.Walk.{walk_from, with_default}
 use Rattle.clap.specs.declared.builder.value_parser.ValueParser.TheVariants.{Signed, Unsigned}
 use Rattle.clap.proofs.OnLiterals.{clap_on_literals}
-use Rattle.vme_words.specs.Commands.{allow_rule, audit_app, bind_app, confirm_app, explain_app, file_rule, files_rule}
-use Rattle.vme_words.specs.Commands.{flag_rule, greatest_number, number_rule, recording_app, rules_app, skew_rule}
-use Rattle.vme_words.specs.Commands.{slots_rule, stop_rule, transfers_rule, variables_app, vmecheck_app, word_rule}
+use Rattle.vme_words.specs.Commands.{allow_rule, audit_app, bind_app, confirm_app, explain_app, faults_app, file_rule}
+use Rattle.vme_words.specs.Commands.{files_rule, flag_rule, greatest_number, number_rule, recording_app, rules_app}
+use Rattle.vme_words.specs.Commands.{skew_rule, slots_rule, stop_rule, transfers_rule, variables_app, vmecheck_app}
+use Rattle.vme_words.specs.Commands.{word_rule}
 use Rattle.vme_words.specs.Orders.{HasAudit, HasConfirmation, HasExplanation, HasName, HasOrder, HasRecording}
 use Rattle.vme_words.specs.Orders.{MayHaveUnsigned}
 use Rattle.vme_words.specs.declared.order.Task.TheVariants.{Check, List as Listing, Confirm, Rules, Variables, Bind}
-use Rattle.vme_words.specs.declared.order.Task.TheVariants.{Explain, Audit}
+use Rattle.vme_words.specs.declared.order.Task.TheVariants.{Explain, Audit, Faults}
 use Rattle.vme_words.proofs.RowLemmas.{EachKnown, NamesNoHelp, both_free, default_adds, defaults_keep, given_text}
 use Rattle.vme_words.proofs.RowLemmas.{level_good, row_may_say, row_says, walk_stops}
 
@@ -41,6 +42,9 @@ of_audit = built_leaf (inherited above audit_app.top)
 
 abbrev of_rules : Shape
 of_rules = built_leaf (inherited above rules_app.top)
+
+abbrev of_faults : Shape
+of_faults = built_leaf (inherited above faults_app.top)
 
 abbrev of_variables : Shape
 of_variables = built_leaf (inherited above variables_app.top)
@@ -74,6 +78,9 @@ help = filled help_rule
 
 abbrev rule : Rule
 rule = with_index 1 (filled (new_rule (codes "RULE")))
+
+abbrev kind : Rule
+kind = with_index 1 (filled (new_rule (codes "KIND")))
 
 abbrev only_dump : Rule
 only_dump = with_index 1 (filled (file_rule (codes "DUMP")))
@@ -116,6 +123,9 @@ audit_rules = transfers ∷ allow ∷ stop ∷ skew ∷ workers ∷ quiet ∷ ju
 
 abbrev rules_rules : List Rule
 rules_rules = rule ∷ help ∷ []
+
+abbrev faults_rules : List Rule
+faults_rules = kind ∷ help ∷ []
 
 abbrev variables_rules : List Rule
 variables_rules = only_dump ∷ help ∷ []
@@ -200,6 +210,13 @@ rules_known = (
     record { own = refl; acts = tt; defaults = refl },
     tt,
   ),
+)
+
+faults_known : EachKnown faults_rules faults_rules
+unfolding clap_on_literals
+faults_known = (
+  record { own = refl; acts = refl; defaults = refl },
+  (record { own = refl; acts = tt; defaults = refl }, tt),
 )
 
 variables_known : EachKnown variables_rules variables_rules
@@ -481,6 +498,9 @@ audit_makes words e = inl (record {
 rules_makes : Makes of_rules
 rules_makes words e = inl (record { task = Rules; rows = rows_after rules_rules [] words; command = refl; has = tt })
 
+faults_makes : Makes of_faults
+faults_makes words e = inl (record { task = Faults; rows = rows_after faults_rules [] words; command = refl; has = tt })
+
 variables_makes : Makes of_variables
 variables_makes words e = inl (record {
   task = Variables;
@@ -519,7 +539,10 @@ words_have_order words e = order_of_app (built vmecheck_app) (drop 1 words) (
     list_makes,
     (
       confirm_makes,
-      (audit_makes, (rules_makes, (variables_makes, (bind_makes, (explain_makes, (help_makes, tt)))))),
+      (
+        audit_makes,
+        (rules_makes, (faults_makes, (variables_makes, (bind_makes, (explain_makes, (help_makes, tt)))))),
+      ),
     ),
   ),
 ) refl

@@ -104,6 +104,10 @@ audit_app =
 abbrev pub rules_app : App
 rules_app = with_rule (new_app (codes "rules")) (new_rule (codes "RULE"))
 
+-- `faults [KIND]`
+abbrev pub faults_app : App
+faults_app = with_rule (new_app (codes "faults")) (new_rule (codes "KIND"))
+
 -- `variables DUMP`
 abbrev pub variables_app : App
 variables_app = with_rule (new_app (codes "variables")) (file_rule (codes "DUMP"))
@@ -128,9 +132,10 @@ recordings_app =
     let two = with_subcommand (with_subcommand (new_app (codes "vmecheck")) check.top) list.top in
     with_subcommand (with_subcommand two confirm_app.top) audit_app.top
 
--- the program, with these, and with those that tell of rules and of variables
+-- the program, with these, and with those that tell of rules, of faults and of variables
 abbrev pub telling_app : App
-telling_app = with_subcommand (with_subcommand recordings_app rules_app.top) variables_app.top
+telling_app =
+    with_subcommand (with_subcommand (with_subcommand recordings_app rules_app.top) faults_app.top) variables_app.top
 
 -- the program, with a subcommand for each task, one of which has to be there, and a version
 abbrev pub vmecheck_app : App

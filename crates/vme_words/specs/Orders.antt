@@ -11,7 +11,7 @@ use Rattle.vme_words.specs.declared.order.AuditWords.{AuditWords}
 use Rattle.vme_words.specs.declared.order.Order.{Order}
 use Rattle.vme_words.specs.declared.order.Task.{Task}
 use Rattle.vme_words.specs.declared.order.Task.TheVariants.{Check, List as Listing, Confirm, Rules, Variables, Bind}
-use Rattle.vme_words.specs.declared.order.Task.TheVariants.{Explain, Audit}
+use Rattle.vme_words.specs.declared.order.Task.TheVariants.{Explain, Audit, Faults}
 
 -- the number that a text says, which may begin with a plus sign
 abbrev pub number_of : Text → ℕ
@@ -52,6 +52,7 @@ task_name Check = codes "check"
 task_name Listing = codes "list"
 task_name Confirm = codes "confirm"
 task_name Rules = codes "rules"
+task_name Faults = codes "faults"
 task_name Variables = codes "variables"
 task_name Bind = codes "bind"
 task_name Explain = codes "explain"
@@ -109,6 +110,7 @@ Says Check order rows = SaysOrder order rows
 Says Listing order rows = SaysOrder order rows
 Says Confirm order rows = SaysConfirmation order rows
 Says Rules order rows = SaysWords order (Some 0) None (if_given (first_of (codes "RULE") rows))
+Says Faults order rows = SaysWords order (Some 0) None (if_given (first_of (codes "KIND") rows))
 Says Variables order rows = SaysWords order (Some 0) None (first_of (codes "DUMP") rows ∷ [])
 Says Bind order rows = SaysWords order (Some 0) (scope_in rows)
     (first_of (codes "DUMP") rows ∷ if_given (first_of (codes "slots") rows))
@@ -182,6 +184,7 @@ HasAll Check rows = HasRecording rows
 HasAll Listing rows = HasRecording rows
 HasAll Confirm rows = HasConfirmation rows
 HasAll Rules rows = Unit {0}
+HasAll Faults rows = Unit {0}
 HasAll Variables rows = HasName (codes "DUMP") rows
 HasAll Bind rows = HasName (codes "DUMP") rows
 HasAll Explain rows = HasExplanation rows

@@ -3,7 +3,7 @@
 ghost use Rattle.std.specs.Prelude.{◌≡◌, IfOk, Some, codes, false};
 ghost use Rattle.clap.specs.Words.{App, Rule, app_of, new_app, rule_of, with_rule, with_subcommand};
 ghost use Rattle.vme_words.specs.Commands.{Makes, allow_rule, audit_app, bind_app, confirm_app, explain_app};
-ghost use Rattle.vme_words.specs.Commands.{file_rule, files_rule, flag_rule, number_rule, recording_app};
+ghost use Rattle.vme_words.specs.Commands.{faults_app, file_rule, files_rule, flag_rule, number_rule, recording_app};
 ghost use Rattle.vme_words.specs.Commands.{recordings_app, rules_app, skew_rule, slots_rule, stop_rule, telling_app};
 ghost use Rattle.vme_words.specs.Commands.{transfers_rule, variables_app, vmecheck_app, word_rule};
 
@@ -28,6 +28,7 @@ Examples:
   vmecheck explain bus.bind bus.vcd     why and where
   vmecheck audit bus.bind 1.vcd 2.vcd   each break, and what was covered
   vmecheck rules H4                     what a rule asks
+  vmecheck faults NoSuchPath            what a refusal means
   zcat bus.vcd.gz | vmecheck check bus.bind /dev/stdin
                                         the verdict on a dump that comes by a pipe
 
@@ -51,11 +52,12 @@ pub fn vmecheck_command<'a>(alloc: Global) -> Result<Command<'a>, AllocError>
     Ok(command.subcommand_required(true).version(VERSION))
 }
 
-/// The program, with the subcommands on recordings, and those that tell of rules and of variables.
+/// The program, with the subcommands on recordings, and those that tell of rules, of faults and of variables.
 fn telling_commands<'a>(alloc: Global) -> Result<Command<'a>, AllocError>
     ensures { Makes telling_app result }
 {
     let command = with_task(recording_commands(alloc), rules_command(alloc));
+    let command = with_task(command, faults_command(alloc));
     with_task(command, variables_command(alloc))
 }
 
@@ -178,6 +180,18 @@ pub(crate) fn rules_command<'a>(alloc: Global) -> Result<Command<'a>, AllocError
     Command::new(alloc, "rules")
         .about("Says what each rule asks, and what is usually wrong where it is broken")
         .arg(rule)
+}
+
+/// The command that says what the faults of inputs mean.
+pub(crate) fn faults_command<'a>(alloc: Global) -> Result<Command<'a>, AllocError>
+    ensures { Makes faults_app result }
+{
+    let kind = Arg::new(alloc, "KIND").help(
+        "One kind by its name, as NoSuchPath or 'cannot open'; all of them, where none is named",
+    );
+    Command::new(alloc, "faults")
+        .about("Says what each refusal of an input means, and what helps")
+        .arg(kind)
 }
 
 /// The command that writes the variables of a dump.

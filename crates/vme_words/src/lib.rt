@@ -22,7 +22,8 @@
 //! # Limits
 //!
 //! Blocks of 1 to 65,536 steps, 1 to 64 workers, and a skew, a number of transfers and a number of
-//! breaks below 2^64. Rules and lines aren't names yet, but texts. Start reading at `words`.
+//! breaks below 2^64. Rules, lines and faults aren't names yet, but texts. Start reading at
+//! `words`.
 #![tactic(auto)]
 
 mod command;

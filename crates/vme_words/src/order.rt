@@ -16,6 +16,8 @@ pub enum Task {
     Audit,
     /// Say what the rules ask.
     Rules,
+    /// Say what the faults of inputs mean.
+    Faults,
     /// Write the variables of a dump.
     Variables,
     /// Write a binding for a dump.
@@ -39,7 +41,7 @@ pub struct Order {
     pub scope: Option<String>,
     /// The words behind the task, by it: the binding and the dump, and for a confirmation the listing, or for an
     /// explanation the waveform viewer's file, if one is wanted; the binding and each dump of an audit; the dump, and
-    /// for a binding the number of slots, if it is told; or a rule, if one is named.
+    /// for a binding the number of slots, if it is told; or a rule, or a fault, if one is named.
     pub names: Vec<String>,
     /// What an audit is told beside these, if that is the task.
     pub audit: Option<AuditWords>,

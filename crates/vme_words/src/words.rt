@@ -12,8 +12,8 @@ ghost use Rattle.vme_words.specs.Orders.{SaysAuditWords, SaysOrder, SaysWords, h
 ghost use Rattle.vme_words.specs.Orders.{number_in, task_name, texts_in};
 
 use crate::command::{
-    audit_command, bind_command, check_command, confirm_command, explain_command, list_command,
-    rules_command, variables_command, vmecheck_command,
+    audit_command, bind_command, check_command, confirm_command, explain_command, faults_command,
+    list_command, rules_command, variables_command, vmecheck_command,
 };
 use crate::order::{AuditWords, Order, Task};
 use crate::order_fault::OrderFault;
@@ -66,6 +66,8 @@ fn task_named(name: &str) -> Option<Task>
         Some(Task::Confirm)
     } else if name == "rules" {
         Some(Task::Rules)
+    } else if name == "faults" {
+        Some(Task::Faults)
     } else if name == "variables" {
         Some(Task::Variables)
     } else if name == "bind" {
@@ -90,6 +92,7 @@ fn order_to(alloc: Global, task: Task, found: &ArgMatches<'_>) -> Result<Option<
         Task::List => list_order(alloc, found),
         Task::Confirm => confirm_order(alloc, found),
         Task::Rules => rules_order(alloc, found),
+        Task::Faults => faults_order(alloc, found),
         Task::Variables => variables_order(alloc, found),
         Task::Bind => bind_order(alloc, found),
         Task::Explain => explain_order(alloc, found),
@@ -181,6 +184,17 @@ fn rules_order(alloc: Global, found: &ArgMatches<'_>) -> Result<Option<Order>, A
 {
     let names = with_given(alloc, Vec::new(alloc), found, "RULE")?;
     Ok(Some(order_of_words(Task::Rules, 0, None, names)))
+}
+
+/// The order that the matches of `faults` are.
+#[tactic(auto, using(crate::proofs::OrderLemmas::is_faults))]
+fn faults_order(alloc: Global, found: &ArgMatches<'_>) -> Result<Option<Order>, AllocError>
+    ensures said { IfOk result (λ o. IfSome o (λ order. IsOrder order
+        (Some (codes "faults", rows_of (found_of found.now))))) }
+    ensures found { IfOk result (λ o. is_some o ≡ true) }
+{
+    let names = with_given(alloc, Vec::new(alloc), found, "KIND")?;
+    Ok(Some(order_of_words(Task::Faults, 0, None, names)))
 }
 
 /// The order that the matches of `variables` are, if they are one.
@@ -490,6 +504,7 @@ fn command_of<'a>(alloc: Global, task: Task) -> Result<Command<'a>, AllocError> 
         Task::List => list_command(alloc),
         Task::Confirm => confirm_command(alloc),
         Task::Rules => rules_command(alloc),
+        Task::Faults => faults_command(alloc),
         Task::Variables => variables_command(alloc),
         Task::Bind => bind_command(alloc),
         Task::Explain => explain_command(alloc),
@@ -504,6 +519,7 @@ fn words_of(task: Task) -> &'static str {
         Task::List => "vmecheck list",
         Task::Confirm => "vmecheck confirm",
         Task::Rules => "vmecheck rules",
+        Task::Faults => "vmecheck faults",
         Task::Variables => "vmecheck variables",
         Task::Bind => "vmecheck bind",
         Task::Explain => "vmecheck explain",

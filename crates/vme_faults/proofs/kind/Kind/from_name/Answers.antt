@@ -1,0 +1,10 @@
+use Rattle.vme_faults.specs.Kinds.{kind_named}
+use Rattle.vme_faults.proofs.NameLemmas.{named_by}
+use Rattle.vme_faults.proofs.kind.Kind.from_name.Goals as goal
+
+pub returns-clause-kind : goal.returns-clause-kind
+unfolding kind_named
+returns-clause-kind c = c.first_named.ensures
+
+pub returns-clause-named : goal.returns-clause-named
+returns-clause-named c = named_by c.first_named.result c.args.name.now c.first_named.ensures

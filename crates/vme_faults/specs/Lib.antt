@@ -1,0 +1,4 @@
+pub mod Files
+pub mod Kinds
+pub mod Pages
+pub mod Refusals

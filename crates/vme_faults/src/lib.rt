@@ -1,0 +1,40 @@
+//! What the refusals of inputs mean, for people: what each kind of them means, what was expected
+//! there, what usually causes it, and the remedy; and what kind of file stands in the place of a
+//! dump or of a binding.
+//!
+//! # Parts
+//!
+//! - `kind`: [`Kind`], each kind of refusal, by the name that a refusal tells.
+//! - `page`: the page of each, [`Page::of`], the only source of these texts; and the pages as text.
+//!   `vmecheck faults` and docs/RECORDING.md say what it says.
+//! - `refusal`: [`Kind::of`] says of which kind a refusal is.
+//! - `file_kind`: [`FileKind::of`] says by its first bytes what kind of file some bytes are, and
+//!   which program makes a plain dump of it.
+//!
+//! # What is proved
+//!
+//! - The page of a kind is exactly that of `specs/Pages`, and what is told of it is exactly this
+//!   page; each kind has one, and `faults_text` tells all of them (`pages_of`).
+//! - A kind has the name of `specs/Kinds`, and a name finds the kind that has it (`found`).
+//! - The kind of a refusal is exactly that of `specs/Refusals`.
+//! - A kind of file is exactly that of `specs/Files`, by the bytes that the formats begin with.
+//!
+//! # What isn't proved
+//!
+//! That the texts are true and helpful: they are to be read beside docs/FORMATS.md, which says when
+//! each fault comes. `tests/texts` compares docs/RECORDING.md with them.
+//!
+//! # Limits
+//!
+//! A kind of file is known by its first bytes alone: what stands behind them isn't looked at. Start
+//! reading at `page`.
+#![tactic(auto)]
+
+mod file_kind;
+mod kind;
+mod page;
+mod refusal;
+
+pub use file_kind::FileKind;
+pub use kind::Kind;
+pub use page::{Page, faults_text, push_page};

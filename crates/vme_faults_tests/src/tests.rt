@@ -1,0 +1,110 @@
+use std::process::Abort;
+use std::test::Fail;
+use vcd_read::{FaultKind, VcdFault};
+use vme_answer::Refusal;
+use vme_bind::{BindFault, BindKind};
+use vme_faults::{FileKind, Kind, Page, faults_text};
+use vme_listing::ListFault;
+
+/// What is told of a kind.
+const OF_NO_SUCH_PATH: &str =
+    "NoSuchPath: the dump has no variable of this path, or none with these bits
+  expected: the scopes and the name of a variable, joined by dots, and bits that its index has
+  usually: another case of letters; a scope left out, such as `TOP.`; an index that isn't the
+    variable's, or one that runs the other way, or of a variable that has none; a binding of another
+    dump
+  remedy: `vmecheck variables bus.vcd` shows the paths; `vmecheck bind bus.vcd` looks for the lines
+";
+
+#[test]
+fn a_kind_is_told(rt: HostRuntime) -> Result<(), Fail> {
+    let text = faults_text(rt.alloc(), Some(Kind::NoSuchPath))?;
+    assert_eq!(rt; text.as_bytes(), OF_NO_SUCH_PATH.as_bytes());
+    Ok(())
+}
+
+#[test]
+fn all_kinds_are_told_in_their_order(rt: HostRuntime) -> Result<(), Fail> {
+    let text = faults_text(rt.alloc(), None)?;
+    assert!(rt;
+        text.as_bytes()
+            .starts_with(b"BadToken: a token of the dump ")
+    );
+    assert_eq!(rt;
+        text.as_bytes()
+            .split(|byte| *byte == b'\n')
+            .filter(|line| !line.starts_with(b" ") && !line.is_empty())
+            .count(),
+        27
+    );
+    assert!(rt;
+        text.as_bytes()
+            .split(|byte| *byte == b'\n')
+            .all(|line| line.len() <= 100)
+    );
+    assert_eq!(rt; Page::of(Kind::BadVar).remedy, "record with `$dumpvars`");
+    Ok(())
+}
+
+#[test]
+fn a_kind_has_its_name(rt: HostRuntime) -> Result<(), Fail> {
+    assert_eq!(rt; Kind::from_name(b"cannot open"), Some(Kind::CannotOpen));
+    assert_eq!(rt; Kind::from_name(b"listing header"), Some(Kind::BadHeader));
+    assert_eq!(rt; Kind::from_name(b"badtoken"), None);
+    assert_eq!(rt; Kind::TooManySteps.name(), "TooManySteps");
+    Ok(())
+}
+
+#[test]
+fn a_refusal_has_a_kind(rt: HostRuntime) -> Result<(), Fail> {
+    let fault = VcdFault {
+        line: 7,
+        kind: FaultKind::TooWide,
+    };
+    assert_eq!(rt; Kind::of(&Refusal::BadDump(fault)), Kind::TooWide);
+    let fault = BindFault {
+        line: 3,
+        kind: BindKind::NoSuchPath,
+    };
+    assert_eq!(rt; Kind::of(&Refusal::BadBinding(fault)), Kind::NoSuchPath);
+    let fault = ListFault::BadRow { row: 2 };
+    assert_eq!(rt; Kind::of(&Refusal::BadListing(fault)), Kind::BadRow);
+    assert_eq!(rt; Kind::of(&Refusal::Memory), Kind::OutOfMemory);
+    Ok(())
+}
+
+#[test]
+fn a_file_is_known_by_its_first_bytes(rt: HostRuntime) -> Result<(), Fail> {
+    let files: [(&[u8], Option<FileKind>); 18] = [
+        (b"", Some(FileKind::Empty)),
+        (&[0, 0, 0, 0, 0, 0, 0, 1, 0x49, 0, 0], Some(FileKind::Fst)),
+        (&[0x1F, 0x8B, 8, 0], Some(FileKind::Gzip)),
+        (b"\xFD7zXZ\0\0", Some(FileKind::Xz)),
+        (&[0x28, 0xB5, 0x2F, 0xFD, 4], Some(FileKind::Zstd)),
+        (b"BZh91AY", Some(FileKind::Bzip2)),
+        (b"\xEF\xBB\xBF$date", Some(FileKind::MarkedUtf8)),
+        (b"\xFF\xFE$\0", Some(FileKind::MarkedUtf16)),
+        (b"\xFE\xFF\0$", Some(FileKind::MarkedUtf16)),
+        (b"$\0d\0", Some(FileKind::LittleUtf16)),
+        (b"\0$\0d", Some(FileKind::BigUtf16)),
+        (b"vmecheck listing 3\n", Some(FileKind::Listing)),
+        (
+            b"# Found by the names.\r\n\n \tslots 3\n",
+            Some(FileKind::Binding),
+        ),
+        (b"slots 3", Some(FileKind::Binding)),
+        (b"\n  $date\n", Some(FileKind::Dump)),
+        (b"# slots 3", None),
+        (b"0!", None),
+        (b"\0\0\0\0", None),
+    ];
+    for (bytes, kind) in files {
+        assert_eq!(rt; FileKind::of(bytes), kind);
+    }
+    assert_eq!(rt; FileKind::Gzip.name(), "a file that gzip compressed");
+    assert_eq!(rt;
+        FileKind::Gzip.help(),
+        "`zcat bus.vcd.gz > bus.vcd` makes a plain dump of it"
+    );
+    Ok(())
+}

@@ -1,0 +1,48 @@
+//! The kind of refusal that an order names, or each of them.
+
+ghost use Rattle.std.specs.Prelude.{◌≡◌, IfErr, IfOk, OnErr};
+ghost use Rattle.vme_program.specs.Texts.{IsKindOf, NamesNoKind, TellsFaults};
+ghost use Rattle.vme_words.specs.OrderFaults.{IsOfWords};
+
+use std::alloc::Global;
+use vme_commands::tell_faults;
+use vme_faults::Kind;
+use vme_trace::Sink;
+use vme_words::{Order, OrderFault, Task, task_fault};
+
+/// Says what the kind of refusal means that an order names, or each of them where it names none. The answer is the
+/// exit status, or that there is no such kind.
+#[inline(never)]
+pub fn faults_named<O: Sink, E: Sink>(
+    alloc: Global,
+    order: &Order,
+    out: &mut O,
+    err: &mut E,
+) -> Result<u8, OrderFault>
+    ensures told { IfOk result (λ status. TellsFaults order.now
+        (O.writing out.old, O.writing out.new) (E.writing err.old, E.writing err.new) status) }
+    ensures faulty { OnErr result (NamesNoKind order.now) }
+    ensures of_words { IfErr result IsOfWords }
+    ensures out_stays { OnErr result (O.writing out.new ≡ O.writing out.old) }
+    ensures err_stays { OnErr result (E.writing err.new ≡ E.writing err.old) }
+{
+    match kind_of(alloc, order) {
+        Ok(only) => Ok(tell_faults(alloc, only, out, err)),
+        Err(fault) => Err(fault),
+    }
+}
+
+/// The kind of refusal that an order names, if it names one.
+fn kind_of(alloc: Global, order: &Order) -> Result<Option<Kind>, OrderFault>
+    ensures kind { IfOk result (IsKindOf order.now) }
+    ensures faulty { OnErr result (NamesNoKind order.now) }
+    ensures of_words { IfErr result IsOfWords }
+{
+    let Some(name) = order.names.get(0) else {
+        return Ok(None);
+    };
+    match Kind::from_name(name.as_bytes()) {
+        Some(kind) => Ok(Some(kind)),
+        None => Err(task_fault(alloc, Task::Faults, "there is no such refusal")),
+    }
+}
