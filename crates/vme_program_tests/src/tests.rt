@@ -128,6 +128,8 @@ struct Page {
 }
 
 impl Sink for Page {
+    ghost use Rattle.std.specs.Prelude.{None};
+
     ghost writing = { λ _. record { taken = None; failures = 0 } };
 
     fn write(&mut self, bytes: &[u8]) -> Result<usize, Failed> {
@@ -211,6 +213,11 @@ fn happy_paths(rt: HostRuntime) -> Result<(), Fail> {
             (0, 0, 0),
         ),
         ("vmecheck rules H4", "H4", (0, 0, 0)),
+        (
+            "vmecheck faults BadToken",
+            "BadToken: a token of the dump may not stand where it stands\n",
+            (0, 0, 0),
+        ),
         (
             "vmecheck audit binding dump",
             "dump: 0 broken, 0 unreadable, 0 allowed\n",
