@@ -1,9 +1,8 @@
 -- What happens at a judged instant of which a rule speaks is what the step to it shows.
-use Rattle.std.proofs.Common.{◌≡◌, ℕ, suc, ◌+◌, ◌<◌, ◌≤◌, Bool, true, false, not, ◌&&◌, ◌||◌, List, [], ◌∷◌, length}
+use Rattle.std.proofs.Common.{◌≡◌, ℕ, suc, ◌<◌, ◌≤◌, Bool, true, false, not, ◌&&◌, ◌||◌, List, [], ◌∷◌, length}
 use Rattle.std.proofs.Common.{refl}
-use Rattle.std.proofs.Common.{sym, ◌∙◌, ap, arith, cond, Option, None, Some}
-use Rattle.std.specs.Prelude.{is_some, nat_lt, slice_get}
-use Rattle.std.specs.List.{list_any}
+use Rattle.std.proofs.Common.{sym, ◌∙◌, ap, cond, Option, None, Some}
+use Rattle.std.specs.Prelude.{is_some, slice_get}
 use Rattle.std.specs.Option.{option_map, option_map_or}
 use Rattle.std.proofs.Math.Bool.{and_comm, or-false}
 use Rattle.vme_trace.specs.Cycles.{answers_of, class_at, cycle_of, cycle_starts, in_cycle}

@@ -1,7 +1,7 @@
 -- What was asked up to an instant of a recording, by its steps and by what happens in the spans that have started.
 use Rattle.std.proofs.Common.{◌≡◌, ℕ, zero, suc, ◌+◌, ◌<◌, ◌≤◌, Bool, true, false, ◌||◌, List, [], ◌∷◌, ◌++◌, length}
 use Rattle.std.proofs.Common.{refl}
-use Rattle.std.proofs.Common.{sym, ◌∙◌, ap, subst, arith, cond, inl, inr, ◌⊎◌, Option, None, Some}
+use Rattle.std.proofs.Common.{sym, ◌∙◌, ap, subst, arith, cond, inl, inr, Option, None, Some}
 use Rattle.std.specs.Prelude.{min, slice_get}
 use Rattle.std.specs.List.{list_any}
 use Rattle.std.specs.Option.{option_map_or}

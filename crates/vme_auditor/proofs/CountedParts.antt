@@ -30,7 +30,7 @@ use Rattle.vme_auditor.specs.Tallied.{at_break, counts_so_far, hang_so_far}
 use Rattle.vme_auditor.specs.declared.tally.StartedTransfer.{StartedTransfer}
 use Rattle.vme_auditor.specs.declared.tally.Tally.{Tally}
 use Rattle.vme_auditor.proofs.FirstBreaks.{first_within}
-use Rattle.vme_auditor.proofs.MarkCounts.{mark_tallied, marks_counted, nothing_counted, same_counts, sum_assoc}
+use Rattle.vme_auditor.proofs.MarkCounts.{mark_tallied, marks_counted, same_counts, sum_assoc}
 use Rattle.vme_auditor.proofs.MarkCounts.{sum_nothing}
 use Rattle.vme_auditor.proofs.MarkCounts.{sum_of, tally}
 use Rattle.vme_auditor.proofs.MarkHangs.{has_reset, marks_hang}

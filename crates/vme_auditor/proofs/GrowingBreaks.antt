@@ -18,7 +18,7 @@ use Rattle.vme_audit.specs.Parts.{breaks}
 use Rattle.vme_summary.proofs.Sound.{sound_apart}
 use Rattle.vme_auditor.specs.Audited.{AuditReached, reached_after, reached_at, with_step}
 use Rattle.vme_auditor.specs.Growth.{StepBreaks}
-use Rattle.vme_auditor.specs.Memories.{fault_at, first_fault_of}
+use Rattle.vme_auditor.specs.Memories.{first_fault_of}
 use Rattle.vme_auditor.proofs.ToldBreaks.{FindsFirst, told_are_breaks}
 
 own_instant : (n time : ℕ) (f : Option Fault) → IfSome (option_map (break_at n time) f) (λ b. b.instant ≡ n)

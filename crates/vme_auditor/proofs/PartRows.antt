@@ -1,7 +1,7 @@
 -- The rows of a part, as far as they are counted, are those that its marks make before its break.
-use Rattle.std.proofs.Common.{◌≡◌, ℕ, zero, suc, ◌+◌, ◌<◌, ◌≤◌, Bool, true, false, not, List, [], ◌∷◌, ◌++◌, length}
+use Rattle.std.proofs.Common.{◌≡◌, ℕ, zero, suc, ◌+◌, ◌<◌, ◌≤◌, Bool, true, false, not, List, [], ◌∷◌, ◌++◌}
 use Rattle.std.proofs.Common.{map, refl}
-use Rattle.std.proofs.Common.{sym, ◌∙◌, ap, subst, arith, cond, take, filter, Option, None, Some, append-nil, add-one}
+use Rattle.std.proofs.Common.{sym, ◌∙◌, ap, subst, arith, cond, take, filter, Option, None, Some, append-nil}
 use Rattle.std.specs.Prelude.{nat_lt}
 use Rattle.std.proofs.lemmas.Bool.Decides.{nat_tests}
 use Rattle.std.proofs.lemmas.List.Elements.{filter-append}

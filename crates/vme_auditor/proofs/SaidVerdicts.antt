@@ -3,12 +3,10 @@ use Rattle.std.proofs.Common.{◌≡◌, ℕ, suc, Bool, true, false, not, List,
 use Rattle.std.proofs.Common.{cond, Option, None, Some}
 use Rattle.std.specs.Prelude.{nat_lt}
 use Rattle.std.specs.Option.{option_map, option_map_or}
-use Rattle.vme_trace.specs.Judged.{judged_spans}
 use Rattle.vme_trace.specs.Rules.{is_unreadable}
 use Rattle.vme_trace.specs.Trace.{Trace}
 use Rattle.vme_trace.specs.Verdict.{verdict}
 use Rattle.vme_trace.specs.declared.verdict.Break.{Break}
-use Rattle.vme_trace.specs.declared.verdict.Verdict.{Verdict}
 use Rattle.vme_trace.specs.declared.verdict.Verdict.TheVariants as verdict_is
 use Rattle.vme_monitor.proofs.Seats.{same_value}
 use Rattle.vme_audit.specs.Allowances.{faults, is_allowed, unreadables, wrongs}

@@ -10,14 +10,13 @@ use Rattle.vme_monitor.specs.BothSpec.{kind_number}
 use Rattle.vme_monitor.specs.Ends.{end_among}
 use Rattle.vme_monitor.specs.OverStretches.{judging, noted, spanned}
 use Rattle.vme_monitor.specs.Run.{answer_kind, answered_kind, cycle_kind, kinds_of, noticed, nothing, quiet}
-use Rattle.vme_monitor.specs.Run.{tenure_kind}
 use Rattle.vme_monitor.specs.Run.{when}
 use Rattle.vme_monitor.specs.KnownSpec.{known_begin, known_ends, known_next, known_opens, known_resets, known_sight}
 use Rattle.vme_monitor.specs.declared.mark.BusGrant.{BusGrant}
 use Rattle.vme_monitor.specs.declared.mark.CycleStart.{CycleStart}
 use Rattle.vme_monitor.specs.declared.mark.Fault.{Fault}
 use Rattle.vme_monitor.specs.declared.mark.MarkKind.{MarkKind}
-use Rattle.vme_monitor.specs.declared.mark.MarkKind.TheVariants.{Close, CycleEnd, Open, Reset, Start, TenureEnd}
+use Rattle.vme_monitor.specs.declared.mark.MarkKind.TheVariants.{Close, CycleEnd, Reset}
 use Rattle.vme_monitor.specs.declared.mark.MarkKind.TheVariants.{Transfer}
 use Rattle.vme_monitor.specs.declared.mark.Next.{Next}
 use Rattle.vme_monitor.specs.declared.mark.StepMarks.{StepMarks}

@@ -1,5 +1,5 @@
 -- What a tally comes to step by step, and what the marks of the steps add to it one by one.
-use Rattle.std.proofs.Common.{◌≡◌, ℕ, zero, suc, ◌+◌, ◌-◌, ◌<◌, ◌≤◌, Bool, true, false, List, [], ◌∷◌, ◌++◌, length}
+use Rattle.std.proofs.Common.{◌≡◌, ℕ, suc, ◌+◌, ◌-◌, Bool, true, false, List, [], ◌∷◌, ◌++◌, length}
 use Rattle.std.proofs.Common.{map}
 use Rattle.std.proofs.Common.{take, drop, refl, sym, ◌∙◌, ap, arith, add-one, cond, Option, None, Some}
 use Rattle.std.specs.Prelude.{slice_get}

@@ -1,5 +1,5 @@
 -- No count saturates: each is at most the number of the steps.
-use Rattle.std.proofs.Common.{◌≡◌, ℕ, zero, suc, ◌+◌, ◌-◌, ◌^◌, ◌<◌, ◌≤◌, Bool, true, false, List, [], ◌∷◌, length}
+use Rattle.std.proofs.Common.{◌≡◌, ℕ, suc, ◌+◌, ◌-◌, ◌^◌, ◌<◌, ◌≤◌, Bool, true, false, List, [], ◌∷◌, length}
 use Rattle.std.proofs.Common.{refl}
 use Rattle.std.proofs.Common.{◌∙◌, ap, arith, cond, Option, None, Some}
 use Rattle.std.specs.Prelude.{◌==◌}
@@ -18,7 +18,6 @@ use Rattle.vme_monitor.specs.declared.mark.TransferAnswer.{TransferAnswer}
 use Rattle.vme_audit.specs.declared.counts.Counts.{Counts}
 use Rattle.vme_auditor.specs.Memories.{first_fault_of, grant_at, handshake_at, known_at, memories_next}
 use Rattle.vme_auditor.specs.Tallied.{answered, at_answer, at_break, at_cycle, at_reset, at_tenure, at_transfer}
-use Rattle.vme_auditor.specs.Tallied.{by_line}
 use Rattle.vme_auditor.specs.Tallied.{counted, left_pending, of_class, of_direction, tallied, to_pending}
 use Rattle.vme_auditor.specs.declared.memories.Memories.{Memories}
 use Rattle.vme_auditor.specs.declared.tally.StartedTransfer.{StartedTransfer}

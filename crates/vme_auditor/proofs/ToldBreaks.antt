@@ -15,7 +15,7 @@ use Rattle.vme_trace.proofs.CutBlocks.{levels_at-taken}
 use Rattle.vme_monitor.specs.Outcome.{EventWithin, earlier, shifted_break}
 use Rattle.vme_monitor.specs.Run.{break_at}
 use Rattle.vme_monitor.specs.declared.mark.Fault.{Fault}
-use Rattle.vme_audit.specs.Parts.{Part, breaks, breaks_of, moved_by, named_break, own_break, part_behind, parts}
+use Rattle.vme_audit.specs.Parts.{breaks, breaks_of, moved_by, named_break, own_break, part_behind, parts}
 use Rattle.vme_audit.specs.Parts.{parts_from}
 use Rattle.vme_audit.specs.Parts.{rest_behind, whole}
 use Rattle.vme_summary.proofs.Sound.{sound_apart}

@@ -7,12 +7,13 @@ use Rattle.vme_trace.specs.Streams.{Reading, Writing}
 use Rattle.vme_trace.specs.declared.verdict.Verdict.{Verdict}
 use Rattle.vme_commands.specs.declared.explain.Explained.{Explained}
 use Rattle.vme_answer.specs.declared.refusal.Refusal.{Refusal}
-use Rattle.vme_answer.specs.Answers.{CommandAnswer, AnswerGives, capture_by, refusal_answer}
+use Rattle.vme_answer.specs.Answers.{CommandAnswer, AnswerGives, capture_by}
 use Rattle.vme_answer.specs.Answers.{verdict_in_blocks}
 use Rattle.vme_answer.specs.Ends.{Ends}
 use Rattle.vme_stream.specs.Inputs.{IsReading}
 use Rattle.vme_answer.specs.Texts.{line_of, verdict_status, verdict_text}
 use Rattle.vme_commands.specs.Settled.{settled_judgement, settled_or}
+use Rattle.vme_commands.specs.Refused.{MayHaveMore, refusal_with}
 use Rattle.vme_commands.specs.TextAnswers.{text_answer}
 
 -- the verdict on the recording that a binding makes of what reading the dump gave, settled by a skew
@@ -29,17 +30,19 @@ abbrev pub BeginsWithVerdict : Result Explained Refusal → Type 0
 BeginsWithVerdict (Ok told) = BeginsWithLine told
 BeginsWithVerdict (Err refusal) = Unit {0}
 
-abbrev pub explained_answer_by : Result Explained Refusal → CommandAnswer
-explained_answer_by (Ok told) = text_answer (verdict_status told.verdict) told.text
-explained_answer_by (Err refusal) = refusal_answer refusal
+abbrev pub explained_answer_by : List ℕ → Result Explained Refusal → CommandAnswer
+explained_answer_by more (Ok told) = text_answer (verdict_status told.verdict) told.text
+explained_answer_by more (Err refusal) = refusal_with more refusal
 
 -- The binding and the dump are read, or can't be; the verdict is that of a check by the skew, unless there was no
--- memory; what is told begins with its line, and has its status, unless a write of it fails.
+-- memory; what is told begins with its line, and has its status, unless a write of it fails. Behind the line of a
+-- refusal stands more.
 abbrev pub Explains : ℕ → Reading × Reading → Reading × Reading → Writing × Writing → Writing × Writing → ℕ → Type 0
 Explains skew binding dump out err status =
-    (binding_bytes dump_bytes : Option (List ℕ)) × (told : Result Explained Refusal)
+    (binding_bytes dump_bytes : Option (List ℕ)) × (told : Result Explained Refusal) × (more : List ℕ)
     × IsReading binding.0 binding.1 binding_bytes
     × IsReading dump.0 dump.1 dump_bytes
     × AnswerGives (λ (e : Explained). e.verdict) told (settled_judgement skew binding_bytes dump_bytes 16384)
     × BeginsWithVerdict told
-    × Ends (explained_answer_by told) out err status
+    × MayHaveMore told more
+    × Ends (explained_answer_by more told) out err status

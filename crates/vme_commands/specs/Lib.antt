@@ -3,6 +3,7 @@ pub mod Confirmations
 pub mod Explained
 pub mod Judged
 pub mod Listings
+pub mod Refused
 pub mod Settled
 pub mod TextAnswers
 pub mod DumpJudge

@@ -1,17 +1,18 @@
 -- Texts that a command writes.
-use Rattle.std.specs.Prelude.{◌≡◌, ℕ, Bool, true, false, [], List, Option, Some, None, IfSome, Result, Ok, Err, codes}
-use Rattle.std.specs.Prelude.{if◌then◌else◌}
+use Rattle.std.specs.Prelude.{◌≡◌, ◌++◌, ℕ, Bool, true, false, [], List, Option, Some, None, IfSome, Result, Ok, Err}
+use Rattle.std.specs.Prelude.{IfErr, codes, if◌then◌else◌}
 use Rattle.vcd_read.specs.Contents.{Contents}
 use Rattle.vme_bind.specs.Binding.{BoundLines, binding_of}
 use Rattle.vme_find.specs.Scopes.{has_scope}
 use Rattle.vme_find.specs.declared.writing.FoundBinding.{FoundBinding}
 use Rattle.vme_trace.specs.Trace.{Trace}
 use Rattle.vme_answer.specs.Answers.{CommandAnswer, capture_by, refusal_answer}
-use Rattle.vme_answer.specs.Texts.{line_of}
+use Rattle.vme_answer.specs.Texts.{line_of, refusal_status, refusal_text}
 use Rattle.vme_answer.specs.declared.refusal.Refusal.{Refusal}
 use Rattle.vme_answer.specs.declared.refusal.Refusal.TheVariants.{Memory}
 use Rattle.vme_commands.specs.declared.bind.NoBinding.{NoBinding}
 use Rattle.vme_commands.specs.declared.bind.NoBinding.TheVariants.{Refused, NoSuchScope}
+use Rattle.vme_commands.specs.Refused.{IsMore, refusal_with}
 use Rattle.vme_faults.specs.Pages.{pages_of}
 use Rattle.vme_faults.specs.declared.kind.Kind.{Kind}
 use denote.Ref.{Bor}
@@ -23,6 +24,11 @@ text_answer status text = record { out = text; error = []; status = status }
 abbrev pub text_answer_by : ℕ → Result (List ℕ) Refusal → CommandAnswer
 text_answer_by status (Ok text) = text_answer status text
 text_answer_by status (Err refusal) = refusal_answer refusal
+
+-- the same, with more behind the line of a refusal
+abbrev pub text_answer_with : List ℕ → Result (List ℕ) Refusal → CommandAnswer
+text_answer_with more (Ok text) = text_answer 0 text
+text_answer_with more (Err refusal) = refusal_with more refusal
 
 -- there is a text, unless there was no memory
 abbrev pub IsText : Result (List ℕ) Refusal → Type 0
@@ -45,13 +51,32 @@ abbrev pub no_scope_text : List ℕ
 no_scope_text =
     codes "vmecheck: no variable of the dump stands in that scope: `vmecheck variables` lists their paths"
 
--- the text of a binding is written, and what is said of it, with status 7 where a check by it judges nothing; or why
--- there is none
-abbrev pub binding_answer : Result FoundBinding NoBinding → CommandAnswer
-binding_answer (Ok found) =
-    record { out = found.text; error = found.told; status = if found.is_bus then 0 else 7 }
-binding_answer (Err (Refused refusal)) = refusal_answer refusal
-binding_answer (Err NoSuchScope) = record { out = []; error = line_of no_scope_text; status = 3 }
+-- the text of a binding is written, and what is said of it, with status 7 where a check by it judges nothing
+abbrev pub found_answer : FoundBinding → CommandAnswer
+found_answer found = record { out = found.text; error = found.told; status = if found.is_bus then 0 else 7 }
+
+-- why there is no binding, with more behind the line of a refusal
+abbrev pub missing_text : List ℕ → NoBinding → List ℕ
+missing_text more (Refused refusal) = line_of (refusal_text refusal) ++ more
+missing_text more NoSuchScope = line_of no_scope_text
+
+abbrev pub missing_status : NoBinding → ℕ
+missing_status (Refused refusal) = refusal_status refusal
+missing_status NoSuchScope = 3
+
+-- a binding is told, or why there is none
+abbrev pub binding_answer : List ℕ → Result FoundBinding NoBinding → CommandAnswer
+binding_answer more (Ok found) = found_answer found
+binding_answer more (Err missing) =
+    record { out = []; error = missing_text more missing; status = missing_status missing }
+
+-- what is told behind the line of a refusal
+abbrev pub IsMoreOfMissing : NoBinding → List ℕ → Type 0
+IsMoreOfMissing (Refused refusal) more = IsMore refusal more
+IsMoreOfMissing NoSuchScope more = Unit {0}
+
+abbrev pub TellsMore : Result FoundBinding NoBinding → List ℕ → Type 0
+TellsMore made more = IfErr made (λ missing. IsMoreOfMissing missing more)
 
 -- the dump that was read has the scope, or lacks it
 abbrev pub ScopeIs : Bool → Result Contents Refusal → List ℕ → Type 0

@@ -7,15 +7,19 @@ ghost use Rattle.vme_answer.specs.Ends.{Ends};
 ghost use Rattle.vme_answer.specs.Texts.{line_of};
 ghost use Rattle.vme_stream.specs.Inputs.{IsReading};
 ghost use Rattle.vme_stream.specs.Outputs.{TriesToWrite};
-ghost use Rattle.vme_commands.specs.TextAnswers.{IsBindingFor, binding_answer, no_scope_text};
+ghost use Rattle.vme_commands.specs.TextAnswers.{IsBindingFor, IsMoreOfMissing, TellsMore, binding_answer};
+ghost use Rattle.vme_commands.specs.TextAnswers.{found_answer, missing_status, missing_text, no_scope_text};
 ghost use Rattle.vme_commands.specs.declared.bind.NoBinding.{NoBinding as Without};
 ghost use Rattle.vme_find.specs.Recordings.{AreSlots};
 ghost use Rattle.vme_find.specs.declared.writing.FoundBinding.{FoundBinding as Found};
 
+use crate::refused::{Given, complain_with, show_dump};
+use crate::telling::say;
 use std::alloc::Global;
-use vme_answer::{Input, Refusal, cannot_write_line, refusal_line};
+use vme_answer::{Input, Refusal, cannot_write_line};
 use vme_find::{FindFault, FoundBinding, write_binding};
 use vme_stream::{Message, complain, read_all, write_all};
+use vme_text::Text;
 use vme_trace::{Sink, Source};
 
 /// Why there is no binding for a dump.
@@ -39,74 +43,94 @@ fn no_scope_line() -> Message
 
 /// Writes to `out` a binding for a dump, of so many slots, 1 to 21, or of those that the daisy chains show, in the
 /// scope of a path, or in the best one, and to `err` one line that says what was bound; or to `err` why the dump can't
-/// be read, as `check` says it, or that it lacks the scope. The answer is the exit status: 0; 7 where AS, a strobe or
-/// DTACK wasn't found, or AS never moves, so that a check by the binding judges nothing, and the line says why; 3 where
-/// the dump is refused or lacks the scope, 4 for want of memory, 5 where the binding can't be written.
+/// be read, as `check` says it, and behind it what the dump, of this name, shows there and what the refusal means, or
+/// that it lacks the scope. The answer is the exit status: 0; 7 where AS, a strobe or DTACK wasn't found, or AS never
+/// moves, so that a check by the binding judges nothing, and the line says why; 3 where the dump is refused or lacks
+/// the scope, 4 for want of memory, 5 where the binding can't be written.
 ///
 /// What it writes is a binding by the format, and it makes a recording of the dump without a fault. A failure of `err`
 /// is ignored.
 pub fn bind<D: Source, O: Sink, E: Sink>(
     alloc: Global,
     dump: &mut D,
+    name: &[u8],
     slots: Option<u8>,
     scope: Option<&[u8]>,
     out: &mut O,
     err: &mut E,
 ) -> u8
     requires { AreSlots slots }
-    ensures { (bytes : Option (List ℕ)) × (made : Result Found Without)
+    ensures { (bytes : Option (List ℕ)) × (made : Result Found Without) × (more : List ℕ)
         × IsReading (D.reading dump.old) (D.reading dump.new) bytes
         × IsBindingFor (dump_read bytes) slots scope.entry made
-        × Ends (binding_answer made)
+        × TellsMore made more
+        × Ends (binding_answer more made)
         (O.writing out.old, O.writing out.new) (E.writing err.old, E.writing err.new) result }
 {
-    let made = binding_for(alloc, dump, slots, scope);
-    tell_binding(&made, out, err)
+    let mut shown = Text::new(alloc);
+    let made = binding_for(alloc, dump, name, slots, scope, &mut shown);
+    tell_binding(alloc, &made, &shown, out, err)
 }
 
-/// Writes a binding to `out` and what is said of it to `err`, or to `err` why there is none.
+/// Writes a binding to `out` and what is said of it to `err`, or to `err` why there is none, with what the dump shows.
 fn tell_binding<O: Sink, E: Sink>(
+    alloc: Global,
     made: &Result<FoundBinding, NoBinding>,
+    shown: &Text,
     out: &mut O,
     err: &mut E,
 ) -> u8
-    ensures { Ends (binding_answer made.now)
+    ensures { (more : List ℕ) × TellsMore made.now more × Ends (binding_answer more made.now)
         (O.writing out.old, O.writing out.new) (E.writing err.old, E.writing err.new) result }
 {
     match made {
-        Ok(found) => match write_all(out, found.text.as_bytes()) {
-            Ok(()) => {
-                say(err, found.told.as_bytes());
-                if found.is_bus { 0 } else { 7 }
-            }
-            Err(_) => {
-                complain(err, cannot_write_line());
-                5
-            }
-        },
-        Err(NoBinding::Refused(refusal)) => {
-            complain(err, refusal_line(refusal));
+        Ok(found) => tell_found(found, out, err),
+        Err(missing) => tell_missing(alloc, missing, shown, err),
+    }
+}
+
+/// Writes to `err` why there is no binding, with what the dump shows. The answer is the exit status.
+fn tell_missing<E: Sink>(alloc: Global, missing: &NoBinding, shown: &Text, err: &mut E) -> u8
+    ensures { (more : List ℕ) × IsMoreOfMissing missing.now more
+        × TriesToWrite (E.writing err.old) (E.writing err.new) (missing_text more missing.now)
+        × (result ≡ missing_status missing.now) }
+{
+    match missing {
+        NoBinding::Refused(refusal) => {
+            complain_with(alloc, err, refusal, shown);
             refusal.status()
         }
-        Err(NoBinding::NoSuchScope) => {
+        NoBinding::NoSuchScope => {
             complain(err, no_scope_line());
             3
         }
     }
 }
 
-/// Writes what is said of a binding. Where that fails, nothing else is done.
-fn say<W: Sink>(sink: &mut W, line: &[u8])
-    ensures { TriesToWrite (W.writing sink.old) (W.writing sink.new) line.now }
+/// Writes a binding to `out`, and what is said of it to `err`.
+fn tell_found<O: Sink, E: Sink>(found: &FoundBinding, out: &mut O, err: &mut E) -> u8
+    ensures { Ends (found_answer found.now)
+        (O.writing out.old, O.writing out.new) (E.writing err.old, E.writing err.new) result }
 {
-    let _ = write_all(sink, line);
+    match write_all(out, found.text.as_bytes()) {
+        Ok(()) => {
+            say(err, found.told.as_bytes());
+            if found.is_bus { 0 } else { 7 }
+        }
+        Err(_) => {
+            complain(err, cannot_write_line());
+            5
+        }
+    }
 }
 
 fn binding_for<D: Source>(
     alloc: Global,
     dump: &mut D,
+    name: &[u8],
     slots: Option<u8>,
     scope: Option<&[u8]>,
+    shown: &mut Text,
 ) -> Result<FoundBinding, NoBinding>
     requires { AreSlots slots }
     ensures { (bytes : Option (List ℕ))
@@ -114,7 +138,7 @@ fn binding_for<D: Source>(
         × IsBindingFor (dump_read bytes) slots scope.entry result }
 {
     match read_all(alloc, dump) {
-        Ok(text) => binding_for_text(alloc, text.as_slice(), slots, scope),
+        Ok(text) => binding_for_text(alloc, text.as_slice(), name, slots, scope, shown),
         Err(fault) => Err(NoBinding::Refused(Refusal::of_input(Input::Dump, fault))),
     }
 }
@@ -122,15 +146,21 @@ fn binding_for<D: Source>(
 fn binding_for_text(
     alloc: Global,
     dump: &[u8],
+    name: &[u8],
     slots: Option<u8>,
     scope: Option<&[u8]>,
+    shown: &mut Text,
 ) -> Result<FoundBinding, NoBinding>
     requires { AreSlots slots }
     ensures { IsBindingFor (or_bad_dump (dump_of dump.now)) slots scope.entry result }
 {
     match write_binding(alloc, dump, slots, scope) {
         Ok(found) => Ok(found),
-        Err(FindFault::Dump(fault)) => Err(NoBinding::Refused(Refusal::of_dump(fault))),
+        Err(FindFault::Dump(fault)) => {
+            let refusal = Refusal::of_dump(fault);
+            show_dump(shown, alloc, &refusal, Given::new(name, dump));
+            Err(NoBinding::Refused(refusal))
+        }
         Err(FindFault::NoSuchScope) => Err(NoBinding::NoSuchScope),
     }
 }

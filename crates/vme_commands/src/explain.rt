@@ -5,28 +5,39 @@ ghost use Rattle.vcd_read.specs.Meaning.{dump_of};
 ghost use Rattle.vme_bind.specs.Binding.{binding_of};
 ghost use Rattle.vme_answer.specs.Answers.{AnswerGives, binding_read, dump_read, or_bad_binding, or_bad_dump};
 ghost use Rattle.vme_answer.specs.Answers.{verdict_in_blocks};
-ghost use Rattle.vme_commands.specs.Explained.{BeginsWithLine, BeginsWithVerdict, Explains, judged_by};
+ghost use Rattle.vme_answer.specs.Ends.{Ends};
+ghost use Rattle.vme_commands.specs.Explained.{BeginsWithLine, BeginsWithVerdict, Explains, explained_answer_by};
+ghost use Rattle.vme_commands.specs.Explained.{judged_by};
+ghost use Rattle.vme_commands.specs.Refused.{MayHaveMore};
 ghost use Rattle.vme_commands.specs.Settled.{settled_judgement};
 ghost use Rattle.vme_stream.specs.Inputs.{IsReading};
 ghost use Rattle.vme_answer.specs.Texts.{line_of, verdict_text};
 
+use crate::refused::{Given, complain_with, show_binding, show_dump};
 use crate::settled::settled_in;
 use crate::telling::tell_bytes;
 use std::alloc::{AllocError, Global};
 use vcd_read::{Variables, read_definitions};
-use vme_answer::{
-    Input, Refusal, binding_in, refusal_line, verdict_line, verdict_on, verdict_status,
-};
+use vme_answer::{Input, Refusal, binding_in, verdict_line, verdict_on, verdict_status};
 use vme_bind::Binding;
 use vme_explain::{Subject, explanation, save_file};
 use vme_find::time_unit;
-use vme_stream::{complain, read_all};
+use vme_stream::read_all;
 use vme_summary::listing_by_blocks;
 use vme_text::Text;
 use vme_trace::{Capture, Sink, Source, Verdict};
 
 /// How many steps a block has.
 const BLOCK: u32 = 16_384;
+
+/// What the files of the inputs are named.
+#[derive(Clone, Copy)]
+pub struct InputNames<'a> {
+    /// The binding.
+    pub binding: &'a [u8],
+    /// The dump.
+    pub dump: &'a [u8],
+}
 
 /// A verdict, and what is told of it.
 #[derive(Drop)]
@@ -40,13 +51,14 @@ pub struct Explained {
 }
 
 /// Writes to `out` the line of the verdict on the recording that a binding makes of a dump, settled by a skew, as
-/// `check` does, and behind it why; or to `err` why there is none. The status is that of `check`. The save file is for
-/// a dump of this name; there is none where no verdict is written.
+/// `check` does, and behind it why; or to `err` why there is none, as `check` does, and behind it what the inputs show
+/// there and what the refusal means. The status is that of `check`. The save file is for a dump of this name; there is
+/// none where no verdict is written.
 pub fn explain<B: Source, D: Source, O: Sink, E: Sink>(
     alloc: Global,
     binding: &mut B,
     dump: &mut D,
-    name: &[u8],
+    names: InputNames<'_>,
     skew: u64,
     out: &mut O,
     err: &mut E,
@@ -55,7 +67,24 @@ pub fn explain<B: Source, D: Source, O: Sink, E: Sink>(
         (B.reading binding.old, B.reading binding.new) (D.reading dump.old, D.reading dump.new)
         (O.writing out.old, O.writing out.new) (E.writing err.old, E.writing err.new) result.0 }
 {
-    match explained_from(alloc, binding, dump, name, skew) {
+    let mut shown = Text::new(alloc);
+    let told = explained_from(alloc, binding, dump, names, skew, &mut shown);
+    tell_explained(alloc, told, &shown, out, err)
+}
+
+/// Writes what is told of a verdict to `out`, or to `err` why there is none, with what the inputs show. The answer is
+/// the exit status, and the save file.
+fn tell_explained<O: Sink, E: Sink>(
+    alloc: Global,
+    made: Result<Explained, Refusal>,
+    shown: &Text,
+    out: &mut O,
+    err: &mut E,
+) -> (u8, Option<Text>)
+    ensures { (more : List ℕ) × MayHaveMore made more × Ends (explained_answer_by more made)
+        (O.writing out.old, O.writing out.new) (E.writing err.old, E.writing err.new) result.0 }
+{
+    match made {
         Ok(told) => {
             let Explained {
                 verdict,
@@ -66,20 +95,21 @@ pub fn explain<B: Source, D: Source, O: Sink, E: Sink>(
             (status, Some(viewer))
         }
         Err(refusal) => {
-            complain(err, refusal_line(&refusal));
+            complain_with(alloc, err, &refusal, shown);
             (refusal.status(), None)
         }
     }
 }
 
 /// The verdict on the recording that a binding makes of a dump, settled by a skew, and what is told of it: the binding
-/// is read first.
+/// is read first. Where there is none, what the inputs show is appended.
 fn explained_from<B: Source, D: Source>(
     alloc: Global,
     binding: &mut B,
     dump: &mut D,
-    name: &[u8],
+    names: InputNames<'_>,
     skew: u64,
+    shown: &mut Text,
 ) -> Result<Explained, Refusal>
     ensures read { (binding_bytes dump_bytes : Option (List ℕ))
         × IsReading (B.reading binding.old) (B.reading binding.new) binding_bytes
@@ -88,7 +118,7 @@ fn explained_from<B: Source, D: Source>(
     ensures begins { BeginsWithVerdict result }
 {
     match read_all(alloc, binding) {
-        Ok(text) => explained_bound(alloc, text.as_slice(), dump, name, skew),
+        Ok(text) => explained_bound(alloc, text.as_slice(), dump, names, skew, shown),
         Err(fault) => Err(Refusal::of_input(Input::Binding, fault)),
     }
 }
@@ -98,8 +128,9 @@ fn explained_bound<D: Source>(
     alloc: Global,
     binding: &[u8],
     dump: &mut D,
-    name: &[u8],
+    names: InputNames<'_>,
     skew: u64,
+    shown: &mut Text,
 ) -> Result<Explained, Refusal>
     ensures read { (bytes : Option (List ℕ))
         × IsReading (D.reading dump.old) (D.reading dump.new) bytes
@@ -108,8 +139,11 @@ fn explained_bound<D: Source>(
     ensures begins { BeginsWithVerdict result }
 {
     match binding_in(alloc, binding) {
-        Ok(bound) => explained_by(alloc, binding, &bound, dump, name, skew),
-        Err(refusal) => Err(refusal),
+        Ok(bound) => explained_by(alloc, binding, &bound, dump, names, skew, shown),
+        Err(refusal) => {
+            show_binding(shown, alloc, &refusal, Given::new(names.binding, binding));
+            Err(refusal)
+        }
     }
 }
 
@@ -119,8 +153,9 @@ fn explained_by<D: Source>(
     binding: &[u8],
     bound: &Binding,
     dump: &mut D,
-    name: &[u8],
+    names: InputNames<'_>,
     skew: u64,
+    shown: &mut Text,
 ) -> Result<Explained, Refusal>
     ensures read { (bytes : Option (List ℕ))
         × IsReading (D.reading dump.old) (D.reading dump.new) bytes
@@ -128,7 +163,7 @@ fn explained_by<D: Source>(
     ensures begins { BeginsWithVerdict result }
 {
     match read_all(alloc, dump) {
-        Ok(text) => explained_in(alloc, binding, bound, text.as_slice(), name, skew),
+        Ok(text) => explained_in(alloc, binding, bound, text.as_slice(), names, skew, shown),
         Err(fault) => Err(Refusal::of_input(Input::Dump, fault)),
     }
 }
@@ -139,16 +174,21 @@ fn explained_in(
     binding: &[u8],
     bound: &Binding,
     dump: &[u8],
-    name: &[u8],
+    names: InputNames<'_>,
     skew: u64,
+    shown: &mut Text,
 ) -> Result<Explained, Refusal>
     ensures read { AnswerGives (λ told. told.verdict) result
         (judged_by skew bound.now (or_bad_dump (dump_of dump.now))) }
     ensures begins { BeginsWithVerdict result }
 {
     match settled_in(alloc, bound, dump, skew) {
-        Ok(capture) => explained_of(alloc, binding, &capture, dump, name),
-        Err(refusal) => Err(refusal),
+        Ok(capture) => explained_of(alloc, binding, &capture, dump, names.dump),
+        Err(refusal) => {
+            show_binding(shown, alloc, &refusal, Given::new(names.binding, binding));
+            show_dump(shown, alloc, &refusal, Given::new(names.dump, dump));
+            Err(refusal)
+        }
     }
 }
 

@@ -8,6 +8,7 @@
 //! - `explain`, `bind`, `variables`, `rules`, `faults`: [`explain::explain`] says why a recording is
 //!   judged so, [`bind::bind`] writes a binding for a dump, [`tell_variables`] the variables,
 //!   [`tell_rules`] what the rules ask, and [`tell_faults`] what the refusals of inputs mean.
+//! - `refused`: what is told behind the line of a refusal, of the input's line and its first bytes.
 //! - `dump_judge`, `judged_dump`, `workers`: a dump that is judged as it is read, in which pieces
 //!   and by how many.
 //! - `ordered_dump`, `judged_settled`: the same by one, in order, whose steps settle by a skew;
@@ -26,14 +27,17 @@
 //!   but that a recording may fill too many.
 //! - `explain` begins with the line that `check` writes, and has its status (`Explains`). `bind`
 //!   writes only a binding that makes a recording of that dump (`IsBindingFor`). `faults` writes
-//!   exactly the page of a kind, or of each (`ArePages`). [`words_status`]: 3 for wrong words; help
-//!   and version 0, or 5 where they weren't written.
+//!   exactly the page of a kind, or of each (`ArePages`). Behind the line of a refusal `explain`,
+//!   `bind` and `variables` tell exactly the page of its kind, below what the input shows, unless
+//!   memory runs out (`IsMore`). [`words_status`]: 3 for wrong words; help and version 0, or 5 where
+//!   they weren't written.
 //! - [`allowance_of`] reads each allowance from its text, and nothing else from any text.
 //!
 //! # What isn't proved
 //!
-//! The texts of `rules`, `explain` and `variables`, and which lines `bind` finds (vme_rules,
-//! vme_explain, vme_find); that workers overlap; that memory suffices (status 4).
+//! The texts of `rules`, `explain` and `variables`, what is shown of a refused input, and which
+//! lines `bind` finds (vme_rules, vme_explain, vme_find); that workers overlap; that memory suffices
+//! (status 4).
 //!
 //! # Limits
 //!
@@ -58,6 +62,7 @@ mod judged_dump;
 mod judged_settled;
 pub mod list;
 mod ordered_dump;
+mod refused;
 mod rules;
 mod settled;
 mod telling;

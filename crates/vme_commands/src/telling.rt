@@ -3,6 +3,7 @@
 ghost use Rattle.std.specs.Prelude.{[]};
 ghost use Rattle.vme_answer.specs.Ends.{Ends};
 ghost use Rattle.vme_commands.specs.TextAnswers.{text_answer, text_answer_by};
+ghost use Rattle.vme_stream.specs.Outputs.{TriesToWrite};
 
 use vme_answer::{Refusal, cannot_write_line, refusal_line};
 use vme_stream::{complain, write_all};
@@ -27,6 +28,13 @@ pub fn tell_text<O: Sink, E: Sink>(
             refusal.status()
         }
     }
+}
+
+/// Writes what is said beside an answer. Where that fails, nothing else is done.
+pub fn say<W: Sink>(sink: &mut W, text: &[u8])
+    ensures { TriesToWrite (W.writing sink.old) (W.writing sink.new) text.now }
+{
+    let _ = write_all(sink, text);
 }
 
 /// Writes some bytes to `out`, and answers this status. Where they can't be written, the status is 5.

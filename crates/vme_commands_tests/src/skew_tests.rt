@@ -2,7 +2,7 @@
 
 ghost use Rattle.std.specs.Prelude.{◌≤◌};
 
-use crate::tests::{HEAD, Page, words_of};
+use crate::tests::{HEAD, NAMES, Page, words_of};
 use std::process::Abort;
 use std::test::Fail;
 use std::thread::Threads;
@@ -195,7 +195,7 @@ fn an_explanation_is_of_what_settled(rt: HostRuntime) {
             rt.alloc(),
             &mut Bytes::new(BUILT_IN),
             &mut Bytes::new(DUMP.as_bytes()),
-            b"bus.vcd",
+            NAMES,
             skew,
             &mut out,
             &mut err,

@@ -8,9 +8,9 @@ use std::thread::Threads;
 use vme_commands::bind::bind;
 use vme_commands::check::check;
 use vme_commands::confirm::confirm_with;
-use vme_commands::explain::explain;
+use vme_commands::explain::{InputNames, explain};
 use vme_commands::list::list;
-use vme_commands::{BLOCK, BUILT_IN, allowance_of, allowances_of, tell_faults};
+use vme_commands::{BLOCK, BUILT_IN, allowance_of, allowances_of, tell_faults, tell_variables};
 use vme_faults::Kind;
 use vme_stream::{Bytes, Io};
 use vme_trace::{Failed, Line, Rule, Sink, Source};
@@ -23,6 +23,12 @@ $var wire 1 s DTACK $end\n$var wire 1 t BERR $end\n$var wire 1 u IACK $end\n\
 $upscope $end\n$enddefinitions $end\n";
 
 const BODY: &str = "#0 1p 1q 1r 1s 1t 1u\n#10 0p\n#20 0q\n#30 0s\n#40 1p 1q\n#50 1s\n";
+
+/// What the files of the inputs are named.
+pub(crate) const NAMES: InputNames<'static> = InputNames {
+    binding: b"bus.bind",
+    dump: b"b.vcd",
+};
 
 /// A dump with no path of the built-in binding.
 const UNBOUND: &str = "$enddefinitions $end\n";
@@ -816,7 +822,7 @@ fn an_explanation_begins_with_the_verdict(rt: HostRuntime) -> Result<(), Fail> {
         rt.alloc(),
         &mut Bytes::new(BUILT_IN),
         &mut Bytes::new(dump.as_bytes()),
-        b"bus.vcd",
+        NAMES,
         0,
         &mut out,
         &mut err,
@@ -838,6 +844,7 @@ fn a_binding_is_written(rt: HostRuntime) -> Result<(), Fail> {
     let status = bind(
         rt.alloc(),
         &mut Bytes::new(dump.as_bytes()),
+        b"bus.vcd",
         None,
         None,
         &mut out,
@@ -860,6 +867,7 @@ fn a_binding_without_a_bus_ends_with_a_status_of_its_own(rt: HostRuntime) -> Res
     let status = bind(
         rt.alloc(),
         &mut Bytes::new(UNBOUND.as_bytes()),
+        b"bus.vcd",
         None,
         None,
         &mut out,
@@ -888,7 +896,15 @@ fn expect_bound_in<R: Abort>(
     let mut out = Page::new(alloc, 5000);
     let mut err = Page::new(alloc, 200);
     let mut dump = Bytes::new(dump.as_bytes());
-    let ended = bind(alloc, &mut dump, Some(2), Some(path), &mut out, &mut err);
+    let ended = bind(
+        alloc,
+        &mut dump,
+        b"bus.vcd",
+        Some(2),
+        Some(path),
+        &mut out,
+        &mut err,
+    );
     assert_eq!(rt; ended, status);
     assert!(rt; out.bytes.as_slice().starts_with(head));
     assert!(rt; err.bytes.as_slice().starts_with(told));
@@ -980,6 +996,68 @@ fn a_kind_of_refusal_is_told(rt: HostRuntime) -> Result<(), Fail> {
     Ok(())
 }
 
+/// What is told of a dump that gzip compressed.
+const COMPRESSED: &[u8] =
+    b"vmecheck: dump line 1: BadToken\nb.vcd, line 1:\n    \\x1F\\x8B\\x08\n    \
+^^^^^^^^^^^^\nb.vcd is a file that gzip compressed:\n`zcat bus.vcd.gz > bus.vcd` makes a plain dump of \
+it\nBadToken: a token of the dump may not stand where it stands\n  expected: ";
+
+const COMPRESSED_DUMP: &[u8] = b"\x1F\x8B\x08\n";
+
+/// Expects that of a compressed dump nothing is written, and what it is is told.
+fn expect_compressed<R: Abort>(rt: &R, status: u8, out: &Page, err: &Page) {
+    assert_eq!(rt; status, 3);
+    assert!(rt; out.bytes.is_empty());
+    assert!(rt; err.bytes.as_slice().starts_with(COMPRESSED));
+}
+
+#[test]
+fn variables_of_a_refused_dump_are_not_told(rt: HostRuntime) -> Result<(), Fail> {
+    let mut out = Page::new(rt.alloc(), 100);
+    let mut err = Page::new(rt.alloc(), 5000);
+    let mut dump = Bytes::new(COMPRESSED_DUMP);
+    let status = tell_variables(rt.alloc(), &mut dump, b"b.vcd", &mut out, &mut err);
+    expect_compressed(&rt, status, &out, &err);
+    Ok(())
+}
+
+#[test]
+fn a_refused_dump_is_not_bound(rt: HostRuntime) -> Result<(), Fail> {
+    let mut out = Page::new(rt.alloc(), 100);
+    let mut err = Page::new(rt.alloc(), 5000);
+    let mut dump = Bytes::new(COMPRESSED_DUMP);
+    let status = bind(
+        rt.alloc(),
+        &mut dump,
+        b"b.vcd",
+        None,
+        None,
+        &mut out,
+        &mut err,
+    );
+    expect_compressed(&rt, status, &out, &err);
+    Ok(())
+}
+
+#[test]
+fn a_refused_dump_is_not_explained(rt: HostRuntime) -> Result<(), Fail> {
+    let mut out = Page::new(rt.alloc(), 100);
+    let mut err = Page::new(rt.alloc(), 5000);
+    let mut binding = Bytes::new(BUILT_IN);
+    let mut dump = Bytes::new(COMPRESSED_DUMP);
+    let (status, _) = explain(
+        rt.alloc(),
+        &mut binding,
+        &mut dump,
+        NAMES,
+        0,
+        &mut out,
+        &mut err,
+    );
+    expect_compressed(&rt, status, &out, &err);
+    Ok(())
+}
+
 #[test]
 fn a_wrong_rule_is_told_with_the_usage_of_rules(rt: HostRuntime) -> Result<(), Fail> {
     let fault = task_fault(rt.alloc(), Task::Rules, "there is no such rule");
@@ -1009,7 +1087,7 @@ $upscope $end\n$enddefinitions $end\n#0 1p b111101 q\n#3 b111110 q\n#5 0p\n";
         rt.alloc(),
         &mut Bytes::new(binding.as_bytes()),
         &mut Bytes::new(dump.as_bytes()),
-        b"b.vcd",
+        NAMES,
         0,
         &mut out,
         &mut err,

@@ -56,3 +56,4 @@ pub use page::{Subject, explanation};
 pub use rows::{Part, RowKind, count_of, open_row};
 pub use saving::{FileId, Present, SaveRefusal, save_refusal, save_refusal_text};
 pub use viewer::{is_save_file, save_file};
+pub use visible::push_shown;

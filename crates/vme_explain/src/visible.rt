@@ -8,7 +8,7 @@ use vme_text::Text;
 
 /// Appends some bytes as they are shown to people: each that isn't a space or a visible character of ASCII, 20 to 7E,
 /// is written as `\xHH`. Without memory the text is as before.
-pub(crate) fn push_shown(text: &mut Text, alloc: Global, bytes: &[u8]) -> Result<(), AllocError>
+pub fn push_shown(text: &mut Text, alloc: Global, bytes: &[u8]) -> Result<(), AllocError>
     ensures ok { OnOk result (text.new ≡ text.old ++ flat_map shown_byte bytes.now) }
     ensures err { OnErr result (text.new ≡ text.old) }
 {

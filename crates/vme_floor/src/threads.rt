@@ -77,8 +77,8 @@ pub(crate) fn work_together<R: Threads + Wait + Sync, G: Gate + Sync>(
 }
 
 /// Starts the threads, works, and joins them. Where a thread can't be started, those that were do their work before
-/// the fault is answered.
-fn work_in_scope<'s, E, R: Threads + Wait + Sync, G: Gate + Sync>(
+/// the fault is answered. It waits for the threads that it joins and at the gate, and for nothing else.
+fn work_in_scope<'s, E, R: Threads, G: Gate + Sync>(
     rt: &R,
     alloc: Global,
     scope: &Scope<'s, E>,

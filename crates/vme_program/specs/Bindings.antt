@@ -5,7 +5,7 @@ use Rattle.vme_trace.specs.Streams.{Reading, Writing}
 use Rattle.vme_answer.specs.Answers.{dump_read}
 use Rattle.vme_answer.specs.Ends.{Ends}
 use Rattle.vme_answer.specs.declared.refusal.Input.TheVariants.{Dump}
-use Rattle.vme_commands.specs.TextAnswers.{IsBindingFor, binding_answer}
+use Rattle.vme_commands.specs.TextAnswers.{IsBindingFor, TellsMore, binding_answer}
 use Rattle.vme_commands.specs.declared.bind.NoBinding.{NoBinding}
 use Rattle.vme_find.specs.declared.writing.FoundBinding.{FoundBinding}
 use Rattle.vme_stream.specs.Inputs.{IsReading}
@@ -27,10 +27,12 @@ IsScopeOf order scope = option_map (λ path. path.now) scope ≡ option_map stri
 abbrev pub BindsBy : Order → Option ℕ → Reading × Reading → Writing × Writing → Writing × Writing → ℕ → Type 0
 BindsBy order slots dump out err status =
     (scope : Option (Bor (List ℕ))) × (bytes : Option (List ℕ)) × (made : Result FoundBinding NoBinding)
+    × (more : List ℕ)
     × IsScopeOf order scope
     × IsReading dump.0 dump.1 bytes
     × IsBindingFor (dump_read bytes) slots scope made
-    × Ends (binding_answer made) out err status
+    × TellsMore made more
+    × Ends (binding_answer more made) out err status
 
 module _ (opens : List ℕ → Option Reading → Type 0) (order : Order) where
   -- for the dump that the order names

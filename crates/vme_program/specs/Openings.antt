@@ -1,5 +1,6 @@
 -- Which file an order has opened for an input, and what is done with it.
-use Rattle.std.specs.Prelude.{◌≡◌, ◌⊎◌, ℕ, List, Option, None, Some, MatchOption, option_map, slice_get, string_bytes}
+use Rattle.std.specs.Prelude.{◌≡◌, ◌⊎◌, ℕ, List, [], Option, None, Some, MatchOption, option_map, slice_get}
+use Rattle.std.specs.Prelude.{string_bytes}
 use Rattle.vme_trace.specs.Streams.{Reading, Writing}
 use Rattle.vme_answer.specs.Answers.{refusal_answer}
 use Rattle.vme_answer.specs.Ends.{Tells}
@@ -11,6 +12,10 @@ use Rattle.vme_words.specs.declared.order.Order.{Order}
 -- the word of an order that names an input, if there is one
 abbrev pub input_word : Order → Input → Option (List ℕ)
 input_word order input = option_map string_bytes (slice_get order.names.items (place_of order.command input))
+
+-- this is that word, or nothing where there is none
+abbrev pub IsInputName : Order → Input → List ℕ → Type 0
+IsInputName order input name = MatchOption (input_word order input) (name ≡ []) (λ word. name ≡ word)
 
 -- opening the file that the order names for an input gave this, and nothing where it names none
 abbrev pub GivesInput : (List ℕ → Option Reading → Type 0) → Order → Input → Option Reading → Type 0

@@ -5,7 +5,7 @@ ghost use Rattle.vme_find.specs.Recordings.{AreSlots};
 ghost use Rattle.vme_program.specs.Bindings.{AreSlotsOf, BindsNamedDump, BindsFile, IsScopeOf};
 ghost use Rattle.vme_words.specs.OrderFaults.{IsOfWords};
 
-use crate::opening::{open_input, refuse_input};
+use crate::opening::{input_name, open_input, refuse_input};
 use crate::surroundings::Surroundings;
 use std::alloc::Global;
 use vme_answer::Input;
@@ -50,7 +50,10 @@ fn bind_dump<S: Surroundings, O: Sink, E: Sink>(
         (O.writing out.old, O.writing out.new) (E.writing err.old, E.writing err.new) result }
 {
     match open_input(surroundings, order, Input::Dump) {
-        Some(mut dump) => bind(alloc, &mut dump, slots, scope_of(order), out, err),
+        Some(mut dump) => {
+            let name = input_name(order, Input::Dump);
+            bind(alloc, &mut dump, name, slots, scope_of(order), out, err)
+        }
         None => refuse_input(Input::Dump, err),
     }
 }

@@ -4,15 +4,14 @@ ghost use Rattle.std.specs.Prelude.{◌≡◌, MatchOption, None, Some};
 ghost use Rattle.vme_program.specs.Explanations.{ExplainsAndSaves, ExplainsDump, ExplainsFiles, ExplainsOpened};
 ghost use Rattle.vme_program.specs.Explanations.{ExplainsThenSaves, ExplainsUnlessRefused, viewer_word};
 
-use crate::opening::{open_input, refuse_input};
+use crate::opening::{input_name, open_input, refuse_input};
 use crate::save::{InputIds, refusal_at, refuse_place, save};
 use crate::surroundings::Surroundings;
 use std::alloc::Global;
 use vme_answer::Input;
-use vme_commands::explain::explain;
-use vme_commands::place_of;
+use vme_commands::explain::{InputNames, explain};
 use vme_trace::{Sink, Source};
-use vme_words::{Order, Task};
+use vme_words::Order;
 
 /// Says why and where the recording of the files that an order names is judged as it is, and writes the waveform
 /// viewer's file, if one is wanted. Where that file may not be written, nothing is. The answer is the exit status.
@@ -74,7 +73,15 @@ fn explain_opened<S: Surroundings, O: Sink, E: Sink>(
     match viewer_path(order) {
         Some(path) => explain_and_save(alloc, surroundings, order, path, binding, dump, out, err),
         None => {
-            let (status, _) = explain(alloc, binding, dump, dump_name(order), order.skew, out, err);
+            let (status, _) = explain(
+                alloc,
+                binding,
+                dump,
+                input_names(order),
+                order.skew,
+                out,
+                err,
+            );
             status
         }
     }
@@ -170,7 +177,15 @@ fn explain_then_save<S: Surroundings, B: Source, D: Source, O: Sink, E: Sink>(
         (B.reading binding.old, B.reading binding.new) (D.reading dump.old, D.reading dump.new)
         (O.writing out.old, O.writing out.new) (E.writing err.old, E.writing err.new) result }
 {
-    let (status, viewer) = explain(alloc, binding, dump, dump_name(order), order.skew, out, err);
+    let (status, viewer) = explain(
+        alloc,
+        binding,
+        dump,
+        input_names(order),
+        order.skew,
+        out,
+        err,
+    );
     match viewer {
         Some(viewer) => save(
             alloc,
@@ -195,10 +210,10 @@ fn viewer_path(order: &Order) -> Option<&str>
     }
 }
 
-/// The name of the dump that is explained.
-fn dump_name(order: &Order) -> &[u8] {
-    match order.names.get(place_of(Task::Explain, Input::Dump)) {
-        Some(name) => name.as_bytes(),
-        None => b"",
+/// What the files of the inputs that are explained are named.
+fn input_names(order: &Order) -> InputNames<'_> {
+    InputNames {
+        binding: input_name(order, Input::Binding),
+        dump: input_name(order, Input::Dump),
     }
 }

@@ -4,7 +4,7 @@ ghost use Rattle.std.specs.Prelude.{◌≡◌, option_map};
 ghost use Rattle.vme_answer.specs.Texts.{line_of, refusal_status, refusal_text};
 ghost use Rattle.vme_answer.specs.declared.refusal.Refusal.TheVariants.{CannotOpen};
 ghost use Rattle.vme_stream.specs.Outputs.{TriesToWrite};
-ghost use Rattle.vme_program.specs.Openings.{GivesInput};
+ghost use Rattle.vme_program.specs.Openings.{GivesInput, IsInputName};
 
 use crate::surroundings::Surroundings;
 use vme_answer::{Input, Refusal, refusal_line};
@@ -24,6 +24,16 @@ pub(crate) fn open_input<S: Surroundings>(
     match order.names.get(place_of(order.command, input)) {
         Some(name) => surroundings.open_file(name.as_str()),
         None => None,
+    }
+}
+
+/// The name of the file that an order names for an input.
+pub(crate) fn input_name(order: &Order, input: Input) -> &[u8]
+    ensures { IsInputName order.now input result.now }
+{
+    match order.names.get(place_of(order.command, input)) {
+        Some(name) => name.as_bytes(),
+        None => b"",
     }
 }
 

@@ -2,7 +2,7 @@
 
 ghost use Rattle.vme_program.specs.Texts.{TellsFile};
 
-use crate::opening::{open_input, refuse_input};
+use crate::opening::{input_name, open_input, refuse_input};
 use crate::surroundings::Surroundings;
 use std::alloc::Global;
 use vme_answer::Input;
@@ -23,7 +23,10 @@ pub fn variables_file<S: Surroundings, O: Sink, E: Sink>(
         (O.writing out.old, O.writing out.new) (E.writing err.old, E.writing err.new) result }
 {
     match open_input(surroundings, order, Input::Dump) {
-        Some(mut dump) => tell_variables(alloc, &mut dump, out, err),
+        Some(mut dump) => {
+            let name = input_name(order, Input::Dump);
+            tell_variables(alloc, &mut dump, name, out, err)
+        }
         None => refuse_input(Input::Dump, err),
     }
 }

@@ -1,8 +1,10 @@
 -- Two extents, of blocks that join or don't.
 use Rattle.std.proofs.Common.{◌≡◌, zero, suc, ◌+◌, ◌↔◌, IsTrue, Bool, true, false, List, [], ◌∷◌, ◌++◌, sym, ◌∙◌, ap}
-use Rattle.std.proofs.Common.{subst, arith, Some, None}
+use Rattle.std.proofs.Common.{append-nil, subst, arith, Some, None}
 use Rattle.std.specs.Prelude.{All, option_map}
+use Rattle.std.proofs.Math.Logic.{∥∥₁_elim, ∥∥₁_map, ∥∥₁_prop}
 use Rattle.std.proofs.lemmas.List.Elements.{All-append}
+use Rattle.vme_trace.specs.Levels.{Levels}
 use Rattle.vme_trace.specs.Trace.{levels_after}
 use Rattle.vme_trace.specs.Block.{trace_of}
 use Rattle.vme_trace.specs.Blocks.{joined_steps}
@@ -11,7 +13,9 @@ use Rattle.vme_trace.specs.declared.block.Block.{Block}
 use Rattle.vme_trace.proofs.CutBlocks.{levels_after-append}
 use Rattle.vme_summary.specs.Joins.{BlocksJoin, first_time, last_time, left_by}
 use Rattle.vme_summary.specs.Summaries.{SummaryStandsFor, SummaryStandsForBoth}
-use Rattle.vme_summary.specs.Stands.{IsExtent, Meets, SpanStandsFor, joined_extent}
+use Rattle.vme_summary.specs.Extents.{IsExtent, Meets, joined_extent}
+use Rattle.vme_summary.specs.Standing.{StandFor, StandForBlocks}
+use Rattle.vme_summary.specs.Stands.{SpanStandsFor}
 use Rattle.vme_summary.specs.declared.extent.Extent.{Extent}
 use Rattle.vme_summary.specs.declared.span.Span.{Span}
 use Rattle.vme_summary.specs.declared.summary.MonitorSummaries.{MonitorSummaries}
@@ -110,8 +114,7 @@ one_sound b e (suc k) d below = absurd (omega arith)
 pub spans_joined : (s t : Span) (e : Extent) (r : MonitorSummaries) → e ≡ joined_extent s.extent t.extent
     → Meets s.extent t.extent
     → SummaryStandsForBoth s.summary t.summary r
-    → (x y : List Block) → SpanStandsFor s x → SpanStandsFor t y → SpanStandsFor (record { extent = e; summary = r })
-    (x ++ y)
+    → (x y : List Block) → SpanStandsFor s x → SpanStandsFor t y → StandFor e r (x ++ y)
 spans_joined s t e r same m both x y p q =
     let opens : t.extent.opening ≡ levels_after s.extent.opening (joined_steps x) = m.opened
     ∙ sym (left_by_steps s.extent x p.extent) in
@@ -123,4 +126,24 @@ spans_joined s t e r same m both x y p q =
           q.extent m);
       summary = subst (λ (k : Extent). SummaryStandsFor r k.opening (joined_steps (x ++ y))) (sym same)
           (subst (λ steps. SummaryStandsFor r s.extent.opening steps) (sym (steps-append x y)) whole);
+    }
+
+-- two spans that meet make parts that stand for some blocks
+pub some_joined : (s t : Span) (e : Extent) (r : MonitorSummaries) → e ≡ joined_extent s.extent t.extent
+    → Meets s.extent t.extent
+    → SummaryStandsForBoth s.summary t.summary r → ∥ StandForBlocks e r ∥₁
+some_joined s t e r same m both =
+    ∥∥₁_elim s.stands ∥∥₁_prop
+    (λ x. ∥∥₁_map t.stands (λ y. (x.0 ++ y.0, spans_joined s t e r same m both x.0 y.0 x.1 y.1)))
+
+-- the extent of a single block and a summary of its steps stand for that block
+pub one_stands : (e : Extent) (s : MonitorSummaries) (b : Block) → IsExtent e (b ∷ [])
+    → SummaryStandsFor s b.opening b.steps → StandFor e s (b ∷ [])
+one_stands e s b p q =
+    let opens : Some b.opening ≡ Some e.opening = p.opening in
+    let same : b.opening ≡ e.opening = cc in
+    record {
+      extent = p;
+      summary = subst (λ (v : Levels). SummaryStandsFor s v (joined_steps (b ∷ []))) same
+          (subst (λ steps. SummaryStandsFor s b.opening steps) (sym (append-nil b.steps)) q);
     }

@@ -17,7 +17,8 @@ use Rattle.vme_monitor.specs.WithoutMarks.{FindsFor}
 use Rattle.vme_monitor.specs.declared.mark.Next.{Next}
 use Rattle.vme_summary.specs.Summaries.{SummaryStandsFor, stands_finds_all, summary_steps}
 use Rattle.vme_summary.specs.Joins.{BlocksJoin}
-use Rattle.vme_summary.specs.Stands.{IsExtent, Meets, SpanStandsFor, first_number, joined_extent, recorded, step_count}
+use Rattle.vme_summary.specs.Extents.{IsExtent, Meets, joined_extent}
+use Rattle.vme_summary.specs.Stands.{SpanStandsFor, first_number, recorded, step_count}
 use Rattle.vme_summary.specs.Progressed.{FoundAfter, HasCome, HasFound, HasFoundAll, HasJudged, HasMonitorState}
 use Rattle.vme_summary.specs.Progressed.{IsFoundOf, judged_steps}
 use Rattle.vme_summary.specs.declared.extent.Extent.{Extent}

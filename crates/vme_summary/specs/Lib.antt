@@ -3,6 +3,8 @@ pub mod SameSteps
 pub mod Runs
 pub mod Summaries
 pub mod HasRoom
+pub mod Extents
+pub mod Standing
 pub mod Stands
 pub mod Splitting
 pub mod AllShown

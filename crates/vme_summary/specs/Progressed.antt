@@ -15,7 +15,8 @@ use Rattle.vme_chains.specs.GrantSpec.{grant_begin}
 use Rattle.vme_chains.specs.AcknowledgeSpec.{acknowledge_begin}
 use Rattle.vme_summary.specs.Runs.{known_run, handshake_run, stability_run, grant_run, acknowledge_run}
 use Rattle.vme_summary.specs.Summaries.{SummaryFindsFor, SummaryStandsFor}
-use Rattle.vme_summary.specs.Stands.{IsExtent, SpanStandsFor}
+use Rattle.vme_summary.specs.Extents.{IsExtent}
+use Rattle.vme_summary.specs.Stands.{SpanStandsFor}
 use Rattle.vme_summary.specs.declared.monitor_states.MonitorStates.{MonitorStates}
 use Rattle.vme_summary.specs.declared.chunk_summary.ChunkSummary.{ChunkSummary}
 use Rattle.vme_summary.specs.declared.verdict_state.VerdictState.{VerdictState}

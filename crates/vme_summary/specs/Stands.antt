@@ -1,58 +1,25 @@
 -- What a span says of blocks.
-use Rattle.std.specs.Prelude.{◌≡◌, ◌↔◌, ℕ, ◌+◌, ◌≤◌, true, List, [], ◌∷◌, ◌++◌, length, Option, Some, None, option_map}
-use Rattle.std.specs.Option.{option_or}
+use Rattle.std.specs.Prelude.{◌≡◌, ◌↔◌, ℕ, ◌≤◌, List, [], ◌∷◌, ◌++◌, length, Option, Some, None, option_map}
 use Rattle.vme_trace.specs.Trace.{Trace}
 use Rattle.vme_trace.specs.WellFormed.{malformed_step}
 use Rattle.vme_trace.specs.Block.{trace_of}
-use Rattle.vme_trace.specs.Blocks.{joined_steps}
 use Rattle.vme_trace.specs.Verdict.{rules_in_force, verdict_by}
 use Rattle.vme_trace.specs.declared.block.Block.{Block}
 use Rattle.vme_trace.specs.declared.verdict.Verdict.{Verdict}
 use Rattle.vme_listing.specs.Listed.{Listed}
 use Rattle.vme_listing.specs.Recorded.{listing_of}
-use Rattle.vme_summary.specs.Joins.{AreSound, BlocksJoin, first_block, first_block_number, first_time, is_later}
-use Rattle.vme_summary.specs.Joins.{joined_trace, last_block, last_block_number, last_time, left_by}
-use Rattle.vme_summary.specs.Summaries.{SummaryStandsFor, summary_steps}
-use Rattle.vme_summary.specs.declared.extent.Extent.{Extent}
+use Rattle.vme_summary.specs.Joins.{BlocksJoin, joined_trace}
+use Rattle.vme_summary.specs.Standing.{StandFor, StandForBlocks}
+use Rattle.vme_summary.specs.Summaries.{summary_steps}
 use Rattle.vme_summary.specs.declared.span.Span.{Span}
 
--- the extent of blocks that join, each of which is well formed
-pub record IsExtent (e : Extent) (blocks : List Block) : Type 0 where
-  pub join : BlocksJoin blocks
-  pub sound : AreSound blocks
-  pub first : first_block_number blocks ≡ Some e.first
-  pub last : last_block_number blocks ≡ Some e.last
-  pub opening : option_map (λ b. b.opening) (first_block blocks) ≡ Some e.opening
-  pub left : option_map left_by (last_block blocks) ≡ Some e.left
-  pub starts : e.starts ≡ first_time (joined_steps blocks)
-  pub ends : e.ends ≡ last_time (joined_steps blocks)
-
--- an extent goes on where another ends
-pub record Meets (a b : Extent) : Type 0 where
-  pub numbered : b.first ≡ a.last + 1
-  pub opened : b.opening ≡ a.left
-  pub later : is_later a.ends b.starts ≡ true
-
--- two extents made one
-abbrev pub joined_extent : Extent → Extent → Extent
-joined_extent a b =
-    record {
-      first = a.first;
-      last = b.last;
-      opening = a.opening;
-      left = b.left;
-      starts = option_or a.starts b.starts;
-      ends = option_or b.ends a.ends;
-    }
-
 -- a span stands for blocks: it has their extent, and its summary is one of all their steps, after the first opening
-pub record SpanStandsFor (s : Span) (blocks : List Block) : Type 0 where
-  pub extent : IsExtent s.extent blocks
-  pub summary : SummaryStandsFor s.summary s.extent.opening (joined_steps blocks)
+abbrev pub SpanStandsFor : Span → List Block → Type 0
+SpanStandsFor s blocks = StandFor s.extent s.summary blocks
 
 -- it stands for some blocks
 abbrev pub StandsForBlocks : Span → Type 0
-StandsForBlocks s = (blocks : List Block) × SpanStandsFor s blocks
+StandsForBlocks s = StandForBlocks s.extent s.summary
 
 -- the number of a span's first block
 abbrev pub first_number : Span → ℕ

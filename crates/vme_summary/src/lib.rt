@@ -4,8 +4,9 @@
 //! # Parts
 //!
 //! - `judged`, `span`, `extent`, `summary`: [`judge_block`] makes of a block a [`Judged`]: the
-//!   block, and a [`Span`] that stands for it, whatever came before. [`join`] makes one span of two
-//!   whose blocks follow one another; [`append`] does it with spans that are given away.
+//!   block, and a [`Span`] that stands for it, whatever came before.
+//! - `joining`: [`join`] makes one span of two whose blocks follow one another; [`append`] does it
+//!   with spans that are given away.
 //! - `monitors`: the only place that knows which monitors there are; their tables stand beside one
 //!   another in `MonitorSummaries`. `monitor_states`: what they have come to from the opening on.
 //! - `rows`: the rows that marks make.
@@ -22,6 +23,8 @@
 //!
 //! # What is proved
 //!
+//! - Each [`Span`] stands for some blocks ([`spans_stand_for_blocks`]), so that what is said of all
+//!   blocks for which one stands is never said of none.
 //! - However the blocks of a recording were joined, [`Span::verdict`] is its verdict by the
 //!   definitions, and [`Span::listing`] its listing (`listing`), which is well placed (`placed`)
 //!   and splits the judged edges (`split`).
@@ -55,6 +58,7 @@ mod cut;
 mod discard_steps;
 mod extent;
 mod ghost_steps;
+mod joining;
 pub mod judged;
 mod judged_chunk;
 mod listing_state;
@@ -70,8 +74,9 @@ mod verdict_state;
 pub use cut::{listing_by_blocks, verdict_by_blocks};
 pub use discard_steps::DiscardSteps;
 pub use ghost_steps::GhostSteps;
+pub use joining::{JoinFault, append, join, joined_blocks_are_sound, spans_stand_for_blocks};
 pub use judged::{Judged, judge_block};
 pub use judged_chunk::JudgedChunk;
 pub use running_verdict::RunningVerdict;
-pub use span::{JoinFault, Span, append, join, joined_blocks_are_sound};
+pub use span::Span;
 pub use stream_judge::{Judge, Lister, NoVerdict};

@@ -8,7 +8,7 @@ use std::test::Fail;
 use std::thread;
 use std::thread::Threads;
 use vme_summary::judged::Judged;
-use vme_summary::span::{Span, append};
+use vme_summary::{Span, append};
 use vme_trace::{Block, Verdict};
 
 /// Nothing is asked of the blocks in the table.

@@ -4,8 +4,7 @@ use std::alloc::Global;
 use std::process::Abort;
 use std::test::Fail;
 use vme_summary::judged::{Judged, judge_block};
-use vme_summary::span::{JoinFault, Span, join};
-use vme_summary::{Judge, verdict_by_blocks};
+use vme_summary::{JoinFault, Judge, Span, join, verdict_by_blocks};
 use vme_trace::{
     Block, Break, Capture, Change, Changes, CutFault, LINE_COUNT, Level, Line, Lines, Rule, Step,
     StepVisitor, Verdict,

@@ -5,11 +5,11 @@ use Rattle.vme_program.proofs.bind.bind_dump.Goals as goal
 
 pub returns-in-Some : goal.returns-in-Some
 returns-in-Some g c =
-    let (bytes, made, read, is_for, ends) = c.bind.ensures in
+    let (bytes, made, more, read, is_for, tells, ends) = c.bind.ensures in
     inr (
       (_, g.S.Reader.Source.reading c.bind.new.dump),
       c.in-Some.ensures,
-      (_, bytes, made, c.scope_of.ensures, read, is_for, ends),
+      (_, bytes, made, more, c.scope_of.ensures, read, is_for, tells, ends),
     )
 
 pub returns-in-None : goal.returns-in-None

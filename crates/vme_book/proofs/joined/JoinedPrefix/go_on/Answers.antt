@@ -43,7 +43,7 @@ push-requires-clause-few c =
     λ t e.
     let before : SpanStandsFor t xs = subst (λ (o : Option Span). StandsForSome o xs) e joined.stands in
     steps_fit blocks xs b.0 _ _ c.requires.placed joined.there there (span_steps t xs before)
-    (span_steps _ (b.0 ∷ []) stands)
+    (span_steps c.in-Some.span (b.0 ∷ []) stands)
 
 pub push-requires-clause-joins : goal.push-requires-clause-joins
 push-requires-clause-joins c =

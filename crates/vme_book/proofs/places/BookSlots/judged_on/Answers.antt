@@ -41,7 +41,7 @@ after-next-requires c =
     let past = c.loop-number.invariant.1 in
     let come : HasCome c.in-Some-progress.before bs = subst (λ p. ComeTo p bs) c.in-Some-progress.is past.come in
     steps_fit blocks bs b.0 _ _ c.requires.placed past.prefix.there (ap (λ (k : ℕ). stored blocks k) past.count ∙ there)
-    (come_steps _ bs come) (span_steps _ (b.0 ∷ []) stands)
+    (come_steps _ bs come) (span_steps c.in-Some.span (b.0 ∷ []) stands)
 
 pub loop-number-preserved : goal.loop-number-preserved
 loop-number-preserved c =

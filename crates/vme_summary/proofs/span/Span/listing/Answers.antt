@@ -8,6 +8,8 @@ use Rattle.vme_split.proofs.Listings.{listing_splits}
 use Rattle.vme_summary.specs.Splitting.{SplitsItsRecording}
 use Rattle.vme_summary.specs.Stands.{IsListingOf}
 use Rattle.vme_summary.specs.declared.span.Span.{Span}
+use Rattle.std.proofs.Math.Logic.{∥∥₁_elim}
+use Rattle.std.specs.Coded.{Coded-set, coded_bool}
 use Rattle.std.proofs.lemmas.Result.{IfOk-weaker}
 use Rattle.vme_summary.proofs.Listed.{listing_joined, placed_joined}
 use Rattle.vme_summary.proofs.span.Span.listing.Goals as goal
@@ -36,4 +38,6 @@ pub returns-clause-placed : goal.returns-clause-placed
 returns-clause-placed c =
     let s = c.args.self.now in
     let few : s.extent.opening.slots ≤ 21 = omega arith in
-    IfOk-weaker c.listing.result _ _ (λ rows placed. placed_joined s few rows placed) c.listing.ensures.placed
+    IfOk-weaker c.listing.result _ _
+    (λ rows placed. ∥∥₁_elim s.stands (Coded-set coded_bool _ _) (placed_joined s few rows placed))
+    c.listing.ensures.placed

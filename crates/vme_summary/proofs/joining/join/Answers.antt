@@ -1,7 +1,7 @@
 -- The extents meet exactly where the blocks join.
 use Rattle.std.proofs.Common.{refl}
-use Rattle.vme_summary.proofs.Extents.{meets_join, spans_joined, test_meets, test_torn}
-use Rattle.vme_summary.proofs.span.join.Goals as goal
+use Rattle.vme_summary.proofs.Extents.{meets_join, some_joined, spans_joined, test_meets, test_torn}
+use Rattle.vme_summary.proofs.joining.join.Goals as goal
 
 pub returns-then-not-meets-clause-torn : goal.returns-then-not-meets-clause-torn
 returns-then-not-meets-clause-torn c =
@@ -38,3 +38,12 @@ returns-clause-torn c =
           (test_meets c.args.first.now.extent c.args.second.now.extent c.meets.result c.meets.ensures
           c.if-not-meets.false))),
     )
+
+pub invariant_of-result : goal.invariant_of-result
+invariant_of-result c =
+    record {
+      stands = some_joined c.args.first.now c.args.second.now c.joined.result c.in-Ok.summary c.joined.ensures
+          (test_meets c.args.first.now.extent c.args.second.now.extent c.meets.result c.meets.ensures
+          c.if-not-meets.false)
+          c.in-Ok.ensures.stands;
+    }

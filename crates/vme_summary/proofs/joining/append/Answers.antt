@@ -1,7 +1,8 @@
 -- The extents meet exactly where the blocks join.
 use Rattle.std.proofs.Common.{refl}
-use Rattle.vme_summary.proofs.Extents.{meets_join, spans_joined, test_meets, test_torn}
-use Rattle.vme_summary.proofs.span.append.Goals as goal
+use Rattle.std.proofs.Math.Logic.{∥∥₁_map}
+use Rattle.vme_summary.proofs.Extents.{meets_join, some_joined, spans_joined, test_meets, test_torn}
+use Rattle.vme_summary.proofs.joining.append.Goals as goal
 
 pub returns-then-not-meets-clause-torn : goal.returns-then-not-meets-clause-torn
 returns-then-not-meets-clause-torn c =
@@ -33,3 +34,18 @@ returns-in-Err-clause-first c =
       λ p. record { extent = p.extent; summary = (c.make_room.ensures.stands _ _).0 p.summary },
       λ p. record { extent = p.extent; summary = (c.make_room.ensures.stands _ _).1 p.summary },
     )
+
+pub invariant_of-result : goal.invariant_of-result
+invariant_of-result c =
+    record {
+      stands = some_joined c.args.first c.args.second c.joined.result c.append_in.result c.joined.ensures
+          (test_meets c.args.first.extent c.args.second.extent c.meets.result c.meets.ensures c.if-not-meets.false)
+          (λ o x y p q. c.append_in.ensures.stands o x y ((c.make_room.ensures.stands o x).0 p) q);
+    }
+
+pub invariant_of-result-in-Err : goal.invariant_of-result-in-Err
+invariant_of-result-in-Err c =
+    record {
+      stands = ∥∥₁_map c.args.first.stands
+          (λ x. (x.0, record { extent = x.1.extent; summary = (c.make_room.ensures.stands _ _).0 x.1.summary }));
+    }

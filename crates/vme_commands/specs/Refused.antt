@@ -1,0 +1,25 @@
+-- A refusal, with what is told behind its line.
+use Rattle.std.specs.Prelude.{◌≡◌, ◌⊎◌, ◌++◌, ℕ, List, [], Result, IfErr}
+use Rattle.vme_answer.specs.Answers.{CommandAnswer}
+use Rattle.vme_answer.specs.Texts.{line_of, refusal_status, refusal_text}
+use Rattle.vme_answer.specs.declared.refusal.Refusal.{Refusal}
+use Rattle.vme_faults.specs.Pages.{page_text}
+use Rattle.vme_faults.specs.Refusals.{kind_of}
+
+-- behind the line of a refusal stands what the inputs show, and the page of its kind; nothing does, where there was no
+-- memory
+abbrev pub IsMore : Refusal → List ℕ → Type 0
+IsMore refusal more = (more ≡ []) ⊎ ((shown : List ℕ) × (more ≡ shown ++ page_text (kind_of refusal)))
+
+-- the text is the line of a refusal, what the inputs show, and the page of its kind
+abbrev pub IsRefusedText : Refusal → List ℕ → Type 0
+IsRefusedText refusal text = (shown : List ℕ)
+    × (text ≡ line_of (refusal_text refusal) ++ shown ++ page_text (kind_of refusal))
+
+abbrev pub MayHaveMore : {A : Type 0} → Result A Refusal → List ℕ → Type 0
+MayHaveMore made more = IfErr made (λ refusal. IsMore refusal more)
+
+-- the answer of a refusal, with more behind its line
+abbrev pub refusal_with : List ℕ → Refusal → CommandAnswer
+refusal_with more refusal =
+    record { out = []; error = line_of (refusal_text refusal) ++ more; status = refusal_status refusal }
