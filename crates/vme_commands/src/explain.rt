@@ -13,7 +13,7 @@ ghost use Rattle.vme_commands.specs.Settled.{settled_judgement};
 ghost use Rattle.vme_stream.specs.Inputs.{IsReading};
 ghost use Rattle.vme_answer.specs.Texts.{line_of, verdict_text};
 
-use crate::refused::{Given, complain_with, show_binding, show_dump};
+use crate::refused::{Given, complain_with, show_binding, show_dump, show_instead};
 use crate::settled::settled_in;
 use crate::telling::tell_bytes;
 use std::alloc::{AllocError, Global};
@@ -186,6 +186,7 @@ fn explained_in(
         Ok(capture) => explained_of(alloc, binding, &capture, dump, names.dump),
         Err(refusal) => {
             show_binding(shown, alloc, &refusal, Given::new(names.binding, binding));
+            show_instead(shown, alloc, &refusal, binding, bound.lines().slots(), dump);
             show_dump(shown, alloc, &refusal, Given::new(names.dump, dump));
             Err(refusal)
         }

@@ -6,6 +6,7 @@ ghost use Rattle.vme_answer.specs.Texts.{line_of, refusal_text};
 ghost use Rattle.vme_commands.specs.Refused.{IsMore, IsRefusedText};
 ghost use Rattle.vme_stream.specs.Outputs.{TriesToWrite};
 
+use crate::instead::{Sought, push_nearest, push_widths};
 use crate::telling::say;
 use std::alloc::{AllocError, Global};
 use vcd_read::FaultKind;
@@ -38,7 +39,7 @@ impl<'a> Given<'a> {
 
 /// Where a token stands in a line: its first byte, and the one behind it.
 #[derive(Clone, Copy)]
-struct Span {
+struct WordRange {
     start: usize,
     end: usize,
 }
@@ -94,13 +95,37 @@ pub(crate) fn show_binding(shown: &mut Text, alloc: Global, refusal: &Refusal, b
     }
 }
 
+/// Appends what a dump has in the place of what a binding asks of it. Without memory the text ends somewhere in it.
+pub(crate) fn show_instead(
+    shown: &mut Text,
+    alloc: Global,
+    refusal: &Refusal,
+    binding: &[u8],
+    slots: u8,
+    dump: &[u8],
+) {
+    if let Refusal::BadBinding(fault) = refusal {
+        let line = line_at(binding, fault.line);
+        let sought = Sought {
+            name: token_of(line, word_at(line, 0)),
+            source: token_of(line, word_at(line, 2)),
+            slots,
+        };
+        let _ = match fault.kind {
+            BindKind::NoSuchPath => push_nearest(shown, alloc, sought, dump),
+            BindKind::WrongWidth => push_widths(shown, alloc, sought, dump),
+            _ => Ok(()),
+        };
+    }
+}
+
 fn push_dump(
     shown: &mut Text,
     alloc: Global,
     dump: Given<'_>,
     number: u64,
     line: &[u8],
-    span: Span,
+    span: WordRange,
 ) -> Result<(), AllocError> {
     push_place(shown, alloc, dump.name, number)?;
     push_marked(shown, alloc, line, span)?;
@@ -117,7 +142,7 @@ fn push_binding(
     binding: Given<'_>,
     number: u64,
     line: &[u8],
-    span: Span,
+    span: WordRange,
 ) -> Result<(), AllocError> {
     if number > 0 {
         push_place(shown, alloc, binding.name, number)?;
@@ -201,12 +226,12 @@ fn line_at(bytes: &[u8], number: u64) -> &[u8] {
 }
 
 /// The first word of a line from a place on; where there is none, the place behind the line.
-fn next_word(line: &[u8], from: usize) -> Span {
+fn next_word(line: &[u8], from: usize) -> WordRange {
     let rest = line.get(from..).unwrap_or(b"");
     let blanks = place_in(rest, false);
     let word = rest.get(blanks..).unwrap_or(b"");
     let start = from.saturating_add(blanks);
-    Span {
+    WordRange {
         start,
         end: start.saturating_add(place_in(word, true)),
     }
@@ -221,7 +246,7 @@ fn place_in(bytes: &[u8], of_blank: bool) -> usize {
 }
 
 /// The word at a place in a line, from 0, or its last one.
-fn word_at(line: &[u8], place: u8) -> Span {
+fn word_at(line: &[u8], place: u8) -> WordRange {
     let mut span = next_word(line, 0);
     for _ in 0..place {
         let next = next_word(line, span.end);
@@ -233,7 +258,7 @@ fn word_at(line: &[u8], place: u8) -> Span {
 }
 
 /// The word of a line of a binding that is too many, or another than an equals sign, or else the last one.
-fn bad_word_in(line: &[u8]) -> Span {
+fn bad_word_in(line: &[u8]) -> WordRange {
     let second = word_at(line, 1);
     if token_of(line, second) != b"=".as_slice() {
         second
@@ -243,7 +268,7 @@ fn bad_word_in(line: &[u8]) -> Span {
 }
 
 /// The first token of a line of a dump that no body has, or else the first one.
-fn bad_token_in(line: &[u8]) -> Span {
+fn bad_token_in(line: &[u8]) -> WordRange {
     let first = next_word(line, 0);
     let mut span = first;
     let mut is_code = false;
@@ -281,7 +306,7 @@ fn may_stand(token: &[u8]) -> bool {
 }
 
 /// The bytes of a token.
-fn token_of(line: &[u8], span: Span) -> &[u8] {
+fn token_of(line: &[u8], span: WordRange) -> &[u8] {
     line.get(span.start..span.end).unwrap_or(b"")
 }
 
@@ -315,7 +340,12 @@ fn fitting_end(bytes: &[u8], room: usize) -> usize {
 }
 
 /// Appends a line of an input, with a token of it marked below, in the columns that there are.
-fn push_marked(shown: &mut Text, alloc: Global, line: &[u8], span: Span) -> Result<(), AllocError> {
+fn push_marked(
+    shown: &mut Text,
+    alloc: Global,
+    line: &[u8],
+    span: WordRange,
+) -> Result<(), AllocError> {
     let front = line.get(..span.start).unwrap_or(b"");
     let token = token_of(line, span);
     if token.is_empty() {

@@ -3,7 +3,6 @@
 use crate::visible::push_shown;
 use std::alloc::{AllocError, Global};
 use vcd_read::Variable;
-use vme_find::bit_number;
 use vme_text::Text;
 use vme_trace::{Line, MOST_SLOTS};
 
@@ -117,19 +116,23 @@ fn leftmost(selection: &[u8]) -> Option<(u32, bool)> {
 /// The number of the bit of a variable that a line is bound to, if the variable has numbers, or some are selected.
 fn bit_of(bound: &Bound<'_>, variables: &[Variable]) -> Option<u32> {
     let (path, selection) = path_of(bound.source);
-    if !selection.is_empty() {
-        if let Some((left, is_downwards)) = leftmost(selection) {
-            return Some(if is_downwards {
-                left.saturating_sub(bound.place)
-            } else {
-                left.saturating_add(bound.place)
-            });
+    let selected = if selection.is_empty() {
+        None
+    } else {
+        leftmost(selection)
+    };
+    let (left, is_downwards) = match selected {
+        Some(first) => first,
+        None => {
+            let (left, right) = variable_of(path, variables)?.index?;
+            (left, left >= right)
         }
-    }
-    match variable_of(path, variables) {
-        Some(variable) if variable.index.is_some() => Some(bit_number(variable, bound.place)),
-        _ => None,
-    }
+    };
+    Some(if is_downwards {
+        left.saturating_sub(bound.place)
+    } else {
+        left.saturating_add(bound.place)
+    })
 }
 
 /// The variable of a path.

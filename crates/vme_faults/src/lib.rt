@@ -1,6 +1,6 @@
 //! What the refusals of inputs mean, for people: what each kind of them means, what was expected
-//! there, what usually causes it, and the remedy; and what kind of file stands in the place of a
-//! dump or of a binding.
+//! there, what usually causes it, and the remedy; what kind of file stands in the place of a dump or
+//! of a binding; and which paths of a dump are nearest to one that it lacks.
 //!
 //! # Parts
 //!
@@ -10,6 +10,7 @@
 //! - `refusal`: [`Kind::of`] says of which kind a refusal is.
 //! - `file_kind`: [`FileKind::of`] says by its first bytes what kind of file some bytes are, and
 //!   which program makes a plain dump of it.
+//! - `nearness`: [`nearest`], the variables whose paths are nearest to one.
 //!
 //! # What is proved
 //!
@@ -18,6 +19,8 @@
 //! - A kind has the name of `specs/Kinds`, and a name finds the kind that has it (`found`).
 //! - The kind of a refusal is exactly that of `specs/Refusals`.
 //! - A kind of file is exactly that of `specs/Files`, by the bytes that the formats begin with.
+//! - The nearest variables are exactly those that come first, where all stand in the order of how
+//!   far their paths are from the one that is sought, and those as far as they are declared.
 //!
 //! # What isn't proved
 //!
@@ -32,9 +35,11 @@
 
 mod file_kind;
 mod kind;
+mod nearness;
 mod page;
 mod refusal;
 
 pub use file_kind::FileKind;
 pub use kind::Kind;
+pub use nearness::{Near, nearest};
 pub use page::{Page, faults_text, push_page};

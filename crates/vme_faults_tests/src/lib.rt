@@ -1,6 +1,7 @@
 //! Tests of vme_faults: the page on one kind, compared with the text that stands beside it, the
 //! count of lines of all pages, and the kinds of files of which the first bytes stand beside them,
-//! by the descriptions of their formats. `tests/texts` compares each page with docs/RECORDING.md.
+//! by the descriptions of their formats; and the variables that are nearest to a path, counted by
+//! hand. `tests/texts` compares each page with docs/RECORDING.md.
 #![tactic(auto)]
 
 #[cfg(test)]

@@ -1,9 +1,10 @@
+use std::alloc::{AllocError, Global};
 use std::process::Abort;
 use std::test::Fail;
-use vcd_read::{FaultKind, VcdFault};
+use vcd_read::{FaultKind, Variables, VcdFault, read_definitions};
 use vme_answer::Refusal;
 use vme_bind::{BindFault, BindKind};
-use vme_faults::{FileKind, Kind, Page, faults_text};
+use vme_faults::{FileKind, Kind, Near, Page, faults_text, nearest};
 use vme_listing::ListFault;
 
 /// What is told of a kind.
@@ -106,5 +107,45 @@ fn a_file_is_known_by_its_first_bytes(rt: HostRuntime) -> Result<(), Fail> {
         FileKind::Gzip.help(),
         "`zcat bus.vcd.gz > bus.vcd` makes a plain dump of it"
     );
+    Ok(())
+}
+
+/// Variables whose paths differ little.
+const ALIKE: &str =
+    "$scope module bus $end\n$var wire 1 a AM $end\n$var wire 1 b AS $end\n$var wire 1 c DS0 $end\n\
+$scope module slot $end\n$var wire 1 d AS $end\n$upscope $end\n$upscope $end\n$enddefinitions $end\n";
+
+/// The variables of `ALIKE` that are nearest to a path.
+fn alike(alloc: Global, path: &str, count: usize) -> Result<Vec<Near>, AllocError> {
+    match read_definitions(alloc, ALIKE.as_bytes(), Variables::new(alloc)) {
+        Ok((_, variables)) => nearest(alloc, path.as_bytes(), variables.as_slice(), count),
+        Err(_) => Err(AllocError),
+    }
+}
+
+fn near(distance: usize, place: usize) -> Near {
+    Near { distance, place }
+}
+
+#[test]
+fn the_nearest_paths_come_first(rt: HostRuntime) -> Result<(), Fail> {
+    for (path, wanted) in [
+        ("BUS.as", [near(0, 1), near(1, 0), near(3, 2), near(5, 3)]),
+        ("bus.ADS", [near(1, 1), near(2, 0), near(3, 2), near(6, 3)]),
+        (
+            "top.bus.AS",
+            [near(4, 1), near(8, 3), near(10, 0), near(10, 2)],
+        ),
+        (
+            "bs.slot.AS",
+            [near(1, 3), near(6, 1), near(9, 0), near(9, 2)],
+        ),
+    ] {
+        assert_eq!(rt; alike(rt.alloc(), path, 9)?.as_slice(), wanted.as_slice());
+        assert_eq!(rt;
+            alike(rt.alloc(), path, 2)?.as_slice(),
+            [wanted[0], wanted[1]].as_slice()
+        );
+    }
     Ok(())
 }

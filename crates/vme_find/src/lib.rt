@@ -61,7 +61,6 @@ mod variables;
 mod vote;
 mod writing;
 
-pub use names::bit_number;
 pub use timescale::time_unit;
 pub use variables::variables_text;
 pub use writing::{FindFault, FoundBinding, write_binding};

@@ -4,7 +4,6 @@
 use crate::affix::{Affix, Direction, affix_of};
 use crate::declared::DeclaredVariable;
 use std::alloc::AllocError;
-use vcd_read::Variable;
 use vme_trace::{CHAIN_NETS, Line, MOST_SLOTS};
 
 /// What a name stands for.
@@ -398,13 +397,8 @@ fn push_readings_at(
     Ok(())
 }
 
-/// The number that a variable gives its bit at this place from the left: its index, or where it has none, as if the
-/// rightmost bit were 0.
-pub fn bit_number(variable: &Variable, place: u32) -> u32 {
-    number_of_bit(variable.index, variable.size, place)
-}
-
-/// The same by the indices and the size of the variable.
+/// The number that a variable gives its bit at this place from the left, by its indices and its size: its index, or
+/// where it has none, as if the rightmost bit were 0.
 pub(crate) fn number_of_bit(index: Option<(u32, u32)>, size: u32, place: u32) -> u32 {
     match index {
         Some((left, right)) if left >= right => left.saturating_sub(place),
