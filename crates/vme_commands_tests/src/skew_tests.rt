@@ -2,7 +2,7 @@
 
 ghost use Rattle.std.specs.Prelude.{◌≤◌};
 
-use crate::tests::{HEAD, NAMES, Page, words_of};
+use crate::tests::{HEAD, NAMES, Page};
 use std::process::Abort;
 use std::test::Fail;
 use std::thread::Threads;
@@ -12,8 +12,6 @@ use vme_commands::explain::explain;
 use vme_commands::list::list;
 use vme_commands::{BLOCK, BUILT_IN, unsettled};
 use vme_stream::Bytes;
-use vme_words::OrderFault;
-use vme_words::words::order;
 
 /// A read whose strobe is told 3 time units behind its answer.
 const DUMP: &str = "$timescale 1 ns $end
@@ -240,37 +238,6 @@ fn blocks_are_counted_behind_settling(rt: HostRuntime) -> Result<(), Fail> {
         );
         expect_told(&rt, skew, &page, &other, text);
         assert_eq!(rt; ended, status);
-    }
-    Ok(())
-}
-
-#[test]
-fn skews_are_ordered(rt: HostRuntime) -> Result<(), Fail> {
-    for (line, skew) in [
-        ("vmecheck check --skew 3 B V", Some(3)),
-        ("vmecheck list B V --skew=0", Some(0)),
-        (
-            "vmecheck confirm --skew 18446744073709551615 B V L",
-            Some(u64::MAX),
-        ),
-        ("vmecheck explain --skew 007 --gtkw F B V", Some(7)),
-        ("vmecheck check --skew 18446744073709551616 B V", None),
-        ("vmecheck check --skew ten B V", None),
-        ("vmecheck check --skew= B V", None),
-        ("vmecheck check --skew -1 B V", None),
-        ("vmecheck check --skew=-1 B V", None),
-        ("vmecheck check --skew 1.5 B V", None),
-        ("vmecheck check --skew 1 --skew 2 B V", None),
-        ("vmecheck check B V --skew", None),
-        ("vmecheck bind --skew 1 V", None),
-        ("vmecheck variables --skew 1 V", None),
-    ] {
-        let words = words_of(rt.alloc(), line)?;
-        match order(rt.alloc(), words.as_slice()) {
-            Ok(order) => assert!(rt; Some(order.skew) == skew, "{line}"),
-            Err(OrderFault::Usage(_error)) => assert!(rt; skew.is_none(), "{line}"),
-            Err(OrderFault::Memory) => assert!(rt; false, "{line}"),
-        }
     }
     Ok(())
 }

@@ -16,8 +16,7 @@
 //!
 //! # What isn't proved
 //!
-//! The texts of usage and help, and the words of a fault; vme_commands_tests tries them. This crate
-//! has no tests of its own.
+//! The texts of usage and help, and the words of a fault. Its tests, in vme_words_tests, try them.
 //!
 //! # Limits
 //!
