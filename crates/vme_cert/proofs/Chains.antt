@@ -3,16 +3,13 @@ use Rattle.std.proofs.Common.{◌≡◌, ℕ, ◌+◌, ◌-◌, ◌<◌, ◌≤�
 use Rattle.std.proofs.Common.{◌⊎◌}
 use Rattle.std.specs.Prelude.{Option, None, Some, option_map, unwrap_or}
 use Rattle.vme_trace.specs.Instants.{any, every, least, greatest}
-use Rattle.vme_trace.specs.LineNumbers.{grant, grant_place}
+use Rattle.vme_trace.specs.LineNumbers.{grant}
 use Rattle.vme_trace.specs.Signals.{low}
 use Rattle.vme_trace.specs.Tenures.{taken_grant, tenure_level, tenure_slot, has_reached}
 use Rattle.vme_trace.specs.Trace.{Trace}
 use Rattle.vme_trace.proofs.Ranges.{any-holds, fails-any, least-found, least-none-any}
 use Rattle.vme_cert.proofs.Finding.{greatest-is}
 use Rattle.vme_cert.proofs.Searching.{any-start}
-
-place-is : (n k : ℕ) → k < 22 → grant_place (grant n k) ≡ k
-place-is n k h = omega arith
 
 back : (k : ℕ) → 0 < k → k - 1 + 1 ≡ k
 back k h = omega arith

@@ -1,7 +1,7 @@
 -- What the greatest of a range is.
 use Rattle.std.proofs.Common.{◌≡◌, ℕ, zero, suc, ◌+◌, ◌<◌, ◌≤◌, Bool, true, false, ◌&&◌, ◌||◌, refl, sym, ◌∙◌, ap}
 use Rattle.std.proofs.Common.{arith, inl, inr, ◌⊎◌, cond}
-use Rattle.std.specs.Prelude.{Option, None, Some, nat_le, unwrap_or}
+use Rattle.std.specs.Prelude.{Option, None, Some, nat_le}
 use Rattle.vme_trace.specs.Instants.{any, greatest}
 use Rattle.vme_trace.proofs.Ranges.{any-fails, fails-any, clash}
 use Rattle.vme_cert.proofs.Truth.{and_true, le_holds, le_of}
@@ -9,9 +9,6 @@ use Rattle.vme_cert.proofs.Truth.{and_true, le_holds, le_of}
 -- none holds in a shorter range either
 pub none-shorter : (p : ℕ → Bool) (f m n : ℕ) → m ≤ n → any p f n ≡ false → any p f m ≡ false
 none-shorter p f m n h none = fails-any p f m (λ i a b. any-fails p f n i none a (omega arith))
-
-pub none-later : (p : ℕ → Bool) (f m n : ℕ) → f ≤ m → any p f n ≡ false → any p m n ≡ false
-none-later p f m n h none = fails-any p m n (λ i a b. any-fails p f n i none (omega arith) b)
 
 chosen : (b : Bool) (x y z : Option ℕ) → cond b x y ≡ z → ((b ≡ true) × (x ≡ z)) ⊎ ((b ≡ false) × (y ≡ z))
 chosen true x y z h = inl (refl, h)
@@ -97,11 +94,3 @@ greatest-is p f n i from before holds last = by_greatest (greatest p f n) refl
         same found (inr (inl more)) = absurd (clash (p k) found.holds (any-fails p (i + 1) n k last (omega arith)
             found.before))
         same found (inr (inr is)) = is
-
--- the greatest of a range, or else its first, is no earlier
-pub greatest-or : (p : ℕ → Bool) (f n : ℕ) → f ≤ unwrap_or (greatest p f n) f
-greatest-or p f n = by_greatest (greatest p f n) refl
-  where
-    by_greatest : (o : Option ℕ) → greatest p f n ≡ o → f ≤ unwrap_or o f
-    by_greatest None e = omega arith
-    by_greatest (Some i) e = (greatest-found p f n i e).from

@@ -1,37 +1,102 @@
--- What happens, but no earlier than from an instant on.
-use Rattle.std.proofs.Common.{◌≡◌, ℕ, zero, suc, ◌<◌, ◌≤◌, Bool, true, false, ◌&&◌, [], cond, refl, sym, ◌∙◌, ap, arith}
-use Rattle.std.specs.Prelude.{Some, is_some, nat_le}
-use Rattle.vme_trace.specs.Instants.{any, least, greatest, those}
-use Rattle.vme_trace.proofs.Ranges.{fails-any, least-alike}
-use Rattle.vme_cert.specs.Events.{since}
-use Rattle.vme_cert.proofs.Those.{any-first, those-none}
-use Rattle.vme_cert.proofs.Truth.{first_fails, le_fails, le_holds, le_of}
+-- What happened since the last time that something else did: the fields of a stretch that rules H6, G5 and B2 ask for.
+use Rattle.std.proofs.Common.{◌≡◌, ℕ, ◌+◌, ◌≤◌, Bool, true, false, ◌&&◌, ◌||◌, not, refl, ◌∙◌, ap, arith}
+use Rattle.std.specs.Prelude.{Option, None, Some, unwrap_or}
+use Rattle.vme_trace.specs.Instants.{any, greatest}
+use Rattle.vme_trace.specs.Trace.{Trace}
+use Rattle.vme_trace.specs.Judged.{Stretch, is_judged}
+use Rattle.vme_trace.specs.Tenures.{last_before}
+use Rattle.vme_trace.proofs.Ranges.{any-step}
+use Rattle.vme_cert.proofs.Finding.{greatest-found}
+use Rattle.vme_cert.proofs.Searching.{any-start, greatest-none}
+use Rattle.vme_cert.proofs.Truth.{le_holds}
+use Rattle.vme_cert.proofs.Ranges.{after_start, greatest-here, greatest-not}
 
-pub since-is : (f : ℕ) (p : ℕ → Bool) (i : ℕ) → f ≤ i → since f p i ≡ p i
-since-is f p i h = rw (le_holds f i h) refl
+module _ (t : Trace) (span : Stretch) (p q : ℕ → Bool) (j : ℕ) (judged : is_judged span j ≡ true) where
+  last-here : p j ≡ true → last_before t span p (j + 1) ≡ j
+  unfolding last_before
+  last-here here = ap (λ o. unwrap_or o span.start)
+      (greatest-here p (span.start + 1) j (after_start span j judged) here)
 
-pub since-nothing : (f : ℕ) (p : ℕ → Bool) → [] ≡ those (since f p) 0 f
-since-nothing f p = sym
-    (those-none (since f p) 0 f (fails-any (since f p) 0 f (λ i a b. first_fails _ _ (le_fails f i b))))
+  last-not : p j ≡ false → last_before t span p (j + 1) ≡ last_before t span p j
+  unfolding last_before
+  last-not here = ap (λ o. unwrap_or o span.start) (greatest-not p (span.start + 1) j here)
 
--- in a range that starts there or later it makes no difference
-pub least-since : (f : ℕ) (p : ℕ → Bool) (first end : ℕ) → f ≤ first → least (since f p) first end ≡ least p first end
-least-since f p first end h = least-alike (since f p) p first end (λ i a b. since-is f p i (omega arith))
+  -- it is no later than the instant
+  last-within : last_before t span p j + 1 ≤ j
+  unfolding last_before
+  last-within = by_last (greatest p (span.start + 1) j) refl
+    where
+      by_last : (o : Option ℕ) → greatest p (span.start + 1) j ≡ o → unwrap_or o span.start + 1 ≤ j
+      by_last None e = after_start span j judged
+      by_last (Some i) e = let found = (greatest-found p (span.start + 1) j i e).before in omega arith
 
-greatest-alike : (p q : ℕ → Bool) (f n : ℕ) → ((i : ℕ) → f ≤ i → i < n → p i ≡ q i) → greatest p f n ≡ greatest q f n
-unfolding greatest
-greatest-alike p q f zero h = refl
-greatest-alike p q f (suc n) h = by_test (nat_le f n) refl (greatest-alike p q f n (λ i a b. h i a (omega arith)))
-  where
-    by_test : (b : Bool) → nat_le f n ≡ b → greatest p f n ≡ greatest q f n → cond (b && p n) (Some n) (greatest p f n)
-        ≡ cond (b && q n) (Some n) (greatest q f n)
-    by_test true e earlier = rw (h n (le_of f n e) (omega arith), earlier) refl
-    by_test false e earlier = earlier
+  -- what a rule asks at an instant of what happened up to there
+  pub since-asks : any q (last_before t span p j) (j + 1) ≡ (any q (last_before t span p j) j || q j)
+  since-asks = any-step q (last_before t span p j) j
+      ∙ rw (le_holds (last_before t span p j) j (omega (arith, last-within))) refl
 
-pub greatest-since : (f : ℕ) (p : ℕ → Bool) (first end : ℕ) → f ≤ first → greatest (since f p) first end
-    ≡ greatest p first end
-greatest-since f p first end h = greatest-alike (since f p) p first end (λ i a b. since-is f p i (omega arith))
+  pub since-later-asks : any q (last_before t span p j + 1) (j + 1) ≡ (any q (last_before t span p j + 1) j || q j)
+  since-later-asks = any-step q (last_before t span p j + 1) j
+      ∙ rw (le_holds (last_before t span p j + 1) j last-within) refl
 
-pub any-since : (f : ℕ) (p : ℕ → Bool) (first end : ℕ) → f ≤ first → any (since f p) first end ≡ any p first end
-any-since f p first end h = sym (any-first (since f p) first end) ∙ (ap is_some (least-since f p first end h)
-    ∙ any-first p first end)
+  -- the field one instant later
+  pub since-step : any q (last_before t span p (j + 1)) (j + 1) ≡
+      ((any q (last_before t span p j) j && not (p j)) || q j)
+  since-step = by_test (p j) refl
+    where
+      or_none : (a b : Bool) → ((a && false) || b) ≡ b
+      or_none true b = refl
+      or_none false b = refl
+
+      or_on : (a b : Bool) → ((a && true) || b) ≡ (a || b)
+      or_on true b = refl
+      or_on false b = refl
+
+      here_only : any q j (j + 1) ≡ q j
+      here_only = any-step q j j ∙ rw (any-start q j j (omega arith), le_holds j j (omega arith)) refl
+
+      by_test : (b : Bool) → p j ≡ b
+          → any q (last_before t span p (j + 1)) (j + 1) ≡ ((any q (last_before t span p j) j && not (p j)) || q j)
+      by_test true e = rw (last-here e, e, here_only, or_none (any q (last_before t span p j) j) (q j)) refl
+      by_test false e = rw (last-not e, e, since-asks, or_on (any q (last_before t span p j) j) (q j)) refl
+
+  pub since-later-step : any q (last_before t span p (j + 1) + 1) (j + 1) ≡
+      ((any q (last_before t span p j + 1) j || q j) && not (p j))
+  since-later-step = by_test (p j) refl
+    where
+      none_left : (a : Bool) → false ≡ (a && false)
+      none_left true = refl
+      none_left false = refl
+
+      on : (a : Bool) → a ≡ (a && true)
+      on true = refl
+      on false = refl
+
+      by_test : (b : Bool) → p j ≡ b
+          → any q (last_before t span p (j + 1) + 1) (j + 1) ≡
+          ((any q (last_before t span p j + 1) j || q j) && not (p j))
+      by_test true e = rw (last-here e, e)
+          (any-start q (j + 1) (j + 1) (omega arith) ∙ none_left (any q (last_before t span p j + 1) j || q j))
+      by_test false e = rw (last-not e, e) (since-later-asks ∙ on (any q (last_before t span p j + 1) j || q j))
+
+-- the fields behind the start of a stretch
+module _ (t : Trace) (span : Stretch) (p q : ℕ → Bool) where
+  last-start : last_before t span p (span.start + 1) ≡ span.start
+  unfolding last_before
+  last-start = ap (λ o. unwrap_or o span.start) (greatest-none p (span.start + 1) (span.start + 1) (omega arith))
+
+  pub since-start : any q (last_before t span p (span.start + 1)) (span.start + 1) ≡ q span.start
+  since-start = ap (λ k. any q k (span.start + 1)) last-start
+      ∙ (any-step q span.start span.start
+      ∙ rw (any-start q span.start span.start (omega arith), le_holds span.start span.start (omega arith)) refl)
+
+  pub since-later-start : any q (last_before t span p (span.start + 1) + 1) (span.start + 1) ≡ false
+  since-later-start = ap (λ k. any q (k + 1) (span.start + 1)) last-start
+      ∙ any-start q (span.start + 1) (span.start + 1) (omega arith)
+
+-- the same of what is so
+pub since-alike : (a b p q x y : Bool) → a ≡ b → p ≡ q → x ≡ y → ((a && not p) || x) ≡ ((b && not q) || y)
+since-alike a b p q x y e f g = rw (e, f, g) refl
+
+pub since-later-alike : (a b p q x y : Bool) → a ≡ b → p ≡ q → x ≡ y → ((a || x) && not p) ≡ ((b || y) && not q)
+since-later-alike a b p q x y e f g = rw (e, f, g) refl

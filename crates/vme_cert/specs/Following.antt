@@ -1,14 +1,145 @@
--- What is known of what is given, where the right rows are followed.
-use Rattle.std.specs.Prelude.{◌≡◌, true, false, List, length}
-use Rattle.vme_listing.specs.Recorded.{rows_in}
+-- The rows of a stretch that have started, and those of them whose edge is to come.
+use Rattle.std.specs.Prelude.{◌≡◌, ℕ, ◌+◌, ◌-◌, ◌<◌, ◌≤◌, ◌||◌, Bool, true, false, List, ◌∷◌, ◌++◌, length, slice_get}
+use Rattle.std.specs.Prelude.{Option, None, Some}
+use Rattle.vme_trace.specs.Instants.{any, greatest, least}
+use Rattle.vme_trace.specs.Judged.{IsSpanOf, Stretch, is_judged}
+use Rattle.vme_trace.specs.LineNumbers.{AS, BBSY}
+use Rattle.vme_trace.specs.Signals.{low, rises}
+use Rattle.vme_trace.specs.Trace.{Trace}
+use Rattle.vme_trace.specs.Transfers.{answers, strobes_high, transfer_starts}
+use Rattle.vme_listing.specs.Recorded.{cycle_rows, row_in, rows_before, rows_in, tenure_rows, transfer_row}
 use Rattle.vme_listing.specs.declared.row.Row.{Row}
-use Rattle.vme_cert.specs.Candidates.{AreNext, DepartsWithin}
-use Rattle.vme_cert.specs.declared.candidate.Candidate.{Candidate}
-use Rattle.vme_cert.specs.declared.listing_matcher.ListingMatcher.{ListingMatcher}
+use Rattle.vme_listing.specs.declared.row.Row.TheVariants.{Start}
+use Rattle.vme_listing.specs.declared.row.Version.{Version}
+use Rattle.vme_cert.specs.Comparing.{IsCompared, IsDue, IsGiven, is_at}
+use Rattle.vme_cert.specs.Ended.{ended}
+use Rattle.vme_cert.specs.Instant.{IsBusOf}
+use Rattle.vme_cert.specs.declared.bus.Bus.{Bus}
+use Rattle.vme_cert.specs.declared.comparison.OpenRow.{OpenRow}
+use Rattle.vme_cert.specs.declared.open_rows.OpenRows.{OpenRows}
 
--- in the version of what is given, the right ones so far are given first, or one of them isn't
-pub record Matches (candidate : Candidate) (right : List Row) (matcher : ListingMatcher) : Type 0 where
-  pub agree : matcher.differs ≡ false → AreNext candidate (rows_in matcher.version right) matcher.candidate
-  pub count : matcher.differs ≡ false → length right ≡ matcher.agree
-  pub differ : matcher.differs ≡ true → DepartsWithin candidate (rows_in matcher.version right) matcher.agree
-      matcher.candidate
+-- the rows of a stretch up to an end
+abbrev pub rows_to : Trace → Stretch → ℕ → List Row
+rows_to t span end = Start span.start ∷ rows_before t span end end
+
+-- the bus is at a judged instant of a stretch
+pub record IsInStretch (t : Trace) (span : Stretch) (bus : Bus) : Type 0 where
+  pub at : IsBusOf t bus
+  pub is : IsSpanOf t span
+  pub judged : is_judged span bus.instant ≡ true
+
+abbrev pub is_open : {Source : Type 0} → OpenRows Source → ℕ → Bool
+is_open rows n = is_at rows.tenure n || is_at rows.cycle n || is_at rows.transfer n
+
+-- nothing is open
+pub record NoneIsOpen {Source : Type 0} (rows : OpenRows Source) : Type 0 where
+  pub tenure : rows.tenure ≡ None
+  pub cycle : rows.cycle ≡ None
+  pub transfer : rows.transfer ≡ None
+
+-- it was taken when these were given and as many were taken
+pub record IsTaken (given : List Row) (taken : ℕ) (row : OpenRow) : Type 0 where
+  pub below : row.place < taken
+  pub given_is : row.given ≡ slice_get given row.place
+
+-- the rows that are given in a version, where the right ones of earlier stretches are done, and those of a stretch
+-- follow
+module _ (version : Version) (done : List Row) (t : Trace) (span : Stretch) where
+  -- the right ones, where end is the first instant that isn't listed
+  abbrev pub right_to : ℕ → List Row
+  right_to end = rows_in version (done ++ rows_to t span end)
+
+  -- how many of them start before an instant; with its tenure; and with its cycle
+  abbrev pub count_before : ℕ → ℕ
+  count_before j = length done + 1 + length (rows_before t span j j)
+
+  abbrev pub count_with_tenure : ℕ → ℕ
+  count_with_tenure j = count_before j + length (tenure_rows t span j j)
+
+  abbrev pub count_with_cycle : ℕ → ℕ
+  count_with_cycle j = count_with_tenure j + length (cycle_rows t span j j)
+
+  -- the right row at a place, by the end, from a first one on
+  abbrev pub IsRight : ℕ → ℕ → (ℕ → Row) → Type 0
+  IsRight first place row = (end : ℕ) → first ≤ end → end ≤ span.end → slice_get (right_to end) place ≡ Some (row end)
+
+  module _ (given : List Row) (first taken : ℕ) where
+    -- a row that ends where a line rises, which it doesn't before an instant
+    pub record IsOpen (l j : ℕ) (row : OpenRow) : Type 0 where
+      pub start : ℕ
+      pub before : start < j
+      pub still : any (rises t l) (start + 1) j ≡ false
+      pub is_low : low t l (j - 1) ≡ true
+      pub is_taken : IsTaken given taken row
+      pub right : IsRight first row.place (λ end. ended row.right (least (rises t l) (start + 1) end))
+
+    abbrev pub IsOpenAt : ℕ → ℕ → Option OpenRow → Type 0
+    IsOpenAt l j None = Unit {0}
+    IsOpenAt l j (Some row) = IsOpen l j row
+
+    -- the row of the last transfer to start before one instant, with its answer before a second, which isn't closed
+    -- before a third
+    pub record IsTransferRow (opened answered closed : ℕ) (row : OpenRow) : Type 0 where
+      pub start : ℕ
+      pub last : greatest (transfer_starts t span) (span.start + 1) opened ≡ Some start
+      pub still : any (strobes_high t) (start + 1) closed ≡ false
+      pub is_taken : IsTaken given taken row
+      pub right : IsRight first row.place
+          (λ end. row_in version (transfer_row t span end start (least (answers t span start) start end)))
+      pub known : (end : ℕ) (edge : Option ℕ) → ended row.right edge
+          ≡ ended (row_in version (transfer_row t span end start (least (answers t span start) start answered))) edge
+
+    abbrev pub IsTransferAt : ℕ → ℕ → ℕ → Option OpenRow → Type 0
+    IsTransferAt opened answered closed None = Unit {0}
+    IsTransferAt opened answered closed (Some row) = IsTransferRow opened answered closed row
+
+module _ {Whole Source : Type 0} (gave : Whole → Source → List Row → Type 0) (is_over : Source → Type 0) (whole : Whole)
+    (version : Version) where
+  -- as many were taken as these right rows are, and all but the open ones were compared, which have no edges any more
+  pub record CanClose (rights : List Row) (rows : OpenRows Source) : Type 0 where
+    pub version_is : rows.compared.version ≡ version
+    pub taken_is : rows.compared.taken ≡ length rights
+    pub given : List Row
+    pub is_given : IsGiven gave is_over whole given rows.compared.source rows.compared.taken
+    pub compared : IsCompared given (rows_in version rights) rows.compared.taken (is_open rows) rows.compared.wrong
+    pub tenure : IsDue given (rows_in version rights) rows.compared.taken None rows.tenure
+    pub cycle : IsDue given (rows_in version rights) rows.compared.taken None rows.cycle
+    pub transfer : IsDue given (rows_in version rights) rows.compared.taken None rows.transfer
+
+  module _ (done : List Row) (t : Trace) (span : Stretch) where
+    -- all but the open ones were compared, whatever the end is from a first one on
+    pub record AreTaken (given : List Row) (first : ℕ) (rows : OpenRows Source) : Type 0 where
+      pub version_is : rows.compared.version ≡ version
+      pub is_given : IsGiven gave is_over whole given rows.compared.source rows.compared.taken
+      pub compared : (end : ℕ) → first ≤ end → end ≤ span.end → IsCompared given (right_to version done t span end)
+          rows.compared.taken (is_open rows) rows.compared.wrong
+
+    -- so many were taken, and these are open: by instants before which a tenure and a cycle haven't ended, and a
+    -- transfer has started, is answered, and hasn't closed
+    pub record AreOpen (first taken tenures cycles opened answered closed : ℕ) (rows : OpenRows Source) : Type 0 where
+      pub taken_is : rows.compared.taken ≡ taken
+      pub given : List Row
+      pub are_taken : AreTaken given first rows
+      pub tenure : IsOpenAt version done t span given first rows.compared.taken BBSY tenures rows.tenure
+      pub cycle : IsOpenAt version done t span given first rows.compared.taken AS cycles rows.cycle
+      pub transfer :
+          IsTransferAt version done t span given first rows.compared.taken opened answered closed rows.transfer
+
+    -- the rows that start before an instant
+    abbrev pub Follows : ℕ → OpenRows Source → Type 0
+    Follows j rows = AreOpen j (count_before version done t span j) j j j j j rows
+
+    -- with those that start there, and those that end: step by step
+    abbrev pub WithTenure : ℕ → OpenRows Source → Type 0
+    WithTenure j rows = AreOpen (j + 1) (count_with_tenure version done t span j) (j + 1) j j j j rows
+
+    abbrev pub WithCycle : ℕ → OpenRows Source → Type 0
+    WithCycle j rows = AreOpen (j + 1) (count_with_cycle version done t span j) (j + 1) (j + 1) j j j rows
+
+    abbrev pub WithTransfer : ℕ → OpenRows Source → Type 0
+    WithTransfer j rows =
+        AreOpen (j + 1) (count_before version done t span (j + 1)) (j + 1) (j + 1) (j + 1) j j rows
+
+    abbrev pub WithAnswer : ℕ → OpenRows Source → Type 0
+    WithAnswer j rows =
+        AreOpen (j + 1) (count_before version done t span (j + 1)) (j + 1) (j + 1) (j + 1) (j + 1) j rows

@@ -1,270 +1,231 @@
-//! A recording at one of its instants, as a walk goes from each to the next; and the stretches of it that are judged.
+//! The levels at an instant and at the one before.
+#![tactic(auto, using(crate::proofs::Instant::edges))]
 
-ghost use Rattle.std.specs.Prelude.{◌≡◌, ◌+◌, ◌-◌, ◌≤◌};
-ghost use Rattle.vme_cert.specs.Words.{true, IfSome, IsTrue, least, near, known, low, high, falls, rises, has_line};
-ghost use Rattle.vme_cert.specs.Words.{changed, levels_at, last_instant, time_at, are_changes, capture_limit};
-ghost use Rattle.vme_cert.specs.Words.{is_idle_at, span_end};
+ghost use Rattle.std.specs.Prelude.{◌≡◌, ℕ, ◌+◌, ◌-◌, ◌<◌, ◌≤◌, not, IsTrue, IfSome, unwrap_or};
+ghost use Rattle.vme_trace.specs.LineNumbers.{BR, grant, has_line};
+ghost use Rattle.vme_trace.specs.Instants.{least};
+ghost use Rattle.vme_trace.specs.Levels.{is_low, level_at};
+ghost use Rattle.vme_trace.specs.Signals.{falls, has_edge, high, known, low, near, rises};
+ghost use Rattle.vme_trace.specs.Tenures.{grant_falls, is_granting, taken_grant, tenure_level, tenure_slot};
+ghost use Rattle.vme_trace.specs.Trace.{Trace, changed, levels_at};
+ghost use Rattle.vme_trace.specs.Transfers.{answer_falls, strobe_falls, strobe_rises, strobes_high};
+ghost use Rattle.vme_trace.specs.WellFormed.{capture_limit};
 
-use std::marker::Model;
-use vme_trace::{Capture, Change, Level, Line, Lines};
+use crate::search::least;
+use vme_trace::{Change, Line, Lines, edges};
 
-/// A stretch of instants that is judged as one: those after its start and before its end.
-#[derive(Clone, Copy, Debug, PartialEq, Eq)]
-pub(crate) struct StretchBounds {
-    pub(crate) start: u32,
-    pub(crate) end: u32,
-}
-
-impl Model for StretchBounds {
-    ghost use Rattle.vme_trace.specs.Judged.{Stretch as Stretch};
-
-    ghost Value = { Stretch };
-
-    ghost view = { λ a. record { start = a.start; end = a.end } };
-
-    ghost inverse = { λ v. record { start = v.start; end = v.end } };
-}
-
-impl StretchBounds {
-    ghost use Rattle.vme_trace.specs.Judged.{is_judged};
-
-    /// Whether the instant is judged.
-    pub(crate) fn contains(self, instant: u32) -> bool
-        ensures { result ≡ is_judged self instant }
-    {
-        self.start < instant && instant < self.end
-    }
-}
-
-/// The changes at an instant, and its time; the opening has none, and nothing happens past the last instant.
-#[inline(always)]
-pub(crate) fn step_at(capture: &Capture, instant: u32) -> (&[Change], u64)
-    ensures made { levels_at capture.now instant ≡ changed (levels_at capture.now (instant - 1)) result.0.now }
-    ensures sound { are_changes (levels_at capture.now (instant - 1)) 0 result.0.now ≡ true }
-    ensures time { result.1 ≡ time_at capture.now instant }
-{
-    if instant == 0 {
-        return (&[], 0);
-    }
-    match capture.steps().get(instant as usize - 1) {
-        Some(step) => (step.changes.as_slice(), step.time),
-        None => (&[], 0),
-    }
-}
-
-/// The levels of one instant go on to those of another.
-#[inline(always)]
-fn pass(capture: &Capture, levels: &mut Lines, from: u32, to: u32)
-    requires order { from ≤ to }
-    requires from { levels.old ≡ levels_at capture.now from }
-    ensures { levels.new ≡ levels_at capture.now to }
-{
-    for passed in from..to {
-        levels.apply(step_at(capture, passed + 1).0);
-    }
-}
-
-/// A recording at an instant: the levels there and at the instant before.
-#[derive(Drop)]
-pub(crate) struct Bus<'a> {
-    pub(crate) capture: &'a Capture,
+/// The levels of a recording at an instant, and at the one before: `IsBusOf`, in `specs/Instant.antt`. At the opening
+/// both are those of the opening.
+#[derive(Clone, Copy)]
+pub(crate) struct Bus {
     pub(crate) instant: u32,
     pub(crate) before: Lines,
     pub(crate) levels: Lines,
-    ghost was: { before ≡ levels_at capture.now (instant - 1) },
-    ghost is: { levels ≡ levels_at capture.now instant },
-    ghost within: { instant ≤ last_instant capture.now + 1 },
-    ghost limited: { last_instant capture.now ≤ capture_limit },
-    ghost few: { capture.now.opening.slots ≤ 21 },
+    ghost within: { instant ≤ capture_limit },
+    ghost same_slots: { before.slots ≡ levels.slots },
 }
 
-impl<'a> Bus<'a> {
-    /// The recording in a capture, at its opening.
+impl Bus {
+    ghost use Rattle.vme_cert.specs.Instant.{IsBusOf};
+
+    /// At the opening of a recording.
     #[tactic(auto, unfolding(vme_trace::specs::Trace::levels_at))]
-    pub(crate) fn opening(capture: &'a Capture) -> Bus<'a>
-        ensures trace { result.capture.now ≡ capture.now }
+    pub(crate) fn opening(lines: &Lines) -> Bus
+        ensures at { (t : Trace) → t.opening ≡ lines.now → IsBusOf t result }
         ensures instant { result.instant ≡ 0 }
     {
-        let lines = *capture.opening();
-        let _slots = lines.slots();
         Bus {
-            capture,
             instant: 0,
-            before: lines,
-            levels: lines,
+            before: *lines,
+            levels: *lines,
         }
     }
 
-    /// The same once more.
-    pub(crate) fn copy(&self) -> Bus<'a>
-        ensures trace { result.capture.now ≡ self.now.capture.now }
-        ensures instant { result.instant ≡ self.now.instant }
-    {
-        Bus {
-            capture: self.capture,
-            instant: self.instant,
-            before: self.before,
-            levels: self.levels,
-        }
-    }
-
-    /// Goes on to the next instant; past the last one the levels stay.
-    pub(crate) fn advance(&mut self)
-        requires { self.old.instant ≤ last_instant self.old.capture.now }
-        ensures trace { self.new.capture ≡ self.old.capture }
+    /// Goes on to the next instant.
+    pub(crate) fn advance(&mut self, changes: &[Change])
+        requires { self.old.instant < capture_limit }
         ensures instant { self.new.instant ≡ self.old.instant + 1 }
-    {
-        self.instant += 1;
-        self.before = self.levels;
-        self.levels.apply(step_at(self.capture, self.instant).0);
-    }
-
-    /// The levels at this instant or a later one.
-    pub(crate) fn levels_at(&self, instant: u32) -> Lines
-        requires { self.now.instant ≤ instant }
-        ensures { result ≡ levels_at self.now.capture.now instant }
+        ensures before { self.new.before ≡ self.old.levels }
+        ensures levels { self.new.levels ≡ changed self.old.levels changes.now }
     {
         let mut levels = self.levels;
-        pass(self.capture, &mut levels, self.instant, instant);
-        levels
+        levels.apply(changes);
+        *self = Bus {
+            instant: self.instant + 1,
+            before: self.levels,
+            levels,
+        };
     }
+}
 
-    /// Goes on to this instant or a later one.
-    pub(crate) fn go_to(&mut self, instant: u32)
-        requires from { self.old.instant ≤ instant }
-        requires within { instant ≤ last_instant self.old.capture.now + 1 }
-        ensures trace { self.new.capture ≡ self.old.capture }
-        ensures instant { self.new.instant ≡ instant }
-    {
-        if self.instant == instant {
-            return;
-        }
-        pass(self.capture, &mut self.levels, self.instant, instant - 1);
-        self.before = self.levels;
-        self.levels.apply(step_at(self.capture, instant).0);
-        self.instant = instant;
-    }
+/// What the lines show at the instant, by the definitions of the same names.
+impl Bus {
+    ghost use Rattle.vme_cert.specs.Instant.{IsBusOf, starts_transfer};
 
-    /// The last instant.
-    pub(crate) fn last_instant(&self) -> u32
-        ensures last { result ≡ last_instant self.now.capture.now }
-        ensures limited { result ≤ capture_limit }
-    {
-        self.capture.steps().len() as u32
-    }
-
-    /// Whether the line was low at the instant before.
-    #[tactic(auto, unfolding(vme_trace::specs::Signals::low))]
     pub(crate) fn was_low(&self, line: Line) -> bool
-        requires { IsTrue (has_line self.now.capture.now.opening.slots line) }
-        ensures { result ≡ low self.now.capture.now line (self.now.instant - 1) }
+        requires { IsTrue (has_line self.now.levels.slots line) }
+        ensures { (t : Trace) → IsBusOf t self.now → result ≡ low t line (self.now.instant - 1) }
     {
         self.before.level(line).is_low()
     }
 
-    /// Whether it was high.
-    #[tactic(auto, unfolding(vme_trace::specs::Signals::high))]
-    pub(crate) fn was_high(&self, line: Line) -> bool
-        requires { IsTrue (has_line self.now.capture.now.opening.slots line) }
-        ensures { result ≡ high self.now.capture.now line (self.now.instant - 1) }
-    {
-        self.before.level(line).is_high()
-    }
-
-    /// Whether it is low at the instant.
-    #[tactic(auto, unfolding(vme_trace::specs::Signals::low))]
     pub(crate) fn low(&self, line: Line) -> bool
-        requires { IsTrue (has_line self.now.capture.now.opening.slots line) }
-        ensures { result ≡ low self.now.capture.now line self.now.instant }
+        requires { IsTrue (has_line self.now.levels.slots line) }
+        ensures { (t : Trace) → IsBusOf t self.now → result ≡ low t line self.now.instant }
     {
         self.levels.level(line).is_low()
     }
 
-    /// Whether it is high.
-    #[tactic(auto, unfolding(vme_trace::specs::Signals::high))]
-    pub(crate) fn high(&self, line: Line) -> bool
-        requires { IsTrue (has_line self.now.capture.now.opening.slots line) }
-        ensures { result ≡ high self.now.capture.now line self.now.instant }
-    {
-        self.levels.level(line).is_high()
-    }
-
-    /// Whether its level is known.
-    #[tactic(auto, unfolding(vme_trace::specs::Signals::known))]
     pub(crate) fn knows(&self, line: Line) -> bool
-        requires { IsTrue (has_line self.now.capture.now.opening.slots line) }
-        ensures { result ≡ known self.now.capture.now line self.now.instant }
+        requires { IsTrue (has_line self.now.levels.slots line) }
+        ensures { (t : Trace) → IsBusOf t self.now → result ≡ known t line self.now.instant }
     {
         self.levels.level(line).is_known()
     }
 
-    /// Whether the line falls.
-    #[tactic(auto, unfolding(vme_trace::specs::Signals::falls))]
     pub(crate) fn falls(&self, line: Line) -> bool
-        requires { IsTrue (has_line self.now.capture.now.opening.slots line) }
-        ensures { result ≡ falls self.now.capture.now line self.now.instant }
+        requires { IsTrue (has_line self.now.levels.slots line) }
+        ensures { (t : Trace) → IsBusOf t self.now → result ≡ falls t line self.now.instant }
     {
-        self.was_high(line) && self.low(line)
+        edges::falls(&self.before, &self.levels, line)
     }
 
-    /// Whether the line rises.
-    #[tactic(auto, unfolding(vme_trace::specs::Signals::rises))]
     pub(crate) fn rises(&self, line: Line) -> bool
-        requires { IsTrue (has_line self.now.capture.now.opening.slots line) }
-        ensures { result ≡ rises self.now.capture.now line self.now.instant }
+        requires { IsTrue (has_line self.now.levels.slots line) }
+        ensures { (t : Trace) → IsBusOf t self.now → result ≡ rises t line self.now.instant }
     {
-        self.was_low(line) && self.high(line)
+        edges::rises(&self.before, &self.levels, line)
     }
 
-    /// Whether the line is low at the instant or at the one before.
+    pub(crate) fn has_edge(&self, line: Line) -> bool
+        requires { IsTrue (has_line self.now.levels.slots line) }
+        ensures { (t : Trace) → IsBusOf t self.now → result ≡ has_edge t line self.now.instant }
+    {
+        !self.before.level(line).is_same(self.levels.level(line))
+    }
+
     pub(crate) fn low_near(&self, line: Line) -> bool
-        requires { IsTrue (has_line self.now.capture.now.opening.slots line) }
-        ensures { result ≡ near (low self.now.capture.now line) self.now.instant }
+        requires { IsTrue (has_line self.now.levels.slots line) }
+        ensures { (t : Trace) → IsBusOf t self.now → result ≡ near (low t line) self.now.instant }
     {
-        self.was_low(line) || self.low(line)
+        self.was_low(line) | self.low(line)
     }
 
-    /// Whether the line is high at the instant or at the one before.
     pub(crate) fn high_near(&self, line: Line) -> bool
-        requires { IsTrue (has_line self.now.capture.now.opening.slots line) }
-        ensures { result ≡ near (high self.now.capture.now line) self.now.instant }
+        requires { IsTrue (has_line self.now.levels.slots line) }
+        ensures { (t : Trace) → IsBusOf t self.now → result ≡ near (high t line) self.now.instant }
     {
-        self.was_high(line) || self.high(line)
+        self.before.level(line).is_high() | self.levels.level(line).is_high()
     }
 
-    /// Goes on to the next idle instant, this one included, if there is one.
-    #[tactic(auto, unfolding(vme_trace::specs::Judged::is_idle_at))]
-    pub(crate) fn next_idle(&mut self) -> Option<u32>
-        ensures trace { self.new.capture ≡ self.old.capture }
-        ensures idle { result
-            ≡ least (is_idle_at self.old.capture.now) self.old.instant (last_instant self.old.capture.now + 1) }
-        ensures at { IfSome result (λ instant. self.new.instant ≡ instant) }
+    pub(crate) fn strobe_rises(&self) -> bool
+        ensures { (t : Trace) → IsBusOf t self.now → result ≡ strobe_rises t self.now.instant }
     {
-        for instant in self.instant..self.last_instant() + 1 {
-            if self.levels.is_idle() {
-                return Some(instant);
-            }
-            self.advance();
-        }
-        None
+        edges::strobe_rises(&self.before, &self.levels)
     }
 
-    /// The next instant after an idle one at which the bus is reset or a control line is unknown, or past the last.
-    #[tactic(auto, unfolding(vme_trace::specs::Judged::is_idle_at))]
-    pub(crate) fn next_stop(&self) -> u32
-        requires within { self.now.instant ≤ last_instant self.now.capture.now }
-        requires idle { is_idle_at self.now.capture.now self.now.instant ≡ true }
-        ensures { result ≡ span_end self.now.capture.now self.now.instant }
+    pub(crate) fn strobe_falls(&self) -> bool
+        ensures { (t : Trace) → IsBusOf t self.now → result ≡ strobe_falls t self.now.instant }
     {
-        let past = self.last_instant() + 1;
-        let mut levels = self.levels;
-        for instant in self.instant + 1..past {
-            let (changes, _time) = step_at(self.capture, instant);
-            levels.apply(changes);
-            if levels.is_reset() || levels.lost_among(changes).is_some() {
-                return instant;
-            }
-        }
-        past
+        edges::strobe_falls(&self.before, &self.levels)
     }
+
+    pub(crate) fn strobes_high(&self) -> bool
+        ensures { (t : Trace) → IsBusOf t self.now → result ≡ strobes_high t self.now.instant }
+    {
+        edges::has_strobes_high(&self.levels)
+    }
+
+    pub(crate) fn answer_falls(&self) -> bool
+        ensures { (t : Trace) → IsBusOf t self.now → result ≡ answer_falls t self.now.instant }
+    {
+        edges::answer_falls(&self.before, &self.levels)
+    }
+
+    /// Both strobes were high and one is low: at a judged instant a transfer starts.
+    pub(crate) fn transfer_starts(&self) -> bool
+        ensures { (t : Trace) → IsBusOf t self.now → result ≡ starts_transfer t self.now.instant }
+    {
+        edges::starts_transfer(&self.before, &self.levels)
+    }
+
+    pub(crate) fn requests(&self, level: u8) -> bool
+        requires { level < 4 }
+        ensures { (t : Trace) → IsBusOf t self.now → result ≡ low t (BR level) self.now.instant }
+    {
+        self.low(Line::bus_request(level))
+    }
+
+    #[tactic(auto, unfolding(vme_trace::specs::Instants::any, vme_trace::specs::Tenures::grant_falls))]
+    pub(crate) fn grant_falls(&self) -> bool
+        ensures { (t : Trace) → IsBusOf t self.now → result ≡ grant_falls t self.now.instant }
+    {
+        self.falls(Line::grant(0, 0))
+            | self.falls(Line::grant(1, 0))
+            | self.falls(Line::grant(2, 0))
+            | self.falls(Line::grant(3, 0))
+    }
+
+    #[tactic(auto, unfolding(vme_trace::specs::Instants::any, vme_trace::specs::Tenures::is_granting))]
+    fn is_granting(&self) -> bool
+        ensures { (t : Trace) → IsBusOf t self.now → result ≡ is_granting t self.now.instant }
+    {
+        self.low(Line::grant(0, 0))
+            | self.low(Line::grant(1, 0))
+            | self.low(Line::grant(2, 0))
+            | self.low(Line::grant(3, 0))
+    }
+
+    /// The levels as the arbiter grants, or else those of the instant before: whose grant a tenure takes that starts
+    /// here.
+    #[tactic(auto, using(crate::proofs::Granted::grants))]
+    fn granted(&self) -> &Lines
+        ensures { (t : Trace) → IsBusOf t self.now → result.now ≡ levels_at t (taken_grant t self.now.instant) }
+    {
+        if self.is_granting() {
+            &self.levels
+        } else {
+            &self.before
+        }
+    }
+
+    /// The level by which a tenure that starts here has its grant, 0 to 3.
+    pub(crate) fn tenure_level(&self) -> Option<u8>
+        ensures level { (t : Trace) → IsBusOf t self.now → result ≡ tenure_level t self.now.instant }
+        ensures below { IfSome result (λ level. level < 4) }
+    {
+        granted_level(self.granted())
+    }
+
+    /// The slot that takes its grant, counted from 1: the chain is low up to that slot's input.
+    pub(crate) fn tenure_slot(&self) -> Option<u8>
+        ensures { (t : Trace) → IsBusOf t self.now → result ≡ tenure_slot t self.now.instant }
+    {
+        let level = self.tenure_level()?;
+        Some(granted_slot(self.granted(), level))
+    }
+}
+
+/// The least level that the arbiter grants at these levels of the lines.
+fn granted_level(lines: &Lines) -> Option<u8>
+    ensures level { result ≡ least (λ n. is_low (level_at lines.now (grant n 0))) 0 4 }
+    ensures below { IfSome result (λ level. level < 4) }
+{
+    let level = least(
+        0,
+        4,
+        |level| lines.level(Line::grant(level as u8, 0)).is_low(),
+    )?;
+    Some(level as u8)
+}
+
+/// The slot that drives the first net of the chain of a level that isn't low, or the one behind the last.
+fn granted_slot(lines: &Lines, level: u8) -> u8
+    requires { level < 4 }
+    ensures { result ≡ unwrap_or (least (λ k. not (is_low (level_at lines.now (grant level k)))) 0
+        (lines.now.slots + 1)) (lines.now.slots + 1) }
+{
+    let past = u32::from(lines.slots()) + 1;
+    let is_high = |place: u32| !lines.level(Line::grant(level, place as u8)).is_low();
+    least(0, past, is_high).unwrap_or(past) as u8
 }

@@ -1,14 +1,16 @@
 //! Whether a listing is that of a recording: as its rows, or as its text.
 
-ghost use Rattle.std.specs.Prelude.{◌≡◌, IfOk, IfErr};
+ghost use Rattle.std.specs.Prelude.{◌≡◌, [], List, IfOk, IfErr};
 ghost use Rattle.vme_listing.specs.Reading.{IsFirstFault, IsNoListing};
-ghost use Rattle.vme_cert.specs.Words.{recorded_rows, rows_in};
+ghost use Rattle.vme_listing.specs.Recorded.{recorded_rows, rows_in};
+ghost use Rattle.vme_listing.specs.declared.row.Row.{Row};
 ghost use Rattle.vme_cert.specs.Agreement.{DecidesListing, DecidesText};
+ghost use Rattle.vme_cert.specs.Comparing.{Decides};
 
-use crate::candidate::Candidate;
-use crate::listing_matcher::ListingMatcher;
+use crate::checker::Checker;
+use crate::source::{ListedRows, RowSource, TextRows};
 use std::alloc::{AllocError, Global};
-use vme_listing::{ListFault, Listing, ListingText, read_listing};
+use vme_listing::{ListFault, Listing, RowReader, Version};
 use vme_trace::Capture;
 
 /// What a check of a listing says.
@@ -23,38 +25,45 @@ pub enum Answer {
     },
 }
 
+/// Whether rows that are given one by one are those of the listing of a capture in a version; and what they come from.
+fn check<S: RowSource>(capture: &Capture, version: Version, source: S) -> (Answer, S)
+    ensures { (whole : S.Whole) → S.gave whole source [] → (more : List Row) × S.gave whole result.1 more
+        × Decides S.is_over more (rows_in version (recorded_rows capture.now)) result.1 result.0 }
+{
+    let mut checker = Checker::new(capture.opening(), version, source);
+    for step in capture.steps() {
+        checker.step(step.changes.as_slice());
+    }
+    checker.finish()
+}
+
 /// Whether a listing is the one of a capture in its version, by the definitions alone. If not, the first row that
-/// differs. The only error is want of memory.
+/// differs. The only error of the type is want of memory, and nothing takes memory.
 pub fn confirm(alloc: Global, capture: &Capture, listing: &Listing) -> Result<Answer, AllocError>
     ensures { IfOk result (λ answer. DecidesListing listing.now.rows
         (rows_in listing.now.version (recorded_rows capture.now)) answer) }
 {
-    let mut matcher = ListingMatcher::new(listing.version(), Candidate::Rows(listing.rows()));
-    matcher.follow_capture(alloc, capture)?;
-    Ok(matcher.answer())
+    let _ = alloc;
+    let (answer, _source) = check(capture, listing.version(), ListedRows::of(listing.rows()));
+    Ok(answer)
 }
 
 /// Whether a text is the one of the listing of a capture in its version. If not, the first row that differs, or the
-/// first fault of the text. The right rows are written as they are found, and compared as bytes: the text is read only
-/// where one of them differs.
+/// first fault of the text, which is read row by row.
 pub fn confirm_text(alloc: Global, capture: &Capture, text: &[u8]) -> Result<Answer, ListFault>
     ensures answer { IfOk result (λ answer. DecidesText text.now capture.now answer) }
     ensures first { IfErr result (λ fault. IsFirstFault text.now fault) }
     ensures none { IfErr result (λ fault. IsNoListing text.now fault) }
 {
-    let Some(behind) = ListingText::of(text) else {
+    let _ = alloc;
+    let Some(reader) = RowReader::of(text) else {
         return Err(ListFault::BadHeader);
     };
-    let (_slots, _steps) = (capture.opening().slots(), capture.steps());
-    let mut matcher = ListingMatcher::new(behind.version(), Candidate::Text(behind));
-    let Ok(()) = matcher.follow_capture(alloc, capture) else {
-        return Err(ListFault::Memory);
-    };
-    match matcher.answer() {
-        Answer::Yes => Ok(Answer::Yes),
-        Answer::No { row } => {
-            read_listing(alloc, text)?;
-            Ok(Answer::No { row })
-        }
+    let version = reader.version();
+    let rows = TextRows::of(reader);
+    let (answer, source) = check(capture, version, rows);
+    match source.fault() {
+        Some(fault) => Err(fault),
+        None => Ok(answer),
     }
 }

@@ -1,15 +1,29 @@
-//! The rows that begin at an instant.
+//! The rows that start at an instant, and those that end.
 
-ghost use Rattle.std.specs.Prelude.{◌≡◌, ◌+◌, ◌^◌, ◌<◌, ◌≤◌, true, Some, None};
-ghost use Rattle.std.specs.Prelude.{if◌then◌else◌};
-ghost use Rattle.vme_cert.specs.Words.{option_to_list, class_of, needs_of, address_to, cycle_row, tenure_rows};
-ghost use Rattle.vme_cert.specs.Words.{cycle_rows, transfer_rows, transfer_starts, answers, is_write, data_at};
-ghost use Rattle.vme_cert.specs.Words.{last_instant};
+ghost use Rattle.std.specs.Prelude.{◌≡◌, ◌+◌, ◌<◌, ◌≤◌, ◌^◌, ℕ, List, Option, None, Some, if◌then◌else◌};
+ghost use Rattle.vme_trace.specs.Cycle.{class_of, needs_of};
+ghost use Rattle.vme_trace.specs.Judged.{Stretch};
+ghost use Rattle.vme_trace.specs.LineNumbers.{DTACK};
+ghost use Rattle.vme_trace.specs.Signals.{falls};
+ghost use Rattle.vme_trace.specs.Trace.{Trace};
+ghost use Rattle.vme_listing.specs.Recorded.{address_to, cycle_row, data_of, transfer_row};
+ghost use Rattle.vme_listing.specs.declared.row.AnswerLine.TheVariants.{Berr, Dtack};
+ghost use Rattle.vme_listing.specs.declared.row.Direction.TheVariants.{Read, Write};
+ghost use Rattle.vme_listing.specs.declared.row.Row.{Row};
+ghost use Rattle.vme_listing.specs.declared.row.Version.{Version};
+ghost use Rattle.vme_cert.specs.Ended.{ended};
+ghost use Rattle.vme_cert.specs.Following.{CanClose, Follows, IsInStretch, WithAnswer, WithCycle, WithTenure};
+ghost use Rattle.vme_cert.specs.Following.{WithTransfer};
+ghost use Rattle.vme_cert.specs.Instant.{IsBusOf};
+ghost use Rattle.vme_cert.specs.State.{IsLastCycle, IsOpenTransfer, IsStateOf};
 
-use crate::index::BusEvent::{AcknowledgeFall, AddressRise, BusyRise, StrobesHigh};
-use crate::instant_view::InstantView;
+use crate::bus::Bus;
+use crate::comparison::OpenRow;
+use crate::open_rows::OpenRows;
+use crate::source::RowSource;
+use crate::state::{Cycle, State, Transfer};
 use vme_listing::{AnswerLine, Direction, Row};
-use vme_trace::{Class, Lanes, Line, Lines, NeededLines, am_code};
+use vme_trace::{Class, Lanes, Line, Lines, NeededLines, am_class, am_code, moved_data, needed};
 
 /// The address on the address lines that a cycle needs which starts at these levels, a high line being 1 and any other
 /// 0.
@@ -30,127 +44,246 @@ fn address_on(lines: &Lines, needs: NeededLines) -> u32
     address
 }
 
-/// The row of a cycle of a class and with its needs, which starts at these levels.
-fn cycle_row(start: u32, lines: &Lines, cycle: (Class, NeededLines), end: Option<u32>) -> Row
-    requires class { cycle.0 ≡ class_of lines.now }
-    requires needs { cycle.1 ≡ needs_of lines.now }
-    ensures { result ≡ cycle_row start lines.now end (class_of lines.now) }
+/// The row of a cycle that starts at these levels, but for its end.
+fn cycle_row(start: u32, lines: &Lines) -> Row
+    ensures { result ≡ cycle_row start lines.now None (class_of lines.now) }
 {
+    let class = am_class(lines);
     let modifier = am_code(lines);
-    let address = address_on(lines, cycle.1);
-    match cycle.0 {
+    let address = address_on(lines, needed(lines));
+    match class {
         Class::I => {
             let level = (address / 2) as u8;
-            Row::InterruptCycle { start, level, end }
+            Row::InterruptCycle {
+                start,
+                level,
+                end: None,
+            }
         }
         Class::F => Row::FreeCycle {
             start,
             modifier,
-            end,
+            end: None,
         },
         class => Row::AddressedCycle {
             start,
             class,
             modifier,
             address,
-            end,
+            end: None,
         },
     }
 }
 
-impl InstantView<'_> {
-    ghost use Rattle.vme_cert.specs.Judging.{trace, span, instant, noted};
+fn direction(is_write: bool) -> Direction
+    ensures { result ≡ (if is_write then Write else Read) }
+{
+    if is_write {
+        Direction::Write
+    } else {
+        Direction::Read
+    }
+}
 
-    /// The row of the tenure that begins at the instant.
-    #[tactic(auto, unfolding(vme_listing::specs::Recorded::tenure_rows))]
-    pub(crate) fn tenure_row(&self, end: u32) -> Option<Row>
-        requires within { end ≤ noted self.now }
-        requires listed { instant self.now < end }
-        ensures { option_to_list result ≡ tenure_rows (trace self.now) (span self.now) end (instant self.now) }
+/// The row of a transfer that starts at the instant, and isn't answered yet.
+fn pending_row(bus: &Bus) -> Row
+    ensures { (t : Trace) (span : Stretch) (end : ℕ) → IsBusOf t bus.now
+        → result ≡ transfer_row t span end bus.now.instant None }
+{
+    Row::PendingTransfer {
+        start: bus.instant,
+        direction: direction(bus.low(Line::WRITE)),
+    }
+}
+
+/// The answer line that falls at the instant, DTACK* before BERR*.
+fn answer_line(bus: &Bus) -> AnswerLine
+    ensures { (t : Trace) → IsBusOf t bus.now
+        → result ≡ (if falls t DTACK bus.now.instant then Dtack else Berr) }
+{
+    if bus.falls(Line::DTACK) {
+        AnswerLine::Dtack
+    } else {
+        AnswerLine::Berr
+    }
+}
+
+/// The data that an answer at the instant takes, if it is that of a write: what the lines say before it, or there
+/// where the transfer starts there.
+fn answer_data(bus: &Bus, transfer: &Transfer) -> Option<Lanes>
+    ensures { (t : Trace) (span : Stretch) (end : ℕ) → IsBusOf t bus.now
+        → IsOpenTransfer t span (bus.now.instant + 1) bus.now.instant transfer.now
+        → result ≡ data_of t span end transfer.now.start bus.now.instant }
+{
+    if !transfer.is_write {
+        return None;
+    }
+    if transfer.start == bus.instant {
+        return Some(moved_data(&bus.levels));
+    }
+    Some(moved_data(&bus.before))
+}
+
+/// The row of a transfer that is answered at the instant, in a cycle, but for its close.
+fn answered_row(bus: &Bus, transfer: &Transfer, cycle: &Cycle) -> Row
+    ensures { (t : Trace) (span : Stretch) (end : ℕ) (edge : Option ℕ) → IsBusOf t bus.now
+        → IsOpenTransfer t span (bus.now.instant + 1) bus.now.instant transfer.now
+        → IsLastCycle t span (bus.now.instant + 1) bus.now.instant cycle.now
+        → ended result edge ≡ ended (transfer_row t span end transfer.now.start (Some bus.now.instant)) edge }
+{
+    Row::Transfer {
+        direction: direction(transfer.is_write),
+        line: answer_line(bus),
+        start: transfer.start,
+        cycle: cycle.start,
+        answer: bus.instant,
+        close: None,
+        lanes: answer_data(bus, transfer),
+    }
+}
+
+impl<S: RowSource> OpenRows<S> {
+    /// A stretch starts, with the tenure that is open there.
+    pub(crate) fn start(&mut self, bus: &Bus)
+        requires { self.old.compared.taken < 2 ^ 61 }
+        ensures rows { (whole : S.Whole) (version : Version) (done : List Row) (t : Trace) (span : Stretch)
+            → IsBusOf t bus.now → bus.now.instant ≡ span.start
+            → CanClose S.gave S.is_over whole version done self.old
+            → Follows S.gave S.is_over whole version done t span (span.start + 1) self.new }
+        ensures taken { self.new.compared.taken ≤ self.old.compared.taken + 2 }
     {
-        let (bus, span, start) = (self.bus, self.index.span, self.bus.instant);
-        if start == span.start && bus.low(Line::BBSY) {
-            let end = self.first(BusyRise, start + 1, end);
-            return Some(Row::OpenTenure { start, end });
+        let start = bus.instant;
+        self.follow(Row::Start { instant: start });
+        if !bus.low(Line::BBSY) {
+            return;
         }
-        if !bus.tenure_starts(span) {
-            return None;
-        }
-        Some(Row::Tenure {
-            start,
-            level: bus.tenure_level()?,
-            slot: bus.tenure_slot()?,
-            end: self.first(BusyRise, start + 1, end),
-        })
+        self.tenure = Some(self.compared.begin(Row::OpenTenure { start, end: None }));
     }
 
-    /// The row of the cycle that starts at the instant.
-    #[tactic(auto, unfolding(vme_listing::specs::Recorded::cycle_rows))]
-    pub(crate) fn cycle_row(&self, end: u32) -> Option<Row>
-        requires within { end ≤ noted self.now }
-        requires listed { instant self.now < end }
-        ensures { option_to_list result ≡ cycle_rows (trace self.now) (span self.now) end (instant self.now) }
+    /// A tenure starts where the bus becomes busy by a grant, and ends where it is free.
+    fn follow_tenure(&mut self, bus: &Bus)
+        requires { self.old.compared.taken < 2 ^ 62 }
+        ensures rows { (whole : S.Whole) (version : Version) (done : List Row) (t : Trace) (span : Stretch)
+            → IsInStretch t span bus.now
+            → Follows S.gave S.is_over whole version done t span bus.now.instant self.old
+            → WithTenure S.gave S.is_over whole version done t span bus.now.instant self.new }
+        ensures taken { self.new.compared.taken ≤ self.old.compared.taken + 1 }
     {
-        if !self.bus.cycle_starts(self.index.span) {
-            return None;
+        if bus.rises(Line::BBSY) {
+            self.compared.settle(self.tenure, Some(bus.instant));
+            self.tenure = None;
+            return;
         }
-        let start = self.bus.instant;
-        let end = self.first(AddressRise, start + 1, end);
-        Some(cycle_row(start, &self.bus.levels, self.cycle(start), end))
+        if !bus.falls(Line::BBSY) {
+            return;
+        }
+        let Some(level) = bus.tenure_level() else {
+            return;
+        };
+        let Some(slot) = bus.tenure_slot() else {
+            return;
+        };
+        self.tenure = Some(
+            self.compared.begin(Row::Tenure {
+                start: bus.instant,
+                level,
+                slot,
+                end: None,
+            }),
+        );
     }
 
-    /// The data that the answer takes of the transfer that starts at the instant, if it is a write.
-    #[tactic(auto, unfolding(vme_trace::specs::Transfers::is_write))]
-    fn write_data(&self, answer: u32) -> Option<Lanes>
-        requires starts { transfer_starts (trace self.now) (span self.now) (instant self.now) ≡ true }
-        requires answer { answers (trace self.now) (span self.now) (instant self.now) answer ≡ true }
-        requires from { instant self.now ≤ answer }
-        requires within { answer ≤ last_instant (trace self.now) }
-        ensures { result ≡ (if is_write (trace self.now) (span self.now) (instant self.now)
-            then Some (data_at (trace self.now) (span self.now) answer) else None) }
+    /// A cycle starts where the address strobe falls, and ends where it rises.
+    fn follow_cycle(&mut self, bus: &Bus)
+        requires { self.old.compared.taken < 2 ^ 62 }
+        ensures rows { (whole : S.Whole) (version : Version) (done : List Row) (t : Trace) (span : Stretch)
+            → IsInStretch t span bus.now
+            → WithTenure S.gave S.is_over whole version done t span bus.now.instant self.old
+            → WithCycle S.gave S.is_over whole version done t span bus.now.instant self.new }
+        ensures taken { self.new.compared.taken ≤ self.old.compared.taken + 1 }
     {
-        if self.bus.low(Line::WRITE) {
-            Some(self.data(answer))
-        } else {
-            None
+        if bus.rises(Line::AS) {
+            self.compared.settle(self.cycle, Some(bus.instant));
+            self.cycle = None;
+            return;
         }
+        if !bus.falls(Line::AS) {
+            return;
+        }
+        let row = cycle_row(bus.instant, &bus.levels);
+        self.cycle = Some(self.compared.begin(row));
     }
 
-    /// The row of the transfer that starts at the instant.
-    #[tactic(auto, unfolding(vme_listing::specs::Recorded::transfer_rows, vme_trace::specs::Signals::low))]
-    pub(crate) fn transfer_row(&self, end: u32) -> Option<Row>
-        requires within { end ≤ noted self.now }
-        requires listed { instant self.now < end }
-        ensures { option_to_list result ≡ transfer_rows (trace self.now) (span self.now) end (instant self.now) }
+    /// A transfer starts.
+    fn begin_transfer(&mut self, bus: &Bus)
+        requires { self.old.compared.taken < 2 ^ 62 }
+        ensures rows { (whole : S.Whole) (version : Version) (done : List Row) (t : Trace) (span : Stretch)
+            → IsInStretch t span bus.now
+            → WithCycle S.gave S.is_over whole version done t span bus.now.instant self.old
+            → WithTransfer S.gave S.is_over whole version done t span bus.now.instant self.new }
+        ensures taken { self.new.compared.taken ≤ self.old.compared.taken + 1 }
     {
-        if !self.bus.transfer_starts(self.index.span) {
-            return None;
+        if !bus.transfer_starts() {
+            return;
         }
-        let start = self.bus.instant;
-        let direction = if self.bus.low(Line::WRITE) {
-            Direction::Write
-        } else {
-            Direction::Read
+        let row = pending_row(bus);
+        self.transfer = Some(self.compared.begin(row));
+    }
+
+    /// The last transfer is answered.
+    fn answer_transfer(&mut self, bus: &Bus, state: &State)
+        ensures rows { (whole : S.Whole) (version : Version) (done : List Row) (t : Trace) (span : Stretch)
+            → IsStateOf t span bus.now state.now
+            → WithTransfer S.gave S.is_over whole version done t span bus.now.instant self.old
+            → WithAnswer S.gave S.is_over whole version done t span bus.now.instant self.new }
+        ensures taken { self.new.compared.taken ≡ self.old.compared.taken }
+    {
+        if !state.is_answer(bus) {
+            return;
+        }
+        let Some(open) = self.transfer else {
+            return;
         };
-        let Some(answer) = self.answer_of(start, end) else {
-            return Some(Row::PendingTransfer { start, direction });
-        };
-        let Some(cycle) = self.cycle_of(answer) else {
-            return Some(Row::PendingTransfer { start, direction });
-        };
-        let line = if self.any(AcknowledgeFall, answer, answer + 1) {
-            AnswerLine::Dtack
-        } else {
-            AnswerLine::Berr
-        };
-        Some(Row::Transfer {
-            start,
-            cycle,
-            direction,
-            line,
-            answer,
-            close: self.first(StrobesHigh, start + 1, end),
-            lanes: self.write_data(answer),
-        })
+        let started = state.cycle.has_started;
+        if !started {
+            return;
+        }
+        let row = answered_row(bus, &state.transfer, &state.cycle);
+        self.transfer = Some(OpenRow {
+            place: open.place,
+            given: open.given,
+            right: row.in_version(self.compared.version),
+        });
+    }
+
+    /// The last transfer closes where both strobes are high.
+    fn close_transfer(&mut self, bus: &Bus)
+        ensures rows { (whole : S.Whole) (version : Version) (done : List Row) (t : Trace) (span : Stretch)
+            → IsInStretch t span bus.now
+            → WithAnswer S.gave S.is_over whole version done t span bus.now.instant self.old
+            → Follows S.gave S.is_over whole version done t span (bus.now.instant + 1) self.new }
+        ensures taken { self.new.compared.taken ≡ self.old.compared.taken }
+    {
+        if !bus.strobes_high() {
+            return;
+        }
+        self.compared.settle(self.transfer, Some(bus.instant));
+        self.transfer = None;
+    }
+
+    /// What starts and what ends at a judged instant without a break.
+    pub(crate) fn follow_instant(&mut self, bus: &Bus, state: &State)
+        requires { self.old.compared.taken < 2 ^ 61 }
+        ensures rows { (whole : S.Whole) (version : Version) (done : List Row) (t : Trace) (span : Stretch)
+            → IsStateOf t span bus.now state.now
+            → Follows S.gave S.is_over whole version done t span bus.now.instant self.old
+            → Follows S.gave S.is_over whole version done t span (bus.now.instant + 1) self.new }
+        ensures taken { self.new.compared.taken ≤ self.old.compared.taken + 3 }
+    {
+        self.follow_tenure(bus);
+        self.follow_cycle(bus);
+        self.begin_transfer(bus);
+        self.answer_transfer(bus, state);
+        self.close_transfer(bus);
     }
 }

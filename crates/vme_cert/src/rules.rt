@@ -1,65 +1,73 @@
-//! Tenures, and the rules, one by one, as they are defined.
+//! The rules, in the order of docs/PROTOCOL.md, and the first that is broken at an instant.
 
-ghost use Rattle.std.specs.Prelude.{◌≡◌, ◌+◌, ◌-◌, ◌<◌, ◌≤◌, ◌==◌, ◌&&◌, ◌||◌};
-ghost use Rattle.vme_cert.specs.Words.{not, true, IfSome, IsTrue, any, none, grant, has_line, line_count};
-ghost use Rattle.vme_cert.specs.Words.{is_slot_grant, is_slot_iack, input_of as input_net, in_transfer, is_answered};
-ghost use Rattle.vme_cert.specs.Words.{in_cycle, low, taken_grant, tenure_level, tenure_slot, last_before, levels_at};
-ghost use Rattle.vme_cert.specs.Words.{is_granting, last_instant, nat_lt, false, breaks};
-ghost use Rattle.vme_trace.specs.Judged.{is_judged};
-ghost use Rattle.vme_trace.specs.Rules.{ends_span};
-ghost use Rattle.vme_cert.specs.Events.{happens, is_acknowledged};
-ghost use Rattle.vme_cert.specs.Watching.{lines_of, speaks_of, shows, spoils, is_held, is_open_write, is_held_write};
-ghost use Rattle.vme_cert.specs.Watching.{asks};
+ghost use Rattle.std.specs.Prelude.{◌≡◌, ◌==◌, ℕ, ◌+◌, ◌<◌, ◌≤◌, ◌&&◌, ◌||◌, true, false, nat_le, not, IsTrue};
+ghost use Rattle.std.specs.List.{list_any};
+ghost use Rattle.vme_trace.specs.Instants.{any, least};
+ghost use Rattle.vme_trace.specs.Changes.{is_changed};
+ghost use Rattle.vme_trace.specs.Names.{rule_number};
+ghost use Rattle.vme_trace.specs.Judged.{Stretch};
+ghost use Rattle.vme_trace.specs.LineNumbers.{grant, grant_level, grant_place, has_line, is_grant, is_slot_grant};
+ghost use Rattle.vme_trace.specs.LineNumbers.{is_slot_iack, line_count};
+ghost use Rattle.vme_trace.specs.LineNumbers.{input_of as input_net};
+ghost use Rattle.vme_trace.specs.Rules.{all_rules, breaks, is_block_class, is_broken, is_interrupt, is_option_equal};
+ghost use Rattle.vme_trace.specs.Rules.{is_single};
+ghost use Rattle.vme_trace.specs.Signals.{known, low};
+ghost use Rattle.vme_trace.specs.Tenures.{tenure_slot};
+ghost use Rattle.vme_trace.specs.Trace.{Trace};
+ghost use Rattle.vme_trace.specs.Verdict.{break_at};
+ghost use Rattle.vme_trace.specs.declared.rule.Rule.{Rule as BusRule};
+ghost use Rattle.vme_trace.specs.declared.rule.Rule.TheVariants.{H1, U3};
+ghost use Rattle.vme_cert.specs.Breaking.{LeadToInstant, named};
+ghost use Rattle.vme_cert.specs.RulesByLine.{rules_on, speaks_of};
+ghost use Rattle.vme_cert.specs.State.{IsStateOf};
 
 use crate::bus::Bus;
-use crate::index::BusEvent::{
-    self, AcknowledgeFall, AddressRise, BusyFall, CycleStart, ErrorFall, GrantFall, StrobeRise,
-    TransferStart,
-};
-use crate::instant_view::InstantView;
-use crate::search::{any, least};
+use crate::state::State;
 use vme_trace::Rule::{
-    B1, B2, B3, B4, C1, C2, G1, G2, G3, G4, G5, H1, H2, H3, H4, H5, H6, H7, H8, I1, I2, I3, I4, I5,
-    S1, S2, S3, U1, U2, U3, U4,
+    self, B1, B2, B3, B4, C1, C2, G1, G2, G3, G4, G5, H1, H2, H3, H4, H5, H6, H7, H8, I1, I2, I3,
+    I4, I5, S1, S2, S3, U1, U2, U3, U4,
 };
-use vme_trace::{Class, LINE_COUNT, Line, Lines, Rule, is_selected, needed};
+use vme_trace::{Change, Class, LINE_COUNT, Line, RULE_COUNT, is_selected, needed};
 
-/// The line of a number.
-pub(crate) fn nth_line(number: u32) -> Line
-    requires { number < line_count }
-    ensures { result ≡ number }
-{
-    Line::from_number(number as u8).unwrap()
-}
-
-/// The numbers of the lines of which a rule speaks, the first one included and the end not.
+/// The rules that may be broken on a line at a judged instant. U1 is broken at none.
 #[inline(always)]
-pub(crate) fn lines_of(rule: Rule) -> (u8, u8)
-    ensures { result ≡ lines_of rule }
+#[tactic(auto, unfolding(crate::specs::RulesByLine::rules_on))]
+fn rules_on(line: Line) -> &'static [Rule]
+    ensures rules { result.now ≡ rules_on line }
+    ensures exists { line < line_count }
 {
-    match rule {
-        U1 => (Line::AS.number(), LINE_COUNT),
-        H7 | B3 => (Line::AS.number(), Line::DS0.number()),
-        H2 | H3 => (Line::DS0.number(), Line::DTACK.number()),
-        H1 | H4 | H5 | H6 | H8 | C1 | C2 | I4 | I5 => (Line::DTACK.number(), Line::IACK.number()),
-        U2 | S1 => (Line::IACK.number(), Line::BBSY.number()),
-        U3 | S2 => (Line::WRITE.number(), Line::address(1).number()),
-        B1 | B2 | B4 => (Line::BBSY.number(), Line::bus_request(0).number()),
-        G1 | G2 | G3 | G4 | G5 => (Line::grant(0, 0).number(), Line::iack(1).number()),
-        I1 | I2 | I3 => (Line::iack(1).number(), Line::data(0).number()),
-        U4 | S3 => (Line::data(0).number(), Line::SYSRESET.number()),
+    match line.number() {
+        0 => &[H7, B3],
+        1..=2 => &[H2, H3],
+        3..=4 => &[H1, H4, H5, H6, H8, C1, C2, I4, I5],
+        13 => &[U2, U3, S1, S2],
+        5..=44 => &[U2, S1],
+        45 => &[B1, B2, B4],
+        50..=137 => &[G1, G2, G3, G4, G5],
+        138..=158 => &[I1, I2, I3],
+        159..=190 => &[U4, S3],
+        _ => &[],
     }
 }
 
-/// Whether a rule speaks of a line.
-#[inline(always)]
-fn speaks_of(rule: Rule, line: Line) -> bool
-    ensures is { result ≡ speaks_of rule line }
-    ensures exists { line < line_count }
+fn is_listed(rules: &[Rule], number: u8) -> bool
+    ensures { result ≡ list_any (λ rule. rule_number rule == number) rules.now }
 {
-    let (first, end) = lines_of(rule);
-    let number = line.number();
-    first <= number && number < end
+    rules.iter().any(|rule| rule.number() == number)
+}
+
+/// Whether a rule speaks of a line.
+fn speaks_of(rule: Rule, line: Line) -> bool
+    ensures { result ≡ speaks_of rule line }
+{
+    is_listed(rules_on(line), rule.number())
+}
+
+fn nth_line(number: u8) -> Line
+    requires { number < line_count }
+    ensures { result ≡ number }
+{
+    Line::from_number(number).unwrap()
 }
 
 /// The net at the input of the slot that drives a net.
@@ -70,300 +78,309 @@ fn input_of(line: Line) -> Line
     if line == Line::iack(1) {
         return Line::IACK;
     }
-    Line::from_number(line.number() - 1).unwrap()
+    nth_line(line.number() - 1)
 }
 
-impl Bus<'_> {
-    /// Whether the arbiter grants some level.
-    #[tactic(auto, unfolding(vme_trace::specs::Signals::low, vme_trace::specs::Tenures::is_granting))]
-    fn is_granting(&self) -> bool
-        ensures { result ≡ is_granting self.now.capture.now self.now.instant }
+fn level_of(line: Line) -> u8
+    requires { IsTrue (is_grant line) }
+    ensures level { result ≡ grant_level line }
+    ensures below { result < 4 }
+{
+    line.grant_place().unwrap_or((0, 0)).0
+}
+
+/// Whether the arbiter drives a grant net.
+fn is_first(line: Line) -> bool
+    requires { IsTrue (is_grant line) }
+    ensures { result ≡ (grant_place line == 0) }
+{
+    line.grant_place().unwrap_or((0, 0)).1 == 0
+}
+
+/// Whether a slot drives it.
+fn is_passed_on(line: Line) -> bool
+    requires { IsTrue (is_grant line) }
+    ensures { result ≡ is_slot_grant line }
+{
+    line.grant_place().unwrap_or((0, 0)).1 > 0
+}
+
+fn is_single(class: Class) -> bool
+    ensures { result ≡ is_single class }
+{
+    matches!(class, Class::S)
+}
+
+fn is_block(class: Class) -> bool
+    ensures { result ≡ is_block_class class }
+{
+    matches!(class, Class::K)
+}
+
+fn is_interrupt(class: Class) -> bool
+    ensures { result ≡ is_interrupt class }
+{
+    matches!(class, Class::I)
+}
+
+impl Bus {
+    ghost use Rattle.vme_cert.specs.Instant.{IsBusOf};
+
+    /// Whether the arbiter grants a level other than by this net.
+    fn grants_besides(&self, level: u8, line: Line) -> bool
+        requires { level < 4 }
+        ensures { (t : Trace) → IsBusOf t self.now
+            → result ≡ (not (grant level 0 == line) && low t (grant level 0) self.now.instant) }
     {
-        let now = &self.levels;
-        any(
-            0,
-            4,
-            |level| now.level(Line::grant(level as u8, 0)).is_low(),
-        )
+        let net = Line::grant(level, 0);
+        (net.number() != line.number()) & self.low(net)
     }
 
-    /// The levels as the arbiter grants, or else those of the instant before: whose grant a tenure takes that starts
-    /// here.
-    #[tactic(auto, unfolding(vme_trace::specs::Tenures::taken_grant))]
-    fn granted(&self) -> &Lines
-        ensures { result.now ≡ levels_at self.now.capture.now (taken_grant self.now.capture.now self.now.instant) }
+    /// Whether the arbiter grants another level than that of a net.
+    #[tactic(auto, unfolding(vme_trace::specs::Instants::any))]
+    fn grants_other(&self, line: Line) -> bool
+        ensures { (t : Trace) → IsBusOf t self.now
+            → result ≡ any (λ n. not (grant n 0 == line) && low t (grant n 0) self.now.instant) 0 4 }
     {
-        if self.is_granting() {
-            &self.levels
-        } else {
-            &self.before
+        self.grants_besides(0, line)
+            | self.grants_besides(1, line)
+            | self.grants_besides(2, line)
+            | self.grants_besides(3, line)
+    }
+
+    /// Whether the bus was granted to no slot, as the grant went past the last.
+    #[tactic(auto, using(vme_trace::proofs::SpanEnds::slots_at))]
+    fn is_past_last(&self) -> bool
+        ensures { (t : Trace) → IsBusOf t self.now
+            → result ≡ is_option_equal (tenure_slot t self.now.instant) (t.opening.slots + 1) }
+    {
+        match self.tenure_slot() {
+            Some(slot) => slot == self.levels.slots() + 1,
+            None => false,
+        }
+    }
+}
+
+impl State {
+    /// Whether a rule is broken on a line.
+    #[inline(never)]
+    #[tactic(auto, unfolding(vme_trace::specs::Rules::is_broken), using(crate::proofs::Arms::asked))]
+    fn is_broken(&self, bus: &Bus, rule: Rule, line: Line) -> bool
+        requires has { IsTrue (has_line bus.now.levels.slots line) }
+        requires speaks { IsTrue (speaks_of rule line) }
+        ensures { (t : Trace) (span : Stretch) → IsStateOf t span bus.now self.now
+            → result ≡ is_broken t span rule bus.now.instant line }
+    {
+        match rule {
+            U1 => false,
+            U2 => bus.falls(Line::AS) && (needed(&bus.levels).has(line) & !bus.knows(line)),
+            U3 => bus.transfer_starts() & !bus.knows(line),
+            U4 => {
+                bus.strobe_falls()
+                    && (is_selected(&bus.levels, line)
+                        & !bus.knows(line)
+                        & (self.transfer.is_open
+                            & self.transfer.is_write
+                            & !self.transfer.answered))
+            }
+            H1 => bus.transfer_starts() & !bus.high_near(line),
+            H2 => bus.rises(line) & self.is_unanswered(bus),
+            H3 => {
+                let was_answered = self.transfer.is_open
+                    & (self.transfer.start < bus.instant)
+                    & self.transfer.answered;
+                bus.falls(line) & was_answered
+            }
+            H4 => bus.falls(line) & !self.transfer.is_open,
+            H5 => {
+                let by_both = bus.falls(Line::DTACK) & bus.falls(Line::BERR);
+                bus.falls(line) & (self.transfer.is_open & (self.transfer.answered | by_both))
+            }
+            H6 => bus.rises(line) & !(self.is_freed(line) | bus.strobe_rises()),
+            H7 => bus.rises(line) & self.is_unanswered(bus),
+            H8 => bus.falls(line) & self.is_answer(bus) & !bus.low_near(Line::AS),
+            S1 => {
+                let is_held = self.cycle.has_started
+                    & (self.cycle.start < bus.instant)
+                    & (self.cycle.runs & !bus.rises(Line::AS))
+                    & !self.cycle.answered
+                    & !self.is_answer(bus)
+                    & self.cycle.needs.has(line);
+                bus.has_edge(line) & is_held
+            }
+            S2 => {
+                let is_held = self.transfer.is_open
+                    & (self.transfer.start < bus.instant)
+                    & !self.transfer.rose_by(bus);
+                bus.has_edge(line) & is_held
+            }
+            S3 => {
+                self.is_data_held(bus) && (is_selected(&bus.before, line) & bus.has_edge(line))
+            }
+            C1 => {
+                let writes = self.answers_write(bus);
+                let spoils = self.cycle.answered_again | self.cycle.first_writes | !writes;
+                let pairs = self.cycle.has_started & is_single(self.cycle.class);
+                bus.falls(line) & self.is_answer(bus) & (pairs & (self.cycle.answered & spoils))
+            }
+            C2 => {
+                let turns = self.cycle.first_writes != self.answers_write(bus);
+                let keeps = self.cycle.has_started & is_block(self.cycle.class);
+                bus.falls(line) & self.is_answer(bus) & (keeps & (self.cycle.answered & turns))
+            }
+            G1 => is_passed_on(line) && (bus.falls(line) & !bus.low_near(input_of(line))),
+            G2 => is_passed_on(line) && (bus.rises(line) & !bus.high_near(input_of(line))),
+            G3 => is_first(line) & bus.falls(line) & bus.grants_other(line),
+            G4 => bus.falls(line) & !bus.high_near(Line::BBSY),
+            G5 => {
+                let level = level_of(line);
+                let requested = self.was_requested(level) | bus.requests(level);
+                is_first(line) & bus.falls(line) & !requested
+            }
+            B1 => bus.falls(line) & bus.tenure_level().is_none(),
+            B2 => bus.falls(line) & !(self.granted | bus.grant_falls()),
+            B3 => bus.falls(line) & !bus.low_near(Line::BBSY),
+            B4 => bus.falls(line) & bus.is_past_last(),
+            I1 => bus.falls(line) & !bus.low_near(input_of(line)),
+            I2 => {
+                let strobed = bus.low_near(Line::DS0) | bus.low_near(Line::DS1);
+                bus.falls(line) & !(bus.low_near(Line::AS) & strobed)
+            }
+            I3 => {
+                let acknowledged = self.cycle.has_started & self.cycle.acknowledged;
+                bus.falls(line) & bus.was_low(Line::AS) & bus.low(Line::AS) & acknowledged
+            }
+            I4 => {
+                let acknowledges = self.cycle.has_started & is_interrupt(self.cycle.class);
+                bus.falls(line) & self.answers_write(bus) & acknowledges
+            }
+            I5 => {
+                let acknowledges = self.cycle.has_started & is_interrupt(self.cycle.class);
+                bus.falls(line) & self.is_answer(bus) & (acknowledges & self.cycle.answered)
+            }
         }
     }
 
-    /// The level by which a tenure that starts here has its grant, 0 to 3.
-    #[tactic(auto, unfolding(vme_trace::specs::Signals::low, vme_trace::specs::Tenures::tenure_level))]
-    pub(crate) fn tenure_level(&self) -> Option<u8>
-        ensures level { result ≡ tenure_level self.now.capture.now self.now.instant }
-        ensures below { IfSome result (λ level. level < 4) }
+    /// Whether a rule is broken on a line of which it may not speak, or that the backplane may not have.
+    #[tactic(auto, using(crate::proofs::Breaks::asked_breaks))]
+    fn breaks(&self, bus: &Bus, rule: Rule, line: Line) -> bool
+        ensures { (t : Trace) (span : Stretch) → IsStateOf t span bus.now self.now
+            → result ≡ breaks t span rule bus.now.instant line }
     {
-        let granted = self.granted();
-        let level = least(
-            0,
-            4,
-            |level| granted.level(Line::grant(level as u8, 0)).is_low(),
-        )?;
-        Some(level as u8)
+        if !bus.levels.has(line) {
+            return false;
+        }
+        if !speaks_of(rule, line) {
+            return false;
+        }
+        self.is_broken(bus, rule, line)
     }
 
-    /// The slot that takes its grant, counted from 1: the chain is low up to that slot's input.
-    #[tactic(auto, unfolding(vme_trace::specs::Signals::low, vme_trace::specs::Tenures::tenure_slot))]
-    pub(crate) fn tenure_slot(&self) -> Option<u8>
-        ensures { result ≡ tenure_slot self.now.capture.now self.now.instant }
+    /// The least line on which a rule is broken, by their numbers the first one included and the end not.
+    #[tactic(auto, using(crate::proofs::Searching::steps))]
+    fn least_line(&self, bus: &Bus, rule: Rule, first: u8, end: u8) -> Option<Line>
+        requires { end ≤ line_count }
+        ensures { (t : Trace) (span : Stretch) → IsStateOf t span bus.now self.now
+            → result ≡ least (breaks t span rule bus.now.instant) first end }
     {
-        let level = self.tenure_level()?;
-        let granted = self.granted();
-        let past = u32::from(granted.slots()) + 1;
-        let is_high = |place: u32| !granted.level(Line::grant(level, place as u8)).is_low();
-        let slot = least(0, past, is_high).unwrap_or(past);
-        Some(slot as u8)
-    }
-}
-
-impl InstantView<'_> {
-    ghost use Rattle.vme_cert.specs.Judging.{trace, span, instant, noted, breaks_edge};
-
-    /// Whether something hasn't happened since the last time, before the instant, that something else did, or so much
-    /// later.
-    #[tactic(auto, unfolding(vme_trace::specs::Tenures::last_before))]
-    fn is_silent_since(&self, last: BusEvent, later: u32, event: BusEvent) -> bool
-        requires { later ≤ 1 }
-        ensures { result ≡ none (happens (trace self.now) (span self.now) event)
-            (last_before (trace self.now) (span self.now) (happens (trace self.now) (span self.now) last)
-            (instant self.now) + later) (instant self.now + 1) }
-    {
-        let (at, span) = (self.bus.instant, self.index.span);
-        let first = self.last(last, at).unwrap_or(span.start) + later;
-        !self.any(event, first, at + 1)
-    }
-
-    /// Whether a cycle that runs and isn't answered needs the line: one that started where AS* hasn't risen since.
-    fn is_held(&self, line: Line) -> bool
-        ensures { result ≡ is_held (trace self.now) (span self.now) (instant self.now) line }
-    {
-        let (at, span) = (self.bus.instant, self.index.span);
-        let mut from = self.last(AddressRise, at + 1).unwrap_or(span.start + 1);
-        while let Some(start) = self.first(CycleStart, from, at) {
-            if self.cycle(start).1.has(line) && !self.index.answers.any(start, at) {
-                return !self.is_answer(at);
+        for number in first..end {
+            let line = nth_line(number);
+            if self.breaks(bus, rule, line) {
+                return Some(line);
             }
-            from = start + 1;
+        }
+        None
+    }
+
+    /// Whether some rule is broken on a line.
+    fn is_line_broken(&self, bus: &Bus, line: Line) -> bool
+        requires { IsTrue (has_line bus.now.levels.slots line) }
+        ensures { (t : Trace) (span : Stretch) (rule : BusRule) → IsStateOf t span bus.now self.now → result ≡ false
+            → speaks_of rule line ≡ true → is_broken t span rule bus.now.instant line ≡ false }
+    {
+        for rule in rules_on(line) {
+            if self.is_broken(bus, *rule, line) {
+                return true;
+            }
         }
         false
     }
 
-    /// Whether the instant is in a write that isn't answered before.
-    fn is_open_write(&self) -> bool
-        ensures { result ≡ is_open_write (trace self.now) (span self.now) (instant self.now) }
+    /// Whether some rule is broken on a line that changes.
+    fn is_change_broken(&self, bus: &Bus, changes: &[Change]) -> bool
+        requires { LeadToInstant bus.now changes.now }
+        ensures { (t : Trace) (span : Stretch) (rule : BusRule) (l : ℕ) → IsStateOf t span bus.now self.now
+            → result ≡ false → is_changed changes.now l ≡ true → speaks_of rule l ≡ true
+            → is_broken t span rule bus.now.instant l ≡ false }
     {
-        let at = self.bus.instant;
-        match self.transfer(at) {
-            Some((start, answer)) => answer.unwrap_or(at) >= at && self.is_write(start),
-            None => false,
-        }
-    }
-
-    /// Whether it is in a write that started before and isn't answered by then, and no strobe rose since.
-    pub(crate) fn is_held_write(&self) -> bool
-        ensures { result ≡ is_held_write (trace self.now) (span self.now) (instant self.now) }
-    {
-        let at = self.bus.instant;
-        match self.transfer(at) {
-            Some((start, answer)) => {
-                start < at
-                    && answer.is_none()
-                    && self.is_write(start)
-                    && !self.any(StrobeRise, start + 1, at + 1)
+        for change in changes {
+            if self.is_line_broken(bus, change.line) {
+                return true;
             }
-            None => false,
         }
+        false
     }
 
-    /// Whether the cycle of an answer at the instant is one that a rule on cycles forbids then.
-    #[tactic(auto, unfolding(vme_trace::specs::Cycles::in_cycle))]
-    fn is_cycle_spoiled(&self, rule: Rule) -> bool
-        ensures { result ≡ spoils (trace self.now) (span self.now) rule (instant self.now) }
+    /// Whether a transfer starts with an unknown direction, or before both answers are high.
+    #[tactic(auto, using(crate::proofs::Breaks::started))]
+    fn is_transfer_start_broken(&self, bus: &Bus) -> bool
+        ensures direction { (t : Trace) (span : Stretch) (l : ℕ) → IsStateOf t span bus.now self.now → result ≡ false
+            → is_broken t span U3 bus.now.instant l ≡ false }
+        ensures answers { (t : Trace) (span : Stretch) (l : ℕ) → IsStateOf t span bus.now self.now → result ≡ false
+            → is_broken t span H1 bus.now.instant l ≡ false }
     {
-        let at = self.bus.instant;
-        let Some(start) = self.cycle_of(at) else {
-            return false;
-        };
-        let class = self.cycle(start).0;
-        match rule {
-            C1 => matches!(class, Class::S) && self.spoils_pair(start),
-            C2 => matches!(class, Class::K) && self.turns(start),
-            I4 => matches!(class, Class::I),
-            I5 => matches!(class, Class::I) && self.index.answers.any(start, at),
-            _ => false,
-        }
-    }
-
-    /// Whether a line shows what a rule asks first: that nothing is known of it, or an edge.
-    #[tactic(auto, unfolding(vme_trace::specs::Signals::known, vme_trace::specs::Signals::has_edge))]
-    #[inline(always)]
-    pub(crate) fn is_shown(&self, rule: Rule, line: Line) -> bool
-        requires { IsTrue (has_line (trace self.now).opening.slots line) }
-        ensures { result ≡ shows (trace self.now) rule line (instant self.now) }
-    {
-        let bus = self.bus;
-        match rule {
-            U1 | U2 | U3 | U4 => !bus.levels.level(line).is_known(),
-            H1 => !bus.high_near(line),
-            H2 | H6 | H7 | G2 => bus.rises(line),
-            S1 | S2 | S3 => !bus.before.level(line).is_same(bus.levels.level(line)),
-            _ => bus.falls(line),
-        }
-    }
-
-    /// Whether the rest of what a rule asks is so at the instant, on a line of which it speaks.
-    #[tactic(auto, unfolding(vme_trace::specs::Signals::low, vme_trace::specs::Cycles::in_cycle))]
-    #[inline(never)]
-    pub(crate) fn asks(&self, rule: Rule, line: Line) -> bool
-        requires line { IsTrue (has_line (trace self.now).opening.slots line) }
-        requires speaks { IsTrue (speaks_of rule line) }
-        requires within { instant self.now ≤ last_instant (trace self.now) }
-        ensures { result ≡ asks (trace self.now) (span self.now) rule (instant self.now) line }
-    {
-        let (bus, span, at) = (self.bus, self.index.span, self.bus.instant);
-        let (level, place) = line.grant_place().unwrap_or((0, 0));
-        match rule {
-            U1 => at == span.end && bus.levels.is_control(line) && !bus.levels.is_reset(),
-            U2 => bus.cycle_starts(span) && needed(&bus.levels).has(line),
-            U3 | H1 => bus.transfer_starts(span),
-            U4 => is_selected(&bus.levels, line) && bus.strobe_falls() && self.is_open_write(),
-            H2 | H7 => match self.transfer(at) {
-                Some((start, answer)) => start < at && answer.is_none(),
-                None => false,
-            },
-            H3 => match self.transfer(at) {
-                Some((_start, answer)) => answer.unwrap_or(at) < at,
-                None => false,
-            },
-            H4 => self.transfer(at).is_none(),
-            H5 => match self.transfer(at) {
-                Some((_start, answer)) => {
-                    answer.unwrap_or(at) < at || (bus.falls(Line::DTACK) && bus.falls(Line::BERR))
-                }
-                None => false,
-            },
-            H6 if line == Line::DTACK => self.is_silent_since(AcknowledgeFall, 0, StrobeRise),
-            H6 => self.is_silent_since(ErrorFall, 0, StrobeRise),
-            H8 => !bus.low_near(Line::AS) && self.is_answer(at),
-            S1 => self.is_held(line),
-            S2 => {
-                let risen = self.last(StrobeRise, at + 1).unwrap_or(span.start + 1);
-                self.any(TransferStart, risen, at)
-            }
-            S3 => is_selected(&bus.before, line) && self.is_held_write(),
-            C1 | C2 | I5 => self.is_cycle_spoiled(rule) && self.is_answer(at),
-            I4 => self.is_cycle_spoiled(rule) && self.answers_write(at),
-            G1 => place != 0 && !bus.low_near(input_of(line)),
-            G2 => place != 0 && !bus.high_near(input_of(line)),
-            G3 => {
-                let is_other = |level| {
-                    let net = Line::grant(level as u8, 0);
-                    net != line && bus.low(net)
-                };
-                place == 0 && any(0, 4, is_other)
-            }
-            G4 => !bus.high_near(Line::BBSY),
-            G5 => place == 0 && self.is_silent_since(GrantFall, 0, BusEvent::request(level)),
-            B1 => bus.tenure_level().is_none(),
-            B2 => self.is_silent_since(BusyFall, 1, GrantFall),
-            B3 => !bus.low_near(Line::BBSY),
-            B4 => match bus.tenure_slot() {
-                Some(slot) => slot == bus.levels.slots() + 1,
-                None => false,
-            },
-            I1 => !bus.low_near(input_of(line)),
-            I2 => {
-                let strobed = bus.low_near(Line::DS0) || bus.low_near(Line::DS1);
-                !(bus.low_near(Line::AS) && strobed)
-            }
-            I3 => match self.cycle_of(at.saturating_sub(1)) {
-                Some(start) => {
-                    let low = bus.was_low(Line::AS) && bus.low(Line::AS);
-                    low && self.index.acknowledges.any(start, at)
-                }
-                None => false,
-            },
-        }
-    }
-
-    /// Whether a rule counts at the instant: it is judged, or the rule is the one that ends judging.
-    fn counts(&self, rule: Rule) -> bool
-        ensures { result ≡ (ends_span rule || is_judged (span self.now) (instant self.now)) }
-    {
-        match rule {
-            U1 => true,
-            _ => self.index.span.contains(self.bus.instant),
-        }
-    }
-
-    /// Whether a rule is broken at the instant on a line, where it counts.
-    #[inline(always)]
-    pub(crate) fn breaks(&self, rule: Rule, line: Line) -> bool
-        ensures { result ≡ breaks (trace self.now) (span self.now) rule (instant self.now) line }
-    {
-        if !speaks_of(rule, line) {
+        if !bus.transfer_starts() {
             return false;
         }
-        if !self.bus.levels.has(line) {
-            return false;
-        }
-        if !self.is_shown(rule, line) {
-            return false;
-        }
-        self.counts(rule) && self.asks(rule, line)
+        let direction = self.is_broken(bus, U3, Line::WRITE);
+        let acknowledge = self.is_broken(bus, H1, Line::DTACK);
+        let error = self.is_broken(bus, H1, Line::BERR);
+        direction | acknowledge | error
     }
 
-    /// Whether a rule that asks for an edge is broken on a line, where perhaps a write holds its data.
-    pub(crate) fn is_edge_broken(&self, line: Line, may_hold: bool) -> bool
-        requires { may_hold ≡ false → is_held_write (trace self.now) (span self.now) (instant self.now) ≡ false }
-        ensures { result ≡ breaks_edge self.now line }
+    /// Whether a rule is broken on one of some lines, where it is asked at all. On a known line it isn't.
+    #[tactic(auto, using(crate::proofs::Breaks::within))]
+    fn is_unreadable(&self, bus: &Bus, asked: bool, rule: Rule, first: Line, last: Line) -> bool
+        requires { first ≤ last }
+        ensures { (t : Trace) (span : Stretch) (l : ℕ) → IsStateOf t span bus.now self.now → result ≡ false
+            → (asked ≡ false → breaks t span rule bus.now.instant l ≡ false)
+            → (known t l bus.now.instant ≡ true → breaks t span rule bus.now.instant l ≡ false)
+            → ((nat_le first l && nat_le l last) ≡ false → breaks t span rule bus.now.instant l ≡ false)
+            → breaks t span rule bus.now.instant l ≡ false }
     {
-        let number = line.number();
-        if number < Line::DS0.number() {
-            return self.breaks(H7, line) || self.breaks(B3, line);
+        if !asked {
+            return false;
         }
-        if number < Line::DTACK.number() {
-            return self.breaks(H2, line) || self.breaks(H3, line);
+        if bus.levels.are_known(first, last) {
+            return false;
         }
-        if number < Line::IACK.number() {
-            return self.breaks(H4, line)
-                || self.breaks(H5, line)
-                || self.breaks(H6, line)
-                || self.breaks(H8, line)
-                || self.breaks(C1, line)
-                || self.breaks(C2, line)
-                || self.breaks(I4, line)
-                || self.breaks(I5, line);
+        let end = last.number() + 1;
+        self.least_line(bus, rule, first.number(), end).is_some()
+    }
+
+    /// The first rule that is broken at the instant to which changes lead, and the least line on which it is. All are
+    /// asked in order only where one is broken.
+    pub(crate) fn break_at(&self, bus: &Bus, changes: &[Change]) -> Option<(Rule, Line)>
+        requires { LeadToInstant bus.now changes.now }
+        ensures { (t : Trace) (span : Stretch) → IsStateOf t span bus.now self.now
+            → result ≡ named (break_at t span all_rules bus.now.instant) }
+    {
+        let change = self.is_change_broken(bus, changes);
+        let transfer = self.is_transfer_start_broken(bus);
+        let starts = bus.falls(Line::AS);
+        let cycle = self.is_unreadable(bus, starts, U2, Line::IACK, Line::address(31));
+        let strobed = bus.strobe_falls();
+        let data = self.is_unreadable(bus, strobed, U4, Line::data(0), Line::data(31));
+        if !(change | transfer | cycle | data) {
+            return None;
         }
-        if number < Line::BBSY.number() {
-            return self.breaks(S1, line) || self.breaks(S2, line);
+        let rules: &[Rule] = &Rule::ALL;
+        for place in 0..RULE_COUNT {
+            let rule = rules[place];
+            if let Some(line) = self.least_line(bus, rule, 0, LINE_COUNT) {
+                return Some((rule, line));
+            }
         }
-        if number < Line::grant(0, 0).number() {
-            return self.breaks(B1, line) || self.breaks(B2, line) || self.breaks(B4, line);
-        }
-        if number < Line::iack(1).number() {
-            return self.breaks(G1, line)
-                || self.breaks(G2, line)
-                || self.breaks(G3, line)
-                || self.breaks(G4, line)
-                || self.breaks(G5, line);
-        }
-        if number < Line::data(0).number() {
-            return self.breaks(I1, line) || self.breaks(I2, line) || self.breaks(I3, line);
-        }
-        may_hold && self.breaks(S3, line)
+        None
     }
 }

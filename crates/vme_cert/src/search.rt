@@ -1,10 +1,11 @@
 //! Searches over a range of numbers, its first one included and its end not.
 
 ghost use Rattle.std.specs.Prelude.{◌≡◌, ℕ, ◌<◌, ◌≤◌, Bool, IfSome};
-ghost use Rattle.vme_trace.specs.Instants.{any, least};
+ghost use Rattle.vme_trace.specs.Instants.{least};
 ghost use Rattle.vme_cert.specs.Tests.{MayAsk, Tests};
 
 /// The least number of the range that meets the test.
+#[tactic(auto, using(crate::proofs::Searching::steps))]
 pub(crate) fn least<F: Fn(u32) -> bool>(first: u32, end: u32, test: F) -> Option<u32>
     requires { MayAsk (F.pre test) first end }
     ensures found { (p : ℕ → Bool) → Tests (F.post test) first end p → result ≡ least p first end }
@@ -17,12 +18,4 @@ pub(crate) fn least<F: Fn(u32) -> bool>(first: u32, end: u32, test: F) -> Option
         }
     }
     None
-}
-
-/// Whether a number of the range meets the test.
-pub(crate) fn any<F: Fn(u32) -> bool>(first: u32, end: u32, test: F) -> bool
-    requires { MayAsk (F.pre test) first end }
-    ensures { (p : ℕ → Bool) → Tests (F.post test) first end p → result ≡ any p first end }
-{
-    least(first, end, test).is_some()
 }

@@ -2,7 +2,7 @@
 -- version,
 -- where that can tell them.
 use Rattle.std.proofs.Common.{◌≡◌, ℕ, ◌^◌, ◌<◌, ◌≤◌, Bool, true, false, ◌&&◌, ◌||◌, not, List, [], ◌∷◌, map, length}
-use Rattle.std.proofs.Common.{refl, sym, ◌∙◌, subst, ◌⊎◌, inl, inr}
+use Rattle.std.proofs.Common.{refl, ◌∙◌, subst, ◌⊎◌, inl, inr}
 use Rattle.std.specs.Prelude.{Option, None, Some, option_map}
 use Rattle.std.specs.List.{list_all}
 use Rattle.std.proofs.lemmas.Bool.{and_from, and_parts}
@@ -230,52 +230,3 @@ pub rows_placed : (v : Version) (t : Trace) → t.opening.slots ≤ 21 → lengt
 rows_placed v t slots few told =
     subst (λ rows. is_rest v None rows ≡ true) (rows_in-is v (recorded_rows t)) (rest_told v None (recorded_rows t) told
     (listing_placed t slots few))
-
--- what a version can tell
-is_told : (v : Version) (row : Row) → is_row v (row_in v row) ≡ true → IsTold v row
-unfolding is_row
-is_told One (Start instant) h = refl
-is_told One (Reset instant) h = absurd (cc)
-is_told One (OpenTenure start end) h = refl
-is_told One (Tenure start level slot end) h = refl
-is_told One (AddressedCycle start class modifier address end) h = refl
-is_told One (FreeCycle start modifier end) h = refl
-is_told One (InterruptCycle start level end) h = refl
-is_told One (Transfer direction line start cycle answer close lanes) h = refl
-is_told One (PendingTransfer start direction) h = refl
-is_told One (Verdict outcome) h = refl
-is_told Two (Start instant) h = refl
-is_told Two (Reset instant) h = absurd (cc)
-is_told Two (OpenTenure start end) h = refl
-is_told Two (Tenure start level slot end) h = refl
-is_told Two (AddressedCycle start class modifier address end) h = refl
-is_told Two (FreeCycle start modifier end) h = refl
-is_told Two (InterruptCycle start level end) h = refl
-is_told Two (Transfer direction line start cycle answer close lanes) h = refl
-is_told Two (PendingTransfer start direction) h = refl
-is_told Two (Verdict outcome) h = refl
-is_told Three row h = refl
-
-from_parts : (a b c : Bool) → (a || b) ≡ true → (a || c) ≡ true → (a || (b && c)) ≡ true
-from_parts true b c h k = refl
-from_parts false b c h k = and_from b c h k
-
-no_rows : (v : Version) → can_tell v [] ≡ true
-no_rows One = refl
-no_rows Two = refl
-no_rows Three = refl
-
-told_rows : (v : Version) (rows : List Row) → list_all (is_row v) (map (row_in v) rows) ≡ true → can_tell v rows ≡ true
-told_rows v [] h = no_rows v
-told_rows v (row ∷ rows) h =
-    let parts = and_parts (is_row v (row_in v row)) (list_all (is_row v) (map (row_in v) rows)) h in
-    from_parts (tells_resets v) (not (is_reset row)) (list_all (λ r. not (is_reset r)) rows) (is_told v row parts.0)
-    (told_rows v rows parts.1)
-
--- where each row of a recording is one of the version, they are a listing's
-pub placed_rows : (v : Version) (t : Trace) → t.opening.slots ≤ 21 → length t.steps < 2 ^ 32 → list_all (is_row v)
-    (rows_in v (recorded_rows t)) ≡ true
-    → is_well_placed (record { version = v; rows = rows_in v (recorded_rows t) }) ≡ true
-placed_rows v t slots few h =
-    rows_placed v t slots few (told_rows v (recorded_rows t) (subst (λ rows. list_all (is_row v) rows ≡ true)
-    (sym (rows_in-is v (recorded_rows t))) h))

@@ -15,4 +15,3 @@ pub mod RowForms
 pub mod RecordedRows
 pub mod WellPlaced
 pub mod InVersions
-pub mod Taken

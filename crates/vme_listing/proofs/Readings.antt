@@ -1,15 +1,17 @@
 -- How a listing is read, row by row.
-use Rattle.std.proofs.Common.{◌≡◌, ◌≢◌, ℕ, ◌-◌, ◌<◌, Bool, true, false, List, [], ◌∷◌, ◌++◌, drop, get_or, length, refl}
+use Rattle.std.proofs.Common.{◌≡◌, ◌≢◌, ℕ, ◌+◌, ◌<◌, Bool, true, false, List, [], ◌∷◌, ◌++◌, drop, get_or, length, refl}
 use Rattle.std.proofs.Common.{sym, ap, ◌∙◌, subst, arith, length-append}
-use Rattle.std.specs.Prelude.{Option, None, Some, not, ◌&&◌, ◌↔◌, flat_map}
-use Rattle.std.specs.List.{slice_get}
-use Rattle.std.proofs.lemmas.Bool.{and_from, and_parts, false_from_ne_true, false≢true, iff_false}
+use Rattle.std.specs.Prelude.{Option, None, Some, not, ◌&&◌, flat_map}
+use Rattle.std.proofs.lemmas.Bool.{and_from, and_parts, false≢true}
 use Rattle.std.proofs.lemmas.Grind.{flat_map-append}
 use Rattle.std.proofs.lemmas.List.{append_assoc, append-nil}
 use Rattle.vme_listing.specs.Places.{is_row, is_verdict, is_never_idle, may_follow, ascends, follows, ends_listing}
 use Rattle.vme_listing.specs.Places.{is_rest, is_well_placed}
-use Rattle.vme_listing.specs.Reading.{last_of, are_placed, IsFront, IsRead, IsUnfinished, IsRowFault, IsFirstFault}
-use Rattle.vme_listing.specs.Reading.{HasNoListing, IsNoListing, IsOnlyListing}
+use Rattle.vme_listing.specs.Reading.{last_of, are_placed, IsFront, IsRead, IsUnfinished, IsNoRow, IsUnsorted}
+use Rattle.vme_listing.specs.Reading.{IsRowFault}
+use Rattle.vme_listing.specs.Reading.{IsFirstFault}
+use Rattle.vme_listing.specs.Reading.{HasNoListing, IsNoListing, IsOnlyListing, AllBegin, HasRead, IsTextOfListing}
+use Rattle.vme_listing.specs.Reading.{Unread, listed}
 use Rattle.vme_listing.specs.RowText.{header, line_of, text_of}
 use Rattle.vme_listing.specs.declared.fault.ListFault.{ListFault}
 use Rattle.vme_listing.specs.declared.fault.ListFault.TheVariants.{BadHeader, BadRow, Unsorted, Memory}
@@ -17,17 +19,6 @@ use Rattle.vme_listing.specs.declared.row.Row.{Row}
 use Rattle.vme_listing.specs.declared.row.Version.{Version}
 use Rattle.vme_listing.specs.declared.row.Version.TheVariants.{One, Two, Three}
 use Rattle.vme_listing.specs.Listed.{Listed}
-
--- the last row, by its place
-last_within : (before row : Row) (rows : List Row) → slice_get (row ∷ rows) (length rows) ≡ last_of (Some before)
-    (row ∷ rows)
-last_within before row [] = refl
-last_within before row (next ∷ rows) = last_within row next rows
-
-pub slice_get-last : (rows : List Row) → slice_get rows (length rows - 1) ≡ last_of None rows
-slice_get-last [] = refl
-slice_get-last (row ∷ rows) = let n : length (row ∷ rows) - 1 ≡ length rows = omega arith in
-    ap (slice_get (row ∷ rows)) n ∙ last_within row row rows
 
 three : (a b c : Bool) → (a && b && c) ≡ true → (a ≡ true) × (b ≡ true) × (c ≡ true)
 three true true true h = (refl, refl, refl)
@@ -88,20 +79,6 @@ read_more text version rows rest row more read f e =
       split = read.split ∙ ap (λ l. header version ++ (flat_map line_of rows ++ l)) e.0 ∙ ap (λ l. header version ++ l)
           (lines_more rows row more);
     }
-
--- each well placed listing that has the text is of this version and begins with these rows, and the rest is the text of
--- its
--- other rows
-pub record Begins (text : List ℕ) (version : Version) (rows : List Row) (rest : List ℕ) (all : Listed) : Type 0 where
-  pub same : all.version ≡ version
-  pub others : List Row
-  pub split : all.rows ≡ rows ++ others
-  pub placed : is_rest version (last_of None rows) others ≡ true
-  pub lines : flat_map line_of others ≡ rest
-
-abbrev pub AllBegin : List ℕ → Version → List Row → List ℕ → Type 0
-AllBegin text version rows rest = (all : Listed) → is_well_placed all ≡ true → text_of all ≡ text → Begins text version
-    rows rest all
 
 -- headers differ by their version
 pub one_header : (v w : Version) (a b : List ℕ) → header v ++ a ≡ header w ++ b → (v ≡ w) × (a ≡ b)
@@ -187,9 +164,6 @@ no_lines (row ∷ others) e = absurd (omega (
   length-append {A = ℕ},
 ))
 
-abbrev listed : Version → List Row → Listed
-listed version rows = record { version = version; rows = rows }
-
 same_listing : (all : Listed) (version : Version) (rows : List Row) → all.version ≡ version → all.rows ≡ rows → all
     ≡ listed version rows
 same_listing all version rows v r = ap (λ x. listed x all.rows) v ∙ ap (λ x. listed version x) r
@@ -228,21 +202,86 @@ first_fault text version rows rest read unfinished (BadRow n) h = (version, rows
 first_fault text version rows rest read unfinished (Unsorted n) h = (version, rows, rest, (read, unfinished, h))
 first_fault text version rows rest read unfinished Memory h = absurd h
 
--- a text ends with the verdict
-abbrev pub IsClosed : List Row → List ℕ → Type 0
-IsClosed rows rest = ends_listing (last_of None rows) ≡ true → rest ≡ []
+pub has_read_none : (text : List ℕ) (version : Version) (rest : List ℕ) → text ≡ header version ++ rest
+    → HasRead text [] (record { version = version; rest = rest; last = None; count = 0 })
+has_read_none text version rest e = record {
+  read = read_none text version rest e;
+  begin = begin_none text version rest e;
+  closed = λ end. absurd (false≢true end);
+  last = refl;
+  count = refl;
+}
 
-pub closed_none : (rest : List ℕ) → IsClosed [] rest
-closed_none rest end = absurd (false≢true end)
+module _ (text : List ℕ) (rows : List Row) (old : Unread) (has : HasRead text rows old) where
+  pub unfinished-is : ends_listing old.last ≡ false → IsUnfinished rows
+  unfinished-is h = ap ends_listing (sym has.last) ∙ h
 
-pub closed_more : (rows : List Row) (rest : List ℕ) (row : Row) (more : List ℕ) → IsFront rest row more
-    → IsClosed (rows ++ row ∷ []) more
-closed_more rows rest row more e end = e.1 (ap ends_listing (sym (last_of_more None rows row)) ∙ end)
+  -- the verdict was read
+  pub whole-is : ends_listing old.last ≡ true → IsTextOfListing text (listed old.version rows)
+  whole-is h =
+      let end : ends_listing (last_of None rows) ≡ true = ap ends_listing (sym has.last) ∙ h in
+      let whole = read_listing text old.version rows old.rest has.read end (has.closed end) in
+      (whole.0, whole.1, only_listing text old.version rows old.rest has.begin (has.closed end))
 
-pub unfinished_from : (whole : Bool) (rows slice : List Row) (rest : List ℕ) → IsClosed rows rest → slice ≡ rows
-    → ((whole ≡ true) ↔ ((ends_listing (last_of None slice) ≡ true) × (rest ≡ []))) → whole ≡ false → IsUnfinished rows
-unfinished_from whole rows slice rest closed same iff not_whole = false_from_ne_true (ends_listing (last_of None rows))
-    (λ h. iff_false iff not_whole (ap (λ l. ends_listing (last_of None l)) same ∙ h, closed h))
+  module _ (unfinished : ends_listing old.last ≡ false) where
+    -- one more row was
+    pub has_read_more : (row : Row) (more : List ℕ) → follows old.version old.last row ≡ true
+        → IsFront old.rest row more
+        → ((other : Row) (behind : List ℕ) → follows old.version old.last other ≡ true → IsFront old.rest other behind
+        → (row ≡ other) × (more ≡ behind))
+        → HasRead text (rows ++ row ∷ []) (record {
+          version = old.version;
+          rest = more;
+          last = Some row;
+          count = old.count + 1;
+        })
+    has_read_more row more f front found = record {
+      read = read_more text old.version rows old.rest row more has.read (of row f) front;
+      begin = begin_more text old.version rows old.rest row more has.begin (unfinished-is unfinished)
+          (λ other behind g e. found other behind (back other g) e);
+      closed = λ end. front.1 (ap ends_listing (sym (last_of_more None rows row)) ∙ end);
+      last = sym (last_of_more None rows row);
+      count = ap (λ n. n + 1) has.count ∙ sym (length-append rows (row ∷ []));
+    }
+      where
+        of : (r : Row) → follows old.version old.last r ≡ true → follows old.version (last_of None rows) r ≡ true
+        of r h = subst (λ o. follows old.version o r ≡ true) has.last h
+
+        back : (r : Row) → follows old.version (last_of None rows) r ≡ true → follows old.version old.last r ≡ true
+        back r h = subst (λ o. follows old.version o r ≡ true) (sym has.last) h
+
+    -- none is there
+    pub fault-is : (fault : ListFault) → IsRowFault old.version rows old.rest fault
+        → ((other : Row) (behind : List ℕ) → follows old.version old.last other ≡ true → IsFront old.rest other behind
+        → ⊥) → IsFirstFault text fault × IsNoListing text fault
+    fault-is fault h none = (
+      first_fault text old.version rows old.rest has.read (unfinished-is unfinished) fault h,
+      no_listing text (begin_not text old.version rows old.rest has.begin (unfinished-is unfinished)
+          (λ other behind f e. none other behind (subst (λ o. follows old.version o other ≡ true) (sym has.last) f) e))
+          fault,
+    )
+
+    no_row-is : IsNoRow old.version old.last old.rest → IsNoRow old.version (last_of None rows) old.rest
+    no_row-is h = subst (λ o. IsNoRow old.version o old.rest) has.last h
+
+    pub bad-is : (n : ℕ) → n ≡ old.count + 1 → IsNoRow old.version old.last old.rest
+        → IsFirstFault text (BadRow n) × IsNoListing text (BadRow n)
+    bad-is n e h = fault-is (BadRow n) (e ∙ ap (λ k. k + 1) has.count, no_row-is h)
+        (λ other behind f front. let parts = follows_parts old.version old.last other f in h other behind parts.0
+        parts.1 front)
+
+    pub unsorted-is : (n : ℕ) (row : Row) (more : List ℕ) → n ≡ old.count + 1 → is_row old.version row ≡ true
+        → may_follow old.last row ≡ true → ascends old.version old.last row ≡ false → IsFront old.rest row more
+        → ((other : Row) (behind : List ℕ) → is_row old.version other ≡ true → IsFront old.rest other behind
+        → row ≡ other) → IsFirstFault text (Unsorted n) × IsNoListing text (Unsorted n)
+    unsorted-is n row more e is may down front found = fault-is (Unsorted n) (
+      e ∙ ap (λ k. k + 1) has.count,
+      subst (λ o. IsUnsorted old.version o old.rest) has.last
+          (row, more, is, may, down, front),
+    )
+        (λ other behind f there. let parts = follows_parts old.version old.last other f in
+        absurd (false≢true (sym down ∙ (ap (ascends old.version old.last) (found other behind parts.0 there)
+        ∙ parts.2))))
 
 pub shorter : (rest : List ℕ) (row : Row) (more : List ℕ) → IsFront rest row more → length more < length rest
 shorter rest row more e = omega (arith, ap length e.0, length-append (line_of row) more, length-append {A = ℕ})

@@ -4,6 +4,5 @@ pub mod Places
 pub mod Reading
 pub mod Recorded
 pub mod RowText
-pub mod Taking
 pub mod Words
 pub mod Written

@@ -6,7 +6,8 @@ use Rattle.vme_listing.specs.declared.fault.ListFault.TheVariants.{BadHeader, Ba
 use Rattle.vme_listing.specs.declared.row.Row.{Row}
 use Rattle.vme_listing.specs.declared.row.Version.{Version}
 use Rattle.vme_listing.specs.Listed.{Listed}
-use Rattle.vme_listing.specs.Places.{is_row, is_verdict, may_follow, ascends, follows, ends_listing, is_well_placed}
+use Rattle.vme_listing.specs.Places.{is_row, is_verdict, may_follow, ascends, follows, ends_listing, is_rest}
+use Rattle.vme_listing.specs.Places.{is_well_placed}
 use Rattle.vme_listing.specs.RowText.{header, line_of, text_of}
 
 -- the last of some rows, or the one before them
@@ -81,3 +82,42 @@ IsNoListing text Memory = Unit {0}
 -- every well placed listing that has this text is this one
 abbrev pub IsOnlyListing : List ℕ → Listed → Type 0
 IsOnlyListing text listing = (l : Listed) → is_well_placed l ≡ true → text_of l ≡ text → l ≡ listing
+
+-- such a listing is of this version and begins with these rows, and the rest is the text of its other rows
+pub record Begins (text : List ℕ) (version : Version) (rows : List Row) (rest : List ℕ) (all : Listed) : Type 0 where
+  pub same : all.version ≡ version
+  pub others : List Row
+  pub split : all.rows ≡ rows ++ others
+  pub placed : is_rest version (last_of None rows) others ≡ true
+  pub lines : flat_map line_of others ≡ rest
+
+-- every well placed listing that has this text begins so
+abbrev pub AllBegin : List ℕ → Version → List Row → List ℕ → Type 0
+AllBegin text version rows rest = (all : Listed) → is_well_placed all ≡ true → text_of all ≡ text → Begins text version
+    rows rest all
+
+-- what is left of a text behind some rows: the version, the rest, the last of these rows, and how many they are
+pub record Unread : Type 0 where
+  pub version : Version
+  pub rest : List ℕ
+  pub last : Option Row
+  pub count : ℕ
+
+-- these rows were read from the front of the text
+pub record HasRead (text : List ℕ) (rows : List Row) (unread : Unread) : Type 0 where
+  pub read : IsRead text unread.version rows unread.rest
+  pub begin : AllBegin text unread.version rows unread.rest
+  pub closed : ends_listing (last_of None rows) ≡ true → unread.rest ≡ []
+  pub last : unread.last ≡ last_of None rows
+  pub count : unread.count ≡ length rows
+
+-- the text is that of this listing, and of no other
+abbrev pub IsTextOfListing : List ℕ → Listed → Type 0
+IsTextOfListing text listing = (is_well_placed listing ≡ true) × (text_of listing ≡ text) × IsOnlyListing text listing
+
+abbrev pub listed : Version → List Row → Listed
+listed version rows = record { version = version; rows = rows }
+
+-- the fault is the text's first, and no listing has this text
+abbrev pub IsFaultOfText : List ℕ → ListFault → Type 0
+IsFaultOfText text fault = IsFirstFault text fault × IsNoListing text fault

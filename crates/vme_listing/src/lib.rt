@@ -8,7 +8,7 @@
 //! - `text`, `write`: the text of rows; a listing written in pieces ([`write_listing`]).
 //! - `words`, `read`, `fault`: the row that a line may be; a listing from its text
 //!   ([`read_listing`]); the first fault of a text.
-//! - `listing_text`: a text from whose front the lines of known rows are taken.
+//! - `row_reader`: the rows of a text, one by one ([`RowReader`]).
 //!
 //! # What is proved
 //!
@@ -18,8 +18,8 @@
 //!   (`listing`, `only`), and else names the first fault (`first`, `none`).
 //! - [`listings_are_well_placed`]: the listing of every recording is, so what is written of it is
 //!   read back as it was.
-//! - [`ListingText::take`] takes the line of a row exactly where it is at the front and the version
-//!   has it.
+//! - [`RowReader::next`] gives the rows of a text one by one, and by the same reading the first
+//!   fault.
 //!
 //! # What isn't proved
 //!
@@ -39,18 +39,18 @@
 
 pub mod fault;
 pub mod listing;
-pub mod listing_text;
 mod place;
 pub mod read;
 pub mod row;
+pub mod row_reader;
 pub mod text;
 mod words;
 pub mod write;
 
 pub use fault::ListFault;
 pub use listing::{Listing, listings_are_well_placed};
-pub use listing_text::ListingText;
 pub use read::read_listing;
 pub use row::{AnswerLine, Direction, ListedVerdict, Row, Version};
+pub use row_reader::RowReader;
 pub use text::data_digits;
 pub use write::{Write, write_listing};

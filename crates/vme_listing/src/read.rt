@@ -1,9 +1,9 @@
 //! A listing from its text.
 
-ghost use Rattle.std.specs.Prelude.{◌≡◌, ◌≢◌, ◌↔◌, ℕ, true, None, List, [], ◌++◌};
-ghost use Rattle.std.specs.Prelude.{IfSome, IsSomeAnd, IfOk, IsOkAnd, IfErr, IsTrue};
-ghost use Rattle.vme_listing.specs.Places.{is_row, follows, ends_listing, is_well_placed};
-ghost use Rattle.vme_listing.specs.Reading.{last_of, IsFront, IsRowFault, IsFirstFault, IsNoListing, IsOnlyListing};
+ghost use Rattle.std.specs.Prelude.{◌≡◌, ◌≢◌, ℕ, true, None, List, ◌++◌};
+ghost use Rattle.std.specs.Prelude.{IfSome, IsSomeAnd, IfOk, IfErr};
+ghost use Rattle.vme_listing.specs.Places.{is_row, is_well_placed};
+ghost use Rattle.vme_listing.specs.Reading.{IsFront, IsFirstFault, IsNoListing, IsOnlyListing};
 ghost use Rattle.vme_listing.specs.RowText.{header, text_of};
 ghost use Rattle.vme_listing.specs.declared.row.Row.{Row};
 ghost use Rattle.vme_listing.specs.declared.row.Version.{Version};
@@ -11,6 +11,7 @@ ghost use Rattle.vme_listing.specs.declared.row.Version.{Version};
 use crate::fault::ListFault;
 use crate::listing::Listing;
 use crate::row::{Row, Version};
+use crate::row_reader::RowReader;
 use crate::text::RowBuffer;
 use crate::words::read_row;
 use memchr::memchr;
@@ -33,7 +34,7 @@ pub(crate) fn front_header(text: &[u8]) -> Option<(Version, &[u8])>
 
 /// The row of the version whose line is at the front of the text, and what follows the line. Nothing may follow a
 /// verdict. The buffer is for the text of the row.
-fn front_row<'a>(
+pub(crate) fn front_row<'a>(
     version: Version,
     text: &'a [u8],
     buffer: &mut RowBuffer,
@@ -51,50 +52,6 @@ fn front_row<'a>(
     Some((row, more))
 }
 
-/// The last of the rows.
-fn last_row(rows: &[Row]) -> Option<Row>
-    ensures { result ≡ last_of None rows.now }
-{
-    rows.last().copied()
-}
-
-/// Whether the rows are a whole listing: the last is the verdict, and nothing follows.
-fn is_end(rows: &[Row], rest: &[u8]) -> bool
-    ensures { IsTrue result ↔ ((ends_listing (last_of None rows.now) ≡ true) × (rest.now ≡ [])) }
-{
-    match last_row(rows) {
-        Some(row) => row.is_verdict() && rest.is_empty(),
-        None => false,
-    }
-}
-
-/// The row of the version that follows the rows before it, and what follows its line; or its fault. The buffer is for
-/// the text of the row.
-fn next_row<'a>(
-    version: Version,
-    rows: &[Row],
-    rest: &'a [u8],
-    buffer: &mut RowBuffer,
-) -> Result<(Row, &'a [u8]), ListFault>
-    ensures placed { IfOk result
-        (λ next. (follows version (last_of None rows.now) next.0 ≡ true) × IsFront rest.now next.0 next.1.now) }
-    ensures found { (row : Row) (more : List ℕ) → follows version (last_of None rows.now) row ≡ true
-        → IsFront rest.now row more → IsOkAnd result (λ next. (next.0 ≡ row) × (next.1.now ≡ more)) }
-    ensures fault { IfErr result (λ fault. IsRowFault version rows.now rest.now fault) }
-{
-    let number = rows.len() + 1;
-    let Some((row, more)) = front_row(version, rest, buffer) else {
-        return Err(ListFault::BadRow { row: number });
-    };
-    if !row.may_follow(last_row(rows)) {
-        return Err(ListFault::BadRow { row: number });
-    }
-    if !row.ascends(version, last_row(rows)) {
-        return Err(ListFault::Unsorted { row: number });
-    }
-    Ok((row, more))
-}
-
 /// Reads the text of a listing, of the version that its header says. The text is read from the top, and the first
 /// fault is named: the header, a row that isn't written so, may not stand there or is missing, a row out of order, or
 /// want of memory.
@@ -104,22 +61,14 @@ pub fn read_listing(alloc: Global, text: &[u8]) -> Result<Listing, ListFault>
     ensures first { IfErr result (λ fault. IsFirstFault text.now fault) }
     ensures none { IfErr result (λ fault. IsNoListing text.now fault) }
 {
-    let Some((version, behind)) = front_header(text) else {
+    let Some(mut reader) = RowReader::of(text) else {
         return Err(ListFault::BadHeader);
     };
-    let mut rest = behind;
-    let mut buffer = RowBuffer::new();
     let mut rows: Vec<Row> = Vec::new(alloc);
-    while !is_end(rows.as_slice(), rest) {
-        match next_row(version, rows.as_slice(), rest, &mut buffer) {
-            Ok((row, more)) => {
-                if rows.push(row).is_err() {
-                    return Err(ListFault::Memory);
-                }
-                rest = more;
-            }
-            Err(fault) => return Err(fault),
+    while let Some(row) = reader.next()? {
+        if rows.push(row).is_err() {
+            return Err(ListFault::Memory);
         }
     }
-    Ok(Listing::new(version, rows))
+    Ok(Listing::new(reader.version(), rows))
 }

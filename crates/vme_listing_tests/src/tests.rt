@@ -1,7 +1,7 @@
 use std::alloc::Global;
 use std::test::Fail;
 use vme_listing::{
-    AnswerLine, Direction, ListFault, ListedVerdict, Listing, ListingText, Row, Version, Write,
+    AnswerLine, Direction, ListFault, ListedVerdict, Listing, Row, RowReader, Version, Write,
     data_digits, read_listing, write_listing,
 };
 use vme_trace::{Class, Failed, Lanes, Line, MovedBytes, Rule, Sink};
@@ -883,35 +883,26 @@ fn fronts(rt: HostRuntime) {
     }
 }
 
-/// Which of these rows are taken from the front of a text, in order, and whether nothing is left.
-fn taken(text: &[u8], rows: [Row; 3]) -> Option<([bool; 3], bool)> {
-    let mut behind = ListingText::of(text)?;
-    let [first, second, third] = rows;
-    let are_taken = [
-        behind.take(&first),
-        behind.take(&second),
-        behind.take(&third),
-    ];
-    Some((are_taken, behind.is_empty()))
-}
-
-/// Rows are taken from the front of a listing's text, each where its line is there and the version has it.
+/// The rows of a text are read one by one, each as long as it may stand there; then nothing is read any more.
 #[test]
-fn rows_taken(rt: HostRuntime) -> Result<(), Fail> {
-    let read = cycle(9, 0x39, 0xFFFFDE, Some(12));
-    let reset = Row::Reset { instant: 14 };
-    let text = b"vmecheck listing 2\nstart 1\ncycle 9 S 39 FFFFDE end 12\nreset 14\n";
-    // only version 3 tells resets
-    assert!(rt; taken(text, [START, read, reset]) == Some(([true, true, false], false)));
-    let later = Row::Start { instant: 2 };
-    let open = cycle(9, 0x39, 0xFFFFDE, None);
-    assert!(rt; taken(text, [later, START, open]) == Some(([false, true, false], false)));
-    let text = b"vmecheck listing 3\nstart 1\nreset 14\n";
-    assert!(rt; taken(text, [START, reset, reset]) == Some(([true, true, false], true)));
-    assert!(rt; taken(b"vmecheck listing 4\nstart 1\n", [START, read, reset]) == None);
-    let Some(behind) = ListingText::of(text) else {
+fn rows_read(rt: HostRuntime) -> Result<(), Fail> {
+    let text = b"vmecheck listing 2\nstart 1\ncycle 9 S 39 FFFFDE end 12\nverdict conforming\n";
+    let Some(mut reader) = RowReader::of(text) else {
         return Err(Fail::new("no header"));
     };
-    assert!(rt; behind.version() == Version::Three && !behind.is_empty());
+    let cycle = cycle(9, 0x39, 0xFFFFDE, Some(12));
+    assert!(rt; reader.version() == Version::Two);
+    assert!(rt; reader.next() == Ok(Some(START)));
+    assert!(rt; reader.next() == Ok(Some(cycle)));
+    assert!(rt; reader.next() == Ok(Some(Row::Verdict(ListedVerdict::Conforming))));
+    assert!(rt; reader.next() == Ok(None) && reader.next() == Ok(None));
+    // only version 3 tells resets, and a fault stays
+    let Some(mut reader) = RowReader::of(b"vmecheck listing 2\nstart 1\nreset 14\n") else {
+        return Err(Fail::new("no header"));
+    };
+    assert!(rt; reader.next() == Ok(Some(START)));
+    assert!(rt; reader.next() == Err(ListFault::BadRow { row: 2 }));
+    assert!(rt; reader.next() == Err(ListFault::BadRow { row: 2 }));
+    assert!(rt; RowReader::of(b"vmecheck listing 4\nstart 1\n").is_none());
     Ok(())
 }

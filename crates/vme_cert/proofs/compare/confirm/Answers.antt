@@ -1,25 +1,19 @@
-use Rattle.std.proofs.Common.{◌≡◌, List, ◌∙◌, subst}
+-- All rows that are given are those of the listing.
+use Rattle.std.proofs.Common.{◌∙◌, List, subst}
 use Rattle.vme_listing.specs.Recorded.{recorded_rows, rows_in}
 use Rattle.vme_listing.specs.declared.row.Row.{Row}
 use Rattle.vme_listing.specs.declared.row.Version.{Version}
 use Rattle.vme_cert.specs.Agreement.{DecidesListing}
-use Rattle.vme_cert.specs.declared.compare.Answer.{Answer}
-use Rattle.vme_cert.specs.declared.candidate.Candidate.TheVariants.{Rows}
-use Rattle.vme_cert.proofs.Deciding.{settles-rows}
+use Rattle.vme_cert.specs.contracts.source.ListedRowsRowSource.TheImpl.{ghosts}
+use Rattle.vme_cert.proofs.Deciding.{decides-all}
 use Rattle.vme_cert.proofs.compare.confirm.Goals as goal
-
--- by other names
-settles : (v w : Version) (candidate same all : List Row) (answer : Answer) → candidate ≡ same → v ≡ w
-    → DecidesListing candidate (rows_in v all) answer → DecidesListing same (rows_in w all) answer
-settles v w candidate same all answer e f h = subst (λ (rows : List Row). DecidesListing rows (rows_in w all) answer) e
-    (subst (λ (u : Version). DecidesListing candidate (rows_in u all) answer) f h)
 
 pub returns : goal.returns
 returns c =
-    let rows = c.rows.result in
     let all = recorded_rows c.args.capture.now in
-    let decided = c.answer.ensures (Rows rows) all (c.in_ok-follow_capture.ensures.rows (Rows rows)
-    c.new-matcher.ensures.none) in
-    settles c.follow_capture.new.self.version _ rows.now _ all c.answer.result c.rows.ensures
-    (c.in_ok-follow_capture.ensures.version ∙ (c.new-matcher.ensures.version ∙ c.version.ensures))
-    (settles-rows rows (rows_in c.follow_capture.new.self.version all) c.answer.result decided)
+    let (answer, source) = c.check-answer.result in
+    let found = c.check-answer.ensures c.args.listing.now.rows (c.of.ensures ∙ c.rows.ensures) in
+    subst (λ (v : Version). DecidesListing c.args.listing.now.rows (rows_in v all) answer) c.version.ensures
+    (subst (λ (rows : List Row). DecidesListing rows (rows_in c.version.result all) answer) found.1
+    (decides-all ghosts.is_over found.0 source.rest.now (rows_in c.version.result all) source answer found.2
+    (λ over. over)))

@@ -1,48 +1,53 @@
-use Rattle.std.proofs.Common.{◌≡◌, List, ◌∙◌, ap, subst, arith}
+-- The rows that were asked for, and those that are left.
+use Rattle.std.proofs.Common.{◌≡◌, ◌++◌, ◌∙◌, [], inl, inr, sym, ap, subst}
+use Rattle.std.specs.Prelude.{IfSome, IsSome, None, Option, Some}
+use Rattle.vme_listing.specs.Reading.{HasRead, IsFaultOfText, IsTextOfListing, Unread, listed}
 use Rattle.vme_listing.specs.Recorded.{recorded_rows, rows_in}
-use Rattle.vme_listing.specs.declared.row.Row.{Row}
+use Rattle.vme_listing.specs.declared.fault.ListFault.{ListFault}
 use Rattle.vme_listing.specs.declared.row.Version.{Version}
-use Rattle.vme_cert.specs.Candidates.{Decides}
-use Rattle.vme_cert.specs.declared.compare.Answer.{Answer}
-use Rattle.vme_cert.specs.declared.compare.Answer.TheVariants.{Yes, No}
-use Rattle.vme_cert.specs.declared.candidate.Candidate.{Candidate}
-use Rattle.vme_cert.specs.declared.candidate.Candidate.TheVariants.{Text}
-use Rattle.vme_cert.proofs.Deciding.{settles-other, settles-text}
+use Rattle.vme_cert.specs.contracts.source.TextRowsRowSource.TheImpl.{ghosts}
+use Rattle.vme_cert.proofs.Deciding.{decides-all, decides-text}
 use Rattle.vme_cert.proofs.compare.confirm_text.Goals as goal
 
--- by other names
-decides : (v w : Version) (candidate : Candidate) (all : List Row) (answer other : Answer) → v ≡ w → answer ≡ other
-    → Decides candidate (rows_in v all) answer → Decides candidate (rows_in w all) other
-decides v w candidate all answer other e f h = subst (λ (a : Answer). Decides candidate (rows_in w all) a) f
-    (subst (λ (u : Version). Decides candidate (rows_in u all) answer) e h)
+no_fault : (fault : Option ListFault) → fault ≡ None → IsSome fault → ⊥
+no_fault None none some = absurd (cc)
+no_fault (Some x) none some = absurd (cc)
 
-pub returns-in-Yes-clause-answer : goal.returns-in-Yes-clause-answer
-returns-in-Yes-clause-answer c =
-    let t = c.args.capture.now in
-    let all = recorded_rows t in
-    let behind = c.in-Some.behind in
-    let followed = c.in-Ok.ensures.rows (Text behind) c.new-matcher.ensures.none in
-    let version = c.in-Ok.ensures.version ∙ (c.new-matcher.ensures.version ∙ c.version.ensures) in
-    settles-text c.args.text.now behind t c.in-Some.ensures.behind
-    (omega (
-      arith,
-      c.slots-slots.ensures.most,
-      c.slots-slots.ensures.slots,
-      ap (λ l. l.slots)
-          c.opening.ensures.opening,
-    )) (omega (arith, c.steps-steps.ensures.sound.limited))
-    (decides c.follow_capture.new.self.version behind.version (Text behind) all c.answer.result Yes version c.in-Yes.is
-    (c.answer.ensures (Text behind) all followed))
+pub returns-in-None-clause-answer : goal.returns-in-None-clause-answer
+returns-in-None-clause-answer c =
+    let text = c.args.text.now in
+    let all = recorded_rows c.args.capture.now in
+    let version = c.version-version.result in
+    let (answer, source) = c.check-answer.result in
+    let found = c.check-answer.ensures (text, version) (
+      subst (HasRead text []) (sym c.of-rows.ensures.reader) c.in-Some.ensures.read,
+      ap (λ (u : Unread). u.version) c.of-rows.ensures.reader ∙ sym c.version-version.ensures,
+      subst (λ (f : Option ListFault). IfSome f (IsFaultOfText text)) (sym c.of-rows.ensures.fault) tt,
+    ) in
+    let left = c.fault.ensures.whole text found.0 found.1.0 c.in-None.is in
+    decides-text text c.args.capture.now version (found.0 ++ left.0) answer
+    (subst (λ (v : Version). IsTextOfListing text (listed v (found.0 ++ left.0))) found.1.1 left.1)
+    (decides-all ghosts.is_over found.0 left.0 (rows_in version all) source answer found.2 (λ over. elim over [
+      | inl some ↦ absurd (no_fault source.fault (c.fault.ensures.kept c.in-None.is) some)
+      | inr ends ↦ left.2 ends
+    ]))
 
-pub returns-in_ok-read_listing-in-No-clause-answer : goal.returns-in_ok-read_listing-in-No-clause-answer
-returns-in_ok-read_listing-in-No-clause-answer c =
-    let t = c.args.capture.now in
-    let all = recorded_rows t in
-    let behind = c.in-Some.behind in
-    let l = c.in_ok-read_listing-in-No.field-0 in
-    let followed = c.in-Ok.ensures.rows (Text behind) c.new-matcher.ensures.none in
-    let version = c.in-Ok.ensures.version ∙ (c.new-matcher.ensures.version ∙ c.version.ensures) in
-    settles-other c.args.text.now behind t c.in-Some.ensures.behind l c.in-No.row
-    c.in_ok-read_listing-in-No.ensures.listing.0 c.in_ok-read_listing-in-No.ensures.listing.1
-    (decides c.follow_capture.new.self.version behind.version (Text behind) all c.answer.result (No c.in-No.row) version
-    c.in-No.is (c.answer.ensures (Text behind) all followed))
+pub returns-in-Some-fault-clause-first : goal.returns-in-Some-fault-clause-first
+returns-in-Some-fault-clause-first c =
+    let text = c.args.text.now in
+    let found = c.check-answer.ensures (text, c.version-version.result) (
+      subst (HasRead text []) (sym c.of-rows.ensures.reader) c.in-Some.ensures.read,
+      ap (λ (u : Unread). u.version) c.of-rows.ensures.reader ∙ sym c.version-version.ensures,
+      subst (λ (f : Option ListFault). IfSome f (IsFaultOfText text)) (sym c.of-rows.ensures.fault) tt,
+    ) in
+    (c.in-Some-fault.ensures.fault text found.0 found.1.0 found.1.2).0
+
+pub returns-in-Some-fault-clause-none : goal.returns-in-Some-fault-clause-none
+returns-in-Some-fault-clause-none c =
+    let text = c.args.text.now in
+    let found = c.check-answer.ensures (text, c.version-version.result) (
+      subst (HasRead text []) (sym c.of-rows.ensures.reader) c.in-Some.ensures.read,
+      ap (λ (u : Unread). u.version) c.of-rows.ensures.reader ∙ sym c.version-version.ensures,
+      subst (λ (f : Option ListFault). IfSome f (IsFaultOfText text)) (sym c.of-rows.ensures.fault) tt,
+    ) in
+    (c.in-Some-fault.ensures.fault text found.0 found.1.0 found.1.2).1

@@ -5,7 +5,7 @@ use Rattle.vme_trace.specs.Levels.{level_at, is_high}
 use Rattle.vme_listing.specs.Recorded.{address_to}
 use Rattle.vme_cert.proofs.Addresses.{weight_below, weight-is, next-weight, address-below, address_line}
 use Rattle.vme_cert.proofs.Addresses.{no_address_line, with_high, without_high}
-use Rattle.vme_cert.proofs.Watched.{needs_31}
+use Rattle.vme_cert.proofs.Spoken.{needs_31}
 use Rattle.vme_cert.proofs.rows.address_on.Goals as goal
 use Rattle.vme_cert.proofs.rows.address_on.Goals.{then-is_high, else-is_high}
 

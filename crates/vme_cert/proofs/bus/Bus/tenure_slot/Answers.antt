@@ -1,20 +1,29 @@
 -- The chain is low as far as the net before the first that isn't.
-use Rattle.std.proofs.Common.{rules, ℕ, ◌+◌, not, sym, ◌∙◌, ap}
-use Rattle.std.specs.Prelude.{Some}
+use Rattle.std.proofs.Common.{◌+◌, ◌∙◌, ap, not, refl, sym}
+use Rattle.std.specs.Prelude.{Some, unwrap_or}
+use Rattle.vme_trace.specs.Instants.{least}
+use Rattle.vme_trace.specs.Levels.{Levels, is_low, level_at}
+use Rattle.vme_trace.specs.LineNumbers.{grant}
 use Rattle.vme_trace.specs.Signals.{low}
-use Rattle.vme_trace.specs.Levels.{Levels}
+use Rattle.vme_trace.specs.Tenures.{taken_grant}
+use Rattle.vme_trace.specs.Trace.{levels_at}
 use Rattle.vme_trace.proofs.SpanEnds.{slots_at}
-use Rattle.vme_cert.proofs.Chains.{passes, slot-reached}
+use Rattle.vme_cert.proofs.Chains.{slot-reached}
+use Rattle.vme_cert.proofs.Granted.{slot-none}
 use Rattle.vme_cert.proofs.bus.Bus.tenure_slot.Goals as goal
+
+pub returns-in_err-level : goal.returns-in_err-level
+returns-in_err-level c t at =
+    rw c.from_residual.ensures (slot-none t c.args.self.now.instant (c.in_err-level.ensures.level t at))
 
 pub returns : goal.returns
 unfolding low
-returns c =
-    let t = c.args.self.now.capture.now in
-    let is = sym c.in_ok-level.ensures.level in
-    let slots = c.slots.ensures.slots ∙ (ap (λ (v : Levels). v.slots) c.granted-granted.ensures ∙ slots_at t _) in
-    let first = c.least.ensures.found (λ k. not (passes t c.args.self.now.instant c.in_ok-level.level is k))
-    (search rules) in
-    let past = ap (λ n. n + 1) (c.from-past.ensures ∙ slots) in
-    ap (λ (n : ℕ). Some n) c.unwrap_or-slot.ensures ∙ slot-reached t c.args.self.now.instant c.in_ok-level.level is _
-    c.least.result past first
+returns c t at =
+    let j = c.args.self.now.instant in
+    let level = c.in_ok-level.level in
+    let taken = taken_grant t j in
+    ap (λ n. Some n) (c.granted_slot.ensures
+    ∙ ap (λ (v : Levels). unwrap_or (least (λ k. not (is_low (level_at v (grant level k)))) 0 (v.slots + 1))
+    (v.slots + 1)) (c.granted.ensures t at))
+    ∙ slot-reached t j level (sym (c.in_ok-level.ensures.level t at)) ((levels_at t taken).slots + 1) _
+    (ap (λ n. n + 1) (slots_at t taken)) refl

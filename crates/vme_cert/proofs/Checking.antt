@@ -1,0 +1,346 @@
+-- The stretches of a recording from one instant to the next.
+use Rattle.std.proofs.Common.{◌≡◌, ℕ, zero, suc, ◌+◌, ◌<◌, ◌≤◌, true, false, List, [], ◌∷◌, ◌++◌, map, refl, sym, ◌∙◌}
+use Rattle.std.proofs.Common.{ap, subst, arith, inl, inr, ◌⊎◌, append_assoc, length-append, add-one}
+use Rattle.std.specs.Prelude.{◌-◌, nat_lt, Option, None, Some, if◌then◌else◌}
+use Rattle.vme_trace.specs.Instants.{those}
+use Rattle.vme_trace.specs.Judged.{Stretch, is_idle_at, is_judged, is_reset_at, loses_control_at, span_end, span_from}
+use Rattle.vme_trace.specs.Judged.{span_starts}
+use Rattle.vme_trace.specs.LineNumbers.{AS, BBSY, line_count}
+use Rattle.vme_trace.specs.Rules.{all_rules, breaks, is_unreadable}
+use Rattle.vme_trace.specs.Levels.{Levels, is_idle, is_reset}
+use Rattle.vme_trace.specs.Trace.{Trace, changed, last_instant, levels_at}
+use Rattle.vme_trace.specs.Changes.{lost_among}
+use Rattle.vme_trace.specs.WellFormed.{are_changes}
+use Rattle.vme_trace.specs.declared.step.Change.{Change}
+use Rattle.vme_trace.specs.Verdict.{break_at, break_before, least_break}
+use Rattle.vme_trace.specs.declared.rule.Rule.{Rule}
+use Rattle.vme_trace.specs.declared.rule.Rule.TheVariants.{U1}
+use Rattle.vme_trace.specs.declared.verdict.Break.{Break}
+use Rattle.vme_trace.proofs.JudgedSpans.{Awaits, awaits-first, awaits-next, busy-no_start, end-after, end-within}
+use Rattle.vme_trace.proofs.JudgedSpans.{reset-holds_at, span_reset, spans_after, spans_from_first, spans_next}
+use Rattle.vme_trace.proofs.Ranges.{fails-any, those-none, those-split}
+use Rattle.vme_trace.proofs.SpanEnds.{u1-held}
+use Rattle.vme_listing.specs.Recorded.{outcome_of}
+use Rattle.vme_listing.specs.declared.row.ListedVerdict.{ListedVerdict}
+use Rattle.vme_listing.specs.declared.row.ListedVerdict.TheVariants.{Broken, Conforming, NeverIdle, Unreadable}
+use Rattle.vme_listing.specs.declared.row.Row.{Row}
+use Rattle.vme_listing.specs.declared.row.Row.TheVariants.{Reset, Verdict}
+use Rattle.vme_listing.specs.declared.row.Version.{Version}
+use Rattle.vme_cert.specs.Breaking.{LeadToInstant, named}
+use Rattle.vme_cert.specs.Checking.{Checks, IsEnded, IsJudging, IsStage, IsWaiting, rows_by, rows_from}
+use Rattle.vme_cert.specs.Following.{CanClose, Follows, rows_to}
+use Rattle.vme_cert.specs.Instant.{IsBusOf}
+use Rattle.vme_cert.specs.State.{Holds}
+use Rattle.vme_cert.specs.declared.bus.Bus.{Bus}
+use Rattle.vme_cert.specs.declared.checker.Checker.{Checker}
+use Rattle.vme_cert.specs.declared.checker.Stage.{Stage}
+use Rattle.vme_cert.specs.declared.checker.Stage.TheVariants.{Ended, Judging, Waiting}
+use Rattle.vme_cert.specs.declared.open_rows.OpenRows.{OpenRows}
+use Rattle.vme_cert.specs.declared.state.State.{State}
+use Rattle.vme_cert.proofs.FirstBreaks.{at-loss, at-reset, at-rest, break-instant, found-first, held, none-after}
+use Rattle.vme_cert.proofs.FirstBreaks.{none-first, none-on, quiet}
+use Rattle.vme_cert.proofs.Following.{open-last}
+use Rattle.vme_cert.proofs.Stretches.{recorded-from}
+use Rattle.vme_cert.proofs.TransferRows.{transfer-last}
+use Rattle.vme_cert.proofs.Truth.{eq_past, lt_fails, lt_holds, second_fails}
+
+-- where no instant is left no stretch is, and one that isn't idle starts none
+no_spans : (t : Trace) (n : ℕ) → last_instant t + 1 ≤ n → spans_after t n ≡ []
+no_spans t n past = ap (map (span_from t)) (those-none (span_starts t) n (last_instant t + 1)
+    (fails-any (span_starts t) n (last_instant t + 1) (λ i a b. absurd (omega arith))))
+
+next_spans : (t : Trace) (n : ℕ) → n ≤ last_instant t → is_idle_at t n ≡ false → spans_after t n ≡ spans_after t (n + 1)
+next_spans t n within busy =
+    ap (map (span_from t)) (those-split (span_starts t) n (n + 1) (last_instant t + 1) (omega arith) (omega arith)
+    ∙ ap (λ (is : List ℕ). is ++ those (span_starts t) (n + 1) (last_instant t + 1))
+    (those-none (span_starts t) n (n + 1)
+    (fails-any (span_starts t) n (n + 1) (λ i a b. let here : i ≡ n = omega arith in
+    ap (span_starts t) here ∙ busy-no_start t n busy))))
+
+module _ {Whole Source : Type 0} (gave : Whole → Source → List Row → Type 0) (is_over : Source → Type 0) (whole : Whole)
+    (v : Version) (t : Trace) where
+  -- what is open has no edges where the listing ends
+  pub follows-close : (done : List Row) (span : Stretch) (n : ℕ) (rows : OpenRows Source)
+      → Follows gave is_over whole v done t span n rows → n ≤ span.end
+      → CanClose gave is_over whole v (done ++ rows_to t span n) rows
+  follows-close done span n rows h within =
+      let from : n ≤ n = omega arith in
+      record {
+        version_is = h.are_taken.version_is;
+        taken_is = omega (arith, h.taken_is, length-append done (rows_to t span n));
+        given = h.given;
+        is_given = h.are_taken.is_given;
+        compared = h.are_taken.compared n from within;
+        tenure = open-last v done t span h.given n rows.compared.taken BBSY n rows.tenure h.tenure from within;
+        cycle = open-last v done t span h.given n rows.compared.taken AS n rows.cycle h.cycle from within;
+        transfer = transfer-last t span v done h.given n rows.compared.taken n rows.transfer h.transfer from within;
+      }
+
+  -- at the opening
+  pub waits-first : (rows : OpenRows Source) → CanClose gave is_over whole v [] rows
+      → IsWaiting gave is_over whole v t 0 NeverIdle rows
+  waits-first rows h = record {
+    awaits = awaits-first t;
+    done = [];
+    all = ap (rows_from t NeverIdle) (sym (spans_from_first t)) ∙ sym (recorded-from t);
+    rows_are = h;
+  }
+
+  module _ (n : ℕ) (within : n ≤ last_instant t) (outcome : ListedVerdict) (rows : OpenRows Source) where
+    -- an instant that isn't idle
+    pub waits-on : IsWaiting gave is_over whole v t n outcome rows → is_idle_at t n ≡ false
+        → IsWaiting gave is_over whole v t (n + 1) outcome rows
+    waits-on h busy = record {
+      awaits = rw add-one (awaits-next t n h.awaits busy);
+      done = h.done;
+      all = ap (λ (spans : List Stretch). h.done ++ rows_from t outcome spans) (sym (next_spans t n within busy))
+          ∙ h.all;
+      rows_are = h.rows_are;
+    }
+
+    -- and one that is
+    pub starts : (h : IsWaiting gave is_over whole v t n outcome rows) → is_idle_at t n ≡ true → (state : State)
+        → Holds t (span_from t n) (n + 1) (n + 1) state → (later : OpenRows Source)
+        → Follows gave is_over whole v h.done t (span_from t n) (n + 1) later
+        → IsJudging gave is_over whole v t (n + 1) Conforming later state
+    starts h idle state holds later follows =
+        let found = spans_next t n n h.awaits (omega arith) within idle
+        (fails-any (is_idle_at t) n n (λ i a b. absurd (omega arith))) in
+        let order = end-after t n within in
+        record {
+          start = n;
+          is = found.0;
+          after = omega arith;
+          upto = omega (arith, order);
+          unbroken = none-first t (span_from t n) (n + 1) (omega arith) order;
+          holds = holds;
+          conforms = refl;
+          done = h.done;
+          all = ap (λ (spans : List Stretch). h.done ++ rows_from t outcome spans) (sym found.1) ∙ h.all;
+          rows_are = follows;
+        }
+
+    module _ (state : State) (h : IsJudging gave is_over whole v t n outcome rows state) where
+      abbrev span : Stretch
+      span = span_from t h.start
+
+      abbrev later : List Row
+      later = rows_from t Conforming (spans_after t (span.end + 1))
+
+      abbrev listed : List Row
+      listed = h.done ++ rows_to t span n
+
+      -- a reset
+      pub resets : span_end t h.start ≡ n → is_reset_at t n ≡ true → (new : OpenRows Source)
+          → CanClose gave is_over whole v (h.done ++ rows_to t span n ++ Reset n ∷ []) new
+          → IsWaiting gave is_over whole v t (n + 1) outcome new
+      unfolding least_break
+      resets ends reset new closed = record {
+        awaits = rw add-one (subst (λ m. Awaits t (suc m)) ends
+            (span_reset t span h.is (ap (is_reset_at t) ends ∙ reset)));
+        done = h.done ++ rows_to t span n ++ Reset n ∷ [];
+        all =
+            ap (λ (o : ListedVerdict). (h.done ++ rows_to t span n ++ Reset n ∷ []) ++ rows_from t o
+            (spans_after t (n + 1))) h.conforms
+            ∙ (regroup h.done (rows_to t span n) (Reset n ∷ []) (rows_from t Conforming (spans_after t (n + 1)))
+            ∙ (ap (λ (xs : List Row). h.done ++ xs) (sym whole_span) ∙ h.all));
+        rows_are = closed;
+      }
+        where
+          regroup : (a b c d : List Row) → (a ++ b ++ c) ++ d ≡ a ++ (b ++ (c ++ d))
+          regroup a b c d = simp append_assoc
+
+          none : least_break t span all_rules ≡ None
+          none = none-after t span all_rules n (last_instant t + 1) (omega arith) h.unbroken
+              (λ i a b. quiet t span i (past i a) (λ l below. by_order i l below (order i a)) all_rules)
+            where
+              past : (i : ℕ) → n ≤ i → is_judged span i ≡ false
+              past i a = second_fails (nat_lt span.start i) (nat_lt i span.end)
+                  (lt_fails i span.end (omega (arith, ends)))
+
+              order : (i : ℕ) → n ≤ i → (i ≡ n) ⊎ (n < i)
+              order i a = grind arith
+
+              u1_at : (n l : ℕ) → h.start < n → l < line_count → loses_control_at t n ≡ false
+                  → breaks t span U1 n l ≡ false
+              u1_at (suc m) l after below unlost = u1-held t h.start m unlost l below
+              u1_at zero l after below unlost = absurd (omega arith)
+
+              by_order : (i l : ℕ) → l < line_count → (i ≡ n) ⊎ (n < i) → breaks t span U1 i l ≡ false
+              by_order i l below (inl e) = rw e (u1_at n l h.after below (reset-holds_at t n reset))
+              by_order i l below (inr after) = held t span i l (eq_past i span.end (omega (arith, after, ends)))
+
+          whole_span : rows_by t span (least_break t span all_rules) later ≡ rows_to t span n
+              ++ (Reset n ∷ [] ++ rows_from t Conforming (spans_after t (n + 1)))
+          whole_span = rw (none, ends, reset, lt_holds n (last_instant t + 1) (omega arith)) refl
+
+      -- a break
+      pub breaks-off : (b : Break) → break_at t span all_rules n ≡ Some b
+          → IsEnded gave is_over whole v t (outcome_of (Some b)) rows
+      breaks-off b here =
+          let at : b.instant ≡ n = break-instant t span all_rules n b here in
+          let found = found-first t span n b h.unbroken here within in
+          record {
+            done = listed;
+            all =
+                append_assoc h.done (rows_to t span n) (Verdict (outcome_of (Some b)) ∷ [])
+                ∙ (ap (λ i. h.done ++ (rows_to t span i ++ Verdict (outcome_of (Some b)) ∷ [])) (sym at)
+                ∙ (ap (λ (o : Option Break). h.done ++ rows_by t span o later) (sym found) ∙ h.all));
+            rows_are = follows-close h.done span n rows h.rows_are h.upto;
+          }
+
+      -- or none
+      pub goes-later : n < span_end t h.start → break_at t span all_rules n ≡ None → (new : State)
+          → Holds t span (n + 1) (n + 1) new → (taken : OpenRows Source)
+          → Follows gave is_over whole v h.done t span (n + 1) taken
+          → IsJudging gave is_over whole v t (n + 1) outcome taken new
+      goes-later before here new holds taken follows = record {
+        start = h.start;
+        is = h.is;
+        after = omega (arith, h.after);
+        upto = omega (arith, before);
+        unbroken = none-on t span all_rules n h.unbroken here;
+        holds = holds;
+        conforms = h.conforms;
+        done = h.done;
+        all = h.all;
+        rows_are = follows;
+      }
+
+  -- at the last instant
+  pub ended : (outcome : ListedVerdict) (rows : OpenRows Source) (stage : Stage)
+      → IsStage gave is_over whole v t (last_instant t + 1) outcome rows stage
+      → IsEnded gave is_over whole v t outcome rows
+  unfolding least_break
+  ended outcome rows Ended h = h
+  ended outcome rows Waiting h = record {
+    done = h.done;
+    all = ap (λ (spans : List Stretch). h.done ++ rows_from t outcome spans)
+        (sym (no_spans t (last_instant t + 1) (omega arith))) ∙ h.all;
+    rows_are = h.rows_are;
+  }
+  ended outcome rows (Judging state) h =
+      let span = span_from t h.start in
+      let ends : span.end ≡ last_instant t + 1 = omega (arith, h.upto, end-within t h.start) in
+      record {
+        done = h.done ++ rows_to t span (last_instant t + 1);
+        all =
+            append_assoc h.done (rows_to t span (last_instant t + 1)) (Verdict outcome ∷ [])
+            ∙ (ap (λ (rows : List Row). h.done ++ rows) (sym (whole_span h.start h.unbroken ends)) ∙ h.all);
+        rows_are = follows-close h.done span (last_instant t + 1) rows h.rows_are h.upto;
+      }
+    where
+      whole_span : (s : ℕ) → break_before t (span_from t s) all_rules (last_instant t + 1) ≡ None
+          → span_end t s ≡ last_instant t + 1
+          → rows_by t (span_from t s) (least_break t (span_from t s) all_rules) (rows_from t Conforming
+          (spans_after t (span_end t s + 1))) ≡ rows_to t (span_from t s) (last_instant t + 1) ++ Verdict outcome ∷ []
+      whole_span s none ends = rw (
+        none,
+        ends,
+        no_spans t (last_instant t + 1 + 1) (omega arith),
+        h.conforms,
+        lt_fails (last_instant t + 1) (last_instant t + 1) (omega arith),
+        second_fails (is_reset_at t (last_instant t + 1)) false refl,
+      ) refl
+
+-- what an instant shows by its levels
+pub idle-is : (t : Trace) (levels : Levels) (n : ℕ) → levels ≡ levels_at t n → is_idle_at t n ≡ is_idle levels
+unfolding is_idle_at
+idle-is t levels n e = ap is_idle (sym e)
+
+pub reset-is : (t : Trace) (levels : Levels) (n : ℕ) → levels ≡ levels_at t n → is_reset_at t n ≡ is_reset levels
+unfolding is_reset_at
+reset-is t levels n e = ap is_reset (sym e)
+
+-- a break by its rule and line
+pub named-break : (o : Option Break) (rule : Rule) (line : ℕ) → Some (rule, line) ≡ named o
+    → (b : Break) × (o ≡ Some b) × (b.rule ≡ rule) × (b.line ≡ line)
+named-break None rule line e = absurd (cc)
+named-break (Some b) rule line e = (
+  b,
+  refl,
+  ap (λ (p : Rule × ℕ). p.0) (sym (same_value _ _ e)),
+  ap (λ (p : Rule × ℕ). p.1) (sym (same_value _ _ e)),
+)
+  where
+    same_value : (x y : Rule × ℕ) → Some x ≡ Some y → x ≡ y
+    same_value x y h = cc
+
+pub named-none : (o : Option Break) → None ≡ named o → o ≡ None
+named-none None e = refl
+named-none (Some b) e = absurd (cc)
+
+-- where a break ends all
+module _ {Whole Source : Type 0} (gave : Whole → Source → List Row → Type 0) (is_over : Source → Type 0) (whole : Whole)
+    (v : Version) (t : Trace) (bus : Bus) (rows : OpenRows Source) (outcome : ListedVerdict)
+    (new : Checker Source) where
+  pub checks-ended : new.bus ≡ bus → new.rows ≡ rows → new.stage ≡ Ended → new.outcome ≡ outcome → IsBusOf t bus
+      → IsEnded gave is_over whole v t outcome rows → Checks gave is_over whole v t new
+  checks-ended same_bus same_rows stage same_outcome at h = record {
+    at = subst (IsBusOf t) (sym same_bus) at;
+    stage_is =
+        subst (λ (s : Stage). IsStage gave is_over whole v t (new.bus.instant + 1) new.outcome new.rows s) (sym stage)
+        (subst (λ (o : ListedVerdict). IsEnded gave is_over whole v t o new.rows) (sym same_outcome)
+        (subst (λ (r : OpenRows Source). IsEnded gave is_over whole v t outcome r) (sym same_rows) h));
+  }
+
+-- an instant of a stretch, or its end, by the levels and the changes
+module _ {Whole Source : Type 0} (gave : Whole → Source → List Row → Type 0) (is_over : Source → Type 0) (whole : Whole)
+    (v : Version) (t : Trace) (bus : Bus) (cs : List Change) (at : IsBusOf t bus) (lead : LeadToInstant bus cs)
+    (few : bus.before.slots ≤ 21) (within : bus.instant ≤ last_instant t) (outcome : ListedVerdict)
+    (rows : OpenRows Source) (state : State)
+    (h : IsJudging gave is_over whole v t bus.instant outcome rows state) where
+  made : levels_at t bus.instant ≡ changed (levels_at t (bus.instant - 1)) cs
+  made = sym at.levels ∙ (lead.made ∙ ap (λ (w : Levels). changed w cs) at.before)
+
+  sound : are_changes (levels_at t (bus.instant - 1)) 0 cs ≡ true
+  sound = ap (λ (w : Levels). are_changes w 0 cs) (sym at.before) ∙ lead.sound
+
+  few_slots : (levels_at t (bus.instant - 1)).slots ≤ 21
+  few_slots = omega (arith, few, ap (λ (w : Levels). w.slots) at.before)
+
+  lost_is : (o : Option ℕ) → o ≡ lost_among bus.levels cs → lost_among (levels_at t bus.instant) cs ≡ o
+  lost_is o e = ap (λ (w : Levels). lost_among w cs) (sym at.levels) ∙ sym e
+
+  pub judge-resets : is_reset bus.levels ≡ true → (new : OpenRows Source)
+      → CanClose gave is_over whole v (h.done ++ rows_to t (span_from t h.start) bus.instant ++ Reset bus.instant ∷ [])
+      new
+      → IsWaiting gave is_over whole v t (bus.instant + 1) outcome new
+  judge-resets reset new closed =
+      let here = reset-is t bus.levels bus.instant at.levels ∙ reset in
+      resets gave is_over whole v t bus.instant within outcome rows state h
+      (at-reset t h.start h.is bus.instant h.after h.upto within here) here new closed
+
+  pub judge-loses : (line : ℕ) → Some line ≡ lost_among bus.levels cs
+      → IsEnded gave is_over whole v t (Unreadable U1 bus.instant line) rows
+  judge-loses line e = breaks-off gave is_over whole v t bus.instant within outcome rows state h _
+      (at-loss t h.start h.is cs bus.instant line h.after h.upto within few_slots made sound (lost_is (Some line) e))
+
+  pub judge-breaks : (rule : Rule) (line : ℕ)
+      → Some (rule, line) ≡ named (break_at t (span_from t h.start) all_rules bus.instant)
+      → IsEnded gave is_over whole v t
+      (if is_unreadable rule then Unreadable rule bus.instant line else Broken rule bus.instant line) rows
+  judge-breaks rule line e =
+      let (b, here, same_rule, same_line) = named-break (break_at t (span_from t h.start) all_rules bus.instant) rule
+      line e in
+      let same_instant = break-instant t (span_from t h.start) all_rules bus.instant b here in
+      subst (λ (o : ListedVerdict). IsEnded gave is_over whole v t o rows)
+      (ap (λ (r : Rule). if is_unreadable r then Unreadable r b.instant b.line else Broken r b.instant b.line) same_rule
+      ∙ (ap (λ i. if is_unreadable rule then Unreadable rule i b.line else Broken rule i b.line) same_instant
+      ∙ ap (λ l. if is_unreadable rule then Unreadable rule bus.instant l else Broken rule bus.instant l) same_line))
+      (breaks-off gave is_over whole v t bus.instant within outcome rows state h b here)
+
+  pub judge-within : is_reset bus.levels ≡ false → None ≡ lost_among bus.levels cs → bus.instant < span_end t h.start
+  judge-within unreset e = at-rest t h.start h.is cs bus.instant h.after h.upto within few_slots made sound
+      (reset-is t bus.levels bus.instant at.levels ∙ unreset) (lost_is None e)
+
+-- the levels one instant later
+pub advanced : (t : Trace) (old new : Bus) (cs : List Change) → IsBusOf t old → new.instant ≡ old.instant + 1
+    → new.before ≡ old.levels → new.levels ≡ changed old.levels cs
+    → levels_at t (old.instant + 1) ≡ changed (levels_at t old.instant) cs → IsBusOf t new
+advanced t old new cs at instant before levels made =
+    let back : old.instant ≡ new.instant - 1 = omega (arith, instant) in
+    record {
+      before = before ∙ (at.levels ∙ ap (levels_at t) back);
+      levels = levels ∙ (ap (λ (w : Levels). changed w cs) at.levels ∙ (sym made ∙ ap (levels_at t) (sym instant)));
+    }

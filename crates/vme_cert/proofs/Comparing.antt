@@ -1,0 +1,224 @@
+-- The least that differs, once one more was taken or compared, and at the end.
+use Rattle.std.proofs.Common.{◌≡◌, ℕ, zero, suc, ◌+◌, ◌-◌, ◌<◌, ◌≤◌, Bool, true, false, ◌&&◌, not, List, [], ◌∷◌, ◌++◌}
+use Rattle.std.proofs.Common.{length, take, refl, sym, ◌∙◌, ap, subst, arith, inl, inr, ◌⊎◌, length-append}
+use Rattle.std.specs.Prelude.{◌==◌, Option, None, Some, slice_get, MatchOption}
+use Rattle.std.proofs.lemmas.Bool.Decides.{nat_tests}
+use Rattle.std.proofs.lemmas.Option.{slice_get_past, slice_get_within}
+use Rattle.vme_listing.specs.declared.row.Row.{Row}
+use Rattle.vme_cert.specs.Comparing.{Decides, Extends, IsBegun, IsCompared, IsDue, IsGiven, IsGivenNext, IsSame}
+use Rattle.vme_cert.specs.Comparing.{IsSettled, same_to, spares}
+use Rattle.vme_cert.specs.declared.comparison.Comparison.{Comparison}
+use Rattle.vme_cert.specs.declared.comparison.OpenRow.{OpenRow}
+use Rattle.vme_cert.specs.declared.compare.Answer.TheVariants.{Yes, No}
+use Rattle.vme_cert.proofs.Truth.{below_or_from, equal}
+
+module _ {A : Type 0} where
+  same_value : (x y : A) → Some x ≡ Some y → x ≡ y
+  same_value x y h = cc
+
+  none_some : (x : A) → None ≡ Some x → ⊥
+  none_some x h = cc
+
+  pub take-same : (n : ℕ) (xs ys : List A) → ((i : ℕ) → i < n → slice_get xs i ≡ slice_get ys i) → take n xs ≡ take n ys
+  take-same zero xs ys h = refl
+  take-same (suc n) [] [] h = refl
+  take-same (suc n) [] (y ∷ ys) h = absurd (none_some y (h 0 (omega arith)))
+  take-same (suc n) (x ∷ xs) [] h = absurd (none_some x (sym (h 0 (omega arith))))
+  take-same (suc n) (x ∷ xs) (y ∷ ys) h = rw (
+    same_value x y (h 0 (omega arith)),
+    take-same n xs ys
+        (λ i b. h (suc i) (omega arith)),
+  ) refl
+
+  list-same : (xs ys : List A) → ((i : ℕ) → slice_get xs i ≡ slice_get ys i) → xs ≡ ys
+  list-same [] [] h = refl
+  list-same [] (y ∷ ys) h = absurd (none_some y (h 0))
+  list-same (x ∷ xs) [] h = absurd (none_some x (sym (h 0)))
+  list-same (x ∷ xs) (y ∷ ys) h = rw (same_value x y (h 0), list-same xs ys (λ i. h (suc i))) refl
+
+  pub slice_get-front : (xs ys : List A) (n : ℕ) → n < length xs → slice_get (xs ++ ys) n ≡ slice_get xs n
+  slice_get-front [] ys n h = absurd (omega arith)
+  slice_get-front (x ∷ xs) ys zero h = refl
+  slice_get-front (x ∷ xs) ys (suc n) h = slice_get-front xs ys n (omega arith)
+
+  pub slice_get-here : (xs : List A) (y : A) (ys : List A) → slice_get (xs ++ y ∷ ys) (length xs) ≡ Some y
+  slice_get-here [] y ys = refl
+  slice_get-here (x ∷ xs) y ys = slice_get-here xs y ys
+
+  past : (xs : List A) (n : ℕ) → slice_get xs n ≡ None → length xs ≤ n
+  past [] n h = omega arith
+  past (x ∷ xs) zero h = absurd (none_some x (sym h))
+  past (x ∷ xs) (suc n) h = omega (arith, past xs n h)
+
+spared : (still : ℕ → Bool) (row : OpenRow) (n : ℕ) → spares still (Some row) n ≡ false → (n ≡ row.place) ⊎ (still n
+    ≡ false)
+spared still row n off = by_tests (still n) (n == row.place) refl refl
+  where
+    by_tests : (a b : Bool) → still n ≡ a → (n == row.place) ≡ b → (n ≡ row.place) ⊎ (still n ≡ false)
+    by_tests true true e f = inl (equal n row.place f)
+    by_tests true false e f = let h : (true && not false) ≡ false = rw (e, f) at off in absurd (cc)
+    by_tests false b e f = inr e
+
+module _ (given right : List Row) (taken : ℕ) (still : ℕ → Bool) (row : OpenRow) where
+  -- of an open one it was seen that it isn't the same
+  pub settle-other : (wrong : Option ℕ) → IsCompared given right taken still wrong → row.place < taken
+      → row.place ≤ same_to taken wrong → (IsSame given right row.place → ⊥)
+      → IsCompared given right taken (spares still (Some row)) (Some (row.place + 1))
+  settle-other wrong h within sooner other =
+      let back : row.place + 1 - 1 ≡ row.place = omega arith in
+      record {
+        same = λ n below off. elim (spared still row n off) [
+          | inl e ↦ absurd (omega arith)
+          | inr closed ↦ h.same n (omega arith) closed
+        ];
+        differs = (omega arith, omega arith, rw back other);
+      }
+
+  pub settle-later : (wrong : Option ℕ) → IsCompared given right taken still wrong → same_to taken wrong ≤ row.place
+      → IsCompared given right taken (spares still (Some row)) wrong
+  settle-later wrong h later = record {
+    same = λ n below off. elim (spared still row n off) [
+      | inl e ↦ absurd (omega arith)
+      | inr closed ↦ h.same n below closed
+    ];
+    differs = h.differs;
+  }
+
+-- more were taken, which are open, or fewer are open that are so still
+pub compared-on : (given more right rights : List Row) (taken next : ℕ) (still now : ℕ → Bool) (wrong : Option ℕ)
+    → taken ≤ next → Extends given more taken → Extends right rights taken
+    → ((n : ℕ) → n < next → now n ≡ false → (n < taken) × (still n ≡ false))
+    → IsCompared given right taken still wrong → IsCompared more rights next now wrong
+compared-on given more right rights taken next still now None order extends all kept h = record {
+  same = λ n below off. let was = kept n below off in extends n was.0 ∙ h.same n was.0 was.1 ∙ sym (all n was.0);
+  differs = tt;
+}
+compared-on given more right rights taken next still now (Some row) order extends all kept h =
+    let (first, within, other) = h.differs in
+    let taken_before : (n : ℕ) → n < row - 1 → n < taken = λ n below. omega (arith, first, within) in
+    let last : row - 1 < taken = omega (arith, first, within) in
+    record {
+      same = λ n below off.
+          let within = taken_before n below in
+          extends n within ∙ h.same n below (kept n (omega arith) off).1 ∙ sym (all n within);
+      differs = (
+        first,
+        omega (arith, within),
+        λ same. other (sym (extends (row - 1) last) ∙ same ∙ all (row - 1) last),
+      );
+    }
+
+-- by fewer that are open
+pub compared-fewer : (given right : List Row) (taken : ℕ) (still now : ℕ → Bool) (wrong : Option ℕ)
+    → ((n : ℕ) → now n ≡ false → still n ≡ false) → IsCompared given right taken still wrong
+    → IsCompared given right taken now wrong
+compared-fewer given right taken still now wrong kept h = record {
+  same = λ n below off. h.same n below (kept n off);
+  differs = h.differs;
+}
+
+-- one is compared
+module _ {Source : Type 0} (o : Option OpenRow) (edge : Option ℕ) (old new : Comparison Source)
+    (s : IsSettled o edge old new) where
+  pub settled-compared : (given right : List Row) (still : ℕ → Bool)
+      → IsCompared given right old.taken still old.wrong → IsDue given right old.taken edge o
+      → IsCompared given right new.taken (spares still o) new.wrong
+  settled-compared given right still h due = subst (λ n. IsCompared given right n (spares still o) new.wrong)
+      (sym s.taken) (s.wrong given right still h due)
+
+  pub settled-given : {Whole : Type 0} (gave : Whole → Source → List Row → Type 0) (is_over : Source → Type 0)
+      (whole : Whole) (given : List Row) → IsGiven gave is_over whole given old.source old.taken
+      → IsGiven gave is_over whole given new.source new.taken
+  settled-given gave is_over whole given h =
+      subst (IsGiven gave is_over whole given new.source) (sym s.taken)
+      (subst (λ (c : Source). IsGiven gave is_over whole given c old.taken) (sym s.source) h)
+
+-- one more is taken
+module _ {Whole Source : Type 0} (gave : Whole → Source → List Row → Type 0) (is_over : Source → Type 0) (right : Row)
+    (old new : Comparison Source) (row : OpenRow) (b : IsBegun gave is_over right old new row) (given more : List Row)
+    (extends : Extends given more old.taken) where
+  pub begun-compared : (rights all : List Row) (still now : ℕ → Bool) → Extends rights all old.taken
+      → ((n : ℕ) → now n ≡ false → (still n ≡ false) × ((n == row.place) ≡ false))
+      → IsCompared given rights old.taken still old.wrong → IsCompared more all new.taken now new.wrong
+  begun-compared rights all still now others kept h =
+      subst (λ n. IsCompared more all n now new.wrong) (sym b.taken)
+      (subst (λ (w : Option ℕ). IsCompared more all (old.taken + 1) now w) (sym b.wrong)
+      (compared-on given more rights all old.taken (old.taken + 1) still now old.wrong (omega arith) extends others
+      (λ n below off. (below_last n b.place below (kept n off).1, (kept n off).0)) h))
+    where
+      below_last : (n : ℕ) → row.place ≡ old.taken → n < old.taken + 1 → (n == row.place) ≡ false → n < old.taken
+      below_last n e below other = grind (arith, nat_tests)
+
+module _ {Whole Source : Type 0} (gave : Whole → Source → List Row → Type 0) (is_over : Source → Type 0)
+    (whole : Whole) where
+  -- one more was asked for
+  pub given-next : (given : List Row) (row : Option Row) (old new : Source) (taken : ℕ)
+      → IsGiven gave is_over whole given old taken
+      → MatchOption row (gave whole new given) (λ row. gave whole new (given ++ row ∷ []))
+      → (row ≡ None → is_over new) → (is_over old → row ≡ None)
+      → IsGivenNext gave is_over whole given row new taken
+  given-next given None old new taken h asked over stays = record {
+    more = given;
+    is_given = record { gave_is = asked; count = inr (over refl, omega (arith, most h.count)) };
+    extends = λ n below. refl;
+    given_is = sym (slice_get_past given taken (most h.count));
+  }
+    where
+      most : (length given ≡ taken) ⊎ (is_over old × (length given ≤ taken)) → length given ≤ taken
+      most (inl e) = omega arith
+      most (inr short) = short.1
+  given-next given (Some row) old new taken h asked over stays =
+      let all : length given ≡ taken = whole_taken h.count in
+      record {
+        more = given ++ row ∷ [];
+        is_given = record { gave_is = asked; count = inl (length-append given (row ∷ []) ∙ ap (λ n. n + 1) all) };
+        extends = λ n below. slice_get-front given (row ∷ []) n (omega (arith, all, below));
+        given_is = sym (ap (slice_get (given ++ row ∷ [])) (sym all) ∙ slice_get-here given row []);
+      }
+    where
+      whole_taken : (length given ≡ taken) ⊎ (is_over old × (length given ≤ taken)) → length given ≡ taken
+      whole_taken (inl e) = e
+      whole_taken (inr short) = absurd (none_some row (sym (stays short.0)))
+
+-- at the end none is open
+module _ {Source : Type 0} (is_over : Source → Type 0) (given right : List Row) (taken : ℕ)
+    (all : taken ≡ length right) where
+  -- one that was compared differs
+  pub finish-other : (source : Source) (row : ℕ) → IsCompared given right taken (λ n. false) (Some row)
+      → (length given ≡ taken) ⊎ (is_over source × (length given ≤ taken)) → Decides is_over given right source (No row)
+  finish-other source row h count =
+      let (first, within, other) = h.differs in (
+        record { first = first; before = take-same (row - 1) given right (λ i b. h.same i b refl); here = other },
+        elim count [ inl e ↦ inl (omega (arith, within)) | inr short ↦ inr short.0 ],
+      )
+
+  module _ (more : List Row) (extends : Extends given more taken)
+      (h : IsCompared given right taken (λ n. false) None) where
+    -- one more is given
+    pub finish-longer : (source : Source) (row : Row) → Some row ≡ slice_get more taken
+        → Decides is_over more right source (No (taken + 1))
+    finish-longer source row is =
+        let back : taken + 1 - 1 ≡ taken = omega arith in
+        let long : taken < length more = slice_get_within more taken row (sym is) in (
+          record {
+            first = omega arith;
+            before = rw back (take-same taken more right (λ i b. extends i b ∙ h.same i b refl));
+            here = rw back (λ same. none_some row
+                (sym (is ∙ same ∙ slice_get_past right taken (omega (arith, all)))));
+          },
+          inl (omega arith),
+        )
+
+    -- or none
+    pub finish-same : (source : Source) → None ≡ slice_get more taken → is_over source
+        → Decides is_over more right source
+        Yes
+    finish-same source is over = (
+      list-same more right (λ n. elim (below_or_from n taken) [
+        | inl below ↦ extends n below ∙ h.same n below refl
+        | inr from ↦
+            slice_get_past more n (omega (arith, past more taken (sym is)))
+            ∙ sym (slice_get_past right n (omega (arith, all)))
+      ]),
+      over,
+    )

@@ -1,0 +1,30 @@
+use Rattle.std.proofs.Common.{◌+◌, ◌∙◌, false, List, ◌∷◌, ◌++◌, [], length, refl, sym, ap, subst}
+use Rattle.vme_listing.specs.Recorded.{recorded_rows, rows_in}
+use Rattle.vme_listing.specs.declared.row.Row.{Row}
+use Rattle.vme_listing.specs.declared.row.Row.TheVariants.{Verdict}
+use Rattle.vme_cert.specs.Checking.{IsStage}
+use Rattle.vme_cert.specs.Comparing.{IsCompared, is_at}
+use Rattle.vme_cert.specs.Following.{is_open}
+use Rattle.vme_cert.proofs.Checking.{ended}
+use Rattle.vme_cert.proofs.Comparing.{compared-fewer}
+use Rattle.vme_cert.proofs.Following.{all-off, none-at}
+use Rattle.vme_cert.proofs.Placing.{rows_in-length}
+use Rattle.vme_cert.proofs.checker.Checker.finish.Goals as goal
+
+pub returns : goal.returns
+returns g c whole v t last h =
+    let self = c.args.self in
+    let e = ended g.S.RowSource.gave g.S.RowSource.is_over whole v t self.outcome self.rows self.stage
+    (subst (λ n. IsStage g.S.RowSource.gave g.S.RowSource.is_over whole v t (n + 1) self.outcome self.rows self.stage)
+    last h.stage_is) in
+    let new = c.follow.new.self in
+    let closed = c.follow.ensures.rows whole v e.done refl e.rows_are in
+    let none = c.follow.ensures.closed in
+    c.finish.ensures whole closed.given (rows_in v (recorded_rows t)) closed.is_given
+    (subst (λ (rows : List Row). IsCompared closed.given (rows_in v rows) new.compared.taken (λ n. false)
+    new.compared.wrong) e.all
+    (compared-fewer closed.given (rows_in v (e.done ++ Verdict self.outcome ∷ [])) new.compared.taken (is_open new)
+    (λ n. false) new.compared.wrong (λ n off. all-off (is_at new.tenure n) (is_at new.cycle n) (is_at new.transfer n)
+    (none-at new.tenure n none.tenure) (none-at new.cycle n none.cycle) (none-at new.transfer n none.transfer))
+    closed.compared))
+    (closed.taken_is ∙ (ap (λ (rows : List Row). length rows) e.all ∙ sym (rows_in-length v (recorded_rows t))))

@@ -1,0 +1,8 @@
+use Rattle.vme_cert.proofs.TransferRows.{answered-is}
+use Rattle.vme_cert.proofs.rows.answered_row.Goals as goal
+
+pub returns : goal.returns
+returns c t span end edge at opened cycle =
+    answered-is t span c.args.bus.now.instant c.args.transfer.now opened end c.direction.result c.answer_line.result
+    c.args.cycle.now.start c.answer_data.result edge cycle.last c.direction.ensures (c.answer_line.ensures t at)
+    (c.answer_data.ensures t span end at opened)

@@ -1,0 +1,19 @@
+-- More rows were read, unless the listing was whole.
+use Rattle.std.proofs.Common.{◌≡◌, ◌++◌, ℕ, List, true, [], length}
+use Rattle.vme_listing.specs.Places.{ends_listing}
+use Rattle.vme_listing.specs.Reading.{HasRead}
+use Rattle.vme_listing.specs.declared.row.Row.{Row}
+use Rattle.vme_cert.proofs.source.TextRows.fault.Given as goal
+
+abbrev pub invariant-loop-row : goal.invariant-loop-row
+invariant-loop-row l =
+    record {
+      version : l.self.reader.version ≡ l.fn.self.reader.version;
+      over : ends_listing l.fn.self.reader.last ≡ true → l.self.reader ≡ l.fn.self.reader;
+      read : (text : List ℕ) (rows : List Row) → HasRead text rows l.fn.self.reader
+          → (more : List Row) × HasRead text (rows ++ more) l.self.reader
+          × (ends_listing l.fn.self.reader.last ≡ true → more ≡ []);
+    }
+
+abbrev pub decreases-loop-row : goal.decreases-loop-row
+decreases-loop-row l = length l.self.reader.rest

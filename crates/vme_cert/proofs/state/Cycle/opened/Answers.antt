@@ -1,0 +1,12 @@
+use Rattle.std.proofs.Common.{◌∙◌, ap, refl, sym}
+use Rattle.vme_trace.specs.Cycle.{class_of, needs_of}
+use Rattle.vme_cert.proofs.Cycles.{cycle-here}
+use Rattle.vme_cert.proofs.state.Cycle.opened.Goals as goal
+
+pub returns : goal.returns
+returns c t span at judged is = record {
+  here = λ e. cycle-here t span c.args.bus.now.instant judged c.args.self is
+      (sym (c.falls.ensures t at) ∙ c.if-not-falls.false) _ refl (c.am_class.ensures ∙ ap class_of at.levels)
+      (c.needed.ensures ∙ ap needs_of at.levels) refl refl refl refl refl;
+  absent = λ e. absurd (cc);
+}

@@ -1,0 +1,68 @@
+-- The rules up to the one at hand aren't broken; and none is where nothing that may break one does.
+use Rattle.std.proofs.Common.{◌≡◌, ◌<◌, ◌&&◌, ◌||◌, List, drop, refl, sym, ◌∙◌, ap, arith, add-one, drop-cons}
+use Rattle.std.specs.Prelude.{nat_le}
+use Rattle.vme_cert.proofs.Truth.{or_false}
+use Rattle.vme_trace.specs.Rules.{all_rules}
+use Rattle.vme_trace.specs.Verdict.{break_at, rule_count}
+use Rattle.vme_trace.specs.declared.rule.Rule.{Rule}
+use Rattle.vme_trace.specs.declared.rule.Rule.TheVariants.{U1, U2, U4}
+use Rattle.vme_cert.specs.Breaking.{named}
+use Rattle.vme_cert.proofs.Breaks.{break_at-empty, break_at-here, break_at-next, break_at-none, breaks-off}
+use Rattle.vme_cert.proofs.Breaks.{breaks-unspoken, known-cycle, known-data, unbroken, unstarted-cycle}
+use Rattle.vme_cert.proofs.Breaks.{unstarted-strobe}
+use Rattle.vme_cert.proofs.Cycles.{cycle-starts-is}
+use Rattle.vme_cert.proofs.state.State.break_at.Goals as goal
+
+pub returns-then-not-change-transfer : goal.returns-then-not-change-transfer
+returns-then-not-change-transfer c t span h =
+    let bus = c.args.bus.now in
+    let j = bus.instant in
+    let change = c.is_change_broken-change.result in
+    let transfer = c.is_transfer_start_broken-transfer.result in
+    let cycle = c.is_unreadable-cycle.result in
+    let three = or_false (change || transfer || cycle) c.is_unreadable-data.result
+    c.if-not-change-transfer.true in
+    let two = or_false (change || transfer) cycle three.0 in
+    let one = or_false change transfer two.0 in
+    sym (ap named (break_at-none t span j (unbroken t span bus c.args.self.now c.args.changes.now h c.requires
+    (λ r l e s. c.is_change_broken-change.ensures t span r l h one.0 e s)
+    (λ l. c.is_unreadable-cycle.ensures t span l h two.1
+    (λ e. breaks-off t span j l U2
+    (unstarted-cycle t span j l (cycle-starts-is t span j h.judged ∙ (sym (c.falls-starts.ensures t h.at) ∙ e))))
+    (λ e. breaks-off t span j l U2 (known-cycle t span j l e))
+    (λ e. sym (breaks-unspoken t span j l U2 h.judged
+    (ap (λ n. nat_le 5 l && nat_le l n) (sym c.address.ensures) ∙ e))))
+    (λ l. c.is_transfer_start_broken-transfer.ensures.direction t span l h one.1)
+    (λ l. c.is_transfer_start_broken-transfer.ensures.answers t span l h one.1)
+    (λ l. c.is_unreadable-data.ensures t span l h three.1
+    (λ e. breaks-off t span j l U4 (unstarted-strobe t span j l (sym (c.strobe_falls-strobed.ensures t h.at) ∙ e)))
+    (λ e. breaks-off t span j l U4 (known-data t span j l e))
+    (λ e. sym (breaks-unspoken t span j l U4 h.judged (ap (λ n. nat_le n l && nat_le l 190) (sym c.data.ensures)
+    ∙ (ap (λ n. nat_le c.data.result l && nat_le l n) (sym c.data-2.ensures) ∙ e)))))) all_rules))
+
+pub loop-place-init : goal.loop-place-init
+loop-place-init c t span h = refl
+
+pub returns-in-Some : goal.returns-in-Some
+returns-in-Some c t span h =
+    let j = c.args.bus.now.instant in
+    let within : c.loop-place.place < rule_count = omega arith in
+    sym (ap named (sym (c.loop-place.invariant t span h)
+    ∙ (ap (λ (rs : List Rule). break_at t span rs j) (drop-cons all_rules c.loop-place.place U1 within)
+    ∙ break_at-here t span _ _ j c.in-Some.line (sym (c.least_line.ensures t span h) ∙ c.in-Some.is))))
+
+pub loop-place-preserved : goal.loop-place-preserved
+loop-place-preserved c t span h =
+    let j = c.args.bus.now.instant in
+    let within : c.loop-place.place < rule_count = omega arith in
+    rw add-one
+    (sym (break_at-next t span _ _ j (sym (c.least_line.ensures t span h) ∙ c.in_default.is))
+    ∙ (sym (ap (λ (rs : List Rule). break_at t span rs j) (drop-cons all_rules c.loop-place.place U1 within))
+    ∙ c.loop-place.invariant t span h))
+
+pub returns : goal.returns
+returns c t span h =
+    let j = c.args.bus.now.instant in
+    let e : c.loop-place.place ≡ rule_count = omega arith in
+    sym (ap named (sym (c.loop-place.invariant t span h)
+    ∙ (ap (λ k. break_at t span (drop k all_rules) j) e ∙ break_at-empty t span j)))

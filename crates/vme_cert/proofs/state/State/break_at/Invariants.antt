@@ -1,0 +1,13 @@
+-- None of the rules so far is broken.
+use Rattle.std.proofs.Common.{◌≡◌, drop}
+use Rattle.vme_trace.specs.Judged.{Stretch}
+use Rattle.vme_trace.specs.Rules.{all_rules}
+use Rattle.vme_trace.specs.Trace.{Trace}
+use Rattle.vme_trace.specs.Verdict.{break_at}
+use Rattle.vme_cert.specs.State.{IsStateOf}
+use Rattle.vme_cert.proofs.state.State.break_at.Given as goal
+
+abbrev pub invariant-loop-place : goal.invariant-loop-place
+invariant-loop-place l =
+    (t : Trace) (span : Stretch) → IsStateOf t span l.bus l.self
+    → break_at t span (drop l.place all_rules) l.bus.instant ≡ break_at t span all_rules l.bus.instant

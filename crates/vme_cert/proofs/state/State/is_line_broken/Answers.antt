@@ -1,0 +1,35 @@
+use Rattle.std.proofs.Common.{◌≡◌, ◌∙◌, ap, arith, below_more, false, get_or, List, length, subst, sym, true}
+use Rattle.vme_trace.specs.Judged.{Stretch}
+use Rattle.vme_trace.specs.Rules.{is_broken}
+use Rattle.vme_trace.specs.Trace.{Trace}
+use Rattle.vme_trace.specs.declared.rule.Rule.{Rule}
+use Rattle.vme_trace.specs.declared.rule.Rule.TheVariants.{U1}
+use Rattle.vme_cert.specs.RulesByLine.{speaks_of}
+use Rattle.vme_cert.specs.State.{IsStateOf}
+use Rattle.vme_cert.proofs.RulesTable.{listed-speaks, speaks-listed}
+use Rattle.vme_cert.proofs.state.State.is_line_broken.Goals as goal
+
+pub is_broken-requires-clause-speaks : goal.is_broken-requires-clause-speaks
+is_broken-requires-clause-speaks c =
+    let i = c.loop-rule.rule-index in
+    let rules = c.rules_on-rule-items.ensures.rules in
+    let within = ap (λ (rs : List Rule). length rs) rules in
+    subst (λ (rs : List Rule). speaks_of (get_or rs i U1) c.args.line ≡ true) (sym rules)
+    (listed-speaks c.args.line i c.rules_on-rule-items.ensures.exists (omega arith))
+
+pub loop-rule-preserved : goal.loop-rule-preserved
+loop-rule-preserved c = record {
+  rules = c.loop-rule.invariant.rules;
+  kept = below_more (λ k. (t : Trace) (span : Stretch) → IsStateOf t span c.args.bus.now c.args.self.now
+      → is_broken t span (get_or c.rules_on-rule-items.result.now k U1) c.args.bus.now.instant c.args.line ≡ false)
+      c.loop-rule.rule-index c.loop-rule.invariant.kept (λ t span h. sym (c.is_broken.ensures t span h)
+      ∙ c.if-is_broken.false);
+}
+
+pub returns : goal.returns
+returns c t span r h e spoken =
+    let (k, below, at) = speaks-listed c.args.line r c.rules_on-rule-items.ensures.exists spoken in
+    let rules = c.loop-rule.invariant.rules in
+    let within = ap (λ (rs : List Rule). length rs) rules in
+    subst (λ (q : Rule). is_broken t span q c.args.bus.now.instant c.args.line ≡ false)
+    (ap (λ (rs : List Rule). get_or rs k U1) rules ∙ at) (c.loop-rule.invariant.kept k (omega arith) t span h)

@@ -1,0 +1,16 @@
+-- Of the rules so far none is broken.
+use Rattle.std.proofs.Common.{◌≡◌, ℕ, ◌<◌, false, get_or}
+use Rattle.vme_trace.specs.Judged.{Stretch}
+use Rattle.vme_trace.specs.Rules.{is_broken}
+use Rattle.vme_trace.specs.Trace.{Trace}
+use Rattle.vme_trace.specs.declared.rule.Rule.TheVariants.{U1}
+use Rattle.vme_cert.specs.RulesByLine.{rules_on}
+use Rattle.vme_cert.specs.State.{IsStateOf}
+use Rattle.vme_cert.proofs.state.State.is_line_broken.Given as goal
+
+abbrev pub invariant-loop-rule : goal.invariant-loop-rule
+invariant-loop-rule l = record {
+  rules : l.rule-items ≡ rules_on l.line;
+  kept : (k : ℕ) → k < l.rule-index → (t : Trace) (span : Stretch) → IsStateOf t span l.bus l.self
+      → is_broken t span (get_or l.rule-items k U1) l.bus.instant l.line ≡ false;
+}

@@ -1,0 +1,12 @@
+-- The rule isn't broken on the lines up to the one at hand.
+use Rattle.std.proofs.Common.{◌≡◌, false}
+use Rattle.vme_trace.specs.Instants.{any}
+use Rattle.vme_trace.specs.Judged.{Stretch}
+use Rattle.vme_trace.specs.Rules.{breaks}
+use Rattle.vme_trace.specs.Trace.{Trace}
+use Rattle.vme_cert.specs.State.{IsStateOf}
+use Rattle.vme_cert.proofs.state.State.least_line.Given as goal
+
+abbrev pub invariant-loop-number : goal.invariant-loop-number
+invariant-loop-number l = (t : Trace) (span : Stretch) → IsStateOf t span l.bus l.self
+    → any (breaks t span l.rule l.bus.instant) l.first l.number ≡ false

@@ -1,0 +1,30 @@
+use Rattle.std.proofs.Common.{ℕ, ◌+◌, ◌∙◌, ap, arith, sym}
+use Rattle.vme_trace.specs.Cycles.{cycle_starts}
+use Rattle.vme_trace.specs.LineNumbers.{BBSY, BERR, BR, DTACK}
+use Rattle.vme_trace.specs.Signals.{falls, low}
+use Rattle.vme_trace.specs.Tenures.{grant_falls}
+use Rattle.vme_trace.specs.Transfers.{strobe_rises}
+use Rattle.vme_cert.specs.State.{is_requested}
+use Rattle.vme_cert.proofs.Fours.{each-of}
+use Rattle.vme_cert.proofs.OpenTransfer.{none-started}
+use Rattle.vme_cert.proofs.Searching.{greatest-none}
+use Rattle.vme_cert.proofs.Since.{since-later-start, since-start}
+use Rattle.vme_cert.proofs.state.State.starting.Goals as goal
+
+pub returns : goal.returns
+returns c t span at start =
+    let rises = c.strobe_rises-rises.ensures t at ∙ ap (strobe_rises t) start in
+    let begins = λ (n : ℕ). ap (low t (BR n)) start ∙ sym (since-start t span (grant_falls t) (low t (BR n))) in
+    record {
+      cycle = record {
+        here = λ e. absurd (cc);
+        absent = λ e. greatest-none (cycle_starts t span) (span.start + 1) (span.start + 1) (omega arith);
+      };
+      transfer = record { here = λ e. absurd (cc); absent = λ e. none-started t span };
+      acknowledge_freed = rises ∙ sym (since-start t span (falls t DTACK) (strobe_rises t));
+      error_freed = rises ∙ sym (since-start t span (falls t BERR) (strobe_rises t));
+      requested = each-of (λ n. is_requested t span n (span.start + 1)) _ _ _ _ (c.requests.ensures t at ∙ begins 0)
+          (c.requests-2.ensures t at ∙ begins 1) (c.requests-3.ensures t at ∙ begins 2)
+          (c.requests-4.ensures t at ∙ begins 3);
+      granted = sym (since-later-start t span (falls t BBSY) (grant_falls t));
+    }

@@ -1,0 +1,81 @@
+-- The rows of a recording, stretch by stretch, and how far they are followed behind an instant.
+use Rattle.std.specs.Prelude.{◌≡◌, ℕ, ◌+◌, ◌<◌, ◌≤◌, ◌&&◌, List, [], ◌∷◌, ◌++◌, Option, None, Some, nat_lt}
+use Rattle.std.specs.Prelude.{if◌then◌else◌}
+use Rattle.vme_trace.specs.Judged.{IsSpanOf, Stretch, is_reset_at, span_end, span_from}
+use Rattle.vme_trace.specs.Rules.{all_rules}
+use Rattle.vme_trace.specs.Trace.{Trace, last_instant}
+use Rattle.vme_trace.specs.Verdict.{break_before, least_break}
+use Rattle.vme_trace.specs.declared.verdict.Break.{Break}
+use Rattle.vme_trace.proofs.JudgedSpans.{Awaits, spans_after}
+use Rattle.vme_listing.specs.Recorded.{outcome_of, recorded_rows}
+use Rattle.vme_listing.specs.declared.row.ListedVerdict.{ListedVerdict}
+use Rattle.vme_listing.specs.declared.row.ListedVerdict.TheVariants.{Conforming}
+use Rattle.vme_listing.specs.declared.row.Row.{Row}
+use Rattle.vme_listing.specs.declared.row.Row.TheVariants.{Reset, Verdict}
+use Rattle.vme_listing.specs.declared.row.Version.{Version}
+use Rattle.vme_cert.specs.Following.{CanClose, Follows, rows_to}
+use Rattle.vme_cert.specs.Instant.{IsBusOf}
+use Rattle.vme_cert.specs.State.{Holds}
+use Rattle.vme_cert.specs.declared.checker.Checker.{Checker}
+use Rattle.vme_cert.specs.declared.checker.Stage.{Stage}
+use Rattle.vme_cert.specs.declared.checker.Stage.TheVariants.{Ended, Judging, Waiting}
+use Rattle.vme_cert.specs.declared.open_rows.OpenRows.{OpenRows}
+use Rattle.vme_cert.specs.declared.state.State.{State}
+
+module _ (t : Trace) where
+  -- the row of a reset at an instant of the recording
+  abbrev pub reset_at : ℕ → List Row
+  reset_at i = if is_reset_at t i && nat_lt i (last_instant t + 1) then Reset i ∷ [] else []
+
+  -- the rows from a stretch on, where this is its least break
+  abbrev pub rows_by : Stretch → Option Break → List Row → List Row
+  rows_by span None later = rows_to t span span.end ++ (reset_at span.end ++ later)
+  rows_by span (Some b) later = rows_to t span b.instant ++ Verdict (outcome_of (Some b)) ∷ []
+
+  -- the rows of stretches that follow one another, or else the verdict
+  abbrev pub rows_from : ListedVerdict → List Stretch → List Row
+  rows_from outcome [] = Verdict outcome ∷ []
+  rows_from outcome (span ∷ spans) = rows_by span (least_break t span all_rules) (rows_from Conforming spans)
+
+  -- these are the rows of the recording behind those that are done
+  abbrev pub AreLeft : List Row → List Row → Type 0
+  AreLeft done rows = done ++ rows ≡ recorded_rows t
+
+module _ {Whole Source : Type 0} (gave : Whole → Source → List Row → Type 0) (is_over : Source → Type 0) (whole : Whole)
+    (version : Version) (t : Trace) where
+  -- at an instant the next stretch is awaited
+  pub record IsWaiting (n : ℕ) (outcome : ListedVerdict) (rows : OpenRows Source) : Type 0 where
+    pub awaits : Awaits t n
+    pub done : List Row
+    pub all : AreLeft t done (rows_from t outcome (spans_after t n))
+    pub rows_are : CanClose gave is_over whole version done rows
+
+  -- it may go on with a stretch of which no rule was broken so far
+  pub record IsJudging (n : ℕ) (outcome : ListedVerdict) (rows : OpenRows Source) (state : State) : Type 0 where
+    pub start : ℕ
+    pub is : IsSpanOf t (span_from t start)
+    pub after : start < n
+    pub upto : n ≤ span_end t start
+    pub unbroken : break_before t (span_from t start) all_rules n ≡ None
+    pub holds : Holds t (span_from t start) n n state
+    pub conforms : outcome ≡ Conforming
+    pub done : List Row
+    pub all : AreLeft t done (rows_by t (span_from t start) (least_break t (span_from t start) all_rules)
+        (rows_from t Conforming (spans_after t (span_end t start + 1))))
+    pub rows_are : Follows gave is_over whole version done t (span_from t start) n rows
+
+  -- all rows were started, but for the verdict
+  pub record IsEnded (outcome : ListedVerdict) (rows : OpenRows Source) : Type 0 where
+    pub done : List Row
+    pub all : AreLeft t done (Verdict outcome ∷ [])
+    pub rows_are : CanClose gave is_over whole version done rows
+
+  abbrev pub IsStage : ℕ → ListedVerdict → OpenRows Source → Stage → Type 0
+  IsStage n outcome rows Waiting = IsWaiting n outcome rows
+  IsStage n outcome rows (Judging state) = IsJudging n outcome rows state
+  IsStage n outcome rows Ended = IsEnded outcome rows
+
+  -- the recording is followed up to an instant
+  pub record Checks (checker : Checker Source) : Type 0 where
+    pub at : IsBusOf t checker.bus
+    pub stage_is : IsStage (checker.bus.instant + 1) checker.outcome checker.rows checker.stage

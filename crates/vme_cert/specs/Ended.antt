@@ -1,0 +1,16 @@
+-- A row but for its last edge.
+use Rattle.std.specs.Prelude.{ℕ, Option}
+use Rattle.vme_listing.specs.declared.row.Row.{Row}
+use Rattle.vme_listing.specs.declared.row.Row.TheVariants.{AddressedCycle, FreeCycle, InterruptCycle, OpenTenure}
+use Rattle.vme_listing.specs.declared.row.Row.TheVariants.{Tenure, Transfer}
+
+-- a row with its end or its close
+abbrev pub ended : Row → Option ℕ → Row
+ended (OpenTenure start end) edge = OpenTenure start edge
+ended (Tenure start level slot end) edge = Tenure start level slot edge
+ended (AddressedCycle start class modifier address end) edge = AddressedCycle start class modifier address edge
+ended (FreeCycle start modifier end) edge = FreeCycle start modifier edge
+ended (InterruptCycle start level end) edge = InterruptCycle start level edge
+ended (Transfer direction line start cycle answer close lanes) edge =
+    Transfer direction line start cycle answer edge lanes
+ended row edge = row

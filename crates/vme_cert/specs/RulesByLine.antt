@@ -1,0 +1,58 @@
+-- Which rules a line may break.
+use Rattle.std.specs.Prelude.{ℕ, Bool, true, false, ◌==◌, ◌&&◌, nat_le, nat_lt, List, [], ◌∷◌, if◌then◌else◌}
+use Rattle.vme_trace.specs.LineNumbers.{A, AS, BBSY, BERR, D, DS1, IACK, WRITE, grant, iack, is_answer_line, is_data}
+use Rattle.vme_trace.specs.LineNumbers.{is_grant, is_slot_iack, is_strobe}
+use Rattle.vme_trace.specs.declared.rule.Rule.{Rule}
+use Rattle.vme_trace.specs.declared.rule.Rule.TheVariants.{B1, B2, B3, B4, C1, C2, G1, G2, G3, G4, G5, H1, H2, H3, H4}
+use Rattle.vme_trace.specs.declared.rule.Rule.TheVariants.{H5, H6, H7, H8, I1, I2, I3, I4, I5, S1, S2, S3, U1, U2, U3}
+use Rattle.vme_trace.specs.declared.rule.Rule.TheVariants.{U4}
+
+-- the rules that may be broken on a line at a judged instant, the lines by their numbers
+unfoldable pub rules_on : ℕ → List Rule
+rules_on l =
+    if l == AS then H7 ∷ B3 ∷ []
+    else if nat_le l DS1 then H2 ∷ H3 ∷ []
+    else if nat_le l BERR then H1 ∷ H4 ∷ H5 ∷ H6 ∷ H8 ∷ C1 ∷ C2 ∷ I4 ∷ I5 ∷ []
+    else if l == WRITE then U2 ∷ U3 ∷ S1 ∷ S2 ∷ []
+    else if nat_le l (A 31) then U2 ∷ S1 ∷ []
+    else if l == BBSY then B1 ∷ B2 ∷ B4 ∷ []
+    else if nat_lt l (grant 0 0) then []
+    else if nat_lt l (iack 1) then G1 ∷ G2 ∷ G3 ∷ G4 ∷ G5 ∷ []
+    else if nat_lt l (D 0) then I1 ∷ I2 ∷ I3 ∷ []
+    else if nat_le l (D 31) then U4 ∷ S3 ∷ []
+    else []
+
+-- the same by the rule, and the lines by their kinds
+abbrev pub speaks_of : Rule → ℕ → Bool
+speaks_of U1 l = false
+speaks_of U2 l = nat_le IACK l && nat_le l (A 31)
+speaks_of U3 l = l == WRITE
+speaks_of U4 l = is_data l
+speaks_of H2 l = is_strobe l
+speaks_of H3 l = is_strobe l
+speaks_of H7 l = l == AS
+speaks_of S1 l = nat_le IACK l && nat_le l (A 31)
+speaks_of S2 l = l == WRITE
+speaks_of S3 l = is_data l
+speaks_of G1 l = is_grant l
+speaks_of G2 l = is_grant l
+speaks_of G3 l = is_grant l
+speaks_of G4 l = is_grant l
+speaks_of G5 l = is_grant l
+speaks_of B1 l = l == BBSY
+speaks_of B2 l = l == BBSY
+speaks_of B3 l = l == AS
+speaks_of B4 l = l == BBSY
+speaks_of I1 l = is_slot_iack l
+speaks_of I2 l = is_slot_iack l
+speaks_of I3 l = is_slot_iack l
+speaks_of r l = is_answer_line l
+
+-- the rule is broken only on a line that changes
+abbrev pub asks_for_edge : Rule → Bool
+asks_for_edge U1 = false
+asks_for_edge U2 = false
+asks_for_edge U3 = false
+asks_for_edge U4 = false
+asks_for_edge H1 = false
+asks_for_edge r = true

@@ -1,0 +1,100 @@
+-- What the state of a stretch says: of the cycles and transfers that started before one instant, and of what happened
+-- before another, which is the same or the one before it.
+use Rattle.std.specs.Prelude.{◌≡◌, ℕ, ◌+◌, ◌-◌, ◌<◌, ◌&&◌, Bool, true, false, get_or, List, [], ◌∷◌, None, Some}
+use Rattle.vme_trace.specs.Instants.{any, none, greatest}
+use Rattle.vme_trace.specs.Cycle.{needs_of}
+use Rattle.vme_trace.specs.Cycles.{answers_of, class_at, cycle_starts}
+use Rattle.vme_trace.specs.Judged.{IsSpanOf, Stretch, is_judged}
+use Rattle.vme_trace.specs.LineNumbers.{AS, BBSY, BERR, BR, DTACK}
+use Rattle.vme_trace.specs.Rules.{is_later}
+use Rattle.vme_trace.specs.Signals.{falls, low, rises}
+use Rattle.vme_trace.specs.Tenures.{grant_falls, last_before}
+use Rattle.vme_trace.specs.Trace.{Trace, levels_at}
+use Rattle.vme_trace.specs.Transfers.{answers_write, is_answer, is_answered, is_write, strobe_rises, strobes_high}
+use Rattle.vme_trace.specs.Transfers.{transfer_starts}
+use Rattle.vme_cert.specs.Instant.{IsBusOf}
+use Rattle.vme_cert.specs.declared.bus.Bus.{Bus}
+use Rattle.vme_cert.specs.declared.state.Cycle.{Cycle}
+use Rattle.vme_cert.specs.declared.state.State.{State}
+use Rattle.vme_cert.specs.declared.state.Transfer.{Transfer}
+
+-- there are two or more
+abbrev pub is_many : List ℕ → Bool
+is_many [] = false
+is_many (r ∷ []) = false
+is_many (r ∷ q ∷ rs) = true
+
+module _ (t : Trace) (span : Stretch) where
+  -- the first of some answers is that of a write
+  abbrev pub writes_first : List ℕ → Bool
+  writes_first [] = false
+  writes_first (r ∷ rs) = answers_write t span r
+
+  -- DTACK* answers a transfer of the cycle that starts at i, before j
+  abbrev pub is_acknowledged : ℕ → ℕ → Bool
+  is_acknowledged i j = any (λ r. is_answer t span r && falls t DTACK r) i j
+
+  -- the last cycle to start
+  pub record IsLastCycle (opened j : ℕ) (c : Cycle) : Type 0 where
+    pub last : greatest (cycle_starts t span) (span.start + 1) opened ≡ Some c.start
+    pub class : c.class ≡ class_at t span c.start
+    pub needs : c.needs ≡ needs_of (levels_at t c.start)
+    pub runs : c.runs ≡ none (rises t AS) (c.start + 1) j
+    pub is_low : c.runs ≡ true → c.start < j → low t AS (j - 1) ≡ true
+    pub others : (i : ℕ) → cycle_starts t span i ≡ true → i < c.start → none (rises t AS) (i + 1) j ≡ false
+    pub answered : c.answered ≡ is_later (answers_of t span c.start j)
+    pub first_writes : c.first_writes ≡ writes_first (answers_of t span c.start j)
+    pub answered_again : c.answered_again ≡ is_many (answers_of t span c.start j)
+    pub acknowledged : c.acknowledged ≡ is_acknowledged c.start j
+
+  -- it is the last, or none has started
+  pub record IsCycle (opened j : ℕ) (c : Cycle) : Type 0 where
+    pub here : c.has_started ≡ true → IsLastCycle opened j c
+    pub absent : c.has_started ≡ false → greatest (cycle_starts t span) (span.start + 1) opened ≡ None
+
+  -- the last transfer to start, which hasn't closed
+  pub record IsOpenTransfer (opened j : ℕ) (c : Transfer) : Type 0 where
+    pub last : greatest (transfer_starts t span) (span.start + 1) opened ≡ Some c.start
+    pub still : none (strobes_high t) (c.start + 1) j ≡ true
+    pub direction : c.is_write ≡ is_write t span c.start
+    pub answered : c.answered ≡ is_answered t span c.start j
+    pub rose : c.rose ≡ any (strobe_rises t) (c.start + 1) j
+
+  abbrev pub AreClosed : ℕ → ℕ → Type 0
+  AreClosed opened j = (i : ℕ) → i < opened → transfer_starts t span i ≡ true → any (strobes_high t) (i + 1) j ≡ true
+
+  -- it is open, or each of them has closed
+  pub record IsTransfer (opened j : ℕ) (c : Transfer) : Type 0 where
+    pub here : c.is_open ≡ true → IsOpenTransfer opened j c
+    pub absent : c.is_open ≡ false → AreClosed opened j
+
+  -- a strobe rose since the line fell
+  abbrev pub is_freed : ℕ → ℕ → Bool
+  is_freed l j = any (strobe_rises t) (last_before t span (falls t l) j) j
+
+  -- the level was requested since the last grant
+  abbrev pub is_requested : ℕ → ℕ → Bool
+  is_requested n j = any (low t (BR n)) (last_before t span (grant_falls t) j) j
+
+  abbrev pub AreRequested : ℕ → List Bool → Type 0
+  AreRequested j levels = (n : ℕ) → n < 4 → get_or levels n false ≡ is_requested n j
+
+  -- a grant came since the bus became busy
+  abbrev pub is_granted : ℕ → Bool
+  is_granted j = any (grant_falls t) (last_before t span (falls t BBSY) j + 1) j
+
+  pub record Holds (opened j : ℕ) (state : State) : Type 0 where
+    pub cycle : IsCycle opened j state.cycle
+    pub transfer : IsTransfer opened j state.transfer
+    pub acknowledge_freed : state.acknowledge_freed ≡ is_freed DTACK j
+    pub error_freed : state.error_freed ≡ is_freed BERR j
+    pub requested : AreRequested j state.requested
+    pub granted : state.granted ≡ is_granted j
+
+-- the bus is at a judged instant of a stretch, and the state is that of the instants before it, but for the cycle and
+-- the transfer that start there
+pub record IsStateOf (t : Trace) (span : Stretch) (bus : Bus) (state : State) : Type 0 where
+  pub at : IsBusOf t bus
+  pub is : IsSpanOf t span
+  pub judged : is_judged span bus.instant ≡ true
+  pub holds : Holds t span (bus.instant + 1) bus.instant state

@@ -1,0 +1,171 @@
+//! The stretches of a recording, step by step: from an idle instant to a reset, a lost line or a break.
+
+ghost use Rattle.std.specs.Prelude.{◌≡◌, ◌+◌, ◌*◌, ◌<◌, ◌≤◌, List, [], true, if◌then◌else◌};
+ghost use Rattle.vme_trace.specs.Rules.{is_unreadable};
+ghost use Rattle.vme_trace.specs.Trace.{Trace, changed, last_instant, levels_at};
+ghost use Rattle.vme_trace.specs.WellFormed.{are_changes, capture_limit};
+ghost use Rattle.vme_listing.specs.Recorded.{recorded_rows, rows_in};
+ghost use Rattle.vme_listing.specs.declared.row.ListedVerdict.TheVariants.{Broken, Unreadable};
+ghost use Rattle.vme_listing.specs.declared.row.Row.{Row};
+ghost use Rattle.vme_listing.specs.declared.row.Version.{Version};
+
+use crate::bus::Bus;
+use crate::compare::Answer;
+use crate::open_rows::OpenRows;
+use crate::source::RowSource;
+use crate::state::State;
+use vme_listing::{ListedVerdict, Row, Version};
+use vme_trace::{Change, Line, Lines, Rule};
+
+/// What is judged at an instant.
+#[derive(Clone, Copy)]
+enum Stage {
+    /// Nothing so far since the opening or the last reset.
+    Waiting,
+    /// A stretch, of which the state is known.
+    Judging(State),
+    /// Nothing any more: a rule was broken.
+    Ended,
+}
+
+/// A check of the rows of a listing against a recording, as it is made.
+#[derive(Drop)]
+pub(crate) struct Checker<S: RowSource> {
+    bus: Bus,
+    rows: OpenRows<S>,
+    stage: Stage,
+    /// The verdict so far.
+    outcome: ListedVerdict,
+}
+
+impl<S: RowSource> Checker<S> {
+    ghost use Rattle.vme_cert.specs.Breaking.{LeadToInstant};
+    ghost use Rattle.vme_cert.specs.Checking.{Checks, IsJudging, IsWaiting};
+    ghost use Rattle.vme_cert.specs.Comparing.{Decides};
+    ghost use Rattle.vme_cert.specs.Instant.{IsBusOf};
+    ghost use Rattle.vme_cert.specs.declared.checker.Stage.TheVariants.{Ended, Waiting};
+
+    /// At the opening.
+    pub(crate) fn new(opening: &Lines, version: Version, source: S) -> Checker<S>
+        ensures checks { (whole : S.Whole) (t : Trace) → t.opening ≡ opening.now → S.gave whole source []
+            → Checks S.gave S.is_over whole version t result }
+        ensures instant { result.bus.instant ≡ 0 }
+        ensures few { result.rows.compared.taken ≤ 4 }
+        ensures levels { result.bus.levels ≡ opening.now }
+    {
+        let mut checker = Checker {
+            bus: Bus::opening(opening),
+            rows: OpenRows::new(version, source),
+            stage: Stage::Waiting,
+            outcome: ListedVerdict::NeverIdle,
+        };
+        checker.wait();
+        checker
+    }
+
+    /// Begins a stretch, where the bus is idle.
+    fn wait(&mut self)
+        requires waits { self.old.stage ≡ Waiting }
+        requires few { self.old.rows.compared.taken ≤ 4 * self.old.bus.instant }
+        ensures bus { self.new.bus ≡ self.old.bus }
+        ensures few { self.new.rows.compared.taken ≤ 4 * self.old.bus.instant + 4 }
+        ensures checks { (whole : S.Whole) (version : Version) (t : Trace) → IsBusOf t self.old.bus
+            → self.old.bus.instant ≤ last_instant t
+            → IsWaiting S.gave S.is_over whole version t self.old.bus.instant self.old.outcome self.old.rows
+            → Checks S.gave S.is_over whole version t self.new }
+    {
+        if !self.bus.levels.is_idle() {
+            return;
+        }
+        self.rows.start(&self.bus);
+        self.stage = Stage::Judging(State::starting(&self.bus));
+        self.outcome = ListedVerdict::Conforming;
+    }
+
+    /// Ends with a break: what is open has no edges any more.
+    fn end(&mut self, rule: Rule, line: Line)
+        ensures bus { self.new.bus ≡ self.old.bus }
+        ensures rows { self.new.rows ≡ self.old.rows }
+        ensures stage { self.new.stage ≡ Ended }
+        ensures outcome { self.new.outcome ≡ (if is_unreadable rule
+            then Unreadable rule self.old.bus.instant line else Broken rule self.old.bus.instant line) }
+    {
+        let instant = self.bus.instant;
+        self.outcome = if rule.is_unreadable() {
+            ListedVerdict::Unreadable(rule, instant, line)
+        } else {
+            ListedVerdict::Broken(rule, instant, line)
+        };
+        self.stage = Stage::Ended;
+    }
+
+    /// IsStateOf an instant of a stretch.
+    fn judge(&mut self, state: &State, changes: &[Change])
+        requires lead { LeadToInstant self.old.bus changes.now }
+        requires few { self.old.rows.compared.taken ≤ 4 * self.old.bus.instant }
+        ensures bus { self.new.bus ≡ self.old.bus }
+        ensures few { self.new.rows.compared.taken ≤ 4 * self.old.bus.instant + 4 }
+        ensures checks { (whole : S.Whole) (version : Version) (t : Trace) → IsBusOf t self.old.bus
+            → self.old.bus.instant ≤ last_instant t
+            → IsJudging S.gave S.is_over whole version t self.old.bus.instant self.old.outcome self.old.rows state.now
+            → Checks S.gave S.is_over whole version t self.new }
+    {
+        let instant = self.bus.instant;
+        prove!(self.bus.before.slots() <= 21);
+        if self.bus.levels.is_reset() {
+            self.rows.follow(Row::Reset { instant });
+            self.stage = Stage::Waiting;
+            return;
+        }
+        if let Some(line) = self.bus.levels.lost_among(changes) {
+            self.end(Rule::U1, line);
+            return;
+        }
+        let state = state.opened(&self.bus);
+        if let Some(found) = state.break_at(&self.bus, changes) {
+            self.end(found.0, found.1);
+            return;
+        }
+        self.rows.follow_instant(&self.bus, &state);
+        self.stage = Stage::Judging(state.later(&self.bus));
+    }
+
+    /// Takes the changes of the next step.
+    pub(crate) fn step(&mut self, changes: &[Change])
+        requires limit { self.old.bus.instant < capture_limit }
+        requires changes { are_changes self.old.bus.levels 0 changes.now ≡ true }
+        requires few { self.old.rows.compared.taken ≤ 4 * self.old.bus.instant + 4 }
+        ensures instant { self.new.bus.instant ≡ self.old.bus.instant + 1 }
+        ensures levels { self.new.bus.levels ≡ changed self.old.bus.levels changes.now }
+        ensures few { self.new.rows.compared.taken ≤ 4 * self.new.bus.instant + 4 }
+        ensures checks { (whole : S.Whole) (version : Version) (t : Trace)
+            → levels_at t (self.old.bus.instant + 1) ≡ changed (levels_at t self.old.bus.instant) changes.now
+            → self.old.bus.instant < last_instant t → Checks S.gave S.is_over whole version t self.old
+            → Checks S.gave S.is_over whole version t self.new }
+    {
+        self.bus.advance(changes);
+        match self.stage {
+            Stage::Waiting => self.wait(),
+            Stage::Judging(state) => self.judge(&state, changes),
+            Stage::Ended => {}
+        }
+    }
+
+    /// What the rows say, where the recording is whole; and what they come from.
+    pub(crate) fn finish(self) -> (Answer, S)
+        requires { self.rows.compared.taken ≤ 4 * self.bus.instant + 4 }
+        ensures { (whole : S.Whole) (version : Version) (t : Trace) → self.bus.instant ≡ last_instant t
+            → Checks S.gave S.is_over whole version t self
+            → (more : List Row) × S.gave whole result.1 more
+            × Decides S.is_over more (rows_in version (recorded_rows t)) result.1 result.0 }
+    {
+        let Checker {
+            bus: _,
+            mut rows,
+            stage: _,
+            outcome,
+        } = self;
+        rows.follow(Row::Verdict(outcome));
+        rows.compared.finish()
+    }
+}

@@ -1,0 +1,187 @@
+//! The given rows, taken one by one as the right ones start, and the least that differs.
+
+ghost use Rattle.std.specs.Prelude.{◌≡◌, ◌<◌, ◌^◌, true, false, List, length, Some, None};
+ghost use Rattle.vme_listing.specs.declared.row.Row.{Row};
+ghost use Rattle.vme_cert.specs.Ended.{ended};
+
+use crate::compare::Answer;
+use crate::source::RowSource;
+use vme_listing::{Row, Version};
+
+/// A row that has started: its place, what is given there, and what it is but for the edge that is to come.
+#[derive(Clone, Copy)]
+pub(crate) struct OpenRow {
+    pub(crate) place: usize,
+    pub(crate) given: Option<Row>,
+    pub(crate) right: Row,
+    ghost within: { place < 2 ^ 62 },
+}
+
+/// The rows that were taken of those that are given.
+#[derive(Drop)]
+pub(crate) struct Comparison<S: RowSource> {
+    pub(crate) source: S,
+    /// The version in which they are given.
+    pub(crate) version: Version,
+    /// How many right rows have started.
+    pub(crate) taken: usize,
+    /// The least of those that were compared and differ, from 1.
+    pub(crate) wrong: Option<usize>,
+}
+
+/// A row with its end or its close.
+fn ended(row: Row, edge: Option<u32>) -> Row
+    ensures { result ≡ ended row edge }
+{
+    match row {
+        Row::OpenTenure { start, end: _ } => Row::OpenTenure { start, end: edge },
+        Row::Tenure {
+            start,
+            level,
+            slot,
+            end: _,
+        } => Row::Tenure {
+            start,
+            level,
+            slot,
+            end: edge,
+        },
+        Row::AddressedCycle {
+            start,
+            class,
+            modifier,
+            address,
+            end: _,
+        } => Row::AddressedCycle {
+            start,
+            class,
+            modifier,
+            address,
+            end: edge,
+        },
+        Row::FreeCycle {
+            start,
+            modifier,
+            end: _,
+        } => Row::FreeCycle {
+            start,
+            modifier,
+            end: edge,
+        },
+        Row::InterruptCycle {
+            start,
+            level,
+            end: _,
+        } => Row::InterruptCycle {
+            start,
+            level,
+            end: edge,
+        },
+        Row::Transfer {
+            direction,
+            line,
+            start,
+            cycle,
+            answer,
+            close: _,
+            lanes,
+        } => Row::Transfer {
+            direction,
+            line,
+            start,
+            cycle,
+            answer,
+            close: edge,
+            lanes,
+        },
+        row => row,
+    }
+}
+
+/// Whether two rows are one.
+fn is_same(given: &Row, row: &Row) -> bool
+    ensures same { result ≡ true → given.now ≡ row.now }
+    ensures other { result ≡ false → given.now ≡ row.now → ⊥ }
+{
+    *given == *row
+}
+
+/// Whether what is given is a row.
+fn is_given(given: Option<Row>, row: Row) -> bool
+    ensures same { result ≡ true → given ≡ Some row }
+    ensures other { result ≡ false → given ≡ Some row → ⊥ }
+{
+    match given {
+        Some(given) => is_same(&given, &row),
+        None => false,
+    }
+}
+
+impl<S: RowSource> Comparison<S> {
+    ghost use Rattle.vme_cert.specs.Comparing.{Decides, IsBegun, IsCompared, IsGiven, IsSettled};
+
+    /// None was taken.
+    pub(crate) fn new(version: Version, source: S) -> Comparison<S>
+        ensures { result ≡ record { source = source; version = version; taken = 0; wrong = None } }
+    {
+        Comparison {
+            source,
+            version,
+            taken: 0,
+            wrong: None,
+        }
+    }
+
+    /// The next right row starts, and the next given one is taken.
+    pub(crate) fn begin(&mut self, right: Row) -> OpenRow
+        requires { self.old.taken < 2 ^ 62 }
+        ensures { IsBegun S.gave S.is_over right self.old self.new result }
+    {
+        let place = self.taken;
+        self.taken += 1;
+        OpenRow {
+            place,
+            given: self.source.next(),
+            right: right.in_version(self.version),
+        }
+    }
+
+    /// Compares a row, if there is one, whose edge is here, or which has none.
+    pub(crate) fn settle(&mut self, row: Option<OpenRow>, edge: Option<u32>)
+        ensures { IsSettled row edge self.old self.new }
+    {
+        let Some(row) = row else {
+            return;
+        };
+        if is_given(row.given, ended(row.right, edge)) {
+            return;
+        }
+        self.wrong = match self.wrong {
+            Some(wrong) if wrong <= row.place => Some(wrong),
+            _ => Some(row.place + 1),
+        };
+    }
+
+    /// What the rows say, where no right one follows; and what they come from.
+    pub(crate) fn finish(self) -> (Answer, S)
+        requires { self.taken < 2 ^ 63 }
+        ensures { (whole : S.Whole) (given rights : List Row)
+            → IsGiven S.gave S.is_over whole given self.source self.taken
+            → IsCompared given rights self.taken (λ n. false) self.wrong → self.taken ≡ length rights
+            → (more : List Row) × S.gave whole result.1 more × Decides S.is_over more rights result.1 result.0 }
+    {
+        let Comparison {
+            mut source,
+            version: _,
+            taken,
+            wrong,
+        } = self;
+        if let Some(row) = wrong {
+            return (Answer::No { row }, source);
+        }
+        match source.next() {
+            Some(_) => (Answer::No { row: taken + 1 }, source),
+            None => (Answer::Yes, source),
+        }
+    }
+}

@@ -1,0 +1,56 @@
+//! The rows that are open: at most one of each kind.
+
+ghost use Rattle.std.specs.Prelude.{◌≡◌, ◌+◌, ◌<◌, ◌≤◌, ◌^◌, ◌∷◌, ◌++◌, [], List, None};
+ghost use Rattle.vme_listing.specs.declared.row.Row.{Row};
+ghost use Rattle.vme_listing.specs.declared.row.Version.{Version};
+
+use crate::comparison::{Comparison, OpenRow};
+use crate::source::RowSource;
+use vme_listing::{Row, Version};
+
+/// The rows of a stretch that have started, and those of them whose edge is to come.
+#[derive(Drop)]
+pub(crate) struct OpenRows<S: RowSource> {
+    pub(crate) compared: Comparison<S>,
+    pub(crate) tenure: Option<OpenRow>,
+    pub(crate) cycle: Option<OpenRow>,
+    pub(crate) transfer: Option<OpenRow>,
+}
+
+impl<S: RowSource> OpenRows<S> {
+    ghost use Rattle.vme_cert.specs.Ended.{ended};
+    ghost use Rattle.vme_cert.specs.Following.{CanClose, NoneIsOpen};
+
+    /// None has started.
+    pub(crate) fn new(version: Version, source: S) -> OpenRows<S>
+        ensures rows { (whole : S.Whole) → S.gave whole source []
+            → CanClose S.gave S.is_over whole version [] result }
+        ensures taken { result.compared.taken ≡ 0 }
+    {
+        OpenRows {
+            compared: Comparison::new(version, source),
+            tenure: None,
+            cycle: None,
+            transfer: None,
+        }
+    }
+
+    /// What is open has no edges any more: here a stretch ends, or what is listed of it. The next right row has none.
+    pub(crate) fn follow(&mut self, row: Row)
+        requires { self.old.compared.taken < 2 ^ 62 }
+        ensures rows { (whole : S.Whole) (version : Version) (rights : List Row) → ended row None ≡ row
+            → CanClose S.gave S.is_over whole version rights self.old
+            → CanClose S.gave S.is_over whole version (rights ++ row ∷ []) self.new }
+        ensures closed { NoneIsOpen self.new }
+        ensures taken { self.new.compared.taken ≡ self.old.compared.taken + 1 }
+    {
+        self.compared.settle(self.tenure, None);
+        self.compared.settle(self.cycle, None);
+        self.compared.settle(self.transfer, None);
+        self.tenure = None;
+        self.cycle = None;
+        self.transfer = None;
+        let row = self.compared.begin(row);
+        self.compared.settle(Some(row), None);
+    }
+}

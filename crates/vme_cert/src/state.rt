@@ -1,0 +1,296 @@
+//! What has to be known at an instant of the instants of the stretch before it, each field by its definition:
+//! `specs/State.antt`.
+
+ghost use Rattle.std.specs.Prelude.{◌≡◌, ℕ, ◌+◌, ◌<◌, IsTrue, get_or, false, true};
+ghost use Rattle.vme_trace.specs.Instants.{any};
+ghost use Rattle.vme_trace.specs.Judged.{Stretch, is_judged};
+ghost use Rattle.vme_trace.specs.LineNumbers.{is_answer_line};
+ghost use Rattle.vme_trace.specs.Trace.{Trace};
+ghost use Rattle.vme_trace.specs.Transfers.{answers_write, is_answer, strobe_rises};
+ghost use Rattle.vme_cert.specs.Asked.{AnswersAsked, is_data_held, is_unanswered};
+ghost use Rattle.vme_cert.specs.Instant.{IsBusOf};
+ghost use Rattle.vme_cert.specs.State.{AreRequested, Holds, IsCycle, IsOpenTransfer, IsTransfer, IsStateOf, is_freed};
+ghost use Rattle.vme_cert.specs.declared.bus.Bus.{Bus};
+ghost use Rattle.vme_cert.specs.declared.state.State.{State};
+
+use crate::bus::Bus;
+use vme_trace::{Class, Line, NeededLines, am_class, needed};
+
+/// The last cycle to start, where one has.
+#[derive(Clone, Copy)]
+pub(crate) struct Cycle {
+    pub(crate) has_started: bool,
+    pub(crate) start: u32,
+    pub(crate) class: Class,
+    pub(crate) needs: NeededLines,
+    /// AS* hasn't risen since.
+    pub(crate) runs: bool,
+    /// It was answered; the first answer was that of a write; it was answered again; and by DTACK*.
+    pub(crate) answered: bool,
+    pub(crate) first_writes: bool,
+    pub(crate) answered_again: bool,
+    pub(crate) acknowledged: bool,
+}
+
+/// The last transfer to start, where it hasn't closed.
+#[derive(Clone, Copy)]
+pub(crate) struct Transfer {
+    pub(crate) is_open: bool,
+    pub(crate) start: u32,
+    pub(crate) is_write: bool,
+    pub(crate) answered: bool,
+    /// A strobe rose since its start.
+    pub(crate) rose: bool,
+}
+
+/// What is known of a stretch.
+#[derive(Clone, Copy)]
+pub(crate) struct State {
+    pub(crate) cycle: Cycle,
+    pub(crate) transfer: Transfer,
+    /// A strobe rose since DTACK* fell, and since BERR* did.
+    pub(crate) acknowledge_freed: bool,
+    pub(crate) error_freed: bool,
+    /// A level was requested since the last grant.
+    pub(crate) requested: [bool; 4],
+    /// A grant came since the bus became busy.
+    pub(crate) granted: bool,
+}
+
+#[tactic(auto, using(crate::proofs::Cycles::cycles))]
+impl Cycle {
+    /// That which starts at the instant, or else this one.
+    fn opened(self, bus: &Bus) -> Cycle
+        ensures { (t : Trace) (span : Stretch) → IsBusOf t bus.now → is_judged span bus.now.instant ≡ true
+            → IsCycle t span bus.now.instant bus.now.instant self
+            → IsCycle t span (bus.now.instant + 1) bus.now.instant result }
+    {
+        if !bus.falls(Line::AS) {
+            return self;
+        }
+        Cycle {
+            has_started: true,
+            start: bus.instant,
+            class: am_class(&bus.levels),
+            needs: needed(&bus.levels),
+            runs: true,
+            answered: false,
+            first_writes: false,
+            answered_again: false,
+            acknowledged: false,
+        }
+    }
+
+    /// One instant later, where there is an answer or not, and that of a write or not.
+    fn later(self, bus: &Bus, answers: bool, writes: bool) -> Cycle
+        ensures { (t : Trace) (span : Stretch) (state : State) → IsStateOf t span bus.now state → self ≡ state.cycle
+            → answers ≡ is_answer t span bus.now.instant → writes ≡ answers_write t span bus.now.instant
+            → IsCycle t span (bus.now.instant + 1) (bus.now.instant + 1) result }
+    {
+        let rises = bus.rises(Line::AS);
+        let acknowledges = bus.falls(Line::DTACK);
+        Cycle {
+            runs: self.runs & !rises,
+            answered: self.answered | answers,
+            first_writes: self.first_writes | (answers & !self.answered & writes),
+            answered_again: self.answered_again | (answers & self.answered),
+            acknowledged: self.acknowledged | (answers & acknowledges),
+            ..self
+        }
+    }
+}
+
+#[tactic(auto, using(crate::proofs::OpenTransfer::transfers))]
+impl Transfer {
+    /// That which starts at the instant, or else this one.
+    fn opened(self, bus: &Bus) -> Transfer
+        ensures { (t : Trace) (span : Stretch) → IsBusOf t bus.now → is_judged span bus.now.instant ≡ true
+            → IsTransfer t span bus.now.instant bus.now.instant self
+            → IsTransfer t span (bus.now.instant + 1) bus.now.instant result }
+    {
+        if !bus.transfer_starts() {
+            return self;
+        }
+        Transfer {
+            is_open: true,
+            start: bus.instant,
+            is_write: bus.low(Line::WRITE),
+            answered: false,
+            rose: false,
+        }
+    }
+
+    /// One instant later.
+    fn later(self, bus: &Bus) -> Transfer
+        ensures { (t : Trace) (span : Stretch) → IsBusOf t bus.now → is_judged span bus.now.instant ≡ true
+            → IsTransfer t span (bus.now.instant + 1) bus.now.instant self
+            → IsTransfer t span (bus.now.instant + 1) (bus.now.instant + 1) result }
+    {
+        let is_high = bus.strobes_high();
+        let falls = bus.answer_falls();
+        let rose = self.rose_by(bus);
+        Transfer {
+            is_open: self.is_open & !((self.start < bus.instant) & is_high),
+            answered: self.answered | falls,
+            rose,
+            ..self
+        }
+    }
+
+    /// Whether a strobe rose since its start, up to the instant.
+    pub(crate) fn rose_by(&self, bus: &Bus) -> bool
+        ensures { (t : Trace) (span : Stretch) → IsBusOf t bus.now → is_judged span bus.now.instant ≡ true
+            → IsOpenTransfer t span (bus.now.instant + 1) bus.now.instant self.now
+            → result ≡ any (strobe_rises t) (self.now.start + 1) (bus.now.instant + 1) }
+    {
+        self.rose | ((self.start < bus.instant) & bus.strobe_rises())
+    }
+}
+
+impl State {
+    /// Behind the start of a stretch.
+    pub(crate) fn starting(bus: &Bus) -> State
+        ensures { (t : Trace) (span : Stretch) → IsBusOf t bus.now → bus.now.instant ≡ span.start
+            → Holds t span (span.start + 1) (span.start + 1) result }
+    {
+        let rises = bus.strobe_rises();
+        State {
+            cycle: Cycle {
+                has_started: false,
+                start: bus.instant,
+                class: am_class(&bus.levels),
+                needs: needed(&bus.levels),
+                runs: false,
+                answered: false,
+                first_writes: false,
+                answered_again: false,
+                acknowledged: false,
+            },
+            transfer: Transfer {
+                is_open: false,
+                start: bus.instant,
+                is_write: false,
+                answered: false,
+                rose: false,
+            },
+            acknowledge_freed: rises,
+            error_freed: rises,
+            requested: [
+                bus.requests(0),
+                bus.requests(1),
+                bus.requests(2),
+                bus.requests(3),
+            ],
+            granted: false,
+        }
+    }
+
+    /// With the cycle and the transfer that start at the instant.
+    pub(crate) fn opened(&self, bus: &Bus) -> State
+        ensures { (t : Trace) (span : Stretch) → IsBusOf t bus.now → is_judged span bus.now.instant ≡ true
+            → Holds t span bus.now.instant bus.now.instant self.now
+            → Holds t span (bus.now.instant + 1) bus.now.instant result }
+    {
+        State {
+            cycle: self.cycle.opened(bus),
+            transfer: self.transfer.opened(bus),
+            ..*self
+        }
+    }
+
+    /// Which levels were requested since the last grant, one instant later.
+    fn requested_later(&self, bus: &Bus) -> [bool; 4]
+        ensures { (t : Trace) (span : Stretch) → IsBusOf t bus.now → is_judged span bus.now.instant ≡ true
+            → AreRequested t span bus.now.instant self.now.requested
+            → AreRequested t span (bus.now.instant + 1) result }
+    {
+        let keeps = !bus.grant_falls();
+        [
+            (self.requested[0] & keeps) | bus.requests(0),
+            (self.requested[1] & keeps) | bus.requests(1),
+            (self.requested[2] & keeps) | bus.requests(2),
+            (self.requested[3] & keeps) | bus.requests(3),
+        ]
+    }
+
+    /// One instant later.
+    pub(crate) fn later(&self, bus: &Bus) -> State
+        ensures { (t : Trace) (span : Stretch) → IsStateOf t span bus.now self.now
+            → Holds t span (bus.now.instant + 1) (bus.now.instant + 1) result }
+    {
+        let is_answer = self.is_answer(bus);
+        let writes = self.answers_write(bus);
+        let rises = bus.strobe_rises();
+        let acknowledge_falls = bus.falls(Line::DTACK);
+        let error_falls = bus.falls(Line::BERR);
+        let grants = bus.grant_falls();
+        let busy_falls = bus.falls(Line::BBSY);
+        State {
+            cycle: self.cycle.later(bus, is_answer, writes),
+            transfer: self.transfer.later(bus),
+            acknowledge_freed: (self.acknowledge_freed & !acknowledge_falls) | rises,
+            error_freed: (self.error_freed & !error_falls) | rises,
+            requested: self.requested_later(bus),
+            granted: (self.granted | grants) & !busy_falls,
+        }
+    }
+}
+
+#[tactic(auto, using(crate::proofs::Asked::questions))]
+impl State {
+    /// Whether the transfer is answered at the instant.
+    pub(crate) fn is_answer(&self, bus: &Bus) -> bool
+        ensures { AnswersAsked bus.now self.now result is_answer }
+    {
+        self.transfer.is_open & bus.answer_falls() & !self.transfer.answered
+    }
+
+    /// Whether it is, and is a write.
+    pub(crate) fn answers_write(&self, bus: &Bus) -> bool
+        ensures { AnswersAsked bus.now self.now result answers_write }
+    {
+        self.is_answer(bus) & self.transfer.is_write
+    }
+
+    /// Whether it started before, and isn't answered by then.
+    pub(crate) fn is_unanswered(&self, bus: &Bus) -> bool
+        ensures { AnswersAsked bus.now self.now result is_unanswered }
+    {
+        let answered = self.transfer.answered | bus.answer_falls();
+        self.transfer.is_open & (self.transfer.start < bus.instant) & !answered
+    }
+
+    /// Whether it is a write that started before, isn't answered by then, and no strobe has risen in it.
+    pub(crate) fn is_data_held(&self, bus: &Bus) -> bool
+        ensures { AnswersAsked bus.now self.now result is_data_held }
+    {
+        let answered = self.transfer.answered | bus.answer_falls();
+        let rose = self.transfer.rose_by(bus);
+        self.transfer.is_open
+            & (self.transfer.start < bus.instant)
+            & self.transfer.is_write
+            & !answered
+            & !rose
+    }
+
+    /// Whether a strobe rose since an answer line fell.
+    pub(crate) fn is_freed(&self, line: Line) -> bool
+        requires { IsTrue (is_answer_line line) }
+        ensures { (t : Trace) (span : Stretch) (opened j : ℕ) → Holds t span opened j self.now
+            → result ≡ is_freed t span line j }
+    {
+        if line == Line::DTACK {
+            self.acknowledge_freed
+        } else {
+            self.error_freed
+        }
+    }
+
+    /// Whether a level was requested since the last grant.
+    pub(crate) fn was_requested(&self, level: u8) -> bool
+        requires { level < 4 }
+        ensures { result ≡ get_or self.now.requested level false }
+    {
+        self.requested[usize::from(level)]
+    }
+}
